@@ -1,0 +1,27 @@
+-- The verdict of a query text (RFC 9535, 2.1).
+use Rattle.std.specs.Prelude.{◌≡◌, ◌<◌, ◌≤◌, not, Result, Ok, Err, if◌then◌else◌}
+use Rattle.jp_syntax.specs.Tree.{Text, Query}
+use Rattle.jp_syntax.specs.Spelling.{Spells}
+use Rattle.jp_syntax.specs.Depth.{bracket_depth, max_depth}
+use Rattle.jp_syntax.specs.declared.fault.QueryFault.{QueryFault}
+use Rattle.jp_syntax.specs.declared.fault.QueryFault.TheVariants.{TooDeep, Syntax, Fraction, Range, IllTyped}
+use Rattle.jp_check.specs.Numbers.{has_fraction, in_range}
+use Rattle.jp_check.specs.Typing.{query_typed}
+
+-- the verdict of a tree: the first fault that applies, or else the tree itself
+abbrev pub verdict_of : Query → Result Query QueryFault
+verdict_of q =
+    if has_fraction q then Err Fraction
+    else if not (in_range q) then Err Range
+    else if not (query_typed q) then Err IllTyped
+    else Ok q
+
+-- The verdict of a text: too deep, or no tree is spelled by it, or else the verdict of the tree that it spells.
+abbrev pub IsVerdict : Text → Result Query QueryFault → Type 0
+IsVerdict t (Err TooDeep) = max_depth < bracket_depth t
+IsVerdict t (Err Syntax) = (bracket_depth t ≤ max_depth) × ((q : Query) → Spells t q → ⊥)
+IsVerdict t verdict = (bracket_depth t ≤ max_depth) × ((q : Query) × Spells t q × (verdict_of q ≡ verdict))
+
+-- the text is well-formed, valid and well-typed, and spells this tree
+abbrev pub IsAccepted : Text → Query → Type 0
+IsAccepted t q = IsVerdict t (Ok q)

@@ -1,0 +1,67 @@
+-- Documents and parts of queries that the worked examples speak of.
+use Rattle.std.specs.Prelude.{ℕ, pos, List, [], ◌∷◌, codes}
+use Rattle.jp_doc.specs.Json.{Text, Json, null, whole, array, object, items, no_members, add_member}
+use Rattle.jp_doc.specs.Location as at
+use Rattle.jp_doc.specs.Location.{Location}
+use Rattle.jp_syntax.specs.Tree.{Query, Segment, Selector, name, filter, Logical, comparing, comparison, Comparable, single, child, query_from}
+use Rattle.jp_syntax.specs.declared.tree.Operator.{Operator}
+use Rattle.jp_syntax.specs.declared.tree.Start.TheVariants.{Root, Current}
+
+-- a number, and an array of values
+abbrev pub num : ℕ → Json
+num n = whole (pos n)
+
+abbrev pub arr : List Json → Json
+arr vs = array (items vs)
+
+-- an object with one member, and with two
+abbrev pub obj : Text → Json → Json
+obj k v = object (add_member k v no_members)
+
+abbrev pub obj2 : Text → Json → Text → Json → Json
+obj2 k v l w = object (add_member k v (add_member l w no_members))
+
+-- steps
+abbrev pub to : Text → at.Step
+to k = at.name k
+
+abbrev pub item : ℕ → at.Step
+item i = at.index i
+
+-- `$` and segments; `$[..]` with these selectors
+abbrev pub from_root : List Segment → Query
+from_root ss = query_from Root ss
+
+abbrev pub bracketed : List Selector → Query
+bracketed xs = from_root (child xs ∷ [])
+
+-- `@` and the member of this name
+abbrev pub member_of_current : Text → Query
+member_of_current k = query_from Current (child (name k ∷ []) ∷ [])
+
+-- `$[?..]`
+abbrev pub filtered : Logical → Query
+filtered l = bracketed (filter l ∷ [])
+
+-- `@`
+abbrev pub current : Comparable
+current = single (query_from Current [])
+
+-- `@.k`
+abbrev pub current_member : Text → Comparable
+current_member k = single (member_of_current k)
+
+abbrev pub compares : Comparable → Operator → Comparable → Logical
+compares left operator right = comparing (comparison left operator right)
+
+-- `{"a":null,"b":[1,{"c":2}]}`
+abbrev pub nested : Json
+nested = obj2 (codes "a") null (codes "b") (arr (num 1 ∷ obj (codes "c") (num 2) ∷ []))
+
+-- `[0,1,2,3,4]`
+abbrev pub five : Json
+five = arr (num 0 ∷ num 1 ∷ num 2 ∷ num 3 ∷ num 4 ∷ [])
+
+-- `[{},{"a":null},{"a":1,"b":1}]`
+abbrev pub three_objects : Json
+three_objects = arr (object no_members ∷ obj (codes "a") null ∷ obj2 (codes "a") (num 1) (codes "b") (num 1) ∷ [])

@@ -1,0 +1,48 @@
+//! Worked examples of the definitions.
+
+ghost use Rattle.std.specs.Prelude.{◌≡◌, [], ◌∷◌, ◌++◌, codes, pos, negsuc, true};
+ghost use Rattle.jp_doc.specs.Json.{null, truth, whole, text, array, object, items, no_members, add_member};
+ghost use Rattle.jp_doc.specs.Location.{name, index};
+ghost use Rattle.jp_syntax.specs.Tree as tree;
+ghost use Rattle.jp_syntax.specs.declared.tree.Start.TheVariants.{Root};
+ghost use Rattle.jp_path.specs.Path.{path_text};
+ghost use Rattle.jp_path.specs.OutputLine.{line_text};
+ghost use Rattle.jp_path.specs.PathQuery.{path_query};
+
+/// Paths, with each escape.
+#[tactic(auto, unfolding(crate::proofs::OnLiterals::lines_on_literals))]
+fn paths()
+    ensures root { path_text [] ≡ codes "$" }
+    ensures member { path_text (name (codes "a") ∷ []) ≡ codes "$['a']" }
+    ensures member_and_items { path_text (name (codes "b") ∷ index 1 ∷ name (codes "c") ∷ []) ≡ codes "$['b'][1]['c']" }
+    ensures empty_name { path_text (name [] ∷ []) ≡ codes "$['']" }
+    ensures double_quote { path_text (name (codes "a\"b") ∷ []) ≡ codes "$['a\"b']" }
+    ensures vertical_tab { path_text (name (11 ∷ []) ∷ []) ≡ codes "$['\\u000b']" }
+    ensures unit_separator { path_text (name (31 ∷ []) ∷ []) ≡ codes "$['\\u001f']" }
+    ensures delete { path_text (name (127 ∷ []) ∷ []) ≡ codes "$['" ++ 127 ∷ codes "']" }
+    ensures backslash { path_text (name (92 ∷ []) ∷ []) ≡ codes "$['\\\\']" }
+    ensures greatest_index { path_text (index 4294967295 ∷ []) ≡ codes "$[4294967295]" }
+    ensures quote_null_and_tab { path_text (name (codes "it's" ++ 0 ∷ 9 ∷ []) ∷ []) ≡ codes "$['it\\'s\\u0000\\t']" }
+    ensures short_escapes { path_text (name (8 ∷ 9 ∷ 10 ∷ 12 ∷ 13 ∷ []) ∷ []) ≡ codes "$['\\b\\t\\n\\f\\r']" }
+    ensures beyond_ascii { path_text (name (128512 ∷ []) ∷ []) ≡ codes "$['" ++ 128512 ∷ codes "']" }
+{}
+
+#[tactic(auto, unfolding(crate::proofs::OnLiterals::lines_on_literals))]
+/// Output lines: the document's number, the path and the value's compact text, with tabs between.
+fn output_lines()
+    ensures number { line_text 1 (name (codes "a") ∷ []) (whole (pos 1)) ≡ codes "1" ++ 9 ∷ codes "$['a']" ++ 9 ∷ codes "1" ++ 10 ∷ [] }
+    ensures null_of_line_three { line_text 3 (name (codes "a") ∷ []) null ≡ codes "3" ++ 9 ∷ codes "$['a']" ++ 9 ∷ codes "null" ++ 10 ∷ [] }
+    ensures empty_array { line_text 1 [] (array (items [])) ≡ codes "1" ++ 9 ∷ codes "$" ++ 9 ∷ codes "[]" ++ 10 ∷ [] }
+    ensures compact { line_text 10 (index 0 ∷ []) (array (items (whole (negsuc 4) ∷ text (codes "a\"b") ∷ truth true ∷ object (add_member (codes "c") (whole (pos 2)) no_members) ∷ [])))
+        ≡ codes "10" ++ 9 ∷ codes "$[0]" ++ 9 ∷ codes "[-5,\"a\\\"b\",true,{\"c\":2}]" ++ 10 ∷ [] }
+    ensures path_in_utf8 { line_text 1 (name (128512 ∷ []) ∷ []) (whole (pos 1))
+        ≡ codes "1" ++ 9 ∷ codes "$['" ++ 240 ∷ 159 ∷ 152 ∷ 128 ∷ codes "']" ++ 9 ∷ codes "1" ++ 10 ∷ [] }
+{}
+
+#[tactic(auto, unfolding(crate::proofs::OnLiterals::lines_on_literals))]
+/// The query of a path: one segment of one selector for each step.
+fn path_queries()
+    ensures two_steps { path_query (name (codes "a") ∷ index 12 ∷ [])
+        ≡ tree.query_from Root (tree.child (tree.name (codes "a") ∷ []) ∷ tree.child (tree.index (codes "12") ∷ []) ∷ []) }
+    ensures root { path_query [] ≡ tree.query_from Root [] }
+{}

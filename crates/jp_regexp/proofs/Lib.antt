@@ -1,0 +1,10 @@
+pub mod CharacterLemmas
+pub mod EmptyLemmas
+pub mod MemberExamples
+pub mod MemberLemmas
+pub mod PatternsRead
+pub mod PatternsSound
+pub mod Reader
+pub mod SetsRead
+pub mod SetsSound
+pub mod TextExamples

@@ -1,0 +1,133 @@
+//! Worked examples.
+
+ghost use Rattle.std.specs.Prelude.{Some, None, true, false, [], ◌∷◌, codes};
+ghost use Rattle.unicode.specs.declared.properties.GeneralCategory.TheVariants.{UppercaseLetter, LowercaseLetter, TitlecaseLetter, ModifierLetter, OtherLetter, DecimalNumber};
+ghost use Rattle.jp_regexp.specs.Pattern.{Text, empty, letter, group, either, repeat, plus, dot, category, class, one, range, of_category};
+ghost use Rattle.jp_regexp.specs.Language.{Matches, Found};
+ghost use Rattle.jp_regexp.specs.Samples.{sign, letter_a, letter_b, branch, in_parentheses, HasSize, IsNoPattern};
+ghost use Rattle.jp_regexp.specs.Shape.{Shapes};
+
+// Which tree a text spells.
+fn shapes()
+    ensures nothing { Shapes (codes "") empty }
+    ensures branch_or_nothing { Shapes (codes "a|") (either (branch (letter_a ∷ [])) empty) }
+    ensures hyphens { Shapes (codes "[--]") (branch (letter (class false (one 45 ∷ one 45 ∷ [])) ∷ [])) }
+    ensures letters_and_hyphens { Shapes (codes "[a-]+") (branch (plus (letter (class false (one 97 ∷ one 45 ∷ []))) ∷ [])) }
+    ensures capitals { Shapes (codes "\\p{Lu}+") (branch (plus (letter (category false (UppercaseLetter ∷ []))) ∷ [])) }
+    ensures not_line_feed { Shapes (codes "[^\\n]") (branch (letter (class true (one 10 ∷ [])) ∷ [])) }
+    ensures any_character { Shapes (codes ".") (branch (letter dot ∷ [])) }
+    ensures two { Shapes (codes "a{02}") (branch (repeat 2 (Some 2) letter_a ∷ [])) }
+    ensures two_or_more { Shapes (codes "a{2,}") (branch (repeat 2 None letter_a ∷ [])) }
+    ensures nested { Shapes (codes "(a*)*b{0,2}") (branch (repeat 0 None (group (branch (repeat 0 None letter_a ∷ []))) ∷ repeat 0 (Some 2) letter_b ∷ [])) }
+    ensures signs { Shapes (codes "^a$") (branch (sign 94 ∷ letter_a ∷ sign 36 ∷ [])) }
+    ensures any_between { Shapes (codes "a.c") (branch (letter_a ∷ letter dot ∷ sign 99 ∷ [])) }
+    ensures neither { Shapes (codes "[^a-z\\p{Nd}]") (branch (letter (class true (range 97 122 ∷ of_category false (DecimalNumber ∷ []) ∷ [])) ∷ [])) }
+    ensures no_letter { Shapes (codes "\\P{L}") (branch (letter (category true (LowercaseLetter ∷ ModifierLetter ∷ OtherLetter ∷ TitlecaseLetter ∷ UppercaseLetter ∷ [])) ∷ [])) }
+    ensures some_letters { Shapes (codes "a+") (branch (plus letter_a ∷ [])) }
+    ensures caret_later { Shapes (codes "[a^.]") (branch (letter (class false (one 97 ∷ one 94 ∷ one 46 ∷ [])) ∷ [])) }
+    ensures escaped_caret { Shapes (codes "[\\^]") (branch (letter (class false (one 94 ∷ [])) ∷ [])) }
+    ensures two_carets { Shapes (codes "[^^]") (branch (letter (class true (one 94 ∷ [])) ∷ [])) }
+    ensures hyphen_first { Shapes (codes "[-a]?") (branch (repeat 0 (Some 1) (letter (class false (one 45 ∷ one 97 ∷ []))) ∷ [])) }
+    ensures branches { Shapes (codes "a|b|") (either (branch (letter_a ∷ [])) (either (branch (letter_b ∷ [])) empty)) }
+    ensures escapes { Shapes (codes "\\.\\-") (branch (sign 46 ∷ sign 45 ∷ [])) }
+    ensures three_to_five { Shapes (codes "[\\--\\]]{003,5}") (branch (repeat 3 (Some 5) (letter (class false (range 45 93 ∷ []))) ∷ [])) }
+{}
+
+// The unrolled sizes.
+fn sizes()
+    ensures thousand { HasSize (codes "a{1000}") 1_000 }
+    ensures ten_thousand { HasSize (codes "(a{1000}){10}") 10_000 }
+    ensures no_copies { HasSize (codes "(){1000}") 0 }
+    ensures mixed { HasSize (codes "(a|b)*a(a|b){3}") 9 }
+    ensures two_or_more { HasSize (codes "a{2,}") 3 }
+    ensures maybes { HasSize (codes "(a?){1000}a{1000}") 2_000 }
+    ensures nothing_in_depth { HasSize (codes "((((){1000}){1000}){1000}){1000}") 0 }
+    ensures never { HasSize (codes "(((a{1000}){1000}){1000}){0}") 0 }
+    ensures nothing { HasSize (codes "") 0 }
+    ensures some_letters { HasSize (codes "a+") 1 }
+    ensures one_or_more { HasSize (codes "a{1,}") 2 }
+    ensures up_to_five { HasSize (codes "a{3,5}") 5 }
+    ensures sixty_four_parentheses { HasSize (in_parentheses 64 (codes "a")) 1 }
+{}
+
+// Texts that are no patterns, for their form or for a limit.
+fn refused()
+    ensures class_of_nothing { IsNoPattern (codes "[^]") }
+    ensures empty_class { IsNoPattern (codes "[]") }
+    ensures range_that_falls { IsNoPattern (codes "[b-a]") }
+    ensures unknown_escape { IsNoPattern (codes "\\d") }
+    ensures two_quantities { IsNoPattern (codes "a**") }
+    ensures no_least { IsNoPattern (codes "a{,2}") }
+    ensures open_parenthesis { IsNoPattern (codes "(") }
+    ensures close_parenthesis { IsNoPattern (codes ")") }
+    ensures close_bracket { IsNoPattern (codes "]") }
+    ensures hyphen_in_the_middle { IsNoPattern (codes "[a-b-c]") }
+    ensures hyphen_behind_category { IsNoPattern (codes "[\\p{L}-z]") }
+    ensures bracket_in_class { IsNoPattern (codes "[[]") }
+    ensures quantity_first { IsNoPattern (codes "*") }
+    ensures open_brace { IsNoPattern (codes "a{") }
+    ensures close_brace { IsNoPattern (codes "}") }
+    ensures open_count { IsNoPattern (codes "a{1") }
+    ensures backslash_at_the_end { IsNoPattern (codes "\\") }
+    ensures surrogates { IsNoPattern (codes "\\p{Cs}") }
+    ensures unknown_category { IsNoPattern (codes "\\p{Lx}") }
+    ensures category_without_braces { IsNoPattern (codes "\\pL") }
+    ensures group_with_flags { IsNoPattern (codes "(?:a)") }
+    ensures eleven_thousand { IsNoPattern (codes "(a{1000}){11}") }
+    ensures count_too_great { IsNoPattern (codes "a{1001}") }
+    ensures least_too_great { IsNoPattern (codes "a{1001,}") }
+    ensures bounds_that_fall { IsNoPattern (codes "a{2,1}") }
+    ensures sixty_five_parentheses { IsNoPattern (in_parentheses 65 (codes "a")) }
+{}
+
+// Texts that match.
+fn matched()
+    ensures empty_text { Matches (codes "") (codes "") }
+    ensures first_branch { Matches (codes "a") (codes "a|") }
+    ensures empty_branch { Matches (codes "") (codes "a|") }
+    ensures hyphen { Matches (codes "-") (codes "[--]") }
+    ensures letters_and_hyphens { Matches (codes "a-a") (codes "[a-]+") }
+    ensures capitals { Matches (codes "AB") (codes "\\p{Lu}+") }
+    ensures carriage_return { Matches (13 ∷ []) (codes "[^\\n]") }
+    ensures last_character { Matches (1114111 ∷ []) (codes ".") }
+    ensures no_copies { Matches (codes "") (codes "(){1000}") }
+    ensures two { Matches (codes "aa") (codes "a{02}") }
+    ensures two_of_two_or_more { Matches (codes "aa") (codes "a{2,}") }
+    ensures three_of_two_or_more { Matches (codes "aaa") (codes "a{2,}") }
+    ensures nested_empty { Matches (codes "") (codes "(a*)*b{0,2}") }
+    ensures nested_letters { Matches (codes "aab") (codes "(a*)*b{0,2}") }
+    ensures signs { Matches (codes "^a$") (codes "^a$") }
+    ensures any_between { Matches (codes "abc") (codes "a.c") }
+    ensures neither { Matches (codes "A") (codes "[^a-z\\p{Nd}]") }
+    ensures no_letter { Matches (codes "1") (codes "\\P{L}") }
+{}
+
+// Texts that do not match.
+fn not_matched()
+    ensures nothing_else { Matches (codes "a") (codes "") → ⊥ }
+    ensures other_branch { Matches (codes "b") (codes "a|") → ⊥ }
+    ensures two_hyphens { Matches (codes "--") (codes "[--]") → ⊥ }
+    ensures letter_for_hyphen { Matches (codes "a") (codes "[--]") → ⊥ }
+    ensures other_letter { Matches (codes "b") (codes "[a-]+") → ⊥ }
+    ensures small_letter { Matches (codes "Ab") (codes "\\p{Lu}+") → ⊥ }
+    ensures line_feed { Matches (10 ∷ []) (codes "[^\\n]") → ⊥ }
+    ensures line_feed_for_dot { Matches (10 ∷ []) (codes ".") → ⊥ }
+    ensures carriage_return_for_dot { Matches (13 ∷ []) (codes ".") → ⊥ }
+    ensures surrogate_for_dot { Matches (55296 ∷ []) (codes ".") → ⊥ }
+    ensures one_of_two { Matches (codes "a") (codes "a{02}") → ⊥ }
+    ensures three_of_two { Matches (codes "aaa") (codes "a{02}") → ⊥ }
+    ensures one_of_two_or_more { Matches (codes "a") (codes "a{2,}") → ⊥ }
+    ensures three_of_at_most_two { Matches (codes "bbb") (codes "(a*)*b{0,2}") → ⊥ }
+    ensures letter_without_signs { Matches (codes "a") (codes "^a$") → ⊥ }
+    ensures small_letter_of_neither { Matches (codes "a") (codes "[^a-z\\p{Nd}]") → ⊥ }
+    ensures digit_of_neither { Matches (codes "5") (codes "[^a-z\\p{Nd}]") → ⊥ }
+    ensures letter_for_no_letter { Matches (codes "a") (codes "\\P{L}") → ⊥ }
+    ensures something_without_copies { Matches (codes "a") (codes "(){1000}") → ⊥ }
+{}
+
+// Where a part of the text matches.
+fn found()
+    ensures empty_everywhere { (text : Text) → Found text (codes "") }
+    ensures a_part { Found (codes "Ab") (codes "\\p{Lu}+") }
+    ensures nowhere { Found (codes "bb") (codes "a+") → ⊥ }
+{}

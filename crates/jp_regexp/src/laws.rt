@@ -1,0 +1,48 @@
+//! Laws of the definitions.
+
+ghost use Rattle.std.specs.Prelude.{◌≡◌, ◌↔◌, ◌⊎◌, ℕ, IsTrue, true, false, not, List, []};
+ghost use Rattle.std.specs.List.{AllByRecursion};
+ghost use Rattle.unicode.specs.declared.properties.GeneralCategory.{GeneralCategory};
+ghost use Rattle.jp_regexp.specs.Pattern.{Text, Element, Pattern, category, class, group, either};
+ghost use Rattle.jp_regexp.specs.CharSets.{is_scalar, in_set};
+ghost use Rattle.jp_regexp.specs.Shape.{Shapes};
+ghost use Rattle.jp_regexp.specs.Profile.{InProfile, size};
+ghost use Rattle.jp_regexp.specs.Language.{Member, Matches, Found};
+
+/// A text has at most one tree, and it is decided whether it has one.
+pub fn one_tree()
+    ensures at_most_one { (text : Text) (p q : Pattern) → Shapes text p → Shapes text q → p ≡ q }
+    ensures one_or_none { (text : Text) → ((p : Pattern) × Shapes text p) ⊎ ((p : Pattern) → Shapes text p → ⊥) }
+{}
+
+/// What is negated holds every other character.
+pub fn negated_holds_the_others()
+    ensures of_class { (elements : List Element) (c : ℕ) → IsTrue (is_scalar c) → in_set (class true elements) c ≡ not (in_set (class false elements) c) }
+    ensures of_category { (categories : List GeneralCategory) (c : ℕ) → IsTrue (is_scalar c) → in_set (category true categories) c ≡ not (in_set (category false categories) c) }
+{}
+
+/// What a pattern has consists of characters.
+pub fn members_are_characters()
+    ensures { (p : Pattern) (t : Text) → Member p t → AllByRecursion (λ c. IsTrue (is_scalar c)) t }
+{}
+
+/// Parentheses change no language.
+pub fn language_of_group()
+    ensures { (p : Pattern) (t : Text) → Member (group p) t ↔ Member p t }
+{}
+
+/// The language of branches is the union of theirs.
+pub fn language_of_either()
+    ensures { (p q : Pattern) (t : Text) → Member (either p q) t ↔ (Member p t ⊎ Member q t) }
+{}
+
+/// A pattern of size 0 has the empty text alone.
+pub fn language_of_size_zero()
+    ensures { (p : Pattern) (t : Text) → InProfile p → size p ≡ 0 → (Member p t ↔ (t ≡ [])) }
+{}
+
+/// What matches is found, and where the empty text matches, every text is found.
+pub fn matches_is_found()
+    ensures whole { (text pattern_text : Text) → Matches text pattern_text → Found text pattern_text }
+    ensures nothing { (text pattern_text : Text) → Matches [] pattern_text → Found text pattern_text }
+{}

@@ -1,0 +1,46 @@
+-- The answer to a collection of documents, one on a line.
+use Rattle.std.specs.Prelude.{ℕ, List, [], ◌∷◌, ◌++◌, Option, Some, None, Result, Ok, Err}
+use Rattle.std.specs.List.{flat_map}
+use Rattle.jp_doc.specs.Json.{Json}
+use Rattle.jp_doc.specs.Lines.{Line, lines}
+use Rattle.jp_doc.specs.Reading.{reading}
+use Rattle.jp_doc.specs.declared.fault.DocFault.{DocFault}
+use Rattle.jp_syntax.specs.Tree.{Query}
+use Rattle.jp_regexp.specs.Tests.{Tests}
+use Rattle.jp_eval.specs.Nodelist.{document_nodes}
+use Rattle.jp_path.specs.OutputLine.{node_line}
+
+-- the bytes, and the first faulty line with its fault, if there is one
+pub record Answer : Type 0 where
+  pub bytes : List ℕ
+  pub stopped : Option (ℕ × DocFault)
+
+-- the output lines of the nodes that a query selects in a document with this number
+abbrev pub document_lines : Tests → Query → ℕ → Json → List ℕ
+document_lines tests q number root = flat_map (node_line number) (document_nodes tests q root)
+
+-- bytes, and then an answer
+abbrev pub after : List ℕ → Answer → Answer
+after bytes a = record { bytes = bytes ++ a.bytes; stopped = a.stopped }
+
+-- A line's answer, and then the answer to the others: a faulty line ends it.
+abbrev pub line_answer : Tests → Query → ℕ → Result Json DocFault → Answer → Answer
+line_answer tests q number (Ok root) others = after (document_lines tests q number root) others
+line_answer tests q number (Err fault) others = record { bytes = []; stopped = Some (number, fault) }
+
+-- the answer to numbered lines: the output lines of the documents before the first faulty line, in order
+abbrev pub answer : Tests → Query → List Line → Answer
+answer tests q [] = record { bytes = []; stopped = None }
+answer tests q (l ∷ ls) = line_answer tests q l.0 (reading l.1) (answer tests q ls)
+
+-- the answer to a byte stream
+abbrev pub stream_answer : Tests → Query → List ℕ → Answer
+stream_answer tests q bytes = answer tests q (lines bytes)
+
+-- one answer after another, where the first has not stopped
+abbrev pub unless_stopped : Option (ℕ × DocFault) → Answer → Answer → Answer
+unless_stopped None a b = after a.bytes b
+unless_stopped (Some stop) a b = a
+
+abbrev pub joined : Answer → Answer → Answer
+joined a b = unless_stopped a.stopped a b

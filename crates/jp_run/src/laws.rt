@@ -1,0 +1,13 @@
+//! Laws of the definitions, each the contract of a function that does nothing.
+
+ghost use Rattle.std.specs.Prelude.{◌≡◌, ◌++◌, List};
+ghost use Rattle.jp_doc.specs.Lines.{Line};
+ghost use Rattle.jp_syntax.specs.Tree.{Query};
+ghost use Rattle.jp_regexp.specs.Tests.{Tests};
+ghost use Rattle.jp_run.specs.Answer.{answer, joined};
+
+/// The answer to lines and further lines is the answer to the first where that has stopped, and else its bytes and then the
+/// answer to the further lines. So it is the same in whatever pieces the lines are taken.
+pub fn pieces()
+    ensures { (t : Tests) (q : Query) (a b : List Line) → answer t q (a ++ b) ≡ joined (answer t q a) (answer t q b) }
+{}

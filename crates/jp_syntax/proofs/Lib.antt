@@ -1,0 +1,13 @@
+pub mod Arguments
+pub mod Building
+pub mod DepthLaws
+pub mod Endings
+pub mod LoneSurrogate
+pub mod OneValue
+pub mod RefusedStrings
+pub mod Refusals
+pub mod StringLaws
+pub mod Witnesses
+pub mod WitnessesOfComparisons
+pub mod WitnessesOfFilters
+pub mod WitnessesOfLiterals

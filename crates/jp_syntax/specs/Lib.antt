@@ -1,0 +1,10 @@
+pub mod Tree
+pub mod View
+pub mod Characters
+pub mod Parts
+pub mod Strings
+pub mod Numbers
+pub mod Singular
+pub mod Spelling
+pub mod Depth
+pub mod Examples
