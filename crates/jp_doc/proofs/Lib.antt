@@ -3,3 +3,12 @@ pub mod LocationLaws
 pub mod OnLiterals
 pub mod ReadingLaws
 pub mod RisingLaws
+pub mod TextLaws
+pub mod RisingProps
+pub mod Found
+pub mod ReadLaws
+pub mod ReadRising
+pub mod CutLaws
+pub mod FeedLaws
+pub mod BackLaws
+pub mod OrderLaws

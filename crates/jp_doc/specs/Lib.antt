@@ -4,3 +4,8 @@ pub mod Lines
 pub mod Joined
 pub mod Reading
 pub mod Rising
+pub mod Document
+pub mod DocumentValue
+pub mod Feeding
+pub mod Limits
+pub mod Added

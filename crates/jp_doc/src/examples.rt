@@ -2,6 +2,8 @@
 
 ghost use Rattle.std.specs.Prelude.{◌≡◌, [], ◌∷◌, ◌++◌, codes, fold, replicate, pos, negsuc, true, false, Some, None, Ok, Err};
 ghost use Rattle.jp_doc.specs.Lines.{all_lines, is_blank, lines, line_count};
+ghost use Rattle.jp_doc.specs.Feeding.{nothing_fed, fed, fed_lines, finished, finished_lines};
+ghost use Rattle.jp_doc.specs.DocumentValue.{whole_in};
 ghost use Rattle.jp_doc.specs.Reading.{reading};
 ghost use Rattle.jp_doc.specs.Json.{null, truth, whole, text, array, object, no_items, add_item, no_members, add_member};
 ghost use Rattle.jp_doc.specs.Rising.{IsRising};
@@ -33,6 +35,23 @@ fn blank_lines()
     ensures white_space_is_blank { is_blank (32 ∷ 9 ∷ 13 ∷ []) ≡ true }
     ensures form_feed_is_not_blank { is_blank (12 ∷ []) ≡ false }
     ensures no_last_empty_line { all_lines (codes "a" ++ 10 ∷ []) ≡ codes "a" ∷ [] }
+{}
+
+// Lines that come in pieces: the count goes on, and so does the line that is open.
+
+fn pieces()
+    ensures lines { fed_lines (record { count = 4; open_line = codes "a" }) (codes "b" ++ 13 ∷ 10 ∷ 10 ∷ codes "c") ≡ (5, codes "ab" ++ 13 ∷ []) ∷ [] }
+    ensures progress { fed (record { count = 4; open_line = codes "a" }) (codes "b" ++ 13 ∷ 10 ∷ 10 ∷ codes "c") ≡ record { count = 6; open_line = codes "c" } }
+    ensures none_ended { fed_lines nothing_fed (codes "a") ≡ [] }
+    ensures open { fed nothing_fed (codes "a") ≡ record { count = 0; open_line = codes "a" } }
+{}
+
+fn last_piece()
+    ensures line { finished_lines (record { count = 6; open_line = codes "c" }) ≡ (7, codes "c") ∷ [] }
+    ensures progress { finished (record { count = 6; open_line = codes "c" }) ≡ record { count = 7; open_line = [] } }
+    ensures blank_line { finished_lines (record { count = 6; open_line = 32 ∷ [] }) ≡ [] }
+    ensures blank_line_counted { finished (record { count = 6; open_line = 32 ∷ [] }) ≡ record { count = 7; open_line = [] } }
+    ensures none_open { finished (record { count = 6; open_line = [] }) ≡ record { count = 6; open_line = [] } }
 {}
 
 // Documents.
@@ -120,4 +139,12 @@ fn locations_that_lead_nowhere()
     ensures step_into_a_number { value_at (index 0 ∷ []) (whole (pos 7)) ≡ None }
     ensures name_in_an_array { value_at (name (codes "a") ∷ []) (array no_items) ≡ None }
     ensures below_a_missing_member { value_at (name (codes "b") ∷ index 0 ∷ []) (object (add_member (codes "a") null no_members)) ≡ None }
+{}
+
+// The number that a value is.
+
+fn numbers_in_values()
+    ensures number { whole_in (whole (negsuc 2)) ≡ Some (negsuc 2) }
+    ensures text_of_digits { whole_in (text (codes "3")) ≡ None }
+    ensures array_of_a_number { whole_in (array (add_item (whole (pos 3)) no_items)) ≡ None }
 {}

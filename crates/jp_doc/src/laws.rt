@@ -1,12 +1,20 @@
 //! Laws of the definitions, each proved for every line, location and document.
 
-ghost use Rattle.std.specs.Prelude.{◌≡◌, ℕ, ◌<◌, ◌≤◌, false, not, ◌==◌, IsTrue, List, [], ◌∷◌, ◌++◌, length, Some, None, Ok, Err, option_and_then};
-ghost use Rattle.std.specs.List.{list_all};
+ghost use Rattle.std.specs.Prelude.{◌≡◌, ℕ, ◌<◌, ◌≤◌, false, not, ◌==◌, IsTrue, List, [], ◌∷◌, ◌++◌, length, Some, None, Ok, Err, option_and_then, Vec, String};
+ghost use Rattle.std.specs.declared.alloc.Global.{Global};
+ghost use Rattle.std.specs.BTreeMap.{BTreeMap};
+ghost use Rattle.std.specs.List.{All, list_all, concat};
 ghost use Rattle.std.specs.Str.{IsUtf8};
+ghost use Rattle.std.specs.Cmp.Lexicographic.{slice_cmp};
+ghost use Rattle.std.specs.Ordering.{nat_cmp};
 ghost use Rattle.serde_json.specs.Data.{Data, Members, put};
 ghost use Rattle.serde_json.specs.Written.{has_float};
-ghost use Rattle.jp_doc.specs.Json.{Json, json_of, members_of};
-ghost use Rattle.jp_doc.specs.Lines.{all_lines};
+ghost use Rattle.serde_json.specs.View.{view};
+ghost use Rattle.serde_json.specs.declared.value.Value.{Value, Array, Object};
+ghost use Rattle.jp_doc.specs.DocumentValue.{IsDocumentValue};
+ghost use Rattle.jp_doc.specs.Json.{Text, text_cmp, Json, json_of, members_of, value_of, data_of};
+ghost use Rattle.jp_doc.specs.Lines.{all_lines, lines, line_count};
+ghost use Rattle.jp_doc.specs.Feeding.{cut, last_line, nothing_fed, lines_of_pieces, after_pieces};
 ghost use Rattle.jp_doc.specs.Joined.{joined};
 ghost use Rattle.jp_doc.specs.Location.{Location, value_at};
 ghost use Rattle.jp_doc.specs.Reading.{max_line, max_items, has_long_array, crate_reading, reading};
@@ -59,4 +67,37 @@ pub fn value_at_further()
 pub fn names_rise_on_put()
     ensures rising { (k : List ℕ) (d : Data) (ms : Members) → IsUtf8 k → NamesAreUtf8 ms → IsRising (json_of d) → MembersRise (members_of ms) → MembersRise (members_of (put k d ms)) }
     ensures utf8 { (k : List ℕ) (d : Data) (ms : Members) → IsUtf8 k → NamesAreUtf8 ms → NamesAreUtf8 (put k d ms) }
+{}
+
+/// The lines are those that end in a line feed, and what follows the last line feed if it is not empty.
+#[tactic(auto, using(crate::proofs::CutLaws::lines_cut))]
+pub fn last_line_is_open()
+    ensures { (bytes : List ℕ) → all_lines bytes ≡ (cut bytes).ended ++ last_line (cut bytes).open_line }
+{}
+
+/// What `feed` hands out for pieces that come one after another, and then `finish`, is the lines of the pieces joined;
+/// and the count is theirs.
+#[tactic(auto, using(crate::proofs::FeedLaws::pieces_lines, crate::proofs::FeedLaws::pieces_count, crate::proofs::FeedLaws::pieces_open))]
+pub fn lines_in_pieces()
+    ensures handed_out { (pieces : List (List ℕ)) → lines_of_pieces nothing_fed pieces ≡ lines (concat pieces) }
+    ensures count { (pieces : List (List ℕ)) → (after_pieces nothing_fed pieces).count ≡ line_count (concat pieces) }
+    ensures none_open { (pieces : List (List ℕ)) → (after_pieces nothing_fed pieces).open_line ≡ [] }
+{}
+
+/// A value of the JSON crate with no float is what its abstract value gives back.
+#[tactic(auto, using(crate::proofs::BackLaws::value_back))]
+pub fn value_gives_back()
+    ensures { (v : Value) → has_float (view v) ≡ false → data_of (value_of v) ≡ view v }
+{}
+
+/// The order of texts by the bytes of their UTF-8 is that by their scalar values.
+#[tactic(auto, using(crate::proofs::OrderLaws::text_order))]
+pub fn text_order()
+    ensures { (s t : Text) → text_cmp s t ≡ slice_cmp nat_cmp s t }
+{}
+
+/// The items and the members of a value of a document are values of the document.
+pub fn values_inside()
+    ensures items { (vs : Vec Value Global) → IsDocumentValue (Array vs) → All IsDocumentValue vs.items }
+    ensures members { (ms : BTreeMap (String Global) Value) → IsDocumentValue (Object ms) → All (λ m. IsDocumentValue m.1) ms.entries }
 {}

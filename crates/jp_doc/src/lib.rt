@@ -1,14 +1,19 @@
 //! JSON documents, one on a line: lines, what a line is read as, and locations in a document.
 #![tactic(auto)]
 
+mod document;
 mod examples;
 mod fault;
 pub mod laws;
+mod limits;
 mod line;
+mod lines;
 mod location;
 #[cfg(test)]
 mod tests;
 
+pub use document::{Document, whole_number};
 pub use fault::DocFault;
 pub use line::Line;
+pub use lines::Lines;
 pub use location::{Location, Step};

@@ -1,0 +1,29 @@
+use Rattle.std.proofs.Common.{◌≡◌, Bool, true, false, ◌||◌, nat_lt, List, [], ◌∷◌, length, Ok, refl, sym, ap, ◌∙◌, suc}
+use Rattle.serde_json.proofs.Views.{view-Array}
+use Rattle.serde_json.specs.View.{items_view}
+use Rattle.serde_json.specs.Written.{items_have_float}
+use Rattle.serde_json.specs.declared.value.Value.{Value}
+use Rattle.jp_doc.specs.Limits.{tested}
+use Rattle.jp_doc.specs.Json.{items_of, item_list}
+use Rattle.jp_doc.specs.Reading.{max_items, items_have_long_array}
+use Rattle.jp_doc.proofs.limits.+limits.Goals as goal
+
+length_items : (vs : List Value) → length (item_list (items_of (items_view vs))) ≡ length vs
+length_items [] = refl
+length_items (v ∷ vs) = ap (λ n. suc n) (length_items vs)
+
+or_none : (a : Bool) → a ≡ a || false
+or_none true = refl
+or_none false = refl
+
+this_alone : (float within this : Bool) → tested float within ≡ Ok false → tested float (this || within) ≡ Ok this
+this_alone true within this e = cc
+this_alone false true this e = cc
+this_alone false false this e = ap (λ b. tested false b) (sym (or_none this))
+
+pub has_long_array-returns-else-branch : goal.has_long_array-returns-else-branch
+has_long_array-returns-else-branch t c =
+    rw (c.in-Array.is, view-Array, length_items)
+    (ap (λ n. tested false (nat_lt max_items n)) (c.len.ensures ∙ c.in-Array.items.ok.0)
+    ∙ sym (this_alone (items_have_float (items_view c.in-Array.items.items)) (items_have_long_array max_items (items_of (items_view c.in-Array.items.items))) _
+    (sym c.items_have_long_array.ensures ∙ c.in_ok-items_have_long_array-in-Array.was ∙ ap (λ b. tested false b) c.if-branch.false)))
