@@ -1,7 +1,6 @@
 -- The numbers of a query: fractions and ranges (RFC 9535, 2.1).
-use Rattle.std.specs.Prelude.{ℕ, ◌||◌, ◌&&◌, ◌==◌, nat_le, Bool, false, ℤ, pos, neg_ℤ, List, [], ◌∷◌, ◌++◌, Option, count_by, option_to_list, map, if◌then◌else◌}
+use Rattle.std.specs.Prelude.{ℕ, ◌+◌, ◌*◌, ◌-◌, ◌||◌, ◌&&◌, ◌==◌, nat_le, Bool, false, ℤ, pos, neg_ℤ, List, [], ◌∷◌, ◌++◌, Option, count_by, option_to_list, map, if◌then◌else◌}
 use Rattle.std.specs.List.{list_any, list_all}
-use Rattle.std.specs.Str.Parse.{digits_value}
 use Rattle.jp_syntax.specs.Tree.{Text, Literal, number, text, truth, null, Query, query, Segment, segment, Selector, name, wildcard, index, slice, filter, Logical, any, all, negation, comparing, test, test_call, Comparison, comparison, Comparable, literal, single, value_call, Call, call, Argument, literal_argument, query_argument, logical_argument, call_argument, Segments, no_segments, add_segment, Selectors, no_selectors, add_selector, Logicals, no_logicals, add_logical, Arguments, no_arguments, add_argument}
 
 -- a number as it is written in a query: a literal, or an index or a part of a slice
@@ -77,6 +76,11 @@ abbrev mutual
 abbrev pub is_digit : ℕ → Bool
 is_digit c = nat_le 48 c && nat_le c 57
 
+-- the value of digits, read on from a number
+abbrev pub digits_from : ℕ → Text → ℕ
+digits_from n [] = n
+digits_from n (c ∷ cs) = digits_from (n * 10 + (c - 48)) cs
+
 -- the digits without the sign
 abbrev pub unsigned_digits : Text → Text
 unsigned_digits [] = []
@@ -84,7 +88,7 @@ unsigned_digits (c ∷ cs) = if c == 45 then cs else c ∷ cs
 
 -- how far from zero a written whole number is
 abbrev pub magnitude : Text → ℕ
-magnitude t = digits_value 10 (unsigned_digits t)
+magnitude t = digits_from 0 (unsigned_digits t)
 
 abbrev pub is_negative : Text → Bool
 is_negative [] = false

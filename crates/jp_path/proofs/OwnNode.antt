@@ -1,10 +1,11 @@
 -- The query of a path selects just its node.
-use Rattle.std.proofs.Common.{◌≡◌, ℕ, zero, suc, ◌<◌, ◌^◌, ◌==◌, Bool, true, false, List, [], ◌∷◌, ◌++◌, length, Option, Some, None, refl, ap, ◌∙◌, subst, arith, decimal, map, append_assoc}
+use Rattle.std.proofs.Common.{◌≡◌, ℕ, zero, suc, ◌+◌, ◌-◌, ◌*◌, ◌<◌, ◌^◌, ◌==◌, Bool, true, false, List, [], ◌∷◌, ◌++◌, length, Option, Some, None, refl, ap, ◌∙◌, subst, arith, decimal, map, append_assoc}
 use Rattle.std.specs.Prelude.{pos, option_and_then}
 use Rattle.std.specs.Char.{digit_value}
-use Rattle.std.specs.Str.Parse.{AllDigits, digits_value}
+use Rattle.std.specs.Str.Parse.{AllDigits, digits_value, digits_value_after}
+use Rattle.std.proofs.lemmas.Bool.Decides.{nat_tests}
 use Rattle.std.proofs.lemmas.Fmt.{decimal_is_IsNumeral_wide}
-use Rattle.jp_check.specs.Numbers.{whole_number}
+use Rattle.jp_check.specs.Numbers.{whole_number, digits_from}
 use borrow.Author.Tests.{eqb-true, lt-ltb}
 use Rattle.std.proofs.lemmas.List.{append-nil}
 use Rattle.std.proofs.lemmas.Option.{same_Some}
@@ -24,9 +25,16 @@ not_minus_by : (c : ℕ) (b : Bool) → (c == 45) ≡ b → digit_value c < 10 �
 not_minus_by c true e h = let is : c ≡ 45 = eqb-true c 45 e in absurd (not_small (subst (λ n. digit_value n < 10) is h))
 not_minus_by c false e h = e
 
+digit_is : (c : ℕ) → digit_value c < 10 → c - 48 ≡ digit_value c
+digit_is c h = grind (arith, nat_tests)
+
+digits_are : (n : ℕ) (ds : List ℕ) → AllDigits 10 ds → digits_from n ds ≡ digits_value_after 10 n ds
+digits_are n [] h = refl
+digits_are n (c ∷ cs) h = ap (λ d. digits_from (n * 10 + d) cs) (digit_is c h.0) ∙ digits_are (n * 10 + digit_value c) cs h.1
+
 numeral_is_whole : (ds : List ℕ) → AllDigits 10 ds → whole_number ds ≡ pos (digits_value 10 ds)
 numeral_is_whole [] h = refl
-numeral_is_whole (c ∷ cs) h = let e : (c == 45) ≡ false = not_minus_by c (c == 45) refl h.0 in rw e refl
+numeral_is_whole (c ∷ cs) h = let e : (c == 45) ≡ false = not_minus_by c (c == 45) refl h.0 in rw e (ap pos (digits_are 0 (c ∷ cs) h))
 
 pub decimal_is_whole : (n : ℕ) → n < 2 ^ 32 → whole_number (decimal n) ≡ pos n
 decimal_is_whole n h =

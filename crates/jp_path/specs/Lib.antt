@@ -1,3 +1,4 @@
 pub mod Path
 pub mod OutputLine
 pub mod PathQuery
+pub mod Appended

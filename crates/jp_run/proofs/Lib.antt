@@ -1,2 +1,4 @@
 pub mod OnLiterals
 pub mod Pieces
+pub mod Handed
+pub mod OneFront

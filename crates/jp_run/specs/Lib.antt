@@ -1,1 +1,4 @@
 pub mod Answer
+pub mod Counts
+pub mod Status
+pub mod Written

@@ -1,0 +1,11 @@
+use Rattle.std.proofs.Common.{◌≡◌, ◌++◌, drop}
+use Rattle.std.specs.List.{flat_map}
+use Rattle.jp_path.specs.Appended.{Extends}
+use Rattle.jp_path.specs.Path.{escaped}
+use Rattle.jp_path.proofs.path.append_name.Given as goal
+
+abbrev pub invariant-loop-byte : goal.invariant-loop-byte
+invariant-loop-byte l = record {
+  rest : l.out.items ++ flat_map escaped (drop l.byte-index l.byte-items) ≡ l.initial.out.items ++ flat_map escaped l.name;
+  kept : Extends l.initial.out.items l.out.items;
+}

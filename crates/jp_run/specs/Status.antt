@@ -1,0 +1,12 @@
+-- The status that a program ends with.
+use Rattle.std.specs.Prelude.{ℕ}
+use Rattle.jp_run.specs.declared.fault.RunFault.{RunFault}
+use Rattle.jp_run.specs.declared.fault.RunFault.TheVariants.{Query, Document, Read, Write, Limit, Memory}
+
+abbrev pub status_of : RunFault → ℕ
+status_of (Query fault) = 2
+status_of (Document line fault) = 3
+status_of Read = 4
+status_of Write = 4
+status_of Limit = 4
+status_of Memory = 5

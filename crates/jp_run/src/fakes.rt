@@ -1,0 +1,135 @@
+//! Ends in memory that hand out or take little, or fail.
+
+ghost use Rattle.std.specs.Prelude.{◌≡◌, Some, false, ◌<◌};
+
+use crate::ends::{Broken, Sink, Source};
+
+/// Hands out one byte a call, and fails once, at the call of this number from 1.
+#[derive(Drop)]
+pub(crate) struct OneByte<'a> {
+    rest: &'a [u8],
+    fails_at: u64,
+    reads: u64,
+    given: u64,
+    last: u64,
+    failed: bool,
+}
+
+impl<'a> OneByte<'a> {
+    pub(crate) fn new(rest: &'a [u8], fails_at: u64) -> OneByte<'a>
+        ensures unread { (result.reads ≡ 0) × (result.given ≡ 0) }
+        ensures working { result.failed ≡ false }
+    {
+        OneByte {
+            rest,
+            fails_at,
+            reads: 0,
+            given: 0,
+            last: 0,
+            failed: false,
+        }
+    }
+}
+
+impl Source for OneByte<'_> {
+    ghost remaining = { λ s. Some s.rest.now };
+
+    ghost reads = { λ s. s.reads };
+
+    ghost given = { λ s. s.given };
+
+    ghost last = { λ s. s.last };
+
+    ghost failed = { λ s. s.failed };
+
+    fn read(&mut self, buf: &mut [u8]) -> Result<usize, Broken> {
+        self.reads = self.reads.saturating_add(1);
+        self.last = 0;
+        if self.reads == self.fails_at {
+            self.failed = true;
+            return Err(Broken);
+        }
+        if buf.is_empty() {
+            self.given = self.given.saturating_add(0);
+            return Ok(0);
+        }
+        let Some((first, rest)) = self.rest.split_first() else {
+            self.given = self.given.saturating_add(0);
+            return Ok(0);
+        };
+        buf[0] = *first;
+        self.rest = rest;
+        self.given = self.given.saturating_add(1);
+        self.last = 1;
+        Ok(1)
+    }
+
+    fn reads(&self) -> u64 {
+        self.reads
+    }
+
+    fn given(&self) -> u64 {
+        self.given
+    }
+
+    fn last(&self) -> u64 {
+        self.last
+    }
+
+    fn failed(&self) -> bool {
+        self.failed
+    }
+}
+
+/// Takes at most so many bytes a call, so many in all, and then fails.
+#[derive(Drop)]
+pub(crate) struct Holds {
+    pub(crate) bytes: Vec<u8>,
+    most: usize,
+    room: usize,
+    failed: bool,
+    ghost some: { 0 < most },
+}
+
+impl Holds {
+    pub(crate) fn new(bytes: Vec<u8>, most: usize, room: usize) -> Holds
+        requires { 0 < most }
+        ensures { result.failed ≡ false }
+    {
+        Holds {
+            bytes,
+            most,
+            room,
+            failed: false,
+        }
+    }
+}
+
+impl Sink for Holds {
+    ghost contents = { λ s. Some s.bytes.items };
+
+    ghost failed = { λ s. s.failed };
+
+    fn write(&mut self, bytes: &[u8]) -> Result<usize, Broken> {
+        let n = bytes.len().min(self.most).min(self.room);
+        if n == 0 && !bytes.is_empty() {
+            self.failed = true;
+            return Err(Broken);
+        }
+        let (front, _) = bytes.split_at(n);
+        if self.bytes.extend_from_slice(front).is_err() {
+            self.failed = true;
+            return Err(Broken);
+        }
+        self.room -= n;
+        Ok(n)
+    }
+
+    fn flush(&mut self) -> Result<(), Broken> {
+        Ok(())
+    }
+
+    fn failed(&self) -> bool {
+        self.failed
+    }
+}

@@ -1,0 +1,60 @@
+//! Why a run ended early.
+
+ghost use Rattle.std.specs.Prelude.{◌≡◌};
+ghost use Rattle.jp_run.specs.declared.fault.RunFault.TheVariants.{Memory};
+ghost use Rattle.jp_run.specs.Status.{status_of};
+
+use jp_doc::DocFault;
+use jp_syntax::QueryFault;
+use std::alloc::AllocError;
+use thiserror::Error;
+
+/// Why a run ended early, and what stands then.
+#[derive(Debug, Drop, Error)]
+pub enum RunFault {
+    /// The query is refused. Nothing was read and nothing was written.
+    #[error("{0}")]
+    Query(QueryFault),
+    /// The first faulty line and its fault. Exactly the lines of the documents before it were written.
+    #[error("line {line}: {fault}")]
+    Document {
+        /// The line's number, from 1.
+        line: u64,
+        /// What is wrong with it.
+        fault: DocFault,
+    },
+    /// The source failed.
+    #[error("read")]
+    Read,
+    /// The sink failed. A front of the answer was written.
+    #[error("write")]
+    Write,
+    /// There were 2^40 calls of `read` without an end, or more than 4,294,967,295 lines.
+    #[error("limit")]
+    Limit,
+    /// A growth of memory was refused. A front of the answer was written.
+    #[error("memory")]
+    Memory,
+}
+
+impl From<AllocError> for RunFault {
+    ghost from_gives = { λ _ e. e ≡ Memory };
+
+    fn from(_error: AllocError) -> RunFault {
+        RunFault::Memory
+    }
+}
+
+impl RunFault {
+    /// The status that a program ends with: 2 for the query, 3 for a document, 4 for an end or a limit, 5 for memory.
+    pub fn status(&self) -> u8
+        ensures { result ≡ status_of self.now }
+    {
+        match self {
+            RunFault::Query(_) => 2,
+            RunFault::Document { .. } => 3,
+            RunFault::Read | RunFault::Write | RunFault::Limit => 4,
+            RunFault::Memory => 5,
+        }
+    }
+}
