@@ -10,12 +10,12 @@ use Rattle.jp_syntax.proofs.Endings.{never_at}
 use Rattle.jp_syntax.proofs.RefusedStrings.{bare_is_no_backslash}
 
 -- a bare character is no quote
-bare_is_no_quote : (quote c : ℕ) → IsTrue (is_bare quote c) → (c == quote) ≡ false
+pub bare_is_no_quote : (quote c : ℕ) → IsTrue (is_bare quote c) → (c == quote) ≡ false
 bare_is_no_quote quote c h =
     let outer = and_parts (nat_le 0x20 c && is_scalar c && not (c == quote)) (not (c == 92)) h in
     not-true (c == quote) (and_parts (nat_le 0x20 c && is_scalar c) (not (c == quote)) outer.0).1
 
-quote_is_no_backslash : (quote : ℕ) → IsTrue (is_quote quote) → (quote == 92) ≡ false
+pub quote_is_no_backslash : (quote : ℕ) → IsTrue (is_quote quote) → (quote == 92) ≡ false
 quote_is_no_backslash quote h = false_from_ne_true (quote == 92) (never_at is_quote 92 refl quote h)
 
 -- whether the text begins with this character
@@ -27,7 +27,7 @@ eqb-same : (n : ℕ) → (n == n) ≡ true
 eqb-same n = grind (arith, nat_tests)
 
 -- `u` is none of the letters
-no_letter_u : (quote : ℕ) → IsTrue (is_quote quote) → escaped quote 117 ≡ None
+pub no_letter_u : (quote : ℕ) → IsTrue (is_quote quote) → escaped quote 117 ≡ None
 no_letter_u quote h =
     elim (or_cases (quote == 34) (quote == 39) h) [
       | inl e ↦ subst (λ (c : ℕ). escaped c 117 ≡ None) (sym (eqb-true quote 34 e)) refl

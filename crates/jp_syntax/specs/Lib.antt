@@ -1,10 +1,14 @@
 pub mod Tree
 pub mod View
+pub mod PartViews
 pub mod Characters
 pub mod Parts
 pub mod Strings
 pub mod Numbers
 pub mod Singular
 pub mod Spelling
+pub mod Reading
+pub mod Gives
 pub mod Depth
+pub mod DepthView
 pub mod Examples

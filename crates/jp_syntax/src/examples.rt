@@ -196,3 +196,39 @@ fn refused_texts()
     ensures blank_behind_a_name { (q : Query) → ¬ Spells (codes "$.a ") q }
     ensures blank_before_the_root { (q : Query) → ¬ Spells (codes " $") q }
 {}
+
+fn refused_segments()
+    ensures blank_behind_a_point { (q : Query) → ¬ Spells (codes "$. a") q }
+    ensures blank_behind_two_points { (q : Query) → ¬ Spells (codes "$.. a") q }
+    ensures two_points_alone { (q : Query) → ¬ Spells (codes "$..") q }
+    ensures bracket_behind_a_point { (q : Query) → ¬ Spells (codes "$.['a']") q }
+{}
+
+fn refused_selectors()
+    ensures none { (q : Query) → ¬ Spells (codes "$[]") q }
+    ensures comma_at_the_end { (q : Query) → ¬ Spells (codes "$[0,]") q }
+    ensures no_comma { (q : Query) → ¬ Spells (codes "$['a' 'b']") q }
+    ensures three_colons { (q : Query) → ¬ Spells (codes "$[1:2:3:4]") q }
+    ensures minus_zero { (q : Query) → ¬ Spells (codes "$[-0]") q }
+    ensures leading_zero { (q : Query) → ¬ Spells (codes "$[01]") q }
+{}
+
+fn refused_strings()
+    ensures unknown_escape { (q : Query) → ¬ Spells (codes "$['\\x']") q }
+    ensures other_quote_escaped { (q : Query) → ¬ Spells (codes "$['\\\"']") q }
+    ensures single_quote_escaped { (q : Query) → ¬ Spells (codes "$[\"\\'\"]") q }
+    ensures lone_surrogate { (q : Query) → ¬ Spells (codes "$['\\uD83D']") q }
+{}
+
+fn refused_filters()
+    ensures two_negations { (q : Query) → ¬ Spells (codes "$[?!!@.a]") q }
+    ensures several_nodes_compared { (q : Query) → ¬ Spells (codes "$[?@.*==1]") q }
+    ensures word_alone { (q : Query) → ¬ Spells (codes "$[?true]") q }
+    ensures number_alone { (q : Query) → ¬ Spells (codes "$[?1]") q }
+    ensures comparison_negated { (q : Query) → ¬ Spells (codes "$[?!@.a==1]") q }
+    ensures two_comparisons { (q : Query) → ¬ Spells (codes "$[?@.a==1==2]") q }
+    ensures literal_in_parentheses { (q : Query) → ¬ Spells (codes "$[?@.a==(1)]") q }
+    ensures blank_before_arguments { (q : Query) → ¬ Spells (codes "$[?f (@)]") q }
+    ensures upper_case_in_a_name { (q : Query) → ¬ Spells (codes "$[?F(@)]") q }
+    ensures single_equals { (q : Query) → ¬ Spells (codes "$[?@.a=1]") q }
+{}

@@ -1,5 +1,9 @@
 //! Why a query text is refused.
 
+ghost use Rattle.std.specs.Prelude.{◌≡◌};
+ghost use Rattle.jp_syntax.specs.declared.fault.QueryFault.TheVariants.{Memory};
+
+use std::alloc::AllocError;
 use thiserror::Error;
 
 /// Why a query text is refused: the first of these that applies, in this order.
@@ -24,4 +28,12 @@ pub enum QueryFault {
     /// A growth of memory was refused.
     #[error("memory")]
     Memory,
+}
+
+impl From<AllocError> for QueryFault {
+    ghost from_gives = { λ _ e. e ≡ Memory };
+
+    fn from(_refused: AllocError) -> QueryFault {
+        QueryFault::Memory
+    }
 }

@@ -1,6 +1,6 @@
 //! Laws of the definitions.
 
-ghost use Rattle.std.specs.Prelude.{◌≡◌, ◌≤◌, ℕ, suc, not, ◌↔◌, IsTrue, IsFalse, [], ◌∷◌, ◌++◌, length};
+ghost use Rattle.std.specs.Prelude.{◌≡◌, ◌≤◌, ◌⊎◌, ℕ, suc, not, ◌↔◌, IsTrue, IsFalse, [], ◌∷◌, ◌++◌, length};
 ghost use Rattle.jp_syntax.specs.declared.tree.Start.{Start};
 ghost use Rattle.jp_syntax.specs.declared.tree.Start.TheVariants.{Root};
 ghost use Rattle.jp_syntax.specs.Tree.{Text, Query, Segments, Call, query, test, test_call};
@@ -45,4 +45,10 @@ pub fn fronts_are_no_deeper()
     ensures front { (s t : Text) → bracket_depth s ≤ bracket_depth (s ++ t) }
     ensures open { (t : Text) → open_brackets t ≤ bracket_depth t }
     ensures length { (t : Text) → bracket_depth t ≤ length t }
+{}
+
+/// A text spells at most one tree, and whether it spells one is decided (RFC 9535, 2.1).
+pub fn one_tree()
+    ensures at_most_one { (t : Text) (p q : Query) → Spells t p → Spells t q → p ≡ q }
+    ensures one_or_none { (t : Text) → ((q : Query) × Spells t q) ⊎ ((q : Query) → Spells t q → ⊥) }
 {}

@@ -1,0 +1,43 @@
+-- The bracket depth behind one more character.
+use Rattle.std.proofs.Common.{◌≡◌, ℕ, ◌≤◌, max, arith, refl, ap, sym, ◌∙◌, [], ◌∷◌, ◌++◌, length}
+use Rattle.jp_syntax.specs.Tree.{Text}
+use Rattle.jp_syntax.specs.Depth.{Place, outside, step, scan, count_of, open_brackets, bracket_depth}
+use Rattle.jp_syntax.specs.DepthView.{place_of}
+use Rattle.jp_syntax.specs.declared.depth.Quotes.{Quotes}
+use Rattle.jp_syntax.specs.declared.depth.Quotes.TheVariants.{Outside, Inside, Passing}
+use Rattle.jp_syntax.proofs.DepthLaws.{depth_from, depth_from_cons, open_no_deeper, depth_within_length}
+
+scan_last : (place : Place) (t : Text) (c : ℕ) → scan place (t ++ c ∷ []) ≡ step (scan place t) c
+scan_last place [] c = refl
+scan_last place (d ∷ t) c = scan_last (step place d) t c
+
+depth_last : (place : Place) (t : Text) (c : ℕ) → depth_from place (t ++ c ∷ []) ≡ max (depth_from place t) (count_of (step (scan place t) c))
+depth_last place [] c = omega arith
+depth_last place (d ∷ t) c =
+    let e = depth_from_cons place d (t ++ c ∷ []) in
+    let k = depth_from_cons place d t in
+    let h = depth_last (step place d) t c in
+    omega arith
+
+pub count_there : (quotes : Quotes) (count : ℕ) → count_of (place_of quotes count) ≡ count
+count_there Outside count = refl
+count_there (Inside quote) count = refl
+count_there (Passing quote) count = refl
+
+module _ (quotes : Quotes) (count : ℕ) (t : Text) (so : place_of quotes count ≡ scan (outside 0) t) where
+  -- no more brackets are open than there are characters
+  pub count_fits : count ≤ length t
+  count_fits =
+      let e : count ≡ open_brackets t = sym (count_there quotes count) ∙ ap count_of so in
+      let h = open_no_deeper t in
+      let k = depth_within_length t in
+      omega arith
+
+  pub place_after : (after : Quotes) (more c : ℕ) → more ≡ count_of (step (place_of quotes count) c) → place_of after (count_of (step (place_of quotes count) c)) ≡ step (place_of quotes count) c → place_of after more ≡ scan (outside 0) (t ++ c ∷ [])
+  place_after after more c e h = ap (place_of after) e ∙ h ∙ ap (λ (p : Place). step p c) so ∙ sym (scan_last (outside 0) t c)
+
+  pub depth_after : (deepest more c : ℕ) → deepest ≡ bracket_depth t → more ≡ count_of (step (place_of quotes count) c) → bracket_depth (t ++ c ∷ []) ≡ max deepest more
+  depth_after deepest more c d e =
+      let k : more ≡ count_of (step (scan (outside 0) t) c) = e ∙ ap (λ (p : Place). count_of (step p c)) so in
+      let h = depth_last (outside 0) t c in
+      h ∙ (ap (λ (n : ℕ). max n (count_of (step (scan (outside 0) t) c))) (sym d) ∙ ap (max deepest) (sym k))

@@ -1,0 +1,9 @@
+use Rattle.jp_syntax.specs.Characters.{is_function_character, is_lower}
+use Rattle.jp_syntax.proofs.Cuts.{run_cut, run_cut_fits}
+use Rattle.jp_syntax.proofs.text.function_name_at.Goals as goal
+
+pub overflow_sub-text : goal.overflow_sub-text
+overflow_sub-text c = run_cut_fits is_function_character c.args.text.now c.past_function_name-rest.result.now c.in-len1-up.len_at_least c.past_function_name-rest.ensures
+
+pub returns-in-len1-up-clause-read : goal.returns-in-len1-up-clause-read
+returns-in-len1-up-clause-read c = run_cut is_lower is_function_character c.args.text.now c.past_function_name-rest.result.now c.split_at.result.0.now c.split_at.result.1.now c.c-item.result c.is_lower.result c.in-len1-up.len_at_least c.c-item.is c.if-is_lower.true c.is_lower.ensures c.past_function_name-rest.ensures c.split_at.ensures.front c.split_at.ensures.back

@@ -1,0 +1,10 @@
+use Rattle.std.proofs.Common.{◌≡◌, length}
+use Rattle.jp_syntax.specs.Characters.{is_name_character}
+use Rattle.jp_syntax.specs.Reading.{past}
+use Rattle.jp_syntax.proofs.text.past_name.Given as goal
+
+abbrev pub invariant-loop-rest : goal.invariant-loop-rest
+invariant-loop-rest l = past is_name_character l.rest ≡ past is_name_character l.text
+
+abbrev pub decreases-loop-rest : goal.decreases-loop-rest
+decreases-loop-rest l = length l.rest

@@ -1,0 +1,71 @@
+//! The bracket depth of a text.
+
+ghost use Rattle.std.specs.Prelude.{◌≡◌, ◌<◌, ℕ};
+ghost use Rattle.std.specs.Str.{chars};
+ghost use Rattle.jp_syntax.specs.Depth as depth;
+ghost use Rattle.jp_syntax.specs.DepthView.{place_of};
+
+/// Where a scan stands, beside the count of open brackets.
+#[derive(Clone, Copy)]
+enum Quotes {
+    /// Outside quotes.
+    Outside,
+    /// In a part that this quote opened.
+    Inside(char),
+    /// The same, behind a backslash.
+    Passing(char),
+}
+
+fn quotes_after(quotes: Quotes, c: char) -> Quotes
+    ensures { (count : ℕ) → place_of result (depth.count_of (depth.step (place_of quotes count) c)) ≡ depth.step (place_of quotes count) c }
+{
+    match quotes {
+        Quotes::Outside => match c {
+            '"' | '\'' => Quotes::Inside(c),
+            _ => Quotes::Outside,
+        },
+        Quotes::Inside(quote) => {
+            if c == '\\' {
+                Quotes::Passing(quote)
+            } else if c == quote {
+                Quotes::Outside
+            } else {
+                Quotes::Inside(quote)
+            }
+        }
+        Quotes::Passing(quote) => Quotes::Inside(quote),
+    }
+}
+
+fn count_after(quotes: Quotes, count: u64, c: char) -> u64
+    requires { count < u64.MAX }
+    ensures { result ≡ depth.count_of (depth.step (place_of quotes count) c) }
+{
+    match quotes {
+        Quotes::Outside => match c {
+            '[' | '(' => count + 1,
+            ']' | ')' => count.saturating_sub(1),
+            _ => count,
+        },
+        Quotes::Inside(_) => count,
+        Quotes::Passing(_) => count,
+    }
+}
+
+/// How deep brackets and parentheses are nested in the text, outside quotes.
+/// It takes no memory.
+pub fn bracket_depth(text: &str) -> u64
+    ensures { result ≡ depth.bracket_depth (chars text.now) }
+{
+    let mut quotes = Quotes::Outside;
+    let mut count = 0;
+    let mut deepest = 0;
+    for c in text.chars() {
+        count = count_after(quotes, count, c);
+        quotes = quotes_after(quotes, c);
+        if count > deepest {
+            deepest = count;
+        }
+    }
+    deepest
+}

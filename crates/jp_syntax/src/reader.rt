@@ -1,0 +1,584 @@
+//! Reading a query text from left to right, by recursive descent.
+//!
+//! Each function reads one part of the grammar at the front of the characters, and gives it and the rest.
+//! `left` bounds how deep logical expressions stand inside each other.
+
+ghost use Rattle.std.specs.Prelude.{◌≡◌, ◌<◌, ◌⊎◌, ◌↔◌, option_map, IfOk, IfErr, IsErrOf};
+ghost use Rattle.jp_syntax.specs.Reading as reading;
+ghost use Rattle.jp_syntax.specs.Tree as tree;
+ghost use Rattle.jp_syntax.specs.View.{query_of};
+ghost use Rattle.jp_syntax.specs.PartViews.{argument_of, comparable_of, logical_of, selector_of, call_of, segment_of, segments_of, selectors_of, logicals_of, arguments_of};
+ghost use Rattle.jp_syntax.specs.Gives.{Gives};
+ghost use Rattle.jp_syntax.specs.Spelling.{Spells};
+ghost use Rattle.jp_syntax.specs.Depth.{bracket_depth, max_depth};
+ghost use Rattle.std.specs.Str.{chars};
+
+use crate::depth::bracket_depth;
+use crate::fault::QueryFault;
+use crate::made::{
+    argument_from, as_test, call_from, call_side, comparing, comparison_from, filter_selector,
+    is_side, joined_all, joined_any, literal_argument, literal_side, name_selector, negation,
+    one_argument, one_logical, one_selector, push_argument, push_logical, push_segment,
+    push_selector, query_from, query_side, segment_from, wildcard,
+};
+use crate::parts::{calls, literal_at, lone_literal_at, named_at, numbers_at, operator_at};
+use crate::strings::string_at;
+use crate::text::{begins_with, function_name_at, is_quote, mark_at, skip, text_from};
+use crate::tree::{Argument, Call, Comparable, Logical, Operator, Query, Segment, Selector, Start};
+use std::alloc::{AllocError, Global};
+
+#[cycle(reader)]
+#[tactic(auto, unfolding(crate::specs::Reading::selector_at))]
+fn selector_at(alloc: Global, left: usize, text: &[char]) -> Result<(Selector, &[char]), QueryFault>
+    ensures { Gives (λ x. (selector_of x.0, x.1.now)) result (reading.selector_at (reading.logical_at left) text.now) }
+{
+    match text {
+        [] => Err(QueryFault::Syntax),
+        [c, more @ ..] if is_quote(*c) => {
+            let (name, rest) = string_at(alloc, *c, more)?;
+            Ok((name_selector(name), rest))
+        }
+        ['*', rest @ ..] => Ok((wildcard(), rest)),
+        ['?', more @ ..] => {
+            let (logical, rest) = logical_at(alloc, left, skip(more))?;
+            Ok((filter_selector(logical), rest))
+        }
+        [_, ..] => numbers_at(alloc, text),
+    }
+}
+
+/// A comma and another selector, or the end of the list.
+#[cycle(reader)]
+#[tactic(auto, unfolding(crate::specs::Reading::next_item))]
+fn next_selector(
+    alloc: Global,
+    left: usize,
+    text: &[char],
+) -> Result<(Option<Selector>, &[char]), QueryFault>
+    ensures { Gives (λ x. (option_map selector_of x.0, x.1.now)) result (reading.next_item 93 (reading.selector_at (reading.logical_at left)) text.now) }
+{
+    match text {
+        [',', more @ ..] => {
+            let (selector, rest) = selector_at(alloc, left, skip(more))?;
+            Ok((Some(selector), rest))
+        }
+        [']', rest @ ..] => Ok((None, rest)),
+        _ => Err(QueryFault::Syntax),
+    }
+}
+
+/// The selectors behind those that are found, up to the bracket.
+#[cycle(reader)]
+fn selectors_from(
+    alloc: Global,
+    left: usize,
+    mut found: Vec<Selector>,
+    text: &[char],
+) -> Result<(Vec<Selector>, &[char]), QueryFault>
+    ensures { Gives (λ x. (selectors_of x.0.items, x.1.now)) result (reading.all_of (λ u. reading.next_item 93 (reading.selector_at (reading.logical_at left)) (reading.skip u)) (selectors_of found.items) text.now) }
+{
+    let mut rest = text;
+    for _turn in 0..text.len() + 1 {
+        let (next, after) = next_selector(alloc, left, skip(rest))?;
+        rest = after;
+        match next {
+            None => return Ok((found, rest)),
+            Some(item) => push_selector(&mut found, item)?,
+        }
+    }
+    Err(QueryFault::Syntax)
+}
+
+/// Behind `[`.
+#[cycle(reader)]
+#[tactic(auto, unfolding(crate::specs::Reading::items_at))]
+fn bracketed_at(
+    alloc: Global,
+    left: usize,
+    text: &[char],
+) -> Result<(Vec<Selector>, &[char]), QueryFault>
+    ensures { Gives (λ x. (selectors_of x.0.items, x.1.now)) result (reading.bracketed_at (reading.logical_at left) text.now) }
+{
+    let (first, rest) = selector_at(alloc, left, skip(text))?;
+    selectors_from(alloc, left, one_selector(alloc, first)?, rest)
+}
+
+/// Behind `..`.
+#[cycle(reader)]
+#[tactic(auto, unfolding(crate::specs::Reading::descendant_at))]
+fn descendant_at(
+    alloc: Global,
+    left: usize,
+    text: &[char],
+) -> Result<(Segment, &[char]), QueryFault>
+    ensures { Gives (λ x. (segment_of x.0, x.1.now)) result (reading.descendant_at (reading.logical_at left) text.now) }
+{
+    match text {
+        [] => Err(QueryFault::Syntax),
+        ['[', more @ ..] => {
+            let (selectors, rest) = bracketed_at(alloc, left, more)?;
+            Ok((segment_from(true, selectors), rest))
+        }
+        [_, ..] => named_at(alloc, true, text),
+    }
+}
+
+/// Behind `.`.
+#[cycle(reader)]
+#[tactic(auto, unfolding(crate::specs::Reading::dotted_at))]
+fn dotted_at(alloc: Global, left: usize, text: &[char]) -> Result<(Segment, &[char]), QueryFault>
+    ensures { Gives (λ x. (segment_of x.0, x.1.now)) result (reading.dotted_at (reading.logical_at left) text.now) }
+{
+    match text {
+        [] => Err(QueryFault::Syntax),
+        ['.', more @ ..] => descendant_at(alloc, left, more),
+        [_, ..] => named_at(alloc, false, text),
+    }
+}
+
+/// Another segment, or the end, before the blanks.
+#[cycle(reader)]
+#[tactic(auto, unfolding(crate::specs::Reading::segment_behind))]
+fn segment_behind<'a>(
+    alloc: Global,
+    left: usize,
+    whole: &'a [char],
+    text: &'a [char],
+) -> Result<(Option<Segment>, &'a [char]), QueryFault>
+    ensures { Gives (λ x. (option_map segment_of x.0, x.1.now)) result (reading.segment_behind (reading.logical_at left) whole.now text.now) }
+{
+    match text {
+        ['.', more @ ..] => {
+            let (segment, rest) = dotted_at(alloc, left, more)?;
+            Ok((Some(segment), rest))
+        }
+        ['[', more @ ..] => {
+            let (selectors, rest) = bracketed_at(alloc, left, more)?;
+            Ok((Some(segment_from(false, selectors)), rest))
+        }
+        _ => Ok((None, whole)),
+    }
+}
+
+/// The segments behind those that are found.
+#[cycle(reader)]
+fn segments_from(
+    alloc: Global,
+    left: usize,
+    mut found: Vec<Segment>,
+    text: &[char],
+) -> Result<(Vec<Segment>, &[char]), QueryFault>
+    ensures { Gives (λ x. (segments_of x.0.items, x.1.now)) result (reading.all_of (λ u. reading.segment_behind (reading.logical_at left) u (reading.skip u)) (segments_of found.items) text.now) }
+{
+    let mut rest = text;
+    for _turn in 0..text.len() + 1 {
+        let (next, after) = segment_behind(alloc, left, rest, skip(rest))?;
+        rest = after;
+        match next {
+            None => return Ok((found, rest)),
+            Some(item) => push_segment(&mut found, item)?,
+        }
+    }
+    Err(QueryFault::Syntax)
+}
+
+#[cycle(reader)]
+fn segments_at(
+    alloc: Global,
+    left: usize,
+    text: &[char],
+) -> Result<(Vec<Segment>, &[char]), QueryFault>
+    ensures { Gives (λ x. (segments_of x.0.items, x.1.now)) result (reading.segments_at (reading.logical_at left) text.now) }
+{
+    segments_from(alloc, left, Vec::new(alloc), text)
+}
+
+#[cycle(reader)]
+#[tactic(auto, unfolding(crate::specs::Reading::query_at))]
+fn query_at(alloc: Global, left: usize, text: &[char]) -> Result<(Query, &[char]), QueryFault>
+    ensures { Gives (λ x. (query_of x.0, x.1.now)) result (reading.query_at (reading.logical_at left) text.now) }
+{
+    match text {
+        ['$', more @ ..] => {
+            let (segments, rest) = segments_at(alloc, left, more)?;
+            Ok((query_from(Start::Root, segments), rest))
+        }
+        ['@', more @ ..] => {
+            let (segments, rest) = segments_at(alloc, left, more)?;
+            Ok((query_from(Start::Current, segments), rest))
+        }
+        _ => Err(QueryFault::Syntax),
+    }
+}
+
+#[cycle(reader)]
+#[tactic(auto, unfolding(crate::specs::Reading::argument_at))]
+fn argument_at(alloc: Global, left: usize, text: &[char]) -> Result<(Argument, &[char]), QueryFault>
+    ensures { Gives (λ x. (argument_of x.0, x.1.now)) result (reading.argument_at (reading.logical_at left) text.now) }
+{
+    match lone_literal_at(alloc, text) {
+        Ok((literal, rest)) => Ok((literal_argument(literal), rest)),
+        Err(QueryFault::Syntax) => {
+            let (logical, rest) = logical_at(alloc, left, text)?;
+            Ok((argument_from(begins_with('(', text), logical), rest))
+        }
+        // No other fault comes from a literal.
+        Err(_) => Err(QueryFault::Memory),
+    }
+}
+
+/// A comma and another argument, or the end of the list.
+#[cycle(reader)]
+#[tactic(auto, unfolding(crate::specs::Reading::next_item))]
+fn next_argument(
+    alloc: Global,
+    left: usize,
+    text: &[char],
+) -> Result<(Option<Argument>, &[char]), QueryFault>
+    ensures { Gives (λ x. (option_map argument_of x.0, x.1.now)) result (reading.next_item 41 (reading.argument_at (reading.logical_at left)) text.now) }
+{
+    match text {
+        [',', more @ ..] => {
+            let (argument, rest) = argument_at(alloc, left, skip(more))?;
+            Ok((Some(argument), rest))
+        }
+        [')', rest @ ..] => Ok((None, rest)),
+        _ => Err(QueryFault::Syntax),
+    }
+}
+
+/// The arguments behind those that are found, up to the parenthesis.
+#[cycle(reader)]
+fn arguments_from(
+    alloc: Global,
+    left: usize,
+    mut found: Vec<Argument>,
+    text: &[char],
+) -> Result<(Vec<Argument>, &[char]), QueryFault>
+    ensures { Gives (λ x. (arguments_of x.0.items, x.1.now)) result (reading.all_of (λ u. reading.next_item 41 (reading.argument_at (reading.logical_at left)) (reading.skip u)) (arguments_of found.items) text.now) }
+{
+    let mut rest = text;
+    for _turn in 0..text.len() + 1 {
+        let (next, after) = next_argument(alloc, left, skip(rest))?;
+        rest = after;
+        match next {
+            None => return Ok((found, rest)),
+            Some(item) => push_argument(&mut found, item)?,
+        }
+    }
+    Err(QueryFault::Syntax)
+}
+
+/// One argument or more.
+#[cycle(reader)]
+#[tactic(auto, unfolding(crate::specs::Reading::items_at))]
+fn argument_items(
+    alloc: Global,
+    left: usize,
+    text: &[char],
+) -> Result<(Vec<Argument>, &[char]), QueryFault>
+    ensures { Gives (λ x. (arguments_of x.0.items, x.1.now)) result (reading.items_at 41 (reading.argument_at (reading.logical_at left)) text.now) }
+{
+    let (first, rest) = argument_at(alloc, left, text)?;
+    arguments_from(alloc, left, one_argument(alloc, first)?, rest)
+}
+
+/// Behind `(` and blanks.
+#[cycle(reader)]
+#[tactic(auto, unfolding(crate::specs::Reading::arguments_at))]
+fn arguments_at(
+    alloc: Global,
+    left: usize,
+    text: &[char],
+) -> Result<(Vec<Argument>, &[char]), QueryFault>
+    ensures { Gives (λ x. (arguments_of x.0.items, x.1.now)) result (reading.arguments_at (reading.logical_at left) text.now) }
+{
+    match text {
+        [] => Err(QueryFault::Syntax),
+        [')', rest @ ..] => Ok((Vec::new(alloc), rest)),
+        [_, ..] => argument_items(alloc, left, text),
+    }
+}
+
+#[cycle(reader)]
+#[tactic(auto, unfolding(crate::specs::Reading::call_at))]
+fn call_at(alloc: Global, left: usize, text: &[char]) -> Result<(Call, &[char]), QueryFault>
+    ensures { Gives (λ x. (call_of x.0, x.1.now)) result (reading.call_at (reading.logical_at left) text.now) }
+{
+    let (name, rest) = function_name_at(text)?;
+    let inside = mark_at('(', rest)?;
+    let (arguments, rest) = arguments_at(alloc, left, skip(inside))?;
+    Ok((call_from(text_from(alloc, name)?, arguments), rest))
+}
+
+/// A literal, a query or a call.
+#[cycle(reader)]
+#[tactic(auto, unfolding(crate::specs::Reading::operand_at))]
+fn operand_at(
+    alloc: Global,
+    left: usize,
+    text: &[char],
+) -> Result<(Comparable, &[char]), QueryFault>
+    ensures { Gives (λ x. (comparable_of x.0, x.1.now)) result (reading.operand_at (reading.logical_at left) text.now) }
+{
+    match text {
+        [] => Err(QueryFault::Syntax),
+        ['$' | '@', ..] => {
+            let (query, rest) = query_at(alloc, left, text)?;
+            Ok((query_side(query), rest))
+        }
+        [_, ..] => {
+            if calls(text) {
+                let (call, rest) = call_at(alloc, left, text)?;
+                Ok((call_side(call), rest))
+            } else {
+                let (literal, rest) = literal_at(alloc, text)?;
+                Ok((literal_side(literal), rest))
+            }
+        }
+    }
+}
+
+/// Behind `(`.
+#[cycle(reader)]
+#[tactic(auto, unfolding(crate::specs::Reading::grouped_at))]
+fn grouped_at(alloc: Global, left: usize, text: &[char]) -> Result<(Logical, &[char]), QueryFault>
+    ensures { Gives (λ x. (logical_of x.0, x.1.now)) result (reading.grouped_at (reading.logical_at left) text.now) }
+{
+    let (inside, rest) = logical_at(alloc, left, skip(text))?;
+    let rest = mark_at(')', skip(rest))?;
+    Ok((inside, rest))
+}
+
+/// A side by itself.
+#[tactic(auto, unfolding(crate::specs::Reading::tested_at))]
+fn tested_at(side: Comparable, text: &[char]) -> Result<(Logical, &[char]), QueryFault>
+    ensures { Gives (λ x. (logical_of x.0, x.1.now)) result (reading.tested_at (comparable_of side) text.now) }
+{
+    match as_test(side) {
+        Some(logical) => Ok((logical, text)),
+        None => Err(QueryFault::Syntax),
+    }
+}
+
+#[cycle(reader)]
+#[tactic(auto, unfolding(crate::specs::Reading::plain_at))]
+fn plain_at(alloc: Global, left: usize, text: &[char]) -> Result<(Logical, &[char]), QueryFault>
+    ensures { Gives (λ x. (logical_of x.0, x.1.now)) result (reading.plain_at (reading.logical_at left) text.now) }
+{
+    match text {
+        [] => Err(QueryFault::Syntax),
+        ['(', more @ ..] => grouped_at(alloc, left, more),
+        [_, ..] => {
+            let (side, rest) = operand_at(alloc, left, text)?;
+            tested_at(side, rest)
+        }
+    }
+}
+
+/// Behind the operator.
+#[cycle(reader)]
+#[tactic(auto, unfolding(crate::specs::Reading::right_at))]
+fn right_at(
+    alloc: Global,
+    left: usize,
+    side: Comparable,
+    op: Operator,
+    text: &[char],
+) -> Result<(Logical, &[char]), QueryFault>
+    ensures { Gives (λ x. (logical_of x.0, x.1.now)) result (reading.right_at (reading.logical_at left) (comparable_of side) op text.now) }
+{
+    let (right, rest) = operand_at(alloc, left, skip(text))?;
+    if is_side(&side) && is_side(&right) {
+        Ok((comparing(comparison_from(side, op, right)), rest))
+    } else {
+        Err(QueryFault::Syntax)
+    }
+}
+
+#[cycle(reader)]
+#[tactic(auto, unfolding(crate::specs::Reading::basic_at))]
+fn basic_at(alloc: Global, left: usize, text: &[char]) -> Result<(Logical, &[char]), QueryFault>
+    ensures { Gives (λ x. (logical_of x.0, x.1.now)) result (reading.basic_at (reading.logical_at left) text.now) }
+{
+    match text {
+        [] => Err(QueryFault::Syntax),
+        ['!', more @ ..] => {
+            let (logical, rest) = plain_at(alloc, left, skip(more))?;
+            Ok((negation(alloc, logical)?, rest))
+        }
+        ['(', more @ ..] => grouped_at(alloc, left, more),
+        [_, ..] => {
+            let (side, rest) = operand_at(alloc, left, text)?;
+            match operator_at(skip(rest)) {
+                None => tested_at(side, rest),
+                Some((op, after)) => right_at(alloc, left, side, op, after),
+            }
+        }
+    }
+}
+
+/// Another part, or the end, before the blanks.
+#[cycle(reader)]
+#[tactic(auto, unfolding(crate::specs::Reading::next_part))]
+fn next_basic<'a>(
+    alloc: Global,
+    left: usize,
+    whole: &'a [char],
+    text: &'a [char],
+) -> Result<(Option<Logical>, &'a [char]), QueryFault>
+    ensures { Gives (λ x. (option_map logical_of x.0, x.1.now)) result (reading.next_basic (reading.logical_at left) whole.now text.now) }
+{
+    match text {
+        ['&', more @ ..] => {
+            let (logical, rest) = basic_at(alloc, left, skip(mark_at('&', more)?))?;
+            Ok((Some(logical), rest))
+        }
+        _ => Ok((None, whole)),
+    }
+}
+
+/// The parts of `&&` behind those that are found.
+#[cycle(reader)]
+fn basics_from(
+    alloc: Global,
+    left: usize,
+    mut found: Vec<Logical>,
+    text: &[char],
+) -> Result<(Vec<Logical>, &[char]), QueryFault>
+    ensures { Gives (λ x. (logicals_of x.0.items, x.1.now)) result (reading.all_of (λ u. reading.next_basic (reading.logical_at left) u (reading.skip u)) (logicals_of found.items) text.now) }
+{
+    let mut rest = text;
+    for _turn in 0..text.len() + 1 {
+        let (next, after) = next_basic(alloc, left, rest, skip(rest))?;
+        rest = after;
+        match next {
+            None => return Ok((found, rest)),
+            Some(item) => push_logical(&mut found, item)?,
+        }
+    }
+    Err(QueryFault::Syntax)
+}
+
+#[cycle(reader)]
+#[tactic(auto, unfolding(crate::specs::Reading::and_at))]
+fn and_at(alloc: Global, left: usize, text: &[char]) -> Result<(Logical, &[char]), QueryFault>
+    ensures { Gives (λ x. (logical_of x.0, x.1.now)) result (reading.and_at (reading.logical_at left) text.now) }
+{
+    let (first, rest) = basic_at(alloc, left, text)?;
+    let (parts, rest) = basics_from(alloc, left, one_logical(alloc, first)?, rest)?;
+    Ok((joined_all(parts), rest))
+}
+
+/// Another part, or the end, before the blanks.
+#[cycle(reader)]
+#[tactic(auto, unfolding(crate::specs::Reading::next_part))]
+fn next_and<'a>(
+    alloc: Global,
+    left: usize,
+    whole: &'a [char],
+    text: &'a [char],
+) -> Result<(Option<Logical>, &'a [char]), QueryFault>
+    ensures { Gives (λ x. (option_map logical_of x.0, x.1.now)) result (reading.next_and (reading.logical_at left) whole.now text.now) }
+{
+    match text {
+        ['|', more @ ..] => {
+            let (logical, rest) = and_at(alloc, left, skip(mark_at('|', more)?))?;
+            Ok((Some(logical), rest))
+        }
+        _ => Ok((None, whole)),
+    }
+}
+
+/// The parts of `||` behind those that are found.
+#[cycle(reader)]
+fn ands_from(
+    alloc: Global,
+    left: usize,
+    mut found: Vec<Logical>,
+    text: &[char],
+) -> Result<(Vec<Logical>, &[char]), QueryFault>
+    ensures { Gives (λ x. (logicals_of x.0.items, x.1.now)) result (reading.all_of (λ u. reading.next_and (reading.logical_at left) u (reading.skip u)) (logicals_of found.items) text.now) }
+{
+    let mut rest = text;
+    for _turn in 0..text.len() + 1 {
+        let (next, after) = next_and(alloc, left, rest, skip(rest))?;
+        rest = after;
+        match next {
+            None => return Ok((found, rest)),
+            Some(item) => push_logical(&mut found, item)?,
+        }
+    }
+    Err(QueryFault::Syntax)
+}
+
+#[cycle(reader)]
+#[tactic(auto, unfolding(crate::specs::Reading::or_at))]
+fn or_at(alloc: Global, left: usize, text: &[char]) -> Result<(Logical, &[char]), QueryFault>
+    ensures { Gives (λ x. (logical_of x.0, x.1.now)) result (reading.or_at (reading.logical_at left) text.now) }
+{
+    let (first, rest) = and_at(alloc, left, text)?;
+    let (parts, rest) = ands_from(alloc, left, one_logical(alloc, first)?, rest)?;
+    Ok((joined_any(parts), rest))
+}
+
+/// A logical expression in which others stand inside each other at most `left` deep.
+#[cycle(reader)]
+#[tactic(auto, unfolding(crate::specs::Reading::logical_at))]
+fn logical_at(alloc: Global, left: usize, text: &[char]) -> Result<(Logical, &[char]), QueryFault>
+    ensures { Gives (λ x. (logical_of x.0, x.1.now)) result (reading.logical_at left text.now) }
+{
+    if left == 0 {
+        return Err(QueryFault::Syntax);
+    }
+    or_at(alloc, left - 1, text)
+}
+
+/// The whole text.
+#[tactic(auto, unfolding(crate::specs::Reading::read))]
+fn read(alloc: Global, text: &[char]) -> Result<Query, QueryFault>
+    ensures { Gives query_of result (reading.read text.now) }
+{
+    match text {
+        ['$', more @ ..] => {
+            let (segments, rest) = segments_at(alloc, more.len(), more)?;
+            if !rest.is_empty() {
+                return Err(QueryFault::Syntax);
+            }
+            Ok(query_from(Start::Root, segments))
+        }
+        _ => Err(QueryFault::Syntax),
+    }
+}
+
+fn characters(alloc: Global, text: &str) -> Result<Vec<char>, AllocError>
+    ensures { IfOk result (λ v. v.items ≡ chars text.now) }
+{
+    text.chars().collect(alloc)
+}
+
+/// The query that the text spells (RFC 9535, 2.1).
+///
+/// # Errors
+///
+/// - [`QueryFault::TooDeep`] where brackets and parentheses are nested more than 64 deep.
+/// - [`QueryFault::Syntax`] where the text spells no query.
+/// - [`QueryFault::Memory`] where a growth of memory was refused.
+pub fn read_query(alloc: Global, text: &str) -> Result<Query, QueryFault>
+    // Ok gives a tree that the text spells.
+    ensures found { IfOk result (λ q. Spells (chars text.now) (query_of q)) }
+    // No other tree is spelled by it.
+    ensures only { IfOk result (λ q. (p : tree.Query) → Spells (chars text.now) p → p ≡ query_of q) }
+    // The text is too deep exactly where its bracket depth is over 64.
+    ensures too_deep { IsErrOf result QueryFault.TooDeep ↔ (max_depth < bracket_depth (chars text.now)) }
+    // The text is not well-formed only where no tree is spelled.
+    ensures syntax { IsErrOf result QueryFault.Syntax → (q : tree.Query) → Spells (chars text.now) q → ⊥ }
+    // No other fault comes, but where memory is refused.
+    ensures faults { IfErr result (λ e. (e ≡ QueryFault.TooDeep) ⊎ (e ≡ QueryFault.Syntax) ⊎ (e ≡ QueryFault.Memory)) }
+{
+    if bracket_depth(text) > 64 {
+        return Err(QueryFault::TooDeep);
+    }
+    let characters = characters(alloc, text)?;
+    read(alloc, characters.as_slice())
+}

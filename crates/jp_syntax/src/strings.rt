@@ -1,0 +1,169 @@
+//! String literals, read from the left.
+
+ghost use Rattle.std.specs.Prelude.{◌≡◌, ◌<◌, IsTrue, IfOk};
+ghost use Rattle.jp_syntax.specs.Characters as spec;
+ghost use Rattle.jp_syntax.specs.Reading as reading;
+ghost use Rattle.jp_syntax.specs.View.{text_of};
+ghost use Rattle.jp_syntax.specs.Gives.{Gives};
+
+use crate::fault::QueryFault;
+use crate::text::{empty_text, mark_at, push_character};
+use std::alloc::Global;
+
+fn escaped(quote: char, letter: char) -> Option<char>
+    ensures { result ≡ spec.escaped quote letter }
+{
+    match letter {
+        'b' => Some('\u{8}'),
+        'f' => Some('\u{c}'),
+        'n' => Some('\n'),
+        'r' => Some('\r'),
+        't' => Some('\t'),
+        '/' => Some('/'),
+        '\\' => Some('\\'),
+        c if c == quote => Some(quote),
+        _ => None,
+    }
+}
+
+fn is_bare(quote: char, c: char) -> bool
+    ensures { result ≡ spec.is_bare quote c }
+{
+    c >= ' ' && c != quote && c != '\\'
+}
+
+fn is_hex_digit(c: char) -> bool
+    ensures { result ≡ spec.is_hex_digit c }
+{
+    matches!(c, '0'..='9' | 'A'..='F' | 'a'..='f')
+}
+
+fn hex_value(c: char) -> u32
+    requires { IsTrue (spec.is_hex_digit c) }
+    ensures value { result ≡ spec.hex_value c }
+    ensures below { result < 16 }
+{
+    match c {
+        '0'..='9' => c as u32 - 48,
+        'A'..='F' => c as u32 - 55,
+        _ => c as u32 - 87,
+    }
+}
+
+#[tactic(auto, unfolding(crate::specs::Reading::hex_at))]
+fn hex_at(text: &[char]) -> Result<(u32, &[char]), QueryFault>
+    ensures read { Gives (λ x. (x.0, x.1.now)) result (reading.hex_at text.now) }
+    ensures below { IfOk result (λ x. x.0 < 65536) }
+{
+    match text {
+        [a, b, c, d, rest @ ..] => {
+            if is_hex_digit(*a) && is_hex_digit(*b) && is_hex_digit(*c) && is_hex_digit(*d) {
+                let front = hex_value(*a) * 16 + hex_value(*b);
+                let number = (front * 16 + hex_value(*c)) * 16 + hex_value(*d);
+                Ok((number, rest))
+            } else {
+                Err(QueryFault::Syntax)
+            }
+        }
+        _ => Err(QueryFault::Syntax),
+    }
+}
+
+fn is_high_surrogate(n: u32) -> bool
+    ensures { result ≡ spec.is_high_surrogate n }
+{
+    matches!(n, 0xD800..=0xDBFF)
+}
+
+fn is_low_surrogate(n: u32) -> bool
+    ensures { result ≡ spec.is_low_surrogate n }
+{
+    matches!(n, 0xDC00..=0xDFFF)
+}
+
+/// The character of this number.
+fn scalar(n: u32) -> char
+    requires { IsTrue (spec.is_scalar n) }
+    ensures { result ≡ n }
+{
+    match char::from_u32(n) {
+        Some(c) => c,
+        None => ' ',
+    }
+}
+
+#[tactic(auto, unfolding(crate::specs::Reading::pair_at))]
+fn pair_at(high: u32, text: &[char]) -> Result<(Option<char>, &[char]), QueryFault>
+    requires { IsTrue (spec.is_high_surrogate high) }
+    ensures { Gives (λ x. (x.0, x.1.now)) result (reading.pair_at high text.now) }
+{
+    let digits = mark_at('u', mark_at('\\', text)?)?;
+    let (low, rest) = hex_at(digits)?;
+    if is_low_surrogate(low) {
+        let value = 0x10000 + (high - 0xD800) * 0x400 + (low - 0xDC00);
+        Ok((Some(scalar(value)), rest))
+    } else {
+        Err(QueryFault::Syntax)
+    }
+}
+
+#[tactic(auto, unfolding(crate::specs::Reading::unicode_at))]
+fn unicode_at(text: &[char]) -> Result<(Option<char>, &[char]), QueryFault>
+    ensures { Gives (λ x. (x.0, x.1.now)) result (reading.unicode_at text.now) }
+{
+    let (value, rest) = hex_at(text)?;
+    if is_high_surrogate(value) {
+        pair_at(value, rest)
+    } else if is_low_surrogate(value) {
+        Err(QueryFault::Syntax)
+    } else {
+        Ok((Some(scalar(value)), rest))
+    }
+}
+
+#[tactic(auto, unfolding(crate::specs::Reading::escape_at))]
+fn escape_at(quote: char, text: &[char]) -> Result<(Option<char>, &[char]), QueryFault>
+    ensures { Gives (λ x. (x.0, x.1.now)) result (reading.escape_at quote text.now) }
+{
+    match text {
+        [] => Err(QueryFault::Syntax),
+        ['u', more @ ..] => unicode_at(more),
+        [c, rest @ ..] => match escaped(quote, *c) {
+            Some(value) => Ok((Some(value), rest)),
+            None => Err(QueryFault::Syntax),
+        },
+    }
+}
+
+#[tactic(auto, unfolding(crate::specs::Reading::piece_at))]
+fn piece_at(quote: char, text: &[char]) -> Result<(Option<char>, &[char]), QueryFault>
+    ensures { Gives (λ x. (x.0, x.1.now)) result (reading.piece_at quote text.now) }
+{
+    match text {
+        [c, rest @ ..] if *c == quote => Ok((None, rest)),
+        ['\\', more @ ..] => escape_at(quote, more),
+        [c, rest @ ..] if is_bare(quote, *c) => Ok((Some(*c), rest)),
+        _ => Err(QueryFault::Syntax),
+    }
+}
+
+/// Behind the quote that opens.
+pub(crate) fn string_at(
+    alloc: Global,
+    quote: char,
+    text: &[char],
+) -> Result<(String, &[char]), QueryFault>
+    ensures { Gives (λ x. (text_of x.0, x.1.now)) result (reading.string_at quote text.now) }
+{
+    let mut found = empty_text(alloc);
+    let mut rest = text;
+    for _turn in 0..text.len() + 1 {
+        let (piece, after) = piece_at(quote, rest)?;
+        rest = after;
+        match piece {
+            None => return Ok((found, rest)),
+            Some(c) => push_character(&mut found, c)?,
+        }
+    }
+    Err(QueryFault::Syntax)
+}
