@@ -6,7 +6,7 @@ use Rattle.std.proofs.lemmas.Bool.{cases_Bool}
 use Rattle.jp_regexp.specs.Pattern.{Text, CharSet, Pattern, empty, letter, group, seq, either, repeat, plus}
 use Rattle.jp_regexp.specs.Quantity.{is_digit, IsCount, count, star, question, exactly, at_least, between}
 use Rattle.jp_regexp.specs.Shape.{IsPattern, last_branch, first_branch, no_piece, first_piece, IsPiece, once, repeated, once_or_more, IsAtom, character, parentheses, Shapes}
-use Rattle.jp_regexp.proofs.Reader.{Parse, Change, set_at, digits_at, count_at, close_count_at, after_comma_at, after_least_at, quantity_at, close_group_at, atom_at, with_quantity, piece_at, prepend, with_piece, pattern_at, if_whole, read}
+use Rattle.jp_regexp.specs.Reading.{Parse, Change, set_at, digits_at, count_at, close_count_at, after_comma_at, after_least_at, quantity_at, close_group_at, atom_at, with_quantity, piece_at, prepend, with_piece, pattern_at, if_whole, read}
 use Rattle.jp_regexp.proofs.PatternsRead.{read_whole}
 use Rattle.jp_regexp.proofs.SetsSound.{using, Front, head, map_some, then_some, set_sound}
 

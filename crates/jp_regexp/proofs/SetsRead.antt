@@ -5,7 +5,7 @@ use Rattle.unicode.specs.declared.properties.GeneralCategory.{GeneralCategory}
 use Rattle.jp_regexp.specs.Pattern.{Text, Element, CharSet, Pattern}
 use Rattle.jp_regexp.specs.CategoryNames.{IsCategoryName}
 use Rattle.jp_regexp.specs.CharSetShape.{is_normal, is_class_normal, is_escaped, IsSingle, line_feed, carriage_return, tab, itself, IsCategory, inside, outside, IsInner, bare, escaped, IsElement, single, span, categorical, AreElements, none, last_hyphen, more, IsListing, first_hyphen, first_element, IsClass, listed, negated, IsCharSet, normal, escape, any, property, brackets}
-use Rattle.jp_regexp.proofs.Reader.{single_at, name_at, category_at, inner_at, after_inner, escape_element_at, element_at, elements_at, listing_at, class_at, escape_set_at, set_at, atom_at, Parse}
+use Rattle.jp_regexp.specs.Reading.{single_at, name_at, category_at, inner_at, after_inner, escape_element_at, element_at, elements_at, listing_at, class_at, escape_set_at, set_at, atom_at, Parse}
 
 false_of : (b : Bool) → (b ≡ true → ⊥) → b ≡ false
 false_of true h = absurd (h refl)

@@ -1,13 +1,13 @@
 -- What the reader reads as a set of characters, the grammar spells.
 use Rattle.std.proofs.Common.{◌≡◌, ℕ, zero, suc, Bool, true, false, ◌==◌, not, ◌&&◌, List, [], ◌∷◌, ◌++◌, length, Option, Some, None, refl, sym, ap, ◌∙◌, subst, inl, inr, append_assoc, eq-eqb}
-use Rattle.std.specs.Prelude.{option_map, option_and_then, nat_le, bytes_eq, if◌then◌else◌}
-use Rattle.std.specs.Cmp.Lexicographic.{bytes_decides}
+use Rattle.std.specs.Prelude.{option_map, option_and_then, nat_le, if◌then◌else◌}
 use Rattle.std.proofs.lemmas.Bool.{cases_Bool, eqb-true, leb-true}
 use Rattle.unicode.specs.declared.properties.GeneralCategory.{GeneralCategory}
 use Rattle.jp_regexp.specs.Pattern.{Text, Element, CharSet}
 use Rattle.jp_regexp.specs.CategoryNames.{IsCategoryName}
 use Rattle.jp_regexp.specs.CharSetShape.{is_normal, is_class_normal, is_escaped, IsSingle, line_feed, carriage_return, tab, itself, inside, outside, IsInner, bare, escaped, IsElement, single, span, categorical, AreElements, none, last_hyphen, more, IsListing, first_hyphen, first_element, listed, negated, IsCharSet, normal, escape, any, property, brackets}
-use Rattle.jp_regexp.proofs.Reader.{Entry, entries, lookup, named, second_letter_at, single_value, single_at, name_at, category_at, inner_at, range_from, after_inner, escape_element_at, element_at, close_at, with_element, elements_at, listing_at, class_at, escape_set_at, set_at}
+use Rattle.jp_regexp.specs.Reading.{categories_named, named, second_letter_at, single_value, single_at, name_at, category_at, inner_at, range_from, after_inner, escape_element_at, element_at, close_at, with_element, elements_at, listing_at, class_at, escape_set_at, set_at}
+use Rattle.jp_regexp.proofs.NamesSound.{categories_sound}
 use Rattle.jp_regexp.proofs.SetsRead.{element_begins, BeginsElement}
 
 -- a front of the text is such a part, and the rest is left
@@ -53,24 +53,13 @@ single_sound (d ∷ t) r e =
     using (map_some (λ (w : ℕ). (w, t)) (single_value d) r e) (λ (v, f, g).
     (d ∷ [], ap (λ (q : ℕ × Text). d ∷ q.1) g, subst (λ (q : ℕ × Text). IsSingle (92 ∷ d ∷ []) q.0) g (value_sound d v f)))
 
-lookup_sound : (name : Text) (es : List Entry) (cs : List GeneralCategory) → lookup name es ≡ Some cs → IsCategoryName name cs
-lookup_sound name [] cs e = absurd cc
-lookup_sound name (x ∷ es) cs e =
-    elim (cases_Bool (bytes_eq name x.name)) [
-      | inl h ↦
-          let f = rw h at e in
-          let same : x.categories ≡ cs = cc in
-          rw ((bytes_decides name x.name).0 h) (subst (IsCategoryName x.name) same x.is_name)
-      | inr h ↦ lookup_sound name es cs (rw h at e)
-    ]
-
 abbrev Named : Text → List GeneralCategory × Text → Type 0
 Named t r = (s : Text) × (t ≡ s ++ (125 ∷ r.1)) × IsCategoryName s r.0
 
 named_sound : (s t : Text) (c : ℕ) (r : List GeneralCategory × Text) → (c == 125) ≡ true → named s t ≡ Some r → (c ∷ t ≡ 125 ∷ r.1) × IsCategoryName s r.0
 named_sound s t c r h e =
-    using (map_some (λ (x : List GeneralCategory). (x, t)) (lookup s entries) r e) (λ (cs, f, g).
-    (rw (eqb-true c 125 h) (ap (λ (q : List GeneralCategory × Text). 125 ∷ q.1) g), subst (λ (q : List GeneralCategory × Text). IsCategoryName s q.0) g (lookup_sound s entries cs f)))
+    using (map_some (λ (x : List GeneralCategory). (x, t)) (categories_named s) r e) (λ (cs, f, g).
+    (rw (eqb-true c 125 h) (ap (λ (q : List GeneralCategory × Text). 125 ∷ q.1) g), subst (λ (q : List GeneralCategory × Text). IsCategoryName s q.0) g (categories_sound s cs f)))
 
 name_sound : (t : Text) (r : List GeneralCategory × Text) → name_at t ≡ Some r → Named t r
 name_sound [] r e = absurd cc

@@ -1,10 +1,15 @@
 pub mod CategoryNames
 pub mod CharSetShape
 pub mod CharSets
+pub mod Gives
+pub mod Held
 pub mod Language
+pub mod Marks
 pub mod Pattern
 pub mod Profile
 pub mod Quantity
+pub mod Reading
 pub mod Samples
 pub mod Shape
 pub mod Tests
+pub mod Tree

@@ -1,5 +1,21 @@
 //! Patterns of I-Regexp (RFC 9485): what they are, their limits, and which texts they match.
 #![tactic(auto)]
 
+mod categories;
+mod ends;
 mod examples;
+mod fault;
 pub mod laws;
+mod marks;
+mod pattern;
+mod read_counts;
+mod read_patterns;
+mod read_sets;
+mod sets;
+mod size;
+mod tree;
+
+pub use pattern::Pattern;
+
+#[cfg(test)]
+mod tests;

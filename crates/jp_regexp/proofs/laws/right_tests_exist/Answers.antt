@@ -1,0 +1,5 @@
+use Rattle.jp_regexp.proofs.RightTests.{right_tests}
+use Rattle.jp_regexp.proofs.laws.right_tests_exist.Goals as goal
+
+pub returns : goal.returns
+returns c = right_tests

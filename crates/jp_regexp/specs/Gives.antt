@@ -1,0 +1,12 @@
+-- What a function that reads ensures: what the reader of lists gives, unless memory runs out.
+use Rattle.std.specs.Prelude.{◌≡◌, Option, Some, None, Result, Ok, Err}
+use Rattle.jp_regexp.specs.declared.fault.Fault.{Fault}
+use Rattle.jp_regexp.specs.declared.fault.Fault.TheVariants as faults
+
+abbrev pub Fails : {Y : Type 0} → Fault → Option Y → Type 0
+Fails faults.Memory read = Unit {0}
+Fails faults.NoPattern read = read ≡ None
+
+abbrev pub Gives : {X Y : Type 0} → (X → Y) → Result X Fault → Option Y → Type 0
+Gives view (Ok x) read = read ≡ Some (view x)
+Gives view (Err e) read = Fails e read

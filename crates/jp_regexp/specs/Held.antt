@@ -1,0 +1,20 @@
+-- The pattern that a value of the code holds.
+use Rattle.std.specs.Prelude.{◌≡◌, ◌++◌, Option, Some, None}
+use Rattle.jp_regexp.specs.declared.pattern.Pattern.{Pattern as HeldPattern}
+use Rattle.jp_regexp.specs.Pattern.{Text, Pattern}
+use Rattle.jp_regexp.specs.Language.{Member}
+use Rattle.jp_regexp.specs.Profile.{IsPatternOf}
+use Rattle.jp_regexp.specs.Tree.{node_of}
+
+-- the pattern that was read (RFC 9485, 3)
+abbrev pub pattern_of : HeldPattern → Pattern
+pattern_of p = node_of p.root
+
+-- some part of consecutive characters of the text is in the pattern's language (RFC 9535, 2.4.7)
+abbrev pub HasPart : Pattern → Text → Type 0
+HasPart p text = (before : Text) × (part : Text) × (after : Text) × (text ≡ before ++ (part ++ after)) × Member p part
+
+-- a pattern where the text is one, and None only where it is none (RFC 9485, 3 and 8)
+abbrev pub IsRead : Text → Option HeldPattern → Type 0
+IsRead text None = (p : Pattern) → IsPatternOf text p → ⊥
+IsRead text (Some held) = IsPatternOf text (pattern_of held)

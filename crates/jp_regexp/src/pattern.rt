@@ -1,0 +1,17 @@
+//! A pattern that was read.
+
+ghost use Rattle.std.specs.Prelude.{◌≡◌};
+ghost use Rattle.jp_regexp.specs.Tree.{size_of};
+
+mod matching;
+mod reading;
+
+use crate::tree::Node;
+
+/// An I-Regexp within the limits of this implementation (RFC 9485).
+#[derive(Drop)]
+pub struct Pattern {
+    root: Node,
+    size: u64,
+    ghost is_size: { size ≡ size_of root },
+}

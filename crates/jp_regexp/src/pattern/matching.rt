@@ -1,0 +1,56 @@
+//! What a pattern matches.
+
+ghost use Rattle.std.specs.Prelude.{◌≡◌, ◌↔◌, IfOk, IsTrue};
+ghost use Rattle.std.specs.Str.{chars};
+ghost use Rattle.jp_regexp.specs.Held.{HasPart, pattern_of};
+ghost use Rattle.jp_regexp.specs.Language.{Member};
+ghost use Rattle.jp_regexp.specs.Profile.{size};
+
+use crate::ends::ends;
+use crate::marks::{anywhere, at_end, at_start, everywhere};
+use crate::pattern::Pattern;
+use std::alloc::{AllocError, Global};
+
+/// The characters of a text.
+pub fn characters(alloc: Global, text: &str) -> Result<Vec<char>, AllocError>
+    ensures { IfOk result (λ v. v.items ≡ chars text.now) }
+{
+    text.chars().collect(alloc)
+}
+
+impl Pattern {
+    /// How many sets of characters there are once each repetition is written out. It takes no memory.
+    pub fn unrolled_size(&self) -> u64
+        ensures { result ≡ size (pattern_of self.now) }
+    {
+        self.size
+    }
+
+    /// Whether the whole text is in the pattern's language (RFC 9485, 4).
+    ///
+    /// # Errors
+    ///
+    /// Memory ran out.
+    pub fn matches(&self, alloc: Global, text: &str) -> Result<bool, AllocError>
+        ensures { IfOk result (λ b. IsTrue b ↔ Member (pattern_of self.now) (chars text.now)) }
+    {
+        let text = characters(alloc, text)?;
+        let starts = at_start(alloc, &text)?;
+        let ends = ends(alloc, &self.root, &text, &starts)?;
+        Ok(at_end(&ends))
+    }
+
+    /// Whether some part of consecutive characters of the text is in the pattern's language, the empty part included.
+    ///
+    /// # Errors
+    ///
+    /// Memory ran out.
+    pub fn found_in(&self, alloc: Global, text: &str) -> Result<bool, AllocError>
+        ensures { IfOk result (λ b. IsTrue b ↔ HasPart (pattern_of self.now) (chars text.now)) }
+    {
+        let text = characters(alloc, text)?;
+        let starts = everywhere(alloc, &text)?;
+        let ends = ends(alloc, &self.root, &text, &starts)?;
+        Ok(anywhere(&ends))
+    }
+}

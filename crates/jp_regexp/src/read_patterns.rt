@@ -1,0 +1,142 @@
+//! Reading patterns. Only parentheses go deeper, and no more of them than are left.
+
+ghost use Rattle.std.specs.Prelude.{◌≡◌, ◌∷◌, [], map, IfOk};
+ghost use Rattle.jp_regexp.specs.Gives.{Gives};
+ghost use Rattle.jp_regexp.specs.Reading as reading;
+ghost use Rattle.jp_regexp.specs.Pattern.{group};
+ghost use Rattle.jp_regexp.specs.Tree.{before_last, in_turn, node_of};
+
+use crate::fault::Fault;
+use crate::read_counts::quantity_at;
+use crate::read_sets::set_at;
+use crate::tree::{Node, Quantity, Turn};
+use std::alloc::{AllocError, Global};
+
+const MAX_DEPTH: u32 = 64;
+
+fn quantified(alloc: Global, atom: Node, quantity: Quantity) -> Result<Node, AllocError>
+    ensures { IfOk result (λ n. node_of n ≡ reading.with_quantity_of quantity (node_of atom)) }
+{
+    Ok(match quantity {
+        Quantity::Once => atom,
+        Quantity::Plus => Node::Plus(Box::new(alloc, atom)?),
+        Quantity::Repeat(least, most) => {
+            let atom = Box::new(alloc, atom)?;
+            Node::Repeat { least, most, atom }
+        }
+    })
+}
+
+fn group(alloc: Global, inside: Node) -> Result<Node, AllocError>
+    ensures { IfOk result (λ n. node_of n ≡ group (node_of inside)) }
+{
+    Ok(Node::Group(Box::new(alloc, inside)?))
+}
+
+fn branches(alloc: Global, before: Vec<Node>, pieces: Vec<Node>) -> Result<Node, AllocError>
+    ensures { IfOk result (λ n. node_of n ≡ before_last (map node_of before.items) (in_turn (map node_of pieces.items))) }
+{
+    let last = Box::new(alloc, Node::Pieces(pieces))?;
+    Ok(Node::Branches { before, last })
+}
+
+#[cycle(read_patterns)]
+#[tactic(auto, unfolding(crate::specs::Reading::group_within))]
+fn group_at(alloc: Global, left: u32, turns: usize, text: &[char]) -> Result<(Node, &[char]), Fault>
+    ensures { Gives (λ x. (node_of x.0, x.1.now)) result (reading.group_within (λ l. reading.pattern_within l turns) left text.now) }
+{
+    if left == 0 {
+        return Err(Fault::NoPattern);
+    }
+    let (inside, rest) = pattern_at(alloc, left - 1, turns, text)?;
+    match rest {
+        [')', after @ ..] => Ok((group(alloc, inside)?, after)),
+        _ => Err(Fault::NoPattern),
+    }
+}
+
+#[cycle(read_patterns)]
+#[tactic(auto, unfolding(crate::specs::Reading::atom_within))]
+fn atom_at(alloc: Global, left: u32, turns: usize, text: &[char]) -> Result<(Node, &[char]), Fault>
+    ensures { Gives (λ x. (node_of x.0, x.1.now)) result (reading.atom_within (λ l. reading.pattern_within l turns) left text.now) }
+{
+    match text {
+        ['(', more @ ..] => group_at(alloc, left, turns, more),
+        _ => {
+            let (set, rest) = set_at(alloc, text)?;
+            Ok((Node::Set(set), rest))
+        }
+    }
+}
+
+#[cycle(read_patterns)]
+#[tactic(auto, unfolding(crate::specs::Reading::piece_within))]
+fn piece_at(alloc: Global, left: u32, turns: usize, text: &[char]) -> Result<(Node, &[char]), Fault>
+    ensures { Gives (λ x. (node_of x.0, x.1.now)) result (reading.piece_within (λ l. reading.pattern_within l turns) left text.now) }
+{
+    let (atom, rest) = atom_at(alloc, left, turns, text)?;
+    let (quantity, rest) = quantity_at(rest)?;
+    Ok((quantified(alloc, atom, quantity)?, rest))
+}
+
+#[cycle(read_patterns)]
+#[tactic(auto, unfolding(crate::specs::Reading::next_turn))]
+fn next_turn(
+    alloc: Global,
+    left: u32,
+    turns: usize,
+    text: &[char],
+) -> Result<(Turn, &[char]), Fault>
+    ensures { Gives (λ x. (reading.turn_of x.0, x.1.now)) result (reading.next_turn (λ l. reading.pattern_within l turns) left text.now) }
+{
+    match text {
+        [] => Ok((Turn::End, text)),
+        [')', ..] => Ok((Turn::End, text)),
+        ['|', rest @ ..] => Ok((Turn::Bar, rest)),
+        [_, ..] => {
+            let (piece, rest) = piece_at(alloc, left, turns, text)?;
+            Ok((Turn::Piece(piece), rest))
+        }
+    }
+}
+
+/// Up to the end or a closing parenthesis, with so many parentheses left; the second number bounds the turns.
+#[cycle(read_patterns)]
+fn pattern_at(
+    alloc: Global,
+    left: u32,
+    turns: usize,
+    text: &[char],
+) -> Result<(Node, &[char]), Fault>
+    ensures { Gives (λ x. (node_of x.0, x.1.now)) result (reading.pattern_within left turns text.now) }
+{
+    let mut before: Vec<Node> = Vec::new(alloc);
+    let mut pieces: Vec<Node> = Vec::new(alloc);
+    let mut rest = text;
+    for turn in 0..turns {
+        let (next, after) = next_turn(alloc, left, turns - turn - 1, rest)?;
+        rest = after;
+        match next {
+            Turn::End => return Ok((branches(alloc, before, pieces)?, rest)),
+            Turn::Bar => {
+                before.push(Node::Pieces(pieces))?;
+                pieces = Vec::new(alloc);
+            }
+            Turn::Piece(piece) => pieces.push(piece)?,
+        }
+    }
+    Err(Fault::NoPattern)
+}
+
+/// The tree of the whole text, within the counts and the depth (RFC 9485, 3).
+#[tactic(auto, unfolding(crate::specs::Reading::read_within))]
+pub fn read(alloc: Global, text: &[char]) -> Result<Node, Fault>
+    ensures { Gives node_of result (reading.read_within text.now) }
+{
+    let (root, rest) = pattern_at(alloc, MAX_DEPTH, text.len() + 1, text)?;
+    if rest.is_empty() {
+        Ok(root)
+    } else {
+        Err(Fault::NoPattern)
+    }
+}

@@ -1,0 +1,306 @@
+//! Reading what stands for one character.
+
+ghost use Rattle.std.specs.Prelude.{◌≡◌, [], ◌∷◌, map, option_map, IfOk};
+ghost use Rattle.jp_regexp.specs.CharSetShape.{is_class_normal, is_escaped, is_normal};
+ghost use Rattle.jp_regexp.specs.Gives.{Gives};
+ghost use Rattle.jp_regexp.specs.Reading as reading;
+ghost use Rattle.jp_regexp.specs.Tree.{element_of, set_of};
+
+use crate::categories::categories_named;
+use crate::fault::Fault;
+use crate::tree::{CharSet, Element};
+use std::alloc::{AllocError, Global};
+use unicode::properties::GeneralCategory;
+
+fn is_escaped(c: char) -> bool
+    ensures { result ≡ is_escaped c }
+{
+    matches!(
+        c,
+        '(' | ')' | '*' | '+' | '-' | '.' | '?' | '[' | '\\' | ']' | '^' | '{' | '|' | '}'
+    )
+}
+
+fn is_normal(c: char) -> bool
+    ensures { result ≡ is_normal c }
+{
+    !matches!(
+        c,
+        '(' | ')' | '*' | '+' | '.' | '?' | '[' | '\\' | ']' | '{' | '|' | '}'
+    )
+}
+
+fn is_class_normal(c: char) -> bool
+    ensures { result ≡ is_class_normal c }
+{
+    !matches!(c, '-' | '[' | '\\' | ']')
+}
+
+fn single_value(c: char) -> Option<char>
+    ensures { result ≡ reading.single_value c }
+{
+    match c {
+        'n' => Some('\n'),
+        'r' => Some('\r'),
+        't' => Some('\t'),
+        c if is_escaped(c) => Some(c),
+        _ => None,
+    }
+}
+
+fn single_at(text: &[char]) -> Result<(char, &[char]), Fault>
+    ensures { Gives (λ x. (x.0, x.1.now)) result (reading.single_at text.now) }
+{
+    match text {
+        [] => Err(Fault::NoPattern),
+        [c, rest @ ..] => match single_value(*c) {
+            Some(value) => Ok((value, rest)),
+            None => Err(Fault::NoPattern),
+        },
+    }
+}
+
+fn copied(alloc: Global, categories: &[GeneralCategory]) -> Result<Vec<GeneralCategory>, AllocError>
+    ensures { IfOk result (λ all. all.items ≡ categories.now) }
+{
+    categories.iter().copied().collect(alloc)
+}
+
+fn named(alloc: Global, name: &[char]) -> Result<Vec<GeneralCategory>, Fault>
+    ensures { Gives (λ x. x.items) result (reading.categories_named name.now) }
+{
+    match categories_named(name) {
+        Some(categories) => Ok(copied(alloc, categories)?),
+        None => Err(Fault::NoPattern),
+    }
+}
+
+/// Behind the first letter of a name.
+fn name_from(
+    alloc: Global,
+    c: char,
+    text: &[char],
+) -> Result<(Vec<GeneralCategory>, &[char]), Fault>
+    ensures { Gives (λ x. (x.0.items, x.1.now)) result (reading.first_letter_at c text.now) }
+{
+    match text {
+        ['}', rest @ ..] => Ok((named(alloc, &[c])?, rest)),
+        [d, '}', rest @ ..] => Ok((named(alloc, &[c, *d])?, rest)),
+        _ => Err(Fault::NoPattern),
+    }
+}
+
+/// Behind `\p` or `\P`.
+fn category_at(alloc: Global, text: &[char]) -> Result<(Vec<GeneralCategory>, &[char]), Fault>
+    ensures { Gives (λ x. (x.0.items, x.1.now)) result (reading.category_at text.now) }
+{
+    match text {
+        ['{', c, more @ ..] => name_from(alloc, *c, more),
+        _ => Err(Fault::NoPattern),
+    }
+}
+
+fn inner_from(c: char, text: &[char]) -> Result<(char, &[char]), Fault>
+    ensures { Gives (λ x. (x.0, x.1.now)) result (reading.inner_at (c ∷ text.now)) }
+{
+    if c == '\\' {
+        single_at(text)
+    } else if is_class_normal(c) {
+        Ok((c, text))
+    } else {
+        Err(Fault::NoPattern)
+    }
+}
+
+/// A range, or the character that was read.
+fn after_inner(low: char, text: &[char]) -> Result<(Element, &[char]), Fault>
+    ensures { Gives (λ x. (element_of x.0, x.1.now)) result (reading.after_inner low text.now) }
+{
+    match text {
+        ['-', c, more @ ..] if *c != ']' => {
+            let (high, rest) = inner_from(*c, more)?;
+            if low <= high {
+                Ok((Element::Range(low, high), rest))
+            } else {
+                Err(Fault::NoPattern)
+            }
+        }
+        _ => Ok((Element::One(low), text)),
+    }
+}
+
+/// Behind a backslash.
+fn escape_element_at(alloc: Global, text: &[char]) -> Result<(Element, &[char]), Fault>
+    ensures { Gives (λ x. (element_of x.0, x.1.now)) result (reading.escape_element_at text.now) }
+{
+    match text {
+        ['p', more @ ..] => {
+            let (categories, rest) = category_at(alloc, more)?;
+            let negated = false;
+            Ok((
+                Element::Category {
+                    negated,
+                    categories,
+                },
+                rest,
+            ))
+        }
+        ['P', more @ ..] => {
+            let (categories, rest) = category_at(alloc, more)?;
+            let negated = true;
+            Ok((
+                Element::Category {
+                    negated,
+                    categories,
+                },
+                rest,
+            ))
+        }
+        _ => {
+            let (low, rest) = single_at(text)?;
+            after_inner(low, rest)
+        }
+    }
+}
+
+fn element_from(alloc: Global, c: char, text: &[char]) -> Result<(Element, &[char]), Fault>
+    ensures { Gives (λ x. (element_of x.0, x.1.now)) result (reading.element_at (c ∷ text.now)) }
+{
+    if c == '\\' {
+        escape_element_at(alloc, text)
+    } else if is_class_normal(c) {
+        after_inner(c, text)
+    } else {
+        Err(Fault::NoPattern)
+    }
+}
+
+/// The next element, if there is one, and whether others may follow.
+fn next_element_at(alloc: Global, text: &[char]) -> Result<(Option<Element>, bool, &[char]), Fault>
+    ensures { Gives (λ x. (option_map element_of x.0, x.1, x.2.now)) result (reading.next_element_at text.now) }
+{
+    match text {
+        [']', rest @ ..] => Ok((None, false, rest)),
+        ['-', ']', rest @ ..] => Ok((Some(Element::One('-')), false, rest)),
+        [] | ['-', ..] => Err(Fault::NoPattern),
+        [c, more @ ..] => {
+            let (element, rest) = element_from(alloc, *c, more)?;
+            Ok((Some(element), true, rest))
+        }
+    }
+}
+
+/// Up to the bracket that closes the class, behind the elements that were found; the number bounds the turns.
+fn elements_from(
+    alloc: Global,
+    turns: usize,
+    mut found: Vec<Element>,
+    text: &[char],
+) -> Result<(Vec<Element>, &[char]), Fault>
+    ensures { Gives (λ x. (map element_of x.0.items, x.1.now)) result (reading.elements_behind (map element_of found.items) turns text.now) }
+{
+    let mut rest = text;
+    for _turn in 0..turns {
+        let (next, goes_on, after) = next_element_at(alloc, rest)?;
+        rest = after;
+        match next {
+            None => return Ok((found, rest)),
+            Some(element) => found.push(element)?,
+        }
+        if !goes_on {
+            return Ok((found, rest));
+        }
+    }
+    Err(Fault::NoPattern)
+}
+
+fn one(alloc: Global, element: Element) -> Result<Vec<Element>, AllocError>
+    ensures { IfOk result (λ all. all.items ≡ element ∷ []) }
+{
+    let mut all = Vec::new(alloc);
+    all.push(element)?;
+    Ok(all)
+}
+
+fn listing_at(alloc: Global, turns: usize, text: &[char]) -> Result<(Vec<Element>, &[char]), Fault>
+    ensures { Gives (λ x. (map element_of x.0.items, x.1.now)) result (reading.listing_at turns text.now) }
+{
+    match text {
+        [] => Err(Fault::NoPattern),
+        ['-', more @ ..] => {
+            let found = one(alloc, Element::One('-'))?;
+            elements_from(alloc, turns, found, more)
+        }
+        [c, more @ ..] => {
+            let (element, rest) = element_from(alloc, *c, more)?;
+            let found = one(alloc, element)?;
+            elements_from(alloc, turns, found, rest)
+        }
+    }
+}
+
+/// Behind the bracket that opens the class, or `^` behind it.
+fn class_of(alloc: Global, negated: bool, text: &[char]) -> Result<(CharSet, &[char]), Fault>
+    ensures { Gives (λ x. (set_of x.0, x.1.now)) result (reading.class_of negated text.now) }
+{
+    let (elements, rest) = listing_at(alloc, text.len() + 1, text)?;
+    Ok((CharSet::Class { negated, elements }, rest))
+}
+
+/// Behind the bracket that opens the class.
+fn class_at(alloc: Global, text: &[char]) -> Result<(CharSet, &[char]), Fault>
+    ensures { Gives (λ x. (set_of x.0, x.1.now)) result (reading.class_at text.now) }
+{
+    match text {
+        [] => Err(Fault::NoPattern),
+        ['^', more @ ..] => class_of(alloc, true, more),
+        [_, ..] => class_of(alloc, false, text),
+    }
+}
+
+/// Behind a backslash.
+fn escape_set_at(alloc: Global, text: &[char]) -> Result<(CharSet, &[char]), Fault>
+    ensures { Gives (λ x. (set_of x.0, x.1.now)) result (reading.escape_set_at text.now) }
+{
+    match text {
+        ['p', more @ ..] => {
+            let (categories, rest) = category_at(alloc, more)?;
+            let negated = false;
+            Ok((
+                CharSet::Category {
+                    negated,
+                    categories,
+                },
+                rest,
+            ))
+        }
+        ['P', more @ ..] => {
+            let (categories, rest) = category_at(alloc, more)?;
+            let negated = true;
+            Ok((
+                CharSet::Category {
+                    negated,
+                    categories,
+                },
+                rest,
+            ))
+        }
+        _ => {
+            let (c, rest) = single_at(text)?;
+            Ok((CharSet::Only(c), rest))
+        }
+    }
+}
+
+/// A normal character, an escape, `.`, a category or a class, and the rest (RFC 9485, 3: atom).
+pub fn set_at(alloc: Global, text: &[char]) -> Result<(CharSet, &[char]), Fault>
+    ensures { Gives (λ x. (set_of x.0, x.1.now)) result (reading.set_at text.now) }
+{
+    match text {
+        ['.', rest @ ..] => Ok((CharSet::Dot, rest)),
+        ['\\', more @ ..] => escape_set_at(alloc, more),
+        ['[', more @ ..] => class_at(alloc, more),
+        [c, rest @ ..] if is_normal(*c) => Ok((CharSet::Only(*c), rest)),
+        _ => Err(Fault::NoPattern),
+    }
+}
