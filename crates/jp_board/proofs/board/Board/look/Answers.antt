@@ -1,0 +1,6 @@
+use Rattle.std.proofs.Common.{rules}
+use Rattle.jp_board.proofs.Steps.{looks}
+use Rattle.jp_board.proofs.board.Board.look.Goals as goal
+
+pub load-requires : goal.load-requires
+load-requires c = (search rules, search rules, looks _ _ _ _ c.args.seat.now.one)

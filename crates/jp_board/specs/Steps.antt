@@ -1,0 +1,31 @@
+-- What each kind of step tells its caller: of the step, the seat before, the number found in the word, and the seat after.
+use Rattle.std.specs.Prelude.{◌≡◌, ℕ, ◌<◌, ◌≤◌, All}
+use Rattle.atomic_table.specs.Table.{Me, Step}
+use Rattle.jp_board.specs.declared.view.View.{View}
+use Rattle.jp_board.specs.Lawful.{IsLeastOf}
+use Rattle.jp_board.specs.Views.{with_claim, with_told, with_report, with_look}
+
+-- a seat at a table: its view, and the slots that it holds, of which a board has none
+abbrev pub Place : Type 0
+Place = Me (Unit {0}) View
+
+-- below the number of pieces, the number found is claimed and is above each earlier claim; else the seat is told
+abbrev pub Claims : Step (Unit {0}) → Place → ℕ → Place → Type 0
+Claims st old found new =
+    (found < old.0.pieces → (new.0 ≡ with_claim old.0 found) × All (λ x. x < found) old.0.claims)
+    × (old.0.pieces ≤ found → new.0 ≡ with_told old.0)
+    × (new.1 ≡ old.1)
+
+-- the step's operand is reported
+abbrev pub Reports : Step (Unit {0}) → Place → ℕ → Place → Type 0
+Reports st old found new = (new.0 ≡ with_report old.0 st.first) × (new.1 ≡ old.1)
+
+-- the number found is seen; it is at most the number of pieces, each earlier look and each own report
+abbrev pub Looks : Step (Unit {0}) → Place → ℕ → Place → Type 0
+Looks st old found new =
+    (new.0 ≡ with_look old.0 found)
+    × (found ≤ old.0.pieces)
+    × All (λ x. found ≤ x) old.0.looks
+    × All (λ x. found ≤ x) old.0.reports
+    × IsLeastOf new.0 found
+    × (new.1 ≡ old.1)
