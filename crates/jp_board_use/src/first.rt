@@ -32,6 +32,7 @@ fn work(board: &Board, items: &[bool], mut seat: Seat) -> Seat
     ensures seat { IsSeatOf board.now result × WasTold result }
     ensures tended { AllTended items.now (view_of result) }
 {
+    // No later claim is lower, so the loop ends.
     let mut floor = 0;
     while let Some(piece) = board.claim(&mut seat) {
         floor = piece + 1;

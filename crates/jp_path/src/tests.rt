@@ -1,7 +1,7 @@
 //! The calls with ample memory.
 
 use crate::{write_line, write_path};
-use jp_doc::{Location, Step};
+use jp_doc::{Document, Location, Step};
 use serde_json::Value;
 use std::alloc::{AllocError, Global};
 use std::test::Fail;
@@ -55,12 +55,12 @@ fn other_paths(rt: HostRuntime) -> Result<(), Fail> {
 fn lines(rt: HostRuntime) -> Result<(), Fail> {
     let alloc = rt.alloc();
     let mut out = Vec::new(alloc);
-    let value = Value::from_str(alloc, "{\"b\" : [1, -2, null], \"a\": \"\\u00fc\\n\"}")?;
+    let document = Document::read(alloc, b"{\"b\" : [1, -2, null], \"a\": \"\\u00fc\\n\"}")?;
     write_line(
         alloc,
         18_446_744_073_709_551_615,
         &named(alloc, "a")?,
-        &value,
+        document.root(),
         &mut out,
     )?;
     write_line(alloc, 3, &named(alloc, "a")?, &Value::Null, &mut out)?;
