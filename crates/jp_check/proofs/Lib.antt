@@ -1,1 +1,10 @@
+pub mod FaultLaws
+pub mod Fitting
+pub mod KnownLemmas
+pub mod Levels
+pub mod Names
+pub mod NumberTexts
+pub mod PatternSets
+pub mod TextLists
 pub mod Verdicts
+pub mod OneVerdict

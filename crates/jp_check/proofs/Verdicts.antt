@@ -1,5 +1,6 @@
 -- What each verdict says.
 use Rattle.std.proofs.Common.{◌≡◌, Bool, true, false, not, Result, Ok, Err, refl, sym, subst}
+use Rattle.std.proofs.Math.Logic.{∥∥₁_map}
 use Rattle.std.specs.Prelude.{◌≤◌, ◌↔◌, if◌then◌else◌}
 use Rattle.jp_syntax.specs.Tree.{Text, Query}
 use Rattle.jp_syntax.specs.Spelling.{Spells}
@@ -67,3 +68,7 @@ accepts_text t q = (
   λ h. let p = h.1.0 in let a = accepts_only p q h.1.2 in (h.0, subst (Spells t) (sym a.0) h.1.1, subst (λ r. has_fraction r ≡ false) (sym a.0) a.1, subst (λ r. in_range r ≡ true) (sym a.0) a.2, subst (λ r. query_typed r ≡ true) (sym a.0) a.3),
   λ h. (h.0, (q, h.1, accepts q h.2 h.3 h.4)),
 )
+
+-- what some text within the depth limit spells is accepted where its verdict is the tree itself
+pub accepted_by : (q : Query) → ∥ ((t : Text) × (bracket_depth t ≤ max_depth) × Spells t q) ∥₁ → verdict_of q ≡ Ok q → ∥ ((t : Text) × IsAccepted t q) ∥₁
+accepted_by q spelled e = ∥∥₁_map spelled (λ s. (s.0, (s.1, (q, s.2, e))))

@@ -2,4 +2,9 @@ pub mod Numbers
 pub mod Functions
 pub mod Typing
 pub mod Verdict
+pub mod Faults
+pub mod Kinds
+pub mod Plan
+pub mod LiteralPatterns
+pub mod Known
 pub mod Samples

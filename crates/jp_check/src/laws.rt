@@ -1,6 +1,6 @@
 //! Laws of the definitions, each the contract of a function that does nothing.
 
-ghost use Rattle.std.specs.Prelude.{◌≡◌, ◌<◌, ◌≤◌, ◌↔◌, Ok, Err, true, false};
+ghost use Rattle.std.specs.Prelude.{◌≡◌, ◌<◌, ◌≤◌, ◌↔◌, Result, Ok, Err, true, false};
 ghost use Rattle.jp_syntax.specs.Tree.{Text, Query};
 ghost use Rattle.jp_syntax.specs.Spelling.{Spells};
 ghost use Rattle.jp_syntax.specs.Depth.{bracket_depth, max_depth};
@@ -32,4 +32,10 @@ pub fn refused_tree()
 pub fn accepted_text()
     ensures { (t : Text) (q : Query) → IsAccepted t q
         ↔ ((bracket_depth t ≤ max_depth) × Spells t q × (has_fraction q ≡ false) × (in_range q ≡ true) × (query_typed q ≡ true)) }
+{}
+
+/// A text has at most one verdict: what is accepted is not refused, and a refusal has one fault.
+#[tactic(auto, using(crate::proofs::OneVerdict::one_verdict))]
+pub fn one_verdict()
+    ensures { (t : Text) (r s : Result Query QueryFault) → IsVerdict t r → IsVerdict t s → r ≡ s }
 {}

@@ -1,5 +1,20 @@
 //! Which query texts are accepted (RFC 9535, 2.1 and 2.4): fractions and ranges, well-typedness, the verdict.
 #![tactic(auto)]
 
+mod accepted;
+mod checking;
 mod examples;
+mod faults;
+mod functions;
+mod known;
 pub mod laws;
+mod numbers;
+mod patterns;
+#[cfg(test)]
+mod tests;
+mod typing;
+mod walk;
+
+pub use accepted::Plan;
+pub use checking::{check, plan};
+pub use known::Known;

@@ -8,6 +8,7 @@ ghost use Rattle.jp_doc.specs.DocumentValue.{IsDocumentValue, whole_in};
 ghost use Rattle.jp_doc.specs.Json.{value_of};
 ghost use Rattle.jp_doc.specs.Location as location;
 ghost use Rattle.jp_doc.specs.Reading.{max_line, reading};
+ghost use Rattle.jp_doc.specs.Rising.{IsRising};
 
 use crate::fault::DocFault;
 use crate::limits::has_long_array;
@@ -37,6 +38,7 @@ impl Document {
     /// than 16,777,216 items, and `Memory` in the place of any answer but `LongLine` if a growth was refused.
     pub fn read(alloc: Global, line: &[u8]) -> Result<Document, DocFault>
         ensures ok { IfOk result (λ d. reading line.now ≡ Ok (document_value d)) }
+        ensures rising { IfOk result (λ d. IsRising (document_value d)) }
         ensures fault { IfErr result (λ f. f ≢ DocFault.Memory → reading line.now ≡ Err f) }
         ensures long_line { max_line < length line.now → result ≡ Err DocFault.LongLine }
     {

@@ -49,3 +49,6 @@ returns-clause-ok c =
     let short : length c.args.line.now ≤ max_line = omega arith in
     let tests = document_short (view c.in-Ok.root) (sym c.has_long_array.ensures ∙ c.in_ok-has_long_array.was ∙ ap Ok c.if-branch.false) in
     reading_read c.args.line.now (view c.in-Ok.root) short c.in-Ok.ensures.ok ∙ tests.0
+
+pub returns-clause-rising : goal.returns-clause-rising
+returns-clause-rising c = read_rises c.args.line.now (view c.in-Ok.root) c.in-Ok.ensures.ok.1 (value_has c.in-Ok.root)

@@ -1,0 +1,50 @@
+//! Plans: queries that were accepted.
+
+ghost use Rattle.jp_syntax.specs.Tree.{Text};
+ghost use Rattle.jp_syntax.specs.View.{query_of};
+ghost use Rattle.std.specs.Prelude.{◌≡◌};
+ghost use Rattle.jp_check.specs.Known.{known_texts};
+ghost use Rattle.jp_check.specs.LiteralPatterns.{literal_patterns};
+ghost use Rattle.jp_check.specs.Verdict.{IsAccepted};
+
+use crate::known::{Known, KnownPattern};
+use jp_syntax::Query;
+
+/// A query that is well-formed, valid and well-typed (RFC 9535, 2.1).
+#[derive(Drop)]
+pub struct Plan {
+    pub(crate) query: Query,
+    pub(crate) patterns: Vec<KnownPattern>,
+    ghost accepted: { ∥ ((t : Text) × IsAccepted t (query_of query)) ∥₁ },
+    ghost known: { known_texts patterns.items ≡ literal_patterns (query_of query) },
+}
+
+impl Plan {
+    ghost use Rattle.jp_check.specs.Plan.{planned_query, IsAcceptedQuery};
+    ghost use Rattle.std.specs.Str.{chars};
+    ghost use Rattle.jp_check.specs.Known.{Tells};
+
+    /// The query.
+    pub fn query(&self) -> &Query
+        ensures value { query_of result.now ≡ planned_query self.now }
+        ensures accepted { IsAcceptedQuery (planned_query self.now) }
+    {
+        &self.query
+    }
+
+    /// What is known of the text as a pattern: what it is, if it stands in the query as a literal second argument of
+    /// `match` or `search`. It takes no memory.
+    pub fn pattern(&self, text: &str) -> Known<'_>
+        ensures { Tells (literal_patterns (planned_query self.now)) (chars text.now) result }
+    {
+        for known in &self.patterns {
+            if known.text.as_str() == text {
+                return match &known.pattern {
+                    Some(pattern) => Known::Read(pattern),
+                    None => Known::NoPattern,
+                };
+            }
+        }
+        Known::Unknown
+    }
+}
