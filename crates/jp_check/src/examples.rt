@@ -4,6 +4,7 @@ ghost use Rattle.std.specs.Prelude.{◌≡◌, [], ◌∷◌, codes, replicate, 
 ghost use Rattle.jp_syntax.specs.Tree as tree;
 ghost use Rattle.jp_syntax.specs.declared.tree.Start.TheVariants.{Root};
 ghost use Rattle.jp_syntax.specs.declared.fault.QueryFault.TheVariants.{Fraction, Range, IllTyped};
+ghost use Rattle.jp_check.specs.LiteralPatterns.{literal_patterns};
 ghost use Rattle.jp_check.specs.Verdict.{verdict_of};
 ghost use Rattle.jp_check.specs.Samples.{selecting, filtered, current, current_with, member_a, equals, num, a_equals, calling, tested, equals_number, above_number};
 
@@ -62,4 +63,14 @@ fn well_typed()
         ≡ Ok (tested (codes "match") (tree.query_argument current ∷ tree.call_argument (calling (codes "value") (tree.query_argument (tree.query_from Root (tree.child (tree.name (codes "p") ∷ []) ∷ [])) ∷ [])) ∷ [])) }
     ensures match_as_test { verdict_of (tested (codes "match") (tree.query_argument current ∷ tree.literal_argument (tree.text (codes "a")) ∷ []))
         ≡ Ok (tested (codes "match") (tree.query_argument current ∷ tree.literal_argument (tree.text (codes "a")) ∷ [])) }
+{}
+
+/// The literal patterns of a query.
+fn patterns()
+    ensures second_argument { literal_patterns (tested (codes "match") (tree.query_argument current ∷ tree.literal_argument (tree.text (codes "a")) ∷ [])) ≡ codes "a" ∷ [] }
+    ensures not_the_first { literal_patterns (tested (codes "search") (tree.literal_argument (tree.text (codes "a")) ∷ tree.query_argument current ∷ [])) ≡ [] }
+    ensures not_of_other_functions { literal_patterns (equals_number (codes "length") (tree.literal_argument (tree.text (codes "a")) ∷ []) (codes "1")) ≡ [] }
+    ensures not_a_comparison { literal_patterns (filtered (equals (tree.single member_a) (tree.literal (tree.text (codes "a"))))) ≡ [] }
+    ensures deep_in_an_argument { literal_patterns (equals_number (codes "count") (tree.query_argument (current_with (tree.filter (tree.test_call (calling (codes "search") (tree.query_argument current ∷ tree.literal_argument (tree.text (codes "a")) ∷ []))) ∷ [])) ∷ []) (codes "1")) ≡ codes "a" ∷ [] }
+    ensures in_order { literal_patterns (filtered (tree.any (tree.logicals (tree.test_call (calling (codes "match") (tree.query_argument current ∷ tree.literal_argument (tree.text (codes "a")) ∷ [])) ∷ tree.test_call (calling (codes "search") (tree.query_argument current ∷ tree.literal_argument (tree.text (codes "b")) ∷ [])) ∷ [])))) ≡ codes "a" ∷ codes "b" ∷ [] }
 {}

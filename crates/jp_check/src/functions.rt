@@ -1,5 +1,10 @@
 //! The functions and their types (RFC 9535, 2.4.1 to 2.4.8).
 
+ghost use Rattle.std.specs.Prelude.{◌≡◌, map, option_map};
+ghost use Rattle.std.specs.Str.{chars};
+ghost use Rattle.jp_check.specs.Functions as functions;
+ghost use Rattle.jp_check.specs.Kinds.{kind_of, function_of};
+
 /// The types of the function type system (RFC 9535, 2.4.1).
 #[derive(Clone, Copy)]
 pub(crate) enum Kind {
@@ -24,4 +29,39 @@ pub(crate) enum Function {
     Search,
     /// The value of the only node.
     Value,
+}
+
+/// The function of this name.
+pub(crate) fn function_named(name: &str) -> Option<Function>
+    ensures { option_map function_of result ≡ functions.function_named (chars name.now) }
+{
+    match name {
+        "length" => Some(Function::Length),
+        "count" => Some(Function::Count),
+        "match" => Some(Function::Match),
+        "search" => Some(Function::Search),
+        "value" => Some(Function::Value),
+        _ => None,
+    }
+}
+
+/// The types of a function's parameters.
+pub(crate) fn parameters(function: Function) -> &'static [Kind]
+    ensures { map kind_of result.now ≡ functions.parameters (function_of function) }
+{
+    match function {
+        Function::Length => &[Kind::Value],
+        Function::Count | Function::Value => &[Kind::Nodes],
+        Function::Match | Function::Search => &[Kind::Value, Kind::Value],
+    }
+}
+
+/// The type of what a function gives.
+pub(crate) fn result_type(function: Function) -> Kind
+    ensures { kind_of result ≡ functions.result_type (function_of function) }
+{
+    match function {
+        Function::Length | Function::Count | Function::Value => Kind::Value,
+        Function::Match | Function::Search => Kind::Logical,
+    }
 }

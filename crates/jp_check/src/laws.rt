@@ -1,6 +1,6 @@
 //! Laws of the definitions, each the contract of a function that does nothing.
 
-ghost use Rattle.std.specs.Prelude.{◌≡◌, ◌<◌, ◌≤◌, ◌↔◌, Result, Ok, Err, true, false};
+ghost use Rattle.std.specs.Prelude.{◌≡◌, ◌≤◌, ◌↔◌, Result, Ok, Err, true, false};
 ghost use Rattle.jp_syntax.specs.Tree.{Text, Query};
 ghost use Rattle.jp_syntax.specs.Spelling.{Spells};
 ghost use Rattle.jp_syntax.specs.Depth.{bracket_depth, max_depth};

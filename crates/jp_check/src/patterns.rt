@@ -1,17 +1,16 @@
 //! The literal patterns of a query, read in one walk over its tree.
 
-ghost use Rattle.std.specs.Prelude.{◌≡◌, ◌++◌, ◌∷◌, [], IfOk, OnOk, option_map, option_to_list};
+ghost use Rattle.std.specs.Prelude.{◌≡◌, ◌++◌, ◌∷◌, [], OnOk, option_map, option_to_list};
 ghost use Rattle.std.specs.Str.{chars};
 ghost use Rattle.jp_syntax.specs.Tree as tree;
-ghost use Rattle.jp_syntax.specs.View.{query_of, text_of};
+ghost use Rattle.jp_syntax.specs.View.{query_of};
 ghost use Rattle.jp_syntax.specs.PartViews as view;
 ghost use Rattle.jp_check.specs.Kinds.{function_of};
 ghost use Rattle.jp_check.specs.Known.{known_texts};
 ghost use Rattle.jp_check.specs.LiteralPatterns as literal;
 
-use crate::functions::Function;
+use crate::functions::{Function, function_named};
 use crate::known::KnownPattern;
-use crate::typing::function_named;
 use jp_regexp::Pattern;
 use jp_syntax::{
     Argument, Call, Comparable, Comparison, Literal, Logical, Query, Segment, Selector,
@@ -140,10 +139,10 @@ fn logical_patterns(
 #[cycle(patterns)]
 fn parts_patterns(
     alloc: Global,
-    parts: &Vec<Logical>,
+    parts: &[Logical],
     known: &mut Vec<KnownPattern>,
 ) -> Result<(), AllocError>
-    ensures { OnOk result (known_texts known.new.items ≡ known_texts known.old.items ++ literal.logicals_patterns (tree.logicals (view.logicals_of parts.now.items))) }
+    ensures { OnOk result (known_texts known.new.items ≡ known_texts known.old.items ++ literal.logicals_patterns (tree.logicals (view.logicals_of parts.now))) }
 {
     for part in parts {
         logical_patterns(alloc, part, known)?;

@@ -1,50 +1,13 @@
 //! Which calls are well-typed (RFC 9535, 2.4.3), their arguments taken for themselves.
 
 ghost use Rattle.std.specs.Prelude.{◌≡◌, map, option_map};
-ghost use Rattle.std.specs.Str.{chars};
 ghost use Rattle.jp_syntax.specs.Tree as tree;
 ghost use Rattle.jp_syntax.specs.PartViews.{argument_of, arguments_of, call_of};
-ghost use Rattle.jp_check.specs.Functions as functions;
 ghost use Rattle.jp_check.specs.Kinds.{kind_of, function_of};
 ghost use Rattle.jp_check.specs.Typing as typing;
 
-use crate::functions::{Function, Kind};
+use crate::functions::{Function, Kind, function_named, parameters, result_type};
 use jp_syntax::{Argument, Call, is_singular};
-
-/// The function of this name.
-pub(crate) fn function_named(name: &str) -> Option<Function>
-    ensures { option_map function_of result ≡ functions.function_named (chars name.now) }
-{
-    match name {
-        "length" => Some(Function::Length),
-        "count" => Some(Function::Count),
-        "match" => Some(Function::Match),
-        "search" => Some(Function::Search),
-        "value" => Some(Function::Value),
-        _ => None,
-    }
-}
-
-/// The types of a function's parameters.
-fn parameters(function: Function) -> &'static [Kind]
-    ensures { map kind_of result.now ≡ functions.parameters (function_of function) }
-{
-    match function {
-        Function::Length => &[Kind::Value],
-        Function::Count | Function::Value => &[Kind::Nodes],
-        Function::Match | Function::Search => &[Kind::Value, Kind::Value],
-    }
-}
-
-/// The type of what a function gives.
-fn result_type(function: Function) -> Kind
-    ensures { kind_of result ≡ functions.result_type (function_of function) }
-{
-    match function {
-        Function::Length | Function::Count | Function::Value => Kind::Value,
-        Function::Match | Function::Search => Kind::Logical,
-    }
-}
 
 /// The type of what a call gives, where its function is known.
 fn type_of_call(call: &Call) -> Option<Kind>

@@ -9,9 +9,9 @@ ghost use Rattle.jp_check.specs.Numbers as numbers;
 ghost use Rattle.jp_check.specs.Typing as typing;
 
 use crate::faults::Faults;
-use crate::functions::Kind;
+use crate::functions::{Kind, function_named};
 use crate::numbers::{literal_faults, position_faults, slice_faults};
-use crate::typing::{fits_parameters, function_named, serves_as};
+use crate::typing::{fits_parameters, serves_as};
 use jp_syntax::{Argument, Call, Comparable, Comparison, Logical, Query, Segment, Selector};
 
 /// The faults of a query.
@@ -66,8 +66,8 @@ fn logical_faults(logical: &Logical) -> Faults
 
 /// The faults of the parts of `||` or `&&`.
 #[cycle(walk)]
-fn parts_faults(parts: &Vec<Logical>) -> Faults
-    ensures { result ≡ faults_of (numbers.logicals_numbers (logicals (view.logicals_of parts.now.items))) (typing.logicals_typed (logicals (view.logicals_of parts.now.items))) }
+fn parts_faults(parts: &[Logical]) -> Faults
+    ensures { result ≡ faults_of (numbers.logicals_numbers (logicals (view.logicals_of parts.now))) (typing.logicals_typed (logicals (view.logicals_of parts.now))) }
 {
     let mut faults = Faults::NONE;
     for part in parts {

@@ -4,3 +4,12 @@ pub mod Comparison
 pub mod Functions
 pub mod Nodelist
 pub mod Samples
+pub mod Operands
+pub mod BoundsView
+pub mod Places
+pub mod RightTests
+pub mod Part
+pub mod Links
+pub mod Kept
+pub mod Given
+pub mod Walk

@@ -1,7 +1,7 @@
--- The bytes of ends, read and written in turns.
+-- Bytes that are written in turns.
 use Rattle.std.proofs.Common.{◌≡◌, ℕ, List, [], ◌++◌, length, take, drop, refl, sym, ◌∙◌, ap, subst, Option, append_assoc, append-nil, arith, length-append, take-append-drop, take_at}
-use Rattle.std.specs.Io.KnownBytes.{Appends, Consumes, Keeps}
-use Rattle.std.proofs.KnownBytes.{Appends-nil, Appends-trans, Appends-kept, Consumes-nil, Consumes-trans}
+use Rattle.std.specs.Io.KnownBytes.{Appends, Keeps}
+use Rattle.std.proofs.KnownBytes.{Appends-nil, Appends-trans, Appends-kept}
 use Rattle.jp_run.specs.Written.{AppendsFront}
 
 -- a front of the bytes was appended, and this is left of them
@@ -29,12 +29,3 @@ written_stopped a b c bytes rest w h = (
   omega (arith, ap length w.cut, length-append w.front rest),
   subst (Appends a c) (sym (ap (take (length w.front)) w.cut ∙ take_at w.front rest (length w.front) refl)) (Appends-kept a b c w.front w.appended h),
 )
-
-pub consumed_start : (a : Option (List ℕ)) (bs : List ℕ) → bs ≡ [] → Consumes a a bs
-consumed_start a bs e = subst (Consumes a a) (sym e) (Consumes-nil a)
-
-pub consumed_more : (a b c : Option (List ℕ)) (bs ps all : List ℕ) → Consumes a b bs → Consumes b c ps → all ≡ bs ++ ps → Consumes a c all
-consumed_more a b c bs ps all p q e = subst (Consumes a c) (sym e) (Consumes-trans a b c bs ps p q)
-
-pub consumed_none : (a b c : Option (List ℕ)) (bs ps : List ℕ) (n : ℕ) → Consumes a b bs → Consumes b c (take n ps) → n ≡ 0 → Consumes a c bs
-consumed_none a b c bs ps n p q e = consumed_more a b c bs (take n ps) bs p q (sym (ap (λ k. bs ++ take k ps) e ∙ append-nil bs))

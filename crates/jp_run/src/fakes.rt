@@ -81,12 +81,13 @@ impl Source for OneByte<'_> {
     }
 }
 
-/// Takes at most so many bytes a call, so many in all, and then fails.
+/// Takes at most so many bytes a call, so many in all, and then fails. A flush may fail too.
 #[derive(Drop)]
 pub(crate) struct Holds {
     pub(crate) bytes: Vec<u8>,
     most: usize,
     room: usize,
+    flushes: bool,
     failed: bool,
     ghost some: { 0 < most },
 }
@@ -100,7 +101,21 @@ impl Holds {
             bytes,
             most,
             room,
+            flushes: true,
             failed: false,
+        }
+    }
+
+    /// The same, but a flush fails.
+    pub(crate) fn without_flush(self) -> Holds
+        ensures { result.failed ≡ self.failed }
+    {
+        Holds {
+            bytes: self.bytes,
+            most: self.most,
+            room: self.room,
+            flushes: false,
+            failed: self.failed,
         }
     }
 }
@@ -126,7 +141,11 @@ impl Sink for Holds {
     }
 
     fn flush(&mut self) -> Result<(), Broken> {
-        Ok(())
+        if self.flushes {
+            return Ok(());
+        }
+        self.failed = true;
+        Err(Broken)
     }
 
     fn failed(&self) -> bool {

@@ -1,37 +1,22 @@
-//! Ends over std's readers and writers, ends that fail, and what a fault says.
+//! Runs in memory, ends that fail, and what a fault says.
 
 use crate::fakes::{Holds, OneByte};
-use crate::transfer::{gather, write_all};
-use crate::{FromReader, FromWriter, RunFault, Sink, Source};
+use crate::writing::write_all;
+use crate::{FromReader, FromWriter, RunFault, Sink, Source, Totals, run};
 use jp_doc::DocFault;
 use jp_syntax::QueryFault;
+use std::alloc::Global;
 use std::test::Fail;
 
-#[test]
-fn a_reader_is_gathered(rt: HostRuntime) -> Result<(), Fail> {
-    let mut source = FromReader::new(b"abc".as_slice());
-    let Ok(bytes) = gather(rt.alloc(), &mut source) else {
-        panic!(rt; "the reader failed")
-    };
-    assert_eq!(rt; bytes.as_slice(), b"abc".as_slice());
-    assert_eq!(rt; source.reads(), 2);
-    assert_eq!(rt; source.given(), 3);
-    assert_eq!(rt; source.last(), 0);
-    assert!(rt; !source.failed());
-    Ok(())
-}
+/// More bytes than any of these runs writes.
+const ROOM: usize = 1_000_000;
 
-#[test]
-fn a_failing_read_ends_the_input(rt: HostRuntime) -> Result<(), Fail> {
-    for call in 1..5u64 {
-        let mut source = OneByte::new(b"abc", call);
-        assert!(rt; matches!(gather(rt.alloc(), &mut source), Err(RunFault::Read)));
-        assert_eq!(rt; source.reads(), call);
-        assert_eq!(rt; source.given(), call - 1);
-        assert_eq!(rt; source.last(), 0);
-        assert!(rt; source.failed());
-    }
-    Ok(())
+/// What a run over these bytes ends with, and what it writes.
+fn ran(alloc: Global, query: &str, input: &[u8]) -> (Result<Totals, RunFault>, Vec<u8>) {
+    let mut source = FromReader::new(input);
+    let mut sink = Holds::new(Vec::new(alloc), ROOM, ROOM);
+    let end = run(alloc, &mut source, &mut sink, query);
+    (end, sink.bytes)
 }
 
 #[test]
@@ -78,5 +63,234 @@ fn faults_have_their_texts(rt: HostRuntime) -> Result<(), Fail> {
         assert_eq!(rt; fault.status(), *status);
         assert_eq!(rt; format!(in rt.alloc(); "{fault}")?.as_str(), *text);
     }
+    Ok(())
+}
+
+/// A query, its input, and the lines that it gives.
+const ROWS: [(&str, &str, &str); 33] = [
+    ("$", "", ""),
+    ("$", "[]\n", "1\t$\t[]\n"),
+    (
+        "$..*",
+        "{\"b\":[1,{\"c\":2}],\"a\":null}\n",
+        "1\t$['a']\tnull\n1\t$['b']\t[1,{\"c\":2}]\n1\t$['b'][0]\t1\n1\t$['b'][1]\t{\"c\":2}\n1\t$['b'][1]['c']\t2\n",
+    ),
+    ("$[0,0,-1]", "[5,6]", "1\t$[0]\t5\n1\t$[0]\t5\n1\t$[1]\t6\n"),
+    ("$[2,-3]", "[5,6]", ""),
+    ("$[3:0:-2]", "[0,1,2,3,4]", "1\t$[3]\t3\n1\t$[1]\t1\n"),
+    ("$[::0]", "[0,1,2,3,4]", ""),
+    (
+        "$[::-1]",
+        "[0,1,2,3,4]",
+        "1\t$[4]\t4\n1\t$[3]\t3\n1\t$[2]\t2\n1\t$[1]\t1\n1\t$[0]\t0\n",
+    ),
+    ("$[1::9007199254740991]", "[0,1,2,3,4]", "1\t$[1]\t1\n"),
+    ("$[-2:]", "[0,1,2,3,4]", "1\t$[3]\t3\n1\t$[4]\t4\n"),
+    (
+        "$[?@.a==@.b]",
+        "[{},{\"a\":null},{\"a\":1,\"b\":1}]",
+        "1\t$[0]\t{}\n1\t$[2]\t{\"a\":1,\"b\":1}\n",
+    ),
+    (
+        "$[?@.a<=@.b]",
+        "[{},{\"a\":null},{\"a\":1,\"b\":1}]",
+        "1\t$[0]\t{}\n1\t$[2]\t{\"a\":1,\"b\":1}\n",
+    ),
+    (
+        "$[?match(@,'a.c')]",
+        "[\"abc\",\"xabc\",\"a\\nc\"]",
+        "1\t$[0]\t\"abc\"\n",
+    ),
+    (
+        "$[?search(@,'a.c')]",
+        "[\"abc\",\"xabc\",\"a\\nc\"]",
+        "1\t$[0]\t\"abc\"\n1\t$[1]\t\"xabc\"\n",
+    ),
+    (
+        "$[?match(@,'^a$')]",
+        "[\"a\",\"^a$\"]",
+        "1\t$[1]\t\"^a$\"\n",
+    ),
+    ("$[?match(@,'[')]", "[\"[\"]", ""),
+    (
+        "$[?match(@,'(a*)*b{0,2}')]",
+        "[\"\",\"aab\",\"bbb\"]",
+        "1\t$[0]\t\"\"\n1\t$[1]\t\"aab\"\n",
+    ),
+    (
+        "$[?count(@['a','a'])==2]",
+        "[{\"a\":1}]",
+        "1\t$[0]\t{\"a\":1}\n",
+    ),
+    (
+        "$.*",
+        "{\"it's\\u0000\\t\":1}",
+        "1\t$['it\\'s\\u0000\\t']\t1\n",
+    ),
+    (
+        "$['it\\'s\\u0000\\t']",
+        "{\"it's\\u0000\\t\":1}",
+        "1\t$['it\\'s\\u0000\\t']\t1\n",
+    ),
+    ("$[\"\\uD83D\\uDE00\"]", "{\"😀\":1}", "1\t$['😀']\t1\n"),
+    ("$[9007199254740991]", "[1]", ""),
+    ("$[4294967296]", "[1]", ""),
+    ("$[?@.a==-0]", "[{\"a\":0}]", "1\t$[0]\t{\"a\":0}\n"),
+    (
+        "$[?@.a&&!@.b||@.c==1]",
+        "[{\"a\":0},{\"a\":0,\"b\":0},{\"b\":0,\"c\":1}]",
+        "1\t$[0]\t{\"a\":0}\n1\t$[2]\t{\"b\":0,\"c\":1}\n",
+    ),
+    ("$.a[?@==$.b]", "{\"a\":[1,2],\"b\":2}", "1\t$['a'][1]\t2\n"),
+    ("$[?@>=null]", "[null,1]", "1\t$[0]\tnull\n"),
+    ("$[?@<'b']", "[\"a\",\"b\",1]", "1\t$[0]\t\"a\"\n"),
+    (
+        "$[?@>9223372036854775807]",
+        "[9223372036854775807,18446744073709551615]",
+        "1\t$[1]\t18446744073709551615\n",
+    ),
+    (
+        "$.a",
+        "{\"a\":1}\n\n{\"a\":null}\n",
+        "1\t$['a']\t1\n3\t$['a']\tnull\n",
+    ),
+    (
+        "$.a",
+        "{\"a\":1}\n\n{\"a\":null}",
+        "1\t$['a']\t1\n3\t$['a']\tnull\n",
+    ),
+    (
+        "$.a",
+        "{\"a\":1}\r\n\r\n{\"a\":null}\r\n",
+        "1\t$['a']\t1\n3\t$['a']\tnull\n",
+    ),
+    ("$..a", "{\"b\":{\"a\":1}}", "1\t$['b']['a']\t1\n"),
+];
+
+#[test]
+fn rows(rt: HostRuntime) -> Result<(), Fail> {
+    for (query, input, output) in &ROWS {
+        let (end, bytes) = ran(rt.alloc(), *query, input.as_bytes());
+        assert!(rt; end.is_ok());
+        assert_eq!(rt; bytes.as_slice(), output.as_bytes());
+    }
+    Ok(())
+}
+
+#[test]
+fn lines_and_documents_are_counted(rt: HostRuntime) -> Result<(), Fail> {
+    let (end, _) = ran(rt.alloc(), "$.a", b"{\"a\":1}\n\n{\"a\":null}");
+    let totals = Totals {
+        lines: 3,
+        documents: 2,
+    };
+    assert!(rt; matches!(end, Ok(found) if found == totals));
+    let (end, _) = ran(rt.alloc(), "$", b"");
+    let none = Totals {
+        lines: 0,
+        documents: 0,
+    };
+    assert!(rt; matches!(end, Ok(found) if found == none));
+    Ok(())
+}
+
+#[test]
+fn a_refused_query_reads_nothing(rt: HostRuntime) -> Result<(), Fail> {
+    let refused = [
+        ("$.a ", QueryFault::Syntax),
+        ("", QueryFault::Syntax),
+        ("$[-0]", QueryFault::Syntax),
+        ("$[01]", QueryFault::Syntax),
+        ("$['\\uD83D']", QueryFault::Syntax),
+        ("$[9007199254740992]", QueryFault::Range),
+        ("$[?@.a==1.5]", QueryFault::Fraction),
+        ("$[?nope(@)]", QueryFault::IllTyped),
+    ];
+    for (query, fault) in &refused {
+        let mut source = OneByte::new(b"{\"a\":1}\n", 0);
+        let mut sink = Holds::new(Vec::new(rt.alloc()), 1, ROOM);
+        let end = run(rt.alloc(), &mut source, &mut sink, *query);
+        assert!(rt; matches!(end, Err(RunFault::Query(found)) if found == *fault));
+        assert_eq!(rt; source.reads(), 0);
+        assert!(rt; sink.bytes.is_empty());
+    }
+    Ok(())
+}
+
+#[test]
+fn a_faulty_line_ends_the_run(rt: HostRuntime) -> Result<(), Fail> {
+    let (end, bytes) = ran(rt.alloc(), "$.a", b"{\"a\":1}\n{\n{\"a\":2}\n{\"a\":1.5}\n");
+    assert!(rt;
+        matches!(
+            end,
+            Err(RunFault::Document {
+                line: 2,
+                fault: DocFault::Unreadable
+            })
+        )
+    );
+    assert_eq!(rt; bytes.as_slice(), b"1\t$['a']\t1\n".as_slice());
+    let (end, bytes) = ran(rt.alloc(), "$.a", b"{\"a\":1}\n{\"a\":2}\n{\"a\":1.5}\n");
+    assert!(rt;
+        matches!(
+            end,
+            Err(RunFault::Document {
+                line: 3,
+                fault: DocFault::NotWhole
+            })
+        )
+    );
+    assert_eq!(rt;
+        bytes.as_slice(),
+        b"1\t$['a']\t1\n2\t$['a']\t2\n".as_slice()
+    );
+    Ok(())
+}
+
+#[test]
+fn read_and_written_byte_by_byte(rt: HostRuntime) -> Result<(), Fail> {
+    let mut source = OneByte::new(b"{\"a\":1}\n\n{\"a\":null}", 0);
+    let mut sink = Holds::new(Vec::new(rt.alloc()), 1, ROOM);
+    assert!(rt; run(rt.alloc(), &mut source, &mut sink, "$.a").is_ok());
+    let want = b"1\t$['a']\t1\n3\t$['a']\tnull\n";
+    assert_eq!(rt; sink.bytes.as_slice(), want.as_slice());
+    assert_eq!(rt; source.given(), 19);
+    assert_eq!(rt; source.reads(), 20);
+    assert_eq!(rt; source.last(), 0);
+    Ok(())
+}
+
+#[test]
+fn a_failing_read_writes_nothing(rt: HostRuntime) -> Result<(), Fail> {
+    for call in [1u64, 2, 9] {
+        let mut source = OneByte::new(b"{\"a\":1}\n", call);
+        let mut sink = Holds::new(Vec::new(rt.alloc()), 1, ROOM);
+        let end = run(rt.alloc(), &mut source, &mut sink, "$.a");
+        assert!(rt; matches!(end, Err(RunFault::Read)));
+        assert_eq!(rt; source.reads(), call);
+        assert!(rt; source.failed());
+        assert!(rt; sink.bytes.is_empty());
+    }
+    Ok(())
+}
+
+#[test]
+fn a_sink_that_fails_ends_the_run(rt: HostRuntime) -> Result<(), Fail> {
+    let mut source = FromReader::new(b"{\"a\":1}\n\n{\"a\":null}\n".as_slice());
+    let mut sink = Holds::new(Vec::new(rt.alloc()), ROOM, 5);
+    let end = run(rt.alloc(), &mut source, &mut sink, "$.a");
+    assert!(rt; matches!(end, Err(RunFault::Write)));
+    assert_eq!(rt; sink.bytes.as_slice(), b"1\t$['".as_slice());
+    assert!(rt; sink.failed());
+    Ok(())
+}
+
+#[test]
+fn a_flush_that_fails_ends_the_run(rt: HostRuntime) -> Result<(), Fail> {
+    let mut source = FromReader::new(b"[]\n".as_slice());
+    let mut sink = Holds::new(Vec::new(rt.alloc()), ROOM, ROOM).without_flush();
+    let end = run(rt.alloc(), &mut source, &mut sink, "$");
+    assert!(rt; matches!(end, Err(RunFault::Write)));
+    assert_eq!(rt; sink.bytes.as_slice(), b"1\t$\t[]\n".as_slice());
     Ok(())
 }

@@ -1,46 +1,78 @@
 -- How the code cuts a text in two.
-use Rattle.std.proofs.Common.{◌≡◌, ℕ, ◌-◌, ◌≤◌, Bool, true, List, [], ◌∷◌, ◌++◌, length, take, drop, get_or, Some, Result, Ok, Err, refl, sym, ap, ◌∙◌, arith, length-append}
+use Rattle.std.proofs.Common.{◌≡◌, ℕ, ◌-◌, ◌≤◌, Bool, true, false, ◌==◌, List, [], ◌∷◌, ◌++◌, length, take, Some, None, Result, Ok, Err, refl, sym, ap, subst, ◌∙◌, arith, length-append}
 use Rattle.std.specs.Prelude.{OnOk, is_ok, if◌then◌else◌}
-use Rattle.std.specs.Str.{chars, IsUtf8}
-use Rattle.std.proofs.lemmas.List.{append-nil, take_at, drop_at}
-use Rattle.std.proofs.lemmas.Str.{chars-encodes, chars-append}
+use Rattle.std.specs.Str.{chars, IsUtf8, IsCharBoundary, encode_utf8_all}
+use Rattle.std.proofs.lemmas.List.{append-nil, append_cancel_right, take_at}
+use Rattle.std.proofs.lemmas.Bool.{ne_eqb}
+use Rattle.std.proofs.lemmas.Option.{same_Some}
+use Rattle.std.proofs.lemmas.Str.{chars-encodes, chars-append, encodes-chars, encodes-append, length-le-encodes, IsCharBoundary-at_seam}
 use Rattle.std.proofs.Math.Utf8.{encode, scalars}
 use Rattle.jp_syntax.specs.Tree.{Text}
-use Rattle.jp_syntax.specs.Reading.{past, taken, run_at}
-use Rattle.jp_syntax.proofs.Fronts.{run_fits, run_whole}
+use Rattle.jp_syntax.specs.Reading.{Outcome, behind, past, run_at}
+use Rattle.jp_syntax.proofs.Fronts.{Front}
+use Rattle.jp_syntax.proofs.LeavesRead.{Itself}
 
--- a front and what is behind it
-pub front_at : (t s u front : Text) (n : ℕ) → t ≡ s ++ u → n ≡ length s → front ≡ take n t → front ≡ s
-front_at t s u front n e k h = h ∙ ap (take n) e ∙ take_at s u n (sym k)
+-- a text has no more characters than bytes
+pub chars_fit : (bs : List ℕ) → IsUtf8 bs → length (chars bs) ≤ length bs
+chars_fit bs u =
+    let least = length-le-encodes (chars bs) in
+    let size = ap length (encodes-chars bs u) in
+    omega arith
 
-pub back_at : (t s u back : Text) (n : ℕ) → t ≡ s ++ u → n ≡ length s → back ≡ drop n t → back ≡ u
-back_at t s u back n e k h = h ∙ ap (drop n) e ∙ drop_at s u n (sym k)
+-- a text with no byte is the one with no character
+some_size : {A : Type 0} (x : A) (xs : List A) → (length (x ∷ xs) == 0) ≡ false
+some_size x xs = ne_eqb (length (x ∷ xs)) 0 (λ e. absurd (omega arith))
 
--- behind the first character
-pub tail_is : (c : ℕ) (t : Text) → take (length (c ∷ t) - 1) (drop 1 (c ∷ t)) ≡ t
-tail_is c t = ap (take (length (c ∷ t) - 1)) (drop_at (c ∷ []) t 1 refl) ∙ ap (take (length (c ∷ t) - 1)) (sym (append-nil t)) ∙ take_at t [] (length (c ∷ t) - 1) (omega arith)
+some_character : (cs bs : List ℕ) (b : ℕ) → encode_utf8_all cs ≡ b ∷ bs → (length cs == 0) ≡ false
+some_character [] bs b e = absurd cc
+some_character (c ∷ cs) bs b e = some_size c cs
 
-pub run_cut_fits : (later : ℕ → Bool) (t rest : Text) → 1 ≤ length t → rest ≡ past later (take (length t - 1) (drop 1 t)) → length rest ≤ length t
-run_cut_fits later [] rest h e = absurd (omega arith)
-run_cut_fits later (c ∷ t) rest h e =
-    let k : rest ≡ past later t = e ∙ ap (past later) (tail_is c t) in
-    let f = run_fits later t in
-    let g = ap length k in omega arith
+pub at_end : (bs : List ℕ) → IsUtf8 bs → (length (chars bs) == 0) ≡ (length bs == 0)
+unfolding chars
+at_end [] u = refl
+at_end (b ∷ bs) u = some_character (chars (b ∷ bs)) bs b (encodes-chars (b ∷ bs) u) ∙ sym (some_size b bs)
 
-run_is : (first later : ℕ → Bool) (c : ℕ) (t : Text) → first c ≡ true → run_at first later (c ∷ t) ≡ Some (c ∷ taken later t, past later t)
+-- the text ends in the rest, and stands cut where the rest begins
+module _ (text rest front : List ℕ) (u : IsUtf8 text) (v : IsUtf8 rest) (e : chars text ≡ front ++ chars rest) where
+  in_two : text ≡ encode_utf8_all front ++ rest
+  in_two = sym (encodes-chars text u) ∙ ap encode_utf8_all e ∙ encodes-append front (chars rest) ∙ ap (λ (t : List ℕ). encode_utf8_all front ++ t) (encodes-chars rest v)
+
+  pub rest_fits : length rest ≤ length text
+  rest_fits = let l = ap length in_two in omega (arith, length-append (encode_utf8_all front) rest)
+
+  seam : length (encode_utf8_all front) ≡ length text - length rest
+  seam = let l = ap length in_two in omega (arith, length-append (encode_utf8_all front) rest)
+
+  pub may_cut : IsCharBoundary text (length text - length rest)
+  may_cut = subst (IsCharBoundary text) seam (IsCharBoundary-at_seam text (encode_utf8_all front) rest in_two v)
+
+  pub front_is : (s : List ℕ) → IsUtf8 s → s ≡ take (length text - length rest) text → chars text ≡ chars s ++ chars rest
+  front_is s w h =
+      let same : s ≡ encode_utf8_all front = h ∙ ap (take (length text - length rest)) in_two ∙ take_at (encode_utf8_all front) rest (length text - length rest) seam in
+      ap chars (in_two ∙ ap (λ (t : List ℕ). t ++ rest) (sym same)) ∙ chars-append s rest w
+
+-- ---- what is read, and the rest
+
+module _ (P : Text → Type 0) (o : Outcome Text) (t rest : Text) (e : behind o ≡ Some rest) (sound : (x r : Text) → o ≡ Some (x, r) → Front (Itself P) t x r) where
+  read_as : (o : Outcome Text) → behind o ≡ Some rest → (x : Text) × (o ≡ Some (x, rest))
+  read_as (Some p) e = (p.0, ap (λ (r : Text). Some (p.0, r)) (same_Some p.1 rest e))
+  read_as None e = absurd cc
+
+  pub some_front : (front : Text) × (t ≡ front ++ rest)
+  some_front =
+      let r = read_as o e in
+      let f = sound r.0 rest r.1 in
+      (f.front, f.whole)
+
+  pub front_read : (front : Text) → t ≡ front ++ rest → o ≡ Some (front, rest)
+  front_read front h =
+      let r = read_as o e in
+      let f = sound r.0 rest r.1 in
+      r.1 ∙ ap (λ (x : Text). Some (x, rest)) (sym f.part.1 ∙ append_cancel_right f.front front rest (sym f.whole ∙ h))
+
+pub run_behind : (first later : ℕ → Bool) (t more rest : Text) (c : ℕ) → t ≡ c ∷ more → first c ≡ true → rest ≡ past later more → behind (run_at first later t) ≡ Some rest
 unfolding run_at
-run_is first later c t h = rw h refl
-
-pub run_cut : (first later : ℕ → Bool) (t rest front back : Text) (x : ℕ) (b : Bool) → 1 ≤ length t → x ≡ get_or t 0 x → b ≡ true → b ≡ first x → rest ≡ past later (take (length t - 1) (drop 1 t))
-    → front ≡ take (length t - length rest) t → back ≡ drop (length t - length rest) t → run_at first later t ≡ Some (front, back)
-run_cut first later [] rest front back x b h a d f e g k = absurd (omega arith)
-run_cut first later (c ∷ t) rest front back x b h a d f e g k =
-    let r : rest ≡ past later t = e ∙ ap (past later) (tail_is c t) in
-    let same : x ≡ c = a in
-    let is : first c ≡ true = ap first (sym same) ∙ sym f ∙ d in
-    let whole : c ∷ t ≡ (c ∷ taken later t) ++ past later t = ap (λ (u : Text). c ∷ u) (run_whole later t) in
-    let size : length (c ∷ t) - length rest ≡ length (c ∷ taken later t) = let l = ap length whole in let m = ap length r in omega (arith, length-append (c ∷ taken later t) (past later t)) in
-    run_is first later c t is ∙ ap (λ (p : Text × Text). Some p) (ap (λ (u : Text). (u, past later t)) (sym (front_at (c ∷ t) (c ∷ taken later t) (past later t) front (length (c ∷ t) - length rest) whole size g)) ∙ ap (λ (u : Text). (front, u)) (sym (back_at (c ∷ t) (c ∷ taken later t) (past later t) back (length (c ∷ t) - length rest) whole size k)))
+run_behind first later t more rest c e h r = rw (e, h, r) refl
 
 chars_one : (c : ℕ) → scalars (c ∷ []) ≡ true → chars (encode c) ≡ c ∷ []
 chars_one c s = ap chars (sym (append-nil (encode c))) ∙ chars-encodes (c ∷ []) s

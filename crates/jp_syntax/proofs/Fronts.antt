@@ -131,8 +131,3 @@ module _ {A : Type 0} (turn : Text → Turn A) (Part : Text → A → Type 0) (G
   pub all_whole : Steps → (found : List A) (t s : Text) (xs : List A) (u rest : Text) → turn t ≡ turn (s ++ u) → length s ≤ length t → Star Part s xs → length s ≤ limit → Good u → turn u ≡ Some (None, rest) → all_of turn found t ≡ Some (found ++ xs, rest)
   unfolding all_of
   all_whole k found t s xs u rest same fits ps le g e = many_whole k (length t + 1) found t s xs u rest same ps (omega arith) le g e
-
--- ---- as the code cuts a text
-
-pub run_fits : (p : ℕ → Bool) (t : Text) → length (past p t) ≤ length t
-run_fits p t = let e = ap length (run_whole p t) in omega (arith, length-append (taken p t) (past p t))

@@ -363,7 +363,7 @@ escape_sound quote (c ∷ t) o rest e =
           carried (Next quote) (92 ∷ c ∷ t) (Some b.0, t) (o, rest) b.2 (record { front = 92 ∷ c ∷ []; part = escape c b.0 b.1; whole = refl })
     ]
 
-piece_sound : (quote : ℕ) (t : Text) (o : Option ℕ) (rest : Text) → piece_at quote t ≡ Some (o, rest) → Front (Next quote) t o rest
+pub piece_sound : (quote : ℕ) (t : Text) (o : Option ℕ) (rest : Text) → piece_at quote t ≡ Some (o, rest) → Front (Next quote) t o rest
 unfolding piece_at
 piece_sound quote [] o rest e = absurd cc
 piece_sound quote (c ∷ t) o rest e =
@@ -407,7 +407,7 @@ plain_value n h = either_off (is_high_surrogate n) (is_low_surrogate n) h
     either_off false true k = absurd cc
     either_off false false k = (refl, refl)
 
-piece_some : (quote : ℕ) (s : Text) (x : ℕ) → Piece quote s x → 0 < length s
+pub piece_some : (quote : ℕ) (s : Text) (x : ℕ) → Piece quote s x → 0 < length s
 piece_some quote s x (bare c h) = omega arith
 piece_some quote s x (escape c value h) = omega arith
 piece_some quote s x (unicode t value h k) = omega arith

@@ -62,11 +62,11 @@ pub call_calls : (Inner : Text → tree.Logical → Type 0) (s : Text) (c : tree
 call_calls Inner s c u (is.call_of_none f b n h) = ap calls (append_assoc f (40 ∷ (b ++ 41 ∷ [])) u) ∙ name_calls f ((b ++ 41 ∷ []) ++ u) n
 call_calls Inner s c u (is.call f r t b xs n h p k) = ap calls (append_assoc f (40 ∷ (r ++ (t ++ (b ++ 41 ∷ [])))) u) ∙ name_calls f ((r ++ (t ++ (b ++ 41 ∷ []))) ++ u) n
 
-calls_no_literal : (t : Text) → calls t ≡ true → lone_literal_at t ≡ None
+pub calls_no_literal : (t : Text) → calls t ≡ true → lone_literal_at t ≡ None
 unfolding lone_literal_at
 calls_no_literal t h = rw h refl
 
-sided : (t u : Text) (x : tree.Literal) → calls t ≡ false → literal_at t ≡ Some (x, u) → is_none (operator_at (skip u)) ≡ false → lone_literal_at t ≡ None
+pub sided : (t u : Text) (x : tree.Literal) → calls t ≡ false → literal_at t ≡ Some (x, u) → is_none (operator_at (skip u)) ≡ false → lone_literal_at t ≡ None
 unfolding lone_literal_at
 sided t u x h e k = rw (h, e, k) refl
 

@@ -257,7 +257,7 @@ module _ {A : Type 0} (close : ℕ) (item : Reader A) (Item : Text → A → Typ
             })
       ]
 
-  next_sound : (u : Text) (o : Option A) (rest : Text) → item_turn u ≡ Some (o, rest) → Front IsNext u o rest
+  pub next_sound : (u : Text) (o : Option A) (rest : Text) → item_turn u ≡ Some (o, rest) → Front IsNext u o rest
   next_sound u o rest e =
       let f = next_at (taken is_blank u) (skip u) o rest (run_each is_blank u) e in
       record { front = f.front; part = f.part; whole = run_whole is_blank u ∙ f.whole }
@@ -293,7 +293,7 @@ module _ (inner : Reader tree.Logical) (Inner : Text → tree.Logical → Type 0
   filtered : (s : Text) (l : tree.Logical) → Behind Inner s l → SelectorIs Inner (63 ∷ s) (tree.filter l)
   filtered w y (behind s t l b p) = is.filter s t l b p
 
-  selector_sound : (t : Text) (x : tree.Selector) (rest : Text) → selector_at inner t ≡ Some (x, rest) → Front (SelectorIs Inner) t x rest
+  pub selector_sound : (t : Text) (x : tree.Selector) (rest : Text) → selector_at inner t ≡ Some (x, rest) → Front (SelectorIs Inner) t x rest
   unfolding selector_at
   selector_sound [] x rest e = absurd cc
   selector_sound (c ∷ t) x rest e =
@@ -414,7 +414,7 @@ module _ (inner : Reader tree.Logical) (Inner : Text → tree.Logical → Type 0
         ]
       ]
 
-  segment_sound : (u : Text) (o : Option tree.Segment) (rest : Text) → segment_turn u ≡ Some (o, rest) → Front NextSegment u o rest
+  pub segment_sound : (u : Text) (o : Option tree.Segment) (rest : Text) → segment_turn u ≡ Some (o, rest) → Front NextSegment u o rest
   segment_sound u o rest e =
       let f = segment_at (taken is_blank u) (skip u) o rest (run_each is_blank u) (ap (λ (w : Text). segment_behind inner w (skip u)) (sym (run_whole is_blank u)) ∙ e) in
       record { front = f.front; part = f.part; whole = run_whole is_blank u ∙ f.whole }

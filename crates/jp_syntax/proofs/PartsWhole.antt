@@ -1,5 +1,5 @@
 -- What is spelled so is read: slices, operators, lists and segments.
-use Rattle.std.proofs.Common.{◌≡◌, ℕ, suc, ◌<◌, ◌≤◌, Bool, true, false, not, ◌||◌, ◌==◌, eqb, List, [], ◌∷◌, ◌++◌, length, Option, Some, None, refl, sym, ap, subst, ◌∙◌, append_assoc, length-append, arith}
+use Rattle.std.proofs.Common.{◌≡◌, ℕ, suc, ◌≤◌, Bool, true, false, not, ◌||◌, ◌==◌, eqb, List, [], ◌∷◌, ◌++◌, length, Option, Some, None, refl, sym, ap, subst, ◌∙◌, append_assoc, length-append, arith}
 use Rattle.std.proofs.lemmas.Bool.{eq-eqb}
 use Rattle.jp_syntax.specs.declared.tree.Operator.{Operator}
 use Rattle.jp_syntax.specs.declared.tree.Operator.TheVariants as op
@@ -12,9 +12,10 @@ use Rattle.jp_syntax.specs.Numbers.{IsInt, zero_int, positive_int, negative_int}
 use Rattle.jp_syntax.specs.Spelling as is
 use Rattle.jp_syntax.specs.Spelling.{begins_with, operator_text, IsShorthand, shorthand, BoundIs, StepIs, SelectorIs, BracketedIs, SegmentIs, QueryIs}
 use Rattle.jp_syntax.specs.Reading.{Reader, Outcome, Turn, skip, all_of, next_item, items_at, int_at, string_at, mark_at, begins_int, bound_at, step_at, slice_at, index_or_slice, numbers_at, or_equal, operator_at, selector_at, bracketed_at, named_at, descendant_at, dotted_at, segment_behind, segments_at, query_at}
+use Rattle.jp_syntax.proofs.NotEmpty.{after_some, segment_some}
 use Rattle.jp_syntax.proofs.Endings.{positive_is_digit}
 use Rattle.jp_syntax.proofs.Fronts.{past_each, starts, Steps, all_whole, star_good}
-use Rattle.jp_syntax.proofs.Following.{differs, firm, firm_some, firm_append, skip_behind, Meets, Leaves, meets_behind, meets_firm, among_all, after_selector, after_logical, after_basic, after_side, begins_segment, after_bound, side_before_name, side_before_segment, segment_before_name, bound_before_digit, selector_in_logical, selector_in_bound}
+use Rattle.jp_syntax.proofs.Following.{differs, firm, firm_append, skip_behind, Meets, Leaves, meets_behind, meets_firm, among_all, after_selector, after_logical, after_basic, after_side, begins_segment, after_bound, side_before_name, side_before_segment, segment_before_name, bound_before_digit, selector_in_logical, selector_in_bound}
 use Rattle.jp_syntax.proofs.LeavesRead.{name_whole, int_whole, string_whole, int_firm, quote_firm}
 
 -- ---- operators
@@ -186,9 +187,6 @@ module _ {A : Type 0} (close : ℕ) (item : Reader A) (Item : Text → A → Typ
   unfolding next_item
   item_end r u h = rw (past_each is_blank r (close ∷ u) h, close_firm, close_apart, eq-eqb close close refl) refl
 
-  after_some : (s : Text) (x : A) → After (44 ∷ []) Item s x → 0 < length s
-  after_some w y (after r s t x h b p) = omega (arith, length-append r (44 ∷ (s ++ t)))
-
   after_meets : (s : Text) (x : A) (u : Text) → After (44 ∷ []) Item s x → Meets after_item (s ++ u)
   after_meets w y u (after r s t x hr hs q) =
       subst (Meets after_item) (sym (append_assoc r (44 ∷ (s ++ t)) u)) (meets_behind after_item r (44 ∷ ((s ++ t) ++ u)) hr (meets_firm after_item 44 ((s ++ t) ++ u) refl comma))
@@ -205,7 +203,7 @@ module _ {A : Type 0} (close : ℕ) (item : Reader A) (Item : Text → A → Typ
 
   item_steps : Steps item_turn (After (44 ∷ []) Item) (Meets after_item) limit
   item_steps = record {
-    some = λ s x p. after_some s x p;
+    some = λ s x p. after_some 44 [] Item s x p;
     good = λ s x u p g. after_meets s x u p;
     step = λ s x u p le g. item_step s x u p le g;
   }
@@ -396,9 +394,6 @@ module _ (inner : Reader tree.Logical) (Inner : Text → tree.Logical → Type 0
   segment_good w y u (behind b s x h p) =
       segment_before_name ((b ++ s) ++ u) (subst (Meets begins_segment) (sym (append_assoc b s u)) (meets_behind begins_segment b (s ++ u) h (segment_meets s x u p)))
 
-  segment_some : (s : Text) (x : tree.Segment) → Behind (SegmentIs Inner) s x → 0 < length s
-  segment_some w y (behind b s x h p) = omega (arith, length-append b s, firm_some s (segment_firm s x p))
-
   segment_step : (s : Text) (x : tree.Segment) (u : Text) → Behind (SegmentIs Inner) s x → length s ≤ suc (suc limit) → Leaves is_name_character u → segment_turn (s ++ u) ≡ Some (Some x, u)
   segment_step w y u (behind b s x h p) le g =
       let e : skip ((b ++ s) ++ u) ≡ s ++ u = ap skip (append_assoc b s u) ∙ skip_behind b s u h (segment_firm s x p) in
@@ -406,7 +401,7 @@ module _ (inner : Reader tree.Logical) (Inner : Text → tree.Logical → Type 0
 
   segment_steps : Steps segment_turn (Behind (SegmentIs Inner)) (Leaves is_name_character) (suc (suc limit))
   segment_steps = record {
-    some = λ s x p. segment_some s x p;
+    some = λ s x p. segment_some Inner s x p;
     good = λ s x u p g. segment_good s x u p;
     step = λ s x u p le g. (u, segment_step s x u p le g, refl);
   }

@@ -44,7 +44,7 @@ module _ (inner : Reader tree.Logical) (Inner : Text → tree.Logical → Type 0
   argument_made false s (tree.test q) p e = is.query_argument s q p (rw e refl)
   argument_made false s (tree.test_call c) p e = is.call_argument s c p (rw e refl)
 
-  argument_sound : (t : Text) (x : tree.Argument) (rest : Text) → argument_at inner t ≡ Some (x, rest) → Front (ArgumentIs Inner) t x rest
+  pub argument_sound : (t : Text) (x : tree.Argument) (rest : Text) → argument_at inner t ≡ Some (x, rest) → Front (ArgumentIs Inner) t x rest
   unfolding argument_at
   argument_sound t x rest e =
       elim (chosen (is_none (lone_literal_at t)) _ _ (Some (x, rest)) e) [
@@ -196,7 +196,7 @@ module _ (inner : Reader tree.Logical) (Inner : Text → tree.Logical → Type 0
   as_plain : (t : Text) (x : tree.Logical) (rest : Text) → Front (PlainIs Inner) t x rest → Front (BasicIs Inner) t x rest
   as_plain t x rest f = record { front = f.front; part = is.plain f.front x f.part; whole = f.whole }
 
-  basic_sound : (t : Text) (x : tree.Logical) (rest : Text) → basic_at inner t ≡ Some (x, rest) → Front (BasicIs Inner) t x rest
+  pub basic_sound : (t : Text) (x : tree.Logical) (rest : Text) → basic_at inner t ≡ Some (x, rest) → Front (BasicIs Inner) t x rest
   unfolding basic_at
   basic_sound [] x rest e = absurd cc
   basic_sound (c ∷ t) x rest e =
@@ -240,7 +240,7 @@ module _ (inner : Reader tree.Logical) (Inner : Text → tree.Logical → Type 0
           | inr k ↦ carried NextPart (b ++ c ∷ t) (None, b ++ c ∷ t) (o, rest) k.1 (record { front = []; part = refl; whole = refl })
         ]
 
-    turn_sound : (u : Text) (o : Option tree.Logical) (rest : Text) → part_turn u ≡ Some (o, rest) → Front NextPart u o rest
+    pub turn_sound : (u : Text) (o : Option tree.Logical) (rest : Text) → part_turn u ≡ Some (o, rest) → Front NextPart u o rest
     turn_sound u o rest e =
         let f = part_at (taken is_blank u) (skip u) o rest (run_each is_blank u) (ap (λ (w : Text). next_part mark part w (skip u)) (sym (run_whole is_blank u)) ∙ e) in
         record { front = f.front; part = f.part; whole = run_whole is_blank u ∙ f.whole }
@@ -271,7 +271,7 @@ module _ (inner : Reader tree.Logical) (Inner : Text → tree.Logical → Type 0
         } in
         (d.0, subst (λ (w : Text). Front (Separated (mark ∷ mark ∷ []) Part) t d.0 w) p.1 (subst (λ (ys : List tree.Logical). Front (Separated (mark ∷ mark ∷ []) Part) t ys d.1) (sym m.list) made), p.0)))
 
-  and_sound : (t : Text) (x : tree.Logical) (rest : Text) → and_at inner t ≡ Some (x, rest) → Front (AndIs Inner) t x rest
+  pub and_sound : (t : Text) (x : tree.Logical) (rest : Text) → and_at inner t ≡ Some (x, rest) → Front (AndIs Inner) t x rest
   unfolding and_at
   and_sound t x rest e =
       let r = parts_sound 38 (basic_at inner) (BasicIs Inner) basic_sound (joined tree.all) t x rest e in
@@ -291,20 +291,19 @@ logical_sound (suc n) t x rest e = or_sound (logical_at n) (LogicalIs n) (logica
 abbrev whole_given : List tree.Segment × Text → Option tree.Query
 whole_given r = cond (eqb (length r.1) 0) (Some (tree.query_from Root r.0)) None
 
-pub read_sound : (t : Text) (q : tree.Query) → read t ≡ Some q → Spells t q
+pub read_sound : (n : ℕ) (t : Text) (q : tree.Query) → read n t ≡ Some q → Spells t q
 unfolding read
-read_sound [] q e = absurd cc
-read_sound (c ∷ t) q e =
-    let inner = logical_at (length t) in
-    elim (chosen (eqb c 36) (segments_at inner t >>= whole_given) None (Some q) e) [
+read_sound n [] q e = absurd cc
+read_sound n (c ∷ t) q e =
+    elim (chosen (eqb c 36) (segments_at (logical_at n) t >>= whole_given) None (Some q) e) [
       | inl h ↦
           let m : c ≡ 36 = eqb-true c 36 h.0 in
-          option_and_then_some whole_given (segments_at inner t) q h.1 (λ a k l.
+          option_and_then_some whole_given (segments_at (logical_at n) t) q h.1 (λ a k l.
           let g = cond_some (eqb (length a.1) 0) (tree.query_from Root a.0) q l in
-          let f = segments_sound inner (LogicalIs (length t)) (logical_sound (length t)) t a.0 a.1 k in
+          let f = segments_sound (logical_at n) (LogicalIs n) (logical_sound n) t a.0 a.1 k in
           let none : a.1 ≡ [] = nil_from_length a.1 (eqb-true (length a.1) 0 g.0) in
           let w : t ≡ f.front = f.whole ∙ ap (λ (v : Text). f.front ++ v) none ∙ append-nil f.front in
-          let made : Spells (36 ∷ f.front) (tree.query_from Root a.0) = is.spells (length t) f.front a.0 f.part in
+          let made : Spells (36 ∷ f.front) (tree.query_from Root a.0) = is.spells n f.front a.0 f.part in
           subst (λ (p : tree.Query). Spells (c ∷ t) p) g.1 (rw (m, w) made))
       | inr h ↦ absurd cc
     ]

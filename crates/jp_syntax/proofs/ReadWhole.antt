@@ -13,6 +13,7 @@ use Rattle.jp_syntax.specs.Spelling.{begins_with, is_composite, operator_text, j
 use Rattle.jp_syntax.specs.Reading.{Reader, Outcome, Turn, ◌>>=◌, skip, all_of, items_at, function_name_at, literal_at, mark_at, operator_at, calls, lone_literal_at, as_test, is_side, argument_of, next_part, segments_at, query_at, argument_at, arguments_at, call_at, operand_at, grouped_at, tested_at, plain_at, right_at, compared_at, basic_at, and_at, or_at, logical_at, read}
 use Rattle.jp_syntax.proofs.Fronts.{past_each, starts, Steps, all_whole, star_good}
 use Rattle.jp_syntax.proofs.Following.{differs, firm, firm_some, skip_behind, Meets, meets_behind, meets_firm, among_all, starts_wider, after_argument, after_logical, after_and, after_basic, after_side, basic_in_side, argument_in_side, argument_in_basic, argument_in_logical}
+use Rattle.jp_syntax.proofs.NotEmpty.{after_some}
 use Rattle.jp_syntax.proofs.LeavesRead.{function_whole, literal_whole, mark_whole}
 use Rattle.jp_syntax.proofs.Operands.{is_lead, leads, leads_firm, begins_front, literal_leads, literal_begins, operand_begins, leads_append, OperandIs, literal_operand, query_operand, call_operand, operand_of, side_fits, operand_leads, plain_leads, basic_leads, and_leads, or_leads, logical_leads}
 use Rattle.jp_syntax.proofs.LoneLiterals.{literal_calls_none, call_calls, lone_literal_whole, logical_alone}
@@ -254,9 +255,6 @@ module _ (inner : Reader tree.Logical) (Inner : Text → tree.Logical → Type 0
     part_end w [] h = refl
     part_end w (c ∷ s) h = rw (apart c h) refl
 
-    part_some : (s : Text) (x : tree.Logical) → After (mark ∷ mark ∷ []) Part s x → 0 < length s
-    part_some w y (after r s t x h b p) = omega (arith, length-append r (mark ∷ mark ∷ (s ++ t)))
-
     part_meets : (s : Text) (x : tree.Logical) (u : Text) → After (mark ∷ mark ∷ []) Part s x → Meets after_part (s ++ u)
     part_meets w y u (after r s t x hr hs q) =
         subst (Meets after_part) (sym (append_assoc r (mark ∷ mark ∷ (s ++ t)) u)) (meets_behind after_part r (mark ∷ mark ∷ ((s ++ t) ++ u)) hr (meets_firm after_part mark (mark ∷ ((s ++ t) ++ u)) no_blank goes_on))
@@ -272,7 +270,7 @@ module _ (inner : Reader tree.Logical) (Inner : Text → tree.Logical → Type 0
 
     part_steps : Steps part_turn (After (mark ∷ mark ∷ []) Part) (Meets after_part) (suc limit)
     part_steps = record {
-      some = λ s x p. part_some s x p;
+      some = λ s x p. after_some mark (mark ∷ []) Part s x p;
       good = λ s x u p g. part_meets s x u p;
       step = λ s x u p le g. (u, part_step s x u p le g, refl);
     }
@@ -310,13 +308,12 @@ logical_whole n zero s x u p le m = absurd p
 logical_whole zero (suc k) s x u p le m = let pos = firm_some s (leads_firm s (or_leads (LogicalIs k) s x p)) in absurd (omega arith)
 logical_whole (suc n) (suc k) s x u p le m = or_whole (logical_at n) (LogicalIs k) n (logical_leads k) (logical_alone k) (λ s x u p le m. logical_whole n k s x u p le m) s x u p le m
 
-read_is : (t : Text) (ss : List tree.Segment) → segments_at (logical_at (length t)) t ≡ Some (ss, []) → read (36 ∷ t) ≡ Some (tree.query_from Root ss)
+read_is : (n : ℕ) (t : Text) (ss : List tree.Segment) → segments_at (logical_at n) t ≡ Some (ss, []) → read n (36 ∷ t) ≡ Some (tree.query_from Root ss)
 unfolding read
-read_is t ss e = rw e refl
+read_is n t ss e = rw e refl
 
-pub read_whole : (t : Text) (q : tree.Query) → Spells t q → read t ≡ Some q
-read_whole w q (is.spells k t ss ps) =
-    let n : ℕ = length t in
+pub read_whole : (n : ℕ) (t : Text) (q : tree.Query) → length t ≤ n → Spells t q → read n t ≡ Some q
+read_whole n w q le (is.spells k t ss ps) =
     let firm_inside : (s : Text) (x : tree.Logical) → LogicalIs k s x → firm s ≡ true = λ s x p. leads_firm s (logical_leads k s x p) in
     let e = segments_whole (logical_at n) (LogicalIs k) n firm_inside (λ s x u p le m. logical_whole n k s x u p le m) t ss [] ps (omega arith) refl in
-    read_is t ss (ap (segments_at (logical_at n)) (sym (append-nil t)) ∙ e)
+    read_is n t ss (ap (segments_at (logical_at n)) (sym (append-nil t)) ∙ e)

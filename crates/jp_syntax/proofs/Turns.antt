@@ -1,33 +1,77 @@
 -- A loop whose each round is one turn.
-use Rattle.std.proofs.Common.{◌≡◌, ℕ, suc, ◌+◌, ◌-◌, ◌<◌, ◌≤◌, List, [], ◌∷◌, ◌++◌, Option, Some, None, refl, ap, ◌∙◌, arith}
+use Rattle.std.proofs.Common.{◌≡◌, ℕ, zero, suc, ◌+◌, ◌<◌, List, [], ◌∷◌, ◌++◌, length, Option, Some, None, refl, ap, ◌∙◌, arith, add-one, length-append}
 use Rattle.jp_syntax.specs.declared.fault.QueryFault.{QueryFault}
 use Rattle.jp_syntax.specs.declared.fault.QueryFault.TheVariants as faults
 use Rattle.jp_syntax.specs.Tree.{Text}
 use Rattle.jp_syntax.specs.Gives.{Fails}
-use Rattle.jp_syntax.specs.Reading.{Outcome, Turn, ◌>>=◌, goes_on, many}
+use Rattle.jp_syntax.specs.Reading.{Outcome, Turn, ◌>>=◌, goes_on, many, all_of}
+use Rattle.jp_syntax.proofs.Fronts.{Front, IsTurn}
 
-module _ {A : Type 0} (turn : Text → Turn A) (total : Outcome (List A)) (found : List A) (t : Text) where
-  one : (n i : ℕ) → i < n → total ≡ many turn (n - i) found t → total ≡ (turn t >>= λ p. goes_on (many turn (n - (i + 1))) found p.0 p.1)
+-- where a part is not read, the whole is not read
+pub still_fails : {X Y : Type 0} (e : QueryFault) (part : Option X) (whole : Option Y) → (part ≡ None → whole ≡ None) → Fails e part → Fails e whole
+still_fails faults.Memory part whole none h = tt
+still_fails faults.Syntax part whole none h = none h
+still_fails faults.TooDeep part whole none h = absurd h
+still_fails faults.Fraction part whole none h = absurd h
+still_fails faults.Range part whole none h = absurd h
+still_fails faults.IllTyped part whole none h = absurd h
+
+-- behind another item less is left to read
+pub record GetsOn {A : Type 0} (turn : Text → Turn A) : Type 0 where
+  pub shorter : (t : Text) (x : A) (rest : Text) → turn t ≡ Some (Some x, rest) → length rest < length t
+
+pub gets_on : {A : Type 0} (turn : Text → Turn A) (Part : Text → A → Type 0) (End : Text → Type 0)
+    → ((t : Text) (o : Option A) (rest : Text) → turn t ≡ Some (o, rest) → Front (IsTurn turn Part End) t o rest)
+    → ((s : Text) (x : A) → Part s x → 0 < length s) → GetsOn turn
+gets_on turn Part End sound some = record {
+  shorter = λ t x rest e.
+      let f = sound t (Some x) rest e in
+      let least = some f.front x f.part in
+      let sizes = ap length f.whole in
+      omega (arith, length-append f.front rest);
+}
+
+bind_same : {A B : Type 0} (o : Option A) (f g : A → Option B) → ((x : A) → o ≡ Some x → f x ≡ g x) → (o >>= f) ≡ (o >>= g)
+bind_same None f g h = refl
+bind_same (Some x) f g h = h x refl
+
+goes_same : {A : Type 0} (go ho : List A → Text → Outcome (List A)) (found : List A) (o : Option A) (t : Text) → ((x : A) → o ≡ Some x → go (found ++ x ∷ []) t ≡ ho (found ++ x ∷ []) t) → goes_on go found o t ≡ goes_on ho found o t
+goes_same go ho found None t h = refl
+goes_same go ho found (Some x) t h = h x refl
+
+module _ {A : Type 0} (turn : Text → Turn A) (on : GetsOn turn) where
+  -- more turns than there are characters are enough
+  enough : (n m : ℕ) (found : List A) (t : Text) → length t < n → length t < m → many turn n found t ≡ many turn m found t
   unfolding many
-  one n i lt e = let k : n - i ≡ suc (n - (i + 1)) = omega arith in e ∙ ap (λ (m : ℕ). many turn m found t) k
+  enough zero m found t h k = absurd (omega arith)
+  enough (suc n) zero found t h k = absurd (omega arith)
+  enough (suc n) (suc m) found t h k =
+      bind_same (turn t) (λ p. goes_on (many turn n) found p.0 p.1) (λ p. goes_on (many turn m) found p.0 p.1) (λ p e.
+      goes_same (many turn n) (many turn m) found p.0 p.1 (λ x is.
+      let less = on.shorter t x p.1 (e ∙ ap (λ (o : Option A). Some (o, p.1)) is) in
+      enough n m (found ++ x ∷ []) p.1 (omega arith) (omega arith)))
 
-  pub turn_fails : (e : QueryFault) (n i : ℕ) → i < n → total ≡ many turn (n - i) found t → Fails e (turn t) → Fails e total
-  turn_fails faults.Memory n i lt so h = tt
-  turn_fails faults.Syntax n i lt so h = one n i lt so ∙ rw h refl
-  turn_fails faults.TooDeep n i lt so h = absurd h
-  turn_fails faults.Fraction n i lt so h = absurd h
-  turn_fails faults.Range n i lt so h = absurd h
-  turn_fails faults.IllTyped n i lt so h = absurd h
+  one_turn : (found : List A) (t : Text) → many turn (suc (length t)) found t ≡ (turn t >>= λ p. goes_on (all_of turn) found p.0 p.1)
+  unfolding many all_of
+  one_turn found t =
+      bind_same (turn t) (λ p. goes_on (many turn (length t)) found p.0 p.1) (λ p. goes_on (all_of turn) found p.0 p.1) (λ p e.
+      goes_same (many turn (length t)) (all_of turn) found p.0 p.1 (λ x is.
+      let less = on.shorter t x p.1 (e ∙ ap (λ (o : Option A). Some (o, p.1)) is) in
+      enough (length t) (length p.1 + 1) (found ++ x ∷ []) p.1 (omega arith) (omega arith)))
 
-  pub turn_ends : (n i : ℕ) (o : Option A) (rest : Text) → i < n → total ≡ many turn (n - i) found t → turn t ≡ Some (o, rest) → o ≡ None → total ≡ Some (found, rest)
-  turn_ends n i o rest lt so h k = one n i lt so ∙ rw (h, k) refl
+  all_turn : (found : List A) (t : Text) → all_of turn found t ≡ (turn t >>= λ p. goes_on (all_of turn) found p.0 p.1)
+  unfolding all_of
+  all_turn found t = ap (λ (n : ℕ). many turn n found t) (add-one (length t)) ∙ one_turn found t
 
-  pub turn_goes : (n i : ℕ) (o : Option A) (x : A) (rest : Text) → i < n → total ≡ many turn (n - i) found t → turn t ≡ Some (o, rest) → o ≡ Some x → total ≡ many turn (n - (i + 1)) (found ++ x ∷ []) rest
-  turn_goes n i o x rest lt so h k = one n i lt so ∙ rw (h, k) refl
+  module _ (total : Outcome (List A)) (found : List A) (t : Text) (so : total ≡ all_of turn found t) where
+    pub turn_fails : (e : QueryFault) → Fails e (turn t) → Fails e total
+    turn_fails e h = still_fails e (turn t) total (λ none. so ∙ all_turn found t ∙ rw none refl) h
 
-  pub turns_over : (n i : ℕ) → n ≤ i → total ≡ many turn (n - i) found t → total ≡ None
-  unfolding many
-  turns_over n i le so = let k : n - i ≡ 0 = omega arith in so ∙ rw k refl
+    pub turn_ends : (o : Option A) (rest : Text) → turn t ≡ Some (o, rest) → o ≡ None → total ≡ Some (found, rest)
+    turn_ends o rest h k = so ∙ all_turn found t ∙ rw (h, k) refl
 
-  pub turns_begin : (n : ℕ) → total ≡ many turn n found t → total ≡ many turn (n - 0) found t
-  turns_begin n so = let k : n ≡ n - 0 = omega arith in so ∙ ap (λ (m : ℕ). many turn m found t) k
+    pub turn_goes : (o : Option A) (x : A) (rest : Text) → turn t ≡ Some (o, rest) → o ≡ Some x → total ≡ all_of turn (found ++ x ∷ []) rest
+    turn_goes o x rest h k = so ∙ all_turn found t ∙ rw (h, k) refl
+
+  pub turn_shortens : (t : Text) (o : Option A) (x : A) (rest : Text) → turn t ≡ Some (o, rest) → o ≡ Some x → length rest < length t
+  turn_shortens t o x rest h k = on.shorter t x rest (h ∙ ap (λ (p : Option A). Some (p, rest)) k)

@@ -1,6 +1,6 @@
 -- Reading from left to right: what stands at the front of a text, and the rest behind it.
 -- `None` says that no front of the text is what is read.
-use Rattle.std.specs.Prelude.{ℕ, zero, suc, ◌+◌, Bool, true, false, ◌||◌, ◌&&◌, ◌==◌, if◌then◌else◌, List, [], ◌∷◌, ◌++◌, length, Option, Some, None, option_and_then, is_none, bytes_eq, codes}
+use Rattle.std.specs.Prelude.{ℕ, zero, suc, ◌+◌, Bool, true, false, not, ◌||◌, ◌&&◌, ◌==◌, if◌then◌else◌, List, [], ◌∷◌, ◌++◌, length, Option, Some, None, option_and_then, option_map, is_none, bytes_eq, codes}
 use Rattle.jp_syntax.specs.declared.tree.Start.TheVariants.{Root, Current}
 use Rattle.jp_syntax.specs.declared.tree.Operator.{Operator}
 use Rattle.jp_syntax.specs.declared.tree.Operator.TheVariants as op
@@ -17,6 +17,10 @@ Outcome A = Option (A × Text)
 
 abbrev pub Reader : Type 0 → Type 0
 Reader A = Text → Outcome A
+
+-- the rest alone
+abbrev pub behind : {A : Type 0} → Outcome A → Option Text
+behind o = option_map (λ r. r.1) o
 
 infixl 10 ◌>>=◌
 abbrev pub ◌>>=◌ : {A B : Type 0} → Option A → (A → Option B) → Option B
@@ -253,6 +257,11 @@ abbrev pub calls : Text → Bool
 calls [] = false
 calls (c ∷ t) = is_lower c && begins_with 40 (past is_function_character t)
 
+-- whether a literal begins here
+abbrev pub begins_literal : Text → Bool
+begins_literal [] = false
+begins_literal (c ∷ t) = is_quote c || begins_int (c ∷ t) || (is_lower c && not (calls (c ∷ t)))
+
 -- a literal that is no side of a comparison
 unfoldable pub lone_literal_at : Reader tree.Literal
 lone_literal_at t =
@@ -401,29 +410,43 @@ module _ (inner : Reader tree.Logical) where
   abbrev pub next_basic : Text → Text → Turn tree.Logical
   next_basic whole t = next_part 38 basic_at whole t
 
-  unfoldable pub and_at : Reader tree.Logical
-  and_at t =
-      basic_at t >>= λ first.
-      all_of (λ u. next_basic u (skip u)) (first.0 ∷ []) first.1 >>= λ parts.
+  -- behind the first part
+  abbrev pub and_behind : tree.Logical → Reader tree.Logical
+  and_behind first t =
+      all_of (λ u. next_basic u (skip u)) (first ∷ []) t >>= λ parts.
       Some (joined tree.all parts.0, parts.1)
+
+  unfoldable pub and_at : Reader tree.Logical
+  and_at t = basic_at t >>= λ first. and_behind first.0 first.1
 
   abbrev pub next_and : Text → Text → Turn tree.Logical
   next_and whole t = next_part 124 and_at whole t
 
-  unfoldable pub or_at : Reader tree.Logical
-  or_at t =
-      and_at t >>= λ first.
-      all_of (λ u. next_and u (skip u)) (first.0 ∷ []) first.1 >>= λ parts.
+  -- behind the first part
+  abbrev pub or_behind : tree.Logical → Reader tree.Logical
+  or_behind first t =
+      all_of (λ u. next_and u (skip u)) (first ∷ []) t >>= λ parts.
       Some (joined tree.any parts.0, parts.1)
+
+  unfoldable pub or_at : Reader tree.Logical
+  or_at t = and_at t >>= λ first. or_behind first.0 first.1
 
 -- a logical expression in which logical expressions stand inside each other at most so many deep
 unfoldable pub logical_at : ℕ → Reader tree.Logical
 logical_at zero t = None
 logical_at (suc n) t = or_at (logical_at n) t
 
--- the whole text
-unfoldable pub read : Text → Option tree.Query
-read [] = None
-read (c ∷ t) =
-    if c == 36 then (segments_at (logical_at (length t)) t >>= λ r. if length r.1 == 0 then Some (tree.query_from Root r.0) else None)
+-- behind the left side of a comparison, which begins such an expression, and its operator
+unfoldable pub compared_behind : ℕ → tree.Comparable → Operator → Reader tree.Logical
+compared_behind zero left o t = None
+compared_behind (suc n) left o t =
+    right_at (logical_at n) left o t >>= λ basic.
+    and_behind (logical_at n) basic.0 basic.1 >>= λ part.
+    or_behind (logical_at n) part.0 part.1
+
+-- the whole text, in which logical expressions stand inside each other at most so many deep
+unfoldable pub read : ℕ → Text → Option tree.Query
+read n [] = None
+read n (c ∷ t) =
+    if c == 36 then (segments_at (logical_at n) t >>= λ r. if length r.1 == 0 then Some (tree.query_from Root r.0) else None)
     else None

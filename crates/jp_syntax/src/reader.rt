@@ -1,9 +1,9 @@
 //! Reading a query text from left to right, by recursive descent.
 //!
-//! Each function reads one part of the grammar at the front of the characters, and gives it and the rest.
+//! Each function reads one part of the grammar at the front of the text, and gives it and the rest.
 //! `left` bounds how deep logical expressions stand inside each other.
 
-ghost use Rattle.std.specs.Prelude.{◌≡◌, ◌<◌, ◌⊎◌, ◌↔◌, option_map, IfOk, IfErr, IsErrOf};
+ghost use Rattle.std.specs.Prelude.{◌≡◌, ◌<◌, ◌⊎◌, ◌↔◌, length, option_map, IfOk, IfErr, IsErrOf};
 ghost use Rattle.jp_syntax.specs.Reading as reading;
 ghost use Rattle.jp_syntax.specs.Tree as tree;
 ghost use Rattle.jp_syntax.specs.View.{query_of};
@@ -21,29 +21,29 @@ use crate::made::{
     one_argument, one_logical, one_selector, push_argument, push_logical, push_segment,
     push_selector, query_from, query_side, segment_from, wildcard,
 };
-use crate::parts::{calls, literal_at, lone_literal_at, named_at, numbers_at, operator_at};
+use crate::parts::{begins_literal, calls, literal_at, named_at, numbers_at, operator_at};
 use crate::strings::string_at;
-use crate::text::{begins_with, function_name_at, is_quote, mark_at, skip, text_from};
+use crate::text::{begins_with, first_character, function_name_at, is_quote, mark_at, skip};
 use crate::tree::{Argument, Call, Comparable, Logical, Operator, Query, Segment, Selector, Start};
-use std::alloc::{AllocError, Global};
+use std::alloc::Global;
 
 #[cycle(reader)]
 #[tactic(auto, unfolding(crate::specs::Reading::selector_at))]
-fn selector_at(alloc: Global, left: usize, text: &[char]) -> Result<(Selector, &[char]), QueryFault>
-    ensures { Gives (λ x. (selector_of x.0, x.1.now)) result (reading.selector_at (reading.logical_at left) text.now) }
+fn selector_at(alloc: Global, left: usize, text: &str) -> Result<(Selector, &str), QueryFault>
+    ensures { Gives (λ x. (selector_of x.0, chars x.1.now)) result (reading.selector_at (reading.logical_at left) (chars text.now)) }
 {
-    match text {
-        [] => Err(QueryFault::Syntax),
-        [c, more @ ..] if is_quote(*c) => {
-            let (name, rest) = string_at(alloc, *c, more)?;
+    match first_character(text) {
+        None => Err(QueryFault::Syntax),
+        Some((c, more)) if is_quote(c) => {
+            let (name, rest) = string_at(alloc, c, more)?;
             Ok((name_selector(name), rest))
         }
-        ['*', rest @ ..] => Ok((wildcard(), rest)),
-        ['?', more @ ..] => {
+        Some(('*', rest)) => Ok((wildcard(), rest)),
+        Some(('?', more)) => {
             let (logical, rest) = logical_at(alloc, left, skip(more))?;
             Ok((filter_selector(logical), rest))
         }
-        [_, ..] => numbers_at(alloc, text),
+        Some(_) => numbers_at(alloc, text),
     }
 }
 
@@ -53,16 +53,16 @@ fn selector_at(alloc: Global, left: usize, text: &[char]) -> Result<(Selector, &
 fn next_selector(
     alloc: Global,
     left: usize,
-    text: &[char],
-) -> Result<(Option<Selector>, &[char]), QueryFault>
-    ensures { Gives (λ x. (option_map selector_of x.0, x.1.now)) result (reading.next_item 93 (reading.selector_at (reading.logical_at left)) text.now) }
+    text: &str,
+) -> Result<(Option<Selector>, &str), QueryFault>
+    ensures { Gives (λ x. (option_map selector_of x.0, chars x.1.now)) result (reading.next_item 93 (reading.selector_at (reading.logical_at left)) (chars text.now)) }
 {
-    match text {
-        [',', more @ ..] => {
+    match first_character(text) {
+        Some((',', more)) => {
             let (selector, rest) = selector_at(alloc, left, skip(more))?;
             Ok((Some(selector), rest))
         }
-        [']', rest @ ..] => Ok((None, rest)),
+        Some((']', rest)) => Ok((None, rest)),
         _ => Err(QueryFault::Syntax),
     }
 }
@@ -73,12 +73,12 @@ fn selectors_from(
     alloc: Global,
     left: usize,
     mut found: Vec<Selector>,
-    text: &[char],
-) -> Result<(Vec<Selector>, &[char]), QueryFault>
-    ensures { Gives (λ x. (selectors_of x.0.items, x.1.now)) result (reading.all_of (λ u. reading.next_item 93 (reading.selector_at (reading.logical_at left)) (reading.skip u)) (selectors_of found.items) text.now) }
+    text: &str,
+) -> Result<(Vec<Selector>, &str), QueryFault>
+    ensures { Gives (λ x. (selectors_of x.0.items, chars x.1.now)) result (reading.all_of (λ u. reading.next_item 93 (reading.selector_at (reading.logical_at left)) (reading.skip u)) (selectors_of found.items) (chars text.now)) }
 {
     let mut rest = text;
-    for _turn in 0..text.len() + 1 {
+    loop {
         let (next, after) = next_selector(alloc, left, skip(rest))?;
         rest = after;
         match next {
@@ -86,18 +86,13 @@ fn selectors_from(
             Some(item) => push_selector(&mut found, item)?,
         }
     }
-    Err(QueryFault::Syntax)
 }
 
 /// Behind `[`.
 #[cycle(reader)]
 #[tactic(auto, unfolding(crate::specs::Reading::items_at))]
-fn bracketed_at(
-    alloc: Global,
-    left: usize,
-    text: &[char],
-) -> Result<(Vec<Selector>, &[char]), QueryFault>
-    ensures { Gives (λ x. (selectors_of x.0.items, x.1.now)) result (reading.bracketed_at (reading.logical_at left) text.now) }
+fn bracketed_at(alloc: Global, left: usize, text: &str) -> Result<(Vec<Selector>, &str), QueryFault>
+    ensures { Gives (λ x. (selectors_of x.0.items, chars x.1.now)) result (reading.bracketed_at (reading.logical_at left) (chars text.now)) }
 {
     let (first, rest) = selector_at(alloc, left, skip(text))?;
     selectors_from(alloc, left, one_selector(alloc, first)?, rest)
@@ -106,33 +101,29 @@ fn bracketed_at(
 /// Behind `..`.
 #[cycle(reader)]
 #[tactic(auto, unfolding(crate::specs::Reading::descendant_at))]
-fn descendant_at(
-    alloc: Global,
-    left: usize,
-    text: &[char],
-) -> Result<(Segment, &[char]), QueryFault>
-    ensures { Gives (λ x. (segment_of x.0, x.1.now)) result (reading.descendant_at (reading.logical_at left) text.now) }
+fn descendant_at(alloc: Global, left: usize, text: &str) -> Result<(Segment, &str), QueryFault>
+    ensures { Gives (λ x. (segment_of x.0, chars x.1.now)) result (reading.descendant_at (reading.logical_at left) (chars text.now)) }
 {
-    match text {
-        [] => Err(QueryFault::Syntax),
-        ['[', more @ ..] => {
+    match first_character(text) {
+        None => Err(QueryFault::Syntax),
+        Some(('[', more)) => {
             let (selectors, rest) = bracketed_at(alloc, left, more)?;
             Ok((segment_from(true, selectors), rest))
         }
-        [_, ..] => named_at(alloc, true, text),
+        Some(_) => named_at(alloc, true, text),
     }
 }
 
 /// Behind `.`.
 #[cycle(reader)]
 #[tactic(auto, unfolding(crate::specs::Reading::dotted_at))]
-fn dotted_at(alloc: Global, left: usize, text: &[char]) -> Result<(Segment, &[char]), QueryFault>
-    ensures { Gives (λ x. (segment_of x.0, x.1.now)) result (reading.dotted_at (reading.logical_at left) text.now) }
+fn dotted_at(alloc: Global, left: usize, text: &str) -> Result<(Segment, &str), QueryFault>
+    ensures { Gives (λ x. (segment_of x.0, chars x.1.now)) result (reading.dotted_at (reading.logical_at left) (chars text.now)) }
 {
-    match text {
-        [] => Err(QueryFault::Syntax),
-        ['.', more @ ..] => descendant_at(alloc, left, more),
-        [_, ..] => named_at(alloc, false, text),
+    match first_character(text) {
+        None => Err(QueryFault::Syntax),
+        Some(('.', more)) => descendant_at(alloc, left, more),
+        Some(_) => named_at(alloc, false, text),
     }
 }
 
@@ -142,17 +133,17 @@ fn dotted_at(alloc: Global, left: usize, text: &[char]) -> Result<(Segment, &[ch
 fn segment_behind<'a>(
     alloc: Global,
     left: usize,
-    whole: &'a [char],
-    text: &'a [char],
-) -> Result<(Option<Segment>, &'a [char]), QueryFault>
-    ensures { Gives (λ x. (option_map segment_of x.0, x.1.now)) result (reading.segment_behind (reading.logical_at left) whole.now text.now) }
+    whole: &'a str,
+    text: &'a str,
+) -> Result<(Option<Segment>, &'a str), QueryFault>
+    ensures { Gives (λ x. (option_map segment_of x.0, chars x.1.now)) result (reading.segment_behind (reading.logical_at left) (chars whole.now) (chars text.now)) }
 {
-    match text {
-        ['.', more @ ..] => {
+    match first_character(text) {
+        Some(('.', more)) => {
             let (segment, rest) = dotted_at(alloc, left, more)?;
             Ok((Some(segment), rest))
         }
-        ['[', more @ ..] => {
+        Some(('[', more)) => {
             let (selectors, rest) = bracketed_at(alloc, left, more)?;
             Ok((Some(segment_from(false, selectors)), rest))
         }
@@ -166,12 +157,12 @@ fn segments_from(
     alloc: Global,
     left: usize,
     mut found: Vec<Segment>,
-    text: &[char],
-) -> Result<(Vec<Segment>, &[char]), QueryFault>
-    ensures { Gives (λ x. (segments_of x.0.items, x.1.now)) result (reading.all_of (λ u. reading.segment_behind (reading.logical_at left) u (reading.skip u)) (segments_of found.items) text.now) }
+    text: &str,
+) -> Result<(Vec<Segment>, &str), QueryFault>
+    ensures { Gives (λ x. (segments_of x.0.items, chars x.1.now)) result (reading.all_of (λ u. reading.segment_behind (reading.logical_at left) u (reading.skip u)) (segments_of found.items) (chars text.now)) }
 {
     let mut rest = text;
-    for _turn in 0..text.len() + 1 {
+    loop {
         let (next, after) = segment_behind(alloc, left, rest, skip(rest))?;
         rest = after;
         match next {
@@ -179,31 +170,26 @@ fn segments_from(
             Some(item) => push_segment(&mut found, item)?,
         }
     }
-    Err(QueryFault::Syntax)
 }
 
 #[cycle(reader)]
-fn segments_at(
-    alloc: Global,
-    left: usize,
-    text: &[char],
-) -> Result<(Vec<Segment>, &[char]), QueryFault>
-    ensures { Gives (λ x. (segments_of x.0.items, x.1.now)) result (reading.segments_at (reading.logical_at left) text.now) }
+fn segments_at(alloc: Global, left: usize, text: &str) -> Result<(Vec<Segment>, &str), QueryFault>
+    ensures { Gives (λ x. (segments_of x.0.items, chars x.1.now)) result (reading.segments_at (reading.logical_at left) (chars text.now)) }
 {
     segments_from(alloc, left, Vec::new(alloc), text)
 }
 
 #[cycle(reader)]
 #[tactic(auto, unfolding(crate::specs::Reading::query_at))]
-fn query_at(alloc: Global, left: usize, text: &[char]) -> Result<(Query, &[char]), QueryFault>
-    ensures { Gives (λ x. (query_of x.0, x.1.now)) result (reading.query_at (reading.logical_at left) text.now) }
+fn query_at(alloc: Global, left: usize, text: &str) -> Result<(Query, &str), QueryFault>
+    ensures { Gives (λ x. (query_of x.0, chars x.1.now)) result (reading.query_at (reading.logical_at left) (chars text.now)) }
 {
-    match text {
-        ['$', more @ ..] => {
+    match first_character(text) {
+        Some(('$', more)) => {
             let (segments, rest) = segments_at(alloc, left, more)?;
             Ok((query_from(Start::Root, segments), rest))
         }
-        ['@', more @ ..] => {
+        Some(('@', more)) => {
             let (segments, rest) = segments_at(alloc, left, more)?;
             Ok((query_from(Start::Current, segments), rest))
         }
@@ -212,18 +198,20 @@ fn query_at(alloc: Global, left: usize, text: &[char]) -> Result<(Query, &[char]
 }
 
 #[cycle(reader)]
-#[tactic(auto, unfolding(crate::specs::Reading::argument_at))]
-fn argument_at(alloc: Global, left: usize, text: &[char]) -> Result<(Argument, &[char]), QueryFault>
-    ensures { Gives (λ x. (argument_of x.0, x.1.now)) result (reading.argument_at (reading.logical_at left) text.now) }
+fn argument_at(alloc: Global, left: usize, text: &str) -> Result<(Argument, &str), QueryFault>
+    ensures { Gives (λ x. (argument_of x.0, chars x.1.now)) result (reading.argument_at (reading.logical_at left) (chars text.now)) }
 {
-    match lone_literal_at(alloc, text) {
-        Ok((literal, rest)) => Ok((literal_argument(literal), rest)),
-        Err(QueryFault::Syntax) => {
-            let (logical, rest) = logical_at(alloc, left, text)?;
-            Ok((argument_from(begins_with('(', text), logical), rest))
+    if !begins_literal(text) {
+        let (logical, rest) = logical_at(alloc, left, text)?;
+        return Ok((argument_from(begins_with('(', text), logical), rest));
+    }
+    let (literal, rest) = literal_at(alloc, text)?;
+    match operator_at(skip(rest)) {
+        None => Ok((literal_argument(literal), rest)),
+        Some((op, after)) => {
+            let (logical, rest) = compared_behind(alloc, left, literal_side(literal), op, after)?;
+            Ok((argument_from(false, logical), rest))
         }
-        // No other fault comes from a literal.
-        Err(_) => Err(QueryFault::Memory),
     }
 }
 
@@ -233,16 +221,16 @@ fn argument_at(alloc: Global, left: usize, text: &[char]) -> Result<(Argument, &
 fn next_argument(
     alloc: Global,
     left: usize,
-    text: &[char],
-) -> Result<(Option<Argument>, &[char]), QueryFault>
-    ensures { Gives (λ x. (option_map argument_of x.0, x.1.now)) result (reading.next_item 41 (reading.argument_at (reading.logical_at left)) text.now) }
+    text: &str,
+) -> Result<(Option<Argument>, &str), QueryFault>
+    ensures { Gives (λ x. (option_map argument_of x.0, chars x.1.now)) result (reading.next_item 41 (reading.argument_at (reading.logical_at left)) (chars text.now)) }
 {
-    match text {
-        [',', more @ ..] => {
+    match first_character(text) {
+        Some((',', more)) => {
             let (argument, rest) = argument_at(alloc, left, skip(more))?;
             Ok((Some(argument), rest))
         }
-        [')', rest @ ..] => Ok((None, rest)),
+        Some((')', rest)) => Ok((None, rest)),
         _ => Err(QueryFault::Syntax),
     }
 }
@@ -253,12 +241,12 @@ fn arguments_from(
     alloc: Global,
     left: usize,
     mut found: Vec<Argument>,
-    text: &[char],
-) -> Result<(Vec<Argument>, &[char]), QueryFault>
-    ensures { Gives (λ x. (arguments_of x.0.items, x.1.now)) result (reading.all_of (λ u. reading.next_item 41 (reading.argument_at (reading.logical_at left)) (reading.skip u)) (arguments_of found.items) text.now) }
+    text: &str,
+) -> Result<(Vec<Argument>, &str), QueryFault>
+    ensures { Gives (λ x. (arguments_of x.0.items, chars x.1.now)) result (reading.all_of (λ u. reading.next_item 41 (reading.argument_at (reading.logical_at left)) (reading.skip u)) (arguments_of found.items) (chars text.now)) }
 {
     let mut rest = text;
-    for _turn in 0..text.len() + 1 {
+    loop {
         let (next, after) = next_argument(alloc, left, skip(rest))?;
         rest = after;
         match next {
@@ -266,7 +254,6 @@ fn arguments_from(
             Some(item) => push_argument(&mut found, item)?,
         }
     }
-    Err(QueryFault::Syntax)
 }
 
 /// One argument or more.
@@ -275,9 +262,9 @@ fn arguments_from(
 fn argument_items(
     alloc: Global,
     left: usize,
-    text: &[char],
-) -> Result<(Vec<Argument>, &[char]), QueryFault>
-    ensures { Gives (λ x. (arguments_of x.0.items, x.1.now)) result (reading.items_at 41 (reading.argument_at (reading.logical_at left)) text.now) }
+    text: &str,
+) -> Result<(Vec<Argument>, &str), QueryFault>
+    ensures { Gives (λ x. (arguments_of x.0.items, chars x.1.now)) result (reading.items_at 41 (reading.argument_at (reading.logical_at left)) (chars text.now)) }
 {
     let (first, rest) = argument_at(alloc, left, text)?;
     arguments_from(alloc, left, one_argument(alloc, first)?, rest)
@@ -286,48 +273,40 @@ fn argument_items(
 /// Behind `(` and blanks.
 #[cycle(reader)]
 #[tactic(auto, unfolding(crate::specs::Reading::arguments_at))]
-fn arguments_at(
-    alloc: Global,
-    left: usize,
-    text: &[char],
-) -> Result<(Vec<Argument>, &[char]), QueryFault>
-    ensures { Gives (λ x. (arguments_of x.0.items, x.1.now)) result (reading.arguments_at (reading.logical_at left) text.now) }
+fn arguments_at(alloc: Global, left: usize, text: &str) -> Result<(Vec<Argument>, &str), QueryFault>
+    ensures { Gives (λ x. (arguments_of x.0.items, chars x.1.now)) result (reading.arguments_at (reading.logical_at left) (chars text.now)) }
 {
-    match text {
-        [] => Err(QueryFault::Syntax),
-        [')', rest @ ..] => Ok((Vec::new(alloc), rest)),
-        [_, ..] => argument_items(alloc, left, text),
+    match first_character(text) {
+        None => Err(QueryFault::Syntax),
+        Some((')', rest)) => Ok((Vec::new(alloc), rest)),
+        Some(_) => argument_items(alloc, left, text),
     }
 }
 
 #[cycle(reader)]
 #[tactic(auto, unfolding(crate::specs::Reading::call_at))]
-fn call_at(alloc: Global, left: usize, text: &[char]) -> Result<(Call, &[char]), QueryFault>
-    ensures { Gives (λ x. (call_of x.0, x.1.now)) result (reading.call_at (reading.logical_at left) text.now) }
+fn call_at(alloc: Global, left: usize, text: &str) -> Result<(Call, &str), QueryFault>
+    ensures { Gives (λ x. (call_of x.0, chars x.1.now)) result (reading.call_at (reading.logical_at left) (chars text.now)) }
 {
     let (name, rest) = function_name_at(text)?;
     let inside = mark_at('(', rest)?;
     let (arguments, rest) = arguments_at(alloc, left, skip(inside))?;
-    Ok((call_from(text_from(alloc, name)?, arguments), rest))
+    Ok((call_from(String::from_str(alloc, name)?, arguments), rest))
 }
 
 /// A literal, a query or a call.
 #[cycle(reader)]
 #[tactic(auto, unfolding(crate::specs::Reading::operand_at))]
-fn operand_at(
-    alloc: Global,
-    left: usize,
-    text: &[char],
-) -> Result<(Comparable, &[char]), QueryFault>
-    ensures { Gives (λ x. (comparable_of x.0, x.1.now)) result (reading.operand_at (reading.logical_at left) text.now) }
+fn operand_at(alloc: Global, left: usize, text: &str) -> Result<(Comparable, &str), QueryFault>
+    ensures { Gives (λ x. (comparable_of x.0, chars x.1.now)) result (reading.operand_at (reading.logical_at left) (chars text.now)) }
 {
-    match text {
-        [] => Err(QueryFault::Syntax),
-        ['$' | '@', ..] => {
+    match first_character(text) {
+        None => Err(QueryFault::Syntax),
+        Some(('$' | '@', _)) => {
             let (query, rest) = query_at(alloc, left, text)?;
             Ok((query_side(query), rest))
         }
-        [_, ..] => {
+        Some(_) => {
             if calls(text) {
                 let (call, rest) = call_at(alloc, left, text)?;
                 Ok((call_side(call), rest))
@@ -342,8 +321,8 @@ fn operand_at(
 /// Behind `(`.
 #[cycle(reader)]
 #[tactic(auto, unfolding(crate::specs::Reading::grouped_at))]
-fn grouped_at(alloc: Global, left: usize, text: &[char]) -> Result<(Logical, &[char]), QueryFault>
-    ensures { Gives (λ x. (logical_of x.0, x.1.now)) result (reading.grouped_at (reading.logical_at left) text.now) }
+fn grouped_at(alloc: Global, left: usize, text: &str) -> Result<(Logical, &str), QueryFault>
+    ensures { Gives (λ x. (logical_of x.0, chars x.1.now)) result (reading.grouped_at (reading.logical_at left) (chars text.now)) }
 {
     let (inside, rest) = logical_at(alloc, left, skip(text))?;
     let rest = mark_at(')', skip(rest))?;
@@ -352,8 +331,8 @@ fn grouped_at(alloc: Global, left: usize, text: &[char]) -> Result<(Logical, &[c
 
 /// A side by itself.
 #[tactic(auto, unfolding(crate::specs::Reading::tested_at))]
-fn tested_at(side: Comparable, text: &[char]) -> Result<(Logical, &[char]), QueryFault>
-    ensures { Gives (λ x. (logical_of x.0, x.1.now)) result (reading.tested_at (comparable_of side) text.now) }
+fn tested_at(side: Comparable, text: &str) -> Result<(Logical, &str), QueryFault>
+    ensures { Gives (λ x. (logical_of x.0, chars x.1.now)) result (reading.tested_at (comparable_of side) (chars text.now)) }
 {
     match as_test(side) {
         Some(logical) => Ok((logical, text)),
@@ -363,13 +342,13 @@ fn tested_at(side: Comparable, text: &[char]) -> Result<(Logical, &[char]), Quer
 
 #[cycle(reader)]
 #[tactic(auto, unfolding(crate::specs::Reading::plain_at))]
-fn plain_at(alloc: Global, left: usize, text: &[char]) -> Result<(Logical, &[char]), QueryFault>
-    ensures { Gives (λ x. (logical_of x.0, x.1.now)) result (reading.plain_at (reading.logical_at left) text.now) }
+fn plain_at(alloc: Global, left: usize, text: &str) -> Result<(Logical, &str), QueryFault>
+    ensures { Gives (λ x. (logical_of x.0, chars x.1.now)) result (reading.plain_at (reading.logical_at left) (chars text.now)) }
 {
-    match text {
-        [] => Err(QueryFault::Syntax),
-        ['(', more @ ..] => grouped_at(alloc, left, more),
-        [_, ..] => {
+    match first_character(text) {
+        None => Err(QueryFault::Syntax),
+        Some(('(', more)) => grouped_at(alloc, left, more),
+        Some(_) => {
             let (side, rest) = operand_at(alloc, left, text)?;
             tested_at(side, rest)
         }
@@ -384,9 +363,9 @@ fn right_at(
     left: usize,
     side: Comparable,
     op: Operator,
-    text: &[char],
-) -> Result<(Logical, &[char]), QueryFault>
-    ensures { Gives (λ x. (logical_of x.0, x.1.now)) result (reading.right_at (reading.logical_at left) (comparable_of side) op text.now) }
+    text: &str,
+) -> Result<(Logical, &str), QueryFault>
+    ensures { Gives (λ x. (logical_of x.0, chars x.1.now)) result (reading.right_at (reading.logical_at left) (comparable_of side) op (chars text.now)) }
 {
     let (right, rest) = operand_at(alloc, left, skip(text))?;
     if is_side(&side) && is_side(&right) {
@@ -398,17 +377,17 @@ fn right_at(
 
 #[cycle(reader)]
 #[tactic(auto, unfolding(crate::specs::Reading::basic_at))]
-fn basic_at(alloc: Global, left: usize, text: &[char]) -> Result<(Logical, &[char]), QueryFault>
-    ensures { Gives (λ x. (logical_of x.0, x.1.now)) result (reading.basic_at (reading.logical_at left) text.now) }
+fn basic_at(alloc: Global, left: usize, text: &str) -> Result<(Logical, &str), QueryFault>
+    ensures { Gives (λ x. (logical_of x.0, chars x.1.now)) result (reading.basic_at (reading.logical_at left) (chars text.now)) }
 {
-    match text {
-        [] => Err(QueryFault::Syntax),
-        ['!', more @ ..] => {
+    match first_character(text) {
+        None => Err(QueryFault::Syntax),
+        Some(('!', more)) => {
             let (logical, rest) = plain_at(alloc, left, skip(more))?;
             Ok((negation(alloc, logical)?, rest))
         }
-        ['(', more @ ..] => grouped_at(alloc, left, more),
-        [_, ..] => {
+        Some(('(', more)) => grouped_at(alloc, left, more),
+        Some(_) => {
             let (side, rest) = operand_at(alloc, left, text)?;
             match operator_at(skip(rest)) {
                 None => tested_at(side, rest),
@@ -424,13 +403,13 @@ fn basic_at(alloc: Global, left: usize, text: &[char]) -> Result<(Logical, &[cha
 fn next_basic<'a>(
     alloc: Global,
     left: usize,
-    whole: &'a [char],
-    text: &'a [char],
-) -> Result<(Option<Logical>, &'a [char]), QueryFault>
-    ensures { Gives (λ x. (option_map logical_of x.0, x.1.now)) result (reading.next_basic (reading.logical_at left) whole.now text.now) }
+    whole: &'a str,
+    text: &'a str,
+) -> Result<(Option<Logical>, &'a str), QueryFault>
+    ensures { Gives (λ x. (option_map logical_of x.0, chars x.1.now)) result (reading.next_basic (reading.logical_at left) (chars whole.now) (chars text.now)) }
 {
-    match text {
-        ['&', more @ ..] => {
+    match first_character(text) {
+        Some(('&', more)) => {
             let (logical, rest) = basic_at(alloc, left, skip(mark_at('&', more)?))?;
             Ok((Some(logical), rest))
         }
@@ -444,12 +423,12 @@ fn basics_from(
     alloc: Global,
     left: usize,
     mut found: Vec<Logical>,
-    text: &[char],
-) -> Result<(Vec<Logical>, &[char]), QueryFault>
-    ensures { Gives (λ x. (logicals_of x.0.items, x.1.now)) result (reading.all_of (λ u. reading.next_basic (reading.logical_at left) u (reading.skip u)) (logicals_of found.items) text.now) }
+    text: &str,
+) -> Result<(Vec<Logical>, &str), QueryFault>
+    ensures { Gives (λ x. (logicals_of x.0.items, chars x.1.now)) result (reading.all_of (λ u. reading.next_basic (reading.logical_at left) u (reading.skip u)) (logicals_of found.items) (chars text.now)) }
 {
     let mut rest = text;
-    for _turn in 0..text.len() + 1 {
+    loop {
         let (next, after) = next_basic(alloc, left, rest, skip(rest))?;
         rest = after;
         match next {
@@ -457,17 +436,29 @@ fn basics_from(
             Some(item) => push_logical(&mut found, item)?,
         }
     }
-    Err(QueryFault::Syntax)
+}
+
+/// Behind the first part of `&&`.
+#[cycle(reader)]
+fn and_behind(
+    alloc: Global,
+    left: usize,
+    first: Logical,
+    text: &str,
+) -> Result<(Logical, &str), QueryFault>
+    ensures { Gives (λ x. (logical_of x.0, chars x.1.now)) result (reading.and_behind (reading.logical_at left) (logical_of first) (chars text.now)) }
+{
+    let (parts, rest) = basics_from(alloc, left, one_logical(alloc, first)?, text)?;
+    Ok((joined_all(parts), rest))
 }
 
 #[cycle(reader)]
 #[tactic(auto, unfolding(crate::specs::Reading::and_at))]
-fn and_at(alloc: Global, left: usize, text: &[char]) -> Result<(Logical, &[char]), QueryFault>
-    ensures { Gives (λ x. (logical_of x.0, x.1.now)) result (reading.and_at (reading.logical_at left) text.now) }
+fn and_at(alloc: Global, left: usize, text: &str) -> Result<(Logical, &str), QueryFault>
+    ensures { Gives (λ x. (logical_of x.0, chars x.1.now)) result (reading.and_at (reading.logical_at left) (chars text.now)) }
 {
     let (first, rest) = basic_at(alloc, left, text)?;
-    let (parts, rest) = basics_from(alloc, left, one_logical(alloc, first)?, rest)?;
-    Ok((joined_all(parts), rest))
+    and_behind(alloc, left, first, rest)
 }
 
 /// Another part, or the end, before the blanks.
@@ -476,13 +467,13 @@ fn and_at(alloc: Global, left: usize, text: &[char]) -> Result<(Logical, &[char]
 fn next_and<'a>(
     alloc: Global,
     left: usize,
-    whole: &'a [char],
-    text: &'a [char],
-) -> Result<(Option<Logical>, &'a [char]), QueryFault>
-    ensures { Gives (λ x. (option_map logical_of x.0, x.1.now)) result (reading.next_and (reading.logical_at left) whole.now text.now) }
+    whole: &'a str,
+    text: &'a str,
+) -> Result<(Option<Logical>, &'a str), QueryFault>
+    ensures { Gives (λ x. (option_map logical_of x.0, chars x.1.now)) result (reading.next_and (reading.logical_at left) (chars whole.now) (chars text.now)) }
 {
-    match text {
-        ['|', more @ ..] => {
+    match first_character(text) {
+        Some(('|', more)) => {
             let (logical, rest) = and_at(alloc, left, skip(mark_at('|', more)?))?;
             Ok((Some(logical), rest))
         }
@@ -496,12 +487,12 @@ fn ands_from(
     alloc: Global,
     left: usize,
     mut found: Vec<Logical>,
-    text: &[char],
-) -> Result<(Vec<Logical>, &[char]), QueryFault>
-    ensures { Gives (λ x. (logicals_of x.0.items, x.1.now)) result (reading.all_of (λ u. reading.next_and (reading.logical_at left) u (reading.skip u)) (logicals_of found.items) text.now) }
+    text: &str,
+) -> Result<(Vec<Logical>, &str), QueryFault>
+    ensures { Gives (λ x. (logicals_of x.0.items, chars x.1.now)) result (reading.all_of (λ u. reading.next_and (reading.logical_at left) u (reading.skip u)) (logicals_of found.items) (chars text.now)) }
 {
     let mut rest = text;
-    for _turn in 0..text.len() + 1 {
+    loop {
         let (next, after) = next_and(alloc, left, rest, skip(rest))?;
         rest = after;
         match next {
@@ -509,24 +500,36 @@ fn ands_from(
             Some(item) => push_logical(&mut found, item)?,
         }
     }
-    Err(QueryFault::Syntax)
+}
+
+/// Behind the first part of `||`.
+#[cycle(reader)]
+fn or_behind(
+    alloc: Global,
+    left: usize,
+    first: Logical,
+    text: &str,
+) -> Result<(Logical, &str), QueryFault>
+    ensures { Gives (λ x. (logical_of x.0, chars x.1.now)) result (reading.or_behind (reading.logical_at left) (logical_of first) (chars text.now)) }
+{
+    let (parts, rest) = ands_from(alloc, left, one_logical(alloc, first)?, text)?;
+    Ok((joined_any(parts), rest))
 }
 
 #[cycle(reader)]
 #[tactic(auto, unfolding(crate::specs::Reading::or_at))]
-fn or_at(alloc: Global, left: usize, text: &[char]) -> Result<(Logical, &[char]), QueryFault>
-    ensures { Gives (λ x. (logical_of x.0, x.1.now)) result (reading.or_at (reading.logical_at left) text.now) }
+fn or_at(alloc: Global, left: usize, text: &str) -> Result<(Logical, &str), QueryFault>
+    ensures { Gives (λ x. (logical_of x.0, chars x.1.now)) result (reading.or_at (reading.logical_at left) (chars text.now)) }
 {
     let (first, rest) = and_at(alloc, left, text)?;
-    let (parts, rest) = ands_from(alloc, left, one_logical(alloc, first)?, rest)?;
-    Ok((joined_any(parts), rest))
+    or_behind(alloc, left, first, rest)
 }
 
 /// A logical expression in which others stand inside each other at most `left` deep.
 #[cycle(reader)]
 #[tactic(auto, unfolding(crate::specs::Reading::logical_at))]
-fn logical_at(alloc: Global, left: usize, text: &[char]) -> Result<(Logical, &[char]), QueryFault>
-    ensures { Gives (λ x. (logical_of x.0, x.1.now)) result (reading.logical_at left text.now) }
+fn logical_at(alloc: Global, left: usize, text: &str) -> Result<(Logical, &str), QueryFault>
+    ensures { Gives (λ x. (logical_of x.0, chars x.1.now)) result (reading.logical_at left (chars text.now)) }
 {
     if left == 0 {
         return Err(QueryFault::Syntax);
@@ -534,14 +537,34 @@ fn logical_at(alloc: Global, left: usize, text: &[char]) -> Result<(Logical, &[c
     or_at(alloc, left - 1, text)
 }
 
+/// A logical expression that begins with a comparison, behind its left side and its operator.
+#[cycle(reader)]
+#[tactic(auto, unfolding(crate::specs::Reading::compared_behind))]
+fn compared_behind(
+    alloc: Global,
+    left: usize,
+    side: Comparable,
+    op: Operator,
+    text: &str,
+) -> Result<(Logical, &str), QueryFault>
+    ensures { Gives (λ x. (logical_of x.0, chars x.1.now)) result (reading.compared_behind left (comparable_of side) op (chars text.now)) }
+{
+    if left == 0 {
+        return Err(QueryFault::Syntax);
+    }
+    let (first, rest) = right_at(alloc, left - 1, side, op, text)?;
+    let (first, rest) = and_behind(alloc, left - 1, first, rest)?;
+    or_behind(alloc, left - 1, first, rest)
+}
+
 /// The whole text.
 #[tactic(auto, unfolding(crate::specs::Reading::read))]
-fn read(alloc: Global, text: &[char]) -> Result<Query, QueryFault>
-    ensures { Gives query_of result (reading.read text.now) }
+fn read(alloc: Global, text: &str) -> Result<Query, QueryFault>
+    ensures { Gives query_of result (reading.read (length text.now) (chars text.now)) }
 {
-    match text {
-        ['$', more @ ..] => {
-            let (segments, rest) = segments_at(alloc, more.len(), more)?;
+    match first_character(text) {
+        Some(('$', more)) => {
+            let (segments, rest) = segments_at(alloc, text.len(), more)?;
             if !rest.is_empty() {
                 return Err(QueryFault::Syntax);
             }
@@ -549,12 +572,6 @@ fn read(alloc: Global, text: &[char]) -> Result<Query, QueryFault>
         }
         _ => Err(QueryFault::Syntax),
     }
-}
-
-fn characters(alloc: Global, text: &str) -> Result<Vec<char>, AllocError>
-    ensures { IfOk result (λ v. v.items ≡ chars text.now) }
-{
-    text.chars().collect(alloc)
 }
 
 /// The query that the text spells (RFC 9535, 2.1).
@@ -579,6 +596,5 @@ pub fn read_query(alloc: Global, text: &str) -> Result<Query, QueryFault>
     if bracket_depth(text) > 64 {
         return Err(QueryFault::TooDeep);
     }
-    let characters = characters(alloc, text)?;
-    read(alloc, characters.as_slice())
+    read(alloc, text)
 }

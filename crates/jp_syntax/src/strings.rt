@@ -1,13 +1,14 @@
 //! String literals, read from the left.
 
 ghost use Rattle.std.specs.Prelude.{◌≡◌, ◌<◌, IsTrue, IfOk};
+ghost use Rattle.std.specs.Str.{chars};
 ghost use Rattle.jp_syntax.specs.Characters as spec;
 ghost use Rattle.jp_syntax.specs.Reading as reading;
 ghost use Rattle.jp_syntax.specs.View.{text_of};
 ghost use Rattle.jp_syntax.specs.Gives.{Gives};
 
 use crate::fault::QueryFault;
-use crate::text::{empty_text, mark_at, push_character};
+use crate::text::{empty_text, first_character, mark_at, push_character, some_character};
 use std::alloc::Global;
 
 fn escaped(quote: char, letter: char) -> Option<char>
@@ -51,21 +52,20 @@ fn hex_value(c: char) -> u32
 }
 
 #[tactic(auto, unfolding(crate::specs::Reading::hex_at))]
-fn hex_at(text: &[char]) -> Result<(u32, &[char]), QueryFault>
-    ensures read { Gives (λ x. (x.0, x.1.now)) result (reading.hex_at text.now) }
+fn hex_at(text: &str) -> Result<(u32, &str), QueryFault>
+    ensures read { Gives (λ x. (x.0, chars x.1.now)) result (reading.hex_at (chars text.now)) }
     ensures below { IfOk result (λ x. x.0 < 65536) }
 {
-    match text {
-        [a, b, c, d, rest @ ..] => {
-            if is_hex_digit(*a) && is_hex_digit(*b) && is_hex_digit(*c) && is_hex_digit(*d) {
-                let front = hex_value(*a) * 16 + hex_value(*b);
-                let number = (front * 16 + hex_value(*c)) * 16 + hex_value(*d);
-                Ok((number, rest))
-            } else {
-                Err(QueryFault::Syntax)
-            }
-        }
-        _ => Err(QueryFault::Syntax),
+    let (a, text) = some_character(text)?;
+    let (b, text) = some_character(text)?;
+    let (c, text) = some_character(text)?;
+    let (d, rest) = some_character(text)?;
+    if is_hex_digit(a) && is_hex_digit(b) && is_hex_digit(c) && is_hex_digit(d) {
+        let front = hex_value(a) * 16 + hex_value(b);
+        let number = (front * 16 + hex_value(c)) * 16 + hex_value(d);
+        Ok((number, rest))
+    } else {
+        Err(QueryFault::Syntax)
     }
 }
 
@@ -86,16 +86,13 @@ fn scalar(n: u32) -> char
     requires { IsTrue (spec.is_scalar n) }
     ensures { result ≡ n }
 {
-    match char::from_u32(n) {
-        Some(c) => c,
-        None => ' ',
-    }
+    char::from_u32(n).unwrap()
 }
 
 #[tactic(auto, unfolding(crate::specs::Reading::pair_at))]
-fn pair_at(high: u32, text: &[char]) -> Result<(Option<char>, &[char]), QueryFault>
+fn pair_at(high: u32, text: &str) -> Result<(Option<char>, &str), QueryFault>
     requires { IsTrue (spec.is_high_surrogate high) }
-    ensures { Gives (λ x. (x.0, x.1.now)) result (reading.pair_at high text.now) }
+    ensures { Gives (λ x. (x.0, chars x.1.now)) result (reading.pair_at high (chars text.now)) }
 {
     let digits = mark_at('u', mark_at('\\', text)?)?;
     let (low, rest) = hex_at(digits)?;
@@ -108,8 +105,8 @@ fn pair_at(high: u32, text: &[char]) -> Result<(Option<char>, &[char]), QueryFau
 }
 
 #[tactic(auto, unfolding(crate::specs::Reading::unicode_at))]
-fn unicode_at(text: &[char]) -> Result<(Option<char>, &[char]), QueryFault>
-    ensures { Gives (λ x. (x.0, x.1.now)) result (reading.unicode_at text.now) }
+fn unicode_at(text: &str) -> Result<(Option<char>, &str), QueryFault>
+    ensures { Gives (λ x. (x.0, chars x.1.now)) result (reading.unicode_at (chars text.now)) }
 {
     let (value, rest) = hex_at(text)?;
     if is_high_surrogate(value) {
@@ -122,13 +119,13 @@ fn unicode_at(text: &[char]) -> Result<(Option<char>, &[char]), QueryFault>
 }
 
 #[tactic(auto, unfolding(crate::specs::Reading::escape_at))]
-fn escape_at(quote: char, text: &[char]) -> Result<(Option<char>, &[char]), QueryFault>
-    ensures { Gives (λ x. (x.0, x.1.now)) result (reading.escape_at quote text.now) }
+fn escape_at(quote: char, text: &str) -> Result<(Option<char>, &str), QueryFault>
+    ensures { Gives (λ x. (x.0, chars x.1.now)) result (reading.escape_at quote (chars text.now)) }
 {
-    match text {
-        [] => Err(QueryFault::Syntax),
-        ['u', more @ ..] => unicode_at(more),
-        [c, rest @ ..] => match escaped(quote, *c) {
+    match first_character(text) {
+        None => Err(QueryFault::Syntax),
+        Some(('u', more)) => unicode_at(more),
+        Some((c, rest)) => match escaped(quote, c) {
             Some(value) => Ok((Some(value), rest)),
             None => Err(QueryFault::Syntax),
         },
@@ -136,13 +133,13 @@ fn escape_at(quote: char, text: &[char]) -> Result<(Option<char>, &[char]), Quer
 }
 
 #[tactic(auto, unfolding(crate::specs::Reading::piece_at))]
-fn piece_at(quote: char, text: &[char]) -> Result<(Option<char>, &[char]), QueryFault>
-    ensures { Gives (λ x. (x.0, x.1.now)) result (reading.piece_at quote text.now) }
+fn piece_at(quote: char, text: &str) -> Result<(Option<char>, &str), QueryFault>
+    ensures { Gives (λ x. (x.0, chars x.1.now)) result (reading.piece_at quote (chars text.now)) }
 {
-    match text {
-        [c, rest @ ..] if *c == quote => Ok((None, rest)),
-        ['\\', more @ ..] => escape_at(quote, more),
-        [c, rest @ ..] if is_bare(quote, *c) => Ok((Some(*c), rest)),
+    match first_character(text) {
+        Some((c, rest)) if c == quote => Ok((None, rest)),
+        Some(('\\', more)) => escape_at(quote, more),
+        Some((c, rest)) if is_bare(quote, c) => Ok((Some(c), rest)),
         _ => Err(QueryFault::Syntax),
     }
 }
@@ -151,13 +148,13 @@ fn piece_at(quote: char, text: &[char]) -> Result<(Option<char>, &[char]), Query
 pub(crate) fn string_at(
     alloc: Global,
     quote: char,
-    text: &[char],
-) -> Result<(String, &[char]), QueryFault>
-    ensures { Gives (λ x. (text_of x.0, x.1.now)) result (reading.string_at quote text.now) }
+    text: &str,
+) -> Result<(String, &str), QueryFault>
+    ensures { Gives (λ x. (text_of x.0, chars x.1.now)) result (reading.string_at quote (chars text.now)) }
 {
     let mut found = empty_text(alloc);
     let mut rest = text;
-    for _turn in 0..text.len() + 1 {
+    loop {
         let (piece, after) = piece_at(quote, rest)?;
         rest = after;
         match piece {
@@ -165,5 +162,4 @@ pub(crate) fn string_at(
             Some(c) => push_character(&mut found, c)?,
         }
     }
-    Err(QueryFault::Syntax)
 }

@@ -1,6 +1,7 @@
-//! Characters, and the texts of names and numbers, read from the left.
+//! The front of a text: its first character, blanks, names and marks; and texts that grow.
 
-ghost use Rattle.std.specs.Prelude.{◌≡◌, [], ◌∷◌, ◌++◌, IfOk, OnOk};
+ghost use Rattle.std.specs.Prelude.{◌≡◌, ℕ, List, [], ◌∷◌, ◌++◌, OnOk, MatchOption, MatchResult};
+ghost use Rattle.std.specs.Str.{chars};
 ghost use Rattle.jp_syntax.specs.Characters as spec;
 ghost use Rattle.jp_syntax.specs.Reading as reading;
 ghost use Rattle.jp_syntax.specs.Spelling.{begins_with};
@@ -20,12 +21,6 @@ pub(crate) fn is_digit(c: char) -> bool
     ensures { result ≡ spec.is_digit c }
 {
     matches!(c, '0'..='9')
-}
-
-fn is_positive_digit(c: char) -> bool
-    ensures { result ≡ spec.is_positive_digit c }
-{
-    matches!(c, '1'..='9')
 }
 
 pub(crate) fn is_lower(c: char) -> bool
@@ -58,107 +53,71 @@ pub(crate) fn is_quote(c: char) -> bool
     matches!(c, '"' | '\'')
 }
 
+/// The first character, and the text behind it.
+pub(crate) fn first_character(text: &str) -> Option<(char, &str)>
+    ensures { MatchOption result (chars text.now ≡ []) (λ x. chars text.now ≡ x.0 ∷ chars x.1.now) }
+{
+    let mut characters = text.chars();
+    let first = characters.next()?;
+    Some((first, characters.as_str()))
+}
+
+/// The same, of a text that must go on here.
+pub(crate) fn some_character(text: &str) -> Result<(char, &str), QueryFault>
+    ensures { MatchResult result (λ x. chars text.now ≡ x.0 ∷ chars x.1.now) (λ e. (e ≡ QueryFault.Syntax) × (chars text.now ≡ [])) }
+{
+    first_character(text).ok_or(QueryFault::Syntax)
+}
+
 /// Behind the blanks.
-pub(crate) fn skip(text: &[char]) -> &[char]
-    ensures { result.now ≡ reading.skip text.now }
+pub(crate) fn skip(text: &str) -> &str
+    ensures { chars result.now ≡ reading.skip (chars text.now) }
 {
-    let mut rest = text;
-    while let [c, more @ ..] = rest
-        && is_blank(*c)
-    {
-        rest = more;
-    }
-    rest
+    text.trim_start_matches(is_blank)
 }
 
-fn past_name(text: &[char]) -> &[char]
-    ensures { result.now ≡ reading.past spec.is_name_character text.now }
+fn past_name(text: &str) -> &str
+    ensures { chars result.now ≡ reading.past spec.is_name_character (chars text.now) }
 {
-    let mut rest = text;
-    while let [c, more @ ..] = rest
-        && is_name_character(*c)
-    {
-        rest = more;
-    }
-    rest
+    text.trim_start_matches(is_name_character)
 }
 
-pub(crate) fn past_function_name(text: &[char]) -> &[char]
-    ensures { result.now ≡ reading.past spec.is_function_character text.now }
+pub(crate) fn past_function_name(text: &str) -> &str
+    ensures { chars result.now ≡ reading.past spec.is_function_character (chars text.now) }
 {
-    let mut rest = text;
-    while let [c, more @ ..] = rest
-        && is_function_character(*c)
-    {
-        rest = more;
-    }
-    rest
+    text.trim_start_matches(is_function_character)
 }
 
-fn past_digits(text: &[char]) -> &[char]
-    ensures { result.now ≡ reading.past spec.is_digit text.now }
+/// The text up to the rest, which it ends in.
+pub(crate) fn up_to<'a>(text: &'a str, rest: &str) -> &'a str
+    requires { (front : List ℕ) × (chars text.now ≡ front ++ chars rest.now) }
+    ensures { chars text.now ≡ chars result.now ++ chars rest.now }
 {
-    let mut rest = text;
-    while let [c, more @ ..] = rest
-        && is_digit(*c)
-    {
-        rest = more;
-    }
-    rest
+    &text[..text.len() - rest.len()]
 }
 
 /// The name in front, and the rest.
 #[tactic(auto, unfolding(crate::specs::Reading::run_at))]
-pub(crate) fn name_at(text: &[char]) -> Result<(&[char], &[char]), QueryFault>
-    ensures read { Gives (λ x. (x.0.now, x.1.now)) result (reading.name_at text.now) }
-    ensures whole { IfOk result (λ x. text.now ≡ x.0.now ++ x.1.now) }
+pub(crate) fn name_at(text: &str) -> Result<(&str, &str), QueryFault>
+    ensures { Gives (λ x. (chars x.0.now, chars x.1.now)) result (reading.name_at (chars text.now)) }
 {
-    match text {
-        [c, more @ ..] if is_first(*c) => {
+    match first_character(text) {
+        Some((c, more)) if is_first(c) => {
             let rest = past_name(more);
-            Ok(text.split_at(text.len() - rest.len()))
+            Ok((up_to(text, rest), rest))
         }
         _ => Err(QueryFault::Syntax),
     }
 }
 
 #[tactic(auto, unfolding(crate::specs::Reading::run_at))]
-pub(crate) fn function_name_at(text: &[char]) -> Result<(&[char], &[char]), QueryFault>
-    ensures read { Gives (λ x. (x.0.now, x.1.now)) result (reading.function_name_at text.now) }
-    ensures whole { IfOk result (λ x. text.now ≡ x.0.now ++ x.1.now) }
+pub(crate) fn function_name_at(text: &str) -> Result<(&str, &str), QueryFault>
+    ensures { Gives (λ x. (chars x.0.now, chars x.1.now)) result (reading.function_name_at (chars text.now)) }
 {
-    match text {
-        [c, more @ ..] if is_lower(*c) => {
+    match first_character(text) {
+        Some((c, more)) if is_lower(c) => {
             let rest = past_function_name(more);
-            Ok(text.split_at(text.len() - rest.len()))
-        }
-        _ => Err(QueryFault::Syntax),
-    }
-}
-
-#[tactic(auto, unfolding(crate::specs::Reading::run_at))]
-pub(crate) fn digits_at(text: &[char]) -> Result<(&[char], &[char]), QueryFault>
-    ensures read { Gives (λ x. (x.0.now, x.1.now)) result (reading.digits_at text.now) }
-    ensures whole { IfOk result (λ x. text.now ≡ x.0.now ++ x.1.now) }
-{
-    match text {
-        [c, more @ ..] if is_digit(*c) => {
-            let rest = past_digits(more);
-            Ok(text.split_at(text.len() - rest.len()))
-        }
-        _ => Err(QueryFault::Syntax),
-    }
-}
-
-#[tactic(auto, unfolding(crate::specs::Reading::run_at))]
-pub(crate) fn positive_at(text: &[char]) -> Result<(&[char], &[char]), QueryFault>
-    ensures read { Gives (λ x. (x.0.now, x.1.now)) result (reading.positive_at text.now) }
-    ensures whole { IfOk result (λ x. text.now ≡ x.0.now ++ x.1.now) }
-{
-    match text {
-        [c, more @ ..] if is_positive_digit(*c) => {
-            let rest = past_digits(more);
-            Ok(text.split_at(text.len() - rest.len()))
+            Ok((up_to(text, rest), rest))
         }
         _ => Err(QueryFault::Syntax),
     }
@@ -166,22 +125,22 @@ pub(crate) fn positive_at(text: &[char]) -> Result<(&[char], &[char]), QueryFaul
 
 /// What follows this character.
 #[tactic(auto, unfolding(crate::specs::Reading::mark_at))]
-pub(crate) fn mark_at(mark: char, text: &[char]) -> Result<&[char], QueryFault>
-    ensures { Gives (λ x. x.now) result (reading.mark_at mark text.now) }
+pub(crate) fn mark_at(mark: char, text: &str) -> Result<&str, QueryFault>
+    ensures { Gives (λ x. chars x.now) result (reading.mark_at mark (chars text.now)) }
 {
-    match text {
-        [c, rest @ ..] if *c == mark => Ok(rest),
+    match first_character(text) {
+        Some((c, rest)) if c == mark => Ok(rest),
         _ => Err(QueryFault::Syntax),
     }
 }
 
 /// Whether the text begins with this character.
-pub(crate) fn begins_with(mark: char, text: &[char]) -> bool
-    ensures { result ≡ begins_with mark text.now }
+pub(crate) fn begins_with(mark: char, text: &str) -> bool
+    ensures { result ≡ begins_with mark (chars text.now) }
 {
-    match text {
-        [c, ..] => *c == mark,
-        [] => false,
+    match first_character(text) {
+        Some((c, _)) => c == mark,
+        None => false,
     }
 }
 
@@ -197,15 +156,4 @@ pub(crate) fn push_character(text: &mut String, c: char) -> Result<(), AllocErro
     ensures { OnOk result (text_of text.new ≡ text_of text.old ++ c ∷ []) }
 {
     text.push(c)
-}
-
-/// A text of these characters.
-pub(crate) fn text_from(alloc: Global, characters: &[char]) -> Result<String, AllocError>
-    ensures { IfOk result (λ s. text_of s ≡ characters.now) }
-{
-    let mut text = empty_text(alloc);
-    for c in characters {
-        push_character(&mut text, *c)?;
-    }
-    Ok(text)
 }

@@ -27,7 +27,7 @@ segment_patterns-returns t c =
 
 pub parts_patterns-loop-part-preserved : goal.parts_patterns-loop-part-preserved
 parts_patterns-loop-part-preserved t c =
-    texts_next (λ xs. logicals_patterns (logicals (logicals_of xs))) c.deref-part-items.result.now c.loop-part.part-index c.part-item.result _ _ _ _ refl c.loop-part-test.true c.part-item.is c.in_ok-logical_patterns.ensures c.loop-part.invariant
+    texts_next (λ xs. logicals_patterns (logicals (logicals_of xs))) c.args.parts.now c.loop-part.part-index c.part-item.result _ _ _ _ refl c.loop-part-test.true c.part-item.is c.in_ok-logical_patterns.ensures c.loop-part.invariant
 
 pub call_patterns-loop-argument-preserved : goal.call_patterns-loop-argument-preserved
 call_patterns-loop-argument-preserved t c =

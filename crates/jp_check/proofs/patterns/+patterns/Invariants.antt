@@ -17,8 +17,8 @@ invariant-segment_patterns-loop-selector l =
 
 abbrev pub invariant-parts_patterns-loop-part : goal.invariant-parts_patterns-loop-part
 invariant-parts_patterns-loop-part l =
-    known_texts l.known.items ++ logicals_patterns (logicals (logicals_of (drop l.part-index l.part-items)))
-    ≡ known_texts l.initial.known.items ++ logicals_patterns (logicals (logicals_of l.part-items))
+    known_texts l.known.items ++ logicals_patterns (logicals (logicals_of (drop l.part-index l.parts)))
+    ≡ known_texts l.initial.known.items ++ logicals_patterns (logicals (logicals_of l.parts))
 
 abbrev pub invariant-call_patterns-loop-argument : goal.invariant-call_patterns-loop-argument
 invariant-call_patterns-loop-argument l =

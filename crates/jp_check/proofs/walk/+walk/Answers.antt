@@ -27,7 +27,7 @@ segment_faults-returns t c =
 
 pub parts_faults-loop-part-preserved : goal.parts_faults-loop-part-preserved
 parts_faults-loop-part-preserved t c =
-    parts_next (λ xs. logicals_numbers (logicals (logicals_of xs))) (λ xs. logicals_typed (logicals (logicals_of xs))) c.deref-part-items.result.now c.loop-part.part-index c.part-item.result c.loop-part.faults c.logical_faults.result c.with-faults.result _ _ _ refl refl c.loop-part-test.true c.part-item.is c.logical_faults.ensures c.with-faults.ensures c.loop-part.invariant
+    parts_next (λ xs. logicals_numbers (logicals (logicals_of xs))) (λ xs. logicals_typed (logicals (logicals_of xs))) c.args.parts.now c.loop-part.part-index c.part-item.result c.loop-part.faults c.logical_faults.result c.with-faults.result _ _ _ refl refl c.loop-part-test.true c.part-item.is c.logical_faults.ensures c.with-faults.ensures c.loop-part.invariant
 
 pub comparison_faults-returns : goal.comparison_faults-returns
 comparison_faults-returns t c =

@@ -20,8 +20,8 @@ invariant-segment_faults-loop-selector l =
 
 abbrev pub invariant-parts_faults-loop-part : goal.invariant-parts_faults-loop-part
 invariant-parts_faults-loop-part l =
-    let rest = logicals (logicals_of (drop l.part-index l.part-items)) in
-    let all = logicals (logicals_of l.part-items) in
+    let rest = logicals (logicals_of (drop l.part-index l.parts)) in
+    let all = logicals (logicals_of l.parts) in
     joined l.faults (faults_of (logicals_numbers rest) (logicals_typed rest)) ≡ faults_of (logicals_numbers all) (logicals_typed all)
 
 abbrev pub invariant-call_faults-loop-argument : goal.invariant-call_faults-loop-argument

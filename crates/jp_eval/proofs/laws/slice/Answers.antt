@@ -1,5 +1,5 @@
 use Rattle.jp_eval.specs.Slice.{slice_bounds}
-use Rattle.jp_eval.proofs.Bounds.{bounds_of_rising, bounds_of_falling}
+use Rattle.jp_eval.proofs.BoundsLaws.{bounds_of_rising, bounds_of_falling}
 use Rattle.jp_eval.proofs.Order.{indexes_within, slice_rises, slice_falls}
 use Rattle.jp_eval.proofs.laws.slice.Goals as goal
 

@@ -1,9 +1,8 @@
-use Rattle.std.proofs.Common.{length, map-id, sym, ap, ◌∙◌, arith}
-use Rattle.std.specs.Str.{chars}
+use Rattle.std.proofs.Common.{map-id, sym, ap, ◌∙◌, arith}
 use Rattle.std.proofs.lemmas.Iterator.{YieldsList-from_chars}
 use Rattle.std.proofs.lemmas.Iterator.Consumers.{YieldsList-end, YieldsList-turn}
-use Rattle.std.proofs.lemmas.Str.{encodes-chars, length-le-encodes}
 use Rattle.jp_syntax.specs.Depth as depth
+use Rattle.jp_syntax.proofs.Cuts.{chars_fit}
 use Rattle.jp_syntax.proofs.DepthScan.{count_fits, place_after, depth_after}
 use Rattle.jp_syntax.proofs.depth.bracket_depth.Goals as goal
 
@@ -11,8 +10,7 @@ pub count_after-count-requires : goal.count_after-count-requires
 count_after-count-requires c =
     let turn = YieldsList-turn (YieldsList-from_chars c.args.text.now c.utf8.text cc) c.loop-c.yielded _ c.loop-c.yielded_by _ _ c.in-Some.c c.in-Some.is c.next.ensures.steps in
     let fits = count_fits c.loop-c.quotes c.loop-c.count c.loop-c.yielded c.loop-c.invariant.0 in
-    let least = length-le-encodes (chars c.args.text.now) in
-    let bytes = ap length (encodes-chars c.args.text.now c.utf8.text) in
+    let room = chars_fit c.args.text.now c.utf8.text in
     let below = turn.0 in
     let size = c.well_formed.0.0 in
     omega arith

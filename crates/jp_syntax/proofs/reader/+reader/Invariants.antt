@@ -1,103 +1,130 @@
-use Rattle.std.proofs.Common.{◌≡◌, ◌-◌, ◌+◌, ◌*◌}
-use Rattle.jp_syntax.specs.Reading.{skip, logical_at, next_and, next_basic, segment_behind, next_item, selector_at, argument_at, all_of, many}
+use Rattle.std.proofs.Common.{◌≡◌, ◌+◌, ◌*◌, length}
+use Rattle.std.specs.Str.{chars}
+use denote.Text.{Utf8}
+use denote.Shadow.{shadow}
+use Rattle.jp_syntax.specs.Reading.{skip, logical_at, next_and, next_basic, segment_behind, next_item, selector_at, argument_at, all_of}
 use Rattle.jp_syntax.specs.PartViews.{selectors_of, segments_of, arguments_of, logicals_of}
 use Rattle.jp_syntax.proofs.reader.+reader.Given as goal
 
 abbrev pub decreases-or_at : goal.decreases-or_at
-decreases-or_at l = 40 * l.left + 39
+decreases-or_at l = 50 * l.left + 41
+
+abbrev pub decreases-or_behind : goal.decreases-or_behind
+decreases-or_behind l = 50 * l.left + 40
 
 abbrev pub decreases-ands_from : goal.decreases-ands_from
-decreases-ands_from l = 40 * l.left + 38
+decreases-ands_from l = 50 * l.left + 39
 
 abbrev pub decreases-next_and : goal.decreases-next_and
-decreases-next_and l = 40 * l.left + 37
+decreases-next_and l = 50 * l.left + 38
 
 abbrev pub decreases-and_at : goal.decreases-and_at
-decreases-and_at l = 40 * l.left + 36
+decreases-and_at l = 50 * l.left + 37
+
+abbrev pub decreases-and_behind : goal.decreases-and_behind
+decreases-and_behind l = 50 * l.left + 36
 
 abbrev pub decreases-basics_from : goal.decreases-basics_from
-decreases-basics_from l = 40 * l.left + 35
+decreases-basics_from l = 50 * l.left + 35
 
 abbrev pub decreases-next_basic : goal.decreases-next_basic
-decreases-next_basic l = 40 * l.left + 34
+decreases-next_basic l = 50 * l.left + 34
 
 abbrev pub decreases-basic_at : goal.decreases-basic_at
-decreases-basic_at l = 40 * l.left + 33
+decreases-basic_at l = 50 * l.left + 33
 
 abbrev pub decreases-right_at : goal.decreases-right_at
-decreases-right_at l = 40 * l.left + 32
+decreases-right_at l = 50 * l.left + 32
 
 abbrev pub decreases-plain_at : goal.decreases-plain_at
-decreases-plain_at l = 40 * l.left + 31
+decreases-plain_at l = 50 * l.left + 31
 
 abbrev pub decreases-grouped_at : goal.decreases-grouped_at
-decreases-grouped_at l = 40 * l.left + 30
+decreases-grouped_at l = 50 * l.left + 30
 
 abbrev pub decreases-operand_at : goal.decreases-operand_at
-decreases-operand_at l = 40 * l.left + 29
+decreases-operand_at l = 50 * l.left + 29
 
 abbrev pub decreases-call_at : goal.decreases-call_at
-decreases-call_at l = 40 * l.left + 28
+decreases-call_at l = 50 * l.left + 28
 
 abbrev pub decreases-arguments_at : goal.decreases-arguments_at
-decreases-arguments_at l = 40 * l.left + 27
+decreases-arguments_at l = 50 * l.left + 27
 
 abbrev pub decreases-argument_items : goal.decreases-argument_items
-decreases-argument_items l = 40 * l.left + 26
+decreases-argument_items l = 50 * l.left + 26
 
 abbrev pub decreases-arguments_from : goal.decreases-arguments_from
-decreases-arguments_from l = 40 * l.left + 25
+decreases-arguments_from l = 50 * l.left + 25
 
 abbrev pub decreases-next_argument : goal.decreases-next_argument
-decreases-next_argument l = 40 * l.left + 24
+decreases-next_argument l = 50 * l.left + 24
 
 abbrev pub decreases-argument_at : goal.decreases-argument_at
-decreases-argument_at l = 40 * l.left + 23
+decreases-argument_at l = 50 * l.left + 23
 
 abbrev pub decreases-query_at : goal.decreases-query_at
-decreases-query_at l = 40 * l.left + 22
+decreases-query_at l = 50 * l.left + 22
 
 abbrev pub decreases-segments_at : goal.decreases-segments_at
-decreases-segments_at l = 40 * l.left + 21
+decreases-segments_at l = 50 * l.left + 21
 
 abbrev pub decreases-segments_from : goal.decreases-segments_from
-decreases-segments_from l = 40 * l.left + 20
+decreases-segments_from l = 50 * l.left + 20
 
 abbrev pub decreases-segment_behind : goal.decreases-segment_behind
-decreases-segment_behind l = 40 * l.left + 19
+decreases-segment_behind l = 50 * l.left + 19
 
 abbrev pub decreases-dotted_at : goal.decreases-dotted_at
-decreases-dotted_at l = 40 * l.left + 18
+decreases-dotted_at l = 50 * l.left + 18
 
 abbrev pub decreases-descendant_at : goal.decreases-descendant_at
-decreases-descendant_at l = 40 * l.left + 17
+decreases-descendant_at l = 50 * l.left + 17
 
 abbrev pub decreases-bracketed_at : goal.decreases-bracketed_at
-decreases-bracketed_at l = 40 * l.left + 16
+decreases-bracketed_at l = 50 * l.left + 16
 
 abbrev pub decreases-selectors_from : goal.decreases-selectors_from
-decreases-selectors_from l = 40 * l.left + 15
+decreases-selectors_from l = 50 * l.left + 15
 
 abbrev pub decreases-next_selector : goal.decreases-next_selector
-decreases-next_selector l = 40 * l.left + 14
+decreases-next_selector l = 50 * l.left + 14
 
 abbrev pub decreases-selector_at : goal.decreases-selector_at
-decreases-selector_at l = 40 * l.left + 13
+decreases-selector_at l = 50 * l.left + 13
+
+abbrev pub decreases-compared_behind : goal.decreases-compared_behind
+decreases-compared_behind l = 50 * l.left + 1
 
 abbrev pub decreases-logical_at : goal.decreases-logical_at
-decreases-logical_at l = 40 * l.left + 0
+decreases-logical_at l = 50 * l.left + 0
 
-abbrev pub invariant-selectors_from-loop-turn : goal.invariant-selectors_from-loop-turn
-invariant-selectors_from-loop-turn l = all_of (λ u. next_item 93 (selector_at (logical_at l.left)) (skip u)) (selectors_of l.fn.found.items) l.fn.text ≡ many (λ u. next_item 93 (selector_at (logical_at l.left)) (skip u)) (l._turn-end - l._turn) (selectors_of l.found.items) l.rest
+abbrev pub invariant-selectors_from-loop-found : goal.invariant-selectors_from-loop-found
+invariant-selectors_from-loop-found l = shadow (Utf8 l.rest) × (all_of (λ u. next_item 93 (selector_at (logical_at l.left)) (skip u)) (selectors_of l.fn.found.items) (chars l.fn.text) ≡ all_of (λ u. next_item 93 (selector_at (logical_at l.left)) (skip u)) (selectors_of l.found.items) (chars l.rest))
 
-abbrev pub invariant-arguments_from-loop-turn : goal.invariant-arguments_from-loop-turn
-invariant-arguments_from-loop-turn l = all_of (λ u. next_item 41 (argument_at (logical_at l.left)) (skip u)) (arguments_of l.fn.found.items) l.fn.text ≡ many (λ u. next_item 41 (argument_at (logical_at l.left)) (skip u)) (l._turn-end - l._turn) (arguments_of l.found.items) l.rest
+abbrev pub invariant-arguments_from-loop-found : goal.invariant-arguments_from-loop-found
+invariant-arguments_from-loop-found l = shadow (Utf8 l.rest) × (all_of (λ u. next_item 41 (argument_at (logical_at l.left)) (skip u)) (arguments_of l.fn.found.items) (chars l.fn.text) ≡ all_of (λ u. next_item 41 (argument_at (logical_at l.left)) (skip u)) (arguments_of l.found.items) (chars l.rest))
 
-abbrev pub invariant-segments_from-loop-turn : goal.invariant-segments_from-loop-turn
-invariant-segments_from-loop-turn l = all_of (λ u. segment_behind (logical_at l.left) u (skip u)) (segments_of l.fn.found.items) l.fn.text ≡ many (λ u. segment_behind (logical_at l.left) u (skip u)) (l._turn-end - l._turn) (segments_of l.found.items) l.rest
+abbrev pub invariant-segments_from-loop-found : goal.invariant-segments_from-loop-found
+invariant-segments_from-loop-found l = shadow (Utf8 l.rest) × (all_of (λ u. segment_behind (logical_at l.left) u (skip u)) (segments_of l.fn.found.items) (chars l.fn.text) ≡ all_of (λ u. segment_behind (logical_at l.left) u (skip u)) (segments_of l.found.items) (chars l.rest))
 
-abbrev pub invariant-basics_from-loop-turn : goal.invariant-basics_from-loop-turn
-invariant-basics_from-loop-turn l = all_of (λ u. next_basic (logical_at l.left) u (skip u)) (logicals_of l.fn.found.items) l.fn.text ≡ many (λ u. next_basic (logical_at l.left) u (skip u)) (l._turn-end - l._turn) (logicals_of l.found.items) l.rest
+abbrev pub invariant-basics_from-loop-found : goal.invariant-basics_from-loop-found
+invariant-basics_from-loop-found l = shadow (Utf8 l.rest) × (all_of (λ u. next_basic (logical_at l.left) u (skip u)) (logicals_of l.fn.found.items) (chars l.fn.text) ≡ all_of (λ u. next_basic (logical_at l.left) u (skip u)) (logicals_of l.found.items) (chars l.rest))
 
-abbrev pub invariant-ands_from-loop-turn : goal.invariant-ands_from-loop-turn
-invariant-ands_from-loop-turn l = all_of (λ u. next_and (logical_at l.left) u (skip u)) (logicals_of l.fn.found.items) l.fn.text ≡ many (λ u. next_and (logical_at l.left) u (skip u)) (l._turn-end - l._turn) (logicals_of l.found.items) l.rest
+abbrev pub invariant-ands_from-loop-found : goal.invariant-ands_from-loop-found
+invariant-ands_from-loop-found l = shadow (Utf8 l.rest) × (all_of (λ u. next_and (logical_at l.left) u (skip u)) (logicals_of l.fn.found.items) (chars l.fn.text) ≡ all_of (λ u. next_and (logical_at l.left) u (skip u)) (logicals_of l.found.items) (chars l.rest))
+
+abbrev pub decreases-selectors_from-loop-found : goal.decreases-selectors_from-loop-found
+decreases-selectors_from-loop-found l = length (chars l.rest)
+
+abbrev pub decreases-arguments_from-loop-found : goal.decreases-arguments_from-loop-found
+decreases-arguments_from-loop-found l = length (chars l.rest)
+
+abbrev pub decreases-segments_from-loop-found : goal.decreases-segments_from-loop-found
+decreases-segments_from-loop-found l = length (chars l.rest)
+
+abbrev pub decreases-basics_from-loop-found : goal.decreases-basics_from-loop-found
+decreases-basics_from-loop-found l = length (chars l.rest)
+
+abbrev pub decreases-ands_from-loop-found : goal.decreases-ands_from-loop-found
+decreases-ands_from-loop-found l = length (chars l.rest)

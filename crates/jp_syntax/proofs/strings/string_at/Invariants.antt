@@ -1,7 +1,13 @@
-use Rattle.std.proofs.Common.{◌≡◌, ◌-◌}
+use Rattle.std.proofs.Common.{◌≡◌, length}
+use Rattle.std.specs.Str.{chars}
+use denote.Text.{Utf8}
+use denote.Shadow.{shadow}
 use Rattle.jp_syntax.specs.View.{text_of}
-use Rattle.jp_syntax.specs.Reading.{piece_at, string_at, many}
+use Rattle.jp_syntax.specs.Reading.{piece_at, string_at, all_of}
 use Rattle.jp_syntax.proofs.strings.string_at.Given as goal
 
-abbrev pub invariant-loop-turn : goal.invariant-loop-turn
-invariant-loop-turn l = string_at l.quote l.fn.text ≡ many (piece_at l.quote) (l._turn-end - l._turn) (text_of l.found) l.rest
+abbrev pub invariant-loop-found : goal.invariant-loop-found
+invariant-loop-found l = shadow (Utf8 l.rest) × (string_at l.quote (chars l.fn.text) ≡ all_of (piece_at l.quote) (text_of l.found) (chars l.rest))
+
+abbrev pub decreases-loop-found : goal.decreases-loop-found
+decreases-loop-found l = length (chars l.rest)

@@ -1,9 +1,17 @@
-use Rattle.jp_syntax.specs.Characters.{is_function_character, is_lower}
-use Rattle.jp_syntax.proofs.Cuts.{run_cut, run_cut_fits}
+use Rattle.std.proofs.Common.{sym, ◌∙◌}
+use Rattle.std.specs.Str.{chars}
+use Rattle.jp_syntax.specs.Characters.{is_lower, is_function_character}
+use Rattle.jp_syntax.specs.Reading.{run_at}
+use Rattle.jp_syntax.proofs.LeavesRead.{IsRun, run_sound}
+use Rattle.jp_syntax.proofs.Cuts.{run_behind, some_front, front_read}
 use Rattle.jp_syntax.proofs.text.function_name_at.Goals as goal
 
-pub overflow_sub-text : goal.overflow_sub-text
-overflow_sub-text c = run_cut_fits is_function_character c.args.text.now c.past_function_name-rest.result.now c.in-len1-up.len_at_least c.past_function_name-rest.ensures
+pub up_to-requires : goal.up_to-requires
+up_to-requires c =
+    let read = run_behind is_lower is_function_character (chars c.args.text.now) (chars c.in-Some.more.now) (chars c.past_function_name-rest.result.now) c.in-Some.c c.in-Some.ensures (sym c.is_lower.ensures ∙ c.if-is_lower.true) c.past_function_name-rest.ensures in
+    some_front (IsRun is_lower is_function_character) (run_at is_lower is_function_character (chars c.args.text.now)) (chars c.args.text.now) (chars c.past_function_name-rest.result.now) read (run_sound is_lower is_function_character (chars c.args.text.now))
 
-pub returns-in-len1-up-clause-read : goal.returns-in-len1-up-clause-read
-returns-in-len1-up-clause-read c = run_cut is_lower is_function_character c.args.text.now c.past_function_name-rest.result.now c.split_at.result.0.now c.split_at.result.1.now c.c-item.result c.is_lower.result c.in-len1-up.len_at_least c.c-item.is c.if-is_lower.true c.is_lower.ensures c.past_function_name-rest.ensures c.split_at.ensures.front c.split_at.ensures.back
+pub returns-in-Some : goal.returns-in-Some
+returns-in-Some c =
+    let read = run_behind is_lower is_function_character (chars c.args.text.now) (chars c.in-Some.more.now) (chars c.past_function_name-rest.result.now) c.in-Some.c c.in-Some.ensures (sym c.is_lower.ensures ∙ c.if-is_lower.true) c.past_function_name-rest.ensures in
+    front_read (IsRun is_lower is_function_character) (run_at is_lower is_function_character (chars c.args.text.now)) (chars c.args.text.now) (chars c.past_function_name-rest.result.now) read (run_sound is_lower is_function_character (chars c.args.text.now)) (chars c.up_to.result.now) c.up_to.ensures

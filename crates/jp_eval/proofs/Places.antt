@@ -1,0 +1,49 @@
+-- Where the places of slices lie.
+use Rattle.std.proofs.Common.{◌≡◌, ℕ, ◌≤◌, ℤ, Bool, true, false, cond, List, [], Option, refl, ap, ◌∙◌, subst, arith}
+use Rattle.std.proofs.lemmas.Int.{ints}
+use Rattle.jp_doc.specs.Json.{Json, null, truth, whole, text, array, object}
+use Rattle.jp_eval.specs.BoundsView.{nearest}
+use Rattle.jp_eval.specs.Nodelist.{place_of, index_places, slice_places}
+use Rattle.jp_eval.specs.Places.{AreWithin, item_count}
+use Rattle.jp_eval.specs.Slice.{Bounds, slice_bounds, slice_indexes}
+use Rattle.jp_eval.proofs.Saturation.{no_place, place_saturated}
+
+pub within_more : (b : Bounds) (n m : ℕ) → n ≤ m → AreWithin b n → AreWithin b m
+within_more b n m h w = record {
+  lower = w.lower;
+  lower_of_rising = w.lower_of_rising;
+  upper = let u = w.upper in omega (arith, ints);
+  upper_of_falling = λ f. let u = w.upper_of_falling f in omega (arith, ints);
+  step = w.step;
+}
+
+index_level : (z : ℤ) (v : Json) → place_of z (item_count v) ≡ index_places z v
+index_level z null = no_place z
+index_level z (truth b) = no_place z
+index_level z (whole y) = no_place z
+index_level z (text t) = no_place z
+index_level z (array vs) = refl
+index_level z (object ms) = no_place z
+
+pub index_found : (v : Json) (z place : ℤ) (len : ℕ) → place ≡ nearest z → len ≡ item_count v → len ≤ 16777216 → place_of place len ≡ index_places z v
+index_found v z place len e same short = ap (λ p. place_of p len) e ∙ place_saturated z len short ∙ ap (place_of z) same ∙ index_level z v
+
+abbrev nothing : List ℕ
+nothing = []
+
+no_indexes : (b : Bool) (c : Bool) → cond b nothing (cond c nothing nothing) ≡ nothing
+no_indexes true c = refl
+no_indexes false true = refl
+no_indexes false false = refl
+
+slice_level : (first past step : Option ℤ) (v : Json) → slice_indexes (slice_bounds first past step (item_count v)) (item_count v) ≡ slice_places first past step v
+slice_level first past step null = no_indexes _ _
+slice_level first past step (truth b) = no_indexes _ _
+slice_level first past step (whole y) = no_indexes _ _
+slice_level first past step (text t) = no_indexes _ _
+slice_level first past step (array vs) = refl
+slice_level first past step (object ms) = no_indexes _ _
+
+pub slice_found : (v : Json) (first past step : Option ℤ) (len : ℕ) (b : Bounds) → len ≡ item_count v → slice_indexes b len ≡ slice_indexes (slice_bounds first past step len) len
+    → slice_indexes b (item_count v) ≡ slice_places first past step v
+slice_found v first past step len b same e = subst (λ n. slice_indexes b n ≡ slice_indexes (slice_bounds first past step n) n) same e ∙ slice_level first past step v

@@ -1,0 +1,161 @@
+-- The steps of the walk.
+use Rattle.std.proofs.Common.{◌≡◌, ℕ, zero, suc, ◌+◌, ◌<◌, ◌≤◌, List, [], ◌∷◌, ◌++◌, length, get_or, drop, Option, Some, None, option_to_list, Bool, true, false, ◌&&◌, ◌||◌, refl, sym, ap, ◌∙◌, subst, arith, append-nil}
+use Rattle.std.proofs.lemmas.List.{at_drop_more, at_drop_all, map-append}
+use Rattle.std.specs.List.{All, flat_map, list_any, list_all}
+use Rattle.serde_json.proofs.Views.{Entry}
+use Rattle.serde_json.specs.Data.{depth, items_depth, members_depth}
+use Rattle.serde_json.specs.View.{view, items_view, members_view}
+use Rattle.serde_json.specs.declared.value.Value.{Value}
+use Rattle.std.specs.Prelude.{string_bytes}
+use Rattle.std.specs.Str.{chars}
+use Rattle.jp_doc.specs.Json.{Json, items_of, members_of, value_of}
+use Rattle.jp_doc.specs.Location.{Location, Node, node, name, index, item_of}
+use Rattle.jp_eval.specs.Kept.{Kept, plus}
+use Rattle.jp_eval.specs.Links.{link_step, link_steps, here}
+use Rattle.jp_eval.specs.Nodelist.{items_at}
+use Rattle.jp_eval.specs.Nodes.{child, children, descendants, item_nodes, member_nodes, node_if_some}
+use Rattle.jp_eval.specs.Part.{part_value}
+use Rattle.jp_eval.specs.Places.{later, from_place}
+use Rattle.jp_eval.specs.Slice.{Bounds}
+use Rattle.jp_eval.specs.Walk.{picked, picked_by, reached}
+use Rattle.jp_eval.specs.declared.part.Part.{Part}
+use Rattle.jp_eval.specs.declared.path.Link.{Link}
+use Rattle.jp_syntax.specs.declared.tree.Segment.{Segment}
+use Rattle.jp_syntax.specs.declared.tree.Selector.{Selector}
+use Rattle.jp_eval.proofs.Chains.{reached-append, reached-none, reached-descend}
+use Rattle.jp_eval.proofs.Keeping.{stepped, ended, plus-append}
+
+-- one link further
+pub link_further : (path more : List Link) (l : Link) → more ≡ path ++ l ∷ [] → link_steps more ≡ link_steps path ++ link_step l ∷ []
+link_further path more l e = ap link_steps e ∙ map-append link_step path (l ∷ [])
+
+pub here_further : (path more : List Link) (l : Link) (p : Part) → more ≡ path ++ l ∷ [] → here more p ≡ node (link_steps path ++ link_step l ∷ []) (part_value p)
+here_further path more l p e = ap (λ s. node s (part_value p)) (link_further path more l e)
+
+-- the whole list has been gone over
+pub over : {X : Type 0} (f : List X → List Node) (xs : List X) (i : ℕ) (k start : Kept) (all : List Node) → length xs ≤ i → f [] ≡ [] → plus k (f (drop i xs)) ≡ plus start all → k ≡ plus start all
+over f xs i k start all h none inv = ended k start all (sym (ap (plus k) (at_drop_all f xs i h ∙ none)) ∙ inv)
+
+-- one selector
+pub applied : (root : Json) (xs : List Selector) (i : ℕ) (x : Selector) (rest : List Segment) (n : Node) (k mid start : Kept) (all : List Node) → i < length xs → x ≡ get_or xs i x
+    → mid ≡ plus k (reached root rest (picked root x n)) → plus k (reached root rest (picked_by root (drop i xs) n)) ≡ plus start all
+    → plus mid (reached root rest (picked_by root (drop (i + 1) xs) n)) ≡ plus start all
+applied root xs i x rest n k mid start all h is e inv =
+    let first : reached root rest (picked_by root (drop i xs) n) ≡ reached root rest (picked root x n) ++ reached root rest (picked_by root (drop (i + 1) xs) n) =
+    at_drop_more (λ ys. reached root rest (picked_by root ys n)) xs i x h
+    ∙ ap (λ y. reached root rest (picked root y n ++ picked_by root (drop (i + 1) xs) n)) (sym is)
+    ∙ reached-append root rest (picked root x n) (picked_by root (drop (i + 1) xs) n) in
+    stepped k mid (reached root rest (picked root x n)) (reached root rest (picked_by root (drop (i + 1) xs) n)) all start e (sym (ap (plus k) first) ∙ inv)
+
+pub descended : (root : Json) (xs : List Selector) (rest : List Segment) (n : Node) (k mid last : Kept) → mid ≡ plus k (reached root rest (picked_by root xs n))
+    → last ≡ plus mid (flat_map (λ c. reached root rest (flat_map (picked_by root xs) (descendants c))) (children n))
+    → last ≡ plus k (reached root rest (flat_map (picked_by root xs) (descendants n)))
+descended root xs rest n k mid last here below =
+    below ∙ ap (λ j. plus j (flat_map (λ c. reached root rest (flat_map (picked_by root xs) (descendants c))) (children n))) here
+    ∙ sym (plus-append k (reached root rest (picked_by root xs n)) (flat_map (λ c. reached root rest (flat_map (picked_by root xs) (descendants c))) (children n)))
+    ∙ ap (plus k) (sym (reached-descend root xs rest n))
+
+-- ---- items
+
+pub first_left : (P : Value → Type 0) (xs : List Value) (i : ℕ) (x : Value) → i < length xs → x ≡ get_or xs i x → All P (drop i xs) → P x
+first_left P [] i x h is all = absurd (omega arith)
+first_left P (y ∷ xs) zero x h is all = subst P (sym is) (all 0 x (omega arith))
+first_left P (y ∷ xs) (suc i) x h is all = first_left P xs i x (omega arith) is all
+
+next : (i : ℕ) → suc i + 1 ≡ suc (i + 1)
+next i = omega arith
+
+drop_none : (i : ℕ) → drop {A = Value} i [] ≡ []
+drop_none zero = refl
+drop_none (suc i) = refl
+
+pub others_left : (P : Value → Type 0) (xs : List Value) (i : ℕ) → All P (drop i xs) → All P (drop (i + 1) xs)
+others_left P [] i all = λ k d h. absurd (omega (arith, ap length (drop_none (i + 1)), h))
+others_left P (x ∷ xs) zero all = λ k d h. all (suc k) d (omega arith)
+others_left P (x ∷ xs) (suc i) all = rw (next i) (others_left P xs i all)
+
+pub no_deeper : (xs : List Value) (i : ℕ) → items_depth (items_view (drop (i + 1) xs)) ≤ items_depth (items_view (drop i xs))
+no_deeper [] i = rw (drop_none (i + 1), drop_none i) (omega arith)
+no_deeper (x ∷ xs) zero = omega arith
+no_deeper (x ∷ xs) (suc i) = rw (next i) (no_deeper xs i)
+
+pub first_no_deeper : (xs : List Value) (i : ℕ) (x : Value) → i < length xs → x ≡ get_or xs i x → depth (view x) ≤ items_depth (items_view (drop i xs))
+first_no_deeper [] i x h is = absurd (omega arith)
+first_no_deeper (y ∷ xs) zero x h is = subst (λ z. depth (view z) ≤ items_depth (items_view (y ∷ xs))) (sym is) (omega arith)
+first_no_deeper (y ∷ xs) (suc i) x h is = first_no_deeper xs i x (omega arith) is
+
+pub item_done : (f : Node → List Node) (at : Location) (xs : List Value) (i : ℕ) (x : Value) (k mid start : Kept) (all : List Node) → i < length xs → x ≡ get_or xs i x
+    → mid ≡ plus k (f (node (at ++ index i ∷ []) (value_of x)))
+    → plus k (flat_map f (item_nodes at i (items_of (items_view (drop i xs))))) ≡ plus start all
+    → plus mid (flat_map f (item_nodes at (i + 1) (items_of (items_view (drop (i + 1) xs))))) ≡ plus start all
+item_done f at xs i x k mid start all h is e inv =
+    let others = flat_map f (item_nodes at (i + 1) (items_of (items_view (drop (i + 1) xs)))) in
+    let first : flat_map f (item_nodes at i (items_of (items_view (drop i xs)))) ≡ f (node (at ++ index i ∷ []) (value_of x)) ++ others =
+    at_drop_more (λ ys. flat_map f (item_nodes at i (items_of (items_view ys)))) xs i x h
+    ∙ ap (λ y. f (node (at ++ index i ∷ []) (value_of y)) ++ others) (sym is) in
+    stepped k mid (f (node (at ++ index i ∷ []) (value_of x))) others all start e (sym (ap (plus k) first) ∙ inv)
+
+-- ---- members
+
+pub first_member_left : (P : Value → Type 0) (es others : List Entry) (e : Entry) → es ≡ e ∷ others → All (λ (m : Entry). P m.1) es → P e.1
+first_member_left P es others e is all = subst (λ (l : List Entry). All (λ (m : Entry). P m.1) l) is all 0 e (omega arith)
+
+pub other_members_left : (P : Value → Type 0) (es others : List Entry) (e : Entry) → es ≡ e ∷ others → All (λ (m : Entry). P m.1) es → All (λ (m : Entry). P m.1) others
+other_members_left P es others e is all = λ k d h. subst (λ (l : List Entry). All (λ (m : Entry). P m.1) l) is all (suc k) d (omega arith)
+
+pub members_no_deeper : (es others : List Entry) (e : Entry) → es ≡ e ∷ others → members_depth (members_view others) ≤ members_depth (members_view es)
+members_no_deeper es others e is = subst (λ (l : List Entry). members_depth (members_view others) ≤ members_depth (members_view l)) (sym is) (omega arith)
+
+pub member_done : (f : Node → List Node) (at : Location) (es others : List Entry) (e : Entry) (k mid start : Kept) (all : List Node) → es ≡ e ∷ others
+    → mid ≡ plus k (f (node (at ++ name (chars (string_bytes e.0)) ∷ []) (value_of e.1)))
+    → plus k (flat_map f (member_nodes at (members_of (members_view es)))) ≡ plus start all
+    → plus mid (flat_map f (member_nodes at (members_of (members_view others)))) ≡ plus start all
+member_done f at es others e k mid start all is found inv =
+    stepped k mid (f (node (at ++ name (chars (string_bytes e.0)) ∷ []) (value_of e.1))) (flat_map f (member_nodes at (members_of (members_view others)))) all start found
+    (sym (ap (λ (l : List Entry). plus k (flat_map f (member_nodes at (members_of (members_view l))))) is) ∙ inv)
+
+-- ---- places
+
+pub none_at : (n : Node) (o : Option ℕ) (p : ℕ) → o ≡ Some p → None ≡ item_of p n.value → items_at n (option_to_list o) ≡ []
+none_at n o p is none = ap (λ x. items_at n (option_to_list x)) is ∙ ap (λ x. node_if_some (n.location ++ index p ∷ []) x ++ []) (sym none)
+
+pub one_at : (n : Node) (o : Option ℕ) (p : ℕ) (v : Json) → o ≡ Some p → Some v ≡ item_of p n.value → items_at n (option_to_list o) ≡ node (n.location ++ index p ∷ []) v ∷ []
+one_at n o p v is some = ap (λ x. items_at n (option_to_list x)) is ∙ ap (λ x. node_if_some (n.location ++ index p ∷ []) x ++ []) (sym some)
+
+pub place_done : (root : Json) (rest : List Segment) (n : Node) (b : Bounds) (len : ℕ) (next further : Option ℕ) (p : ℕ) (k mid start : Kept) (all : List Node) → next ≡ Some p → from_place b len further ≡ later b len p
+    → mid ≡ plus k (reached root rest (items_at n (p ∷ [])))
+    → plus k (reached root rest (items_at n (from_place b len next))) ≡ plus start all
+    → plus mid (reached root rest (items_at n (from_place b len further))) ≡ plus start all
+place_done root rest n b len next further p k mid start all is behind e inv =
+    let found = reached root rest (items_at n (p ∷ [])) in
+    let others = reached root rest (items_at n (from_place b len further)) in
+    let first : reached root rest (items_at n (from_place b len next)) ≡ found ++ others =
+    ap (λ o. reached root rest (items_at n (from_place b len o))) is
+    ∙ ap (λ t. reached root rest (t ++ items_at n (later b len p))) (sym (append-nil (child (index p) n)))
+    ∙ reached-append root rest (items_at n (p ∷ [])) (items_at n (later b len p))
+    ∙ ap (λ l. found ++ reached root rest (items_at n l)) (sym behind) in
+    stepped k mid found others all start e (sym (ap (plus k) first) ∙ inv)
+
+pub places_over : (root : Json) (rest : List Segment) (n : Node) (b : Bounds) (len : ℕ) (next : Option ℕ) (k start : Kept) (all : List Node) → next ≡ None
+    → plus k (reached root rest (items_at n (from_place b len next))) ≡ plus start all → k ≡ plus start all
+places_over root rest n b len next k start all is inv =
+    ended k start all (sym (ap (plus k) (ap (λ o. reached root rest (items_at n (from_place b len o))) is ∙ reached-none root rest)) ∙ inv)
+
+pub members_over : (f : Node → List Node) (at : Location) (es : List Entry) (k start : Kept) (all : List Node) → es ≡ []
+    → plus k (flat_map f (member_nodes at (members_of (members_view es)))) ≡ plus start all → k ≡ plus start all
+members_over f at es k start all is inv = ended k start all (sym (ap (λ (l : List Entry). plus k (flat_map f (member_nodes at (members_of (members_view l))))) is) ∙ inv)
+
+-- ---- some part, and each part
+
+module _ {X : Type 0} (p : X → Bool) (xs : List X) (i : ℕ) (x : X) (h : i < length xs) (is : x ≡ get_or xs i x) where
+  pub any_further : p x ≡ false → list_any p (drop (i + 1) xs) ≡ list_any p (drop i xs)
+  any_further off = sym (at_drop_more (list_any p) xs i x h ∙ ap (λ b. b || list_any p (drop (i + 1) xs)) (ap p (sym is) ∙ off))
+
+  pub any_found : p x ≡ true → list_any p (drop i xs) ≡ true
+  any_found on = at_drop_more (list_any p) xs i x h ∙ ap (λ b. b || list_any p (drop (i + 1) xs)) (ap p (sym is) ∙ on)
+
+  pub all_further : p x ≡ true → list_all p (drop (i + 1) xs) ≡ list_all p (drop i xs)
+  all_further on = sym (at_drop_more (list_all p) xs i x h ∙ ap (λ b. b && list_all p (drop (i + 1) xs)) (ap p (sym is) ∙ on))
+
+  pub all_found : p x ≡ false → list_all p (drop i xs) ≡ false
+  all_found off = at_drop_more (list_all p) xs i x h ∙ ap (λ b. b && list_all p (drop (i + 1) xs)) (ap p (sym is) ∙ off)

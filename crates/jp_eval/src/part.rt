@@ -1,0 +1,64 @@
+//! Values inside a document.
+
+ghost use Rattle.std.specs.Prelude.{◌≡◌, ◌≤◌, ◌<◌, option_map, IfSome};
+ghost use Rattle.serde_json.specs.Data.{depth};
+ghost use Rattle.serde_json.specs.View.{view};
+ghost use Rattle.jp_doc.specs.DocumentValue.{IsDocumentValue};
+ghost use Rattle.jp_doc.specs.Json.{value_of};
+ghost use Rattle.jp_doc.proofs.RisingProps.{rising_prop};
+ghost use Rattle.std.proofs.Props.{props};
+
+use jp_doc::Document;
+use serde_json::Value;
+
+/// A value of a document: its numbers are whole, its arrays short enough, and its nesting is at most 127.
+#[derive(Clone, Copy)]
+pub(crate) struct Part<'v> {
+    pub value: &'v Value,
+    ghost kept: { IsDocumentValue value.now } by { Prim.hlevel (props, rising_prop (value_of value.now)) },
+}
+
+impl<'v> Part<'v> {
+    ghost use Rattle.std.specs.Str.{chars};
+    ghost use Rattle.jp_doc.specs.Document.{document_value};
+    ghost use Rattle.jp_doc.specs.Location.{member_of, item_of};
+    ghost use Rattle.jp_eval.specs.Part.{part_value};
+    ghost use Rattle.jp_eval.specs.Places.{item_count};
+
+    /// The whole value of a document.
+    pub fn root_of(document: &'v Document) -> Part<'v>
+        ensures { part_value result ≡ document_value document.now }
+    {
+        let value = document.root();
+        Part { value }
+    }
+
+    /// The member of this name.
+    pub fn member(self, name: &str) -> Option<Part<'v>>
+        ensures value { option_map part_value result ≡ member_of (chars name.now) (part_value self.entry) }
+        ensures below { IfSome result (λ p. depth (view p.value.now) < depth (view self.entry.value.now)) }
+    {
+        let value = self.value.get(name)?;
+        Some(Part { value })
+    }
+
+    /// The item at this place.
+    pub fn item(self, place: u32) -> Option<Part<'v>>
+        ensures value { option_map part_value result ≡ item_of place (part_value self.entry) }
+        ensures below { IfSome result (λ p. depth (view p.value.now) < depth (view self.entry.value.now)) }
+    {
+        let value = self.value.get(place as usize)?;
+        Some(Part { value })
+    }
+
+    /// How many items the array has, and 0 of any other value.
+    pub fn item_count(self) -> u32
+        ensures count { result ≡ item_count (part_value self.entry) }
+        ensures short { result ≤ 16777216 }
+    {
+        match self.value {
+            Value::Array(items) => items.len() as u32,
+            _ => 0,
+        }
+    }
+}

@@ -1,0 +1,10 @@
+use Rattle.std.proofs.Common.{◌≡◌, drop, map}
+use Rattle.jp_doc.specs.Lines.{line_of}
+use Rattle.jp_check.specs.Plan.{planned_query}
+use Rattle.jp_regexp.specs.Tests.{Tests, AreRight}
+use Rattle.jp_run.specs.Answer.{after, answer}
+use Rattle.jp_run.proofs.answering.answer_lines.Given as goal
+
+abbrev pub invariant-loop-line : goal.invariant-loop-line
+invariant-loop-line l = (t : Tests) → AreRight t → answer t (planned_query l.plan) (map line_of l.lines)
+    ≡ after l.bytes.items (answer t (planned_query l.plan) (map line_of (drop l.line-index l.lines)))
