@@ -2,6 +2,7 @@ pub mod LineLaws
 pub mod LocationLaws
 pub mod OnLiterals
 pub mod ReadingLaws
+pub mod RisingLaws
 pub mod TextLaws
 pub mod RisingProps
 pub mod Found

@@ -1,6 +1,8 @@
 -- Names in rising order, at every level.
 use Rattle.std.specs.Prelude.{◌≡◌}
 use Rattle.std.specs.declared.cmp.Ordering.TheVariants.{Less}
+use Rattle.std.specs.Str.{IsUtf8}
+use Rattle.serde_json.specs.Data as crate_data
 use Rattle.jp_doc.specs.Json.{Text, text_cmp, Json, null, truth, whole, text, array, object, Items, no_items, add_item, Members, no_members, add_member}
 
 -- the first text is below the second
@@ -29,3 +31,8 @@ abbrev mutual
   pub MembersRise : Members → Type 0
   MembersRise no_members = Unit {0}
   MembersRise (add_member k v ms) = IsRising v × IsBelow k ms × MembersRise ms
+
+-- the names of the members that the JSON crate reads are UTF-8
+abbrev pub NamesAreUtf8 : crate_data.Members → Type 0
+NamesAreUtf8 crate_data.no_members = Unit {0}
+NamesAreUtf8 (crate_data.member k d ms) = IsUtf8 k × NamesAreUtf8 ms

@@ -4,19 +4,21 @@ ghost use Rattle.std.specs.Prelude.{◌≡◌, ℕ, ◌<◌, ◌≤◌, false, n
 ghost use Rattle.std.specs.declared.alloc.Global.{Global};
 ghost use Rattle.std.specs.BTreeMap.{BTreeMap};
 ghost use Rattle.std.specs.List.{All, list_all, concat};
+ghost use Rattle.std.specs.Str.{IsUtf8};
 ghost use Rattle.std.specs.Cmp.Lexicographic.{slice_cmp};
 ghost use Rattle.std.specs.Ordering.{nat_cmp};
-ghost use Rattle.serde_json.specs.Data.{Data};
+ghost use Rattle.serde_json.specs.Data.{Data, Members, put};
 ghost use Rattle.serde_json.specs.Written.{has_float};
 ghost use Rattle.serde_json.specs.View.{view};
 ghost use Rattle.serde_json.specs.declared.value.Value.{Value, Array, Object};
 ghost use Rattle.jp_doc.specs.DocumentValue.{IsDocumentValue};
-ghost use Rattle.jp_doc.specs.Json.{Text, text_cmp, Json, json_of, value_of, data_of};
+ghost use Rattle.jp_doc.specs.Json.{Text, text_cmp, Json, json_of, members_of, value_of, data_of};
 ghost use Rattle.jp_doc.specs.Lines.{all_lines, lines, line_count};
 ghost use Rattle.jp_doc.specs.Feeding.{cut, last_line, nothing_fed, lines_of_pieces, after_pieces};
 ghost use Rattle.jp_doc.specs.Joined.{joined};
 ghost use Rattle.jp_doc.specs.Location.{Location, value_at};
 ghost use Rattle.jp_doc.specs.Reading.{max_line, max_items, has_long_array, crate_reading, reading};
+ghost use Rattle.jp_doc.specs.Rising.{IsRising, MembersRise, NamesAreUtf8};
 ghost use Rattle.jp_doc.specs.declared.fault.DocFault.TheVariants.{LongLine, Unreadable, NotWhole, LongArray, Memory};
 
 /// Bytes that are cut after a line feed have the lines of the first part, and then those of the second.
@@ -58,6 +60,13 @@ pub fn first_fault()
 #[tactic(auto, using(crate::proofs::LocationLaws::value_at_both))]
 pub fn value_at_further()
     ensures { (a b : Location) (v : Json) → value_at (a ++ b) v ≡ option_and_then (value_at b) (value_at a v) }
+{}
+
+/// A member that the JSON crate puts among members whose names rise keeps them rising, where the names are UTF-8.
+#[tactic(auto, using(crate::proofs::RisingLaws::rise_put, crate::proofs::RisingLaws::utf8_put))]
+pub fn names_rise_on_put()
+    ensures rising { (k : List ℕ) (d : Data) (ms : Members) → IsUtf8 k → NamesAreUtf8 ms → IsRising (json_of d) → MembersRise (members_of ms) → MembersRise (members_of (put k d ms)) }
+    ensures utf8 { (k : List ℕ) (d : Data) (ms : Members) → IsUtf8 k → NamesAreUtf8 ms → NamesAreUtf8 (put k d ms) }
 {}
 
 /// The lines are those that end in a line feed, and what follows the last line feed if it is not empty.

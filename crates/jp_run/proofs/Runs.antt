@@ -1,11 +1,13 @@
 -- What a run has done, put together of what its parts did.
 use Rattle.std.proofs.Common.{◌≡◌, Bool, true, false, ℕ, List, [], ◌∷◌, ◌++◌, length, take, map, Option, Some, None, option_map, IfSome, ◌⊎◌, inl, inr, Result, Ok, Err, refl, sym, ◌∙◌, ap, subst, append-nil, arith}
 use Rattle.std.proofs.Math.Seq.{take-length}
+use Rattle.std.proofs.lemmas.List.{length-map}
 use Rattle.std.specs.Prelude.{⊤, is_err, OnOk, OnErr}
 use Rattle.std.specs.Result.{IsErrAnd}
 use Rattle.std.specs.Io.KnownBytes.{Appends, Consumes, IsAtEnd, Keeps}
 use Rattle.std.proofs.KnownBytes.{Appends-nil, Appends-kept}
-use Rattle.jp_doc.specs.Lines.{Line, lines}
+use Rattle.jp_doc.specs.Lines.{Line, lines, line_count, line_of}
+use Rattle.jp_doc.specs.declared.line.Line as line
 use Rattle.jp_doc.specs.declared.fault.DocFault.{DocFault}
 use Rattle.jp_syntax.specs.Tree as tree
 use Rattle.jp_syntax.specs.Tree.{Text}
@@ -47,6 +49,12 @@ pub answer_known : (text : Text) (q : tree.Query) (ls : List Line) (a : Answer) 
     → IfSome old (λ input. IsAnswerTo text input a)
 answer_known text q ls a old new input h same e accepted is =
     whole_input (λ input. IsAnswerTo text input a) old new input h e (q, accepted, λ t right. ap (answer t q) (sym same) ∙ is t right)
+
+-- how many lines such a source gave, and how many of them hold documents
+pub counts_known : (ls : List line.Line) (all documents : ℕ) (old new : Option (List ℕ)) (input : List ℕ) → Consumes old new input → map line_of ls ≡ lines input → all ≡ line_count input
+    → IsAtEnd new → documents ≡ length ls → IfSome old (λ input. (all ≡ line_count input) × (documents ≡ length (lines input)))
+counts_known ls all documents old new input h same count e is =
+    whole_input (λ input. (all ≡ line_count input) × (documents ≡ length (lines input))) old new input h e (count, is ∙ sym (length-map ls line_of) ∙ ap length same)
 
 front_of_all : (old new : Option (List ℕ)) (bytes : List ℕ) → Appends old new bytes → AppendsFront old new bytes
 front_of_all old new bytes h = (length bytes, omega arith, subst (Appends old new) (sym (take-length bytes)) h)

@@ -62,8 +62,9 @@ pub fn run<S: Source, K: Sink>(
     ensures still_working { OnOk result ((S.failed source.new ≡ false) × (K.failed sink.new ≡ false)) }
     // The query's fault is the text's verdict, and nothing was read or written.
     ensures query { (f : Refusal) → IsErrOf result (RunFault.Query f) → IsVerdict (chars query.now) (Err f) × (source.new ≡ source.old) × (sink.new ≡ sink.old) }
-    // A text that is refused ends in its fault, or in want of memory.
-    ensures refused { (f : Refusal) → IsVerdict (chars query.now) (Err f) → IsErrOf result (RunFault.Query f) ⊎ IsErrOf result RunFault.Memory }
+    // A text that is refused ends in its fault, or in want of memory, and nothing was read or written.
+    ensures refused { (f : Refusal) → IsVerdict (chars query.now) (Err f) → (IsErrOf result (RunFault.Query f) ⊎ IsErrOf result RunFault.Memory)
+        × (source.new ≡ source.old) × (sink.new ≡ sink.old) }
     // The first faulty line and its fault are told, and all before it was written.
     ensures document { (line : ℕ) (fault : Fault) → IsErrOf result (RunFault.Document line fault) → IfSome (S.remaining source.old) (λ input. (a : Answer) × IsAnswerTo (chars query.now) input a
         × (a.stopped ≡ Some (line, fault)) × Appends (K.contents sink.old) (K.contents sink.new) a.bytes) }

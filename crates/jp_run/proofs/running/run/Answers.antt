@@ -1,13 +1,13 @@
-use Rattle.std.proofs.Common.{rules, ap, ◌∙◌, sym, map}
+use Rattle.std.proofs.Common.{ap, ◌∙◌, refl, map}
 use Rattle.std.proofs.KnownBytes.{Appends-kept}
 use Rattle.jp_doc.specs.Lines.{line_of}
 use Rattle.jp_check.specs.Plan.{planned_query}
 use Rattle.jp_run.specs.Answered.{answer_of}
-use Rattle.jp_run.proofs.Runs.{answer_known, not_both, refused_so, front_known, whole_known, written_known, stopped_at, not_stopped, at_ok, at_err}
+use Rattle.jp_run.proofs.Runs.{answer_known, counts_known, not_both, refused_so, front_known, whole_known, written_known, stopped_at, not_stopped, at_ok, at_err}
 use Rattle.jp_run.proofs.running.run.Goals as goal
 
 pub returns-in_err-plan-clause-refused : goal.returns-in_err-plan-clause-refused
-returns-in_err-plan-clause-refused g c = λ f v. refused_so _ f _ _ c.from_residual.ensures.1 c.in_err-plan.ensures.fault v
+returns-in_err-plan-clause-refused g c = λ f v. (refused_so _ f _ _ c.from_residual.ensures.1 c.in_err-plan.ensures.fault v, refl, refl)
 
 pub returns-in_err-gathered-clause-refused : goal.returns-in_err-gathered-clause-refused
 returns-in_err-gathered-clause-refused g c = λ f v. not_both _ _ f c.in_ok-plan.ensures.ok v
@@ -43,3 +43,10 @@ returns-clause-answer g c = written_known _ (answer_of c.in_ok-answer.answer) _ 
 
 pub returns-clause-refused : goal.returns-clause-refused
 returns-clause-refused g c = λ f v. not_both _ _ f c.in_ok-plan.ensures.ok v
+
+pub returns-in_err-answer-clause-refused : goal.returns-in_err-answer-clause-refused
+returns-in_err-answer-clause-refused g c = λ f v. not_both _ _ f c.in_ok-plan.ensures.ok v
+
+pub returns-clause-counts : goal.returns-clause-counts
+returns-clause-counts g c = counts_known c.in_ok-gathered.gathered.lines.items _ _ _ _ _ c.in_ok-gathered.ensures.lines.1 c.in_ok-gathered.ensures.lines.2
+    c.in_ok-gathered.ensures.lines.3 c.in_ok-gathered.ensures.end (c.len.ensures ∙ c.in_ok-gathered.gathered.lines.ok.0)
