@@ -1,4 +1,5 @@
-//! The command `jp`: runs one JSONPath query (RFC 9535) over the documents on standard input, one on a line, and prints
+//! The command `jp`: runs one JSONPath query (RFC 9535) over the documents on standard input, one on a line,
+//! and prints
 //! a line for each node that it selects.
 #![tactic(auto)]
 
@@ -29,7 +30,8 @@ fn main(rt: HostRuntime) -> ExitCode {
     ExitCode::from(status)
 }
 
-/// The only word of the command line, or `None` where there is none, where there are more, or where it is no UTF-8.
+/// The only word of the command line, or `None` where there is none, where there are more, or where it is no
+/// UTF-8.
 fn query_word(rt: &HostRuntime) -> Result<Option<String>, RunFault> {
     let mut words = match env::args(rt) {
         Ok(words) => words,

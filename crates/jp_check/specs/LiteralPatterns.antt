@@ -1,6 +1,12 @@
--- The literal patterns of a query: the texts that are given to `match` and `search` as literals (RFC 9535, 2.4.6 and 2.4.7).
+-- The literal patterns of a query: the texts that are given to `match` and `search` as literals (RFC 9535,
+-- 2.4.6 and 2.4.7).
 use Rattle.std.specs.Prelude.{List, [], ◌∷◌, ◌++◌, Option, Some}
-use Rattle.jp_syntax.specs.Tree.{Text, text, Query, query, Segment, segment, Selector, filter, Logical, any, all, negation, comparing, test, test_call, Comparison, comparison, Comparable, literal, single, value_call, Call, call, Argument, literal_argument, query_argument, logical_argument, call_argument, Segments, no_segments, add_segment, Selectors, no_selectors, add_selector, Logicals, no_logicals, add_logical, Arguments, no_arguments, add_argument}
+use Rattle.jp_syntax.specs.Tree.{Text, text, Query, query, Segment, segment, Selector, filter, Logical, any}
+use Rattle.jp_syntax.specs.Tree.{all, negation, comparing, test, test_call, Comparison, comparison}
+use Rattle.jp_syntax.specs.Tree.{Comparable, literal, single, value_call, Call, call, Argument}
+use Rattle.jp_syntax.specs.Tree.{literal_argument, query_argument, logical_argument, call_argument, Segments}
+use Rattle.jp_syntax.specs.Tree.{no_segments, add_segment, Selectors, no_selectors, add_selector, Logicals}
+use Rattle.jp_syntax.specs.Tree.{no_logicals, add_logical, Arguments, no_arguments, add_argument}
 use Rattle.jp_check.specs.Functions.{Function, match_function, search_function, function_named}
 
 -- the text that an argument is as a literal
@@ -60,7 +66,8 @@ abbrev mutual
   comparable_patterns (value_call c) = call_patterns c
 
   pub call_patterns : Call → List Text
-  call_patterns (call function given) = given_pattern (function_named function) given ++ arguments_patterns given
+  call_patterns (call function given) = given_pattern (function_named function) given ++ arguments_patterns
+      given
 
   pub arguments_patterns : Arguments → List Text
   arguments_patterns no_arguments = []

@@ -1,8 +1,14 @@
 -- Well-typedness (RFC 9535, 2.4.3).
 use Rattle.std.specs.Prelude.{Bool, true, false, ◌&&◌, List, [], ◌∷◌, Option, Some, None, option_map}
-use Rattle.jp_syntax.specs.Tree.{Query, query, Segment, segment, Selector, filter, Logical, any, all, negation, comparing, test, test_call, Comparison, comparison, Comparable, literal, single, value_call, Call, call, Argument, literal_argument, query_argument, logical_argument, call_argument, Segments, no_segments, add_segment, Selectors, no_selectors, add_selector, Logicals, no_logicals, add_logical, Arguments, no_arguments, add_argument}
+use Rattle.jp_syntax.specs.Tree.{Query, query, Segment, segment, Selector, filter, Logical, any, all}
+use Rattle.jp_syntax.specs.Tree.{negation, comparing, test, test_call, Comparison, comparison, Comparable}
+use Rattle.jp_syntax.specs.Tree.{literal, single, value_call, Call, call, Argument, literal_argument}
+use Rattle.jp_syntax.specs.Tree.{query_argument, logical_argument, call_argument, Segments, no_segments}
+use Rattle.jp_syntax.specs.Tree.{add_segment, Selectors, no_selectors, add_selector, Logicals, no_logicals}
+use Rattle.jp_syntax.specs.Tree.{add_logical, Arguments, no_arguments, add_argument}
 use Rattle.jp_syntax.specs.Singular.{is_singular}
-use Rattle.jp_check.specs.Functions.{Kind, value_type, logical_type, nodes_type, Function, function_named, parameters, result_type}
+use Rattle.jp_check.specs.Functions.{Kind, value_type, logical_type, nodes_type, Function, function_named}
+use Rattle.jp_check.specs.Functions.{parameters, result_type}
 
 -- the type of what a call gives, where its function is known
 abbrev pub type_of_call : Call → Option Kind
@@ -16,8 +22,10 @@ serves_as logical_type (Some logical_type) = true
 serves_as logical_type (Some nodes_type) = true
 serves_as _ _ = false
 
--- An argument for a parameter of this type. For a value: a literal, a singular query, or a call that gives a value.
--- For nodes: a query, or a call that gives nodes. For true or false: a logical expression, a query, or a call that
+-- An argument for a parameter of this type. For a value: a literal, a singular query, or a call that gives a
+-- value.
+-- For nodes: a query, or a call that gives nodes. For true or false: a logical expression, a query, or a call
+-- that
 -- gives either of the last two.
 abbrev pub fits : Kind → Argument → Bool
 fits value_type (literal_argument x) = true
@@ -38,7 +46,8 @@ abbrev pub fits_parameters : Option Function → Arguments → Bool
 fits_parameters None given = false
 fits_parameters (Some function) given = all_fit (parameters function) given
 
--- The rules hold at each place of the tree: each call has a known function and arguments that fit its parameters,
+-- The rules hold at each place of the tree: each call has a known function and arguments that fit its
+-- parameters,
 -- a call by itself as a test gives true or false or nodes, and a call in a comparison gives a value.
 abbrev mutual
   pub query_typed : Query → Bool

@@ -16,7 +16,8 @@ verdict_of q =
     else if not (query_typed q) then Err IllTyped
     else Ok q
 
--- The verdict of a text: too deep, or no tree is spelled by it, or else the verdict of the tree that it spells.
+-- The verdict of a text: too deep, or no tree is spelled by it, or else the verdict of the tree that it
+-- spells.
 abbrev pub IsVerdict : Text → Result Query QueryFault → Type 0
 IsVerdict t (Err TooDeep) = max_depth < bracket_depth t
 IsVerdict t (Err Syntax) = (bracket_depth t ≤ max_depth) × ((q : Query) → Spells t q → ⊥)

@@ -32,7 +32,8 @@ impl Plan {
         &self.query
     }
 
-    /// What is known of the text as a pattern: what it is, if it stands in the query as a literal second argument of
+    /// What is known of the text as a pattern: what it is, if it stands in the query as a literal second
+    /// argument of
     /// `match` or `search`. It takes no memory.
     pub fn pattern(&self, text: &str) -> Known<'_>
         ensures { Tells (literal_patterns (planned_query self.now)) (chars text.now) result }

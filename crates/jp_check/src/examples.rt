@@ -1,76 +1,238 @@
 //! Worked examples of the definitions.
 
-ghost use Rattle.std.specs.Prelude.{◌≡◌, [], ◌∷◌, codes, replicate, Some, None, Ok, Err, true};
+ghost use Rattle.std.specs.Prelude.{◌≡◌, [], ◌∷◌, codes, pos, negsuc, replicate, Some, None, true, false};
 ghost use Rattle.jp_syntax.specs.Tree as tree;
-ghost use Rattle.jp_syntax.specs.declared.tree.Start.TheVariants.{Root};
 ghost use Rattle.jp_syntax.specs.declared.fault.QueryFault.TheVariants.{Fraction, Range, IllTyped};
+ghost use Rattle.jp_check.specs.Functions as functions;
+ghost use Rattle.jp_check.specs.Functions.{function_named, parameters, result_type};
+ghost use Rattle.jp_check.specs.Functions.{value_type, logical_type, nodes_type};
 ghost use Rattle.jp_check.specs.LiteralPatterns.{literal_patterns};
-ghost use Rattle.jp_check.specs.Verdict.{verdict_of};
-ghost use Rattle.jp_check.specs.Samples.{selecting, filtered, current, current_with, member_a, equals, num, a_equals, calling, tested, equals_number, above_number};
+ghost use Rattle.jp_check.specs.Numbers.{whole_number};
+ghost use Rattle.jp_check.specs.Typing.{fits, serves_as};
+ghost use Rattle.jp_check.specs.Samples.{IsValid, IsRefused, selecting, filtered, below_a, behind_zero};
+ghost use Rattle.jp_check.specs.Samples.{either, both};
+ghost use Rattle.jp_check.specs.Samples.{current, current_with, member_a, each_child, too_far, far_node, far};
+ghost use Rattle.jp_check.specs.Samples.{equals, num, a_equals, calling, tested, equals_number, above_number};
+ghost use Rattle.jp_check.specs.Samples.{unknown, unknown_call, matching, match_call};
+ghost use Rattle.jp_check.specs.Samples.{it, each, its_a, a_text, a_number, has_a, a_call};
 
-/// Index and slice numbers at their limits and beyond.
-fn ranges()
-    ensures greatest_index { verdict_of (selecting (tree.index (codes "9007199254740991"))) ≡ Ok (selecting (tree.index (codes "9007199254740991"))) }
-    ensures beyond_greatest { verdict_of (selecting (tree.index (codes "9007199254740992"))) ≡ Err Range }
-    ensures least_index { verdict_of (selecting (tree.index (codes "-9007199254740991"))) ≡ Ok (selecting (tree.index (codes "-9007199254740991"))) }
-    ensures beyond_least { verdict_of (selecting (tree.index (codes "-9007199254740992"))) ≡ Err Range }
-    ensures slice_step { verdict_of (selecting (tree.slice None None (Some (codes "9007199254740992")))) ≡ Err Range }
-    ensures index_in_filter { verdict_of (filtered (tree.test (current_with (tree.index (codes "9007199254740992") ∷ [])))) ≡ Err Range }
+/// Indexes at their limits and beyond, wherever they stand.
+fn indexes()
+    ensures greatest { IsValid (selecting (tree.index (codes "9007199254740991"))) }
+    ensures beyond_greatest { IsRefused (selecting too_far) Range }
+    ensures least { IsValid (selecting (tree.index (codes "-9007199254740991"))) }
+    ensures beyond_least { IsRefused (selecting (tree.index (codes "-9007199254740992"))) Range }
+    ensures in_second_segment { IsRefused (below_a too_far) Range }
+    ensures in_second_selector { IsRefused (behind_zero too_far) Range }
+    ensures in_a_test { IsRefused (filtered far) Range }
+    ensures digits_of_a_name { IsValid (selecting (tree.name (codes "9007199254740992"))) }
+{}
+
+/// Each number of a slice at its limit and beyond.
+fn slices()
+    ensures greatest { IsValid (selecting (tree.slice (Some (codes "9007199254740991"))
+        (Some (codes "9007199254740991")) (Some (codes "9007199254740991")))) }
+    ensures least { IsValid (selecting (tree.slice (Some (codes "-9007199254740991"))
+        (Some (codes "-9007199254740991")) (Some (codes "-9007199254740991")))) }
+    ensures first { IsRefused (selecting (tree.slice (Some (codes "9007199254740992")) None None)) Range }
+    ensures past { IsRefused (selecting (tree.slice None (Some (codes "9007199254740992")) None)) Range }
+    ensures step { IsRefused (selecting (tree.slice None None (Some (codes "-9007199254740992")))) Range }
+    ensures none { IsValid (selecting (tree.slice None None None)) }
 {}
 
 /// Number literals: fractions, exponents, lengths.
 fn literals()
-    ensures fraction { verdict_of (a_equals (codes "1.5")) ≡ Err Fraction }
-    ensures exponent { verdict_of (a_equals (codes "1e3")) ≡ Err Fraction }
-    ensures capital_exponent { verdict_of (a_equals (codes "1E3")) ≡ Err Fraction }
-    ensures minus_zero { verdict_of (a_equals (codes "-0")) ≡ Ok (a_equals (codes "-0")) }
-    ensures longest { verdict_of (a_equals (replicate 38 57)) ≡ Ok (a_equals (replicate 38 57)) }
-    ensures longest_negative { verdict_of (a_equals (45 ∷ replicate 38 57)) ≡ Ok (a_equals (45 ∷ replicate 38 57)) }
-    ensures too_long { verdict_of (a_equals (replicate 39 57)) ≡ Err Range }
-    ensures fraction_before_type { verdict_of (equals_number (codes "nope") (tree.query_argument current ∷ []) (codes "1.5")) ≡ Err Fraction }
-    ensures fraction_before_range { verdict_of (filtered (tree.any (tree.logicals (equals (tree.single (current_with (tree.index (codes "9007199254740992") ∷ []))) (num (codes "1")) ∷ equals (tree.single member_a) (num (codes "1.5")) ∷ [])))) ≡ Err Fraction }
-    ensures range_before_type { verdict_of (equals_number (codes "nope") (tree.query_argument current ∷ []) (replicate 39 57)) ≡ Err Range }
+    ensures fraction { IsRefused (a_equals (codes "1.5")) Fraction }
+    ensures exponent { IsRefused (a_equals (codes "1e3")) Fraction }
+    ensures capital_exponent { IsRefused (a_equals (codes "1E3")) Fraction }
+    ensures whole { IsValid (a_equals (codes "1")) }
+    ensures minus_zero { IsValid (a_equals (codes "-0")) }
+    ensures longest { IsValid (a_equals (replicate 38 57)) }
+    ensures longest_negative { IsValid (a_equals (45 ∷ replicate 38 57)) }
+    ensures too_long { IsRefused (a_equals (replicate 39 57)) Range }
+    ensures in_an_argument { IsRefused (equals_number (codes "length") (a_number (codes "1.5") ∷ [])
+        (codes "1")) Fraction }
+    ensures on_the_left { IsRefused (filtered (equals (num (codes "1.5")) (tree.single member_a))) Fraction }
+    ensures text_of_a_fraction { IsValid (filtered
+        (equals (tree.single member_a) (tree.literal (tree.text (codes "1.5"))))) }
+{}
+
+/// The order of the faults: fractions, then ranges, then types.
+fn order_of_faults()
+    ensures fraction_before_type { IsRefused (equals_number (codes "nope") (it ∷ []) (codes "1.5")) Fraction }
+    ensures range_before_type { IsRefused (equals_number (codes "nope") (it ∷ []) (replicate 39 57)) Range }
+    ensures fraction_before_range { IsRefused (either far (equals (tree.single member_a) (num (codes "1.5"))))
+        Fraction }
+{}
+
+/// Numbers are looked for in each part of an expression.
+fn numbers_in_expressions()
+    ensures second_of_any { IsRefused (either (tree.test member_a) far) Range }
+    ensures second_of_all { IsRefused (both (tree.test member_a) far) Range }
+    ensures negated { IsRefused (filtered (tree.negation far)) Range }
+    ensures on_the_left { IsRefused (filtered (equals (tree.single far_node) (num (codes "1")))) Range }
+    ensures on_the_right { IsRefused (filtered (equals (num (codes "1")) (tree.single far_node))) Range }
+    ensures in_an_argument { IsRefused (equals_number (codes "count") (tree.query_argument far_node ∷ [])
+        (codes "1")) Range }
+    ensures in_a_test { IsRefused (tested (codes "match")
+        (tree.query_argument far_node ∷ a_text (codes "a") ∷ [])) Range }
+    ensures in_a_second_argument { IsRefused (tested (codes "match") (it ∷ tree.query_argument far_node ∷ []))
+        Range }
+    ensures in_a_call_in_a_call { IsRefused (equals_number (codes "length")
+        (a_call (codes "count") (tree.query_argument far_node ∷ []) ∷ []) (codes "1")) Range }
+    ensures in_a_logical_argument { IsRefused
+        (equals_number (codes "count") (tree.logical_argument far ∷ []) (codes "1")) Range }
+{}
+
+/// Types are looked at in each part of a query.
+fn types_in_expressions()
+    ensures in_second_segment { IsRefused (below_a (tree.filter unknown)) IllTyped }
+    ensures in_second_selector { IsRefused (behind_zero (tree.filter unknown)) IllTyped }
+    ensures first_of_any { IsRefused (either unknown (tree.test member_a)) IllTyped }
+    ensures second_of_any { IsRefused (either (tree.test member_a) unknown) IllTyped }
+    ensures second_of_all { IsRefused (both (tree.test member_a) unknown) IllTyped }
+    ensures negated { IsRefused (filtered (tree.negation unknown)) IllTyped }
+    ensures in_a_test { IsRefused (filtered (tree.test (filtered unknown))) IllTyped }
+    ensures on_the_left { IsRefused (filtered (equals (tree.single (filtered unknown)) (num (codes "1"))))
+        IllTyped }
+    ensures on_the_right { IsRefused (filtered (equals (num (codes "1")) (tree.value_call unknown_call)))
+        IllTyped }
+    ensures in_an_argument { IsRefused (equals_number (codes "count")
+        (tree.query_argument (current_with (tree.filter unknown ∷ [])) ∷ []) (codes "1")) IllTyped }
+    ensures in_a_second_argument { IsRefused (tested (codes "match")
+        (it ∷ a_call (codes "length") (each ∷ []) ∷ [])) IllTyped }
+    ensures in_a_call_in_a_call { IsRefused (equals_number (codes "length")
+        (a_call (codes "length") (each ∷ []) ∷ []) (codes "1")) IllTyped }
 {}
 
 /// Calls that are not well-typed.
 fn ill_typed()
-    ensures value_as_test { verdict_of (tested (codes "length") (tree.query_argument member_a ∷ [])) ≡ Err IllTyped }
-    ensures many_nodes_for_value { verdict_of (above_number (codes "length") (tree.query_argument (current_with (tree.wildcard ∷ [])) ∷ []) (codes "1")) ≡ Err IllTyped }
-    ensures unknown_function { verdict_of (tested (codes "nope") (tree.query_argument current ∷ [])) ≡ Err IllTyped }
-    ensures function_true { verdict_of (tested (codes "true") []) ≡ Err IllTyped }
-    ensures comparison_of_logical { verdict_of (filtered (equals (tree.value_call (calling (codes "match") (tree.query_argument current ∷ tree.literal_argument (tree.text (codes "a")) ∷ []))) (tree.literal (tree.truth true)))) ≡ Err IllTyped }
-    ensures logical_for_nodes { verdict_of (equals_number (codes "count") (tree.logical_argument (tree.test member_a) ∷ []) (codes "1")) ≡ Err IllTyped }
-    ensures value_by_itself { verdict_of (tested (codes "value") (tree.query_argument member_a ∷ [])) ≡ Err IllTyped }
-    ensures count_by_itself { verdict_of (tested (codes "count") (tree.query_argument member_a ∷ [])) ≡ Err IllTyped }
-    ensures too_few_arguments { verdict_of (tested (codes "match") (tree.query_argument member_a ∷ [])) ≡ Err IllTyped }
-    ensures literal_for_nodes { verdict_of (equals_number (codes "count") (tree.literal_argument (tree.number (codes "1")) ∷ []) (codes "1")) ≡ Err IllTyped }
-    ensures function_of_another_day { verdict_of (tested (codes "xor") (tree.query_argument member_a ∷ tree.query_argument (current_with (tree.name (codes "b") ∷ [])) ∷ [])) ≡ Err IllTyped }
-    ensures deep_in_an_argument { verdict_of (equals_number (codes "count") (tree.query_argument (current_with (tree.filter (tree.test_call (calling (codes "nope") [])) ∷ [])) ∷ []) (codes "1")) ≡ Err IllTyped }
+    ensures value_as_test { IsRefused (tested (codes "length") (its_a ∷ [])) IllTyped }
+    ensures value_by_itself { IsRefused (tested (codes "value") (its_a ∷ [])) IllTyped }
+    ensures count_by_itself { IsRefused (tested (codes "count") (its_a ∷ [])) IllTyped }
+    ensures many_nodes_for_value { IsRefused (above_number (codes "length") (each ∷ []) (codes "1"))
+        IllTyped }
+    ensures unknown_function { IsRefused (tested (codes "nope") (it ∷ [])) IllTyped }
+    ensures function_true { IsRefused (tested (codes "true") []) IllTyped }
+    ensures no_function_of_the_standard { IsRefused (tested (codes "xor") (its_a ∷ it ∷ [])) IllTyped }
+    ensures comparison_of_logical { IsRefused (filtered (equals (tree.value_call (match_call (codes "a")))
+        (tree.literal (tree.truth true)))) IllTyped }
+    ensures logical_for_nodes { IsRefused (equals_number (codes "count") (has_a ∷ []) (codes "1")) IllTyped }
+    ensures literal_for_nodes { IsRefused (equals_number (codes "count") (a_number (codes "1") ∷ [])
+        (codes "1")) IllTyped }
+    ensures value_for_nodes { IsRefused (equals_number (codes "count")
+        (a_call (codes "value") (its_a ∷ []) ∷ []) (codes "1")) IllTyped }
+    ensures no_argument { IsRefused (equals_number (codes "length") [] (codes "1")) IllTyped }
+    ensures too_few_arguments { IsRefused (tested (codes "match") (its_a ∷ [])) IllTyped }
+    ensures too_many_arguments { IsRefused (equals_number (codes "length") (it ∷ it ∷ []) (codes "1"))
+        IllTyped }
+    ensures many_for_a_pattern { IsRefused (tested (codes "match") (it ∷ each ∷ [])) IllTyped }
+    ensures search_over_nodes { IsRefused (tested (codes "search") (each ∷ a_text (codes "a") ∷ []))
+        IllTyped }
 {}
 
 /// Calls and tests that are well-typed.
 fn well_typed()
-    ensures count_of_many { verdict_of (above_number (codes "count") (tree.query_argument (current_with (tree.wildcard ∷ [])) ∷ []) (codes "1"))
-        ≡ Ok (above_number (codes "count") (tree.query_argument (current_with (tree.wildcard ∷ [])) ∷ []) (codes "1")) }
-    ensures test_of_two_names { verdict_of (filtered (tree.test (current_with (tree.name (codes "a") ∷ tree.name (codes "b") ∷ []))))
-        ≡ Ok (filtered (tree.test (current_with (tree.name (codes "a") ∷ tree.name (codes "b") ∷ [])))) }
-    ensures singular_comparison { verdict_of (a_equals (codes "1")) ≡ Ok (a_equals (codes "1")) }
-    ensures length_of_literal { verdict_of (equals_number (codes "length") (tree.literal_argument (tree.number (codes "1")) ∷ []) (codes "1"))
-        ≡ Ok (equals_number (codes "length") (tree.literal_argument (tree.number (codes "1")) ∷ []) (codes "1")) }
-    ensures length_of_count { verdict_of (equals_number (codes "length") (tree.call_argument (calling (codes "count") (tree.query_argument current ∷ [])) ∷ []) (codes "1"))
-        ≡ Ok (equals_number (codes "length") (tree.call_argument (calling (codes "count") (tree.query_argument current ∷ [])) ∷ []) (codes "1")) }
-    ensures match_with_value { verdict_of (tested (codes "match") (tree.query_argument current ∷ tree.call_argument (calling (codes "value") (tree.query_argument (tree.query_from Root (tree.child (tree.name (codes "p") ∷ []) ∷ [])) ∷ [])) ∷ []))
-        ≡ Ok (tested (codes "match") (tree.query_argument current ∷ tree.call_argument (calling (codes "value") (tree.query_argument (tree.query_from Root (tree.child (tree.name (codes "p") ∷ []) ∷ [])) ∷ [])) ∷ [])) }
-    ensures match_as_test { verdict_of (tested (codes "match") (tree.query_argument current ∷ tree.literal_argument (tree.text (codes "a")) ∷ []))
-        ≡ Ok (tested (codes "match") (tree.query_argument current ∷ tree.literal_argument (tree.text (codes "a")) ∷ [])) }
+    ensures count_of_many { IsValid (above_number (codes "count") (each ∷ []) (codes "1")) }
+    ensures value_of_many { IsValid (above_number (codes "value") (each ∷ []) (codes "1")) }
+    ensures test_of_two_names { IsValid (filtered
+        (tree.test (current_with (tree.name (codes "a") ∷ tree.name (codes "b") ∷ [])))) }
+    ensures length_of_literal { IsValid (equals_number (codes "length") (a_number (codes "1") ∷ [])
+        (codes "1")) }
+    ensures length_of_count { IsValid (equals_number (codes "length") (a_call (codes "count") (it ∷ []) ∷ [])
+        (codes "1")) }
+    ensures match_with_value { IsValid (tested (codes "match") (it ∷ a_call (codes "value")
+        (tree.query_argument (selecting (tree.name (codes "p"))) ∷ []) ∷ [])) }
+    ensures match_as_test { IsValid (filtered (matching (codes "a"))) }
+    ensures search_as_test { IsValid (tested (codes "search") (it ∷ a_text (codes "a") ∷ [])) }
 {}
 
-/// The literal patterns of a query.
+/// Which arguments fit which parameter, and what may stand where a type is asked for.
+fn uses()
+    ensures literal_for_value { fits value_type (tree.literal_argument tree.null) ≡ true }
+    ensures singular_for_value { fits value_type its_a ≡ true }
+    ensures many_for_value { fits value_type each ≡ false }
+    ensures logical_for_value { fits value_type has_a ≡ false }
+    ensures query_for_nodes { fits nodes_type each ≡ true }
+    ensures literal_for_nodes { fits nodes_type (tree.literal_argument tree.null) ≡ false }
+    ensures logical_for_nodes { fits nodes_type has_a ≡ false }
+    ensures query_for_logical { fits logical_type each ≡ true }
+    ensures logical_for_logical { fits logical_type has_a ≡ true }
+    ensures literal_for_logical { fits logical_type (tree.literal_argument (tree.truth true)) ≡ false }
+    ensures match_for_logical { fits logical_type (tree.call_argument (match_call (codes "a"))) ≡ true }
+    ensures match_for_value { fits value_type (tree.call_argument (match_call (codes "a"))) ≡ false }
+    ensures nodes_as_logical { serves_as logical_type (Some nodes_type) ≡ true }
+    ensures nodes_as_nodes { serves_as nodes_type (Some nodes_type) ≡ true }
+    ensures nodes_as_value { serves_as value_type (Some nodes_type) ≡ false }
+    ensures value_as_logical { serves_as logical_type (Some value_type) ≡ false }
+    ensures value_as_nodes { serves_as nodes_type (Some value_type) ≡ false }
+    ensures logical_as_nodes { serves_as nodes_type (Some logical_type) ≡ false }
+    ensures unknown { serves_as logical_type None ≡ false }
+{}
+
+/// The table of the functions (RFC 9535, 2.4.4 to 2.4.8).
+fn table_of_functions()
+    ensures length { (function_named (codes "length") ≡ Some functions.length_function)
+        × (parameters functions.length_function ≡ value_type ∷ [])
+        × (result_type functions.length_function ≡ value_type) }
+    ensures count { (function_named (codes "count") ≡ Some functions.count_function)
+        × (parameters functions.count_function ≡ nodes_type ∷ [])
+        × (result_type functions.count_function ≡ value_type) }
+    ensures whole_match { (function_named (codes "match") ≡ Some functions.match_function)
+        × (parameters functions.match_function ≡ value_type ∷ value_type ∷ [])
+        × (result_type functions.match_function ≡ logical_type) }
+    ensures search { (function_named (codes "search") ≡ Some functions.search_function)
+        × (parameters functions.search_function ≡ value_type ∷ value_type ∷ [])
+        × (result_type functions.search_function ≡ logical_type) }
+    ensures value { (function_named (codes "value") ≡ Some functions.value_function)
+        × (parameters functions.value_function ≡ nodes_type ∷ [])
+        × (result_type functions.value_function ≡ value_type) }
+    ensures no_other { (function_named (codes "lengt") ≡ None) × (function_named (codes "Count") ≡ None)
+        × (function_named [] ≡ None) }
+{}
+
+/// What written numbers are.
+fn written_numbers()
+    ensures zero { whole_number (codes "0") ≡ pos 0 }
+    ensures minus_zero { whole_number (codes "-0") ≡ pos 0 }
+    ensures positive { whole_number (codes "1203") ≡ pos 1203 }
+    ensures negative { whole_number (codes "-17") ≡ negsuc 16 }
+{}
+
+/// Which arguments are literal patterns.
 fn patterns()
-    ensures second_argument { literal_patterns (tested (codes "match") (tree.query_argument current ∷ tree.literal_argument (tree.text (codes "a")) ∷ [])) ≡ codes "a" ∷ [] }
-    ensures not_the_first { literal_patterns (tested (codes "search") (tree.literal_argument (tree.text (codes "a")) ∷ tree.query_argument current ∷ [])) ≡ [] }
-    ensures not_of_other_functions { literal_patterns (equals_number (codes "length") (tree.literal_argument (tree.text (codes "a")) ∷ []) (codes "1")) ≡ [] }
-    ensures not_a_comparison { literal_patterns (filtered (equals (tree.single member_a) (tree.literal (tree.text (codes "a"))))) ≡ [] }
-    ensures deep_in_an_argument { literal_patterns (equals_number (codes "count") (tree.query_argument (current_with (tree.filter (tree.test_call (calling (codes "search") (tree.query_argument current ∷ tree.literal_argument (tree.text (codes "a")) ∷ []))) ∷ [])) ∷ []) (codes "1")) ≡ codes "a" ∷ [] }
-    ensures in_order { literal_patterns (filtered (tree.any (tree.logicals (tree.test_call (calling (codes "match") (tree.query_argument current ∷ tree.literal_argument (tree.text (codes "a")) ∷ [])) ∷ tree.test_call (calling (codes "search") (tree.query_argument current ∷ tree.literal_argument (tree.text (codes "b")) ∷ [])) ∷ [])))) ≡ codes "a" ∷ codes "b" ∷ [] }
+    ensures of_match { literal_patterns (filtered (matching (codes "a"))) ≡ codes "a" ∷ [] }
+    ensures of_search { literal_patterns (tested (codes "search") (it ∷ a_text (codes "b") ∷ []))
+        ≡ codes "b" ∷ [] }
+    ensures not_the_first { literal_patterns (tested (codes "search") (a_text (codes "a") ∷ it ∷ [])) ≡ [] }
+    ensures not_of_other_functions { literal_patterns
+        (equals_number (codes "length") (a_text (codes "a") ∷ []) (codes "1")) ≡ [] }
+    ensures not_a_number { literal_patterns (tested (codes "match") (it ∷ a_number (codes "1") ∷ [])) ≡ [] }
+    ensures not_a_comparison { literal_patterns
+        (filtered (equals (tree.single member_a) (tree.literal (tree.text (codes "a"))))) ≡ [] }
+{}
+
+/// Literal patterns are found in each part of a query, in the order of its text.
+fn patterns_in_expressions()
+    ensures in_second_segment { literal_patterns (below_a (tree.filter (matching (codes "a"))))
+        ≡ codes "a" ∷ [] }
+    ensures in_second_selector { literal_patterns (behind_zero (tree.filter (matching (codes "a"))))
+        ≡ codes "a" ∷ [] }
+    ensures of_any { literal_patterns (either (matching (codes "a")) (matching (codes "b")))
+        ≡ codes "a" ∷ codes "b" ∷ [] }
+    ensures of_all { literal_patterns (both (matching (codes "a")) (tree.negation (matching (codes "b"))))
+        ≡ codes "a" ∷ codes "b" ∷ [] }
+    ensures of_both_sides { literal_patterns (filtered (equals (tree.single (filtered (matching (codes "a"))))
+        (tree.value_call (match_call (codes "b"))))) ≡ codes "a" ∷ codes "b" ∷ [] }
+    ensures of_a_test { literal_patterns (filtered (tree.test (filtered (matching (codes "a")))))
+        ≡ codes "a" ∷ [] }
+    ensures of_a_query { literal_patterns (equals_number (codes "count")
+        (tree.query_argument (current_with (tree.filter (matching (codes "a")) ∷ [])) ∷ []) (codes "1"))
+        ≡ codes "a" ∷ [] }
+    ensures of_each_argument { literal_patterns (tested (codes "f")
+        (tree.logical_argument (matching (codes "a")) ∷ tree.call_argument (match_call (codes "b")) ∷ []))
+        ≡ codes "a" ∷ codes "b" ∷ [] }
+    ensures outer_before_inner { literal_patterns (tested (codes "match")
+        (tree.call_argument (match_call (codes "b")) ∷ a_text (codes "a") ∷ []))
+        ≡ codes "a" ∷ codes "b" ∷ [] }
 {}

@@ -10,8 +10,6 @@ mod known;
 pub mod laws;
 mod numbers;
 mod patterns;
-#[cfg(test)]
-mod tests;
 mod typing;
 mod walk;
 

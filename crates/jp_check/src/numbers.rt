@@ -4,7 +4,8 @@ ghost use Rattle.std.specs.Prelude.{◌≡◌, [], ◌∷◌, option_map, true};
 ghost use Rattle.std.specs.Str.{chars};
 ghost use Rattle.jp_syntax.specs.View.{literal_of, slice_of, text_of};
 ghost use Rattle.jp_check.specs.Faults.{faults_of};
-ghost use Rattle.jp_check.specs.Numbers.{literal_number, position, is_fraction, is_in_range, literal_numbers, part_of_slice, selector_numbers};
+ghost use Rattle.jp_check.specs.Numbers.{literal_number, position, is_fraction, is_in_range, literal_numbers};
+ghost use Rattle.jp_check.specs.Numbers.{part_of_slice, selector_numbers};
 
 use crate::faults::Faults;
 use jp_syntax::{Literal, Slice};

@@ -19,7 +19,8 @@ use std::alloc::{AllocError, Global};
 
 /// The text that an argument is as a literal.
 fn literal_text(argument: &Argument) -> Option<&str>
-    ensures { option_to_list (option_map (λ s. chars s.now) result) ≡ literal.literal_text (view.argument_of argument.now) }
+    ensures { option_to_list (option_map (λ s. chars s.now) result)
+        ≡ literal.literal_text (view.argument_of argument.now) }
 {
     match argument {
         Argument::Literal(literal) => match literal {
@@ -32,7 +33,8 @@ fn literal_text(argument: &Argument) -> Option<&str>
 
 /// The text that the second argument is as a literal.
 fn second_text(arguments: &[Argument]) -> Option<&str>
-    ensures { option_to_list (option_map (λ s. chars s.now) result) ≡ literal.second_text (tree.arguments (view.arguments_of arguments.now)) }
+    ensures { option_to_list (option_map (λ s. chars s.now) result)
+        ≡ literal.second_text (tree.arguments (view.arguments_of arguments.now)) }
 {
     match arguments {
         [_, second, ..] => literal_text(second),
@@ -42,7 +44,9 @@ fn second_text(arguments: &[Argument]) -> Option<&str>
 
 /// The pattern that a call of this function has as a literal.
 fn given_pattern(function: Option<Function>, given: &[Argument]) -> Option<&str>
-    ensures { option_to_list (option_map (λ s. chars s.now) result) ≡ literal.given_pattern (option_map function_of function) (tree.arguments (view.arguments_of given.now)) }
+    ensures { option_to_list (option_map (λ s. chars s.now) result)
+        ≡ literal.given_pattern (option_map function_of function)
+        (tree.arguments (view.arguments_of given.now)) }
 {
     match function {
         Some(Function::Match | Function::Search) => second_text(given),
@@ -67,7 +71,9 @@ fn push_given(
     given: &[Argument],
     known: &mut Vec<KnownPattern>,
 ) -> Result<(), AllocError>
-    ensures { OnOk result (known_texts known.new.items ≡ known_texts known.old.items ++ literal.given_pattern (option_map function_of function) (tree.arguments (view.arguments_of given.now))) }
+    ensures { OnOk result (known_texts known.new.items
+        ≡ known_texts known.old.items ++ literal.given_pattern (option_map function_of function)
+        (tree.arguments (view.arguments_of given.now))) }
 {
     match given_pattern(function, given) {
         None => Ok(()),
@@ -82,7 +88,8 @@ pub(crate) fn query_patterns(
     query: &Query,
     known: &mut Vec<KnownPattern>,
 ) -> Result<(), AllocError>
-    ensures { OnOk result (known_texts known.new.items ≡ known_texts known.old.items ++ literal.literal_patterns (query_of query.now)) }
+    ensures { OnOk result (known_texts known.new.items
+        ≡ known_texts known.old.items ++ literal.literal_patterns (query_of query.now)) }
 {
     for segment in &query.segments {
         segment_patterns(alloc, segment, known)?;
@@ -96,7 +103,8 @@ fn segment_patterns(
     segment: &Segment,
     known: &mut Vec<KnownPattern>,
 ) -> Result<(), AllocError>
-    ensures { OnOk result (known_texts known.new.items ≡ known_texts known.old.items ++ literal.segment_patterns (view.segment_of segment.now)) }
+    ensures { OnOk result (known_texts known.new.items
+        ≡ known_texts known.old.items ++ literal.segment_patterns (view.segment_of segment.now)) }
 {
     for selector in &segment.selectors {
         selector_patterns(alloc, selector, known)?;
@@ -110,7 +118,8 @@ fn selector_patterns(
     selector: &Selector,
     known: &mut Vec<KnownPattern>,
 ) -> Result<(), AllocError>
-    ensures { OnOk result (known_texts known.new.items ≡ known_texts known.old.items ++ literal.selector_patterns (view.selector_of selector.now)) }
+    ensures { OnOk result (known_texts known.new.items
+        ≡ known_texts known.old.items ++ literal.selector_patterns (view.selector_of selector.now)) }
 {
     match selector {
         Selector::Name(_) | Selector::Wild | Selector::Index(_) | Selector::Slice(_) => Ok(()),
@@ -124,7 +133,8 @@ fn logical_patterns(
     logical: &Logical,
     known: &mut Vec<KnownPattern>,
 ) -> Result<(), AllocError>
-    ensures { OnOk result (known_texts known.new.items ≡ known_texts known.old.items ++ literal.logical_patterns (view.logical_of logical.now)) }
+    ensures { OnOk result (known_texts known.new.items
+        ≡ known_texts known.old.items ++ literal.logical_patterns (view.logical_of logical.now)) }
 {
     match logical {
         Logical::Any(parts) | Logical::All(parts) => parts_patterns(alloc, parts, known),
@@ -142,7 +152,9 @@ fn parts_patterns(
     parts: &[Logical],
     known: &mut Vec<KnownPattern>,
 ) -> Result<(), AllocError>
-    ensures { OnOk result (known_texts known.new.items ≡ known_texts known.old.items ++ literal.logicals_patterns (tree.logicals (view.logicals_of parts.now))) }
+    ensures { OnOk result (known_texts known.new.items
+        ≡ known_texts known.old.items ++ literal.logicals_patterns
+        (tree.logicals (view.logicals_of parts.now))) }
 {
     for part in parts {
         logical_patterns(alloc, part, known)?;
@@ -156,7 +168,8 @@ fn comparison_patterns(
     comparison: &Comparison,
     known: &mut Vec<KnownPattern>,
 ) -> Result<(), AllocError>
-    ensures { OnOk result (known_texts known.new.items ≡ known_texts known.old.items ++ literal.comparison_patterns (view.comparison_of comparison.now)) }
+    ensures { OnOk result (known_texts known.new.items
+        ≡ known_texts known.old.items ++ literal.comparison_patterns (view.comparison_of comparison.now)) }
 {
     comparable_patterns(alloc, &comparison.left, known)?;
     comparable_patterns(alloc, &comparison.right, known)
@@ -168,7 +181,8 @@ fn comparable_patterns(
     side: &Comparable,
     known: &mut Vec<KnownPattern>,
 ) -> Result<(), AllocError>
-    ensures { OnOk result (known_texts known.new.items ≡ known_texts known.old.items ++ literal.comparable_patterns (view.comparable_of side.now)) }
+    ensures { OnOk result (known_texts known.new.items
+        ≡ known_texts known.old.items ++ literal.comparable_patterns (view.comparable_of side.now)) }
 {
     match side {
         Comparable::Literal(_) => Ok(()),
@@ -183,7 +197,8 @@ fn call_patterns(
     call: &Call,
     known: &mut Vec<KnownPattern>,
 ) -> Result<(), AllocError>
-    ensures { OnOk result (known_texts known.new.items ≡ known_texts known.old.items ++ literal.call_patterns (view.call_of call.now)) }
+    ensures { OnOk result (known_texts known.new.items
+        ≡ known_texts known.old.items ++ literal.call_patterns (view.call_of call.now)) }
 {
     let function = function_named(call.name.as_str());
     push_given(alloc, function, call.arguments.as_slice(), known)?;
@@ -199,7 +214,8 @@ fn argument_patterns(
     argument: &Argument,
     known: &mut Vec<KnownPattern>,
 ) -> Result<(), AllocError>
-    ensures { OnOk result (known_texts known.new.items ≡ known_texts known.old.items ++ literal.argument_patterns (view.argument_of argument.now)) }
+    ensures { OnOk result (known_texts known.new.items
+        ≡ known_texts known.old.items ++ literal.argument_patterns (view.argument_of argument.now)) }
 {
     match argument {
         Argument::Literal(_) => Ok(()),

@@ -53,7 +53,8 @@ fn all_fit(kinds: &[Kind], arguments: &[Argument]) -> bool
 
 /// Whether the function is known and the arguments fit its parameters.
 pub(crate) fn fits_parameters(function: Option<Function>, arguments: &[Argument]) -> bool
-    ensures { result ≡ typing.fits_parameters (option_map function_of function) (tree.arguments (arguments_of arguments.now)) }
+    ensures { result ≡ typing.fits_parameters (option_map function_of function)
+        (tree.arguments (arguments_of arguments.now)) }
 {
     match function {
         None => false,

@@ -17,7 +17,8 @@ use jp_syntax::{Argument, Call, Comparable, Comparison, Logical, Query, Segment,
 /// The faults of a query.
 #[cycle(walk)]
 pub(crate) fn query_faults(query: &Query) -> Faults
-    ensures { result ≡ faults_of (numbers.query_numbers (query_of query.now)) (typing.query_typed (query_of query.now)) }
+    ensures { result ≡ faults_of (numbers.query_numbers (query_of query.now))
+        (typing.query_typed (query_of query.now)) }
 {
     let mut faults = Faults::NONE;
     for segment in &query.segments {
@@ -28,7 +29,8 @@ pub(crate) fn query_faults(query: &Query) -> Faults
 
 #[cycle(walk)]
 fn segment_faults(segment: &Segment) -> Faults
-    ensures { result ≡ faults_of (numbers.segment_numbers (view.segment_of segment.now)) (typing.segment_typed (view.segment_of segment.now)) }
+    ensures { result ≡ faults_of (numbers.segment_numbers (view.segment_of segment.now))
+        (typing.segment_typed (view.segment_of segment.now)) }
 {
     let mut faults = Faults::NONE;
     for selector in &segment.selectors {
@@ -39,7 +41,8 @@ fn segment_faults(segment: &Segment) -> Faults
 
 #[cycle(walk)]
 fn selector_faults(selector: &Selector) -> Faults
-    ensures { result ≡ faults_of (numbers.selector_numbers (view.selector_of selector.now)) (typing.selector_typed (view.selector_of selector.now)) }
+    ensures { result ≡ faults_of (numbers.selector_numbers (view.selector_of selector.now))
+        (typing.selector_typed (view.selector_of selector.now)) }
 {
     match selector {
         Selector::Name(_) | Selector::Wild => Faults::NONE,
@@ -51,7 +54,8 @@ fn selector_faults(selector: &Selector) -> Faults
 
 #[cycle(walk)]
 fn logical_faults(logical: &Logical) -> Faults
-    ensures { result ≡ faults_of (numbers.logical_numbers (view.logical_of logical.now)) (typing.logical_typed (view.logical_of logical.now)) }
+    ensures { result ≡ faults_of (numbers.logical_numbers (view.logical_of logical.now))
+        (typing.logical_typed (view.logical_of logical.now)) }
 {
     match logical {
         Logical::Any(parts) | Logical::All(parts) => parts_faults(parts),
@@ -67,7 +71,8 @@ fn logical_faults(logical: &Logical) -> Faults
 /// The faults of the parts of `||` or `&&`.
 #[cycle(walk)]
 fn parts_faults(parts: &[Logical]) -> Faults
-    ensures { result ≡ faults_of (numbers.logicals_numbers (logicals (view.logicals_of parts.now))) (typing.logicals_typed (logicals (view.logicals_of parts.now))) }
+    ensures { result ≡ faults_of (numbers.logicals_numbers (logicals (view.logicals_of parts.now)))
+        (typing.logicals_typed (logicals (view.logicals_of parts.now))) }
 {
     let mut faults = Faults::NONE;
     for part in parts {
@@ -78,14 +83,16 @@ fn parts_faults(parts: &[Logical]) -> Faults
 
 #[cycle(walk)]
 fn comparison_faults(comparison: &Comparison) -> Faults
-    ensures { result ≡ faults_of (numbers.comparison_numbers (view.comparison_of comparison.now)) (typing.comparison_typed (view.comparison_of comparison.now)) }
+    ensures { result ≡ faults_of (numbers.comparison_numbers (view.comparison_of comparison.now))
+        (typing.comparison_typed (view.comparison_of comparison.now)) }
 {
     comparable_faults(&comparison.left).with(comparable_faults(&comparison.right))
 }
 
 #[cycle(walk)]
 fn comparable_faults(side: &Comparable) -> Faults
-    ensures { result ≡ faults_of (numbers.comparable_numbers (view.comparable_of side.now)) (typing.comparable_typed (view.comparable_of side.now)) }
+    ensures { result ≡ faults_of (numbers.comparable_numbers (view.comparable_of side.now))
+        (typing.comparable_typed (view.comparable_of side.now)) }
 {
     match side {
         Comparable::Literal(literal) => literal_faults(literal),
@@ -98,7 +105,8 @@ fn comparable_faults(side: &Comparable) -> Faults
 
 #[cycle(walk)]
 fn call_faults(call: &Call) -> Faults
-    ensures { result ≡ faults_of (numbers.call_numbers (view.call_of call.now)) (typing.call_typed (view.call_of call.now)) }
+    ensures { result ≡ faults_of (numbers.call_numbers (view.call_of call.now))
+        (typing.call_typed (view.call_of call.now)) }
 {
     let function = function_named(call.name.as_str());
     let fits = fits_parameters(function, call.arguments.as_slice());
@@ -111,7 +119,8 @@ fn call_faults(call: &Call) -> Faults
 
 #[cycle(walk)]
 fn argument_faults(argument: &Argument) -> Faults
-    ensures { result ≡ faults_of (numbers.argument_numbers (view.argument_of argument.now)) (typing.argument_typed (view.argument_of argument.now)) }
+    ensures { result ≡ faults_of (numbers.argument_numbers (view.argument_of argument.now))
+        (typing.argument_typed (view.argument_of argument.now)) }
 {
     match argument {
         Argument::Literal(literal) => literal_faults(literal),

@@ -1,6 +1,7 @@
 pub mod Descent
 pub mod Through
 pub mod Sameness
+pub mod MembersByName
 pub mod Order
 pub mod Leading
 pub mod Listed
@@ -19,3 +20,4 @@ pub mod Parts
 pub mod Saturation
 pub mod FarSteps
 pub mod Places
+pub mod OnLiterals

@@ -1,7 +1,8 @@
 -- Comparison (RFC 9535, 2.3.5.2.2). Nothing is `None`.
 use Rattle.std.specs.Prelude.{Bool, true, false, not, ◌&&◌, ◌||◌, int_lt, Option, Some, None}
 use Rattle.std.specs.Ordering.{int_eq, is_lt}
-use Rattle.jp_doc.specs.Json.{text_eq, text_cmp, Json, null, truth, whole, text, array, object, Items, no_items, add_item, Members, no_members, add_member}
+use Rattle.jp_doc.specs.Json.{text_eq, text_cmp, Json, null, truth, whole, text, array, object, Items}
+use Rattle.jp_doc.specs.Json.{no_items, add_item, Members, no_members, add_member}
 use Rattle.jp_syntax.specs.declared.tree.Operator.{Operator}
 use Rattle.jp_syntax.specs.declared.tree.Operator.TheVariants.{Eq, Ne, Le, Ge, Lt, Gt}
 

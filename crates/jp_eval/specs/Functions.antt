@@ -1,8 +1,11 @@
 -- What the functions give (RFC 9535, 2.4.4 to 2.4.8).
-use Rattle.std.specs.Prelude.{ℕ, suc, Bool, true, false, not, pos, List, [], ◌∷◌, length, Option, Some, None, option_map, option_and_then}
-use Rattle.jp_doc.specs.Json.{Text, Json, whole, text, array, object, Members, no_members, add_member, item_list}
+use Rattle.std.specs.Prelude.{ℕ, suc, Bool, true, false, not, pos, List, [], ◌∷◌, length, Option, Some, None}
+use Rattle.std.specs.Prelude.{option_map, option_and_then}
+use Rattle.jp_doc.specs.Json.{Text, Json, whole, text, array, object, Members, no_members, add_member}
+use Rattle.jp_doc.specs.Json.{item_list}
 use Rattle.jp_doc.specs.Location.{Node}
-use Rattle.jp_check.specs.Functions.{Function, length_function, count_function, match_function, search_function, value_function}
+use Rattle.jp_check.specs.Functions.{Function, length_function, count_function, match_function}
+use Rattle.jp_check.specs.Functions.{search_function, value_function}
 use Rattle.jp_regexp.specs.Tests.{Tests}
 
 -- what an argument hands over and a call gives: a value or nothing, true or false, or a list of nodes
@@ -25,7 +28,8 @@ abbrev pub only_value : List Node → Option Json
 only_value (n ∷ []) = Some n.value
 only_value _ = None
 
--- What is handed over, in a place for a value, for true or false, and for nodes: a singular query stands for the value of
+-- What is handed over, in a place for a value, for true or false, and for nodes: a singular query stands for
+-- the value of
 -- its node, and a list of nodes is true where it is not empty.
 abbrev pub as_value : Handed → Option Json
 as_value (handed_value v) = v

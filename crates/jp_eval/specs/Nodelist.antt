@@ -1,11 +1,18 @@
 -- What a query selects (RFC 9535, 2.1.2, 2.3 and 2.5).
-use Rattle.std.specs.Prelude.{ℕ, ◌-◌, ◌+◌, Bool, true, false, not, ◌&&◌, ◌||◌, nat_lt, ℤ, pos, negsuc, List, [], ◌∷◌, ◌++◌, length, Option, Some, option_map, if◌then◌else◌}
+use Rattle.std.specs.Prelude.{ℕ, ◌-◌, ◌+◌, Bool, true, false, not, ◌&&◌, ◌||◌, nat_lt, ℤ, pos, negsuc, List}
+use Rattle.std.specs.Prelude.{[], ◌∷◌, ◌++◌, length, Option, Some, option_map, if◌then◌else◌}
 use Rattle.std.specs.List.{filter, flat_map}
 use Rattle.jp_doc.specs.Json as json
 use Rattle.jp_doc.specs.Json.{Json, item_list}
 use Rattle.jp_doc.specs.Location as at
 use Rattle.jp_doc.specs.Location.{Node, node}
-use Rattle.jp_syntax.specs.Tree.{Text, Literal, number, text, truth, null, Query, query, Segment, segment, Selector, name, wildcard, index, slice, filter as filter_by, Logical, any, all, negation, comparing, test, test_call, Comparison, comparison, Comparable, literal, single, value_call, Call, call, Argument, literal_argument, query_argument, logical_argument, call_argument, Segments, no_segments, add_segment, Selectors, no_selectors, add_selector, Logicals, no_logicals, add_logical, Arguments, no_arguments, add_argument}
+use Rattle.jp_syntax.specs.Tree.{Text, Literal, number, text, truth, null, Query, query, Segment, segment}
+use Rattle.jp_syntax.specs.Tree.{Selector, name, wildcard, index, slice, filter as filter_by, Logical, any}
+use Rattle.jp_syntax.specs.Tree.{all, negation, comparing, test, test_call, Comparison, comparison}
+use Rattle.jp_syntax.specs.Tree.{Comparable, literal, single, value_call, Call, call, Argument}
+use Rattle.jp_syntax.specs.Tree.{literal_argument, query_argument, logical_argument, call_argument, Segments}
+use Rattle.jp_syntax.specs.Tree.{no_segments, add_segment, Selectors, no_selectors, add_selector, Logicals}
+use Rattle.jp_syntax.specs.Tree.{no_logicals, add_logical, Arguments, no_arguments, add_argument}
 use Rattle.jp_syntax.specs.declared.tree.Start.TheVariants.{Root, Current}
 use Rattle.jp_regexp.specs.Tests.{Tests}
 use Rattle.jp_check.specs.Numbers.{whole_number}
@@ -13,7 +20,8 @@ use Rattle.jp_check.specs.Functions.{function_named}
 use Rattle.jp_eval.specs.Nodes.{children, child, descendants}
 use Rattle.jp_eval.specs.Slice.{slice_bounds, slice_indexes}
 use Rattle.jp_eval.specs.Comparison.{compared}
-use Rattle.jp_eval.specs.Functions.{Handed, handed_value, handed_truth, handed_nodes, as_truth, as_value, first_value, is_empty, called_if_known}
+use Rattle.jp_eval.specs.Functions.{Handed, handed_value, handed_truth, handed_nodes, as_truth, as_value}
+use Rattle.jp_eval.specs.Functions.{first_value, is_empty, called_if_known}
 
 -- the value of a literal
 abbrev pub literal_value : Literal → Json
@@ -33,7 +41,8 @@ index_places z (json.array vs) = place_of z (length (item_list vs))
 index_places z _ = []
 
 abbrev pub slice_places : Option ℤ → Option ℤ → Option ℤ → Json → List ℕ
-slice_places first past step (json.array vs) = slice_indexes (slice_bounds first past step (length (item_list vs))) (length (item_list vs))
+slice_places first past step (json.array vs) = slice_indexes
+    (slice_bounds first past step (length (item_list vs))) (length (item_list vs))
 slice_places first past step _ = []
 
 -- the nodes of these items
@@ -71,7 +80,8 @@ module _ (tests : Tests) (root : Json) where
     select (name k) n = child (at.name k) n
     select wildcard n = children n
     select (index t) n = items_at n (index_places (whole_number t) n.value)
-    select (slice first past step) n = items_at n (slice_places (written_value first) (written_value past) (written_value step) n.value)
+    select (slice first past step) n = items_at n
+        (slice_places (written_value first) (written_value past) (written_value step) n.value)
     select (filter_by l) n = filter (holds l) (children n)
 
     -- whether a logical expression is true, where `@` is the node
@@ -92,7 +102,8 @@ module _ (tests : Tests) (root : Json) where
     all_hold (add_logical l ls) n = holds l n && all_hold ls n
 
     pub comparison_holds : Comparison → Node → Bool
-    comparison_holds (comparison left operator right) n = compared operator (value_of left n) (value_of right n)
+    comparison_holds (comparison left operator right) n = compared operator (value_of left n)
+        (value_of right n)
 
     -- the value of one side of a comparison, or nothing
     pub value_of : Comparable → Node → Option Json

@@ -1,6 +1,7 @@
 -- Children and descendants (RFC 9535, 1.1 and 2.5.2).
 use Rattle.std.specs.Prelude.{ℕ, ◌+◌, List, [], ◌∷◌, ◌++◌, Option, Some, None}
-use Rattle.jp_doc.specs.Json.{Json, null, truth, whole, text, array, object, Items, no_items, add_item, Members, no_members, add_member}
+use Rattle.jp_doc.specs.Json.{Json, null, truth, whole, text, array, object, Items, no_items, add_item}
+use Rattle.jp_doc.specs.Json.{Members, no_members, add_member}
 use Rattle.jp_doc.specs.Location.{Step, name, index, Location, Node, node, child_at}
 
 -- the items of an array at a location, from an index on
@@ -33,11 +34,13 @@ abbrev mutual
 
   pub items_descendants : Location → ℕ → Items → List Node
   items_descendants at i no_items = []
-  items_descendants at i (add_item v vs) = descendants_at (at ++ index i ∷ []) v ++ items_descendants at (i + 1) vs
+  items_descendants at i (add_item v vs) = descendants_at (at ++ index i ∷ []) v ++ items_descendants at
+      (i + 1) vs
 
   pub members_descendants : Location → Members → List Node
   members_descendants at no_members = []
-  members_descendants at (add_member k v ms) = descendants_at (at ++ name k ∷ []) v ++ members_descendants at ms
+  members_descendants at (add_member k v ms) = descendants_at (at ++ name k ∷ []) v ++ members_descendants at
+      ms
 
 -- the node, and then the descendants of each of its children in order
 abbrev pub descendants : Node → List Node

@@ -1,5 +1,6 @@
 -- The indexes of a slice, one after another, for private clauses.
-use Rattle.std.specs.Prelude.{ℕ, ◌+◌, ◌-◌, pos, negsuc, int_lt, ◌≤ℤ◌, ◌+ℤ◌, List, [], ◌∷◌, length, Option, Some, None, IfSome, IsTrue, if◌then◌else◌}
+use Rattle.std.specs.Prelude.{ℕ, ◌+◌, ◌-◌, pos, negsuc, int_lt, ◌≤ℤ◌, ◌+ℤ◌, List, [], ◌∷◌, length, Option}
+use Rattle.std.specs.Prelude.{Some, None, IfSome, IsTrue, if◌then◌else◌}
 use Rattle.std.specs.List.{filter, range_with_len}
 use Rattle.jp_doc.specs.Json.{Json, array, item_list}
 use Rattle.jp_eval.specs.Slice.{Bounds, meets_rising, meets_falling, numbers_down}

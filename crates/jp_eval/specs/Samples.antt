@@ -1,11 +1,15 @@
 -- Documents and parts of queries that the worked examples speak of.
-use Rattle.std.specs.Prelude.{ℕ, pos, List, [], ◌∷◌, codes}
+use Rattle.std.specs.Prelude.{ℕ, pos, List, [], ◌∷◌, map, Option, codes}
 use Rattle.jp_doc.specs.Json.{Text, Json, null, whole, array, object, items, no_members, add_member}
 use Rattle.jp_doc.specs.Location as at
 use Rattle.jp_doc.specs.Location.{Location}
-use Rattle.jp_syntax.specs.Tree.{Query, Segment, Selector, name, filter, Logical, comparing, comparison, Comparable, single, child, query_from}
+use Rattle.jp_syntax.specs.Tree as tree
+use Rattle.jp_syntax.specs.Tree.{Query, Segment, Selector, name, slice, filter, Logical, comparing}
+use Rattle.jp_syntax.specs.Tree.{comparison, Comparable, literal, single, child, query_from}
+use Rattle.jp_regexp.specs.Tests.{Tests}
 use Rattle.jp_syntax.specs.declared.tree.Operator.{Operator}
 use Rattle.jp_syntax.specs.declared.tree.Start.TheVariants.{Root, Current}
+use Rattle.jp_eval.specs.Nodelist.{document_nodes}
 
 -- a number, and an array of values
 abbrev pub num : ℕ → Json
@@ -64,4 +68,17 @@ five = arr (num 0 ∷ num 1 ∷ num 2 ∷ num 3 ∷ num 4 ∷ [])
 
 -- `[{},{"a":null},{"a":1,"b":1}]`
 abbrev pub three_objects : Json
-three_objects = arr (object no_members ∷ obj (codes "a") null ∷ obj2 (codes "a") (num 1) (codes "b") (num 1) ∷ [])
+three_objects = arr (object no_members ∷ obj (codes "a") null ∷ obj2 (codes "a") (num 1) (codes "b") (num 1)
+    ∷ [])
+
+-- a number literal
+abbrev pub number : Text → Comparable
+number t = literal (tree.number t)
+
+-- the values that a slice selects of `[0,1,2,3,4]`
+abbrev pub sliced : Tests → Option Text → Option Text → Option Text → List Json
+sliced t first past step = map (λ n. n.value) (document_nodes t (bracketed (slice first past step ∷ [])) five)
+
+-- where the items of `[{},{"a":null},{"a":1,"b":1}]` are for which an expression is true
+abbrev pub kept : Tests → Logical → List Location
+kept t l = map (λ n. n.location) (document_nodes t (filtered l) three_objects)

@@ -1,5 +1,6 @@
 -- Slices (RFC 9535, 2.3.4).
-use Rattle.std.specs.Prelude.{ℕ, zero, suc, ◌+◌, ◌<◌, ◌≤◌, ⊤, Bool, ◌&&◌, ℤ, pos, negsuc, ◌+ℤ◌, ◌-ℤ◌, neg_ℤ, int_lt, int_le, int_rem, List, [], ◌∷◌, Option, unwrap_or, if◌then◌else◌}
+use Rattle.std.specs.Prelude.{ℕ, zero, suc, ◌+◌, ◌<◌, ◌≤◌, ⊤, Bool, ◌&&◌, ℤ, pos, negsuc, ◌+ℤ◌, ◌-ℤ◌, neg_ℤ}
+use Rattle.std.specs.Prelude.{int_lt, int_le, int_rem, List, [], ◌∷◌, Option, unwrap_or, if◌then◌else◌}
 use Rattle.std.specs.Ordering.{int_eq}
 use Rattle.std.specs.List.{filter, range_with_len}
 
@@ -32,7 +33,8 @@ falling_bounds start end step len = record {
 }
 
 abbrev pub bounds_by_step : Option ℤ → Option ℤ → ℤ → ℕ → Bounds
-bounds_by_step start end step len = if int_lt step (pos 0) then falling_bounds start end step len else rising_bounds start end step len
+bounds_by_step start end step len = if int_lt step (pos 0) then falling_bounds start end step len else
+    rising_bounds start end step len
 
 -- the bounds of a slice of an array with len items
 abbrev pub slice_bounds : Option ℤ → Option ℤ → Option ℤ → ℕ → Bounds
@@ -58,14 +60,16 @@ abbrev pub numbers_down : ℕ → List ℕ
 numbers_down zero = []
 numbers_down (suc n) = n ∷ numbers_down n
 
--- all indexes that meet the condition: rising for a positive step, falling for a negative one, none for the step 0
+-- all indexes that meet the condition: rising for a positive step, falling for a negative one, none for the
+-- step 0
 abbrev pub slice_indexes : Bounds → ℕ → List ℕ
 slice_indexes b len =
     if int_lt (pos 0) b.step then filter (meets_rising b) (numbers_below len)
     else if int_lt b.step (pos 0) then filter (meets_falling b) (numbers_down len)
     else []
 
--- each number is above the one before it and none is below low; each is below the one before it and below high
+-- each number is above the one before it and none is below low; each is below the one before it and below
+-- high
 abbrev pub RisesFrom : ℕ → List ℕ → Type 0
 RisesFrom low [] = ⊤
 RisesFrom low (i ∷ is) = (low ≤ i) × RisesFrom (i + 1) is

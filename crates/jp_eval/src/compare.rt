@@ -71,7 +71,8 @@ fn same(left: &Value, right: &Value) -> bool
 fn same_items(left: &Vec<Value>, right: &Vec<Value>) -> bool
     requires left { items_have_float (items_view left.now.items) ≡ false }
     requires right { items_have_float (items_view right.now.items) ≡ false }
-    ensures { result ≡ spec.same_items (items_of (items_view left.now.items)) (items_of (items_view right.now.items)) }
+    ensures { result ≡ spec.same_items (items_of (items_view left.now.items))
+        (items_of (items_view right.now.items)) }
 {
     let mut others = right.iter();
     for item in left {
@@ -91,7 +92,8 @@ fn same_items(left: &Vec<Value>, right: &Vec<Value>) -> bool
 fn same_members(left: &Map<String, Value>, right: &Map<String, Value>) -> bool
     requires left { members_have_float (members_view left.now.entries) ≡ false }
     requires right { members_have_float (members_view right.now.entries) ≡ false }
-    ensures { result ≡ spec.same_members (members_of (members_view left.now.entries)) (members_of (members_view right.now.entries)) }
+    ensures { result ≡ spec.same_members (members_of (members_view left.now.entries))
+        (members_of (members_view right.now.entries)) }
 {
     let mut others = right.iter();
     for (name, member) in left.iter() {

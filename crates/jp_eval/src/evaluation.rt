@@ -42,7 +42,8 @@ fn evaluate_query(
     document: &Document,
 ) -> Result<Vec<Location>, AllocError>
     ensures { IfOk result (λ found. (t : Tests) → AreRight t →
-        map location_of found.items ≡ map (λ n. n.location) (document_nodes t (query_of query.now) (document_value document.now))) }
+        map location_of found.items ≡ map (λ n. n.location)
+        (document_nodes t (query_of query.now) (document_value document.now))) }
 {
     let root = Part::root_of(document);
     let mut path = SmallVec::new(alloc);
@@ -51,7 +52,8 @@ fn evaluate_query(
     Ok(found.places(alloc))
 }
 
-/// The locations of the nodes that a query selects in a document, in the order of its nodelist (RFC 9535, 2.1.2): a node
+/// The locations of the nodes that a query selects in a document, in the order of its nodelist (RFC 9535,
+/// 2.1.2): a node
 /// that is selected more than once stands there as often.
 ///
 /// # Errors
@@ -59,7 +61,8 @@ fn evaluate_query(
 /// [`EvalFault::Memory`] where a growth of memory was refused.
 pub fn evaluate(alloc: Global, plan: &Plan, document: &Document) -> Result<Vec<Location>, EvalFault>
     ensures nodes { IfOk result (λ found. (t : Tests) → AreRight t →
-        map location_of found.items ≡ map (λ n. n.location) (document_nodes t (planned_query plan.now) (document_value document.now))) }
+        map location_of found.items ≡ map (λ n. n.location)
+        (document_nodes t (planned_query plan.now) (document_value document.now))) }
 {
     Ok(evaluate_query(alloc, plan.query(), document)?)
 }

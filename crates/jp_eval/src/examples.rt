@@ -1,18 +1,22 @@
 //! Worked examples of the definitions.
 
 ghost use Rattle.std.specs.Prelude.{◌≡◌, [], ◌∷◌, codes, pos, negsuc, Some, None, true, false, map};
-ghost use Rattle.jp_doc.specs.Json.{null, truth, text, object, no_members};
+ghost use Rattle.jp_doc.specs.Json.{null, truth, whole, text, object, no_members};
 ghost use Rattle.jp_doc.specs.Location.{node};
 ghost use Rattle.jp_syntax.specs.Tree as tree;
 ghost use Rattle.jp_syntax.specs.declared.tree.Operator.TheVariants.{Eq, Ne, Le, Ge, Lt, Gt};
 ghost use Rattle.jp_syntax.specs.declared.tree.Start.TheVariants.{Current};
 ghost use Rattle.jp_regexp.specs.Tests.{Tests};
 ghost use Rattle.jp_eval.specs.Nodelist.{document_nodes};
-ghost use Rattle.jp_check.specs.Functions.{length_function, match_function, search_function, value_function};
+ghost use Rattle.jp_check.specs.Functions.{length_function, count_function, match_function, search_function};
+ghost use Rattle.jp_check.specs.Functions.{value_function};
 ghost use Rattle.jp_eval.specs.Comparison.{compared};
-ghost use Rattle.jp_eval.specs.Functions.{called, handed_value, handed_truth, handed_nodes};
+ghost use Rattle.jp_eval.specs.Functions.{called, handed_value, handed_truth, handed_nodes, as_value};
+ghost use Rattle.jp_eval.specs.Functions.{as_truth, as_nodes};
 ghost use Rattle.jp_eval.specs.Slice.{slice_bounds};
-ghost use Rattle.jp_eval.specs.Samples.{num, arr, obj, obj2, to, item, from_root, bracketed, filtered, current, current_member, member_of_current, compares, nested, five, three_objects};
+ghost use Rattle.jp_eval.specs.Samples.{num, arr, obj, obj2, to, item, from_root, bracketed, filtered};
+ghost use Rattle.jp_eval.specs.Samples.{current, current_member, member_of_current, number, compares, sliced};
+ghost use Rattle.jp_eval.specs.Samples.{kept, nested, five, three_objects};
 
 /// `$..*`: members in rising order, each node before its descendants.
 fn descendants()
@@ -28,49 +32,65 @@ fn descendants()
 /// `$[0,0,-1]` and `$[2,-3]` on `[5,6]`: duplicates are kept.
 fn indexes()
     ensures twice { (t : Tests) →
-        document_nodes t (bracketed (tree.index (codes "0") ∷ tree.index (codes "0") ∷ tree.index (codes "-1") ∷ [])) (arr (num 5 ∷ num 6 ∷ []))
+        document_nodes t (bracketed (tree.index (codes "0") ∷ tree.index (codes "0") ∷ tree.index (codes "-1")
+        ∷ [])) (arr (num 5 ∷ num 6 ∷ []))
         ≡ node (item 0 ∷ []) (num 5) ∷ node (item 0 ∷ []) (num 5) ∷ node (item 1 ∷ []) (num 6) ∷ [] }
     ensures out_of_range { (t : Tests) →
-        document_nodes t (bracketed (tree.index (codes "2") ∷ tree.index (codes "-3") ∷ [])) (arr (num 5 ∷ num 6 ∷ [])) ≡ [] }
+        document_nodes t (bracketed (tree.index (codes "2") ∷ tree.index (codes "-3") ∷ []))
+        (arr (num 5 ∷ num 6 ∷ [])) ≡ [] }
 {}
 
 /// The bounds of slices of an array with five items, and with none.
 fn bounds()
-    ensures falling { slice_bounds (Some (pos 3)) (Some (pos 0)) (Some (negsuc 1)) 5 ≡ record { lower = pos 0; upper = pos 3; step = negsuc 1 } }
-    ensures reversed { slice_bounds None None (Some (negsuc 0)) 5 ≡ record { lower = negsuc 0; upper = pos 4; step = negsuc 0 } }
-    ensures step_zero { slice_bounds None None (Some (pos 0)) 5 ≡ record { lower = pos 0; upper = pos 5; step = pos 0 } }
-    ensures from_the_end { slice_bounds (Some (negsuc 1)) None None 5 ≡ record { lower = pos 3; upper = pos 5; step = pos 1 } }
-    ensures outside { slice_bounds (Some (negsuc 8)) (Some (pos 9)) None 5 ≡ record { lower = pos 0; upper = pos 5; step = pos 1 } }
-    ensures of_nothing { slice_bounds None None (Some (negsuc 0)) 0 ≡ record { lower = negsuc 0; upper = negsuc 0; step = negsuc 0 } }
+    ensures falling { slice_bounds (Some (pos 3)) (Some (pos 0)) (Some (negsuc 1)) 5
+        ≡ record { lower = pos 0; upper = pos 3; step = negsuc 1 } }
+    ensures reversed { slice_bounds None None (Some (negsuc 0)) 5
+        ≡ record { lower = negsuc 0; upper = pos 4; step = negsuc 0 } }
+    ensures step_zero { slice_bounds None None (Some (pos 0)) 5
+        ≡ record { lower = pos 0; upper = pos 5; step = pos 0 } }
+    ensures from_the_end { slice_bounds (Some (negsuc 1)) None None 5
+        ≡ record { lower = pos 3; upper = pos 5; step = pos 1 } }
+    ensures outside { slice_bounds (Some (negsuc 8)) (Some (pos 9)) None 5
+        ≡ record { lower = pos 0; upper = pos 5; step = pos 1 } }
+    ensures of_nothing { slice_bounds None None (Some (negsuc 0)) 0
+        ≡ record { lower = negsuc 0; upper = negsuc 0; step = negsuc 0 } }
 {}
 
 /// Slices of `[0,1,2,3,4]`.
 fn slices()
     ensures falling { (t : Tests) →
-        document_nodes t (bracketed (tree.slice (Some (codes "3")) (Some (codes "0")) (Some (codes "-2")) ∷ [])) five
+        document_nodes t (bracketed (tree.slice (Some (codes "3")) (Some (codes "0")) (Some (codes "-2"))
+        ∷ [])) five
         ≡ node (item 3 ∷ []) (num 3) ∷ node (item 1 ∷ []) (num 1) ∷ [] }
-    ensures step_zero { (t : Tests) → document_nodes t (bracketed (tree.slice None None (Some (codes "0")) ∷ [])) five ≡ [] }
+    ensures step_zero { (t : Tests) → document_nodes t
+        (bracketed (tree.slice None None (Some (codes "0")) ∷ [])) five ≡ [] }
     ensures reversed { (t : Tests) →
         map (λ n. n.value) (document_nodes t (bracketed (tree.slice None None (Some (codes "-1")) ∷ [])) five)
         ≡ num 4 ∷ num 3 ∷ num 2 ∷ num 1 ∷ num 0 ∷ [] }
     ensures long_step { (t : Tests) →
-        document_nodes t (bracketed (tree.slice (Some (codes "1")) None (Some (codes "9007199254740991")) ∷ [])) five
+        document_nodes t (bracketed (tree.slice (Some (codes "1")) None (Some (codes "9007199254740991"))
+        ∷ [])) five
         ≡ node (item 1 ∷ []) (num 1) ∷ [] }
     ensures last_two { (t : Tests) →
-        map (λ n. n.value) (document_nodes t (bracketed (tree.slice (Some (codes "-2")) None None ∷ [])) five) ≡ num 3 ∷ num 4 ∷ [] }
-    ensures of_no_array { (t : Tests) → document_nodes t (bracketed (tree.slice None None None ∷ [])) nested ≡ [] }
+        map (λ n. n.value) (document_nodes t (bracketed (tree.slice (Some (codes "-2")) None None ∷ [])) five)
+        ≡ num 3 ∷ num 4 ∷ [] }
+    ensures of_no_array { (t : Tests) → document_nodes t (bracketed (tree.slice None None None ∷ [])) nested
+        ≡ [] }
 {}
 
 /// `$[?@.a==@.b]` and `$[?@.a<=@.b]` on `[{},{"a":null},{"a":1,"b":1}]`: two nothings are equal.
 fn nothings()
     ensures equal { (t : Tests) →
-        map (λ n. n.location) (document_nodes t (filtered (compares (current_member (codes "a")) Eq (current_member (codes "b")))) three_objects)
+        map (λ n. n.location) (document_nodes t
+        (filtered (compares (current_member (codes "a")) Eq (current_member (codes "b")))) three_objects)
         ≡ (item 0 ∷ []) ∷ (item 2 ∷ []) ∷ [] }
     ensures not_above { (t : Tests) →
-        map (λ n. n.location) (document_nodes t (filtered (compares (current_member (codes "a")) Le (current_member (codes "b")))) three_objects)
+        map (λ n. n.location) (document_nodes t
+        (filtered (compares (current_member (codes "a")) Le (current_member (codes "b")))) three_objects)
         ≡ (item 0 ∷ []) ∷ (item 2 ∷ []) ∷ [] }
     ensures values { (t : Tests) →
-        map (λ n. n.value) (document_nodes t (filtered (compares (current_member (codes "a")) Eq (current_member (codes "b")))) three_objects)
+        map (λ n. n.value) (document_nodes t (filtered
+        (compares (current_member (codes "a")) Eq (current_member (codes "b")))) three_objects)
         ≡ object no_members ∷ obj2 (codes "a") (num 1) (codes "b") (num 1) ∷ [] }
 {}
 
@@ -78,22 +98,28 @@ fn nothings()
 fn counts()
     ensures twice { (t : Tests) →
         document_nodes t (filtered (compares
-        (tree.value_call (tree.call (codes "count") (tree.arguments (tree.query_argument (tree.query_from Current (tree.child (tree.name (codes "a") ∷ tree.name (codes "a") ∷ []) ∷ [])) ∷ []))))
+        (tree.value_call (tree.call (codes "count")
+        (tree.arguments (tree.query_argument (tree.query_from Current
+        (tree.child (tree.name (codes "a") ∷ tree.name (codes "a") ∷ []) ∷ [])) ∷ []))))
         Eq (tree.literal (tree.number (codes "2"))))) (arr (obj (codes "a") (num 1) ∷ []))
         ≡ node (item 0 ∷ []) (obj (codes "a") (num 1)) ∷ [] }
 {}
 
-/// `$[?@.a&&!@.b||@.c==1]` on `[{"a":0},{"a":0,"b":0},{"b":0,"c":1}]`, and `$.a[?@==$.b]` on `{"a":[1,2],"b":2}`.
+/// `$[?@.a&&!@.b||@.c==1]` on `[{"a":0},{"a":0,"b":0},{"b":0,"c":1}]`, and `$.a[?@==$.b]` on
+/// `{"a":[1,2],"b":2}`.
 fn logic()
     ensures parts { (t : Tests) →
         map (λ n. n.location) (document_nodes t (filtered (tree.any (tree.logicals (
-        tree.all (tree.logicals (tree.test (member_of_current (codes "a")) ∷ tree.negation (tree.test (member_of_current (codes "b"))) ∷ []))
+        tree.all (tree.logicals (tree.test (member_of_current (codes "a")) ∷ tree.negation
+        (tree.test (member_of_current (codes "b"))) ∷ []))
         ∷ compares (current_member (codes "c")) Eq (tree.literal (tree.number (codes "1"))) ∷ []))))
-        (arr (obj (codes "a") (num 0) ∷ obj2 (codes "a") (num 0) (codes "b") (num 0) ∷ obj2 (codes "b") (num 0) (codes "c") (num 1) ∷ [])))
+        (arr (obj (codes "a") (num 0) ∷ obj2 (codes "a") (num 0) (codes "b") (num 0) ∷ obj2 (codes "b")
+        (num 0) (codes "c") (num 1) ∷ [])))
         ≡ (item 0 ∷ []) ∷ (item 2 ∷ []) ∷ [] }
     ensures against_the_root { (t : Tests) →
         document_nodes t (from_root (tree.child (tree.name (codes "a") ∷ [])
-        ∷ tree.child (tree.filter (compares current Eq (tree.single (from_root (tree.child (tree.name (codes "b") ∷ []) ∷ [])))) ∷ []) ∷ []))
+        ∷ tree.child (tree.filter (compares current Eq
+        (tree.single (from_root (tree.child (tree.name (codes "b") ∷ []) ∷ [])))) ∷ []) ∷ []))
         (obj2 (codes "a") (arr (num 1 ∷ num 2 ∷ [])) (codes "b") (num 2))
         ≡ node (to (codes "a") ∷ item 1 ∷ []) (num 2) ∷ [] }
 {}
@@ -101,19 +127,25 @@ fn logic()
 /// `$[?@>=null]` on `[null,1]`, `$[?@<'b']` on `["a","b",1]`, `$[?@.a==-0]` on `[{"a":0}]`.
 fn comparisons()
     ensures null_with_null { (t : Tests) →
-        document_nodes t (filtered (compares current Ge (tree.literal tree.null))) (arr (null ∷ num 1 ∷ [])) ≡ node (item 0 ∷ []) null ∷ [] }
+        document_nodes t (filtered (compares current Ge (tree.literal tree.null))) (arr (null ∷ num 1 ∷ []))
+        ≡ node (item 0 ∷ []) null ∷ [] }
     ensures texts { (t : Tests) →
-        document_nodes t (filtered (compares current Lt (tree.literal (tree.text (codes "b"))))) (arr (text (codes "a") ∷ text (codes "b") ∷ num 1 ∷ []))
+        document_nodes t (filtered (compares current Lt (tree.literal (tree.text (codes "b")))))
+        (arr (text (codes "a") ∷ text (codes "b") ∷ num 1 ∷ []))
         ≡ node (item 0 ∷ []) (text (codes "a")) ∷ [] }
     ensures minus_zero { (t : Tests) →
-        document_nodes t (filtered (compares (current_member (codes "a")) Eq (tree.literal (tree.number (codes "-0"))))) (arr (obj (codes "a") (num 0) ∷ []))
+        document_nodes t (filtered (compares (current_member (codes "a")) Eq
+        (tree.literal (tree.number (codes "-0"))))) (arr (obj (codes "a") (num 0) ∷ []))
         ≡ node (item 0 ∷ []) (obj (codes "a") (num 0)) ∷ [] }
     ensures above_64_bits { (t : Tests) →
-        map (λ n. n.location) (document_nodes t (filtered (compares current Lt (tree.literal (tree.number (codes "99999999999999999999999999999999999999")))))
+        map (λ n. n.location) (document_nodes t
+        (filtered (compares current Lt (tree.literal
+        (tree.number (codes "99999999999999999999999999999999999999")))))
         (arr (num 9223372036854775807 ∷ num 18446744073709551615 ∷ [])))
         ≡ (item 0 ∷ []) ∷ (item 1 ∷ []) ∷ [] }
     ensures above_63_bits { (t : Tests) →
-        map (λ n. n.location) (document_nodes t (filtered (compares current Gt (tree.literal (tree.number (codes "9223372036854775807")))))
+        map (λ n. n.location) (document_nodes t
+        (filtered (compares current Gt (tree.literal (tree.number (codes "9223372036854775807")))))
         (arr (num 9223372036854775807 ∷ num 18446744073709551615 ∷ [])))
         ≡ (item 1 ∷ []) ∷ [] }
 {}
@@ -126,40 +158,218 @@ fn operators()
     ensures two_kinds { compared Le (Some (num 1)) (Some (text (codes "1"))) ≡ false }
     ensures not_equal { compared Ne (Some (num 1)) (Some (text (codes "1"))) ≡ true }
     ensures truths { compared Le (Some (truth false)) (Some (truth true)) ≡ false }
-    ensures arrays { compared Eq (Some (arr (num 1 ∷ obj (codes "a") null ∷ []))) (Some (arr (num 1 ∷ obj (codes "a") null ∷ []))) ≡ true }
-    ensures arrays_in_order { compared Eq (Some (arr (num 1 ∷ num 2 ∷ []))) (Some (arr (num 2 ∷ num 1 ∷ []))) ≡ false }
+    ensures arrays { compared Eq (Some (arr (num 1 ∷ obj (codes "a") null ∷ [])))
+        (Some (arr (num 1 ∷ obj (codes "a") null ∷ []))) ≡ true }
+    ensures arrays_in_order { compared Eq (Some (arr (num 1 ∷ num 2 ∷ []))) (Some (arr (num 2 ∷ num 1 ∷ [])))
+        ≡ false }
     ensures other_names { compared Eq (Some (obj (codes "a") null)) (Some (obj (codes "b") null)) ≡ false }
-    ensures fewer_names { compared Eq (Some (obj (codes "a") null)) (Some (obj2 (codes "a") null (codes "b") null)) ≡ false }
+    ensures fewer_names { compared Eq (Some (obj (codes "a") null))
+        (Some (obj2 (codes "a") null (codes "b") null)) ≡ false }
 {}
 
 /// `$..[0,0]` on `[[1],[2]]`: node after node, and selector after selector at each.
 fn below_with_two_selectors()
     ensures in_order { (t : Tests) →
-        map (λ n. n.location) (document_nodes t (from_root (tree.descendant (tree.index (codes "0") ∷ tree.index (codes "0") ∷ []) ∷ [])) (arr (arr (num 1 ∷ []) ∷ arr (num 2 ∷ []) ∷ [])))
-        ≡ (item 0 ∷ []) ∷ (item 0 ∷ []) ∷ (item 0 ∷ item 0 ∷ []) ∷ (item 0 ∷ item 0 ∷ []) ∷ (item 1 ∷ item 0 ∷ []) ∷ (item 1 ∷ item 0 ∷ []) ∷ [] }
+        map (λ n. n.location) (document_nodes t
+        (from_root (tree.descendant (tree.index (codes "0") ∷ tree.index (codes "0") ∷ []) ∷ []))
+        (arr (arr (num 1 ∷ []) ∷ arr (num 2 ∷ []) ∷ [])))
+        ≡ (item 0 ∷ []) ∷ (item 0 ∷ []) ∷ (item 0 ∷ item 0 ∷ []) ∷ (item 0 ∷ item 0 ∷ [])
+        ∷ (item 1 ∷ item 0 ∷ []) ∷ (item 1 ∷ item 0 ∷ []) ∷ [] }
 {}
 
 /// `$`, `$.a`, and names and indexes where the value is of another kind.
 fn first_steps()
     ensures root { (t : Tests) → document_nodes t (from_root []) (arr []) ≡ node [] (arr []) ∷ [] }
-    ensures member { (t : Tests) → document_nodes t (bracketed (tree.name (codes "a") ∷ [])) nested ≡ node (to (codes "a") ∷ []) null ∷ [] }
+    ensures member { (t : Tests) → document_nodes t (bracketed (tree.name (codes "a") ∷ [])) nested
+        ≡ node (to (codes "a") ∷ []) null ∷ [] }
     ensures no_member { (t : Tests) → document_nodes t (bracketed (tree.name (codes "c") ∷ [])) nested ≡ [] }
-    ensures name_of_an_array { (t : Tests) → document_nodes t (bracketed (tree.name (codes "a") ∷ [])) five ≡ [] }
-    ensures index_of_an_object { (t : Tests) → document_nodes t (bracketed (tree.index (codes "0") ∷ [])) nested ≡ [] }
-    ensures children_of_a_number { (t : Tests) → document_nodes t (bracketed (tree.wildcard ∷ [])) (num 1) ≡ [] }
-    ensures far_index { (t : Tests) → document_nodes t (bracketed (tree.index (codes "4294967296") ∷ [])) (arr (num 1 ∷ [])) ≡ [] }
+    ensures name_of_an_array { (t : Tests) → document_nodes t (bracketed (tree.name (codes "a") ∷ [])) five
+        ≡ [] }
+    ensures index_of_an_object { (t : Tests) → document_nodes t (bracketed (tree.index (codes "0") ∷ []))
+        nested ≡ [] }
+    ensures children_of_a_number { (t : Tests) → document_nodes t (bracketed (tree.wildcard ∷ [])) (num 1)
+        ≡ [] }
+    ensures far_index { (t : Tests) → document_nodes t (bracketed (tree.index (codes "4294967296") ∷ []))
+        (arr (num 1 ∷ [])) ≡ [] }
+{}
+
+/// `$..a` on `{"a":{"a":1}}`, `$['b',*]` on an object, and a filter on one: members in the order of their
+/// names.
+fn members()
+    ensures at_each_level { (t : Tests) →
+        document_nodes t (from_root (tree.descendant (tree.name (codes "a") ∷ []) ∷ []))
+        (obj (codes "a") (obj (codes "a") (num 1)))
+        ≡ node (to (codes "a") ∷ []) (obj (codes "a") (num 1)) ∷ node (to (codes "a") ∷ to (codes "a") ∷ [])
+        (num 1) ∷ [] }
+    ensures second_name { (t : Tests) →
+        map (λ n. n.location) (document_nodes t (bracketed (tree.name (codes "b") ∷ tree.wildcard ∷ []))
+        nested)
+        ≡ (to (codes "b") ∷ []) ∷ (to (codes "a") ∷ []) ∷ (to (codes "b") ∷ []) ∷ [] }
+    ensures filtered { (t : Tests) →
+        document_nodes t (filtered (compares current Eq (number (codes "2"))))
+        (obj2 (codes "a") (num 1) (codes "b") (num 2))
+        ≡ node (to (codes "b") ∷ []) (num 2) ∷ [] }
+    ensures of_no_children { (t : Tests) → document_nodes t (filtered (compares current Eq current))
+        (text (codes "a")) ≡ [] }
+{}
+
+/// Indexes from the end, and the two ends of an array.
+fn ends_of_arrays()
+    ensures first_from_the_end { (t : Tests) → document_nodes t (bracketed (tree.index (codes "-5") ∷ []))
+        five ≡ node (item 0 ∷ []) (num 0) ∷ [] }
+    ensures before_the_first { (t : Tests) → document_nodes t (bracketed (tree.index (codes "-6") ∷ [])) five
+        ≡ [] }
+    ensures last { (t : Tests) → document_nodes t (bracketed (tree.index (codes "4") ∷ [])) five
+        ≡ node (item 4 ∷ []) (num 4) ∷ [] }
+    ensures behind_the_last { (t : Tests) → document_nodes t (bracketed (tree.index (codes "5") ∷ [])) five
+        ≡ [] }
+{}
+
+/// More slices of `[0,1,2,3,4]`: each bound is left out or kept, and steps of more than one.
+fn slices_by_steps()
+    ensures rising { (t : Tests) → sliced t (Some (codes "1")) (Some (codes "4")) (Some (codes "2"))
+        ≡ num 1 ∷ num 3 ∷ [] }
+    ensures one { (t : Tests) → sliced t (Some (codes "1")) (Some (codes "3")) None ≡ num 1 ∷ num 2 ∷ [] }
+    ensures end_left_out { (t : Tests) → sliced t (Some (codes "0")) (Some (codes "2")) (Some (codes "2"))
+        ≡ num 0 ∷ [] }
+    ensures from_the_end { (t : Tests) → sliced t (Some (codes "-1")) (Some (codes "-4")) (Some (codes "-2"))
+        ≡ num 4 ∷ num 2 ∷ [] }
+    ensures down_to { (t : Tests) → sliced t (Some (codes "4")) (Some (codes "2")) (Some (codes "-1"))
+        ≡ num 4 ∷ num 3 ∷ [] }
+    ensures down_by_two { (t : Tests) → sliced t None None (Some (codes "-2")) ≡ num 4 ∷ num 2 ∷ num 0 ∷ [] }
+    ensures none_upward { (t : Tests) → sliced t (Some (codes "3")) (Some (codes "1")) None ≡ [] }
+    ensures none_downward { (t : Tests) → sliced t (Some (codes "1")) (Some (codes "3")) (Some (codes "-1"))
+        ≡ [] }
+    ensures beyond { (t : Tests) → sliced t (Some (codes "-9")) (Some (codes "9")) (Some (codes "4"))
+        ≡ num 0 ∷ num 4 ∷ [] }
+{}
+
+/// `!`, literals of each kind, and `@` and `$` inside a filter of a filter.
+fn tests()
+    ensures negated { (t : Tests) → kept t (tree.negation (tree.test (member_of_current (codes "a"))))
+        ≡ (item 0 ∷ []) ∷ [] }
+    ensures negated_comparison { (t : Tests) → kept t
+        (tree.negation (compares (current_member (codes "a")) Eq (number (codes "1"))))
+        ≡ (item 0 ∷ []) ∷ (item 1 ∷ []) ∷ [] }
+    ensures null_is_a_value { (t : Tests) → kept t (tree.test (member_of_current (codes "a")))
+        ≡ (item 1 ∷ []) ∷ (item 2 ∷ []) ∷ [] }
+    ensures literal_null { (t : Tests) → kept t
+        (compares (current_member (codes "a")) Eq (tree.literal tree.null)) ≡ (item 1 ∷ []) ∷ [] }
+    ensures literal_true { (t : Tests) →
+        document_nodes t (filtered (compares current Eq (tree.literal (tree.truth true))))
+        (arr (truth true ∷ truth false ∷ num 1 ∷ []))
+        ≡ node (item 0 ∷ []) (truth true) ∷ [] }
+    ensures literal_false { (t : Tests) →
+        document_nodes t (filtered (compares (tree.literal (tree.truth false)) Eq current))
+        (arr (truth true ∷ truth false ∷ null ∷ []))
+        ≡ node (item 1 ∷ []) (truth false) ∷ [] }
+    ensures one_in_another { (t : Tests) →
+        map (λ n. n.location) (document_nodes t
+        (from_root (tree.child (tree.name (codes "b") ∷ []) ∷ tree.child (tree.filter (tree.test
+            (tree.query_from Current (tree.child
+            (tree.filter (compares current Eq (tree.single (bracketed (tree.name (codes "a") ∷ [])))) ∷ [])
+            ∷ []))) ∷ []) ∷ []))
+        (obj2 (codes "a") (num 2) (codes "b") (arr (arr (num 1 ∷ []) ∷ arr (num 2 ∷ []) ∷ []))))
+        ≡ (to (codes "b") ∷ item 1 ∷ []) ∷ [] }
+{}
+
+/// Values that are equal, and values that are not, of each kind.
+fn equality()
+    ensures nulls { compared Eq (Some null) (Some null) ≡ true }
+    ensures null_and_false { compared Eq (Some null) (Some (truth false)) ≡ false }
+    ensures truths { compared Eq (Some (truth true)) (Some (truth true)) ≡ true }
+    ensures other_truths { compared Eq (Some (truth true)) (Some (truth false)) ≡ false }
+    ensures numbers { compared Eq (Some (num 7)) (Some (num 7)) ≡ true }
+    ensures other_numbers { compared Eq (Some (num 7)) (Some (whole (negsuc 6))) ≡ false }
+    ensures texts { compared Eq (Some (text (codes "ab"))) (Some (text (codes "ab"))) ≡ true }
+    ensures text_in_capitals { compared Eq (Some (text (codes "ab"))) (Some (text (codes "aB"))) ≡ false }
+    ensures front_of_a_text { compared Eq (Some (text (codes "a"))) (Some (text (codes "ab"))) ≡ false }
+    ensures longer_array { compared Eq (Some (arr (num 1 ∷ []))) (Some (arr (num 1 ∷ num 1 ∷ []))) ≡ false }
+    ensures shorter_array { compared Eq (Some (arr (num 1 ∷ num 1 ∷ []))) (Some (arr (num 1 ∷ []))) ≡ false }
+    ensures empty_ones { compared Eq (Some (arr [])) (Some (object no_members)) ≡ false }
+    ensures more_names { compared Eq (Some (obj2 (codes "a") null (codes "b") null))
+        (Some (obj (codes "a") null)) ≡ false }
+    ensures other_values { compared Eq (Some (obj (codes "a") null)) (Some (obj (codes "a") (num 0)))
+        ≡ false }
+    ensures second_values { compared Eq (Some (obj2 (codes "a") null (codes "b") (num 1)))
+        (Some (obj2 (codes "a") null (codes "b") (num 2))) ≡ false }
+{}
+
+/// `<` of numbers by value and of texts by their scalar values, and of nothing else.
+fn order()
+    ensures numbers { compared Lt (Some (whole (negsuc 0))) (Some (num 0)) ≡ true }
+    ensures not_below_itself { compared Lt (Some (num 2)) (Some (num 2)) ≡ false }
+    ensures not_above { compared Gt (Some (num 2)) (Some (num 3)) ≡ false }
+    ensures above { compared Gt (Some (num 3)) (Some (num 2)) ≡ true }
+    ensures below_or_equal { compared Le (Some (num 2)) (Some (num 2)) ≡ true }
+    ensures above_or_equal { compared Ge (Some (num 2)) (Some (num 3)) ≡ false }
+    ensures longer_text { compared Lt (Some (text (codes "ab"))) (Some (text (codes "b"))) ≡ true }
+    ensures front_of_a_text { compared Lt (Some (text (codes "a"))) (Some (text (codes "ab"))) ≡ true }
+    ensures same_text { compared Lt (Some (text (codes "a"))) (Some (text (codes "a"))) ≡ false }
+    ensures truths { compared Lt (Some (truth false)) (Some (truth true)) ≡ false }
+    ensures arrays { compared Lt (Some (arr [])) (Some (arr (num 1 ∷ []))) ≡ false }
+    ensures nulls { compared Le (Some null) (Some null) ≡ true }
+    ensures nothing_and_number { compared Lt None (Some (num 1)) ≡ false }
+{}
+
+/// U+FFFF is below U+1F600, though not in UTF-16.
+#[tactic(auto, unfolding(crate::proofs::OnLiterals::texts_on_literals))]
+fn order_beyond_sixteen_bits()
+    ensures { compared Lt (Some (text (65535 ∷ []))) (Some (text (128512 ∷ []))) ≡ true }
+{}
+
+/// What is handed over as a value, as true or false, and as nodes.
+fn handed_over()
+    ensures value_of_none { as_value (handed_nodes []) ≡ None }
+    ensures value_of_nodes { as_value (handed_nodes (node [] null ∷ [])) ≡ Some null }
+    ensures value_of_truth { as_value (handed_truth true) ≡ None }
+    ensures value_as_it_is { as_value (handed_value (Some null)) ≡ Some null }
+    ensures truth_of_none { as_truth (handed_nodes []) ≡ false }
+    ensures truth_of_nodes { as_truth (handed_nodes (node [] (truth false) ∷ [])) ≡ true }
+    ensures truth_as_it_is { as_truth (handed_truth true) ≡ true }
+    ensures truth_of_a_value { as_truth (handed_value (Some (truth true))) ≡ false }
+    ensures nodes_as_they_are { as_nodes (handed_nodes (node [] null ∷ [])) ≡ node [] null ∷ [] }
+    ensures nodes_of_a_value { as_nodes (handed_value (Some null)) ≡ [] }
 {}
 
 /// What the functions give: lengths, the one value of a list of nodes, and a match as the tests answer it.
 fn functions()
-    ensures length_of_text { (t : Tests) → called t length_function (handed_value (Some (text (codes "abc"))) ∷ []) ≡ handed_value (Some (num 3)) }
-    ensures length_of_object { (t : Tests) → called t length_function (handed_value (Some nested) ∷ []) ≡ handed_value (Some (num 2)) }
-    ensures length_of_number { (t : Tests) → called t length_function (handed_value (Some (num 3)) ∷ []) ≡ handed_value None }
-    ensures length_of_nothing { (t : Tests) → called t length_function (handed_value None ∷ []) ≡ handed_value None }
-    ensures value_of_one { (t : Tests) → called t value_function (handed_nodes (node [] null ∷ []) ∷ []) ≡ handed_value (Some null) }
-    ensures value_of_two { (t : Tests) → called t value_function (handed_nodes (node [] null ∷ node [] null ∷ []) ∷ []) ≡ handed_value None }
-    ensures no_pattern_text { (t : Tests) → called t match_function (handed_value (Some (text (codes "1"))) ∷ handed_value (Some (num 1)) ∷ []) ≡ handed_truth false }
-    ensures no_text { (t : Tests) → called t search_function (handed_value None ∷ handed_value (Some (text (codes "a"))) ∷ []) ≡ handed_truth false }
-    ensures matching { (t : Tests) → called t match_function (handed_value (Some (text (codes "a"))) ∷ handed_value (Some (text (codes "."))) ∷ []) ≡ handed_truth (t.is_match (codes "a") (codes ".")) }
-    ensures searching { (t : Tests) → called t search_function (handed_value (Some (text (codes "a"))) ∷ handed_value (Some (text (codes "."))) ∷ []) ≡ handed_truth (t.is_found (codes "a") (codes ".")) }
+    ensures length_of_text { (t : Tests) → called t length_function
+        (handed_value (Some (text (codes "abc"))) ∷ []) ≡ handed_value (Some (num 3)) }
+    ensures length_in_characters { (t : Tests)
+        → called t length_function (handed_value (Some (text (252 ∷ 128512 ∷ []))) ∷ [])
+        ≡ handed_value (Some (num 2)) }
+    ensures length_of_array { (t : Tests) → called t length_function
+        (handed_value (Some (arr (num 5 ∷ num 5 ∷ []))) ∷ []) ≡ handed_value (Some (num 2)) }
+    ensures length_of_true { (t : Tests) → called t length_function (handed_value (Some (truth true)) ∷ [])
+        ≡ handed_value None }
+    ensures count_of_none { (t : Tests) → called t count_function (handed_nodes [] ∷ [])
+        ≡ handed_value (Some (num 0)) }
+    ensures count_of_two { (t : Tests) → called t count_function
+        (handed_nodes (node [] null ∷ node [] null ∷ []) ∷ []) ≡ handed_value (Some (num 2)) }
+    ensures value_of_none { (t : Tests) → called t value_function (handed_nodes [] ∷ []) ≡ handed_value None }
+    ensures value_of_three { (t : Tests) → called t value_function
+        (handed_nodes (node [] null ∷ node [] null ∷ node [] null ∷ []) ∷ []) ≡ handed_value None }
+    ensures value_of_a_value { (t : Tests) → called t value_function (handed_value (Some null) ∷ [])
+        ≡ handed_value None }
+    ensures length_of_object { (t : Tests) → called t length_function (handed_value (Some nested) ∷ [])
+        ≡ handed_value (Some (num 2)) }
+    ensures length_of_number { (t : Tests) → called t length_function (handed_value (Some (num 3)) ∷ [])
+        ≡ handed_value None }
+    ensures length_of_nothing { (t : Tests) → called t length_function (handed_value None ∷ [])
+        ≡ handed_value None }
+    ensures value_of_one { (t : Tests) → called t value_function (handed_nodes (node [] null ∷ []) ∷ [])
+        ≡ handed_value (Some null) }
+    ensures value_of_two { (t : Tests) → called t value_function
+        (handed_nodes (node [] null ∷ node [] null ∷ []) ∷ []) ≡ handed_value None }
+    ensures no_pattern_text { (t : Tests) → called t match_function
+        (handed_value (Some (text (codes "1"))) ∷ handed_value (Some (num 1)) ∷ []) ≡ handed_truth false }
+    ensures no_text { (t : Tests) → called t search_function
+        (handed_value None ∷ handed_value (Some (text (codes "a"))) ∷ []) ≡ handed_truth false }
+    ensures matching { (t : Tests) → called t match_function
+        (handed_value (Some (text (codes "a"))) ∷ handed_value (Some (text (codes "."))) ∷ [])
+        ≡ handed_truth (t.is_match (codes "a") (codes ".")) }
+    ensures searching { (t : Tests) → called t search_function
+        (handed_value (Some (text (codes "a"))) ∷ handed_value (Some (text (codes "."))) ∷ [])
+        ≡ handed_truth (t.is_found (codes "a") (codes ".")) }
 {}

@@ -41,7 +41,8 @@ pub(crate) fn add<'v>(
     value: Part<'v>,
     found: &mut Found<'v>,
 ) -> Result<(), AllocError>
-    ensures { OnOk result (kept found.new ≡ plus (kept found.old) (node (link_steps path.now.items) (part_value value.entry) ∷ [])) }
+    ensures { OnOk result (kept found.new ≡ plus (kept found.old)
+        (node (link_steps path.now.items) (part_value value.entry) ∷ [])) }
 {
     match found {
         Found::Places(places) => places.push(location(alloc, path.as_slice())?)?,

@@ -164,7 +164,8 @@ pub(crate) fn matches(
 ) -> Result<bool, AllocError>
     requires text { HasWholeNumbers text }
     requires pattern { HasWholeNumbers pattern_text }
-    ensures { IfOk result (λ b. b ≡ spec.tested tests.is_match (operand_value text.entry) (operand_value pattern_text.entry)) }
+    ensures { IfOk result (λ b. b ≡ spec.tested tests.is_match (operand_value text.entry)
+        (operand_value pattern_text.entry)) }
 {
     match (text_of(text), text_of(pattern_text)) {
         (Some(text), Some(pattern_text)) => is_match(alloc, text, pattern_text),
@@ -180,7 +181,8 @@ pub(crate) fn searches(
 ) -> Result<bool, AllocError>
     requires text { HasWholeNumbers text }
     requires pattern { HasWholeNumbers pattern_text }
-    ensures { IfOk result (λ b. b ≡ spec.tested tests.is_found (operand_value text.entry) (operand_value pattern_text.entry)) }
+    ensures { IfOk result (λ b. b ≡ spec.tested tests.is_found (operand_value text.entry)
+        (operand_value pattern_text.entry)) }
 {
     match (text_of(text), text_of(pattern_text)) {
         (Some(text), Some(pattern_text)) => is_found(alloc, text, pattern_text),

@@ -1,10 +1,11 @@
 //! Laws of the definitions, each the contract of a function that does nothing.
 
-ghost use Rattle.std.specs.Prelude.{◌≡◌, ◌↔◌, ◌||◌, ◌<◌, [], ◌∷◌, ◌++◌, ℕ, ℤ, pos, negsuc, int_lt, ◌≤ℤ◌, ◌<ℤ◌, IsTrue, List, Option, Some, None, true, false};
+ghost use Rattle.std.specs.Prelude.{◌≡◌, ◌↔◌, ◌||◌, ◌<◌, [], ◌∷◌, ◌++◌, ℕ, ℤ, pos, negsuc, int_lt, ◌≤ℤ◌};
+ghost use Rattle.std.specs.Prelude.{◌<ℤ◌, IsTrue, List, Option, Some, None, true, false};
 ghost use Rattle.std.specs.List.{flat_map, AllByRecursion};
-ghost use Rattle.jp_doc.specs.Json.{Json};
-ghost use Rattle.jp_doc.specs.Location.{Node, value_at};
-ghost use Rattle.jp_doc.specs.Rising.{IsRising};
+ghost use Rattle.jp_doc.specs.Json.{Text, Json, Members, object};
+ghost use Rattle.jp_doc.specs.Location.{Node, member_at, value_at};
+ghost use Rattle.jp_doc.specs.Rising.{IsRising, MembersRise};
 ghost use Rattle.jp_syntax.specs.Tree.{Query, Segment, segments, query_from};
 ghost use Rattle.jp_syntax.specs.declared.tree.Start.{Start};
 ghost use Rattle.jp_regexp.specs.Tests.{Tests};
@@ -18,10 +19,12 @@ pub fn descendants()
     ensures { (n : Node) → descendants_of n ≡ n ∷ flat_map descendants_of (children n) }
 {}
 
-/// The indexes of a slice lie within the array; they rise strictly for a positive step, and fall strictly for a negative one.
+/// The indexes of a slice lie within the array; they rise strictly for a positive step, and fall strictly for
+/// a negative one.
 /// Its bounds lie within the array too, so no index beyond the array meets them.
 pub fn slice()
-    ensures within { (first past step : Option ℤ) (len : ℕ) → AllByRecursion (λ i. i < len) (slice_indexes (slice_bounds first past step len) len) }
+    ensures within { (first past step : Option ℤ) (len : ℕ)
+        → AllByRecursion (λ i. i < len) (slice_indexes (slice_bounds first past step len) len) }
     ensures rising { (first past : Option ℤ) (step : ℤ) (len : ℕ) → IsTrue (int_lt (pos 0) step)
         → RisesFrom 0 (slice_indexes (slice_bounds first past (Some step) len) len) }
     ensures falling { (first past : Option ℤ) (step : ℤ) (len : ℕ) → IsTrue (int_lt step (pos 0))
@@ -40,6 +43,16 @@ pub fn comparison()
     ensures below_or_equal { (a b : Option Json) → le a b ≡ (lt a b || eq a b) }
 {}
 
+/// Objects whose names rise, as those of a document do, are equal exactly where each name has equal values in
+/// both, or
+/// stands in neither.
+#[tactic(auto, using(crate::proofs::MembersByName::objects_by_name))]
+pub fn objects()
+    ensures { (ms ns : Members) → MembersRise ms → MembersRise ns
+        → IsTrue (eq (Some (object ms)) (Some (object ns)))
+        ↔ ((k : Text) → IsTrue (eq (member_at k ms) (member_at k ns))) }
+{}
+
 /// The nodelist of a query with more segments behind it is what these make of its nodelist.
 pub fn further_segments()
     ensures { (t : Tests) (root : Json) (start : Start) (ss more : List Segment) (current : Node) →
@@ -47,7 +60,8 @@ pub fn further_segments()
         ≡ through t root (segments more) (nodelist t root (query_from start ss) current) }
 {}
 
-/// In a document whose objects have each name once, a location in the nodelist leads to the value that it is listed with.
+/// In a document whose objects have each name once, a location in the nodelist leads to the value that it is
+/// listed with.
 pub fn nodes_stand_there()
     ensures { (t : Tests) (q : Query) (root : Json) → IsRising root →
         AllByRecursion (λ n. value_at n.location root ≡ Some n.value) (document_nodes t q root) }

@@ -11,8 +11,6 @@ mod numbers;
 mod part;
 mod path;
 mod slice;
-#[cfg(test)]
-mod tests;
 mod walk;
 
 pub use compare::{Operand, equal, less};

@@ -1,6 +1,7 @@
 //! Numbers as they are written in a query.
 
-ghost use Rattle.std.specs.Prelude.{◌≡◌, ◌≤◌, ◌<◌, ◌^◌, pos, negsuc, neg_ℤ, option_to_list, IfSome, IfNone, MatchOption, min, if◌then◌else◌};
+ghost use Rattle.std.specs.Prelude.{◌≡◌, ◌≤◌, ◌<◌, ◌^◌, pos, negsuc, neg_ℤ, option_to_list, IfSome, IfNone};
+ghost use Rattle.std.specs.Prelude.{MatchOption, min, if◌then◌else◌};
 ghost use Rattle.std.specs.Str.{chars};
 ghost use Rattle.jp_check.specs.Numbers as spec;
 ghost use Rattle.jp_eval.specs.BoundsView.{nearest as nearest_position, IsPosition};

@@ -57,7 +57,9 @@ pub(crate) fn find<'v>(
     path: &mut Path<'v>,
     found: &mut Found<'v>,
 ) -> Result<(), AllocError>
-    ensures found { OnOk result (kept found.new ≡ plus (kept found.old) (spec.nodelist tests (part_value root.entry) (query_of query.now) (here path.old.items value.entry))) }
+    ensures found { OnOk result (kept found.new
+        ≡ plus (kept found.old) (spec.nodelist tests (part_value root.entry) (query_of query.now)
+        (here path.old.items value.entry))) }
     ensures path { OnOk result (path.new.items ≡ path.old.items) }
 {
     let segments = query.segments.as_slice();
@@ -79,7 +81,8 @@ fn go<'v>(
     path: &mut Path<'v>,
     found: &mut Found<'v>,
 ) -> Result<(), AllocError>
-    ensures found { OnOk result (kept found.new ≡ plus (kept found.old) (done (part_value root.entry) task.entry (here path.old.items value.entry))) }
+    ensures found { OnOk result (kept found.new
+        ≡ plus (kept found.old) (done (part_value root.entry) task.entry (here path.old.items value.entry))) }
     ensures path { OnOk result (path.new.items ≡ path.old.items) }
 {
     match task {
@@ -106,7 +109,9 @@ fn run<'v>(
     path: &mut Path<'v>,
     found: &mut Found<'v>,
 ) -> Result<(), AllocError>
-    ensures found { OnOk result (kept found.new ≡ plus (kept found.old) (reached (part_value root.entry) segments.now (here path.old.items value.entry ∷ []))) }
+    ensures found { OnOk result (kept found.new
+        ≡ plus (kept found.old) (reached (part_value root.entry) segments.now
+        (here path.old.items value.entry ∷ []))) }
     ensures path { OnOk result (path.new.items ≡ path.old.items) }
 {
     match segments.split_first() {
@@ -133,7 +138,10 @@ fn descend<'v>(
     path: &mut Path<'v>,
     found: &mut Found<'v>,
 ) -> Result<(), AllocError>
-    ensures found { OnOk result (kept found.new ≡ plus (kept found.old) (reached (part_value root.entry) rest.now (flat_map (picked_by (part_value root.entry) selectors.now) (descendants (here path.old.items value.entry))))) }
+    ensures found { OnOk result (kept found.new
+        ≡ plus (kept found.old) (reached (part_value root.entry) rest.now
+        (flat_map (picked_by (part_value root.entry) selectors.now)
+        (descendants (here path.old.items value.entry))))) }
     ensures path { OnOk result (path.new.items ≡ path.old.items) }
 {
     apply(alloc, selectors, rest, root, value, path, found)?;
@@ -152,7 +160,9 @@ fn apply<'v>(
     path: &mut Path<'v>,
     found: &mut Found<'v>,
 ) -> Result<(), AllocError>
-    ensures found { OnOk result (kept found.new ≡ plus (kept found.old) (reached (part_value root.entry) rest.now (picked_by (part_value root.entry) selectors.now (here path.old.items value.entry)))) }
+    ensures found { OnOk result (kept found.new
+        ≡ plus (kept found.old) (reached (part_value root.entry) rest.now
+        (picked_by (part_value root.entry) selectors.now (here path.old.items value.entry)))) }
     ensures path { OnOk result (path.new.items ≡ path.old.items) }
 {
     for selector in selectors {
@@ -172,7 +182,9 @@ fn select<'v>(
     path: &mut Path<'v>,
     found: &mut Found<'v>,
 ) -> Result<(), AllocError>
-    ensures found { OnOk result (kept found.new ≡ plus (kept found.old) (reached (part_value root.entry) rest.now (picked (part_value root.entry) selector.now (here path.old.items value.entry)))) }
+    ensures found { OnOk result (kept found.new
+        ≡ plus (kept found.old) (reached (part_value root.entry) rest.now
+        (picked (part_value root.entry) selector.now (here path.old.items value.entry)))) }
     ensures path { OnOk result (path.new.items ≡ path.old.items) }
 {
     match selector {
@@ -210,7 +222,9 @@ fn at_place<'v>(
     path: &mut Path<'v>,
     found: &mut Found<'v>,
 ) -> Result<(), AllocError>
-    ensures found { OnOk result (kept found.new ≡ plus (kept found.old) (reached (part_value root.entry) rest.now (spec.items_at (here path.old.items value.entry) (option_to_list place)))) }
+    ensures found { OnOk result (kept found.new
+        ≡ plus (kept found.old) (reached (part_value root.entry) rest.now
+        (spec.items_at (here path.old.items value.entry) (option_to_list place)))) }
     ensures path { OnOk result (path.new.items ≡ path.old.items) }
 {
     let Some(place) = place else {
@@ -236,7 +250,10 @@ fn each_place<'v>(
     found: &mut Found<'v>,
 ) -> Result<(), AllocError>
     requires { AreWithin (bounds_value bounds) (item_count (part_value value)) }
-    ensures found { OnOk result (kept found.new ≡ plus (kept found.old) (reached (part_value root.entry) rest.now (spec.items_at (here path.old.items value.entry) (slice_indexes (bounds_value bounds) (item_count (part_value value.entry)))))) }
+    ensures found { OnOk result (kept found.new
+        ≡ plus (kept found.old) (reached (part_value root.entry) rest.now
+        (spec.items_at (here path.old.items value.entry)
+        (slice_indexes (bounds_value bounds) (item_count (part_value value.entry)))))) }
     ensures path { OnOk result (path.new.items ≡ path.old.items) }
 {
     let mut next = first_place(bounds);
@@ -257,7 +274,9 @@ fn each_child<'v>(
     path: &mut Path<'v>,
     found: &mut Found<'v>,
 ) -> Result<(), AllocError>
-    ensures found { OnOk result (kept found.new ≡ plus (kept found.old) (flat_map (done (part_value root.entry) task.entry) (children (here path.old.items value.entry)))) }
+    ensures found { OnOk result (kept found.new
+        ≡ plus (kept found.old) (flat_map (done (part_value root.entry) task.entry)
+        (children (here path.old.items value.entry)))) }
     ensures path { OnOk result (path.new.items ≡ path.old.items) }
 {
     match value.value {
@@ -281,7 +300,9 @@ fn each_item<'v>(
 ) -> Result<(), AllocError>
     requires inside { All IsDocumentValue items.now.items }
     requires short { length items.now.items ≤ 16777216 }
-    ensures found { OnOk result (kept found.new ≡ plus (kept found.old) (flat_map (done (part_value root.entry) task.entry) (item_nodes (link_steps path.old.items) 0 (items_of (items_view items.now.items))))) }
+    ensures found { OnOk result (kept found.new
+        ≡ plus (kept found.old) (flat_map (done (part_value root.entry) task.entry)
+        (item_nodes (link_steps path.old.items) 0 (items_of (items_view items.now.items))))) }
     ensures path { OnOk result (path.new.items ≡ path.old.items) }
 {
     for (index, value) in items.iter().enumerate() {
@@ -305,7 +326,9 @@ fn each_member<'v>(
     found: &mut Found<'v>,
 ) -> Result<(), AllocError>
     requires { All (λ m. IsDocumentValue m.1) members.now.entries }
-    ensures found { OnOk result (kept found.new ≡ plus (kept found.old) (flat_map (done (part_value root.entry) task.entry) (member_nodes (link_steps path.old.items) (members_of (members_view members.now.entries))))) }
+    ensures found { OnOk result (kept found.new
+        ≡ plus (kept found.old) (flat_map (done (part_value root.entry) task.entry)
+        (member_nodes (link_steps path.old.items) (members_of (members_view members.now.entries))))) }
     ensures path { OnOk result (path.new.items ≡ path.old.items) }
 {
     for (name, value) in members.iter() {
@@ -328,7 +351,9 @@ fn first<'v>(
     value: Part<'v>,
     path: &mut Path<'v>,
 ) -> Result<Option<Part<'v>>, AllocError>
-    ensures value { IfOk result (λ o. option_map part_value o ≡ first_value (spec.nodelist tests (part_value root.entry) (query_of query.now) (here path.old.items value.entry))) }
+    ensures value { IfOk result (λ o. option_map part_value o
+        ≡ first_value (spec.nodelist tests (part_value root.entry) (query_of query.now)
+        (here path.old.items value.entry))) }
     ensures path { OnOk result (path.new.items ≡ path.old.items) }
 {
     let mut found = Found::First(None);
@@ -345,7 +370,9 @@ fn nodes<'v>(
     value: Part<'v>,
     path: &mut Path<'v>,
 ) -> Result<Vec<Part<'v>>, AllocError>
-    ensures values { IfOk result (λ v. map part_value v.items ≡ map (λ n. n.value) (as_nodes (spec.handed tests (part_value root.entry) (argument_of argument.now) (here path.old.items value.entry)))) }
+    ensures values { IfOk result (λ v. map part_value v.items
+        ≡ map (λ n. n.value) (as_nodes (spec.handed tests (part_value root.entry) (argument_of argument.now)
+        (here path.old.items value.entry)))) }
     ensures path { OnOk result (path.new.items ≡ path.old.items) }
 {
     match argument {
@@ -369,7 +396,8 @@ fn holds<'v>(
     value: Part<'v>,
     path: &mut Path<'v>,
 ) -> Result<bool, AllocError>
-    ensures truth { IfOk result (λ b. b ≡ is_true (part_value root.entry) test.now (here path.old.items value.entry)) }
+    ensures truth { IfOk result (λ b. b ≡ is_true (part_value root.entry) test.now
+        (here path.old.items value.entry)) }
     ensures path { OnOk result (path.new.items ≡ path.old.items) }
 {
     match test {
@@ -390,7 +418,8 @@ fn any<'v>(
     value: Part<'v>,
     path: &mut Path<'v>,
 ) -> Result<bool, AllocError>
-    ensures truth { IfOk result (λ b. b ≡ list_any (λ l. is_true (part_value root.entry) l (here path.old.items value.entry)) parts.now) }
+    ensures truth { IfOk result (λ b. b ≡ list_any
+        (λ l. is_true (part_value root.entry) l (here path.old.items value.entry)) parts.now) }
     ensures path { OnOk result (path.new.items ≡ path.old.items) }
 {
     for part in parts {
@@ -409,7 +438,8 @@ fn all<'v>(
     value: Part<'v>,
     path: &mut Path<'v>,
 ) -> Result<bool, AllocError>
-    ensures truth { IfOk result (λ b. b ≡ list_all (λ l. is_true (part_value root.entry) l (here path.old.items value.entry)) parts.now) }
+    ensures truth { IfOk result (λ b. b ≡ list_all
+        (λ l. is_true (part_value root.entry) l (here path.old.items value.entry)) parts.now) }
     ensures path { OnOk result (path.new.items ≡ path.old.items) }
 {
     for part in parts {
@@ -428,7 +458,8 @@ fn compares<'v>(
     value: Part<'v>,
     path: &mut Path<'v>,
 ) -> Result<bool, AllocError>
-    ensures truth { IfOk result (λ b. b ≡ spec.comparison_holds tests (part_value root.entry) (comparison_of comparison.now) (here path.old.items value.entry)) }
+    ensures truth { IfOk result (λ b. b ≡ spec.comparison_holds tests (part_value root.entry)
+        (comparison_of comparison.now) (here path.old.items value.entry)) }
     ensures path { OnOk result (path.new.items ≡ path.old.items) }
 {
     let left = side(alloc, &comparison.left, root, value, path)?;
@@ -445,7 +476,9 @@ fn side<'v>(
     value: Part<'v>,
     path: &mut Path<'v>,
 ) -> Result<Operand<'v>, AllocError>
-    ensures value { IfOk result (λ o. operand_value o ≡ spec.value_of tests (part_value root.entry) (comparable_of side.now) (here path.old.items value.entry)) }
+    ensures value { IfOk result (λ o. operand_value o
+        ≡ spec.value_of tests (part_value root.entry) (comparable_of side.now)
+        (here path.old.items value.entry)) }
     ensures whole { IfOk result HasWholeNumbers }
     ensures path { OnOk result (path.new.items ≡ path.old.items) }
 {
@@ -465,7 +498,8 @@ fn give<'v>(
     value: Part<'v>,
     path: &mut Path<'v>,
 ) -> Result<Given<'v>, AllocError>
-    ensures given { IfOk result (λ g. given_of g ≡ spec.given_by tests (part_value root.entry) (call_of call.now) (here path.old.items value.entry)) }
+    ensures given { IfOk result (λ g. given_of g
+        ≡ spec.given_by tests (part_value root.entry) (call_of call.now) (here path.old.items value.entry)) }
     ensures whole { IfOk result GivesWholeNumbers }
     ensures path { OnOk result (path.new.items ≡ path.old.items) }
 {
@@ -489,7 +523,10 @@ fn give_of_one<'v>(
     value: Part<'v>,
     path: &mut Path<'v>,
 ) -> Result<Given<'v>, AllocError>
-    ensures given { IfOk result (λ g. given_of g ≡ called tests (function_of function) (spec.handed tests (part_value root.entry) (argument_of argument.now) (here path.old.items value.entry) ∷ [])) }
+    ensures given { IfOk result (λ g. given_of g
+        ≡ called tests (function_of function)
+        (spec.handed tests (part_value root.entry) (argument_of argument.now)
+        (here path.old.items value.entry) ∷ [])) }
     ensures whole { IfOk result GivesWholeNumbers }
     ensures path { OnOk result (path.new.items ≡ path.old.items) }
 {
@@ -521,7 +558,9 @@ fn give_of_two<'v>(
     path: &mut Path<'v>,
 ) -> Result<Given<'v>, AllocError>
     ensures given { IfOk result (λ g. given_of g ≡ called tests (function_of function)
-        (spec.handed tests (part_value root.entry) (argument_of text.now) (here path.old.items value.entry) ∷ spec.handed tests (part_value root.entry) (argument_of pattern.now) (here path.old.items value.entry) ∷ [])) }
+        (spec.handed tests (part_value root.entry) (argument_of text.now) (here path.old.items value.entry)
+        ∷ spec.handed tests (part_value root.entry) (argument_of pattern.now)
+        (here path.old.items value.entry) ∷ [])) }
     ensures whole { IfOk result GivesWholeNumbers }
     ensures path { OnOk result (path.new.items ≡ path.old.items) }
 {
@@ -545,7 +584,9 @@ fn hand<'v>(
     value: Part<'v>,
     path: &mut Path<'v>,
 ) -> Result<Operand<'v>, AllocError>
-    ensures value { IfOk result (λ o. operand_value o ≡ value_of_handed (spec.handed tests (part_value root.entry) (argument_of argument.now) (here path.old.items value.entry))) }
+    ensures value { IfOk result (λ o. operand_value o
+        ≡ value_of_handed (spec.handed tests (part_value root.entry) (argument_of argument.now)
+        (here path.old.items value.entry))) }
     ensures whole { IfOk result HasWholeNumbers }
     ensures path { OnOk result (path.new.items ≡ path.old.items) }
 {

@@ -11,7 +11,8 @@ value_text v = compact_text (data_of v)
 
 -- the document's number, a tab, the normalized path, a tab, the value's text, and a line feed
 abbrev pub line_text : ℕ → Location → Json → List ℕ
-line_text number at v = decimal number ++ (9 ∷ encode_utf8_all (path_text at) ++ (9 ∷ value_text v ++ 10 ∷ []))
+line_text number at v = decimal number ++ (9 ∷ encode_utf8_all (path_text at) ++
+    (9 ∷ value_text v ++ 10 ∷ []))
 
 abbrev pub node_line : ℕ → Node → List ℕ
 node_line number n = line_text number n.location n.value

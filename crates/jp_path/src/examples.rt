@@ -1,6 +1,6 @@
 //! Worked examples of the definitions.
 
-ghost use Rattle.std.specs.Prelude.{◌≡◌, [], ◌∷◌, ◌++◌, codes, pos, negsuc, true};
+ghost use Rattle.std.specs.Prelude.{◌≡◌, [], ◌∷◌, ◌++◌, codes, pos, negsuc, true, false};
 ghost use Rattle.jp_doc.specs.Json.{null, truth, whole, text, array, object, items, no_members, add_member};
 ghost use Rattle.jp_doc.specs.Location.{name, index};
 ghost use Rattle.jp_syntax.specs.Tree as tree;
@@ -14,7 +14,8 @@ ghost use Rattle.jp_path.specs.PathQuery.{path_query};
 fn paths()
     ensures root { path_text [] ≡ codes "$" }
     ensures member { path_text (name (codes "a") ∷ []) ≡ codes "$['a']" }
-    ensures member_and_items { path_text (name (codes "b") ∷ index 1 ∷ name (codes "c") ∷ []) ≡ codes "$['b'][1]['c']" }
+    ensures member_and_items { path_text (name (codes "b") ∷ index 1 ∷ name (codes "c") ∷ [])
+        ≡ codes "$['b'][1]['c']" }
     ensures empty_name { path_text (name [] ∷ []) ≡ codes "$['']" }
     ensures double_quote { path_text (name (codes "a\"b") ∷ []) ≡ codes "$['a\"b']" }
     ensures vertical_tab { path_text (name (11 ∷ []) ∷ []) ≡ codes "$['\\u000b']" }
@@ -22,18 +23,37 @@ fn paths()
     ensures delete { path_text (name (127 ∷ []) ∷ []) ≡ codes "$['" ++ 127 ∷ codes "']" }
     ensures backslash { path_text (name (92 ∷ []) ∷ []) ≡ codes "$['\\\\']" }
     ensures greatest_index { path_text (index 4294967295 ∷ []) ≡ codes "$[4294967295]" }
-    ensures quote_null_and_tab { path_text (name (codes "it's" ++ 0 ∷ 9 ∷ []) ∷ []) ≡ codes "$['it\\'s\\u0000\\t']" }
+    ensures quote_null_and_tab { path_text (name (codes "it's" ++ 0 ∷ 9 ∷ []) ∷ [])
+        ≡ codes "$['it\\'s\\u0000\\t']" }
     ensures short_escapes { path_text (name (8 ∷ 9 ∷ 10 ∷ 12 ∷ 13 ∷ []) ∷ []) ≡ codes "$['\\b\\t\\n\\f\\r']" }
+    ensures every_other_control { path_text (name (0 ∷ 7 ∷ 14 ∷ 15 ∷ 16 ∷ 25 ∷ 26 ∷ []) ∷ [])
+        ≡ codes "$['\\u0000\\u0007\\u000e\\u000f\\u0010\\u0019\\u001a']" }
+    ensures bare { path_text (name (codes " \"/[]~") ∷ []) ≡ codes "$[' \"/[]~']" }
+    ensures index_zero { path_text (index 0 ∷ index 10 ∷ []) ≡ codes "$[0][10]" }
     ensures beyond_ascii { path_text (name (128512 ∷ []) ∷ []) ≡ codes "$['" ++ 128512 ∷ codes "']" }
 {}
 
 #[tactic(auto, unfolding(crate::proofs::OnLiterals::lines_on_literals))]
 /// Output lines: the document's number, the path and the value's compact text, with tabs between.
 fn output_lines()
-    ensures number { line_text 1 (name (codes "a") ∷ []) (whole (pos 1)) ≡ codes "1" ++ 9 ∷ codes "$['a']" ++ 9 ∷ codes "1" ++ 10 ∷ [] }
-    ensures null_of_line_three { line_text 3 (name (codes "a") ∷ []) null ≡ codes "3" ++ 9 ∷ codes "$['a']" ++ 9 ∷ codes "null" ++ 10 ∷ [] }
-    ensures empty_array { line_text 1 [] (array (items [])) ≡ codes "1" ++ 9 ∷ codes "$" ++ 9 ∷ codes "[]" ++ 10 ∷ [] }
-    ensures compact { line_text 10 (index 0 ∷ []) (array (items (whole (negsuc 4) ∷ text (codes "a\"b") ∷ truth true ∷ object (add_member (codes "c") (whole (pos 2)) no_members) ∷ [])))
+    ensures number { line_text 1 (name (codes "a") ∷ []) (whole (pos 1))
+        ≡ codes "1" ++ 9 ∷ codes "$['a']" ++ 9 ∷ codes "1" ++ 10 ∷ [] }
+    ensures null_of_line_three { line_text 3 (name (codes "a") ∷ []) null
+        ≡ codes "3" ++ 9 ∷ codes "$['a']" ++ 9 ∷ codes "null" ++ 10 ∷ [] }
+    ensures empty_array { line_text 1 [] (array (items []))
+        ≡ codes "1" ++ 9 ∷ codes "$" ++ 9 ∷ codes "[]" ++ 10 ∷ [] }
+    ensures false_of_line_zero { line_text 0 [] (truth false)
+        ≡ codes "0" ++ 9 ∷ codes "$" ++ 9 ∷ codes "false" ++ 10 ∷ [] }
+    ensures empty_object { line_text 1 [] (object no_members)
+        ≡ codes "1" ++ 9 ∷ codes "$" ++ 9 ∷ codes "{}" ++ 10 ∷ [] }
+    ensures two_items { line_text 1 [] (array (items (null ∷ null ∷ [])))
+        ≡ codes "1" ++ 9 ∷ codes "$" ++ 9 ∷ codes "[null,null]" ++ 10 ∷ [] }
+    ensures two_members { line_text 1 [] (object
+        (add_member (codes "a") null (add_member (codes "b") null no_members)))
+        ≡ codes "1" ++ 9 ∷ codes "$" ++ 9 ∷ codes "{\"a\":null,\"b\":null}" ++ 10 ∷ [] }
+    ensures compact { line_text 10 (index 0 ∷ [])
+        (array (items (whole (negsuc 4) ∷ text (codes "a\"b") ∷ truth true ∷ object
+        (add_member (codes "c") (whole (pos 2)) no_members) ∷ [])))
         ≡ codes "10" ++ 9 ∷ codes "$[0]" ++ 9 ∷ codes "[-5,\"a\\\"b\",true,{\"c\":2}]" ++ 10 ∷ [] }
     ensures path_in_utf8 { line_text 1 (name (128512 ∷ []) ∷ []) (whole (pos 1))
         ≡ codes "1" ++ 9 ∷ codes "$['" ++ 240 ∷ 159 ∷ 152 ∷ 128 ∷ codes "']" ++ 9 ∷ codes "1" ++ 10 ∷ [] }
@@ -43,6 +63,7 @@ fn output_lines()
 /// The query of a path: one segment of one selector for each step.
 fn path_queries()
     ensures two_steps { path_query (name (codes "a") ∷ index 12 ∷ [])
-        ≡ tree.query_from Root (tree.child (tree.name (codes "a") ∷ []) ∷ tree.child (tree.index (codes "12") ∷ []) ∷ []) }
+        ≡ tree.query_from Root (tree.child (tree.name (codes "a") ∷ []) ∷ tree.child
+        (tree.index (codes "12") ∷ []) ∷ []) }
     ensures root { path_query [] ≡ tree.query_from Root [] }
 {}

@@ -5,8 +5,6 @@ mod examples;
 pub mod laws;
 mod output_line;
 mod path;
-#[cfg(test)]
-mod tests;
 
 pub use output_line::write_line;
 pub use path::write_path;

@@ -15,9 +15,11 @@ use jp_doc::Location;
 use serde_json::Value;
 use std::alloc::{AllocError, Global};
 
-/// Appends the output line of a node: the document's number, a tab, the node's path, a tab, the value's compact text and a line feed.
+/// Appends the output line of a node: the document's number, a tab, the node's path, a tab, the value's
+/// compact text and a line feed.
 ///
-/// All numbers of the value are whole. After an `AllocError`, which says that a growth was refused, `out` is as before.
+/// All numbers of the value are whole. After an `AllocError`, which says that a growth was refused, `out` is
+/// as before.
 pub fn write_line(
     alloc: Global,
     number: u64,
@@ -26,7 +28,8 @@ pub fn write_line(
     out: &mut Vec<u8>,
 ) -> Result<(), AllocError>
     requires { has_float (view value.now) ≡ false }
-    ensures ok { OnOk result (out.new.items ≡ out.old.items ++ line_text number (location_of location.now) (value_of value.now)) }
+    ensures ok { OnOk result (out.new.items ≡ out.old.items ++ line_text number (location_of location.now)
+        (value_of value.now)) }
     ensures err { OnErr result (out.new.items ≡ out.old.items) }
 {
     let text = value.to_string(alloc)?;
@@ -47,7 +50,9 @@ fn append_line(
     text: &str,
     out: &mut Vec<u8>,
 ) -> Result<(), AllocError>
-    ensures ok { OnOk result (out.new.items ≡ out.old.items ++ (decimal number ++ (9 ∷ encode_utf8_all (path_text (location_of location.now)) ++ (9 ∷ text.now ++ 10 ∷ [])))) }
+    ensures ok { OnOk result (out.new.items ≡ out.old.items ++
+        (decimal number ++ (9 ∷ encode_utf8_all (path_text (location_of location.now)) ++
+        (9 ∷ text.now ++ 10 ∷ [])))) }
     ensures kept { Extends out.old.items out.new.items }
 {
     let mut buffer = Buffer::new();

@@ -1,6 +1,7 @@
 //! The text of a normalized path (RFC 9535, 2.7).
 
-ghost use Rattle.std.specs.Prelude.{◌≡◌, ◌++◌, ◌<◌, ◌∷◌, ◌/◌, ◌%◌, [], IfOk, OnOk, string_bytes, encode_utf8_all};
+ghost use Rattle.std.specs.Prelude.{◌≡◌, ◌++◌, ◌<◌, ◌∷◌, ◌/◌, ◌%◌, [], IfOk, OnOk, string_bytes};
+ghost use Rattle.std.specs.Prelude.{encode_utf8_all};
 ghost use Rattle.std.specs.List.{flat_map};
 ghost use Rattle.std.specs.Str.{chars, IsUtf8};
 ghost use Rattle.jp_doc.specs.Location.{step_of, location_of};
@@ -27,7 +28,8 @@ pub fn write_path(alloc: Global, location: &Location) -> Result<String, AllocErr
 
 /// Appends the path's bytes.
 pub(crate) fn append_path(location: &Location, out: &mut Vec<u8>) -> Result<(), AllocError>
-    ensures ok { OnOk result (out.new.items ≡ out.old.items ++ encode_utf8_all (path_text (location_of location.now))) }
+    ensures ok { OnOk result (out.new.items ≡ out.old.items ++ encode_utf8_all
+        (path_text (location_of location.now))) }
     ensures text { OnOk result (IsUtf8 out.old.items → IsUtf8 out.new.items) }
     ensures kept { Extends out.old.items out.new.items }
 {
@@ -40,7 +42,8 @@ pub(crate) fn append_path(location: &Location, out: &mut Vec<u8>) -> Result<(), 
 
 /// Appends `['name']` or `[index]`.
 fn append_step(step: &Step, out: &mut Vec<u8>) -> Result<(), AllocError>
-    ensures ok { OnOk result (out.new.items ≡ out.old.items ++ encode_utf8_all (step_text (step_of step.now))) }
+    ensures ok { OnOk result (out.new.items ≡ out.old.items ++ encode_utf8_all
+        (step_text (step_of step.now))) }
     ensures text { OnOk result (IsUtf8 out.old.items → IsUtf8 out.new.items) }
     ensures kept { Extends out.old.items out.new.items }
 {
@@ -96,7 +99,8 @@ fn append_byte(byte: u8, out: &mut Vec<u8>) -> Result<(), AllocError>
 fn append_control(byte: u8, out: &mut Vec<u8>) -> Result<(), AllocError>
     requires { byte < 32 }
     ensures kept { Extends out.old.items out.new.items }
-    ensures ok { OnOk result (out.new.items ≡ out.old.items ++ (92 ∷ 117 ∷ 48 ∷ 48 ∷ hex_digit_of (byte / 16) ∷ hex_digit_of (byte % 16) ∷ [])) }
+    ensures ok { OnOk result (out.new.items ≡ out.old.items ++
+        (92 ∷ 117 ∷ 48 ∷ 48 ∷ hex_digit_of (byte / 16) ∷ hex_digit_of (byte % 16) ∷ [])) }
 {
     out.extend_from_slice(&[
         b'\\',

@@ -1,7 +1,6 @@
 pub mod OnLiterals
 pub mod Pieces
 pub mod Handed
-pub mod OneFront
 pub mod NodeLines
 pub mod Taken
 pub mod Runs

@@ -116,3 +116,13 @@ at_ok (Err e) failed is fine h = absurd (cc)
 pub at_err : {E P : Type 0} (r : Result ⊤ E) (failed : Bool) → failed ≡ is_err r → failed ≡ true → OnErr r P → P
 at_err (Ok x) failed is so h = absurd (cc)
 at_err (Err e) failed is so h = h
+
+-- what is told by a call that passes on a fault is that fault
+pub told_at : {T U : Type 0} (r : Result T RunFault) (fault told : RunFault) → IsErrAnd r (λ e. e ≡ fault) → r ≡ Err told
+    → ◌≡◌ {A = Result U RunFault} (Err fault) (Err told)
+told_at (Ok x) fault told h e = absurd h
+told_at (Err f) fault told h e = ap Err (sym h ∙ same_err f told e)
+
+pub at_an_err : {T E P : Type 0} (r : Result T E) → P → OnErr r P
+at_an_err (Ok x) p = tt
+at_an_err (Err e) p = p

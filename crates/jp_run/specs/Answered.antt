@@ -8,7 +8,8 @@ use Rattle.jp_run.specs.declared.answering.Answer as code
 
 -- the text is accepted, and this is the answer to the stream of the query that it spells
 abbrev pub IsAnswerTo : Text → List ℕ → Answer → Type 0
-IsAnswerTo text input a = (q : Query) × IsAccepted text q × ((t : Tests) → AreRight t → stream_answer t q input ≡ a)
+IsAnswerTo text input a = (q : Query) × IsAccepted text q
+    × ((t : Tests) → AreRight t → stream_answer t q input ≡ a)
 
 -- what an `Answer` of `src/` stands for
 abbrev pub answer_of : code.Answer → Answer

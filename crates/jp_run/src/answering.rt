@@ -35,7 +35,8 @@ pub(crate) struct DocStop {
 ///
 /// `AllocError` if a growth was refused.
 pub(crate) fn answer_lines(alloc: Global, plan: &Plan, lines: &[Line]) -> Result<Answer, AllocError>
-    ensures { IfOk result (λ a. (t : Tests) → AreRight t → answer t (planned_query plan.now) (map line_of lines.now) ≡ answer_of a) }
+    ensures { IfOk result (λ a. (t : Tests) → AreRight t
+        → answer t (planned_query plan.now) (map line_of lines.now) ≡ answer_of a) }
 {
     let mut bytes = Vec::new(alloc);
     for line in lines {
@@ -69,7 +70,8 @@ fn append_nodes(
     out: &mut Vec<u8>,
 ) -> Result<(), AllocError>
     requires { IsRising (document_value document.now) }
-    ensures { OnOk result ((t : Tests) → AreRight t → out.new.items ≡ out.old.items ++ document_lines t (planned_query plan.now) number (document_value document.now)) }
+    ensures { OnOk result ((t : Tests) → AreRight t → out.new.items
+        ≡ out.old.items ++ document_lines t (planned_query plan.now) number (document_value document.now)) }
 {
     let Ok(locations) = evaluate(alloc, plan, document) else {
         return Err(AllocError);
@@ -88,7 +90,8 @@ fn append_node(
     location: &Location,
     out: &mut Vec<u8>,
 ) -> Result<(), AllocError>
-    ensures { OnOk result (out.new.items ≡ out.old.items ++ line_at number (document_value document.now) (location_of location.now)) }
+    ensures { OnOk result (out.new.items ≡ out.old.items ++ line_at number (document_value document.now)
+        (location_of location.now)) }
 {
     match document.at(&location.steps) {
         Some(value) => write_line(alloc, number, location, value, out),

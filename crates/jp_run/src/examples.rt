@@ -11,31 +11,43 @@ ghost use Rattle.jp_run.specs.Answer.{stream_answer};
 #[tactic(auto, unfolding(crate::proofs::OnLiterals::runs_on_literals))]
 fn blank_line_between()
     ensures lines { (t : Tests) →
-        stream_answer t (tree.query_from Root (tree.child (tree.name (codes "a") ∷ []) ∷ [])) (codes "{\"a\":1}" ++ 10 ∷ 10 ∷ codes "{\"a\":null}" ++ 10 ∷ [])
-        ≡ record { bytes = codes "1" ++ 9 ∷ codes "$['a']" ++ 9 ∷ codes "1" ++ 10 ∷ codes "3" ++ 9 ∷ codes "$['a']" ++ 9 ∷ codes "null" ++ 10 ∷ []; stopped = None } }
+        stream_answer t (tree.query_from Root (tree.child (tree.name (codes "a") ∷ []) ∷ []))
+        (codes "{\"a\":1}" ++ 10 ∷ 10 ∷ codes "{\"a\":null}" ++ 10 ∷ [])
+        ≡ record { bytes = codes "1" ++ 9 ∷ codes "$['a']" ++ 9 ∷ codes "1" ++ 10 ∷ codes "3" ++ 9 ∷ codes
+        "$['a']" ++ 9 ∷ codes "null" ++ 10 ∷ []; stopped = None } }
     ensures no_last_line_feed { (t : Tests) →
-        stream_answer t (tree.query_from Root (tree.child (tree.name (codes "a") ∷ []) ∷ [])) (codes "{\"a\":1}" ++ 10 ∷ 10 ∷ codes "{\"a\":null}")
-        ≡ record { bytes = codes "1" ++ 9 ∷ codes "$['a']" ++ 9 ∷ codes "1" ++ 10 ∷ codes "3" ++ 9 ∷ codes "$['a']" ++ 9 ∷ codes "null" ++ 10 ∷ []; stopped = None } }
+        stream_answer t (tree.query_from Root (tree.child (tree.name (codes "a") ∷ []) ∷ []))
+        (codes "{\"a\":1}" ++ 10 ∷ 10 ∷ codes "{\"a\":null}")
+        ≡ record { bytes = codes "1" ++ 9 ∷ codes "$['a']" ++ 9 ∷ codes "1" ++ 10 ∷ codes "3" ++ 9 ∷ codes
+        "$['a']" ++ 9 ∷ codes "null" ++ 10 ∷ []; stopped = None } }
     ensures carriage_returns { (t : Tests) →
-        stream_answer t (tree.query_from Root (tree.child (tree.name (codes "a") ∷ []) ∷ [])) (codes "{\"a\":1}" ++ 13 ∷ 10 ∷ 13 ∷ 10 ∷ codes "{\"a\":null}" ++ 13 ∷ 10 ∷ [])
-        ≡ record { bytes = codes "1" ++ 9 ∷ codes "$['a']" ++ 9 ∷ codes "1" ++ 10 ∷ codes "3" ++ 9 ∷ codes "$['a']" ++ 9 ∷ codes "null" ++ 10 ∷ []; stopped = None } }
+        stream_answer t (tree.query_from Root (tree.child (tree.name (codes "a") ∷ []) ∷ []))
+        (codes "{\"a\":1}" ++ 13 ∷ 10 ∷ 13 ∷ 10 ∷ codes "{\"a\":null}" ++ 13 ∷ 10 ∷ [])
+        ≡ record { bytes = codes "1" ++ 9 ∷ codes "$['a']" ++ 9 ∷ codes "1" ++ 10 ∷ codes "3" ++ 9 ∷ codes
+        "$['a']" ++ 9 ∷ codes "null" ++ 10 ∷ []; stopped = None } }
 {}
 
 /// `$` on no input, and on `[]`.
 #[tactic(auto, unfolding(crate::proofs::OnLiterals::runs_on_literals))]
 fn whole_documents()
-    ensures empty_input { (t : Tests) → stream_answer t (tree.query_from Root []) [] ≡ record { bytes = []; stopped = None } }
+    ensures empty_input { (t : Tests) → stream_answer t (tree.query_from Root []) []
+        ≡ record { bytes = []; stopped = None } }
     ensures empty_array { (t : Tests) → stream_answer t (tree.query_from Root []) (codes "[]" ++ 10 ∷ [])
         ≡ record { bytes = codes "1" ++ 9 ∷ codes "$" ++ 9 ∷ codes "[]" ++ 10 ∷ []; stopped = None } }
 {}
 
-/// `$.a` on the lines `{"a":1}`, `{`, `{"a":2}`, `{"a":1.5}`: the second line ends the answer; with it away, the third does.
+/// `$.a` on the lines `{"a":1}`, `{`, `{"a":2}`, `{"a":1.5}`: the second line ends the answer; with it away,
+/// the third does.
 #[tactic(auto, unfolding(crate::proofs::OnLiterals::runs_on_literals))]
 fn faulty_lines()
     ensures unreadable { (t : Tests) →
-        stream_answer t (tree.query_from Root (tree.child (tree.name (codes "a") ∷ []) ∷ [])) (codes "{\"a\":1}" ++ 10 ∷ codes "{" ++ 10 ∷ codes "{\"a\":2}" ++ 10 ∷ codes "{\"a\":1.5}" ++ 10 ∷ [])
-        ≡ record { bytes = codes "1" ++ 9 ∷ codes "$['a']" ++ 9 ∷ codes "1" ++ 10 ∷ []; stopped = Some (2, Unreadable) } }
+        stream_answer t (tree.query_from Root (tree.child (tree.name (codes "a") ∷ []) ∷ []))
+        (codes "{\"a\":1}" ++ 10 ∷ codes "{" ++ 10 ∷ codes "{\"a\":2}" ++ 10 ∷ codes "{\"a\":1.5}" ++ 10 ∷ [])
+        ≡ record { bytes = codes "1" ++ 9 ∷ codes "$['a']" ++ 9 ∷ codes "1" ++ 10 ∷ []; stopped = Some
+        (2, Unreadable) } }
     ensures not_whole { (t : Tests) →
-        stream_answer t (tree.query_from Root (tree.child (tree.name (codes "a") ∷ []) ∷ [])) (codes "{\"a\":1}" ++ 10 ∷ codes "{\"a\":2}" ++ 10 ∷ codes "{\"a\":1.5}" ++ 10 ∷ [])
-        ≡ record { bytes = codes "1" ++ 9 ∷ codes "$['a']" ++ 9 ∷ codes "1" ++ 10 ∷ codes "2" ++ 9 ∷ codes "$['a']" ++ 9 ∷ codes "2" ++ 10 ∷ []; stopped = Some (3, NotWhole) } }
+        stream_answer t (tree.query_from Root (tree.child (tree.name (codes "a") ∷ []) ∷ []))
+        (codes "{\"a\":1}" ++ 10 ∷ codes "{\"a\":2}" ++ 10 ∷ codes "{\"a\":1.5}" ++ 10 ∷ [])
+        ≡ record { bytes = codes "1" ++ 9 ∷ codes "$['a']" ++ 9 ∷ codes "1" ++ 10 ∷ codes "2" ++ 9 ∷ codes
+        "$['a']" ++ 9 ∷ codes "2" ++ 10 ∷ []; stopped = Some (3, NotWhole) } }
 {}

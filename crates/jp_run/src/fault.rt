@@ -46,7 +46,8 @@ impl From<AllocError> for RunFault {
 }
 
 impl RunFault {
-    /// The status that a program ends with: 2 for the query, 3 for a document, 4 for an end or a limit, 5 for memory.
+    /// The status that a program ends with: 2 for the query, 3 for a document, 4 for an end or a limit, 5 for
+    /// memory.
     pub fn status(&self) -> u8
         ensures { result ≡ status_of self.now }
     {

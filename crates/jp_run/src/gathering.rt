@@ -1,6 +1,7 @@
 //! The lines of a source.
 
-ghost use Rattle.std.specs.Prelude.{◌≡◌, ◌+◌, ◌^◌, ◌<◌, ◌≤◌, ℕ, List, false, true, map, IfOk, OnOk, OnErr, IsErrOf, ◌⊎◌};
+ghost use Rattle.std.specs.Prelude.{◌≡◌, ◌+◌, ◌^◌, ◌<◌, ◌≤◌, ℕ, List, false, true, map, IfOk, OnOk, OnErr};
+ghost use Rattle.std.specs.Prelude.{IsErrOf, ◌⊎◌};
 ghost use Rattle.std.specs.Io.KnownBytes.{Consumes, IsAtEnd};
 ghost use Rattle.jp_doc.specs.Feeding.{fed, fed_lines};
 ghost use Rattle.jp_doc.specs.Lines.{line_of, lines as all_lines, line_count};
@@ -33,14 +34,16 @@ pub(crate) struct Gathered {
 pub(crate) fn gather<S: Source>(alloc: Global, source: &mut S) -> Result<Gathered, RunFault>
     requires working { S.failed source.old ≡ false }
     requires few { S.reads source.old ≤ 2 ^ 62 }
-    ensures lines { IfOk result (λ g. (input : List ℕ) × Consumes (S.remaining source.old) (S.remaining source.new) input
+    ensures lines { IfOk result (λ g. (input : List ℕ)
+        × Consumes (S.remaining source.old) (S.remaining source.new) input
         × (map line_of g.lines.items ≡ all_lines input) × (g.count ≡ line_count input)) }
     ensures end { OnOk result (IsAtEnd (S.remaining source.new)) }
     ensures ok { OnOk result (S.failed source.new ≡ false) }
     ensures read { IsErrOf result RunFault.Read → S.failed source.new ≡ true }
     ensures limit { IsErrOf result RunFault.Limit → (S.reads source.new ≡ S.reads source.old + max_reads)
         ⊎ ((input : List ℕ) × Consumes (S.remaining source.old) (S.remaining source.new) input × (max_lines < line_count input)) }
-    ensures faults { OnErr result (IsErrOf result RunFault.Read ⊎ IsErrOf result RunFault.Limit ⊎ IsErrOf result RunFault.Memory) }
+    ensures faults { OnErr result (IsErrOf result RunFault.Read ⊎ IsErrOf result RunFault.Limit
+        ⊎ IsErrOf result RunFault.Memory) }
     ensures few { S.reads source.new ≤ S.reads source.old + max_reads }
 {
     let mut buffer = vec![in alloc; 0u8; READ_SIZE]?;

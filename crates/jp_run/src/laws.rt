@@ -6,8 +6,10 @@ ghost use Rattle.jp_syntax.specs.Tree.{Query};
 ghost use Rattle.jp_regexp.specs.Tests.{Tests};
 ghost use Rattle.jp_run.specs.Answer.{answer, joined};
 
-/// The answer to lines and further lines is the answer to the first where that has stopped, and else its bytes and then the
+/// The answer to lines and further lines is the answer to the first where that has stopped, and else its
+/// bytes and then the
 /// answer to the further lines. So it is the same in whatever pieces the lines are taken.
 pub fn pieces()
-    ensures { (t : Tests) (q : Query) (a b : List Line) → answer t q (a ++ b) ≡ joined (answer t q a) (answer t q b) }
+    ensures { (t : Tests) (q : Query) (a b : List Line) → answer t q (a ++ b)
+        ≡ joined (answer t q a) (answer t q b) }
 {}

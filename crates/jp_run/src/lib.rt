@@ -4,15 +4,11 @@
 mod answering;
 mod ends;
 mod examples;
-#[cfg(test)]
-mod fakes;
 mod fault;
 mod gathering;
 pub mod laws;
 mod running;
 mod std_ends;
-#[cfg(test)]
-mod tests;
 mod writing;
 
 pub use ends::{Broken, Sink, Source};

@@ -1,6 +1,7 @@
 //! A run over a collection, on one thread.
 
-ghost use Rattle.std.specs.Prelude.{◌≡◌, ◌+◌, ◌^◌, ◌<◌, ◌≤◌, ◌⊎◌, ℕ, List, length, false, true, Some, None, Err, IfOk, IfErr, OnOk, OnErr, IfSome, IsErrOf};
+ghost use Rattle.std.specs.Prelude.{◌≡◌, ◌+◌, ◌^◌, ◌<◌, ◌≤◌, ◌⊎◌, ℕ, List, length, false, true, Some, None};
+ghost use Rattle.std.specs.Prelude.{Err, IfOk, IfErr, OnOk, OnErr, IfSome, IsErrOf};
 ghost use Rattle.std.specs.Io.KnownBytes.{Appends, Consumes, IsAtEnd};
 ghost use Rattle.std.specs.Str.{chars};
 ghost use Rattle.jp_doc.specs.Lines.{lines, line_count};
@@ -18,7 +19,7 @@ use crate::answering::answer_lines;
 use crate::ends::{Sink, Source};
 use crate::fault::RunFault;
 use crate::gathering::gather;
-use crate::writing::write_all;
+use crate::writing::deliver;
 use jp_check::{Plan, plan};
 use jp_syntax::QueryFault;
 use std::alloc::Global;
@@ -32,15 +33,18 @@ pub struct Totals {
     pub documents: u64,
 }
 
-/// Runs a query over all documents of the source, one on a line, and writes the lines of the nodes that it selects.
+/// Runs a query over all documents of the source, one on a line, and writes the lines of the nodes that it
+/// selects.
 ///
-/// The query is read first. Then the source is read to its end, and its lines are answered in order, up to the first faulty one.
+/// The query is read first. Then the source is read to its end, and its lines are answered in order, up to
+/// the first faulty one.
 /// Neither end has failed before, and the counts of the source are at most 2^62.
 ///
 /// # Errors
 ///
 /// - [`RunFault::Query`] where the query is refused: nothing was read and nothing was written.
-/// - [`RunFault::Document`] with the first faulty line: exactly the lines of the documents before it were written.
+/// - [`RunFault::Document`] with the first faulty line: exactly the lines of the documents before it were
+/// written.
 /// - [`RunFault::Read`] only where the source failed: nothing was written.
 /// - [`RunFault::Write`] only where the sink failed: a front of the answer was written.
 /// - [`RunFault::Limit`] only after 2^40 calls of `read`, or past 4,294,967,295 lines.
@@ -53,45 +57,41 @@ pub fn run<S: Source, K: Sink>(
 ) -> Result<Totals, RunFault>
     requires working { (S.failed source.old ≡ false) × (K.failed sink.old ≡ false) }
     requires few { (S.reads source.old ≤ 2 ^ 62) × (S.given source.old ≤ 2 ^ 62) }
-    // A finished run has read the whole input and written the answer to it, which has no faulty line; neither end has failed.
+    // A finished run has read the whole input and written the answer to it, which has no faulty line; neither
+    // end has failed.
     ensures accepted { OnOk result ((q : Query) × IsAccepted (chars query.now) q) }
-    ensures answer { OnOk result (IfSome (S.remaining source.old) (λ input. (a : Answer) × IsAnswerTo (chars query.now) input a
+    ensures answer { OnOk result (IfSome (S.remaining source.old) (λ input. (a : Answer)
+        × IsAnswerTo (chars query.now) input a
         × (a.stopped ≡ None) × Appends (K.contents sink.old) (K.contents sink.new) a.bytes)) }
-    ensures counts { IfOk result (λ totals. IfSome (S.remaining source.old) (λ input. (totals.lines ≡ line_count input) × (totals.documents ≡ length (lines input)))) }
+    ensures counts { IfOk result (λ totals. IfSome (S.remaining source.old)
+        (λ input. (totals.lines ≡ line_count input) × (totals.documents ≡ length (lines input)))) }
     ensures end { OnOk result (IsAtEnd (S.remaining source.new)) }
     ensures still_working { OnOk result ((S.failed source.new ≡ false) × (K.failed sink.new ≡ false)) }
     // The query's fault is the text's verdict, and nothing was read or written.
-    ensures query { (f : Refusal) → IsErrOf result (RunFault.Query f) → IsVerdict (chars query.now) (Err f) × (source.new ≡ source.old) × (sink.new ≡ sink.old) }
+    ensures query { (f : Refusal) → IsErrOf result (RunFault.Query f) → IsVerdict (chars query.now) (Err f)
+        × (source.new ≡ source.old) × (sink.new ≡ sink.old) }
     // A text that is refused ends in its fault, or in want of memory, and nothing was read or written.
-    ensures refused { (f : Refusal) → IsVerdict (chars query.now) (Err f) → (IsErrOf result (RunFault.Query f) ⊎ IsErrOf result RunFault.Memory)
+    ensures refused { (f : Refusal) → IsVerdict (chars query.now) (Err f)
+        → (IsErrOf result (RunFault.Query f) ⊎ IsErrOf result RunFault.Memory)
         × (source.new ≡ source.old) × (sink.new ≡ sink.old) }
     // The first faulty line and its fault are told, and all before it was written.
-    ensures document { (line : ℕ) (fault : Fault) → IsErrOf result (RunFault.Document line fault) → IfSome (S.remaining source.old) (λ input. (a : Answer) × IsAnswerTo (chars query.now) input a
+    ensures document { (line : ℕ) (fault : Fault) → IsErrOf result (RunFault.Document line fault)
+        → IfSome (S.remaining source.old) (λ input. (a : Answer) × IsAnswerTo (chars query.now) input a
         × (a.stopped ≡ Some (line, fault)) × Appends (K.contents sink.old) (K.contents sink.new) a.bytes) }
     ensures read { IsErrOf result RunFault.Read → (S.failed source.new ≡ true) × (sink.new ≡ sink.old) }
     ensures write { IsErrOf result RunFault.Write → K.failed sink.new ≡ true }
     ensures limit { IsErrOf result RunFault.Limit → (S.reads source.new ≡ S.reads source.old + max_reads)
         ⊎ ((input : List ℕ) × Consumes (S.remaining source.old) (S.remaining source.new) input × (max_lines < line_count input)) }
     // Whatever the fault, a front of the answer was written.
-    ensures front { OnErr result (IfSome (S.remaining source.old) (λ input. (a : Answer) → IsAnswerTo (chars query.now) input a
+    ensures front { OnErr result (IfSome (S.remaining source.old) (λ input. (a : Answer)
+        → IsAnswerTo (chars query.now) input a
         → AppendsFront (K.contents sink.old) (K.contents sink.new) a.bytes)) }
     ensures few { S.reads source.new ≤ S.reads source.old + max_reads }
 {
     let plan = plan_of(alloc, query)?;
     let gathered = gather(alloc, source)?;
     let answer = answer_lines(alloc, &plan, &gathered.lines)?;
-    if write_all(sink, &answer.bytes).is_err() {
-        return Err(RunFault::Write);
-    }
-    if let Some(stop) = answer.stopped {
-        return Err(RunFault::Document {
-            line: stop.line,
-            fault: stop.fault,
-        });
-    }
-    if sink.flush().is_err() {
-        return Err(RunFault::Write);
-    }
+    deliver(sink, &answer)?;
     Ok(Totals {
         lines: gathered.count,
         documents: gathered.lines.len() as u64,
@@ -101,7 +101,8 @@ pub fn run<S: Source, K: Sink>(
 /// The plan of a query's text, or the fault that a run of it ends in.
 fn plan_of(alloc: Global, query: &str) -> Result<Plan, RunFault>
     ensures ok { IfOk result (λ p. IsAccepted (chars query.now) (planned_query p)) }
-    ensures fault { IfErr result (λ fault. (fault ≡ RunFault.Memory) ⊎ ((f : Refusal) × (fault ≡ RunFault.Query f) × IsVerdict (chars query.now) (Err f))) }
+    ensures fault { IfErr result (λ fault. (fault ≡ RunFault.Memory)
+        ⊎ ((f : Refusal) × (fault ≡ RunFault.Query f) × IsVerdict (chars query.now) (Err f))) }
 {
     match plan(alloc, query) {
         Ok(plan) => Ok(plan),

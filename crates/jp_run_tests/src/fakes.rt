@@ -2,7 +2,7 @@
 
 ghost use Rattle.std.specs.Prelude.{◌≡◌, Some, false, ◌<◌};
 
-use crate::ends::{Broken, Sink, Source};
+use jp_run::{Broken, Sink, Source};
 
 /// Hands out one byte a call, and fails once, at the call of this number from 1.
 #[derive(Drop)]

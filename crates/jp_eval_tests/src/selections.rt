@@ -1,8 +1,9 @@
-//! What queries select, and each public call with ample memory. The expected values come from the rules of RFC 9535.
+//! What queries select, and each public call with ample memory. The expected values come from the rules of
+//! RFC 9535.
 
-use crate::{Bounds, Operand, equal, evaluate, less, slice_bounds};
 use jp_check::plan;
 use jp_doc::{Document, Location, Step};
+use jp_eval::{Bounds, Operand, equal, evaluate, less, slice_bounds};
 use std::alloc::{AllocError, Global};
 use std::test::Fail;
 
@@ -92,6 +93,47 @@ fn descendants(rt: HostRuntime) -> Result<(), Fail> {
 }
 
 #[test]
+fn members(rt: HostRuntime) -> Result<(), Fail> {
+    let alloc = rt.alloc();
+    for (query, expected) in [
+        ("$['b',*]", ["b", "a", "b"].as_slice()),
+        ("$[?@==2]", &["b"]),
+        ("$[?@>0,'a']", &["a", "b", "a"]),
+        ("$..b", &["b"]),
+        ("$[0]", &[]),
+    ] {
+        let mut wanted = Vec::new(alloc);
+        for name in expected {
+            wanted.push(location(alloc, &[Name(name)])?)?;
+        }
+        let found = evaluate(alloc, &plan(alloc, query)?, &Document::read(alloc, b"{\"b\":2,\"a\":1}")?)?;
+        assert!(rt; found == wanted, "{query}");
+    }
+    Ok(())
+}
+
+#[test]
+fn long_queries_and_deep_documents(rt: HostRuntime) -> Result<(), Fail> {
+    let alloc = rt.alloc();
+    let mut query = String::from_str(alloc, "$")?;
+    let mut document = String::new(alloc);
+    let mut wanted = Vec::new(alloc);
+    for _level in 0..100u8 {
+        query.push_str("[0]")?;
+        document.push('[')?;
+        wanted.push(Step::Index(0))?;
+    }
+    document.push('7')?;
+    for _level in 0..100u8 {
+        document.push(']')?;
+    }
+    let plan = plan(alloc, query.as_str())?;
+    let found = evaluate(alloc, &plan, &Document::read(alloc, document.as_bytes())?)?;
+    assert!(rt; matches!(found.as_slice(), [only] if only.steps == wanted));
+    Ok(())
+}
+
+#[test]
 fn indexes(rt: HostRuntime) -> Result<(), Fail> {
     let alloc = rt.alloc();
     for (query, document, expected) in [
@@ -103,6 +145,11 @@ fn indexes(rt: HostRuntime) -> Result<(), Fail> {
         ("$[::-1]", "[0,1,2,3,4]", &[4, 3, 2, 1, 0]),
         ("$[1::9007199254740991]", "[0,1,2,3,4]", &[1]),
         ("$[-2:]", "[0,1,2,3,4]", &[3, 4]),
+        ("$[1:4:2]", "[0,1,2,3,4]", &[1, 3]),
+        ("$[-1:-4:-2]", "[0,1,2,3,4]", &[4, 2]),
+        ("$[3:1]", "[0,1,2,3,4]", &[]),
+        ("$[-5,4,-6,5]", "[0,1,2,3,4]", &[0, 4]),
+        ("$[:]", "{\"a\":1}", &[]),
     ] {
         assert!(rt; selects_items(alloc, query, document, expected)?, "{query}");
     }
@@ -136,6 +183,15 @@ fn filters(rt: HostRuntime) -> Result<(), Fail> {
             "[9223372036854775807,18446744073709551615]",
             &[1],
         ),
+        ("$[?@==true]", "[true,false,1,\"true\"]", &[0]),
+        ("$[?@!=null]", "[null,0,false]", &[1, 2]),
+        ("$[?!@.a]", "[{},{\"a\":null}]", &[0]),
+        ("$[?!(@>1)]", "[1,2,\"2\"]", &[0, 2]),
+        ("$[?@<'b']", "[\"ab\",\"b\",\"ba\"]", &[0]),
+        ("$[?@<'\\ud83d\\ude00']", "[\"\u{ffff}\",\"\u{1f600}\"]", &[0]),
+        ("$[?@==$[0]]", "[{\"a\":[1,{}],\"b\":2},{\"b\":2,\"a\":[1,{}]},{\"a\":[1]}]", &[0, 1]),
+        ("$[?@[?@==$[0][0]]]", "[[7],[6,7],[6],[]]", &[0, 1]),
+        ("$[?$[:]]", "[1,2]", &[0, 1]),
         (
             "$[?@<99999999999999999999999999999999999999]",
             "[9223372036854775807,18446744073709551615]",
@@ -178,6 +234,11 @@ fn functions(rt: HostRuntime) -> Result<(), Fail> {
             &[0, 1],
         ),
         ("$[?count(@['a','a'])==2]", "[{\"a\":1}]", &[0]),
+        ("$[?length(@)==2]", "[\"\u{fc}\u{1f600}\",[],\"a\"]", &[0]),
+        ("$[?count(@.*)==0]", "[[],[1],{},1]", &[0, 2, 3]),
+        ("$[?value(@.*)==1]", "[[1],[1,1],[],[2]]", &[0]),
+        ("$[?search(@,'b')&&!match(@,'b')]", "[\"b\",\"abc\",\"c\"]", &[1]),
+        ("$[?match(@.t,@.p)]", "[{\"t\":\"ab\",\"p\":\"a.\"},{\"t\":\"ab\",\"p\":\"[\"},{\"t\":1,\"p\":\"1\"}]", &[0]),
         (
             "$[?length(@)==2]",
             "[\"ab\",[1,2],{\"a\":1,\"b\":2},12,\"abc\"]",

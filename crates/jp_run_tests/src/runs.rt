@@ -1,9 +1,8 @@
 //! Runs in memory, ends that fail, and what a fault says.
 
 use crate::fakes::{Holds, OneByte};
-use crate::writing::write_all;
-use crate::{FromReader, FromWriter, RunFault, Sink, Source, Totals, run};
 use jp_doc::DocFault;
+use jp_run::{FromReader, FromWriter, RunFault, Sink, Source, Totals, run};
 use jp_syntax::QueryFault;
 use std::alloc::Global;
 use std::test::Fail;
@@ -17,29 +16,6 @@ fn ran(alloc: Global, query: &str, input: &[u8]) -> (Result<Totals, RunFault>, V
     let mut sink = Holds::new(Vec::new(alloc), ROOM, ROOM);
     let end = run(alloc, &mut source, &mut sink, query);
     (end, sink.bytes)
-}
-
-#[test]
-fn a_writer_takes_all(rt: HostRuntime) -> Result<(), Fail> {
-    let mut sink = FromWriter::new(Vec::new(rt.alloc()));
-    assert!(rt; write_all(&mut sink, b"abc").is_ok());
-    assert!(rt; sink.flush().is_ok());
-    assert!(rt; !sink.failed());
-    Ok(())
-}
-
-#[test]
-fn a_full_sink_keeps_a_front(rt: HostRuntime) -> Result<(), Fail> {
-    for room in 0..3usize {
-        for most in [1usize, 3] {
-            let mut sink = Holds::new(Vec::new(rt.alloc()), most, room);
-            assert!(rt; write_all(&mut sink, b"abc").is_err());
-            assert!(rt; sink.failed());
-            let (front, _) = b"abc".split_at(room);
-            assert_eq!(rt; sink.bytes.as_slice(), front);
-        }
-    }
-    Ok(())
 }
 
 #[test]
@@ -275,13 +251,28 @@ fn a_failing_read_writes_nothing(rt: HostRuntime) -> Result<(), Fail> {
 }
 
 #[test]
-fn a_sink_that_fails_ends_the_run(rt: HostRuntime) -> Result<(), Fail> {
-    let mut source = FromReader::new(b"{\"a\":1}\n\n{\"a\":null}\n".as_slice());
-    let mut sink = Holds::new(Vec::new(rt.alloc()), ROOM, 5);
-    let end = run(rt.alloc(), &mut source, &mut sink, "$.a");
-    assert!(rt; matches!(end, Err(RunFault::Write)));
-    assert_eq!(rt; sink.bytes.as_slice(), b"1\t$['".as_slice());
-    assert!(rt; sink.failed());
+fn a_sink_that_fails_keeps_a_front(rt: HostRuntime) -> Result<(), Fail> {
+    let answer = b"1\t$['a']\t1\n3\t$['a']\tnull\n";
+    for room in 0..answer.len() {
+        for most in [1usize, 3, ROOM] {
+            let mut source = FromReader::new(b"{\"a\":1}\n\n{\"a\":null}\n".as_slice());
+            let mut sink = Holds::new(Vec::new(rt.alloc()), most, room);
+            let end = run(rt.alloc(), &mut source, &mut sink, "$.a");
+            assert!(rt; matches!(end, Err(RunFault::Write)));
+            let (front, _) = answer.split_at(room);
+            assert_eq!(rt; sink.bytes.as_slice(), front);
+            assert!(rt; sink.failed());
+        }
+    }
+    Ok(())
+}
+
+#[test]
+fn a_writer_takes_all(rt: HostRuntime) -> Result<(), Fail> {
+    let mut source = FromReader::new(b"[]\n".as_slice());
+    let mut sink = FromWriter::new(Vec::new(rt.alloc()));
+    assert!(rt; run(rt.alloc(), &mut source, &mut sink, "$").is_ok());
+    assert!(rt; !sink.failed());
     Ok(())
 }
 

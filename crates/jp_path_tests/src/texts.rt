@@ -1,7 +1,7 @@
-//! The calls with ample memory.
+//! The calls with ample memory. The expected texts come from RFC 9535, 2.7.
 
-use crate::{write_line, write_path};
 use jp_doc::{Document, Location, Step};
+use jp_path::{write_line, write_path};
 use serde_json::Value;
 use std::alloc::{AllocError, Global};
 use std::test::Fail;

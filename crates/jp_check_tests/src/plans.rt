@@ -1,9 +1,9 @@
-//! The calls with ample memory.
+//! The calls with ample memory. The expected answers come from the rules of RFC 9535.
 
-use super::*;
+use jp_check::{Known, check, plan};
 use jp_syntax::{QueryFault, read_query};
 use std::alloc::{AllocError, Global};
-use std::test::*;
+use std::test::Fail;
 
 /// `start`, so many times `c`, and `end`.
 fn around(
@@ -34,13 +34,32 @@ fn accepted_texts(rt: HostRuntime) -> Result<(), Fail> {
         "$[?length(1)==1]",
         "$[?length(count(@))==1]",
         "$[?match(@,value($.p))]",
+        "$[?search(@,'a')]",
+        "$[?value(@.*)>1]",
+        "$[9007199254740991:-9007199254740991:9007199254740991]",
+        "$['9007199254740992']",
+        "$[?@.a=='1.5']",
     ] {
         let query = read_query(rt.alloc(), text)?;
         let plan = plan(rt.alloc(), text)?;
         assert!(rt; *plan.query() == query, "at {text}");
     }
-    let longest = around(rt.alloc(), "$[?@.a==", '9', 38, "]")?;
-    assert!(rt; plan(rt.alloc(), longest.as_str()).is_ok());
+    Ok(())
+}
+
+#[test]
+fn accepted_long_texts(rt: HostRuntime) -> Result<(), Fail> {
+    for digits in 1..39usize {
+        let literal = around(rt.alloc(), "$[?@.a==", '9', digits, "]")?;
+        assert!(rt; plan(rt.alloc(), literal.as_str()).is_ok(), "{digits} digits");
+    }
+    let mut long = String::from_str(rt.alloc(), "$")?;
+    for _turn in 0..100u8 {
+        long.push_str("[?match(@.a,'b')]")?;
+    }
+    let plan = plan(rt.alloc(), long.as_str())?;
+    assert_eq!(rt; plan.query().segments.len(), 100);
+    assert!(rt; matches!(plan.pattern("b"), Known::Read(_)));
     Ok(())
 }
 
@@ -97,6 +116,22 @@ fn refused_texts(rt: HostRuntime) -> Result<(), Fail> {
         ("$[?match(@.a)]", QueryFault::IllTyped),
         ("$[?count(1)==1]", QueryFault::IllTyped),
         ("$[?xor(@.a,@.b)]", QueryFault::IllTyped),
+        ("$.a[9007199254740992]", QueryFault::Range),
+        ("$[0,9007199254740992]", QueryFault::Range),
+        ("$[9007199254740992:]", QueryFault::Range),
+        ("$[:9007199254740992]", QueryFault::Range),
+        ("$[?length(1.5)==1]", QueryFault::Fraction),
+        ("$[?1.5==@.a]", QueryFault::Fraction),
+        ("$.a[?nope(@)]", QueryFault::IllTyped),
+        ("$[0,?nope(@)]", QueryFault::IllTyped),
+        ("$[?search(@.*,'a')]", QueryFault::IllTyped),
+        ("$[?search('a',@.*)]", QueryFault::IllTyped),
+        ("$[?@.a||nope(@)]", QueryFault::IllTyped),
+        ("$[?@.a&&!nope(@)]", QueryFault::IllTyped),
+        ("$[?1==nope(@)]", QueryFault::IllTyped),
+        ("$[?length(length(@.*))==1]", QueryFault::IllTyped),
+        ("$[?length(@,@)==1]", QueryFault::IllTyped),
+        ("$[?count(value(@.a))==1]", QueryFault::IllTyped),
         ("$ ", QueryFault::Syntax),
         ("$[-0]", QueryFault::Syntax),
         ("", QueryFault::Syntax),

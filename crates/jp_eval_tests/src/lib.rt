@@ -1,0 +1,5 @@
+//! Tests of `jp_eval` through its public calls.
+#![tactic(auto)]
+
+#[cfg(test)]
+mod selections;

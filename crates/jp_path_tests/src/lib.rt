@@ -1,0 +1,5 @@
+//! Tests of `jp_path` through its public calls.
+#![tactic(auto)]
+
+#[cfg(test)]
+mod texts;

@@ -1,0 +1,7 @@
+//! Tests of `jp_run` through its public calls, with ends of our own.
+#![tactic(auto)]
+
+#[cfg(test)]
+mod fakes;
+#[cfg(test)]
+mod runs;
