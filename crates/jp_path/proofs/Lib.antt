@@ -1,4 +1,4 @@
 pub mod OnLiterals
 pub mod OwnNode
 pub mod PathBytes
-pub mod Extending
+

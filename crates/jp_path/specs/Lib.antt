@@ -1,4 +1,2 @@
-pub mod Path
 pub mod OutputLine
 pub mod PathQuery
-pub mod Appended

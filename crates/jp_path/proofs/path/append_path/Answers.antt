@@ -1,5 +1,6 @@
-use Rattle.jp_path.proofs.Extending.{extends_on}
-use Rattle.jp_path.proofs.PathBytes.{next_step, dollar_text}
+use Rattle.jp_trail.proofs.Extending.{extends_on}
+use Rattle.jp_path.proofs.PathBytes.{next_step}
+use Rattle.jp_trail.proofs.PathBytes.{dollar_text}
 use Rattle.jp_path.proofs.path.append_path.Goals as goal
 
 pub loop-step-preserved : goal.loop-step-preserved

@@ -1,7 +1,7 @@
 -- Appending keeps what stood there at the front.
 use Rattle.std.proofs.Common.{◌≡◌, ℕ, Bool, true, false, cond, List, [], ◌∷◌, ◌++◌, refl, sym, ap, ◌∙◌, append_assoc}
 use Rattle.std.proofs.lemmas.List.{append-nil}
-use Rattle.jp_path.specs.Appended.{Extends}
+use Rattle.jp_trail.specs.Appended.{Extends}
 
 pub extends_same : (xs : List ℕ) → Extends xs xs
 extends_same xs = ([], sym (append-nil xs))

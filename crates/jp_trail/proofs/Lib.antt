@@ -1,0 +1,4 @@
+pub mod PathBytes
+pub mod MadeLaws
+pub mod Extending
+pub mod OnLiterals
