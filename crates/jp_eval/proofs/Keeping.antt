@@ -1,39 +1,57 @@
 -- What is kept of nodes found one after another.
-use Rattle.std.proofs.Common.{◌≡◌, List, [], ◌∷◌, ◌++◌, map, Option, Some, None, refl, ap, sym, ◌∙◌, append_assoc, append-nil}
-use Rattle.std.proofs.lemmas.List.{map-append}
-use Rattle.jp_doc.specs.Json.{Json}
+use Rattle.std.proofs.Common.{◌≡◌, List, [], ◌∷◌, ◌++◌, refl, ap, sym, ◌∙◌}
+use Rattle.std.proofs.lemmas.Grind.{fold-append}
+use Rattle.std.specs.List.{fold}
 use Rattle.jp_doc.specs.Location.{Node}
-use Rattle.jp_eval.specs.Kept.{Kept, places, values, first, first_of, plus}
+use Rattle.jp_eval.specs.Kept.{Kept, taken, first, count, only, put_found, plus}
 
-first_of-none : (o : Option Json) → first_of o [] ≡ o
-first_of-none None = refl
-first_of-none (Some v) = refl
+module _ {K : Type 0} (put : K → Node → K) where
+  pub plus-none : (k : K) → plus put k [] ≡ k
+  unfolding plus
+  plus-none k = refl
 
-first_of-append : (o : Option Json) (xs ys : List Node) → first_of o (xs ++ ys) ≡ first_of (first_of o xs) ys
-first_of-append None [] ys = refl
-first_of-append None (n ∷ xs) ys = refl
-first_of-append (Some v) xs ys = refl
+  pub plus-one : (k : K) (n : Node) → plus put k (n ∷ []) ≡ put k n
+  unfolding plus
+  plus-one k n = refl
 
-pub plus-none : (k : Kept) → plus k [] ≡ k
-unfolding plus
-plus-none (places ls) = ap places (append-nil ls)
-plus-none (values vs) = ap values (append-nil vs)
-plus-none (first o) = ap first (first_of-none o)
+  pub plus-append : (k : K) (xs ys : List Node) → plus put k (xs ++ ys) ≡ plus put (plus put k xs) ys
+  unfolding plus
+  plus-append k xs ys = fold-append put k xs ys
 
-pub plus-append : (k : Kept) (xs ys : List Node) → plus k (xs ++ ys) ≡ plus (plus k xs) ys
-unfolding plus
-plus-append (places ls) xs ys = ap (λ t. places (ls ++ t)) (map-append (λ n. n.location) xs ys) ∙ ap places (sym (append_assoc ls (map (λ n. n.location) xs) (map (λ n. n.location) ys)))
-plus-append (values vs) xs ys = ap (λ t. values (vs ++ t)) (map-append (λ n. n.value) xs ys) ∙ ap values (sym (append_assoc vs (map (λ n. n.value) xs) (map (λ n. n.value) ys)))
-plus-append (first o) xs ys = ap first (first_of-append o xs ys)
+  -- one more part of what is to be found
+  pub stepped : (k mid : K) (found rest all : List Node) (start : K) → mid ≡ plus put k found
+      → plus put k (found ++ rest) ≡ plus put start all → plus put mid rest ≡ plus put start all
+  stepped k mid found rest all start e h = ap (λ j. plus put j rest) e ∙ sym (plus-append k found rest) ∙ h
 
--- one more part of what is to be found
-pub stepped : (k mid : Kept) (found rest all : List Node) (start : Kept) → mid ≡ plus k found → plus k (found ++ rest) ≡ plus start all → plus mid rest ≡ plus start all
-stepped k mid found rest all start e h = ap (λ j. plus j rest) e ∙ sym (plus-append k found rest) ∙ h
+  -- nothing is left to be found
+  pub ended : (k start : K) (all : List Node) → plus put k [] ≡ plus put start all → k ≡ plus put start all
+  ended k start all h = sym (plus-none k) ∙ h
 
--- nothing is left to be found
-pub ended : (k start : Kept) (all : List Node) → plus k [] ≡ plus start all → k ≡ plus start all
-ended k start all h = sym (plus-none k) ∙ h
+  -- nothing is found
+  pub nothing_found : (k : K) (ns : List Node) → ns ≡ [] → k ≡ plus put k ns
+  nothing_found k ns is = sym (ap (plus put k) is ∙ plus-none k)
 
--- nothing is found
-pub nothing_found : (k : Kept) (ns : List Node) → ns ≡ [] → k ≡ plus k ns
-nothing_found k ns none = sym (ap (plus k) none ∙ plus-none k)
+  full_stays : (k : K) → ((n : Node) → put k n ≡ k) → (ns : List Node) → fold put k ns ≡ k
+  full_stays k full [] = refl
+  full_stays k full (n ∷ ns) = ap (λ j. fold put j ns) (full n) ∙ full_stays k full ns
+
+  -- nothing more is to be found where it would change nothing
+  pub full_enough : (k start : K) (rest all : List Node) → ((n : Node) → put k n ≡ k)
+      → plus put k rest ≡ plus put start all → k ≡ plus put start all
+  unfolding plus
+  full_enough k start rest all full h = sym (full_stays k full rest) ∙ h
+
+out_of : {K : Type 0} → Kept K → K → K
+out_of (taken k) d = k
+out_of (first o) d = d
+out_of (count n) d = d
+out_of (only a) d = d
+
+taken_fold : {K : Type 0} (put : K → Node → K) (k : K) (ns : List Node) → fold (put_found put) (taken k) ns ≡ taken (fold put k ns)
+taken_fold put k [] = refl
+taken_fold put k (n ∷ ns) = taken_fold put (put k n) ns
+
+-- the taker that comes out of a walk that began with one
+pub taken_out : {K : Type 0} (put : K → Node → K) (k start : K) (ns : List Node) → taken k ≡ plus (put_found put) (taken start) ns → k ≡ fold put start ns
+unfolding out_of plus
+taken_out put k start ns h = ap (λ x. out_of x k) (h ∙ taken_fold put start ns)

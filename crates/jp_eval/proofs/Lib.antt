@@ -21,3 +21,4 @@ pub mod Saturation
 pub mod FarSteps
 pub mod Places
 pub mod OnLiterals
+pub mod Taking

@@ -59,19 +59,18 @@ not_found k ms p r (Some v) is = absurd (not_below_itself k (names_above k ms p 
 
 module _ (k l : Text) (v w : Json) (ms ns : Members) (rising : MembersRise (add_member k v ms)) (others_rise : MembersRise (add_member l w ns))
     (by_name : (j : Text) → IsTrue (eq (member_at j (add_member k v ms)) (member_at j (add_member l w ns)))) where
-
   -- were the second first name not the first one, each would be below the other
   first_among_others : text_eq k l ≡ false → IsTextBelow l k
   first_among_others is =
       let here : IsTrue (eq (Some v) (member_at k ns)) = subst (λ o. IsTrue (eq o (member_at k ns))) (first_found k v ms)
-          (subst (λ o. IsTrue (eq (member_at k (add_member k v ms)) o)) (other_found k l w ns is) (by_name k)) in
+      (subst (λ o. IsTrue (eq (member_at k (add_member k v ms)) o)) (other_found k l w ns is) (by_name k)) in
       let found = eq_some v (member_at k ns) here in
       names_above l ns others_rise.1 others_rise.2 k found.0 found.1
 
   second_among_others : text_eq l k ≡ false → IsTextBelow k l
   second_among_others is =
       let here : IsTrue (eq (member_at l ms) (Some w)) = subst (λ o. IsTrue (eq o (Some w))) (other_found l k v ms is)
-          (subst (λ o. IsTrue (eq (member_at l (add_member k v ms)) o)) (first_found l w ns) (by_name l)) in
+      (subst (λ o. IsTrue (eq (member_at l (add_member k v ms)) o)) (first_found l w ns) (by_name l)) in
       let found = some_eq (member_at l ms) w here in
       names_above k ms rising.1 rising.2 l found.0 found.1
 
@@ -85,11 +84,10 @@ module _ (k l : Text) (v w : Json) (ms ns : Members) (rising : MembersRise (add_
 
 module _ (k : Text) (v w : Json) (ms ns : Members) (rising : MembersRise (add_member k v ms)) (others_rise : MembersRise (add_member k w ns))
     (by_name : (j : Text) → IsTrue (eq (member_at j (add_member k v ms)) (member_at j (add_member k w ns)))) where
-
   same_value : v ≡ w
   same_value =
       let here : IsTrue (eq (Some v) (Some w)) = subst (λ o. IsTrue (eq o (Some w))) (first_found k v ms)
-          (subst (λ o. IsTrue (eq (member_at k (add_member k v ms)) o)) (first_found k w ns) (by_name k)) in
+      (subst (λ o. IsTrue (eq (member_at k (add_member k v ms)) o)) (first_found k w ns) (by_name k)) in
       (same_is_equal v w).0 here
 
   others_by_name_at : (j : Text) (b : Bool) → text_eq j k ≡ b → IsTrue (eq (member_at j ms) (member_at j ns))
@@ -115,7 +113,7 @@ same_by_name (add_member k v ms) (add_member l w ns) r s f =
     let e : k ≡ l = same_first k l v w ms ns r s f in
     let s' : MembersRise (add_member k w ns) = subst (λ x. MembersRise (add_member x w ns)) (sym e) s in
     let f' : (j : Text) → IsTrue (eq (member_at j (add_member k v ms)) (member_at j (add_member k w ns))) =
-        subst (λ x. (j : Text) → IsTrue (eq (member_at j (add_member k v ms)) (member_at j (add_member x w ns)))) (sym e) f in
+    subst (λ x. (j : Text) → IsTrue (eq (member_at j (add_member k v ms)) (member_at j (add_member x w ns)))) (sym e) f in
     let d : v ≡ w = same_value k v w ms ns r s' f' in
     let t : ms ≡ ns = same_by_name ms ns r.2 s'.2 (others_by_name k v w ms ns r s' f') in
     cc
@@ -131,6 +129,7 @@ by_equality ms ns e k =
 
 pub objects_by_name : (ms ns : Members) → MembersRise ms → MembersRise ns
     → IsTrue (eq (Some (object ms)) (Some (object ns))) ↔ ((k : Text) → IsTrue (eq (member_at k ms) (member_at k ns)))
-objects_by_name ms ns r s =
-    (λ h. by_equality ms ns ((same_is_equal (object ms) (object ns)).0 h),
-     λ f. (same_is_equal (object ms) (object ns)).1 (ap object (same_by_name ms ns r s f)))
+objects_by_name ms ns r s = (
+  λ h. by_equality ms ns ((same_is_equal (object ms) (object ns)).0 h),
+  λ f. (same_is_equal (object ms) (object ns)).1 (ap object (same_by_name ms ns r s f)),
+)

@@ -1,6 +1,6 @@
 -- What the parts of a tree of `src/` select, and where they are true.
-use Rattle.std.proofs.Common.{◌≡◌, ℕ, List, [], ◌∷◌, not, ◌&&◌, ◌||◌, map, Option, Some, None, option_map, is_some, length, get_or, Vec, Box, String, Global, refl, sym, ap, ap₂, ◌∙◌, arith}
-use Rattle.std.specs.List.{filter, list_any, list_all}
+use Rattle.std.proofs.Common.{◌≡◌, ℕ, ◌+◌, List, [], ◌∷◌, not, ◌&&◌, ◌||◌, map, Option, Some, None, option_map, is_some, length, get_or, Vec, Box, String, Global, refl, sym, ap, ap₂, ◌∙◌, arith}
+use Rattle.std.specs.List.{filter, fold, list_any, list_all}
 use Rattle.std.specs.Prelude.{string_bytes}
 use Rattle.std.specs.Str.{chars}
 use Rattle.jp_doc.specs.Json.{Json}
@@ -22,16 +22,17 @@ use Rattle.jp_syntax.specs.declared.tree.Selector.TheVariants as sel
 use Rattle.jp_syntax.specs.declared.tree.Logical.TheVariants as log
 use Rattle.jp_check.specs.Functions as check
 use Rattle.jp_check.specs.Numbers.{whole_number}
-use Rattle.jp_eval.specs.Functions.{Handed, handed_value, called, called_if_known, as_truth, as_nodes, first_value, is_empty}
-use Rattle.jp_eval.specs.Kept.{kept_places, places, kept_first, kept_values, plus, first, values}
-use Rattle.jp_eval.specs.Links.{here, link_steps}
+use Rattle.jp_eval.specs.Functions.{Handed, handed_value, called, called_if_known, as_truth, as_nodes, first_value, only_value, is_empty}
+use Rattle.jp_eval.specs.Kept.{kept_first, kept_count, kept_only, put_found, plus, first, count, only, none as no_value, several}
+use Rattle.jp_eval.specs.Links.{here}
+use Rattle.jp_trail.specs.Links.{link_steps}
 use Rattle.jp_eval.specs.Nodelist as spec
 use Rattle.jp_eval.specs.Nodes.{child, children}
 use Rattle.jp_eval.specs.Part.{part_value}
 use Rattle.jp_eval.specs.RightTests.{tests}
 use Rattle.jp_eval.specs.Walk.{picked, reached, is_true}
 use Rattle.jp_eval.specs.declared.part.Part.{Part}
-use Rattle.jp_eval.specs.declared.path.Link.{Link}
+use Rattle.jp_trail.specs.declared.link.Link.{Link}
 use Rattle.jp_eval.proofs.TreeViews.{query_is, call_is}
 
 module _ (root : Json) (n : Node) where
@@ -173,17 +174,32 @@ given_other root n x (y ∷ z ∷ w ∷ xs) f same one two named = given_is root
 
 -- ---- what is kept
 
-pub first_kept : (ns : List Node) → kept_first (plus (first None) ns) ≡ first_value ns
-unfolding plus
-first_kept ns = refl
+first_stays : {K : Type 0} (put : K → Node → K) (v : Json) (ns : List Node) → kept_first (fold (put_found put) (first (Some v)) ns) ≡ Some v
+first_stays put v [] = refl
+first_stays put v (n ∷ ns) = first_stays put v ns
 
-pub places_kept : (ns : List Node) → kept_places (plus (places []) ns) ≡ map (λ m. m.location) ns
+pub first_kept : {K : Type 0} (put : K → Node → K) (ns : List Node) → kept_first (plus (put_found put) (first None) ns) ≡ first_value ns
 unfolding plus
-places_kept ns = refl
+first_kept put [] = refl
+first_kept put (n ∷ ns) = first_stays put n.value ns
 
-pub values_kept : (ns : List Node) → kept_values (plus (values []) ns) ≡ map (λ m. m.value) ns
+counted_on : {K : Type 0} (put : K → Node → K) (m : ℕ) (ns : List Node) → kept_count (fold (put_found put) (count m) ns) ≡ m + length ns
+counted_on put m [] = omega arith
+counted_on put m (n ∷ ns) = counted_on put (m + 1) ns ∙ omega arith
+
+pub counted : {K : Type 0} (put : K → Node → K) (ns : List Node) → kept_count (plus (put_found put) (count 0) ns) ≡ length ns
 unfolding plus
-values_kept ns = refl
+counted put ns = counted_on put 0 ns ∙ omega arith
+
+several_stay : {K : Type 0} (put : K → Node → K) (ns : List Node) → kept_only (fold (put_found put) (only several) ns) ≡ None
+several_stay put [] = refl
+several_stay put (n ∷ ns) = several_stay put ns
+
+pub only_kept : {K : Type 0} (put : K → Node → K) (ns : List Node) → kept_only (plus (put_found put) (only no_value) ns) ≡ only_value ns
+unfolding plus
+only_kept put [] = refl
+only_kept put (n ∷ []) = refl
+only_kept put (n ∷ m ∷ ns) = several_stay put ns
 
 -- the function that a call names
 pub named : {o : Option check.Function} (x : Call) (bytes : List ℕ) → bytes ≡ string_bytes (out-Call x).name → check.function_named (chars bytes) ≡ o → check.function_named (text_of (out-Call x).name) ≡ o

@@ -1,5 +1,6 @@
 -- The steps of the walk.
-use Rattle.std.proofs.Common.{◌≡◌, ℕ, zero, suc, ◌+◌, ◌<◌, ◌≤◌, List, [], ◌∷◌, ◌++◌, length, get_or, drop, Option, Some, None, option_to_list, Bool, true, false, ◌&&◌, ◌||◌, refl, sym, ap, ◌∙◌, subst, arith, append-nil}
+use Rattle.std.proofs.Common.{◌≡◌, ℕ, zero, suc, ◌+◌, ◌-◌, ◌<◌, ◌≤◌, List, [], ◌∷◌, ◌++◌, length, length-append, get_or, take, drop, Option, Some, None, option_to_list, Bool, true, false, ◌&&◌, ◌||◌, refl, sym, ap, ◌∙◌, subst, arith, append-nil}
+use Rattle.std.proofs.Math.Seq.{take-append_seam}
 use Rattle.std.proofs.lemmas.List.{at_drop_more, at_drop_all, map-append}
 use Rattle.std.specs.List.{All, flat_map, list_any, list_all}
 use Rattle.serde_json.proofs.Views.{Entry}
@@ -10,8 +11,9 @@ use Rattle.std.specs.Prelude.{string_bytes}
 use Rattle.std.specs.Str.{chars}
 use Rattle.jp_doc.specs.Json.{Json, items_of, members_of, value_of}
 use Rattle.jp_doc.specs.Location.{Location, Node, node, name, index, item_of}
-use Rattle.jp_eval.specs.Kept.{Kept, plus}
-use Rattle.jp_eval.specs.Links.{link_step, link_steps, here}
+use Rattle.jp_trail.specs.Links.{link_step, link_steps}
+use Rattle.jp_eval.specs.Kept.{plus}
+use Rattle.jp_eval.specs.Links.{here}
 use Rattle.jp_eval.specs.Nodelist.{items_at}
 use Rattle.jp_eval.specs.Nodes.{child, children, descendants, item_nodes, member_nodes, node_if_some}
 use Rattle.jp_eval.specs.Part.{part_value}
@@ -19,41 +21,50 @@ use Rattle.jp_eval.specs.Places.{later, from_place}
 use Rattle.jp_eval.specs.Slice.{Bounds}
 use Rattle.jp_eval.specs.Walk.{picked, picked_by, reached}
 use Rattle.jp_eval.specs.declared.part.Part.{Part}
-use Rattle.jp_eval.specs.declared.path.Link.{Link}
+use Rattle.jp_trail.specs.declared.link.Link.{Link}
 use Rattle.jp_syntax.specs.declared.tree.Segment.{Segment}
 use Rattle.jp_syntax.specs.declared.tree.Selector.{Selector}
 use Rattle.jp_eval.proofs.Chains.{reached-append, reached-none, reached-descend}
 use Rattle.jp_eval.proofs.Keeping.{stepped, ended, plus-append}
 
+front_of_one_more : (path : List Link) (l : Link) → take (length (path ++ l ∷ []) - 1) (path ++ l ∷ []) ≡ path
+front_of_one_more path l =
+    let e : length (path ++ l ∷ []) - 1 ≡ length path = omega (arith, length-append path (l ∷ [])) in
+    ap (λ n. take n (path ++ l ∷ [])) e ∙ take-append_seam path (l ∷ [])
+
 -- one link further
 pub link_further : (path more : List Link) (l : Link) → more ≡ path ++ l ∷ [] → link_steps more ≡ link_steps path ++ link_step l ∷ []
 link_further path more l e = ap link_steps e ∙ map-append link_step path (l ∷ [])
+
+-- one link back
+pub back_up : (path pushed walked back : List Link) (l : Link) → pushed ≡ path ++ l ∷ [] → walked ≡ pushed → back ≡ take (length walked - 1) walked → back ≡ path
+back_up path pushed walked back l e f g = g ∙ ap (λ ls. take (length ls - 1) ls) (f ∙ e) ∙ front_of_one_more path l
 
 pub here_further : (path more : List Link) (l : Link) (p : Part) → more ≡ path ++ l ∷ [] → here more p ≡ node (link_steps path ++ link_step l ∷ []) (part_value p)
 here_further path more l p e = ap (λ s. node s (part_value p)) (link_further path more l e)
 
 -- the whole list has been gone over
-pub over : {X : Type 0} (f : List X → List Node) (xs : List X) (i : ℕ) (k start : Kept) (all : List Node) → length xs ≤ i → f [] ≡ [] → plus k (f (drop i xs)) ≡ plus start all → k ≡ plus start all
-over f xs i k start all h none inv = ended k start all (sym (ap (plus k) (at_drop_all f xs i h ∙ none)) ∙ inv)
+pub over : {K : Type 0} (put : K → Node → K) {X : Type 0} (f : List X → List Node) (xs : List X) (i : ℕ) (k start : K) (all : List Node) → length xs ≤ i → f [] ≡ [] → plus put k (f (drop i xs)) ≡ plus put start all → k ≡ plus put start all
+over put f xs i k start all h none inv = ended put k start all (sym (ap (plus put k) (at_drop_all f xs i h ∙ none)) ∙ inv)
 
 -- one selector
-pub applied : (root : Json) (xs : List Selector) (i : ℕ) (x : Selector) (rest : List Segment) (n : Node) (k mid start : Kept) (all : List Node) → i < length xs → x ≡ get_or xs i x
-    → mid ≡ plus k (reached root rest (picked root x n)) → plus k (reached root rest (picked_by root (drop i xs) n)) ≡ plus start all
-    → plus mid (reached root rest (picked_by root (drop (i + 1) xs) n)) ≡ plus start all
-applied root xs i x rest n k mid start all h is e inv =
+pub applied : {K : Type 0} (put : K → Node → K) (root : Json) (xs : List Selector) (i : ℕ) (x : Selector) (rest : List Segment) (n : Node) (k mid start : K) (all : List Node) → i < length xs → x ≡ get_or xs i x
+    → mid ≡ plus put k (reached root rest (picked root x n)) → plus put k (reached root rest (picked_by root (drop i xs) n)) ≡ plus put start all
+    → plus put mid (reached root rest (picked_by root (drop (i + 1) xs) n)) ≡ plus put start all
+applied put root xs i x rest n k mid start all h is e inv =
     let first : reached root rest (picked_by root (drop i xs) n) ≡ reached root rest (picked root x n) ++ reached root rest (picked_by root (drop (i + 1) xs) n) =
     at_drop_more (λ ys. reached root rest (picked_by root ys n)) xs i x h
     ∙ ap (λ y. reached root rest (picked root y n ++ picked_by root (drop (i + 1) xs) n)) (sym is)
     ∙ reached-append root rest (picked root x n) (picked_by root (drop (i + 1) xs) n) in
-    stepped k mid (reached root rest (picked root x n)) (reached root rest (picked_by root (drop (i + 1) xs) n)) all start e (sym (ap (plus k) first) ∙ inv)
+    stepped put k mid (reached root rest (picked root x n)) (reached root rest (picked_by root (drop (i + 1) xs) n)) all start e (sym (ap (plus put k) first) ∙ inv)
 
-pub descended : (root : Json) (xs : List Selector) (rest : List Segment) (n : Node) (k mid last : Kept) → mid ≡ plus k (reached root rest (picked_by root xs n))
-    → last ≡ plus mid (flat_map (λ c. reached root rest (flat_map (picked_by root xs) (descendants c))) (children n))
-    → last ≡ plus k (reached root rest (flat_map (picked_by root xs) (descendants n)))
-descended root xs rest n k mid last here below =
-    below ∙ ap (λ j. plus j (flat_map (λ c. reached root rest (flat_map (picked_by root xs) (descendants c))) (children n))) here
-    ∙ sym (plus-append k (reached root rest (picked_by root xs n)) (flat_map (λ c. reached root rest (flat_map (picked_by root xs) (descendants c))) (children n)))
-    ∙ ap (plus k) (sym (reached-descend root xs rest n))
+pub descended : {K : Type 0} (put : K → Node → K) (root : Json) (xs : List Selector) (rest : List Segment) (n : Node) (k mid last : K) → mid ≡ plus put k (reached root rest (picked_by root xs n))
+    → last ≡ plus put mid (flat_map (λ c. reached root rest (flat_map (picked_by root xs) (descendants c))) (children n))
+    → last ≡ plus put k (reached root rest (flat_map (picked_by root xs) (descendants n)))
+descended put root xs rest n k mid last here below =
+    below ∙ ap (λ j. plus put j (flat_map (λ c. reached root rest (flat_map (picked_by root xs) (descendants c))) (children n))) here
+    ∙ sym (plus-append put k (reached root rest (picked_by root xs n)) (flat_map (λ c. reached root rest (flat_map (picked_by root xs) (descendants c))) (children n)))
+    ∙ ap (plus put k) (sym (reached-descend root xs rest n))
 
 -- ---- items
 
@@ -84,16 +95,16 @@ first_no_deeper [] i x h is = absurd (omega arith)
 first_no_deeper (y ∷ xs) zero x h is = subst (λ z. depth (view z) ≤ items_depth (items_view (y ∷ xs))) (sym is) (omega arith)
 first_no_deeper (y ∷ xs) (suc i) x h is = first_no_deeper xs i x (omega arith) is
 
-pub item_done : (f : Node → List Node) (at : Location) (xs : List Value) (i : ℕ) (x : Value) (k mid start : Kept) (all : List Node) → i < length xs → x ≡ get_or xs i x
-    → mid ≡ plus k (f (node (at ++ index i ∷ []) (value_of x)))
-    → plus k (flat_map f (item_nodes at i (items_of (items_view (drop i xs))))) ≡ plus start all
-    → plus mid (flat_map f (item_nodes at (i + 1) (items_of (items_view (drop (i + 1) xs))))) ≡ plus start all
-item_done f at xs i x k mid start all h is e inv =
+pub item_done : {K : Type 0} (put : K → Node → K) (f : Node → List Node) (at : Location) (xs : List Value) (i : ℕ) (x : Value) (k mid start : K) (all : List Node) → i < length xs → x ≡ get_or xs i x
+    → mid ≡ plus put k (f (node (at ++ index i ∷ []) (value_of x)))
+    → plus put k (flat_map f (item_nodes at i (items_of (items_view (drop i xs))))) ≡ plus put start all
+    → plus put mid (flat_map f (item_nodes at (i + 1) (items_of (items_view (drop (i + 1) xs))))) ≡ plus put start all
+item_done put f at xs i x k mid start all h is e inv =
     let others = flat_map f (item_nodes at (i + 1) (items_of (items_view (drop (i + 1) xs)))) in
     let first : flat_map f (item_nodes at i (items_of (items_view (drop i xs)))) ≡ f (node (at ++ index i ∷ []) (value_of x)) ++ others =
     at_drop_more (λ ys. flat_map f (item_nodes at i (items_of (items_view ys)))) xs i x h
     ∙ ap (λ y. f (node (at ++ index i ∷ []) (value_of y)) ++ others) (sym is) in
-    stepped k mid (f (node (at ++ index i ∷ []) (value_of x))) others all start e (sym (ap (plus k) first) ∙ inv)
+    stepped put k mid (f (node (at ++ index i ∷ []) (value_of x))) others all start e (sym (ap (plus put k) first) ∙ inv)
 
 -- ---- members
 
@@ -106,13 +117,13 @@ other_members_left P es others e is all = λ k d h. subst (λ (l : List Entry). 
 pub members_no_deeper : (es others : List Entry) (e : Entry) → es ≡ e ∷ others → members_depth (members_view others) ≤ members_depth (members_view es)
 members_no_deeper es others e is = subst (λ (l : List Entry). members_depth (members_view others) ≤ members_depth (members_view l)) (sym is) (omega arith)
 
-pub member_done : (f : Node → List Node) (at : Location) (es others : List Entry) (e : Entry) (k mid start : Kept) (all : List Node) → es ≡ e ∷ others
-    → mid ≡ plus k (f (node (at ++ name (chars (string_bytes e.0)) ∷ []) (value_of e.1)))
-    → plus k (flat_map f (member_nodes at (members_of (members_view es)))) ≡ plus start all
-    → plus mid (flat_map f (member_nodes at (members_of (members_view others)))) ≡ plus start all
-member_done f at es others e k mid start all is found inv =
-    stepped k mid (f (node (at ++ name (chars (string_bytes e.0)) ∷ []) (value_of e.1))) (flat_map f (member_nodes at (members_of (members_view others)))) all start found
-    (sym (ap (λ (l : List Entry). plus k (flat_map f (member_nodes at (members_of (members_view l))))) is) ∙ inv)
+pub member_done : {K : Type 0} (put : K → Node → K) (f : Node → List Node) (at : Location) (es others : List Entry) (e : Entry) (k mid start : K) (all : List Node) → es ≡ e ∷ others
+    → mid ≡ plus put k (f (node (at ++ name (chars (string_bytes e.0)) ∷ []) (value_of e.1)))
+    → plus put k (flat_map f (member_nodes at (members_of (members_view es)))) ≡ plus put start all
+    → plus put mid (flat_map f (member_nodes at (members_of (members_view others)))) ≡ plus put start all
+member_done put f at es others e k mid start all is found inv =
+    stepped put k mid (f (node (at ++ name (chars (string_bytes e.0)) ∷ []) (value_of e.1))) (flat_map f (member_nodes at (members_of (members_view others)))) all start found
+    (sym (ap (λ (l : List Entry). plus put k (flat_map f (member_nodes at (members_of (members_view l))))) is) ∙ inv)
 
 -- ---- places
 
@@ -122,11 +133,11 @@ none_at n o p is none = ap (λ x. items_at n (option_to_list x)) is ∙ ap (λ x
 pub one_at : (n : Node) (o : Option ℕ) (p : ℕ) (v : Json) → o ≡ Some p → Some v ≡ item_of p n.value → items_at n (option_to_list o) ≡ node (n.location ++ index p ∷ []) v ∷ []
 one_at n o p v is some = ap (λ x. items_at n (option_to_list x)) is ∙ ap (λ x. node_if_some (n.location ++ index p ∷ []) x ++ []) (sym some)
 
-pub place_done : (root : Json) (rest : List Segment) (n : Node) (b : Bounds) (len : ℕ) (next further : Option ℕ) (p : ℕ) (k mid start : Kept) (all : List Node) → next ≡ Some p → from_place b len further ≡ later b len p
-    → mid ≡ plus k (reached root rest (items_at n (p ∷ [])))
-    → plus k (reached root rest (items_at n (from_place b len next))) ≡ plus start all
-    → plus mid (reached root rest (items_at n (from_place b len further))) ≡ plus start all
-place_done root rest n b len next further p k mid start all is behind e inv =
+pub place_done : {K : Type 0} (put : K → Node → K) (root : Json) (rest : List Segment) (n : Node) (b : Bounds) (len : ℕ) (next further : Option ℕ) (p : ℕ) (k mid start : K) (all : List Node) → next ≡ Some p → from_place b len further ≡ later b len p
+    → mid ≡ plus put k (reached root rest (items_at n (p ∷ [])))
+    → plus put k (reached root rest (items_at n (from_place b len next))) ≡ plus put start all
+    → plus put mid (reached root rest (items_at n (from_place b len further))) ≡ plus put start all
+place_done put root rest n b len next further p k mid start all is behind e inv =
     let found = reached root rest (items_at n (p ∷ [])) in
     let others = reached root rest (items_at n (from_place b len further)) in
     let first : reached root rest (items_at n (from_place b len next)) ≡ found ++ others =
@@ -134,16 +145,16 @@ place_done root rest n b len next further p k mid start all is behind e inv =
     ∙ ap (λ t. reached root rest (t ++ items_at n (later b len p))) (sym (append-nil (child (index p) n)))
     ∙ reached-append root rest (items_at n (p ∷ [])) (items_at n (later b len p))
     ∙ ap (λ l. found ++ reached root rest (items_at n l)) (sym behind) in
-    stepped k mid found others all start e (sym (ap (plus k) first) ∙ inv)
+    stepped put k mid found others all start e (sym (ap (plus put k) first) ∙ inv)
 
-pub places_over : (root : Json) (rest : List Segment) (n : Node) (b : Bounds) (len : ℕ) (next : Option ℕ) (k start : Kept) (all : List Node) → next ≡ None
-    → plus k (reached root rest (items_at n (from_place b len next))) ≡ plus start all → k ≡ plus start all
-places_over root rest n b len next k start all is inv =
-    ended k start all (sym (ap (plus k) (ap (λ o. reached root rest (items_at n (from_place b len o))) is ∙ reached-none root rest)) ∙ inv)
+pub places_over : {K : Type 0} (put : K → Node → K) (root : Json) (rest : List Segment) (n : Node) (b : Bounds) (len : ℕ) (next : Option ℕ) (k start : K) (all : List Node) → next ≡ None
+    → plus put k (reached root rest (items_at n (from_place b len next))) ≡ plus put start all → k ≡ plus put start all
+places_over put root rest n b len next k start all is inv =
+    ended put k start all (sym (ap (plus put k) (ap (λ o. reached root rest (items_at n (from_place b len o))) is ∙ reached-none root rest)) ∙ inv)
 
-pub members_over : (f : Node → List Node) (at : Location) (es : List Entry) (k start : Kept) (all : List Node) → es ≡ []
-    → plus k (flat_map f (member_nodes at (members_of (members_view es)))) ≡ plus start all → k ≡ plus start all
-members_over f at es k start all is inv = ended k start all (sym (ap (λ (l : List Entry). plus k (flat_map f (member_nodes at (members_of (members_view l))))) is) ∙ inv)
+pub members_over : {K : Type 0} (put : K → Node → K) (f : Node → List Node) (at : Location) (es : List Entry) (k start : K) (all : List Node) → es ≡ []
+    → plus put k (flat_map f (member_nodes at (members_of (members_view es)))) ≡ plus put start all → k ≡ plus put start all
+members_over put f at es k start all is inv = ended put k start all (sym (ap (λ (l : List Entry). plus put k (flat_map f (member_nodes at (members_of (members_view l))))) is) ∙ inv)
 
 -- ---- some part, and each part
 

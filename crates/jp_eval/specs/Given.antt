@@ -1,5 +1,5 @@
 -- What the functions of `src/` are, and what their calls give.
-use Rattle.std.specs.Prelude.{List, [], ◌∷◌, Option, Some, None}
+use Rattle.std.specs.Prelude.{Option, Some, None}
 use Rattle.jp_doc.specs.Json.{Text, Json, text}
 use Rattle.jp_check.specs.Functions as spec
 use Rattle.jp_eval.specs.Functions.{Handed, handed_value, handed_truth}
@@ -24,11 +24,6 @@ given_of (given.Truth b) = handed_truth b
 abbrev pub GivesWholeNumbers : Given → Type 0
 GivesWholeNumbers (given.Value o) = HasWholeNumbers o
 GivesWholeNumbers (given.Truth b) = Unit {0}
-
--- the value where there is exactly one
-abbrev pub only_of : List Json → Option Json
-only_of (v ∷ []) = Some v
-only_of _ = None
 
 -- the text, where there is one
 abbrev pub text_in : Option Json → Option Text

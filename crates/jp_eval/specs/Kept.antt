@@ -1,43 +1,79 @@
--- What is kept of nodes that are found.
-use Rattle.std.specs.Prelude.{List, [], ◌++◌, map, Option, Some, None, option_map}
+-- What is kept of nodes that are found. Nobody has to believe this file: no public clause names it.
+use Rattle.std.specs.Prelude.{ℕ, ◌+◌, List, Option, Some, None, option_map}
+use Rattle.std.specs.List.{fold}
 use Rattle.jp_doc.specs.Json.{Json}
-use Rattle.jp_doc.specs.Location.{Location, Node, location_of}
-use Rattle.jp_eval.specs.Functions.{first_value}
+use Rattle.jp_doc.specs.Location.{Node}
 use Rattle.jp_eval.specs.Part.{part_value}
 use Rattle.jp_eval.specs.declared.found.Found.{Found}
-use Rattle.jp_eval.specs.declared.found.Found.TheVariants.{Places, Values, First}
+use Rattle.jp_eval.specs.declared.found.Found.TheVariants.{Taker, First, Count, Only}
+use Rattle.jp_eval.specs.declared.found.Alone as code
+use Rattle.jp_eval.specs.declared.found.Alone.TheVariants as code_alone
 
--- where each is, the value of each, or the value of the first
-pub data Kept : Type 0 where
-  places : List Location → Kept
-  values : List Json → Kept
-  first : Option Json → Kept
+-- no value, one alone, or several
+pub data Alone : Type 0 where
+  none : Alone
+  one : Json → Alone
+  several : Alone
 
-abbrev pub kept : Found → Kept
-kept (Places v) = places (map location_of v.items)
-kept (Values v) = values (map part_value v.items)
-kept (First o) = first (option_map part_value o)
+abbrev pub alone_of : code.Alone → Alone
+alone_of code_alone.None = none
+alone_of (code_alone.One p) = one (part_value p)
+alone_of code_alone.Several = several
+
+abbrev pub put_alone : Alone → Json → Alone
+put_alone none v = one v
+put_alone (one w) v = several
+put_alone several v = several
+
+abbrev pub alone_value : Alone → Option Json
+alone_value none = None
+alone_value (one v) = Some v
+alone_value several = None
+
+-- what the caller's taker keeps, the value of the first, how many, or the value of the only one
+pub data Kept (K : Type 0) : Type 0 where
+  taken : K → Kept K
+  first : Option Json → Kept K
+  count : ℕ → Kept K
+  only : Alone → Kept K
+
+abbrev pub kept : {V K : Type 0} → (V → K) → Found V → Kept K
+kept keeps (Taker t) = taken (keeps t)
+kept keeps (First o) = first (option_map part_value o)
+kept keeps (Count n) = count n
+kept keeps (Only a) = only (alone_of a)
 
 -- the first that there is
-abbrev pub first_of : Option Json → List Node → Option Json
-first_of None ns = first_value ns
-first_of (Some v) ns = Some v
+abbrev pub put_first : Option Json → Json → Option Json
+put_first None v = Some v
+put_first (Some w) v = Some w
+
+-- what is kept once this node is found too
+abbrev pub put_found : {K : Type 0} → (K → Node → K) → Kept K → Node → Kept K
+put_found put (taken k) n = taken (put k n)
+put_found put (first o) n = first (put_first o n.value)
+put_found put (count m) n = count (m + 1)
+put_found put (only a) n = only (put_alone a n.value)
 
 -- what is kept once these nodes are found too
-unfoldable pub plus : Kept → List Node → Kept
-plus (places ls) ns = places (ls ++ map (λ n. n.location) ns)
-plus (values vs) ns = values (vs ++ map (λ n. n.value) ns)
-plus (first o) ns = first (first_of o ns)
+unfoldable pub plus : {K : Type 0} → (K → Node → K) → K → List Node → K
+plus put k ns = fold put k ns
 
 -- what was kept, if it is that
-abbrev pub kept_places : Kept → List Location
-kept_places (places ls) = ls
-kept_places _ = []
-
-abbrev pub kept_values : Kept → List Json
-kept_values (values vs) = vs
-kept_values _ = []
-
-abbrev pub kept_first : Kept → Option Json
+abbrev pub kept_first : {K : Type 0} → Kept K → Option Json
+kept_first (taken k) = None
 kept_first (first o) = o
-kept_first _ = None
+kept_first (count n) = None
+kept_first (only a) = None
+
+abbrev pub kept_count : {K : Type 0} → Kept K → ℕ
+kept_count (taken k) = 0
+kept_count (first o) = 0
+kept_count (count n) = n
+kept_count (only a) = 0
+
+abbrev pub kept_only : {K : Type 0} → Kept K → Option Json
+kept_only (taken k) = None
+kept_only (first o) = None
+kept_only (count n) = None
+kept_only (only a) = alone_value a

@@ -9,7 +9,9 @@ pub mod BoundsView
 pub mod Places
 pub mod RightTests
 pub mod Part
+pub mod Inside
 pub mod Links
 pub mod Kept
+pub mod Taken
 pub mod Given
 pub mod Walk

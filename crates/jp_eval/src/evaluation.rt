@@ -1,21 +1,22 @@
 //! The nodes that a query selects in a document.
 
 ghost use Rattle.std.specs.Prelude.{◌≡◌, map, IfOk};
+ghost use Rattle.std.specs.List.{fold};
 ghost use Rattle.jp_doc.specs.Document.{document_value};
 ghost use Rattle.jp_doc.specs.Location.{location_of};
 ghost use Rattle.jp_regexp.specs.Tests.{Tests, AreRight};
-ghost use Rattle.jp_syntax.specs.View.{query_of};
 ghost use Rattle.jp_check.specs.Plan.{planned_query};
 ghost use Rattle.jp_eval.specs.Nodelist.{document_nodes};
 ghost use Rattle.jp_eval.specs.declared.evaluation.EvalFault.TheVariants.{Memory};
 
-use crate::found::Found;
+use crate::found::{Found, into_taker};
+use crate::locations::Locations;
 use crate::part::Part;
-use crate::walk::find;
+use crate::visit::Visit;
+use crate::walk::{Ground, find};
 use jp_check::Plan;
 use jp_doc::{Document, Location};
-use jp_syntax::Query;
-use smallvec::SmallVec;
+use jp_trail::Trail;
 use std::alloc::{AllocError, Global};
 use thiserror::Error;
 
@@ -35,25 +36,34 @@ impl From<AllocError> for EvalFault {
     }
 }
 
-/// The locations of the nodes that a query selects in a document, in the order of its nodelist.
-fn evaluate_query(
+/// Hands the nodes that a query selects in a document to the taker, in the order of its nodelist (RFC 9535, 2.1.2), as
+/// long as one more would change something, and gives the taker back: a node that is selected more than once comes as often.
+///
+/// # Errors
+///
+/// [`EvalFault::Memory`] where a growth of memory was refused.
+pub fn visit_nodes<V: Visit + Drop>(
     alloc: Global,
-    query: &Query,
+    plan: &Plan,
     document: &Document,
-) -> Result<Vec<Location>, AllocError>
-    ensures { IfOk result (λ found. (t : Tests) → AreRight t →
-        map location_of found.items ≡ map (λ n. n.location)
-        (document_nodes t (query_of query.now) (document_value document.now))) }
+    taker: V,
+) -> Result<V, EvalFault>
+    ensures { IfOk result (λ t. (tests : Tests) → AreRight tests →
+        V.kept t ≡ fold V.put (V.kept taker)
+        (document_nodes tests (planned_query plan.now) (document_value document.now))) }
 {
     let root = Part::root_of(document);
-    let mut path = SmallVec::new(alloc);
-    let mut found = Found::Places(Vec::new(alloc));
-    find(alloc, query, root, root, &mut path, &mut found)?;
-    Ok(found.places(alloc))
+    let ground = Ground { alloc, plan, root };
+    let mut path = Trail::new(alloc);
+    let mut found = Found::Taker(taker);
+    find(&ground, plan.query(), root, &mut path, &mut found)?;
+    match into_taker(found) {
+        Some(taker) => Ok(taker),
+        None => Err(EvalFault::Memory),
+    }
 }
 
-/// The locations of the nodes that a query selects in a document, in the order of its nodelist (RFC 9535,
-/// 2.1.2): a node
+/// The locations of the nodes that a query selects in a document, in the order of its nodelist (RFC 9535, 2.1.2): a node
 /// that is selected more than once stands there as often.
 ///
 /// # Errors
@@ -64,5 +74,8 @@ pub fn evaluate(alloc: Global, plan: &Plan, document: &Document) -> Result<Vec<L
         map location_of found.items ≡ map (λ n. n.location)
         (document_nodes t (planned_query plan.now) (document_value document.now))) }
 {
-    Ok(evaluate_query(alloc, plan.query(), document)?)
+    let taker = Locations {
+        locations: Vec::new(alloc),
+    };
+    Ok(visit_nodes(alloc, plan, document, taker)?.locations)
 }

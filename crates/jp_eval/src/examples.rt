@@ -266,9 +266,9 @@ fn tests()
     ensures one_in_another { (t : Tests) →
         map (λ n. n.location) (document_nodes t
         (from_root (tree.child (tree.name (codes "b") ∷ []) ∷ tree.child (tree.filter (tree.test
-            (tree.query_from Current (tree.child
-            (tree.filter (compares current Eq (tree.single (bracketed (tree.name (codes "a") ∷ [])))) ∷ [])
-            ∷ []))) ∷ []) ∷ []))
+        (tree.query_from Current (tree.child
+        (tree.filter (compares current Eq (tree.single (bracketed (tree.name (codes "a") ∷ [])))) ∷ [])
+        ∷ []))) ∷ []) ∷ []))
         (obj2 (codes "a") (num 2) (codes "b") (arr (arr (num 1 ∷ []) ∷ arr (num 2 ∷ []) ∷ []))))
         ≡ (to (codes "b") ∷ item 1 ∷ []) ∷ [] }
 {}

@@ -1,89 +1,169 @@
-//! What is kept of the nodes that a walk finds.
+//! What is kept of the nodes that a walk finds: by the caller's taker, or by what a filter wants of them.
 
-ghost use Rattle.std.specs.Prelude.{◌≡◌, ◌∷◌, [], map, option_map, List, IsTrue, OnOk};
-ghost use Rattle.jp_doc.specs.Location.{Node, node, location_of};
-ghost use Rattle.jp_eval.specs.Kept.{kept, plus, kept_places, kept_values, kept_first};
-ghost use Rattle.jp_eval.specs.Links.{link_steps};
+ghost use Rattle.std.specs.Prelude.{◌≡◌, ◌+◌, IsTrue, IfSome, IfOk, OnOk, Some, option_map};
+ghost use Rattle.jp_doc.specs.Location.{Node};
+ghost use Rattle.jp_eval.specs.Kept.{kept, put_found, taken, kept_first, kept_count, kept_only, alone_of, put_alone, alone_value};
+ghost use Rattle.jp_eval.specs.Functions.{number_value};
+ghost use Rattle.jp_eval.specs.Links.{here};
+ghost use Rattle.jp_eval.specs.Operands.{operand_value, HasWholeNumbers};
 ghost use Rattle.jp_eval.specs.Part.{part_value};
 
+use crate::compare::Operand;
 use crate::part::Part;
-use crate::path::{Path, location};
-use jp_doc::Location;
+use crate::visit::Visit;
+use jp_trail::Trail;
 use std::alloc::{AllocError, Global};
 
 /// What is kept of the nodes that a walk finds.
 #[derive(Drop)]
-pub(crate) enum Found<'v> {
-    /// Where each of them is.
-    Places(Vec<Location>),
-    /// The value of each of them.
-    Values(Vec<Part<'v>>),
+pub(crate) enum Found<'v, V: Drop> {
+    /// What the caller keeps.
+    Taker(V),
     /// The value of the first.
     First(Option<Part<'v>>),
+    /// How many there are.
+    Count(u64),
+    /// The value, as long as there is one alone.
+    Only(Alone<'v>),
+}
+
+/// The values of nodes, as far as it matters whether there is exactly one.
+#[derive(Clone, Copy)]
+pub(crate) enum Alone<'v> {
+    /// There is none.
+    None,
+    /// The value of the only one.
+    One(Part<'v>),
+    /// There are several.
+    Several,
 }
 
 /// Whether a further node would change nothing.
-#[tactic(auto, unfolding(crate::specs::Kept::plus))]
-pub(crate) fn is_full(found: &Found<'_>) -> bool
-    ensures { IsTrue result → (ns : List Node) → plus (kept found.now) ns ≡ kept found.now }
+pub(crate) fn is_full<V: Visit + Drop>(found: &Found<'_, V>) -> bool
+    ensures { IsTrue result → (n : Node) → put_found V.put (kept V.kept found.now) n ≡ kept V.kept found.now }
 {
     match found {
+        Found::Taker(taker) => taker.is_full(),
         Found::First(first) => first.is_some(),
-        _ => false,
+        Found::Count(_) => false,
+        Found::Only(Alone::Several) => true,
+        Found::Only(Alone::None | Alone::One(_)) => false,
     }
 }
 
-/// Adds the node that the path leads to.
-#[tactic(auto, unfolding(crate::specs::Kept::plus))]
-pub(crate) fn add<'v>(
+/// Takes the node that the path leads to.
+pub(crate) fn add<'v, V: Visit + Drop>(
     alloc: Global,
-    path: &Path<'v>,
+    path: &mut Trail<'v>,
     value: Part<'v>,
-    found: &mut Found<'v>,
+    found: &mut Found<'v, V>,
 ) -> Result<(), AllocError>
-    ensures { OnOk result (kept found.new ≡ plus (kept found.old)
-        (node (link_steps path.now.items) (part_value value.entry) ∷ [])) }
+    ensures found { OnOk result (kept V.kept found.new
+        ≡ put_found V.put (kept V.kept found.old) (here path.old value.entry)) }
+    ensures path { OnOk result (path.new ≡ path.old) }
 {
     match found {
-        Found::Places(places) => places.push(location(alloc, path.as_slice())?)?,
-        Found::Values(values) => values.push(value)?,
+        Found::Taker(taker) => taker.node(alloc, path, value.value),
         Found::First(first) => {
             if first.is_none() {
                 *first = Some(value);
             }
+            Ok(())
+        }
+        Found::Count(count) => {
+            *count = one_more(*count)?;
+            Ok(())
+        }
+        Found::Only(alone) => {
+            *alone = with_another(*alone, value);
+            Ok(())
         }
     }
-    Ok(())
 }
 
-impl<'v> Found<'v> {
-    /// The locations, where those are kept.
-    pub fn places(self, alloc: Global) -> Vec<Location>
-        ensures { map location_of result.items ≡ kept_places (kept self.entry) }
-    {
-        match self {
-            Found::Places(places) => places,
-            _ => Vec::new(alloc),
-        }
-    }
+/// One node more. More than a `u64` counts are want of memory.
+fn one_more(count: u64) -> Result<u64, AllocError>
+    ensures { IfOk result (λ n. n ≡ count + 1) }
+{
+    count.checked_add(1).ok_or(AllocError)
+}
 
-    /// The values, where those are kept.
-    pub fn values(self, alloc: Global) -> Vec<Part<'v>>
-        ensures { map part_value result.items ≡ kept_values (kept self.entry) }
-    {
-        match self {
-            Found::Values(values) => values,
-            _ => Vec::new(alloc),
-        }
+/// The same with one value more.
+fn with_another<'v>(alone: Alone<'v>, value: Part<'v>) -> Alone<'v>
+    ensures { alone_of result ≡ put_alone (alone_of alone.entry) (part_value value.entry) }
+{
+    match alone {
+        Alone::None => Alone::One(value),
+        Alone::One(_) => Alone::Several,
+        Alone::Several => Alone::Several,
     }
+}
 
-    /// The value of the first node, where that is kept.
-    pub fn first(self) -> Option<Part<'v>>
-        ensures { option_map part_value result ≡ kept_first (kept self.entry) }
-    {
-        match self {
-            Found::First(first) => first,
-            _ => None,
-        }
+/// What the caller keeps, where that is what is kept.
+pub(crate) fn into_taker<'v, V: Visit + Drop>(found: Found<'v, V>) -> Option<V>
+    ensures { IfSome result (λ t. taken (V.kept t) ≡ kept V.kept found.entry) }
+{
+    match found {
+        Found::Taker(taker) => Some(taker),
+        Found::First(_) => None,
+        Found::Count(_) => None,
+        Found::Only(_) => None,
+    }
+}
+
+/// The value of the first node, where that is kept.
+pub(crate) fn into_first<'v, V: Visit + Drop>(found: Found<'v, V>) -> Option<Part<'v>>
+    ensures { option_map part_value result ≡ kept_first (kept V.kept found.entry) }
+{
+    match found {
+        Found::First(first) => first,
+        Found::Taker(_) => None,
+        Found::Count(_) => None,
+        Found::Only(_) => None,
+    }
+}
+
+/// How many nodes there are, where that is kept.
+fn count_of<V: Visit + Drop>(found: &Found<'_, V>) -> u64
+    ensures { result ≡ kept_count (kept V.kept found.now) }
+{
+    match found {
+        Found::Count(count) => *count,
+        Found::Taker(_) => 0,
+        Found::First(_) => 0,
+        Found::Only(_) => 0,
+    }
+}
+
+/// The same, as a number.
+pub(crate) fn into_count<'v, V: Visit + Drop>(found: Found<'v, V>) -> Operand<'v>
+    ensures value { operand_value result ≡ Some (number_value (kept_count (kept V.kept found.entry))) }
+    ensures whole { HasWholeNumbers result }
+{
+    Operand::Whole(count_of(&found) as i128)
+}
+
+/// The value of the only node, where that is kept and there is one alone.
+pub(crate) fn into_only<'v, V: Visit + Drop>(found: Found<'v, V>) -> Operand<'v>
+    ensures value { operand_value result ≡ kept_only (kept V.kept found.entry) }
+    ensures whole { HasWholeNumbers result }
+{
+    match found {
+        Found::Only(alone) => only_operand(alone),
+        Found::Taker(_) => Operand::Nothing,
+        Found::First(_) => Operand::Nothing,
+        Found::Count(_) => Operand::Nothing,
+    }
+}
+
+/// The value that is alone, or nothing.
+fn only_operand(alone: Alone<'_>) -> Operand<'_>
+    ensures value { operand_value result ≡ alone_value (alone_of alone.entry) }
+    ensures whole { HasWholeNumbers result }
+{
+    match alone {
+        Alone::One(part) => Operand::Lent(part.value),
+        Alone::None => Operand::Nothing,
+        Alone::Several => Operand::Nothing,
     }
 }

@@ -1,12 +1,11 @@
 //! What the functions give (RFC 9535, 2.4.4 to 2.4.8).
 
-ghost use Rattle.std.specs.Prelude.{◌≡◌, Some, length, map, option_map, IfOk};
+ghost use Rattle.std.specs.Prelude.{◌≡◌, Some, length, option_map, IfOk};
 ghost use Rattle.std.specs.Str.{chars};
 ghost use Rattle.jp_check.specs.Functions as check;
-ghost use Rattle.jp_regexp.specs.Held.{IsRead};
 ghost use Rattle.jp_syntax.specs.View.{literal_of};
 ghost use Rattle.jp_eval.specs.Functions as spec;
-ghost use Rattle.jp_eval.specs.Given.{function_of, given_of, GivesWholeNumbers, only_of, text_in};
+ghost use Rattle.jp_eval.specs.Given.{function_of, given_of, GivesWholeNumbers, text_in};
 ghost use Rattle.jp_eval.specs.Nodelist.{literal_value};
 ghost use Rattle.jp_eval.specs.Operands.{operand_value, HasWholeNumbers};
 ghost use Rattle.jp_eval.specs.Part.{part_value};
@@ -15,6 +14,7 @@ ghost use Rattle.jp_eval.specs.RightTests.{tests};
 use crate::compare::{Operand, plain};
 use crate::numbers::whole_number;
 use crate::part::Part;
+use jp_check::{Known, Plan};
 use jp_regexp::Pattern;
 use jp_syntax::Literal;
 use serde_json::Value;
@@ -107,17 +107,6 @@ pub(crate) fn operand(found: Option<Part<'_>>) -> Operand<'_>
     }
 }
 
-/// The value, where there is exactly one.
-pub(crate) fn only<'v>(values: &[Part<'v>]) -> Operand<'v>
-    ensures value { operand_value result ≡ only_of (map part_value values.now) }
-    ensures whole { HasWholeNumbers result }
-{
-    match values {
-        [part] => Operand::Lent(part.value),
-        _ => Operand::Nothing,
-    }
-}
-
 fn count_characters(text: &str) -> usize
     ensures { result ≡ length (chars text.now) }
 {
@@ -149,16 +138,10 @@ fn text_of(operand: Operand<'_>) -> Option<&str>
     }
 }
 
-/// The pattern that a text is, if it is one.
-fn pattern(alloc: Global, text: &str) -> Result<Option<Pattern>, AllocError>
-    ensures { IfOk result (λ read. IsRead (chars text.now) read) }
-{
-    Pattern::read(alloc, text)
-}
-
 /// Whether the whole text matches the pattern. Of anything but two texts it is false.
 pub(crate) fn matches(
     alloc: Global,
+    plan: &Plan,
     text: Operand<'_>,
     pattern_text: Operand<'_>,
 ) -> Result<bool, AllocError>
@@ -168,7 +151,7 @@ pub(crate) fn matches(
         (operand_value pattern_text.entry)) }
 {
     match (text_of(text), text_of(pattern_text)) {
-        (Some(text), Some(pattern_text)) => is_match(alloc, text, pattern_text),
+        (Some(text), Some(pattern_text)) => is_match(alloc, plan, text, pattern_text),
         _ => Ok(false),
     }
 }
@@ -176,6 +159,7 @@ pub(crate) fn matches(
 /// Whether some part of the text matches the pattern. Of anything but two texts it is false.
 pub(crate) fn searches(
     alloc: Global,
+    plan: &Plan,
     text: Operand<'_>,
     pattern_text: Operand<'_>,
 ) -> Result<bool, AllocError>
@@ -185,24 +169,48 @@ pub(crate) fn searches(
         (operand_value pattern_text.entry)) }
 {
     match (text_of(text), text_of(pattern_text)) {
-        (Some(text), Some(pattern_text)) => is_found(alloc, text, pattern_text),
+        (Some(text), Some(pattern_text)) => is_found(alloc, plan, text, pattern_text),
         _ => Ok(false),
     }
 }
 
-fn is_match(alloc: Global, text: &str, pattern_text: &str) -> Result<bool, AllocError>
+/// Whether the whole text matches the pattern that a text is: a literal one is in the plan.
+fn is_match(alloc: Global, plan: &Plan, text: &str, pattern_text: &str) -> Result<bool, AllocError>
     ensures { IfOk result (λ b. b ≡ tests.is_match (chars text.now) (chars pattern_text.now)) }
 {
-    match pattern(alloc, pattern_text)? {
+    match plan.pattern(pattern_text) {
+        Known::Read(pattern) => pattern.matches(alloc, text),
+        Known::NoPattern => Ok(false),
+        Known::Unknown => is_match_read(alloc, text, pattern_text),
+    }
+}
+
+/// The same, where the pattern is read first.
+fn is_match_read(alloc: Global, text: &str, pattern_text: &str) -> Result<bool, AllocError>
+    ensures { IfOk result (λ b. b ≡ tests.is_match (chars text.now) (chars pattern_text.now)) }
+{
+    match Pattern::read(alloc, pattern_text)? {
         Some(pattern) => pattern.matches(alloc, text),
         None => Ok(false),
     }
 }
 
-fn is_found(alloc: Global, text: &str, pattern_text: &str) -> Result<bool, AllocError>
+/// Whether some part of the text matches the pattern that a text is: a literal one is in the plan.
+fn is_found(alloc: Global, plan: &Plan, text: &str, pattern_text: &str) -> Result<bool, AllocError>
     ensures { IfOk result (λ b. b ≡ tests.is_found (chars text.now) (chars pattern_text.now)) }
 {
-    match pattern(alloc, pattern_text)? {
+    match plan.pattern(pattern_text) {
+        Known::Read(pattern) => pattern.found_in(alloc, text),
+        Known::NoPattern => Ok(false),
+        Known::Unknown => is_found_read(alloc, text, pattern_text),
+    }
+}
+
+/// The same, where the pattern is read first.
+fn is_found_read(alloc: Global, text: &str, pattern_text: &str) -> Result<bool, AllocError>
+    ensures { IfOk result (λ b. b ≡ tests.is_found (chars text.now) (chars pattern_text.now)) }
+{
+    match Pattern::read(alloc, pattern_text)? {
         Some(pattern) => pattern.found_in(alloc, text),
         None => Ok(false),
     }

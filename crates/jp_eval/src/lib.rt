@@ -7,12 +7,14 @@ mod examples;
 mod found;
 mod functions;
 pub mod laws;
+mod locations;
 mod numbers;
 mod part;
-mod path;
 mod slice;
+mod visit;
 mod walk;
 
 pub use compare::{Operand, equal, less};
-pub use evaluation::{EvalFault, evaluate};
+pub use evaluation::{EvalFault, evaluate, visit_nodes};
 pub use slice::{Bounds, slice_bounds};
+pub use visit::Visit;

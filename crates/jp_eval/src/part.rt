@@ -9,7 +9,7 @@ ghost use Rattle.jp_doc.proofs.RisingProps.{rising_prop};
 ghost use Rattle.std.proofs.Props.{props};
 
 use jp_doc::Document;
-use serde_json::Value;
+use serde_json::{Map, Value};
 
 /// A value of a document: its numbers are whole, its arrays short enough, and its nesting is at most 127.
 #[derive(Clone, Copy)]
@@ -18,10 +18,23 @@ pub(crate) struct Part<'v> {
     ghost kept: { IsDocumentValue value.now } by { Prim.hlevel (props, rising_prop (value_of value.now)) },
 }
 
+/// What is inside of a value.
+#[derive(Clone, Copy)]
+pub(crate) enum Inside<'v> {
+    /// The items of an array.
+    Items(&'v Vec<Value>),
+    /// The members of an object.
+    Members(&'v Map<String, Value>),
+    /// The value is of another kind.
+    Nothing,
+}
+
 impl<'v> Part<'v> {
     ghost use Rattle.std.specs.Str.{chars};
     ghost use Rattle.jp_doc.specs.Document.{document_value};
-    ghost use Rattle.jp_doc.specs.Location.{member_of, item_of};
+    ghost use Rattle.jp_doc.specs.Location.{Location, member_of, item_of};
+    ghost use Rattle.jp_eval.specs.Inside.{nodes_inside, AreParts, IsLessDeep};
+    ghost use Rattle.jp_eval.specs.Nodes.{children_at};
     ghost use Rattle.jp_eval.specs.Part.{part_value};
     ghost use Rattle.jp_eval.specs.Places.{item_count};
 
@@ -59,6 +72,22 @@ impl<'v> Part<'v> {
         match self.value {
             Value::Array(items) => items.len() as u32,
             _ => 0,
+        }
+    }
+
+    /// What is inside of the value.
+    pub fn inside(self) -> Inside<'v>
+        ensures children { (at : Location) → children_at at (part_value self.entry) ≡ nodes_inside at result }
+        ensures parts { AreParts result }
+        ensures below { IsLessDeep (depth (view self.entry.value.now)) result }
+    {
+        match self.value {
+            Value::Array(items) => Inside::Items(items),
+            Value::Object(members) => Inside::Members(members),
+            Value::Null => Inside::Nothing,
+            Value::Bool(_) => Inside::Nothing,
+            Value::Number(_) => Inside::Nothing,
+            Value::String(_) => Inside::Nothing,
         }
     }
 }

@@ -10,8 +10,9 @@ ghost use Rattle.jp_syntax.specs.PartViews.{argument_of, call_of, comparable_of,
 ghost use Rattle.jp_eval.specs.BoundsView.{bounds_value};
 ghost use Rattle.jp_eval.specs.Functions.{first_value, as_nodes, as_value as value_of_handed, called};
 ghost use Rattle.jp_eval.specs.Given.{function_of, given_of, GivesWholeNumbers};
-ghost use Rattle.jp_eval.specs.Kept.{kept, plus};
-ghost use Rattle.jp_eval.specs.Links.{here, link_steps};
+ghost use Rattle.jp_eval.specs.Kept.{kept, put_found, plus};
+ghost use Rattle.jp_eval.specs.Links.{here};
+ghost use Rattle.jp_trail.specs.Links.{link_steps};
 ghost use Rattle.jp_eval.specs.Nodelist as spec;
 ghost use Rattle.jp_eval.specs.Nodes.{children, descendants, item_nodes, member_nodes};
 ghost use Rattle.jp_eval.specs.Operands.{operand_value, HasWholeNumbers};
@@ -22,19 +23,28 @@ ghost use Rattle.jp_eval.specs.Slice.{slice_indexes};
 ghost use Rattle.jp_eval.specs.Walk.{picked, picked_by, reached, is_true, done};
 
 use crate::compare::{Operand, compare};
-use crate::found::{Found, add, is_full};
+use crate::found::{Alone, Found, add, into_count, into_first, into_only, is_full};
 use crate::functions::{
-    Function, Given, as_truth, as_value, function_named, length, literal, matches, only, operand,
+    Function, Given, as_truth, as_value, function_named, length, literal, matches, operand,
     searches,
 };
 use crate::numbers::{place, position};
-use crate::part::Part;
-use crate::path::{Link, Path};
+use crate::part::{Inside, Part};
 use crate::slice::{Bounds, bounds_of, first_place, place_after};
+use crate::visit::Visit;
+use jp_check::Plan;
 use jp_syntax::{Argument, Call, Comparable, Comparison, Logical, Query, Segment, Selector, Start};
+use jp_trail::{Link, Trail};
 use serde_json::{Map, Value};
-use smallvec::SmallVec;
 use std::alloc::{AllocError, Global};
+
+/// What a walk is given throughout: the plan with its patterns, and the document.
+#[derive(Clone, Copy)]
+pub(crate) struct Ground<'v> {
+    pub(crate) alloc: Global,
+    pub(crate) plan: &'v Plan,
+    pub(crate) root: Part<'v>,
+}
 
 /// What is done at a value.
 #[derive(Clone, Copy)]
@@ -49,50 +59,46 @@ pub(crate) enum Task<'v> {
 
 /// The nodes of a query, where `@` is the value at the path.
 #[cycle(walk)]
-pub(crate) fn find<'v>(
-    alloc: Global,
+pub(crate) fn find<'v, V: Visit + Drop>(
+    ground: &Ground<'v>,
     query: &'v Query,
-    root: Part<'v>,
     value: Part<'v>,
-    path: &mut Path<'v>,
-    found: &mut Found<'v>,
+    path: &mut Trail<'v>,
+    found: &mut Found<'v, V>,
 ) -> Result<(), AllocError>
-    ensures found { OnOk result (kept found.new
-        ≡ plus (kept found.old) (spec.nodelist tests (part_value root.entry) (query_of query.now)
-        (here path.old.items value.entry))) }
-    ensures path { OnOk result (path.new.items ≡ path.old.items) }
+    ensures found { OnOk result (kept V.kept found.new
+        ≡ plus (put_found V.put) (kept V.kept found.old) (spec.nodelist tests (part_value ground.now.root) (query_of query.now)
+        (here path.old value.entry))) }
+    ensures path { OnOk result (path.new ≡ path.old) }
 {
     let segments = query.segments.as_slice();
     match query.start {
         Start::Root => {
-            let mut start = SmallVec::new(alloc);
-            run(alloc, segments, root, root, &mut start, found)
+            let mut start = Trail::new(ground.alloc);
+            run(ground, segments, ground.root, &mut start, found)
         }
-        Start::Current => run(alloc, segments, root, value, path, found),
+        Start::Current => run(ground, segments, value, path, found),
     }
 }
 
 #[cycle(walk)]
-fn go<'v>(
-    alloc: Global,
+fn go<'v, V: Visit + Drop>(
+    ground: &Ground<'v>,
     task: Task<'v>,
-    root: Part<'v>,
     value: Part<'v>,
-    path: &mut Path<'v>,
-    found: &mut Found<'v>,
+    path: &mut Trail<'v>,
+    found: &mut Found<'v, V>,
 ) -> Result<(), AllocError>
-    ensures found { OnOk result (kept found.new
-        ≡ plus (kept found.old) (done (part_value root.entry) task.entry (here path.old.items value.entry))) }
-    ensures path { OnOk result (path.new.items ≡ path.old.items) }
+    ensures found { OnOk result (kept V.kept found.new
+        ≡ plus (put_found V.put) (kept V.kept found.old) (done (part_value ground.now.root) task.entry (here path.old value.entry))) }
+    ensures path { OnOk result (path.new ≡ path.old) }
 {
     match task {
-        Task::Run(rest) => run(alloc, rest, root, value, path, found),
-        Task::Descend(selectors, rest) => {
-            descend(alloc, selectors, rest, root, value, path, found)
-        }
+        Task::Run(rest) => run(ground, rest, value, path, found),
+        Task::Descend(selectors, rest) => { descend(ground, selectors, rest, value, path, found) }
         Task::Test(test, rest) => {
-            if holds(alloc, test, root, value, path)? {
-                run(alloc, rest, root, value, path, found)?;
+            if holds::<V>(ground, test, value, path)? {
+                run(ground, rest, value, path, found)?;
             }
             Ok(())
         }
@@ -101,27 +107,26 @@ fn go<'v>(
 
 /// The segments from the value on.
 #[cycle(walk)]
-fn run<'v>(
-    alloc: Global,
+fn run<'v, V: Visit + Drop>(
+    ground: &Ground<'v>,
     segments: &'v [Segment],
-    root: Part<'v>,
     value: Part<'v>,
-    path: &mut Path<'v>,
-    found: &mut Found<'v>,
+    path: &mut Trail<'v>,
+    found: &mut Found<'v, V>,
 ) -> Result<(), AllocError>
-    ensures found { OnOk result (kept found.new
-        ≡ plus (kept found.old) (reached (part_value root.entry) segments.now
-        (here path.old.items value.entry ∷ []))) }
-    ensures path { OnOk result (path.new.items ≡ path.old.items) }
+    ensures found { OnOk result (kept V.kept found.new
+        ≡ plus (put_found V.put) (kept V.kept found.old) (reached (part_value ground.now.root) segments.now
+        (here path.old value.entry ∷ []))) }
+    ensures path { OnOk result (path.new ≡ path.old) }
 {
     match segments.split_first() {
-        None => add(alloc, path, value, found),
+        None => add(ground.alloc, path, value, found),
         Some((segment, rest)) => {
             let selectors = segment.selectors.as_slice();
             if segment.deep {
-                descend(alloc, selectors, rest, root, value, path, found)
+                descend(ground, selectors, rest, value, path, found)
             } else {
-                apply(alloc, selectors, rest, root, value, path, found)
+                apply(ground, selectors, rest, value, path, found)
             }
         }
     }
@@ -129,110 +134,107 @@ fn run<'v>(
 
 /// The selectors at the value and at each descendant, and then the segments.
 #[cycle(walk)]
-fn descend<'v>(
-    alloc: Global,
+fn descend<'v, V: Visit + Drop>(
+    ground: &Ground<'v>,
     selectors: &'v [Selector],
     rest: &'v [Segment],
-    root: Part<'v>,
     value: Part<'v>,
-    path: &mut Path<'v>,
-    found: &mut Found<'v>,
+    path: &mut Trail<'v>,
+    found: &mut Found<'v, V>,
 ) -> Result<(), AllocError>
-    ensures found { OnOk result (kept found.new
-        ≡ plus (kept found.old) (reached (part_value root.entry) rest.now
-        (flat_map (picked_by (part_value root.entry) selectors.now)
-        (descendants (here path.old.items value.entry))))) }
-    ensures path { OnOk result (path.new.items ≡ path.old.items) }
+    ensures found { OnOk result (kept V.kept found.new
+        ≡ plus (put_found V.put) (kept V.kept found.old) (reached (part_value ground.now.root) rest.now
+        (flat_map (picked_by (part_value ground.now.root) selectors.now)
+        (descendants (here path.old value.entry))))) }
+    ensures path { OnOk result (path.new ≡ path.old) }
 {
-    apply(alloc, selectors, rest, root, value, path, found)?;
+    apply(ground, selectors, rest, value, path, found)?;
     let task = Task::Descend(selectors, rest);
-    each_child(alloc, task, root, value, path, found)
+    each_child(ground, task, value, path, found)
 }
 
 /// Each selector at the value, and then the segments.
 #[cycle(walk)]
-fn apply<'v>(
-    alloc: Global,
+fn apply<'v, V: Visit + Drop>(
+    ground: &Ground<'v>,
     selectors: &'v [Selector],
     rest: &'v [Segment],
-    root: Part<'v>,
     value: Part<'v>,
-    path: &mut Path<'v>,
-    found: &mut Found<'v>,
+    path: &mut Trail<'v>,
+    found: &mut Found<'v, V>,
 ) -> Result<(), AllocError>
-    ensures found { OnOk result (kept found.new
-        ≡ plus (kept found.old) (reached (part_value root.entry) rest.now
-        (picked_by (part_value root.entry) selectors.now (here path.old.items value.entry)))) }
-    ensures path { OnOk result (path.new.items ≡ path.old.items) }
+    ensures found { OnOk result (kept V.kept found.new
+        ≡ plus (put_found V.put) (kept V.kept found.old) (reached (part_value ground.now.root) rest.now
+        (picked_by (part_value ground.now.root) selectors.now (here path.old value.entry)))) }
+    ensures path { OnOk result (path.new ≡ path.old) }
 {
     for selector in selectors {
-        select(alloc, selector, rest, root, value, path, found)?;
+        if is_full(found) {
+            return Ok(());
+        }
+        select(ground, selector, rest, value, path, found)?;
     }
     Ok(())
 }
 
 /// One selector at the value, and then the segments.
 #[cycle(walk)]
-fn select<'v>(
-    alloc: Global,
+fn select<'v, V: Visit + Drop>(
+    ground: &Ground<'v>,
     selector: &'v Selector,
     rest: &'v [Segment],
-    root: Part<'v>,
     value: Part<'v>,
-    path: &mut Path<'v>,
-    found: &mut Found<'v>,
+    path: &mut Trail<'v>,
+    found: &mut Found<'v, V>,
 ) -> Result<(), AllocError>
-    ensures found { OnOk result (kept found.new
-        ≡ plus (kept found.old) (reached (part_value root.entry) rest.now
-        (picked (part_value root.entry) selector.now (here path.old.items value.entry)))) }
-    ensures path { OnOk result (path.new.items ≡ path.old.items) }
+    ensures found { OnOk result (kept V.kept found.new
+        ≡ plus (put_found V.put) (kept V.kept found.old) (reached (part_value ground.now.root) rest.now
+        (picked (part_value ground.now.root) selector.now (here path.old value.entry)))) }
+    ensures path { OnOk result (path.new ≡ path.old) }
 {
     match selector {
         Selector::Name(name) => {
             if let Some(child) = value.member(name.as_str()) {
                 path.push(Link::Name(name.as_str()))?;
-                run(alloc, rest, root, child, path, found)?;
+                run(ground, rest, child, path, found)?;
                 path.pop();
             }
             Ok(())
         }
-        Selector::Wild => each_child(alloc, Task::Run(rest), root, value, path, found),
+        Selector::Wild => each_child(ground, Task::Run(rest), value, path, found),
         Selector::Index(index) => {
             let place = place(position(index.as_str()), value.item_count());
-            at_place(alloc, place, rest, root, value, path, found)
+            at_place(ground, place, rest, value, path, found)
         }
         Selector::Slice(slice) => {
             let bounds = bounds_of(slice, value.item_count());
-            each_place(alloc, bounds, rest, root, value, path, found)
+            each_place(ground, bounds, rest, value, path, found)
         }
-        Selector::Filter(test) => {
-            each_child(alloc, Task::Test(test, rest), root, value, path, found)
-        }
+        Selector::Filter(test) => { each_child(ground, Task::Test(test, rest), value, path, found) }
     }
 }
 
 /// The segments from the item at this place, if there is one.
 #[cycle(walk)]
-fn at_place<'v>(
-    alloc: Global,
+fn at_place<'v, V: Visit + Drop>(
+    ground: &Ground<'v>,
     place: Option<u32>,
     rest: &'v [Segment],
-    root: Part<'v>,
     value: Part<'v>,
-    path: &mut Path<'v>,
-    found: &mut Found<'v>,
+    path: &mut Trail<'v>,
+    found: &mut Found<'v, V>,
 ) -> Result<(), AllocError>
-    ensures found { OnOk result (kept found.new
-        ≡ plus (kept found.old) (reached (part_value root.entry) rest.now
-        (spec.items_at (here path.old.items value.entry) (option_to_list place)))) }
-    ensures path { OnOk result (path.new.items ≡ path.old.items) }
+    ensures found { OnOk result (kept V.kept found.new
+        ≡ plus (put_found V.put) (kept V.kept found.old) (reached (part_value ground.now.root) rest.now
+        (spec.items_at (here path.old value.entry) (option_to_list place)))) }
+    ensures path { OnOk result (path.new ≡ path.old) }
 {
     let Some(place) = place else {
         return Ok(());
     };
     if let Some(child) = value.item(place) {
         path.push(Link::Index(place))?;
-        run(alloc, rest, root, child, path, found)?;
+        run(ground, rest, child, path, found)?;
         path.pop();
     }
     Ok(())
@@ -240,25 +242,27 @@ fn at_place<'v>(
 
 /// The segments from each item of a slice.
 #[cycle(walk)]
-fn each_place<'v>(
-    alloc: Global,
+fn each_place<'v, V: Visit + Drop>(
+    ground: &Ground<'v>,
     bounds: Bounds,
     rest: &'v [Segment],
-    root: Part<'v>,
     value: Part<'v>,
-    path: &mut Path<'v>,
-    found: &mut Found<'v>,
+    path: &mut Trail<'v>,
+    found: &mut Found<'v, V>,
 ) -> Result<(), AllocError>
     requires { AreWithin (bounds_value bounds) (item_count (part_value value)) }
-    ensures found { OnOk result (kept found.new
-        ≡ plus (kept found.old) (reached (part_value root.entry) rest.now
-        (spec.items_at (here path.old.items value.entry)
+    ensures found { OnOk result (kept V.kept found.new
+        ≡ plus (put_found V.put) (kept V.kept found.old) (reached (part_value ground.now.root) rest.now
+        (spec.items_at (here path.old value.entry)
         (slice_indexes (bounds_value bounds) (item_count (part_value value.entry)))))) }
-    ensures path { OnOk result (path.new.items ≡ path.old.items) }
+    ensures path { OnOk result (path.new ≡ path.old) }
 {
     let mut next = first_place(bounds);
     while let Some(place) = next {
-        at_place(alloc, Some(place), rest, root, value, path, found)?;
+        if is_full(found) {
+            return Ok(());
+        }
+        at_place(ground, Some(place), rest, value, path, found)?;
         next = place_after(bounds, place);
     }
     Ok(())
@@ -266,77 +270,71 @@ fn each_place<'v>(
 
 /// The task at each child of the value.
 #[cycle(walk)]
-fn each_child<'v>(
-    alloc: Global,
+fn each_child<'v, V: Visit + Drop>(
+    ground: &Ground<'v>,
     task: Task<'v>,
-    root: Part<'v>,
     value: Part<'v>,
-    path: &mut Path<'v>,
-    found: &mut Found<'v>,
+    path: &mut Trail<'v>,
+    found: &mut Found<'v, V>,
 ) -> Result<(), AllocError>
-    ensures found { OnOk result (kept found.new
-        ≡ plus (kept found.old) (flat_map (done (part_value root.entry) task.entry)
-        (children (here path.old.items value.entry)))) }
-    ensures path { OnOk result (path.new.items ≡ path.old.items) }
+    ensures found { OnOk result (kept V.kept found.new
+        ≡ plus (put_found V.put) (kept V.kept found.old) (flat_map (done (part_value ground.now.root) task.entry)
+        (children (here path.old value.entry)))) }
+    ensures path { OnOk result (path.new ≡ path.old) }
 {
-    match value.value {
-        Value::Array(items) => each_item(alloc, task, root, items, path, found),
-        Value::Object(members) => each_member(alloc, task, root, members, path, found),
-        Value::Null => Ok(()),
-        Value::Bool(_) => Ok(()),
-        Value::Number(_) => Ok(()),
-        Value::String(_) => Ok(()),
+    match value.inside() {
+        Inside::Items(items) => each_item(ground, task, items, path, found),
+        Inside::Members(members) => each_member(ground, task, members, path, found),
+        Inside::Nothing => Ok(()),
     }
 }
 
 #[cycle(walk)]
-fn each_item<'v>(
-    alloc: Global,
+fn each_item<'v, V: Visit + Drop>(
+    ground: &Ground<'v>,
     task: Task<'v>,
-    root: Part<'v>,
     items: &'v Vec<Value>,
-    path: &mut Path<'v>,
-    found: &mut Found<'v>,
+    path: &mut Trail<'v>,
+    found: &mut Found<'v, V>,
 ) -> Result<(), AllocError>
     requires inside { All IsDocumentValue items.now.items }
     requires short { length items.now.items ≤ 16777216 }
-    ensures found { OnOk result (kept found.new
-        ≡ plus (kept found.old) (flat_map (done (part_value root.entry) task.entry)
-        (item_nodes (link_steps path.old.items) 0 (items_of (items_view items.now.items))))) }
-    ensures path { OnOk result (path.new.items ≡ path.old.items) }
+    ensures found { OnOk result (kept V.kept found.new
+        ≡ plus (put_found V.put) (kept V.kept found.old) (flat_map (done (part_value ground.now.root) task.entry)
+        (item_nodes (link_steps path.old) 0 (items_of (items_view items.now.items))))) }
+    ensures path { OnOk result (path.new ≡ path.old) }
 {
     for (index, value) in items.iter().enumerate() {
         if is_full(found) {
             return Ok(());
         }
         path.push(Link::Index(index as u32))?;
-        go(alloc, task, root, Part { value }, path, found)?;
+        go(ground, task, Part { value }, path, found)?;
         path.pop();
     }
     Ok(())
 }
 
 #[cycle(walk)]
-fn each_member<'v>(
-    alloc: Global,
+fn each_member<'v, V: Visit + Drop>(
+    ground: &Ground<'v>,
     task: Task<'v>,
-    root: Part<'v>,
     members: &'v Map<String, Value>,
-    path: &mut Path<'v>,
-    found: &mut Found<'v>,
+    path: &mut Trail<'v>,
+    found: &mut Found<'v, V>,
 ) -> Result<(), AllocError>
     requires { All (λ m. IsDocumentValue m.1) members.now.entries }
-    ensures found { OnOk result (kept found.new
-        ≡ plus (kept found.old) (flat_map (done (part_value root.entry) task.entry)
-        (member_nodes (link_steps path.old.items) (members_of (members_view members.now.entries))))) }
-    ensures path { OnOk result (path.new.items ≡ path.old.items) }
+    ensures found { OnOk result (kept V.kept found.new
+        ≡ plus (put_found V.put) (kept V.kept found.old) (flat_map (done (part_value ground.now.root) task.entry)
+        (member_nodes (link_steps path.old) (members_of (members_view members.now.entries))))) }
+    ensures path { OnOk result (path.new ≡ path.old) }
 {
     for (name, value) in members.iter() {
         if is_full(found) {
             return Ok(());
         }
         path.push(Link::Name(name.as_str()))?;
-        go(alloc, task, root, Part { value }, path, found)?;
+        go(ground, task, Part { value }, path, found)?;
         path.pop();
     }
     Ok(())
@@ -344,86 +342,79 @@ fn each_member<'v>(
 
 /// The value of the first node of a query.
 #[cycle(walk)]
-fn first<'v>(
-    alloc: Global,
+fn first<'v, V: Visit + Drop>(
+    ground: &Ground<'v>,
     query: &'v Query,
-    root: Part<'v>,
     value: Part<'v>,
-    path: &mut Path<'v>,
+    path: &mut Trail<'v>,
 ) -> Result<Option<Part<'v>>, AllocError>
     ensures value { IfOk result (λ o. option_map part_value o
-        ≡ first_value (spec.nodelist tests (part_value root.entry) (query_of query.now)
-        (here path.old.items value.entry))) }
-    ensures path { OnOk result (path.new.items ≡ path.old.items) }
+        ≡ first_value (spec.nodelist tests (part_value ground.now.root) (query_of query.now)
+        (here path.old value.entry))) }
+    ensures path { OnOk result (path.new ≡ path.old) }
 {
-    let mut found = Found::First(None);
-    find(alloc, query, root, value, path, &mut found)?;
-    Ok(found.first())
+    let mut found = Found::<'v, V>::First(None);
+    find(ground, query, value, path, &mut found)?;
+    Ok(into_first(found))
 }
 
-/// The values of the nodes that an argument hands over.
+/// The nodes that an argument hands over.
 #[cycle(walk)]
-fn nodes<'v>(
-    alloc: Global,
+fn hand_nodes<'v, V: Visit + Drop>(
+    ground: &Ground<'v>,
     argument: &'v Argument,
-    root: Part<'v>,
     value: Part<'v>,
-    path: &mut Path<'v>,
-) -> Result<Vec<Part<'v>>, AllocError>
-    ensures values { IfOk result (λ v. map part_value v.items
-        ≡ map (λ n. n.value) (as_nodes (spec.handed tests (part_value root.entry) (argument_of argument.now)
-        (here path.old.items value.entry)))) }
-    ensures path { OnOk result (path.new.items ≡ path.old.items) }
+    path: &mut Trail<'v>,
+    found: &mut Found<'v, V>,
+) -> Result<(), AllocError>
+    ensures found { OnOk result (kept V.kept found.new
+        ≡ plus (put_found V.put) (kept V.kept found.old) (as_nodes (spec.handed tests (part_value ground.now.root)
+        (argument_of argument.now) (here path.old value.entry)))) }
+    ensures path { OnOk result (path.new ≡ path.old) }
 {
     match argument {
-        Argument::Query(query) => {
-            let mut found = Found::Values(Vec::new(alloc));
-            find(alloc, query, root, value, path, &mut found)?;
-            Ok(found.values(alloc))
-        }
-        Argument::Literal(_) => Ok(Vec::new(alloc)),
-        Argument::Logical(_) => Ok(Vec::new(alloc)),
-        Argument::Call(_) => Ok(Vec::new(alloc)),
+        Argument::Query(query) => find(ground, query, value, path, found),
+        Argument::Literal(_) => Ok(()),
+        Argument::Logical(_) => Ok(()),
+        Argument::Call(_) => Ok(()),
     }
 }
 
 /// Whether the expression is true, where `@` is the value at the path.
 #[cycle(walk)]
-fn holds<'v>(
-    alloc: Global,
+fn holds<'v, V: Visit + Drop>(
+    ground: &Ground<'v>,
     test: &'v Logical,
-    root: Part<'v>,
     value: Part<'v>,
-    path: &mut Path<'v>,
+    path: &mut Trail<'v>,
 ) -> Result<bool, AllocError>
-    ensures truth { IfOk result (λ b. b ≡ is_true (part_value root.entry) test.now
-        (here path.old.items value.entry)) }
-    ensures path { OnOk result (path.new.items ≡ path.old.items) }
+    ensures truth { IfOk result (λ b. b ≡ is_true (part_value ground.now.root) test.now
+        (here path.old value.entry)) }
+    ensures path { OnOk result (path.new ≡ path.old) }
 {
     match test {
-        Logical::Any(parts) => any(alloc, parts.as_slice(), root, value, path),
-        Logical::All(parts) => all(alloc, parts.as_slice(), root, value, path),
-        Logical::Not(part) => Ok(!holds(alloc, part, root, value, path)?),
-        Logical::Compare(comparison) => compares(alloc, comparison, root, value, path),
-        Logical::Test(query) => Ok(first(alloc, query, root, value, path)?.is_some()),
-        Logical::Call(call) => Ok(as_truth(give(alloc, call, root, value, path)?)),
+        Logical::Any(parts) => any::<V>(ground, parts.as_slice(), value, path),
+        Logical::All(parts) => all::<V>(ground, parts.as_slice(), value, path),
+        Logical::Not(part) => Ok(!holds::<V>(ground, part, value, path)?),
+        Logical::Compare(comparison) => compares::<V>(ground, comparison, value, path),
+        Logical::Test(query) => Ok(first::<V>(ground, query, value, path)?.is_some()),
+        Logical::Call(call) => Ok(as_truth(give::<V>(ground, call, value, path)?)),
     }
 }
 
 #[cycle(walk)]
-fn any<'v>(
-    alloc: Global,
+fn any<'v, V: Visit + Drop>(
+    ground: &Ground<'v>,
     parts: &'v [Logical],
-    root: Part<'v>,
     value: Part<'v>,
-    path: &mut Path<'v>,
+    path: &mut Trail<'v>,
 ) -> Result<bool, AllocError>
     ensures truth { IfOk result (λ b. b ≡ list_any
-        (λ l. is_true (part_value root.entry) l (here path.old.items value.entry)) parts.now) }
-    ensures path { OnOk result (path.new.items ≡ path.old.items) }
+        (λ l. is_true (part_value ground.now.root) l (here path.old value.entry)) parts.now) }
+    ensures path { OnOk result (path.new ≡ path.old) }
 {
     for part in parts {
-        if holds(alloc, part, root, value, path)? {
+        if holds::<V>(ground, part, value, path)? {
             return Ok(true);
         }
     }
@@ -431,19 +422,18 @@ fn any<'v>(
 }
 
 #[cycle(walk)]
-fn all<'v>(
-    alloc: Global,
+fn all<'v, V: Visit + Drop>(
+    ground: &Ground<'v>,
     parts: &'v [Logical],
-    root: Part<'v>,
     value: Part<'v>,
-    path: &mut Path<'v>,
+    path: &mut Trail<'v>,
 ) -> Result<bool, AllocError>
     ensures truth { IfOk result (λ b. b ≡ list_all
-        (λ l. is_true (part_value root.entry) l (here path.old.items value.entry)) parts.now) }
-    ensures path { OnOk result (path.new.items ≡ path.old.items) }
+        (λ l. is_true (part_value ground.now.root) l (here path.old value.entry)) parts.now) }
+    ensures path { OnOk result (path.new ≡ path.old) }
 {
     for part in parts {
-        if !holds(alloc, part, root, value, path)? {
+        if !holds::<V>(ground, part, value, path)? {
             return Ok(false);
         }
     }
@@ -451,124 +441,121 @@ fn all<'v>(
 }
 
 #[cycle(walk)]
-fn compares<'v>(
-    alloc: Global,
+fn compares<'v, V: Visit + Drop>(
+    ground: &Ground<'v>,
     comparison: &'v Comparison,
-    root: Part<'v>,
     value: Part<'v>,
-    path: &mut Path<'v>,
+    path: &mut Trail<'v>,
 ) -> Result<bool, AllocError>
-    ensures truth { IfOk result (λ b. b ≡ spec.comparison_holds tests (part_value root.entry)
-        (comparison_of comparison.now) (here path.old.items value.entry)) }
-    ensures path { OnOk result (path.new.items ≡ path.old.items) }
+    ensures truth { IfOk result (λ b. b ≡ spec.comparison_holds tests (part_value ground.now.root)
+        (comparison_of comparison.now) (here path.old value.entry)) }
+    ensures path { OnOk result (path.new ≡ path.old) }
 {
-    let left = side(alloc, &comparison.left, root, value, path)?;
-    let right = side(alloc, &comparison.right, root, value, path)?;
+    let left = side::<V>(ground, &comparison.left, value, path)?;
+    let right = side::<V>(ground, &comparison.right, value, path)?;
     Ok(compare(comparison.op, left, right))
 }
 
 /// The value of a side of a comparison, or nothing.
 #[cycle(walk)]
-fn side<'v>(
-    alloc: Global,
+fn side<'v, V: Visit + Drop>(
+    ground: &Ground<'v>,
     side: &'v Comparable,
-    root: Part<'v>,
     value: Part<'v>,
-    path: &mut Path<'v>,
+    path: &mut Trail<'v>,
 ) -> Result<Operand<'v>, AllocError>
     ensures value { IfOk result (λ o. operand_value o
-        ≡ spec.value_of tests (part_value root.entry) (comparable_of side.now)
-        (here path.old.items value.entry)) }
+        ≡ spec.value_of tests (part_value ground.now.root) (comparable_of side.now)
+        (here path.old value.entry)) }
     ensures whole { IfOk result HasWholeNumbers }
-    ensures path { OnOk result (path.new.items ≡ path.old.items) }
+    ensures path { OnOk result (path.new ≡ path.old) }
 {
     match side {
         Comparable::Literal(constant) => literal(constant),
-        Comparable::Single(query) => Ok(operand(first(alloc, query, root, value, path)?)),
-        Comparable::Call(call) => Ok(as_value(give(alloc, call, root, value, path)?)),
+        Comparable::Single(query) => Ok(operand(first::<V>(ground, query, value, path)?)),
+        Comparable::Call(call) => Ok(as_value(give::<V>(ground, call, value, path)?)),
     }
 }
 
 /// What a call gives.
 #[cycle(walk)]
-fn give<'v>(
-    alloc: Global,
+fn give<'v, V: Visit + Drop>(
+    ground: &Ground<'v>,
     call: &'v Call,
-    root: Part<'v>,
     value: Part<'v>,
-    path: &mut Path<'v>,
+    path: &mut Trail<'v>,
 ) -> Result<Given<'v>, AllocError>
     ensures given { IfOk result (λ g. given_of g
-        ≡ spec.given_by tests (part_value root.entry) (call_of call.now) (here path.old.items value.entry)) }
+        ≡ spec.given_by tests (part_value ground.now.root) (call_of call.now) (here path.old value.entry)) }
     ensures whole { IfOk result GivesWholeNumbers }
-    ensures path { OnOk result (path.new.items ≡ path.old.items) }
+    ensures path { OnOk result (path.new ≡ path.old) }
 {
     let Some(function) = function_named(call.name.as_str()) else {
         return Ok(Given::Value(Operand::Nothing));
     };
     match call.arguments.as_slice() {
         [] => Ok(Given::Value(Operand::Nothing)),
-        [only] => give_of_one(alloc, function, only, root, value, path),
-        [text, pattern] => give_of_two(alloc, function, text, pattern, root, value, path),
+        [only] => give_of_one::<V>(ground, function, only, value, path),
+        [text, pattern] => give_of_two::<V>(ground, function, text, pattern, value, path),
         [_, _, _, ..] => Ok(Given::Value(Operand::Nothing)),
     }
 }
 
 #[cycle(walk)]
-fn give_of_one<'v>(
-    alloc: Global,
+fn give_of_one<'v, V: Visit + Drop>(
+    ground: &Ground<'v>,
     function: Function,
     argument: &'v Argument,
-    root: Part<'v>,
     value: Part<'v>,
-    path: &mut Path<'v>,
+    path: &mut Trail<'v>,
 ) -> Result<Given<'v>, AllocError>
     ensures given { IfOk result (λ g. given_of g
         ≡ called tests (function_of function)
-        (spec.handed tests (part_value root.entry) (argument_of argument.now)
-        (here path.old.items value.entry) ∷ [])) }
+        (spec.handed tests (part_value ground.now.root) (argument_of argument.now)
+        (here path.old value.entry) ∷ [])) }
     ensures whole { IfOk result GivesWholeNumbers }
-    ensures path { OnOk result (path.new.items ≡ path.old.items) }
+    ensures path { OnOk result (path.new ≡ path.old) }
 {
     match function {
         Function::Length => {
-            let handed = hand(alloc, argument, root, value, path)?;
+            let handed = hand::<V>(ground, argument, value, path)?;
             Ok(Given::Value(length(handed)))
         }
         Function::Count => {
-            let values = nodes(alloc, argument, root, value, path)?;
-            Ok(Given::Value(Operand::Whole(values.len() as i128)))
+            let mut found = Found::<'v, V>::Count(0);
+            hand_nodes(ground, argument, value, path, &mut found)?;
+            Ok(Given::Value(into_count(found)))
         }
         Function::Value => {
-            let values = nodes(alloc, argument, root, value, path)?;
-            Ok(Given::Value(only(values.as_slice())))
+            let mut found = Found::<'v, V>::Only(Alone::None);
+            hand_nodes(ground, argument, value, path, &mut found)?;
+            Ok(Given::Value(into_only(found)))
         }
         Function::Match | Function::Search => Ok(Given::Value(Operand::Nothing)),
     }
 }
 
 #[cycle(walk)]
-fn give_of_two<'v>(
-    alloc: Global,
+fn give_of_two<'v, V: Visit + Drop>(
+    ground: &Ground<'v>,
     function: Function,
     text: &'v Argument,
     pattern: &'v Argument,
-    root: Part<'v>,
     value: Part<'v>,
-    path: &mut Path<'v>,
+    path: &mut Trail<'v>,
 ) -> Result<Given<'v>, AllocError>
     ensures given { IfOk result (λ g. given_of g ≡ called tests (function_of function)
-        (spec.handed tests (part_value root.entry) (argument_of text.now) (here path.old.items value.entry)
-        ∷ spec.handed tests (part_value root.entry) (argument_of pattern.now)
-        (here path.old.items value.entry) ∷ [])) }
+        (spec.handed tests (part_value ground.now.root) (argument_of text.now) (here path.old value.entry)
+        ∷ spec.handed tests (part_value ground.now.root) (argument_of pattern.now)
+        (here path.old value.entry) ∷ [])) }
     ensures whole { IfOk result GivesWholeNumbers }
-    ensures path { OnOk result (path.new.items ≡ path.old.items) }
+    ensures path { OnOk result (path.new ≡ path.old) }
 {
-    let text = hand(alloc, text, root, value, path)?;
-    let pattern = hand(alloc, pattern, root, value, path)?;
+    let text = hand::<V>(ground, text, value, path)?;
+    let pattern = hand::<V>(ground, pattern, value, path)?;
     match function {
-        Function::Match => Ok(Given::Truth(matches(alloc, text, pattern)?)),
-        Function::Search => Ok(Given::Truth(searches(alloc, text, pattern)?)),
+        Function::Match => Ok(Given::Truth(matches(ground.alloc, ground.plan, text, pattern)?)),
+        Function::Search => Ok(Given::Truth(searches(ground.alloc, ground.plan, text, pattern)?)),
         Function::Length | Function::Count | Function::Value => {
             Ok(Given::Value(Operand::Nothing))
         }
@@ -577,23 +564,22 @@ fn give_of_two<'v>(
 
 /// The value that an argument hands over, or nothing.
 #[cycle(walk)]
-fn hand<'v>(
-    alloc: Global,
+fn hand<'v, V: Visit + Drop>(
+    ground: &Ground<'v>,
     argument: &'v Argument,
-    root: Part<'v>,
     value: Part<'v>,
-    path: &mut Path<'v>,
+    path: &mut Trail<'v>,
 ) -> Result<Operand<'v>, AllocError>
     ensures value { IfOk result (λ o. operand_value o
-        ≡ value_of_handed (spec.handed tests (part_value root.entry) (argument_of argument.now)
-        (here path.old.items value.entry))) }
+        ≡ value_of_handed (spec.handed tests (part_value ground.now.root) (argument_of argument.now)
+        (here path.old value.entry))) }
     ensures whole { IfOk result HasWholeNumbers }
-    ensures path { OnOk result (path.new.items ≡ path.old.items) }
+    ensures path { OnOk result (path.new ≡ path.old) }
 {
     match argument {
         Argument::Literal(constant) => literal(constant),
-        Argument::Query(query) => Ok(operand(first(alloc, query, root, value, path)?)),
+        Argument::Query(query) => Ok(operand(first::<V>(ground, query, value, path)?)),
         Argument::Logical(_) => Ok(Operand::Nothing),
-        Argument::Call(call) => Ok(as_value(give(alloc, call, root, value, path)?)),
+        Argument::Call(call) => Ok(as_value(give::<V>(ground, call, value, path)?)),
     }
 }

@@ -1,4 +1,4 @@
-use Rattle.std.proofs.Common.{◌≡◌, suc, ◌<◌, ◌≤◌, [], ◌∷◌, ◌++◌, length, get_or, map, not, true, false, inl, inr, is_some, w64, None, option_map, option_to_list, refl, sym, ap, ap₂, ◌∙◌, arith, rules}
+use Rattle.std.proofs.Common.{◌≡◌, suc, ◌<◌, ◌≤◌, [], ◌∷◌, ◌++◌, length, get_or, map, not, true, false, inl, inr, is_some, w64, Some, None, option_map, option_to_list, refl, sym, ap, ap₂, ◌∙◌, arith, rules}
 use Rattle.std.proofs.lemmas.Grind.{common_steps}
 use mir.Val.{SFits}
 use Rattle.std.proofs.lemmas.Int.{to_z-of_z}
@@ -17,10 +17,11 @@ use Rattle.jp_check.specs.Numbers.{whole_number}
 use Rattle.jp_syntax.specs.PartViews.{argument_of}
 use Rattle.jp_syntax.proofs.Views.{literal_argument_made, logical_argument_made, query_argument_made, call_argument_made}
 use Rattle.jp_eval.specs.BoundsView.{bounds_value, nearest}
-use Rattle.jp_eval.specs.Functions.{as_truth, as_value, as_nodes}
+use Rattle.jp_eval.specs.Functions.{as_truth, as_value, as_nodes, handed_value, number_value}
 use Rattle.jp_eval.specs.Given.{function_of}
-use Rattle.jp_eval.specs.Kept.{kept, kept_first, kept_values, plus, values}
-use Rattle.jp_eval.specs.Links.{here, link_steps}
+use Rattle.jp_eval.specs.Kept.{kept, put_found, plus, kept_first, kept_count, kept_only}
+use Rattle.jp_eval.specs.Links.{here}
+use Rattle.jp_trail.specs.Links.{link_steps}
 use Rattle.jp_eval.specs.Nodelist.{items_at, comparison_holds, handed, nodelist, written_value}
 use Rattle.jp_eval.specs.Nodes.{children, children_at, descendants, item_nodes, node_if_some}
 use Rattle.jp_eval.specs.Part.{part_value}
@@ -28,172 +29,148 @@ use Rattle.jp_eval.specs.Places.{item_count}
 use Rattle.jp_eval.specs.RightTests.{tests}
 use Rattle.jp_eval.specs.Walk.{picked, picked_by, reached, is_true, done}
 use Rattle.jp_eval.proofs.Chains.{reached-none, reached-end, reached-each, reached-filter, reached-plain, reached-deep}
-use Rattle.jp_eval.proofs.Inside.{array_depth, array_is_short, array_parts, array_value, object_depth, object_parts, object_value, part_is_short, null_value, bool_value, number_value, string_value}
-use Rattle.jp_eval.proofs.Keeping.{nothing_found}
-use Rattle.jp_eval.proofs.Parts.{picked_name, picked_wild, picked_index, picked_slice, picked_filter, true_any, true_all, true_not, true_compare, true_call, true_test, from_root, from_here, given_unknown, given_one, given_two, given_other, first_kept, values_kept, named, no_nodes, some_mapped}
+use Rattle.jp_eval.proofs.Inside.{part_is_short}
+use Rattle.jp_eval.proofs.Keeping.{plus-one, nothing_found, full_enough}
+use Rattle.jp_eval.proofs.Parts.{picked_name, picked_wild, picked_index, picked_slice, picked_filter, true_any, true_all, true_not, true_compare, true_call, true_test, from_root, from_here, given_unknown, given_one, given_two, given_other, first_kept, counted, only_kept, named, no_nodes, some_mapped}
 use Rattle.jp_eval.proofs.Places.{within_more, index_found, slice_found}
 use Rattle.jp_eval.proofs.TreeViews.{comparison_is}
-use Rattle.jp_eval.proofs.WalkSteps.{here_further, link_further, over, applied, descended, first_left, others_left, no_deeper, item_done, first_member_left, other_members_left, members_no_deeper, member_done, members_over, any_further, any_found, all_further, all_found, none_at, one_at, place_done, places_over}
-use Rattle.jp_eval.specs.declared.found.Found.TheVariants.{Values}
+use Rattle.jp_eval.proofs.WalkSteps.{back_up, here_further, link_further, over, applied, descended, first_left, others_left, no_deeper, item_done, first_member_left, other_members_left, members_no_deeper, member_done, members_over, any_further, any_found, all_further, all_found, none_at, one_at, place_done, places_over}
 use Rattle.jp_eval.proofs.walk.+walk.Goals as goal
 
 pub apply-loop-selector-preserved : goal.apply-loop-selector-preserved
-apply-loop-selector-preserved t c =
+apply-loop-selector-preserved g t c =
     let h : c.loop-selector.selector-index < length c.args.selectors.now = omega arith in
     rw c.in_ok-select.ensures.path
-    (c.loop-selector.invariant.0, applied (part_value c.args.root) c.args.selectors.now c.loop-selector.selector-index c.selector-item.result c.args.rest.now (here c.loop-selector.path.items c.args.value) _ _ _ _ h c.selector-item.is c.in_ok-select.ensures.found c.loop-selector.invariant.1)
+    (c.loop-selector.invariant.0, applied (put_found g.V.Visit.put) (part_value c.args.ground.now.root) c.args.selectors.now c.loop-selector.selector-index c.selector-item.result c.args.rest.now (here c.loop-selector.path c.args.value) _ _ _ _ h c.selector-item.is c.in_ok-select.ensures.found c.loop-selector.invariant.1)
 
 pub apply-returns-clause-found : goal.apply-returns-clause-found
-apply-returns-clause-found t c =
-    over (λ xs. reached (part_value c.args.root) c.args.rest.now (picked_by (part_value c.args.root) xs (here c.loop-selector.path.items c.args.value))) c.args.selectors.now c.loop-selector.selector-index _ _ _ (omega arith) (reached-none (part_value c.args.root) c.args.rest.now) c.loop-selector.invariant.1
+apply-returns-clause-found g t c =
+    over (put_found g.V.Visit.put) (λ xs. reached (part_value c.args.ground.now.root) c.args.rest.now (picked_by (part_value c.args.ground.now.root) xs (here c.loop-selector.path c.args.value))) c.args.selectors.now c.loop-selector.selector-index _ _ _ (omega arith) (reached-none (part_value c.args.ground.now.root) c.args.rest.now) c.loop-selector.invariant.1
 
 pub at_place-returns-in_default-clause-found : goal.at_place-returns-in_default-clause-found
-at_place-returns-in_default-clause-found t c =
-    nothing_found _ _ (ap (λ o. reached (part_value c.args.root) c.args.rest.now (items_at (here c.args.path.now.items c.args.value) (option_to_list o))) c.in_default.is ∙ reached-none (part_value c.args.root) c.args.rest.now)
+at_place-returns-in_default-clause-found g t c =
+    nothing_found (put_found g.V.Visit.put) _ _ (ap (λ o. reached (part_value c.args.ground.now.root) c.args.rest.now (items_at (here c.args.path.now c.args.value) (option_to_list o))) c.in_default.is ∙ reached-none (part_value c.args.ground.now.root) c.args.rest.now)
 
 pub at_place-returns-in_default-item-clause-found : goal.at_place-returns-in_default-item-clause-found
-at_place-returns-in_default-item-clause-found t c =
-    nothing_found _ _ (ap (reached (part_value c.args.root) c.args.rest.now) (none_at (here c.args.path.now.items c.args.value) c.args.place c.in-Some.place c.in-Some.is c.in_default-item.ensures.value) ∙ reached-none (part_value c.args.root) c.args.rest.now)
+at_place-returns-in_default-item-clause-found g t c =
+    nothing_found (put_found g.V.Visit.put) _ _ (ap (reached (part_value c.args.ground.now.root) c.args.rest.now) (none_at (here c.args.path.now c.args.value) c.args.place c.in-Some.place c.in-Some.is c.in_default-item.ensures.value) ∙ reached-none (part_value c.args.ground.now.root) c.args.rest.now)
 
 pub at_place-returns-in_ok-run-clause-found : goal.at_place-returns-in_ok-run-clause-found
-at_place-returns-in_ok-run-clause-found t c =
+at_place-returns-in_ok-run-clause-found g t c =
     c.in_ok-run.ensures.found
-    ∙ ap (λ ns. plus (kept c.args.found.now) (reached (part_value c.args.root) c.args.rest.now ns))
-    (ap (λ n. n ∷ []) (here_further c.args.path.now.items c.push.new.self.items _ c.in-Some-item.child c.in_ok-push.ensures.ok)
-    ∙ sym (one_at (here c.args.path.now.items c.args.value) c.args.place c.in-Some.place _ c.in-Some.is c.in-Some-item.ensures.value))
+    ∙ ap (λ ns. plus (put_found g.V.Visit.put) (kept g.V.Visit.kept c.args.found.now) (reached (part_value c.args.ground.now.root) c.args.rest.now ns))
+    (ap (λ n. n ∷ []) (here_further c.args.path.now c.push.new.self _ c.in-Some-item.child c.in_ok-push.ensures.ok)
+    ∙ sym (one_at (here c.args.path.now c.args.value) c.args.place c.in-Some.place _ c.in-Some.is c.in-Some-item.ensures.value))
 
 pub compares-returns-clause-truth : goal.compares-returns-clause-truth
-compares-returns-clause-truth t c =
+compares-returns-clause-truth g t c =
     let right = rw c.in_ok-left.ensures.path at c.in_ok-right.ensures.value in
-    c.compare.ensures ∙ ap₂ (compared c.args.comparison.now.op) c.in_ok-left.ensures.value right ∙ sym (ap (λ x. comparison_holds tests (part_value c.args.root) x (here c.args.path.now.items c.args.value)) (comparison_is c.args.comparison.now))
+    c.compare.ensures ∙ ap₂ (compared c.args.comparison.now.op) c.in_ok-left.ensures.value right ∙ sym (ap (λ x. comparison_holds tests (part_value c.args.ground.now.root) x (here c.args.path.now c.args.value)) (comparison_is c.args.comparison.now))
 
 pub descend-returns-clause-found : goal.descend-returns-clause-found
-descend-returns-clause-found t c =
-    on_ok_weaker c.each_child.result (λ e. descended (part_value c.args.root) c.args.selectors.now c.args.rest.now (here c.args.path.now.items c.args.value) _ _ _ c.in_ok-apply.ensures.found (rw c.in_ok-apply.ensures.path at e)) c.each_child.ensures.found
-
-pub each_child-each_item-requires : goal.each_child-each_item-requires
-each_child-each_item-requires t c =
-    let deeper : depth (view c.args.value.value.now) ≡ suc (items_depth (items_view c.in-Array.items.items)) = array_depth c.args.value.value.now c.in-Array.items c.in-Array.is in (
-      search rules,
-      (
-        array_parts c.args.value.value.now c.in-Array.items c.in-Array.is c.args.value.kept,
-        array_is_short c.args.value.value.now c.in-Array.items c.in-Array.is c.args.value.kept,
-      ),
-    )
-
-pub each_child-each_member-requires : goal.each_child-each_member-requires
-each_child-each_member-requires t c =
-    let deeper : depth (view c.args.value.value.now) ≡ suc (members_depth (members_view c.in-Object.members.entries)) = object_depth c.args.value.value.now c.in-Object.members c.in-Object.is in
-    (search rules, object_parts c.args.value.value.now c.in-Object.members c.in-Object.is c.args.value.kept)
-
-pub each_child-returns-in-Array-clause-found : goal.each_child-returns-in-Array-clause-found
-each_child-returns-in-Array-clause-found t c =
-    on_ok_weaker c.each_item.result (λ e. e ∙ ap (λ v. plus (kept c.args.found.now) (flat_map (done (part_value c.args.root) c.args.task) (children_at (link_steps c.args.path.now.items) v))) (sym (array_value c.args.value.value.now c.in-Array.items c.in-Array.is))) c.each_item.ensures.found
-
-pub each_child-returns-in-Object-clause-found : goal.each_child-returns-in-Object-clause-found
-each_child-returns-in-Object-clause-found t c =
-    on_ok_weaker c.each_member.result (λ e. e ∙ ap (λ v. plus (kept c.args.found.now) (flat_map (done (part_value c.args.root) c.args.task) (children_at (link_steps c.args.path.now.items) v))) (sym (object_value c.args.value.value.now c.in-Object.members c.in-Object.is))) c.each_member.ensures.found
+descend-returns-clause-found g t c =
+    on_ok_weaker c.each_child.result (λ e. descended (put_found g.V.Visit.put) (part_value c.args.ground.now.root) c.args.selectors.now c.args.rest.now (here c.args.path.now c.args.value) _ _ _ c.in_ok-apply.ensures.found (rw c.in_ok-apply.ensures.path at e)) c.each_child.ensures.found
 
 pub each_item-returns-then-is_full-clause-found : goal.each_item-returns-then-is_full-clause-found
-each_item-returns-then-is_full-clause-found t c =
-    sym (c.is_full.ensures c.if-is_full.true _) ∙ c.loop-index.invariant.3
+each_item-returns-then-is_full-clause-found g t c =
+    full_enough (put_found g.V.Visit.put) _ _ _ _ (c.is_full.ensures c.if-is_full.true) c.loop-index.invariant.3
 
 pub each_item-invariant_of-go : goal.each_item-invariant_of-go
-each_item-invariant_of-go t c =
+each_item-invariant_of-go g t c =
     let h : c.loop-index.index < length c.args.items.now.items = search rules in
     record { kept = first_left IsDocumentValue c.args.items.now.items c.loop-index.index c.value-item.result h (c.value-item.is ∙ ap (λ l. get_or l c.loop-index.index c.value-item.result) c.deref-value-items.ensures.value) c.loop-index.invariant.1 }
 
 pub each_item-loop-index-preserved : goal.each_item-loop-index-preserved
-each_item-loop-index-preserved t c =
+each_item-loop-index-preserved g t c =
     let xs = c.args.items.now.items in
     let i = c.loop-index.index in
     let h : i < length xs = search rules in
-    let p : c.pop.new.self.items ≡ c.loop-index.path.items = grind (arith, common_steps) in
+    let p : c.pop.new.self ≡ c.loop-index.path = back_up _ _ _ _ _ c.in_ok-push.ensures.ok c.in_ok-go.ensures.path c.pop.ensures in
     let d = no_deeper xs i in
     rw p (
       c.loop-index.invariant.0,
       others_left IsDocumentValue xs i c.loop-index.invariant.1,
       omega (arith, c.loop-index.invariant.2),
-      item_done (done (part_value c.args.root) c.args.task) (link_steps c.loop-index.path.items) xs i c.value-item.result _ _ _ _ h (c.value-item.is ∙ ap (λ l. get_or l i c.value-item.result) c.deref-value-items.ensures.value)
-          (c.in_ok-go.ensures.found ∙ ap (λ s. plus (kept c.loop-index.found) (done (part_value c.args.root) c.args.task (node s (value_of c.value-item.result)))) (link_further c.loop-index.path.items c.push.new.self.items _ c.in_ok-push.ensures.ok)) c.loop-index.invariant.3,
+      item_done (put_found g.V.Visit.put) (done (part_value c.args.ground.now.root) c.args.task) (link_steps c.loop-index.path) xs i c.value-item.result _ _ _ _ h (c.value-item.is ∙ ap (λ l. get_or l i c.value-item.result) c.deref-value-items.ensures.value)
+          (c.in_ok-go.ensures.found ∙ ap (λ s. plus (put_found g.V.Visit.put) (kept g.V.Visit.kept c.loop-index.found) (done (part_value c.args.ground.now.root) c.args.task (node s (value_of c.value-item.result)))) (link_further c.loop-index.path c.push.new.self _ c.in_ok-push.ensures.ok)) c.loop-index.invariant.3,
     )
 
 pub each_item-returns-clause-found : goal.each_item-returns-clause-found
-each_item-returns-clause-found t c =
+each_item-returns-clause-found g t c =
     let h : length c.args.items.now.items ≤ c.loop-index.index = search rules in
-    over (λ xs. flat_map (done (part_value c.args.root) c.args.task) (item_nodes (link_steps c.loop-index.path.items) c.loop-index.index (items_of (items_view xs)))) c.args.items.now.items c.loop-index.index _ _ _ h refl c.loop-index.invariant.3
+    over (put_found g.V.Visit.put) (λ xs. flat_map (done (part_value c.args.ground.now.root) c.args.task) (item_nodes (link_steps c.loop-index.path) c.loop-index.index (items_of (items_view xs)))) c.args.items.now.items c.loop-index.index _ _ _ h refl c.loop-index.invariant.3
 
 pub each_member-invariant_of-go : goal.each_member-invariant_of-go
-each_member-invariant_of-go t c =
+each_member-invariant_of-go g t c =
     let e : c.loop-name.name-iterator ≡ (c.in-Some.name.now, c.in-Some.value.now) ∷ c.next.new.self = search rules in
     record { kept = first_member_left IsDocumentValue c.loop-name.name-iterator c.next.new.self (c.in-Some.name.now, c.in-Some.value.now) e c.loop-name.invariant.1 }
 
 pub each_member-loop-name-preserved : goal.each_member-loop-name-preserved
-each_member-loop-name-preserved t c =
+each_member-loop-name-preserved g t c =
     let e : c.loop-name.name-iterator ≡ (c.in-Some.name.now, c.in-Some.value.now) ∷ c.next.new.self = search rules in
-    let p : c.pop.new.self.items ≡ c.loop-name.path.items = grind (arith, common_steps) in
+    let p : c.pop.new.self ≡ c.loop-name.path = back_up _ _ _ _ _ c.in_ok-push.ensures.ok c.in_ok-go.ensures.path c.pop.ensures in
     let d = members_no_deeper c.loop-name.name-iterator c.next.new.self (c.in-Some.name.now, c.in-Some.value.now) e in
     rw p (
       c.loop-name.invariant.0,
       other_members_left IsDocumentValue c.loop-name.name-iterator c.next.new.self (c.in-Some.name.now, c.in-Some.value.now) e c.loop-name.invariant.1,
       omega (arith, c.loop-name.invariant.2),
-      member_done (done (part_value c.args.root) c.args.task) (link_steps c.loop-name.path.items) c.loop-name.name-iterator c.next.new.self (c.in-Some.name.now, c.in-Some.value.now) _ _ _ _ e
-          (c.in_ok-go.ensures.found ∙ ap (λ s. plus (kept c.loop-name.found) (done (part_value c.args.root) c.args.task (node s (value_of c.in-Some.value.now))))
-          (link_further c.loop-name.path.items c.push.new.self.items _ c.in_ok-push.ensures.ok ∙ ap (λ k. link_steps c.loop-name.path.items ++ name (chars k) ∷ []) c.as_str.ensures.value)) c.loop-name.invariant.3,
+      member_done (put_found g.V.Visit.put) (done (part_value c.args.ground.now.root) c.args.task) (link_steps c.loop-name.path) c.loop-name.name-iterator c.next.new.self (c.in-Some.name.now, c.in-Some.value.now) _ _ _ _ e
+          (c.in_ok-go.ensures.found ∙ ap (λ s. plus (put_found g.V.Visit.put) (kept g.V.Visit.kept c.loop-name.found) (done (part_value c.args.ground.now.root) c.args.task (node s (value_of c.in-Some.value.now))))
+          (link_further c.loop-name.path c.push.new.self _ c.in_ok-push.ensures.ok ∙ ap (λ k. link_steps c.loop-name.path ++ name (chars k) ∷ []) c.as_str.ensures.value)) c.loop-name.invariant.3,
     )
 
 pub each_member-returns-clause-found : goal.each_member-returns-clause-found
-each_member-returns-clause-found t c =
+each_member-returns-clause-found g t c =
     let e : c.loop-name.name-iterator ≡ [] = search rules in
-    members_over (done (part_value c.args.root) c.args.task) (link_steps c.loop-name.path.items) c.loop-name.name-iterator _ _ _ e c.loop-name.invariant.3
+    members_over (put_found g.V.Visit.put) (done (part_value c.args.ground.now.root) c.args.task) (link_steps c.loop-name.path) c.loop-name.name-iterator _ _ _ e c.loop-name.invariant.3
 
 pub each_place-first_place-next-requires : goal.each_place-first_place-next-requires
-each_place-first_place-next-requires t c = within_more _ _ _ (part_is_short c.args.value) c.requires
+each_place-first_place-next-requires g t c = within_more _ _ _ (part_is_short c.args.value) c.requires
 
 pub each_place-loop-next-smaller : goal.each_place-loop-next-smaller
-each_place-loop-next-smaller t c =
+each_place-loop-next-smaller g t c =
     let e = c.place_after-next.ensures.indexes _ c.requires in
     rw (c.in-Some.is, e) (omega arith)
 
 pub each_place-loop-next-preserved : goal.each_place-loop-next-preserved
-each_place-loop-next-preserved t c =
+each_place-loop-next-preserved g t c =
     rw c.in_ok-at_place.ensures.path
-    (c.loop-next.invariant.0, c.place_after-next.ensures.place, place_done (part_value c.args.root) c.args.rest.now (here c.loop-next.path.items c.args.value) (bounds_value c.args.bounds) (item_count (part_value c.args.value)) c.loop-next.next c.place_after-next.result c.in-Some.place _ _ _ _ c.in-Some.is (c.place_after-next.ensures.indexes _ c.requires) c.in_ok-at_place.ensures.found c.loop-next.invariant.2)
+    (c.loop-next.invariant.0, c.place_after-next.ensures.place, place_done (put_found g.V.Visit.put) (part_value c.args.ground.now.root) c.args.rest.now (here c.loop-next.path c.args.value) (bounds_value c.args.bounds) (item_count (part_value c.args.value)) c.loop-next.next c.place_after-next.result c.in-Some.place _ _ _ _ c.in-Some.is (c.place_after-next.ensures.indexes _ c.requires) c.in_ok-at_place.ensures.found c.loop-next.invariant.2)
 
 pub each_place-returns-clause-found : goal.each_place-returns-clause-found
-each_place-returns-clause-found t c =
-    places_over (part_value c.args.root) c.args.rest.now (here c.loop-next.path.items c.args.value) (bounds_value c.args.bounds) (item_count (part_value c.args.value)) c.loop-next.next _ _ _ c.in_default.is c.loop-next.invariant.2
+each_place-returns-clause-found g t c =
+    places_over (put_found g.V.Visit.put) (part_value c.args.ground.now.root) c.args.rest.now (here c.loop-next.path c.args.value) (bounds_value c.args.bounds) (item_count (part_value c.args.value)) c.loop-next.next _ _ _ c.in_default.is c.loop-next.invariant.2
 
 pub find-returns-in-Root-clause-found : goal.find-returns-in-Root-clause-found
-find-returns-in-Root-clause-found t c =
-    on_ok_weaker c.run.result (λ e. e ∙ ap (plus (kept c.args.found.now)) (from_root (part_value c.args.root) (here c.args.path.now.items c.args.value) c.args.query.now c.as_slice-segments.result.now c.args.root c.new-start.result.items c.in-Root.is c.as_slice-segments.ensures.value c.new-start.ensures.items refl)) c.run.ensures.found
+find-returns-in-Root-clause-found g t c =
+    on_ok_weaker c.run.result (λ e. e ∙ ap (plus (put_found g.V.Visit.put) (kept g.V.Visit.kept c.args.found.now)) (from_root (part_value c.args.ground.now.root) (here c.args.path.now c.args.value) c.args.query.now c.as_slice-segments.result.now c.args.ground.now.root c.new-start.result c.in-Root.is c.as_slice-segments.ensures.value c.new-start.ensures refl)) c.run.ensures.found
 
 pub find-returns-in-Current-clause-found : goal.find-returns-in-Current-clause-found
-find-returns-in-Current-clause-found t c =
-    on_ok_weaker c.run-in-Current.result (λ e. e ∙ ap (plus (kept c.args.found.now)) (from_here (part_value c.args.root) (here c.args.path.now.items c.args.value) c.args.query.now c.as_slice-segments.result.now c.in-Current.is c.as_slice-segments.ensures.value)) c.run-in-Current.ensures.found
+find-returns-in-Current-clause-found g t c =
+    on_ok_weaker c.run-in-Current.result (λ e. e ∙ ap (plus (put_found g.V.Visit.put) (kept g.V.Visit.kept c.args.found.now)) (from_here (part_value c.args.ground.now.root) (here c.args.path.now c.args.value) c.args.query.now c.as_slice-segments.result.now c.in-Current.is c.as_slice-segments.ensures.value)) c.run-in-Current.ensures.found
 
 pub first-returns-clause-value : goal.first-returns-clause-value
-first-returns-clause-value t c = c.first.ensures ∙ ap kept_first c.in_ok-find.ensures.found ∙ first_kept _
+first-returns-clause-value g t c = c.into_first.ensures ∙ ap kept_first c.in_ok-find.ensures.found ∙ first_kept g.V.Visit.put _
 
 pub give-returns-in_default-clause-given : goal.give-returns-in_default-clause-given
-give-returns-in_default-clause-given t c =
-    sym (given_unknown (part_value c.args.root) (here c.args.path.now.items c.args.value) c.args.call.now (named c.args.call.now c.as_str.result.now c.as_str.ensures.value (sym (ap (option_map function_of) (sym c.in_default.is) ∙ c.function_named.ensures))))
+give-returns-in_default-clause-given g t c =
+    sym (given_unknown (part_value c.args.ground.now.root) (here c.args.path.now c.args.value) c.args.call.now (named c.args.call.now c.as_str.result.now c.as_str.ensures.value (sym (ap (option_map function_of) (sym c.in_default.is) ∙ c.function_named.ensures))))
 
 pub give-returns-in-len1-clause-given : goal.give-returns-in-len1-clause-given
-give-returns-in-len1-clause-given t c =
+give-returns-in-len1-clause-given g t c =
     let known = named c.args.call.now c.as_str.result.now c.as_str.ensures.value (sym (ap (option_map function_of) (sym c.in-Some.is) ∙ c.function_named.ensures)) in
-    IfOk-weaker c.give_of_one.result _ _ (λ g e. e ∙ sym (given_one (part_value c.args.root) (here c.args.path.now.items c.args.value) c.args.call.now c.as_slice.result.now _ _ c.as_slice.ensures.value (omega (arith, c.in-len1.len_at_least, c.in-len1.len_below)) c.only-item.is known)) c.give_of_one.ensures.given
+    IfOk-weaker c.give_of_one.result _ _ (λ g e. e ∙ sym (given_one (part_value c.args.ground.now.root) (here c.args.path.now c.args.value) c.args.call.now c.as_slice.result.now _ _ c.as_slice.ensures.value (omega (arith, c.in-len1.len_at_least, c.in-len1.len_below)) c.only-item.is known)) c.give_of_one.ensures.given
 
 pub give-returns-in-len2-clause-given : goal.give-returns-in-len2-clause-given
-give-returns-in-len2-clause-given t c =
+give-returns-in-len2-clause-given g t c =
     let known = named c.args.call.now c.as_str.result.now c.as_str.ensures.value (sym (ap (option_map function_of) (sym c.in-Some.is) ∙ c.function_named.ensures)) in
-    IfOk-weaker c.give_of_two.result _ _ (λ g e. e ∙ sym (given_two (part_value c.args.root) (here c.args.path.now.items c.args.value) c.args.call.now c.as_slice.result.now _ _ _ c.as_slice.ensures.value (omega (arith, c.in-len2.len_at_least, c.in-len2.len_below)) c.text-item.is c.pattern-item.is known)) c.give_of_two.ensures.given
+    IfOk-weaker c.give_of_two.result _ _ (λ g e. e ∙ sym (given_two (part_value c.args.ground.now.root) (here c.args.path.now c.args.value) c.args.call.now c.as_slice.result.now _ _ _ c.as_slice.ensures.value (omega (arith, c.in-len2.len_at_least, c.in-len2.len_below)) c.text-item.is c.pattern-item.is known)) c.give_of_two.ensures.given
 
 pub give_of_one-returns-in-Match-clause-given : goal.give_of_one-returns-in-Match-clause-given
-give_of_one-returns-in-Match-clause-given t c = elim c.in-Match.is [ inl e ↦ rw e refl | inr e ↦ rw e refl ]
+give_of_one-returns-in-Match-clause-given g t c = elim c.in-Match.is [ inl e ↦ rw e refl | inr e ↦ rw e refl ]
 
 pub give_of_two-returns-in-Length : goal.give_of_two-returns-in-Length
-give_of_two-returns-in-Length t c =
+give_of_two-returns-in-Length g t c =
     record {
       given = elim c.in-Length.is [ inl e ↦ rw e refl | inr f ↦ elim f [ inl e ↦ rw e refl | inr e ↦ rw e refl ] ];
       whole = tt;
@@ -201,185 +178,199 @@ give_of_two-returns-in-Length t c =
     }
 
 pub go-returns-in-Run-clause-found : goal.go-returns-in-Run-clause-found
-go-returns-in-Run-clause-found t c = rw c.in-Run.is c.run.ensures.found
+go-returns-in-Run-clause-found g t c = rw c.in-Run.is c.run.ensures.found
 
 pub go-returns-in-Descend-clause-found : goal.go-returns-in-Descend-clause-found
-go-returns-in-Descend-clause-found t c = rw c.in-Descend.is c.descend.ensures.found
+go-returns-in-Descend-clause-found g t c = rw c.in-Descend.is c.descend.ensures.found
 
 pub go-returns-in_ok-run-in-Test-clause-found : goal.go-returns-in_ok-run-in-Test-clause-found
-go-returns-in_ok-run-in-Test-clause-found t c =
-    let n = here c.args.path.now.items c.args.value in
-    let truth : is_true (part_value c.args.root) c.in-Test.test.now n ≡ true = sym c.in_ok-holds-in-Test.ensures.truth ∙ c.if-branch.true in
+go-returns-in_ok-run-in-Test-clause-found g t c =
+    let n = here c.args.path.now c.args.value in
+    let truth : is_true (part_value c.args.ground.now.root) c.in-Test.test.now n ≡ true = sym c.in_ok-holds-in-Test.ensures.truth ∙ c.if-branch.true in
     rw (c.in-Test.is, truth) (rw c.in_ok-holds-in-Test.ensures.path at c.in_ok-run-in-Test.ensures.found)
 
 pub go-returns-else-branch-clause-found : goal.go-returns-else-branch-clause-found
-go-returns-else-branch-clause-found t c =
-    let n = here c.args.path.now.items c.args.value in
-    let truth : is_true (part_value c.args.root) c.in-Test.test.now n ≡ false = sym c.in_ok-holds-in-Test.ensures.truth ∙ c.if-branch.false in
-    rw (c.in-Test.is, truth) (nothing_found _ _ (reached-none (part_value c.args.root) c.in-Test.rest.now))
+go-returns-else-branch-clause-found g t c =
+    let n = here c.args.path.now c.args.value in
+    let truth : is_true (part_value c.args.ground.now.root) c.in-Test.test.now n ≡ false = sym c.in_ok-holds-in-Test.ensures.truth ∙ c.if-branch.false in
+    rw (c.in-Test.is, truth) (nothing_found (put_found g.V.Visit.put) _ _ (reached-none (part_value c.args.ground.now.root) c.in-Test.rest.now))
 
 pub hand-returns-in-Literal-clause-value : goal.hand-returns-in-Literal-clause-value
-hand-returns-in-Literal-clause-value t c =
-    IfOk-weaker c.literal.result _ _ (λ o e. e ∙ sym (ap (λ a. as_value (handed tests (part_value c.args.root) (argument_of a) (here c.args.path.now.items c.args.value))) c.in-Literal.is ∙ ap (λ a. as_value (handed tests (part_value c.args.root) a (here c.args.path.now.items c.args.value))) (literal_argument_made c.in-Literal.constant))) c.literal.ensures.value
+hand-returns-in-Literal-clause-value g t c =
+    IfOk-weaker c.literal.result _ _ (λ o e. e ∙ sym (ap (λ a. as_value (handed tests (part_value c.args.ground.now.root) (argument_of a) (here c.args.path.now c.args.value))) c.in-Literal.is ∙ ap (λ a. as_value (handed tests (part_value c.args.ground.now.root) a (here c.args.path.now c.args.value))) (literal_argument_made c.in-Literal.constant))) c.literal.ensures.value
 
 pub hand-returns-in-Logical-clause-value : goal.hand-returns-in-Logical-clause-value
-hand-returns-in-Logical-clause-value t c =
-    sym (ap (λ a. as_value (handed tests (part_value c.args.root) (argument_of a) (here c.args.path.now.items c.args.value))) c.in-Logical.is ∙ ap (λ a. as_value (handed tests (part_value c.args.root) a (here c.args.path.now.items c.args.value))) (logical_argument_made c.in-Logical.field-0))
+hand-returns-in-Logical-clause-value g t c =
+    sym (ap (λ a. as_value (handed tests (part_value c.args.ground.now.root) (argument_of a) (here c.args.path.now c.args.value))) c.in-Logical.is ∙ ap (λ a. as_value (handed tests (part_value c.args.ground.now.root) a (here c.args.path.now c.args.value))) (logical_argument_made c.in-Logical.field-0))
 
 pub holds-returns-in-Any-clause-truth : goal.holds-returns-in-Any-clause-truth
-holds-returns-in-Any-clause-truth t c =
-    IfOk-weaker c.any.result _ _ (λ b e. e ∙ ap (list_any (λ l. is_true (part_value c.args.root) l (here c.args.path.now.items c.args.value))) c.as_slice.ensures.value ∙ sym (ap (λ l. is_true (part_value c.args.root) l (here c.args.path.now.items c.args.value)) c.in-Any.is ∙ true_any (part_value c.args.root) (here c.args.path.now.items c.args.value) c.in-Any.parts)) c.any.ensures.truth
+holds-returns-in-Any-clause-truth g t c =
+    IfOk-weaker c.any.result _ _ (λ b e. e ∙ ap (list_any (λ l. is_true (part_value c.args.ground.now.root) l (here c.args.path.now c.args.value))) c.as_slice.ensures.value ∙ sym (ap (λ l. is_true (part_value c.args.ground.now.root) l (here c.args.path.now c.args.value)) c.in-Any.is ∙ true_any (part_value c.args.ground.now.root) (here c.args.path.now c.args.value) c.in-Any.parts)) c.any.ensures.truth
 
 pub holds-returns-in-All-clause-truth : goal.holds-returns-in-All-clause-truth
-holds-returns-in-All-clause-truth t c =
-    IfOk-weaker c.all.result _ _ (λ b e. e ∙ ap (list_all (λ l. is_true (part_value c.args.root) l (here c.args.path.now.items c.args.value))) c.as_slice-in-All.ensures.value ∙ sym (ap (λ l. is_true (part_value c.args.root) l (here c.args.path.now.items c.args.value)) c.in-All.is ∙ true_all (part_value c.args.root) (here c.args.path.now.items c.args.value) c.in-All.parts)) c.all.ensures.truth
+holds-returns-in-All-clause-truth g t c =
+    IfOk-weaker c.all.result _ _ (λ b e. e ∙ ap (list_all (λ l. is_true (part_value c.args.ground.now.root) l (here c.args.path.now c.args.value))) c.as_slice-in-All.ensures.value ∙ sym (ap (λ l. is_true (part_value c.args.ground.now.root) l (here c.args.path.now c.args.value)) c.in-All.is ∙ true_all (part_value c.args.ground.now.root) (here c.args.path.now c.args.value) c.in-All.parts)) c.all.ensures.truth
 
 pub holds-returns-in-Compare-clause-truth : goal.holds-returns-in-Compare-clause-truth
-holds-returns-in-Compare-clause-truth t c =
-    IfOk-weaker c.compares.result _ _ (λ b e. e ∙ sym (ap (λ l. is_true (part_value c.args.root) l (here c.args.path.now.items c.args.value)) c.in-Compare.is ∙ true_compare (part_value c.args.root) (here c.args.path.now.items c.args.value) c.in-Compare.comparison)) c.compares.ensures.truth
+holds-returns-in-Compare-clause-truth g t c =
+    IfOk-weaker c.compares.result _ _ (λ b e. e ∙ sym (ap (λ l. is_true (part_value c.args.ground.now.root) l (here c.args.path.now c.args.value)) c.in-Compare.is ∙ true_compare (part_value c.args.ground.now.root) (here c.args.path.now c.args.value) c.in-Compare.comparison)) c.compares.ensures.truth
 
 pub holds-returns-in_ok-holds-in-Not-clause-truth : goal.holds-returns-in_ok-holds-in-Not-clause-truth
-holds-returns-in_ok-holds-in-Not-clause-truth t c =
-    ap not (c.in_ok-holds-in-Not.ensures.truth ∙ ap (λ l. is_true (part_value c.args.root) l (here c.args.path.now.items c.args.value)) c.deref.ensures) ∙ sym (ap (λ l. is_true (part_value c.args.root) l (here c.args.path.now.items c.args.value)) c.in-Not.is ∙ true_not (part_value c.args.root) (here c.args.path.now.items c.args.value) c.in-Not.part)
+holds-returns-in_ok-holds-in-Not-clause-truth g t c =
+    ap not (c.in_ok-holds-in-Not.ensures.truth ∙ ap (λ l. is_true (part_value c.args.ground.now.root) l (here c.args.path.now c.args.value)) c.deref.ensures) ∙ sym (ap (λ l. is_true (part_value c.args.ground.now.root) l (here c.args.path.now c.args.value)) c.in-Not.is ∙ true_not (part_value c.args.ground.now.root) (here c.args.path.now c.args.value) c.in-Not.part)
 
 pub holds-returns-in_ok-first-in-Test-clause-truth : goal.holds-returns-in_ok-first-in-Test-clause-truth
-holds-returns-in_ok-first-in-Test-clause-truth t c =
-    c.is_some.ensures ∙ sym (some_mapped part_value c.in_ok-first-in-Test.field-0) ∙ ap is_some c.in_ok-first-in-Test.ensures.value ∙ sym (ap (λ l. is_true (part_value c.args.root) l (here c.args.path.now.items c.args.value)) c.in-Test.is ∙ true_test (part_value c.args.root) (here c.args.path.now.items c.args.value) c.in-Test.query)
+holds-returns-in_ok-first-in-Test-clause-truth g t c =
+    c.is_some.ensures ∙ sym (some_mapped part_value c.in_ok-first-in-Test.field-0) ∙ ap is_some c.in_ok-first-in-Test.ensures.value ∙ sym (ap (λ l. is_true (part_value c.args.ground.now.root) l (here c.args.path.now c.args.value)) c.in-Test.is ∙ true_test (part_value c.args.ground.now.root) (here c.args.path.now c.args.value) c.in-Test.query)
 
 pub holds-returns-in_ok-give-in-Call-clause-truth : goal.holds-returns-in_ok-give-in-Call-clause-truth
-holds-returns-in_ok-give-in-Call-clause-truth t c =
-    c.as_truth.ensures ∙ ap as_truth c.in_ok-give-in-Call.ensures.given ∙ sym (ap (λ l. is_true (part_value c.args.root) l (here c.args.path.now.items c.args.value)) c.in-Call.is ∙ true_call (part_value c.args.root) (here c.args.path.now.items c.args.value) c.in-Call.call)
-
-pub nodes-returns-in_ok-find-in-Query-clause-values : goal.nodes-returns-in_ok-find-in-Query-clause-values
-nodes-returns-in_ok-find-in-Query-clause-values t c =
-    let empty : kept (Values c.new.result) ≡ values [] = ap (λ xs. values (map part_value xs)) c.new.ensures.items in
-    c.values.ensures ∙ ap kept_values (c.in_ok-find-in-Query.ensures.found ∙ ap (λ k. plus k (nodelist tests (part_value c.args.root) (query_of c.in-Query.query) (here c.args.path.now.items c.args.value))) empty) ∙ values_kept (nodelist tests (part_value c.args.root) (query_of c.in-Query.query) (here c.args.path.now.items c.args.value))
-    ∙ sym (ap (λ a. map (λ m. m.value) (as_nodes (handed tests (part_value c.args.root) (argument_of a) (here c.args.path.now.items c.args.value)))) c.in-Query.is ∙ ap (λ a. map (λ m. m.value) (as_nodes (handed tests (part_value c.args.root) a (here c.args.path.now.items c.args.value)))) (query_argument_made c.in-Query.query))
+holds-returns-in_ok-give-in-Call-clause-truth g t c =
+    c.as_truth.ensures ∙ ap as_truth c.in_ok-give-in-Call.ensures.given ∙ sym (ap (λ l. is_true (part_value c.args.ground.now.root) l (here c.args.path.now c.args.value)) c.in-Call.is ∙ true_call (part_value c.args.ground.now.root) (here c.args.path.now c.args.value) c.in-Call.call)
 
 pub run-returns-in-None-clause-found : goal.run-returns-in-None-clause-found
-run-returns-in-None-clause-found t c =
-    on_ok_weaker c.add.result (λ e. e ∙ ap (plus (kept c.args.found.now)) (sym (ap (λ ss. reached (part_value c.args.root) ss (here c.args.path.now.items c.args.value ∷ [])) (nil_from_length c.args.segments.now c.in-None.ensures.cases) ∙ reached-end (part_value c.args.root) (here c.args.path.now.items c.args.value ∷ [])))) c.add.ensures
+run-returns-in-None-clause-found g t c =
+    on_ok_weaker c.add.result (λ e. e ∙ sym (plus-one (put_found g.V.Visit.put) (kept g.V.Visit.kept c.args.found.now) (here c.args.path.now c.args.value))
+    ∙ ap (plus (put_found g.V.Visit.put) (kept g.V.Visit.kept c.args.found.now)) (sym (ap (λ ss. reached (part_value c.args.ground.now.root) ss (here c.args.path.now c.args.value ∷ [])) (nil_from_length c.args.segments.now c.in-None.ensures.cases) ∙ reached-end (part_value c.args.ground.now.root) (here c.args.path.now c.args.value ∷ [])))) c.add.ensures.found
 
 pub run-returns-then-segment-clause-found : goal.run-returns-then-segment-clause-found
-run-returns-then-segment-clause-found t c =
-    on_ok_weaker c.descend.result (λ e. e ∙ ap (plus (kept c.args.found.now)) (ap (λ xs. reached (part_value c.args.root) c.in-Some.rest.now (flat_map (picked_by (part_value c.args.root) xs) (descendants (here c.args.path.now.items c.args.value)))) c.as_slice-selectors.ensures.value
-    ∙ sym (ap (λ ss. reached (part_value c.args.root) ss (here c.args.path.now.items c.args.value ∷ [])) c.in-Some.ensures.cases.0 ∙ reached-deep (part_value c.args.root) c.in-Some.segment.now c.in-Some.rest.now (here c.args.path.now.items c.args.value) c.if-segment.true))) c.descend.ensures.found
+run-returns-then-segment-clause-found g t c =
+    on_ok_weaker c.descend.result (λ e. e ∙ ap (plus (put_found g.V.Visit.put) (kept g.V.Visit.kept c.args.found.now)) (ap (λ xs. reached (part_value c.args.ground.now.root) c.in-Some.rest.now (flat_map (picked_by (part_value c.args.ground.now.root) xs) (descendants (here c.args.path.now c.args.value)))) c.as_slice-selectors.ensures.value
+    ∙ sym (ap (λ ss. reached (part_value c.args.ground.now.root) ss (here c.args.path.now c.args.value ∷ [])) c.in-Some.ensures.cases.0 ∙ reached-deep (part_value c.args.ground.now.root) c.in-Some.segment.now c.in-Some.rest.now (here c.args.path.now c.args.value) c.if-segment.true))) c.descend.ensures.found
 
 pub run-returns-else-segment-clause-found : goal.run-returns-else-segment-clause-found
-run-returns-else-segment-clause-found t c =
-    on_ok_weaker c.apply.result (λ e. e ∙ ap (plus (kept c.args.found.now)) (ap (λ xs. reached (part_value c.args.root) c.in-Some.rest.now (picked_by (part_value c.args.root) xs (here c.args.path.now.items c.args.value))) c.as_slice-selectors.ensures.value
-    ∙ sym (ap (λ ss. reached (part_value c.args.root) ss (here c.args.path.now.items c.args.value ∷ [])) c.in-Some.ensures.cases.0 ∙ reached-plain (part_value c.args.root) c.in-Some.segment.now c.in-Some.rest.now (here c.args.path.now.items c.args.value) c.if-segment.false))) c.apply.ensures.found
+run-returns-else-segment-clause-found g t c =
+    on_ok_weaker c.apply.result (λ e. e ∙ ap (plus (put_found g.V.Visit.put) (kept g.V.Visit.kept c.args.found.now)) (ap (λ xs. reached (part_value c.args.ground.now.root) c.in-Some.rest.now (picked_by (part_value c.args.ground.now.root) xs (here c.args.path.now c.args.value))) c.as_slice-selectors.ensures.value
+    ∙ sym (ap (λ ss. reached (part_value c.args.ground.now.root) ss (here c.args.path.now c.args.value ∷ [])) c.in-Some.ensures.cases.0 ∙ reached-plain (part_value c.args.ground.now.root) c.in-Some.segment.now c.in-Some.rest.now (here c.args.path.now c.args.value) c.if-segment.false))) c.apply.ensures.found
 
 pub select-run-requires : goal.select-run-requires
-select-run-requires t c =
+select-run-requires g t c =
     let below : depth (view c.in-Some.child.value.now) < depth (view c.args.value.value.now) = c.in-Some.ensures.below in
     search rules
 
 pub select-returns-in_default-clause-found : goal.select-returns-in_default-clause-found
-select-returns-in_default-clause-found t c =
+select-returns-in_default-clause-found g t c =
     let none : None ≡ member_of (text_of c.in-Name.name) (part_value c.args.value) = c.in_default.ensures.value ∙ ap (λ k. member_of (chars k) (part_value c.args.value)) c.as_str.ensures.value in
-    nothing_found _ _ (ap (reached (part_value c.args.root) c.args.rest.now) (ap (λ x. picked (part_value c.args.root) x (here c.args.path.now.items c.args.value)) c.in-Name.is ∙ picked_name (part_value c.args.root) (here c.args.path.now.items c.args.value) c.in-Name.name ∙ ap (node_if_some _) (sym none)) ∙ reached-none (part_value c.args.root) c.args.rest.now)
+    nothing_found (put_found g.V.Visit.put) _ _ (ap (reached (part_value c.args.ground.now.root) c.args.rest.now) (ap (λ x. picked (part_value c.args.ground.now.root) x (here c.args.path.now c.args.value)) c.in-Name.is ∙ picked_name (part_value c.args.ground.now.root) (here c.args.path.now c.args.value) c.in-Name.name ∙ ap (node_if_some _) (sym none)) ∙ reached-none (part_value c.args.ground.now.root) c.args.rest.now)
 
 pub select-returns-in_ok-run-in-Name-clause-found : goal.select-returns-in_ok-run-in-Name-clause-found
-select-returns-in_ok-run-in-Name-clause-found t c =
+select-returns-in_ok-run-in-Name-clause-found g t c =
     let some = c.in-Some.ensures.value ∙ ap (λ k. member_of (chars k) (part_value c.args.value)) c.as_str.ensures.value in
     c.in_ok-run-in-Name.ensures.found
-    ∙ ap (λ ns. plus (kept c.args.found.now) (reached (part_value c.args.root) c.args.rest.now ns))
-    (ap (λ n. n ∷ []) (here_further c.args.path.now.items c.push.new.self.items _ c.in-Some.child c.in_ok-push-in-Name.ensures.ok ∙ ap (λ k. node (link_steps c.args.path.now.items ++ name (chars k) ∷ []) (part_value c.in-Some.child)) c.as_str-in-Some.ensures.value)
-    ∙ sym (ap (λ x. picked (part_value c.args.root) x (here c.args.path.now.items c.args.value)) c.in-Name.is ∙ picked_name (part_value c.args.root) (here c.args.path.now.items c.args.value) c.in-Name.name ∙ ap (node_if_some _) (sym some)))
+    ∙ ap (λ ns. plus (put_found g.V.Visit.put) (kept g.V.Visit.kept c.args.found.now) (reached (part_value c.args.ground.now.root) c.args.rest.now ns))
+    (ap (λ n. n ∷ []) (here_further c.args.path.now c.push.new.self _ c.in-Some.child c.in_ok-push-in-Name.ensures.ok ∙ ap (λ k. node (link_steps c.args.path.now ++ name (chars k) ∷ []) (part_value c.in-Some.child)) c.as_str-in-Some.ensures.value)
+    ∙ sym (ap (λ x. picked (part_value c.args.ground.now.root) x (here c.args.path.now c.args.value)) c.in-Name.is ∙ picked_name (part_value c.args.ground.now.root) (here c.args.path.now c.args.value) c.in-Name.name ∙ ap (node_if_some _) (sym some)))
 
 pub select-returns-in-Wild-clause-found : goal.select-returns-in-Wild-clause-found
-select-returns-in-Wild-clause-found t c =
-    on_ok_weaker c.each_child.result (λ e. e ∙ ap (plus (kept c.args.found.now)) (sym (ap (reached (part_value c.args.root) c.args.rest.now) (ap (λ x. picked (part_value c.args.root) x (here c.args.path.now.items c.args.value)) c.in-Wild.is ∙ picked_wild (part_value c.args.root) (here c.args.path.now.items c.args.value)) ∙ reached-each (part_value c.args.root) c.args.rest.now (children (here c.args.path.now.items c.args.value))))) c.each_child.ensures.found
+select-returns-in-Wild-clause-found g t c =
+    on_ok_weaker c.each_child.result (λ e. e ∙ ap (plus (put_found g.V.Visit.put) (kept g.V.Visit.kept c.args.found.now)) (sym (ap (reached (part_value c.args.ground.now.root) c.args.rest.now) (ap (λ x. picked (part_value c.args.ground.now.root) x (here c.args.path.now c.args.value)) c.in-Wild.is ∙ picked_wild (part_value c.args.ground.now.root) (here c.args.path.now c.args.value)) ∙ reached-each (part_value c.args.ground.now.root) c.args.rest.now (children (here c.args.path.now c.args.value))))) c.each_child.ensures.found
 
 pub select-returns-in-Index-clause-found : goal.select-returns-in-Index-clause-found
-select-returns-in-Index-clause-found t c =
+select-returns-in-Index-clause-found g t c =
     let f : SFits w64 c.position.result = search rules in
     let placed = simp to_z-of_z at c.place-place.ensures in
-    on_ok_weaker c.at_place.result (λ e. e ∙ ap (λ ps. plus (kept c.args.found.now) (reached (part_value c.args.root) c.args.rest.now (items_at (here c.args.path.now.items c.args.value) ps)))
+    on_ok_weaker c.at_place.result (λ e. e ∙ ap (λ ps. plus (put_found g.V.Visit.put) (kept g.V.Visit.kept c.args.found.now) (reached (part_value c.args.ground.now.root) c.args.rest.now (items_at (here c.args.path.now c.args.value) ps)))
     (placed ∙ index_found (part_value c.args.value) (whole_number (text_of c.in-Index.index)) c.position.result c.item_count.result (c.position.ensures.value ∙ ap (λ b. nearest (whole_number (chars b))) c.as_str-in-Index.ensures.value) c.item_count.ensures.count c.item_count.ensures.short)
-    ∙ ap (λ ns. plus (kept c.args.found.now) (reached (part_value c.args.root) c.args.rest.now ns)) (sym (ap (λ x. picked (part_value c.args.root) x (here c.args.path.now.items c.args.value)) c.in-Index.is ∙ picked_index (part_value c.args.root) (here c.args.path.now.items c.args.value) c.in-Index.index))) c.at_place.ensures.found
+    ∙ ap (λ ns. plus (put_found g.V.Visit.put) (kept g.V.Visit.kept c.args.found.now) (reached (part_value c.args.ground.now.root) c.args.rest.now ns)) (sym (ap (λ x. picked (part_value c.args.ground.now.root) x (here c.args.path.now c.args.value)) c.in-Index.is ∙ picked_index (part_value c.args.ground.now.root) (here c.args.path.now c.args.value) c.in-Index.index))) c.at_place.ensures.found
 
 pub select-returns-in-Slice-clause-found : goal.select-returns-in-Slice-clause-found
-select-returns-in-Slice-clause-found t c =
-    on_ok_weaker c.each_place.result (λ e. e ∙ ap (λ ps. plus (kept c.args.found.now) (reached (part_value c.args.root) c.args.rest.now (items_at (here c.args.path.now.items c.args.value) ps)))
+select-returns-in-Slice-clause-found g t c =
+    on_ok_weaker c.each_place.result (λ e. e ∙ ap (λ ps. plus (put_found g.V.Visit.put) (kept g.V.Visit.kept c.args.found.now) (reached (part_value c.args.ground.now.root) c.args.rest.now (items_at (here c.args.path.now c.args.value) ps)))
     (slice_found (part_value c.args.value) (written_value (option_map text_of c.in-Slice.slice.first)) (written_value (option_map text_of c.in-Slice.slice.past)) (written_value (option_map text_of c.in-Slice.slice.step)) c.item_count-in-Slice.result (bounds_value c.bounds_of-bounds.result) c.item_count-in-Slice.ensures.count c.bounds_of-bounds.ensures.indexes)
-    ∙ ap (λ ns. plus (kept c.args.found.now) (reached (part_value c.args.root) c.args.rest.now ns)) (sym (ap (λ x. picked (part_value c.args.root) x (here c.args.path.now.items c.args.value)) c.in-Slice.is ∙ picked_slice (part_value c.args.root) (here c.args.path.now.items c.args.value) c.in-Slice.slice))) c.each_place.ensures.found
+    ∙ ap (λ ns. plus (put_found g.V.Visit.put) (kept g.V.Visit.kept c.args.found.now) (reached (part_value c.args.ground.now.root) c.args.rest.now ns)) (sym (ap (λ x. picked (part_value c.args.ground.now.root) x (here c.args.path.now c.args.value)) c.in-Slice.is ∙ picked_slice (part_value c.args.ground.now.root) (here c.args.path.now c.args.value) c.in-Slice.slice))) c.each_place.ensures.found
 
 pub select-returns-in-Filter-clause-found : goal.select-returns-in-Filter-clause-found
-select-returns-in-Filter-clause-found t c =
-    on_ok_weaker c.each_child-in-Filter.result (λ e. e ∙ ap (plus (kept c.args.found.now)) (sym (ap (reached (part_value c.args.root) c.args.rest.now) (ap (λ x. picked (part_value c.args.root) x (here c.args.path.now.items c.args.value)) c.in-Filter.is ∙ picked_filter (part_value c.args.root) (here c.args.path.now.items c.args.value) c.in-Filter.test) ∙ reached-filter (part_value c.args.root) c.args.rest.now (is_true (part_value c.args.root) c.in-Filter.test) (children (here c.args.path.now.items c.args.value))))) c.each_child-in-Filter.ensures.found
+select-returns-in-Filter-clause-found g t c =
+    on_ok_weaker c.each_child-in-Filter.result (λ e. e ∙ ap (plus (put_found g.V.Visit.put) (kept g.V.Visit.kept c.args.found.now)) (sym (ap (reached (part_value c.args.ground.now.root) c.args.rest.now) (ap (λ x. picked (part_value c.args.ground.now.root) x (here c.args.path.now c.args.value)) c.in-Filter.is ∙ picked_filter (part_value c.args.ground.now.root) (here c.args.path.now c.args.value) c.in-Filter.test) ∙ reached-filter (part_value c.args.ground.now.root) c.args.rest.now (is_true (part_value c.args.ground.now.root) c.in-Filter.test) (children (here c.args.path.now c.args.value))))) c.each_child-in-Filter.ensures.found
 
 pub all-loop-part-preserved : goal.all-loop-part-preserved
-all-loop-part-preserved t c =
+all-loop-part-preserved g t c =
     let h : c.loop-part.part-index < length c.args.parts.now = omega arith in
     let truth = c.in_ok-holds.ensures.truth in
-    let on : is_true (part_value c.args.root) c.part-item.result (here c.args.path.now.items c.args.value) ≡ true = sym (rw c.loop-part.invariant.0 at truth) ∙ c.if-not-branch.false in
-    (c.in_ok-holds.ensures.path ∙ c.loop-part.invariant.0, all_further (λ l. is_true (part_value c.args.root) l (here c.args.path.now.items c.args.value)) c.args.parts.now c.loop-part.part-index c.part-item.result h c.part-item.is on ∙ c.loop-part.invariant.1)
+    let on : is_true (part_value c.args.ground.now.root) c.part-item.result (here c.args.path.now c.args.value) ≡ true = sym (rw c.loop-part.invariant.0 at truth) ∙ c.if-not-branch.false in
+    (c.in_ok-holds.ensures.path ∙ c.loop-part.invariant.0, all_further (λ l. is_true (part_value c.args.ground.now.root) l (here c.args.path.now c.args.value)) c.args.parts.now c.loop-part.part-index c.part-item.result h c.part-item.is on ∙ c.loop-part.invariant.1)
 
 pub all-returns-clause-truth : goal.all-returns-clause-truth
-all-returns-clause-truth t c =
-    sym (at_drop_all (list_all (λ l. is_true (part_value c.args.root) l (here c.args.path.now.items c.args.value))) c.args.parts.now c.loop-part.part-index (omega arith)) ∙ c.loop-part.invariant.1
+all-returns-clause-truth g t c =
+    sym (at_drop_all (list_all (λ l. is_true (part_value c.args.ground.now.root) l (here c.args.path.now c.args.value))) c.args.parts.now c.loop-part.part-index (omega arith)) ∙ c.loop-part.invariant.1
 
 pub all-returns-then-not-branch-clause-truth : goal.all-returns-then-not-branch-clause-truth
-all-returns-then-not-branch-clause-truth t c =
+all-returns-then-not-branch-clause-truth g t c =
     let h : c.loop-part.part-index < length c.args.parts.now = omega arith in
     let truth = c.in_ok-holds.ensures.truth in
-    let off : is_true (part_value c.args.root) c.part-item.result (here c.args.path.now.items c.args.value) ≡ false = sym (rw c.loop-part.invariant.0 at truth) ∙ c.if-not-branch.true in
-    sym (all_found (λ l. is_true (part_value c.args.root) l (here c.args.path.now.items c.args.value)) c.args.parts.now c.loop-part.part-index c.part-item.result h c.part-item.is off) ∙ c.loop-part.invariant.1
+    let off : is_true (part_value c.args.ground.now.root) c.part-item.result (here c.args.path.now c.args.value) ≡ false = sym (rw c.loop-part.invariant.0 at truth) ∙ c.if-not-branch.true in
+    sym (all_found (λ l. is_true (part_value c.args.ground.now.root) l (here c.args.path.now c.args.value)) c.args.parts.now c.loop-part.part-index c.part-item.result h c.part-item.is off) ∙ c.loop-part.invariant.1
 
 pub any-loop-part-preserved : goal.any-loop-part-preserved
-any-loop-part-preserved t c =
+any-loop-part-preserved g t c =
     let h : c.loop-part.part-index < length c.args.parts.now = omega arith in
     let truth = c.in_ok-holds.ensures.truth in
-    let off : is_true (part_value c.args.root) c.part-item.result (here c.args.path.now.items c.args.value) ≡ false = sym (rw c.loop-part.invariant.0 at truth) ∙ c.if-branch.false in
-    (c.in_ok-holds.ensures.path ∙ c.loop-part.invariant.0, any_further (λ l. is_true (part_value c.args.root) l (here c.args.path.now.items c.args.value)) c.args.parts.now c.loop-part.part-index c.part-item.result h c.part-item.is off ∙ c.loop-part.invariant.1)
+    let off : is_true (part_value c.args.ground.now.root) c.part-item.result (here c.args.path.now c.args.value) ≡ false = sym (rw c.loop-part.invariant.0 at truth) ∙ c.if-branch.false in
+    (c.in_ok-holds.ensures.path ∙ c.loop-part.invariant.0, any_further (λ l. is_true (part_value c.args.ground.now.root) l (here c.args.path.now c.args.value)) c.args.parts.now c.loop-part.part-index c.part-item.result h c.part-item.is off ∙ c.loop-part.invariant.1)
 
 pub any-returns-clause-truth : goal.any-returns-clause-truth
-any-returns-clause-truth t c =
-    sym (at_drop_all (list_any (λ l. is_true (part_value c.args.root) l (here c.args.path.now.items c.args.value))) c.args.parts.now c.loop-part.part-index (omega arith)) ∙ c.loop-part.invariant.1
+any-returns-clause-truth g t c =
+    sym (at_drop_all (list_any (λ l. is_true (part_value c.args.ground.now.root) l (here c.args.path.now c.args.value))) c.args.parts.now c.loop-part.part-index (omega arith)) ∙ c.loop-part.invariant.1
 
 pub any-returns-then-branch-clause-truth : goal.any-returns-then-branch-clause-truth
-any-returns-then-branch-clause-truth t c =
+any-returns-then-branch-clause-truth g t c =
     let h : c.loop-part.part-index < length c.args.parts.now = omega arith in
     let truth = c.in_ok-holds.ensures.truth in
-    let on : is_true (part_value c.args.root) c.part-item.result (here c.args.path.now.items c.args.value) ≡ true = sym (rw c.loop-part.invariant.0 at truth) ∙ c.if-branch.true in
-    sym (any_found (λ l. is_true (part_value c.args.root) l (here c.args.path.now.items c.args.value)) c.args.parts.now c.loop-part.part-index c.part-item.result h c.part-item.is on) ∙ c.loop-part.invariant.1
-
-pub each_child-returns-in-Null-clause-found : goal.each_child-returns-in-Null-clause-found
-each_child-returns-in-Null-clause-found t c =
-    nothing_found _ _ (ap (λ v. flat_map (done (part_value c.args.root) c.args.task) (children_at (link_steps c.args.path.now.items) v)) (null_value c.args.value.value.now c.in-Null.is))
-
-pub each_child-returns-in-Bool-clause-found : goal.each_child-returns-in-Bool-clause-found
-each_child-returns-in-Bool-clause-found t c =
-    nothing_found _ _ (ap (λ v. flat_map (done (part_value c.args.root) c.args.task) (children_at (link_steps c.args.path.now.items) v)) (bool_value c.args.value.value.now _ c.in-Bool.is))
-
-pub each_child-returns-in-Number-clause-found : goal.each_child-returns-in-Number-clause-found
-each_child-returns-in-Number-clause-found t c =
-    nothing_found _ _ (ap (λ v. flat_map (done (part_value c.args.root) c.args.task) (children_at (link_steps c.args.path.now.items) v)) (number_value c.args.value.value.now _ c.in-Number.is))
-
-pub each_child-returns-in-String-clause-found : goal.each_child-returns-in-String-clause-found
-each_child-returns-in-String-clause-found t c =
-    nothing_found _ _ (ap (λ v. flat_map (done (part_value c.args.root) c.args.task) (children_at (link_steps c.args.path.now.items) v)) (string_value c.args.value.value.now _ c.in-String.is))
-
-pub nodes-returns-in-Literal-clause-values : goal.nodes-returns-in-Literal-clause-values
-nodes-returns-in-Literal-clause-values t c =
-    ap (map part_value) c.new-in-Literal.ensures.items ∙ sym (ap (λ a. map (λ m. m.value) (as_nodes (handed tests (part_value c.args.root) (argument_of a) (here c.args.path.now.items c.args.value)))) c.in-Literal.is ∙ ap (λ a. map (λ m. m.value) (as_nodes (handed tests (part_value c.args.root) a (here c.args.path.now.items c.args.value)))) (literal_argument_made _))
-
-pub nodes-returns-in-Logical-clause-values : goal.nodes-returns-in-Logical-clause-values
-nodes-returns-in-Logical-clause-values t c =
-    ap (map part_value) c.new-in-Logical.ensures.items ∙ sym (ap (λ a. map (λ m. m.value) (as_nodes (handed tests (part_value c.args.root) (argument_of a) (here c.args.path.now.items c.args.value)))) c.in-Logical.is ∙ ap (λ a. map (λ m. m.value) (as_nodes (handed tests (part_value c.args.root) a (here c.args.path.now.items c.args.value)))) (logical_argument_made _))
-
-pub nodes-returns-in-Call-clause-values : goal.nodes-returns-in-Call-clause-values
-nodes-returns-in-Call-clause-values t c =
-    ap (map part_value) c.new-in-Call.ensures.items ∙ sym (ap (λ a. map (λ m. m.value) (as_nodes (handed tests (part_value c.args.root) (argument_of a) (here c.args.path.now.items c.args.value)))) c.in-Call.is ∙ ap (λ a. map (λ m. m.value) (as_nodes (handed tests (part_value c.args.root) a (here c.args.path.now.items c.args.value)))) (call_argument_made _) ∙ ap (map (λ m. m.value)) (no_nodes (part_value c.args.root) (here c.args.path.now.items c.args.value) _))
+    let on : is_true (part_value c.args.ground.now.root) c.part-item.result (here c.args.path.now c.args.value) ≡ true = sym (rw c.loop-part.invariant.0 at truth) ∙ c.if-branch.true in
+    sym (any_found (λ l. is_true (part_value c.args.ground.now.root) l (here c.args.path.now c.args.value)) c.args.parts.now c.loop-part.part-index c.part-item.result h c.part-item.is on) ∙ c.loop-part.invariant.1
 
 pub give-returns-in-empty-clause-given : goal.give-returns-in-empty-clause-given
-give-returns-in-empty-clause-given t c =
+give-returns-in-empty-clause-given g t c =
     let known = named c.args.call.now c.as_str.result.now c.as_str.ensures.value (sym (ap (option_map function_of) (sym c.in-Some.is) ∙ c.function_named.ensures)) in
-    sym (given_other (part_value c.args.root) (here c.args.path.now.items c.args.value) c.args.call.now c.as_slice.result.now _ c.as_slice.ensures.value (λ e. absurd (omega (arith, c.in-empty.len_below, e))) (λ e. absurd (omega (arith, c.in-empty.len_below, e))) known)
+    sym (given_other (part_value c.args.ground.now.root) (here c.args.path.now c.args.value) c.args.call.now c.as_slice.result.now _ c.as_slice.ensures.value (λ e. absurd (omega (arith, c.in-empty.len_below, e))) (λ e. absurd (omega (arith, c.in-empty.len_below, e))) known)
 
 pub give-returns-in-len3-up-clause-given : goal.give-returns-in-len3-up-clause-given
-give-returns-in-len3-up-clause-given t c =
+give-returns-in-len3-up-clause-given g t c =
     let known = named c.args.call.now c.as_str.result.now c.as_str.ensures.value (sym (ap (option_map function_of) (sym c.in-Some.is) ∙ c.function_named.ensures)) in
-    sym (given_other (part_value c.args.root) (here c.args.path.now.items c.args.value) c.args.call.now c.as_slice.result.now _ c.as_slice.ensures.value (λ e. absurd (omega (arith, c.in-len3-up.len_at_least, e))) (λ e. absurd (omega (arith, c.in-len3-up.len_at_least, e))) known)
+    sym (given_other (part_value c.args.ground.now.root) (here c.args.path.now c.args.value) c.args.call.now c.as_slice.result.now _ c.as_slice.ensures.value (λ e. absurd (omega (arith, c.in-len3-up.len_at_least, e))) (λ e. absurd (omega (arith, c.in-len3-up.len_at_least, e))) known)
+
+pub each_child-returns-in-Items-clause-found : goal.each_child-returns-in-Items-clause-found
+each_child-returns-in-Items-clause-found g t c =
+    on_ok_weaker c.each_item.result (λ e. e ∙ ap (λ ns. plus (put_found g.V.Visit.put) (kept g.V.Visit.kept c.args.found.now) (flat_map (done (part_value c.args.ground.now.root) c.args.task) ns)) (sym (c.in-Items.ensures.children (link_steps c.args.path.now)))) c.each_item.ensures.found
+
+pub each_child-returns-in-Members-clause-found : goal.each_child-returns-in-Members-clause-found
+each_child-returns-in-Members-clause-found g t c =
+    on_ok_weaker c.each_member.result (λ e. e ∙ ap (λ ns. plus (put_found g.V.Visit.put) (kept g.V.Visit.kept c.args.found.now) (flat_map (done (part_value c.args.ground.now.root) c.args.task) ns)) (sym (c.in-Members.ensures.children (link_steps c.args.path.now)))) c.each_member.ensures.found
+
+pub each_child-returns-in-Nothing-clause-found : goal.each_child-returns-in-Nothing-clause-found
+each_child-returns-in-Nothing-clause-found g t c =
+    nothing_found (put_found g.V.Visit.put) _ _ (ap (flat_map (done (part_value c.args.ground.now.root) c.args.task)) (c.in-Nothing.ensures.children (link_steps c.args.path.now)))
+
+pub apply-returns-then-is_full-clause-found : goal.apply-returns-then-is_full-clause-found
+apply-returns-then-is_full-clause-found g t c =
+    full_enough (put_found g.V.Visit.put) _ _ _ _ (c.is_full.ensures c.if-is_full.true) c.loop-selector.invariant.1
+
+pub each_member-returns-then-is_full-clause-found : goal.each_member-returns-then-is_full-clause-found
+each_member-returns-then-is_full-clause-found g t c =
+    full_enough (put_found g.V.Visit.put) _ _ _ _ (c.is_full.ensures c.if-is_full.true) c.loop-name.invariant.3
+
+pub each_place-returns-then-is_full-clause-found : goal.each_place-returns-then-is_full-clause-found
+each_place-returns-then-is_full-clause-found g t c =
+    full_enough (put_found g.V.Visit.put) _ _ _ _ (c.is_full.ensures c.if-is_full.true) c.loop-next.invariant.2
+
+pub each_place-place_after-next-requires-clause-bounds : goal.each_place-place_after-next-requires-clause-bounds
+each_place-place_after-next-requires-clause-bounds g t c = within_more _ _ _ (part_is_short c.args.value) c.requires
+
+pub hand_nodes-returns-in-Literal-clause-found : goal.hand_nodes-returns-in-Literal-clause-found
+hand_nodes-returns-in-Literal-clause-found g t c =
+    nothing_found (put_found g.V.Visit.put) _ _ (ap (λ a. as_nodes (handed tests (part_value c.args.ground.now.root) (argument_of a) (here c.args.path.now c.args.value))) c.in-Literal.is ∙ ap (λ a. as_nodes (handed tests (part_value c.args.ground.now.root) a (here c.args.path.now c.args.value))) (literal_argument_made _))
+
+pub hand_nodes-returns-in-Logical-clause-found : goal.hand_nodes-returns-in-Logical-clause-found
+hand_nodes-returns-in-Logical-clause-found g t c =
+    nothing_found (put_found g.V.Visit.put) _ _ (ap (λ a. as_nodes (handed tests (part_value c.args.ground.now.root) (argument_of a) (here c.args.path.now c.args.value))) c.in-Logical.is ∙ ap (λ a. as_nodes (handed tests (part_value c.args.ground.now.root) a (here c.args.path.now c.args.value))) (logical_argument_made _))
+
+pub hand_nodes-returns-in-Call-clause-found : goal.hand_nodes-returns-in-Call-clause-found
+hand_nodes-returns-in-Call-clause-found g t c =
+    nothing_found (put_found g.V.Visit.put) _ _ (ap (λ a. as_nodes (handed tests (part_value c.args.ground.now.root) (argument_of a) (here c.args.path.now c.args.value))) c.in-Call.is ∙ ap (λ a. as_nodes (handed tests (part_value c.args.ground.now.root) a (here c.args.path.now c.args.value))) (call_argument_made _) ∙ no_nodes (part_value c.args.ground.now.root) (here c.args.path.now c.args.value) _)
+
+pub give_of_one-returns-in_ok-hand_nodes-in-Count-clause-given : goal.give_of_one-returns-in_ok-hand_nodes-in-Count-clause-given
+give_of_one-returns-in_ok-hand_nodes-in-Count-clause-given g t c =
+    rw c.in-Count.is (ap handed_value (c.into_count.ensures.value ∙ ap (λ n. Some (number_value n)) (ap kept_count c.in_ok-hand_nodes-in-Count.ensures.found ∙ counted g.V.Visit.put _)))
+
+pub give_of_one-returns-in_ok-hand_nodes-in-Value-clause-given : goal.give_of_one-returns-in_ok-hand_nodes-in-Value-clause-given
+give_of_one-returns-in_ok-hand_nodes-in-Value-clause-given g t c =
+    rw c.in-Value.is (ap handed_value (c.into_only.ensures.value ∙ ap kept_only c.in_ok-hand_nodes-in-Value.ensures.found ∙ only_kept g.V.Visit.put _))

@@ -14,8 +14,9 @@ use Rattle.jp_syntax.specs.declared.tree.Comparable.{size-Comparable}
 use Rattle.jp_syntax.specs.declared.tree.Call.{size-Call}
 use Rattle.jp_syntax.specs.declared.tree.Argument.{size-Argument}
 use Rattle.jp_eval.specs.BoundsView.{bounds_value}
-use Rattle.jp_eval.specs.Kept.{kept, plus}
-use Rattle.jp_eval.specs.Links.{here, link_steps}
+use Rattle.jp_eval.specs.Kept.{kept, put_found, plus}
+use Rattle.jp_eval.specs.Links.{here}
+use Rattle.jp_trail.specs.Links.{link_steps}
 use Rattle.jp_eval.specs.Nodelist.{items_at}
 use Rattle.jp_eval.specs.Nodes.{item_nodes, member_nodes}
 use Rattle.jp_eval.specs.Part.{part_value}
@@ -37,117 +38,117 @@ abbrev pub weight : ℕ → Part → ℕ → ℕ
 weight size p rank = 2000 * size + 8 * depth (view p.value.now) + rank
 
 abbrev pub decreases-find : goal.decreases-find
-decreases-find l = weight (size-Query l.query.now) l.value 2
+decreases-find g l = weight (size-Query l.query.now) l.value 2
 
 abbrev pub decreases-go : goal.decreases-go
-decreases-go l = weight (task_size l.task) l.value 8
+decreases-go g l = weight (task_size l.task) l.value 8
 
 abbrev pub decreases-run : goal.decreases-run
-decreases-run l = weight (most size-Segment l.segments.now) l.value 7
+decreases-run g l = weight (most size-Segment l.segments.now) l.value 7
 
 abbrev pub decreases-descend : goal.decreases-descend
-decreases-descend l = weight (max (most size-Selector l.selectors.now) (most size-Segment l.rest.now)) l.value 6
+decreases-descend g l = weight (max (most size-Selector l.selectors.now) (most size-Segment l.rest.now)) l.value 6
 
 abbrev pub decreases-apply : goal.decreases-apply
-decreases-apply l = weight (max (most size-Selector l.selectors.now) (most size-Segment l.rest.now)) l.value 5
+decreases-apply g l = weight (max (most size-Selector l.selectors.now) (most size-Segment l.rest.now)) l.value 5
 
 abbrev pub decreases-select : goal.decreases-select
-decreases-select l = weight (max (size-Selector l.selector.now) (most size-Segment l.rest.now)) l.value 4
+decreases-select g l = weight (max (size-Selector l.selector.now) (most size-Segment l.rest.now)) l.value 4
 
 abbrev pub decreases-at_place : goal.decreases-at_place
-decreases-at_place l = weight (most size-Segment l.rest.now) l.value 2
+decreases-at_place g l = weight (most size-Segment l.rest.now) l.value 2
 
 abbrev pub decreases-each_place : goal.decreases-each_place
-decreases-each_place l = weight (most size-Segment l.rest.now) l.value 3
+decreases-each_place g l = weight (most size-Segment l.rest.now) l.value 3
 
 abbrev pub decreases-each_child : goal.decreases-each_child
-decreases-each_child l = weight (task_size l.task) l.value 3
+decreases-each_child g l = weight (task_size l.task) l.value 3
 
 abbrev pub decreases-each_item : goal.decreases-each_item
-decreases-each_item l = 2000 * task_size l.task + 8 * items_depth (items_view l.items.now.items) + 9
+decreases-each_item g l = 2000 * task_size l.task + 8 * items_depth (items_view l.items.now.items) + 9
 
 abbrev pub decreases-each_member : goal.decreases-each_member
-decreases-each_member l = 2000 * task_size l.task + 8 * members_depth (members_view l.members.now.entries) + 9
+decreases-each_member g l = 2000 * task_size l.task + 8 * members_depth (members_view l.members.now.entries) + 9
 
 abbrev pub decreases-first : goal.decreases-first
-decreases-first l = weight (size-Query l.query.now) l.value 3
+decreases-first g l = weight (size-Query l.query.now) l.value 3
 
-abbrev pub decreases-nodes : goal.decreases-nodes
-decreases-nodes l = weight (size-Argument l.argument.now) l.value 4
+abbrev pub decreases-hand_nodes : goal.decreases-hand_nodes
+decreases-hand_nodes g l = weight (size-Argument l.argument.now) l.value 4
 
 abbrev pub decreases-holds : goal.decreases-holds
-decreases-holds l = weight (size-Logical l.test.now) l.value 7
+decreases-holds g l = weight (size-Logical l.test.now) l.value 7
 
 abbrev pub decreases-any : goal.decreases-any
-decreases-any l = weight (most size-Logical l.parts.now) l.value 8
+decreases-any g l = weight (most size-Logical l.parts.now) l.value 8
 
 abbrev pub decreases-all : goal.decreases-all
-decreases-all l = weight (most size-Logical l.parts.now) l.value 8
+decreases-all g l = weight (most size-Logical l.parts.now) l.value 8
 
 abbrev pub decreases-compares : goal.decreases-compares
-decreases-compares l = weight (size-Comparison l.comparison.now) l.value 6
+decreases-compares g l = weight (size-Comparison l.comparison.now) l.value 6
 
 abbrev pub decreases-side : goal.decreases-side
-decreases-side l = weight (size-Comparable l.side.now) l.value 5
+decreases-side g l = weight (size-Comparable l.side.now) l.value 5
 
 abbrev pub decreases-give : goal.decreases-give
-decreases-give l = weight (size-Call l.call.now) l.value 6
+decreases-give g l = weight (size-Call l.call.now) l.value 6
 
 abbrev pub decreases-give_of_one : goal.decreases-give_of_one
-decreases-give_of_one l = weight (size-Argument l.argument.now) l.value 5
+decreases-give_of_one g l = weight (size-Argument l.argument.now) l.value 5
 
 abbrev pub decreases-give_of_two : goal.decreases-give_of_two
-decreases-give_of_two l = weight (max (size-Argument l.text.now) (size-Argument l.pattern.now)) l.value 5
+decreases-give_of_two g l = weight (max (size-Argument l.text.now) (size-Argument l.pattern.now)) l.value 5
 
 abbrev pub decreases-hand : goal.decreases-hand
-decreases-hand l = weight (size-Argument l.argument.now) l.value 4
+decreases-hand g l = weight (size-Argument l.argument.now) l.value 4
 
 abbrev pub invariant-apply-loop-selector : goal.invariant-apply-loop-selector
-invariant-apply-loop-selector l =
-    let root = part_value l.root in
-    (l.path.items ≡ l.initial.path.items)
-    × (plus (kept l.found) (reached root l.rest (picked_by root (drop l.selector-index l.selectors) (here l.path.items l.value)))
-    ≡ plus (kept l.initial.found) (reached root l.rest (picked_by root l.selectors (here l.initial.path.items l.value))))
+invariant-apply-loop-selector g l =
+    let root = part_value l.ground.root in
+    (l.path ≡ l.initial.path)
+    × (plus (put_found g.V.Visit.put) (kept g.V.Visit.kept l.found) (reached root l.rest (picked_by root (drop l.selector-index l.selectors) (here l.path l.value)))
+    ≡ plus (put_found g.V.Visit.put) (kept g.V.Visit.kept l.initial.found) (reached root l.rest (picked_by root l.selectors (here l.initial.path l.value))))
 
 abbrev pub invariant-each_place-loop-next : goal.invariant-each_place-loop-next
-invariant-each_place-loop-next l =
-    let root = part_value l.root in
+invariant-each_place-loop-next g l =
+    let root = part_value l.ground.root in
     let bounds = bounds_value l.bounds in
     let len = item_count (part_value l.value) in
-    (l.path.items ≡ l.initial.path.items)
+    (l.path ≡ l.initial.path)
     × IfPlace bounds l.next
-    × (plus (kept l.found) (reached root l.rest (items_at (here l.path.items l.value) (from_place bounds len l.next)))
-    ≡ plus (kept l.initial.found) (reached root l.rest (items_at (here l.initial.path.items l.value) (slice_indexes bounds len))))
+    × (plus (put_found g.V.Visit.put) (kept g.V.Visit.kept l.found) (reached root l.rest (items_at (here l.path l.value) (from_place bounds len l.next)))
+    ≡ plus (put_found g.V.Visit.put) (kept g.V.Visit.kept l.initial.found) (reached root l.rest (items_at (here l.initial.path l.value) (slice_indexes bounds len))))
 
 abbrev pub decreases-each_place-loop-next : goal.decreases-each_place-loop-next
-decreases-each_place-loop-next l = length (from_place (bounds_value l.bounds) (item_count (part_value l.value)) l.next)
+decreases-each_place-loop-next g l = length (from_place (bounds_value l.bounds) (item_count (part_value l.value)) l.next)
 
 abbrev pub invariant-each_item-loop-index : goal.invariant-each_item-loop-index
-invariant-each_item-loop-index l =
-    let root = part_value l.root in
-    (l.path.items ≡ l.initial.path.items)
+invariant-each_item-loop-index g l =
+    let root = part_value l.ground.root in
+    (l.path ≡ l.initial.path)
     × All IsDocumentValue (drop l.index l.items.items)
     × (items_depth (items_view (drop l.index l.items.items)) ≤ items_depth (items_view l.items.items))
-    × (plus (kept l.found) (flat_map (done root l.task) (item_nodes (link_steps l.path.items) l.index (items_of (items_view (drop l.index l.items.items)))))
-    ≡ plus (kept l.initial.found) (flat_map (done root l.task) (item_nodes (link_steps l.initial.path.items) 0 (items_of (items_view l.items.items)))))
+    × (plus (put_found g.V.Visit.put) (kept g.V.Visit.kept l.found) (flat_map (done root l.task) (item_nodes (link_steps l.path) l.index (items_of (items_view (drop l.index l.items.items)))))
+    ≡ plus (put_found g.V.Visit.put) (kept g.V.Visit.kept l.initial.found) (flat_map (done root l.task) (item_nodes (link_steps l.initial.path) 0 (items_of (items_view l.items.items)))))
 
 abbrev pub invariant-each_member-loop-name : goal.invariant-each_member-loop-name
-invariant-each_member-loop-name l =
-    let root = part_value l.root in
-    (l.path.items ≡ l.initial.path.items)
+invariant-each_member-loop-name g l =
+    let root = part_value l.ground.root in
+    (l.path ≡ l.initial.path)
     × All (λ m. IsDocumentValue m.1) l.name-iterator
     × (members_depth (members_view l.name-iterator) ≤ members_depth (members_view l.members.entries))
-    × (plus (kept l.found) (flat_map (done root l.task) (member_nodes (link_steps l.path.items) (members_of (members_view l.name-iterator))))
-    ≡ plus (kept l.initial.found) (flat_map (done root l.task) (member_nodes (link_steps l.initial.path.items) (members_of (members_view l.members.entries)))))
+    × (plus (put_found g.V.Visit.put) (kept g.V.Visit.kept l.found) (flat_map (done root l.task) (member_nodes (link_steps l.path) (members_of (members_view l.name-iterator))))
+    ≡ plus (put_found g.V.Visit.put) (kept g.V.Visit.kept l.initial.found) (flat_map (done root l.task) (member_nodes (link_steps l.initial.path) (members_of (members_view l.members.entries)))))
 
 abbrev pub invariant-any-loop-part : goal.invariant-any-loop-part
-invariant-any-loop-part l =
-    (l.path.items ≡ l.initial.path.items)
-    × (list_any (λ p. is_true (part_value l.root) p (here l.initial.path.items l.value)) (drop l.part-index l.parts)
-    ≡ list_any (λ p. is_true (part_value l.root) p (here l.initial.path.items l.value)) l.parts)
+invariant-any-loop-part g l =
+    (l.path ≡ l.initial.path)
+    × (list_any (λ p. is_true (part_value l.ground.root) p (here l.initial.path l.value)) (drop l.part-index l.parts)
+    ≡ list_any (λ p. is_true (part_value l.ground.root) p (here l.initial.path l.value)) l.parts)
 
 abbrev pub invariant-all-loop-part : goal.invariant-all-loop-part
-invariant-all-loop-part l =
-    (l.path.items ≡ l.initial.path.items)
-    × (list_all (λ p. is_true (part_value l.root) p (here l.initial.path.items l.value)) (drop l.part-index l.parts)
-    ≡ list_all (λ p. is_true (part_value l.root) p (here l.initial.path.items l.value)) l.parts)
+invariant-all-loop-part g l =
+    (l.path ≡ l.initial.path)
+    × (list_all (λ p. is_true (part_value l.ground.root) p (here l.initial.path l.value)) (drop l.part-index l.parts)
+    ≡ list_all (λ p. is_true (part_value l.ground.root) p (here l.initial.path l.value)) l.parts)

@@ -1,0 +1,7 @@
+-- What takers keep. Nobody has to believe this file: no public clause names it.
+use Rattle.std.specs.Prelude.{List, [], ◌∷◌, ◌++◌}
+use Rattle.jp_doc.specs.Location.{Location, Node}
+
+-- where the nodes are, and this one too
+abbrev pub put_location : List Location → Node → List Location
+put_location locations n = locations ++ n.location ∷ []

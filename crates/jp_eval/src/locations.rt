@@ -1,0 +1,63 @@
+//! The taker that keeps where each node is.
+
+ghost use Rattle.std.specs.Prelude.{◌≡◌, map, IfOk};
+ghost use Rattle.jp_doc.specs.Location.{step_of, location_of};
+ghost use Rattle.jp_trail.specs.Links.{link_step, link_steps};
+ghost use Rattle.jp_eval.specs.Taken.{put_location};
+
+use crate::visit::Visit;
+use jp_doc::{Location, Step};
+use jp_trail::{Link, Trail};
+use serde_json::Value;
+use std::alloc::{AllocError, Global};
+
+/// Where each node is.
+#[derive(Drop)]
+pub(crate) struct Locations {
+    pub(crate) locations: Vec<Location>,
+}
+
+impl Visit for Locations {
+    ghost use Rattle.std.specs.Prelude.{List};
+    ghost use Rattle.jp_doc.specs.Location.{Location};
+
+    ghost Kept = { List Location };
+
+    ghost kept = { λ t. map location_of t.locations.items };
+
+    ghost put = { put_location };
+
+    fn node(
+        &mut self,
+        alloc: Global,
+        trail: &mut Trail<'_>,
+        _value: &Value,
+    ) -> Result<(), AllocError> {
+        self.locations.push(location(alloc, trail.links())?)?;
+        Ok(())
+    }
+
+    fn is_full(&self) -> bool {
+        false
+    }
+}
+
+fn step(alloc: Global, link: Link<'_>) -> Result<Step, AllocError>
+    ensures { IfOk result (λ s. step_of s ≡ link_step link.entry) }
+{
+    match link {
+        Link::Name(name) => Ok(Step::Name(String::from_str(alloc, name)?)),
+        Link::Index(index) => Ok(Step::Index(index)),
+    }
+}
+
+/// The location that the links lead to.
+fn location(alloc: Global, links: &[Link<'_>]) -> Result<Location, AllocError>
+    ensures { IfOk result (λ l. location_of l ≡ link_steps links.now) }
+{
+    let mut steps = Vec::with_capacity(alloc, links.len())?;
+    for link in links {
+        steps.push(step(alloc, *link)?)?;
+    }
+    Ok(Location { steps })
+}

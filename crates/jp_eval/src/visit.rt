@@ -1,0 +1,44 @@
+//! What a walk hands its nodes to.
+
+ghost use Rattle.std.specs.Prelude.{◌≡◌, IsTrue, OnOk, false};
+ghost use Rattle.serde_json.specs.View.{view};
+ghost use Rattle.serde_json.specs.Written.{has_float};
+ghost use Rattle.jp_doc.specs.Json.{value_of};
+ghost use Rattle.jp_doc.specs.Location.{Node, node};
+ghost use Rattle.jp_trail.specs.Links.{link_steps};
+
+use jp_trail::Trail;
+use serde_json::Value;
+use std::alloc::{AllocError, Global};
+
+/// What takes the nodes that a walk finds, one after another.
+///
+/// What it keeps of them is a state, and what a node does to it.
+pub trait Visit {
+    /// What is kept of the nodes.
+    ghost Kept: { Type 0 };
+
+    /// What it has kept so far.
+    ghost kept: { Self → Kept };
+
+    /// What is kept once this node is taken too.
+    ghost put: { Kept → Node → Kept };
+
+    /// Takes the node at the trail, whose value is this one. All numbers of the value are whole.
+    ///
+    /// `AllocError` if a growth was refused. The trail is as before, whatever the answer.
+    fn node(
+        &mut self,
+        alloc: Global,
+        trail: &mut Trail<'_>,
+        value: &Value,
+    ) -> Result<(), AllocError>
+        requires { has_float (view value.now) ≡ false }
+        ensures kept { OnOk result (kept self.new
+            ≡ put (kept self.old) (node (link_steps trail.old) (value_of value.now))) }
+        ensures trail { trail.new ≡ trail.old };
+
+    /// Whether a further node would change nothing.
+    fn is_full(&self) -> bool
+        ensures { IsTrue result → (n : Node) → put (kept self.now) n ≡ kept self.now };
+}
