@@ -74,8 +74,9 @@ pub fn evaluate(alloc: Global, plan: &Plan, document: &Document) -> Result<Vec<L
         map location_of found.items ≡ map (λ n. n.location)
         (document_nodes t (planned_query plan.now) (document_value document.now))) }
 {
-    let taker = Locations {
+    let none = Locations {
         locations: Vec::new(alloc),
     };
-    Ok(visit_nodes(alloc, plan, document, taker)?.locations)
+    let taker = visit_nodes(alloc, plan, document, none)?;
+    Ok(taker.locations)
 }

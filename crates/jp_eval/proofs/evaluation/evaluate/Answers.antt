@@ -8,7 +8,9 @@ use Rattle.jp_eval.specs.Taken.{put_location}
 use Rattle.jp_eval.proofs.Taking.{locations_fold}
 use Rattle.jp_eval.proofs.evaluation.evaluate.Goals as goal
 
-pub returns-clause-nodes : goal.returns-clause-nodes
-returns-clause-nodes c = λ t right.
-    let ns = document_nodes t (planned_query c.args.plan.now) (document_value c.args.document.now) in
-    c.in_ok-visit_nodes.ensures t right ∙ ap (λ xs. fold put_location (map location_of xs) ns) c.new.ensures.items ∙ locations_fold [] ns
+pub returns : goal.returns
+returns c = record {
+  nodes = λ t right.
+      let ns = document_nodes t (planned_query c.args.plan.now) (document_value c.args.document.now) in
+      c.in_ok-taker.ensures t right ∙ ap (λ xs. fold put_location (map location_of xs) ns) c.new.ensures.items ∙ locations_fold [] ns;
+}
