@@ -1,4 +1,5 @@
 pub mod OnLiterals
 pub mod OwnNode
 pub mod PathBytes
-
+pub mod Written
+pub mod Taken

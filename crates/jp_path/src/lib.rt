@@ -3,8 +3,11 @@
 
 mod examples;
 pub mod laws;
+mod node_lines;
 mod output_line;
 mod path;
+mod value_text;
 
+pub use node_lines::NodeLines;
 pub use output_line::write_line;
 pub use path::write_path;

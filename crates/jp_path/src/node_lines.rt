@@ -1,0 +1,128 @@
+//! The taker that writes the output line of each node.
+
+ghost use Rattle.std.specs.Prelude.{◌≡◌, ◌++◌, ◌∷◌, [], false, decimal, encode_utf8_all, OnOk, OnErr};
+ghost use Rattle.serde_json.specs.View.{view};
+ghost use Rattle.serde_json.specs.Written.{has_float, compact_text};
+ghost use Rattle.jp_doc.specs.Json.{value_of};
+ghost use Rattle.jp_trail.specs.Links.{link_steps};
+ghost use Rattle.jp_trail.specs.Path.{path_text};
+ghost use Rattle.jp_path.specs.OutputLine.{line_text};
+
+use crate::value_text::append_text;
+use itoa::Buffer;
+use jp_eval::Visit;
+use jp_trail::Trail;
+use serde_json::Value;
+use std::alloc::{AllocError, Global};
+use std::marker::Model;
+
+/// Takes nodes as the output lines of a document with a number, behind those of the documents before it.
+///
+/// Its meaning is that number and the bytes of all lines so far. Lines are made in a buffer that is used again, so that a
+/// node takes no allocation but the growth of what is written.
+#[derive(Drop)]
+pub struct NodeLines {
+    number: u64,
+    line: Vec<u8>,
+    out: Vec<u8>,
+}
+
+impl Model for NodeLines {
+    ghost use Rattle.std.specs.Prelude.{ℕ, List};
+
+    ghost Value = { ℕ × List ℕ };
+
+    ghost view = { λ t. (t.number, t.out.items) };
+}
+
+impl NodeLines {
+    /// No lines, of a document with the number 0. It takes no memory.
+    pub fn new(alloc: Global) -> NodeLines
+        ensures { result ≡ (0, []) }
+    {
+        NodeLines {
+            number: 0,
+            line: Vec::new(alloc),
+            out: Vec::new(alloc),
+        }
+    }
+
+    /// Begins the lines of a document with this number.
+    pub fn begin(&mut self, number: u64)
+        ensures { self.new ≡ (number, self.old.1) }
+    {
+        self.number = number;
+    }
+
+    /// The bytes of all lines.
+    pub fn into_bytes(self) -> Vec<u8>
+        ensures { result.items ≡ self.1 }
+    {
+        self.out
+    }
+}
+
+impl Visit for NodeLines {
+    ghost use Rattle.std.specs.Prelude.{ℕ, List};
+    ghost use Rattle.jp_path.specs.OutputLine.{put_line};
+
+    ghost Kept = { ℕ × List ℕ };
+
+    ghost kept = { λ t. t };
+
+    ghost put = { put_line };
+
+    fn node(&mut self, alloc: Global, trail: &mut Trail<'_>, value: &Value) -> Result<(), AllocError> {
+        write_node(alloc, self.number, trail, value, &mut self.line, &mut self.out)
+    }
+
+    fn is_full(&self) -> bool {
+        false
+    }
+}
+
+/// Appends the output line of the node at the trail. The line is made in `line`, whose room serves the next one.
+///
+/// After an `AllocError`, which says that a growth was refused, `out` is as before.
+fn write_node(
+    alloc: Global,
+    number: u64,
+    trail: &mut Trail<'_>,
+    value: &Value,
+    line: &mut Vec<u8>,
+    out: &mut Vec<u8>,
+) -> Result<(), AllocError>
+    requires { has_float (view value.now) ≡ false }
+    ensures same { trail.new ≡ trail.old }
+    ensures ok { OnOk result (out.new.items
+        ≡ out.old.items ++ line_text number (link_steps trail.old) (value_of value.now)) }
+    ensures err { OnErr result (out.new.items ≡ out.old.items) }
+{
+    line.clear();
+    append_parts(alloc, number, trail, value, line)?;
+    out.extend_from_slice(line.as_slice())?;
+    Ok(())
+}
+
+/// Appends the parts of a line, and on an error some of them.
+fn append_parts(
+    alloc: Global,
+    number: u64,
+    trail: &mut Trail<'_>,
+    value: &Value,
+    line: &mut Vec<u8>,
+) -> Result<(), AllocError>
+    requires { has_float (view value.now) ≡ false }
+    ensures same { trail.new ≡ trail.old }
+    ensures ok { OnOk result (line.new.items ≡ line.old.items ++ (decimal number
+        ++ (9 ∷ encode_utf8_all (path_text (link_steps trail.old)) ++ (9 ∷ compact_text (view value.now) ++ 10 ∷ [])))) }
+{
+    let mut buffer = Buffer::new();
+    line.extend_from_slice(buffer.format(number).as_bytes())?;
+    line.push(b'\t')?;
+    trail.append_path(line)?;
+    line.push(b'\t')?;
+    append_text(alloc, value, line)?;
+    line.push(b'\n')?;
+    Ok(())
+}
