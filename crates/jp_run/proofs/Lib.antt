@@ -1,6 +1,5 @@
 pub mod OnLiterals
 pub mod Pieces
 pub mod Handed
-pub mod NodeLines
 pub mod Taken
 pub mod Runs

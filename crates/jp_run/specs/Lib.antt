@@ -2,6 +2,5 @@ pub mod Answer
 pub mod Answered
 pub mod Counts
 pub mod Limits
-pub mod LineAt
 pub mod Status
 pub mod Written

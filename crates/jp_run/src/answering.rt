@@ -1,20 +1,17 @@
 //! The answer to numbered lines, on one thread.
 
-ghost use Rattle.std.specs.Prelude.{◌≡◌, ◌++◌, IfOk, OnOk, map};
+ghost use Rattle.std.specs.Prelude.{◌≡◌, ◌++◌, IfOk, map};
 ghost use Rattle.jp_doc.specs.Document.{document_value};
 ghost use Rattle.jp_doc.specs.Lines.{line_of};
-ghost use Rattle.jp_doc.specs.Location.{location_of};
-ghost use Rattle.jp_doc.specs.Rising.{IsRising};
 ghost use Rattle.jp_check.specs.Plan.{planned_query};
 ghost use Rattle.jp_regexp.specs.Tests.{Tests, AreRight};
 ghost use Rattle.jp_run.specs.Answer.{answer, document_lines};
 ghost use Rattle.jp_run.specs.Answered.{answer_of};
-ghost use Rattle.jp_run.specs.LineAt.{line_at};
 
 use jp_check::Plan;
-use jp_doc::{DocFault, Document, Line, Location};
-use jp_eval::evaluate;
-use jp_path::write_line;
+use jp_doc::{DocFault, Document, Line};
+use jp_eval::visit_nodes;
+use jp_path::NodeLines;
 use std::alloc::{AllocError, Global};
 
 /// The output lines of the documents before the first faulty line, and that line.
@@ -35,13 +32,13 @@ pub(crate) struct DocStop {
 ///
 /// `AllocError` if a growth was refused.
 pub(crate) fn answer_lines(alloc: Global, plan: &Plan, lines: &[Line]) -> Result<Answer, AllocError>
-    ensures { IfOk result (λ a. (t : Tests) → AreRight t
-        → answer t (planned_query plan.now) (map line_of lines.now) ≡ answer_of a) }
+    ensures { IfOk result (λ a. (t : Tests) → AreRight t →
+        answer t (planned_query plan.now) (map line_of lines.now) ≡ answer_of a) }
 {
-    let mut bytes = Vec::new(alloc);
+    let mut written = NodeLines::new(alloc);
     for line in lines {
         match Document::read(alloc, &line.bytes) {
-            Ok(document) => append_nodes(alloc, plan, line.number, &document, &mut bytes)?,
+            Ok(document) => written = with_nodes(alloc, plan, line.number, &document, written)?,
             Err(DocFault::Memory) => return Err(AllocError),
             Err(fault) => {
                 let stop = DocStop {
@@ -49,52 +46,33 @@ pub(crate) fn answer_lines(alloc: Global, plan: &Plan, lines: &[Line]) -> Result
                     fault,
                 };
                 return Ok(Answer {
-                    bytes,
+                    bytes: written.into_bytes(),
                     stopped: Some(stop),
                 });
             }
         }
     }
     Ok(Answer {
-        bytes,
+        bytes: written.into_bytes(),
         stopped: None,
     })
 }
 
-/// Appends the output lines of the nodes that the query selects in a document.
-fn append_nodes(
+/// The lines so far, and those of the nodes that the query selects in a document.
+fn with_nodes(
     alloc: Global,
     plan: &Plan,
     number: u64,
     document: &Document,
-    out: &mut Vec<u8>,
-) -> Result<(), AllocError>
-    requires { IsRising (document_value document.now) }
-    ensures { OnOk result ((t : Tests) → AreRight t → out.new.items
-        ≡ out.old.items ++ document_lines t (planned_query plan.now) number (document_value document.now)) }
+    written: NodeLines,
+) -> Result<NodeLines, AllocError>
+    ensures { IfOk result (λ w. (t : Tests) → AreRight t →
+        w.1 ≡ written.1 ++ document_lines t (planned_query plan.now) number (document_value document.now)) }
 {
-    let Ok(locations) = evaluate(alloc, plan, document) else {
+    let mut taker = written;
+    taker.begin(number);
+    let Ok(written) = visit_nodes(alloc, plan, document, taker) else {
         return Err(AllocError);
     };
-    for location in &locations {
-        append_node(alloc, number, document, location, out)?;
-    }
-    Ok(())
-}
-
-/// Appends the output line of the node at a location, where the location leads to one.
-fn append_node(
-    alloc: Global,
-    number: u64,
-    document: &Document,
-    location: &Location,
-    out: &mut Vec<u8>,
-) -> Result<(), AllocError>
-    ensures { OnOk result (out.new.items ≡ out.old.items ++ line_at number (document_value document.now)
-        (location_of location.now)) }
-{
-    match document.at(&location.steps) {
-        Some(value) => write_line(alloc, number, location, value, out),
-        None => Ok(()),
-    }
+    Ok(written)
 }

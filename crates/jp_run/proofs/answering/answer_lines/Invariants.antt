@@ -7,4 +7,4 @@ use Rattle.jp_run.proofs.answering.answer_lines.Given as goal
 
 abbrev pub invariant-loop-line : goal.invariant-loop-line
 invariant-loop-line l = (t : Tests) → AreRight t → answer t (planned_query l.plan) (map line_of l.lines)
-    ≡ after l.bytes.items (answer t (planned_query l.plan) (map line_of (drop l.line-index l.lines)))
+    ≡ after l.written.1 (answer t (planned_query l.plan) (map line_of (drop l.line-index l.lines)))

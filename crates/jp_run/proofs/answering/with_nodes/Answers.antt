@@ -1,0 +1,13 @@
+use Rattle.std.proofs.Common.{ap, ◌∙◌}
+use Rattle.std.specs.List.{fold}
+use Rattle.jp_doc.specs.Document.{document_value}
+use Rattle.jp_check.specs.Plan.{planned_query}
+use Rattle.jp_eval.specs.Nodelist.{document_nodes}
+use Rattle.jp_path.specs.OutputLine.{put_line}
+use Rattle.jp_path.proofs.Taken.{lines_fold}
+use Rattle.jp_run.proofs.answering.with_nodes.Goals as goal
+
+pub returns : goal.returns
+returns c = λ t right.
+    let ns = document_nodes t (planned_query c.args.plan.now) (document_value c.args.document.now) in
+    ap (λ w. w.1) (c.in-Ok.ensures t right ∙ ap (λ k. fold put_line k ns) c.begin.ensures ∙ lines_fold c.args.number c.args.written.1 ns)
