@@ -36,8 +36,10 @@ impl From<AllocError> for EvalFault {
     }
 }
 
-/// Hands the nodes that a query selects in a document to the taker, in the order of its nodelist (RFC 9535, 2.1.2), as
-/// long as one more would change something, and gives the taker back: a node that is selected more than once comes as often.
+/// Hands the nodes that a query selects in a document to the taker, in the order of its nodelist (RFC 9535,
+/// 2.1.2), as
+/// long as one more would change something, and gives the taker back: a node that is selected more than once
+/// comes as often.
 ///
 /// # Errors
 ///
@@ -63,7 +65,8 @@ pub fn visit_nodes<V: Visit + Drop>(
     }
 }
 
-/// The locations of the nodes that a query selects in a document, in the order of its nodelist (RFC 9535, 2.1.2): a node
+/// The locations of the nodes that a query selects in a document, in the order of its nodelist (RFC 9535,
+/// 2.1.2): a node
 /// that is selected more than once stands there as often.
 ///
 /// # Errors

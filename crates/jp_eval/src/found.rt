@@ -2,7 +2,8 @@
 
 ghost use Rattle.std.specs.Prelude.{◌≡◌, ◌+◌, IsTrue, IfSome, IfOk, OnOk, Some, option_map};
 ghost use Rattle.jp_doc.specs.Location.{Node};
-ghost use Rattle.jp_eval.specs.Kept.{kept, put_found, taken, kept_first, kept_count, kept_only, alone_of, put_alone, alone_value};
+ghost use Rattle.jp_eval.specs.Kept.{kept, put_found, taken, kept_first, kept_count, kept_only, alone_of};
+ghost use Rattle.jp_eval.specs.Kept.{put_alone, alone_value};
 ghost use Rattle.jp_eval.specs.Functions.{number_value};
 ghost use Rattle.jp_eval.specs.Links.{here};
 ghost use Rattle.jp_eval.specs.Operands.{operand_value, HasWholeNumbers};

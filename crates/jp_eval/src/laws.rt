@@ -30,9 +30,11 @@ pub fn slice()
     ensures falling { (first past : Option ℤ) (step : ℤ) (len : ℕ) → IsTrue (int_lt step (pos 0))
         → FallsBelow len (slice_indexes (slice_bounds first past (Some step) len) len) }
     ensures bounds_of_rising { (first past : Option ℤ) (step : ℤ) (len : ℕ) → int_lt step (pos 0) ≡ false
-        → (pos 0 ≤ℤ (slice_bounds first past (Some step) len).lower) × ((slice_bounds first past (Some step) len).upper ≤ℤ pos len) }
+        → (pos 0 ≤ℤ (slice_bounds first past (Some step) len).lower)
+        × ((slice_bounds first past (Some step) len).upper ≤ℤ pos len) }
     ensures bounds_of_falling { (first past : Option ℤ) (step : ℤ) (len : ℕ) → int_lt step (pos 0) ≡ true
-        → (negsuc 0 ≤ℤ (slice_bounds first past (Some step) len).lower) × ((slice_bounds first past (Some step) len).upper <ℤ pos len) }
+        → (negsuc 0 ≤ℤ (slice_bounds first past (Some step) len).lower)
+        × ((slice_bounds first past (Some step) len).upper <ℤ pos len) }
 {}
 
 /// `==` is equality of values, and so reflexive; it holds of two nothings; `a <= b` is `a < b` or `a == b`.

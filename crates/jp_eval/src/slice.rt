@@ -192,7 +192,8 @@ pub(crate) fn bounds_of(slice: &Slice, len: u32) -> Bounds
     ensures within { AreWithin (bounds_value result) len }
     ensures indexes { spec.slice_indexes (bounds_value result) len
         ≡ spec.slice_indexes (spec.slice_bounds (written_value (option_map text_of slice.now.first))
-        (written_value (option_map text_of slice.now.past)) (written_value (option_map text_of slice.now.step)) len) len }
+        (written_value (option_map text_of slice.now.past))
+        (written_value (option_map text_of slice.now.step)) len) len }
 {
     let first = written(&slice.first);
     let past = written(&slice.past);

@@ -67,7 +67,8 @@ pub(crate) fn find<'v, V: Visit + Drop>(
     found: &mut Found<'v, V>,
 ) -> Result<(), AllocError>
     ensures found { OnOk result (kept V.kept found.new
-        ≡ plus (put_found V.put) (kept V.kept found.old) (spec.nodelist tests (part_value ground.now.root) (query_of query.now)
+        ≡ plus (put_found V.put) (kept V.kept found.old)
+        (spec.nodelist tests (part_value ground.now.root) (query_of query.now)
         (here path.old value.entry))) }
     ensures path { OnOk result (path.new ≡ path.old) }
 {
@@ -90,7 +91,8 @@ fn go<'v, V: Visit + Drop>(
     found: &mut Found<'v, V>,
 ) -> Result<(), AllocError>
     ensures found { OnOk result (kept V.kept found.new
-        ≡ plus (put_found V.put) (kept V.kept found.old) (done (part_value ground.now.root) task.entry (here path.old value.entry))) }
+        ≡ plus (put_found V.put) (kept V.kept found.old)
+        (done (part_value ground.now.root) task.entry (here path.old value.entry))) }
     ensures path { OnOk result (path.new ≡ path.old) }
 {
     match task {
@@ -278,7 +280,8 @@ fn each_child<'v, V: Visit + Drop>(
     found: &mut Found<'v, V>,
 ) -> Result<(), AllocError>
     ensures found { OnOk result (kept V.kept found.new
-        ≡ plus (put_found V.put) (kept V.kept found.old) (flat_map (done (part_value ground.now.root) task.entry)
+        ≡ plus (put_found V.put) (kept V.kept found.old)
+        (flat_map (done (part_value ground.now.root) task.entry)
         (children (here path.old value.entry)))) }
     ensures path { OnOk result (path.new ≡ path.old) }
 {
@@ -300,7 +303,8 @@ fn each_item<'v, V: Visit + Drop>(
     requires inside { All IsDocumentValue items.now.items }
     requires short { length items.now.items ≤ 16777216 }
     ensures found { OnOk result (kept V.kept found.new
-        ≡ plus (put_found V.put) (kept V.kept found.old) (flat_map (done (part_value ground.now.root) task.entry)
+        ≡ plus (put_found V.put) (kept V.kept found.old)
+        (flat_map (done (part_value ground.now.root) task.entry)
         (item_nodes (link_steps path.old) 0 (items_of (items_view items.now.items))))) }
     ensures path { OnOk result (path.new ≡ path.old) }
 {
@@ -325,7 +329,8 @@ fn each_member<'v, V: Visit + Drop>(
 ) -> Result<(), AllocError>
     requires { All (λ m. IsDocumentValue m.1) members.now.entries }
     ensures found { OnOk result (kept V.kept found.new
-        ≡ plus (put_found V.put) (kept V.kept found.old) (flat_map (done (part_value ground.now.root) task.entry)
+        ≡ plus (put_found V.put) (kept V.kept found.old)
+        (flat_map (done (part_value ground.now.root) task.entry)
         (member_nodes (link_steps path.old) (members_of (members_view members.now.entries))))) }
     ensures path { OnOk result (path.new ≡ path.old) }
 {
@@ -368,7 +373,8 @@ fn hand_nodes<'v, V: Visit + Drop>(
     found: &mut Found<'v, V>,
 ) -> Result<(), AllocError>
     ensures found { OnOk result (kept V.kept found.new
-        ≡ plus (put_found V.put) (kept V.kept found.old) (as_nodes (spec.handed tests (part_value ground.now.root)
+        ≡ plus (put_found V.put) (kept V.kept found.old)
+        (as_nodes (spec.handed tests (part_value ground.now.root)
         (argument_of argument.now) (here path.old value.entry)))) }
     ensures path { OnOk result (path.new ≡ path.old) }
 {

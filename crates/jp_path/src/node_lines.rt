@@ -18,7 +18,8 @@ use std::marker::Model;
 
 /// Takes nodes as the output lines of a document with a number, behind those of the documents before it.
 ///
-/// Its meaning is that number and the bytes of all lines so far. Lines are made in a buffer that is used again, so that a
+/// Its meaning is that number and the bytes of all lines so far. Lines are made in a buffer that is used
+/// again, so that a
 /// node takes no allocation but the growth of what is written.
 #[derive(Drop)]
 pub struct NodeLines {
@@ -81,7 +82,8 @@ impl Visit for NodeLines {
     }
 }
 
-/// Appends the output line of the node at the trail. The line is made in `line`, whose room serves the next one.
+/// Appends the output line of the node at the trail. The line is made in `line`, whose room serves the next
+/// one.
 ///
 /// After an `AllocError`, which says that a growth was refused, `out` is as before.
 fn write_node(
@@ -115,7 +117,8 @@ fn append_parts(
     requires { has_float (view value.now) ≡ false }
     ensures same { trail.new ≡ trail.old }
     ensures ok { OnOk result (line.new.items ≡ line.old.items ++ (decimal number
-        ++ (9 ∷ encode_utf8_all (path_text (link_steps trail.old)) ++ (9 ∷ compact_text (view value.now) ++ 10 ∷ [])))) }
+        ++ (9 ∷ encode_utf8_all (path_text (link_steps trail.old)) ++
+        (9 ∷ compact_text (view value.now) ++ 10 ∷ [])))) }
 {
     let mut buffer = Buffer::new();
     line.extend_from_slice(buffer.format(number).as_bytes())?;

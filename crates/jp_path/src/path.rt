@@ -42,7 +42,8 @@ pub(crate) fn append_path(location: &Location, out: &mut Vec<u8>) -> Result<(), 
 
 /// Appends `['name']` or `[index]`.
 fn append_step(step: &Step, out: &mut Vec<u8>) -> Result<(), AllocError>
-    ensures ok { OnOk result (out.new.items ≡ out.old.items ++ encode_utf8_all (step_text (step_of step.now))) }
+    ensures ok { OnOk result (out.new.items ≡ out.old.items ++ encode_utf8_all
+        (step_text (step_of step.now))) }
     ensures text { OnOk result (IsUtf8 out.old.items → IsUtf8 out.new.items) }
     ensures kept { Extends out.old.items out.new.items }
 {

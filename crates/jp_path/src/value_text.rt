@@ -7,7 +7,8 @@ ghost use Rattle.json.specs.Token.{number};
 ghost use Rattle.json.specs.Tree.{json_tokens, items_tokens, members_tokens};
 ghost use Rattle.serde_json.specs.Find.{is_float};
 ghost use Rattle.serde_json.specs.View.{view, number_view, items_view, members_view};
-ghost use Rattle.serde_json.specs.Written.{has_float, items_have_float, members_have_float, compact_text, number_text, outline, items_outline, members_outline};
+ghost use Rattle.serde_json.specs.Written.{has_float, items_have_float, members_have_float, compact_text};
+ghost use Rattle.serde_json.specs.Written.{number_text, outline, items_outline, members_outline};
 
 use itoa::Buffer;
 use json::Writer;
@@ -17,7 +18,8 @@ use std::mem;
 
 /// Appends the compact text of a value whose numbers are whole, with no allocation but the growth of `out`.
 ///
-/// It is meant for an `out` that is short: the JSON crate's writer, which texts, arrays and objects go through, clears as
+/// It is meant for an `out` that is short: the JSON crate's writer, which texts, arrays and objects go
+/// through, clears as
 /// many bytes as `out` holds.
 pub(crate) fn append_text(alloc: Global, value: &Value, out: &mut Vec<u8>) -> Result<(), AllocError>
     requires { has_float (view value.now) ≡ false }
@@ -74,7 +76,8 @@ fn append_tokens(alloc: Global, value: &Value, out: &mut Vec<u8>) -> Result<(), 
 /// Writes the tokens of a value.
 #[cycle(write)]
 fn write(value: &Value, out: &mut Writer) -> Result<(), AllocError>
-    ensures ok { OnOk result (has_float (view value.now) ≡ false → out.new.tokens ≡ out.old.tokens ++ json_tokens (outline (view value.now))) }
+    ensures ok { OnOk result (has_float (view value.now) ≡ false → out.new.tokens
+        ≡ out.old.tokens ++ json_tokens (outline (view value.now))) }
     ensures before { out.new.before ≡ out.old.before }
 {
     match value {
@@ -96,7 +99,8 @@ fn write(value: &Value, out: &mut Writer) -> Result<(), AllocError>
 /// Writes the items and the closing bracket.
 #[cycle(write)]
 fn write_items(items: &Vec<Value>, out: &mut Writer) -> Result<(), AllocError>
-    ensures ok { OnOk result (items_have_float (items_view items.now.items) ≡ false → out.new.tokens ≡ out.old.tokens ++ items_tokens (items_outline (items_view items.now.items))) }
+    ensures ok { OnOk result (items_have_float (items_view items.now.items) ≡ false → out.new.tokens
+        ≡ out.old.tokens ++ items_tokens (items_outline (items_view items.now.items))) }
     ensures before { out.new.before ≡ out.old.before }
 {
     for item in items {
@@ -108,7 +112,8 @@ fn write_items(items: &Vec<Value>, out: &mut Writer) -> Result<(), AllocError>
 /// Writes the members and the closing bracket.
 #[cycle(write)]
 fn write_members(members: &Map<String, Value>, out: &mut Writer) -> Result<(), AllocError>
-    ensures ok { OnOk result (members_have_float (members_view members.now.entries) ≡ false → out.new.tokens ≡ out.old.tokens ++ members_tokens (members_outline (members_view members.now.entries))) }
+    ensures ok { OnOk result (members_have_float (members_view members.now.entries) ≡ false → out.new.tokens
+        ≡ out.old.tokens ++ members_tokens (members_outline (members_view members.now.entries))) }
     ensures before { out.new.before ≡ out.old.before }
 {
     for (key, member) in members.iter() {
@@ -120,7 +125,8 @@ fn write_members(members: &Map<String, Value>, out: &mut Writer) -> Result<(), A
 
 /// Writes a whole number.
 fn write_number(whole: &Number, out: &mut Writer) -> Result<(), AllocError>
-    ensures ok { OnOk result (is_float (number_view whole.now) ≡ false → out.new.tokens ≡ out.old.tokens ++ number (number_text (number_view whole.now)) ∷ []) }
+    ensures ok { OnOk result (is_float (number_view whole.now) ≡ false → out.new.tokens
+        ≡ out.old.tokens ++ number (number_text (number_view whole.now)) ∷ []) }
     ensures before { out.new.before ≡ out.old.before }
 {
     match (whole.as_u64(), whole.as_i64()) {

@@ -41,7 +41,8 @@ pub(crate) fn gather<S: Source>(alloc: Global, source: &mut S) -> Result<Gathere
     ensures ok { OnOk result (S.failed source.new ≡ false) }
     ensures read { IsErrOf result RunFault.Read → S.failed source.new ≡ true }
     ensures limit { IsErrOf result RunFault.Limit → (S.reads source.new ≡ S.reads source.old + max_reads)
-        ⊎ ((input : List ℕ) × Consumes (S.remaining source.old) (S.remaining source.new) input × (max_lines < line_count input)) }
+        ⊎ ((input : List ℕ) × Consumes (S.remaining source.old) (S.remaining source.new) input
+        × (max_lines < line_count input)) }
     ensures faults { OnErr result (IsErrOf result RunFault.Read ⊎ IsErrOf result RunFault.Limit
         ⊎ IsErrOf result RunFault.Memory) }
     ensures few { S.reads source.new ≤ S.reads source.old + max_reads }

@@ -81,7 +81,8 @@ pub fn run<S: Source, K: Sink>(
     ensures read { IsErrOf result RunFault.Read → (S.failed source.new ≡ true) × (sink.new ≡ sink.old) }
     ensures write { IsErrOf result RunFault.Write → K.failed sink.new ≡ true }
     ensures limit { IsErrOf result RunFault.Limit → (S.reads source.new ≡ S.reads source.old + max_reads)
-        ⊎ ((input : List ℕ) × Consumes (S.remaining source.old) (S.remaining source.new) input × (max_lines < line_count input)) }
+        ⊎ ((input : List ℕ) × Consumes (S.remaining source.old) (S.remaining source.new) input
+        × (max_lines < line_count input)) }
     // Whatever the fault, a front of the answer was written.
     ensures front { OnErr result (IfSome (S.remaining source.old) (λ input. (a : Answer)
         → IsAnswerTo (chars query.now) input a
