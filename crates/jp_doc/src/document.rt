@@ -60,7 +60,7 @@ impl Document {
     fn of_value(root: Value) -> Result<Document, DocFault>
         requires nesting { depth (view root) ≤ 127 }
         requires rising { IsRising (value_of root) }
-        ensures { answer_of result ≡ document_from (Some (view root)) }
+        ensures answer { answer_of result ≡ document_from (Some (view root)) }
     {
         match fault_within(&root, MAX_ITEMS) {
             Some(fault) => Err(fault),

@@ -14,7 +14,7 @@ use serde_json::{Map, Value};
 /// What is wrong with a value, however deep: `NotWhole` if some number is no whole number of 64 bits, or else
 /// `LongArray` if some array has more than `limit` items.
 pub fn fault_within(value: &Value, limit: usize) -> Option<DocFault>
-    ensures { result ≡ fault_of limit (view value.now) }
+    ensures fault { result ≡ fault_of limit (view value.now) }
 {
     match long_within(value, limit) {
         Ok(false) => None,
@@ -28,7 +28,7 @@ pub fn fault_within(value: &Value, limit: usize) -> Option<DocFault>
 /// `NotWhole` where some number, however deep, is not whole.
 #[cycle(limits)]
 fn long_within(value: &Value, limit: usize) -> Result<bool, DocFault>
-    ensures { result ≡ tested (has_float (view value.now)) (has_long_array limit (value_of value.now)) }
+    ensures long { result ≡ tested (has_float (view value.now)) (has_long_array limit (value_of value.now)) }
 {
     match value {
         Value::Null | Value::Bool(_) | Value::String(_) => Ok(false),
@@ -42,7 +42,7 @@ fn long_within(value: &Value, limit: usize) -> Result<bool, DocFault>
 /// The same of the items of an array.
 #[cycle(limits)]
 fn long_within_items(items: &Vec<Value>, limit: usize) -> Result<bool, DocFault>
-    ensures { result ≡ tested (items_have_float (items_view items.now.items))
+    ensures long { result ≡ tested (items_have_float (items_view items.now.items))
         (items_have_long_array limit (items_of (items_view items.now.items))) }
 {
     let mut long = false;
@@ -55,7 +55,7 @@ fn long_within_items(items: &Vec<Value>, limit: usize) -> Result<bool, DocFault>
 /// The same of the members of an object.
 #[cycle(limits)]
 fn long_within_members(members: &Map<String, Value>, limit: usize) -> Result<bool, DocFault>
-    ensures { result ≡ tested (members_have_float (members_view members.now.entries))
+    ensures long { result ≡ tested (members_have_float (members_view members.now.entries))
         (members_have_long_array limit (members_of (members_view members.now.entries))) }
 {
     let mut long = false;

@@ -147,7 +147,7 @@ impl Lines {
 
 /// Whether a line holds nothing but white space.
 fn is_blank_line(line: &[u8]) -> bool
-    ensures { result ≡ is_blank line.now }
+    ensures blank { result ≡ is_blank line.now }
 {
     line.iter()
         .all(|byte| *byte == b' ' || *byte == b'\t' || *byte == b'\r')

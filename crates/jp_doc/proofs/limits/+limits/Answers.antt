@@ -25,8 +25,10 @@ pub long_within-returns-else-branch : goal.long_within-returns-else-branch
 long_within-returns-else-branch t c =
     let items = items_view c.in-Array.items.items in
     let within = items_have_long_array c.args.limit (items_of items) in
-    rw (c.in-Array.is, view-Array, length_items)
-    (ap (λ n. tested false (nat_lt c.args.limit n)) (c.len.ensures ∙ c.in-Array.items.ok.0)
-    ∙ sym (this_alone (items_have_float items) within _
-    (sym c.long_within_items.ensures ∙ c.in_ok-long_within_items-in-Array.was
-    ∙ ap (λ b. tested false b) c.if-branch.false)))
+    record {
+      long = rw (c.in-Array.is, view-Array, length_items)
+          (ap (λ n. tested false (nat_lt c.args.limit n)) (c.len.ensures ∙ c.in-Array.items.ok.0)
+          ∙ sym (this_alone (items_have_float items) within _
+          (sym c.long_within_items.ensures.long ∙ c.in_ok-long_within_items-in-Array.was
+          ∙ ap (λ b. tested false b) c.if-branch.false)));
+    }

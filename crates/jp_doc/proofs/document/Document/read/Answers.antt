@@ -41,7 +41,7 @@ pub returns-in-Ok-clause-ok : goal.returns-in-Ok-clause-ok
 returns-in-Ok-clause-ok c =
     let short : length c.args.line.now ≤ max_line = omega arith in
     ok_answer c.args.line.now c.of_value.result
-    (reading_read c.args.line.now (view c.in-Ok.root) short c.in-Ok.ensures.ok ∙ sym c.of_value.ensures)
+    (reading_read c.args.line.now (view c.in-Ok.root) short c.in-Ok.ensures.ok ∙ sym c.of_value.ensures.answer)
 
 pub returns-in-Ok-clause-rising : goal.returns-in-Ok-clause-rising
 returns-in-Ok-clause-rising c = rising_answer c.of_value.result
@@ -50,4 +50,4 @@ pub returns-in-Ok-clause-fault : goal.returns-in-Ok-clause-fault
 returns-in-Ok-clause-fault c =
     let short : length c.args.line.now ≤ max_line = omega arith in
     err_answer c.args.line.now c.of_value.result
-    (reading_read c.args.line.now (view c.in-Ok.root) short c.in-Ok.ensures.ok ∙ sym c.of_value.ensures)
+    (reading_read c.args.line.now (view c.in-Ok.root) short c.in-Ok.ensures.ok ∙ sym c.of_value.ensures.answer)
