@@ -38,9 +38,9 @@ after_claim v found = if nat_lt found v.pieces then with_claim v found else with
 abbrev pub with_view : BoardState → ℕ → View → BoardState
 with_view s seat v = record s { views = slice_set s.views seat v }
 
--- The seat, with what it knows, may take the step: a claim stands for some seat that was not yet told that no piece
--- is left, a report is of a piece that was claimed, a split is of a seat that has done nothing, a join is with
--- another seat.
+-- The seat, with what it knows, may take the step: a claim stands for some seat that was not yet told that
+-- no piece is left, a report is of a piece that was claimed, a split is of a seat that has done nothing, a
+-- join is with another seat.
 abbrev pub May : Event → View → Type 0
 May (claim seat) v = v.told < v.stands_for
 May (report seat piece) v = (0 < v.stands_for) × Contains v.claims piece

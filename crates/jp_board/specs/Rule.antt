@@ -8,8 +8,8 @@ use Rattle.jp_board.specs.Events.{BoardState, IsReached}
 abbrev pub state_of : State (Unit {0}) View → BoardState
 state_of s = record { next = slice_index s.words 0; least = slice_index s.words 1; views = s.views }
 
--- There are at most 4294967296 pieces and 64 seats, and events have led to the table's state from the first one.
--- Its two words are `next` and `least`; its key is the number of pieces and that of the seats.
+-- There are at most 4294967296 pieces and 64 seats, and events have led to the table's state from the first
+-- one. Its two words are `next` and `least`; its key is the number of pieces and that of the seats.
 pub record Holds (key : ℕ × ℕ) (s : State (Unit {0}) View) : Type 0 where
   pub words : length s.words ≡ 2
   pub in_range : (key.0 ≤ 4294967296) × (key.1 ≤ 64)

@@ -1,5 +1,5 @@
--- What each kind of step tells its caller: of the step, the seat before, the number found in the word, and the
--- seat after.
+-- What each kind of step tells its caller: of the step, the seat before, the number found in the word, and
+-- the seat after.
 use Rattle.std.specs.Prelude.{◌≡◌, ℕ, ◌<◌, ◌≤◌, All}
 use Rattle.atomic_table.specs.Table.{Me, Step}
 use Rattle.jp_board.specs.declared.view.View.{View}
@@ -10,8 +10,8 @@ use Rattle.jp_board.specs.Views.{with_claim, with_told, with_report, with_look}
 abbrev pub Place : Type 0
 Place = Me (Unit {0}) View
 
--- A number found below that of the pieces is claimed, and is above each earlier claim; else the seat is told that no
--- piece is left.
+-- A number found below that of the pieces is claimed, and is above each earlier claim; else the seat is
+-- told that no piece is left.
 abbrev pub Claims : Step (Unit {0}) → Place → ℕ → Place → Type 0
 Claims st old found new =
     (found < old.0.pieces → (new.0 ≡ with_claim old.0 found) × All (λ x. x < found) old.0.claims)

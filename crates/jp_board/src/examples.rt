@@ -51,8 +51,8 @@ fn words()
     ensures join_finds_next { (s : BoardState) → found_by (join 0 1) s ≡ s.next }
 {}
 
-// A seat is cut off, each of the two claims a piece and the second reports its own, the first looks and is told that
-// none is left, and the two are joined.
+// A seat is cut off, each of the two claims a piece and the second reports its own, the first looks and is
+// told that none is left, and the two are joined.
 #[tactic(auto, using(crate::proofs::Runs::one_run))]
 fn run()
     ensures { LeadTo (join 0 1 ∷ claim 0 ∷ look 0 ∷ report 1 1 ∷ claim 1 ∷ claim 0 ∷ split 0 ∷ [])
@@ -72,7 +72,6 @@ fn run()
         }) }
 {}
 
-#[tactic(auto, using(crate::proofs::Runs::told_no_claim, crate::proofs::Runs::unclaimed_no_report, crate::proofs::Runs::worked_no_split, crate::proofs::Runs::itself_no_join, crate::proofs::Runs::spent_no_look))]
 fn steps_that_may_not_be()
     ensures claim_of_the_told { ¬ May (claim 0) (worked [] [] [] 1) }
     ensures report_of_the_unclaimed { ¬ May (report 0 1) (worked (0 ∷ []) [] [] 0) }

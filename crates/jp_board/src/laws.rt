@@ -14,8 +14,8 @@ pub fn first_state_is_lawful()
         → IsLawful pieces made (first_state pieces made) }
 {}
 
-/// Each event, a claim, a report, a look, a split or a join, leads from a lawful state to a lawful one. So do any
-/// events, one after another, and so each state that they reach is lawful.
+/// Each event, a claim, a report, a look, a split or a join, leads from a lawful state to a lawful one. So
+/// do any events, one after another, and so each state that they reach is lawful.
 pub fn events_keep_lawful()
     ensures one { (pieces made : ℕ) (e : Event) (s t : BoardState) → IsLawful pieces made s → Happens e s t
         → IsLawful pieces made t }
@@ -27,8 +27,8 @@ pub fn events_keep_lawful()
         → IsLawful pieces made s }
 {}
 
-/// In a lawful state the word `next` is at most the number of pieces and 64 more, so that no claim makes it wrap;
-/// and `least` is at most the number of pieces.
+/// In a lawful state the word `next` is at most the number of pieces and 64 more, so that no claim makes it
+/// wrap; and `least` is at most the number of pieces.
 pub fn words_in_range()
     ensures next { (pieces made : ℕ) (s : BoardState) → IsLawful pieces made s → s.next ≤ pieces + 64 }
     ensures least { (pieces made : ℕ) (s : BoardState) → IsLawful pieces made s → s.least ≤ pieces }

@@ -8,7 +8,8 @@ use std::alloc::Global;
 
 pub(crate) type BoardTable = Table<(), View, (u64, u64), BoardRule, Global>;
 
-/// A caller's place at a board. It goes to the thread of its caller, and comes back before the board is closed.
+/// A caller's place at a board. It goes to the thread of its caller, and comes back before the board is
+/// closed.
 #[derive(Drop)]
 pub struct Seat {
     pub(crate) token: Token<(), View>,

@@ -20,7 +20,8 @@ fn no_counts(alloc: Global) -> Result<Vec<AtomicU64>, AllocError> {
     Ok(counts)
 }
 
-/// Claims until no piece is left, counts each claim, and reports what is 5,000 or more and a multiple of 1,000.
+/// Claims until no piece is left, counts each claim, and reports what is 5,000 or more and a multiple of
+/// 1,000.
 fn claims_all(board: &Board, mut seat: Seat, counts: &[AtomicU64]) -> Seat
     requires { IsSeatOf board.now seat }
     ensures { IsSeatOf board.now result }

@@ -38,9 +38,10 @@ impl Document {
 
     /// The document that a line holds (RFC 8259).
     ///
-    /// `LongLine` if the line has more than 268,435,456 bytes, which takes no memory to tell. Then `Unreadable` if
-    /// it holds no JSON text, `NotWhole` if some number is no whole number of 64 bits, `LongArray` if some array has
-    /// more than 16,777,216 items, and `Memory` in the place of any answer but `LongLine` if a growth was refused.
+    /// `LongLine` if the line has more than 268,435,456 bytes, which takes no memory to tell. Then
+    /// `Unreadable` if it holds no JSON text, `NotWhole` if some number is no whole number of 64 bits,
+    /// `LongArray` if some array has more than 16,777,216 items, and `Memory` in the place of any answer
+    /// but `LongLine` if a growth was refused.
     pub fn read(alloc: Global, line: &[u8]) -> Result<Document, DocFault>
         ensures ok { IfOk result (λ d. reading line.now ≡ Ok (document_value d)) }
         ensures rising { IfOk result (λ d. IsRising (document_value d)) }

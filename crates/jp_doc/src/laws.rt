@@ -42,14 +42,12 @@ pub fn no_line_feed_in_a_line()
 {}
 
 /// The fault of a line that is too long, and of no other.
-#[tactic(auto, using(crate::proofs::ReadingLaws::long_line_refused, crate::proofs::ReadingLaws::long_line_is_long))]
 pub fn long_line()
     ensures refused { (line : List ℕ) → max_line < length line → reading line ≡ Err LongLine }
     ensures no_other { (line : List ℕ) → reading line ≡ Err LongLine → max_line < length line }
 {}
 
 /// What each answer of a reading says of the line: a fault is told only where those before it do not apply.
-#[tactic(auto, using(crate::proofs::ReadingLaws::unreadable_is_unread, crate::proofs::ReadingLaws::not_whole_has_float, crate::proofs::ReadingLaws::long_array_is_long, crate::proofs::ReadingLaws::document_is_read, crate::proofs::ReadingLaws::no_memory_fault))]
 pub fn first_fault()
     ensures unreadable { (line : List ℕ) → reading line ≡ Err Unreadable → (length line ≤ max_line)
         × (crate_reading line ≡ None) }
@@ -93,9 +91,8 @@ pub fn last_line_is_open()
     ensures { (bytes : List ℕ) → all_lines bytes ≡ (cut bytes).ended ++ last_line (cut bytes).open_line }
 {}
 
-/// What `feed` hands out for pieces that come one after another, and then `finish`, is the lines of the pieces
-/// joined; and the count is theirs.
-#[tactic(auto, using(crate::proofs::FeedLaws::pieces_lines, crate::proofs::FeedLaws::pieces_count, crate::proofs::FeedLaws::pieces_open))]
+/// What `feed` hands out for pieces that come one after another, and then `finish`, is the lines of the
+/// pieces joined; and the count is theirs.
 pub fn lines_in_pieces()
     ensures handed_out { (pieces : List (List ℕ)) → lines_of_pieces nothing_fed pieces
         ≡ lines (concat pieces) }

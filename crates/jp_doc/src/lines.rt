@@ -72,8 +72,8 @@ impl Lines {
         fed
     }
 
-    /// Ends the line that is open, if there is one, and adds it to `out` unless it is blank. The next piece begins
-    /// a new line.
+    /// Ends the line that is open, if there is one, and adds it to `out` unless it is blank. The next piece
+    /// begins a new line.
     ///
     /// `AllocError` if a growth was refused: then nothing has changed.
     pub fn finish(&mut self, out: &mut Vec<Line>) -> Result<(), AllocError>
@@ -167,8 +167,8 @@ fn first_line(bytes: &[u8]) -> Option<(&[u8], &[u8])>
     Some((line, after))
 }
 
-/// Adds the lines that end in the bytes, numbered on from `before`. Gives how many lines have ended then, and the
-/// bytes of the next. An `Err` may leave more behind the lines of `out`.
+/// Adds the lines that end in the bytes, numbered on from `before`. Gives how many lines have ended then,
+/// and the bytes of the next. An `Err` may leave more behind the lines of `out`.
 fn push_lines<'b>(
     alloc: Global,
     before: u64,

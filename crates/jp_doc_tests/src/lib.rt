@@ -1,4 +1,5 @@
-//! Tests of `jp_doc`: each public call with ample memory, and what no clause says, as the texts of the faults.
+//! Tests of `jp_doc`: each public call with ample memory, and what no clause says, as the texts of the
+//! faults.
 //!
 //! The expected values come from the rules of JSON (RFC 8259), JSON Lines and RFC 9535.
 #![tactic(auto)]

@@ -121,13 +121,11 @@ fn first_faults()
 
 // The limits themselves: 268,435,456 bytes in a line, 16,777,216 items in an array.
 
-#[tactic(auto, using(crate::proofs::ReadingLaws::line_at_the_limit, crate::proofs::ReadingLaws::line_above_the_limit))]
 fn line_limit()
     ensures at { (line : List ℕ) → length line ≡ 268435456 → ¬ (reading line ≡ Err LongLine) }
     ensures above { (line : List ℕ) → length line ≡ 268435457 → reading line ≡ Err LongLine }
 {}
 
-#[tactic(auto, using(crate::proofs::ReadingLaws::array_at_the_limit, crate::proofs::ReadingLaws::array_above_the_limit))]
 fn array_limit()
     ensures at { (ds : crate_data.Items) → items_have_float ds ≡ false
         → items_have_long_array 16777216 (items_of ds) ≡ false → length (item_list (items_of ds)) ≡ 16777216
