@@ -20,6 +20,11 @@ module _ {A : Type 0} where
   get_from_at (x ∷ xs) zero v e = ap Some (some-injective x v e)
   get_from_at (x ∷ xs) (suc i) v e = get_from_at xs i v e
 
+  pub get_set : (l : List A) (i : ℕ) (v w : A) → get_elem? l i ≡ some v → slice_get (set l i w) i ≡ Some w
+  get_set [] i v w e = absurd (some-ne-none v (sym e))
+  get_set (x ∷ xs) zero v w e = refl
+  get_set (x ∷ xs) (suc i) v w e = get_set xs i v w e
+
   pub at_contains : (l : List A) (i : ℕ) (v : A) → get_elem? l i ≡ some v → Contains l v
   at_contains [] i v e = absurd (some-ne-none v (sym e))
   at_contains (x ∷ xs) zero v e = (0, omega arith, some-injective x v e)

@@ -4,7 +4,8 @@ use mathlib.Core.Option.{some, some-ne-none, some-injective}
 use lib.ListN.{get_elem?}
 use Rattle.std.proofs.lemmas.List.{map-append}
 use Rattle.std.proofs.lemmas.List.Elements.{All-weaker, All-cons, All-nil, All-contains}
-use Rattle.std.proofs.lemmas.List.Sorted.{IsPermutation-refl, IsPermutation-trans, IsPermutation-sym, Contains-permutation}
+use Rattle.std.proofs.lemmas.List.Sorted.{IsPermutation-refl, IsPermutation-trans, IsPermutation-sym, Contains-permutation, length_permutation}
+use Rattle.std.proofs.lemmas.List.FromFn.{length-range_with_len}
 use Rattle.std.proofs.lemmas.List.Sums.{sum_by-cons, sum_by_push}
 use Rattle.atomic_table.specs.Table.{Final, Seen}
 use Rattle.jp_board.specs.declared.view.View.{View}
@@ -17,7 +18,7 @@ use Rattle.jp_board.specs.Steps.{Place}
 use Rattle.jp_board.specs.Seats.{view_of}
 use Rattle.jp_board.specs.Tally.{Tallies}
 use Rattle.jp_board.specs.Account.{SameAccount}
-use Rattle.jp_board.proofs.Lists.{all_of, at_all, below_from_contains, flat_among, sum_alone, flat_alone}
+use Rattle.jp_board.proofs.Lists.{all_of, at_all, below_from_contains, contains_below, flat_among, sum_alone, flat_alone}
 use Rattle.jp_board.proofs.Shuffles.{same_list, flat_gathered}
 use Rattle.jp_board.proofs.Marks.{mark_shuffled}
 use Rattle.jp_board.proofs.Lawfuls.{least_le}
@@ -174,3 +175,26 @@ pub none_reported : (pieces claimed least : ℕ) (views : List View) → Tallies
 none_reported pieces claimed least views t none =
     ⊎_elim (λ (e : least ≡ pieces). e)
     (λ (c : Contains (all_reports views) least). let lt = c.1 in let long = ap length none in absurd (omega arith)) t.mark.given
+
+-- what a tally says of the claims
+
+pub claims_each : (pieces claimed least x : ℕ) (views : List View) → Tallies pieces claimed least views → x < claimed
+    → Contains (all_claims views) x
+claims_each pieces claimed least x views t below =
+    Contains-permutation (numbers_below claimed) (all_claims views) x t.claimed_once (contains_below claimed x below)
+
+pub claims_below : (pieces claimed least x : ℕ) (views : List View) → Tallies pieces claimed least views
+    → Contains (all_claims views) x → x < claimed
+claims_below pieces claimed least x views t h =
+    below_from_contains claimed x (Contains-permutation (all_claims views) (numbers_below claimed) x
+    (IsPermutation-sym (numbers_below claimed) (all_claims views) t.claimed_once) h)
+
+pub claims_once : (pieces claimed least : ℕ) (views : List View) → Tallies pieces claimed least views
+    → length (all_claims views) ≡ claimed
+claims_once pieces claimed least views t =
+    length_permutation (numbers_below claimed) (all_claims views) t.claimed_once ∙ length-range_with_len 0 claimed
+
+pub claims_all : (pieces claimed least x : ℕ) (views : List View) → Tallies pieces claimed least views → 0 < times_told views
+    → x < pieces → Contains (all_claims views) x
+claims_all pieces claimed least x views t told below =
+    let whole = t.all_claimed told in claims_each pieces claimed least x views t (omega arith)

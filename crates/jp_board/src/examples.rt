@@ -16,6 +16,7 @@ ghost use Rattle.jp_board.specs.Samples.{invented};
 
 fn seats()
     ensures claimed { after_claim (fresh 2 3 1) 1 ≡ worked (1 ∷ []) [] [] 0 }
+    ensures claimed_behind { with_claim (worked (0 ∷ []) [] [] 0) 1 ≡ worked (0 ∷ 1 ∷ []) [] [] 0 }
     ensures told { after_claim (fresh 2 3 1) 2 ≡ worked [] [] [] 1 }
     ensures told_later { after_claim (worked [] [] [] 1) 3 ≡ worked [] [] [] 2 }
     ensures told_once { once_told (worked [] [] [] 0) ≡ worked [] [] [] 1 }
@@ -26,6 +27,9 @@ fn seats()
     ensures cut_off { one_of (fresh 2 3 3) ≡ fresh 2 3 1 }
     ensures joined { (joined (worked (0 ∷ []) (0 ∷ []) (2 ∷ []) 1) (worked (1 ∷ []) [] (0 ∷ []) 1)).claims
         ≡ 0 ∷ 1 ∷ [] }
+    ensures joined_reports { (joined (worked [] (0 ∷ []) [] 0) (worked [] (1 ∷ []) [] 0)).reports
+        ≡ 0 ∷ 1 ∷ [] }
+    ensures joined_looks { (joined (worked [] [] (2 ∷ []) 0) (worked [] [] (0 ∷ []) 0)).looks ≡ 2 ∷ 0 ∷ [] }
     ensures joined_seats { (joined (fresh 2 3 2) (fresh 2 3 1)).stands_for ≡ 3 }
     ensures joined_told { (joined (worked [] [] [] 1) (worked [] [] [] 1)).told ≡ 2 }
     ensures spent_seats { spent.stands_for ≡ 0 }

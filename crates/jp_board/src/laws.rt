@@ -1,11 +1,11 @@
 //! Laws of the states of a board and of its events, and of what a tally says.
 
-ghost use Rattle.std.specs.Prelude.{◌≡◌, ℕ, ◌+◌, ◌<◌, ◌≤◌, List, [], Contains};
+ghost use Rattle.std.specs.Prelude.{◌≡◌, ℕ, ◌+◌, ◌<◌, ◌≤◌, List, [], length, Contains};
 ghost use Rattle.jp_board.specs.declared.view.View.{View};
 ghost use Rattle.jp_board.specs.Events.{BoardState, Event, Happens, LeadTo, IsReached, first_state};
 ghost use Rattle.jp_board.specs.Lawful.{IsLawful};
 ghost use Rattle.jp_board.specs.Tally.{Tallies};
-ghost use Rattle.jp_board.specs.Together.{all_claims, all_reports};
+ghost use Rattle.jp_board.specs.Together.{all_claims, all_reports, times_told};
 
 /// The first state of a board is lawful.
 #[tactic(auto, using(crate::proofs::Parts::first_lawful))]
@@ -45,4 +45,17 @@ pub fn least_of_a_tally()
         → all_reports views ≡ [] → least ≡ pieces }
     ensures below { (pieces claimed least x : ℕ) (views : List View) → Tallies pieces claimed least views
         → Contains (all_reports views) x → x < claimed }
+{}
+
+/// Of a tally: the claims are the numbers below `claimed`, as many as these, and all pieces are claimed
+/// where any seat was told that none is left.
+pub fn claims_of_a_tally()
+    ensures each { (pieces claimed least x : ℕ) (views : List View) → Tallies pieces claimed least views
+        → x < claimed → Contains (all_claims views) x }
+    ensures below { (pieces claimed least x : ℕ) (views : List View) → Tallies pieces claimed least views
+        → Contains (all_claims views) x → x < claimed }
+    ensures once { (pieces claimed least : ℕ) (views : List View) → Tallies pieces claimed least views
+        → length (all_claims views) ≡ claimed }
+    ensures all { (pieces claimed least x : ℕ) (views : List View) → Tallies pieces claimed least views
+        → 0 < times_told views → x < pieces → Contains (all_claims views) x }
 {}
