@@ -2,6 +2,8 @@ pub mod Lists
 pub mod Shuffles
 pub mod Marks
 pub mod Lawfuls
-pub mod Steps
 pub mod Parts
+pub mod Reaching
+pub mod Steps
 pub mod Tallying
+pub mod Runs

@@ -1,5 +1,5 @@
 -- Sums over a list of which one element is changed, and a single element that has all parts.
-use Rattle.std.proofs.Common.{◌≡◌, ℕ, zero, suc, ◌+◌, ◌<◌, ◌≤◌, List, [], ◌∷◌, ◌++◌, set, get_or, refl, sym, ap, subst, ◌∙◌, ⊎_elim, arith, All, Contains, sum_by, flat_map, append-nil}
+use Rattle.std.proofs.Common.{◌≡◌, ℕ, zero, suc, ◌+◌, ◌<◌, ◌≤◌, List, [], ◌∷◌, ◌++◌, Some, slice_get, set, get_or, refl, sym, ap, subst, ◌∙◌, ⊎_elim, arith, All, Contains, sum_by, flat_map, append-nil}
 use mathlib.Core.Option.{some, some-ne-none, some-injective}
 use lib.ListN.{get_elem?}
 use Rattle.std.specs.List.{range_with_len}
@@ -9,6 +9,22 @@ use Rattle.std.proofs.lemmas.List.Sums.{sum_by-cons}
 use Rattle.jp_board.specs.Together.{numbers_below}
 
 module _ {A : Type 0} where
+  -- the element at a place, in the table's words and in the library's
+  pub at_from_get : (l : List A) (i : ℕ) (v : A) → slice_get l i ≡ Some v → get_elem? l i ≡ some v
+  at_from_get [] i v e = cc
+  at_from_get (x ∷ xs) zero v e = let is : x ≡ v = cc in ap some is
+  at_from_get (x ∷ xs) (suc i) v e = at_from_get xs i v e
+
+  pub get_from_at : (l : List A) (i : ℕ) (v : A) → get_elem? l i ≡ some v → slice_get l i ≡ Some v
+  get_from_at [] i v e = absurd (some-ne-none v (sym e))
+  get_from_at (x ∷ xs) zero v e = ap Some (some-injective x v e)
+  get_from_at (x ∷ xs) (suc i) v e = get_from_at xs i v e
+
+  pub get_set : (l : List A) (i : ℕ) (v w : A) → get_elem? l i ≡ some v → slice_get (set l i w) i ≡ Some w
+  get_set [] i v w e = absurd (some-ne-none v (sym e))
+  get_set (x ∷ xs) zero v w e = refl
+  get_set (x ∷ xs) (suc i) v w e = get_set xs i v w e
+
   pub at_contains : (l : List A) (i : ℕ) (v : A) → get_elem? l i ≡ some v → Contains l v
   at_contains [] i v e = absurd (some-ne-none v (sym e))
   at_contains (x ∷ xs) zero v e = (0, omega arith, some-injective x v e)

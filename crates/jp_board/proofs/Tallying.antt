@@ -1,25 +1,28 @@
 -- What the last state says of the view that stands for all seats, and so of all seats.
-use Rattle.std.proofs.Common.{◌≡◌, ℕ, zero, suc, ◌+◌, ◌-◌, min, List, [], ◌∷◌, ◌++◌, map, get_or, refl, sym, ap, subst, ◌∙◌, arith, IsPermutation, sum_by, flat_map, append-nil}
+use Rattle.std.proofs.Common.{◌≡◌, ℕ, zero, suc, ◌+◌, ◌-◌, ◌<◌, ◌≤◌, min, length, ⊎_elim, List, [], ◌∷◌, ◌++◌, map, get_or, refl, sym, ap, subst, ◌∙◌, arith, All, Contains, IsPermutation, sum_by, flat_map, append-nil}
 use mathlib.Core.Option.{some, some-ne-none, some-injective}
 use lib.ListN.{get_elem?}
 use Rattle.std.proofs.lemmas.List.{map-append}
-use Rattle.std.proofs.lemmas.List.Elements.{All-weaker}
-use Rattle.std.proofs.lemmas.List.Sorted.{IsPermutation-refl, IsPermutation-trans, IsPermutation-sym}
+use Rattle.std.proofs.lemmas.List.Elements.{All-weaker, All-cons, All-nil, All-contains}
+use Rattle.std.proofs.lemmas.List.Sorted.{IsPermutation-refl, IsPermutation-trans, IsPermutation-sym, Contains-permutation, length_permutation}
+use Rattle.std.proofs.lemmas.List.FromFn.{length-range_with_len}
 use Rattle.std.proofs.lemmas.List.Sums.{sum_by-cons, sum_by_push}
 use Rattle.atomic_table.specs.Table.{Final, Seen}
 use Rattle.jp_board.specs.declared.view.View.{View}
 use Rattle.jp_board.specs.declared.seat.Seat.{Seat}
 use Rattle.jp_board.specs.Views.{fresh, less_one, one_of, joined}
 use Rattle.jp_board.specs.Together.{all_claims, all_reports, all_looks, times_told, seats_stood_for, numbers_below}
-use Rattle.jp_board.specs.Lawful.{IsLawfulView, Lawful, Holds}
+use Rattle.jp_board.specs.Lawful.{IsLawfulView, Lawful}
+use Rattle.jp_board.specs.Rule.{Holds}
 use Rattle.jp_board.specs.Steps.{Place}
 use Rattle.jp_board.specs.Seats.{view_of}
 use Rattle.jp_board.specs.Tally.{Tallies}
 use Rattle.jp_board.specs.Account.{SameAccount}
-use Rattle.jp_board.proofs.Lists.{sum_alone, flat_alone}
+use Rattle.jp_board.proofs.Lists.{all_of, at_all, below_from_contains, contains_below, flat_among, sum_alone, flat_alone}
 use Rattle.jp_board.proofs.Shuffles.{same_list, flat_gathered}
 use Rattle.jp_board.proofs.Marks.{mark_shuffled}
 use Rattle.jp_board.proofs.Lawfuls.{least_le}
+use Rattle.jp_board.proofs.Reaching.{lawful_of}
 
 -- dealing one seat after the other off a fresh one leaves fresh ones
 pub left_fresh : (old new : Place) (pieces made : ℕ) → old ≡ (fresh pieces made old.0.stands_for, []) → new ≡ (less_one old.0, old.1) → (new ≡ (fresh pieces made new.0.stands_for, [])) × (new.0.stands_for ≡ old.0.stands_for - 1)
@@ -99,6 +102,10 @@ tallies_same pieces claimed least us vs a t = record {
   claimed_once = IsPermutation-trans (numbers_below claimed) (all_claims vs) (all_claims us) t.claimed_once (IsPermutation-sym (all_claims us) (all_claims vs) a.claims);
   all_claimed = λ h. t.all_claimed (let e = a.told in omega arith);
   within = t.within;
+  reports_claimed = all_of (Contains (all_claims us)) (all_reports us) (λ x has.
+      Contains-permutation (all_claims vs) (all_claims us) x (IsPermutation-sym (all_claims us) (all_claims vs) a.claims)
+      (All-contains (Contains (all_claims vs)) (all_reports vs) x t.reports_claimed
+      (Contains-permutation (all_reports us) (all_reports vs) x a.reports has)));
   mark = mark_shuffled pieces least (all_reports vs) (all_reports us) (all_looks vs) (all_looks us)
       (IsPermutation-sym (all_reports us) (all_reports vs) a.reports) (IsPermutation-sym (all_looks us) (all_looks vs) a.looks) t.mark;
 }
@@ -108,6 +115,11 @@ index_at : (ws : List ℕ) (i k : ℕ) → get_elem? ws i ≡ some k → get_or 
 index_at [] i k e = absurd (some-ne-none k (sym e))
 index_at (x ∷ xs) zero k e = some-injective x k e
 index_at (x ∷ xs) (suc i) k e = index_at xs i k e
+
+-- where each view's reports are among its claims, so are those of all
+reported_claimed : (views : List View) → All (λ (u : View). All (Contains u.claims) u.reports) views → All (Contains (all_claims views)) (all_reports views)
+reported_claimed views h = all_of (Contains (all_claims views)) (all_reports views)
+    (λ x has. flat_among (λ (u : View). u.reports) (λ (u : View). u.claims) views h x has)
 
 -- where one view stands for all seats, the others are empty, and the lawful state speaks of it alone
 alone_tallies : (pieces made next least : ℕ) (views : List View) (id : ℕ) (v : View) → Lawful pieces made next least views → get_elem? views id ≡ some v → v.stands_for ≡ made → Tallies pieces (min next pieces) least (v ∷ [])
@@ -126,6 +138,8 @@ alone_tallies pieces made next least views id v law at whole =
       claimed_once = subst (IsPermutation (numbers_below (min next pieces))) cs law.claimed_once;
       all_claimed = λ h. let late = law.told_late (omega arith) in omega arith;
       within = (omega arith, low);
+      reports_claimed = reported_claimed (v ∷ []) (All-cons (λ u. All (Contains u.claims) u.reports) v []
+          (at_all (IsLawfulView pieces made) views id v law.each at).reports_claimed (All-nil (λ (u : View). All (Contains u.claims) u.reports)));
       mark = mark_shuffled pieces least (all_reports views) (all_reports (v ∷ [])) (all_looks views) (all_looks (v ∷ [])) (same_list (all_reports views) (all_reports (v ∷ [])) rs) (same_list (all_looks views) (all_looks (v ∷ [])) ls) law.mark;
     }
 
@@ -133,4 +147,54 @@ pub settles : (key : ℕ × ℕ) (id : ℕ) (v : View) (ws : List ℕ) (xs : Lis
 settles key id v ws xs next least (s, (h, at), is, _, _) whole at0 at1 =
     let first = index_at s.words 0 next (ap (λ l. get_elem? l 0) is ∙ at0) in
     let second = index_at s.words 1 least (ap (λ l. get_elem? l 1) is ∙ at1) in
-    alone_tallies key.0 key.1 next least s.views id v (subst (λ (z : ℕ × ℕ). Lawful key.0 key.1 z.0 z.1 s.views) (λ i. (first i, second i)) h.1) at whole
+    alone_tallies key.0 key.1 next least s.views id v (subst (λ (z : ℕ × ℕ). Lawful key.0 key.1 z.0 z.1 s.views) (λ i. (first i, second i)) (lawful_of key s h)) at whole
+
+-- what a tally says of the reports
+
+pub reports_below : (pieces claimed least x : ℕ) (views : List View) → Tallies pieces claimed least views
+    → Contains (all_reports views) x → x < claimed
+reports_below pieces claimed least x views t h =
+    below_from_contains claimed x (Contains-permutation (all_claims views) (numbers_below claimed) x
+    (IsPermutation-sym (numbers_below claimed) (all_claims views) t.claimed_once)
+    (All-contains (Contains (all_claims views)) (all_reports views) x t.reports_claimed h))
+
+pub least_below : (pieces claimed least x : ℕ) (views : List View) → Tallies pieces claimed least views
+    → Contains (all_reports views) x → least ≤ x
+least_below pieces claimed least x views t h = All-contains (λ y. least ≤ y) (all_reports views) x t.mark.under_reports h
+
+pub least_reported : (pieces claimed least x : ℕ) (views : List View) → Tallies pieces claimed least views
+    → Contains (all_reports views) x → Contains (all_reports views) least
+least_reported pieces claimed least x views t h =
+    let below = reports_below pieces claimed least x views t h in
+    let low = least_below pieces claimed least x views t h in
+    let few = t.within.0 in
+    ⊎_elim (λ (e : least ≡ pieces). absurd (omega arith)) (λ (c : Contains (all_reports views) least). c) t.mark.given
+
+pub none_reported : (pieces claimed least : ℕ) (views : List View) → Tallies pieces claimed least views
+    → all_reports views ≡ [] → least ≡ pieces
+none_reported pieces claimed least views t none =
+    ⊎_elim (λ (e : least ≡ pieces). e)
+    (λ (c : Contains (all_reports views) least). let lt = c.1 in let long = ap length none in absurd (omega arith)) t.mark.given
+
+-- what a tally says of the claims
+
+pub claims_each : (pieces claimed least x : ℕ) (views : List View) → Tallies pieces claimed least views → x < claimed
+    → Contains (all_claims views) x
+claims_each pieces claimed least x views t below =
+    Contains-permutation (numbers_below claimed) (all_claims views) x t.claimed_once (contains_below claimed x below)
+
+pub claims_below : (pieces claimed least x : ℕ) (views : List View) → Tallies pieces claimed least views
+    → Contains (all_claims views) x → x < claimed
+claims_below pieces claimed least x views t h =
+    below_from_contains claimed x (Contains-permutation (all_claims views) (numbers_below claimed) x
+    (IsPermutation-sym (numbers_below claimed) (all_claims views) t.claimed_once) h)
+
+pub claims_once : (pieces claimed least : ℕ) (views : List View) → Tallies pieces claimed least views
+    → length (all_claims views) ≡ claimed
+claims_once pieces claimed least views t =
+    length_permutation (numbers_below claimed) (all_claims views) t.claimed_once ∙ length-range_with_len 0 claimed
+
+pub claims_all : (pieces claimed least x : ℕ) (views : List View) → Tallies pieces claimed least views → 0 < times_told views
+    → x < pieces → Contains (all_claims views) x
+claims_all pieces claimed least x views t told below =
+    let whole = t.all_claimed told in claims_each pieces claimed least x views t (omega arith)

@@ -1,8 +1,9 @@
 -- The lawful states of a board: what holds between any two steps, in whatever order the callers take them.
-use Rattle.std.specs.Prelude.{◌≡◌, ℕ, ◌+◌, ◌<◌, ◌≤◌, ◌⊎◌, min, List, [], length, slice_index, All, Contains, IsPermutation}
-use Rattle.atomic_table.specs.Table.{State}
+use Rattle.std.specs.Prelude.{◌≡◌, ℕ, ◌+◌, ◌<◌, ◌≤◌, ◌⊎◌, min, List, [], length, All, Contains, IsPermutation}
+use Rattle.jp_board.specs.Events.{BoardState}
 use Rattle.jp_board.specs.declared.view.View.{View}
-use Rattle.jp_board.specs.Together.{all_claims, all_reports, all_looks, times_told, seats_stood_for, numbers_below}
+use Rattle.jp_board.specs.Together.{all_claims, all_reports, all_looks, times_told, seats_stood_for}
+use Rattle.jp_board.specs.Together.{numbers_below}
 
 -- what holds of each view
 pub record IsLawfulView (pieces made : ℕ) (v : View) : Type 0 where
@@ -43,10 +44,11 @@ pub record Lawful (pieces made next least : ℕ) (views : List View) : Type 0 wh
   -- `least` is the least report so far, or the number of pieces
   pub mark : IsMark pieces least (all_reports views) (all_looks views)
 
--- a table in a lawful state: its two words are `next` and `least`, its key is the number of pieces and that of the seats
-abbrev pub Holds : ℕ × ℕ → State (Unit {0}) View → Type 0
-Holds key s = (length s.words ≡ 2) × Lawful key.0 key.1 (slice_index s.words 0) (slice_index s.words 1) s.views
+-- the state is lawful
+abbrev pub IsLawful : ℕ → ℕ → BoardState → Type 0
+IsLawful pieces made s = Lawful pieces made s.next s.least s.views
 
 -- found is `least` in a lawful state that holds this view
 abbrev pub IsLeastOf : View → ℕ → Type 0
-IsLeastOf v found = (next : ℕ) × (views : List View) × Contains views v × Lawful v.pieces v.made next found views
+IsLeastOf v found = (next : ℕ) × (views : List View) × Contains views v
+    × Lawful v.pieces v.made next found views

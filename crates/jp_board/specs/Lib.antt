@@ -1,7 +1,10 @@
 pub mod Views
 pub mod Together
+pub mod Events
 pub mod Lawful
+pub mod Rule
 pub mod Steps
 pub mod Seats
 pub mod Tally
 pub mod Account
+pub mod Samples

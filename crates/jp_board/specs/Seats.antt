@@ -20,7 +20,8 @@ made_of b = b.made
 
 -- the seat is at this table, of a board of that many pieces and seats
 abbrev pub IsAt : TableId → ℕ → ℕ → Seat → Type 0
-IsAt table pieces made s = (s.token.table_id ≡ table) × ((view_of s).pieces ≡ pieces) × ((view_of s).made ≡ made)
+IsAt table pieces made s = (s.token.table_id ≡ table) × ((view_of s).pieces ≡ pieces)
+    × ((view_of s).made ≡ made)
 
 -- the seat is one of this board's
 abbrev pub IsSeatOf : Board → Seat → Type 0

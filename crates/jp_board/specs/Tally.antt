@@ -1,5 +1,5 @@
 -- What is known of the seats once the board is closed, and what is handed back where it is not.
-use Rattle.std.specs.Prelude.{◌≡◌, ℕ, ◌<◌, ◌≤◌, List, IsPermutation}
+use Rattle.std.specs.Prelude.{◌≡◌, ℕ, ◌<◌, ◌≤◌, List, All, Contains, IsPermutation}
 use Rattle.jp_board.specs.declared.board.Board.{Board}
 use Rattle.jp_board.specs.declared.fault.CloseFault.{CloseFault}
 use Rattle.jp_board.specs.declared.fault.CloseFault.TheVariants.{Missing}
@@ -16,6 +16,8 @@ pub record Tallies (pieces claimed least : ℕ) (views : List View) : Type 0 whe
   pub all_claimed : 0 < times_told views → claimed ≡ pieces
   -- neither number is above that of the pieces
   pub within : (claimed ≤ pieces) × (least ≤ pieces)
+  -- what was reported was claimed
+  pub reports_claimed : All (Contains (all_claims views)) (all_reports views)
   -- `least` is the least report, or the number of pieces, and no look was lower
   pub mark : IsMark pieces least (all_reports views) (all_looks views)
 

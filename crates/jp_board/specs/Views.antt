@@ -1,10 +1,22 @@
 -- What a seat knows at first, and how each kind of step changes it.
-use Rattle.std.specs.Prelude.{ℕ, ◌+◌, ◌-◌, [], ◌∷◌, ◌++◌}
+use Rattle.std.specs.Prelude.{◌≡◌, ℕ, ◌+◌, ◌-◌, [], ◌∷◌, ◌++◌}
 use Rattle.jp_board.specs.declared.view.View.{View}
 
 -- a view that has done nothing and stands for that many seats
 abbrev pub fresh : ℕ → ℕ → ℕ → View
-fresh pieces made seats = record { pieces = pieces; made = made; stands_for = seats; claims = []; reports = []; looks = []; told = 0 }
+fresh pieces made seats = record {
+  pieces = pieces;
+  made = made;
+  stands_for = seats;
+  claims = [];
+  reports = [];
+  looks = [];
+  told = 0;
+}
+
+-- the view has done nothing yet, for however many seats it stands
+abbrev pub IsFreshView : View → Type 0
+IsFreshView v = v ≡ fresh v.pieces v.made v.stands_for
 
 -- the first view stands for all seats; the key is the number of pieces and that of the seats
 abbrev pub first_view : ℕ × ℕ → View

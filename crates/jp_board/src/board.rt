@@ -1,9 +1,10 @@
 //! The board and its calls.
-ghost use Rattle.std.specs.Prelude.{◌≡◌, ◌<◌, ◌≤◌, ◌⊎◌, ◌↔◌, ◌∷◌, [], map, All, Contains, IfSome, IfNone, IfOk, IfErr, IsErrOf, IsOk, None, vec_len};
+ghost use Rattle.std.specs.Prelude.{◌≡◌, ◌<◌, ◌≤◌, ◌⊎◌, ◌↔◌, ◌∷◌, [], map, All, Contains, IfSome, IfNone};
+ghost use Rattle.std.specs.Prelude.{IfOk, IfErr, IsErrOf, IsOk, None, vec_len};
 
 use crate::fault::{BoardFault, CloseFault};
 use crate::rule::{Claim, Gather, Look, Report};
-use crate::seat::{Places, Seat};
+use crate::seat::{BoardTable, Seat};
 use crate::tally::Tally;
 use crate::view::View;
 use atomic_table::{Seat as Token, Table};
@@ -12,7 +13,7 @@ use std::alloc::Global;
 /// A board of numbered pieces. Threads share it by reference, each with a seat of its own.
 #[derive(Drop)]
 pub struct Board {
-    table: Places,
+    table: BoardTable,
     pieces: u64,
     made: u64,
     ghost counts: { (table.shared.table_id.words ≡ 2) × (table.shared.table_id.slots ≡ 0) },
@@ -38,7 +39,8 @@ impl Board {
         ensures len { IfOk result (λ r. vec_len r.1 ≡ seats) }
         ensures seats { IfOk result (λ r. All (IsSeatOf r.0) r.1.items) }
         ensures fresh { IfOk result (λ r. All (IsFresh pieces seats) r.1.items) }
-        ensures too_many { IsErrOf result BoardFault.TooMany ↔ ((4294967296 < pieces) ⊎ (seats ≡ 0) ⊎ (64 < seats)) }
+        ensures too_many { IsErrOf result BoardFault.TooMany
+            ↔ ((4294967296 < pieces) ⊎ (seats ≡ 0) ⊎ (64 < seats)) }
     {
         if pieces > Board::MOST_PIECES || seats == 0 || seats > Board::MOST_SEATS {
             return Err(BoardFault::TooMany);
@@ -112,7 +114,8 @@ impl Board {
     pub fn close(self, seats: Vec<Seat>) -> Result<Tally, CloseFault>
         requires { All (IsSeatOf self) seats.items }
         ensures all { IsOk result ↔ (vec_len seats ≡ made_of self) }
-        ensures tally { IfOk result (λ t. Tallies (pieces_of self) t.claimed t.least (map view_of seats.items)) }
+        ensures tally { IfOk result
+            (λ t. Tallies (pieces_of self) t.claimed t.least (map view_of seats.items)) }
         ensures missing { IfErr result (HandsBack self seats.items) }
     {
         if seats.len() as u64 != self.made {

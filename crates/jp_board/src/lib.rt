@@ -2,12 +2,12 @@
 #![tactic(auto)]
 
 mod board;
+mod examples;
 mod fault;
+pub mod laws;
 mod rule;
 mod seat;
 mod tally;
-#[cfg(test)]
-mod tests;
 mod view;
 
 pub use board::Board;

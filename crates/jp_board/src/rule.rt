@@ -3,11 +3,11 @@
 use crate::view::View;
 use atomic_table::{Join, Play, Split, TableRule};
 
-/// The table is in a lawful state. Its key is the number of pieces and that of the seats.
+/// Events have led to the state of the table. Its key is the number of pieces and that of the seats.
 pub(crate) struct BoardRule;
 
 impl TableRule<(), View, (u64, u64)> for BoardRule {
-    ghost use Rattle.jp_board.specs.Lawful.{Holds};
+    ghost use Rattle.jp_board.specs.Rule.{Holds};
     ghost use Rattle.jp_board.specs.Views.{first_view};
 
     ghost holds = { Holds };

@@ -6,9 +6,10 @@ use crate::view::View;
 use atomic_table::{Seat as Token, Table};
 use std::alloc::Global;
 
-pub(crate) type Places = Table<(), View, (u64, u64), BoardRule, Global>;
+pub(crate) type BoardTable = Table<(), View, (u64, u64), BoardRule, Global>;
 
-/// A caller's place at a board. It goes to the thread of its caller, and comes back before the board is closed.
+/// A caller's place at a board. It goes to the thread of its caller, and comes back before the board is
+/// closed.
 #[derive(Drop)]
 pub struct Seat {
     pub(crate) token: Token<(), View>,
@@ -32,16 +33,18 @@ impl Seat {
 
     // Cuts a seat after the other off the first, which stands for all of them.
     pub(crate) fn deal(
-        table: &Places,
+        table: &BoardTable,
         mut first: Token<(), View>,
         seats: u64,
         mut dealt: Vec<Seat>,
     ) -> Vec<Seat>
-        requires table { (first.table_id ≡ table.now.shared.table_id) × (table.now.shared.table_id.words ≡ 2) }
+        requires table { (first.table_id ≡ table.now.shared.table_id)
+            × (table.now.shared.table_id.words ≡ 2) }
         requires first { first.me ≡ (fresh table.now.shared.key.0 table.now.shared.key.1 seats, []) }
         requires some { (0 < seats) × (seats ≤ vec_capacity dealt) × (dealt.items ≡ []) }
         ensures len { vec_len result ≡ seats }
-        ensures at { All (IsAt table.now.shared.table_id table.now.shared.key.0 table.now.shared.key.1) result.items }
+        ensures at { All (IsAt table.now.shared.table_id table.now.shared.key.0 table.now.shared.key.1)
+            result.items }
         ensures fresh { All (IsFresh table.now.shared.key.0 table.now.shared.key.1) result.items }
     {
         for _done in 1..seats {

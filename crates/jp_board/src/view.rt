@@ -2,8 +2,8 @@
 
 use std::collections::LinkedList;
 
-/// What a seat knows: the board's numbers of pieces and seats, for how many of the seats it stands, what it has
-/// claimed, reported and seen, each in order, and how often it was told that no piece is left.
+/// What a seat knows: the board's numbers of pieces and seats, for how many of the seats it stands, what it
+/// has claimed, reported and seen, each in order, and how often it was told that no piece is left.
 ///
 /// It is there for the contracts alone: no code makes one.
 pub(crate) struct View {

@@ -14,7 +14,8 @@ pub record IsFirst (items : List Bool) (n : ℕ) : Type 0 where
 
 -- if the piece is marked it was reported, or the worker saw a lower mark
 abbrev pub IsTended : List Bool → View → ℕ → Type 0
-IsTended items v x = IsMarked items x → Contains v.reports x ⊎ ((mark : ℕ) × Contains v.looks mark × (mark < x))
+IsTended items v x = IsMarked items x → Contains v.reports x
+    ⊎ ((mark : ℕ) × Contains v.looks mark × (mark < x))
 
 -- a worker has tended each piece that it claimed, and reported marked ones alone
 pub record AllTended (items : List Bool) (v : View) : Type 0 where

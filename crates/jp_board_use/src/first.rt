@@ -10,7 +10,8 @@ use std::thread::Threads;
 
 // Looks at the mark, and unless it is lower, reports the piece if it is marked.
 fn tend(board: &Board, items: &[bool], seat: &mut Seat, piece: u64)
-    requires seat { IsSeatOf board.now seat.old × Contains (view_of seat.old).claims piece × (piece < length items.now) }
+    requires seat { IsSeatOf board.now seat.old × Contains (view_of seat.old).claims piece
+        × (piece < length items.now) }
     requires tended { AllButOneTended items.now piece (view_of seat.old) }
     ensures seat { IsSeatOf board.now seat.new × ((view_of seat.new).claims ≡ (view_of seat.old).claims) }
     ensures tended { AllTended items.now (view_of seat.new) }
@@ -59,8 +60,10 @@ fn work_all<R: Threads + Sync>(
         rt,
         seats,
         &|seat: Seat| -> Seat
-            requires { IsSeatOf board.now seat × AllTended items.now (view_of seat) × (pieces_of board.now ≡ length items.now) }
-            ensures { IsSeatOf board.entry.now result × WasTold result × AllTended items.entry.now (view_of result) }
+            requires { IsSeatOf board.now seat × AllTended items.now (view_of seat)
+                × (pieces_of board.now ≡ length items.now) }
+            ensures { IsSeatOf board.entry.now result × WasTold result
+                × AllTended items.entry.now (view_of result) }
         { work(board, items, seat) },
     )
 }
@@ -78,8 +81,8 @@ fn settle(board: Board, items: &[bool], seats: Vec<Seat>) -> Option<u64>
     Some(tally.least)
 }
 
-/// The place of the first marked item, or the number of items where none is, found by that many workers. `None` if there
-/// are no workers or more than 64, more than 4,294,967,296 items, or no memory.
+/// The place of the first marked item, or the number of items where none is, found by that many workers.
+/// `None` if there are no workers or more than 64, more than 4,294,967,296 items, or no memory.
 pub fn first_marked<R: Threads + Sync>(
     rt: &R,
     alloc: Global,

@@ -2,7 +2,5 @@
 #![tactic(auto)]
 
 mod first;
-#[cfg(test)]
-mod tests;
 
 pub use first::first_marked;

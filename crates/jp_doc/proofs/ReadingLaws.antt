@@ -1,12 +1,14 @@
 -- Laws of what a line is read as.
-use Rattle.std.proofs.Common.{◌≡◌, ℕ, ◌<◌, ◌≤◌, Bool, true, false, IsTrue, nat_lt, List, length, Option, Some, None, Result, Ok, Err, refl, ◌∙◌, ap, subst, if◌then◌else◌}
-use Rattle.std.proofs.lemmas.Bool.{ltb-true, lt-ltb, ltb-false}
-use Rattle.serde_json.specs.Data.{Data}
-use Rattle.serde_json.specs.Written.{has_float}
-use Rattle.jp_doc.specs.Json.{Json, json_of}
+use Rattle.std.proofs.Common.{◌≡◌, ℕ, ◌<◌, ◌≤◌, Bool, true, false, IsTrue, arith, nat_lt, List, length, Option, Some, None, Result, Ok, Err, refl, ◌∙◌, ap, subst, if◌then◌else◌}
+use Rattle.std.proofs.lemmas.Bool.{ltb-true, lt-ltb, ltb-false, le-ltb}
+use Rattle.serde_json.specs.Data as crate_data
+use Rattle.serde_json.specs.Data.{Data, Items}
+use Rattle.serde_json.specs.Written.{has_float, items_have_float}
+use Rattle.jp_doc.specs.Json as json
+use Rattle.jp_doc.specs.Json.{Json, json_of, items_of, item_list}
 use Rattle.jp_doc.specs.declared.fault.DocFault.{DocFault}
 use Rattle.jp_doc.specs.declared.fault.DocFault.TheVariants.{LongLine, Unreadable, NotWhole, LongArray, Memory}
-use Rattle.jp_doc.specs.Reading.{max_line, max_items, has_long_array, crate_reading, document_from, reading}
+use Rattle.jp_doc.specs.Reading.{max_line, max_items, has_long_array, items_have_long_array, crate_reading, document_from, reading}
 
 pub long_line_refused : (line : List ℕ) → max_line < length line → reading line ≡ Err LongLine
 long_line_refused line h = ap (λ t. if t then Err LongLine else document_from (crate_reading line)) (lt-ltb max_line (length line) h)
@@ -62,3 +64,23 @@ document_is_read line v e = let s = says_at line (Ok v) e in (short line s.0, s.
 
 pub no_memory_fault : (line : List ℕ) → ¬ (reading line ≡ Err Memory)
 no_memory_fault line e = says_at line (Err Memory) e
+
+-- at the limits themselves
+
+pub line_at_the_limit : (line : List ℕ) → length line ≡ 268435456 → ¬ (reading line ≡ Err LongLine)
+line_at_the_limit line h e = let above = long_line_is_long line e in absurd (omega arith)
+
+pub line_above_the_limit : (line : List ℕ) → length line ≡ 268435457 → reading line ≡ Err LongLine
+line_above_the_limit line h = long_line_refused line (omega arith)
+
+pub array_at_the_limit : (ds : Items) → items_have_float ds ≡ false → items_have_long_array 16777216 (items_of ds) ≡ false
+    → length (item_list (items_of ds)) ≡ 16777216 → document_from (Some (crate_data.array ds)) ≡ Ok (json.array (items_of ds))
+array_at_the_limit ds whole short h =
+    let here : nat_lt max_items (length (item_list (items_of ds))) ≡ false = le-ltb max_items (length (item_list (items_of ds))) (omega arith) in
+    rw (whole, here, short) refl
+
+pub array_above_the_limit : (ds : Items) → items_have_float ds ≡ false → length (item_list (items_of ds)) ≡ 16777217
+    → document_from (Some (crate_data.array ds)) ≡ Err LongArray
+array_above_the_limit ds whole h =
+    let here : nat_lt max_items (length (item_list (items_of ds))) ≡ true = lt-ltb max_items (length (item_list (items_of ds))) (omega arith) in
+    rw (whole, here) refl

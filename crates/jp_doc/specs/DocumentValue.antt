@@ -8,7 +8,8 @@ use Rattle.jp_doc.specs.Json.{Json, null, truth, whole, text, array, object, val
 use Rattle.jp_doc.specs.Reading.{max_items, has_long_array}
 use Rattle.jp_doc.specs.Rising.{IsRising}
 
--- Its numbers are whole, its arrays short enough, its nesting no deeper than the JSON crate reads, and its names rise.
+-- Its numbers are whole, its arrays short enough, its nesting no deeper than the JSON crate reads, and its
+-- names rise.
 pub record IsDocumentValue (v : Value) : Type 0 where
   pub whole_numbers : has_float (view v) ≡ false
   pub short_arrays : has_long_array max_items (value_of v) ≡ false

@@ -20,7 +20,8 @@ text_eq = bytes_eq
 abbrev pub text_cmp : Text → Text → Ordering
 text_cmp s t = slice_cmp nat_cmp (encode_utf8_all s) (encode_utf8_all t)
 
--- A value. An object is a finite map from names to values: the list of its members, each name once, in rising order.
+-- A value. An object is a finite map from names to values: the list of its members, each name once, in rising
+-- order.
 mutual
   pub data Json : Type 0 where
     null : Json

@@ -1,4 +1,4 @@
--- The limits of a document, for private clauses.
+-- A working file, which nobody has to believe: the limits of a document, for private clauses alone.
 use Rattle.std.specs.Prelude.{Bool, Result, Ok, Err, if◌then◌else◌}
 use Rattle.jp_doc.specs.declared.fault.DocFault.{DocFault}
 use Rattle.jp_doc.specs.declared.fault.DocFault.TheVariants.{NotWhole}

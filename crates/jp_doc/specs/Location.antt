@@ -1,7 +1,9 @@
 -- Locations, nodes, and where a location leads (RFC 9535, 1.1).
-use Rattle.std.specs.Prelude.{ℕ, zero, suc, List, [], ◌∷◌, map, Option, Some, None, option_and_then, if◌then◌else◌, string_bytes}
+use Rattle.std.specs.Prelude.{ℕ, zero, suc, List, [], ◌∷◌, map, Option, Some, None, option_and_then}
+use Rattle.std.specs.Prelude.{if◌then◌else◌, string_bytes}
 use Rattle.std.specs.Str.{chars}
-use Rattle.jp_doc.specs.Json.{Text, text_eq, Json, array, object, Items, no_items, add_item, Members, no_members, add_member}
+use Rattle.jp_doc.specs.Json.{Text, text_eq, Json, array, object, Items, no_items, add_item, Members}
+use Rattle.jp_doc.specs.Json.{no_members, add_member}
 use Rattle.jp_doc.specs.declared.location.Step as code
 use Rattle.jp_doc.specs.declared.location.Step.TheVariants as code_step
 use Rattle.jp_doc.specs.declared.location.Location as code_location

@@ -1,10 +1,12 @@
 -- What a line is read as (RFC 8259).
-use Rattle.std.specs.Prelude.{ℕ, Bool, false, ◌||◌, nat_lt, List, length, Option, Some, None, Result, Ok, Err, if◌then◌else◌}
+use Rattle.std.specs.Prelude.{ℕ, Bool, false, ◌||◌, nat_lt, List, length, Option, Some, None, Result, Ok, Err}
+use Rattle.std.specs.Prelude.{if◌then◌else◌}
 use Rattle.std.specs.Str.{is_utf8}
 use Rattle.serde_json.specs.Data.{Data}
 use Rattle.serde_json.specs.Read.{read}
 use Rattle.serde_json.specs.Written.{has_float}
-use Rattle.jp_doc.specs.Json.{Json, null, truth, whole, text, array, object, Items, no_items, add_item, Members, no_members, add_member, item_list, json_of}
+use Rattle.jp_doc.specs.Json.{Json, null, truth, whole, text, array, object, Items, no_items, add_item}
+use Rattle.jp_doc.specs.Json.{Members, no_members, add_member, item_list, json_of}
 use Rattle.jp_doc.specs.declared.fault.DocFault.{DocFault}
 use Rattle.jp_doc.specs.declared.fault.DocFault.TheVariants.{LongLine, Unreadable, NotWhole, LongArray}
 
@@ -36,6 +38,13 @@ abbrev mutual
 -- what the JSON crate reads from the whole line, where it reads a value
 abbrev pub crate_reading : List ℕ → Option Data
 crate_reading line = if is_utf8 line then read line else None
+
+-- the first fault of what the crate has read, if it has one, where an array may have this many items
+abbrev pub fault_of : ℕ → Data → Option DocFault
+fault_of n d =
+    if has_float d then Some NotWhole
+    else if has_long_array n (json_of d) then Some LongArray
+    else None
 
 -- what is left to test of a value that the crate has read: that its numbers are whole, and then its arrays
 abbrev pub document_from : Option Data → Result Json DocFault

@@ -3,7 +3,8 @@ use Rattle.std.specs.Prelude.{◌≡◌}
 use Rattle.std.specs.declared.cmp.Ordering.TheVariants.{Less}
 use Rattle.std.specs.Str.{IsUtf8}
 use Rattle.serde_json.specs.Data as crate_data
-use Rattle.jp_doc.specs.Json.{Text, text_cmp, Json, null, truth, whole, text, array, object, Items, no_items, add_item, Members, no_members, add_member}
+use Rattle.jp_doc.specs.Json.{Text, text_cmp, Json, null, truth, whole, text, array, object, Items, no_items}
+use Rattle.jp_doc.specs.Json.{add_item, Members, no_members, add_member}
 
 -- the first text is below the second
 abbrev pub IsTextBelow : Text → Text → Type 0

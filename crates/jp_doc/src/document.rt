@@ -1,23 +1,28 @@
 //! Documents: JSON values, each read from a line.
 
-ghost use Rattle.std.specs.Prelude.{◌≡◌, ◌≢◌, ◌<◌, false, IsTrue, length, map, option_map, IfSome, IfOk, IfErr, None};
+ghost use Rattle.std.specs.Prelude.{◌≡◌, ◌≢◌, ◌<◌, ◌≤◌, false, IsTrue, length, map, option_map, IfSome, IfOk};
+ghost use Rattle.std.specs.Prelude.{IfErr, Some, None};
+ghost use Rattle.serde_json.specs.Data.{depth};
 ghost use Rattle.serde_json.specs.Errors.{IsMemory};
 ghost use Rattle.serde_json.specs.View.{view};
 ghost use Rattle.serde_json.specs.Written.{has_float};
 ghost use Rattle.jp_doc.specs.DocumentValue.{IsDocumentValue, whole_in};
 ghost use Rattle.jp_doc.specs.Json.{value_of};
 ghost use Rattle.jp_doc.specs.Location as location;
-ghost use Rattle.jp_doc.specs.Reading.{max_line, reading};
+ghost use Rattle.jp_doc.specs.Reading.{max_line, document_from, reading};
 ghost use Rattle.jp_doc.specs.Rising.{IsRising};
 
 use crate::fault::DocFault;
-use crate::limits::has_long_array;
+use crate::limits::fault_within;
 use crate::location::Step;
 use serde_json::{Category, Error, Value};
 use std::alloc::Global;
 
 /// The greatest number of bytes in a line.
 const MAX_LINE: usize = 268_435_456;
+
+/// The greatest number of items in an array.
+const MAX_ITEMS: usize = 16_777_216;
 
 /// A JSON value that was read from a line.
 ///
@@ -29,13 +34,14 @@ pub struct Document {
 }
 
 impl Document {
-    ghost use Rattle.jp_doc.specs.Document.{document_value};
+    ghost use Rattle.jp_doc.specs.Document.{answer_of, document_value};
 
     /// The document that a line holds (RFC 8259).
     ///
-    /// `LongLine` if the line has more than 268,435,456 bytes, which takes no memory to tell. Then `Unreadable` if it
-    /// holds no JSON text, `NotWhole` if some number is no whole number of 64 bits, `LongArray` if some array has more
-    /// than 16,777,216 items, and `Memory` in the place of any answer but `LongLine` if a growth was refused.
+    /// `LongLine` if the line has more than 268,435,456 bytes, which takes no memory to tell. Then
+    /// `Unreadable` if it holds no JSON text, `NotWhole` if some number is no whole number of 64 bits,
+    /// `LongArray` if some array has more than 16,777,216 items, and `Memory` in the place of any answer
+    /// but `LongLine` if a growth was refused.
     pub fn read(alloc: Global, line: &[u8]) -> Result<Document, DocFault>
         ensures ok { IfOk result (λ d. reading line.now ≡ Ok (document_value d)) }
         ensures rising { IfOk result (λ d. IsRising (document_value d)) }
@@ -45,14 +51,22 @@ impl Document {
         if line.len() > MAX_LINE {
             return Err(DocFault::LongLine);
         }
-        let root = match Value::from_slice(alloc, line) {
-            Ok(root) => root,
-            Err(error) => return Err(fault_of(&error)),
-        };
-        if has_long_array(&root)? {
-            return Err(DocFault::LongArray);
+        match Value::from_slice(alloc, line) {
+            Ok(root) => Document::of_value(root),
+            Err(error) => Err(fault_of(&error)),
         }
-        Ok(Document { root })
+    }
+
+    /// The document that has this value, or what is wrong with the value. It takes no memory.
+    fn of_value(root: Value) -> Result<Document, DocFault>
+        requires nesting { depth (view root) ≤ 127 }
+        requires rising { IsRising (value_of root) }
+        ensures answer { answer_of result ≡ document_from (Some (view root)) }
+    {
+        match fault_within(&root, MAX_ITEMS) {
+            Some(fault) => Err(fault),
+            None => Ok(Document { root }),
+        }
     }
 
     /// The whole value.
@@ -91,7 +105,8 @@ fn fault_of(error: &Error) -> DocFault
 
 /// The child that a step leads to.
 fn child_at<'v>(value: &'v Value, step: &Step) -> Option<&'v Value>
-    ensures value { option_map (λ v. value_of v.now) result ≡ location.child_at (location.step_of step.now) (value_of value.now) }
+    ensures value { option_map (λ v. value_of v.now) result
+        ≡ location.child_at (location.step_of step.now) (value_of value.now) }
     ensures kept { IsDocumentValue value.now → IfSome result (λ v. IsDocumentValue v.now) }
 {
     match step {

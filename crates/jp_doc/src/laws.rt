@@ -1,13 +1,14 @@
 //! Laws of the definitions, each proved for every line, location and document.
 
-ghost use Rattle.std.specs.Prelude.{◌≡◌, ℕ, ◌<◌, ◌≤◌, false, not, ◌==◌, IsTrue, List, [], ◌∷◌, ◌++◌, length, Some, None, Ok, Err, option_and_then, Vec, String};
+ghost use Rattle.std.specs.Prelude.{◌≡◌, ℕ, ◌<◌, ◌≤◌, false, not, ◌==◌, IsTrue, List, [], ◌∷◌, ◌++◌, length};
+ghost use Rattle.std.specs.Prelude.{Some, None, Ok, Err, option_and_then, option_map, slice_get, Vec, String};
 ghost use Rattle.std.specs.declared.alloc.Global.{Global};
 ghost use Rattle.std.specs.BTreeMap.{BTreeMap};
 ghost use Rattle.std.specs.List.{All, list_all, concat};
 ghost use Rattle.std.specs.Str.{IsUtf8};
 ghost use Rattle.std.specs.Cmp.Lexicographic.{slice_cmp};
 ghost use Rattle.std.specs.Ordering.{nat_cmp};
-ghost use Rattle.serde_json.specs.Data.{Data, Members, put};
+ghost use Rattle.serde_json.specs.Data.{Data, Members, depth, put};
 ghost use Rattle.serde_json.specs.Written.{has_float};
 ghost use Rattle.serde_json.specs.View.{view};
 ghost use Rattle.serde_json.specs.declared.value.Value.{Value, Array, Object};
@@ -16,10 +17,12 @@ ghost use Rattle.jp_doc.specs.Json.{Text, text_cmp, Json, json_of, members_of, v
 ghost use Rattle.jp_doc.specs.Lines.{all_lines, lines, line_count};
 ghost use Rattle.jp_doc.specs.Feeding.{cut, last_line, nothing_fed, lines_of_pieces, after_pieces};
 ghost use Rattle.jp_doc.specs.Joined.{joined};
-ghost use Rattle.jp_doc.specs.Location.{Location, value_at};
+ghost use Rattle.jp_doc.specs.Location.{Location, location_of, step_of, value_at};
 ghost use Rattle.jp_doc.specs.Reading.{max_line, max_items, has_long_array, crate_reading, reading};
 ghost use Rattle.jp_doc.specs.Rising.{IsRising, MembersRise, NamesAreUtf8};
-ghost use Rattle.jp_doc.specs.declared.fault.DocFault.TheVariants.{LongLine, Unreadable, NotWhole, LongArray, Memory};
+ghost use Rattle.jp_doc.specs.declared.location.Location as code;
+ghost use Rattle.jp_doc.specs.declared.fault.DocFault.TheVariants.{LongLine, Unreadable, NotWhole, LongArray};
+ghost use Rattle.jp_doc.specs.declared.fault.DocFault.TheVariants.{Memory};
 
 /// Bytes that are cut after a line feed have the lines of the first part, and then those of the second.
 #[tactic(auto, using(crate::proofs::LineLaws::lines_of_both))]
@@ -31,42 +34,55 @@ pub fn lines_end_whole()
 /// and one more line feed where these don't end in one.
 #[tactic(auto, using(crate::proofs::LineLaws::joined_whole, crate::proofs::LineLaws::joined_open))]
 pub fn no_line_feed_in_a_line()
-    ensures no_line_feed { (bytes : List ℕ) → IsTrue (list_all (list_all (λ b. not (b == 10))) (all_lines bytes)) }
+    ensures no_line_feed { (bytes : List ℕ)
+        → IsTrue (list_all (list_all (λ b. not (b == 10))) (all_lines bytes)) }
     ensures ended { (a : List ℕ) → joined (all_lines (a ++ 10 ∷ [])) ≡ a ++ 10 ∷ [] }
-    ensures not_ended { (a : List ℕ) (c : ℕ) → (c == 10) ≡ false → joined (all_lines (a ++ c ∷ [])) ≡ (a ++ c ∷ []) ++ 10 ∷ [] }
+    ensures not_ended { (a : List ℕ) (c : ℕ) → (c == 10) ≡ false → joined (all_lines (a ++ c ∷ []))
+        ≡ (a ++ c ∷ []) ++ 10 ∷ [] }
 {}
 
 /// The fault of a line that is too long, and of no other.
-#[tactic(auto, using(crate::proofs::ReadingLaws::long_line_refused, crate::proofs::ReadingLaws::long_line_is_long))]
 pub fn long_line()
     ensures refused { (line : List ℕ) → max_line < length line → reading line ≡ Err LongLine }
     ensures no_other { (line : List ℕ) → reading line ≡ Err LongLine → max_line < length line }
 {}
 
 /// What each answer of a reading says of the line: a fault is told only where those before it do not apply.
-#[tactic(auto, using(crate::proofs::ReadingLaws::unreadable_is_unread, crate::proofs::ReadingLaws::not_whole_has_float, crate::proofs::ReadingLaws::long_array_is_long, crate::proofs::ReadingLaws::document_is_read, crate::proofs::ReadingLaws::no_memory_fault))]
 pub fn first_fault()
-    ensures unreadable { (line : List ℕ) → reading line ≡ Err Unreadable → (length line ≤ max_line) × (crate_reading line ≡ None) }
+    ensures unreadable { (line : List ℕ) → reading line ≡ Err Unreadable → (length line ≤ max_line)
+        × (crate_reading line ≡ None) }
     ensures not_whole { (line : List ℕ) → reading line ≡ Err NotWhole
         → (length line ≤ max_line) × (d : Data) × (crate_reading line ≡ Some d) × IsTrue (has_float d) }
     ensures long_array { (line : List ℕ) → reading line ≡ Err LongArray
-        → (length line ≤ max_line) × (d : Data) × (crate_reading line ≡ Some d) × (has_float d ≡ false) × IsTrue (has_long_array max_items (json_of d)) }
+        → (length line ≤ max_line) × (d : Data) × (crate_reading line ≡ Some d) × (has_float d ≡ false)
+        × IsTrue (has_long_array max_items (json_of d)) }
     ensures document { (line : List ℕ) (v : Json) → reading line ≡ Ok v
-        → (length line ≤ max_line) × (d : Data) × (crate_reading line ≡ Some d) × (has_float d ≡ false) × (has_long_array max_items v ≡ false) × (v ≡ json_of d) }
+        → (length line ≤ max_line) × (d : Data) × (crate_reading line ≡ Some d) × (has_float d ≡ false)
+        × (has_long_array max_items v ≡ false) × (v ≡ json_of d) }
     ensures no_memory { (line : List ℕ) → ¬ (reading line ≡ Err Memory) }
 {}
 
 /// A location's steps lead on from where its first steps lead.
 #[tactic(auto, using(crate::proofs::LocationLaws::value_at_both))]
 pub fn value_at_further()
-    ensures { (a b : Location) (v : Json) → value_at (a ++ b) v ≡ option_and_then (value_at b) (value_at a v) }
+    ensures { (a b : Location) (v : Json) → value_at (a ++ b) v
+        ≡ option_and_then (value_at b) (value_at a v) }
 {}
 
-/// A member that the JSON crate puts among members whose names rise keeps them rising, where the names are UTF-8.
+/// A `Location` leads by its steps, one for one.
+pub fn steps_of_a_location()
+    ensures steps { (l : code.Location) (i : ℕ) → slice_get (location_of l) i
+        ≡ option_map step_of (slice_get l.steps.items i) }
+{}
+
+/// A member that the JSON crate puts among members whose names rise keeps them rising, where the names are
+/// UTF-8.
 #[tactic(auto, using(crate::proofs::RisingLaws::rise_put, crate::proofs::RisingLaws::utf8_put))]
 pub fn names_rise_on_put()
-    ensures rising { (k : List ℕ) (d : Data) (ms : Members) → IsUtf8 k → NamesAreUtf8 ms → IsRising (json_of d) → MembersRise (members_of ms) → MembersRise (members_of (put k d ms)) }
-    ensures utf8 { (k : List ℕ) (d : Data) (ms : Members) → IsUtf8 k → NamesAreUtf8 ms → NamesAreUtf8 (put k d ms) }
+    ensures rising { (k : List ℕ) (d : Data) (ms : Members) → IsUtf8 k → NamesAreUtf8 ms
+        → IsRising (json_of d) → MembersRise (members_of ms) → MembersRise (members_of (put k d ms)) }
+    ensures utf8 { (k : List ℕ) (d : Data) (ms : Members) → IsUtf8 k → NamesAreUtf8 ms
+        → NamesAreUtf8 (put k d ms) }
 {}
 
 /// The lines are those that end in a line feed, and what follows the last line feed if it is not empty.
@@ -75,12 +91,13 @@ pub fn last_line_is_open()
     ensures { (bytes : List ℕ) → all_lines bytes ≡ (cut bytes).ended ++ last_line (cut bytes).open_line }
 {}
 
-/// What `feed` hands out for pieces that come one after another, and then `finish`, is the lines of the pieces joined;
-/// and the count is theirs.
-#[tactic(auto, using(crate::proofs::FeedLaws::pieces_lines, crate::proofs::FeedLaws::pieces_count, crate::proofs::FeedLaws::pieces_open))]
+/// What `feed` hands out for pieces that come one after another, and then `finish`, is the lines of the
+/// pieces joined; and the count is theirs.
 pub fn lines_in_pieces()
-    ensures handed_out { (pieces : List (List ℕ)) → lines_of_pieces nothing_fed pieces ≡ lines (concat pieces) }
-    ensures count { (pieces : List (List ℕ)) → (after_pieces nothing_fed pieces).count ≡ line_count (concat pieces) }
+    ensures handed_out { (pieces : List (List ℕ)) → lines_of_pieces nothing_fed pieces
+        ≡ lines (concat pieces) }
+    ensures count { (pieces : List (List ℕ)) → (after_pieces nothing_fed pieces).count
+        ≡ line_count (concat pieces) }
     ensures none_open { (pieces : List (List ℕ)) → (after_pieces nothing_fed pieces).open_line ≡ [] }
 {}
 
@@ -99,5 +116,14 @@ pub fn text_order()
 /// The items and the members of a value of a document are values of the document.
 pub fn values_inside()
     ensures items { (vs : Vec Value Global) → IsDocumentValue (Array vs) → All IsDocumentValue vs.items }
-    ensures members { (ms : BTreeMap (String Global) Value) → IsDocumentValue (Object ms) → All (λ m. IsDocumentValue m.1) ms.entries }
+    ensures members { (ms : BTreeMap (String Global) Value) → IsDocumentValue (Object ms)
+        → All (λ m. IsDocumentValue m.1) ms.entries }
+{}
+
+/// What is true of every value of a document.
+pub fn values_of_documents()
+    ensures whole_numbers { (v : Value) → IsDocumentValue v → has_float (view v) ≡ false }
+    ensures short_arrays { (v : Value) → IsDocumentValue v → has_long_array 16777216 (value_of v) ≡ false }
+    ensures nesting { (v : Value) → IsDocumentValue v → depth (view v) ≤ 127 }
+    ensures rising_names { (v : Value) → IsDocumentValue v → IsRising (value_of v) }
 {}

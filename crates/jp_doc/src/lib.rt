@@ -9,11 +9,10 @@ mod limits;
 mod line;
 mod lines;
 mod location;
-#[cfg(test)]
-mod tests;
 
 pub use document::{Document, whole_number};
 pub use fault::DocFault;
+pub use limits::fault_within;
 pub use line::Line;
 pub use lines::Lines;
 pub use location::{Location, Step};

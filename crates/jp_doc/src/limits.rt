@@ -1,54 +1,66 @@
-//! The limits of what a document holds.
+//! What may be wrong with a value that was read from a line.
 
 ghost use Rattle.std.specs.Prelude.{◌≡◌};
 ghost use Rattle.serde_json.specs.View.{view, items_view, members_view};
 ghost use Rattle.serde_json.specs.Written.{has_float, items_have_float, members_have_float};
 ghost use Rattle.jp_doc.specs.Json.{value_of, items_of, members_of};
-ghost use Rattle.jp_doc.specs.Reading as reading;
+ghost use Rattle.jp_doc.specs.Reading.{fault_of, has_long_array, items_have_long_array};
+ghost use Rattle.jp_doc.specs.Reading.{members_have_long_array};
 ghost use Rattle.jp_doc.specs.Limits.{tested};
 
 use crate::fault::DocFault;
 use serde_json::{Map, Value};
 
-/// The greatest number of items in an array.
-const MAX_ITEMS: usize = 16_777_216;
+/// What is wrong with a value, however deep: `NotWhole` if some number is no whole number of 64 bits, or else
+/// `LongArray` if some array has more than `limit` items.
+pub fn fault_within(value: &Value, limit: usize) -> Option<DocFault>
+    ensures fault { result ≡ fault_of limit (view value.now) }
+{
+    match long_within(value, limit) {
+        Ok(false) => None,
+        Ok(true) => Some(DocFault::LongArray),
+        Err(fault) => Some(fault),
+    }
+}
 
-/// Whether some array, however deep, has too many items.
+/// Whether some array, however deep, has more than `limit` items.
 ///
 /// `NotWhole` where some number, however deep, is not whole.
 #[cycle(limits)]
-pub(crate) fn has_long_array(value: &Value) -> Result<bool, DocFault>
-    ensures { result ≡ tested (has_float (view value.now)) (reading.has_long_array reading.max_items (value_of value.now)) }
+fn long_within(value: &Value, limit: usize) -> Result<bool, DocFault>
+    ensures long { result ≡ tested (has_float (view value.now)) (has_long_array limit (value_of value.now)) }
 {
     match value {
         Value::Null | Value::Bool(_) | Value::String(_) => Ok(false),
         Value::Number(number) if number.is_f64() => Err(DocFault::NotWhole),
         Value::Number(_) => Ok(false),
-        Value::Array(items) => Ok(items_have_long_array(items)? || items.len() > MAX_ITEMS),
-        Value::Object(members) => members_have_long_array(members),
+        Value::Array(items) => Ok(long_within_items(items, limit)? || items.len() > limit),
+        Value::Object(members) => long_within_members(members, limit),
     }
 }
 
 /// The same of the items of an array.
 #[cycle(limits)]
-fn items_have_long_array(items: &Vec<Value>) -> Result<bool, DocFault>
-    ensures { result ≡ tested (items_have_float (items_view items.now.items)) (reading.items_have_long_array reading.max_items (items_of (items_view items.now.items))) }
+fn long_within_items(items: &Vec<Value>, limit: usize) -> Result<bool, DocFault>
+    ensures long { result ≡ tested (items_have_float (items_view items.now.items))
+        (items_have_long_array limit (items_of (items_view items.now.items))) }
 {
     let mut long = false;
     for item in items {
-        long |= has_long_array(item)?;
+        long |= long_within(item, limit)?;
     }
     Ok(long)
 }
 
 /// The same of the members of an object.
 #[cycle(limits)]
-fn members_have_long_array(members: &Map<String, Value>) -> Result<bool, DocFault>
-    ensures { result ≡ tested (members_have_float (members_view members.now.entries)) (reading.members_have_long_array reading.max_items (members_of (members_view members.now.entries))) }
+fn long_within_members(members: &Map<String, Value>, limit: usize) -> Result<bool, DocFault>
+    ensures long { result ≡ tested (members_have_float (members_view members.now.entries))
+        (members_have_long_array limit (members_of (members_view members.now.entries))) }
 {
     let mut long = false;
     for (_, member) in members.iter() {
-        long |= has_long_array(member)?;
+        long |= long_within(member, limit)?;
     }
     Ok(long)
 }

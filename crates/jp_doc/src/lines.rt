@@ -1,8 +1,10 @@
 //! Lines of bytes that come in pieces (JSON Lines).
 
-ghost use Rattle.std.specs.Prelude.{◌≡◌, ◌+◌, ◌≤◌, [], ◌∷◌, ◌++◌, false, length, map, IfSome, IfNone, IfOk, OnOk, OnErr};
-ghost use Rattle.jp_doc.specs.Added.{Adds, Begins};
-ghost use Rattle.jp_doc.specs.Feeding.{cut, has_line_feed, numbered, nothing_fed, fed, fed_lines, finished, finished_lines};
+ghost use Rattle.std.specs.Prelude.{◌≡◌, ◌+◌, ◌≤◌, [], ◌∷◌, ◌++◌, false, length, map, IfSome, IfNone, IfOk};
+ghost use Rattle.std.specs.Prelude.{OnOk, OnErr};
+ghost use Rattle.jp_doc.specs.Added.{Adds, Begins, after_line};
+ghost use Rattle.jp_doc.specs.Feeding.{cut, has_line_feed, numbered, nothing_fed, fed, fed_lines, finished};
+ghost use Rattle.jp_doc.specs.Feeding.{finished_lines};
 ghost use Rattle.jp_doc.specs.Lines.{is_blank, line_of};
 
 use crate::line::Line;
@@ -54,7 +56,8 @@ impl Lines {
     /// `AllocError` if a growth was refused: then nothing has changed, and the piece can be fed again.
     pub fn feed(&mut self, piece: &[u8], out: &mut Vec<Line>) -> Result<(), AllocError>
         requires { self.old.count ≤ 4294967295 }
-        ensures lines { OnOk result (map line_of out.new.items ≡ map line_of out.old.items ++ fed_lines self.old piece.now) }
+        ensures lines { OnOk result (map line_of out.new.items
+            ≡ map line_of out.old.items ++ fed_lines self.old piece.now) }
         ensures progress { OnOk result (self.new ≡ fed self.old piece.now) }
         ensures same_lines { OnErr result (out.new.items ≡ out.old.items) }
         ensures same_progress { OnErr result (self.new ≡ self.old) }
@@ -69,13 +72,14 @@ impl Lines {
         fed
     }
 
-    /// Ends the line that is open, if there is one, and adds it to `out` unless it is blank. The next piece begins a
-    /// new line.
+    /// Ends the line that is open, if there is one, and adds it to `out` unless it is blank. The next piece
+    /// begins a new line.
     ///
     /// `AllocError` if a growth was refused: then nothing has changed.
     pub fn finish(&mut self, out: &mut Vec<Line>) -> Result<(), AllocError>
         requires { self.old.count ≤ 4294967295 }
-        ensures lines { OnOk result (map line_of out.new.items ≡ map line_of out.old.items ++ finished_lines self.old) }
+        ensures lines { OnOk result (map line_of out.new.items
+            ≡ map line_of out.old.items ++ finished_lines self.old) }
         ensures progress { OnOk result (self.new ≡ finished self.old) }
         ensures same_lines { OnErr result (out.new.items ≡ out.old.items) }
         ensures same_progress { OnErr result (self.new ≡ self.old) }
@@ -100,26 +104,27 @@ impl Lines {
         ensures more_bytes { OnErr result (Begins self.old.open_line self.new.open_line) }
         ensures same_count { OnErr result (self.new.count ≡ self.old.count) }
     {
-        let Some((line, after)) = first_line(piece) else {
-            self.open_line.extend_from_slice(piece)?;
-            return Ok(());
-        };
         if self.open_line.is_empty() {
             let (count, rest) = push_lines(self.alloc, self.count, piece, out)?;
             self.open_line.extend_from_slice(rest)?;
             self.count = count;
             return Ok(());
         }
+        let Some((line, after)) = first_line(piece) else {
+            self.open_line.extend_from_slice(piece)?;
+            return Ok(());
+        };
         self.open_line.extend_from_slice(line)?;
         self.end_line(after, out)
     }
 
-    /// Ends the open line, and adds it and the lines that end in the bytes after it. An `Err` may leave more behind
-    /// the lines of `out`.
+    /// Ends the open line, and adds it and the lines that end in the bytes after it. An `Err` may leave more
+    /// behind the lines of `out`.
     fn end_line(&mut self, after: &[u8], out: &mut Vec<Line>) -> Result<(), AllocError>
         requires { self.old.count ≤ 4294967295 }
-        ensures lines { OnOk result (Adds out.old.items out.new.items (numbered (self.old.count + 1) (self.old.open_line ∷ (cut after.now).ended))) }
-        ensures progress { OnOk result (self.new ≡ record { count = self.old.count + 1 + length (cut after.now).ended; open_line = (cut after.now).open_line }) }
+        ensures lines { OnOk result (Adds out.old.items out.new.items
+            (numbered (self.old.count + 1) (self.old.open_line ∷ (cut after.now).ended))) }
+        ensures progress { OnOk result (self.new ≡ after_line self.old (cut after.now)) }
         ensures more_lines { OnErr result (Begins out.old.items out.new.items) }
         ensures same_progress { OnErr result (self.new ≡ self.old) }
     {
@@ -142,7 +147,7 @@ impl Lines {
 
 /// Whether a line holds nothing but white space.
 fn is_blank_line(line: &[u8]) -> bool
-    ensures { result ≡ is_blank line.now }
+    ensures blank { result ≡ is_blank line.now }
 {
     line.iter()
         .all(|byte| *byte == b' ' || *byte == b'\t' || *byte == b'\r')
@@ -150,7 +155,8 @@ fn is_blank_line(line: &[u8]) -> bool
 
 /// What stands before the first line feed, and what stands after it.
 fn first_line(bytes: &[u8]) -> Option<(&[u8], &[u8])>
-    ensures some { IfSome result (λ parts. (bytes.now ≡ parts.0.now ++ 10 ∷ parts.1.now) × (has_line_feed parts.0.now ≡ false)) }
+    ensures some { IfSome result (λ parts. (bytes.now ≡ parts.0.now ++ 10 ∷ parts.1.now)
+        × (has_line_feed parts.0.now ≡ false)) }
     ensures none { IfNone result (has_line_feed bytes.now ≡ false) }
 {
     let Some(at) = memchr(b'\n', bytes) else {
@@ -161,8 +167,8 @@ fn first_line(bytes: &[u8]) -> Option<(&[u8], &[u8])>
     Some((line, after))
 }
 
-/// Adds the lines that end in the bytes, numbered on from `before`. Gives how many lines have ended then, and the
-/// bytes of the next. An `Err` may leave more behind the lines of `out`.
+/// Adds the lines that end in the bytes, numbered on from `before`. Gives how many lines have ended then,
+/// and the bytes of the next. An `Err` may leave more behind the lines of `out`.
 fn push_lines<'b>(
     alloc: Global,
     before: u64,
@@ -170,7 +176,8 @@ fn push_lines<'b>(
     out: &mut Vec<Line>,
 ) -> Result<(u64, &'b [u8]), AllocError>
     requires { before ≤ 4294967296 }
-    ensures lines { OnOk result (Adds out.old.items out.new.items (numbered (before + 1) (cut bytes.now).ended)) }
+    ensures lines { OnOk result
+        (Adds out.old.items out.new.items (numbered (before + 1) (cut bytes.now).ended)) }
     ensures count { IfOk result (λ r. r.0 ≡ before + length (cut bytes.now).ended) }
     ensures rest { IfOk result (λ r. r.1.now ≡ (cut bytes.now).open_line) }
     ensures open_line { IfOk result (λ r. has_line_feed r.1.now ≡ false) }

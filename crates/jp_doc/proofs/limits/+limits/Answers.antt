@@ -5,7 +5,7 @@ use Rattle.serde_json.specs.Written.{items_have_float}
 use Rattle.serde_json.specs.declared.value.Value.{Value}
 use Rattle.jp_doc.specs.Limits.{tested}
 use Rattle.jp_doc.specs.Json.{items_of, item_list}
-use Rattle.jp_doc.specs.Reading.{max_items, items_have_long_array}
+use Rattle.jp_doc.specs.Reading.{items_have_long_array}
 use Rattle.jp_doc.proofs.limits.+limits.Goals as goal
 
 length_items : (vs : List Value) → length (item_list (items_of (items_view vs))) ≡ length vs
@@ -21,9 +21,14 @@ this_alone true within this e = cc
 this_alone false true this e = cc
 this_alone false false this e = ap (λ b. tested false b) (sym (or_none this))
 
-pub has_long_array-returns-else-branch : goal.has_long_array-returns-else-branch
-has_long_array-returns-else-branch t c =
-    rw (c.in-Array.is, view-Array, length_items)
-    (ap (λ n. tested false (nat_lt max_items n)) (c.len.ensures ∙ c.in-Array.items.ok.0)
-    ∙ sym (this_alone (items_have_float (items_view c.in-Array.items.items)) (items_have_long_array max_items (items_of (items_view c.in-Array.items.items))) _
-    (sym c.items_have_long_array.ensures ∙ c.in_ok-items_have_long_array-in-Array.was ∙ ap (λ b. tested false b) c.if-branch.false)))
+pub long_within-returns-else-branch : goal.long_within-returns-else-branch
+long_within-returns-else-branch t c =
+    let items = items_view c.in-Array.items.items in
+    let within = items_have_long_array c.args.limit (items_of items) in
+    record {
+      long = rw (c.in-Array.is, view-Array, length_items)
+          (ap (λ n. tested false (nat_lt c.args.limit n)) (c.len.ensures ∙ c.in-Array.items.ok.0)
+          ∙ sym (this_alone (items_have_float items) within _
+          (sym c.long_within_items.ensures.long ∙ c.in_ok-long_within_items-in-Array.was
+          ∙ ap (λ b. tested false b) c.if-branch.false)));
+    }

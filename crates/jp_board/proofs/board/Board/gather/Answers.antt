@@ -4,7 +4,7 @@ use Rattle.jp_board.specs.declared.view.View.{View}
 use Rattle.jp_board.specs.Steps.{Place}
 use Rattle.jp_board.specs.Seats.{IsSeatOf, view_of}
 use Rattle.jp_board.specs.Account.{SameAccount}
-use Rattle.jp_board.proofs.Parts.{gathers}
+use Rattle.jp_board.proofs.Reaching.{gathers}
 use Rattle.jp_board.proofs.Tallying.{first_gathered, next_gathered}
 use Rattle.jp_board.proofs.board.Board.gather.Goals as goal
 

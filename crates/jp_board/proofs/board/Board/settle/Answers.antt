@@ -2,7 +2,7 @@ use Rattle.std.proofs.Common.{ℕ, [], ◌∷◌, sym, subst}
 use Rattle.std.specs.Slots.{slots_items}
 use Rattle.atomic_table.specs.Table.{Final, Seen}
 use Rattle.jp_board.specs.declared.view.View.{View}
-use Rattle.jp_board.specs.Lawful.{Holds}
+use Rattle.jp_board.specs.Rule.{Holds}
 use Rattle.jp_board.specs.Tally.{Tallies}
 use Rattle.jp_board.proofs.Tallying.{settles}
 use Rattle.jp_board.proofs.board.Board.settle.Goals as goal

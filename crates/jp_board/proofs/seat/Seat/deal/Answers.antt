@@ -2,7 +2,7 @@ use Rattle.std.proofs.Common.{rules, arith, ap, sym, ◌∙◌, All, subst}
 use Rattle.std.proofs.lemmas.List.Elements.{All-push}
 use Rattle.jp_board.specs.Steps.{Place}
 use Rattle.jp_board.specs.Seats.{IsAt, IsFresh}
-use Rattle.jp_board.proofs.Parts.{deals}
+use Rattle.jp_board.proofs.Reaching.{deals}
 use Rattle.jp_board.proofs.Tallying.{left_fresh, one_fresh}
 use Rattle.jp_board.proofs.seat.Seat.deal.Goals as goal
 

@@ -13,7 +13,7 @@ returns-clause-lines c =
     let lines = (cut c.args.after.now).ended in
     let later = numbered (c.self.inside.count + 1 + 1) lines in
     let full : code.Line = record { number = c.self.inside.count + 1; bytes = c.replace-bytes.result } in
-    let tests : c.is_blank_line-is_blank.result ≡ is_blank c.self.inside.open_line.items = c.is_blank_line-is_blank.ensures ∙ ap is_blank c.deref.ensures.value in
+    let tests : c.is_blank_line-is_blank.result ≡ is_blank c.self.inside.open_line.items = c.is_blank_line-is_blank.ensures.blank ∙ ap is_blank c.deref.ensures.value in
     subst (λ (p : Progress). Adds c.args.out.now.items c.if-not-is_blank-2.out.items (numbered (p.count + 1) (p.open_line ∷ lines))) c.self.view_is
     (elim c.if-not-is_blank-2.branch [
       | then-not-is_blank-2 w ↦ elim c.if-not-is_blank.branch [

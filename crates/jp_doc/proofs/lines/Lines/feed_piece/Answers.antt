@@ -7,7 +7,7 @@ use Rattle.jp_doc.proofs.FeedLaws.{open_piece, fed_ended, begins_kept}
 use Rattle.jp_doc.proofs.lines.Lines.feed_piece.Goals as goal
 
 pub invariant_of-self-in_default : goal.invariant_of-self-in_default
-invariant_of-self-in_default c = rw c.in_ok-extend_from_slice.ensures.items (feedless_both c.self.inside.open_line.items c.args.piece.now c.self.invariant c.in_default.ensures.none)
+invariant_of-self-in_default c = rw c.in_ok-extend_from_slice-2.ensures.items (feedless_both c.self.inside.open_line.items c.args.piece.now c.self.invariant c.in_default.ensures.none)
 
 pub returns-in_default-clause-lines : goal.returns-in_default-clause-lines
 returns-in_default-clause-lines c =
@@ -17,7 +17,7 @@ returns-in_default-clause-lines c =
 pub returns-in_default-clause-progress : goal.returns-in_default-clause-progress
 returns-in_default-clause-progress c =
     let e = open_piece c.args.self.now c.self.inside.count c.self.inside.open_line.items c.args.piece.now c.self.view_is c.self.invariant c.in_default.ensures.none in
-    rw (e.0, e.1, c.in_ok-extend_from_slice.ensures.items) (grind (arith, common_steps))
+    rw (e.0, e.1, c.in_ok-extend_from_slice-2.ensures.items) (grind (arith, common_steps))
 
 pub invariant_of-self-2 : goal.invariant_of-self-2
 invariant_of-self-2 c = rw c.in_ok-extend_from_slice-3.ensures.items (feedless_both c.self.inside.open_line.items c.in-Some.line.now c.self.invariant c.in-Some.ensures.some.1)

@@ -1,0 +1,87 @@
+//! Where locations lead, and the numbers there.
+
+use jp_doc::{Document, Step, whole_number};
+use std::alloc::{AllocError, Global};
+use std::test::Fail;
+
+/// A step of a test's table.
+#[derive(Clone, Copy)]
+enum To {
+    Name(&'static str),
+    Index(u32),
+}
+
+/// The step of a document.
+fn step_to(alloc: Global, to: To) -> Result<Step, AllocError> {
+    match to {
+        To::Name(name) => Ok(Step::Name(String::from_str(alloc, name)?)),
+        To::Index(index) => Ok(Step::Index(index)),
+    }
+}
+
+/// The number where the steps lead, if they lead to one.
+fn number_at(alloc: Global, document: &Document, path: &[To]) -> Result<Option<i128>, AllocError> {
+    let mut steps = Vec::new(alloc);
+    for to in path {
+        steps.push(step_to(alloc, *to)?)?;
+    }
+    Ok(document.at(&steps).and_then(|value| whole_number(value)))
+}
+
+const LINE: &str = "{\"a\":[7,{\"b\":-8}],\"\":\"9\",\"é\":10,\"0\":11}";
+
+#[test]
+fn values_at_locations(rt: HostRuntime) -> Result<(), Fail> {
+    let alloc = rt.alloc();
+    let document = Document::read(alloc, LINE.as_bytes())?;
+    let rows: [(&[To], Option<i128>); 13] = [
+        (&[To::Name("a"), To::Index(0)], Some(7)),
+        (&[To::Name("a"), To::Index(1), To::Name("b")], Some(-8)),
+        (&[To::Name("é")], Some(10)),
+        (&[To::Name("0")], Some(11)),
+        (&[], None),
+        (&[To::Name("")], None),
+        (&[To::Name("a")], None),
+        (&[To::Name("A"), To::Index(0)], None),
+        (&[To::Name("a"), To::Index(2)], None),
+        (&[To::Name("a"), To::Name("0")], None),
+        (&[To::Index(0)], None),
+        (&[To::Name("é"), To::Index(0)], None),
+        (&[To::Name("c"), To::Index(0)], None),
+    ];
+    for (path, number) in rows {
+        assert_eq!(rt; number_at(alloc, &document, path)?, number);
+    }
+    Ok(())
+}
+
+#[test]
+fn the_empty_location_and_the_empty_name(rt: HostRuntime) -> Result<(), Fail> {
+    let alloc = rt.alloc();
+    let document = Document::read(alloc, LINE.as_bytes())?;
+    assert!(rt; document.at(&[]).is_some());
+    let steps = [Step::Name(String::new(alloc))];
+    let text = document.at(&steps).ok_or("a text")?;
+    assert_eq!(rt; text.as_str(), Some("9"));
+    Ok(())
+}
+
+#[test]
+fn whole_numbers(rt: HostRuntime) -> Result<(), Fail> {
+    for (line, number) in [
+        ("0", Some(0)),
+        ("-9223372036854775808", Some(-9_223_372_036_854_775_808)),
+        ("9223372036854775807", Some(9_223_372_036_854_775_807)),
+        ("9223372036854775808", Some(9_223_372_036_854_775_808)),
+        ("18446744073709551615", Some(18_446_744_073_709_551_615)),
+        ("\"3\"", None),
+        ("[3]", None),
+        ("{\"a\":3}", None),
+        ("true", None),
+        ("null", None),
+    ] {
+        let document = Document::read(rt.alloc(), line.as_bytes())?;
+        assert_eq!(rt; whole_number(document.root()), number, "{line}");
+    }
+    Ok(())
+}
