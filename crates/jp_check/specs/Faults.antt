@@ -1,4 +1,4 @@
--- The faults of a part of a tree.
+-- A step of a proof, which nobody has to believe: the faults of a part of a tree.
 use Rattle.std.specs.Prelude.{Bool, not, ◌||◌, List}
 use Rattle.std.specs.List.{list_any, list_all}
 use Rattle.jp_check.specs.Numbers.{Written, is_fraction, is_in_range}

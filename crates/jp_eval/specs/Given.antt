@@ -1,3 +1,4 @@
+-- A step of a proof, which nobody has to believe.
 -- What the functions of `src/` are, and what their calls give.
 use Rattle.std.specs.Prelude.{Option, Some, None}
 use Rattle.jp_doc.specs.Json.{Text, Json, text}

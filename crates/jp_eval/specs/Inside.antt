@@ -1,4 +1,4 @@
--- What is inside of a part. Nobody has to believe this file: no public clause names it.
+-- A step of a proof, which nobody has to believe: what is inside of a part.
 use Rattle.std.specs.Prelude.{ℕ, ◌<◌, ◌≤◌, List, [], length}
 use Rattle.std.specs.List.{All}
 use Rattle.serde_json.specs.Data.{items_depth, members_depth}

@@ -1,4 +1,4 @@
--- What is kept of nodes that are found. Nobody has to believe this file: no public clause names it.
+-- A step of a proof, which nobody has to believe: what is kept of nodes that are found.
 use Rattle.std.specs.Prelude.{ℕ, ◌+◌, List, Option, Some, None, option_map}
 use Rattle.std.specs.List.{fold}
 use Rattle.jp_doc.specs.Json.{Json}

@@ -1,4 +1,4 @@
--- The value that a part of a document is.
+-- A step of a proof, which nobody has to believe: the value that a part of a document is.
 use Rattle.jp_doc.specs.Json.{Json, value_of}
 use Rattle.jp_eval.specs.declared.part.Part.{Part}
 

@@ -1,3 +1,4 @@
+-- A step of a proof, which nobody has to believe.
 -- The indexes of a slice, one after another, for private clauses.
 use Rattle.std.specs.Prelude.{ℕ, ◌+◌, ◌-◌, pos, negsuc, int_lt, ◌≤ℤ◌, ◌+ℤ◌, List, [], ◌∷◌, length, Option}
 use Rattle.std.specs.Prelude.{Some, None, IfSome, IsTrue, if◌then◌else◌}

@@ -1,3 +1,4 @@
+-- A step of a proof, which nobody has to believe.
 -- Tests for `match` and `search` that are right, for private clauses: any two right tests answer alike.
 use Rattle.jp_regexp.specs.Tests.{Tests, AreRight}
 use Rattle.jp_regexp.proofs.RightTests.{right_tests}

@@ -1,4 +1,4 @@
--- What takers keep. Nobody has to believe this file: no public clause names it.
+-- A step of a proof, which nobody has to believe: what takers keep.
 use Rattle.std.specs.Prelude.{List, [], ◌∷◌, ◌++◌}
 use Rattle.jp_doc.specs.Location.{Location, Node}
 

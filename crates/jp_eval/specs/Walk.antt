@@ -1,4 +1,4 @@
--- What the parts of the walk find, for private clauses.
+-- A step of a proof, which nobody has to believe: what the parts of the walk find, for private clauses.
 use Rattle.std.specs.Prelude.{List, [], ◌∷◌, Bool}
 use Rattle.std.specs.List.{filter, flat_map}
 use Rattle.jp_doc.specs.Json.{Json}
