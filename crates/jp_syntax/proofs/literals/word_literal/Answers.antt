@@ -1,6 +1,6 @@
 use Rattle.std.proofs.Common.{sym}
 use Rattle.jp_syntax.proofs.Words.{true_read, false_read, null_read, none_read}
-use Rattle.jp_syntax.proofs.parts.word_literal.Goals as goal
+use Rattle.jp_syntax.proofs.literals.word_literal.Goals as goal
 
 pub returns-in-true : goal.returns-in-true
 returns-in-true c = sym (true_read c.args.word.now c.utf8.word c.in-true.is)
