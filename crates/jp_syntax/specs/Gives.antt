@@ -35,10 +35,12 @@ Reads view (Ok x) read = read ≡ Some (view x)
 Reads view (Err e) read = Refuses e read
 
 -- the same of what is read at the front of a text, with the rest
-abbrev pub GivesFront : {X Y : Type 0} → (X → Y) → Result (X × Bor (List ℕ)) QueryFault → Option (Y × Text) → Type 0
+abbrev pub GivesFront : {X Y : Type 0} → (X → Y) → Result (X × Bor (List ℕ)) QueryFault → Option (Y × Text)
+    → Type 0
 GivesFront view r read = Gives (λ x. (view x.0, chars x.1.now)) r read
 
-abbrev pub ReadsFront : {X Y : Type 0} → (X → Y) → Result (X × Bor (List ℕ)) QueryFault → Option (Y × Text) → Type 0
+abbrev pub ReadsFront : {X Y : Type 0} → (X → Y) → Result (X × Bor (List ℕ)) QueryFault → Option (Y × Text)
+    → Type 0
 ReadsFront view r read = Reads (λ x. (view x.0, chars x.1.now)) r read
 
 -- the same where what is read is a part of the text

@@ -1,13 +1,18 @@
 -- Reading from left to right: what stands at the front of a text, and the rest behind it.
 -- `None` says that no front of the text is what is read.
 -- Nobody has to believe this file: no public clause cites it. `Spelling` says what a text spells.
-use Rattle.std.specs.Prelude.{ℕ, zero, suc, ◌+◌, Bool, true, false, not, ◌||◌, ◌&&◌, ◌==◌, if◌then◌else◌, List, [], ◌∷◌, ◌++◌, length, Option, Some, None, option_and_then, option_map, is_none, bytes_eq, codes}
+use Rattle.std.specs.Prelude.{ℕ, zero, suc, ◌+◌, Bool, true, false, not, ◌||◌, ◌&&◌, ◌==◌, if◌then◌else◌}
+use Rattle.std.specs.Prelude.{List, [], ◌∷◌, ◌++◌, length, Option, Some, None, option_and_then, option_map}
+use Rattle.std.specs.Prelude.{is_none, bytes_eq, codes}
 use Rattle.jp_syntax.specs.declared.tree.Start.TheVariants.{Root, Current}
 use Rattle.jp_syntax.specs.declared.tree.Operator.{Operator}
 use Rattle.jp_syntax.specs.declared.tree.Operator.TheVariants as op
 use Rattle.jp_syntax.specs.Tree.{Text}
 use Rattle.jp_syntax.specs.Tree as tree
-use Rattle.jp_syntax.specs.Characters.{is_blank, is_digit, is_positive_digit, is_first, is_name_character, is_lower, is_function_character, is_quote, is_bare, escaped, is_hex_digit, hex_number, is_high_surrogate, is_low_surrogate, pair_value}
+use Rattle.jp_syntax.specs.Characters.{is_blank, is_digit, is_positive_digit, is_first, is_name_character}
+use Rattle.jp_syntax.specs.Characters.{is_lower, is_function_character, is_quote, is_bare, escaped}
+use Rattle.jp_syntax.specs.Characters.{is_hex_digit, hex_number, is_high_surrogate, is_low_surrogate}
+use Rattle.jp_syntax.specs.Characters.{pair_value}
 use Rattle.jp_syntax.specs.Numbers.{is_exponent_mark}
 use Rattle.jp_syntax.specs.Singular.{is_singular}
 use Rattle.jp_syntax.specs.Spelling.{joined, begins_with}
@@ -56,7 +61,8 @@ mark_at mark (c ∷ t) = if c == mark then Some t else None
 abbrev pub Turn : Type 0 → Type 0
 Turn A = Outcome (Option A)
 
-abbrev pub goes_on : {A : Type 0} → (List A → Text → Outcome (List A)) → List A → Option A → Text → Outcome (List A)
+abbrev pub goes_on : {A : Type 0} → (List A → Text → Outcome (List A)) → List A → Option A → Text
+    → Outcome (List A)
 goes_on go found None t = Some (found, t)
 goes_on go found (Some x) t = go (found ++ x ∷ []) t
 
@@ -487,5 +493,7 @@ compared_behind (suc n) left o t =
 unfoldable pub read : ℕ → Text → Option tree.Query
 read n [] = None
 read n (c ∷ t) =
-    if c == 36 then (segments_at (logical_at n) t >>= λ r. if length r.1 == 0 then Some (tree.query_from Root r.0) else None)
+    if c == 36 then
+    (segments_at (logical_at n) t >>= λ r.
+    if length r.1 == 0 then Some (tree.query_from Root r.0) else None)
     else None

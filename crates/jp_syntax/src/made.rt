@@ -9,7 +9,9 @@ ghost use Rattle.jp_syntax.specs.Reading as reading;
 ghost use Rattle.jp_syntax.specs.Spelling.{joined, begins_with};
 ghost use Rattle.std.specs.Str.{chars};
 ghost use Rattle.jp_syntax.specs.View.{query_of, text_of, literal_of};
-ghost use Rattle.jp_syntax.specs.PartViews.{argument_of, comparable_of, logical_of, selector_of, call_of, comparison_of, segment_of, segments_of, selectors_of, logicals_of, arguments_of};
+ghost use Rattle.jp_syntax.specs.PartViews.{argument_of, comparable_of, logical_of, selector_of, call_of};
+ghost use Rattle.jp_syntax.specs.PartViews.{comparison_of, segment_of, segments_of, selectors_of};
+ghost use Rattle.jp_syntax.specs.PartViews.{logicals_of, arguments_of};
 
 use crate::text::begins_with;
 use crate::tree::{
@@ -125,7 +127,8 @@ pub(crate) fn slice_selector(
     past: Option<String>,
     step: Option<String>,
 ) -> Selector
-    ensures { selector_of result ≡ tree.slice (option_map text_of first) (option_map text_of past) (option_map text_of step) }
+    ensures { selector_of result
+        ≡ tree.slice (option_map text_of first) (option_map text_of past) (option_map text_of step) }
 {
     Selector::Slice(Slice { first, past, step })
 }
@@ -155,7 +158,8 @@ pub(crate) fn call_from(name: String, arguments: Vec<Argument>) -> Call
 }
 
 pub(crate) fn push_selector(found: &mut Vec<Selector>, item: Selector) -> Result<(), AllocError>
-    ensures { OnOk result (selectors_of found.new.items ≡ selectors_of found.old.items ++ selector_of item ∷ []) }
+    ensures { OnOk result (selectors_of found.new.items
+        ≡ selectors_of found.old.items ++ selector_of item ∷ []) }
 {
     found.push(item)?;
     Ok(())
@@ -170,14 +174,16 @@ pub(crate) fn one_selector(alloc: Global, item: Selector) -> Result<Vec<Selector
 }
 
 pub(crate) fn push_segment(found: &mut Vec<Segment>, item: Segment) -> Result<(), AllocError>
-    ensures { OnOk result (segments_of found.new.items ≡ segments_of found.old.items ++ segment_of item ∷ []) }
+    ensures { OnOk result (segments_of found.new.items
+        ≡ segments_of found.old.items ++ segment_of item ∷ []) }
 {
     found.push(item)?;
     Ok(())
 }
 
 pub(crate) fn push_logical(found: &mut Vec<Logical>, item: Logical) -> Result<(), AllocError>
-    ensures { OnOk result (logicals_of found.new.items ≡ logicals_of found.old.items ++ logical_of item ∷ []) }
+    ensures { OnOk result (logicals_of found.new.items
+        ≡ logicals_of found.old.items ++ logical_of item ∷ []) }
 {
     found.push(item)?;
     Ok(())
@@ -192,7 +198,8 @@ pub(crate) fn one_logical(alloc: Global, item: Logical) -> Result<Vec<Logical>, 
 }
 
 pub(crate) fn push_argument(found: &mut Vec<Argument>, item: Argument) -> Result<(), AllocError>
-    ensures { OnOk result (arguments_of found.new.items ≡ arguments_of found.old.items ++ argument_of item ∷ []) }
+    ensures { OnOk result (arguments_of found.new.items
+        ≡ arguments_of found.old.items ++ argument_of item ∷ []) }
 {
     found.push(item)?;
     Ok(())
@@ -252,7 +259,8 @@ pub(crate) fn negation(alloc: Global, logical: Logical) -> Result<Logical, Alloc
 
 /// The argument that the logical expression in front of this text is (RFC 9535, 2.4).
 pub(crate) fn standing_argument(text: &str, logical: Logical) -> Argument
-    ensures { argument_of result ≡ reading.argument_of (begins_with 40 (chars text.now)) (logical_of logical) }
+    ensures { argument_of result ≡ reading.argument_of (begins_with 40 (chars text.now))
+        (logical_of logical) }
 {
     argument_from(begins_with('(', text), logical)
 }

@@ -7,7 +7,8 @@ ghost use Rattle.std.specs.Prelude.{◌≡◌, ◌<◌, ◌⊎◌, ◌↔◌, le
 ghost use Rattle.jp_syntax.specs.Reading as reading;
 ghost use Rattle.jp_syntax.specs.Tree as tree;
 ghost use Rattle.jp_syntax.specs.View.{query_of};
-ghost use Rattle.jp_syntax.specs.PartViews.{argument_of, comparable_of, logical_of, selector_of, call_of, segment_of, segments_of, selectors_of, logicals_of, arguments_of};
+ghost use Rattle.jp_syntax.specs.PartViews.{argument_of, comparable_of, logical_of, selector_of, call_of};
+ghost use Rattle.jp_syntax.specs.PartViews.{segment_of, segments_of, selectors_of, logicals_of, arguments_of};
 ghost use Rattle.jp_syntax.specs.Gives.{Gives, GivesFront, ReadsRest};
 ghost use Rattle.jp_syntax.specs.Spelling.{Spells};
 ghost use Rattle.jp_syntax.specs.Depth.{bracket_depth, max_depth};
@@ -77,7 +78,8 @@ fn next_selector(
     left: usize,
     text: &str,
 ) -> Result<(Option<Selector>, &str), QueryFault>
-    ensures { GivesFront (option_map selector_of) result (reading.next_selector (reading.logical_at left) (chars text.now)) }
+    ensures { GivesFront (option_map selector_of) result
+        (reading.next_selector (reading.logical_at left) (chars text.now)) }
 {
     match first_character(text) {
         Some((',', more)) => {
@@ -97,7 +99,8 @@ fn selectors_from(
     mut found: Vec<Selector>,
     text: &str,
 ) -> Result<(Vec<Selector>, &str), QueryFault>
-    ensures { GivesFront (λ xs. selectors_of xs.items) result (reading.selectors_behind (reading.logical_at left) (selectors_of found.items) (chars text.now)) }
+    ensures { GivesFront (λ xs. selectors_of xs.items) result
+        (reading.selectors_behind (reading.logical_at left) (selectors_of found.items) (chars text.now)) }
 {
     let mut rest = text;
     loop {
@@ -114,7 +117,8 @@ fn selectors_from(
 #[cycle(reader)]
 #[tactic(auto, unfolding(crate::specs::Reading::items_at))]
 fn bracketed_at(alloc: Global, left: usize, text: &str) -> Result<(Vec<Selector>, &str), QueryFault>
-    ensures { GivesFront (λ xs. selectors_of xs.items) result (reading.bracketed_at (reading.logical_at left) (chars text.now)) }
+    ensures { GivesFront (λ xs. selectors_of xs.items) result
+        (reading.bracketed_at (reading.logical_at left) (chars text.now)) }
 {
     let (first, rest) = selector_at(alloc, left, inside_brackets(text))?;
     selectors_from(alloc, left, one_selector(alloc, first)?, rest)
@@ -124,7 +128,8 @@ fn bracketed_at(alloc: Global, left: usize, text: &str) -> Result<(Vec<Selector>
 #[cycle(reader)]
 #[tactic(auto, unfolding(crate::specs::Reading::descendant_at))]
 fn descendant_at(alloc: Global, left: usize, text: &str) -> Result<(Segment, &str), QueryFault>
-    ensures { GivesFront segment_of result (reading.descendant_at (reading.logical_at left) (chars text.now)) }
+    ensures { GivesFront segment_of result
+        (reading.descendant_at (reading.logical_at left) (chars text.now)) }
 {
     match first_character(text) {
         None => Err(QueryFault::Syntax),
@@ -158,7 +163,8 @@ fn segment_behind<'a>(
     whole: &'a str,
     text: &'a str,
 ) -> Result<(Option<Segment>, &'a str), QueryFault>
-    ensures { GivesFront (option_map segment_of) result (reading.segment_behind (reading.logical_at left) (chars whole.now) (chars text.now)) }
+    ensures { GivesFront (option_map segment_of) result
+        (reading.segment_behind (reading.logical_at left) (chars whole.now) (chars text.now)) }
 {
     match first_character(text) {
         Some(('.', more)) => {
@@ -181,7 +187,8 @@ fn segments_from(
     mut found: Vec<Segment>,
     text: &str,
 ) -> Result<(Vec<Segment>, &str), QueryFault>
-    ensures { GivesFront (λ xs. segments_of xs.items) result (reading.segments_behind (reading.logical_at left) (segments_of found.items) (chars text.now)) }
+    ensures { GivesFront (λ xs. segments_of xs.items) result
+        (reading.segments_behind (reading.logical_at left) (segments_of found.items) (chars text.now)) }
 {
     let mut rest = text;
     loop {
@@ -197,7 +204,8 @@ fn segments_from(
 /// Segments with blanks before each, to the last.
 #[cycle(reader)]
 fn segments_at(alloc: Global, left: usize, text: &str) -> Result<(Vec<Segment>, &str), QueryFault>
-    ensures { GivesFront (λ xs. segments_of xs.items) result (reading.segments_at (reading.logical_at left) (chars text.now)) }
+    ensures { GivesFront (λ xs. segments_of xs.items) result
+        (reading.segments_at (reading.logical_at left) (chars text.now)) }
 {
     segments_from(alloc, left, Vec::new(alloc), text)
 }
@@ -248,7 +256,8 @@ fn next_argument(
     left: usize,
     text: &str,
 ) -> Result<(Option<Argument>, &str), QueryFault>
-    ensures { GivesFront (option_map argument_of) result (reading.next_argument (reading.logical_at left) (chars text.now)) }
+    ensures { GivesFront (option_map argument_of) result
+        (reading.next_argument (reading.logical_at left) (chars text.now)) }
 {
     match first_character(text) {
         Some((',', more)) => {
@@ -268,7 +277,8 @@ fn arguments_from(
     mut found: Vec<Argument>,
     text: &str,
 ) -> Result<(Vec<Argument>, &str), QueryFault>
-    ensures { GivesFront (λ xs. arguments_of xs.items) result (reading.arguments_behind (reading.logical_at left) (arguments_of found.items) (chars text.now)) }
+    ensures { GivesFront (λ xs. arguments_of xs.items) result
+        (reading.arguments_behind (reading.logical_at left) (arguments_of found.items) (chars text.now)) }
 {
     let mut rest = text;
     loop {
@@ -289,7 +299,8 @@ fn argument_items(
     left: usize,
     text: &str,
 ) -> Result<(Vec<Argument>, &str), QueryFault>
-    ensures { GivesFront (λ xs. arguments_of xs.items) result (reading.argument_items (reading.logical_at left) (chars text.now)) }
+    ensures { GivesFront (λ xs. arguments_of xs.items) result
+        (reading.argument_items (reading.logical_at left) (chars text.now)) }
 {
     let (first, rest) = argument_at(alloc, left, text)?;
     arguments_from(alloc, left, one_argument(alloc, first)?, rest)
@@ -299,7 +310,8 @@ fn argument_items(
 #[cycle(reader)]
 #[tactic(auto, unfolding(crate::specs::Reading::arguments_at))]
 fn arguments_at(alloc: Global, left: usize, text: &str) -> Result<(Vec<Argument>, &str), QueryFault>
-    ensures { GivesFront (λ xs. arguments_of xs.items) result (reading.arguments_at (reading.logical_at left) (chars text.now)) }
+    ensures { GivesFront (λ xs. arguments_of xs.items) result
+        (reading.arguments_at (reading.logical_at left) (chars text.now)) }
 {
     match first_character(text) {
         None => Err(QueryFault::Syntax),
@@ -324,7 +336,8 @@ fn call_at(alloc: Global, left: usize, text: &str) -> Result<(Call, &str), Query
 #[cycle(reader)]
 #[tactic(auto, unfolding(crate::specs::Reading::operand_at))]
 fn operand_at(alloc: Global, left: usize, text: &str) -> Result<(Comparable, &str), QueryFault>
-    ensures { GivesFront comparable_of result (reading.operand_at (reading.logical_at left) (chars text.now)) }
+    ensures { GivesFront comparable_of result
+        (reading.operand_at (reading.logical_at left) (chars text.now)) }
 {
     match first_character(text) {
         None => Err(QueryFault::Syntax),
@@ -381,7 +394,8 @@ fn right_at(
     op: Operator,
     text: &str,
 ) -> Result<(Logical, &str), QueryFault>
-    ensures { GivesFront logical_of result (reading.right_at (reading.logical_at left) (comparable_of side) op (chars text.now)) }
+    ensures { GivesFront logical_of result
+        (reading.right_at (reading.logical_at left) (comparable_of side) op (chars text.now)) }
 {
     let (right, rest) = operand_at(alloc, left, skip(text))?;
     compared_at(side, op, right, rest)
@@ -419,7 +433,8 @@ fn next_basic<'a>(
     whole: &'a str,
     text: &'a str,
 ) -> Result<(Option<Logical>, &'a str), QueryFault>
-    ensures { GivesFront (option_map logical_of) result (reading.next_basic (reading.logical_at left) (chars whole.now) (chars text.now)) }
+    ensures { GivesFront (option_map logical_of) result
+        (reading.next_basic (reading.logical_at left) (chars whole.now) (chars text.now)) }
 {
     match first_character(text) {
         Some(('&', more)) => {
@@ -438,7 +453,8 @@ fn basics_from(
     mut found: Vec<Logical>,
     text: &str,
 ) -> Result<(Vec<Logical>, &str), QueryFault>
-    ensures { GivesFront (λ xs. logicals_of xs.items) result (reading.basics_behind (reading.logical_at left) (logicals_of found.items) (chars text.now)) }
+    ensures { GivesFront (λ xs. logicals_of xs.items) result
+        (reading.basics_behind (reading.logical_at left) (logicals_of found.items) (chars text.now)) }
 {
     let mut rest = text;
     loop {
@@ -459,7 +475,8 @@ fn and_behind(
     first: Logical,
     text: &str,
 ) -> Result<(Logical, &str), QueryFault>
-    ensures { GivesFront logical_of result (reading.and_behind (reading.logical_at left) (logical_of first) (chars text.now)) }
+    ensures { GivesFront logical_of result
+        (reading.and_behind (reading.logical_at left) (logical_of first) (chars text.now)) }
 {
     let (parts, rest) = basics_from(alloc, left, one_logical(alloc, first)?, text)?;
     Ok((joined_all(parts), rest))
@@ -484,7 +501,8 @@ fn next_and<'a>(
     whole: &'a str,
     text: &'a str,
 ) -> Result<(Option<Logical>, &'a str), QueryFault>
-    ensures { GivesFront (option_map logical_of) result (reading.next_and (reading.logical_at left) (chars whole.now) (chars text.now)) }
+    ensures { GivesFront (option_map logical_of) result
+        (reading.next_and (reading.logical_at left) (chars whole.now) (chars text.now)) }
 {
     match first_character(text) {
         Some(('|', more)) => {
@@ -503,7 +521,8 @@ fn ands_from(
     mut found: Vec<Logical>,
     text: &str,
 ) -> Result<(Vec<Logical>, &str), QueryFault>
-    ensures { GivesFront (λ xs. logicals_of xs.items) result (reading.ands_behind (reading.logical_at left) (logicals_of found.items) (chars text.now)) }
+    ensures { GivesFront (λ xs. logicals_of xs.items) result
+        (reading.ands_behind (reading.logical_at left) (logicals_of found.items) (chars text.now)) }
 {
     let mut rest = text;
     loop {
@@ -524,7 +543,8 @@ fn or_behind(
     first: Logical,
     text: &str,
 ) -> Result<(Logical, &str), QueryFault>
-    ensures { GivesFront logical_of result (reading.or_behind (reading.logical_at left) (logical_of first) (chars text.now)) }
+    ensures { GivesFront logical_of result
+        (reading.or_behind (reading.logical_at left) (logical_of first) (chars text.now)) }
 {
     let (parts, rest) = ands_from(alloc, left, one_logical(alloc, first)?, text)?;
     Ok((joined_any(parts), rest))
@@ -562,7 +582,8 @@ fn compared_behind(
     op: Operator,
     text: &str,
 ) -> Result<(Logical, &str), QueryFault>
-    ensures { GivesFront logical_of result (reading.compared_behind left (comparable_of side) op (chars text.now)) }
+    ensures { GivesFront logical_of result
+        (reading.compared_behind left (comparable_of side) op (chars text.now)) }
 {
     if left == 0 {
         return Err(QueryFault::Syntax);
@@ -606,7 +627,8 @@ pub fn read_query(alloc: Global, text: &str) -> Result<Query, QueryFault>
     // The text is not well-formed only where no tree is spelled.
     ensures syntax { IsErrOf result QueryFault.Syntax → (q : tree.Query) → Spells (chars text.now) q → ⊥ }
     // No other fault comes, but where memory is refused.
-    ensures faults { IfErr result (λ e. (e ≡ QueryFault.TooDeep) ⊎ (e ≡ QueryFault.Syntax) ⊎ (e ≡ QueryFault.Memory)) }
+    ensures faults { IfErr result (λ e. (e ≡ QueryFault.TooDeep) ⊎ (e
+        ≡ QueryFault.Syntax) ⊎ (e ≡ QueryFault.Memory)) }
 {
     if bracket_depth(text) > MAX_DEPTH {
         return Err(QueryFault::TooDeep);
