@@ -8,7 +8,7 @@ ghost use Rattle.jp_syntax.specs.Tree.{literal, number, text, truth, null, child
 ghost use Rattle.jp_syntax.specs.Tree.{test_call};
 ghost use Rattle.jp_syntax.specs.Tree.{literal_argument, query_argument, logical_argument, call_argument};
 ghost use Rattle.jp_syntax.specs.Characters as class;
-ghost use Rattle.jp_syntax.specs.Depth.{bracket_depth};
+ghost use Rattle.jp_syntax.specs.Depth.{bracket_depth, max_depth};
 ghost use Rattle.jp_syntax.specs.Singular.{is_singular};
 ghost use Rattle.jp_syntax.specs.Strings.{IsString};
 ghost use Rattle.jp_syntax.specs.Spelling.{Spells};
@@ -41,10 +41,12 @@ fn depths()
     ensures unopened { bracket_depth (codes "$]](") ≡ 1 }
     ensures any_closing { bracket_depth (codes "$[(]]") ≡ 2 }
     ensures closing_parenthesis { bracket_depth (codes "()()[") ≡ 1 }
+    ensures one_of_two_closed { bracket_depth (codes "[[][[") ≡ 3 }
     ensures unclosed_quote { bracket_depth (codes "$'[[[") ≡ 0 }
     ensures hundred_in_quotes { bracket_depth (codes "$['" ++ replicate 100 91 ++ codes "']") ≡ 1 }
     ensures at_the_limit { bracket_depth (codes "$" ++ replicate 64 91) ≡ 64 }
     ensures past_the_limit { bracket_depth (codes "$" ++ replicate 65 91) ≡ 65 }
+    ensures limit { max_depth ≡ 64 }
 {}
 
 // Which queries are singular.
