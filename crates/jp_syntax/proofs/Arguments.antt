@@ -8,7 +8,6 @@ use Rattle.jp_syntax.specs.Characters.{is_lower}
 use Rattle.jp_syntax.specs.Parts.{none, more, Separated, separated}
 use Rattle.jp_syntax.specs.Spelling as sp
 use Rattle.jp_syntax.specs.Spelling.{LogicalIs, begins_with}
-use Rattle.jp_syntax.proofs.Building.{alone}
 use Rattle.jp_syntax.proofs.Endings.{never_at}
 
 -- what is one query or one call
@@ -54,9 +53,13 @@ module _ (Inner : Text → tree.Logical → Type 0) where
   pub call_of : (t : Text) (c : tree.Call) → sp.OrIs Inner t (tree.test_call c) → IsTrue (not (begins_with 40 t)) → sp.CallIs Inner t c
   call_of t c p h = plain_call t c (lone t (tree.test_call c) refl p) h
 
+  alone : (t : Text) (l : tree.Logical) → sp.BasicIs Inner t l → sp.OrIs Inner ((t ++ []) ++ []) l
+  alone t l p =
+      sp.or ((t ++ []) ++ []) (l ∷ []) (separated (t ++ []) [] l [] (sp.and (t ++ []) (l ∷ []) (separated t [] l [] p none)) none)
+
   by_itself : (t : Text) (l : tree.Logical) → sp.PlainIs Inner t l → sp.OrIs Inner t l
   by_itself t l p =
-      let h : sp.OrIs Inner ((t ++ []) ++ []) l = alone Inner t l (sp.plain t l p) in
+      let h : sp.OrIs Inner ((t ++ []) ++ []) l = alone t l (sp.plain t l p) in
       subst (λ (w : Text). sp.OrIs Inner w l) (append-nil (t ++ []) ∙ append-nil t) h
 
   query_start : (t : Text) (q : tree.Query) → sp.QueryIs Inner t q → IsTrue (not (begins_with 40 t))

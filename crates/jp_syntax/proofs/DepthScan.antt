@@ -1,11 +1,20 @@
 -- The bracket depth behind one more character.
-use Rattle.std.proofs.Common.{◌≡◌, ℕ, ◌≤◌, max, arith, refl, ap, sym, ◌∙◌, [], ◌∷◌, ◌++◌, length}
+use Rattle.std.proofs.Common.{◌≡◌, ◌==◌, if◌then◌else◌, Bool, true, false, ℕ, ◌≤◌, max, arith, refl, ap, sym, ◌∙◌, [], ◌∷◌, ◌++◌, length}
 use Rattle.jp_syntax.specs.Tree.{Text}
-use Rattle.jp_syntax.specs.Depth.{Place, outside, step, scan, count_of, open_brackets, bracket_depth}
+use Rattle.jp_syntax.specs.Depth.{Place, outside, inside, passing, step, scan, count_of, open_brackets, bracket_depth}
 use Rattle.jp_syntax.specs.DepthView.{place_of}
 use Rattle.jp_syntax.specs.declared.depth.Quotes.{Quotes}
 use Rattle.jp_syntax.specs.declared.depth.Quotes.TheVariants.{Outside, Inside, Passing}
 use Rattle.jp_syntax.proofs.DepthLaws.{depth_from, depth_from_cons, open_no_deeper, depth_within_length}
+
+-- in quotes the count stays
+pub quoted_count : (quote count c : ℕ) → count ≡ count_of (step (inside quote count) c)
+quoted_count quote count c = counted (c == 92) (c == quote)
+  where
+    counted : (x y : Bool) → count ≡ count_of (if x then passing quote count else if y then outside count else inside quote count)
+    counted true y = refl
+    counted false true = refl
+    counted false false = refl
 
 scan_last : (place : Place) (t : Text) (c : ℕ) → scan place (t ++ c ∷ []) ≡ step (scan place t) c
 scan_last place [] c = refl

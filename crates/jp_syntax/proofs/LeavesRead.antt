@@ -15,8 +15,7 @@ use Rattle.jp_syntax.specs.Spelling.{IsShorthand, shorthand, IsFunctionName, fun
 use Rattle.jp_syntax.specs.Reading.{Outcome, ◌>>=◌, taken, past, run_at, mark_at, name_at, function_name_at, digits_at, positive_at, int_at, minus_at, whole_at, fraction_at, is_sign, sign_at, exponent_at, number_at, hex_at, pair_at, unicode_at, escape_at, piece_at, string_at, word_literal, word_at, literal_at}
 use Rattle.jp_syntax.proofs.Fronts.{given, bind_some, chosen, Front, run_whole, run_each, run_at_whole, starts, IsTurn, all_sound, Steps, all_whole}
 use Rattle.jp_syntax.proofs.Following.{differs, firm, Meets, Leaves, after_side, side_before_digit, side_before_point, side_before_mark, side_before_word}
-use Rattle.jp_syntax.proofs.RefusedStrings.{bare_is_no_backslash}
-use Rattle.jp_syntax.proofs.OneValue.{bare_is_no_quote, no_letter_u}
+use Rattle.jp_syntax.proofs.OneValue.{bare_is_no_backslash, bare_is_no_quote, no_letter_u}
 
 -- a part whose value is its own text
 abbrev pub Itself : (Text → Type 0) → Text → Text → Type 0
@@ -261,7 +260,7 @@ number_parts : (r s t u : Text) → whole_at (r ++ (s ++ (t ++ u))) ≡ Some (r,
 unfolding number_at
 number_parts r s t u a b c = rw (a, b, c) refl
 
-number_whole : (s u : Text) → IsNumber s → Meets after_side u → number_at (s ++ u) ≡ Some (s, u)
+pub number_whole : (s u : Text) → IsNumber s → Meets after_side u → number_at (s ++ u) ≡ Some (s, u)
 number_whole w u (number r s t h f e) m =
     let shape : (r ++ (s ++ t)) ++ u ≡ r ++ (s ++ (t ++ u)) = simp append_assoc in
     let d : Leaves is_digit u = side_before_digit u m in

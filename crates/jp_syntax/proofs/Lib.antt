@@ -1,5 +1,5 @@
 pub mod Arguments
-pub mod Building
+pub mod Computed
 pub mod Cuts
 pub mod DepthLaws
 pub mod DepthScan
@@ -9,7 +9,6 @@ pub mod Fronts
 pub mod LeavesRead
 pub mod LiteralOnce
 pub mod LoneLiterals
-pub mod LoneSurrogate
 pub mod NotEmpty
 pub mod OneTree
 pub mod OneValue
@@ -19,16 +18,9 @@ pub mod PartsWhole
 pub mod Progress
 pub mod ReadSound
 pub mod ReadWhole
-pub mod RefusedStrings
-pub mod RefusedTexts
-pub mod Refusals
 pub mod StringLaws
 pub mod Trims
 pub mod Top
 pub mod Turns
 pub mod Views
-pub mod Witnesses
-pub mod WitnessesOfComparisons
-pub mod WitnessesOfFilters
-pub mod WitnessesOfLiterals
 pub mod Words

@@ -7,9 +7,11 @@ use Rattle.jp_syntax.specs.Characters.{is_scalar, is_quote, is_bare, escaped, he
 use Rattle.jp_syntax.specs.Parts.{Star, none, more}
 use Rattle.jp_syntax.specs.Strings.{Piece, bare, escape, unicode, surrogates, HexIs, four, IsString, quoted}
 use Rattle.jp_syntax.proofs.Endings.{never_at}
-use Rattle.jp_syntax.proofs.RefusedStrings.{bare_is_no_backslash}
 
--- a bare character is no quote
+-- a bare character is no backslash, and no quote
+pub bare_is_no_backslash : (quote c : ℕ) → IsTrue (is_bare quote c) → (c == 92) ≡ false
+bare_is_no_backslash quote c h = not-true (c == 92) (and_parts (nat_le 0x20 c && is_scalar c && not (c == quote)) (not (c == 92)) h).1
+
 pub bare_is_no_quote : (quote c : ℕ) → IsTrue (is_bare quote c) → (c == quote) ≡ false
 bare_is_no_quote quote c h =
     let outer = and_parts (nat_le 0x20 c && is_scalar c && not (c == quote)) (not (c == 92)) h in

@@ -1,9 +1,9 @@
 -- The values of string literals.
-use Rattle.std.proofs.Common.{ℕ, ◌≤◌, Bool, true, false, not, ◌&&◌, ◌==◌, IsTrue, arith, refl, ap, Option, Some, None, if◌then◌else◌, nat_le}
+use Rattle.std.proofs.Common.{ℕ, [], ◌∷◌, ◌≤◌, Bool, true, false, not, ◌&&◌, ◌==◌, IsTrue, arith, refl, ap, Option, Some, None, if◌then◌else◌, nat_le}
 use Rattle.std.proofs.lemmas.Bool.{and_parts}
 use Rattle.std.proofs.lemmas.Bool.Decides.{nat_tests}
 use Rattle.jp_syntax.specs.Tree.{Text}
-use Rattle.jp_syntax.specs.Characters.{is_scalar, is_quote, escaped, is_hex_digit, hex_value, is_surrogate, is_high_surrogate, is_low_surrogate, pair_value}
+use Rattle.jp_syntax.specs.Characters.{is_scalar, is_quote, is_bare, escaped, is_hex_digit, hex_value, is_surrogate, is_high_surrogate, is_low_surrogate, pair_value}
 use Rattle.jp_syntax.specs.Parts.{Each, Star, none, more}
 use Rattle.jp_syntax.specs.Strings.{Piece, bare, escape, unicode, surrogates, HexIs, four, IsString, quoted}
 
@@ -63,3 +63,8 @@ pieces_scalar quote t value q (more s u x xs p ps) = (piece_scalar quote s x q p
 
 pub string_scalar : (t value : Text) → IsString t value → Each is_scalar value
 string_scalar t value (quoted quote u v q p) = pieces_scalar quote u value q p
+
+-- bare characters stand for themselves
+pub bares : (quote : ℕ) (t : Text) → Each (is_bare quote) t → Star (Piece quote) t t
+bares quote [] h = none
+bares quote (c ∷ t) h = more (c ∷ []) t c t (bare c h.0) (bares quote t h.1)

@@ -1,4 +1,4 @@
--- Where the code's scan stands.
+-- Where the code's scan stands. Nobody has to believe this file: no public clause cites it.
 use Rattle.std.specs.Prelude.{ℕ}
 use Rattle.jp_syntax.specs.Depth.{Place, outside, inside, passing}
 use Rattle.jp_syntax.specs.declared.depth.Quotes.{Quotes}

@@ -35,8 +35,10 @@ is_exponent_mark c = c == 101 || c == 69
 
 -- `e` or `E`, perhaps a sign, and digits (RFC 9535, 2.3.5.1)
 pub data IsExponent : Text → Type 0 where
-  exponent : (mark : ℕ) (s t : Text) → IsTrue (is_exponent_mark mark) → IsSign s → IsDigits t → IsExponent (mark ∷ s ++ t)
+  exponent : (mark : ℕ) (s t : Text) → IsTrue (is_exponent_mark mark) → IsSign s → IsDigits t
+      → IsExponent (mark ∷ s ++ t)
 
 -- a number literal (RFC 9535, 2.3.5.1)
 pub data IsNumber : Text → Type 0 where
-  number : (r s t : Text) → IsWhole r → IsOptional IsFraction s → IsOptional IsExponent t → IsNumber (r ++ (s ++ t))
+  number : (r s t : Text) → IsWhole r → IsOptional IsFraction s → IsOptional IsExponent t
+      → IsNumber (r ++ (s ++ t))

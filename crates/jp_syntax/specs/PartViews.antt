@@ -1,7 +1,8 @@
 -- What the parts of a tree of `src/` stand for.
 use Rattle.std.specs.Prelude.{List, map}
 use Rattle.jp_syntax.specs.Tree as tree
-use Rattle.jp_syntax.specs.View.{text_of, argument_level, comparable_level, logical_level, selector_level}
+use Rattle.jp_syntax.specs.View.{argument_level, comparable_level, logical_level, selector_level}
+use Rattle.jp_syntax.specs.View.{call_level, comparison_level, query_level, segment_level}
 use Rattle.jp_syntax.specs.declared.tree.Argument.{Argument, fold-Argument}
 use Rattle.jp_syntax.specs.declared.tree.Comparable.{Comparable, fold-Comparable}
 use Rattle.jp_syntax.specs.declared.tree.Logical.{Logical, fold-Logical}
@@ -11,60 +12,53 @@ use Rattle.jp_syntax.specs.declared.tree.Comparison.{Comparison, fold-Comparison
 use Rattle.jp_syntax.specs.declared.tree.Segment.{Segment, fold-Segment}
 
 abbrev pub argument_of : Argument → tree.Argument
-argument_of = fold-Argument tree.Argument tree.Comparable tree.Logical tree.Selector tree.Call tree.Comparison tree.Query tree.Segment
+argument_of =
+    fold-Argument tree.Argument tree.Comparable tree.Logical tree.Selector
+    tree.Call tree.Comparison tree.Query tree.Segment
     argument_level comparable_level logical_level selector_level
-    (λ c. tree.call (text_of c.name) (tree.arguments c.arguments.items))
-    (λ c. tree.comparison c.left c.op c.right)
-    (λ q. tree.query q.start (tree.segments q.segments.items))
-    (λ s. tree.segment s.deep (tree.selectors s.selectors.items))
+    call_level comparison_level query_level segment_level
 
 abbrev pub comparable_of : Comparable → tree.Comparable
-comparable_of = fold-Comparable tree.Argument tree.Comparable tree.Logical tree.Selector tree.Call tree.Comparison tree.Query tree.Segment
+comparable_of =
+    fold-Comparable tree.Argument tree.Comparable tree.Logical tree.Selector
+    tree.Call tree.Comparison tree.Query tree.Segment
     argument_level comparable_level logical_level selector_level
-    (λ c. tree.call (text_of c.name) (tree.arguments c.arguments.items))
-    (λ c. tree.comparison c.left c.op c.right)
-    (λ q. tree.query q.start (tree.segments q.segments.items))
-    (λ s. tree.segment s.deep (tree.selectors s.selectors.items))
+    call_level comparison_level query_level segment_level
 
 abbrev pub logical_of : Logical → tree.Logical
-logical_of = fold-Logical tree.Argument tree.Comparable tree.Logical tree.Selector tree.Call tree.Comparison tree.Query tree.Segment
+logical_of =
+    fold-Logical tree.Argument tree.Comparable tree.Logical tree.Selector
+    tree.Call tree.Comparison tree.Query tree.Segment
     argument_level comparable_level logical_level selector_level
-    (λ c. tree.call (text_of c.name) (tree.arguments c.arguments.items))
-    (λ c. tree.comparison c.left c.op c.right)
-    (λ q. tree.query q.start (tree.segments q.segments.items))
-    (λ s. tree.segment s.deep (tree.selectors s.selectors.items))
+    call_level comparison_level query_level segment_level
 
 abbrev pub selector_of : Selector → tree.Selector
-selector_of = fold-Selector tree.Argument tree.Comparable tree.Logical tree.Selector tree.Call tree.Comparison tree.Query tree.Segment
+selector_of =
+    fold-Selector tree.Argument tree.Comparable tree.Logical tree.Selector
+    tree.Call tree.Comparison tree.Query tree.Segment
     argument_level comparable_level logical_level selector_level
-    (λ c. tree.call (text_of c.name) (tree.arguments c.arguments.items))
-    (λ c. tree.comparison c.left c.op c.right)
-    (λ q. tree.query q.start (tree.segments q.segments.items))
-    (λ s. tree.segment s.deep (tree.selectors s.selectors.items))
+    call_level comparison_level query_level segment_level
 
 abbrev pub call_of : Call → tree.Call
-call_of = fold-Call tree.Argument tree.Comparable tree.Logical tree.Selector tree.Call tree.Comparison tree.Query tree.Segment
+call_of =
+    fold-Call tree.Argument tree.Comparable tree.Logical tree.Selector
+    tree.Call tree.Comparison tree.Query tree.Segment
     argument_level comparable_level logical_level selector_level
-    (λ c. tree.call (text_of c.name) (tree.arguments c.arguments.items))
-    (λ c. tree.comparison c.left c.op c.right)
-    (λ q. tree.query q.start (tree.segments q.segments.items))
-    (λ s. tree.segment s.deep (tree.selectors s.selectors.items))
+    call_level comparison_level query_level segment_level
 
 abbrev pub comparison_of : Comparison → tree.Comparison
-comparison_of = fold-Comparison tree.Argument tree.Comparable tree.Logical tree.Selector tree.Call tree.Comparison tree.Query tree.Segment
+comparison_of =
+    fold-Comparison tree.Argument tree.Comparable tree.Logical tree.Selector
+    tree.Call tree.Comparison tree.Query tree.Segment
     argument_level comparable_level logical_level selector_level
-    (λ c. tree.call (text_of c.name) (tree.arguments c.arguments.items))
-    (λ c. tree.comparison c.left c.op c.right)
-    (λ q. tree.query q.start (tree.segments q.segments.items))
-    (λ s. tree.segment s.deep (tree.selectors s.selectors.items))
+    call_level comparison_level query_level segment_level
 
 abbrev pub segment_of : Segment → tree.Segment
-segment_of = fold-Segment tree.Argument tree.Comparable tree.Logical tree.Selector tree.Call tree.Comparison tree.Query tree.Segment
+segment_of =
+    fold-Segment tree.Argument tree.Comparable tree.Logical tree.Selector
+    tree.Call tree.Comparison tree.Query tree.Segment
     argument_level comparable_level logical_level selector_level
-    (λ c. tree.call (text_of c.name) (tree.arguments c.arguments.items))
-    (λ c. tree.comparison c.left c.op c.right)
-    (λ q. tree.query q.start (tree.segments q.segments.items))
-    (λ s. tree.segment s.deep (tree.selectors s.selectors.items))
+    call_level comparison_level query_level segment_level
 
 abbrev pub segments_of : List Segment → List tree.Segment
 segments_of xs = map segment_of xs

@@ -28,8 +28,10 @@ pub data Behind {A : Type 0} (Part : Text → A → Type 0) : Text → A → Typ
 
 -- blanks, the mark, blanks, and then the part
 pub data After {A : Type 0} (mark : Text) (Part : Text → A → Type 0) : Text → A → Type 0 where
-  after : (r s t : Text) (x : A) → IsBlank r → IsBlank s → Part t x → After mark Part (r ++ (mark ++ (s ++ t))) x
+  after : (r s t : Text) (x : A) → IsBlank r → IsBlank s → Part t x
+      → After mark Part (r ++ (mark ++ (s ++ t))) x
 
 -- one part or more, with blanks, the mark and blanks between two of them
 pub data Separated {A : Type 0} (mark : Text) (Part : Text → A → Type 0) : Text → List A → Type 0 where
-  separated : (s t : Text) (x : A) (xs : List A) → Part s x → Star (After mark Part) t xs → Separated mark Part (s ++ t) (x ∷ xs)
+  separated : (s t : Text) (x : A) (xs : List A) → Part s x → Star (After mark Part) t xs
+      → Separated mark Part (s ++ t) (x ∷ xs)

@@ -1,12 +1,18 @@
 -- Reading from left to right: what stands at the front of a text, and the rest behind it.
 -- `None` says that no front of the text is what is read.
-use Rattle.std.specs.Prelude.{ℕ, zero, suc, ◌+◌, Bool, true, false, not, ◌||◌, ◌&&◌, ◌==◌, if◌then◌else◌, List, [], ◌∷◌, ◌++◌, length, Option, Some, None, option_and_then, option_map, is_none, bytes_eq, codes}
+-- Nobody has to believe this file: no public clause cites it. `Spelling` says what a text spells.
+use Rattle.std.specs.Prelude.{ℕ, zero, suc, ◌+◌, Bool, true, false, not, ◌||◌, ◌&&◌, ◌==◌, if◌then◌else◌}
+use Rattle.std.specs.Prelude.{List, [], ◌∷◌, ◌++◌, length, Option, Some, None, option_and_then, option_map}
+use Rattle.std.specs.Prelude.{is_none, bytes_eq, codes}
 use Rattle.jp_syntax.specs.declared.tree.Start.TheVariants.{Root, Current}
 use Rattle.jp_syntax.specs.declared.tree.Operator.{Operator}
 use Rattle.jp_syntax.specs.declared.tree.Operator.TheVariants as op
 use Rattle.jp_syntax.specs.Tree.{Text}
 use Rattle.jp_syntax.specs.Tree as tree
-use Rattle.jp_syntax.specs.Characters.{is_blank, is_digit, is_positive_digit, is_first, is_name_character, is_lower, is_function_character, is_quote, is_bare, escaped, is_hex_digit, hex_number, is_high_surrogate, is_low_surrogate, pair_value}
+use Rattle.jp_syntax.specs.Characters.{is_blank, is_digit, is_positive_digit, is_first, is_name_character}
+use Rattle.jp_syntax.specs.Characters.{is_lower, is_function_character, is_quote, is_bare, escaped}
+use Rattle.jp_syntax.specs.Characters.{is_hex_digit, hex_number, is_high_surrogate, is_low_surrogate}
+use Rattle.jp_syntax.specs.Characters.{pair_value}
 use Rattle.jp_syntax.specs.Numbers.{is_exponent_mark}
 use Rattle.jp_syntax.specs.Singular.{is_singular}
 use Rattle.jp_syntax.specs.Spelling.{joined, begins_with}
@@ -55,7 +61,8 @@ mark_at mark (c ∷ t) = if c == mark then Some t else None
 abbrev pub Turn : Type 0 → Type 0
 Turn A = Outcome (Option A)
 
-abbrev pub goes_on : {A : Type 0} → (List A → Text → Outcome (List A)) → List A → Option A → Text → Outcome (List A)
+abbrev pub goes_on : {A : Type 0} → (List A → Text → Outcome (List A)) → List A → Option A → Text
+    → Outcome (List A)
 goes_on go found None t = Some (found, t)
 goes_on go found (Some x) t = go (found ++ x ∷ []) t
 
@@ -140,7 +147,9 @@ number_at t =
 
 -- four hexadecimal digits, as the number that they write
 unfoldable pub hex_at : Reader ℕ
-hex_at (a ∷ b ∷ c ∷ d ∷ t) = if is_hex_digit a && is_hex_digit b && is_hex_digit c && is_hex_digit d then Some (hex_number a b c d, t) else None
+hex_at (a ∷ b ∷ c ∷ d ∷ t) =
+    if is_hex_digit a && is_hex_digit b && is_hex_digit c && is_hex_digit d then Some (hex_number a b c d, t)
+    else None
 hex_at _ = None
 
 -- behind a high surrogate
@@ -280,6 +289,11 @@ is_side (tree.literal x) = true
 is_side (tree.single q) = is_singular q
 is_side (tree.value_call c) = true
 
+-- the two sides with the operator between them, and the rest, where both may stand in a comparison
+abbrev pub sides_compared : tree.Comparable → Operator → tree.Comparable → Reader tree.Logical
+sides_compared left o right t =
+    if is_side left && is_side right then Some (tree.comparing (tree.comparison left o right), t) else None
+
 -- the argument that a logical expression is, where `true` says that a parenthesis begins it
 abbrev pub argument_of : Bool → tree.Logical → tree.Argument
 argument_of true l = tree.logical_argument l
@@ -318,6 +332,14 @@ module _ (inner : Reader tree.Logical) where
       else if c == 63 then (inner (skip t) >>= λ r. Some (tree.filter r.0, r.1))
       else numbers_at (c ∷ t)
 
+  -- a comma and another selector, or `]`
+  abbrev pub next_selector : Text → Turn tree.Selector
+  next_selector t = next_item 93 selector_at t
+
+  -- the selectors behind those that are found, up to `]`
+  abbrev pub selectors_behind : List tree.Selector → Reader (List tree.Selector)
+  selectors_behind found t = all_of (λ u. next_selector (skip u)) found t
+
   -- behind `[`
   abbrev pub bracketed_at : Reader (List tree.Selector)
   bracketed_at t = items_at 93 selector_at (skip t)
@@ -342,8 +364,12 @@ module _ (inner : Reader tree.Logical) where
       else if c == 91 then (bracketed_at t >>= λ r. Some (Some (tree.child r.0), r.1))
       else Some (None, whole)
 
+  -- the segments behind those that are found
+  abbrev pub segments_behind : List tree.Segment → Reader (List tree.Segment)
+  segments_behind found t = all_of (λ u. segment_behind u (skip u)) found t
+
   abbrev pub segments_at : Reader (List tree.Segment)
-  segments_at t = all_of (λ u. segment_behind u (skip u)) [] t
+  segments_at t = segments_behind [] t
 
   unfoldable pub query_at : Reader tree.Query
   query_at [] = None
@@ -356,6 +382,18 @@ module _ (inner : Reader tree.Logical) where
   argument_at t =
       if is_none (lone_literal_at t) then (inner t >>= λ r. Some (argument_of (begins_with 40 t) r.0, r.1))
       else (lone_literal_at t >>= λ r. Some (tree.literal_argument r.0, r.1))
+
+  -- a comma and another argument, or `)`
+  abbrev pub next_argument : Text → Turn tree.Argument
+  next_argument t = next_item 41 argument_at t
+
+  -- the arguments behind those that are found, up to `)`
+  abbrev pub arguments_behind : List tree.Argument → Reader (List tree.Argument)
+  arguments_behind found t = all_of (λ u. next_argument (skip u)) found t
+
+  -- one argument or more, and `)`
+  abbrev pub argument_items : Reader (List tree.Argument)
+  argument_items t = items_at 41 argument_at t
 
   -- behind `(` and blanks
   unfoldable pub arguments_at : Reader (List tree.Argument)
@@ -393,8 +431,7 @@ module _ (inner : Reader tree.Logical) where
   -- behind the operator
   unfoldable pub right_at : tree.Comparable → Operator → Reader tree.Logical
   right_at left o t =
-      operand_at (skip t) >>= λ right.
-      if is_side left && is_side right.0 then Some (tree.comparing (tree.comparison left o right.0), right.1) else None
+      operand_at (skip t) >>= λ right. sides_compared left o right.0 right.1
 
   abbrev pub compared_at : tree.Comparable → Text → Outcome Operator → Outcome tree.Logical
   compared_at left t None = tested_at left t
@@ -410,10 +447,14 @@ module _ (inner : Reader tree.Logical) where
   abbrev pub next_basic : Text → Text → Turn tree.Logical
   next_basic whole t = next_part 38 basic_at whole t
 
+  -- the parts of `&&` behind those that are found
+  abbrev pub basics_behind : List tree.Logical → Reader (List tree.Logical)
+  basics_behind found t = all_of (λ u. next_basic u (skip u)) found t
+
   -- behind the first part
   abbrev pub and_behind : tree.Logical → Reader tree.Logical
   and_behind first t =
-      all_of (λ u. next_basic u (skip u)) (first ∷ []) t >>= λ parts.
+      basics_behind (first ∷ []) t >>= λ parts.
       Some (joined tree.all parts.0, parts.1)
 
   unfoldable pub and_at : Reader tree.Logical
@@ -422,10 +463,14 @@ module _ (inner : Reader tree.Logical) where
   abbrev pub next_and : Text → Text → Turn tree.Logical
   next_and whole t = next_part 124 and_at whole t
 
+  -- the parts of `||` behind those that are found
+  abbrev pub ands_behind : List tree.Logical → Reader (List tree.Logical)
+  ands_behind found t = all_of (λ u. next_and u (skip u)) found t
+
   -- behind the first part
   abbrev pub or_behind : tree.Logical → Reader tree.Logical
   or_behind first t =
-      all_of (λ u. next_and u (skip u)) (first ∷ []) t >>= λ parts.
+      ands_behind (first ∷ []) t >>= λ parts.
       Some (joined tree.any parts.0, parts.1)
 
   unfoldable pub or_at : Reader tree.Logical
@@ -448,5 +493,7 @@ compared_behind (suc n) left o t =
 unfoldable pub read : ℕ → Text → Option tree.Query
 read n [] = None
 read n (c ∷ t) =
-    if c == 36 then (segments_at (logical_at n) t >>= λ r. if length r.1 == 0 then Some (tree.query_from Root r.0) else None)
+    if c == 36 then
+    (segments_at (logical_at n) t >>= λ r.
+    if length r.1 == 0 then Some (tree.query_from Root r.0) else None)
     else None

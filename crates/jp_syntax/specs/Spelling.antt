@@ -1,5 +1,6 @@
 -- Which text spells which tree, by the cases of the grammar (RFC 9535, 2.1 to 2.5).
-use Rattle.std.specs.Prelude.{ℕ, zero, suc, IsTrue, Bool, true, false, not, ◌||◌, ◌==◌, List, [], ◌∷◌, ◌++◌, Option, Some, None, codes}
+use Rattle.std.specs.Prelude.{ℕ, zero, suc, IsTrue, Bool, true, false, not, ◌||◌, ◌==◌, List, [], ◌∷◌, ◌++◌}
+use Rattle.std.specs.Prelude.{Option, Some, None, codes}
 use Rattle.jp_syntax.specs.declared.tree.Start.{Start}
 use Rattle.jp_syntax.specs.declared.tree.Start.TheVariants.{Root, Current}
 use Rattle.jp_syntax.specs.declared.tree.Operator.{Operator}
@@ -18,7 +19,8 @@ pub data IsShorthand : Text → Type 0 where
 
 -- a function's name (RFC 9535, 2.4)
 pub data IsFunctionName : Text → Type 0 where
-  function_name : (c : ℕ) (t : Text) → IsTrue (is_lower c) → Each is_function_character t → IsFunctionName (c ∷ t)
+  function_name : (c : ℕ) (t : Text) → IsTrue (is_lower c) → Each is_function_character t
+      → IsFunctionName (c ∷ t)
 
 -- what a query begins with: `$` for the root, `@` for the current node (RFC 9535, 2.3.5.1)
 pub data StartIs : Text → Start → Type 0 where
@@ -84,13 +86,18 @@ module _ (Inner : Text → tree.Logical → Type 0) where
     -- an integer (RFC 9535, 2.3.3)
     index : (t : Text) → IsInt t → SelectorIs t (tree.index t)
     -- `first:past:step`, each of them optional (RFC 9535, 2.3.4)
-    slice : (r s t u : Text) (first past last : Option Text) → BoundIs r first → IsBlank s → BoundIs t past → StepIs u last → SelectorIs (r ++ (codes ":" ++ (s ++ (t ++ u)))) (tree.slice first past last)
+    slice : (r s t u : Text) (first past last : Option Text) → BoundIs r first → IsBlank s → BoundIs t past
+        → StepIs u last
+        → SelectorIs (r ++ (codes ":" ++ (s ++ (t ++ u)))) (tree.slice first past last)
     -- `?`, blanks and a logical expression (RFC 9535, 2.3.5)
-    filter : (s t : Text) (l : tree.Logical) → IsBlank s → Inner t l → SelectorIs (codes "?" ++ (s ++ t)) (tree.filter l)
+    filter : (s t : Text) (l : tree.Logical) → IsBlank s → Inner t l
+        → SelectorIs (codes "?" ++ (s ++ t)) (tree.filter l)
 
   -- one selector or more in brackets, with commas between (RFC 9535, 2.5.1.1)
   pub data BracketedIs : Text → List tree.Selector → Type 0 where
-    bracketed : (r s t : Text) (xs : List tree.Selector) → IsBlank r → Separated (codes ",") SelectorIs s xs → IsBlank t → BracketedIs (codes "[" ++ (r ++ (s ++ (t ++ codes "]")))) xs
+    bracketed : (r s t : Text) (xs : List tree.Selector) → IsBlank r → Separated (codes ",") SelectorIs s xs
+        → IsBlank t
+        → BracketedIs (codes "[" ++ (r ++ (s ++ (t ++ codes "]")))) xs
 
   -- a segment (RFC 9535, 2.5)
   pub data SegmentIs : Text → tree.Segment → Type 0 where
@@ -99,52 +106,69 @@ module _ (Inner : Text → tree.Logical → Type 0) where
     child_wildcard : SegmentIs (codes ".*") (tree.child (tree.wildcard ∷ []))
     child_name : (t : Text) → IsShorthand t → SegmentIs (codes "." ++ t) (tree.child (tree.name t ∷ []))
     -- descendant segments (RFC 9535, 2.5.2)
-    descendant_bracketed : (t : Text) (xs : List tree.Selector) → BracketedIs t xs → SegmentIs (codes ".." ++ t) (tree.descendant xs)
+    descendant_bracketed : (t : Text) (xs : List tree.Selector) → BracketedIs t xs
+        → SegmentIs (codes ".." ++ t) (tree.descendant xs)
     descendant_wildcard : SegmentIs (codes "..*") (tree.descendant (tree.wildcard ∷ []))
-    descendant_name : (t : Text) → IsShorthand t → SegmentIs (codes ".." ++ t) (tree.descendant (tree.name t ∷ []))
+    descendant_name : (t : Text) → IsShorthand t
+        → SegmentIs (codes ".." ++ t) (tree.descendant (tree.name t ∷ []))
 
   -- a query inside a filter: where it starts, and segments with blanks before each (RFC 9535, 2.3.5.1)
   pub data QueryIs : Text → tree.Query → Type 0 where
-    query : (s t : Text) (start : Start) (ss : List tree.Segment) → StartIs s start → Star (Behind SegmentIs) t ss → QueryIs (s ++ t) (tree.query_from start ss)
+    query : (s t : Text) (start : Start) (ss : List tree.Segment) → StartIs s start
+        → Star (Behind SegmentIs) t ss
+        → QueryIs (s ++ t) (tree.query_from start ss)
 
   -- an argument of a call, which stands inside the call's parentheses (RFC 9535, 2.4)
   pub data ArgumentIs : Text → tree.Argument → Type 0 where
     -- a literal
     literal_argument : (t : Text) (x : tree.Literal) → LiteralIs t x → ArgumentIs t (tree.literal_argument x)
     -- a query by itself: a test that does not begin with a parenthesis
-    query_argument : (t : Text) (q : tree.Query) → Inner t (tree.test q) → IsTrue (not (begins_with 40 t)) → ArgumentIs t (tree.query_argument q)
+    query_argument : (t : Text) (q : tree.Query) → Inner t (tree.test q) → IsTrue (not (begins_with 40 t))
+        → ArgumentIs t (tree.query_argument q)
     -- a call by itself, likewise
-    call_argument : (t : Text) (c : tree.Call) → Inner t (tree.test_call c) → IsTrue (not (begins_with 40 t)) → ArgumentIs t (tree.call_argument c)
-    -- any other logical expression: several parts, a comparison, or one that begins with `!` or with a parenthesis
-    logical_argument : (t : Text) (l : tree.Logical) → Inner t l → IsTrue (begins_with 40 t || is_composite l) → ArgumentIs t (tree.logical_argument l)
+    call_argument : (t : Text) (c : tree.Call) → Inner t (tree.test_call c) → IsTrue (not (begins_with 40 t))
+        → ArgumentIs t (tree.call_argument c)
+    -- any other logical expression: several parts, a comparison,
+    -- or one that begins with `!` or with a parenthesis
+    logical_argument : (t : Text) (l : tree.Logical) → Inner t l → IsTrue (begins_with 40 t || is_composite l)
+        → ArgumentIs t (tree.logical_argument l)
 
   -- a call of a function, with no blank before the parenthesis (RFC 9535, 2.4)
   pub data CallIs : Text → tree.Call → Type 0 where
-    call_of_none : (f s : Text) → IsFunctionName f → IsBlank s → CallIs (f ++ (codes "(" ++ (s ++ codes ")"))) (tree.call f tree.no_arguments)
-    call : (f r s t : Text) (xs : List tree.Argument) → IsFunctionName f → IsBlank r → Separated (codes ",") ArgumentIs s xs → IsBlank t → CallIs (f ++ (codes "(" ++ (r ++ (s ++ (t ++ codes ")"))))) (tree.call f (tree.arguments xs))
+    call_of_none : (f s : Text) → IsFunctionName f → IsBlank s
+        → CallIs (f ++ (codes "(" ++ (s ++ codes ")"))) (tree.call f tree.no_arguments)
+    call : (f r s t : Text) (xs : List tree.Argument) → IsFunctionName f → IsBlank r
+        → Separated (codes ",") ArgumentIs s xs → IsBlank t
+        → CallIs (f ++ (codes "(" ++ (r ++ (s ++ (t ++ codes ")"))))) (tree.call f (tree.arguments xs))
 
   -- a side of a comparison: a literal, a singular query or a call (RFC 9535, 2.3.5.1)
   pub data ComparableIs : Text → tree.Comparable → Type 0 where
     literal_side : (t : Text) (x : tree.Literal) → LiteralIs t x → ComparableIs t (tree.literal x)
-    single_side : (t : Text) (q : tree.Query) → QueryIs t q → IsTrue (is_singular q) → ComparableIs t (tree.single q)
+    single_side : (t : Text) (q : tree.Query) → QueryIs t q → IsTrue (is_singular q)
+        → ComparableIs t (tree.single q)
     call_side : (t : Text) (c : tree.Call) → CallIs t c → ComparableIs t (tree.value_call c)
 
   -- what `!` may stand before: parentheses, a query or a call (RFC 9535, 2.3.5.1)
   pub data PlainIs : Text → tree.Logical → Type 0 where
     -- parentheses leave no mark
-    grouped : (s t u : Text) (l : tree.Logical) → IsBlank s → Inner t l → IsBlank u → PlainIs (codes "(" ++ (s ++ (t ++ (u ++ codes ")")))) l
+    grouped : (s t u : Text) (l : tree.Logical) → IsBlank s → Inner t l → IsBlank u
+        → PlainIs (codes "(" ++ (s ++ (t ++ (u ++ codes ")")))) l
     tested : (t : Text) (q : tree.Query) → QueryIs t q → PlainIs t (tree.test q)
     called : (t : Text) (c : tree.Call) → CallIs t c → PlainIs t (tree.test_call c)
 
   -- a basic expression (RFC 9535, 2.3.5.1)
   pub data BasicIs : Text → tree.Logical → Type 0 where
     plain : (t : Text) (l : tree.Logical) → PlainIs t l → BasicIs t l
-    negated : (s t : Text) (l : tree.Logical) → IsBlank s → PlainIs t l → BasicIs (codes "!" ++ (s ++ t)) (tree.negation l)
-    compared : (s t : Text) (left right : tree.Comparable) (o : Operator) → ComparableIs s left → After (operator_text o) ComparableIs t right → BasicIs (s ++ t) (tree.comparing (tree.comparison left o right))
+    negated : (s t : Text) (l : tree.Logical) → IsBlank s → PlainIs t l
+        → BasicIs (codes "!" ++ (s ++ t)) (tree.negation l)
+    compared : (s t : Text) (left right : tree.Comparable) (o : Operator) → ComparableIs s left
+        → After (operator_text o) ComparableIs t right
+        → BasicIs (s ++ t) (tree.comparing (tree.comparison left o right))
 
   -- basic expressions with `&&` between (RFC 9535, 2.3.5.1)
   pub data AndIs : Text → tree.Logical → Type 0 where
-    and : (t : Text) (ls : List tree.Logical) → Separated (codes "&&") BasicIs t ls → AndIs t (joined tree.all ls)
+    and : (t : Text) (ls : List tree.Logical) → Separated (codes "&&") BasicIs t ls
+        → AndIs t (joined tree.all ls)
 
   -- such expressions with `||` between (RFC 9535, 2.3.5.1)
   pub data OrIs : Text → tree.Logical → Type 0 where
@@ -158,4 +182,6 @@ LogicalIs (suc n) t l = OrIs (LogicalIs n) t l
 
 -- the whole text spells the tree: `$`, and segments with blanks before each (RFC 9535, 2.1.1)
 pub data Spells : Text → tree.Query → Type 0 where
-  spells : (levels : ℕ) (t : Text) (ss : List tree.Segment) → Star (Behind (SegmentIs (LogicalIs levels))) t ss → Spells (codes "$" ++ t) (tree.query_from Root ss)
+  spells : (levels : ℕ) (t : Text) (ss : List tree.Segment)
+      → Star (Behind (SegmentIs (LogicalIs levels))) t ss
+      → Spells (codes "$" ++ t) (tree.query_from Root ss)

@@ -16,8 +16,11 @@ enum Quotes {
     Passing(char),
 }
 
+/// Where the scan stands past the character.
 fn quotes_after(quotes: Quotes, c: char) -> Quotes
-    ensures { (count : ℕ) → place_of result (depth.count_of (depth.step (place_of quotes count) c)) ≡ depth.step (place_of quotes count) c }
+    ensures { (count : ℕ)
+        → place_of result (depth.count_of (depth.step (place_of quotes count) c))
+        ≡ depth.step (place_of quotes count) c }
 {
     match quotes {
         Quotes::Outside => match c {
@@ -37,16 +40,25 @@ fn quotes_after(quotes: Quotes, c: char) -> Quotes
     }
 }
 
+/// The count past a character outside quotes.
+fn count_outside(count: u64, c: char) -> u64
+    requires { count < u64.MAX }
+    ensures { result ≡ depth.count_of (depth.step (depth.outside count) c) }
+{
+    match c {
+        '[' | '(' => count + 1,
+        ']' | ')' => count.saturating_sub(1),
+        _ => count,
+    }
+}
+
+/// The count past the character, which brackets in quotes leave as it is.
 fn count_after(quotes: Quotes, count: u64, c: char) -> u64
     requires { count < u64.MAX }
     ensures { result ≡ depth.count_of (depth.step (place_of quotes count) c) }
 {
     match quotes {
-        Quotes::Outside => match c {
-            '[' | '(' => count + 1,
-            ']' | ')' => count.saturating_sub(1),
-            _ => count,
-        },
+        Quotes::Outside => count_outside(count, c),
         Quotes::Inside(_) => count,
         Quotes::Passing(_) => count,
     }

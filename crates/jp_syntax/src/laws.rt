@@ -33,14 +33,19 @@ pub fn string_values()
     ensures scalar { (t value : Text) → IsString t value → Each is_scalar value }
 {}
 
-/// A logical expression that is a test or a call, and that no parenthesis begins, is that query or that call by itself
-/// (RFC 9535, 2.3.5.1).
+/// A logical expression that is a test or a call, and that no parenthesis begins, is that query or that call
+/// by itself (RFC 9535, 2.3.5.1).
 pub fn arguments_stand_alone()
-    ensures query { (levels : ℕ) (t : Text) (q : Query) → (LogicalIs (suc levels) t (test q) × IsTrue (not (begins_with 40 t))) ↔ QueryIs (LogicalIs levels) t q }
-    ensures call { (levels : ℕ) (t : Text) (c : Call) → (LogicalIs (suc levels) t (test_call c) × IsTrue (not (begins_with 40 t))) ↔ CallIs (LogicalIs levels) t c }
+    ensures query { (levels : ℕ) (t : Text) (q : Query) →
+        (LogicalIs (suc levels) t (test q) × IsTrue (not (begins_with 40 t)))
+        ↔ QueryIs (LogicalIs levels) t q }
+    ensures call { (levels : ℕ) (t : Text) (c : Call) →
+        (LogicalIs (suc levels) t (test_call c) × IsTrue (not (begins_with 40 t)))
+        ↔ CallIs (LogicalIs levels) t c }
 {}
 
-/// The bracket depth of a front of a text is at most that of the text, and no more brackets are open at its end.
+/// The bracket depth of a front of a text is at most that of the text, and no more brackets are open
+/// at its end.
 pub fn fronts_are_no_deeper()
     ensures front { (s t : Text) → bracket_depth s ≤ bracket_depth (s ++ t) }
     ensures open { (t : Text) → open_brackets t ≤ bracket_depth t }

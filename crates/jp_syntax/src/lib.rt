@@ -5,14 +5,16 @@ mod depth;
 mod examples;
 mod fault;
 pub mod laws;
+mod literals;
 mod made;
 mod numbers;
-mod parts;
+mod operators;
 mod reader;
+mod shorthand;
+mod sides;
 mod singular;
+mod slices;
 mod strings;
-#[cfg(test)]
-mod tests;
 mod text;
 mod tree;
 

@@ -1,13 +1,19 @@
 //! Parts of a tree put together, with what they stand for.
+//!
+//! What a tree stands for is a fold over eight types that hold each other. Each function here makes
+//! one part and says once what it stands for, so that no proof of the reader has to open that fold.
 
-ghost use Rattle.std.specs.Prelude.{◌≡◌, [], ◌∷◌, ◌++◌, option_map, OnOk, IfOk};
+ghost use Rattle.std.specs.Prelude.{◌≡◌, [], ◌∷◌, ◌++◌, false, option_map, OnOk, IfOk};
 ghost use Rattle.jp_syntax.specs.Tree as tree;
 ghost use Rattle.jp_syntax.specs.Reading as reading;
-ghost use Rattle.jp_syntax.specs.Spelling.{joined};
+ghost use Rattle.jp_syntax.specs.Spelling.{joined, begins_with};
+ghost use Rattle.std.specs.Str.{chars};
 ghost use Rattle.jp_syntax.specs.View.{query_of, text_of, literal_of};
-ghost use Rattle.jp_syntax.specs.PartViews.{argument_of, comparable_of, logical_of, selector_of, call_of, comparison_of, segment_of, segments_of, selectors_of, logicals_of, arguments_of};
+ghost use Rattle.jp_syntax.specs.PartViews.{argument_of, comparable_of, logical_of, selector_of, call_of};
+ghost use Rattle.jp_syntax.specs.PartViews.{comparison_of, segment_of, segments_of, selectors_of};
+ghost use Rattle.jp_syntax.specs.PartViews.{logicals_of, arguments_of};
 
-use crate::singular::is_singular;
+use crate::text::begins_with;
 use crate::tree::{
     Argument, Call, Comparable, Comparison, Literal, Logical, Operator, Query, Segment, Selector,
     Slice, Start,
@@ -121,7 +127,8 @@ pub(crate) fn slice_selector(
     past: Option<String>,
     step: Option<String>,
 ) -> Selector
-    ensures { selector_of result ≡ tree.slice (option_map text_of first) (option_map text_of past) (option_map text_of step) }
+    ensures { selector_of result
+        ≡ tree.slice (option_map text_of first) (option_map text_of past) (option_map text_of step) }
 {
     Selector::Slice(Slice { first, past, step })
 }
@@ -151,7 +158,8 @@ pub(crate) fn call_from(name: String, arguments: Vec<Argument>) -> Call
 }
 
 pub(crate) fn push_selector(found: &mut Vec<Selector>, item: Selector) -> Result<(), AllocError>
-    ensures { OnOk result (selectors_of found.new.items ≡ selectors_of found.old.items ++ selector_of item ∷ []) }
+    ensures { OnOk result (selectors_of found.new.items
+        ≡ selectors_of found.old.items ++ selector_of item ∷ []) }
 {
     found.push(item)?;
     Ok(())
@@ -166,14 +174,16 @@ pub(crate) fn one_selector(alloc: Global, item: Selector) -> Result<Vec<Selector
 }
 
 pub(crate) fn push_segment(found: &mut Vec<Segment>, item: Segment) -> Result<(), AllocError>
-    ensures { OnOk result (segments_of found.new.items ≡ segments_of found.old.items ++ segment_of item ∷ []) }
+    ensures { OnOk result (segments_of found.new.items
+        ≡ segments_of found.old.items ++ segment_of item ∷ []) }
 {
     found.push(item)?;
     Ok(())
 }
 
 pub(crate) fn push_logical(found: &mut Vec<Logical>, item: Logical) -> Result<(), AllocError>
-    ensures { OnOk result (logicals_of found.new.items ≡ logicals_of found.old.items ++ logical_of item ∷ []) }
+    ensures { OnOk result (logicals_of found.new.items
+        ≡ logicals_of found.old.items ++ logical_of item ∷ []) }
 {
     found.push(item)?;
     Ok(())
@@ -188,7 +198,8 @@ pub(crate) fn one_logical(alloc: Global, item: Logical) -> Result<Vec<Logical>, 
 }
 
 pub(crate) fn push_argument(found: &mut Vec<Argument>, item: Argument) -> Result<(), AllocError>
-    ensures { OnOk result (arguments_of found.new.items ≡ arguments_of found.old.items ++ argument_of item ∷ []) }
+    ensures { OnOk result (arguments_of found.new.items
+        ≡ arguments_of found.old.items ++ argument_of item ∷ []) }
 {
     found.push(item)?;
     Ok(())
@@ -223,7 +234,7 @@ pub(crate) fn joined_any(mut parts: Vec<Logical>) -> Logical
 }
 
 /// The argument that a logical expression is, which a parenthesis begins or not.
-pub(crate) fn argument_from(parenthesis: bool, logical: Logical) -> Argument
+fn argument_from(parenthesis: bool, logical: Logical) -> Argument
     ensures { argument_of result ≡ reading.argument_of parenthesis (logical_of logical) }
 {
     if parenthesis {
@@ -239,31 +250,24 @@ pub(crate) fn argument_from(parenthesis: bool, logical: Logical) -> Argument
     }
 }
 
-/// Whether a side may stand in a comparison.
-pub(crate) fn is_side(side: &Comparable) -> bool
-    ensures { result ≡ reading.is_side (comparable_of side.now) }
-{
-    match side {
-        Comparable::Literal(_) => true,
-        Comparable::Single(query) => is_singular(query),
-        Comparable::Call(_) => true,
-    }
-}
-
-/// What a side by itself tests: a query or a call.
-pub(crate) fn as_test(side: Comparable) -> Option<Logical>
-    ensures { option_map logical_of result ≡ reading.as_test (comparable_of side) }
-{
-    match side {
-        Comparable::Literal(_) => None,
-        Comparable::Single(query) => Some(test_of(query)),
-        Comparable::Call(call) => Some(test_call_of(call)),
-    }
-}
-
 /// `!` before an expression.
 pub(crate) fn negation(alloc: Global, logical: Logical) -> Result<Logical, AllocError>
     ensures { IfOk result (λ l. logical_of l ≡ tree.negation (logical_of logical)) }
 {
     Ok(negation_of(Box::new(alloc, logical)?))
+}
+
+/// The argument that the logical expression in front of this text is (RFC 9535, 2.4).
+pub(crate) fn standing_argument(text: &str, logical: Logical) -> Argument
+    ensures { argument_of result ≡ reading.argument_of (begins_with 40 (chars text.now))
+        (logical_of logical) }
+{
+    argument_from(begins_with('(', text), logical)
+}
+
+/// The argument that a comparison, or what begins with one, is.
+pub(crate) fn compared_argument(logical: Logical) -> Argument
+    ensures { argument_of result ≡ reading.argument_of false (logical_of logical) }
+{
+    argument_from(false, logical)
 }

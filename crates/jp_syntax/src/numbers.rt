@@ -3,9 +3,9 @@
 ghost use Rattle.std.specs.Prelude.{◌≡◌};
 ghost use Rattle.std.specs.Str.{chars};
 ghost use Rattle.jp_syntax.specs.Characters as spec;
-ghost use Rattle.jp_syntax.specs.Numbers.{is_exponent_mark};
+ghost use Rattle.jp_syntax.specs.Numbers as numbers;
 ghost use Rattle.jp_syntax.specs.Reading as reading;
-ghost use Rattle.jp_syntax.specs.Gives.{Gives};
+ghost use Rattle.jp_syntax.specs.Gives.{ReadsRest, ReadsText};
 
 use crate::fault::QueryFault;
 use crate::text::{first_character, is_digit, up_to};
@@ -16,8 +16,8 @@ fn is_positive_digit(c: char) -> bool
     matches!(c, '1'..='9')
 }
 
-fn is_mark(c: char) -> bool
-    ensures { result ≡ is_exponent_mark c }
+fn is_exponent_mark(c: char) -> bool
+    ensures { result ≡ numbers.is_exponent_mark c }
 {
     matches!(c, 'e' | 'E')
 }
@@ -31,7 +31,7 @@ fn past_digits(text: &str) -> &str
 /// Behind one digit or more.
 #[tactic(auto, unfolding(crate::specs::Reading::run_at))]
 fn behind_digits(text: &str) -> Result<&str, QueryFault>
-    ensures { Gives (λ x. chars x.now) result (reading.behind (reading.digits_at (chars text.now))) }
+    ensures { ReadsRest result (reading.behind (reading.digits_at (chars text.now))) }
 {
     match first_character(text) {
         Some((c, more)) if is_digit(c) => Ok(past_digits(more)),
@@ -42,7 +42,7 @@ fn behind_digits(text: &str) -> Result<&str, QueryFault>
 /// The same, where the first is no zero.
 #[tactic(auto, unfolding(crate::specs::Reading::run_at))]
 fn behind_positive(text: &str) -> Result<&str, QueryFault>
-    ensures { Gives (λ x. chars x.now) result (reading.behind (reading.positive_at (chars text.now))) }
+    ensures { ReadsRest result (reading.behind (reading.positive_at (chars text.now))) }
 {
     match first_character(text) {
         Some((c, more)) if is_positive_digit(c) => Ok(past_digits(more)),
@@ -50,9 +50,10 @@ fn behind_positive(text: &str) -> Result<&str, QueryFault>
     }
 }
 
+/// Behind the integer of an index or a slice: no leading zeros, no `-0`.
 #[tactic(auto, unfolding(crate::specs::Reading::int_at))]
 fn behind_int(text: &str) -> Result<&str, QueryFault>
-    ensures { Gives (λ x. chars x.now) result (reading.behind (reading.int_at (chars text.now))) }
+    ensures { ReadsRest result (reading.behind (reading.int_at (chars text.now))) }
 {
     match first_character(text) {
         None => Err(QueryFault::Syntax),
@@ -65,7 +66,7 @@ fn behind_int(text: &str) -> Result<&str, QueryFault>
 /// Behind `-` and what follows it.
 #[tactic(auto, unfolding(crate::specs::Reading::minus_at))]
 fn behind_minus(text: &str) -> Result<&str, QueryFault>
-    ensures { Gives (λ x. chars x.now) result (reading.behind (reading.minus_at (chars text.now))) }
+    ensures { ReadsRest result (reading.behind (reading.minus_at (chars text.now))) }
 {
     match first_character(text) {
         None => Err(QueryFault::Syntax),
@@ -74,9 +75,10 @@ fn behind_minus(text: &str) -> Result<&str, QueryFault>
     }
 }
 
+/// Behind what a number literal begins with: an integer, or `-0`.
 #[tactic(auto, unfolding(crate::specs::Reading::whole_at))]
 fn behind_whole(text: &str) -> Result<&str, QueryFault>
-    ensures { Gives (λ x. chars x.now) result (reading.behind (reading.whole_at (chars text.now))) }
+    ensures { ReadsRest result (reading.behind (reading.whole_at (chars text.now))) }
 {
     match first_character(text) {
         None => Err(QueryFault::Syntax),
@@ -88,7 +90,7 @@ fn behind_whole(text: &str) -> Result<&str, QueryFault>
 /// Behind a fraction, or where none begins.
 #[tactic(auto, unfolding(crate::specs::Reading::fraction_at))]
 fn behind_fraction(text: &str) -> Result<&str, QueryFault>
-    ensures { Gives (λ x. chars x.now) result (reading.behind (reading.fraction_at (chars text.now))) }
+    ensures { ReadsRest result (reading.behind (reading.fraction_at (chars text.now))) }
 {
     match first_character(text) {
         Some(('.', more)) => behind_digits(more),
@@ -96,6 +98,7 @@ fn behind_fraction(text: &str) -> Result<&str, QueryFault>
     }
 }
 
+/// Behind the sign of an exponent, or where none stands.
 fn behind_sign(text: &str) -> &str
     ensures { chars result.now ≡ (reading.sign_at (chars text.now)).1 }
 {
@@ -108,17 +111,18 @@ fn behind_sign(text: &str) -> &str
 /// Behind an exponent, or where none begins.
 #[tactic(auto, unfolding(crate::specs::Reading::exponent_at))]
 fn behind_exponent(text: &str) -> Result<&str, QueryFault>
-    ensures { Gives (λ x. chars x.now) result (reading.behind (reading.exponent_at (chars text.now))) }
+    ensures { ReadsRest result (reading.behind (reading.exponent_at (chars text.now))) }
 {
     match first_character(text) {
-        Some((c, more)) if is_mark(c) => behind_digits(behind_sign(more)),
+        Some((c, more)) if is_exponent_mark(c) => behind_digits(behind_sign(more)),
         _ => Ok(text),
     }
 }
 
+/// Behind a number literal.
 #[tactic(auto, unfolding(crate::specs::Reading::number_at))]
 fn behind_number(text: &str) -> Result<&str, QueryFault>
-    ensures { Gives (λ x. chars x.now) result (reading.behind (reading.number_at (chars text.now))) }
+    ensures { ReadsRest result (reading.behind (reading.number_at (chars text.now))) }
 {
     let fraction = behind_whole(text)?;
     let exponent = behind_fraction(fraction)?;
@@ -127,7 +131,7 @@ fn behind_number(text: &str) -> Result<&str, QueryFault>
 
 /// The integer in front, and the rest.
 pub(crate) fn int_at(text: &str) -> Result<(&str, &str), QueryFault>
-    ensures { Gives (λ x. (chars x.0.now, chars x.1.now)) result (reading.int_at (chars text.now)) }
+    ensures { ReadsText result (reading.int_at (chars text.now)) }
 {
     let rest = behind_int(text)?;
     Ok((up_to(text, rest), rest))
@@ -135,7 +139,7 @@ pub(crate) fn int_at(text: &str) -> Result<(&str, &str), QueryFault>
 
 /// The number in front, and the rest.
 pub(crate) fn number_at(text: &str) -> Result<(&str, &str), QueryFault>
-    ensures { Gives (λ x. (chars x.0.now, chars x.1.now)) result (reading.number_at (chars text.now)) }
+    ensures { ReadsText result (reading.number_at (chars text.now)) }
 {
     let rest = behind_number(text)?;
     Ok((up_to(text, rest), rest))

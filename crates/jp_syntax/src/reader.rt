@@ -7,30 +7,53 @@ ghost use Rattle.std.specs.Prelude.{◌≡◌, ◌<◌, ◌⊎◌, ◌↔◌, le
 ghost use Rattle.jp_syntax.specs.Reading as reading;
 ghost use Rattle.jp_syntax.specs.Tree as tree;
 ghost use Rattle.jp_syntax.specs.View.{query_of};
-ghost use Rattle.jp_syntax.specs.PartViews.{argument_of, comparable_of, logical_of, selector_of, call_of, segment_of, segments_of, selectors_of, logicals_of, arguments_of};
-ghost use Rattle.jp_syntax.specs.Gives.{Gives};
+ghost use Rattle.jp_syntax.specs.PartViews.{argument_of, comparable_of, logical_of, selector_of, call_of};
+ghost use Rattle.jp_syntax.specs.PartViews.{segment_of, segments_of, selectors_of, logicals_of, arguments_of};
+ghost use Rattle.jp_syntax.specs.Gives.{Gives, GivesFront, ReadsRest};
 ghost use Rattle.jp_syntax.specs.Spelling.{Spells};
 ghost use Rattle.jp_syntax.specs.Depth.{bracket_depth, max_depth};
 ghost use Rattle.std.specs.Str.{chars};
 
 use crate::depth::bracket_depth;
 use crate::fault::QueryFault;
+use crate::literals::{begins_literal, calls, literal_at};
 use crate::made::{
-    argument_from, as_test, call_from, call_side, comparing, comparison_from, filter_selector,
-    is_side, joined_all, joined_any, literal_argument, literal_side, name_selector, negation,
-    one_argument, one_logical, one_selector, push_argument, push_logical, push_segment,
-    push_selector, query_from, query_side, segment_from, wildcard,
+    call_from, call_side, compared_argument, filter_selector, joined_all, joined_any,
+    literal_argument, literal_side, name_selector, negation, one_argument, one_logical,
+    one_selector, push_argument, push_logical, push_segment, push_selector, query_from, query_side,
+    segment_from, standing_argument, wildcard,
 };
-use crate::parts::{begins_literal, calls, literal_at, named_at, numbers_at, operator_at};
+use crate::operators::operator_at;
+use crate::shorthand::named_at;
+use crate::sides::{compared_at, tested_at};
+use crate::slices::numbers_at;
 use crate::strings::string_at;
-use crate::text::{begins_with, first_character, function_name_at, is_quote, mark_at, skip};
+use crate::text::{first_character, function_name_at, is_quote, mark_at, skip};
 use crate::tree::{Argument, Call, Comparable, Logical, Operator, Query, Segment, Selector, Start};
 use std::alloc::Global;
 
+/// The deepest nesting of brackets and parentheses that is read.
+const MAX_DEPTH: u64 = 64;
+
+/// Behind `[`, past the blanks that may stand inside the brackets (RFC 9535, 2.5.1).
+fn inside_brackets(behind: &str) -> &str
+    ensures { chars result.now ≡ reading.skip (chars behind.now) }
+{
+    skip(behind)
+}
+
+/// Behind the parenthesis that follows a function's name: no blank stands before it (RFC 9535, 2.4).
+fn opened_arguments(text: &str) -> Result<&str, QueryFault>
+    ensures { ReadsRest result (reading.mark_at 40 (chars text.now)) }
+{
+    mark_at('(', text)
+}
+
+/// A selector (RFC 9535, 2.3).
 #[cycle(reader)]
 #[tactic(auto, unfolding(crate::specs::Reading::selector_at))]
 fn selector_at(alloc: Global, left: usize, text: &str) -> Result<(Selector, &str), QueryFault>
-    ensures { Gives (λ x. (selector_of x.0, chars x.1.now)) result (reading.selector_at (reading.logical_at left) (chars text.now)) }
+    ensures { GivesFront selector_of result (reading.selector_at (reading.logical_at left) (chars text.now)) }
 {
     match first_character(text) {
         None => Err(QueryFault::Syntax),
@@ -55,7 +78,8 @@ fn next_selector(
     left: usize,
     text: &str,
 ) -> Result<(Option<Selector>, &str), QueryFault>
-    ensures { Gives (λ x. (option_map selector_of x.0, chars x.1.now)) result (reading.next_item 93 (reading.selector_at (reading.logical_at left)) (chars text.now)) }
+    ensures { GivesFront (option_map selector_of) result
+        (reading.next_selector (reading.logical_at left) (chars text.now)) }
 {
     match first_character(text) {
         Some((',', more)) => {
@@ -75,7 +99,8 @@ fn selectors_from(
     mut found: Vec<Selector>,
     text: &str,
 ) -> Result<(Vec<Selector>, &str), QueryFault>
-    ensures { Gives (λ x. (selectors_of x.0.items, chars x.1.now)) result (reading.all_of (λ u. reading.next_item 93 (reading.selector_at (reading.logical_at left)) (reading.skip u)) (selectors_of found.items) (chars text.now)) }
+    ensures { GivesFront (λ xs. selectors_of xs.items) result
+        (reading.selectors_behind (reading.logical_at left) (selectors_of found.items) (chars text.now)) }
 {
     let mut rest = text;
     loop {
@@ -92,9 +117,10 @@ fn selectors_from(
 #[cycle(reader)]
 #[tactic(auto, unfolding(crate::specs::Reading::items_at))]
 fn bracketed_at(alloc: Global, left: usize, text: &str) -> Result<(Vec<Selector>, &str), QueryFault>
-    ensures { Gives (λ x. (selectors_of x.0.items, chars x.1.now)) result (reading.bracketed_at (reading.logical_at left) (chars text.now)) }
+    ensures { GivesFront (λ xs. selectors_of xs.items) result
+        (reading.bracketed_at (reading.logical_at left) (chars text.now)) }
 {
-    let (first, rest) = selector_at(alloc, left, skip(text))?;
+    let (first, rest) = selector_at(alloc, left, inside_brackets(text))?;
     selectors_from(alloc, left, one_selector(alloc, first)?, rest)
 }
 
@@ -102,7 +128,8 @@ fn bracketed_at(alloc: Global, left: usize, text: &str) -> Result<(Vec<Selector>
 #[cycle(reader)]
 #[tactic(auto, unfolding(crate::specs::Reading::descendant_at))]
 fn descendant_at(alloc: Global, left: usize, text: &str) -> Result<(Segment, &str), QueryFault>
-    ensures { Gives (λ x. (segment_of x.0, chars x.1.now)) result (reading.descendant_at (reading.logical_at left) (chars text.now)) }
+    ensures { GivesFront segment_of result
+        (reading.descendant_at (reading.logical_at left) (chars text.now)) }
 {
     match first_character(text) {
         None => Err(QueryFault::Syntax),
@@ -118,7 +145,7 @@ fn descendant_at(alloc: Global, left: usize, text: &str) -> Result<(Segment, &st
 #[cycle(reader)]
 #[tactic(auto, unfolding(crate::specs::Reading::dotted_at))]
 fn dotted_at(alloc: Global, left: usize, text: &str) -> Result<(Segment, &str), QueryFault>
-    ensures { Gives (λ x. (segment_of x.0, chars x.1.now)) result (reading.dotted_at (reading.logical_at left) (chars text.now)) }
+    ensures { GivesFront segment_of result (reading.dotted_at (reading.logical_at left) (chars text.now)) }
 {
     match first_character(text) {
         None => Err(QueryFault::Syntax),
@@ -136,7 +163,8 @@ fn segment_behind<'a>(
     whole: &'a str,
     text: &'a str,
 ) -> Result<(Option<Segment>, &'a str), QueryFault>
-    ensures { Gives (λ x. (option_map segment_of x.0, chars x.1.now)) result (reading.segment_behind (reading.logical_at left) (chars whole.now) (chars text.now)) }
+    ensures { GivesFront (option_map segment_of) result
+        (reading.segment_behind (reading.logical_at left) (chars whole.now) (chars text.now)) }
 {
     match first_character(text) {
         Some(('.', more)) => {
@@ -159,7 +187,8 @@ fn segments_from(
     mut found: Vec<Segment>,
     text: &str,
 ) -> Result<(Vec<Segment>, &str), QueryFault>
-    ensures { Gives (λ x. (segments_of x.0.items, chars x.1.now)) result (reading.all_of (λ u. reading.segment_behind (reading.logical_at left) u (reading.skip u)) (segments_of found.items) (chars text.now)) }
+    ensures { GivesFront (λ xs. segments_of xs.items) result
+        (reading.segments_behind (reading.logical_at left) (segments_of found.items) (chars text.now)) }
 {
     let mut rest = text;
     loop {
@@ -172,17 +201,20 @@ fn segments_from(
     }
 }
 
+/// Segments with blanks before each, to the last.
 #[cycle(reader)]
 fn segments_at(alloc: Global, left: usize, text: &str) -> Result<(Vec<Segment>, &str), QueryFault>
-    ensures { Gives (λ x. (segments_of x.0.items, chars x.1.now)) result (reading.segments_at (reading.logical_at left) (chars text.now)) }
+    ensures { GivesFront (λ xs. segments_of xs.items) result
+        (reading.segments_at (reading.logical_at left) (chars text.now)) }
 {
     segments_from(alloc, left, Vec::new(alloc), text)
 }
 
+/// A query inside a filter (RFC 9535, 2.3.5.1).
 #[cycle(reader)]
 #[tactic(auto, unfolding(crate::specs::Reading::query_at))]
 fn query_at(alloc: Global, left: usize, text: &str) -> Result<(Query, &str), QueryFault>
-    ensures { Gives (λ x. (query_of x.0, chars x.1.now)) result (reading.query_at (reading.logical_at left) (chars text.now)) }
+    ensures { GivesFront query_of result (reading.query_at (reading.logical_at left) (chars text.now)) }
 {
     match first_character(text) {
         Some(('$', more)) => {
@@ -197,20 +229,21 @@ fn query_at(alloc: Global, left: usize, text: &str) -> Result<(Query, &str), Que
     }
 }
 
+/// An argument of a call (RFC 9535, 2.4).
 #[cycle(reader)]
 fn argument_at(alloc: Global, left: usize, text: &str) -> Result<(Argument, &str), QueryFault>
-    ensures { Gives (λ x. (argument_of x.0, chars x.1.now)) result (reading.argument_at (reading.logical_at left) (chars text.now)) }
+    ensures { GivesFront argument_of result (reading.argument_at (reading.logical_at left) (chars text.now)) }
 {
     if !begins_literal(text) {
         let (logical, rest) = logical_at(alloc, left, text)?;
-        return Ok((argument_from(begins_with('(', text), logical), rest));
+        return Ok((standing_argument(text, logical), rest));
     }
     let (literal, rest) = literal_at(alloc, text)?;
     match operator_at(skip(rest)) {
         None => Ok((literal_argument(literal), rest)),
         Some((op, after)) => {
             let (logical, rest) = compared_behind(alloc, left, literal_side(literal), op, after)?;
-            Ok((argument_from(false, logical), rest))
+            Ok((compared_argument(logical), rest))
         }
     }
 }
@@ -223,7 +256,8 @@ fn next_argument(
     left: usize,
     text: &str,
 ) -> Result<(Option<Argument>, &str), QueryFault>
-    ensures { Gives (λ x. (option_map argument_of x.0, chars x.1.now)) result (reading.next_item 41 (reading.argument_at (reading.logical_at left)) (chars text.now)) }
+    ensures { GivesFront (option_map argument_of) result
+        (reading.next_argument (reading.logical_at left) (chars text.now)) }
 {
     match first_character(text) {
         Some((',', more)) => {
@@ -243,7 +277,8 @@ fn arguments_from(
     mut found: Vec<Argument>,
     text: &str,
 ) -> Result<(Vec<Argument>, &str), QueryFault>
-    ensures { Gives (λ x. (arguments_of x.0.items, chars x.1.now)) result (reading.all_of (λ u. reading.next_item 41 (reading.argument_at (reading.logical_at left)) (reading.skip u)) (arguments_of found.items) (chars text.now)) }
+    ensures { GivesFront (λ xs. arguments_of xs.items) result
+        (reading.arguments_behind (reading.logical_at left) (arguments_of found.items) (chars text.now)) }
 {
     let mut rest = text;
     loop {
@@ -264,7 +299,8 @@ fn argument_items(
     left: usize,
     text: &str,
 ) -> Result<(Vec<Argument>, &str), QueryFault>
-    ensures { Gives (λ x. (arguments_of x.0.items, chars x.1.now)) result (reading.items_at 41 (reading.argument_at (reading.logical_at left)) (chars text.now)) }
+    ensures { GivesFront (λ xs. arguments_of xs.items) result
+        (reading.argument_items (reading.logical_at left) (chars text.now)) }
 {
     let (first, rest) = argument_at(alloc, left, text)?;
     arguments_from(alloc, left, one_argument(alloc, first)?, rest)
@@ -274,7 +310,8 @@ fn argument_items(
 #[cycle(reader)]
 #[tactic(auto, unfolding(crate::specs::Reading::arguments_at))]
 fn arguments_at(alloc: Global, left: usize, text: &str) -> Result<(Vec<Argument>, &str), QueryFault>
-    ensures { Gives (λ x. (arguments_of x.0.items, chars x.1.now)) result (reading.arguments_at (reading.logical_at left) (chars text.now)) }
+    ensures { GivesFront (λ xs. arguments_of xs.items) result
+        (reading.arguments_at (reading.logical_at left) (chars text.now)) }
 {
     match first_character(text) {
         None => Err(QueryFault::Syntax),
@@ -283,13 +320,14 @@ fn arguments_at(alloc: Global, left: usize, text: &str) -> Result<(Vec<Argument>
     }
 }
 
+/// A call of a function (RFC 9535, 2.4).
 #[cycle(reader)]
 #[tactic(auto, unfolding(crate::specs::Reading::call_at))]
 fn call_at(alloc: Global, left: usize, text: &str) -> Result<(Call, &str), QueryFault>
-    ensures { Gives (λ x. (call_of x.0, chars x.1.now)) result (reading.call_at (reading.logical_at left) (chars text.now)) }
+    ensures { GivesFront call_of result (reading.call_at (reading.logical_at left) (chars text.now)) }
 {
     let (name, rest) = function_name_at(text)?;
-    let inside = mark_at('(', rest)?;
+    let inside = opened_arguments(rest)?;
     let (arguments, rest) = arguments_at(alloc, left, skip(inside))?;
     Ok((call_from(String::from_str(alloc, name)?, arguments), rest))
 }
@@ -298,7 +336,8 @@ fn call_at(alloc: Global, left: usize, text: &str) -> Result<(Call, &str), Query
 #[cycle(reader)]
 #[tactic(auto, unfolding(crate::specs::Reading::operand_at))]
 fn operand_at(alloc: Global, left: usize, text: &str) -> Result<(Comparable, &str), QueryFault>
-    ensures { Gives (λ x. (comparable_of x.0, chars x.1.now)) result (reading.operand_at (reading.logical_at left) (chars text.now)) }
+    ensures { GivesFront comparable_of result
+        (reading.operand_at (reading.logical_at left) (chars text.now)) }
 {
     match first_character(text) {
         None => Err(QueryFault::Syntax),
@@ -322,28 +361,18 @@ fn operand_at(alloc: Global, left: usize, text: &str) -> Result<(Comparable, &st
 #[cycle(reader)]
 #[tactic(auto, unfolding(crate::specs::Reading::grouped_at))]
 fn grouped_at(alloc: Global, left: usize, text: &str) -> Result<(Logical, &str), QueryFault>
-    ensures { Gives (λ x. (logical_of x.0, chars x.1.now)) result (reading.grouped_at (reading.logical_at left) (chars text.now)) }
+    ensures { GivesFront logical_of result (reading.grouped_at (reading.logical_at left) (chars text.now)) }
 {
     let (inside, rest) = logical_at(alloc, left, skip(text))?;
     let rest = mark_at(')', skip(rest))?;
     Ok((inside, rest))
 }
 
-/// A side by itself.
-#[tactic(auto, unfolding(crate::specs::Reading::tested_at))]
-fn tested_at(side: Comparable, text: &str) -> Result<(Logical, &str), QueryFault>
-    ensures { Gives (λ x. (logical_of x.0, chars x.1.now)) result (reading.tested_at (comparable_of side) (chars text.now)) }
-{
-    match as_test(side) {
-        Some(logical) => Ok((logical, text)),
-        None => Err(QueryFault::Syntax),
-    }
-}
-
+/// What `!` may stand before: parentheses, a query or a call.
 #[cycle(reader)]
 #[tactic(auto, unfolding(crate::specs::Reading::plain_at))]
 fn plain_at(alloc: Global, left: usize, text: &str) -> Result<(Logical, &str), QueryFault>
-    ensures { Gives (λ x. (logical_of x.0, chars x.1.now)) result (reading.plain_at (reading.logical_at left) (chars text.now)) }
+    ensures { GivesFront logical_of result (reading.plain_at (reading.logical_at left) (chars text.now)) }
 {
     match first_character(text) {
         None => Err(QueryFault::Syntax),
@@ -365,20 +394,18 @@ fn right_at(
     op: Operator,
     text: &str,
 ) -> Result<(Logical, &str), QueryFault>
-    ensures { Gives (λ x. (logical_of x.0, chars x.1.now)) result (reading.right_at (reading.logical_at left) (comparable_of side) op (chars text.now)) }
+    ensures { GivesFront logical_of result
+        (reading.right_at (reading.logical_at left) (comparable_of side) op (chars text.now)) }
 {
     let (right, rest) = operand_at(alloc, left, skip(text))?;
-    if is_side(&side) && is_side(&right) {
-        Ok((comparing(comparison_from(side, op, right)), rest))
-    } else {
-        Err(QueryFault::Syntax)
-    }
+    compared_at(side, op, right, rest)
 }
 
+/// A basic expression (RFC 9535, 2.3.5.1).
 #[cycle(reader)]
 #[tactic(auto, unfolding(crate::specs::Reading::basic_at))]
 fn basic_at(alloc: Global, left: usize, text: &str) -> Result<(Logical, &str), QueryFault>
-    ensures { Gives (λ x. (logical_of x.0, chars x.1.now)) result (reading.basic_at (reading.logical_at left) (chars text.now)) }
+    ensures { GivesFront logical_of result (reading.basic_at (reading.logical_at left) (chars text.now)) }
 {
     match first_character(text) {
         None => Err(QueryFault::Syntax),
@@ -406,7 +433,8 @@ fn next_basic<'a>(
     whole: &'a str,
     text: &'a str,
 ) -> Result<(Option<Logical>, &'a str), QueryFault>
-    ensures { Gives (λ x. (option_map logical_of x.0, chars x.1.now)) result (reading.next_basic (reading.logical_at left) (chars whole.now) (chars text.now)) }
+    ensures { GivesFront (option_map logical_of) result
+        (reading.next_basic (reading.logical_at left) (chars whole.now) (chars text.now)) }
 {
     match first_character(text) {
         Some(('&', more)) => {
@@ -425,7 +453,8 @@ fn basics_from(
     mut found: Vec<Logical>,
     text: &str,
 ) -> Result<(Vec<Logical>, &str), QueryFault>
-    ensures { Gives (λ x. (logicals_of x.0.items, chars x.1.now)) result (reading.all_of (λ u. reading.next_basic (reading.logical_at left) u (reading.skip u)) (logicals_of found.items) (chars text.now)) }
+    ensures { GivesFront (λ xs. logicals_of xs.items) result
+        (reading.basics_behind (reading.logical_at left) (logicals_of found.items) (chars text.now)) }
 {
     let mut rest = text;
     loop {
@@ -446,16 +475,18 @@ fn and_behind(
     first: Logical,
     text: &str,
 ) -> Result<(Logical, &str), QueryFault>
-    ensures { Gives (λ x. (logical_of x.0, chars x.1.now)) result (reading.and_behind (reading.logical_at left) (logical_of first) (chars text.now)) }
+    ensures { GivesFront logical_of result
+        (reading.and_behind (reading.logical_at left) (logical_of first) (chars text.now)) }
 {
     let (parts, rest) = basics_from(alloc, left, one_logical(alloc, first)?, text)?;
     Ok((joined_all(parts), rest))
 }
 
+/// Basic expressions with `&&` between.
 #[cycle(reader)]
 #[tactic(auto, unfolding(crate::specs::Reading::and_at))]
 fn and_at(alloc: Global, left: usize, text: &str) -> Result<(Logical, &str), QueryFault>
-    ensures { Gives (λ x. (logical_of x.0, chars x.1.now)) result (reading.and_at (reading.logical_at left) (chars text.now)) }
+    ensures { GivesFront logical_of result (reading.and_at (reading.logical_at left) (chars text.now)) }
 {
     let (first, rest) = basic_at(alloc, left, text)?;
     and_behind(alloc, left, first, rest)
@@ -470,7 +501,8 @@ fn next_and<'a>(
     whole: &'a str,
     text: &'a str,
 ) -> Result<(Option<Logical>, &'a str), QueryFault>
-    ensures { Gives (λ x. (option_map logical_of x.0, chars x.1.now)) result (reading.next_and (reading.logical_at left) (chars whole.now) (chars text.now)) }
+    ensures { GivesFront (option_map logical_of) result
+        (reading.next_and (reading.logical_at left) (chars whole.now) (chars text.now)) }
 {
     match first_character(text) {
         Some(('|', more)) => {
@@ -489,7 +521,8 @@ fn ands_from(
     mut found: Vec<Logical>,
     text: &str,
 ) -> Result<(Vec<Logical>, &str), QueryFault>
-    ensures { Gives (λ x. (logicals_of x.0.items, chars x.1.now)) result (reading.all_of (λ u. reading.next_and (reading.logical_at left) u (reading.skip u)) (logicals_of found.items) (chars text.now)) }
+    ensures { GivesFront (λ xs. logicals_of xs.items) result
+        (reading.ands_behind (reading.logical_at left) (logicals_of found.items) (chars text.now)) }
 {
     let mut rest = text;
     loop {
@@ -510,16 +543,18 @@ fn or_behind(
     first: Logical,
     text: &str,
 ) -> Result<(Logical, &str), QueryFault>
-    ensures { Gives (λ x. (logical_of x.0, chars x.1.now)) result (reading.or_behind (reading.logical_at left) (logical_of first) (chars text.now)) }
+    ensures { GivesFront logical_of result
+        (reading.or_behind (reading.logical_at left) (logical_of first) (chars text.now)) }
 {
     let (parts, rest) = ands_from(alloc, left, one_logical(alloc, first)?, text)?;
     Ok((joined_any(parts), rest))
 }
 
+/// Such expressions with `||` between.
 #[cycle(reader)]
 #[tactic(auto, unfolding(crate::specs::Reading::or_at))]
 fn or_at(alloc: Global, left: usize, text: &str) -> Result<(Logical, &str), QueryFault>
-    ensures { Gives (λ x. (logical_of x.0, chars x.1.now)) result (reading.or_at (reading.logical_at left) (chars text.now)) }
+    ensures { GivesFront logical_of result (reading.or_at (reading.logical_at left) (chars text.now)) }
 {
     let (first, rest) = and_at(alloc, left, text)?;
     or_behind(alloc, left, first, rest)
@@ -529,7 +564,7 @@ fn or_at(alloc: Global, left: usize, text: &str) -> Result<(Logical, &str), Quer
 #[cycle(reader)]
 #[tactic(auto, unfolding(crate::specs::Reading::logical_at))]
 fn logical_at(alloc: Global, left: usize, text: &str) -> Result<(Logical, &str), QueryFault>
-    ensures { Gives (λ x. (logical_of x.0, chars x.1.now)) result (reading.logical_at left (chars text.now)) }
+    ensures { GivesFront logical_of result (reading.logical_at left (chars text.now)) }
 {
     if left == 0 {
         return Err(QueryFault::Syntax);
@@ -547,7 +582,8 @@ fn compared_behind(
     op: Operator,
     text: &str,
 ) -> Result<(Logical, &str), QueryFault>
-    ensures { Gives (λ x. (logical_of x.0, chars x.1.now)) result (reading.compared_behind left (comparable_of side) op (chars text.now)) }
+    ensures { GivesFront logical_of result
+        (reading.compared_behind left (comparable_of side) op (chars text.now)) }
 {
     if left == 0 {
         return Err(QueryFault::Syntax);
@@ -591,9 +627,10 @@ pub fn read_query(alloc: Global, text: &str) -> Result<Query, QueryFault>
     // The text is not well-formed only where no tree is spelled.
     ensures syntax { IsErrOf result QueryFault.Syntax → (q : tree.Query) → Spells (chars text.now) q → ⊥ }
     // No other fault comes, but where memory is refused.
-    ensures faults { IfErr result (λ e. (e ≡ QueryFault.TooDeep) ⊎ (e ≡ QueryFault.Syntax) ⊎ (e ≡ QueryFault.Memory)) }
+    ensures faults { IfErr result (λ e. (e ≡ QueryFault.TooDeep) ⊎ (e
+        ≡ QueryFault.Syntax) ⊎ (e ≡ QueryFault.Memory)) }
 {
-    if bracket_depth(text) > 64 {
+    if bracket_depth(text) > MAX_DEPTH {
         return Err(QueryFault::TooDeep);
     }
     read(alloc, text)

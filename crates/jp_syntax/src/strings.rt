@@ -5,12 +5,13 @@ ghost use Rattle.std.specs.Str.{chars};
 ghost use Rattle.jp_syntax.specs.Characters as spec;
 ghost use Rattle.jp_syntax.specs.Reading as reading;
 ghost use Rattle.jp_syntax.specs.View.{text_of};
-ghost use Rattle.jp_syntax.specs.Gives.{Gives};
+ghost use Rattle.jp_syntax.specs.Gives.{GivesFront, ReadsFront};
 
 use crate::fault::QueryFault;
 use crate::text::{empty_text, first_character, mark_at, push_character, some_character};
 use std::alloc::Global;
 
+/// What a backslash and this letter stand for between these quotes.
 fn escaped(quote: char, letter: char) -> Option<char>
     ensures { result ≡ spec.escaped quote letter }
 {
@@ -27,6 +28,7 @@ fn escaped(quote: char, letter: char) -> Option<char>
     }
 }
 
+/// Whether the character stands for itself between these quotes.
 fn is_bare(quote: char, c: char) -> bool
     ensures { result ≡ spec.is_bare quote c }
 {
@@ -51,9 +53,10 @@ fn hex_value(c: char) -> u32
     }
 }
 
+/// The number of four hexadecimal digits.
 #[tactic(auto, unfolding(crate::specs::Reading::hex_at))]
 fn hex_at(text: &str) -> Result<(u32, &str), QueryFault>
-    ensures read { Gives (λ x. (x.0, chars x.1.now)) result (reading.hex_at (chars text.now)) }
+    ensures read { ReadsFront (λ c. c) result (reading.hex_at (chars text.now)) }
     ensures below { IfOk result (λ x. x.0 < 65536) }
 {
     let (a, text) = some_character(text)?;
@@ -89,10 +92,11 @@ fn scalar(n: u32) -> char
     char::from_u32(n).unwrap()
 }
 
+/// Behind a high surrogate: the low one, and the character that both write.
 #[tactic(auto, unfolding(crate::specs::Reading::pair_at))]
 fn pair_at(high: u32, text: &str) -> Result<(Option<char>, &str), QueryFault>
     requires { IsTrue (spec.is_high_surrogate high) }
-    ensures { Gives (λ x. (x.0, chars x.1.now)) result (reading.pair_at high (chars text.now)) }
+    ensures { ReadsFront (λ c. c) result (reading.pair_at high (chars text.now)) }
 {
     let digits = mark_at('u', mark_at('\\', text)?)?;
     let (low, rest) = hex_at(digits)?;
@@ -104,9 +108,10 @@ fn pair_at(high: u32, text: &str) -> Result<(Option<char>, &str), QueryFault>
     }
 }
 
+/// Behind `\u`: the character of four hexadecimal digits, or of a pair of surrogates.
 #[tactic(auto, unfolding(crate::specs::Reading::unicode_at))]
 fn unicode_at(text: &str) -> Result<(Option<char>, &str), QueryFault>
-    ensures { Gives (λ x. (x.0, chars x.1.now)) result (reading.unicode_at (chars text.now)) }
+    ensures { ReadsFront (λ c. c) result (reading.unicode_at (chars text.now)) }
 {
     let (value, rest) = hex_at(text)?;
     if is_high_surrogate(value) {
@@ -118,9 +123,10 @@ fn unicode_at(text: &str) -> Result<(Option<char>, &str), QueryFault>
     }
 }
 
+/// Behind a backslash.
 #[tactic(auto, unfolding(crate::specs::Reading::escape_at))]
 fn escape_at(quote: char, text: &str) -> Result<(Option<char>, &str), QueryFault>
-    ensures { Gives (λ x. (x.0, chars x.1.now)) result (reading.escape_at quote (chars text.now)) }
+    ensures { ReadsFront (λ c. c) result (reading.escape_at quote (chars text.now)) }
 {
     match first_character(text) {
         None => Err(QueryFault::Syntax),
@@ -132,9 +138,10 @@ fn escape_at(quote: char, text: &str) -> Result<(Option<char>, &str), QueryFault
     }
 }
 
+/// One character of a string, or the quote that closes it.
 #[tactic(auto, unfolding(crate::specs::Reading::piece_at))]
 fn piece_at(quote: char, text: &str) -> Result<(Option<char>, &str), QueryFault>
-    ensures { Gives (λ x. (x.0, chars x.1.now)) result (reading.piece_at quote (chars text.now)) }
+    ensures { ReadsFront (λ c. c) result (reading.piece_at quote (chars text.now)) }
 {
     match first_character(text) {
         Some((c, rest)) if c == quote => Ok((None, rest)),
@@ -150,7 +157,7 @@ pub(crate) fn string_at(
     quote: char,
     text: &str,
 ) -> Result<(String, &str), QueryFault>
-    ensures { Gives (λ x. (text_of x.0, chars x.1.now)) result (reading.string_at quote (chars text.now)) }
+    ensures { GivesFront text_of result (reading.string_at quote (chars text.now)) }
 {
     let mut found = empty_text(alloc);
     let mut rest = text;

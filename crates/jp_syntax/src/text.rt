@@ -1,12 +1,12 @@
 //! The front of a text: its first character, blanks, names and marks; and texts that grow.
 
-ghost use Rattle.std.specs.Prelude.{◌≡◌, ℕ, List, [], ◌∷◌, ◌++◌, OnOk, MatchOption, MatchResult};
+ghost use Rattle.std.specs.Prelude.{◌≡◌, ℕ, List, [], ◌∷◌, ◌++◌, OnOk, IfOk, IfErr, MatchOption};
 ghost use Rattle.std.specs.Str.{chars};
 ghost use Rattle.jp_syntax.specs.Characters as spec;
 ghost use Rattle.jp_syntax.specs.Reading as reading;
 ghost use Rattle.jp_syntax.specs.Spelling.{begins_with};
 ghost use Rattle.jp_syntax.specs.View.{text_of};
-ghost use Rattle.jp_syntax.specs.Gives.{Gives};
+ghost use Rattle.jp_syntax.specs.Gives.{ReadsRest, ReadsText};
 
 use crate::fault::QueryFault;
 use std::alloc::{AllocError, Global};
@@ -64,7 +64,8 @@ pub(crate) fn first_character(text: &str) -> Option<(char, &str)>
 
 /// The same, of a text that must go on here.
 pub(crate) fn some_character(text: &str) -> Result<(char, &str), QueryFault>
-    ensures { MatchResult result (λ x. chars text.now ≡ x.0 ∷ chars x.1.now) (λ e. (e ≡ QueryFault.Syntax) × (chars text.now ≡ [])) }
+    ensures there { IfOk result (λ x. chars text.now ≡ x.0 ∷ chars x.1.now) }
+    ensures fault { IfErr result (λ e. (e ≡ QueryFault.Syntax) × (chars text.now ≡ [])) }
 {
     first_character(text).ok_or(QueryFault::Syntax)
 }
@@ -76,12 +77,14 @@ pub(crate) fn skip(text: &str) -> &str
     text.trim_start_matches(is_blank)
 }
 
+/// Behind the characters of a shorthand name.
 fn past_name(text: &str) -> &str
     ensures { chars result.now ≡ reading.past spec.is_name_character (chars text.now) }
 {
     text.trim_start_matches(is_name_character)
 }
 
+/// Behind the characters of a function's name.
 pub(crate) fn past_function_name(text: &str) -> &str
     ensures { chars result.now ≡ reading.past spec.is_function_character (chars text.now) }
 {
@@ -99,7 +102,7 @@ pub(crate) fn up_to<'a>(text: &'a str, rest: &str) -> &'a str
 /// The name in front, and the rest.
 #[tactic(auto, unfolding(crate::specs::Reading::run_at))]
 pub(crate) fn name_at(text: &str) -> Result<(&str, &str), QueryFault>
-    ensures { Gives (λ x. (chars x.0.now, chars x.1.now)) result (reading.name_at (chars text.now)) }
+    ensures { ReadsText result (reading.name_at (chars text.now)) }
 {
     match first_character(text) {
         Some((c, more)) if is_first(c) => {
@@ -110,9 +113,10 @@ pub(crate) fn name_at(text: &str) -> Result<(&str, &str), QueryFault>
     }
 }
 
+/// The function's name in front, and the rest.
 #[tactic(auto, unfolding(crate::specs::Reading::run_at))]
 pub(crate) fn function_name_at(text: &str) -> Result<(&str, &str), QueryFault>
-    ensures { Gives (λ x. (chars x.0.now, chars x.1.now)) result (reading.function_name_at (chars text.now)) }
+    ensures { ReadsText result (reading.function_name_at (chars text.now)) }
 {
     match first_character(text) {
         Some((c, more)) if is_lower(c) => {
@@ -126,7 +130,7 @@ pub(crate) fn function_name_at(text: &str) -> Result<(&str, &str), QueryFault>
 /// What follows this character.
 #[tactic(auto, unfolding(crate::specs::Reading::mark_at))]
 pub(crate) fn mark_at(mark: char, text: &str) -> Result<&str, QueryFault>
-    ensures { Gives (λ x. chars x.now) result (reading.mark_at mark (chars text.now)) }
+    ensures { ReadsRest result (reading.mark_at mark (chars text.now)) }
 {
     match first_character(text) {
         Some((c, rest)) if c == mark => Ok(rest),

@@ -11,7 +11,7 @@ pub enum Start {
 
 /// A query: where it starts, and its segments in order.
 #[cycle(tree)]
-#[derive(Clone, Debug, PartialEq, Eq, Drop)]
+#[derive(Debug, PartialEq, Eq, Drop)]
 pub struct Query {
     /// The identifier that the query begins with.
     pub start: Start,
@@ -21,7 +21,7 @@ pub struct Query {
 
 /// A segment (RFC 9535, 2.5).
 #[cycle(tree)]
-#[derive(Clone, Debug, PartialEq, Eq, Drop)]
+#[derive(Debug, PartialEq, Eq, Drop)]
 pub struct Segment {
     /// Whether it is a descendant segment, which is written with `..`.
     pub deep: bool,
@@ -31,7 +31,7 @@ pub struct Segment {
 
 /// A selector (RFC 9535, 2.3).
 #[cycle(tree)]
-#[derive(Clone, Debug, PartialEq, Eq, Drop)]
+#[derive(Debug, PartialEq, Eq, Drop)]
 pub enum Selector {
     /// The member of this name.
     Name(String),
@@ -46,7 +46,7 @@ pub enum Selector {
 }
 
 /// The numbers of a slice, `first:past:step`, as they are written.
-#[derive(Clone, Debug, PartialEq, Eq, Drop)]
+#[derive(Debug, PartialEq, Eq, Drop)]
 pub struct Slice {
     /// Where it starts.
     pub first: Option<String>,
@@ -58,7 +58,7 @@ pub struct Slice {
 
 /// A logical expression (RFC 9535, 2.3.5). Parentheses leave no mark.
 #[cycle(tree)]
-#[derive(Clone, Debug, PartialEq, Eq, Drop)]
+#[derive(Debug, PartialEq, Eq, Drop)]
 pub enum Logical {
     /// Two parts or more, joined by `||`.
     Any(Vec<Logical>),
@@ -76,7 +76,7 @@ pub enum Logical {
 
 /// A comparison (RFC 9535, 2.3.5.2.2).
 #[cycle(tree)]
-#[derive(Clone, Debug, PartialEq, Eq, Drop)]
+#[derive(Debug, PartialEq, Eq, Drop)]
 pub struct Comparison {
     /// What stands before the operator.
     pub left: Comparable,
@@ -105,7 +105,7 @@ pub enum Operator {
 
 /// A side of a comparison.
 #[cycle(tree)]
-#[derive(Clone, Debug, PartialEq, Eq, Drop)]
+#[derive(Debug, PartialEq, Eq, Drop)]
 pub enum Comparable {
     /// A literal.
     Literal(Literal),
@@ -117,7 +117,7 @@ pub enum Comparable {
 
 /// A call of a function (RFC 9535, 2.4).
 #[cycle(tree)]
-#[derive(Clone, Debug, PartialEq, Eq, Drop)]
+#[derive(Debug, PartialEq, Eq, Drop)]
 pub struct Call {
     /// The function's name.
     pub name: String,
@@ -127,7 +127,7 @@ pub struct Call {
 
 /// An argument of a call.
 #[cycle(tree)]
-#[derive(Clone, Debug, PartialEq, Eq, Drop)]
+#[derive(Debug, PartialEq, Eq, Drop)]
 pub enum Argument {
     /// A literal.
     Literal(Literal),
@@ -140,7 +140,7 @@ pub enum Argument {
 }
 
 /// A literal.
-#[derive(Clone, Debug, PartialEq, Eq, Drop)]
+#[derive(Debug, PartialEq, Eq, Drop)]
 pub enum Literal {
     /// A number, as it is written.
     Number(String),

@@ -1,16 +1,18 @@
-use Rattle.jp_syntax.proofs.RefusedTexts as refused
+use Rattle.std.proofs.Common.{refl}
+use Rattle.jp_syntax.proofs.Computed.{refused}
+use Rattle.jp_syntax.specs.Reading.{run_at, mark_at, many, all_of, next_item, items_at, int_at, minus_at, whole_at, fraction_at, exponent_at, number_at, hex_at, pair_at, unicode_at, escape_at, piece_at, word_at, literal_at, bound_at, step_at, slice_at, index_or_slice, numbers_at, operator_at, lone_literal_at, next_part, named_at, tested_at, selector_at, descendant_at, dotted_at, segment_behind, query_at, argument_at, arguments_at, call_at, operand_at, grouped_at, plain_at, right_at, basic_at, and_at, or_at, logical_at, compared_behind, read}
 use Rattle.jp_syntax.proofs.examples.refused_filters.Goals as goal
 
 pub returns : goal.returns
+unfolding run_at mark_at many all_of next_item items_at int_at minus_at whole_at fraction_at exponent_at number_at hex_at pair_at unicode_at escape_at piece_at word_at literal_at bound_at step_at slice_at index_or_slice numbers_at operator_at lone_literal_at next_part named_at tested_at selector_at descendant_at dotted_at segment_behind query_at argument_at arguments_at call_at operand_at grouped_at plain_at right_at basic_at and_at or_at logical_at compared_behind read
 returns c = record {
-  two_negations = refused.filters_two_negations;
-  several_nodes_compared = refused.filters_several_nodes_compared;
-  word_alone = refused.filters_word_alone;
-  number_alone = refused.filters_number_alone;
-  comparison_negated = refused.filters_comparison_negated;
-  two_comparisons = refused.filters_two_comparisons;
-  literal_in_parentheses = refused.filters_literal_in_parentheses;
-  blank_before_arguments = refused.filters_blank_before_arguments;
-  upper_case_in_a_name = refused.filters_upper_case_in_a_name;
-  single_equals = refused.filters_single_equals;
+  nothing = refused _ refl;
+  negations = refused _ refl;
+  several_nodes = refused _ refl;
+  slice_compared = refused _ refl;
+  literals = refused _ refl;
+  comparisons = refused _ refl;
+  operators = refused _ refl;
+  ands = refused _ refl;
+  parentheses = refused _ refl;
 }

@@ -1,10 +1,13 @@
-use Rattle.jp_syntax.proofs.RefusedTexts as refused
+use Rattle.std.proofs.Common.{refl}
+use Rattle.jp_syntax.proofs.Computed.{refused}
+use Rattle.jp_syntax.specs.Reading.{run_at, mark_at, many, all_of, next_item, items_at, int_at, minus_at, whole_at, fraction_at, exponent_at, number_at, hex_at, pair_at, unicode_at, escape_at, piece_at, word_at, literal_at, bound_at, step_at, slice_at, index_or_slice, numbers_at, operator_at, lone_literal_at, next_part, named_at, tested_at, selector_at, descendant_at, dotted_at, segment_behind, query_at, argument_at, arguments_at, call_at, operand_at, grouped_at, plain_at, right_at, basic_at, and_at, or_at, logical_at, compared_behind, read}
 use Rattle.jp_syntax.proofs.examples.refused_segments.Goals as goal
 
 pub returns : goal.returns
+unfolding run_at mark_at many all_of next_item items_at int_at minus_at whole_at fraction_at exponent_at number_at hex_at pair_at unicode_at escape_at piece_at word_at literal_at bound_at step_at slice_at index_or_slice numbers_at operator_at lone_literal_at next_part named_at tested_at selector_at descendant_at dotted_at segment_behind query_at argument_at arguments_at call_at operand_at grouped_at plain_at right_at basic_at and_at or_at logical_at compared_behind read
 returns c = record {
-  blank_behind_a_point = refused.segments_blank_behind_a_point;
-  blank_behind_two_points = refused.segments_blank_behind_two_points;
-  two_points_alone = refused.segments_two_points_alone;
-  bracket_behind_a_point = refused.segments_bracket_behind_a_point;
+  blanks = refused _ refl;
+  points_alone = refused _ refl;
+  bracket_behind_a_point = refused _ refl;
+  no_name = refused _ refl;
 }

@@ -1,12 +1,16 @@
-use Rattle.jp_syntax.proofs.RefusedTexts as refused
+use Rattle.std.proofs.Common.{refl}
+use Rattle.jp_syntax.proofs.Computed.{refused}
+use Rattle.jp_syntax.specs.Reading.{run_at, mark_at, many, all_of, next_item, items_at, int_at, minus_at, whole_at, fraction_at, exponent_at, number_at, hex_at, pair_at, unicode_at, escape_at, piece_at, word_at, literal_at, bound_at, step_at, slice_at, index_or_slice, numbers_at, operator_at, lone_literal_at, next_part, named_at, tested_at, selector_at, descendant_at, dotted_at, segment_behind, query_at, argument_at, arguments_at, call_at, operand_at, grouped_at, plain_at, right_at, basic_at, and_at, or_at, logical_at, compared_behind, read}
 use Rattle.jp_syntax.proofs.examples.refused_selectors.Goals as goal
 
 pub returns : goal.returns
+unfolding run_at mark_at many all_of next_item items_at int_at minus_at whole_at fraction_at exponent_at number_at hex_at pair_at unicode_at escape_at piece_at word_at literal_at bound_at step_at slice_at index_or_slice numbers_at operator_at lone_literal_at next_part named_at tested_at selector_at descendant_at dotted_at segment_behind query_at argument_at arguments_at call_at operand_at grouped_at plain_at right_at basic_at and_at or_at logical_at compared_behind read
 returns c = record {
-  none = refused.selectors_none;
-  comma_at_the_end = refused.selectors_comma_at_the_end;
-  no_comma = refused.selectors_no_comma;
-  three_colons = refused.selectors_three_colons;
-  minus_zero = refused.selectors_minus_zero;
-  leading_zero = refused.selectors_leading_zero;
+  none = refused _ refl;
+  commas = refused _ refl;
+  slices = refused _ refl;
+  indexes = refused _ refl;
+  others = refused _ refl;
+  escapes = refused _ refl;
+  surrogates = refused _ refl;
 }

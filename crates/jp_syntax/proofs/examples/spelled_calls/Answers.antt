@@ -1,26 +1,16 @@
-use Rattle.jp_syntax.proofs.WitnessesOfFilters as witness
+use Rattle.std.proofs.Common.{refl}
+use Rattle.jp_syntax.proofs.Computed.{spelled}
+use Rattle.jp_syntax.specs.Reading.{run_at, mark_at, many, all_of, next_item, items_at, int_at, minus_at, whole_at, fraction_at, exponent_at, number_at, hex_at, pair_at, unicode_at, escape_at, piece_at, word_at, literal_at, bound_at, step_at, slice_at, index_or_slice, numbers_at, operator_at, lone_literal_at, next_part, named_at, tested_at, selector_at, descendant_at, dotted_at, segment_behind, query_at, argument_at, arguments_at, call_at, operand_at, grouped_at, plain_at, right_at, basic_at, and_at, or_at, logical_at, compared_behind, read}
 use Rattle.jp_syntax.proofs.examples.spelled_calls.Goals as goal
 
-pub returns-clause-logical_argument : goal.returns-clause-logical_argument
-returns-clause-logical_argument c = witness.logical_argument
-
-pub returns-clause-query_argument : goal.returns-clause-query_argument
-returns-clause-query_argument c = witness.query_argument
-
-pub returns-clause-call_named_true : goal.returns-clause-call_named_true
-returns-clause-call_named_true c = witness.call_named_true
-
-pub returns-clause-comparison_as_argument : goal.returns-clause-comparison_as_argument
-returns-clause-comparison_as_argument c = witness.comparison_as_argument
-
-pub returns-clause-negation_as_argument : goal.returns-clause-negation_as_argument
-returns-clause-negation_as_argument c = witness.negation_as_argument
-
-pub returns-clause-call_as_argument : goal.returns-clause-call_as_argument
-returns-clause-call_as_argument c = witness.call_as_argument
-
-pub returns-clause-word_as_argument : goal.returns-clause-word_as_argument
-returns-clause-word_as_argument c = witness.word_as_argument
-
-pub returns-clause-two_arguments : goal.returns-clause-two_arguments
-returns-clause-two_arguments c = witness.two_arguments
+pub returns : goal.returns
+unfolding run_at mark_at many all_of next_item items_at int_at minus_at whole_at fraction_at exponent_at number_at hex_at pair_at unicode_at escape_at piece_at word_at literal_at bound_at step_at slice_at index_or_slice numbers_at operator_at lone_literal_at next_part named_at tested_at selector_at descendant_at dotted_at segment_behind query_at argument_at arguments_at call_at operand_at grouped_at plain_at right_at basic_at and_at or_at logical_at compared_behind read
+returns c = record {
+  no_argument = spelled _ _ refl;
+  blank_and_no_argument = spelled _ _ refl;
+  function_name = spelled _ _ refl;
+  call_named_true = spelled _ _ refl;
+  true_compared = spelled _ _ refl;
+  two_arguments = spelled _ _ refl;
+  blanks_around_arguments = spelled _ _ refl;
+}

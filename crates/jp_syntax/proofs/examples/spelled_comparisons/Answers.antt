@@ -1,26 +1,24 @@
-use Rattle.jp_syntax.proofs.WitnessesOfComparisons as witness
+use Rattle.std.proofs.Common.{refl}
+use Rattle.jp_syntax.proofs.Computed.{spelled}
+use Rattle.jp_syntax.specs.Reading.{run_at, mark_at, many, all_of, next_item, items_at, int_at, minus_at, whole_at, fraction_at, exponent_at, number_at, hex_at, pair_at, unicode_at, escape_at, piece_at, word_at, literal_at, bound_at, step_at, slice_at, index_or_slice, numbers_at, operator_at, lone_literal_at, next_part, named_at, tested_at, selector_at, descendant_at, dotted_at, segment_behind, query_at, argument_at, arguments_at, call_at, operand_at, grouped_at, plain_at, right_at, basic_at, and_at, or_at, logical_at, compared_behind, read}
 use Rattle.jp_syntax.proofs.examples.spelled_comparisons.Goals as goal
 
-pub returns-clause-at_least_null : goal.returns-clause-at_least_null
-returns-clause-at_least_null c = witness.at_least_null
-
-pub returns-clause-below_a_string : goal.returns-clause-below_a_string
-returns-clause-below_a_string c = witness.below_a_string
-
-pub returns-clause-not_false : goal.returns-clause-not_false
-returns-clause-not_false c = witness.not_false
-
-pub returns-clause-at_most_minus_zero : goal.returns-clause-at_most_minus_zero
-returns-clause-at_most_minus_zero c = witness.at_most_minus_zero
-
-pub returns-clause-above_a_fraction : goal.returns-clause-above_a_fraction
-returns-clause-above_a_fraction c = witness.above_a_fraction
-
-pub returns-clause-root_inside : goal.returns-clause-root_inside
-returns-clause-root_inside c = witness.root_inside
-
-pub returns-clause-blanks_around : goal.returns-clause-blanks_around
-returns-clause-blanks_around c = witness.blanks_around
-
-pub returns-clause-blanks_around_and : goal.returns-clause-blanks_around_and
-returns-clause-blanks_around_and c = witness.blanks_around_and
+pub returns : goal.returns
+unfolding run_at mark_at many all_of next_item items_at int_at minus_at whole_at fraction_at exponent_at number_at hex_at pair_at unicode_at escape_at piece_at word_at literal_at bound_at step_at slice_at index_or_slice numbers_at operator_at lone_literal_at next_part named_at tested_at selector_at descendant_at dotted_at segment_behind query_at argument_at arguments_at call_at operand_at grouped_at plain_at right_at basic_at and_at or_at logical_at compared_behind read
+returns c = record {
+  literals = spelled _ _ refl;
+  string_and_query = spelled _ _ refl;
+  query_and_query = spelled _ _ refl;
+  blanks_in_singular = spelled _ _ refl;
+  at_least_null = spelled _ _ refl;
+  below_a_string = spelled _ _ refl;
+  double_quotes = spelled _ _ refl;
+  not_false = spelled _ _ refl;
+  equal_to_true = spelled _ _ refl;
+  at_most_minus_zero = spelled _ _ refl;
+  above_a_fraction = spelled _ _ refl;
+  below_an_exponent = spelled _ _ refl;
+  root_inside = spelled _ _ refl;
+  call_on_the_right = spelled _ _ refl;
+  blanks_around = spelled _ _ refl;
+}

@@ -1,29 +1,23 @@
-use Rattle.jp_syntax.proofs.Witnesses as witness
+use Rattle.std.proofs.Common.{refl}
+use Rattle.jp_syntax.proofs.Computed.{spelled}
+use Rattle.jp_syntax.specs.Reading.{run_at, mark_at, many, all_of, next_item, items_at, int_at, minus_at, whole_at, fraction_at, exponent_at, number_at, hex_at, pair_at, unicode_at, escape_at, piece_at, word_at, literal_at, bound_at, step_at, slice_at, index_or_slice, numbers_at, operator_at, lone_literal_at, next_part, named_at, tested_at, selector_at, descendant_at, dotted_at, segment_behind, query_at, argument_at, arguments_at, call_at, operand_at, grouped_at, plain_at, right_at, basic_at, and_at, or_at, logical_at, compared_behind, read}
 use Rattle.jp_syntax.proofs.examples.spelled_segments.Goals as goal
 
-pub returns-clause-dollar : goal.returns-clause-dollar
-returns-clause-dollar c = witness.dollar
-
-pub returns-clause-shorthand : goal.returns-clause-shorthand
-returns-clause-shorthand c = witness.shorthand
-
-pub returns-clause-blank_before : goal.returns-clause-blank_before
-returns-clause-blank_before c = witness.blank_before
-
-pub returns-clause-two_segments : goal.returns-clause-two_segments
-returns-clause-two_segments c = witness.two_segments
-
-pub returns-clause-dot_wildcard : goal.returns-clause-dot_wildcard
-returns-clause-dot_wildcard c = witness.dot_wildcard
-
-pub returns-clause-wildcard : goal.returns-clause-wildcard
-returns-clause-wildcard c = witness.wildcard
-
-pub returns-clause-descendant_name : goal.returns-clause-descendant_name
-returns-clause-descendant_name c = witness.descendant_name
-
-pub returns-clause-descendant_wildcard : goal.returns-clause-descendant_wildcard
-returns-clause-descendant_wildcard c = witness.descendant_wildcard
-
-pub returns-clause-descendant_index : goal.returns-clause-descendant_index
-returns-clause-descendant_index c = witness.descendant_index
+pub returns : goal.returns
+unfolding run_at mark_at many all_of next_item items_at int_at minus_at whole_at fraction_at exponent_at number_at hex_at pair_at unicode_at escape_at piece_at word_at literal_at bound_at step_at slice_at index_or_slice numbers_at operator_at lone_literal_at next_part named_at tested_at selector_at descendant_at dotted_at segment_behind query_at argument_at arguments_at call_at operand_at grouped_at plain_at right_at basic_at and_at or_at logical_at compared_behind read
+returns c = record {
+  dollar = spelled _ _ refl;
+  shorthand = spelled _ _ refl;
+  upper_case = spelled _ _ refl;
+  all_of_a_name = spelled _ _ refl;
+  above_ascii = spelled _ _ refl;
+  blank_before = spelled _ _ refl;
+  all_blanks_before = spelled _ _ refl;
+  two_segments = spelled _ _ refl;
+  blank_between = spelled _ _ refl;
+  dot_wildcard = spelled _ _ refl;
+  wildcard = spelled _ _ refl;
+  descendant_name = spelled _ _ refl;
+  descendant_wildcard = spelled _ _ refl;
+  descendant_index = spelled _ _ refl;
+}

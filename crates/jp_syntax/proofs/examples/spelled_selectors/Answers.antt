@@ -1,35 +1,20 @@
-use Rattle.jp_syntax.proofs.Witnesses as witness
+use Rattle.std.proofs.Common.{refl}
+use Rattle.jp_syntax.proofs.Computed.{spelled}
+use Rattle.jp_syntax.specs.Reading.{run_at, mark_at, many, all_of, next_item, items_at, int_at, minus_at, whole_at, fraction_at, exponent_at, number_at, hex_at, pair_at, unicode_at, escape_at, piece_at, word_at, literal_at, bound_at, step_at, slice_at, index_or_slice, numbers_at, operator_at, lone_literal_at, next_part, named_at, tested_at, selector_at, descendant_at, dotted_at, segment_behind, query_at, argument_at, arguments_at, call_at, operand_at, grouped_at, plain_at, right_at, basic_at, and_at, or_at, logical_at, compared_behind, read}
 use Rattle.jp_syntax.proofs.examples.spelled_selectors.Goals as goal
 
-pub returns-clause-single_quotes : goal.returns-clause-single_quotes
-returns-clause-single_quotes c = witness.single_quotes
-
-pub returns-clause-double_quotes : goal.returns-clause-double_quotes
-returns-clause-double_quotes c = witness.double_quotes
-
-pub returns-clause-empty_name : goal.returns-clause-empty_name
-returns-clause-empty_name c = witness.empty_name
-
-pub returns-clause-blanks_in_brackets : goal.returns-clause-blanks_in_brackets
-returns-clause-blanks_in_brackets c = witness.blanks_in_brackets
-
-pub returns-clause-slice_with_blanks : goal.returns-clause-slice_with_blanks
-returns-clause-slice_with_blanks c = witness.slice_with_blanks
-
-pub returns-clause-slice_of_a_step : goal.returns-clause-slice_of_a_step
-returns-clause-slice_of_a_step c = witness.slice_of_a_step
-
-pub returns-clause-slice_of_nothing : goal.returns-clause-slice_of_nothing
-returns-clause-slice_of_nothing c = witness.slice_of_nothing
-
-pub returns-clause-three_selectors : goal.returns-clause-three_selectors
-returns-clause-three_selectors c = witness.three_selectors
-
-pub returns-clause-pair_of_surrogates : goal.returns-clause-pair_of_surrogates
-returns-clause-pair_of_surrogates c = witness.pair_of_surrogates
-
-pub returns-clause-other_quote : goal.returns-clause-other_quote
-returns-clause-other_quote c = witness.other_quote
-
-pub returns-clause-escaped_quote : goal.returns-clause-escaped_quote
-returns-clause-escaped_quote c = witness.escaped_quote
+pub returns : goal.returns
+unfolding run_at mark_at many all_of next_item items_at int_at minus_at whole_at fraction_at exponent_at number_at hex_at pair_at unicode_at escape_at piece_at word_at literal_at bound_at step_at slice_at index_or_slice numbers_at operator_at lone_literal_at next_part named_at tested_at selector_at descendant_at dotted_at segment_behind query_at argument_at arguments_at call_at operand_at grouped_at plain_at right_at basic_at and_at or_at logical_at compared_behind read
+returns c = record {
+  single_quotes = spelled _ _ refl;
+  double_quotes = spelled _ _ refl;
+  empty_name = spelled _ _ refl;
+  blanks = spelled _ _ refl;
+  negative_index = spelled _ _ refl;
+  two_indexes = spelled _ _ refl;
+  the_same_twice = spelled _ _ refl;
+  filter_and_name = spelled _ _ refl;
+  pair_of_surrogates = spelled _ _ refl;
+  other_quote = spelled _ _ refl;
+  escaped_quote = spelled _ _ refl;
+}

@@ -1,11 +1,14 @@
-use Rattle.jp_syntax.proofs.Refusals as refusal
+use Rattle.std.proofs.Common.{refl}
+use Rattle.jp_syntax.proofs.Computed.{no_numbers}
+use Rattle.jp_syntax.specs.Reading.{number_at, whole_at, minus_at, fraction_at, exponent_at, int_at, run_at}
 use Rattle.jp_syntax.proofs.examples.texts_that_are_no_numbers.Goals as goal
 
-pub returns-clause-leading_zero : goal.returns-clause-leading_zero
-returns-clause-leading_zero c = refusal.number_leading_zero
-
-pub returns-clause-point_behind : goal.returns-clause-point_behind
-returns-clause-point_behind c = refusal.number_point_behind
-
-pub returns-clause-point_before : goal.returns-clause-point_before
-returns-clause-point_before c = refusal.number_point_before
+pub returns : goal.returns
+unfolding number_at whole_at minus_at fraction_at exponent_at int_at run_at
+returns c = record {
+  empty = no_numbers _ refl;
+  zeros = no_numbers _ refl;
+  points = no_numbers _ refl;
+  exponents = no_numbers _ refl;
+  other_marks = no_numbers _ refl;
+}

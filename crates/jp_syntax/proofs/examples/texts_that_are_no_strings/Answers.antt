@@ -1,15 +1,21 @@
-use Rattle.jp_syntax.proofs.RefusedStrings as refusal
-use Rattle.jp_syntax.proofs.LoneSurrogate.{lone_surrogate}
+use Rattle.std.proofs.Common.{refl}
+use Rattle.jp_syntax.proofs.Computed.{no_strings}
+use Rattle.jp_syntax.specs.Reading.{piece_at, escape_at, unicode_at, pair_at, hex_at, mark_at, all_of, many}
 use Rattle.jp_syntax.proofs.examples.texts_that_are_no_strings.Goals as goal
 
-pub returns-clause-escaped_double_quote : goal.returns-clause-escaped_double_quote
-returns-clause-escaped_double_quote c = refusal.escaped_double_quote
-
-pub returns-clause-escaped_single_quote : goal.returns-clause-escaped_single_quote
-returns-clause-escaped_single_quote c = refusal.escaped_single_quote
-
-pub returns-clause-unknown_escape : goal.returns-clause-unknown_escape
-returns-clause-unknown_escape c = refusal.unknown_escape
-
-pub returns-clause-lone_surrogate : goal.returns-clause-lone_surrogate
-returns-clause-lone_surrogate c = lone_surrogate
+pub returns : goal.returns
+unfolding piece_at escape_at unicode_at pair_at hex_at mark_at all_of many
+returns c = record {
+  no_quotes = no_strings _ refl;
+  unclosed = no_strings _ refl;
+  more_behind = no_strings _ refl;
+  other_quote_escaped = no_strings _ refl;
+  unknown_escapes = no_strings _ refl;
+  controls = no_strings _ refl;
+  short_numbers = no_strings _ refl;
+  lone_high = no_strings _ refl;
+  lone_low = no_strings _ refl;
+  high_and_no_low = no_strings _ refl;
+  high_and_past_low = no_strings _ refl;
+  high_and_no_number = no_strings _ refl;
+}

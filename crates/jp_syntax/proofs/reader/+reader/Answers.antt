@@ -101,7 +101,7 @@ argument_at-returns-in_err-logical t c =
 pub argument_at-returns-then-not-begins_literal : goal.argument_at-returns-then-not-begins_literal
 argument_at-returns-then-not-begins_literal t c =
     argument_other c.args.left (chars c.args.text.now) (sym c.begins_literal.ensures ∙ c.if-not-begins_literal.true)
-    ∙ rw (c.in_ok-logical.ensures, c.argument_from.ensures, c.begins_with.ensures) refl
+    ∙ rw (c.in_ok-logical.ensures, c.standing_argument.ensures) refl
 
 pub argument_at-returns-in_err-literal : goal.argument_at-returns-in_err-literal
 argument_at-returns-in_err-literal t c =
@@ -126,4 +126,4 @@ pub argument_at-returns-in_ok-logical-in-Some : goal.argument_at-returns-in_ok-l
 argument_at-returns-in_ok-logical-in-Some t c =
     let begins = sym c.begins_literal.ensures ∙ c.if-not-begins_literal.false in
     argument_compared c.args.left (chars c.args.text.now) begins (literal_of c.in_ok-literal.literal) (chars c.in_ok-literal.rest.now) (chars c.in-Some.after.now) c.in-Some.op c.in_ok-literal.ensures (ap operator_at (sym c.skip.ensures) ∙ sym c.in-Some.ensures)
-    ∙ rw (rw c.literal_side.ensures at c.in_ok-logical-in-Some.ensures, c.argument_from-in-Some.ensures) refl
+    ∙ rw (rw c.literal_side.ensures at c.in_ok-logical-in-Some.ensures, c.compared_argument.ensures) refl

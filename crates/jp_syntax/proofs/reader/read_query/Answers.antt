@@ -16,7 +16,7 @@ returns-clause-syntax c = is_none (length c.args.text.now) (chars c.args.text.no
 pub returns-clause-too_deep : goal.returns-clause-too_deep
 returns-clause-too_deep c =
     is_deep (length c.args.text.now) (chars c.args.text.now) (chars_fit c.args.text.now c.utf8.text) c.read.result c.read.ensures
-    (rw c.bracket_depth.ensures at c.if-bracket_depth-gt64.false)
+    (rw c.bracket_depth.ensures at c.if-bracket_depth-gt-MAX_DEPTH.false)
 
 pub returns-clause-faults : goal.returns-clause-faults
 returns-clause-faults c = is_fault (length c.args.text.now) (chars c.args.text.now) (chars_fit c.args.text.now c.utf8.text) c.read.result c.read.ensures

@@ -1,0 +1,23 @@
+use Rattle.std.proofs.Common.{refl}
+use Rattle.jp_syntax.proofs.Computed.{spelled}
+use Rattle.jp_syntax.specs.Reading.{run_at, mark_at, many, all_of, next_item, items_at, int_at, minus_at, whole_at, fraction_at, exponent_at, number_at, hex_at, pair_at, unicode_at, escape_at, piece_at, word_at, literal_at, bound_at, step_at, slice_at, index_or_slice, numbers_at, operator_at, lone_literal_at, next_part, named_at, tested_at, selector_at, descendant_at, dotted_at, segment_behind, query_at, argument_at, arguments_at, call_at, operand_at, grouped_at, plain_at, right_at, basic_at, and_at, or_at, logical_at, compared_behind, read}
+use Rattle.jp_syntax.proofs.examples.spelled_tests.Goals as goal
+
+pub returns : goal.returns
+unfolding run_at mark_at many all_of next_item items_at int_at minus_at whole_at fraction_at exponent_at number_at hex_at pair_at unicode_at escape_at piece_at word_at literal_at bound_at step_at slice_at index_or_slice numbers_at operator_at lone_literal_at next_part named_at tested_at selector_at descendant_at dotted_at segment_behind query_at argument_at arguments_at call_at operand_at grouped_at plain_at right_at basic_at and_at or_at logical_at compared_behind read
+returns c = record {
+  member = spelled _ _ refl;
+  blanks_around = spelled _ _ refl;
+  parentheses = spelled _ _ refl;
+  blanks_in_parentheses = spelled _ _ refl;
+  two_parentheses = spelled _ _ refl;
+  negation = spelled _ _ refl;
+  negated_query = spelled _ _ refl;
+  negated_call = spelled _ _ refl;
+  blank_behind_not = spelled _ _ refl;
+  from_the_root = spelled _ _ refl;
+  several_nodes = spelled _ _ refl;
+  two_names = spelled _ _ refl;
+  blank_before_a_segment = spelled _ _ refl;
+  filter_inside = spelled _ _ refl;
+}

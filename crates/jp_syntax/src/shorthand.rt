@@ -1,0 +1,31 @@
+//! What points begin: `*` or a name.
+
+ghost use Rattle.std.specs.Prelude.{◌≡◌};
+ghost use Rattle.std.specs.Str.{chars};
+ghost use Rattle.jp_syntax.specs.Reading as reading;
+ghost use Rattle.jp_syntax.specs.PartViews.{segment_of};
+ghost use Rattle.jp_syntax.specs.Tree as tree;
+ghost use Rattle.jp_syntax.specs.Gives.{GivesFront};
+
+use crate::fault::QueryFault;
+use crate::made::{name_selector, one_selector, segment_from, wildcard};
+use crate::text::{first_character, name_at};
+use crate::tree::Segment;
+use std::alloc::Global;
+
+/// Behind the points, `*` or a name (RFC 9535, 2.5.1 and 2.5.2).
+#[tactic(auto, unfolding(crate::specs::Reading::named_at))]
+pub(crate) fn named_at(alloc: Global, deep: bool, text: &str) -> Result<(Segment, &str), QueryFault>
+    ensures { GivesFront segment_of result
+        (reading.named_at (λ xs. tree.segment deep (tree.selectors xs)) (chars text.now)) }
+{
+    match first_character(text) {
+        None => Err(QueryFault::Syntax),
+        Some(('*', rest)) => Ok((segment_from(deep, one_selector(alloc, wildcard())?), rest)),
+        Some(_) => {
+            let (name, rest) = name_at(text)?;
+            let selector = name_selector(String::from_str(alloc, name)?);
+            Ok((segment_from(deep, one_selector(alloc, selector)?), rest))
+        }
+    }
+}
