@@ -1,4 +1,3 @@
--- A step of a proof, which nobody has to believe.
 -- The functions and types of `src/` as those of the definitions.
 use Rattle.jp_check.specs.Functions as functions
 use Rattle.jp_check.specs.declared.functions.Kind.{Kind}

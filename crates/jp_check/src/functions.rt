@@ -16,9 +16,9 @@ pub(crate) enum Kind {
     Nodes,
 }
 
-/// A function.
-#[derive(Clone, Copy)]
-pub(crate) enum Function {
+/// A function of RFC 9535 (2.4.4 to 2.4.8).
+#[derive(Clone, Copy, Debug, PartialEq, Eq)]
+pub enum Function {
     /// How long a text, an array or an object is.
     Length,
     /// How many nodes there are.
@@ -31,8 +31,8 @@ pub(crate) enum Function {
     Value,
 }
 
-/// The function of this name.
-pub(crate) fn function_named(name: &str) -> Option<Function>
+/// The function of this name, if it is one. It takes no memory.
+pub fn function_named(name: &str) -> Option<Function>
     ensures { option_map function_of result ≡ functions.function_named (chars name.now) }
 {
     match name {

@@ -15,4 +15,5 @@ mod walk;
 
 pub use accepted::Plan;
 pub use checking::{check, plan};
+pub use functions::{Function, function_named};
 pub use known::Known;

@@ -2,10 +2,9 @@
 
 ghost use Rattle.std.specs.Prelude.{◌≡◌, Some, length, option_map, IfOk};
 ghost use Rattle.std.specs.Str.{chars};
-ghost use Rattle.jp_check.specs.Functions as check;
 ghost use Rattle.jp_syntax.specs.View.{literal_of};
 ghost use Rattle.jp_eval.specs.Functions as spec;
-ghost use Rattle.jp_eval.specs.Given.{function_of, given_of, GivesWholeNumbers, text_in};
+ghost use Rattle.jp_eval.specs.Given.{given_of, GivesWholeNumbers, text_in};
 ghost use Rattle.jp_eval.specs.Nodelist.{literal_value};
 ghost use Rattle.jp_eval.specs.Operands.{operand_value, HasWholeNumbers};
 ghost use Rattle.jp_eval.specs.Part.{part_value};
@@ -19,35 +18,6 @@ use jp_regexp::Pattern;
 use jp_syntax::Literal;
 use serde_json::Value;
 use std::alloc::{AllocError, Global};
-
-/// A function.
-#[derive(Clone, Copy)]
-pub(crate) enum Function {
-    /// `length`
-    Length,
-    /// `count`
-    Count,
-    /// `match`
-    Match,
-    /// `search`
-    Search,
-    /// `value`
-    Value,
-}
-
-/// The function of this name.
-pub(crate) fn function_named(name: &str) -> Option<Function>
-    ensures { option_map function_of result ≡ check.function_named (chars name.now) }
-{
-    match name {
-        "length" => Some(Function::Length),
-        "count" => Some(Function::Count),
-        "match" => Some(Function::Match),
-        "search" => Some(Function::Search),
-        "value" => Some(Function::Value),
-        _ => None,
-    }
-}
 
 /// What a call gives.
 #[derive(Clone, Copy)]

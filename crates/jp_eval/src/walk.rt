@@ -9,7 +9,8 @@ ghost use Rattle.jp_syntax.specs.View.{query_of};
 ghost use Rattle.jp_syntax.specs.PartViews.{argument_of, call_of, comparable_of, comparison_of};
 ghost use Rattle.jp_eval.specs.BoundsView.{bounds_value};
 ghost use Rattle.jp_eval.specs.Functions.{first_value, as_nodes, as_value as value_of_handed, called};
-ghost use Rattle.jp_eval.specs.Given.{function_of, given_of, GivesWholeNumbers};
+ghost use Rattle.jp_check.specs.Kinds.{function_of};
+ghost use Rattle.jp_eval.specs.Given.{given_of, GivesWholeNumbers};
 ghost use Rattle.jp_eval.specs.Kept.{kept, put_found, plus};
 ghost use Rattle.jp_eval.specs.Links.{here};
 ghost use Rattle.jp_trail.specs.Links.{link_steps};
@@ -24,15 +25,12 @@ ghost use Rattle.jp_eval.specs.Walk.{picked, picked_by, reached, is_true, done};
 
 use crate::compare::{Operand, compare};
 use crate::found::{Alone, Found, add, into_count, into_first, into_only, is_full};
-use crate::functions::{
-    Function, Given, as_truth, as_value, function_named, length, literal, matches, operand,
-    searches,
-};
+use crate::functions::{Given, as_truth, as_value, length, literal, matches, operand, searches};
 use crate::numbers::{place, position};
 use crate::part::{Inside, Part};
 use crate::slice::{Bounds, bounds_of, first_place, place_after};
 use crate::visit::Visit;
-use jp_check::Plan;
+use jp_check::{Function, Plan, function_named};
 use jp_syntax::{Argument, Call, Comparable, Comparison, Logical, Query, Segment, Selector, Start};
 use jp_trail::{Link, Trail};
 use serde_json::{Map, Value};

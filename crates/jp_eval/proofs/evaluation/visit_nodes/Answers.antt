@@ -16,4 +16,4 @@ returns-in-Some g c =
     let start = ap₂ (λ v l. nodelist tests v (query_of c.query.result.now) (node (link_steps l) v)) c.root_of-root.ensures c.new-path.ensures in
     let whole = ap (λ q. document_nodes tests q (document_value c.args.document.now)) c.query.ensures.value in
     λ t right. taken_out g.V.Visit.put _ _ _ (c.in-Some.ensures ∙ c.in_ok-find.ensures.found)
-        ∙ ap (fold g.V.Visit.put (g.V.Visit.kept c.args.taker)) (start ∙ whole ∙ same_nodes t (planned_query c.args.plan.now) (document_value c.args.document.now) right)
+    ∙ ap (fold g.V.Visit.put (g.V.Visit.kept c.args.taker)) (start ∙ whole ∙ same_nodes t (planned_query c.args.plan.now) (document_value c.args.document.now) right)

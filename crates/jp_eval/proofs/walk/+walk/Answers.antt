@@ -18,7 +18,7 @@ use Rattle.jp_syntax.specs.PartViews.{argument_of}
 use Rattle.jp_syntax.proofs.Views.{literal_argument_made, logical_argument_made, query_argument_made, call_argument_made}
 use Rattle.jp_eval.specs.BoundsView.{bounds_value, nearest}
 use Rattle.jp_eval.specs.Functions.{as_truth, as_value, as_nodes, handed_value, number_value}
-use Rattle.jp_eval.specs.Given.{function_of}
+use Rattle.jp_check.specs.Kinds.{function_of}
 use Rattle.jp_eval.specs.Kept.{kept, put_found, plus, kept_first, kept_count, kept_only}
 use Rattle.jp_eval.specs.Links.{here}
 use Rattle.jp_trail.specs.Links.{link_steps}
