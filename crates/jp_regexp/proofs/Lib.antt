@@ -11,6 +11,7 @@ pub mod NodeLemmas
 pub mod PartLemmas
 pub mod PatternsRead
 pub mod PatternsSound
+pub mod ProfileLemmas
 pub mod ReadLemmas
 pub mod RepeatLemmas
 pub mod RightTests

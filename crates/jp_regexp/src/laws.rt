@@ -8,7 +8,10 @@ ghost use Rattle.jp_regexp.specs.CharSets.{is_scalar, in_set};
 ghost use Rattle.jp_regexp.specs.Shape.{Shapes};
 ghost use Rattle.jp_regexp.specs.Profile.{InProfile, size};
 ghost use Rattle.jp_regexp.specs.Language.{Member, Matches, Found};
+ghost use Rattle.jp_regexp.specs.Held.{pattern_of};
 ghost use Rattle.jp_regexp.specs.Tests.{Tests, AreRight};
+
+use crate::pattern::Pattern as Held;
 
 /// A text has at most one tree, and it is decided whether it has one.
 pub fn one_tree()
@@ -46,6 +49,11 @@ pub fn language_of_size_zero()
 pub fn matches_is_found()
     ensures whole { (text pattern_text : Text) → Matches text pattern_text → Found text pattern_text }
     ensures nothing { (text pattern_text : Text) → Matches [] pattern_text → Found text pattern_text }
+{}
+
+/// A pattern that was read keeps within the limits: its counts, its depth and its size.
+pub fn held_in_profile(pattern: &Held)
+    ensures { InProfile (pattern_of pattern.now) }
 {}
 
 /// There are tests that answer as the language says, so what is said of all of them is said of some.

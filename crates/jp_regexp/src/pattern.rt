@@ -1,7 +1,8 @@
 //! A pattern that was read.
 
 ghost use Rattle.std.specs.Prelude.{◌≡◌};
-ghost use Rattle.jp_regexp.specs.Tree.{size_of};
+ghost use Rattle.jp_regexp.specs.Profile.{InProfile};
+ghost use Rattle.jp_regexp.specs.Tree.{node_of, size_of};
 
 mod matching;
 mod reading;
@@ -14,4 +15,5 @@ pub struct Pattern {
     root: Node,
     size: u64,
     ghost is_size: { size ≡ size_of root },
+    ghost in_profile: { ∥ InProfile (node_of root) ∥₁ },
 }

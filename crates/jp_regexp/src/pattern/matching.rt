@@ -1,10 +1,10 @@
 //! What a pattern matches.
 
-ghost use Rattle.std.specs.Prelude.{◌≡◌, ◌↔◌, IfOk, IsTrue};
+ghost use Rattle.std.specs.Prelude.{◌≡◌, ◌≤◌, ◌↔◌, IfOk, IsTrue};
 ghost use Rattle.std.specs.Str.{chars};
 ghost use Rattle.jp_regexp.specs.Held.{HasPart, pattern_of};
 ghost use Rattle.jp_regexp.specs.Language.{Member};
-ghost use Rattle.jp_regexp.specs.Profile.{size};
+ghost use Rattle.jp_regexp.specs.Profile.{max_size, size};
 
 use crate::ends::ends;
 use crate::marks::{anywhere, at_end, at_start, everywhere};
@@ -21,7 +21,8 @@ pub fn characters(alloc: Global, text: &str) -> Result<Vec<char>, AllocError>
 impl Pattern {
     /// How many sets of characters there are once each repetition is written out. It takes no memory.
     pub fn unrolled_size(&self) -> u64
-        ensures { result ≡ size (pattern_of self.now) }
+        ensures exact { result ≡ size (pattern_of self.now) }
+        ensures within { result ≤ max_size }
     {
         self.size
     }

@@ -21,3 +21,13 @@ returns c =
     let same = size_is (size_of c.in-Ok.root) c.size_of-size.result 18446744073709551615 c.size_of-size.ensures c.if-size-gt-MAX_SIZE.false (lit< tt) in
     let fits = c.if-size-gt-MAX_SIZE.false in
     is_pattern (chars c.args.text.now) (node_of c.in-Ok.root) read (subst (λ n. n ≤ 10_000) same fits)
+
+pub invariant_of-result : goal.invariant_of-result
+invariant_of-result c =
+    let read = rw (c.deref.ensures.value, c.in_ok-text.ensures) at c.in-Ok.ensures in
+    let fits = c.if-size-gt-MAX_SIZE.false in
+    let same = size_is (size_of c.in-Ok.root) c.size_of-size.result 18446744073709551615 c.size_of-size.ensures fits (lit< tt) in
+    record {
+      is_size = same;
+      in_profile = ∣ (is_pattern (chars c.args.text.now) (node_of c.in-Ok.root) read (subst (λ n. n ≤ 10_000) same fits)).in_profile ∣₁;
+    }

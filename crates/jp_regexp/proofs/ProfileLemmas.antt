@@ -1,0 +1,25 @@
+-- That a pattern is within the limits has one proof, so a value that keeps it quietly keeps it.
+use Rattle.std.proofs.Math.Logic.{∥∥₁_elim}
+use Rattle.std.proofs.Props.{props}
+use Rattle.std.proofs.Common.{◌≤◌, Some, None}
+use Rattle.jp_regexp.specs.Pattern.{Pattern, empty, letter, group, seq, either, repeat, plus}
+use Rattle.jp_regexp.specs.Profile.{InProfile, HasCounts, size}
+
+counts_prop : (p : Pattern) → IsProp (HasCounts p)
+counts_prop empty = hlevel props
+counts_prop (letter set) = hlevel props
+counts_prop (group p) = counts_prop p
+counts_prop (seq p q) = hlevel (counts_prop p, counts_prop q)
+counts_prop (either p q) = hlevel (counts_prop p, counts_prop q)
+counts_prop (repeat least None p) = hlevel (props, counts_prop p)
+counts_prop (repeat least (Some most) p) = hlevel (props, counts_prop p)
+counts_prop (plus p) = counts_prop p
+
+pub profile_prop : (p : Pattern) → IsProp (InProfile p)
+profile_prop p = hlevel (props, counts_prop p)
+
+pub kept_profile : (p : Pattern) → ∥ InProfile p ∥₁ → InProfile p
+kept_profile p h = ∥∥₁_elim h (profile_prop p) (λ of. of)
+
+pub kept_size : (p : Pattern) → ∥ InProfile p ∥₁ → size p ≤ 10_000
+kept_size p h = (kept_profile p h).size_fits
