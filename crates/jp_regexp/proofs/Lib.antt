@@ -4,6 +4,7 @@ pub mod EmptyLemmas
 pub mod EndLemmas
 pub mod MarkLemmas
 pub mod MatchLemmas
+pub mod MeaningLemmas
 pub mod MemberExamples
 pub mod MemberLemmas
 pub mod NamesSound
@@ -17,7 +18,12 @@ pub mod RepeatLemmas
 pub mod RightTests
 pub mod SetsRead
 pub mod SetsSound
+pub mod SetLemmas
 pub mod SizeLemmas
+pub mod SizedLemmas
+pub mod SkipLemmas
+pub mod StepLemmas
 pub mod TextExamples
 pub mod TurnLemmas
+pub mod UnrolledLemmas
 pub mod WithinLemmas

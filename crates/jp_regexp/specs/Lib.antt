@@ -5,6 +5,7 @@ pub mod Gives
 pub mod Held
 pub mod Language
 pub mod Marks
+pub mod Parts
 pub mod Pattern
 pub mod Profile
 pub mod Quantity
@@ -13,3 +14,5 @@ pub mod Samples
 pub mod Shape
 pub mod Tests
 pub mod Tree
+pub mod Unrolled
+pub mod Walk

@@ -7,6 +7,7 @@ mod examples;
 mod fault;
 pub mod laws;
 mod marks;
+mod parts;
 mod pattern;
 mod read_counts;
 mod read_patterns;
@@ -16,6 +17,3 @@ mod size;
 mod tree;
 
 pub use pattern::Pattern;
-
-#[cfg(test)]
-mod tests;
