@@ -1,7 +1,9 @@
 pub mod CharacterLemmas
+pub mod CopyLemmas
 pub mod Derivatives
 pub mod EmptyLemmas
 pub mod EndLemmas
+pub mod KindLemmas
 pub mod MarkLemmas
 pub mod MatchLemmas
 pub mod MeaningLemmas
@@ -13,6 +15,7 @@ pub mod PartLemmas
 pub mod PatternsRead
 pub mod PatternsSound
 pub mod ProfileLemmas
+pub mod ReachLemmas
 pub mod ReadLemmas
 pub mod RepeatLemmas
 pub mod RightTests
@@ -26,4 +29,5 @@ pub mod StepLemmas
 pub mod TextExamples
 pub mod TurnLemmas
 pub mod UnrolledLemmas
+pub mod WalkLemmas
 pub mod WithinLemmas

@@ -2,10 +2,7 @@
 use Rattle.std.proofs.Common.{◌≡◌, ℕ, zero, suc, ◌+◌, ◌-◌, ◌≤◌, ◌<◌, Bool, true, false, ◌&&◌, ◌||◌, if◌then◌else◌, IsTrue, List, [], ◌∷◌, ◌++◌, refl, sym, ap, ap₂, ◌∙◌, subst, arith, add_assoc}
 use Rattle.jp_regexp.specs.CharSets.{in_set}
 use Rattle.jp_regexp.specs.Unrolled.{Unrolled, nothing, letter, seq, either, maybe, plus, letters, counted, counted_on}
-use Rattle.jp_regexp.specs.Walk.{leaves, advance}
-
-abbrev pub Dead : (ℕ → Bool) → ℕ → ℕ → Type 0
-Dead live off n = (k : ℕ) → 0 < k → k ≤ n → live (off + k) ≡ false
+use Rattle.jp_regexp.specs.Walk.{leaves, advance, Dead}
 
 dead_front : (live : ℕ → Bool) (off m n : ℕ) → m ≤ n → Dead live off n → Dead live off m
 dead_front live off m n le h k low high = h k low (omega arith)
@@ -38,20 +35,17 @@ dead_advance live c (either a b) off h =
 dead_advance live c (maybe a) off h = dead_advance live c a off h
 dead_advance live c (plus a) off h = ap (λ e. advance live c a off e) (dead_leaves live a off h) ∙ dead_advance live c a off h
 
--- copies in front that are neither entered nor live can be left out of a walk
-pub skipped_copy : (live : ℕ → Bool) (a : Unrolled) (least most off : ℕ) → Dead live off (letters a) →
-    leaves live (counted least (suc most) a) off false ≡ leaves live (counted (least - 1) most a) (off + letters a) false
-skipped_copy live a zero most off h = ap (λ e. leaves live (counted zero most a) (off + letters a) e) (dead_leaves live a off h)
-skipped_copy live a (suc least) most off h =
-    let less : least ≡ suc least - 1 = omega arith in
-    subst (λ n. leaves live (counted (suc least) (suc most) a) off false ≡ leaves live (counted n most a) (off + letters a) false) less
-    (ap (λ e. leaves live (counted least most a) (off + letters a) e) (dead_leaves live a off h))
+-- a part without letters changes nothing
+or_self : (b : Bool) → (b || b) ≡ b
+or_self true = refl
+or_self false = refl
 
-pub skipped_copy_advance : (live : ℕ → Bool) (c : ℕ) (a : Unrolled) (least most off : ℕ) → Dead live off (letters a) →
-    advance live c (counted least (suc most) a) off false ≡ advance live c (counted (least - 1) most a) (off + letters a) false
-skipped_copy_advance live c a zero most off h =
-    ap₂ (λ x y. x ++ y) (dead_advance live c a off h) (ap (λ e. advance live c (counted zero most a) (off + letters a) e) (dead_leaves live a off h))
-skipped_copy_advance live c a (suc least) most off h =
-    let less : least ≡ suc least - 1 = omega arith in
-    subst (λ n. advance live c (counted (suc least) (suc most) a) off false ≡ advance live c (counted n most a) (off + letters a) false) less
-    (ap₂ (λ x y. x ++ y) (dead_advance live c a off h) (ap (λ e. advance live c (counted least most a) (off + letters a) e) (dead_leaves live a off h)))
+pub none_leaves : (live : ℕ → Bool) (p : Unrolled) (off : ℕ) (entered : Bool) → letters p ≡ 0 → leaves live p off entered ≡ entered
+none_leaves live nothing off entered e = refl
+none_leaves live (letter set) off entered e = absurd (omega arith)
+none_leaves live (seq a b) off entered e =
+    ap (λ x. leaves live b (off + letters a) x) (none_leaves live a off entered (omega arith)) ∙ none_leaves live b (off + letters a) entered (omega arith)
+none_leaves live (either a b) off entered e =
+    ap₂ (λ x y. x || y) (none_leaves live a off entered (omega arith)) (none_leaves live b (off + letters a) entered (omega arith)) ∙ or_self entered
+none_leaves live (maybe a) off entered e = ap (λ x. entered || x) (none_leaves live a off entered e) ∙ or_self entered
+none_leaves live (plus a) off entered e = none_leaves live a off entered e

@@ -43,12 +43,12 @@ module _ (a : Unrolled) where
       let r = counted_on_sound least v y in
       (u ∷ r.0, (x, r.1), omega (arith, r.2), tt, e ∙ ap (λ w. u ++ w) r.4)
 
-  letters-counted : (least most : ℕ) → letters (counted least most a) ≡ most * letters a
+  pub letters-counted : (least most : ℕ) → letters (counted least most a) ≡ most * letters a
   letters-counted least zero = omega arith
   letters-counted zero (suc most) = omega (arith, letters-counted zero most)
   letters-counted (suc least) (suc most) = omega (arith, letters-counted least most)
 
-  letters-counted_on : (least : ℕ) → letters (counted_on least a) ≡ (least + 1) * letters a
+  pub letters-counted_on : (least : ℕ) → letters (counted_on least a) ≡ (least + 1) * letters a
   letters-counted_on zero = omega arith
   letters-counted_on (suc least) = omega (arith, letters-counted_on least)
 

@@ -1,11 +1,12 @@
 -- What the tree of the code with its sizes stands for.
-use Rattle.std.specs.Prelude.{ℕ, ◌+◌, Bool, true, ◌&&◌, nat_eq, min, List, [], ◌∷◌, map}
+use Rattle.std.specs.Prelude.{ℕ, ◌+◌, Bool, true, ◌&&◌, nat_eq, min, List, [], ◌∷◌, map, Option}
 use Rattle.jp_regexp.specs.declared.parts.Part.{Part}
 use Rattle.jp_regexp.specs.declared.parts.Part.TheOpen.{Part-F}
 use Rattle.jp_regexp.specs.declared.parts.Part.TheFolds.{fold-Part}
 use Rattle.jp_regexp.specs.Pattern.{Pattern}
 use Rattle.jp_regexp.specs.Profile.{copies, size}
 use Rattle.jp_regexp.specs.Tree.{set_of}
+use Rattle.jp_regexp.specs.Unrolled.{Unrolled, either, unrolled}
 
 -- the pattern that a part stands for, and whether each size that is kept in it is right
 pub record Meaning : Type 0 where
@@ -60,3 +61,18 @@ pattern_in part = (meaning part).pattern
 abbrev pub patterns_in : List Part → List Pattern
 patterns_in [] = []
 patterns_in (part ∷ parts) = pattern_in part ∷ patterns_in parts
+
+-- the part with each repetition written out
+abbrev pub unrolled_in : Part → Unrolled
+unrolled_in part = unrolled (pattern_in part)
+
+abbrev pub unrolled_in_turn : List Part → Unrolled
+unrolled_in_turn parts = unrolled (in_turn_of (map meaning parts))
+
+-- these branches, and then what follows them
+abbrev pub branches_before : List Part → Unrolled → Unrolled
+branches_before [] q = q
+branches_before (part ∷ parts) q = either (unrolled_in part) (branches_before parts q)
+
+abbrev pub unrolled_repeat : ℕ → Option ℕ → Part → Unrolled
+unrolled_repeat least most atom = unrolled (Pattern.repeat least most (pattern_in atom))

@@ -1,5 +1,8 @@
 -- A working file, which nobody has to believe: one step on a set of places, as the code walks it. No public contract names it.
-use Rattle.std.specs.Prelude.{◌≡◌, ℕ, zero, suc, ◌+◌, ◌<◌, Bool, true, false, ◌&&◌, ◌||◌, ◌⊎◌, List, [], ◌∷◌, ◌++◌, IsTrue, ⊤, nat_eq, if◌then◌else◌, drop}
+use Rattle.std.specs.Prelude.{◌≡◌, ℕ, zero, suc, ◌+◌, ◌<◌, ◌≤◌, Bool, true, false, ◌&&◌, ◌||◌, ◌⊎◌, List, [], ◌∷◌, ◌++◌, IsTrue, ⊤, nat_eq, nat_le, nat_lt, if◌then◌else◌, drop, length, slice_index_or}
+use Rattle.jp_regexp.specs.declared.reach.Reach.{Reach}
+use Rattle.jp_regexp.specs.declared.parts.Part.{Part}
+use Rattle.jp_regexp.specs.Parts.{branches_before}
 use Rattle.jp_regexp.specs.CharSets.{in_set}
 use Rattle.jp_regexp.specs.Unrolled.{Unrolled, nothing, letter, seq, either, maybe, plus, letters}
 
@@ -45,3 +48,44 @@ Rises low (x ∷ xs) = (low < x) × Rises x xs
 pub record IsRest (places : List ℕ) (past : ℕ) (rest : List ℕ) : Type 0 where
   pub rises : Rises past rest
   pub same : (k : ℕ) → past < k → is_elem places k ≡ is_elem rest k
+
+-- so many places of the set do not lie behind past
+abbrev pub IsAt : List ℕ → ℕ → ℕ → Type 0
+IsAt places past index = IsRest places past (drop index places)
+
+-- the place at the index, if there is one, is no more than this
+abbrev pub is_live_up_to : List ℕ → ℕ → ℕ → Bool
+is_live_up_to places index end = nat_lt index (length places) && nat_le (slice_index_or places index 0) end
+
+-- none of the next n places is in the set
+abbrev pub Dead : (ℕ → Bool) → ℕ → ℕ → Type 0
+Dead live off n = (k : ℕ) → 0 < k → k ≤ n → live (off + k) ≡ false
+
+-- where a walk over a pattern leads
+pub record IsWalk (places : List ℕ) (p : Unrolled) (old new : Reach) : Type 0 where
+  pub past : new.past ≡ old.past + letters p
+  pub entered : new.entered ≡ leaves (is_elem places) p old.past old.entered
+  pub stands : IsAt places new.past new.index
+
+-- the same, and which places are read next by c
+pub record IsStep (places : List ℕ) (c : ℕ) (p : Unrolled) (old new : Reach) (before after : List ℕ) : Type 0 where
+  pub walk : IsWalk places p old new
+  pub reads : after ≡ before ++ advance (is_elem places) c p old.past old.entered
+
+-- whatever has so many letters, a walk over it leads here, and nothing of it is read
+pub record IsPassed (places : List ℕ) (size : ℕ) (old new : Reach) : Type 0 where
+  pub walk : (p : Unrolled) → letters p ≡ size → IsWalk places p old new
+  pub reads : (p : Unrolled) (c : ℕ) → letters p ≡ size → advance (is_elem places) c p old.past old.entered ≡ []
+
+abbrev pub or_entered : Bool → Reach → Reach
+or_entered b at = record { past = at.past; index = at.index; entered = b || at.entered }
+
+abbrev pub entered_as : Bool → Reach → Reach
+entered_as b at = record { past = at.past; index = at.index; entered = b }
+
+-- where a walk over branches leads that others follow
+pub record IsWalkBefore (places : List ℕ) (parts : List Part) (old new : Reach) : Type 0 where
+  pub past : new.past ≡ old.past + letters (branches_before parts nothing)
+  pub stands : IsAt places new.past new.index
+  pub leads : (q : Unrolled) (r : Reach) → IsWalk places q (entered_as old.entered new) r →
+      IsWalk places (branches_before parts q) old (or_entered new.entered r)
