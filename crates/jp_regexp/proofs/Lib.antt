@@ -17,6 +17,7 @@ pub mod PatternsSound
 pub mod ProfileLemmas
 pub mod ReachLemmas
 pub mod ReadLemmas
+pub mod ReadsLemmas
 pub mod RepeatLemmas
 pub mod RightTests
 pub mod SetsRead

@@ -101,6 +101,10 @@ module _ (places : List ℕ) where
   pub last_walk : (a : Unrolled) (x y : Reach) → IsWalk places a x y → IsWalk places (counted_on 0 a) x (or_entered x.entered y)
   last_walk a x y f = record { past = f.past; entered = ap (λ e. x.entered || e) f.entered; stands = f.stands }
 
+  -- a copy that may be repeated ends where one does
+  pub plus_walk : (a : Unrolled) (x y : Reach) → IsWalk places (plus a) x y → IsWalk places a x y
+  plus_walk a x y f = record { past = f.past; entered = f.entered; stands = f.stands }
+
 -- ---- the loops over the copies
 
 module _ (a : Unrolled) (least most i here past : ℕ) (lt : i < most)

@@ -3,6 +3,7 @@ use Rattle.std.specs.Prelude.{◌≡◌, ℕ, zero, suc, ◌+◌, ◌<◌, ◌�
 use Rattle.jp_regexp.specs.declared.reach.Reach.{Reach}
 use Rattle.jp_regexp.specs.declared.parts.Part.{Part}
 use Rattle.jp_regexp.specs.Parts.{branches_before}
+use Rattle.jp_regexp.specs.Pattern.{CharSet}
 use Rattle.jp_regexp.specs.CharSets.{in_set}
 use Rattle.jp_regexp.specs.Unrolled.{Unrolled, nothing, letter, seq, either, maybe, plus, letters}
 
@@ -57,6 +58,10 @@ IsAt places past index = IsRest places past (drop index places)
 abbrev pub is_live_up_to : List ℕ → ℕ → ℕ → Bool
 is_live_up_to places index end = nat_lt index (length places) && nat_le (slice_index_or places index 0) end
 
+-- the place of a set, where its start is reached and it holds c
+abbrev pub reads_letter : CharSet → ℕ → Reach → List ℕ
+reads_letter set c at = if at.entered && in_set set c then (at.past + 1) ∷ [] else []
+
 -- none of the next n places is in the set
 abbrev pub Dead : (ℕ → Bool) → ℕ → ℕ → Type 0
 Dead live off n = (k : ℕ) → 0 < k → k ≤ n → live (off + k) ≡ false
@@ -89,3 +94,9 @@ pub record IsWalkBefore (places : List ℕ) (parts : List Part) (old new : Reach
   pub stands : IsAt places new.past new.index
   pub leads : (q : Unrolled) (r : Reach) → IsWalk places q (entered_as old.entered new) r →
       IsWalk places (branches_before parts q) old (or_entered new.entered r)
+
+-- the same, and which places of them are read next by c
+pub record IsStepBefore (places : List ℕ) (c : ℕ) (parts : List Part) (old new : Reach) (before after : List ℕ) : Type 0 where
+  pub walk : IsWalkBefore places parts old new
+  pub reads : (q : Unrolled) → after ++ advance (is_elem places) c q new.past old.entered
+      ≡ before ++ advance (is_elem places) c (branches_before parts q) old.past old.entered

@@ -1,6 +1,7 @@
 //! Patterns of I-Regexp (RFC 9485): what they are, their limits, and which texts they match.
 #![tactic(auto)]
 
+mod advance;
 mod categories;
 mod ends;
 mod examples;
