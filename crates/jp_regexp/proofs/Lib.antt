@@ -2,10 +2,8 @@ pub mod CharacterLemmas
 pub mod CopyLemmas
 pub mod Derivatives
 pub mod EmptyLemmas
-pub mod EndLemmas
+pub mod FindLemmas
 pub mod KindLemmas
-pub mod MarkLemmas
-pub mod MatchLemmas
 pub mod MeaningLemmas
 pub mod MemberExamples
 pub mod MemberLemmas
@@ -18,7 +16,6 @@ pub mod ProfileLemmas
 pub mod ReachLemmas
 pub mod ReadLemmas
 pub mod ReadsLemmas
-pub mod RepeatLemmas
 pub mod RightTests
 pub mod SetsRead
 pub mod SetsSound
@@ -27,6 +24,7 @@ pub mod SizeLemmas
 pub mod SizedLemmas
 pub mod SkipLemmas
 pub mod StepLemmas
+pub mod TermLemmas
 pub mod TextExamples
 pub mod TurnLemmas
 pub mod UnrolledLemmas

@@ -7,8 +7,8 @@ use Rattle.jp_regexp.specs.Pattern.{Text, Pattern}
 use Rattle.jp_regexp.specs.Language.{Member}
 use Rattle.jp_regexp.specs.Profile.{HasCounts}
 use Rattle.jp_regexp.specs.CharSets.{in_set}
-use Rattle.jp_regexp.specs.Unrolled.{Unrolled, nothing, letter, seq, either, maybe, plus, unrolled, Has, letters, After, PlaceHas, SomePlaceHas}
-use Rattle.jp_regexp.specs.Walk.{leaves, advance, Elem, is_elem, Rises, all_places}
+use Rattle.jp_regexp.specs.Unrolled.{Unrolled, nothing, letter, seq, either, maybe, plus, unrolled, Has, letters, After, PlaceHas, SomePlaceHas, all_places}
+use Rattle.jp_regexp.specs.Walk.{leaves, advance, Elem, is_elem, Rises}
 use Rattle.jp_regexp.proofs.StepLemmas.{After-within, Held, advance_within, advance_sound, advance_whole}
 use Rattle.jp_regexp.proofs.UnrolledLemmas.{unrolled_whole, unrolled_sound}
 

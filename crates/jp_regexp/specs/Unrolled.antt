@@ -1,5 +1,5 @@
 -- A pattern with each repetition written out, and what may follow each of its atoms.
-use Rattle.std.specs.Prelude.{◌≡◌, ℕ, zero, suc, ◌+◌, ◌⊎◌, List, [], ◌∷◌, Contains, Option, Some, None, IsTrue}
+use Rattle.std.specs.Prelude.{◌≡◌, ℕ, zero, suc, ◌+◌, ◌⊎◌, Bool, true, false, List, [], ◌∷◌, Contains, Option, Some, None, IsTrue}
 use Rattle.jp_regexp.specs.Pattern.{Text, CharSet, Pattern}
 use Rattle.jp_regexp.specs.CharSets.{in_set}
 use Rattle.jp_regexp.specs.Language.{Then, Repeated, Member}
@@ -67,6 +67,11 @@ After (plus a) k t = Then (After a k) (Repeated (Has a) 0 None) t
 abbrev pub PlaceHas : Pattern → ℕ → Text → Type 0
 PlaceHas p zero t = Member p t
 PlaceHas p (suc k) t = After (unrolled p) (suc k) t
+
+-- place 0 where the flag is set, and these
+abbrev pub all_places : Bool → List ℕ → List ℕ
+all_places true places = 0 ∷ places
+all_places false places = places
 
 -- the union of the languages of these places
 abbrev pub SomePlaceHas : Pattern → List ℕ → Text → Type 0

@@ -1,5 +1,6 @@
 -- A working file, which nobody has to believe: one step on a set of places, as the code walks it. No public contract names it.
 use Rattle.std.specs.Prelude.{◌≡◌, ℕ, zero, suc, ◌+◌, ◌<◌, ◌≤◌, Bool, true, false, ◌&&◌, ◌||◌, ◌⊎◌, List, [], ◌∷◌, ◌++◌, IsTrue, ⊤, nat_eq, nat_le, nat_lt, if◌then◌else◌, drop, length, slice_index_or}
+use Rattle.std.specs.Coded.{×_prop, Unit-prop, le_prop}
 use Rattle.jp_regexp.specs.declared.reach.Reach.{Reach}
 use Rattle.jp_regexp.specs.declared.parts.Part.{Part}
 use Rattle.jp_regexp.specs.Parts.{branches_before}
@@ -35,15 +36,14 @@ abbrev pub is_elem : List ℕ → ℕ → Bool
 is_elem [] x = false
 is_elem (y ∷ ys) x = nat_eq x y || is_elem ys x
 
--- place 0 where the flag is set, and these
-abbrev pub all_places : Bool → List ℕ → List ℕ
-all_places true xs = 0 ∷ xs
-all_places false xs = xs
-
 -- each above the one before, from above low on
 abbrev pub Rises : ℕ → List ℕ → Type 0
 Rises low [] = ⊤
 Rises low (x ∷ xs) = (low < x) × Rises x xs
+
+pub Rises-prop : (low : ℕ) (xs : List ℕ) → IsProp (Rises low xs)
+Rises-prop low [] = Unit-prop
+Rises-prop low (x ∷ xs) = ×_prop le_prop (Rises-prop x xs)
 
 -- these are the places of the set behind past, from the left
 pub record IsRest (places : List ℕ) (past : ℕ) (rest : List ℕ) : Type 0 where

@@ -3,12 +3,10 @@
 
 mod advance;
 mod categories;
-mod ends;
 mod examples;
 mod fault;
 pub mod laws;
 mod leave;
-mod marks;
 mod parts;
 mod pattern;
 mod reach;
@@ -16,7 +14,8 @@ mod read_counts;
 mod read_patterns;
 mod read_sets;
 mod sets;
-mod size;
+mod terms;
 mod tree;
 
 pub use pattern::Pattern;
+pub use terms::Terms;

@@ -1,19 +1,18 @@
 //! A pattern that was read.
 
-ghost use Rattle.std.specs.Prelude.{◌≡◌};
+ghost use Rattle.std.specs.Prelude.{IsTrue};
+ghost use Rattle.jp_regexp.specs.Parts.{meaning, pattern_in};
 ghost use Rattle.jp_regexp.specs.Profile.{InProfile};
-ghost use Rattle.jp_regexp.specs.Tree.{node_of, size_of};
 
 mod matching;
 mod reading;
 
-use crate::tree::Node;
+use crate::parts::Part;
 
 /// An I-Regexp within the limits of this implementation (RFC 9485).
 #[derive(Drop)]
 pub struct Pattern {
-    root: Node,
-    size: u64,
-    ghost is_size: { size ≡ size_of root },
-    ghost in_profile: { ∥ InProfile (node_of root) ∥₁ },
+    pub(crate) root: Part,
+    ghost sized: { IsTrue (meaning root).is_sized },
+    ghost in_profile: { ∥ InProfile (pattern_in root) ∥₁ },
 }

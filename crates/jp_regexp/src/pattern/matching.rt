@@ -6,8 +6,6 @@ ghost use Rattle.jp_regexp.specs.Held.{HasPart, pattern_of};
 ghost use Rattle.jp_regexp.specs.Language.{Member};
 ghost use Rattle.jp_regexp.specs.Profile.{max_size, size};
 
-use crate::ends::ends;
-use crate::marks::{anywhere, at_end, at_start, everywhere};
 use crate::pattern::Pattern;
 use std::alloc::{AllocError, Global};
 
@@ -24,7 +22,7 @@ impl Pattern {
         ensures exact { result ≡ size (pattern_of self.now) }
         ensures within { result ≤ max_size }
     {
-        self.size
+        u64::from(self.root.size())
     }
 
     /// Whether the whole text is in the pattern's language (RFC 9485, 4).
@@ -35,10 +33,14 @@ impl Pattern {
     pub fn matches(&self, alloc: Global, text: &str) -> Result<bool, AllocError>
         ensures { IfOk result (λ b. IsTrue b ↔ Member (pattern_of self.now) (chars text.now)) }
     {
-        let text = characters(alloc, text)?;
-        let starts = at_start(alloc, &text)?;
-        let ends = ends(alloc, &self.root, &text, &starts)?;
-        Ok(at_end(&ends))
+        let mut terms = self.start(alloc)?;
+        for c in text.chars() {
+            terms.step(c, false)?;
+            if terms.is_empty() {
+                return Ok(false);
+            }
+        }
+        Ok(terms.accepts())
     }
 
     /// Whether some part of consecutive characters of the text is in the pattern's language, the empty part included.
@@ -49,9 +51,12 @@ impl Pattern {
     pub fn found_in(&self, alloc: Global, text: &str) -> Result<bool, AllocError>
         ensures { IfOk result (λ b. IsTrue b ↔ HasPart (pattern_of self.now) (chars text.now)) }
     {
-        let text = characters(alloc, text)?;
-        let starts = everywhere(alloc, &text)?;
-        let ends = ends(alloc, &self.root, &text, &starts)?;
-        Ok(anywhere(&ends))
+        let mut terms = self.start(alloc)?;
+        for c in text.chars() {
+            if terms.read(c, true)? {
+                return Ok(true);
+            }
+        }
+        Ok(terms.accepts())
     }
 }

@@ -6,12 +6,12 @@ ghost use Rattle.jp_regexp.specs.Held.{IsRead};
 
 use crate::fault::Fault;
 use crate::pattern::Pattern;
+use crate::parts::part_of;
 use crate::pattern::matching::characters;
 use crate::read_patterns;
-use crate::size::size_of;
 use std::alloc::{AllocError, Global};
 
-const MAX_SIZE: u64 = 10_000;
+const MAX_SIZE: u32 = 10_000;
 
 impl Pattern {
     /// The pattern that the text is, or None where it is no I-Regexp within the limits of this implementation (RFC 9485, 3
@@ -27,12 +27,12 @@ impl Pattern {
         match read_patterns::read(alloc, &text) {
             Err(Fault::Memory) => Err(AllocError),
             Err(Fault::NoPattern) => Ok(None),
-            Ok(root) => {
-                let size = size_of(&root);
-                if size > MAX_SIZE {
+            Ok(node) => {
+                let root = part_of(alloc, node)?;
+                if root.size() > MAX_SIZE {
                     return Ok(None);
                 }
-                Ok(Some(Pattern { root, size }))
+                Ok(Some(Pattern { root }))
             }
         }
     }
