@@ -12,7 +12,8 @@ pattern_of p = pattern_in p.root
 
 -- some part of consecutive characters of the text is in the pattern's language (RFC 9535, 2.4.7)
 abbrev pub HasPart : Pattern → Text → Type 0
-HasPart p text = (before : Text) × (part : Text) × (after : Text) × (text ≡ before ++ (part ++ after)) × Member p part
+HasPart p text = (before : Text) × (part : Text) × (after : Text) × (text ≡ before ++ (part ++ after)) ×
+    Member p part
 
 -- a pattern where the text is one, and None only where it is none (RFC 9485, 3 and 8)
 abbrev pub IsRead : Text → Option HeldPattern → Type 0

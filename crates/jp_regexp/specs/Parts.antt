@@ -46,7 +46,8 @@ meaning_of_layer (Part-F.Set x) = record { pattern = Pattern.letter (set_of x); 
 meaning_of_layer (Part-F.Group n sub) = sized_as n (Pattern.group sub.value.pattern) sub.value.is_sized
 meaning_of_layer (Part-F.Pieces n pieces) = sized_as n (in_turn_of pieces.items) (all_sized pieces.items)
 meaning_of_layer (Part-F.Branches n before last) =
-    sized_as n (before_last_of before.items last.value.pattern) (all_sized before.items && last.value.is_sized)
+    sized_as n (before_last_of before.items last.value.pattern)
+        (all_sized before.items && last.value.is_sized)
 meaning_of_layer (Part-F.Repeat n least most atom) =
     sized_as n (Pattern.repeat least most atom.value.pattern) atom.value.is_sized
 meaning_of_layer (Part-F.Plus n atom) = sized_as n (Pattern.plus atom.value.pattern) atom.value.is_sized

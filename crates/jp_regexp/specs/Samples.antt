@@ -2,6 +2,7 @@
 use Rattle.std.specs.Prelude.{◌≡◌, ℕ, zero, suc, List, [], ◌∷◌, ◌++◌, codes}
 use Rattle.jp_regexp.specs.Pattern.{Text, CharSet, Pattern}
 use Rattle.jp_regexp.specs.Profile.{IsPatternOf, size}
+use Rattle.jp_regexp.specs.Unrolled.{Unrolled}
 
 -- the pattern of one character, by its code (RFC 9485, 3)
 abbrev pub sign : ℕ → Pattern
@@ -37,3 +38,19 @@ HasSize text n = (p : Pattern) × IsPatternOf text p × (size p ≡ n)
 -- the text is no I-Regexp (RFC 9485, 3 and 8)
 abbrev pub IsNoPattern : Text → Type 0
 IsNoPattern text = (p : Pattern) → IsPatternOf text p → ⊥
+
+-- the atom `a` of a pattern that was written out
+abbrev pub once_a : Unrolled
+once_a = Unrolled.letter (CharSet.only 97)
+
+-- two branches of a pattern that was written out
+abbrev pub written_either : Unrolled → Unrolled → Unrolled
+written_either = Unrolled.either
+
+-- the pattern `a|ab` (RFC 9485, 3)
+abbrev pub a_or_ab : Pattern
+a_or_ab = Pattern.either (branch (letter_a ∷ [])) (branch (letter_a ∷ letter_b ∷ []))
+
+-- the pattern `(ab)+` (RFC 9485, 3)
+abbrev pub some_ab : Pattern
+some_ab = branch (Pattern.plus (Pattern.group (branch (letter_a ∷ letter_b ∷ []))) ∷ [])

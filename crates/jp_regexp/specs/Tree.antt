@@ -7,7 +7,8 @@ use Rattle.jp_regexp.specs.declared.tree.CharSet.TheVariants as set
 use Rattle.jp_regexp.specs.declared.tree.Node.{Node}
 use Rattle.jp_regexp.specs.declared.tree.Node.TheOpen.{Node-F}
 use Rattle.jp_regexp.specs.declared.tree.Node.TheFolds.{fold-Node}
-use Rattle.jp_regexp.specs.Pattern.{Element, one, range, of_category, CharSet, only, dot, category, class, Pattern, empty, letter, group, seq, either, repeat, plus}
+use Rattle.jp_regexp.specs.Pattern.{Element, one, range, of_category, CharSet, only, dot, category, class}
+use Rattle.jp_regexp.specs.Pattern.{Pattern, empty, letter, group, seq, either, repeat, plus}
 
 -- the element of a class (RFC 9485, 3: CCE1)
 abbrev pub element_of : HeldElement → Element

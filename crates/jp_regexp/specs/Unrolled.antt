@@ -1,10 +1,12 @@
 -- A pattern with each repetition written out, and what may follow each of its atoms.
-use Rattle.std.specs.Prelude.{◌≡◌, ℕ, zero, suc, ◌+◌, ◌⊎◌, Bool, true, false, List, [], ◌∷◌, Contains, Option, Some, None, IsTrue}
+use Rattle.std.specs.Prelude.{◌≡◌, ℕ, zero, suc, ◌+◌, ◌⊎◌, Bool, true, false, List, [], ◌∷◌, Contains, Option}
+use Rattle.std.specs.Prelude.{Some, None, IsTrue}
 use Rattle.jp_regexp.specs.Pattern.{Text, CharSet, Pattern}
 use Rattle.jp_regexp.specs.CharSets.{in_set}
 use Rattle.jp_regexp.specs.Language.{Then, Repeated, Member}
 
--- A pattern without counts (RFC 9485, 4): `maybe` may be left out, and `plus` stands once and may be repeated.
+-- A pattern without counts (RFC 9485, 4): `maybe` may be left out, and `plus` stands once and may be
+-- repeated.
 pub data Unrolled : Type 0 where
   nothing : Unrolled
   letter : CharSet → Unrolled
@@ -62,7 +64,8 @@ After (either a b) k t = After a k t ⊎ ((j : ℕ) × (k ≡ letters a + j) × 
 After (maybe a) k t = After a k t
 After (plus a) k t = Then (After a k) (Repeated (Has a) 0 None) t
 
--- The language of a place of the pattern, a number from 0 to the unrolled size: at place 0 nothing was read yet, and at place k
+-- The language of a place of the pattern, a number from 0 to the unrolled size: at place 0 nothing was read
+-- yet, and at place k
 -- the k-th atom of one character was just read.
 abbrev pub PlaceHas : Pattern → ℕ → Text → Type 0
 PlaceHas p zero t = Member p t

@@ -1,5 +1,8 @@
--- A working file, which nobody has to believe: one step on a set of places, as the code walks it. No public contract names it.
-use Rattle.std.specs.Prelude.{◌≡◌, ℕ, zero, suc, ◌+◌, ◌<◌, ◌≤◌, Bool, true, false, ◌&&◌, ◌||◌, ◌⊎◌, List, [], ◌∷◌, ◌++◌, IsTrue, ⊤, nat_eq, nat_le, nat_lt, if◌then◌else◌, drop, length, slice_index_or}
+-- A working file, which nobody has to believe: one step on a set of places, as the code walks it. No public
+-- contract names it.
+use Rattle.std.specs.Prelude.{◌≡◌, ℕ, zero, suc, ◌+◌, ◌<◌, ◌≤◌, Bool, true, false, ◌&&◌, ◌||◌, ◌⊎◌, List, []}
+use Rattle.std.specs.Prelude.{◌∷◌, ◌++◌, IsTrue, ⊤, nat_eq, nat_le, nat_lt, if◌then◌else◌, drop, length}
+use Rattle.std.specs.Prelude.{slice_index_or}
 use Rattle.std.specs.Coded.{×_prop, Unit-prop, le_prop}
 use Rattle.jp_regexp.specs.declared.reach.Reach.{Reach}
 use Rattle.jp_regexp.specs.declared.parts.Part.{Part}
@@ -23,7 +26,8 @@ module _ (live : ℕ → Bool) where
   abbrev pub advance : ℕ → Unrolled → ℕ → Bool → List ℕ
   advance c nothing off entered = []
   advance c (letter set) off entered = if entered && in_set set c then (off + 1) ∷ [] else []
-  advance c (seq a b) off entered = advance c a off entered ++ advance c b (off + letters a) (leaves a off entered)
+  advance c (seq a b) off entered =
+      advance c a off entered ++ advance c b (off + letters a) (leaves a off entered)
   advance c (either a b) off entered = advance c a off entered ++ advance c b (off + letters a) entered
   advance c (maybe a) off entered = advance c a off entered
   advance c (plus a) off entered = advance c a off (entered || leaves a off false)
@@ -73,14 +77,16 @@ pub record IsWalk (places : List ℕ) (p : Unrolled) (old new : Reach) : Type 0 
   pub stands : IsAt places new.past new.index
 
 -- the same, and which places are read next by c
-pub record IsStep (places : List ℕ) (c : ℕ) (p : Unrolled) (old new : Reach) (before after : List ℕ) : Type 0 where
+pub record IsStep (places : List ℕ) (c : ℕ) (p : Unrolled) (old new : Reach)
+    (before after : List ℕ) : Type 0 where
   pub walk : IsWalk places p old new
   pub reads : after ≡ before ++ advance (is_elem places) c p old.past old.entered
 
 -- whatever has so many letters, a walk over it leads here, and nothing of it is read
 pub record IsPassed (places : List ℕ) (size : ℕ) (old new : Reach) : Type 0 where
   pub walk : (p : Unrolled) → letters p ≡ size → IsWalk places p old new
-  pub reads : (p : Unrolled) (c : ℕ) → letters p ≡ size → advance (is_elem places) c p old.past old.entered ≡ []
+  pub reads : (p : Unrolled) (c : ℕ) → letters p ≡ size →
+      advance (is_elem places) c p old.past old.entered ≡ []
 
 abbrev pub or_entered : Bool → Reach → Reach
 or_entered b at = record { past = at.past; index = at.index; entered = b || at.entered }
@@ -96,7 +102,8 @@ pub record IsWalkBefore (places : List ℕ) (parts : List Part) (old new : Reach
       IsWalk places (branches_before parts q) old (or_entered new.entered r)
 
 -- the same, and which places of them are read next by c
-pub record IsStepBefore (places : List ℕ) (c : ℕ) (parts : List Part) (old new : Reach) (before after : List ℕ) : Type 0 where
+pub record IsStepBefore (places : List ℕ) (c : ℕ) (parts : List Part) (old new : Reach)
+    (before after : List ℕ) : Type 0 where
   pub walk : IsWalkBefore places parts old new
   pub reads : (q : Unrolled) → after ++ advance (is_elem places) c q new.past old.entered
       ≡ before ++ advance (is_elem places) c (branches_before parts q) old.past old.entered

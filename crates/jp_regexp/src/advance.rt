@@ -1,7 +1,8 @@
 //! Which places are read next by a character, from the start of a part or from a live place of it.
 
 ghost use Rattle.std.specs.Prelude.{◌≡◌, ◌+◌, ◌<◌, ◌≤◌, ◌||◌, ◌++◌, false, map, IfOk, IsTrue, OnOk};
-ghost use Rattle.jp_regexp.specs.Parts.{all_sized, meaning, branches_before, unrolled_in, unrolled_in_turn, unrolled_repeat};
+ghost use Rattle.jp_regexp.specs.Parts.{all_sized, meaning, branches_before, unrolled_in, unrolled_in_turn};
+ghost use Rattle.jp_regexp.specs.Parts.{unrolled_repeat};
 ghost use Rattle.jp_regexp.specs.Profile.{max_size};
 ghost use Rattle.jp_regexp.specs.Tree.{set_of};
 ghost use Rattle.jp_regexp.specs.Unrolled.{counted, counted_on, letter, letters, nothing, plus};
@@ -30,7 +31,9 @@ pub fn advance(
     requires sized { IsTrue (meaning part.now).is_sized }
     requires fits { at.past + letters (unrolled_in part.now) ≤ max_size }
     requires stands { IsAt live.now at.past at.index }
-    ensures { IfOk result (λ end. IsStep live.now c (unrolled_in part.now) at end out.old.items out.new.items) }
+    ensures {
+        IfOk result (λ end. IsStep live.now c (unrolled_in part.now) at end out.old.items out.new.items)
+    }
 {
     if let Some(behind) = passed(live, at, part.size()) {
         return Ok(behind);
@@ -63,7 +66,9 @@ fn advance_letter(
 ) -> Result<Reach, AllocError>
     requires fits { at.past < max_size }
     requires stands { IsAt live.now at.past at.index }
-    ensures { IfOk result (λ end. IsStep live.now c (letter (set_of set.now)) at end out.old.items out.new.items) }
+    ensures {
+        IfOk result (λ end. IsStep live.now c (letter (set_of set.now)) at end out.old.items out.new.items)
+    }
 {
     read_letter(set, c, at, out)?;
     Ok(behind_letter(live, at))
@@ -97,7 +102,10 @@ fn advance_in_turn(
     requires ends { end ≡ at.past + letters (unrolled_in_turn pieces.now) }
     requires fits { end ≤ max_size }
     requires stands { IsAt live.now at.past at.index }
-    ensures { IfOk result (λ end. IsStep live.now c (unrolled_in_turn pieces.now) at end out.old.items out.new.items) }
+    ensures {
+        IfOk result (λ end. IsStep live.now c (unrolled_in_turn pieces.now) at end out.old.items
+        out.new.items)
+    }
 {
     let mut here = at;
     for piece in pieces {
@@ -146,7 +154,10 @@ fn advance_repeated(
     requires some { 0 < letters (unrolled_in atom.now) }
     requires fits { at.past + letters (unrolled_repeat least most atom.now) ≤ max_size }
     requires stands { IsAt live.now at.past at.index }
-    ensures { IfOk result (λ end. IsStep live.now c (unrolled_repeat least most atom.now) at end out.old.items out.new.items) }
+    ensures {
+        IfOk result (λ end. IsStep live.now c (unrolled_repeat least most atom.now) at end out.old.items
+        out.new.items)
+    }
 {
     match most {
         Some(most) => Ok(advance_counted(atom, live, c, at, least, most, out)?),
@@ -169,7 +180,10 @@ fn advance_counted(
     requires some { 0 < letters (unrolled_in atom.now) }
     requires fits { at.past + letters (counted least most (unrolled_in atom.now)) ≤ max_size }
     requires stands { IsAt live.now at.past at.index }
-    ensures { IfOk result (λ end. IsStep live.now c (counted least most (unrolled_in atom.now)) at end out.old.items out.new.items) }
+    ensures {
+        IfOk result (λ end. IsStep live.now c (counted least most (unrolled_in atom.now)) at end
+        out.old.items out.new.items)
+    }
 {
     let size = atom.size();
     let mut here = at;
@@ -204,7 +218,10 @@ fn advance_counted_on(
     requires some { 0 < letters (unrolled_in atom.now) }
     requires fits { at.past + letters (counted_on least (unrolled_in atom.now)) ≤ max_size }
     requires stands { IsAt live.now at.past at.index }
-    ensures { IfOk result (λ end. IsStep live.now c (counted_on least (unrolled_in atom.now)) at end out.old.items out.new.items) }
+    ensures {
+        IfOk result (λ end. IsStep live.now c (counted_on least (unrolled_in atom.now)) at end out.old.items
+        out.new.items)
+    }
 {
     let size = atom.size();
     let mut here = at;
@@ -235,7 +252,10 @@ fn advance_plus(
     requires sized { IsTrue (meaning atom.now).is_sized }
     requires fits { at.past + letters (unrolled_in atom.now) ≤ max_size }
     requires stands { IsAt live.now at.past at.index }
-    ensures { IfOk result (λ end. IsStep live.now c (plus (unrolled_in atom.now)) at end out.old.items out.new.items) }
+    ensures {
+        IfOk result (λ end. IsStep live.now c (plus (unrolled_in atom.now)) at end out.old.items
+        out.new.items)
+    }
 {
     let from = at.with_entered(is_entered_again(atom, live, at));
     Ok(advance(atom, live, c, from, out)?)

@@ -1,36 +1,67 @@
 //! Worked examples.
 
-ghost use Rattle.std.specs.Prelude.{Some, None, true, false, [], ◌∷◌, codes};
-ghost use Rattle.unicode.specs.declared.properties.GeneralCategory.TheVariants.{UppercaseLetter, LowercaseLetter, TitlecaseLetter, ModifierLetter, OtherLetter, DecimalNumber};
-ghost use Rattle.jp_regexp.specs.Pattern.{Text, empty, letter, group, either, repeat, plus, dot, category, class, one, range, of_category};
+ghost use Rattle.std.specs.Prelude.{◌≡◌, Some, None, true, false, [], ◌∷◌, codes};
+ghost use Rattle.unicode.specs.declared.properties.GeneralCategory.TheVariants.{UppercaseLetter};
+ghost use Rattle.unicode.specs.declared.properties.GeneralCategory.TheVariants.{LowercaseLetter};
+ghost use Rattle.unicode.specs.declared.properties.GeneralCategory.TheVariants.{TitlecaseLetter};
+ghost use Rattle.unicode.specs.declared.properties.GeneralCategory.TheVariants.{ModifierLetter, OtherLetter};
+ghost use Rattle.unicode.specs.declared.properties.GeneralCategory.TheVariants.{DecimalNumber};
+ghost use Rattle.jp_regexp.specs.Pattern.{Text, empty, letter, group, either, repeat, plus, dot, category};
+ghost use Rattle.jp_regexp.specs.Pattern.{class, one, range, of_category};
 ghost use Rattle.jp_regexp.specs.Language.{Matches, Found};
-ghost use Rattle.jp_regexp.specs.Samples.{sign, letter_a, letter_b, branch, in_parentheses, HasSize, IsNoPattern};
+ghost use Rattle.jp_regexp.specs.Samples.{sign, letter_a, letter_b, branch, in_parentheses, HasSize};
+ghost use Rattle.jp_regexp.specs.Samples.{IsNoPattern};
+ghost use Rattle.jp_regexp.specs.Samples.{a_or_ab, once_a, some_ab, written_either};
 ghost use Rattle.jp_regexp.specs.Shape.{Shapes};
+ghost use Rattle.jp_regexp.specs.Unrolled.{maybe, nothing, plus as once_or_more, seq, unrolled, PlaceHas, SomePlaceHas};
 
 // Which tree a text spells.
 fn shapes()
     ensures nothing { Shapes (codes "") empty }
     ensures branch_or_nothing { Shapes (codes "a|") (either (branch (letter_a ∷ [])) empty) }
     ensures hyphens { Shapes (codes "[--]") (branch (letter (class false (one 45 ∷ one 45 ∷ [])) ∷ [])) }
-    ensures letters_and_hyphens { Shapes (codes "[a-]+") (branch (plus (letter (class false (one 97 ∷ one 45 ∷ []))) ∷ [])) }
-    ensures capitals { Shapes (codes "\\p{Lu}+") (branch (plus (letter (category false (UppercaseLetter ∷ []))) ∷ [])) }
+    ensures letters_and_hyphens {
+        Shapes (codes "[a-]+") (branch (plus (letter (class false (one 97 ∷ one 45 ∷ []))) ∷ []))
+    }
+    ensures capitals {
+        Shapes (codes "\\p{Lu}+") (branch (plus (letter (category false (UppercaseLetter ∷ []))) ∷ []))
+    }
     ensures not_line_feed { Shapes (codes "[^\\n]") (branch (letter (class true (one 10 ∷ [])) ∷ [])) }
     ensures any_character { Shapes (codes ".") (branch (letter dot ∷ [])) }
     ensures two { Shapes (codes "a{02}") (branch (repeat 2 (Some 2) letter_a ∷ [])) }
     ensures two_or_more { Shapes (codes "a{2,}") (branch (repeat 2 None letter_a ∷ [])) }
-    ensures nested { Shapes (codes "(a*)*b{0,2}") (branch (repeat 0 None (group (branch (repeat 0 None letter_a ∷ []))) ∷ repeat 0 (Some 2) letter_b ∷ [])) }
+    ensures nested {
+        Shapes (codes "(a*)*b{0,2}") (branch (repeat 0 None (group (branch (repeat 0 None letter_a ∷ []))) ∷
+        repeat 0 (Some 2) letter_b ∷ []))
+    }
     ensures signs { Shapes (codes "^a$") (branch (sign 94 ∷ letter_a ∷ sign 36 ∷ [])) }
     ensures any_between { Shapes (codes "a.c") (branch (letter_a ∷ letter dot ∷ sign 99 ∷ [])) }
-    ensures neither { Shapes (codes "[^a-z\\p{Nd}]") (branch (letter (class true (range 97 122 ∷ of_category false (DecimalNumber ∷ []) ∷ [])) ∷ [])) }
-    ensures no_letter { Shapes (codes "\\P{L}") (branch (letter (category true (LowercaseLetter ∷ ModifierLetter ∷ OtherLetter ∷ TitlecaseLetter ∷ UppercaseLetter ∷ [])) ∷ [])) }
+    ensures neither {
+        Shapes (codes "[^a-z\\p{Nd}]") (branch (letter (class true (range 97 122 ∷ of_category false
+        (DecimalNumber ∷ []) ∷ [])) ∷ []))
+    }
+    ensures no_letter {
+        Shapes (codes "\\P{L}") (branch (letter (category true (LowercaseLetter ∷ ModifierLetter ∷
+        OtherLetter ∷ TitlecaseLetter ∷ UppercaseLetter ∷ [])) ∷ []))
+    }
     ensures some_letters { Shapes (codes "a+") (branch (plus letter_a ∷ [])) }
-    ensures caret_later { Shapes (codes "[a^.]") (branch (letter (class false (one 97 ∷ one 94 ∷ one 46 ∷ [])) ∷ [])) }
+    ensures caret_later {
+        Shapes (codes "[a^.]") (branch (letter (class false (one 97 ∷ one 94 ∷ one 46 ∷ [])) ∷ []))
+    }
     ensures escaped_caret { Shapes (codes "[\\^]") (branch (letter (class false (one 94 ∷ [])) ∷ [])) }
     ensures two_carets { Shapes (codes "[^^]") (branch (letter (class true (one 94 ∷ [])) ∷ [])) }
-    ensures hyphen_first { Shapes (codes "[-a]?") (branch (repeat 0 (Some 1) (letter (class false (one 45 ∷ one 97 ∷ []))) ∷ [])) }
-    ensures branches { Shapes (codes "a|b|") (either (branch (letter_a ∷ [])) (either (branch (letter_b ∷ [])) empty)) }
+    ensures hyphen_first {
+        Shapes (codes "[-a]?") (branch (repeat 0 (Some 1) (letter (class false (one 45 ∷ one 97 ∷ []))) ∷
+        []))
+    }
+    ensures branches {
+        Shapes (codes "a|b|") (either (branch (letter_a ∷ [])) (either (branch (letter_b ∷ [])) empty))
+    }
     ensures escapes { Shapes (codes "\\.\\-") (branch (sign 46 ∷ sign 45 ∷ [])) }
-    ensures three_to_five { Shapes (codes "[\\--\\]]{003,5}") (branch (repeat 3 (Some 5) (letter (class false (range 45 93 ∷ []))) ∷ [])) }
+    ensures three_to_five {
+        Shapes (codes "[\\--\\]]{003,5}") (branch (repeat 3 (Some 5) (letter (class false (range 45 93 ∷
+        []))) ∷ []))
+    }
 {}
 
 // The unrolled sizes.
@@ -130,4 +161,35 @@ fn found()
     ensures empty_everywhere { (text : Text) → Found text (codes "") }
     ensures a_part { Found (codes "Ab") (codes "\\p{Lu}+") }
     ensures nowhere { Found (codes "bb") (codes "a+") → ⊥ }
+{}
+
+// How patterns are written out.
+fn written_out()
+    ensures star { unrolled (repeat 0 None letter_a) ≡ maybe (once_or_more once_a) }
+    ensures some_letters { unrolled (plus letter_a) ≡ once_or_more once_a }
+    ensures one_or_more { unrolled (repeat 1 None letter_a) ≡ seq once_a (maybe (once_or_more once_a)) }
+    ensures question { unrolled (repeat 0 (Some 1) letter_a) ≡ maybe (seq once_a nothing) }
+    ensures no_copies { unrolled (repeat 0 (Some 0) letter_a) ≡ nothing }
+    ensures two { unrolled (repeat 2 (Some 2) letter_a) ≡ seq once_a (seq once_a nothing) }
+    ensures one_to_three {
+        unrolled (repeat 1 (Some 3) letter_a) ≡ seq once_a (maybe (seq once_a (maybe (seq once_a nothing))))
+    }
+    ensures branches { unrolled (either letter_a empty) ≡ written_either once_a nothing }
+    ensures parentheses { unrolled (group (branch (letter_a ∷ []))) ≡ seq once_a nothing }
+{}
+
+// What is left at the places of `a|ab`, and of `(ab)+`.
+fn places()
+    ensures start { PlaceHas a_or_ab 0 (codes "ab") }
+    ensures behind_first { PlaceHas a_or_ab 1 [] }
+    ensures nothing_behind_first { PlaceHas a_or_ab 1 (codes "b") → ⊥ }
+    ensures behind_second { PlaceHas a_or_ab 2 (codes "b") }
+    ensures not_complete { PlaceHas a_or_ab 2 [] → ⊥ }
+    ensures behind_third { PlaceHas a_or_ab 3 [] }
+    ensures no_fourth { (t : Text) → PlaceHas a_or_ab 4 t → ⊥ }
+    ensures repeated { PlaceHas some_ab 2 (codes "ab") }
+    ensures complete { PlaceHas some_ab 2 [] }
+    ensures begun { PlaceHas some_ab 1 (codes "bab") }
+    ensures left { SomePlaceHas a_or_ab (1 ∷ 2 ∷ []) (codes "b") }
+    ensures not_left { SomePlaceHas a_or_ab (1 ∷ 3 ∷ []) (codes "b") → ⊥ }
 {}

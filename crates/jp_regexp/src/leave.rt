@@ -1,7 +1,8 @@
 //! Whether the end of a part is reached, from its start or from a live place of it.
 
 ghost use Rattle.std.specs.Prelude.{◌≡◌, ◌+◌, ◌<◌, ◌≤◌, ◌&&◌, ◌||◌, nat_le, map, IsTrue};
-ghost use Rattle.jp_regexp.specs.Parts.{all_sized, meaning, branches_before, unrolled_in, unrolled_in_turn, unrolled_repeat};
+ghost use Rattle.jp_regexp.specs.Parts.{all_sized, meaning, branches_before, unrolled_in, unrolled_in_turn};
+ghost use Rattle.jp_regexp.specs.Parts.{unrolled_repeat};
 ghost use Rattle.jp_regexp.specs.Profile.{max_size};
 ghost use Rattle.jp_regexp.specs.Unrolled.{counted, counted_on, letters, nothing};
 ghost use Rattle.jp_regexp.specs.Walk.{IsAt, IsWalk, IsWalkBefore};

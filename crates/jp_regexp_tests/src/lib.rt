@@ -2,6 +2,10 @@
 #![tactic(auto)]
 
 #[cfg(test)]
+mod generated;
+#[cfg(test)]
 mod matching;
+#[cfg(test)]
+mod places;
 #[cfg(test)]
 mod reading;

@@ -177,8 +177,16 @@ fn rows(rt: HostRuntime) -> Result<(), Fail> {
             return Err("no second answer")?;
         };
         let read = read(rt.alloc(), pattern)?;
-        assert_eq!(rt; read.matches(rt.alloc(), text)?, whole == "yes", "{pattern} at {text}");
-        assert_eq!(rt; read.found_in(rt.alloc(), text)?, part == "yes", "{pattern} in {text}");
+        assert_eq!(rt;
+            read.matches(rt.alloc(), text)?,
+            whole == "yes",
+            "{pattern} at {text}"
+        );
+        assert_eq!(rt;
+            read.found_in(rt.alloc(), text)?,
+            part == "yes",
+            "{pattern} in {text}"
+        );
     }
     for (pattern, whole, part, text) in OTHERS {
         let read = read(rt.alloc(), pattern)?;

@@ -41,7 +41,8 @@ a{99999999999999999999}\n(a{1000}){11}\n((a{1000}){1000}){1000}\n[a\n[a-\n[^a\n[
 [--a-]]\n[a--b]\n[a-z-9]\na{-1}\na{1,2,3}\na{1 }\na{ 1}\na{a}\n[a-z&&[^b]]\n(?i)a\n(?<n>a)\na{1,\u{662}}";
 
 /// A name in each part.
-const CATEGORIES: &str = "L Ll Lm Lo Lt Lu M Mc Me Mn N Nd Nl No P Pc Pd Pe Pf Pi Po Ps Z Zl Zp Zs S Sc Sk Sm So C Cc Cf Cn Co";
+const CATEGORIES: &str =
+    "L Ll Lm Lo Lt Lu M Mc Me Mn N Nd Nl No P Pc Pd Pe Pf Pi Po Ps Z Zl Zp Zs S Sc Sk Sm So C Cc Cf Cn Co";
 
 pub fn read(alloc: Global, text: &str) -> Result<Pattern, Fail> {
     match Pattern::read(alloc, text)? {
@@ -74,7 +75,11 @@ fn sizes(rt: HostRuntime) -> Result<(), Fail> {
             return Err("no size")?;
         };
         let pattern = read(rt.alloc(), text)?;
-        assert_eq!(rt; Ok(pattern.unrolled_size()), size.parse::<u64>(), "at {text}");
+        assert_eq!(rt;
+            Ok(pattern.unrolled_size()),
+            size.parse::<u64>(),
+            "at {text}"
+        );
     }
     for name in CATEGORIES.split(' ') {
         let inside = between(rt.alloc(), "\\p{", name, "}")?;
