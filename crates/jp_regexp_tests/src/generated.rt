@@ -218,7 +218,10 @@ fn texts(alloc: Global) -> Result<Vec<String>, Fail> {
         let end = all.len();
         for i in start..end {
             for c in ['a', 'b', 'c'] {
-                let mut text = all[i].clone()?;
+                let Some(front) = all.get(i) else {
+                    return Err("no text")?;
+                };
+                let mut text = front.clone()?;
                 text.push(c)?;
                 all.push(text)?;
             }
