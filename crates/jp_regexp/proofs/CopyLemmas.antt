@@ -160,7 +160,7 @@ module _ (live : ℕ → Bool) (a : Unrolled) where
     unread_on (suc n) (suc l) off le h =
         let f : l - n ≡ suc l - suc n = omega arith in
         ap₂ (λ x y. x ++ y) (dead_advance live c a off (front n off h))
-            (ap (λ e. advance live c (counted_on l a) (off + letters a) e) (dead_leaves live a off (front n off h)))
+        (ap (λ e. advance live c (counted_on l a) (off + letters a) e) (dead_leaves live a off (front n off h)))
         ∙ unread_on n l (off + letters a) (omega arith) (back n off h)
         ∙ ap₂ (λ x y. advance live c (counted_on x a) y false) f (further n off)
 

@@ -59,8 +59,7 @@ module _ (p : Pattern) (L N Q : Text → Type 0) (read : Text) (c : ℕ) where
   pub match_more : ((u : Text) → L u ↔ Member p (read ++ u)) → ((t : Text) → N t ↔ (L (c ∷ t) ⊎ (IsTrue false × Q t))) →
       (u : Text) → N u ↔ Member p ((read ++ c ∷ []) ++ u)
   match_more kept step u =
-      let e : (read ++ c ∷ []) ++ u ≡ read ++ (c ∷ u) = append_assoc read (c ∷ []) u in
-      (
+      let e : (read ++ c ∷ []) ++ u ≡ read ++ (c ∷ u) = append_assoc read (c ∷ []) u in (
         λ h. subst (Member p) (sym e) (⊎_elim (λ g. (kept (c ∷ u)).0 g) (λ g. absurd (true≢false (sym g.0))) ((step u).0 h)),
         λ m. (step u).1 (inl ((kept (c ∷ u)).1 (subst (Member p) e m))),
       )
@@ -107,9 +106,12 @@ module _ (p : Pattern) where
 
   module _ (read : Text) (c : ℕ) where
     began_more : (u : Text) → BeganIn p read (c ∷ u) ⊎ Member p u → BeganIn p (read ++ c ∷ []) u
-    began_more u (inl (before, part, e, m)) =
-        (before, part ++ c ∷ [], ap (λ r. r ++ c ∷ []) e ∙ append_assoc before part (c ∷ []),
-          subst (Member p) (sym (append_assoc part (c ∷ []) u)) m)
+    began_more u (inl (before, part, e, m)) = (
+      before,
+      part ++ c ∷ [],
+      ap (λ r. r ++ c ∷ []) e ∙ append_assoc before part (c ∷ []),
+      subst (Member p) (sym (append_assoc part (c ∷ []) u)) m,
+    )
     began_more u (inr m) = (read ++ c ∷ [], [], sym (append-nil (read ++ c ∷ [])), m)
 
     more_began : (u : Text) → BeganIn p (read ++ c ∷ []) u → BeganIn p read (c ∷ u) ⊎ Member p u
@@ -146,4 +148,4 @@ module _ (p : Pattern) where
       (before, part, sym e ∙ f ∙ ap (λ r. before ++ r) (append-nil part), subst (Member p) (sym (append-nil part)) m)
   found_began text read e none (before, part, c ∷ after, f, m) =
       absurd (none (before ++ part) c after (sym e ∙ f ∙ sym (append_assoc before part (c ∷ after)))
-          (before, part, refl, subst (Member p) (sym (append-nil part)) m))
+      (before, part, refl, subst (Member p) (sym (append-nil part)) m))

@@ -35,10 +35,10 @@ known_pieces part n pieces xs is items h le =
     let e : meaning part ≡ m = ap meaning is ∙ part_pieces n pieces in
     let k = sized_at part m e h in
     let same : unrolled_in_turn xs ≡ unrolled_in part =
-        ap unrolled_in_turn items ∙ sym (ap (λ x. unrolled x.pattern) e) in
+    ap unrolled_in_turn items ∙ sym (ap (λ x. unrolled x.pattern) e) in
     let f : n ≡ letters (unrolled_in_turn pieces.items) =
-        exact n (in_turn_of (map meaning pieces.items)) (size_from n (in_turn_of (map meaning pieces.items)) _ k)
-        (subst (λ p. letters p ≤ 10_000) (sym same ∙ ap unrolled_in_turn items) le) in
+    exact n (in_turn_of (map meaning pieces.items)) (size_from n (in_turn_of (map meaning pieces.items)) _ k)
+    (subst (λ p. letters p ≤ 10_000) (sym same ∙ ap unrolled_in_turn items) le) in
     record {
       sized = subst (λ ys. IsTrue (all_sized (map meaning ys))) (sym items) (inside_from n (in_turn_of (map meaning pieces.items)) _ k);
       size = f ∙ ap (λ ys. letters (unrolled_in_turn ys)) (sym items);
@@ -70,9 +70,9 @@ known_branches part n before last xs x is items value h =
     let k = sized_at part m e h in
     let both = and_parts (all_sized (map meaning before.items)) (meaning last.value).is_sized (inside_from n p _ k) in
     let here : branches_before xs (unrolled_in x) ≡ branches_before before.items (unrolled_in last.value) =
-        ap₂ (λ ys y. branches_before ys (unrolled_in y)) items value in
+    ap₂ (λ ys y. branches_before ys (unrolled_in y)) items value in
     let same : branches_before xs (unrolled_in x) ≡ unrolled_in part =
-        here ∙ sym (unrolled-branches before.items last.value) ∙ sym (ap (λ y. unrolled y.pattern) e) in
+    here ∙ sym (unrolled-branches before.items last.value) ∙ sym (ap (λ y. unrolled y.pattern) e) in
     record {
       all_sized = subst (λ ys. IsTrue (all_sized (map meaning ys))) (sym items) both.0;
       sized = subst (λ y. IsTrue (meaning y).is_sized) (sym value) both.1;
@@ -98,7 +98,7 @@ known_repeat part n least most atom x k is value h f lt =
     let g : size (pattern_in part) ≡ copies least most * size (pattern_in atom.value) = ap (λ y. size y.pattern) e in
     let some : 0 < size (pattern_in atom.value) = factor (copies least most) (size (pattern_in atom.value)) (omega arith) in
     let here : letters (unrolled_in x) ≡ size (pattern_in atom.value) =
-        letters-unrolled (pattern_in x) ∙ ap (λ y. size (pattern_in y)) value in
+    letters-unrolled (pattern_in x) ∙ ap (λ y. size (pattern_in y)) value in
     record {
       sized = subst (λ y. IsTrue (meaning y).is_sized) (sym value) (inside_from n (Pattern.repeat least most (pattern_in atom.value)) _ (sized_at part m e h));
       some = omega arith;

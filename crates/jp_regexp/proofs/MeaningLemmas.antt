@@ -24,7 +24,7 @@ part_pieces n pieces = ap meaning (sym (rolls-Pieces n pieces)) ∙ fold-roll-Pa
 
 pub part_branches : (n : ℕ) (before : Vec Part Global) (last : Box Part Global) →
     meaning (Branches n before last) ≡ sized_as n (before_last_of (map meaning before.items) (pattern_in last.value))
-        (all_sized (map meaning before.items) && (meaning last.value).is_sized)
+    (all_sized (map meaning before.items) && (meaning last.value).is_sized)
 part_branches n before last = ap meaning (sym (rolls-Branches n before last)) ∙ fold-roll-Part Meaning meaning_of_layer _
 
 pub part_repeat : (n least : ℕ) (most : Option ℕ) (atom : Box Part Global) →

@@ -9,7 +9,6 @@ joined : (before here after rest : List ℕ) → after ≡ before ++ here → af
 joined before here after rest e = ap (λ xs. xs ++ rest) e ∙ append_assoc before here rest
 
 module _ (places : List ℕ) (c : ℕ) (fin : List ℕ) where
-
   pub end_reads : (o : List ℕ) → o ++ [] ≡ fin → o ≡ fin
   end_reads o e = sym (append-nil o) ∙ e
 

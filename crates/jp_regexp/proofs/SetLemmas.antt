@@ -124,5 +124,8 @@ rises_short (x ∷ xs) low high h f le =
 -- there are no more places than atoms of one character
 pub advance_few : (live : ℕ → Bool) (c : ℕ) (p : Unrolled) (start : Bool) → length (advance live c p 0 start) ≤ letters p
 advance_few live c p start =
-    omega (arith, rises_short (advance live c p 0 start) 0 (letters p) (advance_rises live c p 0 start)
-        (λ x l. let r = advance_within live c p 0 start x l in omega arith) (omega arith))
+    omega (
+      arith,
+      rises_short (advance live c p 0 start) 0 (letters p) (advance_rises live c p 0 start)
+          (λ x l. let r = advance_within live c p 0 start x l in omega arith) (omega arith),
+    )

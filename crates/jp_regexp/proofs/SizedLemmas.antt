@@ -63,7 +63,7 @@ pub part_more : (parts : List Part) (i : ℕ) (part : Part) (m total one : ℕ) 
     min (total + one) m ≡ min (sizes (map meaning (take (i + 1) parts))) m
 part_more parts i part m total one lt item e f =
     let g : sizes (map meaning (take (i + 1) parts)) ≡ sizes (map meaning (take i parts)) + size (pattern_in part) =
-        ap (λ ps. sizes (map meaning ps)) (take_more parts i part lt ∙ ap (λ p. take i parts ++ p ∷ []) (sym item)) ∙ sizes-last (take i parts) part in
+    ap (λ ps. sizes (map meaning ps)) (take_more parts i part lt ∙ ap (λ p. take i parts ++ p ∷ []) (sym item)) ∙ sizes-last (take i parts) part in
     rw (e, f, g) (capped_sum (sizes (map meaning (take i parts))) (size (pattern_in part)) m)
 
 -- pieces, branches, and what follows an atom

@@ -72,17 +72,17 @@ module _ (live : ℕ → Bool) where
   leaves_sound (seq a b) off entered e =
       ⊎_elim
       (λ h. ⊎_elim
-          (λ f. inl (f.0, empty_then (Has a) (Has b) [] f.1 h.1))
-          (λ r. inr (r.0, r.1, inl (empty_then (After a r.0) (Has b) [] r.2 h.1)))
-          (leaves_sound a off entered h.0))
+      (λ f. inl (f.0, empty_then (Has a) (Has b) [] f.1 h.1))
+      (λ r. inr (r.0, r.1, inl (empty_then (After a r.0) (Has b) [] r.2 h.1)))
+      (leaves_sound a off entered h.0))
       (λ r. inr (letters a + r.0, further off (letters a) r.0 r.1, inr (r.0, refl, r.2)))
       (leaves_sound b (off + letters a) (leaves live a off entered) e)
   leaves_sound (either a b) off entered e =
       ⊎_elim
       (λ h. ⊎_elim (λ f. inl (f.0, inl f.1)) (λ r. inr (r.0, r.1, inl r.2)) (leaves_sound a off entered h))
       (λ h. ⊎_elim (λ f. inl (f.0, inr f.1))
-          (λ r. inr (letters a + r.0, further off (letters a) r.0 r.1, inr (r.0, refl, r.2)))
-          (leaves_sound b (off + letters a) entered h))
+      (λ r. inr (letters a + r.0, further off (letters a) r.0 r.1, inr (r.0, refl, r.2)))
+      (leaves_sound b (off + letters a) entered h))
       (or_cases _ _ e)
   leaves_sound (maybe a) off entered e =
       ⊎_elim (λ h. inl (h, inl refl))
@@ -191,7 +191,7 @@ module _ (live : ℕ → Bool) where
     advance_sound (seq a b) off entered k t h (inl (u, w, e, x, y)) =
         let next = leaves live a off entered in
         let here = on_left a off k entered u (advance live c b (off + letters a) next)
-            (λ n l. (advance_within b (off + letters a) next n l).0) x h in
+        (λ n l. (advance_within b (off + letters a) next n l).0) x h in
         ⊎_elim
         (λ l. inl (l.0, read_then (Has a) (Has b) c t (u, w, e, l.1, y)))
         (λ l. inr (l.0, l.1, inl (read_then (After a l.0) (Has b) c t (u, w, e, l.2, y))))
@@ -200,22 +200,22 @@ module _ (live : ℕ → Bool) where
         let next = leaves live a off entered in
         let some = (After-within b j t m).0 in
         let here = on_right a off j entered (advance live c b (off + letters a) next) some
-            (subst (λ n. Elem (off + n) (advance live c (seq a b) off entered)) e h) in
+        (subst (λ n. Elem (off + n) (advance live c (seq a b) off entered)) e h) in
         ⊎_elim
         (λ l. ⊎_elim
-            (λ f. inl (f.0, empty_then (Has a) (Has b) (c ∷ t) f.1 l.1))
-            (λ r. inr (r.0, r.1, inl (empty_then (After a r.0) (Has b) (c ∷ t) r.2 l.1)))
-            (leaves_sound a off entered l.0))
+        (λ f. inl (f.0, empty_then (Has a) (Has b) (c ∷ t) f.1 l.1))
+        (λ r. inr (r.0, r.1, inl (empty_then (After a r.0) (Has b) (c ∷ t) r.2 l.1)))
+        (leaves_sound a off entered l.0))
         (λ l. inr (letters a + l.0, further off (letters a) l.0 l.1, inr (l.0, refl, l.2)))
         (advance_sound b (off + letters a) next j t here m)
     advance_sound (either a b) off entered k t h (inl m) =
         let here = on_left a off k entered t (advance live c b (off + letters a) entered)
-            (λ n l. (advance_within b (off + letters a) entered n l).0) m h in
+        (λ n l. (advance_within b (off + letters a) entered n l).0) m h in
         ⊎_elim (λ l. inl (l.0, inl l.1)) (λ l. inr (l.0, l.1, inl l.2)) (advance_sound a off entered k t here m)
     advance_sound (either a b) off entered k t h (inr (j, e, m)) =
         let some = (After-within b j t m).0 in
         let here = on_right a off j entered (advance live c b (off + letters a) entered) some
-            (subst (λ n. Elem (off + n) (advance live c (either a b) off entered)) e h) in
+        (subst (λ n. Elem (off + n) (advance live c (either a b) off entered)) e h) in
         ⊎_elim (λ l. inl (l.0, inr l.1))
         (λ l. inr (letters a + l.0, further off (letters a) l.0 l.1, inr (l.0, refl, l.2)))
         (advance_sound b (off + letters a) entered j t here m)
@@ -224,17 +224,21 @@ module _ (live : ℕ → Bool) where
     advance_sound (plus a) off entered k t h (u, w, e, x, y) =
         ⊎_elim
         (λ l. ⊎_elim
-            (λ f. inl (f, read_repeated_on (Has a) c t 1 (u, w, e, l.1, y)))
-            (λ f. let r = live_end a off f in
-                inr (r.0, r.1, empty_then (After a r.0) (Repeated (Has a) 0 None) (c ∷ t) r.2
-                    (read_repeated_on (Has a) c t 0 (u, w, e, l.1, y))))
-            (or_cases entered (leaves live a off false) l.0))
+        (λ f. inl (f, read_repeated_on (Has a) c t 1 (u, w, e, l.1, y)))
+        (λ f. let r = live_end a off f in
+        inr (
+          r.0,
+          r.1,
+          empty_then (After a r.0) (Repeated (Has a) 0 None) (c ∷ t) r.2
+              (read_repeated_on (Has a) c t 0 (u, w, e, l.1, y)),
+        ))
+        (or_cases entered (leaves live a off false) l.0))
         (λ l. inr (l.0, l.1, read_then (After a l.0) (Repeated (Has a) 0 None) c t (u, w, e, l.2, y)))
         (advance_sound a off (entered || leaves live a off false) k u h x)
 
     to_right : (a b : Unrolled) (off : ℕ) (entered next : Bool) (t : Text) → Reached b (off + letters a) next t →
         (k : ℕ) × Elem (off + k) (advance live c a off entered ++ advance live c b (off + letters a) next)
-            × ((j : ℕ) × (k ≡ letters a + j) × After b j t)
+        × ((j : ℕ) × (k ≡ letters a + j) × After b j t)
     to_right a b off entered next t (j, h, m) =
         let moved = subst (λ n. Elem n (advance live c b (off + letters a) next)) (add_assoc off (letters a) j) h in
         (letters a + j, Elem-right _ (advance live c a off entered) _ moved, (j, refl, m))
@@ -251,24 +255,24 @@ module _ (live : ℕ → Bool) where
         let next = leaves live a off entered in
         ⊎_elim
         (λ h. let r = advance_whole a off entered h.0 (inl (f, h.3)) in
-            (r.0, Elem-left _ _ _ r.1, inl (h.0, h.1, h.2, r.2, h.4)))
+        (r.0, Elem-left _ _ _ r.1, inl (h.0, h.1, h.2, r.2, h.4)))
         (λ h. let go = leaves_whole a off entered (inl (f, h.0)) in
-            let r = to_right a b off entered next t (advance_whole b (off + letters a) next t (inl (go, h.1))) in
-            (r.0, r.1, inr r.2))
+        let r = to_right a b off entered next t (advance_whole b (off + letters a) next t (inl (go, h.1))) in
+        (r.0, r.1, inr r.2))
         (then_read (Has a) (Has b) c t m)
     advance_whole (seq a b) off entered t (inr (k, l, inl m)) =
         let next = leaves live a off entered in
         ⊎_elim
         (λ h. let r = advance_whole a off entered h.0 (inr (k, l, h.3)) in
-            (r.0, Elem-left _ _ _ r.1, inl (h.0, h.1, h.2, r.2, h.4)))
+        (r.0, Elem-left _ _ _ r.1, inl (h.0, h.1, h.2, r.2, h.4)))
         (λ h. let go = leaves_whole a off entered (inr (k, l, h.0)) in
-            let r = to_right a b off entered next t (advance_whole b (off + letters a) next t (inl (go, h.1))) in
-            (r.0, r.1, inr r.2))
+        let r = to_right a b off entered next t (advance_whole b (off + letters a) next t (inl (go, h.1))) in
+        (r.0, r.1, inr r.2))
         (then_read (After a k) (Has b) c t m)
     advance_whole (seq a b) off entered t (inr (k, l, inr (j, e, m))) =
         let next = leaves live a off entered in
         let r = to_right a b off entered next t
-            (advance_whole b (off + letters a) next t (inr (j, nearer off (letters a) j k e l, m))) in
+        (advance_whole b (off + letters a) next t (inr (j, nearer off (letters a) j k e l, m))) in
         (r.0, r.1, inr r.2)
     advance_whole (either a b) off entered t (inl (f, inl m)) =
         let r = advance_whole a off entered t (inl (f, m)) in (r.0, Elem-left _ _ _ r.1, inl r.2)
@@ -279,7 +283,7 @@ module _ (live : ℕ → Bool) where
         let r = advance_whole a off entered t (inr (k, l, m)) in (r.0, Elem-left _ _ _ r.1, inl r.2)
     advance_whole (either a b) off entered t (inr (k, l, inr (j, e, m))) =
         let r = to_right a b off entered entered t
-            (advance_whole b (off + letters a) entered t (inr (j, nearer off (letters a) j k e l, m))) in
+        (advance_whole b (off + letters a) entered t (inr (j, nearer off (letters a) j k e l, m))) in
         (r.0, r.1, inr r.2)
     advance_whole (maybe a) off entered t (inl (f, inl m)) = absurd (cc)
     advance_whole (maybe a) off entered t (inl (f, inr m)) = advance_whole a off entered t (inl (f, m))
@@ -291,8 +295,8 @@ module _ (live : ℕ → Bool) where
     advance_whole (plus a) off entered t (inr (k, l, m)) =
         ⊎_elim
         (λ h. let r = advance_whole a off (entered || leaves live a off false) h.0 (inr (k, l, h.3)) in
-            (r.0, r.1, (h.0, h.1, h.2, r.2, h.4)))
+        (r.0, r.1, (h.0, h.1, h.2, r.2, h.4)))
         (λ g. let h = repeated_read_on (Has a) c t 0 g.1 in
-            let r = advance_whole a off (entered || leaves live a off false) h.0 (inl (or_right _ _ (leaves_whole a off false (inr (k, l, g.0))), h.3)) in
-            (r.0, r.1, (h.0, h.1, h.2, r.2, h.4)))
+        let r = advance_whole a off (entered || leaves live a off false) h.0 (inl (or_right _ _ (leaves_whole a off false (inr (k, l, g.0))), h.3)) in
+        (r.0, r.1, (h.0, h.1, h.2, r.2, h.4)))
         (then_read (After a k) (Repeated (Has a) 0 None) c t m)

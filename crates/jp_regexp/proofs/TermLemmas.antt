@@ -43,7 +43,7 @@ pub next_few : (p : Pattern) (c : ℕ) (start : Bool) (live next : List ℕ) →
     next ≡ advance (is_elem live) c (unrolled p) 0 start → length next ≤ size p
 next_few p c start live next e =
     subst (λ xs. length xs ≤ size p) (sym e) (subst (λ n. length (advance (is_elem live) c (unrolled p) 0 start) ≤ n) (letters-unrolled p)
-        (advance_few (is_elem live) c (unrolled p) start))
+    (advance_few (is_elem live) c (unrolled p) start))
 
 -- the k-th of a list and the next
 at_tail : (x : ℕ) (xs : List ℕ) (k : ℕ) → slice_index xs k < slice_index xs (k + 1) →

@@ -63,7 +63,7 @@ module _ (places : List ℕ) where
     copy_walk most lt g = record {
       past = omega (arith, f.past, g.past, counted-letters a least i most lt);
       entered = ap (λ e. (nat_le least i && x.entered) || e)
-              (g.entered ∙ ap₂ (λ n e. leaves (is_elem places) (counted (least - (i + 1)) (most - (i + 1)) a) n e) f.past f.entered)
+          (g.entered ∙ ap₂ (λ n e. leaves (is_elem places) (counted (least - (i + 1)) (most - (i + 1)) a) n e) f.past f.entered)
           ∙ sym (counted-leaves a least i (is_elem places) x.past x.entered most lt);
       stands = g.stands;
     }

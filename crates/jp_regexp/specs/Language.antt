@@ -18,7 +18,7 @@ Then First Second t = (u : Text) × (v : Text) × (t ≡ u ++ v) × First u × S
 abbrev pub Repeated : (Text → Type 0) → ℕ → Option ℕ → Text → Type 0
 Repeated Part least most t =
     (parts : List Text) × AllByRecursion Part parts × (least ≤ length parts) ×
-        AtMost most (length parts) × (t ≡ concat parts)
+    AtMost most (length parts) × (t ≡ concat parts)
 
 -- the text is in the pattern's language (RFC 9485, 4)
 abbrev pub Member : Pattern → Text → Type 0
@@ -39,4 +39,4 @@ Matches text pattern_text = (p : Pattern) × IsPatternOf pattern_text p × Membe
 abbrev pub Found : (text pattern_text : Text) → Type 0
 Found text pattern_text =
     (before : Text) × (part : Text) × (after : Text) × (text ≡ before ++ (part ++ after)) ×
-        Matches part pattern_text
+    Matches part pattern_text

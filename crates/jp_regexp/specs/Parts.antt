@@ -47,7 +47,7 @@ meaning_of_layer (Part-F.Group n sub) = sized_as n (Pattern.group sub.value.patt
 meaning_of_layer (Part-F.Pieces n pieces) = sized_as n (in_turn_of pieces.items) (all_sized pieces.items)
 meaning_of_layer (Part-F.Branches n before last) =
     sized_as n (before_last_of before.items last.value.pattern)
-        (all_sized before.items && last.value.is_sized)
+    (all_sized before.items && last.value.is_sized)
 meaning_of_layer (Part-F.Repeat n least most atom) =
     sized_as n (Pattern.repeat least most atom.value.pattern) atom.value.is_sized
 meaning_of_layer (Part-F.Plus n atom) = sized_as n (Pattern.plus atom.value.pattern) atom.value.is_sized

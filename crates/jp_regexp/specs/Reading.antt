@@ -322,7 +322,7 @@ abbrev pub digits_within : ℕ → Parse ℕ
 digits_within n [] = Some (n, [])
 digits_within n (c ∷ t) =
     if is_digit c then (if nat_le (n * 10 + (c - 48)) max_count then digits_within (n * 10 + (c - 48)) t
-        else None)
+    else None)
     else Some (n, c ∷ t)
 
 abbrev pub count_within : Parse ℕ

@@ -62,9 +62,12 @@ IsAt places past index = IsRest places past (drop index places)
 abbrev pub is_live_up_to : List ℕ → ℕ → ℕ → Bool
 is_live_up_to places index end = nat_lt index (length places) && nat_le (slice_index_or places index 0) end
 
--- the place of a set, where its start is reached and it holds c
+-- the place of a set, where its start is reached and it holds the character
+abbrev pub read_if : Bool → Reach → List ℕ
+read_if has at = if at.entered && has then (at.past + 1) ∷ [] else []
+
 abbrev pub reads_letter : CharSet → ℕ → Reach → List ℕ
-reads_letter set c at = if at.entered && in_set set c then (at.past + 1) ∷ [] else []
+reads_letter set c at = read_if (in_set set c) at
 
 -- none of the next n places is in the set
 abbrev pub Dead : (ℕ → Bool) → ℕ → ℕ → Type 0

@@ -1,18 +1,16 @@
 //! Which places are read next by a character, from the start of a part or from a live place of it.
 
-ghost use Rattle.std.specs.Prelude.{◌≡◌, ◌+◌, ◌<◌, ◌≤◌, ◌||◌, ◌++◌, false, map, IfOk, IsTrue, OnOk};
+ghost use Rattle.std.specs.Prelude.{◌≡◌, ◌+◌, ◌<◌, ◌≤◌, ◌||◌, false, map, IfOk, IsTrue};
 ghost use Rattle.jp_regexp.specs.Parts.{all_sized, meaning, branches_before, unrolled_in, unrolled_in_turn};
 ghost use Rattle.jp_regexp.specs.Parts.{unrolled_repeat};
 ghost use Rattle.jp_regexp.specs.Profile.{max_size};
-ghost use Rattle.jp_regexp.specs.Tree.{set_of};
-ghost use Rattle.jp_regexp.specs.Unrolled.{counted, counted_on, letter, letters, nothing, plus};
-ghost use Rattle.jp_regexp.specs.Walk.{is_elem, leaves, reads_letter, IsAt, IsStep, IsStepBefore};
+ghost use Rattle.jp_regexp.specs.Unrolled.{counted, counted_on, letters, nothing, plus};
+ghost use Rattle.jp_regexp.specs.Walk.{is_elem, leaves, IsAt, IsStep, IsStepBefore};
 
 use crate::leave::{either, leave, may_stop};
+use crate::letters::{advance_letter, advance_letters};
 use crate::parts::Part;
 use crate::reach::{Reach, behind_letter, idle_copies, passed};
-use crate::sets::in_set;
-use crate::tree::CharSet;
 use std::alloc::AllocError;
 
 /// Behind the part; the places of the part that are read next are put behind the others.
@@ -31,9 +29,7 @@ pub fn advance(
     requires sized { IsTrue (meaning part.now).is_sized }
     requires fits { at.past + letters (unrolled_in part.now) ≤ max_size }
     requires stands { IsAt live.now at.past at.index }
-    ensures {
-        IfOk result (λ end. IsStep live.now c (unrolled_in part.now) at end out.old.items out.new.items)
-    }
+    ensures { IfOk result (λ end. IsStep live.now c (unrolled_in part.now) at end out.old.items out.new.items) }
 {
     if let Some(behind) = passed(live, at, part.size()) {
         return Ok(behind);
@@ -51,41 +47,13 @@ pub fn advance(
             Ok(behind.with_entered(either(others.entered, behind.entered)))
         }
         Part::Repeat {
-            least, most, atom, ..
+            least,
+            most,
+            atom,
+            ..
         } => Ok(advance_repeated(atom, live, c, at, *least, *most, out)?),
         Part::Plus { atom, .. } => Ok(advance_plus(atom, live, c, at, out)?),
     }
-}
-
-fn advance_letter(
-    set: &CharSet,
-    live: &[u32],
-    c: char,
-    at: Reach,
-    out: &mut Vec<u32>,
-) -> Result<Reach, AllocError>
-    requires fits { at.past < max_size }
-    requires stands { IsAt live.now at.past at.index }
-    ensures {
-        IfOk result (λ end. IsStep live.now c (letter (set_of set.now)) at end out.old.items out.new.items)
-    }
-{
-    read_letter(set, c, at, out)?;
-    Ok(behind_letter(live, at))
-}
-
-fn read_letter(set: &CharSet, c: char, at: Reach, out: &mut Vec<u32>) -> Result<(), AllocError>
-    requires fits { at.past < max_size }
-    ensures { OnOk result (out.new.items ≡ out.old.items ++ reads_letter (set_of set.now) c at) }
-{
-    if !at.entered {
-        return Ok(());
-    }
-    if !in_set(set, c) {
-        return Ok(());
-    }
-    out.push(at.past + 1)?;
-    Ok(())
 }
 
 /// Behind the pieces, which end at this number of places.
@@ -102,10 +70,8 @@ fn advance_in_turn(
     requires ends { end ≡ at.past + letters (unrolled_in_turn pieces.now) }
     requires fits { end ≤ max_size }
     requires stands { IsAt live.now at.past at.index }
-    ensures {
-        IfOk result (λ end. IsStep live.now c (unrolled_in_turn pieces.now) at end out.old.items
-        out.new.items)
-    }
+    ensures { IfOk result (λ end. IsStep live.now c (unrolled_in_turn pieces.now) at end out.old.items
+        out.new.items) }
 {
     let mut here = at;
     for piece in pieces {
@@ -154,14 +120,15 @@ fn advance_repeated(
     requires some { 0 < letters (unrolled_in atom.now) }
     requires fits { at.past + letters (unrolled_repeat least most atom.now) ≤ max_size }
     requires stands { IsAt live.now at.past at.index }
-    ensures {
-        IfOk result (λ end. IsStep live.now c (unrolled_repeat least most atom.now) at end out.old.items
-        out.new.items)
-    }
+    ensures { IfOk result (λ end. IsStep live.now c (unrolled_repeat least most atom.now) at end out.old.items
+        out.new.items) }
 {
-    match most {
-        Some(most) => Ok(advance_counted(atom, live, c, at, least, most, out)?),
-        None => Ok(advance_counted_on(atom, live, c, at, least, out)?),
+    let Some(most) = most else {
+        return Ok(advance_counted_on(atom, live, c, at, least, out)?);
+    };
+    match atom {
+        Part::Set(set) => Ok(advance_letters(set, live, c, at, least, most, out)?),
+        _ => Ok(advance_counted(atom, live, c, at, least, most, out)?),
     }
 }
 
@@ -180,10 +147,8 @@ fn advance_counted(
     requires some { 0 < letters (unrolled_in atom.now) }
     requires fits { at.past + letters (counted least most (unrolled_in atom.now)) ≤ max_size }
     requires stands { IsAt live.now at.past at.index }
-    ensures {
-        IfOk result (λ end. IsStep live.now c (counted least most (unrolled_in atom.now)) at end
-        out.old.items out.new.items)
-    }
+    ensures { IfOk result (λ end. IsStep live.now c (counted least most (unrolled_in atom.now)) at end
+        out.old.items out.new.items) }
 {
     let size = atom.size();
     let mut here = at;
@@ -218,10 +183,8 @@ fn advance_counted_on(
     requires some { 0 < letters (unrolled_in atom.now) }
     requires fits { at.past + letters (counted_on least (unrolled_in atom.now)) ≤ max_size }
     requires stands { IsAt live.now at.past at.index }
-    ensures {
-        IfOk result (λ end. IsStep live.now c (counted_on least (unrolled_in atom.now)) at end out.old.items
-        out.new.items)
-    }
+    ensures { IfOk result (λ end. IsStep live.now c (counted_on least (unrolled_in atom.now)) at end out.old.items
+        out.new.items) }
 {
     let size = atom.size();
     let mut here = at;
@@ -252,10 +215,8 @@ fn advance_plus(
     requires sized { IsTrue (meaning atom.now).is_sized }
     requires fits { at.past + letters (unrolled_in atom.now) ≤ max_size }
     requires stands { IsAt live.now at.past at.index }
-    ensures {
-        IfOk result (λ end. IsStep live.now c (plus (unrolled_in atom.now)) at end out.old.items
-        out.new.items)
-    }
+    ensures { IfOk result (λ end. IsStep live.now c (plus (unrolled_in atom.now)) at end out.old.items
+        out.new.items) }
 {
     let from = at.with_entered(is_entered_again(atom, live, at));
     Ok(advance(atom, live, c, from, out)?)

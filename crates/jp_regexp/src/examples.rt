@@ -20,48 +20,30 @@ fn shapes()
     ensures nothing { Shapes (codes "") empty }
     ensures branch_or_nothing { Shapes (codes "a|") (either (branch (letter_a ∷ [])) empty) }
     ensures hyphens { Shapes (codes "[--]") (branch (letter (class false (one 45 ∷ one 45 ∷ [])) ∷ [])) }
-    ensures letters_and_hyphens {
-        Shapes (codes "[a-]+") (branch (plus (letter (class false (one 97 ∷ one 45 ∷ []))) ∷ []))
-    }
-    ensures capitals {
-        Shapes (codes "\\p{Lu}+") (branch (plus (letter (category false (UppercaseLetter ∷ []))) ∷ []))
-    }
+    ensures letters_and_hyphens { Shapes (codes "[a-]+") (branch (plus (letter (class false (one 97 ∷ one 45 ∷ []))) ∷ [])) }
+    ensures capitals { Shapes (codes "\\p{Lu}+") (branch (plus (letter (category false (UppercaseLetter ∷ []))) ∷ [])) }
     ensures not_line_feed { Shapes (codes "[^\\n]") (branch (letter (class true (one 10 ∷ [])) ∷ [])) }
     ensures any_character { Shapes (codes ".") (branch (letter dot ∷ [])) }
     ensures two { Shapes (codes "a{02}") (branch (repeat 2 (Some 2) letter_a ∷ [])) }
     ensures two_or_more { Shapes (codes "a{2,}") (branch (repeat 2 None letter_a ∷ [])) }
-    ensures nested {
-        Shapes (codes "(a*)*b{0,2}") (branch (repeat 0 None (group (branch (repeat 0 None letter_a ∷ []))) ∷
-        repeat 0 (Some 2) letter_b ∷ []))
-    }
+    ensures nested { Shapes (codes "(a*)*b{0,2}") (branch (repeat 0 None (group (branch (repeat 0 None letter_a ∷ []))) ∷
+        repeat 0 (Some 2) letter_b ∷ [])) }
     ensures signs { Shapes (codes "^a$") (branch (sign 94 ∷ letter_a ∷ sign 36 ∷ [])) }
     ensures any_between { Shapes (codes "a.c") (branch (letter_a ∷ letter dot ∷ sign 99 ∷ [])) }
-    ensures neither {
-        Shapes (codes "[^a-z\\p{Nd}]") (branch (letter (class true (range 97 122 ∷ of_category false
-        (DecimalNumber ∷ []) ∷ [])) ∷ []))
-    }
-    ensures no_letter {
-        Shapes (codes "\\P{L}") (branch (letter (category true (LowercaseLetter ∷ ModifierLetter ∷
-        OtherLetter ∷ TitlecaseLetter ∷ UppercaseLetter ∷ [])) ∷ []))
-    }
+    ensures neither { Shapes (codes "[^a-z\\p{Nd}]") (branch (letter (class true (range 97 122 ∷ of_category false
+        (DecimalNumber ∷ []) ∷ [])) ∷ [])) }
+    ensures no_letter { Shapes (codes "\\P{L}") (branch (letter (category true (LowercaseLetter ∷ ModifierLetter ∷
+        OtherLetter ∷ TitlecaseLetter ∷ UppercaseLetter ∷ [])) ∷ [])) }
     ensures some_letters { Shapes (codes "a+") (branch (plus letter_a ∷ [])) }
-    ensures caret_later {
-        Shapes (codes "[a^.]") (branch (letter (class false (one 97 ∷ one 94 ∷ one 46 ∷ [])) ∷ []))
-    }
+    ensures caret_later { Shapes (codes "[a^.]") (branch (letter (class false (one 97 ∷ one 94 ∷ one 46 ∷ [])) ∷ [])) }
     ensures escaped_caret { Shapes (codes "[\\^]") (branch (letter (class false (one 94 ∷ [])) ∷ [])) }
     ensures two_carets { Shapes (codes "[^^]") (branch (letter (class true (one 94 ∷ [])) ∷ [])) }
-    ensures hyphen_first {
-        Shapes (codes "[-a]?") (branch (repeat 0 (Some 1) (letter (class false (one 45 ∷ one 97 ∷ []))) ∷
-        []))
-    }
-    ensures branches {
-        Shapes (codes "a|b|") (either (branch (letter_a ∷ [])) (either (branch (letter_b ∷ [])) empty))
-    }
+    ensures hyphen_first { Shapes (codes "[-a]?") (branch (repeat 0 (Some 1) (letter (class false (one 45 ∷ one 97 ∷ []))) ∷
+        [])) }
+    ensures branches { Shapes (codes "a|b|") (either (branch (letter_a ∷ [])) (either (branch (letter_b ∷ [])) empty)) }
     ensures escapes { Shapes (codes "\\.\\-") (branch (sign 46 ∷ sign 45 ∷ [])) }
-    ensures three_to_five {
-        Shapes (codes "[\\--\\]]{003,5}") (branch (repeat 3 (Some 5) (letter (class false (range 45 93 ∷
-        []))) ∷ []))
-    }
+    ensures three_to_five { Shapes (codes "[\\--\\]]{003,5}") (branch (repeat 3 (Some 5) (letter (class false (range 45 93 ∷
+        []))) ∷ [])) }
 {}
 
 // The unrolled sizes.
@@ -171,9 +153,7 @@ fn written_out()
     ensures question { unrolled (repeat 0 (Some 1) letter_a) ≡ maybe (seq once_a nothing) }
     ensures no_copies { unrolled (repeat 0 (Some 0) letter_a) ≡ nothing }
     ensures two { unrolled (repeat 2 (Some 2) letter_a) ≡ seq once_a (seq once_a nothing) }
-    ensures one_to_three {
-        unrolled (repeat 1 (Some 3) letter_a) ≡ seq once_a (maybe (seq once_a (maybe (seq once_a nothing))))
-    }
+    ensures one_to_three { unrolled (repeat 1 (Some 3) letter_a) ≡ seq once_a (maybe (seq once_a (maybe (seq once_a nothing)))) }
     ensures branches { unrolled (either letter_a empty) ≡ written_either once_a nothing }
     ensures parentheses { unrolled (group (branch (letter_a ∷ []))) ≡ seq once_a nothing }
 {}

@@ -44,7 +44,10 @@ pub fn leave(part: &Part, live: &[u32], at: Reach) -> Reach
             behind.with_entered(either(others.entered, behind.entered))
         }
         Part::Repeat {
-            least, most, atom, ..
+            least,
+            most,
+            atom,
+            ..
         } => leave_repeated(atom, live, at, *least, *most),
         Part::Plus { atom, .. } => leave(atom, live, at),
     }

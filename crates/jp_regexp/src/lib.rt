@@ -7,6 +7,7 @@ mod examples;
 mod fault;
 pub mod laws;
 mod leave;
+mod letters;
 mod parts;
 mod pattern;
 mod reach;

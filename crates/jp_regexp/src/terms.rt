@@ -79,13 +79,7 @@ impl<'a> Terms<'a> {
         ensures accepted { IfOk result (λ b. IsTrue b ↔ IsLeft self.old []) }
     {
         self.next.clear();
-        let accepted = read_into(
-            self.pattern,
-            &self.live,
-            self.at_start,
-            c,
-            &mut self.next,
-        )?;
+        let accepted = read_into(self.pattern, &self.live, self.at_start, c, &mut self.next)?;
         mem::swap(&mut self.live, &mut self.next);
         self.at_start = anew;
         Ok(accepted)
@@ -135,13 +129,9 @@ fn read_into(
     next: &mut Vec<u32>,
 ) -> Result<bool, AllocError>
     requires { Rises 0 live.now }
-    ensures next {
-        OnOk result (next.new.items ≡ next.old.items ++ advance (is_elem live.now) c (unrolled (pattern_of
-        pattern.now)) 0 at_start)
-    }
-    ensures accepted {
-        IfOk result (λ b. b ≡ leaves (is_elem live.now) (unrolled (pattern_of pattern.now)) 0 at_start)
-    }
+    ensures next { OnOk result (next.new.items ≡ next.old.items ++ advance (is_elem live.now) c (unrolled (pattern_of
+        pattern.now)) 0 at_start) }
+    ensures accepted { IfOk result (λ b. b ≡ leaves (is_elem live.now) (unrolled (pattern_of pattern.now)) 0 at_start) }
 {
     let at = start_of(at_start);
     let end = advance(&pattern.root, live, c, at, next)?;

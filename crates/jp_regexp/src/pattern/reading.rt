@@ -5,8 +5,8 @@ ghost use Rattle.std.specs.Str.{chars};
 ghost use Rattle.jp_regexp.specs.Held.{IsRead};
 
 use crate::fault::Fault;
-use crate::pattern::Pattern;
 use crate::parts::part_of;
+use crate::pattern::Pattern;
 use crate::pattern::matching::characters;
 use crate::read_patterns;
 use std::alloc::{AllocError, Global};

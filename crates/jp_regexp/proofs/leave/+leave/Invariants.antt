@@ -15,7 +15,7 @@ invariant-leave_in_turn-loop-piece l =
 abbrev pub invariant-leave_before-loop-branch : goal.invariant-leave_before-loop-branch
 invariant-leave_before-loop-branch l =
     ((q : Unrolled) (r : Reach) → IsWalk l.live (branches_before (drop l.branch-index l.branches) q) (entered_as l.at.entered l.others) r →
-        IsWalk l.live (branches_before l.branches q) l.at (or_entered l.others.entered r))
+    IsWalk l.live (branches_before l.branches q) l.at (or_entered l.others.entered r))
     × (l.others.past + letters (branches_before (drop l.branch-index l.branches) nothing) ≡ l.at.past + letters (branches_before l.branches nothing))
     × IsAt l.live l.others.past l.others.index
 

@@ -30,7 +30,7 @@ part_of-returns-in_ok-new-in-Branches-clause-same t c =
     let before = c.in_ok-before-in-Branches.before in
     let last = c.in_ok-new-in-Branches.field-0 in
     let of_last : pattern_in last.value ≡ node_of c.in-Branches.last.value =
-        ap pattern_in c.in_ok-new-in-Branches.ensures.ok ∙ c.in_ok-last-in-Branches.ensures.same ∙ ap node_of c.into_inner-in-Branches.ensures in
+    ap pattern_in c.in_ok-new-in-Branches.ensures.ok ∙ c.in_ok-last-in-Branches.ensures.same ∙ ap node_of c.into_inner-in-Branches.ensures in
     ap (λ m. m.pattern) (part_branches c.saturating_add-size.result before last)
     ∙ before_last_of-patterns before.items (pattern_in last.value)
     ∙ ap₂ before_last c.in_ok-before-in-Branches.ensures.same of_last
@@ -45,8 +45,8 @@ part_of-returns-in_ok-new-in-Branches-clause-sized t c =
     let e = rw c.deref-in-Branches.ensures.value at c.size_of_all.ensures in
     subst is_sized (sym (part_branches c.saturating_add-size.result before last))
     (sized_branches before.items last.value c.saturating_add-size.result c.size_of_all.result c.size.result e
-        (c.size.ensures ∙ ap (λ p. min (size (pattern_in p)) 4_294_967_295) same) c.saturating_add-size.ensures
-        c.in_ok-before-in-Branches.ensures.sized (subst (λ p. IsTrue (meaning p).is_sized) same c.in_ok-last-in-Branches.ensures.sized))
+    (c.size.ensures ∙ ap (λ p. min (size (pattern_in p)) 4_294_967_295) same) c.saturating_add-size.ensures
+    c.in_ok-before-in-Branches.ensures.sized (subst (λ p. IsTrue (meaning p).is_sized) same c.in_ok-last-in-Branches.ensures.sized))
 
 pub part_of-returns-in_ok-new-in-Repeat-clause-sized : goal.part_of-returns-in_ok-new-in-Repeat-clause-sized
 unfolding is_sized
@@ -55,8 +55,8 @@ part_of-returns-in_ok-new-in-Repeat-clause-sized t c =
     let same = sym c.in_ok-new-in-Repeat.ensures.ok in
     subst is_sized (sym (part_repeat c.saturating_mul-size.result c.in-Repeat.least c.in-Repeat.most atom))
     (sized_repeat c.in-Repeat.least c.in-Repeat.most atom.value c.saturating_mul-size.result c.copies.result c.size-in-Repeat.result
-        c.copies.ensures (c.size-in-Repeat.ensures ∙ ap (λ p. min (size (pattern_in p)) 4_294_967_295) same) c.saturating_mul-size.ensures
-        (subst (λ p. IsTrue (meaning p).is_sized) same c.in_ok-atom-in-Repeat.ensures.sized))
+    c.copies.ensures (c.size-in-Repeat.ensures ∙ ap (λ p. min (size (pattern_in p)) 4_294_967_295) same) c.saturating_mul-size.ensures
+    (subst (λ p. IsTrue (meaning p).is_sized) same c.in_ok-atom-in-Repeat.ensures.sized))
 
 pub part_of-returns-in_ok-new-in-Plus-clause-sized : goal.part_of-returns-in_ok-new-in-Plus-clause-sized
 unfolding is_sized
@@ -65,16 +65,15 @@ part_of-returns-in_ok-new-in-Plus-clause-sized t c =
     let same = sym c.in_ok-new-in-Plus.ensures.ok in
     subst is_sized (sym (part_plus c.size-size-in-Plus.result atom))
     (sized_from c.size-size-in-Plus.result (Pattern.plus (pattern_in atom.value)) _
-        (c.size-size-in-Plus.ensures ∙ ap (λ p. min (size (pattern_in p)) 4_294_967_295) same)
-        (subst (λ p. IsTrue (meaning p).is_sized) same c.in_ok-atom-in-Plus.ensures.sized))
+    (c.size-size-in-Plus.ensures ∙ ap (λ p. min (size (pattern_in p)) 4_294_967_295) same)
+    (subst (λ p. IsTrue (meaning p).is_sized) same c.in_ok-atom-in-Plus.ensures.sized))
 
 pub parts_of-loop-node-preserved : goal.parts_of-loop-node-preserved
 parts_of-loop-node-preserved t c =
-    let items : c.push.new.self.items ≡ c.loop-node.parts.items ++ c.in_ok-part.part ∷ [] = rw c.in_ok-push.was at c.push.ensures.items in
-    (
+    let items : c.push.new.self.items ≡ c.loop-node.parts.items ++ c.in_ok-part.part ∷ [] = rw c.in_ok-push.was at c.push.ensures.items in (
       ap patterns_in items ∙ patterns_in-last c.loop-node.parts.items c.in_ok-part.part
-        ∙ ap₂ (λ ps p. ps ++ p ∷ []) c.loop-node.invariant.0 c.in_ok-part.ensures.same
-        ∙ sym (map-append node_of c.loop-node.yielded (c.in-Some.node ∷ [])),
+          ∙ ap₂ (λ ps p. ps ++ p ∷ []) c.loop-node.invariant.0 c.in_ok-part.ensures.same
+          ∙ sym (map-append node_of c.loop-node.yielded (c.in-Some.node ∷ [])),
       subst (λ ps. IsTrue (all_sized (map meaning ps))) (sym items)
-        (all_sized-last c.loop-node.parts.items c.in_ok-part.part c.loop-node.invariant.1 c.in_ok-part.ensures.sized),
+          (all_sized-last c.loop-node.parts.items c.in_ok-part.part c.loop-node.invariant.1 c.in_ok-part.ensures.sized),
     )

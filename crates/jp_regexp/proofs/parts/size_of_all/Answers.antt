@@ -10,4 +10,4 @@ pub loop-part-preserved : goal.loop-part-preserved
 loop-part-preserved c =
     c.saturating_add-total.ensures
     ∙ part_more c.args.parts.now c.loop-part.part-index c.part-item.result 4_294_967_295 c.loop-part.total c.size.result
-        c.loop-part-test.true c.part-item.is c.loop-part.invariant c.size.ensures
+    c.loop-part-test.true c.part-item.is c.loop-part.invariant c.size.ensures

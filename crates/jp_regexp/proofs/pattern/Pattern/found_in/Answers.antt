@@ -14,12 +14,11 @@ loop-c-init c =
     let terms = c.in_ok-terms.terms in
     let p = pattern_of c.args.self.now in
     let here : (u : Text) → IsLeft terms u ↔ Member p u =
-        subst (λ q. (u : Text) → SomePlaceHas q (places_of terms) u ↔ Member p u) (sym c.in_ok-terms.ensures.pattern)
-        (subst (λ ps. (u : Text) → SomePlaceHas p ps u ↔ Member p u) (sym c.in_ok-terms.ensures.places) (all_left p)) in
+    subst (λ q. (u : Text) → SomePlaceHas q (places_of terms) u ↔ Member p u) (sym c.in_ok-terms.ensures.pattern)
+    (subst (λ ps. (u : Text) → SomePlaceHas p ps u ↔ Member p u) (sym c.in_ok-terms.ensures.places) (all_left p)) in
     let begins : chars_rest c.into_iter-c-iterator.result ≡ c.args.text.now =
-        ap chars_rest c.into_iter-c-iterator.ensures.into_iter_gives ∙ c.chars-c-items.ensures.rest in
-    let reading = reading_first c.args.text.now c.into_iter-c-iterator.result c.utf8.text begins in
-    (
+    ap chars_rest c.into_iter-c-iterator.ensures.into_iter_gives ∙ c.chars-c-items.ensures.rest in
+    let reading = reading_first c.args.text.now c.into_iter-c-iterator.result c.utf8.text begins in (
       c.in_ok-terms.ensures.pattern,
       λ u. (λ h. (began_first p u).0 ((here u).0 h), λ h. (here u).1 ((began_first p u).1 h)),
       no_part_first p,
@@ -33,8 +32,7 @@ loop-c-preserved c =
     let old = c.loop-c.terms in
     let new = c.read.new.self in
     let step : (t : Text) → IsLeft new t ↔ (IsLeft old (c.in-Some.c ∷ t) ⊎ (IsTrue true × Member p t)) =
-        subst (λ q. (t : Text) → IsLeft new t ↔ (IsLeft old (c.in-Some.c ∷ t) ⊎ (IsTrue true × Member q t))) kept.0 c.in_ok-read.ensures.ok in
-    (
+    subst (λ q. (t : Text) → IsLeft new t ↔ (IsLeft old (c.in-Some.c ∷ t) ⊎ (IsTrue true × Member q t))) kept.0 c.in_ok-read.ensures.ok in (
       c.read.ensures.pattern ∙ kept.0,
       find_more p c.loop-c.yielded c.in-Some.c (IsLeft old) (IsLeft new) kept.1 step,
       no_part_more p c.loop-c.yielded c.in-Some.c kept.2
@@ -45,8 +43,7 @@ loop-c-preserved c =
 pub returns-then-branch : goal.returns-then-branch
 returns-then-branch c =
     let kept = c.loop-c.invariant in
-    let p = pattern_of c.args.self.now in
-    (
+    let p = pattern_of c.args.self.now in (
       λ h. began_found p (chars c.args.text.now) c.loop-c.yielded kept.3.rest kept.3.splits
           ((kept.1 []).0 (c.in_ok-read.ensures.accepted.0 c.if-branch.true)),
       λ h. refl,
@@ -57,8 +54,7 @@ returns c =
     let kept = c.loop-c.invariant in
     let p = pattern_of c.args.self.now in
     let text = chars c.args.text.now in
-    let whole = reading_end text c.loop-c.yielded c.loop-c.c-iterator c.next.new.self kept.3 c.in-None.ensures.steps in
-    (
+    let whole = reading_end text c.loop-c.yielded c.loop-c.c-iterator c.next.new.self kept.3 c.in-None.ensures.steps in (
       λ h. began_found p text c.loop-c.yielded [] (whole ∙ sym (append-nil c.loop-c.yielded)) ((kept.1 []).0 (c.accepts.ensures.0 h)),
       λ h. c.accepts.ensures.1 ((kept.1 []).1 (found_began p text c.loop-c.yielded whole kept.2 h)),
     )

@@ -17,8 +17,8 @@ returns c =
     let p = pattern_of c.args.self.now.pattern.now in
     let live = c.args.self.now.live.items in
     let e : c.leave.result.entered ≡ leaves (is_elem live) (unrolled p) 0 c.args.self.now.at_start =
-        c.leave.ensures.entered
-        ∙ ap (λ r. leaves (is_elem c.deref.result.now) (unrolled p) r.past r.entered) c.start_of-at.ensures
-        ∙ ap (λ xs. leaves (is_elem xs) (unrolled p) 0 c.args.self.now.at_start) c.deref.ensures.value in
+    c.leave.ensures.entered
+    ∙ ap (λ r. leaves (is_elem c.deref.result.now) (unrolled p) r.past r.entered) c.start_of-at.ensures
+    ∙ ap (λ xs. leaves (is_elem xs) (unrolled p) 0 c.args.self.now.at_start) c.deref.ensures.value in
     accepted p (kept_profile p c.args.self.now.pattern.now.in_profile).counts c.args.self.now.at_start live c.args.self.now.rising
     c.leave.result.entered e
