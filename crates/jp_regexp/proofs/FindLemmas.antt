@@ -9,7 +9,10 @@ use Rattle.std.specs.declared.str.Chars.{Chars}
 use Rattle.jp_regexp.specs.Pattern.{Text, Pattern}
 use Rattle.jp_regexp.specs.Language.{Member}
 use Rattle.jp_regexp.specs.Held.{HasPart}
-use Rattle.jp_regexp.specs.Unrolled.{PlaceHas, SomePlaceHas}
+use Rattle.jp_regexp.specs.Profile.{HasCounts}
+use Rattle.jp_regexp.specs.Unrolled.{unrolled, PlaceHas, SomePlaceHas}
+use Rattle.jp_regexp.specs.Walk.{advance, is_elem}
+use Rattle.jp_regexp.proofs.TermLemmas.{takes_step}
 
 -- ---- the characters of a text
 
@@ -149,3 +152,30 @@ module _ (p : Pattern) where
   found_began text read e none (before, part, c ∷ after, f, m) =
       absurd (none (before ++ part) c after (sym e ∙ f ∙ sym (append_assoc before part (c ∷ after)))
       (before, part, refl, subst (Member p) (sym (append-nil part)) m))
+
+-- ---- characters with which nothing begins, while nothing but the start is live
+
+pub first_left : (p q : Pattern) (places : List ℕ) → q ≡ p → places ≡ 0 ∷ [] → Member p [] → SomePlaceHas q places []
+first_left p q places same at m =
+    subst (λ r. SomePlaceHas r places []) (sym same) (subst (λ ps. SomePlaceHas p ps []) (sym at) ((all_left p []).1 m))
+
+module _ (p q : Pattern) (places : List ℕ) (read : Text) (same : q ≡ p) (at : places ≡ 0 ∷ [])
+    (kept : (u : Text) → SomePlaceHas q places u ↔ BeganIn p read u) where
+  at_first : (u : Text) → SomePlaceHas p (0 ∷ []) u ↔ BeganIn p read u
+  at_first =
+      subst (λ ps. (u : Text) → SomePlaceHas p ps u ↔ BeganIn p read u) at
+      (subst (λ r. (u : Text) → SomePlaceHas r places u ↔ BeganIn p read u) same kept)
+
+  pub not_at_first : (Member p [] → ⊥) → BeganIn p read [] → ⊥
+  not_at_first none h = none ((all_left p []).0 ((at_first []).1 h))
+
+pub skip_left : (p : Pattern) (counts : HasCounts p) (read : Text) (c : ℕ) (q : Pattern) (places : List ℕ) → q ≡ p → places ≡ 0 ∷ [] →
+    advance (is_elem []) c (unrolled p) 0 true ≡ [] → ((u : Text) → SomePlaceHas q places u ↔ BeganIn p read u) →
+    (u : Text) → SomePlaceHas q places u ↔ BeganIn p (read ++ c ∷ []) u
+skip_left p counts read c q places same at none kept =
+    let first = subst (λ ps. (u : Text) → SomePlaceHas p ps u ↔ BeganIn p read u) at
+    (subst (λ r. (u : Text) → SomePlaceHas r places u ↔ BeganIn p read u) same kept) in
+    let L : Text → Type 0 = λ u. SomePlaceHas p (0 ∷ []) u in
+    let more = find_more p read c L L first (takes_step p counts true [] tt c true [] (sym none)) in
+    subst (λ r. (u : Text) → SomePlaceHas r places u ↔ BeganIn p (read ++ c ∷ []) u) (sym same)
+    (subst (λ ps. (u : Text) → SomePlaceHas p ps u ↔ BeganIn p (read ++ c ∷ []) u) (sym at) more)

@@ -2,6 +2,7 @@
 #![tactic(auto)]
 
 mod advance;
+mod beginnings;
 mod categories;
 mod examples;
 mod fault;

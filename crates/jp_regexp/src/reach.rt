@@ -15,6 +15,17 @@ pub struct Reach {
 }
 
 impl Reach {
+    /// Before the first place, reached or not.
+    pub fn start(entered: bool) -> Reach
+        ensures { result ≡ record { past = 0; index = 0; entered = entered } }
+    {
+        Reach {
+            past: 0,
+            index: 0,
+            entered,
+        }
+    }
+
     /// The same point, reached or not.
     pub fn with_entered(self, entered: bool) -> Reach
         ensures { result ≡ entered_as entered self }

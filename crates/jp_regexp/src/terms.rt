@@ -89,7 +89,7 @@ impl<'a> Terms<'a> {
     pub fn accepts(&self) -> bool
         ensures { IsTrue result ↔ IsLeft self.now [] }
     {
-        let at = start_of(self.at_start);
+        let at = Reach::start(self.at_start);
         leave(&self.pattern.root, &self.live, at).entered
     }
 
@@ -102,21 +102,18 @@ impl<'a> Terms<'a> {
         self.live.len() as u64 + u64::from(self.at_start)
     }
 
+    /// Whether place 0 is the only one.
+    pub(crate) fn is_at_start(&self) -> bool
+        ensures { IsTrue result ↔ (places_of self.now ≡ 0 ∷ []) }
+    {
+        self.at_start && self.live.is_empty()
+    }
+
     /// Whether no text is left to read.
     pub fn is_empty(&self) -> bool
         ensures { IsTrue result ↔ (places_of self.now ≡ []) }
     {
         !self.at_start && self.live.is_empty()
-    }
-}
-
-fn start_of(entered: bool) -> Reach
-    ensures { result ≡ record { past = 0; index = 0; entered = entered } }
-{
-    Reach {
-        past: 0,
-        index: 0,
-        entered,
     }
 }
 
@@ -133,7 +130,7 @@ fn read_into(
         pattern.now)) 0 at_start) }
     ensures accepted { IfOk result (λ b. b ≡ leaves (is_elem live.now) (unrolled (pattern_of pattern.now)) 0 at_start) }
 {
-    let at = start_of(at_start);
+    let at = Reach::start(at_start);
     let end = advance(&pattern.root, live, c, at, next)?;
     Ok(end.entered)
 }

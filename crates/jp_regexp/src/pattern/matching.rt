@@ -1,10 +1,12 @@
 //! What a pattern matches.
 
-ghost use Rattle.std.specs.Prelude.{◌≡◌, ◌≤◌, ◌↔◌, IfOk, IsTrue};
+ghost use Rattle.std.specs.Prelude.{◌≡◌, ◌≤◌, ◌↔◌, [], IfOk, IsTrue, false, true};
 ghost use Rattle.std.specs.Str.{chars};
 ghost use Rattle.jp_regexp.specs.Held.{HasPart, pattern_of};
 ghost use Rattle.jp_regexp.specs.Language.{Member};
 ghost use Rattle.jp_regexp.specs.Profile.{max_size, size};
+ghost use Rattle.jp_regexp.specs.Unrolled.{unrolled};
+ghost use Rattle.jp_regexp.specs.Walk.{advance, is_elem};
 
 use crate::pattern::Pattern;
 use std::alloc::{AllocError, Global};
@@ -53,11 +55,25 @@ impl Pattern {
         ensures { IfOk result (λ b. IsTrue b ↔ HasPart (pattern_of self.now) (chars text.now)) }
     {
         let mut terms = self.start(alloc)?;
+        if terms.accepts() {
+            return Ok(true);
+        }
         for c in text.chars() {
+            if terms.is_at_start() && !self.may_begin(c) {
+                continue;
+            }
             if terms.read(c, true)? {
                 return Ok(true);
             }
         }
         Ok(terms.accepts())
+    }
+
+    /// Whether a text of the pattern may begin with the character, as far as the table tells.
+    fn may_begin(&self, c: char) -> bool
+        ensures { result ≡ false → advance (is_elem []) c (unrolled (pattern_of self.now)) 0 true ≡ [] }
+    {
+        let code = c as usize;
+        code >= self.begins.len() || self.begins[code]
     }
 }

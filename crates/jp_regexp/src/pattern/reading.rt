@@ -4,6 +4,7 @@ ghost use Rattle.std.specs.Prelude.{IfOk};
 ghost use Rattle.std.specs.Str.{chars};
 ghost use Rattle.jp_regexp.specs.Held.{IsRead};
 
+use crate::beginnings::beginnings;
 use crate::fault::Fault;
 use crate::parts::part_of;
 use crate::pattern::Pattern;
@@ -34,7 +35,8 @@ impl Pattern {
                 if root.size() > MAX_SIZE {
                     return Ok(None);
                 }
-                Ok(Some(Pattern { root }))
+                let begins = beginnings(alloc, &root)?;
+                Ok(Some(Pattern { root, begins }))
             }
         }
     }

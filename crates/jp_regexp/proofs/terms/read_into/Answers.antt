@@ -8,4 +8,4 @@ pub advance-requires-clause-fits : goal.advance-requires-clause-fits
 advance-requires-clause-fits c =
     let p = pattern_of c.args.pattern.now in
     let h = at_most_size p (kept_size p c.args.pattern.now.in_profile) in
-    omega (arith, ap (λ r. r.past) c.start_of-at.ensures, h)
+    omega (arith, ap (λ r. r.past) c.start-at.ensures, h)

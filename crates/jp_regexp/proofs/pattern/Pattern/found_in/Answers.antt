@@ -6,7 +6,8 @@ use Rattle.jp_regexp.specs.Language.{Member}
 use Rattle.jp_regexp.specs.Pattern.{Text, Pattern}
 use Rattle.jp_regexp.specs.Terms.{IsLeft, pattern_read_by, places_of}
 use Rattle.jp_regexp.specs.Unrolled.{SomePlaceHas}
-use Rattle.jp_regexp.proofs.FindLemmas.{reading_first, reading_more, reading_end, all_left, began_first, no_part_first, find_more, no_part_more, began_found, found_began}
+use Rattle.jp_regexp.proofs.FindLemmas.{reading_first, reading_more, reading_end, all_left, began_first, no_part_first, find_more, no_part_more, began_found, found_began, skip_left, not_at_first, first_left}
+use Rattle.jp_regexp.proofs.ProfileLemmas.{kept_profile}
 use Rattle.jp_regexp.proofs.pattern.Pattern.found_in.Goals as goal
 
 pub loop-c-init : goal.loop-c-init
@@ -55,6 +56,23 @@ returns c =
     let p = pattern_of c.args.self.now in
     let text = chars c.args.text.now in
     let whole = reading_end text c.loop-c.yielded c.loop-c.c-iterator c.next.new.self kept.3 c.in-None.ensures.steps in (
-      λ h. began_found p text c.loop-c.yielded [] (whole ∙ sym (append-nil c.loop-c.yielded)) ((kept.1 []).0 (c.accepts.ensures.0 h)),
-      λ h. c.accepts.ensures.1 ((kept.1 []).1 (found_began p text c.loop-c.yielded whole kept.2 h)),
+      λ h. began_found p text c.loop-c.yielded [] (whole ∙ sym (append-nil c.loop-c.yielded)) ((kept.1 []).0 (c.accepts-2.ensures.0 h)),
+      λ h. c.accepts-2.ensures.1 ((kept.1 []).1 (found_began p text c.loop-c.yielded whole kept.2 h)),
+    )
+
+pub loop-c-preserved-then-not-may_begin : goal.loop-c-preserved-then-not-may_begin
+loop-c-preserved-then-not-may_begin c =
+    let kept = c.loop-c.invariant in
+    let p = pattern_of c.args.self.now in
+    let terms = c.loop-c.terms in
+    let char = c.in-Some.c in
+    let places : places_of terms ≡ 0 ∷ [] = c.is_at_start.ensures.0 c.if-is_at_start.true in
+    let none = c.may_begin.ensures c.if-not-may_begin.true in (
+      kept.0,
+      skip_left p (kept_profile p c.args.self.now.in_profile).counts c.loop-c.yielded char (pattern_read_by terms) (places_of terms) kept.0 places none kept.1,
+      no_part_more p c.loop-c.yielded char kept.2
+          (λ h. not_at_first p (pattern_read_by terms) (places_of terms) c.loop-c.yielded kept.0 places kept.1
+          (λ m. true≢false (sym (c.accepts.ensures.1 (first_left p (pattern_read_by c.in_ok-terms.terms) (places_of c.in_ok-terms.terms)
+          c.in_ok-terms.ensures.pattern c.in_ok-terms.ensures.places m)) ∙ c.if-accepts.false)) h),
+      reading_more (chars c.args.text.now) c.loop-c.yielded c.loop-c.c-iterator c.next.new.self kept.3 char c.in-Some.ensures.steps,
     )

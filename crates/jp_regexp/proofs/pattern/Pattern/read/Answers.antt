@@ -1,7 +1,9 @@
-use Rattle.std.proofs.Common.{◌≡◌, ◌≤◌, min, sym, ap, ◌∙◌, subst, lit<}
+use Rattle.std.proofs.Common.{◌≡◌, ◌≤◌, min, sym, ap, ◌∙◌, subst, lit<, arith}
 use Rattle.std.specs.Str.{chars}
 use Rattle.jp_regexp.specs.Profile.{size, InProfile, IsPatternOf}
 use Rattle.jp_regexp.specs.Tree.{node_of}
+use Rattle.jp_regexp.specs.Parts.{pattern_in}
+use Rattle.jp_regexp.proofs.UnrolledLemmas.{letters-unrolled}
 use Rattle.jp_regexp.proofs.ReadLemmas.{is_pattern, no_pattern, too_large, size_is, size_over}
 use Rattle.jp_regexp.proofs.pattern.Pattern.read.Goals as goal
 
@@ -38,4 +40,9 @@ invariant_of-result c =
       sized = c.in_ok-root-in-Ok.ensures.sized;
       in_profile = ∣ subst InProfile (sym c.in_ok-root-in-Ok.ensures.same)
           (is_pattern (chars c.args.text.now) p read (subst (λ n. n ≤ 10_000) same fits)).in_profile ∣₁;
+      has_beginnings = ∣ c.in_ok-begins-in-Ok.ensures ∣₁;
     }
+
+pub beginnings-requires-clause-fits : goal.beginnings-requires-clause-fits
+beginnings-requires-clause-fits c =
+    omega (arith, letters-unrolled (pattern_in c.in_ok-root-in-Ok.root), c.size.ensures, c.if-size-gt-MAX_SIZE.false)
