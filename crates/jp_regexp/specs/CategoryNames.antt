@@ -4,9 +4,11 @@ use Rattle.unicode.specs.declared.properties.GeneralCategory.{GeneralCategory}
 use Rattle.unicode.specs.declared.properties.GeneralCategory.TheVariants as is
 use Rattle.jp_regexp.specs.Pattern.{Text}
 
--- A name of two letters means one category, and a name of one letter the union of those whose names begin with it. There is no name for surrogates, which are no characters (RFC 9485, 3: IsCategory).
+-- A name of two letters means one category, and a name of one letter the union of those whose names begin
+-- with it. There is no name for surrogates, which are no characters (RFC 9485, 3: IsCategory).
 pub data IsCategoryName : Text → List GeneralCategory → Type 0 where
-  letter : IsCategoryName (codes "L") (is.LowercaseLetter ∷ is.ModifierLetter ∷ is.OtherLetter ∷ is.TitlecaseLetter ∷ is.UppercaseLetter ∷ [])
+  letter : IsCategoryName (codes "L") (is.LowercaseLetter ∷ is.ModifierLetter ∷ is.OtherLetter ∷
+      is.TitlecaseLetter ∷ is.UppercaseLetter ∷ [])
   lowercase_letter : IsCategoryName (codes "Ll") (is.LowercaseLetter ∷ [])
   modifier_letter : IsCategoryName (codes "Lm") (is.ModifierLetter ∷ [])
   other_letter : IsCategoryName (codes "Lo") (is.OtherLetter ∷ [])
@@ -20,7 +22,9 @@ pub data IsCategoryName : Text → List GeneralCategory → Type 0 where
   decimal_number : IsCategoryName (codes "Nd") (is.DecimalNumber ∷ [])
   letter_number : IsCategoryName (codes "Nl") (is.LetterNumber ∷ [])
   other_number : IsCategoryName (codes "No") (is.OtherNumber ∷ [])
-  punctuation : IsCategoryName (codes "P") (is.ConnectorPunctuation ∷ is.DashPunctuation ∷ is.ClosePunctuation ∷ is.FinalPunctuation ∷ is.InitialPunctuation ∷ is.OtherPunctuation ∷ is.OpenPunctuation ∷ [])
+  punctuation : IsCategoryName (codes "P") (is.ConnectorPunctuation ∷ is.DashPunctuation ∷
+      is.ClosePunctuation ∷ is.FinalPunctuation ∷ is.InitialPunctuation ∷ is.OtherPunctuation ∷
+      is.OpenPunctuation ∷ [])
   connector_punctuation : IsCategoryName (codes "Pc") (is.ConnectorPunctuation ∷ [])
   dash_punctuation : IsCategoryName (codes "Pd") (is.DashPunctuation ∷ [])
   close_punctuation : IsCategoryName (codes "Pe") (is.ClosePunctuation ∷ [])
@@ -32,7 +36,8 @@ pub data IsCategoryName : Text → List GeneralCategory → Type 0 where
   line_separator : IsCategoryName (codes "Zl") (is.LineSeparator ∷ [])
   paragraph_separator : IsCategoryName (codes "Zp") (is.ParagraphSeparator ∷ [])
   space_separator : IsCategoryName (codes "Zs") (is.SpaceSeparator ∷ [])
-  symbol : IsCategoryName (codes "S") (is.CurrencySymbol ∷ is.ModifierSymbol ∷ is.MathSymbol ∷ is.OtherSymbol ∷ [])
+  symbol : IsCategoryName (codes "S") (is.CurrencySymbol ∷ is.ModifierSymbol ∷ is.MathSymbol ∷
+      is.OtherSymbol ∷ [])
   currency_symbol : IsCategoryName (codes "Sc") (is.CurrencySymbol ∷ [])
   modifier_symbol : IsCategoryName (codes "Sk") (is.ModifierSymbol ∷ [])
   math_symbol : IsCategoryName (codes "Sm") (is.MathSymbol ∷ [])

@@ -1,5 +1,6 @@
 -- Which text spells which set of characters.
-use Rattle.std.specs.Prelude.{◌≢◌, ℕ, ◌≤◌, Bool, true, false, not, ◌&&◌, ◌==◌, List, [], ◌∷◌, ◌++◌, IsTrue, codes}
+use Rattle.std.specs.Prelude.{◌≢◌, ℕ, ◌≤◌, Bool, true, false, not, ◌&&◌, ◌==◌, List, [], ◌∷◌, ◌++◌, IsTrue}
+use Rattle.std.specs.Prelude.{codes}
 use Rattle.std.specs.List.{list_any}
 use Rattle.unicode.specs.declared.properties.GeneralCategory.{GeneralCategory}
 use Rattle.jp_regexp.specs.Pattern.{Text, Element, CharSet}
@@ -30,7 +31,8 @@ hyphen = 0x2d
 abbrev pub caret : ℕ
 caret = 0x5e
 
--- an escape of one character, and that character; `\n`, `\r` and `\t` are LF, CR and the tab (RFC 9485, 3: SingleCharEsc)
+-- an escape of one character, and that character; `\n`, `\r` and `\t` are LF, CR and the tab (RFC 9485, 3:
+-- SingleCharEsc)
 pub data IsSingle : Text → ℕ → Type 0 where
   line_feed : IsSingle (codes "\\n") 0x0a
   carriage_return : IsSingle (codes "\\r") 0x0d
@@ -39,34 +41,44 @@ pub data IsSingle : Text → ℕ → Type 0 where
 
 -- `\p{..}` or, where the flag is set, `\P{..}`, and its categories (RFC 9485, 3: charClassEsc)
 pub data IsCategory : Text → Bool → List GeneralCategory → Type 0 where
-  inside : {t : Text} {cs : List GeneralCategory} → IsCategoryName t cs → IsCategory (codes "\\p{" ++ (t ++ codes "}")) false cs
-  outside : {t : Text} {cs : List GeneralCategory} → IsCategoryName t cs → IsCategory (codes "\\P{" ++ (t ++ codes "}")) true cs
+  inside : {t : Text} {cs : List GeneralCategory} → IsCategoryName t cs →
+      IsCategory (codes "\\p{" ++ (t ++ codes "}")) false cs
+  outside : {t : Text} {cs : List GeneralCategory} → IsCategoryName t cs →
+      IsCategory (codes "\\P{" ++ (t ++ codes "}")) true cs
 
 -- one character of a class, bare or escaped (RFC 9485, 3: CCchar)
 pub data IsInner : Text → ℕ → Type 0 where
   bare : (c : ℕ) → IsTrue (is_class_normal c) → IsInner (c ∷ []) c
   escaped : {t : Text} {c : ℕ} → IsSingle t c → IsInner t c
 
--- an element of a class: a character, a range that does not end below its start, or a category (RFC 9485, 3: CCE1)
+-- an element of a class: a character, a range that does not end below its start, or a category (RFC 9485,
+-- 3: CCE1)
 pub data IsElement : Text → Element → Type 0 where
   single : {t : Text} {c : ℕ} → IsInner t c → IsElement t (Element.one c)
-  span : {s t : Text} {low high : ℕ} → IsInner s low → IsInner t high → low ≤ high → IsElement (s ++ (codes "-" ++ t)) (Element.range low high)
-  categorical : {t : Text} {negated : Bool} {cs : List GeneralCategory} → IsCategory t negated cs → IsElement t (Element.of_category negated cs)
+  span : {s t : Text} {low high : ℕ} → IsInner s low → IsInner t high → low ≤ high →
+      IsElement (s ++ (codes "-" ++ t)) (Element.range low high)
+  categorical : {t : Text} {negated : Bool} {cs : List GeneralCategory} → IsCategory t negated cs →
+      IsElement t (Element.of_category negated cs)
 
 -- any number of elements, and then a bare `-` or nothing (RFC 9485, 3: charClassExpr)
 pub data AreElements : Text → List Element → Type 0 where
   none : AreElements [] []
   last_hyphen : AreElements (codes "-") (Element.one hyphen ∷ [])
-  more : {s t : Text} {x : Element} {xs : List Element} → IsElement s x → AreElements t xs → AreElements (s ++ t) (x ∷ xs)
+  more : {s t : Text} {x : Element} {xs : List Element} → IsElement s x → AreElements t xs →
+      AreElements (s ++ t) (x ∷ xs)
 
 -- a bare `-` or an element, and then the others (RFC 9485, 3: charClassExpr)
 pub data IsListing : Text → List Element → Type 0 where
-  first_hyphen : {t : Text} {xs : List Element} → AreElements t xs → IsListing (codes "-" ++ t) (Element.one hyphen ∷ xs)
-  first_element : {s t : Text} {x : Element} {xs : List Element} → IsElement s x → AreElements t xs → IsListing (s ++ t) (x ∷ xs)
+  first_hyphen : {t : Text} {xs : List Element} → AreElements t xs →
+      IsListing (codes "-" ++ t) (Element.one hyphen ∷ xs)
+  first_element : {s t : Text} {x : Element} {xs : List Element} → IsElement s x → AreElements t xs →
+      IsListing (s ++ t) (x ∷ xs)
 
--- `[..]` or, where the flag is set, `[^..]`. A `^` directly after `[` always negates, so a class that is not negated begins otherwise (RFC 9485, 3: charClassExpr).
+-- `[..]` or, where the flag is set, `[^..]`. A `^` directly after `[` always negates, so a class that is
+-- not negated begins otherwise (RFC 9485, 3: charClassExpr).
 pub data IsClass : Text → Bool → List Element → Type 0 where
-  listed : {c : ℕ} {t : Text} {xs : List Element} → c ≢ caret → IsListing (c ∷ t) xs → IsClass (codes "[" ++ ((c ∷ t) ++ codes "]")) false xs
+  listed : {c : ℕ} {t : Text} {xs : List Element} → c ≢ caret → IsListing (c ∷ t) xs →
+      IsClass (codes "[" ++ ((c ∷ t) ++ codes "]")) false xs
   negated : {t : Text} {xs : List Element} → IsListing t xs → IsClass (codes "[^" ++ (t ++ codes "]")) true xs
 
 -- a normal character, an escape, `.`, a category or a class (RFC 9485, 3: atom)
@@ -74,5 +86,7 @@ pub data IsCharSet : Text → CharSet → Type 0 where
   normal : (c : ℕ) → IsTrue (is_normal c) → IsCharSet (c ∷ []) (CharSet.only c)
   escape : {t : Text} {c : ℕ} → IsSingle t c → IsCharSet t (CharSet.only c)
   any : IsCharSet (codes ".") CharSet.dot
-  property : {t : Text} {negated : Bool} {cs : List GeneralCategory} → IsCategory t negated cs → IsCharSet t (CharSet.category negated cs)
-  brackets : {t : Text} {negated : Bool} {xs : List Element} → IsClass t negated xs → IsCharSet t (CharSet.class negated xs)
+  property : {t : Text} {negated : Bool} {cs : List GeneralCategory} → IsCategory t negated cs →
+      IsCharSet t (CharSet.category negated cs)
+  brackets : {t : Text} {negated : Bool} {xs : List Element} → IsClass t negated xs →
+      IsCharSet t (CharSet.class negated xs)

@@ -4,15 +4,16 @@ use Rattle.jp_regexp.specs.declared.pattern.Pattern.{Pattern as HeldPattern}
 use Rattle.jp_regexp.specs.Pattern.{Text, Pattern}
 use Rattle.jp_regexp.specs.Language.{Member}
 use Rattle.jp_regexp.specs.Profile.{IsPatternOf}
-use Rattle.jp_regexp.specs.Tree.{node_of}
+use Rattle.jp_regexp.specs.Parts.{pattern_in}
 
 -- the pattern that was read (RFC 9485, 3)
 abbrev pub pattern_of : HeldPattern → Pattern
-pattern_of p = node_of p.root
+pattern_of p = pattern_in p.root
 
 -- some part of consecutive characters of the text is in the pattern's language (RFC 9535, 2.4.7)
 abbrev pub HasPart : Pattern → Text → Type 0
-HasPart p text = (before : Text) × (part : Text) × (after : Text) × (text ≡ before ++ (part ++ after)) × Member p part
+HasPart p text = (before : Text) × (part : Text) × (after : Text) × (text ≡ before ++ (part ++ after)) ×
+    Member p part
 
 -- a pattern where the text is one, and None only where it is none (RFC 9485, 3 and 8)
 abbrev pub IsRead : Text → Option HeldPattern → Type 0

@@ -17,7 +17,8 @@ Then First Second t = (u : Text) × (v : Text) × (t ≡ u ++ v) × First u × S
 -- some list of parts, whose count is in the bounds and which joins to the text (RFC 9485, 4)
 abbrev pub Repeated : (Text → Type 0) → ℕ → Option ℕ → Text → Type 0
 Repeated Part least most t =
-    (parts : List Text) × AllByRecursion Part parts × (least ≤ length parts) × AtMost most (length parts) × (t ≡ concat parts)
+    (parts : List Text) × AllByRecursion Part parts × (least ≤ length parts) ×
+    AtMost most (length parts) × (t ≡ concat parts)
 
 -- the text is in the pattern's language (RFC 9485, 4)
 abbrev pub Member : Pattern → Text → Type 0
@@ -29,11 +30,13 @@ Member (either p q) t = Member p t ⊎ Member q t
 Member (repeat least most p) t = Repeated (Member p) least most t
 Member (plus p) t = Repeated (Member p) 1 None t
 
--- the whole text is in the language of the I-Regexp that the second text is; with a text that is none, nothing matches (RFC 9535, 2.4.6)
+-- the whole text is in the language of the I-Regexp that the second text is; with a text that is none,
+-- nothing matches (RFC 9535, 2.4.6)
 abbrev pub Matches : (text pattern_text : Text) → Type 0
 Matches text pattern_text = (p : Pattern) × IsPatternOf pattern_text p × Member p text
 
 -- some part of consecutive characters of the text matches (RFC 9535, 2.4.7)
 abbrev pub Found : (text pattern_text : Text) → Type 0
 Found text pattern_text =
-    (before : Text) × (part : Text) × (after : Text) × (text ≡ before ++ (part ++ after)) × Matches part pattern_text
+    (before : Text) × (part : Text) × (after : Text) × (text ≡ before ++ (part ++ after)) ×
+    Matches part pattern_text

@@ -4,12 +4,15 @@ pub mod CharSets
 pub mod Gives
 pub mod Held
 pub mod Language
-pub mod Marks
+pub mod Parts
 pub mod Pattern
 pub mod Profile
 pub mod Quantity
 pub mod Reading
 pub mod Samples
 pub mod Shape
+pub mod Terms
 pub mod Tests
 pub mod Tree
+pub mod Unrolled
+pub mod Walk

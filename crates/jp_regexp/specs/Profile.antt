@@ -25,7 +25,8 @@ depth (either p q) = max (depth p) (depth q)
 depth (repeat least most p) = depth p
 depth (plus p) = depth p
 
--- how many copies of its atom a repetition unrolls to: `*` and `?` one, `{n}` n, `{n,m}` m, `{n,}` n+1 (RFC 9485, 8)
+-- how many copies of its atom a repetition unrolls to: `*` and `?` one, `{n}` n, `{n,m}` m, `{n,}` n+1 (RFC
+-- 9485, 8)
 abbrev pub copies : ℕ → Option ℕ → ℕ
 copies least None = least + 1
 copies least (Some most) = most
@@ -40,7 +41,8 @@ size (either p q) = size p + size q
 size (repeat least most p) = copies least most * size p
 size (plus p) = size p
 
--- the counts of one repetition are no more than the limit, and the least is no more than the most (RFC 9485, 3 and 8)
+-- the counts of one repetition are no more than the limit, and the least is no more than the most (RFC
+-- 9485, 3 and 8)
 abbrev pub AreCounts : ℕ → Option ℕ → Type 0
 AreCounts least None = least ≤ max_count
 AreCounts least (Some most) = (least ≤ most) × (most ≤ max_count)

@@ -1,5 +1,9 @@
--- A reader of patterns, by which a text has at most one tree. Each function reads from the front, and gives what it read and the rest. It stands here since the contracts of the code that reads follow it; no public contract names it.
-use Rattle.std.specs.Prelude.{ℕ, zero, suc, ◌+◌, ◌-◌, ◌*◌, true, false, not, ◌&&◌, Bool, ◌==◌, nat_le, List, [], ◌∷◌, ◌++◌, length, Option, Some, None, option_map, option_and_then, if◌then◌else◌}
+-- A working file, which nobody has to believe: a reader of patterns, by which a text has at most one tree. Each function
+-- reads from the front, and gives what it read and the rest. The contracts of the code that reads follow it; no public
+-- contract names it.
+use Rattle.std.specs.Prelude.{ℕ, zero, suc, ◌+◌, ◌-◌, ◌*◌, true, false, not, ◌&&◌, Bool, ◌==◌, nat_le, List}
+use Rattle.std.specs.Prelude.{[], ◌∷◌, ◌++◌, length, Option, Some, None, option_map, option_and_then}
+use Rattle.std.specs.Prelude.{if◌then◌else◌}
 use Rattle.unicode.specs.declared.properties.GeneralCategory.{GeneralCategory}
 use Rattle.unicode.specs.declared.properties.GeneralCategory.TheVariants as is
 use Rattle.jp_regexp.specs.Pattern.{Text, Element, CharSet, Pattern}
@@ -18,7 +22,8 @@ Parse A = Text → Option (A × Text)
 -- ---- escapes and categories
 
 abbrev pub single_value : ℕ → Option ℕ
-single_value c = if c == 110 then Some 10 else if c == 114 then Some 13 else if c == 116 then Some 9 else if is_escaped c then Some c else None
+single_value c = if c == 110 then Some 10 else if c == 114 then Some 13 else if c == 116 then Some 9
+    else if is_escaped c then Some c else None
 
 -- behind a backslash
 abbrev pub single_at : Parse ℕ
@@ -27,7 +32,8 @@ single_at (c ∷ t) = option_map (λ v. (v, t)) (single_value c)
 
 -- the categories whose names begin with `L`, by what follows it
 abbrev pub letters_named : Text → Option (List GeneralCategory)
-letters_named [] = Some (is.LowercaseLetter ∷ is.ModifierLetter ∷ is.OtherLetter ∷ is.TitlecaseLetter ∷ is.UppercaseLetter ∷ [])
+letters_named [] = Some (is.LowercaseLetter ∷ is.ModifierLetter ∷ is.OtherLetter ∷ is.TitlecaseLetter ∷
+    is.UppercaseLetter ∷ [])
 letters_named (c ∷ []) =
     if c == 108 then Some (is.LowercaseLetter ∷ [])
     else if c == 109 then Some (is.ModifierLetter ∷ [])
@@ -59,7 +65,8 @@ numbers_named (c ∷ d ∷ t) = None
 
 -- the categories whose names begin with `P`, by what follows it
 abbrev pub punctuation_named : Text → Option (List GeneralCategory)
-punctuation_named [] = Some (is.ConnectorPunctuation ∷ is.DashPunctuation ∷ is.ClosePunctuation ∷ is.FinalPunctuation ∷ is.InitialPunctuation ∷ is.OtherPunctuation ∷ is.OpenPunctuation ∷ [])
+punctuation_named [] = Some (is.ConnectorPunctuation ∷ is.DashPunctuation ∷ is.ClosePunctuation ∷
+    is.FinalPunctuation ∷ is.InitialPunctuation ∷ is.OtherPunctuation ∷ is.OpenPunctuation ∷ [])
 punctuation_named (c ∷ []) =
     if c == 99 then Some (is.ConnectorPunctuation ∷ [])
     else if c == 100 then Some (is.DashPunctuation ∷ [])
@@ -150,7 +157,9 @@ range_from low r = if nat_le low r.0 then Some (Element.range low r.0, r.1) else
 abbrev pub after_inner : ℕ → Parse Element
 after_inner low [] = Some (Element.one low, [])
 after_inner low (d ∷ []) = Some (Element.one low, d ∷ [])
-after_inner low (d ∷ e ∷ t) = if d == 45 && not (e == 93) then option_and_then (range_from low) (inner_at (e ∷ t)) else Some (Element.one low, d ∷ e ∷ t)
+after_inner low (d ∷ e ∷ t) =
+    if d == 45 && not (e == 93) then option_and_then (range_from low) (inner_at (e ∷ t))
+    else Some (Element.one low, d ∷ e ∷ t)
 
 abbrev pub escape_element_at : Parse Element
 escape_element_at [] = None
@@ -161,7 +170,8 @@ escape_element_at (d ∷ t) =
 
 abbrev pub element_at : Parse Element
 element_at [] = None
-element_at (c ∷ t) = if c == 92 then escape_element_at t else if is_class_normal c then after_inner c t else None
+element_at (c ∷ t) = if c == 92 then escape_element_at t else if is_class_normal c then after_inner c t
+    else None
 
 abbrev pub close_at : Parse (List Element)
 close_at [] = None
@@ -240,11 +250,13 @@ close_count_at n m (c ∷ t) = if c == 125 then Some (Pattern.repeat n (Some m),
 
 abbrev pub after_comma_at : ℕ → Parse Change
 after_comma_at n [] = None
-after_comma_at n (c ∷ t) = if c == 125 then Some (Pattern.repeat n None, t) else option_and_then (λ r. close_count_at n r.0 r.1) (count_at (c ∷ t))
+after_comma_at n (c ∷ t) = if c == 125 then Some (Pattern.repeat n None, t)
+    else option_and_then (λ r. close_count_at n r.0 r.1) (count_at (c ∷ t))
 
 abbrev pub after_least_at : ℕ → Parse Change
 after_least_at n [] = None
-after_least_at n (c ∷ t) = if c == 125 then Some (Pattern.repeat n (Some n), t) else if c == 44 then after_comma_at n t else None
+after_least_at n (c ∷ t) = if c == 125 then Some (Pattern.repeat n (Some n), t)
+    else if c == 44 then after_comma_at n t else None
 
 abbrev pub quantity_at : Parse Change
 quantity_at [] = Some ((λ p. p), [])
@@ -309,7 +321,8 @@ with_quantity_of (quantities.Repeat least most) p = Pattern.repeat least most p
 abbrev pub digits_within : ℕ → Parse ℕ
 digits_within n [] = Some (n, [])
 digits_within n (c ∷ t) =
-    if is_digit c then (if nat_le (n * 10 + (c - 48)) max_count then digits_within (n * 10 + (c - 48)) t else None)
+    if is_digit c then (if nat_le (n * 10 + (c - 48)) max_count then digits_within (n * 10 + (c - 48)) t
+    else None)
     else Some (n, c ∷ t)
 
 abbrev pub count_within : Parse ℕ
@@ -318,7 +331,8 @@ count_within (c ∷ t) = if is_digit c then digits_within 0 (c ∷ t) else None
 
 abbrev pub close_count_within : ℕ → ℕ → Parse Quantity
 close_count_within n m [] = None
-close_count_within n m (c ∷ t) = if c == 125 && nat_le n m then Some (quantities.Repeat n (Some m), t) else None
+close_count_within n m (c ∷ t) = if c == 125 && nat_le n m then Some (quantities.Repeat n (Some m), t)
+    else None
 
 abbrev pub after_comma_within : ℕ → Parse Quantity
 after_comma_within n [] = None
@@ -344,7 +358,8 @@ quantity_within (c ∷ t) =
 
 -- inner reads with so many parentheses left
 unfoldable pub group_within : (ℕ → Parse Pattern) → ℕ → Parse Pattern
-group_within inner left t = if left == 0 then None else option_and_then (λ r. close_group_at r.0 r.1) (inner (left - 1) t)
+group_within inner left t = if left == 0 then None
+    else option_and_then (λ r. close_group_at r.0 r.1) (inner (left - 1) t)
 
 unfoldable pub atom_within : (ℕ → Parse Pattern) → ℕ → Parse Pattern
 atom_within inner left [] = None
@@ -379,7 +394,8 @@ after_turn rest (piece p, t) = with_piece rest (p, t)
 -- up to the end or a closing parenthesis, with so many parentheses left; the second number bounds the turns
 unfoldable pub pattern_within : ℕ → ℕ → Parse Pattern
 pattern_within left zero t = None
-pattern_within left (suc n) t = option_and_then (after_turn (pattern_within left n)) (next_turn (λ l. pattern_within l n) left t)
+pattern_within left (suc n) t =
+    option_and_then (after_turn (pattern_within left n)) (next_turn (λ l. pattern_within l n) left t)
 
 unfoldable pub read_within : Text → Option Pattern
 read_within t = option_and_then if_whole (pattern_within max_depth (length t + 1) t)

@@ -1,4 +1,5 @@
--- The two tests that the functions `match` and `search` of a query ask. A language is a relation, so the definitions of the evaluator take the two tests as given, and say that they are right.
+-- The two tests that the functions `match` and `search` of a query ask. A language is a relation, so the
+-- definitions of the evaluator take the two tests as given, and say that they are right.
 use Rattle.std.specs.Prelude.{Bool, IsTrue, ◌↔◌}
 use Rattle.jp_regexp.specs.Pattern.{Text}
 use Rattle.jp_regexp.specs.Language.{Matches, Found}

@@ -1,5 +1,5 @@
 -- What the tree of the code stands for.
-use Rattle.std.specs.Prelude.{ℕ, ◌+◌, List, [], ◌∷◌, map}
+use Rattle.std.specs.Prelude.{List, [], ◌∷◌, map}
 use Rattle.jp_regexp.specs.declared.tree.Element.{Element as HeldElement}
 use Rattle.jp_regexp.specs.declared.tree.Element.TheVariants as element
 use Rattle.jp_regexp.specs.declared.tree.CharSet.{CharSet as HeldSet}
@@ -7,8 +7,8 @@ use Rattle.jp_regexp.specs.declared.tree.CharSet.TheVariants as set
 use Rattle.jp_regexp.specs.declared.tree.Node.{Node}
 use Rattle.jp_regexp.specs.declared.tree.Node.TheOpen.{Node-F}
 use Rattle.jp_regexp.specs.declared.tree.Node.TheFolds.{fold-Node}
-use Rattle.jp_regexp.specs.Profile.{size}
-use Rattle.jp_regexp.specs.Pattern.{Element, one, range, of_category, CharSet, only, dot, category, class, Pattern, empty, letter, group, seq, either, repeat, plus}
+use Rattle.jp_regexp.specs.Pattern.{Element, one, range, of_category, CharSet, only, dot, category, class}
+use Rattle.jp_regexp.specs.Pattern.{Pattern, empty, letter, group, seq, either, repeat, plus}
 
 -- the element of a class (RFC 9485, 3: CCE1)
 abbrev pub element_of : HeldElement → Element
@@ -45,12 +45,3 @@ layer_of (Node-F.Plus atom) = plus atom.value
 -- the pattern that the tree stands for (RFC 9485, 3)
 abbrev pub node_of : Node → Pattern
 node_of = fold-Node Pattern layer_of
-
--- the unrolled size of that pattern (RFC 9485, 8)
-abbrev pub size_of : Node → ℕ
-size_of n = size (node_of n)
-
--- the unrolled sizes of these together (RFC 9485, 8)
-abbrev pub size_of_all : List Node → ℕ
-size_of_all [] = 0
-size_of_all (n ∷ nodes) = size_of n + size_of_all nodes

@@ -8,7 +8,10 @@ ghost use Rattle.jp_regexp.specs.CharSets.{is_scalar, in_set};
 ghost use Rattle.jp_regexp.specs.Shape.{Shapes};
 ghost use Rattle.jp_regexp.specs.Profile.{InProfile, size};
 ghost use Rattle.jp_regexp.specs.Language.{Member, Matches, Found};
+ghost use Rattle.jp_regexp.specs.Held.{pattern_of};
 ghost use Rattle.jp_regexp.specs.Tests.{Tests, AreRight};
+
+use crate::pattern::Pattern as Held;
 
 /// A text has at most one tree, and it is decided whether it has one.
 pub fn one_tree()
@@ -18,8 +21,10 @@ pub fn one_tree()
 
 /// What is negated holds every other character.
 pub fn negated_holds_the_others()
-    ensures of_class { (elements : List Element) (c : ℕ) → IsTrue (is_scalar c) → in_set (class true elements) c ≡ not (in_set (class false elements) c) }
-    ensures of_category { (categories : List GeneralCategory) (c : ℕ) → IsTrue (is_scalar c) → in_set (category true categories) c ≡ not (in_set (category false categories) c) }
+    ensures of_class { (elements : List Element) (c : ℕ) → IsTrue (is_scalar c) → in_set (class true elements) c ≡ not
+        (in_set (class false elements) c) }
+    ensures of_category { (categories : List GeneralCategory) (c : ℕ) → IsTrue (is_scalar c) → in_set (category true
+        categories) c ≡ not (in_set (category false categories) c) }
 {}
 
 /// What a pattern has consists of characters.
@@ -46,6 +51,11 @@ pub fn language_of_size_zero()
 pub fn matches_is_found()
     ensures whole { (text pattern_text : Text) → Matches text pattern_text → Found text pattern_text }
     ensures nothing { (text pattern_text : Text) → Matches [] pattern_text → Found text pattern_text }
+{}
+
+/// A pattern that was read keeps within the limits: its counts, its depth and its size.
+pub fn held_in_profile(pattern: &Held)
+    ensures { InProfile (pattern_of pattern.now) }
 {}
 
 /// There are tests that answer as the language says, so what is said of all of them is said of some.

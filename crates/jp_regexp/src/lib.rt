@@ -1,21 +1,23 @@
 //! Patterns of I-Regexp (RFC 9485): what they are, their limits, and which texts they match.
 #![tactic(auto)]
 
+mod advance;
+mod beginnings;
 mod categories;
-mod ends;
 mod examples;
 mod fault;
 pub mod laws;
-mod marks;
+mod leave;
+mod letters;
+mod parts;
 mod pattern;
+mod reach;
 mod read_counts;
 mod read_patterns;
 mod read_sets;
 mod sets;
-mod size;
+mod terms;
 mod tree;
 
 pub use pattern::Pattern;
-
-#[cfg(test)]
-mod tests;
+pub use terms::Terms;

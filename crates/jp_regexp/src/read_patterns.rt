@@ -34,7 +34,8 @@ fn group(alloc: Global, inside: Node) -> Result<Node, AllocError>
 }
 
 fn branches(alloc: Global, before: Vec<Node>, pieces: Vec<Node>) -> Result<Node, AllocError>
-    ensures { IfOk result (λ n. node_of n ≡ before_last (map node_of before.items) (in_turn (map node_of pieces.items))) }
+    ensures { IfOk result (λ n. node_of n ≡ before_last (map node_of before.items) (in_turn (map node_of
+        pieces.items))) }
 {
     let last = Box::new(alloc, Node::Pieces(pieces))?;
     Ok(Node::Branches { before, last })
@@ -43,7 +44,8 @@ fn branches(alloc: Global, before: Vec<Node>, pieces: Vec<Node>) -> Result<Node,
 #[cycle(read_patterns)]
 #[tactic(auto, unfolding(crate::specs::Reading::group_within))]
 fn group_at(alloc: Global, left: u32, turns: usize, text: &[char]) -> Result<(Node, &[char]), Fault>
-    ensures { Gives (λ x. (node_of x.0, x.1.now)) result (reading.group_within (λ l. reading.pattern_within l turns) left text.now) }
+    ensures { Gives (λ x. (node_of x.0, x.1.now)) result (reading.group_within (λ l. reading.pattern_within l
+        turns) left text.now) }
 {
     if left == 0 {
         return Err(Fault::NoPattern);
@@ -58,7 +60,8 @@ fn group_at(alloc: Global, left: u32, turns: usize, text: &[char]) -> Result<(No
 #[cycle(read_patterns)]
 #[tactic(auto, unfolding(crate::specs::Reading::atom_within))]
 fn atom_at(alloc: Global, left: u32, turns: usize, text: &[char]) -> Result<(Node, &[char]), Fault>
-    ensures { Gives (λ x. (node_of x.0, x.1.now)) result (reading.atom_within (λ l. reading.pattern_within l turns) left text.now) }
+    ensures { Gives (λ x. (node_of x.0, x.1.now)) result (reading.atom_within (λ l. reading.pattern_within l
+        turns) left text.now) }
 {
     match text {
         ['(', more @ ..] => group_at(alloc, left, turns, more),
@@ -72,7 +75,8 @@ fn atom_at(alloc: Global, left: u32, turns: usize, text: &[char]) -> Result<(Nod
 #[cycle(read_patterns)]
 #[tactic(auto, unfolding(crate::specs::Reading::piece_within))]
 fn piece_at(alloc: Global, left: u32, turns: usize, text: &[char]) -> Result<(Node, &[char]), Fault>
-    ensures { Gives (λ x. (node_of x.0, x.1.now)) result (reading.piece_within (λ l. reading.pattern_within l turns) left text.now) }
+    ensures { Gives (λ x. (node_of x.0, x.1.now)) result (reading.piece_within (λ l. reading.pattern_within l
+        turns) left text.now) }
 {
     let (atom, rest) = atom_at(alloc, left, turns, text)?;
     let (quantity, rest) = quantity_at(rest)?;
@@ -87,7 +91,8 @@ fn next_turn(
     turns: usize,
     text: &[char],
 ) -> Result<(Turn, &[char]), Fault>
-    ensures { Gives (λ x. (reading.turn_of x.0, x.1.now)) result (reading.next_turn (λ l. reading.pattern_within l turns) left text.now) }
+    ensures { Gives (λ x. (reading.turn_of x.0, x.1.now)) result (reading.next_turn (λ l. reading.pattern_within l
+        turns) left text.now) }
 {
     match text {
         [] => Ok((Turn::End, text)),

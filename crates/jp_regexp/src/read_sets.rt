@@ -197,7 +197,8 @@ fn elements_from(
     mut found: Vec<Element>,
     text: &[char],
 ) -> Result<(Vec<Element>, &[char]), Fault>
-    ensures { Gives (λ x. (map element_of x.0.items, x.1.now)) result (reading.elements_behind (map element_of found.items) turns text.now) }
+    ensures { Gives (λ x. (map element_of x.0.items, x.1.now)) result (reading.elements_behind (map element_of
+        found.items) turns text.now) }
 {
     let mut rest = text;
     for _turn in 0..turns {

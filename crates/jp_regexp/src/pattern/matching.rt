@@ -1,13 +1,13 @@
 //! What a pattern matches.
 
-ghost use Rattle.std.specs.Prelude.{◌≡◌, ◌↔◌, IfOk, IsTrue};
+ghost use Rattle.std.specs.Prelude.{◌≡◌, ◌≤◌, ◌↔◌, [], IfOk, IsTrue, false, true};
 ghost use Rattle.std.specs.Str.{chars};
 ghost use Rattle.jp_regexp.specs.Held.{HasPart, pattern_of};
 ghost use Rattle.jp_regexp.specs.Language.{Member};
-ghost use Rattle.jp_regexp.specs.Profile.{size};
+ghost use Rattle.jp_regexp.specs.Profile.{max_size, size};
+ghost use Rattle.jp_regexp.specs.Unrolled.{unrolled};
+ghost use Rattle.jp_regexp.specs.Walk.{advance, is_elem};
 
-use crate::ends::ends;
-use crate::marks::{anywhere, at_end, at_start, everywhere};
 use crate::pattern::Pattern;
 use std::alloc::{AllocError, Global};
 
@@ -21,9 +21,10 @@ pub fn characters(alloc: Global, text: &str) -> Result<Vec<char>, AllocError>
 impl Pattern {
     /// How many sets of characters there are once each repetition is written out. It takes no memory.
     pub fn unrolled_size(&self) -> u64
-        ensures { result ≡ size (pattern_of self.now) }
+        ensures exact { result ≡ size (pattern_of self.now) }
+        ensures within { result ≤ max_size }
     {
-        self.size
+        u64::from(self.root.size())
     }
 
     /// Whether the whole text is in the pattern's language (RFC 9485, 4).
@@ -34,13 +35,18 @@ impl Pattern {
     pub fn matches(&self, alloc: Global, text: &str) -> Result<bool, AllocError>
         ensures { IfOk result (λ b. IsTrue b ↔ Member (pattern_of self.now) (chars text.now)) }
     {
-        let text = characters(alloc, text)?;
-        let starts = at_start(alloc, &text)?;
-        let ends = ends(alloc, &self.root, &text, &starts)?;
-        Ok(at_end(&ends))
+        let mut terms = self.start(alloc)?;
+        for c in text.chars() {
+            terms.step(c, false)?;
+            if terms.is_empty() {
+                return Ok(false);
+            }
+        }
+        Ok(terms.accepts())
     }
 
-    /// Whether some part of consecutive characters of the text is in the pattern's language, the empty part included.
+    /// Whether some part of consecutive characters of the text is in the pattern's language, the empty part
+    /// included.
     ///
     /// # Errors
     ///
@@ -48,9 +54,26 @@ impl Pattern {
     pub fn found_in(&self, alloc: Global, text: &str) -> Result<bool, AllocError>
         ensures { IfOk result (λ b. IsTrue b ↔ HasPart (pattern_of self.now) (chars text.now)) }
     {
-        let text = characters(alloc, text)?;
-        let starts = everywhere(alloc, &text)?;
-        let ends = ends(alloc, &self.root, &text, &starts)?;
-        Ok(anywhere(&ends))
+        let mut terms = self.start(alloc)?;
+        if terms.accepts() {
+            return Ok(true);
+        }
+        for c in text.chars() {
+            if terms.is_at_start() && !self.may_begin(c) {
+                continue;
+            }
+            if terms.read(c, true)? {
+                return Ok(true);
+            }
+        }
+        Ok(terms.accepts())
+    }
+
+    /// Whether a text of the pattern may begin with the character, as far as the table tells.
+    fn may_begin(&self, c: char) -> bool
+        ensures { result ≡ false → advance (is_elem []) c (unrolled (pattern_of self.now)) 0 true ≡ [] }
+    {
+        let code = c as usize;
+        code >= self.begins.len() || self.begins[code]
     }
 }

@@ -1,6 +1,9 @@
-use Rattle.std.proofs.Common.{◌≤◌, subst, lit<}
+use Rattle.std.proofs.Common.{◌≡◌, ◌≤◌, min, sym, ap, ◌∙◌, subst, lit<, arith}
 use Rattle.std.specs.Str.{chars}
-use Rattle.jp_regexp.specs.Tree.{node_of, size_of}
+use Rattle.jp_regexp.specs.Profile.{size, InProfile, IsPatternOf}
+use Rattle.jp_regexp.specs.Tree.{node_of}
+use Rattle.jp_regexp.specs.Parts.{pattern_in}
+use Rattle.jp_regexp.proofs.UnrolledLemmas.{letters-unrolled}
 use Rattle.jp_regexp.proofs.ReadLemmas.{is_pattern, no_pattern, too_large, size_is, size_over}
 use Rattle.jp_regexp.proofs.pattern.Pattern.read.Goals as goal
 
@@ -12,12 +15,34 @@ returns-in-Err-NoPattern c =
 pub returns-then-size-gt-MAX_SIZE : goal.returns-then-size-gt-MAX_SIZE
 returns-then-size-gt-MAX_SIZE c =
     let read = rw (c.deref.ensures.value, c.in_ok-text.ensures) at c.in-Ok.ensures in
-    too_large (chars c.args.text.now) (node_of c.in-Ok.root) read
-    (size_over (size_of c.in-Ok.root) c.size_of-size.result 18446744073709551615 c.size_of-size.ensures c.if-size-gt-MAX_SIZE.true)
+    let p = node_of c.in-Ok.node in
+    let same = c.size.ensures ∙ ap (λ q. min (size q) 4_294_967_295) c.in_ok-root-in-Ok.ensures.same in
+    too_large (chars c.args.text.now) p read (size_over (size p) c.size.result 4_294_967_295 same c.if-size-gt-MAX_SIZE.true)
 
 pub returns : goal.returns
 returns c =
     let read = rw (c.deref.ensures.value, c.in_ok-text.ensures) at c.in-Ok.ensures in
-    let same = size_is (size_of c.in-Ok.root) c.size_of-size.result 18446744073709551615 c.size_of-size.ensures c.if-size-gt-MAX_SIZE.false (lit< tt) in
+    let p = node_of c.in-Ok.node in
+    let is : c.size.result ≡ min (size p) 4_294_967_295 = c.size.ensures ∙ ap (λ q. min (size q) 4_294_967_295) c.in_ok-root-in-Ok.ensures.same in
     let fits = c.if-size-gt-MAX_SIZE.false in
-    is_pattern (chars c.args.text.now) (node_of c.in-Ok.root) read (subst (λ n. n ≤ 10_000) same fits)
+    let same = size_is (size p) c.size.result 4_294_967_295 is fits (lit< tt) in
+    subst (IsPatternOf (chars c.args.text.now)) (sym c.in_ok-root-in-Ok.ensures.same)
+    (is_pattern (chars c.args.text.now) p read (subst (λ n. n ≤ 10_000) same fits))
+
+pub invariant_of-result : goal.invariant_of-result
+invariant_of-result c =
+    let read = rw (c.deref.ensures.value, c.in_ok-text.ensures) at c.in-Ok.ensures in
+    let p = node_of c.in-Ok.node in
+    let is : c.size.result ≡ min (size p) 4_294_967_295 = c.size.ensures ∙ ap (λ q. min (size q) 4_294_967_295) c.in_ok-root-in-Ok.ensures.same in
+    let fits = c.if-size-gt-MAX_SIZE.false in
+    let same = size_is (size p) c.size.result 4_294_967_295 is fits (lit< tt) in
+    record {
+      sized = c.in_ok-root-in-Ok.ensures.sized;
+      in_profile = ∣ subst InProfile (sym c.in_ok-root-in-Ok.ensures.same)
+          (is_pattern (chars c.args.text.now) p read (subst (λ n. n ≤ 10_000) same fits)).in_profile ∣₁;
+      has_beginnings = ∣ c.in_ok-begins-in-Ok.ensures ∣₁;
+    }
+
+pub beginnings-requires-clause-fits : goal.beginnings-requires-clause-fits
+beginnings-requires-clause-fits c =
+    omega (arith, letters-unrolled (pattern_in c.in_ok-root-in-Ok.root), c.size.ensures, c.if-size-gt-MAX_SIZE.false)

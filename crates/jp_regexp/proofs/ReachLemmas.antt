@@ -1,0 +1,150 @@
+-- The places of a set that lie behind a point.
+use Rattle.std.proofs.Common.{◌≡◌, ℕ, zero, suc, ◌+◌, ◌*◌, ◌<◌, ◌≤◌, ◌-◌, ◌/◌, ◌⊎◌, Bool, true, false, ◌||◌, ◌&&◌, nat_eq, nat_le, nat_lt, inl, inr, slice_index_or, List, [], ◌∷◌, length, drop, get_or, drop-cons, add-one, refl, sym, ap, ap₂, ◌∙◌, subst, arith, mul-le-mul_right}
+use Rattle.std.proofs.Math.Nat.{div-mul-le_self}
+use Rattle.std.proofs.lemmas.Bool.{eq-eqb, ne_eqb, cases_Bool, and_parts, leb-true, leb-false, ltb-true, ltb-false}
+use Rattle.jp_regexp.specs.declared.reach.Reach.{Reach}
+use Rattle.jp_regexp.specs.Pattern.{CharSet}
+use Rattle.jp_regexp.specs.Unrolled.{Unrolled, letter, letters}
+use Rattle.jp_regexp.specs.Walk.{leaves, advance, is_elem, Rises, IsRest, IsAt, Dead, IsWalk, IsPassed, is_live_up_to}
+use Rattle.jp_regexp.proofs.SkipLemmas.{dead_leaves, dead_advance, none_leaves}
+use Rattle.jp_regexp.proofs.StepLemmas.{advance_none}
+
+-- what rises from above low on has nothing up to low
+later : (low k : ℕ) (xs : List ℕ) → Rises low xs → k ≤ low → is_elem xs k ≡ false
+later low k [] h le = refl
+later low k (x ∷ xs) h le = ap₂ (λ a b. a || b) (ne_eqb k x (λ e. omega arith)) (later x k xs h.1 (omega arith))
+
+module _ (places : List ℕ) (past : ℕ) where
+  pub none_dead : IsRest places past [] → (n : ℕ) → Dead (is_elem places) past n
+  none_dead h n k low high = h.same (past + k) (omega arith)
+
+  pub none_rest : IsRest places past [] → (n : ℕ) → IsRest places (past + n) []
+  none_rest h n = record { rises = tt; same = λ k lt. h.same k (omega arith) }
+
+  module _ (q : ℕ) (rest : List ℕ) (h : IsRest places past (q ∷ rest)) where
+    pub front_above : past < q
+    front_above = h.rises.0
+
+    pub front_dead : (n : ℕ) → past + n < q → Dead (is_elem places) past n
+    front_dead n lt k low high =
+        h.same (past + k) (omega arith)
+        ∙ ap₂ (λ a b. a || b) (ne_eqb (past + k) q (λ e. omega arith)) (later q (past + k) rest h.rises.1 (omega arith))
+
+    pub front_rest : (n : ℕ) → past + n < q → IsRest places (past + n) (q ∷ rest)
+    front_rest n lt = record { rises = (lt, h.rises.1); same = λ k le. h.same k (omega arith) }
+
+    pub front_live : q ≡ past + 1 → is_elem places (past + 1) ≡ true
+    front_live e = h.same (past + 1) (omega arith) ∙ ap (λ b. b || is_elem rest (past + 1)) (eq-eqb (past + 1) q (sym e))
+
+    pub front_gone : q ≡ past + 1 → IsRest places (past + 1) rest
+    front_gone e = record {
+      rises = subst (λ n. Rises n rest) e h.rises.1;
+      same = λ k le. h.same k (omega arith) ∙ ap (λ b. b || is_elem rest k) (ne_eqb k q (λ f. omega arith));
+    }
+
+rest_at : (xs : List ℕ) (i : ℕ) → i < length xs → drop i xs ≡ slice_index_or xs i 0 ∷ drop (i + 1) xs
+rest_at xs i lt =
+    let back : suc i ≡ i + 1 = omega arith in
+    drop-cons xs i 0 lt ∙ ap (λ n. slice_index_or xs i 0 ∷ drop n xs) back
+
+rest_none : (xs : List ℕ) (i : ℕ) → length xs ≤ i → drop i xs ≡ []
+rest_none [] zero le = refl
+rest_none [] (suc i) le = refl
+rest_none (x ∷ xs) zero le = absurd (omega arith)
+rest_none (x ∷ xs) (suc i) le = rest_none xs i (omega arith)
+
+module _ (places : List ℕ) (past index : ℕ) (at : IsAt places past index) where
+  abbrev Front : Type 0
+  Front = (length places ≤ index) ⊎ ((index < length places) × IsRest places past (slice_index_or places index 0 ∷ drop (index + 1) places))
+
+  front : Front
+  front =
+      elim (cases_Bool (nat_lt index (length places))) [
+        | inl e ↦ let lt = ltb-true index (length places) e in inr (lt, subst (IsRest places past) (rest_at places index lt) at)
+        | inr e ↦ inl (ltb-false index (length places) e)
+      ]
+
+  pub place_above : index < length places → past < slice_index_or places index 0
+  place_above lt = (subst (IsRest places past) (rest_at places index lt) at).rises.0
+
+  abbrev pub Passes : ℕ → Type 0
+  Passes n = Dead (is_elem places) past n × IsAt places (past + n) index
+
+  pub passes_end : length places ≤ index → (n : ℕ) → Passes n
+  passes_end le n =
+      let h = subst (IsRest places past) (rest_none places index le) at in
+      (none_dead places past h n, subst (IsRest places (past + n)) (sym (rest_none places index le)) (none_rest places past h n))
+
+  pub passes_front : index < length places → (n : ℕ) → past + n < slice_index_or places index 0 → Passes n
+  passes_front lt n far =
+      let q = slice_index_or places index 0 in
+      let rest = drop (index + 1) places in
+      let h = subst (IsRest places past) (rest_at places index lt) at in
+      (front_dead places past q rest h n far, subst (IsRest places (past + n)) (sym (rest_at places index lt)) (front_rest places past q rest h n far))
+
+  pub passes : (n : ℕ) → is_live_up_to places index (past + n) ≡ false → Passes n
+  passes n e =
+      elim (cases_Bool (nat_lt index (length places))) [
+        | inl f ↦
+            let lt = ltb-true index (length places) f in
+            let far : nat_le (slice_index_or places index 0) (past + n) ≡ false = rw f at e in
+            passes_front lt n (leb-false (slice_index_or places index 0) (past + n) far)
+        | inr f ↦ passes_end (ltb-false index (length places) f) n
+      ]
+
+  pub finds : is_live_up_to places index (past + 1) ≡ true →
+      (is_elem places (past + 1) ≡ true) × IsAt places (past + 1) (index + 1)
+  finds e =
+      let both = and_parts (nat_lt index (length places)) _ e in
+      let lt = ltb-true index (length places) both.0 in
+      let q = slice_index_or places index 0 in
+      let h = subst (IsRest places past) (rest_at places index lt) at in
+      let le = leb-true q (past + 1) both.1 in
+      let same : q ≡ past + 1 = omega (arith, h.rises.0) in
+      (front_live places past q _ h same, front_gone places past q _ h same)
+
+module _ (places : List ℕ) (at : Reach) (stands : IsAt places at.past at.index) where
+  pub passed_none : (size : ℕ) → size ≡ 0 → IsPassed places size at at
+  passed_none size e = record {
+    walk = λ p f. record {
+      past = omega (arith, f);
+      entered = sym (none_leaves (is_elem places) p at.past at.entered (f ∙ e));
+      stands = stands;
+    };
+    reads = λ p c f. advance_none (is_elem places) c p at.past at.entered (f ∙ e);
+  }
+
+  pub passed_idle : (size : ℕ) → at.entered ≡ false → is_live_up_to places at.index (at.past + size) ≡ false →
+      IsPassed places size at (record { past = at.past + size; index = at.index; entered = false })
+  passed_idle size e none =
+      let h = passes places at.past at.index stands size none in
+      record {
+        walk = λ p f. record {
+          past = ap (λ n. at.past + n) (sym f);
+          entered = sym (ap (λ b. leaves (is_elem places) p at.past b) e
+              ∙ dead_leaves (is_elem places) p at.past (subst (Dead (is_elem places) at.past) (sym f) h.0));
+          stands = h.1;
+        };
+        reads = λ p c f. ap (λ b. advance (is_elem places) c p at.past b) e
+            ∙ dead_advance (is_elem places) c p at.past (subst (Dead (is_elem places) at.past) (sym f) h.0);
+      }
+
+  pub letter_live : (set : CharSet) → is_live_up_to places at.index (at.past + 1) ≡ true →
+      IsWalk places (letter set) at (record { past = at.past + 1; index = at.index + 1; entered = true })
+  letter_live set e =
+      let h = finds places at.past at.index stands e in
+      record { past = refl; entered = sym h.0; stands = h.1 }
+
+  pub letter_dead : (set : CharSet) → is_live_up_to places at.index (at.past + 1) ≡ false →
+      IsWalk places (letter set) at (record { past = at.past + 1; index = at.index; entered = false })
+  letter_dead set e =
+      let h = passes places at.past at.index stands 1 e in
+      record { past = refl; entered = sym (h.0 1 (omega arith) (omega arith)); stands = h.1 }
+
+-- the copies in front of the first live one
+module _ (q past size n : ℕ) where
+  fewer : n ≤ (q - past - 1) / size → n * size ≤ ((q - past - 1) / size) * size
+  fewer le = mul-le-mul_right size le
+
+  pub idle_reach : 0 < size → past < q → n ≤ (q - past - 1) / size → past + n * size < q
+  idle_reach some lt le = omega (arith, fewer le, div-mul-le_self (q - past - 1) size)

@@ -1,0 +1,191 @@
+-- A walk over a part, from the walks over its parts.
+use Rattle.std.proofs.Common.{◌≡◌, ℕ, zero, suc, ◌+◌, ◌-◌, ◌*◌, ◌≤◌, ◌<◌, Bool, true, false, ◌&&◌, ◌||◌, nat_le, List, [], ◌∷◌, map, drop, get_or, length, drop-cons, refl, sym, ap, ap₂, ◌∙◌, subst, arith, IsTrue, mul-le-mul_right}
+use Rattle.jp_regexp.specs.declared.reach.Reach.{Reach}
+use Rattle.jp_regexp.specs.declared.parts.Part.{Part}
+use Rattle.jp_regexp.specs.Parts.{meaning, pattern_in, in_turn_of, unrolled_in, unrolled_in_turn, branches_before}
+use Rattle.jp_regexp.specs.Unrolled.{Unrolled, unrolled, nothing, seq, either, plus, counted, counted_on, letters}
+use Rattle.jp_regexp.specs.Walk.{leaves, is_elem, Dead, IsAt, IsWalk, or_entered, entered_as}
+use Rattle.jp_regexp.proofs.UnrolledLemmas.{letters-counted, letters-counted_on}
+use Rattle.jp_regexp.proofs.CopyLemmas.{counted-letters, counted-leaves, open-letters, open-leaves, skipped, skipped_on, letters-skipped, letters-skipped_on}
+
+or_assoc : (x y z : Bool) → ((x || y) || z) ≡ (x || (y || z))
+or_assoc true y z = refl
+or_assoc false y z = refl
+
+pub drop_none : (parts : List Part) (i : ℕ) → length parts ≤ i → drop i parts ≡ []
+drop_none [] zero le = refl
+drop_none [] (suc i) le = refl
+drop_none (x ∷ parts) zero le = absurd (omega arith)
+drop_none (x ∷ parts) (suc i) le = drop_none parts i (omega arith)
+
+-- one part more of a list
+one_more : (parts : List Part) (i : ℕ) (part : Part) → i < length parts → part ≡ get_or parts i part →
+    map meaning (drop i parts) ≡ meaning part ∷ map meaning (drop (i + 1) parts)
+one_more parts i part lt e =
+    let back : suc i ≡ i + 1 = omega arith in
+    ap (map meaning) (drop-cons parts i part lt ∙ ap (λ x. x ∷ drop (suc i) parts) (sym e) ∙ ap (λ n. part ∷ drop n parts) back)
+
+pub piece_next : (parts : List Part) (i : ℕ) (part : Part) → i < length parts → part ≡ get_or parts i part →
+    unrolled_in_turn (drop i parts) ≡ seq (unrolled_in part) (unrolled_in_turn (drop (i + 1) parts))
+piece_next parts i part lt e = ap (λ ms. unrolled (in_turn_of ms)) (one_more parts i part lt e)
+
+pub branch_next : (parts : List Part) (q : Unrolled) (i : ℕ) (part : Part) → i < length parts → part ≡ get_or parts i part →
+    branches_before (drop i parts) q ≡ either (unrolled_in part) (branches_before (drop (i + 1) parts) q)
+branch_next parts q i part lt e =
+    let back : suc i ≡ i + 1 = omega arith in
+    ap (λ ps. branches_before ps q) (drop-cons parts i part lt ∙ ap (λ x. x ∷ drop (suc i) parts) (sym e) ∙ ap (λ n. part ∷ drop n parts) back)
+
+module _ (places : List ℕ) where
+  pub nothing_walk : (x : Reach) → IsAt places x.past x.index → IsWalk places nothing x x
+  nothing_walk x at = record { past = omega arith; entered = refl; stands = at }
+
+  pub seq_walk : (a b : Unrolled) (x y z : Reach) → IsWalk places a x y → IsWalk places b y z → IsWalk places (seq a b) x z
+  seq_walk a b x y z f g = record {
+    past = omega (arith, f.past, g.past);
+    entered = g.entered ∙ ap₂ (λ n e. leaves (is_elem places) b n e) f.past f.entered;
+    stands = g.stands;
+  }
+
+  pub either_walk : (a b : Unrolled) (x y z : Reach) → IsWalk places a x y → IsWalk places b (entered_as x.entered y) z →
+      IsWalk places (either a b) x (or_entered y.entered z)
+  either_walk a b x y z f g = record {
+    past = omega (arith, f.past, g.past);
+    entered = ap₂ (λ d e. d || e) f.entered (g.entered ∙ ap (λ n. leaves (is_elem places) b n x.entered) f.past);
+    stands = g.stands;
+  }
+
+  pub or_walk : (p : Unrolled) (b d : Bool) (x z : Reach) → IsWalk places p x (or_entered b (or_entered d z)) → IsWalk places p x (or_entered (b || d) z)
+  or_walk p b d x z f = record { past = f.past; entered = or_assoc b d z.entered ∙ f.entered; stands = f.stands }
+
+  module _ (a : Unrolled) (least i : ℕ) (x y z : Reach) (f : IsWalk places a x y) where
+    pub copy_walk : (most : ℕ) → i < most → IsWalk places (counted (least - (i + 1)) (most - (i + 1)) a) y z →
+        IsWalk places (counted (least - i) (most - i) a) x (or_entered (nat_le least i && x.entered) z)
+    copy_walk most lt g = record {
+      past = omega (arith, f.past, g.past, counted-letters a least i most lt);
+      entered = ap (λ e. (nat_le least i && x.entered) || e)
+          (g.entered ∙ ap₂ (λ n e. leaves (is_elem places) (counted (least - (i + 1)) (most - (i + 1)) a) n e) f.past f.entered)
+          ∙ sym (counted-leaves a least i (is_elem places) x.past x.entered most lt);
+      stands = g.stands;
+    }
+
+    pub copy_on_walk : i < least → IsWalk places (counted_on (least - (i + 1)) a) y z → IsWalk places (counted_on (least - i) a) x z
+    copy_on_walk lt g = record {
+      past = omega (arith, f.past, g.past, open-letters a least i lt);
+      entered = g.entered ∙ ap₂ (λ n e. leaves (is_elem places) (counted_on (least - (i + 1)) a) n e) f.past f.entered
+          ∙ sym (open-leaves a least i (is_elem places) x.past x.entered lt);
+      stands = g.stands;
+    }
+
+  module _ (a : Unrolled) (n least : ℕ) (x z : Reach) (none : x.entered ≡ false) (dead : Dead (is_elem places) x.past (n * letters a)) where
+    pub skip_walk : (most : ℕ) → n ≤ most → IsWalk places (counted (least - n) (most - n) a) (record x { past = x.past + n * letters a }) z →
+        IsWalk places (counted least most a) x z
+    skip_walk most le g = record {
+      past = g.past ∙ letters-skipped a n least most x.past le;
+      entered = g.entered ∙ ap (λ e. leaves (is_elem places) (counted (least - n) (most - n) a) (x.past + n * letters a) e) none
+          ∙ sym (skipped (is_elem places) a n least most x.past le dead)
+          ∙ ap (λ e. leaves (is_elem places) (counted least most a) x.past e) (sym none);
+      stands = g.stands;
+    }
+
+    pub skip_on_walk : n ≤ least → IsWalk places (counted_on (least - n) a) (record x { past = x.past + n * letters a }) z →
+        IsWalk places (counted_on least a) x z
+    skip_on_walk le g = record {
+      past = g.past ∙ letters-skipped_on a n least x.past le;
+      entered = g.entered ∙ ap (λ e. leaves (is_elem places) (counted_on (least - n) a) (x.past + n * letters a) e) none
+          ∙ sym (skipped_on (is_elem places) a n least x.past le dead)
+          ∙ ap (λ e. leaves (is_elem places) (counted_on least a) x.past e) (sym none);
+      stands = g.stands;
+    }
+
+  -- the last copy of `{n,}`
+  pub last_walk : (a : Unrolled) (x y : Reach) → IsWalk places a x y → IsWalk places (counted_on 0 a) x (or_entered x.entered y)
+  last_walk a x y f = record { past = f.past; entered = ap (λ e. x.entered || e) f.entered; stands = f.stands }
+
+  -- a copy that may be repeated ends where one does
+  pub plus_walk : (a : Unrolled) (x y : Reach) → IsWalk places (plus a) x y → IsWalk places a x y
+  plus_walk a x y f = record { past = f.past; entered = f.entered; stands = f.stands }
+
+-- ---- the loops over the copies
+
+module _ (a : Unrolled) (least most i here past : ℕ) (lt : i < most)
+    (total : here + letters (counted (least - i) (most - i) a) ≡ past + letters (counted least most a))
+    (fits : past + letters (counted least most a) ≤ 10_000) where
+  pub copies_fit : here + (most - i) * letters a ≤ 10_000
+  copies_fit = omega (arith, total, fits, letters-counted a (least - i) (most - i))
+
+  pub copy_fits : here + letters a ≤ 10_000
+  copy_fits = omega (arith, total, fits, counted-letters a least i most lt)
+
+module _ (a : Unrolled) (least i here past : ℕ) (lt : i < least)
+    (total : here + letters (counted_on (least - i) a) ≡ past + letters (counted_on least a))
+    (fits : past + letters (counted_on least a) ≤ 10_000) where
+  pub copies_on_fit : here + (least - i) * letters a ≤ 10_000
+  copies_on_fit =
+      let more : (least - i) * letters a ≤ (least - i + 1) * letters a = mul-le-mul_right (letters a) (omega arith) in
+      omega (arith, total, fits, letters-counted_on a (least - i), more)
+
+  pub copy_on_fits : here + letters a ≤ 10_000
+  copy_on_fits = omega (arith, total, fits, open-letters a least i lt)
+
+pub last_fits : (a : Unrolled) (least i here past : ℕ) → least ≤ i →
+    here + letters (counted_on (least - i) a) ≡ past + letters (counted_on least a) →
+    past + letters (counted_on least a) ≤ 10_000 → here + letters a ≤ 10_000
+last_fits a least i here past le total fits =
+    let e : least - i ≡ 0 = omega arith in
+    let t = rw e at total in
+    omega (arith, t, fits)
+
+pub some_idle : (past n m s : ℕ) → n ≤ m → past + m * s ≤ 10_000 → past + n * s ≤ 10_000
+some_idle past n m s le fits = let h : n * s ≤ m * s = mul-le-mul_right s le in omega arith
+
+pub not_entered : (b : Bool) (n : ℕ) → (IsTrue b → n ≡ 0) → 0 < n → b ≡ false
+not_entered true n h lt = absurd (let e = h refl in omega arith)
+not_entered false n h lt = refl
+
+module _ (places : List ℕ) (a : Unrolled) (i n size least : ℕ) (x z : Reach) (e : size ≡ letters a) (none : x.entered ≡ false)
+    (dead : Dead (is_elem places) x.past (n * size)) where
+  behind : ℕ → Reach
+  behind s = record { past = x.past + n * s; index = x.index; entered = x.entered }
+
+  dead_letters : Dead (is_elem places) x.past (n * letters a)
+  dead_letters = subst (λ s. Dead (is_elem places) x.past (n * s)) e dead
+
+  pub skip_copies : (most : ℕ) → n ≤ most - i →
+      IsWalk places (counted (least - (i + n)) (most - (i + n)) a) (record { past = x.past + n * size; index = x.index; entered = x.entered }) z →
+      IsWalk places (counted (least - i) (most - i) a) x z
+  unfolding behind
+  skip_copies most le w =
+      let f : least - (i + n) ≡ least - i - n = omega arith in
+      let g : most - (i + n) ≡ most - i - n = omega arith in
+      let v = subst (λ s. IsWalk places (counted (least - (i + n)) (most - (i + n)) a) (behind s) z) e w in
+      let u = subst (λ k. IsWalk places (counted k (most - (i + n)) a) (behind (letters a)) z) f v in
+      skip_walk places a n (least - i) x z none dead_letters (most - i) le
+      (subst (λ k. IsWalk places (counted (least - i - n) k a) (behind (letters a)) z) g u)
+
+  pub skip_copies_on : n ≤ least - i →
+      IsWalk places (counted_on (least - (i + n)) a) (record { past = x.past + n * size; index = x.index; entered = x.entered }) z →
+      IsWalk places (counted_on (least - i) a) x z
+  unfolding behind
+  skip_copies_on le w =
+      let f : least - (i + n) ≡ least - i - n = omega arith in
+      let v = subst (λ s. IsWalk places (counted_on (least - (i + n)) a) (behind s) z) e w in
+      skip_on_walk places a n (least - i) x z none dead_letters le
+      (subst (λ k. IsWalk places (counted_on k a) (behind (letters a)) z) f v)
+
+pub total_skipped : (a : Unrolled) (least most i n size here total : ℕ) → size ≡ letters a → n ≤ most - i →
+    here + letters (counted (least - i) (most - i) a) ≡ total →
+    (here + n * size) + letters (counted (least - (i + n)) (most - (i + n)) a) ≡ total
+total_skipped a least most i n size here total e le kept =
+    let f : least - (i + n) ≡ least - i - n = omega arith in
+    let g : most - (i + n) ≡ most - i - n = omega arith in
+    ap₂ (λ k m. (here + n * size) + letters (counted k m a)) f g
+    ∙ ap (λ s. (here + n * s) + letters (counted (least - i - n) (most - i - n) a)) e
+    ∙ letters-skipped a n (least - i) (most - i) here le ∙ kept
+
+pub total_skipped_on : (a : Unrolled) (least i n size here total : ℕ) → size ≡ letters a → n ≤ least - i →
+    here + letters (counted_on (least - i) a) ≡ total → (here + n * size) + letters (counted_on (least - (i + n)) a) ≡ total
+total_skipped_on a least i n size here total e le kept =
+    let f : least - (i + n) ≡ least - i - n = omega arith in
+    ap (λ k. (here + n * size) + letters (counted_on k a)) f
+    ∙ ap (λ s. (here + n * s) + letters (counted_on (least - i - n) a)) e
+    ∙ letters-skipped_on a n (least - i) here le ∙ kept

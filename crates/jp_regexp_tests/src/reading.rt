@@ -1,0 +1,122 @@
+//! Which texts are patterns, and how large they are once repetitions are written out.
+
+use jp_regexp::Pattern;
+use std::alloc::Global;
+use std::test::*;
+
+/// A size and a pattern in each line.
+const SIZES: &str = "\
+0 \n\
+1 a|\n\
+1 a*\n\
+1 a?\n\
+1 a+\n\
+1000 a{1000}\n\
+10000 (a{1000}){10}\n\
+0 (){1000}\n\
+3 a{2,}\n\
+2 a{1,}\n\
+1 a{0,}\n\
+5 a{3,5}\n\
+0 a{0}\n\
+0 a{0,0}\n\
+9 (a|b)*a(a|b){3}\n\
+2000 (a?){1000}a{1000}\n\
+0 ((((){1000}){1000}){1000}){1000}\n\
+0 (((a{1000}){1000}){1000}){0}\n\
+0 ((((((a{1000}){1000}){1000}){1000}){1000}){1000}){0}\n\
+3 [a-z\\n]\\p{Lu}.\n\
+2 a{001}b{1,01}\n\
+1000 a{0000001000}\n\
+4 ((a|b)|(c|d))\n\
+1 [a]\n\
+1 [^a-z\\p{L}\\P{Nd}]";
+
+/// A text in each line that is no pattern.
+const REFUSED: &str = "\
+[^]\n[]\n[b-a]\n\\d\na**\na{,2}\na{2,1}\n(\n)\n]\n[a-b-c]\na{1001}\na{1001,}\na{1,1001}\na{1000,1001}\n\
+a{99999999999999999999}\n(a{1000}){11}\n((a{1000}){1000}){1000}\n[a\n[a-\n[^a\n[\na{\na{1\na{1,\na{}\n}\n\\\n*\n\
++\n?\n{1}\n|*\n(*)\na?+\na+{2}\na{1}{2}\n(?:a)\n\\p{Cs}\n\\p{Lx}\n\\p{\n\\p{L\n\\p{}\n\\p{Lul}\n\\p{l}\n\\pL\n\\P\n\
+[\\p{L}-z]\n[a-\\p{L}]\n[[]\n((a)\na)\na]\na}\n\\w\n\\s\n\\b\n\\a\n\\0\n\\x41\n\\u0041\n\\/\n\\\"\n\\-a-\\\n[a-\\d]\n\
+[--a-]]\n[a--b]\n[a-z-9]\na{-1}\na{1,2,3}\na{1 }\na{ 1}\na{a}\n[a-z&&[^b]]\n(?i)a\n(?<n>a)\na{1,\u{662}}";
+
+/// A name in each part.
+const CATEGORIES: &str =
+    "L Ll Lm Lo Lt Lu M Mc Me Mn N Nd Nl No P Pc Pd Pe Pf Pi Po Ps Z Zl Zp Zs S Sc Sk Sm So C Cc Cf Cn Co";
+
+pub fn read(alloc: Global, text: &str) -> Result<Pattern, Fail> {
+    match Pattern::read(alloc, text)? {
+        Some(pattern) => Ok(pattern),
+        None => Err("no pattern")?,
+    }
+}
+
+/// The part so many times over.
+pub fn repeated(alloc: Global, part: &str, count: usize) -> Result<String, Fail> {
+    let mut text = String::new(alloc);
+    for _ in 0..count {
+        text.push_str(part)?;
+    }
+    Ok(text)
+}
+
+fn between(alloc: Global, before: &str, text: &str, after: &str) -> Result<String, Fail> {
+    let mut all = String::new(alloc);
+    all.push_str(before)?;
+    all.push_str(text)?;
+    all.push_str(after)?;
+    Ok(all)
+}
+
+#[test]
+fn sizes(rt: HostRuntime) -> Result<(), Fail> {
+    for row in SIZES.lines() {
+        let Some((size, text)) = row.split_once(' ') else {
+            return Err("no size")?;
+        };
+        let pattern = read(rt.alloc(), text)?;
+        assert_eq!(rt;
+            Ok(pattern.unrolled_size()),
+            size.parse::<u64>(),
+            "at {text}"
+        );
+    }
+    for name in CATEGORIES.split(' ') {
+        let inside = between(rt.alloc(), "\\p{", name, "}")?;
+        assert_eq!(rt; read(rt.alloc(), &inside)?.unrolled_size(), 1, "at {name}");
+        let outside = between(rt.alloc(), "[^\\P{", name, "}]")?;
+        assert_eq!(rt; read(rt.alloc(), &outside)?.unrolled_size(), 1, "at {name}");
+    }
+    Ok(())
+}
+
+#[test]
+fn no_patterns(rt: HostRuntime) -> Result<(), Fail> {
+    let alloc = rt.alloc();
+    for text in REFUSED.lines() {
+        assert!(rt; Pattern::read(alloc, text)?.is_none(), "at {text}");
+    }
+    for part in ["(", "[", "a", "[a", "()(", "{", "\\p{", "a{1"] {
+        let text = repeated(alloc, part, 300_000)?;
+        assert!(rt; Pattern::read(alloc, &text)?.is_none(), "at {part}");
+    }
+    Ok(())
+}
+
+#[test]
+fn depth(rt: HostRuntime) -> Result<(), Fail> {
+    let alloc = rt.alloc();
+    for quantity in ["", "+", "*", "?", "{1}"] {
+        let close = between(alloc, ")", quantity, "")?;
+        let mut most = repeated(alloc, "(", 64)?;
+        most.push_str("a")?;
+        most.push_str(&repeated(alloc, &close, 64)?)?;
+        let pattern = read(alloc, &most)?;
+        assert_eq!(rt; pattern.unrolled_size(), 1, "at {quantity}");
+        assert!(rt; pattern.matches(alloc, "a")?, "at {quantity}");
+        assert!(rt; !pattern.matches(alloc, "ab")?, "at {quantity}");
+        let over = between(alloc, "(", &most, ")")?;
+        assert!(rt; Pattern::read(alloc, &over)?.is_none(), "at {quantity}");
+    }
+    Ok(())
+}
