@@ -5,6 +5,60 @@ use jp_syntax::{QueryFault, read_query};
 use std::alloc::{AllocError, Global};
 use std::test::Fail;
 
+/// A text that is accepted in each line.
+const ACCEPTED: &str = r#"$[9007199254740991]
+$[-9007199254740991]
+$[?@.a==-0]
+$[?count(@.*)>1]
+$[?@['a','b']]
+$[?@[ 'a' ]==1]
+$[?length(1)==1]
+$[?length(count(@))==1]
+$[?match(@,value($.p))]
+$[?search(@,'a')]
+$[?value(@.*)>1]
+$[9007199254740991:-9007199254740991:9007199254740991]
+$['9007199254740992']
+$[?@.a=='1.5']"#;
+
+/// What is told of a text, and the text, in each line.
+const REFUSED: &str = r#"query: fraction of $[?@.a==1.5]
+query: fraction of $[?@.a==1e3]
+query: fraction of $[?@.a==1E3]
+query: fraction of $[?nope(@)==1.5]
+query: fraction of $[?length(1.5)==1]
+query: fraction of $[?1.5==@.a]
+query: range of $[9007199254740992]
+query: range of $[-9007199254740992]
+query: range of $[::9007199254740992]
+query: range of $[?@[9007199254740992]]
+query: range of $.a[9007199254740992]
+query: range of $[0,9007199254740992]
+query: range of $[9007199254740992:]
+query: range of $[:9007199254740992]
+query: type of $[?length(@.a)]
+query: type of $[?length(@.*)>1]
+query: type of $[?nope(@)]
+query: type of $[?true()]
+query: type of $[?match(@,'a')==true]
+query: type of $[?count((@.a))==1]
+query: type of $[?value(@.a)]
+query: type of $[?count(@.a)]
+query: type of $[?match(@.a)]
+query: type of $[?count(1)==1]
+query: type of $[?xor(@.a,@.b)]
+query: type of $.a[?nope(@)]
+query: type of $[0,?nope(@)]
+query: type of $[?search(@.*,'a')]
+query: type of $[?search('a',@.*)]
+query: type of $[?@.a||nope(@)]
+query: type of $[?@.a&&!nope(@)]
+query: type of $[?1==nope(@)]
+query: type of $[?length(length(@.*))==1]
+query: type of $[?length(@,@)==1]
+query: type of $[?count(value(@.a))==1]
+query: syntax of $[-0]"#;
+
 /// `start`, so many times `c`, and `end`.
 fn around(
     alloc: Global,
@@ -24,22 +78,7 @@ fn around(
 
 #[test]
 fn accepted_texts(rt: HostRuntime) -> Result<(), Fail> {
-    for text in [
-        "$[9007199254740991]",
-        "$[-9007199254740991]",
-        "$[?@.a==-0]",
-        "$[?count(@.*)>1]",
-        "$[?@['a','b']]",
-        "$[?@[ 'a' ]==1]",
-        "$[?length(1)==1]",
-        "$[?length(count(@))==1]",
-        "$[?match(@,value($.p))]",
-        "$[?search(@,'a')]",
-        "$[?value(@.*)>1]",
-        "$[9007199254740991:-9007199254740991:9007199254740991]",
-        "$['9007199254740992']",
-        "$[?@.a=='1.5']",
-    ] {
+    for text in ACCEPTED.lines() {
         let query = read_query(rt.alloc(), text)?;
         let plan = plan(rt.alloc(), text)?;
         assert!(rt; *plan.query() == query, "at {text}");
@@ -51,7 +90,10 @@ fn accepted_texts(rt: HostRuntime) -> Result<(), Fail> {
 fn accepted_long_texts(rt: HostRuntime) -> Result<(), Fail> {
     for digits in 1..39usize {
         let literal = around(rt.alloc(), "$[?@.a==", '9', digits, "]")?;
-        assert!(rt; plan(rt.alloc(), literal.as_str()).is_ok(), "{digits} digits");
+        assert!(rt;
+            plan(rt.alloc(), literal.as_str()).is_ok(),
+            "{digits} digits"
+        );
     }
     let mut long = String::from_str(rt.alloc(), "$")?;
     for _turn in 0..100u8 {
@@ -96,50 +138,21 @@ fn known_patterns_deep_inside(rt: HostRuntime) -> Result<(), Fail> {
 
 #[test]
 fn refused_texts(rt: HostRuntime) -> Result<(), Fail> {
-    for (text, fault) in [
-        ("$[9007199254740992]", QueryFault::Range),
-        ("$[-9007199254740992]", QueryFault::Range),
-        ("$[::9007199254740992]", QueryFault::Range),
-        ("$[?@[9007199254740992]]", QueryFault::Range),
-        ("$[?@.a==1.5]", QueryFault::Fraction),
-        ("$[?@.a==1e3]", QueryFault::Fraction),
-        ("$[?@.a==1E3]", QueryFault::Fraction),
-        ("$[?nope(@)==1.5]", QueryFault::Fraction),
-        ("$[?length(@.a)]", QueryFault::IllTyped),
-        ("$[?length(@.*)>1]", QueryFault::IllTyped),
-        ("$[?nope(@)]", QueryFault::IllTyped),
-        ("$[?true()]", QueryFault::IllTyped),
-        ("$[?match(@,'a')==true]", QueryFault::IllTyped),
-        ("$[?count((@.a))==1]", QueryFault::IllTyped),
-        ("$[?value(@.a)]", QueryFault::IllTyped),
-        ("$[?count(@.a)]", QueryFault::IllTyped),
-        ("$[?match(@.a)]", QueryFault::IllTyped),
-        ("$[?count(1)==1]", QueryFault::IllTyped),
-        ("$[?xor(@.a,@.b)]", QueryFault::IllTyped),
-        ("$.a[9007199254740992]", QueryFault::Range),
-        ("$[0,9007199254740992]", QueryFault::Range),
-        ("$[9007199254740992:]", QueryFault::Range),
-        ("$[:9007199254740992]", QueryFault::Range),
-        ("$[?length(1.5)==1]", QueryFault::Fraction),
-        ("$[?1.5==@.a]", QueryFault::Fraction),
-        ("$.a[?nope(@)]", QueryFault::IllTyped),
-        ("$[0,?nope(@)]", QueryFault::IllTyped),
-        ("$[?search(@.*,'a')]", QueryFault::IllTyped),
-        ("$[?search('a',@.*)]", QueryFault::IllTyped),
-        ("$[?@.a||nope(@)]", QueryFault::IllTyped),
-        ("$[?@.a&&!nope(@)]", QueryFault::IllTyped),
-        ("$[?1==nope(@)]", QueryFault::IllTyped),
-        ("$[?length(length(@.*))==1]", QueryFault::IllTyped),
-        ("$[?length(@,@)==1]", QueryFault::IllTyped),
-        ("$[?count(value(@.a))==1]", QueryFault::IllTyped),
-        ("$ ", QueryFault::Syntax),
-        ("$[-0]", QueryFault::Syntax),
-        ("", QueryFault::Syntax),
-    ] {
+    for line in REFUSED.lines() {
+        let Some((wanted, text)) = line.split_once(" of ") else {
+            panic!(rt; "{line}");
+        };
         let Err(found) = plan(rt.alloc(), text) else {
             panic!(rt; "accepted {text}");
         };
-        assert_eq!(rt; found, fault, "at {text}");
+        let told = format!(in rt.alloc(); "{found}")?;
+        assert_eq!(rt; told.as_str(), wanted, "at {text}");
+    }
+    for text in ["", "$ "] {
+        assert!(rt;
+            matches!(plan(rt.alloc(), text), Err(QueryFault::Syntax)),
+            "at {text}"
+        );
     }
     Ok(())
 }

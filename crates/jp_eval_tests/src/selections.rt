@@ -2,112 +2,94 @@
 //! RFC 9535.
 
 use jp_check::plan;
-use jp_doc::{Document, Location, Step};
+use jp_doc::{Document, Step};
 use jp_eval::{Bounds, Operand, equal, evaluate, less, slice_bounds};
-use std::alloc::{AllocError, Global};
+use jp_path::write_path;
+use std::alloc::Global;
 use std::test::Fail;
 
-/// A step of an expected location.
-#[derive(Clone, Copy)]
-enum To {
-    Name(&'static str),
-    Item(u32),
-}
+/// A query, a document and the paths of the nodes that it selects there, in each line.
+const ROWS: &str = r#"$[0,0,-1] on [5,6] gives $[0] $[0] $[1]
+$[2,-3] on [5,6] gives nothing
+$[4294967296] on [1] gives nothing
+$[3:0:-2] on [0,1,2,3,4] gives $[3] $[1]
+$[::0] on [0,1,2,3,4] gives nothing
+$[::-1] on [0,1,2,3,4] gives $[4] $[3] $[2] $[1] $[0]
+$[1::9007199254740991] on [0,1,2,3,4] gives $[1]
+$[-2:] on [0,1,2,3,4] gives $[3] $[4]
+$[1:4:2] on [0,1,2,3,4] gives $[1] $[3]
+$[-1:-4:-2] on [0,1,2,3,4] gives $[4] $[2]
+$[3:1] on [0,1,2,3,4] gives nothing
+$[-5,4,-6,5] on [0,1,2,3,4] gives $[0] $[4]
+$[:] on {"a":1} gives nothing
+$[?@.a==@.b] on [{},{"a":null},{"a":1,"b":1}] gives $[0] $[2]
+$[?@.a<=@.b] on [{},{"a":null},{"a":1,"b":1}] gives $[0] $[2]
+$[?@.a==-0] on [{"a":0}] gives $[0]
+$[?@.a&&!@.b||@.c==1] on [{"a":0},{"a":0,"b":0},{"b":0,"c":1}] gives $[0] $[2]
+$[?@>=null] on [null,1] gives $[0]
+$[?@<'b'] on ["a","b",1] gives $[0]
+$[?@>9223372036854775807] on [9223372036854775807,18446744073709551615] gives $[1]
+$[?@==true] on [true,false,1,"true"] gives $[0]
+$[?@!=null] on [null,0,false] gives $[1] $[2]
+$[?!@.a] on [{},{"a":null}] gives $[0]
+$[?!(@>1)] on [1,2,"2"] gives $[0] $[2]
+$[?@<'b'] on ["ab","b","ba"] gives $[0]
+$[?@<'\ud83d\ude00'] on ["￿","😀"] gives $[0]
+$[?@==$[0]] on [{"a":[1,{}],"b":2},{"b":2,"a":[1,{}]},{"a":[1]}] gives $[0] $[1]
+$[?@[?@==$[0][0]]] on [[7],[6,7],[6],[]] gives $[0] $[1]
+$[?$[:]] on [1,2] gives $[0] $[1]
+$[?@<99999999999999999999999999999999999999] on [9223372036854775807,18446744073709551615] gives $[0] $[1]
+$[?match(@,'a.c')] on ["abc","xabc","a\nc"] gives $[0]
+$[?search(@,'a.c')] on ["abc","xabc","a\nc"] gives $[0] $[1]
+$[?match(@,'^a$')] on ["a","^a$"] gives $[1]
+$[?match(@,'[')] on ["["] gives nothing
+$[?match(@,'(a*)*b{0,2}')] on ["","aab","bbb"] gives $[0] $[1]
+$[?count(@['a','a'])==2] on [{"a":1}] gives $[0]
+$[?length(@)==2] on ["ü😀",[],"a"] gives $[0]
+$[?count(@.*)==0] on [[],[1],{},1] gives $[0] $[2] $[3]
+$[?value(@.*)==1] on [[1],[1,1],[],[2]] gives $[0]
+$[?search(@,'b')&&!match(@,'b')] on ["b","abc","c"] gives $[1]
+$[?match(@.t,@.p)] on [{"t":"ab","p":"a."},{"t":"ab","p":"["},{"t":1,"p":"1"}] gives $[0]
+$[?length(@)==2] on ["ab",[1,2],{"a":1,"b":2},12,"abc"] gives $[0] $[1] $[2]
+$['b',*] on {"b":2,"a":1} gives $['b'] $['a'] $['b']
+$[?@==2] on {"b":2,"a":1} gives $['b']
+$[?@>0,'a'] on {"b":2,"a":1} gives $['a'] $['b'] $['a']
+$..b on {"b":2,"a":1} gives $['b']
+$[0] on {"b":2,"a":1} gives nothing
+$..* on {"b":[1,{"c":2}],"a":null} gives $['a'] $['b'] $['b'][0] $['b'][1] $['b'][1]['c']
+$..[0,0] on [[1],[2]] gives $[0] $[0] $[0][0] $[0][0] $[1][0] $[1][0]
+$ on [1] gives $
+$.a[?@==$.b] on {"a":[1,2],"b":2} gives $['a'][1]
+$["\uD83D\uDE00"] on {"😀":1} gives $['😀']"#;
 
-use To::{Item, Name};
-
-fn location(alloc: Global, steps: &[To]) -> Result<Location, AllocError> {
-    let mut found = Vec::new(alloc);
-    for step in steps {
-        found.push(match step {
-            Name(name) => Step::Name(String::from_str(alloc, name)?),
-            Item(index) => Step::Index(*index),
-        })?;
-    }
-    Ok(Location { steps: found })
-}
-
-/// Whether the query selects just these nodes in the document, in this order.
-fn selects(alloc: Global, query: &str, document: &str, expected: &[&[To]]) -> Result<bool, Fail> {
+/// The paths of the nodes that the query selects, or that there is none.
+fn selected(alloc: Global, query: &str, document: &str) -> Result<String, Fail> {
     let plan = plan(alloc, query)?;
     let document = Document::read(alloc, document.as_bytes())?;
-    let found = evaluate(alloc, &plan, &document)?;
-    let mut wanted = Vec::new(alloc);
-    for steps in expected {
-        wanted.push(location(alloc, steps)?)?;
-    }
-    Ok(found == wanted)
-}
-
-/// Whether the query selects just the items at these places of the document, in this order.
-fn selects_items(
-    alloc: Global,
-    query: &str,
-    document: &str,
-    expected: &[u32],
-) -> Result<bool, Fail> {
-    let plan = plan(alloc, query)?;
-    let document = Document::read(alloc, document.as_bytes())?;
-    let found = evaluate(alloc, &plan, &document)?;
-    let mut wanted = Vec::new(alloc);
-    for index in expected {
-        wanted.push(location(alloc, &[Item(*index)])?)?;
-    }
-    Ok(found == wanted)
-}
-
-#[test]
-fn descendants(rt: HostRuntime) -> Result<(), Fail> {
-    let alloc = rt.alloc();
-    assert!(rt;
-        selects(
-            alloc,
-            "$..*",
-            "{\"b\":[1,{\"c\":2}],\"a\":null}",
-            &[
-                &[Name("a")],
-                &[Name("b")],
-                &[Name("b"), Item(0)],
-                &[Name("b"), Item(1)],
-                &[Name("b"), Item(1), Name("c")],
-            ]
-        )?
-    );
-    assert!(rt;
-        selects(
-            alloc,
-            "$..[0,0]",
-            "[[1],[2]]",
-            &[
-                &[Item(0)],
-                &[Item(0)],
-                &[Item(0), Item(0)],
-                &[Item(0), Item(0)],
-                &[Item(1), Item(0)],
-                &[Item(1), Item(0)],
-            ]
-        )?
-    );
-    assert!(rt; selects(alloc, "$", "[1]", &[&[]])?);
-    Ok(())
-}
-
-#[test]
-fn members(rt: HostRuntime) -> Result<(), Fail> {
-    let alloc = rt.alloc();
-    for (query, expected) in [
-        ("$['b',*]", ["b", "a", "b"].as_slice()),
-        ("$[?@==2]", &["b"]),
-        ("$[?@>0,'a']", &["a", "b", "a"]),
-        ("$..b", &["b"]),
-        ("$[0]", &[]),
-    ] {
-        let mut wanted = Vec::new(alloc);
-        for name in expected {
-            wanted.push(location(alloc, &[Name(name)])?)?;
+    let mut paths = String::new(alloc);
+    for location in &evaluate(alloc, &plan, &document)? {
+        if !paths.is_empty() {
+            paths.push(' ')?;
         }
-        let found = evaluate(alloc, &plan(alloc, query)?, &Document::read(alloc, b"{\"b\":2,\"a\":1}")?)?;
-        assert!(rt; found == wanted, "{query}");
+        paths.push_str(write_path(alloc, location)?.as_str())?;
+    }
+    if paths.is_empty() {
+        paths.push_str("nothing")?;
+    }
+    Ok(paths)
+}
+
+#[test]
+fn rows(rt: HostRuntime) -> Result<(), Fail> {
+    for row in ROWS.lines() {
+        let Some((query, rest)) = row.split_once(" on ") else {
+            panic!(rt; "{row}");
+        };
+        let Some((document, wanted)) = rest.split_once(" gives ") else {
+            panic!(rt; "{row}");
+        };
+        let paths = selected(rt.alloc(), query, document)?;
+        assert_eq!(rt; paths.as_str(), wanted, "{row}");
     }
     Ok(())
 }
@@ -130,123 +112,6 @@ fn long_queries_and_deep_documents(rt: HostRuntime) -> Result<(), Fail> {
     let plan = plan(alloc, query.as_str())?;
     let found = evaluate(alloc, &plan, &Document::read(alloc, document.as_bytes())?)?;
     assert!(rt; matches!(found.as_slice(), [only] if only.steps == wanted));
-    Ok(())
-}
-
-#[test]
-fn indexes(rt: HostRuntime) -> Result<(), Fail> {
-    let alloc = rt.alloc();
-    for (query, document, expected) in [
-        ("$[0,0,-1]", "[5,6]", [0, 0, 1].as_slice()),
-        ("$[2,-3]", "[5,6]", &[]),
-        ("$[4294967296]", "[1]", &[]),
-        ("$[3:0:-2]", "[0,1,2,3,4]", &[3, 1]),
-        ("$[::0]", "[0,1,2,3,4]", &[]),
-        ("$[::-1]", "[0,1,2,3,4]", &[4, 3, 2, 1, 0]),
-        ("$[1::9007199254740991]", "[0,1,2,3,4]", &[1]),
-        ("$[-2:]", "[0,1,2,3,4]", &[3, 4]),
-        ("$[1:4:2]", "[0,1,2,3,4]", &[1, 3]),
-        ("$[-1:-4:-2]", "[0,1,2,3,4]", &[4, 2]),
-        ("$[3:1]", "[0,1,2,3,4]", &[]),
-        ("$[-5,4,-6,5]", "[0,1,2,3,4]", &[0, 4]),
-        ("$[:]", "{\"a\":1}", &[]),
-    ] {
-        assert!(rt; selects_items(alloc, query, document, expected)?, "{query}");
-    }
-    Ok(())
-}
-
-#[test]
-fn filters(rt: HostRuntime) -> Result<(), Fail> {
-    let alloc = rt.alloc();
-    for (query, document, expected) in [
-        (
-            "$[?@.a==@.b]",
-            "[{},{\"a\":null},{\"a\":1,\"b\":1}]",
-            [0, 2].as_slice(),
-        ),
-        (
-            "$[?@.a<=@.b]",
-            "[{},{\"a\":null},{\"a\":1,\"b\":1}]",
-            &[0, 2],
-        ),
-        ("$[?@.a==-0]", "[{\"a\":0}]", &[0]),
-        (
-            "$[?@.a&&!@.b||@.c==1]",
-            "[{\"a\":0},{\"a\":0,\"b\":0},{\"b\":0,\"c\":1}]",
-            &[0, 2],
-        ),
-        ("$[?@>=null]", "[null,1]", &[0]),
-        ("$[?@<'b']", "[\"a\",\"b\",1]", &[0]),
-        (
-            "$[?@>9223372036854775807]",
-            "[9223372036854775807,18446744073709551615]",
-            &[1],
-        ),
-        ("$[?@==true]", "[true,false,1,\"true\"]", &[0]),
-        ("$[?@!=null]", "[null,0,false]", &[1, 2]),
-        ("$[?!@.a]", "[{},{\"a\":null}]", &[0]),
-        ("$[?!(@>1)]", "[1,2,\"2\"]", &[0, 2]),
-        ("$[?@<'b']", "[\"ab\",\"b\",\"ba\"]", &[0]),
-        ("$[?@<'\\ud83d\\ude00']", "[\"\u{ffff}\",\"\u{1f600}\"]", &[0]),
-        ("$[?@==$[0]]", "[{\"a\":[1,{}],\"b\":2},{\"b\":2,\"a\":[1,{}]},{\"a\":[1]}]", &[0, 1]),
-        ("$[?@[?@==$[0][0]]]", "[[7],[6,7],[6],[]]", &[0, 1]),
-        ("$[?$[:]]", "[1,2]", &[0, 1]),
-        (
-            "$[?@<99999999999999999999999999999999999999]",
-            "[9223372036854775807,18446744073709551615]",
-            &[0, 1],
-        ),
-    ] {
-        assert!(rt; selects_items(alloc, query, document, expected)?, "{query}");
-    }
-    assert!(rt;
-        selects(
-            alloc,
-            "$.a[?@==$.b]",
-            "{\"a\":[1,2],\"b\":2}",
-            &[&[Name("a"), Item(1)]]
-        )?
-    );
-    assert!(rt; selects(alloc, "$[\"\\uD83D\\uDE00\"]", "{\"😀\":1}", &[&[Name("😀")]])?);
-    Ok(())
-}
-
-#[test]
-fn functions(rt: HostRuntime) -> Result<(), Fail> {
-    let alloc = rt.alloc();
-    for (query, document, expected) in [
-        (
-            "$[?match(@,'a.c')]",
-            "[\"abc\",\"xabc\",\"a\\nc\"]",
-            [0].as_slice(),
-        ),
-        (
-            "$[?search(@,'a.c')]",
-            "[\"abc\",\"xabc\",\"a\\nc\"]",
-            &[0, 1],
-        ),
-        ("$[?match(@,'^a$')]", "[\"a\",\"^a$\"]", &[1]),
-        ("$[?match(@,'[')]", "[\"[\"]", &[]),
-        (
-            "$[?match(@,'(a*)*b{0,2}')]",
-            "[\"\",\"aab\",\"bbb\"]",
-            &[0, 1],
-        ),
-        ("$[?count(@['a','a'])==2]", "[{\"a\":1}]", &[0]),
-        ("$[?length(@)==2]", "[\"\u{fc}\u{1f600}\",[],\"a\"]", &[0]),
-        ("$[?count(@.*)==0]", "[[],[1],{},1]", &[0, 2, 3]),
-        ("$[?value(@.*)==1]", "[[1],[1,1],[],[2]]", &[0]),
-        ("$[?search(@,'b')&&!match(@,'b')]", "[\"b\",\"abc\",\"c\"]", &[1]),
-        ("$[?match(@.t,@.p)]", "[{\"t\":\"ab\",\"p\":\"a.\"},{\"t\":\"ab\",\"p\":\"[\"},{\"t\":1,\"p\":\"1\"}]", &[0]),
-        (
-            "$[?length(@)==2]",
-            "[\"ab\",[1,2],{\"a\":1,\"b\":2},12,\"abc\"]",
-            &[0, 1, 2],
-        ),
-    ] {
-        assert!(rt; selects_items(alloc, query, document, expected)?, "{query}");
-    }
     Ok(())
 }
 
