@@ -1,3 +1,4 @@
+pub mod DocumentSteps
 pub mod EscapedName
 pub mod IndexText
 pub mod OfPath
@@ -7,6 +8,7 @@ pub mod Passing
 pub mod PathAccepted
 pub mod PathBytes
 pub mod PathSpelled
+pub mod PrintedPaths
 pub mod SourceSteps
 pub mod Taken
 pub mod Written

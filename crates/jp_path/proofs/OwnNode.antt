@@ -14,7 +14,7 @@ use Rattle.jp_eval.specs.Nodelist.{through, segment_nodes, select, items_at, ind
 use Rattle.jp_path.proofs.IndexText.{decimal_is_whole}
 use Rattle.jp_path.specs.PathQuery.{step_selector, step_segment, path_query, IsIndex, AreIndexes}
 
-items_within : (i : ℕ) (vs : Items) (w : Json) → item_at i vs ≡ Some w → i < length (item_list vs)
+pub items_within : (i : ℕ) (vs : Items) (w : Json) → item_at i vs ≡ Some w → i < length (item_list vs)
 items_within i no_items w h = absurd cc
 items_within zero (add_item v vs) w h = omega arith
 items_within (suc i) (add_item v vs) w h = let below : i < length (item_list vs) = items_within i vs w h in omega arith
@@ -28,7 +28,7 @@ places_of_item i (text s) w h = absurd cc
 places_of_item i (object ms) w h = absurd cc
 
 -- where there is a value behind two steps, there is one behind the first
-behind : {X Y P : Type 0} (f : X → Option Y) (o : Option X) (y : Y) → option_and_then f o ≡ Some y → ((x : X) → o ≡ Some x → f x ≡ Some y → P) → P
+pub behind : {X Y P : Type 0} (f : X → Option Y) (o : Option X) (y : Y) → option_and_then f o ≡ Some y → ((x : X) → o ≡ Some x → f x ≡ Some y → P) → P
 behind f None y h k = absurd cc
 behind f (Some x) y h k = k x refl h
 

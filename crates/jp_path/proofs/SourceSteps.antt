@@ -26,7 +26,7 @@ ascii_text (Err x) bs ds a e h = tt
 is_scalar_value : (c : ℕ) → scalar c ≡ true → IsTrue (is_scalar c)
 is_scalar_value c h = grind (arith, nat_tests)
 
-each_scalar : (cs : List ℕ) → scalars cs ≡ true → Each is_scalar cs
+pub each_scalar : (cs : List ℕ) → scalars cs ≡ true → Each is_scalar cs
 each_scalar [] h = tt
 each_scalar (c ∷ cs) h = let parts = and_parts (scalar c) (scalars cs) h in (is_scalar_value c parts.0, each_scalar cs parts.1)
 

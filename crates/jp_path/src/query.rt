@@ -50,6 +50,8 @@ pub fn path_plan(alloc: Global, location: &Location) -> Result<Plan, QueryFault>
     ensures query { IfOk result (λ p. planned_query p ≡ path_query (location_of location.now)) }
     ensures accepted { IfOk result (λ p. IsAccepted (path_text (location_of location.now))
         (planned_query p)) }
+    ensures only { IfOk result (λ p. (other : tree.Query)
+        → IsAccepted (path_text (location_of location.now)) other → other ≡ planned_query p) }
     ensures fault { IfErr result (λ f. f ≡ QueryFault.Memory) }
 {
     check(alloc, query_of(alloc, location)?)
@@ -90,27 +92,31 @@ fn selector_for(alloc: Global, step: &Step) -> Result<Selector, AllocError>
 }
 
 /// The decimal digits of an index.
+#[tactic(auto, using(crate::proofs::SourceSteps::ascii_text))]
 fn index_text(alloc: Global, index: u32) -> Result<String, AllocError>
-    ensures { IfOk result (λ s. text_of s ≡ decimal index) }
+    ensures digits { IfOk result (λ s. text_of s ≡ decimal index) }
 {
     let mut buffer = Buffer::new();
     String::from_str(alloc, buffer.format(index))
 }
 
+#[tactic(auto, using(jp_syntax::proofs::Views::name_made))]
 fn name_selector(name: String) -> Selector
-    ensures { selector_of result ≡ tree.name (text_of name) }
+    ensures name { selector_of result ≡ tree.name (text_of name) }
 {
     Selector::Name(name)
 }
 
+#[tactic(auto, using(jp_syntax::proofs::Views::index_made))]
 fn index_selector(number: String) -> Selector
-    ensures { selector_of result ≡ tree.index (text_of number) }
+    ensures index { selector_of result ≡ tree.index (text_of number) }
 {
     Selector::Index(number)
 }
 
+#[tactic(auto, using(jp_syntax::proofs::Views::segment_made))]
 fn child_segment(selectors: Vec<Selector>) -> Segment
-    ensures { segment_of result ≡ tree.child (selectors_of selectors.items) }
+    ensures child { segment_of result ≡ tree.child (selectors_of selectors.items) }
 {
     Segment {
         deep: false,
@@ -118,8 +124,9 @@ fn child_segment(selectors: Vec<Selector>) -> Segment
     }
 }
 
+#[tactic(auto, using(jp_syntax::proofs::Views::query_made))]
 fn root_query(segments: Vec<Segment>) -> Query
-    ensures { view.query_of result ≡ tree.query_from Root (segments_of segments.items) }
+    ensures from_root { view.query_of result ≡ tree.query_from Root (segments_of segments.items) }
 {
     Query {
         start: Start::Root,
