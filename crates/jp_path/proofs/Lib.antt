@@ -1,5 +1,14 @@
+pub mod DocumentSteps
+pub mod EscapedName
+pub mod IndexText
+pub mod OfPath
 pub mod OnLiterals
 pub mod OwnNode
+pub mod Passing
+pub mod PathAccepted
 pub mod PathBytes
-pub mod Written
+pub mod PathSpelled
+pub mod PrintedPaths
+pub mod SourceSteps
 pub mod Taken
+pub mod Written

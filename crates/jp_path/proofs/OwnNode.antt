@@ -1,12 +1,7 @@
 -- The query of a path selects just its node.
-use Rattle.std.proofs.Common.{◌≡◌, ℕ, zero, suc, ◌+◌, ◌-◌, ◌*◌, ◌<◌, ◌^◌, ◌==◌, Bool, true, false, List, [], ◌∷◌, ◌++◌, length, Option, Some, None, refl, ap, ◌∙◌, subst, arith, decimal, map, append_assoc}
+use Rattle.std.proofs.Common.{◌≡◌, ℕ, zero, suc, ◌<◌, [], ◌∷◌, ◌++◌, length, Option, Some, None, refl, ap, ◌∙◌, arith, map, append_assoc}
 use Rattle.std.specs.Prelude.{pos, option_and_then}
-use Rattle.std.specs.Char.{digit_value}
-use Rattle.std.specs.Str.Parse.{AllDigits, digits_value, digits_value_after}
-use Rattle.std.proofs.lemmas.Bool.Decides.{nat_tests}
-use Rattle.std.proofs.lemmas.Fmt.{decimal_is_IsNumeral_wide}
-use Rattle.jp_check.specs.Numbers.{whole_number, digits_from}
-use borrow.Author.Tests.{eqb-true, lt-ltb}
+use borrow.Author.Tests.{lt-ltb}
 use Rattle.std.proofs.lemmas.List.{append-nil}
 use Rattle.std.proofs.lemmas.Option.{same_Some}
 use Rattle.std.specs.List.{flat_map}
@@ -16,32 +11,10 @@ use Rattle.jp_syntax.specs.Tree.{segments}
 use Rattle.jp_regexp.specs.Tests.{Tests}
 use Rattle.jp_eval.specs.Nodes.{node_if_some}
 use Rattle.jp_eval.specs.Nodelist.{through, segment_nodes, select, items_at, index_places, document_nodes}
+use Rattle.jp_path.proofs.IndexText.{decimal_is_whole}
 use Rattle.jp_path.specs.PathQuery.{step_selector, step_segment, path_query, IsIndex, AreIndexes}
 
-not_small : digit_value 45 < 10 → ⊥
-not_small h = absurd (omega arith)
-
-not_minus_by : (c : ℕ) (b : Bool) → (c == 45) ≡ b → digit_value c < 10 → (c == 45) ≡ false
-not_minus_by c true e h = let is : c ≡ 45 = eqb-true c 45 e in absurd (not_small (subst (λ n. digit_value n < 10) is h))
-not_minus_by c false e h = e
-
-digit_is : (c : ℕ) → digit_value c < 10 → c - 48 ≡ digit_value c
-digit_is c h = grind (arith, nat_tests)
-
-digits_are : (n : ℕ) (ds : List ℕ) → AllDigits 10 ds → digits_from n ds ≡ digits_value_after 10 n ds
-digits_are n [] h = refl
-digits_are n (c ∷ cs) h = ap (λ d. digits_from (n * 10 + d) cs) (digit_is c h.0) ∙ digits_are (n * 10 + digit_value c) cs h.1
-
-numeral_is_whole : (ds : List ℕ) → AllDigits 10 ds → whole_number ds ≡ pos (digits_value 10 ds)
-numeral_is_whole [] h = refl
-numeral_is_whole (c ∷ cs) h = let e : (c == 45) ≡ false = not_minus_by c (c == 45) refl h.0 in rw e (ap pos (digits_are 0 (c ∷ cs) h))
-
-pub decimal_is_whole : (n : ℕ) → n < 2 ^ 32 → whole_number (decimal n) ≡ pos n
-decimal_is_whole n h =
-    let d = decimal_is_IsNumeral_wide n (omega arith) in
-    numeral_is_whole (decimal n) d.0.1 ∙ ap pos d.1
-
-items_within : (i : ℕ) (vs : Items) (w : Json) → item_at i vs ≡ Some w → i < length (item_list vs)
+pub items_within : (i : ℕ) (vs : Items) (w : Json) → item_at i vs ≡ Some w → i < length (item_list vs)
 items_within i no_items w h = absurd cc
 items_within zero (add_item v vs) w h = omega arith
 items_within (suc i) (add_item v vs) w h = let below : i < length (item_list vs) = items_within i vs w h in omega arith
@@ -55,7 +28,7 @@ places_of_item i (text s) w h = absurd cc
 places_of_item i (object ms) w h = absurd cc
 
 -- where there is a value behind two steps, there is one behind the first
-behind : {X Y P : Type 0} (f : X → Option Y) (o : Option X) (y : Y) → option_and_then f o ≡ Some y → ((x : X) → o ≡ Some x → f x ≡ Some y → P) → P
+pub behind : {X Y P : Type 0} (f : X → Option Y) (o : Option X) (y : Y) → option_and_then f o ≡ Some y → ((x : X) → o ≡ Some x → f x ≡ Some y → P) → P
 behind f None y h k = absurd cc
 behind f (Some x) y h k = k x refl h
 

@@ -5,6 +5,8 @@ use Rattle.jp_doc.specs.Location as at
 use Rattle.jp_doc.specs.Location.{Location}
 use Rattle.jp_syntax.specs.Tree.{Query, Segment, Selector, name, index, child, query_from}
 use Rattle.jp_syntax.specs.declared.tree.Start.TheVariants.{Root}
+use Rattle.jp_syntax.specs.Characters.{is_scalar}
+use Rattle.jp_syntax.specs.Parts.{Each}
 
 -- the selector of one step, and the segment that has it alone
 abbrev pub step_selector : at.Step → Selector
@@ -25,3 +27,11 @@ IsIndex (at.index i) = i < 2 ^ 32
 
 abbrev pub AreIndexes : Location → Type 0
 AreIndexes l = AllByRecursion IsIndex l
+
+-- each name is a text of Unicode scalar values, and each index is one of 32 bits, as those of `src/` are
+abbrev pub IsStep : at.Step → Type 0
+IsStep (at.name k) = Each is_scalar k
+IsStep (at.index i) = i < 2 ^ 32
+
+abbrev pub AreSteps : Location → Type 0
+AreSteps l = AllByRecursion IsStep l

@@ -6,8 +6,10 @@ pub mod laws;
 mod node_lines;
 mod output_line;
 mod path;
+mod query;
 mod value_text;
 
 pub use node_lines::NodeLines;
 pub use output_line::write_line;
 pub use path::write_path;
+pub use query::{path_plan, query_of};

@@ -73,8 +73,20 @@ impl Visit for NodeLines {
 
     ghost put = { put_line };
 
-    fn node(&mut self, alloc: Global, trail: &mut Trail<'_>, value: &Value) -> Result<(), AllocError> {
-        write_node(alloc, self.number, trail, value, &mut self.line, &mut self.out)
+    fn node(
+        &mut self,
+        alloc: Global,
+        trail: &mut Trail<'_>,
+        value: &Value,
+    ) -> Result<(), AllocError> {
+        write_node(
+            alloc,
+            self.number,
+            trail,
+            value,
+            &mut self.line,
+            &mut self.out,
+        )
     }
 
     fn is_full(&self) -> bool {

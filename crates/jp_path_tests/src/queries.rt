@@ -1,0 +1,129 @@
+//! Paths read as queries: the tree, and what it selects. The expected texts come from RFC 9535, 2.7.
+
+use jp_check::{Plan, plan};
+use jp_doc::{Document, Location, Step};
+use jp_eval::{evaluate, visit_nodes};
+use jp_path::{NodeLines, path_plan, query_of, write_path};
+use jp_syntax::{bracket_depth, read_query};
+use std::alloc::{AllocError, Global};
+use std::test::Fail;
+
+fn named(alloc: Global, name: &str) -> Result<Location, AllocError> {
+    Ok(Location {
+        steps: vec![in alloc; Step::Name(String::from_str(alloc, name)?)]?,
+    })
+}
+
+/// Whether the location's path is this text, and the text is read as the path's query.
+fn is_read_back(alloc: Global, location: &Location, path: &str) -> Result<bool, Fail> {
+    let text = write_path(alloc, location)?;
+    let read = read_query(alloc, text.as_str())?;
+    Ok(text.as_str() == path && read == query_of(alloc, location)?)
+}
+
+#[test]
+fn paths_of_one_step(rt: HostRuntime) -> Result<(), Fail> {
+    let alloc = rt.alloc();
+    let paths = [
+        ("", "$['']"),
+        ("a\"b", "$['a\"b']"),
+        ("\u{b}", "$['\\u000b']"),
+        ("\u{7f}", "$['\u{7f}']"),
+        ("\\", "$['\\\\']"),
+        ("it's\u{0}\t", "$['it\\'s\\u0000\\t']"),
+        ("\u{8}\t\n\u{c}\r", "$['\\b\\t\\n\\f\\r']"),
+        ("ü😀", "$['ü😀']"),
+    ];
+    for (name, path) in paths {
+        assert!(rt; is_read_back(alloc, &named(alloc, name)?, path)?);
+    }
+    let last = Location {
+        steps: vec![in alloc; Step::Index(4_294_967_295)]?,
+    };
+    assert!(rt; is_read_back(alloc, &last, "$[4294967295]")?);
+    Ok(())
+}
+
+#[test]
+fn path_of_the_root(rt: HostRuntime) -> Result<(), Fail> {
+    let alloc = rt.alloc();
+    let root = Location {
+        steps: Vec::new(alloc),
+    };
+    assert!(rt; is_read_back(alloc, &root, "$")?);
+    Ok(())
+}
+
+#[test]
+fn path_of_a_thousand_steps(rt: HostRuntime) -> Result<(), Fail> {
+    let alloc = rt.alloc();
+    let mut steps = Vec::new(alloc);
+    for _ in 0..1_000u32 {
+        steps.push(Step::Index(0))?;
+    }
+    let location = Location { steps };
+    let text = write_path(alloc, &location)?;
+    assert_eq!(rt; text.len(), 3_001);
+    assert_eq!(rt; bracket_depth(text.as_str()), 1);
+    assert!(rt; plan(alloc, text.as_str()).is_ok());
+    assert!(rt; path_plan(alloc, &location).is_ok());
+    Ok(())
+}
+
+/// The output lines of a plan's nodes in a document.
+fn lines(alloc: Global, plan: &Plan, document: &Document) -> Result<Vec<u8>, Fail> {
+    let mut lines = NodeLines::new(alloc);
+    lines.begin(1);
+    Ok(visit_nodes(alloc, plan, document, lines)?.into_bytes())
+}
+
+/// Whether each path that the query prints, run as a query, prints the same line, by its text and by its
+/// location.
+fn paths_print_their_lines(alloc: Global, query: &str, document: &Document) -> Result<bool, Fail> {
+    let whole = plan(alloc, query)?;
+    let mut by_text = Vec::new(alloc);
+    let mut by_location = Vec::new(alloc);
+    for location in &evaluate(alloc, &whole, document)? {
+        let text = write_path(alloc, location)?;
+        let of_text = lines(alloc, &plan(alloc, text.as_str())?, document)?;
+        by_text.extend_from_slice(of_text.as_slice())?;
+        let of_location = lines(alloc, &path_plan(alloc, location)?, document)?;
+        by_location.extend_from_slice(of_location.as_slice())?;
+    }
+    let printed = lines(alloc, &whole, document)?;
+    Ok(printed == by_text && printed == by_location && !printed.is_empty())
+}
+
+#[test]
+fn a_name_of_escapes(rt: HostRuntime) -> Result<(), Fail> {
+    let alloc = rt.alloc();
+    let document = Document::read(alloc, b"{\"it's\\u0000\\t\":1}")?;
+    let printed = lines(alloc, &plan(alloc, "$.*")?, &document)?;
+    let want = "1\t$['it\\'s\\u0000\\t']\t1\n";
+    assert_eq!(rt; printed.as_slice(), want.as_bytes());
+    let again = lines(alloc, &plan(alloc, "$['it\\'s\\u0000\\t']")?, &document)?;
+    assert_eq!(rt; again.as_slice(), printed.as_slice());
+    Ok(())
+}
+
+/// Each character from U+0000 to U+00FF and U+1F600 by itself as a name, and all of them in one name, with
+/// arrays as values.
+fn all_names(alloc: Global) -> Result<String, AllocError> {
+    let mut members = String::new(alloc);
+    let mut every = String::new(alloc);
+    for code in 0..256u32 {
+        let escape = format!(in alloc; "\\u{code:04x}")?;
+        every.push_str(escape.as_str())?;
+        members.push_str(format!(in alloc; "\"{escape}\":[{code},[]],")?.as_str())?;
+    }
+    format!(in alloc; "{{{members}\"😀\":[0],\"{every}😀\":[1,{{\"\":null}}]}}")
+}
+
+#[test]
+fn names_of_all_characters(rt: HostRuntime) -> Result<(), Fail> {
+    let alloc = rt.alloc();
+    let text = all_names(alloc)?;
+    let document = Document::read(alloc, text.as_bytes())?;
+    assert!(rt; paths_print_their_lines(alloc, "$..*", &document)?);
+    Ok(())
+}
