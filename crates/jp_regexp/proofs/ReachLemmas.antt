@@ -22,9 +22,6 @@ module _ (places : List ℕ) (past : ℕ) where
   none_rest h n = record { rises = tt; same = λ k lt. h.same k (omega arith) }
 
   module _ (q : ℕ) (rest : List ℕ) (h : IsRest places past (q ∷ rest)) where
-    pub front_above : past < q
-    front_above = h.rises.0
-
     pub front_dead : (n : ℕ) → past + n < q → Dead (is_elem places) past n
     front_dead n lt k low high =
         h.same (past + k) (omega arith)

@@ -11,9 +11,6 @@ use Rattle.jp_regexp.proofs.SetLemmas.{left_has, has_left, step_sound, step_whol
 use Rattle.jp_regexp.proofs.StepLemmas.{leaves_sound, leaves_whole}
 use Rattle.jp_regexp.proofs.UnrolledLemmas.{unrolled_whole, unrolled_sound, letters-unrolled}
 
-pub stands_first : (live : List ℕ) → Rises 0 live → IsAt live 0 0
-stands_first live h = record { rises = h; same = λ k lt. refl }
-
 module _ (p : Pattern) (counts : HasCounts p) (start : Bool) (live : List ℕ) (rises : Rises 0 live) where
   pub takes_step : (c : ℕ) (anew : Bool) (next : List ℕ) → next ≡ advance (is_elem live) c (unrolled p) 0 start → (t : Text) →
       SomePlaceHas p (all_places anew next) t ↔ (SomePlaceHas p (all_places start live) (c ∷ t) ⊎ (IsTrue anew × Member p t))
