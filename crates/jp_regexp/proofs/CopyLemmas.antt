@@ -1,5 +1,5 @@
 -- A counted repetition, copy by copy.
-use Rattle.std.proofs.Common.{◌≡◌, ℕ, zero, suc, ◌+◌, ◌-◌, ◌*◌, ◌≤◌, ◌<◌, Bool, true, false, List, ◌++◌, ◌&&◌, ◌||◌, nat_le, refl, sym, ap, ap₂, ◌∙◌, subst, arith, add-mul}
+use Rattle.std.proofs.Common.{◌≡◌, ℕ, zero, suc, ◌+◌, ◌-◌, ◌*◌, ◌≤◌, ◌<◌, Bool, true, false, ◌++◌, ◌&&◌, ◌||◌, nat_le, refl, ap, ap₂, ◌∙◌, subst, arith, add-mul}
 use Rattle.std.proofs.lemmas.Bool.{le-leb, lt-leb}
 use Rattle.jp_regexp.specs.Unrolled.{Unrolled, counted, counted_on, letters}
 use Rattle.jp_regexp.specs.Walk.{leaves, advance, Dead}

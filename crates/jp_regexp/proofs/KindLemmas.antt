@@ -1,5 +1,5 @@
 -- What is known of a part of each kind, where its sizes are right and it is not too large.
-use Rattle.std.proofs.Common.{◌≡◌, ℕ, zero, suc, ◌+◌, ◌*◌, ◌<◌, ◌≤◌, ◌&&◌, IsTrue, List, [], ◌∷◌, map, min, Option, Some, None, Vec, Box, Global, refl, sym, ap, ap₂, ◌∙◌, subst, arith}
+use Rattle.std.proofs.Common.{◌≡◌, ℕ, zero, suc, ◌+◌, ◌*◌, ◌<◌, ◌≤◌, ◌&&◌, IsTrue, List, [], ◌∷◌, map, min, Option, Vec, Box, Global, refl, sym, ap, ap₂, ◌∙◌, subst, arith}
 use Rattle.std.proofs.lemmas.Bool.{and_parts}
 use Rattle.jp_regexp.specs.Pattern.{Pattern}
 use Rattle.jp_regexp.specs.Profile.{copies, size}

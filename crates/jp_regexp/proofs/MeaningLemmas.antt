@@ -14,10 +14,6 @@ set_meaning set = record { pattern = Pattern.letter (set_of set); is_sized = tru
 pub part_set : (set : CharSet) → meaning (Set set) ≡ set_meaning set
 part_set set = ap meaning (sym (rolls-Set set)) ∙ fold-roll-Part Meaning meaning_of_layer _
 
-pub part_group : (n : ℕ) (sub : Box Part Global) →
-    meaning (Group n sub) ≡ sized_as n (Pattern.group (pattern_in sub.value)) (meaning sub.value).is_sized
-part_group n sub = ap meaning (sym (rolls-Group n sub)) ∙ fold-roll-Part Meaning meaning_of_layer _
-
 pub part_pieces : (n : ℕ) (pieces : Vec Part Global) →
     meaning (Pieces n pieces) ≡ sized_as n (in_turn_of (map meaning pieces.items)) (all_sized (map meaning pieces.items))
 part_pieces n pieces = ap meaning (sym (rolls-Pieces n pieces)) ∙ fold-roll-Part Meaning meaning_of_layer _

@@ -7,20 +7,8 @@ use Rattle.jp_regexp.specs.declared.tree.Node.{Node}
 use Rattle.jp_regexp.specs.declared.tree.Node.TheFolds.{fold-roll-Node}
 use Rattle.jp_regexp.specs.declared.tree.Node.TheVariants.{Set, Group, Pieces, Branches, Repeat, Plus, rolls-Set, rolls-Group, rolls-Pieces, rolls-Branches, rolls-Repeat, rolls-Plus}
 
-pub node_set : (set : CharSet) → node_of (Set set) ≡ letter (set_of set)
-node_set set = ap node_of (sym (rolls-Set set)) ∙ fold-roll-Node Pattern layer_of _
-
-pub node_group : (sub : Box Node Global) → node_of (Group sub) ≡ group (node_of sub.value)
-node_group sub = ap node_of (sym (rolls-Group sub)) ∙ fold-roll-Node Pattern layer_of _
-
 pub node_pieces : (pieces : Vec Node Global) → node_of (Pieces pieces) ≡ in_turn (map node_of pieces.items)
 node_pieces pieces = ap node_of (sym (rolls-Pieces pieces)) ∙ fold-roll-Node Pattern layer_of _
 
 pub node_branches : (before : Vec Node Global) (last : Box Node Global) → node_of (Branches before last) ≡ before_last (map node_of before.items) (node_of last.value)
 node_branches before last = ap node_of (sym (rolls-Branches before last)) ∙ fold-roll-Node Pattern layer_of _
-
-pub node_repeat : (least : ℕ) (most : Option ℕ) (atom : Box Node Global) → node_of (Repeat least most atom) ≡ repeat least most (node_of atom.value)
-node_repeat least most atom = ap node_of (sym (rolls-Repeat least most atom)) ∙ fold-roll-Node Pattern layer_of _
-
-pub node_plus : (atom : Box Node Global) → node_of (Plus atom) ≡ plus (node_of atom.value)
-node_plus atom = ap node_of (sym (rolls-Plus atom)) ∙ fold-roll-Node Pattern layer_of _

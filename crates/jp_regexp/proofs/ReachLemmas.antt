@@ -1,10 +1,10 @@
 -- The places of a set that lie behind a point.
-use Rattle.std.proofs.Common.{◌≡◌, ℕ, zero, suc, ◌+◌, ◌*◌, ◌<◌, ◌≤◌, ◌-◌, ◌/◌, ◌⊎◌, Bool, true, false, ◌||◌, ◌&&◌, nat_eq, nat_le, nat_lt, inl, inr, slice_index_or, List, [], ◌∷◌, length, drop, get_or, drop-cons, add-one, refl, sym, ap, ap₂, ◌∙◌, subst, arith, mul-le-mul_right}
+use Rattle.std.proofs.Common.{◌≡◌, ℕ, zero, suc, ◌+◌, ◌*◌, ◌<◌, ◌≤◌, ◌-◌, ◌/◌, ◌⊎◌, true, false, ◌||◌, nat_le, nat_lt, inl, inr, slice_index_or, List, [], ◌∷◌, length, drop, drop-cons, refl, sym, ap, ap₂, ◌∙◌, subst, arith, mul-le-mul_right}
 use Rattle.std.proofs.Math.Nat.{div-mul-le_self}
 use Rattle.std.proofs.lemmas.Bool.{eq-eqb, ne_eqb, cases_Bool, and_parts, leb-true, leb-false, ltb-true, ltb-false}
 use Rattle.jp_regexp.specs.declared.reach.Reach.{Reach}
 use Rattle.jp_regexp.specs.Pattern.{CharSet}
-use Rattle.jp_regexp.specs.Unrolled.{Unrolled, letter, letters}
+use Rattle.jp_regexp.specs.Unrolled.{letter}
 use Rattle.jp_regexp.specs.Walk.{leaves, advance, is_elem, Rises, IsRest, IsAt, Dead, IsWalk, IsPassed, is_live_up_to}
 use Rattle.jp_regexp.proofs.SkipLemmas.{dead_leaves, dead_advance, none_leaves}
 use Rattle.jp_regexp.proofs.StepLemmas.{advance_none}
@@ -22,9 +22,6 @@ module _ (places : List ℕ) (past : ℕ) where
   none_rest h n = record { rises = tt; same = λ k lt. h.same k (omega arith) }
 
   module _ (q : ℕ) (rest : List ℕ) (h : IsRest places past (q ∷ rest)) where
-    pub front_above : past < q
-    front_above = h.rises.0
-
     pub front_dead : (n : ℕ) → past + n < q → Dead (is_elem places) past n
     front_dead n lt k low high =
         h.same (past + k) (omega arith)

@@ -1,8 +1,8 @@
 -- The places that a part reads next, from those of its parts.
-use Rattle.std.proofs.Common.{◌≡◌, ℕ, ◌+◌, ◌-◌, ◌*◌, ◌≤◌, ◌<◌, Bool, false, List, [], ◌++◌, append_assoc, append-nil, refl, sym, ap, ap₂, ◌∙◌, subst, arith}
+use Rattle.std.proofs.Common.{◌≡◌, ℕ, ◌+◌, ◌-◌, ◌*◌, ◌≤◌, ◌<◌, false, List, [], ◌++◌, append_assoc, append-nil, sym, ap, ap₂, ◌∙◌, subst, arith}
 use Rattle.jp_regexp.specs.declared.reach.Reach.{Reach}
-use Rattle.jp_regexp.specs.Unrolled.{Unrolled, seq, either, plus, counted, counted_on, letters}
-use Rattle.jp_regexp.specs.Walk.{leaves, advance, is_elem, Dead, IsStep, entered_as}
+use Rattle.jp_regexp.specs.Unrolled.{Unrolled, seq, either, counted, counted_on, letters}
+use Rattle.jp_regexp.specs.Walk.{advance, is_elem, Dead, IsStep}
 use Rattle.jp_regexp.proofs.CopyLemmas.{counted-advance, open-advance, unread, unread_on}
 
 joined : (before here after rest : List ℕ) → after ≡ before ++ here → after ++ rest ≡ before ++ (here ++ rest)

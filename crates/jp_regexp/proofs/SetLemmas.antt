@@ -1,14 +1,13 @@
 -- One step on a set of places: what is left of it, that it rises, and how many places it has. The flag says whether place 0 is in
 -- the set, and the list has the others.
-use Rattle.std.proofs.Common.{◌≡◌, ℕ, zero, suc, ◌+◌, ◌≤◌, ◌<◌, ◌⊎◌, Bool, true, false, ◌&&◌, ◌||◌, if◌then◌else◌, IsTrue, List, [], ◌∷◌, ◌++◌, length, refl, sym, ◌∙◌, subst, inl, inr, ⊎_elim, arith, true≢false, slice_index_or}
+use Rattle.std.proofs.Common.{◌≡◌, ℕ, zero, suc, ◌+◌, ◌≤◌, ◌⊎◌, Bool, true, false, ◌&&◌, if◌then◌else◌, IsTrue, List, [], ◌∷◌, ◌++◌, length, refl, sym, subst, inl, inr, ⊎_elim, arith, true≢false}
 use Rattle.std.specs.Prelude.{Contains}
 use Rattle.std.proofs.lemmas.Bool.{or_cases, or_left, or_right, eqb-true, eq-eqb}
 use Rattle.jp_regexp.specs.Pattern.{Text, Pattern}
-use Rattle.jp_regexp.specs.Language.{Member}
 use Rattle.jp_regexp.specs.Profile.{HasCounts}
 use Rattle.jp_regexp.specs.CharSets.{in_set}
 use Rattle.jp_regexp.specs.Unrolled.{Unrolled, nothing, letter, seq, either, maybe, plus, unrolled, Has, letters, After, PlaceHas, SomePlaceHas, all_places}
-use Rattle.jp_regexp.specs.Walk.{leaves, advance, Elem, is_elem, Rises}
+use Rattle.jp_regexp.specs.Walk.{advance, Elem, is_elem, Rises}
 use Rattle.jp_regexp.proofs.StepLemmas.{After-within, Held, advance_within, advance_sound, advance_whole}
 use Rattle.jp_regexp.proofs.UnrolledLemmas.{unrolled_whole, unrolled_sound}
 

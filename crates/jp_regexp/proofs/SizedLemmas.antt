@@ -1,5 +1,5 @@
 -- The sizes that are kept in the tree of the code.
-use Rattle.std.proofs.Common.{◌≡◌, ℕ, zero, suc, ◌+◌, ◌*◌, ◌<◌, ◌≤◌, ◌⊎◌, Bool, true, ◌&&◌, IsTrue, List, [], ◌∷◌, ◌++◌, map, take, get_or, length, min, refl, sym, ap, ap₂, ◌∙◌, subst, inl, inr, arith, Option, mul_comm}
+use Rattle.std.proofs.Common.{◌≡◌, ℕ, zero, suc, ◌+◌, ◌*◌, ◌<◌, Bool, ◌&&◌, IsTrue, List, [], ◌∷◌, ◌++◌, map, take, get_or, length, min, refl, sym, ap, ap₂, ◌∙◌, subst, arith, Option, mul_comm}
 use Rattle.std.proofs.lemmas.Bool.{and_parts, and_from, eqb-true, eq-eqb}
 use Rattle.std.proofs.lemmas.List.{take_more}
 use Rattle.jp_regexp.specs.Pattern.{Pattern}

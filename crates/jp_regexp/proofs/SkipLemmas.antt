@@ -1,7 +1,6 @@
 -- Parts that no walk enters and that have no live place, and places outside a part.
-use Rattle.std.proofs.Common.{◌≡◌, ℕ, zero, suc, ◌+◌, ◌-◌, ◌≤◌, ◌<◌, Bool, true, false, ◌&&◌, ◌||◌, if◌then◌else◌, IsTrue, List, [], ◌∷◌, ◌++◌, refl, sym, ap, ap₂, ◌∙◌, subst, arith, add_assoc}
-use Rattle.jp_regexp.specs.CharSets.{in_set}
-use Rattle.jp_regexp.specs.Unrolled.{Unrolled, nothing, letter, seq, either, maybe, plus, letters, counted, counted_on}
+use Rattle.std.proofs.Common.{◌≡◌, ℕ, ◌+◌, ◌≤◌, Bool, true, false, ◌||◌, [], ◌++◌, refl, ap, ap₂, ◌∙◌, subst, arith}
+use Rattle.jp_regexp.specs.Unrolled.{Unrolled, nothing, letter, seq, either, maybe, plus, letters}
 use Rattle.jp_regexp.specs.Walk.{leaves, advance, Dead}
 
 dead_front : (live : ℕ → Bool) (off m n : ℕ) → m ≤ n → Dead live off n → Dead live off m

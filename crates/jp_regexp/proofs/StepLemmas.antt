@@ -1,8 +1,8 @@
 -- One step on a set of places.
-use Rattle.std.proofs.Common.{◌≡◌, ℕ, zero, suc, ◌+◌, ◌-◌, ◌≤◌, ◌<◌, ◌⊎◌, ◌↔◌, Bool, true, false, ◌&&◌, ◌||◌, if◌then◌else◌, IsTrue, List, [], ◌∷◌, ◌++◌, length, Option, Some, None, refl, sym, ap, ap₂, ◌∙◌, subst, inl, inr, ⊎_elim, arith, true≢false, add_assoc}
+use Rattle.std.proofs.Common.{◌≡◌, ℕ, ◌+◌, ◌≤◌, ◌<◌, ◌⊎◌, Bool, true, false, ◌&&◌, ◌||◌, if◌then◌else◌, IsTrue, List, [], ◌∷◌, ◌++◌, length, None, refl, sym, ap, ap₂, ◌∙◌, subst, inl, inr, ⊎_elim, arith, true≢false, add_assoc}
 use Rattle.std.specs.List.{concat, AllByRecursion}
 use Rattle.std.proofs.lemmas.Bool.{and_parts, and_from, or_cases, or_left, or_right}
-use Rattle.jp_regexp.specs.Language.{Then, AtMost, Repeated}
+use Rattle.jp_regexp.specs.Language.{Repeated}
 use Rattle.jp_regexp.specs.CharSets.{in_set}
 use Rattle.jp_regexp.specs.Pattern.{Text}
 use Rattle.jp_regexp.specs.Unrolled.{Unrolled, nothing, letter, seq, either, maybe, plus, Has, letters, After}

@@ -1,5 +1,5 @@
 -- What is left of the set of places of a pattern.
-use Rattle.std.proofs.Common.{◌≡◌, ℕ, zero, suc, ◌+◌, ◌≤◌, ◌<◌, ◌⊎◌, ◌↔◌, Bool, true, false, IsTrue, List, [], ◌∷◌, ◌++◌, length, refl, sym, ap₂, ◌∙◌, subst, inl, inr, ⊎_elim, arith, slice_index_or}
+use Rattle.std.proofs.Common.{◌≡◌, ℕ, zero, suc, ◌+◌, ◌≤◌, ◌<◌, ◌⊎◌, ◌↔◌, Bool, true, false, IsTrue, List, [], ◌∷◌, ◌++◌, length, refl, sym, ap₂, ◌∙◌, subst, inl, inr, ⊎_elim, arith}
 use Rattle.std.specs.List.Sorted.{IsStrictlyIncreasing}
 use Rattle.std.specs.Prelude.{slice_index}
 use Rattle.jp_regexp.specs.Pattern.{Text, Pattern}
@@ -8,11 +8,8 @@ use Rattle.jp_regexp.specs.Profile.{HasCounts, size}
 use Rattle.jp_regexp.specs.Unrolled.{unrolled, letters, SomePlaceHas, all_places}
 use Rattle.jp_regexp.specs.Walk.{leaves, advance, is_elem, Rises, IsAt}
 use Rattle.jp_regexp.proofs.SetLemmas.{left_has, has_left, step_sound, step_whole, advance_rises, advance_few}
-use Rattle.jp_regexp.proofs.StepLemmas.{Held, leaves_sound, leaves_whole}
+use Rattle.jp_regexp.proofs.StepLemmas.{leaves_sound, leaves_whole}
 use Rattle.jp_regexp.proofs.UnrolledLemmas.{unrolled_whole, unrolled_sound, letters-unrolled}
-
-pub stands_first : (live : List ℕ) → Rises 0 live → IsAt live 0 0
-stands_first live h = record { rises = h; same = λ k lt. refl }
 
 module _ (p : Pattern) (counts : HasCounts p) (start : Bool) (live : List ℕ) (rises : Rises 0 live) where
   pub takes_step : (c : ℕ) (anew : Bool) (next : List ℕ) → next ≡ advance (is_elem live) c (unrolled p) 0 start → (t : Text) →

@@ -2,7 +2,7 @@
 use Rattle.std.proofs.Common.{◌≡◌, ℕ, zero, suc, ◌+◌, ◌-◌, ◌*◌, ◌≤◌, ◌<◌, Bool, true, false, ◌&&◌, ◌||◌, nat_le, List, [], ◌∷◌, map, drop, get_or, length, drop-cons, refl, sym, ap, ap₂, ◌∙◌, subst, arith, IsTrue, mul-le-mul_right}
 use Rattle.jp_regexp.specs.declared.reach.Reach.{Reach}
 use Rattle.jp_regexp.specs.declared.parts.Part.{Part}
-use Rattle.jp_regexp.specs.Parts.{meaning, pattern_in, in_turn_of, unrolled_in, unrolled_in_turn, branches_before}
+use Rattle.jp_regexp.specs.Parts.{meaning, in_turn_of, unrolled_in, unrolled_in_turn, branches_before}
 use Rattle.jp_regexp.specs.Unrolled.{Unrolled, unrolled, nothing, seq, either, plus, counted, counted_on, letters}
 use Rattle.jp_regexp.specs.Walk.{leaves, is_elem, Dead, IsAt, IsWalk, or_entered, entered_as}
 use Rattle.jp_regexp.proofs.UnrolledLemmas.{letters-counted, letters-counted_on}

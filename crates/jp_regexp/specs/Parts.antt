@@ -4,7 +4,7 @@ use Rattle.jp_regexp.specs.declared.parts.Part.{Part}
 use Rattle.jp_regexp.specs.declared.parts.Part.TheOpen.{Part-F}
 use Rattle.jp_regexp.specs.declared.parts.Part.TheFolds.{fold-Part}
 use Rattle.jp_regexp.specs.Pattern.{Pattern}
-use Rattle.jp_regexp.specs.Profile.{copies, size}
+use Rattle.jp_regexp.specs.Profile.{size}
 use Rattle.jp_regexp.specs.Tree.{set_of}
 use Rattle.jp_regexp.specs.Unrolled.{Unrolled, either, unrolled}
 

@@ -1,5 +1,5 @@
 -- A pattern with each repetition written out, and what may follow each of its atoms.
-use Rattle.std.specs.Prelude.{◌≡◌, ℕ, zero, suc, ◌+◌, ◌⊎◌, Bool, true, false, List, [], ◌∷◌, Contains, Option}
+use Rattle.std.specs.Prelude.{◌≡◌, ℕ, zero, suc, ◌+◌, ◌⊎◌, Bool, true, false, List, [], ◌∷◌, Contains}
 use Rattle.std.specs.Prelude.{Some, None, IsTrue}
 use Rattle.jp_regexp.specs.Pattern.{Text, CharSet, Pattern}
 use Rattle.jp_regexp.specs.CharSets.{in_set}

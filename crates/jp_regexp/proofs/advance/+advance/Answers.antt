@@ -1,14 +1,12 @@
-use Rattle.std.proofs.Common.{rules, ◌≡◌, ℕ, ◌+◌, ◌-◌, ◌*◌, ◌<◌, ◌≤◌, Bool, false, ◌||◌, ◌++◌, append-nil, drop, refl, sym, ap, ◌∙◌, subst, arith}
+use Rattle.std.proofs.Common.{rules, ◌≡◌, ◌+◌, ◌-◌, ◌*◌, ◌≤◌, false, ◌||◌, ◌++◌, append-nil, drop, refl, sym, ap, ◌∙◌, subst, arith}
 use Rattle.jp_regexp.specs.declared.parts.Part.{the_lemmas}
-use Rattle.jp_regexp.specs.declared.reach.Reach.{Reach}
-use Rattle.jp_regexp.specs.Tree.{set_of}
 use Rattle.jp_regexp.proofs.UnrolledLemmas.{letters-counted}
 use Rattle.jp_regexp.specs.Parts.{pattern_in, branches_before, unrolled_in, unrolled_in_turn, unrolled_repeat}
-use Rattle.jp_regexp.specs.Unrolled.{Unrolled, counted, counted_on, letters, letter, nothing}
+use Rattle.jp_regexp.specs.Unrolled.{Unrolled, counted, counted_on, letters, nothing}
 use Rattle.jp_regexp.specs.Walk.{advance, is_elem, leaves, IsAt, IsStep, IsWalk, or_entered, entered_as}
 use Rattle.jp_regexp.proofs.KindLemmas.{exact, set_same, known_pieces, known_branches, known_repeat}
 use Rattle.jp_regexp.proofs.SizedLemmas.{all_sized-at}
-use Rattle.jp_regexp.proofs.WalkLemmas.{piece_next, branch_next, drop_none, nothing_walk, seq_walk, either_walk, or_walk, copy_walk, copy_on_walk, skip_walk, skip_on_walk, last_walk, plus_walk, copies_fit, copy_fits, copies_on_fit, copy_on_fits, last_fits, some_idle, not_entered, skip_copies, skip_copies_on, total_skipped, total_skipped_on}
+use Rattle.jp_regexp.proofs.WalkLemmas.{piece_next, branch_next, drop_none, nothing_walk, seq_walk, either_walk, or_walk, copy_walk, copy_on_walk, last_walk, plus_walk, copies_fit, copy_fits, copies_on_fit, copy_on_fits, last_fits, some_idle, not_entered, skip_copies, skip_copies_on, total_skipped, total_skipped_on}
 use Rattle.jp_regexp.proofs.CopyLemmas.{counted-letters, open-letters}
 use Rattle.jp_regexp.proofs.advance.+advance.Goals as goal
 use Rattle.jp_regexp.proofs.ReadsLemmas.{end_reads, passed_reads, seq_reads, either_reads, copy_reads, copy_on_reads, skip_reads, skip_on_reads}

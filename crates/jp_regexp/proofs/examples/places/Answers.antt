@@ -1,6 +1,6 @@
-use Rattle.std.proofs.Common.{◌≡◌, ◌<◌, [], ◌∷◌, false, refl, sym, inl, inr, arith, true≢false}
+use Rattle.std.proofs.Common.{[], ◌∷◌, false, refl, sym, inl, inr, arith, true≢false}
 use Rattle.std.specs.Prelude.{codes}
-use Rattle.jp_regexp.specs.Samples.{a_or_ab, once_a, some_ab}
+use Rattle.jp_regexp.specs.Samples.{a_or_ab, once_a}
 use Rattle.jp_regexp.specs.Pattern.{CharSet}
 use Rattle.jp_regexp.specs.Unrolled.{Unrolled, unrolled, Has, After}
 use Rattle.jp_regexp.specs.Walk.{is_elem}

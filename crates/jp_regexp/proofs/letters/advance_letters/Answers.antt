@@ -1,13 +1,11 @@
-use Rattle.std.proofs.Common.{◌≡◌, ℕ, ◌+◌, ◌-◌, ◌*◌, ◌<◌, ◌≤◌, Bool, ◌||◌, ◌++◌, List, refl, sym, ap, ◌∙◌, subst, arith}
-use Rattle.jp_regexp.specs.declared.reach.Reach.{Reach}
+use Rattle.std.proofs.Common.{◌≡◌, ◌+◌, ◌-◌, ◌*◌, ◌≤◌, ◌||◌, ◌++◌, refl, sym, ap, ◌∙◌, subst, arith}
 use Rattle.jp_regexp.specs.Tree.{set_of}
-use Rattle.jp_regexp.specs.CharSets.{in_set}
-use Rattle.jp_regexp.specs.Unrolled.{Unrolled, counted, letters, letter}
-use Rattle.jp_regexp.specs.Walk.{advance, is_elem, read_if, IsAt, IsStep, IsWalk, or_entered, entered_as, Dead}
+use Rattle.jp_regexp.specs.Unrolled.{counted, letters, letter}
+use Rattle.jp_regexp.specs.Walk.{advance, is_elem, read_if, IsAt, IsStep, IsWalk, or_entered, entered_as}
 use Rattle.jp_regexp.proofs.CopyLemmas.{counted-letters}
 use Rattle.jp_regexp.proofs.ReadsLemmas.{end_reads, copy_reads, skip_reads}
 use Rattle.jp_regexp.proofs.UnrolledLemmas.{letters-counted}
-use Rattle.jp_regexp.proofs.WalkLemmas.{nothing_walk, or_walk, copy_walk, copies_fit, copy_fits, some_idle, not_entered, skip_copies, total_skipped}
+use Rattle.jp_regexp.proofs.WalkLemmas.{nothing_walk, or_walk, copy_walk, copies_fit, copy_fits, not_entered, skip_copies, total_skipped}
 use Rattle.jp_regexp.proofs.letters.advance_letters.Goals as goal
 
 pub idle_copies-idle-requires-clause-fits : goal.idle_copies-idle-requires-clause-fits

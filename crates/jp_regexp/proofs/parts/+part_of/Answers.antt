@@ -1,9 +1,9 @@
-use Rattle.std.proofs.Common.{◌≡◌, [], ◌∷◌, ◌++◌, map, IsTrue, min, ap, ap₂, ◌∙◌, sym, subst, arith}
+use Rattle.std.proofs.Common.{◌≡◌, [], ◌∷◌, ◌++◌, map, IsTrue, min, ap, ap₂, ◌∙◌, sym, subst}
 use Rattle.std.proofs.lemmas.List.{map-append}
 use Rattle.jp_regexp.specs.Pattern.{Pattern}
-use Rattle.jp_regexp.specs.Profile.{copies, size}
+use Rattle.jp_regexp.specs.Profile.{size}
 use Rattle.jp_regexp.specs.Tree.{node_of, in_turn, before_last}
-use Rattle.jp_regexp.specs.Parts.{Meaning, all_sized, meaning, pattern_in, patterns_in, before_last_of}
+use Rattle.jp_regexp.specs.Parts.{Meaning, all_sized, meaning, pattern_in, patterns_in}
 use Rattle.jp_regexp.proofs.NodeLemmas.{node_pieces, node_branches}
 use Rattle.jp_regexp.proofs.MeaningLemmas.{part_pieces, part_branches, part_repeat, part_plus}
 use Rattle.jp_regexp.proofs.SizedLemmas.{sized_from, sized_pieces, sized_branches, sized_repeat, in_turn_of-patterns, before_last_of-patterns, patterns_in-last, all_sized-last}

@@ -1,5 +1,4 @@
-use Rattle.std.proofs.Common.{◌≡◌, ℕ, ◌+◌, ◌-◌, ◌*◌, ◌/◌, ◌<◌, ◌≤◌, length, slice_index_or, arith}
-use Rattle.jp_regexp.specs.Walk.{IsAt}
+use Rattle.std.proofs.Common.{◌*◌, ◌<◌, length, slice_index_or, arith}
 use Rattle.jp_regexp.proofs.ReachLemmas.{passes_front, idle_reach, place_above}
 use Rattle.jp_regexp.proofs.reach.idle_copies.Goals as goal
 

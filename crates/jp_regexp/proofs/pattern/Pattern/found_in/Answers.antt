@@ -1,9 +1,9 @@
-use Rattle.std.proofs.Common.{◌≡◌, ◌⊎◌, ◌↔◌, IsTrue, [], ◌∷◌, ◌++◌, true, false, refl, sym, ap, ◌∙◌, subst, true≢false, append-nil}
+use Rattle.std.proofs.Common.{◌≡◌, ◌⊎◌, ◌↔◌, IsTrue, [], ◌∷◌, true, refl, sym, ap, ◌∙◌, subst, true≢false, append-nil}
 use Rattle.std.specs.Str.{chars}
 use Rattle.std.specs.Str.Iter.{chars_rest}
 use Rattle.jp_regexp.specs.Held.{pattern_of}
 use Rattle.jp_regexp.specs.Language.{Member}
-use Rattle.jp_regexp.specs.Pattern.{Text, Pattern}
+use Rattle.jp_regexp.specs.Pattern.{Text}
 use Rattle.jp_regexp.specs.Terms.{IsLeft, pattern_read_by, places_of}
 use Rattle.jp_regexp.specs.Unrolled.{SomePlaceHas}
 use Rattle.jp_regexp.proofs.FindLemmas.{reading_first, reading_more, reading_end, all_left, began_first, no_part_first, find_more, no_part_more, began_found, found_began, skip_left, not_at_first, first_left}

@@ -1,4 +1,4 @@
-use Rattle.std.proofs.Common.{◌≡◌, ◌↔◌, ◌++◌}
+use Rattle.std.proofs.Common.{◌≡◌, ◌↔◌}
 use Rattle.std.specs.Str.{chars}
 use Rattle.jp_regexp.specs.Held.{pattern_of}
 use Rattle.jp_regexp.specs.Pattern.{Text}

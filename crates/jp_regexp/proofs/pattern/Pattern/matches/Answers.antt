@@ -1,4 +1,4 @@
-use Rattle.std.proofs.Common.{◌≡◌, ◌⊎◌, ◌↔◌, IsTrue, [], ◌∷◌, ◌++◌, true, false, sym, ap, ◌∙◌, subst, true≢false, append-nil}
+use Rattle.std.proofs.Common.{◌≡◌, ◌↔◌, [], ◌++◌, sym, ap, ◌∙◌, subst, true≢false, append-nil}
 use Rattle.std.specs.Str.{chars}
 use Rattle.std.specs.Str.Iter.{chars_rest}
 use Rattle.jp_regexp.specs.Held.{pattern_of}

@@ -1,9 +1,9 @@
-use Rattle.std.proofs.Common.{◌≡◌, sym, ap, ◌∙◌, subst, arith}
+use Rattle.std.proofs.Common.{◌≡◌, ap, ◌∙◌, arith}
 use Rattle.jp_regexp.specs.Held.{pattern_of}
 use Rattle.jp_regexp.specs.Unrolled.{unrolled}
-use Rattle.jp_regexp.specs.Walk.{is_elem, leaves, IsAt}
+use Rattle.jp_regexp.specs.Walk.{is_elem, leaves}
 use Rattle.jp_regexp.proofs.ProfileLemmas.{kept_profile, kept_size}
-use Rattle.jp_regexp.proofs.TermLemmas.{accepted, at_most_size, stands_first}
+use Rattle.jp_regexp.proofs.TermLemmas.{accepted, at_most_size}
 use Rattle.jp_regexp.proofs.terms.Terms.accepts.Goals as goal
 
 pub leave-requires-clause-fits : goal.leave-requires-clause-fits

@@ -1,7 +1,7 @@
-use Rattle.std.proofs.Common.{◌≡◌, ◌++◌, List, ℕ, sym, ap, ap₂, ◌∙◌, subst, arith}
+use Rattle.std.proofs.Common.{ap, ◌∙◌}
 use Rattle.jp_regexp.specs.Held.{pattern_of}
 use Rattle.jp_regexp.specs.Unrolled.{unrolled}
-use Rattle.jp_regexp.specs.Walk.{advance, is_elem, leaves}
+use Rattle.jp_regexp.specs.Walk.{is_elem, leaves}
 use Rattle.jp_regexp.proofs.ProfileLemmas.{kept_profile}
 use Rattle.jp_regexp.proofs.TermLemmas.{accepted, takes_step, next_rises, next_few, read_next}
 use Rattle.jp_regexp.proofs.terms.Terms.read.Goals as goal
