@@ -1,5 +1,5 @@
--- A working file, which nobody has to believe: what a function that reads ensures, by the reader of lists, unless
--- memory runs out.
+-- A working file, which nobody has to believe: what a function that reads ensures, by the reader of
+-- lists, unless memory runs out.
 use Rattle.std.specs.Prelude.{◌≡◌, Option, Some, None, Result, Ok, Err}
 use Rattle.jp_regexp.specs.declared.fault.Fault.{Fault}
 use Rattle.jp_regexp.specs.declared.fault.Fault.TheVariants as faults

@@ -1,6 +1,6 @@
--- A working file, which nobody has to believe: a reader of patterns, by which a text has at most one tree. Each function
--- reads from the front, and gives what it read and the rest. The contracts of the code that reads follow it; no public
--- contract names it.
+-- A working file, which nobody has to believe: a reader of patterns, by which a text has at most one
+-- tree. Each function reads from the front, and gives what it read and the rest. The contracts of the
+-- code that reads follow it; no public contract names it.
 use Rattle.std.specs.Prelude.{ℕ, zero, suc, ◌+◌, ◌-◌, ◌*◌, true, false, not, ◌&&◌, Bool, ◌==◌, nat_le, List}
 use Rattle.std.specs.Prelude.{[], ◌∷◌, ◌++◌, length, Option, Some, None, option_map, option_and_then}
 use Rattle.std.specs.Prelude.{if◌then◌else◌}

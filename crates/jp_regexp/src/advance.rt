@@ -29,7 +29,8 @@ pub fn advance(
     requires sized { IsTrue (meaning part.now).is_sized }
     requires fits { at.past + letters (unrolled_in part.now) ≤ max_size }
     requires stands { IsAt live.now at.past at.index }
-    ensures { IfOk result (λ end. IsStep live.now c (unrolled_in part.now) at end out.old.items out.new.items) }
+    ensures { IfOk result (λ end. IsStep live.now c (unrolled_in part.now) at end out.old.items
+        out.new.items) }
 {
     if let Some(behind) = passed(live, at, part.size()) {
         return Ok(behind);
@@ -183,7 +184,8 @@ fn advance_counted_on(
     requires some { 0 < letters (unrolled_in atom.now) }
     requires fits { at.past + letters (counted_on least (unrolled_in atom.now)) ≤ max_size }
     requires stands { IsAt live.now at.past at.index }
-    ensures { IfOk result (λ end. IsStep live.now c (counted_on least (unrolled_in atom.now)) at end out.old.items
+    ensures { IfOk result (λ end. IsStep live.now c (counted_on least (unrolled_in atom.now)) at end
+        out.old.items
         out.new.items) }
 {
     let size = atom.size();

@@ -6,7 +6,8 @@ ghost use Rattle.unicode.specs.declared.properties.GeneralCategory.TheVariants.{
 ghost use Rattle.unicode.specs.declared.properties.GeneralCategory.TheVariants.{TitlecaseLetter};
 ghost use Rattle.unicode.specs.declared.properties.GeneralCategory.TheVariants.{ModifierLetter, OtherLetter};
 ghost use Rattle.unicode.specs.declared.properties.GeneralCategory.TheVariants.{DecimalNumber};
-ghost use Rattle.jp_regexp.specs.Pattern.{Text, empty, letter, group, seq, either, repeat, plus, dot, category};
+ghost use Rattle.jp_regexp.specs.Pattern.{Text, empty, letter, group, seq, either, repeat, plus, dot};
+ghost use Rattle.jp_regexp.specs.Pattern.{category};
 ghost use Rattle.jp_regexp.specs.Pattern.{class, one, only, range, of_category};
 ghost use Rattle.std.specs.List.{AllByRecursion};
 ghost use Rattle.jp_regexp.specs.CategoryNames.{IsCategoryName};
@@ -27,29 +28,38 @@ fn shapes()
     ensures nothing { Shapes (codes "") empty }
     ensures branch_or_nothing { Shapes (codes "a|") (either (branch (letter_a ∷ [])) empty) }
     ensures hyphens { Shapes (codes "[--]") (branch (letter (class false (one 45 ∷ one 45 ∷ [])) ∷ [])) }
-    ensures letters_and_hyphens { Shapes (codes "[a-]+") (branch (plus (letter (class false (one 97 ∷ one 45 ∷ []))) ∷ [])) }
-    ensures capitals { Shapes (codes "\\p{Lu}+") (branch (plus (letter (category false (UppercaseLetter ∷ []))) ∷ [])) }
+    ensures letters_and_hyphens { Shapes (codes "[a-]+") (branch (plus (letter (class false (one 97 ∷ one
+        45 ∷ []))) ∷ [])) }
+    ensures capitals { Shapes (codes "\\p{Lu}+") (branch (plus (letter (category false (UppercaseLetter ∷
+        []))) ∷ [])) }
     ensures not_line_feed { Shapes (codes "[^\\n]") (branch (letter (class true (one 10 ∷ [])) ∷ [])) }
     ensures any_character { Shapes (codes ".") (branch (letter dot ∷ [])) }
     ensures two { Shapes (codes "a{02}") (branch (repeat 2 (Some 2) letter_a ∷ [])) }
     ensures two_or_more { Shapes (codes "a{2,}") (branch (repeat 2 None letter_a ∷ [])) }
-    ensures nested { Shapes (codes "(a*)*b{0,2}") (branch (repeat 0 None (group (branch (repeat 0 None letter_a ∷ []))) ∷
+    ensures nested { Shapes (codes "(a*)*b{0,2}") (branch (repeat 0 None (group (branch (repeat 0 None
+        letter_a ∷ []))) ∷
         repeat 0 (Some 2) letter_b ∷ [])) }
     ensures signs { Shapes (codes "^a$") (branch (sign 94 ∷ letter_a ∷ sign 36 ∷ [])) }
     ensures any_between { Shapes (codes "a.c") (branch (letter_a ∷ letter dot ∷ sign 99 ∷ [])) }
-    ensures neither { Shapes (codes "[^a-z\\p{Nd}]") (branch (letter (class true (range 97 122 ∷ of_category false
+    ensures neither { Shapes (codes "[^a-z\\p{Nd}]") (branch (letter (class true (range 97 122 ∷
+        of_category false
         (DecimalNumber ∷ []) ∷ [])) ∷ [])) }
-    ensures no_letter { Shapes (codes "\\P{L}") (branch (letter (category true (LowercaseLetter ∷ ModifierLetter ∷
+    ensures no_letter { Shapes (codes "\\P{L}") (branch (letter (category true (LowercaseLetter ∷
+        ModifierLetter ∷
         OtherLetter ∷ TitlecaseLetter ∷ UppercaseLetter ∷ [])) ∷ [])) }
     ensures some_letters { Shapes (codes "a+") (branch (plus letter_a ∷ [])) }
-    ensures caret_later { Shapes (codes "[a^.]") (branch (letter (class false (one 97 ∷ one 94 ∷ one 46 ∷ [])) ∷ [])) }
+    ensures caret_later { Shapes (codes "[a^.]") (branch (letter (class false (one 97 ∷ one 94 ∷ one 46 ∷
+        [])) ∷ [])) }
     ensures escaped_caret { Shapes (codes "[\\^]") (branch (letter (class false (one 94 ∷ [])) ∷ [])) }
     ensures two_carets { Shapes (codes "[^^]") (branch (letter (class true (one 94 ∷ [])) ∷ [])) }
-    ensures hyphen_first { Shapes (codes "[-a]?") (branch (repeat 0 (Some 1) (letter (class false (one 45 ∷ one 97 ∷ []))) ∷
+    ensures hyphen_first { Shapes (codes "[-a]?") (branch (repeat 0 (Some 1) (letter (class false (one 45
+        ∷ one 97 ∷ []))) ∷
         [])) }
-    ensures branches { Shapes (codes "a|b|") (either (branch (letter_a ∷ [])) (either (branch (letter_b ∷ [])) empty)) }
+    ensures branches { Shapes (codes "a|b|") (either (branch (letter_a ∷ [])) (either (branch (letter_b ∷
+        [])) empty)) }
     ensures escapes { Shapes (codes "\\.\\-") (branch (sign 46 ∷ sign 45 ∷ [])) }
-    ensures three_to_five { Shapes (codes "[\\--\\]]{003,5}") (branch (repeat 3 (Some 5) (letter (class false (range 45 93 ∷
+    ensures three_to_five { Shapes (codes "[\\--\\]]{003,5}") (branch (repeat 3 (Some 5) (letter (class
+        false (range 45 93 ∷
         []))) ∷ [])) }
 {}
 
@@ -160,7 +170,8 @@ fn written_out()
     ensures question { unrolled (repeat 0 (Some 1) letter_a) ≡ maybe (then once_a nothing) }
     ensures no_copies { unrolled (repeat 0 (Some 0) letter_a) ≡ nothing }
     ensures two { unrolled (repeat 2 (Some 2) letter_a) ≡ then once_a (then once_a nothing) }
-    ensures one_to_three { unrolled (repeat 1 (Some 3) letter_a) ≡ then once_a (maybe (then once_a (maybe (then once_a nothing)))) }
+    ensures one_to_three { unrolled (repeat 1 (Some 3) letter_a) ≡ then once_a (maybe (then once_a (maybe
+        (then once_a nothing)))) }
     ensures branches { unrolled (either letter_a empty) ≡ written_either once_a nothing }
     ensures parentheses { unrolled (group (branch (letter_a ∷ []))) ≡ then once_a nothing }
 {}
@@ -183,23 +194,30 @@ fn places()
 
 // Escapes, and the characters that stand for themselves.
 fn characters()
-    ensures escaped { AllByRecursion (λ c. Shapes (codes "\\" ++ (c ∷ [])) (branch (sign c ∷ []))) (codes "()*+-.?[\\]^{|}") }
+    ensures escaped { AllByRecursion (λ c. Shapes (codes "\\" ++ (c ∷ [])) (branch (sign c ∷ []))) (codes
+        "()*+-.?[\\]^{|}") }
     ensures line_feed { Shapes (codes "\\n") (branch (sign 10 ∷ [])) }
     ensures carriage_return { Shapes (codes "\\r") (branch (sign 13 ∷ [])) }
     ensures tab { Shapes (codes "\\t") (branch (sign 9 ∷ [])) }
-    ensures no_escapes { AllByRecursion (λ c. IsNoPattern (codes "\\" ++ (c ∷ []))) (codes "abdeswxuvpPNRT019/,:;<=>_ ") }
+    ensures no_escapes { AllByRecursion (λ c. IsNoPattern (codes "\\" ++ (c ∷ []))) (codes
+        "abdeswxuvpPNRT019/,:;<=>_ ") }
     ensures bare { AllByRecursion (λ c. Shapes (c ∷ []) (branch (sign c ∷ []))) (codes "aZ09^$-,/ !~&_") }
     ensures not_bare { AllByRecursion (λ c. IsNoPattern (c ∷ [])) (codes "()*+?[\\]{}") }
     ensures surrogates { AllByRecursion (λ c. IsNoPattern (c ∷ [])) (55296 ∷ 57343 ∷ 1114112 ∷ []) }
-    ensures beside_surrogates { AllByRecursion (λ c. Shapes (c ∷ []) (branch (sign c ∷ []))) (55295 ∷ 57344 ∷ 1114111 ∷ []) }
-    ensures in_classes { AllByRecursion (λ c. Shapes (codes "[" ++ (c ∷ codes "]")) (branch (letter (class false (one c ∷ [])) ∷ [])))
+    ensures beside_surrogates { AllByRecursion (λ c. Shapes (c ∷ []) (branch (sign c ∷ []))) (55295 ∷
+        57344 ∷ 1114111 ∷ []) }
+    ensures in_classes { AllByRecursion (λ c. Shapes (codes "[" ++ (c ∷ codes "]")) (branch (letter (class
+        false (one c ∷ [])) ∷ [])))
         (codes "()*+.?{|}$,-a") }
-    ensures not_in_classes { AllByRecursion (λ c. IsNoPattern (codes "[" ++ (c ∷ codes "]"))) (codes "[\\]^") }
-    ensures hyphen_and_caret { Shapes (codes "[-^]") (branch (letter (class false (one 45 ∷ one 94 ∷ [])) ∷ [])) }
+    ensures not_in_classes { AllByRecursion (λ c. IsNoPattern (codes "[" ++ (c ∷ codes "]"))) (codes
+        "[\\]^") }
+    ensures hyphen_and_caret { Shapes (codes "[-^]") (branch (letter (class false (one 45 ∷ one 94 ∷ []))
+        ∷ [])) }
     ensures caret_and_hyphen { Shapes (codes "[^-]") (branch (letter (class true (one 45 ∷ [])) ∷ [])) }
     ensures caret_range { Shapes (codes "[^+-^]") (branch (letter (class true (range 43 94 ∷ [])) ∷ [])) }
     ensures range_of_one { Shapes (codes "[a-a]") (branch (letter (class false (range 97 97 ∷ [])) ∷ [])) }
-    ensures hyphen_last { Shapes (codes "[a-c-]") (branch (letter (class false (range 97 99 ∷ one 45 ∷ [])) ∷ [])) }
+    ensures hyphen_last { Shapes (codes "[a-c-]") (branch (letter (class false (range 97 99 ∷ one 45 ∷
+        [])) ∷ [])) }
     ensures category_last { IsNoPattern (codes "[a-\\p{L}]") }
 {}
 
@@ -211,8 +229,10 @@ fn quantities()
     ensures no_copies { Shapes (codes "a{0}") (branch (repeat 0 (Some 0) letter_a ∷ [])) }
     ensures none_to_none { Shapes (codes "a{0,0}") (branch (repeat 0 (Some 0) letter_a ∷ [])) }
     ensures leading_zeros { Shapes (codes "a{007,10}") (branch (repeat 7 (Some 10) letter_a ∷ [])) }
+    ensures digits { Shapes (codes "a{46,89}") (branch (repeat 46 (Some 89) letter_a ∷ [])) }
     ensures no_end { Shapes (codes "a{12,}") (branch (repeat 12 None letter_a ∷ [])) }
-    ensures refused { AllByRecursion (λ t. IsNoPattern t) (codes "a{}" ∷ codes "a{,}" ∷ codes "a{1,2,}" ∷ codes "a{a}" ∷ codes "a{1 }"
+    ensures refused { AllByRecursion (λ t. IsNoPattern t) (codes "a{}" ∷ codes "a{,}" ∷ codes "a{1,2,}" ∷
+        codes "a{a}" ∷ codes "a{:}" ∷ codes "a{/}" ∷ codes "a{1 }"
         ∷ codes "a{-1}" ∷ codes "a+?" ∷ codes "a?+" ∷ codes "a{1}{1}" ∷ codes "(*)" ∷ codes "|+" ∷ []) }
 {}
 
@@ -226,23 +246,33 @@ fn limits()
     ensures deepest { InProfile (in_groups 64 letter_a) }
     ensures too_deep { InProfile (in_groups 65 letter_a) → ⊥ }
     ensures largest { InProfile (repeat 1000 (Some 1000) (repeat 10 (Some 10) letter_a)) }
-    ensures too_large { InProfile (seq letter_a (repeat 1000 (Some 1000) (repeat 10 (Some 10) letter_a))) → ⊥ }
+    ensures too_large { InProfile (seq letter_a (repeat 1000 (Some 1000) (repeat 10 (Some 10) letter_a)))
+        → ⊥ }
 {}
 
 // What sets of characters hold.
 fn sets()
-    ensures dot { (in_set dot 9 ≡ true) × (in_set dot 10 ≡ false) × (in_set dot 11 ≡ true) × (in_set dot 13 ≡ false)
-        × (in_set dot 0 ≡ true) × (in_set dot 133 ≡ true) × (in_set dot 8232 ≡ true) }
-    ensures characters { (in_set dot 55295 ≡ true) × (in_set dot 55296 ≡ false) × (in_set dot 57343 ≡ false)
-        × (in_set dot 57344 ≡ true) × (in_set dot 1114111 ≡ true) × (in_set dot 1114112 ≡ false) }
-    ensures lone { (in_set (only 97) 97 ≡ true) × (in_set (only 97) 65 ≡ false) × (in_set (only 55296) 55296 ≡ false) }
-    ensures ranges { (in_set (class false (range 97 122 ∷ [])) 96 ≡ false) × (in_set (class false (range 97 122 ∷ [])) 97 ≡ true)
-        × (in_set (class false (range 97 122 ∷ [])) 122 ≡ true) × (in_set (class false (range 97 122 ∷ [])) 123 ≡ false) }
-    ensures classes { (in_set (class false (one 97 ∷ one 99 ∷ [])) 99 ≡ true) × (in_set (class false (one 97 ∷ one 99 ∷ [])) 98 ≡ false)
-        × (in_set (class true (one 97 ∷ one 99 ∷ [])) 99 ≡ false) × (in_set (class true (one 97 ∷ one 99 ∷ [])) 98 ≡ true)
+    ensures dot { (in_set dot 9 ≡ true) × (in_set dot 10 ≡ false) × (in_set dot 11 ≡ true)
+        × (in_set dot 13 ≡ false) × (in_set dot 0 ≡ true) × (in_set dot 133 ≡ true)
+        × (in_set dot 8232 ≡ true) }
+    ensures characters { (in_set dot 55295 ≡ true) × (in_set dot 55296 ≡ false)
+        × (in_set dot 57343 ≡ false) × (in_set dot 57344 ≡ true) × (in_set dot 1114111 ≡ true)
+        × (in_set dot 1114112 ≡ false) }
+    ensures lone { (in_set (only 97) 97 ≡ true) × (in_set (only 97) 65 ≡ false)
+        × (in_set (only 55296) 55296 ≡ false) }
+    ensures ranges { (in_set (class false (range 97 122 ∷ [])) 96 ≡ false)
+        × (in_set (class false (range 97 122 ∷ [])) 97 ≡ true)
+        × (in_set (class false (range 97 122 ∷ [])) 122 ≡ true)
+        × (in_set (class false (range 97 122 ∷ [])) 123 ≡ false) }
+    ensures classes { (in_set (class false (one 97 ∷ one 99 ∷ [])) 99 ≡ true)
+        × (in_set (class false (one 97 ∷ one 99 ∷ [])) 98 ≡ false)
+        × (in_set (class true (one 97 ∷ one 99 ∷ [])) 99 ≡ false)
+        × (in_set (class true (one 97 ∷ one 99 ∷ [])) 98 ≡ true)
         × (in_set (class true (one 97 ∷ [])) 55296 ≡ false) }
-    ensures categories { (in_set (category false (UppercaseLetter ∷ [])) 65 ≡ true) × (in_set (category false (UppercaseLetter ∷ [])) 97 ≡ false)
-        × (in_set (category true (UppercaseLetter ∷ [])) 65 ≡ false) × (in_set (category true (UppercaseLetter ∷ [])) 97 ≡ true)
+    ensures categories { (in_set (category false (UppercaseLetter ∷ [])) 65 ≡ true)
+        × (in_set (category false (UppercaseLetter ∷ [])) 97 ≡ false)
+        × (in_set (category true (UppercaseLetter ∷ [])) 65 ≡ false)
+        × (in_set (category true (UppercaseLetter ∷ [])) 97 ≡ true)
         × (in_set (category false (UppercaseLetter ∷ LowercaseLetter ∷ [])) 97 ≡ true) }
     ensures categories_in_classes { (in_set (class false (of_category false (UppercaseLetter ∷ []) ∷ [])) 65 ≡ true)
         × (in_set (class false (of_category true (UppercaseLetter ∷ []) ∷ [])) 65 ≡ false)
@@ -254,18 +284,25 @@ fn languages()
     ensures nothing { HasOnly empty (codes "" ∷ []) (codes "a" ∷ []) }
     ensures a_character { HasOnly letter_a (codes "a" ∷ []) (codes "" ∷ codes "b" ∷ codes "aa" ∷ []) }
     ensures parentheses { HasOnly (group letter_a) (codes "a" ∷ []) (codes "" ∷ codes "b" ∷ []) }
-    ensures in_turn { HasOnly (seq letter_a letter_b) (codes "ab" ∷ []) (codes "a" ∷ codes "b" ∷ codes "ba" ∷ []) }
-    ensures branches { HasOnly (either letter_a letter_b) (codes "a" ∷ codes "b" ∷ []) (codes "" ∷ codes "ab" ∷ []) }
+    ensures in_turn { HasOnly (seq letter_a letter_b) (codes "ab" ∷ []) (codes "a" ∷ codes "b" ∷ codes
+        "ba" ∷ []) }
+    ensures branches { HasOnly (either letter_a letter_b) (codes "a" ∷ codes "b" ∷ []) (codes "" ∷ codes
+        "ab" ∷ []) }
     ensures no_copies { HasOnly (repeat 0 (Some 0) letter_a) (codes "" ∷ []) (codes "a" ∷ []) }
     ensures question { HasOnly (repeat 0 (Some 1) letter_a) (codes "" ∷ codes "a" ∷ []) (codes "aa" ∷ []) }
-    ensures one_to_two { HasOnly (repeat 1 (Some 2) letter_a) (codes "a" ∷ codes "aa" ∷ []) (codes "" ∷ codes "aaa" ∷ []) }
-    ensures star { HasOnly (repeat 0 None letter_a) (codes "" ∷ codes "a" ∷ codes "aaa" ∷ []) (codes "ab" ∷ []) }
-    ensures two_or_more { HasOnly (repeat 2 None letter_a) (codes "aa" ∷ codes "aaa" ∷ []) (codes "" ∷ codes "a" ∷ []) }
-    ensures some_letters { HasOnly (plus letter_a) (codes "a" ∷ codes "aa" ∷ []) (codes "" ∷ codes "ba" ∷ []) }
+    ensures one_to_two { HasOnly (repeat 1 (Some 2) letter_a) (codes "a" ∷ codes "aa" ∷ []) (codes "" ∷
+        codes "aaa" ∷ []) }
+    ensures star { HasOnly (repeat 0 None letter_a) (codes "" ∷ codes "a" ∷ codes "aaa" ∷ []) (codes "ab"
+        ∷ []) }
+    ensures two_or_more { HasOnly (repeat 2 None letter_a) (codes "aa" ∷ codes "aaa" ∷ []) (codes "" ∷
+        codes "a" ∷ []) }
+    ensures some_letters { HasOnly (plus letter_a) (codes "a" ∷ codes "aa" ∷ []) (codes "" ∷ codes "ba" ∷
+        []) }
     ensures some_nothing { HasOnly (plus empty) (codes "" ∷ []) (codes "a" ∷ []) }
     ensures parts_of_two { HasOnly (repeat 2 (Some 2) (either letter_a (seq letter_a letter_b)))
         (codes "aa" ∷ codes "aba" ∷ codes "aab" ∷ codes "abab" ∷ []) (codes "a" ∷ codes "abb" ∷ []) }
-    ensures never { HasOnly (repeat 0 (Some 0) (repeat 1000 (Some 1000) (repeat 1000 (Some 1000) (repeat 1000 (Some 1000) letter_a))))
+    ensures never { HasOnly (repeat 0 (Some 0) (repeat 1000 (Some 1000) (repeat 1000 (Some 1000) (repeat
+        1000 (Some 1000) letter_a))))
         (codes "" ∷ []) (codes "a" ∷ []) }
 {}
 
@@ -281,6 +318,7 @@ fn parts()
 // The names of general categories.
 fn category_names()
     ensures all { AllByRecursion (λ row. IsCategoryName row.0 row.1) category_rows }
-    ensures none { AllByRecursion (λ t. IsNoPattern (codes "\\p{" ++ (t ++ codes "}"))) (codes "Cs" ∷ codes "Lx" ∷ codes "l"
+    ensures none { AllByRecursion (λ t. IsNoPattern (codes "\\p{" ++ (t ++ codes "}"))) (codes "Cs" ∷
+        codes "Lx" ∷ codes "l"
         ∷ codes "LU" ∷ codes "LuA" ∷ codes "IsBasicLatin" ∷ codes "" ∷ codes "Zz" ∷ codes "X" ∷ []) }
 {}

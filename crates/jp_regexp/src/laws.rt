@@ -16,14 +16,17 @@ use crate::pattern::Pattern as Held;
 /// A text has at most one tree, and it is decided whether it has one.
 pub fn one_tree()
     ensures at_most_one { (text : Text) (p q : Pattern) → Shapes text p → Shapes text q → p ≡ q }
-    ensures one_or_none { (text : Text) → ((p : Pattern) × Shapes text p) ⊎ ((p : Pattern) → Shapes text p → ⊥) }
+    ensures one_or_none { (text : Text) → ((p : Pattern) × Shapes text p) ⊎ ((p : Pattern) → Shapes text p
+        → ⊥) }
 {}
 
 /// What is negated holds every other character.
 pub fn negated_holds_the_others()
-    ensures of_class { (elements : List Element) (c : ℕ) → IsTrue (is_scalar c) → in_set (class true elements) c ≡ not
+    ensures of_class { (elements : List Element) (c : ℕ) → IsTrue (is_scalar c) → in_set (class true
+        elements) c ≡ not
         (in_set (class false elements) c) }
-    ensures of_category { (categories : List GeneralCategory) (c : ℕ) → IsTrue (is_scalar c) → in_set (category true
+    ensures of_category { (categories : List GeneralCategory) (c : ℕ) → IsTrue (is_scalar c) → in_set
+        (category true
         categories) c ≡ not (in_set (category false categories) c) }
 {}
 

@@ -26,7 +26,8 @@ pub fn advance_letter(
 ) -> Result<Reach, AllocError>
     requires fits { at.past < max_size }
     requires stands { IsAt live.now at.past at.index }
-    ensures { IfOk result (λ end. IsStep live.now c (letter (set_of set.now)) at end out.old.items out.new.items) }
+    ensures { IfOk result (λ end. IsStep live.now c (letter (set_of set.now)) at end out.old.items
+        out.new.items) }
 {
     read_letter(set, c, at, out)?;
     Ok(behind_letter(live, at))

@@ -1,5 +1,5 @@
-//! The tree of a pattern with the unrolled size of each part, by which a walk over it passes the parts that
-//! it need not enter.
+//! The tree of a pattern with the unrolled size of each part, by which a walk over it passes the parts
+//! that it need not enter.
 
 ghost use Rattle.std.specs.Prelude.{◌≡◌, map, min, IfOk, IsTrue};
 ghost use Rattle.jp_regexp.specs.Parts.{all_sized, in_turn_of, is_size, meaning, patterns_in, pattern_in};

@@ -40,8 +40,8 @@ fn is_live_up_to(live: &[u32], index: usize, end: u32) -> bool
     index < live.len() && live[index] <= end
 }
 
-/// Behind a part of so many places, where the walk need not enter it: nothing reached it, and none of its
-/// places is live.
+/// Behind a part of so many places, where the walk need not enter it: nothing reached it, and none of
+/// its places is live.
 pub fn passed(live: &[u32], at: Reach, size: u32) -> Option<Reach>
     requires fits { at.past + size ≤ max_size }
     requires stands { IsAt live.now at.past at.index }

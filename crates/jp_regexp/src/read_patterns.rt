@@ -91,7 +91,8 @@ fn next_turn(
     turns: usize,
     text: &[char],
 ) -> Result<(Turn, &[char]), Fault>
-    ensures { Gives (λ x. (reading.turn_of x.0, x.1.now)) result (reading.next_turn (λ l. reading.pattern_within l
+    ensures { Gives (λ x. (reading.turn_of x.0, x.1.now)) result (reading.next_turn (λ l.
+        reading.pattern_within l
         turns) left text.now) }
 {
     match text {

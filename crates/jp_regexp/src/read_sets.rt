@@ -177,7 +177,8 @@ fn element_from(alloc: Global, c: char, text: &[char]) -> Result<(Element, &[cha
 
 /// The next element, if there is one, and whether others may follow.
 fn next_element_at(alloc: Global, text: &[char]) -> Result<(Option<Element>, bool, &[char]), Fault>
-    ensures { Gives (λ x. (option_map element_of x.0, x.1, x.2.now)) result (reading.next_element_at text.now) }
+    ensures { Gives (λ x. (option_map element_of x.0, x.1, x.2.now)) result (reading.next_element_at
+        text.now) }
 {
     match text {
         [']', rest @ ..] => Ok((None, false, rest)),

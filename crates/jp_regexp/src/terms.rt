@@ -15,10 +15,8 @@ use std::alloc::{AllocError, Global};
 use std::mem;
 
 /// The texts that are left to read of a pattern, as a list of places, no two the same (RFC 9485, 4). A
-/// place is a number from 0
-/// to the unrolled size: at 0 nothing was read yet, and at k the k-th atom of one character of the pattern,
-/// with each repetition
-/// written out, was just read.
+/// place is a number from 0 to the unrolled size: at 0 nothing was read yet, and at k the k-th atom of
+/// one character of the pattern, with each repetition written out, was just read.
 #[derive(Drop)]
 pub struct Terms<'a> {
     pattern: &'a Pattern,
@@ -126,9 +124,11 @@ fn read_into(
     next: &mut Vec<u32>,
 ) -> Result<bool, AllocError>
     requires { Rises 0 live.now }
-    ensures next { OnOk result (next.new.items ≡ next.old.items ++ advance (is_elem live.now) c (unrolled (pattern_of
+    ensures next { OnOk result (next.new.items ≡ next.old.items ++ advance (is_elem live.now) c (unrolled
+        (pattern_of
         pattern.now)) 0 at_start) }
-    ensures accepted { IfOk result (λ b. b ≡ leaves (is_elem live.now) (unrolled (pattern_of pattern.now)) 0 at_start) }
+    ensures accepted { IfOk result (λ b. b ≡ leaves (is_elem live.now) (unrolled (pattern_of pattern.now))
+        0 at_start) }
 {
     let at = Reach::start(at_start);
     let end = advance(&pattern.root, live, c, at, next)?;

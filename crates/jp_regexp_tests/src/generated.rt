@@ -1,12 +1,13 @@
-//! Generated patterns on all texts of up to five of the characters a, b and c. The expected values come from the module `re` of
-//! Python 3, `fullmatch` and `search`.
+//! Generated patterns on all texts of up to five of the characters a, b and c. The expected values come
+//! from the module `re` of Python 3, `fullmatch` and `search`.
 
 use crate::reading::read;
 use std::alloc::Global;
 use std::str::SplitWhitespace;
 use std::test::*;
 
-/// In each line: how many texts match, a check number of them, the same of the texts in which a part matches, and the pattern.
+/// In each line: how many texts match, a check number of them, the same of the texts in which a part
+/// matches, and the pattern.
 const ROWS: &str = "\
 6 9428 58 2090 (b+[b-c]b)\n\
 2 7716 6 3570 (b{1,2}b{1,2}){2,}\n\

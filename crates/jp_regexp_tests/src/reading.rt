@@ -35,9 +35,12 @@ const SIZES: &str = "\
 /// A text in each line that is no pattern.
 const REFUSED: &str = "\
 [^]\n[]\n[b-a]\n\\d\na**\na{,2}\na{2,1}\n(\n)\n]\n[a-b-c]\na{1001}\na{1001,}\na{1,1001}\na{1000,1001}\n\
-a{99999999999999999999}\n(a{1000}){11}\n((a{1000}){1000}){1000}\n[a\n[a-\n[^a\n[\na{\na{1\na{1,\na{}\n}\n\\\n*\n\
-+\n?\n{1}\n|*\n(*)\na?+\na+{2}\na{1}{2}\n(?:a)\n\\p{Cs}\n\\p{Lx}\n\\p{\n\\p{L\n\\p{}\n\\p{Lul}\n\\p{l}\n\\pL\n\\P\n\
-[\\p{L}-z]\n[a-\\p{L}]\n[[]\n((a)\na)\na]\na}\n\\w\n\\s\n\\b\n\\a\n\\0\n\\x41\n\\u0041\n\\/\n\\\"\n\\-a-\\\n[a-\\d]\n\
+a{99999999999999999999}\n(a{1000}){11}\n((a{1000}){1000}){1000}\n[a\n[a-\n[^a\n[\na{\na{1\n\
+a{1,\na{}\n}\n\\\n*\n\
++\n?\n{1}\n|*\n(*)\na?+\na+{2}\na{1}{2}\n(?:a)\n\\p{Cs}\n\\p{Lx}\n\\p{\n\\p{L\n\\p{}\n\
+\\p{Lul}\n\\p{l}\n\\pL\n\\P\n\
+[\\p{L}-z]\n[a-\\p{L}]\n[[]\n((a)\na)\na]\na}\n\\w\n\\s\n\\b\n\\a\n\\0\n\\x41\n\\u0041\n\\/\n\
+\\\"\n\\-a-\\\n[a-\\d]\n\
 [--a-]]\n[a--b]\n[a-z-9]\na{-1}\na{1,2,3}\na{1 }\na{ 1}\na{a}\n[a-z&&[^b]]\n(?i)a\n(?<n>a)\na{1,\u{662}}";
 
 /// A name in each part.

@@ -45,8 +45,8 @@ impl Pattern {
         Ok(terms.accepts())
     }
 
-    /// Whether some part of consecutive characters of the text is in the pattern's language, the empty part
-    /// included.
+    /// Whether some part of consecutive characters of the text is in the pattern's language, the empty
+    /// part included.
     ///
     /// # Errors
     ///

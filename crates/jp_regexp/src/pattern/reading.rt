@@ -16,9 +16,8 @@ const MAX_SIZE: u32 = 10_000;
 
 impl Pattern {
     /// The pattern that the text is, or None where it is no I-Regexp within the limits of this
-    /// implementation (RFC 9485, 3
-    /// and 8): each count at most 1,000, at most 64 parentheses inside each other, and an unrolled size of
-    /// at most 10,000.
+    /// implementation (RFC 9485, 3 and 8): each count at most 1,000, at most 64 parentheses inside each
+    /// other, and an unrolled size of at most 10,000.
     ///
     /// # Errors
     ///

@@ -11,6 +11,7 @@ returns c = record {
   no_copies = read_sound _ _ refl;
   none_to_none = read_sound _ _ refl;
   leading_zeros = read_sound _ _ refl;
+  digits = read_sound _ _ refl;
   no_end = read_sound _ _ refl;
-  refused = (unread _ refl, (unread _ refl, (unread _ refl, (unread _ refl, (unread _ refl, (unread _ refl, (unread _ refl, (unread _ refl, (unread _ refl, (unread _ refl, (unread _ refl, tt)))))))))));
+  refused = (unread _ refl, (unread _ refl, (unread _ refl, (unread _ refl, (unread _ refl, (unread _ refl, (unread _ refl, (unread _ refl, (unread _ refl, (unread _ refl, (unread _ refl, (unread _ refl, (unread _ refl, tt)))))))))))));
 }
