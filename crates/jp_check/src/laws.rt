@@ -22,7 +22,8 @@ pub fn accepted_tree()
 {}
 
 /// Each refusal of a tree is told only where those before it do not apply, and no other is told of a tree.
-#[tactic(auto, using(crate::proofs::Verdicts::refuses_fraction, crate::proofs::Verdicts::refuses_range, crate::proofs::Verdicts::refuses_type, crate::proofs::Verdicts::no_other_refusal))]
+#[tactic(auto, using(crate::proofs::Verdicts::refuses_fraction, crate::proofs::Verdicts::refuses_range,
+    crate::proofs::Verdicts::refuses_type, crate::proofs::Verdicts::no_other_refusal))]
 pub fn refused_tree()
     ensures fraction { (q : Query) → verdict_of q ≡ Err Fraction ↔ (has_fraction q ≡ true) }
     ensures range { (q : Query) → verdict_of q ≡ Err Range
@@ -34,8 +35,7 @@ pub fn refused_tree()
 {}
 
 /// A text is accepted with a tree exactly where its brackets are nested at most 64 deep and it spells the
-/// tree, which has no
-/// fraction, whose numbers are in range, and which is well-typed.
+/// tree, which has no fraction, whose numbers are in range, and which is well-typed.
 #[tactic(auto, using(crate::proofs::Verdicts::accepts_text))]
 pub fn accepted_text()
     ensures { (t : Text) (q : Query) → IsAccepted t q
