@@ -274,8 +274,7 @@ fn sets()
         × (in_set (category true (UppercaseLetter ∷ [])) 65 ≡ false)
         × (in_set (category true (UppercaseLetter ∷ [])) 97 ≡ true)
         × (in_set (category false (UppercaseLetter ∷ LowercaseLetter ∷ [])) 97 ≡ true) }
-    ensures categories_in_classes {
-        (in_set (class false (of_category false (UppercaseLetter ∷ []) ∷ [])) 65 ≡ true)
+    ensures in_classes { (in_set (class false (of_category false (UppercaseLetter ∷ []) ∷ [])) 65 ≡ true)
         × (in_set (class false (of_category true (UppercaseLetter ∷ []) ∷ [])) 65 ≡ false)
         × (in_set (class true (of_category true (UppercaseLetter ∷ []) ∷ [])) 65 ≡ true) }
 {}

@@ -13,18 +13,27 @@ fn blank_line_between()
     ensures lines { (t : Tests) →
         stream_answer t (tree.query_from Root (tree.child (tree.name (codes "a") ∷ []) ∷ []))
         (codes "{\"a\":1}" ++ 10 ∷ 10 ∷ codes "{\"a\":null}" ++ 10 ∷ [])
-        ≡ record { bytes = codes "1" ++ 9 ∷ codes "$['a']" ++ 9 ∷ codes "1" ++ 10 ∷ codes "3" ++ 9 ∷ codes
-        "$['a']" ++ 9 ∷ codes "null" ++ 10 ∷ []; stopped = None } }
+        ≡ record {
+          bytes = codes "1" ++ 9 ∷ codes "$['a']" ++ 9 ∷ codes "1" ++ 10 ∷ codes "3" ++ 9 ∷ codes
+              "$['a']" ++ 9 ∷ codes "null" ++ 10 ∷ [];
+          stopped = None;
+        } }
     ensures no_last_line_feed { (t : Tests) →
         stream_answer t (tree.query_from Root (tree.child (tree.name (codes "a") ∷ []) ∷ []))
         (codes "{\"a\":1}" ++ 10 ∷ 10 ∷ codes "{\"a\":null}")
-        ≡ record { bytes = codes "1" ++ 9 ∷ codes "$['a']" ++ 9 ∷ codes "1" ++ 10 ∷ codes "3" ++ 9 ∷ codes
-        "$['a']" ++ 9 ∷ codes "null" ++ 10 ∷ []; stopped = None } }
+        ≡ record {
+          bytes = codes "1" ++ 9 ∷ codes "$['a']" ++ 9 ∷ codes "1" ++ 10 ∷ codes "3" ++ 9 ∷ codes
+              "$['a']" ++ 9 ∷ codes "null" ++ 10 ∷ [];
+          stopped = None;
+        } }
     ensures carriage_returns { (t : Tests) →
         stream_answer t (tree.query_from Root (tree.child (tree.name (codes "a") ∷ []) ∷ []))
         (codes "{\"a\":1}" ++ 13 ∷ 10 ∷ 13 ∷ 10 ∷ codes "{\"a\":null}" ++ 13 ∷ 10 ∷ [])
-        ≡ record { bytes = codes "1" ++ 9 ∷ codes "$['a']" ++ 9 ∷ codes "1" ++ 10 ∷ codes "3" ++ 9 ∷ codes
-        "$['a']" ++ 9 ∷ codes "null" ++ 10 ∷ []; stopped = None } }
+        ≡ record {
+          bytes = codes "1" ++ 9 ∷ codes "$['a']" ++ 9 ∷ codes "1" ++ 10 ∷ codes "3" ++ 9 ∷ codes
+              "$['a']" ++ 9 ∷ codes "null" ++ 10 ∷ [];
+          stopped = None;
+        } }
 {}
 
 /// `$` on no input, and on `[]`.
@@ -43,11 +52,17 @@ fn faulty_lines()
     ensures unreadable { (t : Tests) →
         stream_answer t (tree.query_from Root (tree.child (tree.name (codes "a") ∷ []) ∷ []))
         (codes "{\"a\":1}" ++ 10 ∷ codes "{" ++ 10 ∷ codes "{\"a\":2}" ++ 10 ∷ codes "{\"a\":1.5}" ++ 10 ∷ [])
-        ≡ record { bytes = codes "1" ++ 9 ∷ codes "$['a']" ++ 9 ∷ codes "1" ++ 10 ∷ []; stopped = Some
-        (2, Unreadable) } }
+        ≡ record {
+          bytes = codes "1" ++ 9 ∷ codes "$['a']" ++ 9 ∷ codes "1" ++ 10 ∷ [];
+          stopped = Some
+              (2, Unreadable);
+        } }
     ensures not_whole { (t : Tests) →
         stream_answer t (tree.query_from Root (tree.child (tree.name (codes "a") ∷ []) ∷ []))
         (codes "{\"a\":1}" ++ 10 ∷ codes "{\"a\":2}" ++ 10 ∷ codes "{\"a\":1.5}" ++ 10 ∷ [])
-        ≡ record { bytes = codes "1" ++ 9 ∷ codes "$['a']" ++ 9 ∷ codes "1" ++ 10 ∷ codes "2" ++ 9 ∷ codes
-        "$['a']" ++ 9 ∷ codes "2" ++ 10 ∷ []; stopped = Some (3, NotWhole) } }
+        ≡ record {
+          bytes = codes "1" ++ 9 ∷ codes "$['a']" ++ 9 ∷ codes "1" ++ 10 ∷ codes "2" ++ 9 ∷ codes
+              "$['a']" ++ 9 ∷ codes "2" ++ 10 ∷ [];
+          stopped = Some (3, NotWhole);
+        } }
 {}

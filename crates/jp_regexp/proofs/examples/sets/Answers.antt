@@ -10,5 +10,5 @@ returns c = record {
   ranges = (refl, refl, refl, refl);
   classes = (refl, refl, refl, refl, refl);
   categories = (rw capital_A refl, rw small_a refl, rw capital_A refl, rw small_a refl, rw small_a refl);
-  categories_in_classes = (rw capital_A refl, rw capital_A refl, rw capital_A refl);
+  in_classes = (rw capital_A refl, rw capital_A refl, rw capital_A refl);
 }

@@ -28,7 +28,7 @@ returns-in_err-deliver-clause-refused g c = λ f v. not_both _ _ f c.in_ok-plan.
 pub returns-in_err-deliver-clause-document : goal.returns-in_err-deliver-clause-document
 returns-in_err-deliver-clause-document g c = λ line fault e.
     let told = c.in_err-deliver.ensures.document line fault
-        (told_at c.from_residual-in_err-deliver.result c.in_err-deliver.field-0.0 (Document line fault) c.from_residual-in_err-deliver.ensures.1 e) in
+    (told_at c.from_residual-in_err-deliver.result c.in_err-deliver.field-0.0 (Document line fault) c.from_residual-in_err-deliver.ensures.1 e) in
     written_known _ (answer_of c.in_ok-answer.answer) _ _ _ _ _ (answer_known _ (planned_query c.in_ok-plan.plan) (map line_of c.deref.result.now) (answer_of c.in_ok-answer.answer) _ _ _
     c.in_ok-gathered.ensures.lines.1 (ap (map line_of) c.deref.ensures.value ∙ c.in_ok-gathered.ensures.lines.2)
     c.in_ok-gathered.ensures.end c.in_ok-plan.ensures.ok c.in_ok-answer.ensures) told.0 refl told.1
