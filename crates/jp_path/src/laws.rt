@@ -30,8 +30,8 @@ pub fn path_spells_its_query()
     ensures only { (at : Location) (q : Query) → AreSteps at → Spells (path_text at) q → q ≡ path_query at }
 {}
 
-/// Where a location leads to a value, the text of its path is accepted with a query whose nodelist is that one
-/// node, and each query that the text is accepted with has that nodelist.
+/// Where a location leads to a value, the text of its path is accepted with a query whose nodelist is that
+/// one node, and each query that the text is accepted with has that nodelist.
 pub fn path_text_selects_its_node()
     ensures accepted { (t : Tests) (at : Location) (root v : Json) → AreSteps at → value_at at root ≡ Some v
         → (q : Query) × IsAccepted (path_text at) q × (document_nodes t q root ≡ node at v ∷ []) }
