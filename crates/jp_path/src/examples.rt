@@ -1,13 +1,21 @@
 //! Worked examples of the definitions.
 
-ghost use Rattle.std.specs.Prelude.{◌≡◌, [], ◌∷◌, ◌++◌, codes, pos, negsuc, true, false};
+ghost use Rattle.std.specs.Prelude.{◌≡◌, [], ◌∷◌, ◌++◌, codes, pos, negsuc, true, false, IfOk};
 ghost use Rattle.jp_doc.specs.Json.{null, truth, whole, text, array, object, items, no_members, add_member};
 ghost use Rattle.jp_doc.specs.Location.{name, index};
 ghost use Rattle.jp_syntax.specs.Tree as tree;
 ghost use Rattle.jp_syntax.specs.declared.tree.Start.TheVariants.{Root};
-ghost use Rattle.jp_trail.specs.Path.{path_text};
+ghost use Rattle.jp_syntax.specs.View as view;
+ghost use Rattle.jp_check.specs.Plan.{planned_query};
 ghost use Rattle.jp_path.specs.OutputLine.{line_text};
 ghost use Rattle.jp_path.specs.PathQuery.{path_query};
+
+use crate::path::write_path;
+use crate::query::query_of;
+use jp_check::{Plan, plan};
+use jp_doc::Location;
+use jp_syntax::{Query, QueryFault};
+use std::alloc::Global;
 
 #[tactic(auto, unfolding(crate::proofs::OnLiterals::lines_on_literals))]
 /// Output lines: the document's number, the path and the value's compact text, with tabs between.
@@ -43,3 +51,13 @@ fn path_queries()
         (tree.index (codes "12") ∷ []) ∷ []) }
     ensures root { path_query [] ≡ tree.query_from Root [] }
 {}
+
+/// The plan of a path's text holds the tree that the path's query is, by the clauses of the calls.
+fn query_and_plan(alloc: Global, location: &Location) -> Result<(Query, Plan), QueryFault>
+    ensures { IfOk result (λ both. view.query_of both.0 ≡ planned_query both.1) }
+{
+    let query = query_of(alloc, location)?;
+    let text = write_path(alloc, location)?;
+    let plan = plan(alloc, text.as_str())?;
+    Ok((query, plan))
+}
