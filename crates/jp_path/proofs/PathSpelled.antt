@@ -7,12 +7,11 @@ use Rattle.jp_doc.specs.Location.{Location}
 use Rattle.jp_syntax.specs.Tree.{Text, Query}
 use Rattle.jp_syntax.specs.Tree as tree
 use Rattle.jp_syntax.specs.Characters.{is_scalar}
-use Rattle.jp_syntax.specs.Parts.{Each, Star, none, more, Behind, behind}
+use Rattle.jp_syntax.specs.Parts.{Each, Star, none, more, Behind, behind, separated}
 use Rattle.jp_syntax.specs.Strings.{IsString, quoted}
 use Rattle.jp_syntax.specs.Spelling as sp
 use Rattle.jp_syntax.specs.Spelling.{Spells, spells, SegmentIs, SelectorIs, LogicalIs}
 use Rattle.jp_syntax.specs.Depth.{outside, bracket_depth}
-use Rattle.jp_syntax.proofs.Building.{bracket}
 use Rattle.jp_syntax.proofs.OneTree.{one_tree}
 use Rattle.jp_trail.specs.Path.{escaped, step_text, path_text}
 use Rattle.jp_path.specs.PathQuery.{step_segment, path_query, IsStep, AreSteps}
@@ -34,13 +33,19 @@ name_joined t = ap (λ (u : Text). 91 ∷ 39 ∷ u) (ap (λ (u : Text). u ++ 93 
 index_joined : (t : Text) → 91 ∷ (t ++ []) ++ 93 ∷ [] ≡ 91 ∷ (t ++ 93 ∷ [])
 index_joined t = ap (λ (u : Text). 91 ∷ (u ++ 93 ∷ [])) (append-nil t)
 
+-- a selector alone in its brackets
+bracket : (s : Text) (x : tree.Selector) → SelectorIs Nowhere s x
+    → SegmentIs Nowhere (91 ∷ (s ++ []) ++ 93 ∷ []) (tree.child (x ∷ []))
+bracket s x p =
+    sp.child_bracketed _ (x ∷ []) (sp.bracketed [] (s ++ []) [] (x ∷ []) tt (separated s [] x [] p none) tt)
+
 step_spelled : (s : at.Step) → IsStep s → SegmentIs Nowhere (step_text s) (step_segment s)
 step_spelled (at.name k) h =
     subst (λ (t : Text). SegmentIs Nowhere t (step_segment (at.name k))) (name_joined (flat_map escaped k))
-    (bracket Nowhere (39 ∷ flat_map escaped k ++ 39 ∷ []) (tree.name k) (sp.name (39 ∷ flat_map escaped k ++ 39 ∷ []) k (name_string k h)))
+    (bracket (39 ∷ flat_map escaped k ++ 39 ∷ []) (tree.name k) (sp.name (39 ∷ flat_map escaped k ++ 39 ∷ []) k (name_string k h)))
 step_spelled (at.index i) h =
     subst (λ (t : Text). SegmentIs Nowhere t (step_segment (at.index i))) (index_joined (decimal i))
-    (bracket Nowhere (decimal i) (tree.index (decimal i)) (sp.index (decimal i) (decimal_is_int i h)))
+    (bracket (decimal i) (tree.index (decimal i)) (sp.index (decimal i) (decimal_is_int i h)))
 
 steps_spelled : (l : Location) → AreSteps l → Star (Behind (SegmentIs Nowhere)) (flat_map step_text l) (map step_segment l)
 steps_spelled [] h = none
