@@ -37,9 +37,8 @@ impl From<AllocError> for EvalFault {
 }
 
 /// Hands the nodes that a query selects in a document to the taker, in the order of its nodelist (RFC 9535,
-/// 2.1.2), as
-/// long as one more would change something, and gives the taker back: a node that is selected more than once
-/// comes as often.
+/// 2.1.2), as long as one more would change something, and gives the taker back: a node that is selected more
+/// than once comes as often.
 ///
 /// # Errors
 ///
