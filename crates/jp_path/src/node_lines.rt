@@ -19,8 +19,7 @@ use std::marker::Model;
 /// Takes nodes as the output lines of a document with a number, behind those of the documents before it.
 ///
 /// Its meaning is that number and the bytes of all lines so far. Lines are made in a buffer that is used
-/// again, so that a
-/// node takes no allocation but the growth of what is written.
+/// again, so that a node takes no allocation but the growth of what is written.
 #[derive(Drop)]
 pub struct NodeLines {
     number: u64,
