@@ -43,7 +43,8 @@ mark_reported pieces least r rs ls m =
           lower rs m.under_reports) (omega arith);
       under_looks = All-weaker (λ x. least ≤ x) (λ x. min least r ≤ x) lower ls m.under_looks;
       looks_given = All-weaker (λ x. (x ≡ pieces) ⊎ Contains rs x) (λ x. (x ≡ pieces)
-          ⊎ Contains (rs ++ r ∷ []) x) (λ x. still_given pieces x rs (rs ++ r ∷ []) (over x)) ls m.looks_given;
+          ⊎ Contains (rs ++ r ∷ []) x) (λ x. still_given pieces x rs (rs ++ r ∷ []) (over x)) ls
+          m.looks_given;
     }
 
 pub mark_looked : (pieces least : ℕ) (rs ls : List ℕ) → IsMark pieces least rs ls

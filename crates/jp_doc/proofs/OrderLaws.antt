@@ -10,7 +10,8 @@ use Rattle.std.specs.Ordering.{ordering_then, ordering_reverse}
 use Rattle.std.specs.Prelude.{encode_utf8_all}
 use Rattle.jp_doc.specs.Json.{Text, text_cmp}
 
--- a first byte that holds what is left of the number after its last digits to the base of 64, and a byte for each of these
+-- a first byte that holds what is left of the number after its last digits to the base of 64, and a byte
+-- for each of these
 abbrev spread : ℕ → ℕ → ℕ → List ℕ
 spread zero mark c = (mark + c) ∷ []
 spread (suc n) mark c = spread n mark (c / 64) ++ (128 + c % 64) ∷ []

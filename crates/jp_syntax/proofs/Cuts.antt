@@ -48,7 +48,8 @@ module _ (text rest front : List ℕ) (u : IsUtf8 text) (v : IsUtf8 rest) (e : c
     seam = let l = ap length in_two in omega (arith, length-append (encode_utf8_all front) rest)
 
     pub may_cut : IsCharBoundary text (length text - length rest)
-    may_cut = subst (IsCharBoundary text) seam (IsCharBoundary-at_seam text (encode_utf8_all front) rest in_two
+    may_cut = subst (IsCharBoundary text) seam (IsCharBoundary-at_seam text (encode_utf8_all front) rest
+        in_two
         v)
 
     pub front_is : (s : List ℕ) → IsUtf8 s → s ≡ take (length text - length rest) text

@@ -14,7 +14,8 @@ pub quoted_count : (quote count c : ℕ) → count ≡ count_of (step (inside qu
 quoted_count quote count c = counted (c == 92) (c == quote)
   where
     counted : (x y : Bool)
-        → count ≡ count_of (if x then passing quote count else if y then outside count else inside quote count)
+        → count ≡ count_of (if x then passing quote count else if y then outside count else inside quote
+        count)
     counted true y = refl
     counted false true = refl
     counted false false = refl

@@ -47,7 +47,8 @@ pub stops : (p q : ℕ → Bool) → ((c : ℕ) → is_blank c ≡ true → q c 
     → ((c : ℕ) → p c ≡ true → q c ≡ false) → (u : Text) → Meets p u → Leaves q u
 stops p q blank pass [] h = refl
 stops p q blank pass (c ∷ u) h =
-    (elim (is_blank c) as (λ b. is_blank c ≡ b → starts p (cond b (skip u) (c ∷ u)) ≡ true → not (q c) ≡ true) [
+    (elim (is_blank c) as (λ b. is_blank c ≡ b → starts p (cond b (skip u) (c ∷ u)) ≡ true
+    → not (q c) ≡ true) [
       | true ↦ λ e m. ap not (blank c e)
       | false ↦ λ e m. ap not (pass c m)
     ]) refl h

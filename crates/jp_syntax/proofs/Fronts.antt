@@ -161,12 +161,14 @@ module _ {A : Type 0} (turn : Text → Turn A) (Part : Text → A → Type 0) (G
         let len = length-append s r in
         let pos = k.some s x p in
         let here = k.step s x (r ++ u) p (omega arith) (star_good k r xs u ps g) in
-        let there = many_whole k n (found ++ x ∷ []) here.0 r xs u rest here.2 ps (omega arith) (omega arith) g
+        let there = many_whole k n (found ++ x ∷ []) here.0 r xs u rest here.2 ps (omega arith)
+        (omega arith) g
         e in
         rw (same, append_assoc s r u, here.1) (there
         ∙ ap (λ (zs : List A). Some (zs, rest)) (append_assoc found (x ∷ []) xs))
 
-    pub all_whole : Steps → (found : List A) (t s : Text) (xs : List A) (u rest : Text) → turn t ≡ turn (s ++ u)
+    pub all_whole : Steps → (found : List A) (t s : Text) (xs : List A) (u rest : Text)
+        → turn t ≡ turn (s ++ u)
         → length s ≤ length t → Star Part s xs → length s ≤ limit → Good u → turn u ≡ Some (None, rest)
         → all_of turn found t ≡ Some (found ++ xs, rest)
     unfolding all_of

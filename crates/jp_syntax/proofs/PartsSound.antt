@@ -339,7 +339,8 @@ module _ {A : Type 0} (close : ℕ) (item : Reader A) (Item : Text → A
         → Listed t xs rest
     unfolding items_at
     items_sound t xs rest e =
-        option_and_then_some (λ first. all_of item_turn (first.0 ∷ []) first.1) (item t) (xs, rest) e (λ a h k.
+        option_and_then_some (λ first. all_of item_turn (first.0 ∷ []) first.1) (item t) (xs, rest) e
+        (λ a h k.
         let f = item_sound t a.0 a.1 h in
         let m = all_sound item_turn (After (44 ∷ []) Item) (Closing close) next_sound (a.0 ∷ []) xs a.1 rest
         k in
@@ -503,7 +504,8 @@ module _ (inner : Reader tree.Logical) (Inner : Text → tree.Logical
                   let f = bracketed_sound t q.0.0 q.0.1 q.1 in
                   carried NextSegment (b ++ c ∷ t) (Some (tree.child q.0.0), q.0.1) (o, rest) q.2 (record {
                     front = b ++ 91 ∷ f.front;
-                    part = behind b (91 ∷ f.front) (tree.child q.0.0) h (is.child_bracketed (91 ∷ f.front) q.0.0
+                    part = behind b (91 ∷ f.front) (tree.child q.0.0) h
+                        (is.child_bracketed (91 ∷ f.front) q.0.0
                         f.part);
                     whole = led_whole b t f.front q.0.1 c 91 m f.whole;
                   })
@@ -526,7 +528,8 @@ module _ (inner : Reader tree.Logical) (Inner : Text → tree.Logical
       record {
         front = m.front;
         part =
-            subst (λ (ys : List tree.Segment). Star (Behind (SegmentIs Inner)) m.front ys) (sym m.list) m.parts;
+            subst (λ (ys : List tree.Segment). Star (Behind (SegmentIs Inner)) m.front ys) (sym m.list)
+            m.parts;
         whole = m.whole ∙ ap (λ (u : Text). m.front ++ (u ++ rest)) m.ends;
       }
 

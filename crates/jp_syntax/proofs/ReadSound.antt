@@ -264,7 +264,8 @@ module _ (inner : Reader tree.Logical) (Inner : Text → tree.Logical → Type 0
       subst (λ (l : tree.Logical). Front (BasicIs Inner) t l rest) r.4 (record {
         front = f.front ++ (taken is_blank u ++ (operator_text p.0 ++ g.front));
         part = is.compared f.front (taken is_blank u ++ (operator_text p.0 ++ g.front)) y r.0 p.0
-            (side_of Inner f.front y f.part r.2) (right_side (operator_text p.0) (taken is_blank u) g.front r.0
+            (side_of Inner f.front y f.part r.2) (right_side (operator_text p.0) (taken is_blank u)
+            g.front r.0
             (run_each is_blank u) r.3 g.part);
         whole = compared_shape t f.front u (taken is_blank u) (skip u) (operator_text p.0) p.1 g.front rest
             f.whole (run_whole is_blank u) (operator_sound (skip u) p.0 p.1 at) g.whole;
@@ -303,7 +304,8 @@ module _ (inner : Reader tree.Logical) (Inner : Text → tree.Logical → Type 0
               | inr k ↦
                   option_and_then_some (λ r. compared_at inner r.0 r.1 (operator_at (skip r.1)))
                   (operand_at inner (c ∷ t)) (x, rest) k.1 (λ a l m.
-                  compared_sound (c ∷ t) a.0 a.1 (operand_sound (c ∷ t) a.0 a.1 l) (operator_at (skip a.1)) refl x
+                  compared_sound (c ∷ t) a.0 a.1 (operand_sound (c ∷ t) a.0 a.1 l)
+                  (operator_at (skip a.1)) refl x
                   rest m)
             ]
       ]
@@ -376,7 +378,8 @@ module _ (inner : Reader tree.Logical) (Inner : Text → tree.Logical → Type 0
         } in (
           d.0,
           subst (λ (w : Text). Front (Separated (mark ∷ mark ∷ []) Part) t d.0 w) p.1
-              (subst (λ (ys : List tree.Logical). Front (Separated (mark ∷ mark ∷ []) Part) t ys d.1) (sym m.list)
+              (subst (λ (ys : List tree.Logical). Front (Separated (mark ∷ mark ∷ []) Part) t ys d.1)
+              (sym m.list)
               made),
           p.0,
         )))

@@ -308,7 +308,8 @@ module _ (inner : Reader tree.Logical) (Inner : Text → tree.Logical → Type 0
   tested_is x l u e = rw e refl
 
   basic_test : (t : Text) (x : tree.Comparable) (l : tree.Logical) (u : Text) → OperandIs Inner t x
-      → as_test x ≡ Some l → length t ≤ suc limit → Meets after_basic u → basic_at inner (t ++ u) ≡ Some (l, u)
+      → as_test x ≡ Some l → length t ≤ suc limit → Meets after_basic u → basic_at inner (t ++ u)
+      ≡ Some (l, u)
   basic_test t x l u o e le m = basic_side t x u o le (basic_in_side u m)
       ∙ ap (compared_at inner x u) (operator_end (skip u) m) ∙ tested_is x l u e
 
@@ -348,7 +349,8 @@ module _ (inner : Reader tree.Logical) (Inner : Text → tree.Logical → Type 0
     others_of make first = all_of part_turn (first.0 ∷ []) first.1 >>= made_of make
 
     part_next : (w b t u : Text) (x : tree.Logical) → skip (b ++ (t ++ u)) ≡ t ++ u
-        → part (t ++ u) ≡ Some (x, u) → next_part mark part w (mark ∷ mark ∷ (b ++ (t ++ u))) ≡ Some (Some x, u)
+        → part (t ++ u) ≡ Some (x, u) → next_part mark part w (mark ∷ mark ∷ (b ++ (t ++ u)))
+        ≡ Some (Some x, u)
     unfolding next_part
     part_next w b t u x e h = rw (eq-eqb mark mark refl, mark_whole mark (b ++ (t ++ u)), e, h) refl
 
@@ -386,7 +388,8 @@ module _ (inner : Reader tree.Logical) (Inner : Text → tree.Logical → Type 0
     }
 
     parts_are : (make : List tree.Logical → tree.Logical) (f w u : Text) (x : tree.Logical)
-        (xs : List tree.Logical) → part (f ++ w) ≡ Some (x, w) → all_of part_turn (x ∷ []) w ≡ Some (x ∷ xs, u)
+        (xs : List tree.Logical) → part (f ++ w) ≡ Some (x, w) → all_of part_turn (x ∷ []) w
+        ≡ Some (x ∷ xs, u)
         → (part (f ++ w) >>= others_of make) ≡ Some (make (x ∷ xs), u)
     parts_are make f w u x xs e h = rw (e, h) refl
 
