@@ -1,6 +1,7 @@
 //! What a run reads from and writes to.
 
-ghost use Rattle.std.specs.Prelude.{◌≡◌, ℕ, ◌<◌, length, List, Bool, Option, ◌||◌, is_err, IfOk};
+ghost use Rattle.std.specs.Prelude.{◌≡◌, ℕ, ◌<◌, length, List, Bool, true, false, Option, ◌||◌, is_err, IfOk};
+ghost use Rattle.std.specs.Prelude.{OnOk};
 ghost use Rattle.std.specs.Io.KnownBytes.{ReadConsumes, WriteAppends, Keeps};
 ghost use Rattle.std.specs.Io.{ReadsAtMost, WritesAtMost};
 ghost use Rattle.jp_run.specs.Counts.{counted, given_after, ok_count};
@@ -70,6 +71,9 @@ pub trait Sink {
     /// Whether any call so far has failed.
     ghost failed: { Self → Bool };
 
+    /// Whether what it has taken was passed on: an Ok `write` of some bytes makes it false, an Ok `flush` true.
+    ghost flushed: { Self → Bool };
+
     /// Takes bytes from the front, and says how many.
     ///
     /// `Broken` if the call failed.
@@ -77,6 +81,7 @@ pub trait Sink {
         ensures bound { WritesAtMost result bytes.now }
         ensures some { IfOk result (λ n. 0 < length bytes.now → 0 < n) }
         ensures bytes { WriteAppends (contents self.old) (contents self.new) result bytes.now }
+        ensures unflushed { OnOk result (0 < length bytes.now → flushed self.new ≡ false) }
         ensures failed { failed self.new ≡ failed self.old || is_err result };
 
     /// Passes on what was taken.
@@ -84,6 +89,7 @@ pub trait Sink {
     /// `Broken` if the call failed.
     fn flush(&mut self) -> Result<(), Broken>
         ensures bytes { Keeps (contents self.old) (contents self.new) }
+        ensures flushed { OnOk result (flushed self.new ≡ true) }
         ensures failed { failed self.new ≡ failed self.old || is_err result };
 
     /// Whether any call so far has failed.

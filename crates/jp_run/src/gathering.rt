@@ -37,6 +37,7 @@ pub(crate) fn gather<S: Source>(alloc: Global, source: &mut S) -> Result<Gathere
     ensures lines { IfOk result (λ g. (input : List ℕ)
         × Consumes (S.remaining source.old) (S.remaining source.new) input
         × (map line_of g.lines.items ≡ all_lines input) × (g.count ≡ line_count input)) }
+    ensures few_lines { IfOk result (λ g. g.count ≤ max_lines) }
     ensures end { OnOk result (IsAtEnd (S.remaining source.new)) }
     ensures ok { OnOk result (S.failed source.new ≡ false) }
     ensures read { IsErrOf result RunFault.Read → S.failed source.new ≡ true }

@@ -1,6 +1,6 @@
 //! A run over a collection, on one thread.
 
-ghost use Rattle.std.specs.Prelude.{◌≡◌, ◌+◌, ◌^◌, ◌<◌, ◌≤◌, ◌⊎◌, ℕ, List, length, false, true, Some, None};
+ghost use Rattle.std.specs.Prelude.{◌≡◌, ◌+◌, ◌^◌, ◌<◌, ◌≤◌, ◌⊎◌, ◌↔◌, ℕ, List, length, false, true, Some, None};
 ghost use Rattle.std.specs.Prelude.{Err, IfOk, IfErr, OnOk, OnErr, IfSome, IsErrOf};
 ghost use Rattle.std.specs.Io.KnownBytes.{Appends, Consumes, IsAtEnd};
 ghost use Rattle.std.specs.Str.{chars};
@@ -8,6 +8,7 @@ ghost use Rattle.jp_doc.specs.Lines.{lines, line_count};
 ghost use Rattle.jp_doc.specs.declared.fault.DocFault.{DocFault as Fault};
 ghost use Rattle.jp_syntax.specs.Tree.{Query};
 ghost use Rattle.jp_syntax.specs.declared.fault.QueryFault.{QueryFault as Refusal};
+ghost use Rattle.jp_syntax.specs.Depth.{bracket_depth, max_depth};
 ghost use Rattle.jp_check.specs.Plan.{planned_query};
 ghost use Rattle.jp_check.specs.Verdict.{IsAccepted, IsVerdict};
 ghost use Rattle.jp_run.specs.Answer.{Answer};
@@ -65,11 +66,16 @@ pub fn run<S: Source, K: Sink>(
         × (a.stopped ≡ None) × Appends (K.contents sink.old) (K.contents sink.new) a.bytes)) }
     ensures counts { IfOk result (λ totals. IfSome (S.remaining source.old)
         (λ input. (totals.lines ≡ line_count input) × (totals.documents ≡ length (lines input)))) }
+    ensures few_lines { IfOk result (λ totals. totals.lines ≤ max_lines) }
     ensures end { OnOk result (IsAtEnd (S.remaining source.new)) }
+    ensures flushed { OnOk result (K.flushed sink.new ≡ true) }
     ensures still_working { OnOk result ((S.failed source.new ≡ false) × (K.failed sink.new ≡ false)) }
     // The query's fault is the text's verdict, and nothing was read or written.
     ensures query { (f : Refusal) → IsErrOf result (RunFault.Query f) → IsVerdict (chars query.now) (Err f)
         × (source.new ≡ source.old) × (sink.new ≡ sink.old) }
+    // A text is too deep exactly where its bracket depth is over 64: want of memory is not told in its place.
+    ensures too_deep { IsErrOf result (RunFault.Query QueryFault.TooDeep)
+        ↔ (max_depth < bracket_depth (chars query.now)) }
     // A text that is refused ends in its fault, or in want of memory, and nothing was read or written.
     ensures refused { (f : Refusal) → IsVerdict (chars query.now) (Err f)
         → (IsErrOf result (RunFault.Query f) ⊎ IsErrOf result RunFault.Memory)
@@ -104,6 +110,8 @@ fn plan_of(alloc: Global, query: &str) -> Result<Plan, RunFault>
     ensures ok { IfOk result (λ p. IsAccepted (chars query.now) (planned_query p)) }
     ensures fault { IfErr result (λ fault. (fault ≡ RunFault.Memory)
         ⊎ ((f : Refusal) × (fault ≡ RunFault.Query f) × IsVerdict (chars query.now) (Err f))) }
+    ensures too_deep { IsErrOf result (RunFault.Query QueryFault.TooDeep)
+        ↔ (max_depth < bracket_depth (chars query.now)) }
 {
     match plan(alloc, query) {
         Ok(plan) => Ok(plan),

@@ -84,6 +84,7 @@ impl<R: Read> Source for FromReader<R> {
 pub struct FromWriter<W> {
     writer: W,
     failed: bool,
+    flushed: bool,
 }
 
 impl<W: Write> FromWriter<W> {
@@ -95,6 +96,7 @@ impl<W: Write> FromWriter<W> {
         FromWriter {
             writer,
             failed: false,
+            flushed: true,
         }
     }
 }
@@ -104,9 +106,14 @@ impl<W: Write> Sink for FromWriter<W> {
 
     ghost failed = { λ s. s.failed };
 
+    ghost flushed = { λ s. s.flushed };
+
     fn write(&mut self, bytes: &[u8]) -> Result<usize, Broken> {
         match self.writer.write(bytes) {
-            Ok(n) if 0 < n || bytes.is_empty() => Ok(n),
+            Ok(n) if 0 < n || bytes.is_empty() => {
+                self.flushed = false;
+                Ok(n)
+            }
             _ => {
                 self.failed = true;
                 Err(Broken)
@@ -116,7 +123,10 @@ impl<W: Write> Sink for FromWriter<W> {
 
     fn flush(&mut self) -> Result<(), Broken> {
         match self.writer.flush() {
-            Ok(()) => Ok(()),
+            Ok(()) => {
+                self.flushed = true;
+                Ok(())
+            }
             Err(_) => {
                 self.failed = true;
                 Err(Broken)

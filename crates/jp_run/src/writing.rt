@@ -35,6 +35,7 @@ pub(crate) fn deliver<K: Sink>(sink: &mut K, answer: &Answer) -> Result<(), RunF
     ensures whole { OnOk result ((answer_of answer.now).stopped ≡ None) }
     ensures ok { OnOk result (Appends (K.contents sink.old) (K.contents sink.new) answer.now.bytes.items) }
     ensures working { OnOk result (K.failed sink.new ≡ false) }
+    ensures flushed { OnOk result (K.flushed sink.new ≡ true) }
     ensures document { (line : ℕ) (fault : Fault) → IsErrOf result (RunFault.Document line fault)
         → ((answer_of answer.now).stopped ≡ Some (line, fault))
         × Appends (K.contents sink.old) (K.contents sink.new) answer.now.bytes.items }

@@ -3,6 +3,7 @@
 ghost use Rattle.std.specs.Prelude.{◌≡◌, Some, false, ◌<◌};
 
 use jp_run::{Broken, Sink, Source};
+use std::io::{self, ErrorKind, Write};
 
 /// Hands out one byte a call, and fails once, at the call of this number from 1.
 #[derive(Drop)]
@@ -88,6 +89,7 @@ pub(crate) struct Holds {
     most: usize,
     room: usize,
     flushes: bool,
+    flushed: bool,
     failed: bool,
     ghost some: { 0 < most },
 }
@@ -102,6 +104,7 @@ impl Holds {
             most,
             room,
             flushes: true,
+            flushed: true,
             failed: false,
         }
     }
@@ -115,6 +118,7 @@ impl Holds {
             most: self.most,
             room: self.room,
             flushes: false,
+            flushed: self.flushed,
             failed: self.failed,
         }
     }
@@ -124,6 +128,8 @@ impl Sink for Holds {
     ghost contents = { λ s. Some s.bytes.items };
 
     ghost failed = { λ s. s.failed };
+
+    ghost flushed = { λ s. s.flushed };
 
     fn write(&mut self, bytes: &[u8]) -> Result<usize, Broken> {
         let n = bytes.len().min(self.most).min(self.room);
@@ -137,11 +143,13 @@ impl Sink for Holds {
             return Err(Broken);
         }
         self.room -= n;
+        self.flushed = false;
         Ok(n)
     }
 
     fn flush(&mut self) -> Result<(), Broken> {
         if self.flushes {
+            self.flushed = true;
             return Ok(());
         }
         self.failed = true;
@@ -150,5 +158,19 @@ impl Sink for Holds {
 
     fn failed(&self) -> bool {
         self.failed
+    }
+}
+
+/// A writer that takes all, and passes nothing on, as a file on a full disk.
+#[derive(Drop)]
+pub(crate) struct FullDisk;
+
+impl Write for FullDisk {
+    fn write(&mut self, buf: &[u8]) -> io::Result<usize> {
+        Ok(buf.len())
+    }
+
+    fn flush(&mut self) -> io::Result<()> {
+        Err(ErrorKind::StorageFull.into())
     }
 }

@@ -1,6 +1,6 @@
 //! Runs in memory, ends that fail, and what a fault says.
 
-use crate::fakes::{Holds, OneByte};
+use crate::fakes::{FullDisk, Holds, OneByte};
 use jp_doc::DocFault;
 use jp_run::{FromReader, FromWriter, RunFault, Sink, Source, Totals, run};
 use jp_syntax::QueryFault;
@@ -330,6 +330,16 @@ fn a_writer_takes_all(rt: HostRuntime) -> Result<(), Fail> {
     let mut sink = FromWriter::new(Vec::new(rt.alloc()));
     assert!(rt; run(rt.alloc(), &mut source, &mut sink, "$").is_ok());
     assert!(rt; !sink.failed());
+    Ok(())
+}
+
+#[test]
+fn a_writer_that_passes_nothing_on(rt: HostRuntime) -> Result<(), Fail> {
+    let mut source = FromReader::new(b"[]\n".as_slice());
+    let mut sink = FromWriter::new(FullDisk);
+    let end = run(rt.alloc(), &mut source, &mut sink, "$");
+    assert!(rt; matches!(end, Err(RunFault::Write)));
+    assert!(rt; sink.failed());
     Ok(())
 }
 
