@@ -8,7 +8,7 @@ ghost use Rattle.jp_doc.specs.Lines.{line_of, lines as all_lines, line_count};
 ghost use Rattle.jp_run.specs.Limits.{max_reads, max_lines};
 
 use crate::ends::Source;
-use crate::fault::RunFault;
+use jp_answer::RunFault;
 use jp_doc::{Line, Lines};
 use std::alloc::Global;
 
@@ -37,6 +37,7 @@ pub(crate) fn gather<S: Source>(alloc: Global, source: &mut S) -> Result<Gathere
     ensures lines { IfOk result (λ g. (input : List ℕ)
         × Consumes (S.remaining source.old) (S.remaining source.new) input
         × (map line_of g.lines.items ≡ all_lines input) × (g.count ≡ line_count input)) }
+    ensures count { IfOk result (λ g. g.count ≤ max_lines) }
     ensures end { OnOk result (IsAtEnd (S.remaining source.new)) }
     ensures ok { OnOk result (S.failed source.new ≡ false) }
     ensures read { IsErrOf result RunFault.Read → S.failed source.new ≡ true }
