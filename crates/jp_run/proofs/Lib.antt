@@ -1,5 +1,3 @@
-pub mod OnLiterals
-pub mod Pieces
 pub mod Handed
 pub mod Taken
 pub mod Runs

@@ -16,11 +16,11 @@ use Rattle.jp_regexp.specs.Tests.{Tests, AreRight}
 use Rattle.jp_regexp.proofs.RightTests.{right_tests}
 use Rattle.jp_check.specs.Verdict.{IsAccepted, IsVerdict}
 use Rattle.jp_check.proofs.OneVerdict.{one_verdict}
-use Rattle.jp_run.specs.Answer.{Answer, answer, stream_answer}
-use Rattle.jp_run.specs.Answered.{IsAnswerTo}
-use Rattle.jp_run.specs.declared.fault.RunFault.{RunFault}
-use Rattle.jp_run.specs.declared.fault.RunFault.TheVariants.{Query, Document, Memory}
-use Rattle.jp_run.specs.declared.answering.DocStop as code
+use Rattle.jp_answer.specs.Answer.{Answer, answer, stream_answer}
+use Rattle.jp_answer.specs.Answered.{IsAnswerTo}
+use Rattle.jp_answer.specs.declared.fault.RunFault.{RunFault}
+use Rattle.jp_answer.specs.declared.fault.RunFault.TheVariants.{Query, Document, Memory}
+use Rattle.jp_answer.specs.declared.outcome.DocStop as code
 use Rattle.jp_run.specs.Written.{AppendsFront}
 
 same_ok : {X E : Type 0} (x y : X) → ◌≡◌ {A = Result X E} (Ok x) (Ok y) → x ≡ y

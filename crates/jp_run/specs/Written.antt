@@ -1,8 +1,8 @@
 -- What a run that ended early has written.
 use Rattle.std.specs.Prelude.{ℕ, ◌≤◌, List, length, take, Option}
 use Rattle.std.specs.Io.KnownBytes.{Appends}
-use Rattle.jp_run.specs.declared.fault.RunFault.{RunFault}
-use Rattle.jp_run.specs.declared.fault.RunFault.TheVariants.{Query, Document, Read, Write, Limit, Memory}
+use Rattle.jp_answer.specs.declared.fault.RunFault.{RunFault}
+use Rattle.jp_answer.specs.declared.fault.RunFault.TheVariants.{Query, Document, Read, Write, Limit, Memory, Settings}
 
 -- some front of the bytes was appended
 abbrev pub AppendsFront : Option (List ℕ) → Option (List ℕ) → List ℕ → Type 0
@@ -16,3 +16,4 @@ IsOfDelivery (Query fault) = ⊥
 IsOfDelivery Read = ⊥
 IsOfDelivery Limit = ⊥
 IsOfDelivery Memory = ⊥
+IsOfDelivery Settings = ⊥

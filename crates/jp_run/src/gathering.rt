@@ -8,7 +8,7 @@ ghost use Rattle.jp_doc.specs.Lines.{line_of, lines as all_lines, line_count};
 ghost use Rattle.jp_run.specs.Limits.{max_reads, max_lines};
 
 use crate::ends::Source;
-use crate::fault::RunFault;
+use jp_answer::RunFault;
 use jp_doc::{Line, Lines};
 use std::alloc::Global;
 

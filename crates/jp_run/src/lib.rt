@@ -1,17 +1,14 @@
-//! The answer to a collection of documents, one on a line.
+//! The answer to a collection of documents, one on a line: from the bytes that come in to those that go out.
 #![tactic(auto)]
 
-mod answering;
 mod ends;
-mod examples;
-mod fault;
 mod gathering;
-pub mod laws;
 mod running;
 mod std_ends;
 mod writing;
 
 pub use ends::{Broken, Sink, Source};
-pub use fault::RunFault;
+pub use jp_answer::laws;
+pub use jp_answer::{Answer, DocStop, Gate, OpenGate, RunFault, Settings, answer};
 pub use running::{Totals, run};
 pub use std_ends::{FromReader, FromWriter};

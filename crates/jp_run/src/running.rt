@@ -1,4 +1,4 @@
-//! A run over a collection, on one thread.
+//! A run over a collection.
 
 ghost use Rattle.std.specs.Prelude.{◌≡◌, ◌+◌, ◌^◌, ◌<◌, ◌≤◌, ◌⊎◌, ◌↔◌, ℕ, List, length, false, true, Some, None};
 ghost use Rattle.std.specs.Prelude.{Err, IfOk, IfErr, OnOk, OnErr, IfSome, IsErrOf};
@@ -11,19 +11,25 @@ ghost use Rattle.jp_syntax.specs.declared.fault.QueryFault.{QueryFault as Refusa
 ghost use Rattle.jp_syntax.specs.Depth.{bracket_depth, max_depth};
 ghost use Rattle.jp_check.specs.Plan.{planned_query};
 ghost use Rattle.jp_check.specs.Verdict.{IsAccepted, IsVerdict};
-ghost use Rattle.jp_run.specs.Answer.{Answer};
-ghost use Rattle.jp_run.specs.Answered.{IsAnswerTo};
+ghost use Rattle.jp_answer.specs.Answer.{Answer};
+ghost use Rattle.jp_answer.specs.Answered.{IsAnswerTo};
 ghost use Rattle.jp_run.specs.Limits.{max_reads, max_lines};
 ghost use Rattle.jp_run.specs.Written.{AppendsFront};
 
-use crate::answering::answer_lines;
 use crate::ends::{Sink, Source};
-use crate::fault::RunFault;
 use crate::gathering::gather;
 use crate::writing::deliver;
+use jp_answer::{OpenGate, RunFault, answer};
 use jp_check::{Plan, plan};
 use jp_syntax::QueryFault;
 use std::alloc::Global;
+use std::thread::Threads;
+
+/// The number of workers of a run.
+const WORKERS: u64 = 4;
+
+/// The number of documents that a worker claims at a time.
+const PIECE: u64 = 64;
 
 /// What a finished run has seen.
 #[derive(Clone, Copy, Debug, PartialEq, Eq)]
@@ -37,8 +43,8 @@ pub struct Totals {
 /// Runs a query over all documents of the source, one on a line, and writes the lines of the nodes that it
 /// selects.
 ///
-/// The query is read first. Then the source is read to its end, and its lines are answered in order, up to
-/// the first faulty one.
+/// The query is read first. Then the source is read to its end, and its lines are answered by four workers,
+/// up to the first faulty one.
 /// Neither end has failed before, and the counts of the source are at most 2^62.
 ///
 /// # Errors
@@ -50,7 +56,8 @@ pub struct Totals {
 /// - [`RunFault::Write`] only where the sink failed: a front of the answer was written.
 /// - [`RunFault::Limit`] only after 2^40 calls of `read`, or past 4,294,967,295 lines.
 /// - [`RunFault::Memory`] where a growth of memory was refused.
-pub fn run<S: Source, K: Sink>(
+pub fn run<R: Threads + Sync, S: Source, K: Sink>(
+    rt: &R,
     alloc: Global,
     source: &mut S,
     sink: &mut K,
@@ -97,7 +104,8 @@ pub fn run<S: Source, K: Sink>(
 {
     let plan = plan_of(alloc, query)?;
     let gathered = gather(alloc, source)?;
-    let answer = answer_lines(alloc, &plan, &gathered.lines)?;
+    let lines = gathered.lines.as_slice();
+    let answer = answer(rt, alloc, &plan, lines, WORKERS, PIECE, &OpenGate)?;
     deliver(sink, &answer)?;
     Ok(Totals {
         lines: gathered.count,

@@ -3,12 +3,11 @@
 ghost use Rattle.std.specs.Prelude.{◌≡◌, ℕ, false, true, Some, None, OnOk, OnErr, IfErr, IsErrOf};
 ghost use Rattle.std.specs.Io.KnownBytes.{Appends};
 ghost use Rattle.jp_doc.specs.declared.fault.DocFault.{DocFault as Fault};
-ghost use Rattle.jp_run.specs.Answered.{answer_of};
+ghost use Rattle.jp_answer.specs.Answered.{answer_of};
 ghost use Rattle.jp_run.specs.Written.{AppendsFront, IsOfDelivery};
 
-use crate::answering::Answer;
 use crate::ends::{Broken, Sink};
-use crate::fault::RunFault;
+use jp_answer::{Answer, RunFault};
 
 /// Hands over all of the bytes.
 pub(crate) fn write_all<K: Sink>(sink: &mut K, bytes: &[u8]) -> Result<(), Broken>

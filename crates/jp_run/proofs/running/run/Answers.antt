@@ -1,8 +1,8 @@
 use Rattle.std.proofs.Common.{ap, ◌∙◌, refl, map}
 use Rattle.jp_doc.specs.Lines.{line_of}
 use Rattle.jp_check.specs.Plan.{planned_query}
-use Rattle.jp_run.specs.Answered.{answer_of}
-use Rattle.jp_run.specs.declared.fault.RunFault.TheVariants.{Document}
+use Rattle.jp_answer.specs.Answered.{answer_of}
+use Rattle.jp_answer.specs.declared.fault.RunFault.TheVariants.{Document}
 use Rattle.jp_run.proofs.Runs.{answer_known, counts_known, not_both, refused_so, front_known, written_known, told_at, at_an_err}
 use Rattle.jp_run.proofs.running.run.Goals as goal
 

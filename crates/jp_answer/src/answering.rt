@@ -5,35 +5,24 @@ ghost use Rattle.jp_doc.specs.Document.{document_value};
 ghost use Rattle.jp_doc.specs.Lines.{line_of};
 ghost use Rattle.jp_check.specs.Plan.{planned_query};
 ghost use Rattle.jp_regexp.specs.Tests.{Tests, AreRight};
-ghost use Rattle.jp_run.specs.Answer.{answer, document_lines};
-ghost use Rattle.jp_run.specs.Answered.{answer_of};
+ghost use Rattle.jp_answer.specs.Answer.{answer, document_lines};
+ghost use Rattle.jp_answer.specs.Answered.{answer_of};
+ghost use Rattle.jp_answer.specs.Faults.{first_fault};
 
+use crate::outcome::{Answer, DocStop};
 use jp_check::Plan;
 use jp_doc::{DocFault, Document, Line};
 use jp_eval::visit_nodes;
 use jp_path::NodeLines;
 use std::alloc::{AllocError, Global};
 
-/// The output lines of the documents before the first faulty line, and that line.
-#[derive(Drop)]
-pub(crate) struct Answer {
-    pub(crate) bytes: Vec<u8>,
-    pub(crate) stopped: Option<DocStop>,
-}
-
-/// A faulty line, and what is wrong with it.
-#[derive(Clone, Copy, Drop)]
-pub(crate) struct DocStop {
-    pub(crate) line: u64,
-    pub(crate) fault: DocFault,
-}
-
 /// The answer to lines, each read and evaluated in turn.
 ///
 /// `AllocError` if a growth was refused.
 pub(crate) fn answer_lines(alloc: Global, plan: &Plan, lines: &[Line]) -> Result<Answer, AllocError>
-    ensures { IfOk result (λ a. (t : Tests) → AreRight t →
+    ensures answer { IfOk result (λ a. (t : Tests) → AreRight t →
         answer t (planned_query plan.now) (map line_of lines.now) ≡ answer_of a) }
+    ensures stopped { IfOk result (λ a. first_fault (map line_of lines.now) ≡ (answer_of a).stopped) }
 {
     let mut written = NodeLines::new(alloc);
     for line in lines {

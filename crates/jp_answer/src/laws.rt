@@ -4,7 +4,7 @@ ghost use Rattle.std.specs.Prelude.{◌≡◌, ◌++◌, List};
 ghost use Rattle.jp_doc.specs.Lines.{Line};
 ghost use Rattle.jp_syntax.specs.Tree.{Query};
 ghost use Rattle.jp_regexp.specs.Tests.{Tests};
-ghost use Rattle.jp_run.specs.Answer.{answer, joined};
+ghost use Rattle.jp_answer.specs.Answer.{answer, joined};
 
 /// The answer to lines and further lines is the answer to the first where that has stopped, and else its
 /// bytes and then the

@@ -1,7 +1,7 @@
 -- The status that a program ends with.
 use Rattle.std.specs.Prelude.{ℕ}
-use Rattle.jp_run.specs.declared.fault.RunFault.{RunFault}
-use Rattle.jp_run.specs.declared.fault.RunFault.TheVariants.{Query, Document, Read, Write, Limit, Memory}
+use Rattle.jp_answer.specs.declared.fault.RunFault.{RunFault}
+use Rattle.jp_answer.specs.declared.fault.RunFault.TheVariants.{Query, Document, Read, Write, Limit, Memory, Settings}
 
 abbrev pub status_of : RunFault → ℕ
 status_of (Query fault) = 2
@@ -10,3 +10,4 @@ status_of Read = 4
 status_of Write = 4
 status_of Limit = 4
 status_of Memory = 5
+status_of Settings = 64

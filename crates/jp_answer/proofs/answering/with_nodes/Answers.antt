@@ -5,7 +5,7 @@ use Rattle.jp_check.specs.Plan.{planned_query}
 use Rattle.jp_eval.specs.Nodelist.{document_nodes}
 use Rattle.jp_path.specs.OutputLine.{put_line}
 use Rattle.jp_path.proofs.Taken.{lines_fold}
-use Rattle.jp_run.proofs.answering.with_nodes.Goals as goal
+use Rattle.jp_answer.proofs.answering.with_nodes.Goals as goal
 
 pub returns : goal.returns
 returns c = λ t right.

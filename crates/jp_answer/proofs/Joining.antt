@@ -6,9 +6,9 @@ use Rattle.jp_doc.specs.Reading.{reading}
 use Rattle.jp_doc.specs.declared.fault.DocFault.{DocFault}
 use Rattle.jp_syntax.specs.Tree.{Query}
 use Rattle.jp_regexp.specs.Tests.{Tests}
-use Rattle.jp_run.specs.Answer.{Answer, after, line_answer, document_lines, answer, joined, unless_stopped}
+use Rattle.jp_answer.specs.Answer.{Answer, after, line_answer, document_lines, answer, joined, unless_stopped}
 
-after_joined_by : (bytes : List ℕ) (stop : Option (ℕ × DocFault)) (a b : Answer) → after bytes (unless_stopped stop a b) ≡ unless_stopped stop (after bytes a) b
+pub after_joined_by : (bytes : List ℕ) (stop : Option (ℕ × DocFault)) (a b : Answer) → after bytes (unless_stopped stop a b) ≡ unless_stopped stop (after bytes a) b
 after_joined_by bytes None a b = ap (λ all. record { bytes = all; stopped = b.stopped }) (sym (append_assoc bytes a.bytes b.bytes))
 after_joined_by bytes (Some stop) a b = refl
 

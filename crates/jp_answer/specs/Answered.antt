@@ -3,8 +3,8 @@ use Rattle.std.specs.Prelude.{◌≡◌, ℕ, List, option_map}
 use Rattle.jp_syntax.specs.Tree.{Text, Query}
 use Rattle.jp_regexp.specs.Tests.{Tests, AreRight}
 use Rattle.jp_check.specs.Verdict.{IsAccepted}
-use Rattle.jp_run.specs.Answer.{Answer, stream_answer}
-use Rattle.jp_run.specs.declared.answering.Answer as code
+use Rattle.jp_answer.specs.Answer.{Answer, stream_answer}
+use Rattle.jp_answer.specs.declared.outcome.Answer as code
 
 -- the text is accepted, and this is the answer to the stream of the query that it spells
 abbrev pub IsAnswerTo : Text → List ℕ → Answer → Type 0

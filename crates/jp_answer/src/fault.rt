@@ -1,8 +1,8 @@
 //! Why a run ended early.
 
 ghost use Rattle.std.specs.Prelude.{◌≡◌};
-ghost use Rattle.jp_run.specs.declared.fault.RunFault.TheVariants.{Memory};
-ghost use Rattle.jp_run.specs.Status.{status_of};
+ghost use Rattle.jp_answer.specs.declared.fault.RunFault.TheVariants.{Memory};
+ghost use Rattle.jp_answer.specs.Status.{status_of};
 
 use jp_doc::DocFault;
 use jp_syntax::QueryFault;
@@ -35,6 +35,9 @@ pub enum RunFault {
     /// A growth of memory was refused. A front of the answer was written.
     #[error("memory")]
     Memory,
+    /// A number of workers, or of documents, is out of its range.
+    #[error("command line")]
+    Settings,
 }
 
 impl From<AllocError> for RunFault {
@@ -47,7 +50,7 @@ impl From<AllocError> for RunFault {
 
 impl RunFault {
     /// The status that a program ends with: 2 for the query, 3 for a document, 4 for an end or a limit, 5 for
-    /// memory.
+    /// memory, 64 for the settings.
     pub fn status(&self) -> u8
         ensures { result ≡ status_of self.now }
     {
@@ -56,6 +59,7 @@ impl RunFault {
             RunFault::Document { .. } => 3,
             RunFault::Read | RunFault::Write | RunFault::Limit => 4,
             RunFault::Memory => 5,
+            RunFault::Settings => 64,
         }
     }
 }

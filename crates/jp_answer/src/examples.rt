@@ -5,7 +5,7 @@ ghost use Rattle.jp_doc.specs.declared.fault.DocFault.TheVariants.{Unreadable, N
 ghost use Rattle.jp_syntax.specs.Tree as tree;
 ghost use Rattle.jp_syntax.specs.declared.tree.Start.TheVariants.{Root};
 ghost use Rattle.jp_regexp.specs.Tests.{Tests};
-ghost use Rattle.jp_run.specs.Answer.{stream_answer};
+ghost use Rattle.jp_answer.specs.Answer.{stream_answer};
 
 /// `$.a` on the lines `{"a":1}`, an empty one and `{"a":null}`.
 #[tactic(auto, unfolding(crate::proofs::OnLiterals::runs_on_literals))]

@@ -1,0 +1,5 @@
+pub mod Joining
+pub mod OnLiterals
+pub mod Placing
+pub mod Settling
+pub mod Tending

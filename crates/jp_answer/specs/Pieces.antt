@@ -1,0 +1,28 @@
+-- Lines that are cut into pieces.
+use Rattle.std.specs.Prelude.{◌≡◌, ℕ, ◌*◌, ◌<◌, ◌≤◌, List, length, take, drop, map, IsSome}
+use Rattle.jp_doc.specs.Lines.{Line, line_of}
+use Rattle.jp_check.specs.Plan.{planned_query}
+use Rattle.jp_regexp.specs.Tests.{Tests, AreRight}
+use Rattle.jp_answer.specs.Answer.{answer}
+use Rattle.jp_answer.specs.Answered.{answer_of}
+use Rattle.jp_answer.specs.Faults.{first_fault}
+use Rattle.jp_answer.specs.declared.outcome.Answer as code
+use Rattle.jp_answer.specs.declared.pieces.Pieces.{Pieces}
+
+-- the lines of the piece with this number, from 0
+abbrev pub piece_lines : Pieces → ℕ → List Line
+piece_lines p x = map line_of (take p.size (drop (x * p.size) p.lines.now))
+
+-- each of so many pieces has a line, and together they have all lines
+pub record AreAllPieces (p : Pieces) (n : ℕ) : Type 0 where
+  pub each : (x : ℕ) → x < n → x * p.size < length p.lines.now
+  pub all : length p.lines.now ≤ n * p.size
+
+-- the piece has a faulty line
+abbrev pub IsFaulty : Pieces → ℕ → Type 0
+IsFaulty p x = IsSome (first_fault (piece_lines p x))
+
+-- this is the answer to the piece
+pub record IsPieceAnswer (p : Pieces) (x : ℕ) (a : code.Answer) : Type 0 where
+  pub answer : (t : Tests) → AreRight t → answer t (planned_query p.plan.now) (piece_lines p x) ≡ answer_of a
+  pub stopped : first_fault (piece_lines p x) ≡ (answer_of a).stopped

@@ -1,0 +1,20 @@
+//! The answer to a collection of lines, by 1 to 64 workers that share a board.
+#![tactic(auto)]
+
+mod answering;
+mod examples;
+mod fault;
+mod gate;
+pub mod laws;
+mod outcome;
+mod parts;
+mod pieces;
+mod settings;
+mod worker;
+mod workers;
+
+pub use fault::RunFault;
+pub use gate::{Gate, OpenGate};
+pub use outcome::{Answer, DocStop};
+pub use settings::Settings;
+pub use workers::answer;

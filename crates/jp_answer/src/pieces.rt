@@ -1,0 +1,51 @@
+//! Lines that are cut into pieces.
+
+ghost use Rattle.std.specs.Prelude.{◌≡◌, ◌*◌, ◌<◌, ◌≤◌, length, IfOk};
+ghost use Rattle.jp_answer.specs.Ranges.{AreDocuments};
+
+use crate::answering::answer_lines;
+use crate::outcome::Answer;
+use jp_check::Plan;
+use jp_doc::Line;
+use std::alloc::{AllocError, Global};
+
+/// Lines that are cut into pieces, the last perhaps shorter, and the plan that answers them.
+#[derive(Clone, Copy, Drop)]
+pub(crate) struct Pieces<'a> {
+    pub(crate) plan: &'a Plan,
+    pub(crate) lines: &'a [Line],
+    pub(crate) size: usize,
+    ghost in_range: { AreDocuments size × (length lines.now ≤ 4294967296) },
+}
+
+impl Pieces<'_> {
+    ghost use Rattle.jp_answer.specs.Pieces.{AreAllPieces, IsPieceAnswer};
+
+    /// The lines, cut into pieces of that size.
+    pub(crate) fn new<'a>(plan: &'a Plan, lines: &'a [Line], size: usize) -> Pieces<'a>
+        requires size { AreDocuments size }
+        requires lines { length lines.now ≤ 4294967296 }
+        ensures pieces { (result.plan.now ≡ plan.now) × (result.lines.now ≡ lines.now)
+            × (result.size ≡ size) }
+    {
+        Pieces { plan, lines, size }
+    }
+
+    /// The number of pieces.
+    pub(crate) fn count(&self) -> u64
+        ensures few { result ≤ 4294967296 }
+        ensures pieces { AreAllPieces self.now result }
+    {
+        self.lines.len().div_ceil(self.size) as u64
+    }
+
+    /// The answer to a piece.
+    pub(crate) fn answer(&self, alloc: Global, piece: u64) -> Result<Answer, AllocError>
+        requires { piece * self.now.size < length self.now.lines.now }
+        ensures { IfOk result (IsPieceAnswer self.now piece) }
+    {
+        let (_, rest) = self.lines.split_at(piece as usize * self.size);
+        let (lines, _) = rest.split_at(self.size.min(rest.len()));
+        answer_lines(alloc, self.plan, lines)
+    }
+}

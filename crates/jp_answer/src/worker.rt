@@ -1,0 +1,93 @@
+//! A worker, which claims pieces until none is left.
+
+ghost use Rattle.std.specs.Prelude.{◌≡◌, ◌*◌, ◌<◌, [], length, Contains, OnOk};
+ghost use Rattle.jp_board.specs.Seats.{IsSeatOf, IsFresh, view_of, pieces_of as pieces_of_board, made_of};
+ghost use Rattle.jp_answer.specs.Pieces.{AreAllPieces};
+ghost use Rattle.jp_answer.specs.Worked.{AreSound, AreTended, OthersAreTended, IsWorked};
+
+use crate::gate::Gate;
+use crate::outcome::Answer;
+use crate::pieces::Pieces;
+use jp_board::{Board, Seat};
+use std::alloc::{AllocError, Global};
+
+/// The answer to one piece.
+#[derive(Drop)]
+pub(crate) struct Part {
+    pub(crate) piece: u64,
+    pub(crate) answer: Answer,
+}
+
+/// What a worker hands back.
+#[derive(Drop)]
+pub(crate) struct Worker {
+    pub(crate) seat: Seat,
+    /// The answers to the pieces that it has claimed and not left.
+    pub(crate) parts: Vec<Part>,
+    /// Whether a growth of memory was refused. From then on it has only claimed.
+    pub(crate) wanted: bool,
+}
+
+/// Claims pieces until none is left, and tends each.
+pub(crate) fn work<G: Gate>(
+    alloc: Global,
+    pieces: &Pieces,
+    board: &Board,
+    gate: &G,
+    mut seat: Seat,
+) -> Worker
+    requires seat { IsSeatOf board.now seat × IsFresh (pieces_of_board board.now) (made_of board.now) seat }
+    requires pieces { AreAllPieces pieces.now (pieces_of_board board.now) }
+    ensures seat { IsSeatOf board.now result.seat }
+    ensures worked { IsWorked pieces.now result }
+{
+    let mut parts = Vec::new(alloc);
+    let mut wanted = false;
+    // No later claim is lower, so the loop ends.
+    let mut floor = 0;
+    while let Some(piece) = board.claim(&mut seat) {
+        floor = piece + 1;
+        if !wanted {
+            wanted = tend(alloc, pieces, board, gate, &mut seat, piece, &mut parts).is_err();
+        }
+    }
+    Worker {
+        seat,
+        parts,
+        wanted,
+    }
+}
+
+/// Looks at the mark, and unless it is lower, answers the piece, and reports it where its answer has stopped.
+fn tend<G: Gate>(
+    alloc: Global,
+    pieces: &Pieces,
+    board: &Board,
+    gate: &G,
+    seat: &mut Seat,
+    piece: u64,
+    parts: &mut Vec<Part>,
+) -> Result<(), AllocError>
+    requires seat { IsSeatOf board.now seat.old × Contains (view_of seat.old).claims piece }
+    requires piece { piece * pieces.now.size < length pieces.now.lines.now }
+    requires sound { AreSound pieces.now (view_of seat.old).claims (view_of seat.old).reports parts.old.items }
+    requires tended { OthersAreTended piece (view_of seat.old).claims (view_of seat.old).looks
+        parts.old.items }
+    ensures seat { IsSeatOf board.now seat.new × ((view_of seat.new).claims ≡ (view_of seat.old).claims) }
+    ensures sound { AreSound pieces.now (view_of seat.new).claims (view_of seat.new).reports parts.new.items }
+    ensures tended { OnOk result (AreTended (view_of seat.new).claims (view_of seat.new).looks
+        parts.new.items) }
+{
+    let mark = board.look(seat);
+    if mark < piece {
+        return Ok(());
+    }
+    gate.pass(piece);
+    let answer = pieces.answer(alloc, piece)?;
+    let stopped = answer.stopped.is_some();
+    parts.push(Part { piece, answer })?;
+    if stopped {
+        board.report(seat, piece);
+    }
+    Ok(())
+}
