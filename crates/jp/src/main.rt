@@ -4,8 +4,10 @@
 #![tactic(auto)]
 
 use jp_run::{FromReader, FromWriter, RunFault, Sink, run};
+use std::alloc::Global;
 use std::io::{BufWriter, ErrorKind};
 use std::process::ExitCode;
+use std::thread::Threads;
 use std::{env, io};
 
 /// The status of a command line that is refused.
@@ -16,7 +18,7 @@ const BUFFER_SIZE: usize = 65_536;
 
 fn main(rt: HostRuntime) -> ExitCode {
     let status = match query_word(&rt) {
-        Ok(Some(query)) => match run_query(&rt, query.as_str()) {
+        Ok(Some(query)) => match run_query(&rt, rt.alloc(), query.as_str()) {
             Ok(()) => 0,
             Err(fault) => told(&rt, &fault),
         },
@@ -46,13 +48,17 @@ fn query_word(rt: &HostRuntime) -> Result<Option<String>, RunFault> {
 }
 
 /// Runs the query over standard input and output.
-fn run_query(rt: &HostRuntime, query: &str) -> Result<(), RunFault> {
-    let Ok(writer) = BufWriter::with_capacity(rt.alloc(), BUFFER_SIZE, io::writer(rt)) else {
+fn run_query<R: Threads + Sync + Input + Print>(
+    rt: &R,
+    alloc: Global,
+    query: &str,
+) -> Result<(), RunFault> {
+    let Ok(writer) = BufWriter::with_capacity(alloc, BUFFER_SIZE, io::writer(rt)) else {
         return Err(RunFault::Memory);
     };
     let mut source = FromReader::new(rt.reader());
     let mut sink = FromWriter::new(writer);
-    match run(rt.alloc(), &mut source, &mut sink, query) {
+    match run(rt, alloc, &mut source, &mut sink, query) {
         Ok(_totals) => Ok(()),
         Err(fault) => {
             // What stands before the fault goes out; where it can't, the fault still tells.

@@ -1,12 +1,15 @@
 -- What a run has done, put together of what its parts did.
-use Rattle.std.proofs.Common.{◌≡◌, Bool, true, false, ℕ, List, [], ◌∷◌, ◌++◌, length, take, map, Option, Some, None, option_map, IfSome, ◌⊎◌, inl, inr, Result, Ok, Err, refl, sym, ◌∙◌, ap, subst, append-nil, arith}
+use Rattle.std.proofs.Common.{◌≡◌, Bool, true, false, ℕ, List, ◌++◌, length, map, Option, Some, None, option_map, IfSome, ◌⊎◌, inl, inr, Result, Ok, Err, refl, sym, ◌∙◌, ap, subst, append-nil, arith}
 use Rattle.std.proofs.Math.Seq.{take-length}
 use Rattle.std.proofs.lemmas.List.{length-map}
-use Rattle.std.specs.Prelude.{⊤, is_err, OnOk, OnErr}
+use Rattle.std.specs.Prelude.{⊤, is_err, OnOk, OnErr, not, ◌+◌, ◌≤◌}
+use Rattle.std.specs.List.{filter, enumerate_from}
+use Rattle.std.proofs.lemmas.List.Sums.{length-filter}
+use Rattle.std.proofs.lemmas.List.FromFn.{length-enumerate_from}
+use Rattle.std.proofs.lemmas.List.Sums.{count_by-le-length}
 use Rattle.std.specs.Result.{IsErrAnd}
-use Rattle.std.specs.Io.KnownBytes.{Appends, Consumes, IsAtEnd, Keeps}
-use Rattle.std.proofs.KnownBytes.{Appends-nil, Appends-kept}
-use Rattle.jp_doc.specs.Lines.{Line, lines, line_count, line_of}
+use Rattle.std.specs.Io.KnownBytes.{Appends, Consumes, IsAtEnd}
+use Rattle.jp_doc.specs.Lines.{Line, lines, line_count, line_of, is_blank, all_lines}
 use Rattle.jp_doc.specs.declared.line.Line as line
 use Rattle.jp_doc.specs.declared.fault.DocFault.{DocFault}
 use Rattle.jp_syntax.specs.Tree as tree
@@ -126,3 +129,14 @@ told_at (Err f) fault told h e = ap Err (sym h ∙ same_err f told e)
 pub at_an_err : {T E P : Type 0} (r : Result T E) → P → OnErr r P
 at_an_err (Ok x) p = tt
 at_an_err (Err e) p = p
+
+fewer_kept : {X : Type 0} (p : X → Bool) (xs : List X) → length (filter p xs) ≤ length xs
+fewer_kept p xs = omega (arith, length-filter p xs, count_by-le-length p xs)
+
+-- there are no more documents than lines
+pub few_documents : (ls : List line.Line) (count most : ℕ) (input : List ℕ) → map line_of ls ≡ lines input → count ≡ line_count input → count ≤ most → length ls ≤ most + 1
+few_documents ls count most input same all few =
+    let a = fewer_kept (λ (l : Line). not (is_blank l.1)) (enumerate_from 1 (all_lines input)) in
+    let b = length-enumerate_from 1 (all_lines input) in
+    let d = sym (length-map ls line_of) ∙ ap length same in
+    omega arith

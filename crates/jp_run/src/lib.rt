@@ -8,7 +8,6 @@ mod std_ends;
 mod writing;
 
 pub use ends::{Broken, Sink, Source};
-pub use jp_answer::laws;
-pub use jp_answer::{Answer, DocStop, Gate, OpenGate, RunFault, Settings, answer};
+pub use jp_answer::{Answer, DocStop, Gate, OpenGate, RunFault, Settings, answer, laws};
 pub use running::{Totals, run};
 pub use std_ends::{FromReader, FromWriter};

@@ -2,6 +2,10 @@
 #![tactic(auto)]
 
 #[cfg(test)]
+mod answers;
+#[cfg(test)]
 mod fakes;
+#[cfg(test)]
+mod gates;
 #[cfg(test)]
 mod runs;

@@ -6,15 +6,21 @@ use jp_run::{FromReader, FromWriter, RunFault, Sink, Source, Totals, run};
 use jp_syntax::QueryFault;
 use std::alloc::Global;
 use std::test::Fail;
+use std::thread::Threads;
 
 /// More bytes than any of these runs writes.
 const ROOM: usize = 1_000_000;
 
 /// What a run over these bytes ends with, and what it writes.
-fn ran(alloc: Global, query: &str, input: &[u8]) -> (Result<Totals, RunFault>, Vec<u8>) {
+fn ran<R: Threads + Sync>(
+    rt: &R,
+    alloc: Global,
+    query: &str,
+    input: &[u8],
+) -> (Result<Totals, RunFault>, Vec<u8>) {
     let mut source = FromReader::new(input);
     let mut sink = Holds::new(Vec::new(alloc), ROOM, ROOM);
-    let end = run(alloc, &mut source, &mut sink, query);
+    let end = run(rt, alloc, &mut source, &mut sink, query);
     (end, sink.bytes)
 }
 
@@ -34,6 +40,7 @@ fn faults_have_their_texts(rt: HostRuntime) -> Result<(), Fail> {
         (RunFault::Write, 4, "write"),
         (RunFault::Limit, 4, "limit"),
         (RunFault::Memory, 5, "memory"),
+        (RunFault::Settings, 64, "command line"),
     ];
     for (fault, status, text) in &faults {
         assert_eq!(rt; fault.status(), *status);
@@ -178,7 +185,7 @@ fn rows(rt: HostRuntime) -> Result<(), Fail> {
             panic!(rt; "{row}");
         };
         let (input, wanted) = rest.split_once("\n").unwrap_or((rest, ""));
-        let (end, bytes) = ran(rt.alloc(), query, input.as_bytes());
+        let (end, bytes) = ran(&rt, rt.alloc(), query, input.as_bytes());
         assert!(rt; end.is_ok(), "{row}");
         let mut output = String::new(rt.alloc());
         for c in wanted.chars() {
@@ -200,11 +207,11 @@ fn several_lines(rt: HostRuntime) -> Result<(), Fail> {
         "{\"a\":1}\n\n{\"a\":null}",
         "{\"a\":1}\r\n\r\n{\"a\":null}\r\n",
     ] {
-        let (end, bytes) = ran(rt.alloc(), "$.a", input.as_bytes());
+        let (end, bytes) = ran(&rt, rt.alloc(), "$.a", input.as_bytes());
         assert!(rt; end.is_ok(), "{input}");
         assert_eq!(rt; bytes.as_slice(), wanted.as_slice());
     }
-    let (end, bytes) = ran(rt.alloc(), "$", b"");
+    let (end, bytes) = ran(&rt, rt.alloc(), "$", b"");
     assert!(rt; end.is_ok());
     assert!(rt; bytes.is_empty());
     Ok(())
@@ -212,13 +219,13 @@ fn several_lines(rt: HostRuntime) -> Result<(), Fail> {
 
 #[test]
 fn lines_and_documents_are_counted(rt: HostRuntime) -> Result<(), Fail> {
-    let (end, _) = ran(rt.alloc(), "$.a", b"{\"a\":1}\n\n{\"a\":null}");
+    let (end, _) = ran(&rt, rt.alloc(), "$.a", b"{\"a\":1}\n\n{\"a\":null}");
     let totals = Totals {
         lines: 3,
         documents: 2,
     };
     assert!(rt; matches!(end, Ok(found) if found == totals));
-    let (end, _) = ran(rt.alloc(), "$", b"");
+    let (end, _) = ran(&rt, rt.alloc(), "$", b"");
     let none = Totals {
         lines: 0,
         documents: 0,
@@ -242,7 +249,7 @@ fn a_refused_query_reads_nothing(rt: HostRuntime) -> Result<(), Fail> {
     for (query, fault) in &refused {
         let mut source = OneByte::new(b"{\"a\":1}\n", 0);
         let mut sink = Holds::new(Vec::new(rt.alloc()), 1, ROOM);
-        let end = run(rt.alloc(), &mut source, &mut sink, *query);
+        let end = run(&rt, rt.alloc(), &mut source, &mut sink, *query);
         assert!(rt; matches!(end, Err(RunFault::Query(found)) if found == *fault));
         assert_eq!(rt; source.reads(), 0);
         assert!(rt; sink.bytes.is_empty());
@@ -252,7 +259,12 @@ fn a_refused_query_reads_nothing(rt: HostRuntime) -> Result<(), Fail> {
 
 #[test]
 fn a_faulty_line_ends_the_run(rt: HostRuntime) -> Result<(), Fail> {
-    let (end, bytes) = ran(rt.alloc(), "$.a", b"{\"a\":1}\n{\n{\"a\":2}\n{\"a\":1.5}\n");
+    let (end, bytes) = ran(
+        &rt,
+        rt.alloc(),
+        "$.a",
+        b"{\"a\":1}\n{\n{\"a\":2}\n{\"a\":1.5}\n",
+    );
     assert!(rt;
         matches!(
             end,
@@ -263,7 +275,12 @@ fn a_faulty_line_ends_the_run(rt: HostRuntime) -> Result<(), Fail> {
         )
     );
     assert_eq!(rt; bytes.as_slice(), b"1\t$['a']\t1\n".as_slice());
-    let (end, bytes) = ran(rt.alloc(), "$.a", b"{\"a\":1}\n{\"a\":2}\n{\"a\":1.5}\n");
+    let (end, bytes) = ran(
+        &rt,
+        rt.alloc(),
+        "$.a",
+        b"{\"a\":1}\n{\"a\":2}\n{\"a\":1.5}\n",
+    );
     assert!(rt;
         matches!(
             end,
@@ -284,7 +301,7 @@ fn a_faulty_line_ends_the_run(rt: HostRuntime) -> Result<(), Fail> {
 fn read_and_written_byte_by_byte(rt: HostRuntime) -> Result<(), Fail> {
     let mut source = OneByte::new(b"{\"a\":1}\n\n{\"a\":null}", 0);
     let mut sink = Holds::new(Vec::new(rt.alloc()), 1, ROOM);
-    assert!(rt; run(rt.alloc(), &mut source, &mut sink, "$.a").is_ok());
+    assert!(rt; run(&rt, rt.alloc(), &mut source, &mut sink, "$.a").is_ok());
     let want = b"1\t$['a']\t1\n3\t$['a']\tnull\n";
     assert_eq!(rt; sink.bytes.as_slice(), want.as_slice());
     assert_eq!(rt; source.given(), 19);
@@ -298,7 +315,7 @@ fn a_failing_read_writes_nothing(rt: HostRuntime) -> Result<(), Fail> {
     for call in [1u64, 2, 9] {
         let mut source = OneByte::new(b"{\"a\":1}\n", call);
         let mut sink = Holds::new(Vec::new(rt.alloc()), 1, ROOM);
-        let end = run(rt.alloc(), &mut source, &mut sink, "$.a");
+        let end = run(&rt, rt.alloc(), &mut source, &mut sink, "$.a");
         assert!(rt; matches!(end, Err(RunFault::Read)));
         assert_eq!(rt; source.reads(), call);
         assert!(rt; source.failed());
@@ -314,7 +331,7 @@ fn a_sink_that_fails_keeps_a_front(rt: HostRuntime) -> Result<(), Fail> {
         for most in [1usize, 3, ROOM] {
             let mut source = FromReader::new(b"{\"a\":1}\n\n{\"a\":null}\n".as_slice());
             let mut sink = Holds::new(Vec::new(rt.alloc()), most, room);
-            let end = run(rt.alloc(), &mut source, &mut sink, "$.a");
+            let end = run(&rt, rt.alloc(), &mut source, &mut sink, "$.a");
             assert!(rt; matches!(end, Err(RunFault::Write)));
             let (front, _) = answer.split_at(room);
             assert_eq!(rt; sink.bytes.as_slice(), front);
@@ -328,7 +345,7 @@ fn a_sink_that_fails_keeps_a_front(rt: HostRuntime) -> Result<(), Fail> {
 fn a_writer_takes_all(rt: HostRuntime) -> Result<(), Fail> {
     let mut source = FromReader::new(b"[]\n".as_slice());
     let mut sink = FromWriter::new(Vec::new(rt.alloc()));
-    assert!(rt; run(rt.alloc(), &mut source, &mut sink, "$").is_ok());
+    assert!(rt; run(&rt, rt.alloc(), &mut source, &mut sink, "$").is_ok());
     assert!(rt; !sink.failed());
     Ok(())
 }
@@ -347,7 +364,7 @@ fn a_writer_that_passes_nothing_on(rt: HostRuntime) -> Result<(), Fail> {
 fn a_flush_that_fails_ends_the_run(rt: HostRuntime) -> Result<(), Fail> {
     let mut source = FromReader::new(b"[]\n".as_slice());
     let mut sink = Holds::new(Vec::new(rt.alloc()), ROOM, ROOM).without_flush();
-    let end = run(rt.alloc(), &mut source, &mut sink, "$");
+    let end = run(&rt, rt.alloc(), &mut source, &mut sink, "$");
     assert!(rt; matches!(end, Err(RunFault::Write)));
     assert_eq!(rt; sink.bytes.as_slice(), b"1\t$\t[]\n".as_slice());
     Ok(())
