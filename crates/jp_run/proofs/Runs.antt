@@ -8,6 +8,7 @@ use Rattle.std.proofs.lemmas.List.Sums.{length-filter}
 use Rattle.std.proofs.lemmas.List.FromFn.{length-enumerate_from}
 use Rattle.std.proofs.lemmas.List.Sums.{count_by-le-length}
 use Rattle.std.specs.Result.{IsErrAnd}
+use Rattle.std.proofs.KnownBytes.{Appends-nil}
 use Rattle.std.specs.Io.KnownBytes.{Appends, Consumes, IsAtEnd}
 use Rattle.jp_doc.specs.Lines.{Line, lines, line_count, line_of, is_blank, all_lines}
 use Rattle.jp_doc.specs.declared.line.Line as line
@@ -58,6 +59,12 @@ pub counts_known : (ls : List line.Line) (all documents : ℕ) (old new : Option
     → IsAtEnd new → documents ≡ length ls → IfSome old (λ input. (all ≡ line_count input) × (documents ≡ length (lines input)))
 counts_known ls all documents old new input h same count e is =
     whole_input (λ input. (all ≡ line_count input) × (documents ≡ length (lines input))) old new input h e (count, is ∙ sym (length-map ls line_of) ∙ ap length same)
+
+-- where nothing was written, a front of the answer was
+pub nothing_known : (text : Text) (known old : Option (List ℕ))
+    → IfSome known (λ input. (b : Answer) → IsAnswerTo text input b → AppendsFront old old b.bytes)
+nothing_known text None old = tt
+nothing_known text (Some input) old = λ b h. (0, omega arith, Appends-nil old)
 
 front_of_all : (old new : Option (List ℕ)) (bytes : List ℕ) → Appends old new bytes → AppendsFront old new bytes
 front_of_all old new bytes h = (length bytes, omega arith, subst (Appends old new) (sym (take-length bytes)) h)

@@ -9,5 +9,6 @@ mod writing;
 
 pub use ends::{Broken, Sink, Source};
 pub use jp_answer::{Answer, DocStop, Gate, OpenGate, RunFault, Settings, answer, laws};
-pub use running::{Totals, run};
+pub use running::{Totals, plan_of, run};
 pub use std_ends::{FromReader, FromWriter};
+pub use writing::write_all;

@@ -19,17 +19,11 @@ ghost use Rattle.jp_run.specs.Written.{AppendsFront};
 use crate::ends::{Sink, Source};
 use crate::gathering::gather;
 use crate::writing::deliver;
-use jp_answer::{OpenGate, RunFault, answer};
+use jp_answer::{Gate, RunFault, Settings, answer};
 use jp_check::{Plan, plan};
 use jp_syntax::QueryFault;
 use std::alloc::Global;
 use std::thread::Threads;
-
-/// The number of workers of a run.
-const WORKERS: u64 = 4;
-
-/// The number of documents that a worker claims at a time.
-const PIECE: u64 = 64;
 
 /// What a finished run has seen.
 #[derive(Clone, Copy, Debug, PartialEq, Eq)]
@@ -43,7 +37,7 @@ pub struct Totals {
 /// Runs a query over all documents of the source, one on a line, and writes the lines of the nodes that it
 /// selects.
 ///
-/// The query is read first. Then the source is read to its end, and its lines are answered by four workers,
+/// The query is read first. Then the source is read to its end, and its lines are answered by the workers,
 /// up to the first faulty one.
 /// Neither end has failed before, and the counts of the source are at most 2^62.
 ///
@@ -56,12 +50,14 @@ pub struct Totals {
 /// - [`RunFault::Write`] only where the sink failed: a front of the answer was written.
 /// - [`RunFault::Limit`] only after 2^40 calls of `read`, or past 4,294,967,295 lines.
 /// - [`RunFault::Memory`] where a growth of memory was refused.
-pub fn run<R: Threads + Sync, S: Source, K: Sink>(
+pub fn run<R: Threads + Sync, S: Source, K: Sink, G: Gate + Sync>(
     rt: &R,
     alloc: Global,
     source: &mut S,
     sink: &mut K,
     query: &str,
+    settings: &Settings,
+    gate: &G,
 ) -> Result<Totals, RunFault>
     requires working { (S.failed source.old ≡ false) × (K.failed sink.old ≡ false) }
     requires few { (S.reads source.old ≤ 2 ^ 62) × (S.given source.old ≤ 2 ^ 62) }
@@ -96,16 +92,27 @@ pub fn run<R: Threads + Sync, S: Source, K: Sink>(
     ensures limit { IsErrOf result RunFault.Limit → (S.reads source.new ≡ S.reads source.old + max_reads)
         ⊎ ((input : List ℕ) × Consumes (S.remaining source.old) (S.remaining source.new) input
         × (max_lines < line_count input)) }
+    // Settings are never out of range here.
+    ensures settings { IsErrOf result RunFault.Settings → ⊥ }
     // Whatever the fault, a front of the answer was written.
     ensures front { OnErr result (IfSome (S.remaining source.old) (λ input. (a : Answer)
         → IsAnswerTo (chars query.now) input a
         → AppendsFront (K.contents sink.old) (K.contents sink.new) a.bytes)) }
     ensures few { S.reads source.new ≤ S.reads source.old + max_reads }
 {
+    let settings = *settings;
     let plan = plan_of(alloc, query)?;
     let gathered = gather(alloc, source)?;
     let lines = gathered.lines.as_slice();
-    let answer = answer(rt, alloc, &plan, lines, WORKERS, PIECE, &OpenGate)?;
+    let answer = answer(
+        rt,
+        alloc,
+        &plan,
+        lines,
+        settings.workers,
+        settings.piece,
+        gate,
+    )?;
     deliver(sink, &answer)?;
     Ok(Totals {
         lines: gathered.count,
@@ -113,8 +120,13 @@ pub fn run<R: Threads + Sync, S: Source, K: Sink>(
     })
 }
 
-/// The plan of a query's text, or the fault that a run of it ends in.
-fn plan_of(alloc: Global, query: &str) -> Result<Plan, RunFault>
+/// The plan of a query's text. A run begins so.
+///
+/// # Errors
+///
+/// [`RunFault::Query`] where the query is refused, and [`RunFault::Memory`] where a growth of memory was
+/// refused.
+pub fn plan_of(alloc: Global, query: &str) -> Result<Plan, RunFault>
     ensures ok { IfOk result (λ p. IsAccepted (chars query.now) (planned_query p)) }
     ensures fault { IfErr result (λ fault. (fault ≡ RunFault.Memory)
         ⊎ ((f : Refusal) × (fault ≡ RunFault.Query f) × IsVerdict (chars query.now) (Err f))) }

@@ -9,8 +9,12 @@ ghost use Rattle.jp_run.specs.Written.{AppendsFront, IsOfDelivery};
 use crate::ends::{Broken, Sink};
 use jp_answer::{Answer, RunFault};
 
-/// Hands over all of the bytes.
-pub(crate) fn write_all<K: Sink>(sink: &mut K, bytes: &[u8]) -> Result<(), Broken>
+/// Hands over all of the bytes, to a sink that has not failed.
+///
+/// # Errors
+///
+/// [`Broken`] where a call of the sink failed: a front of the bytes was written.
+pub fn write_all<K: Sink>(sink: &mut K, bytes: &[u8]) -> Result<(), Broken>
     requires { K.failed sink.old ≡ false }
     ensures ok { OnOk result (Appends (K.contents sink.old) (K.contents sink.new) bytes.now) }
     ensures working { OnOk result (K.failed sink.new ≡ false) }

@@ -1,8 +1,10 @@
 //! Runs in memory, ends that fail, and what a fault says.
 
+ghost use Rattle.std.specs.Prelude.{◌≡◌, ◌^◌, ◌≤◌, false};
+
 use crate::fakes::{FullDisk, Holds, OneByte};
 use jp_doc::DocFault;
-use jp_run::{FromReader, FromWriter, RunFault, Sink, Source, Totals, run};
+use jp_run::{FromReader, FromWriter, OpenGate, RunFault, Settings, Sink, Source, Totals};
 use jp_syntax::QueryFault;
 use std::alloc::Global;
 use std::test::Fail;
@@ -10,6 +12,21 @@ use std::thread::Threads;
 
 /// More bytes than any of these runs writes.
 const ROOM: usize = 1_000_000;
+
+/// A run by four workers.
+fn run<R: Threads + Sync, S: Source, K: Sink>(
+    rt: &R,
+    alloc: Global,
+    source: &mut S,
+    sink: &mut K,
+    query: &str,
+) -> Result<Totals, RunFault>
+    requires working { (S.failed source.old ≡ false) × (K.failed sink.old ≡ false) }
+    requires few { (S.reads source.old ≤ 2 ^ 62) × (S.given source.old ≤ 2 ^ 62) }
+{
+    let settings = Settings::new(4, 2, 8)?;
+    jp_run::run(rt, alloc, source, sink, query, &settings, &OpenGate)
+}
 
 /// What a run over these bytes ends with, and what it writes.
 fn ran<R: Threads + Sync>(
@@ -354,7 +371,7 @@ fn a_writer_takes_all(rt: HostRuntime) -> Result<(), Fail> {
 fn a_writer_that_passes_nothing_on(rt: HostRuntime) -> Result<(), Fail> {
     let mut source = FromReader::new(b"[]\n".as_slice());
     let mut sink = FromWriter::new(FullDisk);
-    let end = run(rt.alloc(), &mut source, &mut sink, "$");
+    let end = run(&rt, rt.alloc(), &mut source, &mut sink, "$");
     assert!(rt; matches!(end, Err(RunFault::Write)));
     assert!(rt; sink.failed());
     Ok(())

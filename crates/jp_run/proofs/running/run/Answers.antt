@@ -3,14 +3,14 @@ use Rattle.jp_doc.specs.Lines.{line_of}
 use Rattle.jp_check.specs.Plan.{planned_query}
 use Rattle.jp_answer.specs.Answered.{answer_of}
 use Rattle.jp_answer.specs.declared.fault.RunFault.TheVariants.{Document}
-use Rattle.jp_run.proofs.Runs.{answer_known, counts_known, not_both, refused_so, front_known, written_known, told_at, at_an_err, few_documents}
+use Rattle.jp_run.proofs.Runs.{answer_known, counts_known, not_both, refused_so, front_known, written_known, told_at, at_an_err, few_documents, nothing_known}
 use Rattle.jp_run.specs.Limits.{max_lines}
 use Rattle.jp_run.proofs.running.run.Goals as goal
 
 pub answer-requires-clause-lines : goal.answer-requires-clause-lines
 answer-requires-clause-lines g c =
     let few = few_documents c.in_ok-gathered.gathered.lines.items c.in_ok-gathered.gathered.count max_lines c.in_ok-gathered.ensures.lines.0
-    c.in_ok-gathered.ensures.lines.2 c.in_ok-gathered.ensures.lines.3 c.in_ok-gathered.ensures.count in
+    c.in_ok-gathered.ensures.lines.2 c.in_ok-gathered.ensures.lines.3 c.in_ok-gathered.ensures.few_lines in
     rw c.as_slice-lines.ensures.value (λ κs outlives. few)
 
 pub returns-in_err-plan-clause-refused : goal.returns-in_err-plan-clause-refused
@@ -24,6 +24,9 @@ returns-clause-refused g c = λ f v. not_both _ _ f c.in_ok-plan.ensures.ok v
 
 pub returns-in_err-answer-clause-refused : goal.returns-in_err-answer-clause-refused
 returns-in_err-answer-clause-refused g c = λ f v. not_both _ _ f c.in_ok-plan.ensures.ok v
+
+pub returns-in_err-answer-clause-front : goal.returns-in_err-answer-clause-front
+returns-in_err-answer-clause-front g c = at_an_err c.from_residual-in_err-answer.result (nothing_known _ _ _)
 
 pub returns-clause-counts : goal.returns-clause-counts
 returns-clause-counts g c = counts_known c.in_ok-gathered.gathered.lines.items _ _ _ _ _ c.in_ok-gathered.ensures.lines.1 c.in_ok-gathered.ensures.lines.2
