@@ -1,76 +1,58 @@
 //! The command `jp`: runs one JSONPath query (RFC 9535) over the documents on standard input, one on a line,
-//! and prints
-//! a line for each node that it selects.
+//! and prints a line for each node that it selects.
 #![tactic(auto)]
 
-use jp_run::{FromReader, FromWriter, RunFault, Sink, run};
-use std::alloc::Global;
-use std::io::{BufWriter, ErrorKind};
+mod command_line;
+mod program;
+
+use jp_run::{FromReader, FromWriter, RunFault, Sink};
+use program::{program, tell};
+use std::alloc::AllocGlobal;
+use std::env;
+use std::io::{self, BufWriter, ErrorKind, Input, Print};
 use std::process::ExitCode;
 use std::thread::Threads;
-use std::{env, io};
-
-/// The status of a command line that is refused.
-const COMMAND_LINE: u8 = 64;
 
 /// How many bytes of output are held back before they are written.
 const BUFFER_SIZE: usize = 65_536;
 
 fn main(rt: HostRuntime) -> ExitCode {
-    let status = match query_word(&rt) {
-        Ok(Some(query)) => match run_query(&rt, rt.alloc(), query.as_str()) {
-            Ok(()) => 0,
-            Err(fault) => told(&rt, &fault),
-        },
-        Ok(None) => {
-            // Where standard error takes nothing, the status still tells.
-            let _ = eprintln!(rt; "jp: command line");
-            COMMAND_LINE
-        }
-        Err(fault) => told(&rt, &fault),
+    let mut notes = FromWriter::new(rt.stderr());
+    let status = match given_words(&rt) {
+        Ok(given) => run_words(&rt, &given, &mut notes),
+        Err(fault) => Err(fault),
     };
-    ExitCode::from(status)
+    ExitCode::from(match status {
+        Ok(status) => status,
+        Err(fault) => {
+            tell(rt.alloc(), &mut notes, &fault);
+            fault.status()
+        }
+    })
 }
 
-/// The only word of the command line, or `None` where there is none, where there are more, or where it is no
-/// UTF-8.
-fn query_word(rt: &HostRuntime) -> Result<Option<String>, RunFault> {
-    let mut words = match env::args(rt) {
-        Ok(words) => words,
-        Err(error) if error.kind() == ErrorKind::OutOfMemory => return Err(RunFault::Memory),
-        Err(_) => return Ok(None),
-    };
-    let _program = words.next();
-    match (words.next(), words.next()) {
-        (Some(query), None) => Ok(Some(query)),
-        _ => Ok(None),
+/// The words of the command line.
+///
+/// `Settings` where one of them is no UTF-8.
+fn given_words(rt: &HostRuntime) -> Result<Vec<String>, RunFault> {
+    match env::args(rt) {
+        Ok(words) => Ok(words.collect(rt.alloc())?),
+        Err(error) if error.kind() == ErrorKind::OutOfMemory => Err(RunFault::Memory),
+        Err(_) => Err(RunFault::Settings),
     }
 }
 
-/// Runs the query over standard input and output.
-fn run_query<R: Threads + Sync + Input + Print>(
+/// Runs the program over these words, and standard input and output.
+fn run_words<R: Threads + Sync + AllocGlobal + Input + Print, N: Sink>(
     rt: &R,
-    alloc: Global,
-    query: &str,
-) -> Result<(), RunFault> {
-    let Ok(writer) = BufWriter::with_capacity(alloc, BUFFER_SIZE, io::writer(rt)) else {
+    given: &[String],
+    notes: &mut N,
+) -> Result<u8, RunFault> {
+    let words: Vec<&str> = given.iter().map(|word| word.as_str()).collect(rt.alloc())?;
+    let Ok(writer) = BufWriter::with_capacity(rt.alloc(), BUFFER_SIZE, io::writer(rt)) else {
         return Err(RunFault::Memory);
     };
     let mut source = FromReader::new(rt.reader());
     let mut sink = FromWriter::new(writer);
-    match run(rt, alloc, &mut source, &mut sink, query) {
-        Ok(_totals) => Ok(()),
-        Err(fault) => {
-            // What stands before the fault goes out; where it can't, the fault still tells.
-            let _ = sink.flush();
-            Err(fault)
-        }
-    }
-}
-
-/// Tells a fault on standard error, and gives its status.
-fn told(rt: &HostRuntime, fault: &RunFault) -> u8 {
-    // Where standard error takes nothing, the status still tells.
-    let _ = eprintln!(rt; "jp: {fault}");
-    fault.status()
+    Ok(program(rt, &words, &mut source, &mut sink, notes))
 }

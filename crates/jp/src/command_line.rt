@@ -1,0 +1,125 @@
+//! What the command line asks for.
+
+use clap::error::ErrorKind;
+use clap::{Arg, ArgAction, ArgMatches, Command, Error, value_parser};
+use jp_run::{RunFault, Settings};
+use std::alloc::Global;
+
+/// What the help says behind the options.
+const MORE: &str = "\
+INPUT is read from standard input, a JSON document on each line; blank lines are counted and hold none.
+OUTPUT is a line for each node that the query selects, in order: the number of the document's line, a tab,
+the node's normalized path, a tab, the node's value.
+
+A QUERY that begins with - is given behind --.
+
+Status: 0 finished; 2 the query is refused; 3 a line holds no document; 4 reading or writing failed, or a
+limit was passed; 5 out of memory; 64 the command line is refused.
+
+Examples:
+  jp '$..name' < people.jsonl
+  jp --workers 8 '$.items[?@.price > 10]' < orders.jsonl
+  jp --check '$[?count(@.*) > 1]'";
+
+/// What the command line asks for.
+#[derive(Drop)]
+pub(crate) enum Asked<'a> {
+    /// The text of the help.
+    Help(String),
+    /// A run of a query, or its check.
+    Query(Wanted<'a>),
+}
+
+/// A query, and what is to be done with it.
+#[derive(Clone, Copy, Drop)]
+pub(crate) struct Wanted<'a> {
+    pub(crate) query: &'a str,
+    /// Only whether the query is accepted.
+    pub(crate) check: bool,
+    pub(crate) settings: Settings,
+}
+
+/// What the words ask for, the first of which is the program's name.
+///
+/// # Errors
+///
+/// [`RunFault::Settings`] where they ask for nothing that there is, [`RunFault::Memory`] where a growth of
+/// memory was refused.
+pub(crate) fn read_words<'a>(alloc: Global, words: &'a [&'a str]) -> Result<Asked<'a>, RunFault> {
+    match matches(alloc, words) {
+        Ok(matches) => Ok(Asked::Query(wanted_by(&matches)?)),
+        Err(error) => match error.kind() {
+            ErrorKind::DisplayHelp => Ok(Asked::Help(format!(in alloc; "{error}")?)),
+            ErrorKind::OutOfMemory => Err(RunFault::Memory),
+            _ => Err(RunFault::Settings),
+        },
+    }
+}
+
+/// What the words say of each option.
+fn matches<'a>(alloc: Global, words: &'a [&'a str]) -> Result<ArgMatches<'a>, Error> {
+    let workers = number(
+        alloc,
+        "workers",
+        "4",
+        "How many threads work at once, 1 to 64",
+    );
+    let piece = number(
+        alloc,
+        "piece",
+        "64",
+        "How many documents a thread takes at a time, 1 to 1000000",
+    );
+    let batch = number(
+        alloc,
+        "batch",
+        "4096",
+        "How many documents are answered together, 1 to 1000000",
+    );
+    let check = Arg::new(alloc, "check")
+        .long("check")
+        .action(ArgAction::SetTrue)
+        .help("Read nothing, and say only whether QUERY is accepted");
+    let query = Arg::new(alloc, "query")
+        .value_name("QUERY")
+        .required(true)
+        .help("A JSONPath query (RFC 9535)");
+    Command::new(alloc, "jp")
+        .bin_name("jp")?
+        .about("Prints what a JSONPath query selects in each of many JSON documents.")
+        .after_help(MORE)
+        .arg(workers)?
+        .arg(piece)?
+        .arg(batch.hide(true))?
+        .arg(check)?
+        .arg(query)?
+        .try_get_matches_from(words)
+}
+
+/// An option that takes a number.
+fn number<'a>(alloc: Global, name: &'a str, default: &'a str, help: &'a str) -> Arg<'a> {
+    Arg::new(alloc, name)
+        .long(name)
+        .value_name("N")
+        .value_parser(value_parser!(u64))
+        .default_value(default)
+        .help(help)
+}
+
+/// The query, and what is to be done with it.
+fn wanted_by<'a>(matches: &ArgMatches<'a>) -> Result<Wanted<'a>, RunFault> {
+    let workers = matches.get_one::<u64>("workers");
+    let piece = matches.get_one::<u64>("piece");
+    let batch = matches.get_one::<u64>("batch");
+    let (Some(workers), Some(piece), Some(batch)) = (workers, piece, batch) else {
+        return Err(RunFault::Settings);
+    };
+    let Some(query) = matches.get_str("query") else {
+        return Err(RunFault::Settings);
+    };
+    Ok(Wanted {
+        query,
+        check: matches.get_flag("check"),
+        settings: Settings::new(workers, piece, batch)?,
+    })
+}
