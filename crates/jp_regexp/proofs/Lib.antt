@@ -23,6 +23,7 @@ pub mod SetLemmas
 pub mod SizeLemmas
 pub mod SizedLemmas
 pub mod SkipLemmas
+pub mod StateLemmas
 pub mod StepLemmas
 pub mod TermLemmas
 pub mod TextExamples

@@ -11,6 +11,7 @@ pub mod Quantity
 pub mod Reading
 pub mod Samples
 pub mod Shape
+pub mod Steps
 pub mod Terms
 pub mod Tests
 pub mod Tree

@@ -16,6 +16,8 @@ mod read_counts;
 mod read_patterns;
 mod read_sets;
 mod sets;
+mod states;
+mod table;
 mod terms;
 mod tree;
 

@@ -1,0 +1,51 @@
+-- A working file, which nobody has to believe: what a table of steps holds. No public contract names it.
+use Rattle.std.specs.Prelude.{◌≡◌, ℕ, zero, suc, ◌+◌, ◌*◌, ◌<◌, ◌≤◌, Bool, true, List, [], ◌++◌, length}
+use Rattle.std.specs.Prelude.{slice_index_or}
+use Rattle.jp_regexp.specs.declared.table.State.{State}
+use Rattle.jp_regexp.specs.declared.table.Table.{Table}
+use Rattle.jp_regexp.specs.Unrolled.{Unrolled, letters}
+use Rattle.jp_regexp.specs.Walk.{advance, is_elem, leaves, Rises}
+
+-- the state has these places and no others
+pub record HasPlaces (s : State) (live : List ℕ) (at_start : Bool) : Type 0 where
+  pub places : s.live.items ≡ live
+  pub start : s.at_start ≡ at_start
+
+-- the places rise, and the state accepts where the empty text is left there
+pub record IsState (p : Unrolled) (s : State) : Type 0 where
+  pub rises : Rises 0 s.live.items
+  pub accepts : s.accepts ≡ leaves (is_elem s.live.items) p 0 s.at_start
+
+-- each of them, and the first is the start
+pub record AreStates (p : Unrolled) (states : List State) : Type 0 where
+  pub each : (i : ℕ) (s : State) → i < length states → IsState p (slice_index_or states i s)
+  pub first : (s : State) → 0 < length states → HasPlaces (slice_index_or states 0 s) [] true
+
+-- there are more of them
+pub record Grows (p : Unrolled) (old new : List State) : Type 0 where
+  pub states : AreStates p new
+  pub longer : length old ≤ length new
+  pub same : (i : ℕ) (s : State) → i < length old → slice_index_or new i s ≡ slice_index_or old i s
+
+-- the places of the one state are those that a step by c gives of the other's
+abbrev pub Follows : Unrolled → Bool → State → ℕ → State → Type 0
+Follows p anew from c to = HasPlaces to (advance (is_elem from.live.items) c p 0 from.at_start) anew
+
+-- what a cell of a state and a character holds is 0, or one more than the number of the next state
+pub record IsCell (p : Unrolled) (anew : Bool) (states : List State) (i c cell : ℕ) : Type 0 where
+  pub within : (n : ℕ) → cell ≡ n + 1 → n < length states
+  pub follows : (n : ℕ) (s t : State) → cell ≡ n + 1 →
+      Follows p anew (slice_index_or states i s) c (slice_index_or states n t)
+
+-- the cell of a state and an ASCII character
+abbrev pub cell_at : List ℕ → ℕ → ℕ → ℕ
+cell_at cells i c = slice_index_or cells (i * 128 + c) 0
+
+-- each filled cell is what a step gives
+pub record IsTableOf (p : Unrolled) (anew : Bool) (states : List State) (cells : List ℕ) : Type 0 where
+  pub known : AreStates p states
+  pub few : length states ≤ 255
+  pub cell : (i c : ℕ) → i < length states → c < 128 → IsCell p anew states i c (cell_at cells i c)
+
+abbrev pub IsTable : Unrolled → Bool → Table → Type 0
+IsTable p anew table = IsTableOf p anew table.states.items table.cells.items
