@@ -25,6 +25,7 @@ pub mod SizedLemmas
 pub mod SkipLemmas
 pub mod StateLemmas
 pub mod StepLemmas
+pub mod TableLemmas
 pub mod TermLemmas
 pub mod TextExamples
 pub mod TurnLemmas

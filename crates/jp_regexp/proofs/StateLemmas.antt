@@ -20,9 +20,9 @@ module _ (p : Unrolled) where
   pub only_start : (states : List State) (s : State) → states ≡ s ∷ [] → IsState p s → HasPlaces s [] true → AreStates p states
   only_start states s e of start =
       subst (AreStates p) (sym e) (record { each = each; first = λ d lt. start }) where
-    each : (i : ℕ) (d : State) → i < 1 → IsState p (slice_index_or (s ∷ []) i d)
-    each zero d lt = of
-    each (suc i) d lt = absurd (omega arith)
+        each : (i : ℕ) (d : State) → i < 1 → IsState p (slice_index_or (s ∷ []) i d)
+        each zero d lt = of
+        each (suc i) d lt = absurd (omega arith)
 
   pub grows_same : (states : List State) → AreStates p states → Grows p states states
   grows_same states of = record { states = of; longer = omega arith; same = λ i d lt. refl }
@@ -37,6 +37,7 @@ module _ (p : Unrolled) where
         let at : length states ≡ i = omega arith in
         subst (λ n. IsState p (slice_index_or (states ++ s ∷ []) n d)) at
         (subst (IsState p) (sym (get_or-append_seam states s [] d)) one)
+
     more : Grows p states (states ++ s ∷ [])
     more = record {
       states = record {

@@ -2,7 +2,6 @@
 #![tactic(auto)]
 
 mod advance;
-mod beginnings;
 mod categories;
 mod examples;
 mod fault;

@@ -1,6 +1,6 @@
 //! The steps of a pattern, looked up by numbers of states.
 
-ghost use Rattle.std.specs.Prelude.{◌≡◌, ◌+◌, ◌<◌, ◌≤◌, [], IfOk, IfSome, IsTrue, length, slice_index_or};
+ghost use Rattle.std.specs.Prelude.{◌≡◌, ◌+◌, ◌<◌, ◌≤◌, [], false, IfOk, IfSome, IsTrue, length, slice_index_or};
 ghost use Rattle.jp_regexp.specs.Parts.{meaning, unrolled_in};
 ghost use Rattle.jp_regexp.specs.Profile.{max_size};
 ghost use Rattle.jp_regexp.specs.Unrolled.{letters};
@@ -34,6 +34,17 @@ pub struct Table {
     /// For each state, and then for each character, the number of the next state and one; 0 where that is
     /// not in the table.
     pub cells: Vec<u8>,
+}
+
+impl State {
+    ghost use Rattle.jp_regexp.specs.Steps.{HasPlaces};
+
+    /// Whether no text is left.
+    pub fn is_dead(&self) -> bool
+        ensures { IsTrue result → HasPlaces self.now [] false }
+    {
+        !self.at_start && self.live.is_empty()
+    }
 }
 
 impl Table {
@@ -101,6 +112,12 @@ pub fn places_behind(
     ensures rises { IfOk result (λ next. Rises 0 next.items) }
 {
     let mut next = Vec::new(alloc);
-    advance(root, &state.live, c, Reach::start(state.at_start), &mut next)?;
+    advance(
+        root,
+        &state.live,
+        c,
+        Reach::start(state.at_start),
+        &mut next,
+    )?;
     Ok(next)
 }

@@ -8,7 +8,7 @@ use Rattle.jp_regexp.specs.Terms.{IsLeft, pattern_read_by, places_of}
 use Rattle.jp_regexp.specs.Unrolled.{SomePlaceHas}
 use Rattle.jp_regexp.proofs.FindLemmas.{reading_first, reading_more, reading_end, all_left, began_first, no_part_first, find_more, no_part_more, began_found, found_began, skip_left, not_at_first, first_left}
 use Rattle.jp_regexp.proofs.ProfileLemmas.{kept_profile}
-use Rattle.jp_regexp.proofs.pattern.Pattern.found_in.Goals as goal
+use Rattle.jp_regexp.proofs.pattern.Pattern.found_by_places.Goals as goal
 
 pub loop-c-init : goal.loop-c-init
 loop-c-init c =

@@ -7,7 +7,7 @@ use Rattle.jp_regexp.specs.Pattern.{Text}
 use Rattle.jp_regexp.specs.Terms.{IsLeft, pattern_read_by, places_of}
 use Rattle.jp_regexp.specs.Unrolled.{SomePlaceHas}
 use Rattle.jp_regexp.proofs.FindLemmas.{reading_first, reading_more, reading_end, all_left, none_left, match_more}
-use Rattle.jp_regexp.proofs.pattern.Pattern.matches.Goals as goal
+use Rattle.jp_regexp.proofs.pattern.Pattern.matches_by_places.Goals as goal
 
 pub loop-c-init : goal.loop-c-init
 loop-c-init c =

@@ -1,0 +1,15 @@
+use Rattle.std.proofs.Common.{arith}
+use Rattle.jp_regexp.specs.Parts.{pattern_in}
+use Rattle.jp_regexp.proofs.ProfileLemmas.{kept_size}
+use Rattle.jp_regexp.proofs.UnrolledLemmas.{letters-unrolled}
+use Rattle.jp_regexp.proofs.pattern.Pattern.with_tables.Goals as goal
+
+pub make_table-requires-clause-fits : goal.make_table-requires-clause-fits
+make_table-requires-clause-fits c =
+    let p = pattern_in c.args.self.root in
+    omega (arith, letters-unrolled p, kept_size p c.args.self.in_profile)
+
+pub make_table-requires-2-clause-fits : goal.make_table-requires-2-clause-fits
+make_table-requires-2-clause-fits c =
+    let p = pattern_in c.args.self.root in
+    omega (arith, letters-unrolled p, kept_size p c.args.self.in_profile)
