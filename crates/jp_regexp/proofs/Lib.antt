@@ -1,3 +1,4 @@
+pub mod AlikeLemmas
 pub mod CharacterLemmas
 pub mod CopyLemmas
 pub mod Derivatives

@@ -1,3 +1,4 @@
+pub mod Alike
 pub mod CategoryNames
 pub mod CharSetShape
 pub mod CharSets

@@ -2,6 +2,7 @@
 #![tactic(auto)]
 
 mod advance;
+mod alike;
 mod categories;
 mod examples;
 mod fault;
@@ -18,6 +19,7 @@ mod sets;
 mod states;
 mod table;
 mod terms;
+mod those;
 mod tree;
 
 pub use pattern::Pattern;
