@@ -1,14 +1,26 @@
 -- The states of a table, and its cells.
-use Rattle.std.proofs.Common.{◌≡◌, ℕ, zero, suc, ◌+◌, ◌*◌, ◌<◌, ◌≤◌, ◌⊎◌, Bool, true, List, [], ◌∷◌, ◌++◌, length, slice_index_or, inl, inr, refl, sym, ap, ◌∙◌, subst, arith, length-append, add-one}
-use Rattle.std.proofs.lemmas.Bool.{cases_lt}
+use Rattle.std.proofs.Common.{◌≡◌, ℕ, zero, suc, ◌+◌, ◌*◌, ◌<◌, ◌≤◌, ◌⊎◌, Bool, true, nat_lt, IsTrue, List, [], ◌∷◌, ◌++◌, length, slice_index_or, inl, inr, refl, sym, ap, ◌∙◌, subst, arith, length-append, add-one}
+use Rattle.std.proofs.lemmas.Grind.{get_or_default_zero}
+use Rattle.std.proofs.lemmas.Bool.{cases_lt, lt-ltb, or_left}
 use Rattle.std.proofs.Math.ListN.{get_or-append, get_or-eq_default}
 use Rattle.std.proofs.Math.Seq.{get_or-append_seam}
 use Rattle.jp_regexp.specs.declared.table.State.{State}
-use Rattle.jp_regexp.specs.Steps.{AreStates, Follows, Grows, HasPlaces, IsCell, IsState, IsTableOf, cell_at}
+use Rattle.jp_regexp.specs.declared.those.Those.{Those}
+use Rattle.jp_regexp.specs.declared.those.Those.TheVariants as those
+use Rattle.jp_regexp.specs.Alike.{Alike, AreOf}
+use Rattle.jp_regexp.specs.CharSets.{is_scalar}
+use Rattle.jp_regexp.specs.Steps.{AreStates, Follows, Grows, HasPlaces, IsCell, IsCellOf, IsState, IsTableOf, cell_at}
 use Rattle.jp_regexp.specs.Unrolled.{Unrolled}
 use Rattle.jp_regexp.specs.Walk.{advance, is_elem, leaves, Rises}
 use Rattle.jp_regexp.specs.declared.reach.Reach.{Reach}
 use Rattle.jp_regexp.proofs.SetLemmas.{advance_rises}
+
+-- a number that was read of a list
+pub first_is : (xs : List ℕ) (i x n : ℕ) → i < length xs → x ≡ slice_index_or xs i x → n ≡ x → n ≡ slice_index_or xs i 0
+first_is xs i x n lt e f = f ∙ e ∙ get_or_default_zero xs i x lt
+
+ascii_scalar : (c : ℕ) → c < 128 → IsTrue (is_scalar c)
+ascii_scalar c lt = or_left (nat_lt c 0xd800) _ (lt-ltb c 0xd800 (omega arith))
 
 module _ (p : Unrolled) where
   -- a state of these places
@@ -49,54 +61,90 @@ module _ (p : Unrolled) where
     }
 
   module _ (anew : Bool) where
-    cell_kept : (states new : List State) → Grows p states new → (i c v : ℕ) → i < length states → IsCell p anew states i c v →
-        IsCell p anew new i c v
-    cell_kept states new grows i c v lt of = record {
-      within = λ n e. omega (arith, of.within n e, grows.longer);
-      follows = λ n s t e.
-          subst (λ from. Follows p anew from c (slice_index_or new n t)) (sym (grows.same i s lt))
-          (subst (λ to. Follows p anew (slice_index_or states i s) c to) (sym (grows.same n t (of.within n e))) (of.follows n s t e));
-    }
+    cell_kept : (states new : List State) → Grows p states new → (i column v : ℕ) → i < length states →
+        IsCellOf p anew states i column v → IsCellOf p anew new i column v
+    cell_kept states new grows i column v lt of c scalar is =
+        let old = of c scalar is in
+        record {
+          within = λ n e. omega (arith, old.within n e, grows.longer);
+          follows = λ n s t e.
+              subst (λ from. Follows p anew from c (slice_index_or new n t)) (sym (grows.same i s lt))
+              (subst (λ to. Follows p anew (slice_index_or states i s) c to) (sym (grows.same n t (old.within n e)))
+              (old.follows n s t e));
+        }
 
-    empty_cell : (states : List State) (i c v : ℕ) → v ≡ 0 → IsCell p anew states i c v
-    empty_cell states i c v z =
+    pub empty_cell : (states : List State) (i column v : ℕ) → v ≡ 0 → IsCellOf p anew states i column v
+    empty_cell states i column v z c scalar is =
         record { within = λ n e. absurd (omega arith); follows = λ n s t e. absurd (omega arith) }
 
     pub first_table : (states : List State) → length states ≡ 1 → AreStates p states → IsTableOf p anew states []
     first_table states one of = record {
       known = of;
       few = omega arith;
-      cell = λ i c lt ascii. empty_cell states i c 0 refl;
+      cell = λ i column lt in_row. empty_cell states i column 0 refl;
     }
 
-    module _ (states new : List State) (cells after : List ℕ) (from code v : ℕ) (known : from < length states)
-        (next : length cells ≡ from * 128 + code) (grows : Grows p states new) (table : IsTableOf p anew states cells)
-        (one : IsCell p anew new from code v) (ascii : code < 128) where
-      cell_here : (i c : ℕ) → i < length new → c < 128 →
-          (i * 128 + c < length cells) ⊎ (length cells ≤ i * 128 + c) → IsCell p anew new i c (cell_at (cells ++ v ∷ []) i c)
-      cell_here i c lt lo (inl h) =
+    -- the cell of a character is that of each that is like it
+    pub cell_alike : (states : List State) (i v : ℕ) (those : Those) → Alike p those → (c d : ℕ) → AreOf those c d →
+        IsCell p anew states i c v → IsCell p anew states i d v
+    cell_alike states i v those alike c d are of = record {
+      within = of.within;
+      follows = λ n s t e.
+          let from = slice_index_or states i s in
+          subst (λ live. HasPlaces (slice_index_or states n t) live anew)
+          (alike.reads c d are (is_elem from.live.items) 0 from.at_start) (of.follows n s t e);
+    }
+
+    -- the column of a character of ASCII is its own
+    pub cell_ascii : (states : List State) (i v code column : ℕ) → code ≡ column → column < 128 → IsCell p anew states i code v →
+        IsCellOf p anew states i column v
+    cell_ascii states i v code column e lt of c scalar is =
+        let same : code ≡ c = omega arith in
+        subst (λ n. IsCell p anew states i n v) same of
+
+    -- the column of a character that is like another of ASCII
+    pub cell_first : (states : List State) (i v first column : ℕ) → column < 128 → first < column →
+        Alike p (those.Both first column) → IsCellOf p anew states i first v → IsCellOf p anew states i column v
+    cell_first states i v first column lt below alike of c scalar is =
+        let same : column ≡ c = omega arith in
+        let one : IsCell p anew states i first v = of first (ascii_scalar first (omega arith)) (omega arith) in
+        subst (λ n. IsCell p anew states i n v) same
+        (cell_alike states i v (those.Both first column) alike first column (refl, refl) one)
+
+    -- the column of all others
+    pub cell_past : (states : List State) (i v column : ℕ) → column ≡ 128 → Alike p those.PastAscii →
+        IsCell p anew states i 128 v → IsCellOf p anew states i column v
+    cell_past states i v column e alike of c scalar is =
+        cell_alike states i v those.PastAscii alike 128 c (refl, omega arith, scalar) of
+
+    module _ (states new : List State) (cells after : List ℕ) (from column v : ℕ) (known : from < length states)
+        (next : length cells ≡ from * 129 + column) (grows : Grows p states new) (table : IsTableOf p anew states cells)
+        (one : IsCellOf p anew new from column v) (in_row : column < 129) where
+      cell_here : (i k : ℕ) → i < length new → k < 129 →
+          (i * 129 + k < length cells) ⊎ (length cells ≤ i * 129 + k) → IsCellOf p anew new i k (cell_at (cells ++ v ∷ []) i k)
+      cell_here i k lt lo (inl h) =
           let old : i < length states = omega arith in
-          subst (IsCell p anew new i c) (sym (get_or-append cells (v ∷ []) 0 (i * 128 + c) h))
-          (cell_kept states new grows i c (cell_at cells i c) old (table.cell i c old lo))
-      cell_here i c lt lo (inr h) = last (cases_lt (from * 128 + code) (i * 128 + c)) where
-        last : (from * 128 + code < i * 128 + c) ⊎ (i * 128 + c ≤ from * 128 + code) →
-            IsCell p anew new i c (cell_at (cells ++ v ∷ []) i c)
+          subst (IsCellOf p anew new i k) (sym (get_or-append cells (v ∷ []) 0 (i * 129 + k) h))
+          (cell_kept states new grows i k (cell_at cells i k) old (table.cell i k old lo))
+      cell_here i k lt lo (inr h) = last (cases_lt (from * 129 + column) (i * 129 + k)) where
+        last : (from * 129 + column < i * 129 + k) ⊎ (i * 129 + k ≤ from * 129 + column) →
+            IsCellOf p anew new i k (cell_at (cells ++ v ∷ []) i k)
         last (inl past) =
-            let end : length (cells ++ v ∷ []) ≤ i * 128 + c = omega (arith, length-append cells (v ∷ [])) in
-            empty_cell new i c _ (get_or-eq_default (cells ++ v ∷ []) 0 end)
+            let end : length (cells ++ v ∷ []) ≤ i * 129 + k = omega (arith, length-append cells (v ∷ [])) in
+            empty_cell new i k _ (get_or-eq_default (cells ++ v ∷ []) 0 end)
         last (inr up) =
             let row : from ≡ i = omega arith in
-            let column : code ≡ c = omega arith in
-            let at : length cells ≡ i * 128 + c = omega arith in
-            subst (λ n. IsCell p anew new i c (slice_index_or (cells ++ v ∷ []) n 0)) at
-            (subst (IsCell p anew new i c) (sym (get_or-append_seam cells v [] 0))
-            (subst (λ n. IsCell p anew new n c v) row (subst (λ n. IsCell p anew new from n v) column one)))
+            let same : column ≡ k = omega arith in
+            let at : length cells ≡ i * 129 + k = omega arith in
+            subst (λ n. IsCellOf p anew new i k (slice_index_or (cells ++ v ∷ []) n 0)) at
+            (subst (IsCellOf p anew new i k) (sym (get_or-append_seam cells v [] 0))
+            (subst (λ n. IsCellOf p anew new n k v) row (subst (λ n. IsCellOf p anew new from n v) same one)))
 
       pub table_more : length new ≤ 255 → after ≡ cells ++ v ∷ [] → IsTableOf p anew new after
       table_more few e = subst (IsTableOf p anew new) (sym e) (record {
         known = grows.states;
         few = few;
-        cell = λ i c lt lo. cell_here i c lt lo (cases_lt (i * 128 + c) (length cells));
+        cell = λ i k lt lo. cell_here i k lt lo (cases_lt (i * 129 + k) (length cells));
       })
 
 -- the places behind a character rise

@@ -1,6 +1,7 @@
 -- A working file, which nobody has to believe: which characters a pattern does not tell apart. No public
 -- contract names it.
-use Rattle.std.specs.Prelude.{◌≡◌, ℕ, ◌<◌, ◌≤◌, Bool, List, IsTrue, length, slice_index_or}
+use Rattle.std.specs.Prelude.{◌≡◌, ℕ, ◌<◌, ◌≤◌, Bool, true, List, IsTrue, length, slice_index_or}
+use Rattle.jp_regexp.specs.declared.classes.Classes.{Classes}
 use Rattle.jp_regexp.specs.declared.parts.Part.{Part}
 use Rattle.jp_regexp.specs.declared.those.Those.{Those}
 use Rattle.jp_regexp.specs.declared.those.Those.TheVariants as those
@@ -33,3 +34,14 @@ abbrev pub IsAscii : Element → Type 0
 IsAscii (Element.one x) = x < 128
 IsAscii (Element.range low high) = high < 128
 IsAscii (Element.of_category negated categories) = ⊥
+
+-- each character of ASCII stands with the first that is like it
+pub record AreFirst (p : Unrolled) (first : List ℕ) : Type 0 where
+  pub below : (k : ℕ) → k < length first → slice_index_or first k 0 ≤ k
+  pub alike : (k : ℕ) → k < length first → Alike p (those.Both (slice_index_or first k 0) k)
+
+-- the classes are those of the pattern
+pub record AreClasses (p : Unrolled) (classes : Classes) : Type 0 where
+  pub first : AreFirst p classes.first.items
+  pub all : length classes.first.items ≡ 128
+  pub others : classes.past_ascii ≡ true → Alike p those.PastAscii

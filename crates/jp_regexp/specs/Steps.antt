@@ -1,9 +1,10 @@
 -- A working file, which nobody has to believe: what a table of steps holds. No public contract names it.
-use Rattle.std.specs.Prelude.{◌≡◌, ℕ, zero, suc, ◌+◌, ◌*◌, ◌<◌, ◌≤◌, Bool, true, List, [], ◌++◌, length}
+use Rattle.std.specs.Prelude.{◌≡◌, ℕ, zero, suc, ◌+◌, ◌*◌, ◌<◌, ◌≤◌, Bool, true, List, [], ◌++◌, length, min, IsTrue}
 use Rattle.std.specs.Prelude.{slice_index_or}
 use Rattle.jp_regexp.specs.declared.table.State.{State}
 use Rattle.jp_regexp.specs.declared.table.Table.{Table}
-use Rattle.jp_regexp.specs.Unrolled.{Unrolled, letters}
+use Rattle.jp_regexp.specs.CharSets.{is_scalar}
+use Rattle.jp_regexp.specs.Unrolled.{Unrolled}
 use Rattle.jp_regexp.specs.Walk.{advance, is_elem, leaves, Rises}
 
 -- the state has these places and no others
@@ -37,15 +38,25 @@ pub record IsCell (p : Unrolled) (anew : Bool) (states : List State) (i c cell :
   pub follows : (n : ℕ) (s t : State) → cell ≡ n + 1 →
       Follows p anew (slice_index_or states i s) c (slice_index_or states n t)
 
--- the cell of a state and an ASCII character
+-- each character of ASCII has a column, by its code, and the others have one
+abbrev pub column_of : ℕ → ℕ
+column_of c = min c 128
+
+-- the cell of a state and a column
 abbrev pub cell_at : List ℕ → ℕ → ℕ → ℕ
-cell_at cells i c = slice_index_or cells (i * 128 + c) 0
+cell_at cells i column = slice_index_or cells (i * 129 + column) 0
+
+-- what is in the cell is right for each character of the column
+abbrev pub IsCellOf : Unrolled → Bool → List State → ℕ → ℕ → ℕ → Type 0
+IsCellOf p anew states i column cell =
+    (c : ℕ) → IsTrue (is_scalar c) → column_of c ≡ column → IsCell p anew states i c cell
 
 -- each filled cell is what a step gives
 pub record IsTableOf (p : Unrolled) (anew : Bool) (states : List State) (cells : List ℕ) : Type 0 where
   pub known : AreStates p states
   pub few : length states ≤ 255
-  pub cell : (i c : ℕ) → i < length states → c < 128 → IsCell p anew states i c (cell_at cells i c)
+  pub cell : (i column : ℕ) → i < length states → column < 129 →
+      IsCellOf p anew states i column (cell_at cells i column)
 
 abbrev pub IsTable : Unrolled → Bool → Table → Type 0
 IsTable p anew table = IsTableOf p anew table.states.items table.cells.items

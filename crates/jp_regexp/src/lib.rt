@@ -4,6 +4,7 @@
 mod advance;
 mod alike;
 mod categories;
+mod classes;
 mod examples;
 mod fault;
 pub mod laws;
@@ -16,6 +17,7 @@ mod read_counts;
 mod read_patterns;
 mod read_sets;
 mod sets;
+mod source;
 mod states;
 mod table;
 mod terms;

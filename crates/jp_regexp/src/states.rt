@@ -1,13 +1,13 @@
 //! How the states of a table are found.
 
-ghost use Rattle.std.specs.Prelude.{◌≡◌, ◌+◌, ◌*◌, ◌<◌, ◌≤◌, IfOk, IfSome, OnOk, IsTrue, length, slice_index_or};
-ghost use Rattle.jp_regexp.specs.Parts.{meaning, unrolled_in};
-ghost use Rattle.jp_regexp.specs.Profile.{max_size};
-ghost use Rattle.jp_regexp.specs.Steps.{AreStates, Grows, HasPlaces, IsCell, IsTable, IsTableOf};
-ghost use Rattle.jp_regexp.specs.Unrolled.{letters};
+ghost use Rattle.std.specs.Prelude.{◌≡◌, ◌+◌, ◌*◌, ◌<◌, ◌≤◌, [], true, IfOk, IfSome, OnOk, IsTrue, length};
+ghost use Rattle.std.specs.Prelude.{slice_index_or};
+ghost use Rattle.jp_regexp.specs.CharSets.{is_scalar};
+ghost use Rattle.jp_regexp.specs.Parts.{unrolled_in};
+ghost use Rattle.jp_regexp.specs.Steps.{AreStates, Grows, HasPlaces, IsCell, IsCellOf, IsTable, IsTableOf};
 
-use crate::parts::Part;
-use crate::table::{State, Table, places_behind, state_of};
+use crate::source::Source;
+use crate::table::{PAST_ASCII, State, Table, WIDTH, places_behind, state_of};
 use std::alloc::{AllocError, Global};
 
 /// Whether the state has these places and no others.
@@ -34,54 +34,81 @@ fn find_state(states: &[State], live: &[u32], at_start: bool) -> Option<usize>
 /// What the cell of a state and a character holds; the next state is added where there is room for it.
 fn cell_of(
     alloc: Global,
-    root: &Part,
+    source: Source<'_>,
     states: &mut Vec<State>,
     from: usize,
     c: char,
-    anew: bool,
-    most: usize,
 ) -> Result<u8, AllocError>
-    requires sized { IsTrue (meaning root.now).is_sized }
-    requires fits { letters (unrolled_in root.now) ≤ max_size }
-    requires states { AreStates (unrolled_in root.now) states.old.items }
+    requires states { AreStates (unrolled_in source.root.now) states.old.items }
     requires known { from < length states.old.items }
     requires few { length states.old.items ≤ 255 }
-    requires room { most ≤ 255 }
-    ensures grows { IfOk result (λ cell. Grows (unrolled_in root.now) states.old.items states.new.items) }
-    ensures cell { IfOk result (λ cell. IsCell (unrolled_in root.now) anew states.new.items from c cell) }
+    ensures grows { IfOk result (λ cell. Grows (unrolled_in source.entry.root.now) states.old.items
+        states.new.items) }
+    ensures cell { IfOk result (λ cell. IsCell (unrolled_in source.entry.root.now) source.entry.anew
+        states.new.items from c cell) }
     ensures few { IfOk result (λ cell. length states.new.items ≤ 255) }
 {
-    let next = places_behind(alloc, root, &states[from], c)?;
-    if let Some(n) = find_state(states, &next, anew) {
+    let next = places_behind(alloc, source.root, &states[from], c)?;
+    if let Some(n) = find_state(states, &next, source.anew) {
         return Ok((n + 1) as u8);
     }
-    if states.len() >= most {
+    if states.len() >= source.most {
         return Ok(0);
     }
-    states.push(state_of(root, next, anew))?;
+    states.push(state_of(source.root, next, source.anew))?;
     Ok(states.len() as u8)
 }
 
-/// A table of the steps from the start, of no more than so many states; after a step the pattern may also
-/// begin anew where that is said.
+/// What the cell of a state and a column holds: that of the first character that is like it, where that is
+/// another one.
+fn column_cell(
+    alloc: Global,
+    source: Source<'_>,
+    states: &mut Vec<State>,
+    cells: &[u8],
+    from: usize,
+    column: usize,
+) -> Result<u8, AllocError>
+    requires known { from < length states.old.items }
+    requires next { length cells.now ≡ from * 129 + column }
+    requires column { column < 129 }
+    requires table { IsTableOf (unrolled_in source.root.now) source.anew states.old.items cells.now }
+    ensures grows { IfOk result (λ cell. Grows (unrolled_in source.entry.root.now) states.old.items
+        states.new.items) }
+    ensures cell { IfOk result (λ cell. IsCellOf (unrolled_in source.entry.root.now) source.entry.anew
+        states.new.items from column cell) }
+    ensures few { IfOk result (λ cell. length states.new.items ≤ 255) }
+{
+    if column == PAST_ASCII {
+        if !source.classes.past_ascii {
+            return Ok(0);
+        }
+        return Ok(cell_of(alloc, source, states, from, '\u{80}')?);
+    }
+    let first = source.classes.first[column];
+    let known = usize::from(first);
+    if known < column {
+        return Ok(cells[from * WIDTH + known]);
+    }
+    Ok(cell_of(alloc, source, states, from, char::from(first))?)
+}
+
+/// A table of the steps from the start.
 ///
 /// # Errors
 ///
 /// Memory ran out.
-pub fn make_table(alloc: Global, root: &Part, anew: bool, most: usize) -> Result<Table, AllocError>
-    requires sized { IsTrue (meaning root.now).is_sized }
-    requires fits { letters (unrolled_in root.now) ≤ max_size }
-    requires room { most ≤ 255 }
-    ensures { IfOk result (λ table. IsTable (unrolled_in root.now) anew table) }
+pub fn make_table(alloc: Global, source: Source<'_>) -> Result<Table, AllocError>
+    ensures { IfOk result (λ table. IsTable (unrolled_in source.entry.root.now) source.entry.anew table) }
 {
     let mut states = Vec::new(alloc);
     let mut cells = Vec::new(alloc);
-    states.push(state_of(root, Vec::new(alloc), true))?;
-    for i in 0..most {
+    states.push(state_of(source.root, Vec::new(alloc), true))?;
+    for i in 0..source.most {
         if i >= states.len() {
             break;
         }
-        add_row(alloc, root, &mut states, &mut cells, i, anew, most)?;
+        add_row(alloc, source, &mut states, &mut cells, i)?;
     }
     Ok(Table { states, cells })
 }
@@ -89,24 +116,20 @@ pub fn make_table(alloc: Global, root: &Part, anew: bool, most: usize) -> Result
 /// The cells of one state more.
 fn add_row(
     alloc: Global,
-    root: &Part,
+    source: Source<'_>,
     states: &mut Vec<State>,
     cells: &mut Vec<u8>,
     from: usize,
-    anew: bool,
-    most: usize,
 ) -> Result<(), AllocError>
-    requires sized { IsTrue (meaning root.now).is_sized }
-    requires fits { letters (unrolled_in root.now) ≤ max_size }
     requires known { from < length states.old.items }
-    requires room { most ≤ 255 }
-    requires next { length cells.old.items ≡ from * 128 }
-    requires table { IsTableOf (unrolled_in root.now) anew states.old.items cells.old.items }
-    ensures next { OnOk result (length cells.new.items ≡ from * 128 + 128) }
-    ensures table { OnOk result (IsTableOf (unrolled_in root.now) anew states.new.items cells.new.items) }
+    requires next { length cells.old.items ≡ from * 129 }
+    requires table { IsTableOf (unrolled_in source.root.now) source.anew states.old.items cells.old.items }
+    ensures next { OnOk result (length cells.new.items ≡ from * 129 + 129) }
+    ensures table { OnOk result (IsTableOf (unrolled_in source.entry.root.now) source.entry.anew
+        states.new.items cells.new.items) }
 {
-    for code in 0u8..128 {
-        let cell = cell_of(alloc, root, states, from, char::from(code), anew, most)?;
+    for column in 0..WIDTH {
+        let cell = column_cell(alloc, source, states, cells, from, column)?;
         cells.push(cell)?;
     }
     Ok(())

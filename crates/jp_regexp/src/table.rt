@@ -12,8 +12,11 @@ use crate::parts::Part;
 use crate::reach::Reach;
 use std::alloc::{AllocError, Global};
 
-/// How many characters have cells: those of ASCII, by their codes.
-pub const WIDTH: usize = 128;
+/// How many cells a state has: one for each character of ASCII, by its code, and one for the others.
+pub const WIDTH: usize = PAST_ASCII + 1;
+
+/// The cell of the characters that are not of ASCII.
+pub const PAST_ASCII: usize = 128;
 
 /// Places of a pattern.
 #[derive(Drop)]
@@ -31,8 +34,8 @@ pub struct State {
 pub struct Table {
     /// State 0 is the start. There are none where the table was not made.
     pub states: Vec<State>,
-    /// For each state, and then for each character, the number of the next state and one; 0 where that is
-    /// not in the table.
+    /// For each state, and then for each character of ASCII and for all others, the number of the next state
+    /// and one; 0 where that is not in the table.
     pub cells: Vec<u8>,
 }
 
@@ -48,7 +51,8 @@ impl State {
 }
 
 impl Table {
-    ghost use Rattle.jp_regexp.specs.Steps.{cell_at};
+    ghost use Rattle.jp_regexp.specs.CharSets.{is_scalar};
+    ghost use Rattle.jp_regexp.specs.Steps.{cell_at, column_of};
 
     /// A table without states.
     pub fn new(alloc: Global) -> Table
@@ -64,12 +68,11 @@ impl Table {
     /// The number of the state behind a character, where the table has it.
     pub fn next(&self, state: usize, c: char) -> Option<usize>
         requires { state < 256 }
-        ensures ascii { IfSome result (λ n. c < 128) }
-        ensures cell { IfSome result (λ n. cell_at self.now.cells.items state c ≡ n + 1) }
+        ensures scalar { IfSome result (λ n. IsTrue (is_scalar c)) }
+        ensures cell { IfSome result (λ n. cell_at self.now.cells.items state (column_of c) ≡ n + 1) }
     {
-        let code = c as usize;
-        let index = state * WIDTH + code;
-        if code >= WIDTH || index >= self.cells.len() {
+        let index = state * WIDTH + (c as usize).min(PAST_ASCII);
+        if index >= self.cells.len() {
             return None;
         }
         let cell = usize::from(self.cells[index]);

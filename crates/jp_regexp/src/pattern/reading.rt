@@ -4,11 +4,13 @@ ghost use Rattle.std.specs.Prelude.{◌≡◌, ◌≤◌, IfOk};
 ghost use Rattle.std.specs.Str.{chars};
 ghost use Rattle.jp_regexp.specs.Held.{IsRead, pattern_of};
 
+use crate::classes::make_classes;
 use crate::fault::Fault;
 use crate::parts::part_of;
 use crate::pattern::Pattern;
 use crate::pattern::matching::characters;
 use crate::read_patterns;
+use crate::source::Source;
 use crate::states::make_table;
 use crate::table::Table;
 use std::alloc::{AllocError, Global};
@@ -65,8 +67,21 @@ impl Pattern {
         ensures { IfOk result (λ made. pattern_of made ≡ pattern_of self) }
     {
         let most = most_states(self.root.size());
-        let whole = make_table(alloc, &self.root, false, most)?;
-        let part = make_table(alloc, &self.root, true, most)?;
+        let classes = make_classes(alloc, &self.root)?;
+        let source = Source {
+            root: &self.root,
+            classes: &classes,
+            anew: false,
+            most,
+        };
+        let whole = make_table(alloc, source)?;
+        let source = Source {
+            root: &self.root,
+            classes: &classes,
+            anew: true,
+            most,
+        };
+        let part = make_table(alloc, source)?;
         let Pattern {
             root,
             whole: _,

@@ -6,7 +6,7 @@ use Rattle.jp_regexp.proofs.states.cell_of.Goals as goal
 
 pub returns-clause-grows : goal.returns-clause-grows
 returns-clause-grows c =
-    let p = unrolled_in c.args.root.now in
+    let p = unrolled_in c.args.source.root.now in
     let made = c.state_of.ensures in
     let live = c.in_ok-next.next.items in
     grows_more p c.args.states.now.items c.push.new.self.items c.state_of.result (omega arith) c.requires.states

@@ -43,9 +43,9 @@ loop-c-preserved c =
     let here = c.index.result.now in
     let accepts = state_accepts p counts true states self.part.cells.items of c.loop-c.state here here kept.known c.index.ensures in
     record {
-      known = next_within p counts true states self.part.cells.items of c.loop-c.state char next kept.known cell.ascii cell.cell;
+      known = next_within p counts true states self.part.cells.items of c.loop-c.state char next kept.known cell.scalar cell.cell;
       left = λ s. find_more p c.loop-c.yielded char (LeftAt p states c.loop-c.state s) (LeftAt p states next s) (kept.left s)
-          (next_takes p counts true states self.part.cells.items of c.loop-c.state char next kept.known cell.ascii cell.cell s s);
+          (next_takes p counts true states self.part.cells.items of c.loop-c.state char next kept.known cell.scalar cell.cell s s);
       none = no_part_more p c.loop-c.yielded char kept.none
           (λ h. true≢false (sym (accepts.1 (state_left p states c.loop-c.state here here c.index.ensures [] ((kept.left here []).1 h))) ∙ c.if-index.false));
       reading = reading_more (chars c.args.text.now) c.loop-c.yielded c.loop-c.c-iterator c.next.new.self kept.reading char c.in-Some.ensures.steps;

@@ -36,7 +36,7 @@ index-requires c =
     omega (
       arith,
       next_within (pattern_of self) (kept_profile _ self.in_profile).counts false self.whole.states.items self.whole.cells.items
-          (kept_table _ false self.whole self.whole_steps) c.loop-c.state c.in-Some.c c.in_ok-state.state c.loop-c.invariant.known cell.ascii cell.cell,
+          (kept_table _ false self.whole self.whole_steps) c.loop-c.state c.in-Some.c c.in_ok-state.state c.loop-c.invariant.known cell.scalar cell.cell,
     )
 
 pub loop-c-preserved : goal.loop-c-preserved
@@ -51,9 +51,9 @@ loop-c-preserved c =
     let char = c.in-Some.c in
     let next = c.in_ok-state.state in
     record {
-      known = next_within p counts false states self.whole.cells.items of c.loop-c.state char next kept.known cell.ascii cell.cell;
+      known = next_within p counts false states self.whole.cells.items of c.loop-c.state char next kept.known cell.scalar cell.cell;
       left = λ s. match_more p (LeftAt p states c.loop-c.state s) (LeftAt p states next s) (Member p) c.loop-c.yielded char (kept.left s)
-          (next_takes p counts false states self.whole.cells.items of c.loop-c.state char next kept.known cell.ascii cell.cell s s);
+          (next_takes p counts false states self.whole.cells.items of c.loop-c.state char next kept.known cell.scalar cell.cell s s);
       reading = reading_more (chars c.args.text.now) c.loop-c.yielded c.loop-c.c-iterator c.next.new.self kept.reading char c.in-Some.ensures.steps;
     }
 
@@ -71,7 +71,7 @@ returns-then-is_dead c =
     let s = c.index.result.now in
     let reading = reading_more (chars c.args.text.now) c.loop-c.yielded c.loop-c.c-iterator c.next.new.self kept.reading char c.in-Some.ensures.steps in
     let more = match_more p (LeftAt p states c.loop-c.state s) (LeftAt p states next s) (Member p) c.loop-c.yielded char (kept.left s)
-    (next_takes p counts false states self.whole.cells.items of c.loop-c.state char next kept.known cell.ascii cell.cell s s) in
+    (next_takes p counts false states self.whole.cells.items of c.loop-c.state char next kept.known cell.scalar cell.cell s s) in
     let none = has_places p s [] false (c.is_dead.ensures c.if-is_dead.true) in (
       λ h. absurd (true≢false (sym h)),
       λ m. absurd (none_left p reading.rest (subst (λ places. SomePlaceHas p places reading.rest) none
