@@ -1,5 +1,5 @@
 -- Which characters a pattern does not tell apart.
-use Rattle.std.proofs.Common.{◌≡◌, ℕ, zero, suc, ◌+◌, ◌<◌, ◌≤◌, ◌&&◌, ◌||◌, ◌++◌, ◌==◌, Bool, true, false, not, nat_le, List, [], ◌∷◌, Some, None, Option, Vec, Box, Global, IsTrue, length, map, slice_index_or, if◌then◌else◌, refl, sym, ap, ap₂, ◌∙◌, subst, arith}
+use Rattle.std.proofs.Common.{◌≡◌, ℕ, zero, suc, ◌+◌, ◌<◌, ◌≤◌, ◌&&◌, ◌||◌, ◌++◌, Bool, false, not, nat_le, List, [], ◌∷◌, Some, None, Option, Vec, Box, Global, length, map, slice_index_or, if◌then◌else◌, refl, sym, ap, ap₂, ◌∙◌, subst, arith}
 use Rattle.std.proofs.lemmas.Bool.{and_right, lt-leb, ne_eqb}
 use Rattle.std.specs.List.{list_any}
 use Rattle.jp_regexp.specs.declared.tree.CharSet.{CharSet as HeldSet}
@@ -9,13 +9,13 @@ use Rattle.jp_regexp.specs.Tree.{element_of, set_of}
 use Rattle.jp_regexp.specs.declared.parts.Part.{Part}
 use Rattle.jp_regexp.specs.declared.those.Those.{Those}
 use Rattle.jp_regexp.specs.declared.those.Those.TheVariants as those
-use Rattle.jp_regexp.specs.Alike.{Alike, AllAlike, AreOf, IsAscii, SetAlike}
-use Rattle.jp_regexp.specs.CharSets.{in_element, in_set, is_scalar}
-use Rattle.jp_regexp.specs.Parts.{before_last_of, in_turn_of, meaning, pattern_in, unrolled_in, unrolled_in_turn}
+use Rattle.jp_regexp.specs.Alike.{Alike, AllAlike, IsAscii, SetAlike}
+use Rattle.jp_regexp.specs.CharSets.{in_element, is_scalar}
+use Rattle.jp_regexp.specs.Parts.{before_last_of, in_turn_of, meaning, pattern_in, unrolled_in}
 use Rattle.jp_regexp.specs.Pattern.{CharSet, Element, Pattern}
 use Rattle.jp_regexp.specs.Unrolled.{Unrolled, counted, counted_on, letter, letters, maybe, nothing, plus, seq, unrolled}
 use Rattle.jp_regexp.specs.Unrolled as u
-use Rattle.jp_regexp.specs.Walk.{advance, leaves}
+use Rattle.jp_regexp.specs.Walk.{leaves}
 use Rattle.jp_regexp.specs.declared.parts.Part.TheVariants.{Pieces, Branches, Repeat}
 use Rattle.jp_regexp.proofs.MeaningLemmas.{part_pieces, part_branches, part_repeat}
 

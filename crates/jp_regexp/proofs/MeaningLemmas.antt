@@ -6,7 +6,7 @@ use Rattle.jp_regexp.specs.Parts.{Meaning, meaning, meaning_of_layer, pattern_in
 use Rattle.jp_regexp.specs.declared.tree.CharSet.{CharSet}
 use Rattle.jp_regexp.specs.declared.parts.Part.{Part}
 use Rattle.jp_regexp.specs.declared.parts.Part.TheFolds.{fold-roll-Part}
-use Rattle.jp_regexp.specs.declared.parts.Part.TheVariants.{Set, Group, Pieces, Branches, Repeat, Plus, rolls-Set, rolls-Group, rolls-Pieces, rolls-Branches, rolls-Repeat, rolls-Plus}
+use Rattle.jp_regexp.specs.declared.parts.Part.TheVariants.{Set, Pieces, Branches, Repeat, Plus, rolls-Set, rolls-Pieces, rolls-Branches, rolls-Repeat, rolls-Plus}
 
 abbrev pub set_meaning : CharSet → Meaning
 set_meaning set = record { pattern = Pattern.letter (set_of set); is_sized = true }

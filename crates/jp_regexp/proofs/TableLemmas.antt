@@ -8,7 +8,7 @@ use Rattle.jp_regexp.specs.Pattern.{Text, Pattern}
 use Rattle.jp_regexp.specs.Profile.{HasCounts}
 use Rattle.jp_regexp.specs.Steps.{AreStates, HasPlaces, IsState, IsTableOf, cell_at, column_of}
 use Rattle.jp_regexp.specs.Unrolled.{unrolled, SomePlaceHas, all_places}
-use Rattle.jp_regexp.specs.Walk.{advance, is_elem, Rises}
+use Rattle.jp_regexp.specs.Walk.{advance, is_elem}
 use Rattle.std.proofs.lemmas.Bool.Decides.{nat_tests}
 use Rattle.jp_regexp.proofs.FindLemmas.{all_left}
 use Rattle.jp_regexp.proofs.TermLemmas.{takes_step, accepted}

@@ -1,12 +1,12 @@
 -- What is left of the set of places of a pattern.
-use Rattle.std.proofs.Common.{◌≡◌, ℕ, zero, suc, ◌+◌, ◌≤◌, ◌<◌, ◌⊎◌, ◌↔◌, Bool, true, false, IsTrue, List, [], ◌∷◌, ◌++◌, length, refl, sym, ap₂, ◌∙◌, subst, inl, inr, ⊎_elim, arith}
+use Rattle.std.proofs.Common.{◌≡◌, ℕ, zero, suc, ◌+◌, ◌≤◌, ◌<◌, ◌⊎◌, ◌↔◌, Bool, true, false, IsTrue, List, [], ◌∷◌, ◌++◌, length, sym, ap₂, ◌∙◌, subst, inl, inr, ⊎_elim, arith}
 use Rattle.std.specs.List.Sorted.{IsStrictlyIncreasing}
 use Rattle.std.specs.Prelude.{slice_index}
 use Rattle.jp_regexp.specs.Pattern.{Text, Pattern}
 use Rattle.jp_regexp.specs.Language.{Member}
 use Rattle.jp_regexp.specs.Profile.{HasCounts, size}
 use Rattle.jp_regexp.specs.Unrolled.{unrolled, letters, SomePlaceHas, all_places}
-use Rattle.jp_regexp.specs.Walk.{leaves, advance, is_elem, Rises, IsAt}
+use Rattle.jp_regexp.specs.Walk.{leaves, advance, is_elem, Rises}
 use Rattle.jp_regexp.proofs.SetLemmas.{left_has, has_left, step_sound, step_whole, advance_rises, advance_few}
 use Rattle.jp_regexp.proofs.StepLemmas.{leaves_sound, leaves_whole}
 use Rattle.jp_regexp.proofs.UnrolledLemmas.{unrolled_whole, unrolled_sound, letters-unrolled}

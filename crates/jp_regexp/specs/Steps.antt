@@ -1,5 +1,5 @@
 -- A working file, which nobody has to believe: what a table of steps holds. No public contract names it.
-use Rattle.std.specs.Prelude.{◌≡◌, ℕ, zero, suc, ◌+◌, ◌*◌, ◌<◌, ◌≤◌, Bool, true, List, [], ◌++◌, length, min, IsTrue}
+use Rattle.std.specs.Prelude.{◌≡◌, ℕ, ◌+◌, ◌*◌, ◌<◌, ◌≤◌, Bool, true, List, [], length, min, IsTrue}
 use Rattle.std.specs.Prelude.{slice_index_or}
 use Rattle.jp_regexp.specs.declared.table.State.{State}
 use Rattle.jp_regexp.specs.declared.table.Table.{Table}

@@ -1,6 +1,6 @@
 -- A working file, which nobody has to believe: one step on a set of places, as the code walks it. No public
 -- contract names it.
-use Rattle.std.specs.Prelude.{◌≡◌, ℕ, ◌+◌, ◌<◌, ◌≤◌, Bool, true, false, ◌&&◌, ◌||◌, ◌⊎◌, List, []}
+use Rattle.std.specs.Prelude.{◌≡◌, ℕ, ◌+◌, ◌<◌, ◌≤◌, Bool, false, ◌&&◌, ◌||◌, ◌⊎◌, List, []}
 use Rattle.std.specs.Prelude.{◌∷◌, ◌++◌, ⊤, nat_eq, nat_le, nat_lt, if◌then◌else◌, drop, length}
 use Rattle.std.specs.Prelude.{slice_index_or}
 use Rattle.std.specs.Coded.{×_prop, Unit-prop, le_prop}

@@ -1,6 +1,5 @@
-use Rattle.std.proofs.Common.{arith, subst}
+use Rattle.std.proofs.Common.{arith}
 use Rattle.jp_regexp.specs.Parts.{unrolled_in}
-use Rattle.jp_regexp.specs.Steps.{IsCell}
 use Rattle.jp_regexp.proofs.StateLemmas.{table_more}
 use Rattle.jp_regexp.proofs.states.add_row.Goals as goal
 

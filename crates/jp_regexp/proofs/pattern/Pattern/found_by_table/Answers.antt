@@ -1,8 +1,7 @@
-use Rattle.std.proofs.Common.{◌≡◌, ◌<◌, length, ◌↔◌, true, [], ◌∷◌, refl, sym, ap, ◌∙◌, true≢false, append-nil, arith}
+use Rattle.std.proofs.Common.{◌≡◌, ◌<◌, length, true, [], refl, sym, ap, ◌∙◌, true≢false, append-nil, arith}
 use Rattle.std.specs.Str.{chars}
 use Rattle.std.specs.Str.Iter.{chars_rest}
 use Rattle.jp_regexp.specs.Held.{pattern_of}
-use Rattle.jp_regexp.specs.Language.{Member}
 use Rattle.jp_regexp.proofs.FindLemmas.{reading_first, reading_more, reading_end, began_first, no_part_first, find_more, no_part_more, began_found, found_began}
 use Rattle.jp_regexp.proofs.ProfileLemmas.{kept_profile, kept_table}
 use Rattle.jp_regexp.proofs.TableLemmas.{LeftAt, is_some, next_takes, next_within, start_left, left_state, state_accepts, state_left}

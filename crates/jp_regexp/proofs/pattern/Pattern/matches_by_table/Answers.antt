@@ -1,9 +1,8 @@
-use Rattle.std.proofs.Common.{◌≡◌, ◌<◌, length, ◌↔◌, false, [], ◌∷◌, ◌++◌, sym, ap, ◌∙◌, subst, true≢false, append-nil, arith}
+use Rattle.std.proofs.Common.{◌≡◌, ◌<◌, length, false, [], ◌++◌, sym, ap, ◌∙◌, subst, true≢false, append-nil, arith}
 use Rattle.std.specs.Str.{chars}
 use Rattle.std.specs.Str.Iter.{chars_rest}
 use Rattle.jp_regexp.specs.Held.{pattern_of}
 use Rattle.jp_regexp.specs.Language.{Member}
-use Rattle.jp_regexp.specs.Pattern.{Text}
 use Rattle.jp_regexp.specs.Unrolled.{SomePlaceHas}
 use Rattle.jp_regexp.proofs.FindLemmas.{reading_first, reading_more, reading_end, none_left, match_more}
 use Rattle.jp_regexp.proofs.ProfileLemmas.{kept_profile, kept_table}
