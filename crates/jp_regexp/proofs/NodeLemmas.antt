@@ -9,5 +9,6 @@ use Rattle.jp_regexp.specs.declared.tree.Node.TheVariants.{Pieces, Branches, rol
 pub node_pieces : (pieces : Vec Node Global) → node_of (Pieces pieces) ≡ in_turn (map node_of pieces.items)
 node_pieces pieces = ap node_of (sym (rolls-Pieces pieces)) ∙ fold-roll-Node Pattern layer_of _
 
-pub node_branches : (before : Vec Node Global) (last : Box Node Global) → node_of (Branches before last) ≡ before_last (map node_of before.items) (node_of last.value)
+pub node_branches : (before : Vec Node Global) (last : Box Node Global) → node_of (Branches before last) ≡
+    before_last (map node_of before.items) (node_of last.value)
 node_branches before last = ap node_of (sym (rolls-Branches before last)) ∙ fold-roll-Node Pattern layer_of _

@@ -30,7 +30,8 @@ kept_profile p h = ∥∥₁_elim h (profile_prop p) (λ of. of)
 pub kept_size : (p : Pattern) → ∥ InProfile p ∥₁ → size p ≤ 10_000
 kept_size p h = (kept_profile p h).size_fits
 
-pub kept_table : (p : Unrolled) (anew : Bool) (table : Table) → ∥ IsTable p anew table ∥₁ → IsTable p anew table
+pub kept_table : (p : Unrolled) (anew : Bool) (table : Table) → ∥ IsTable p anew table ∥₁ → IsTable p anew
+    table
 kept_table p anew table h = ∥∥₁_elim h (hlevel (props, Rises-prop)) (λ of. of)
 
 pub kept_classes : (p : Unrolled) (classes : Classes) → ∥ AreClasses p classes ∥₁ → AreClasses p classes

@@ -1,5 +1,7 @@
 -- The states of a table, and its cells.
-use Rattle.std.proofs.Common.{◌≡◌, ℕ, zero, suc, ◌+◌, ◌*◌, ◌<◌, ◌≤◌, ◌⊎◌, Bool, true, nat_lt, IsTrue, List, [], ◌∷◌, ◌++◌, length, slice_index_or, inl, inr, refl, sym, ap, ◌∙◌, subst, arith, length-append}
+use Rattle.std.proofs.Common.{◌≡◌, ℕ, zero, suc, ◌+◌, ◌*◌, ◌<◌, ◌≤◌, ◌⊎◌, Bool, true, nat_lt, IsTrue, List}
+use Rattle.std.proofs.Common.{[], ◌∷◌, ◌++◌, length, slice_index_or, inl, inr, refl, sym, ap, ◌∙◌, subst}
+use Rattle.std.proofs.Common.{arith, length-append}
 use Rattle.std.proofs.lemmas.Grind.{get_or_default_zero}
 use Rattle.std.proofs.lemmas.Bool.{cases_lt, lt-ltb, or_left}
 use Rattle.std.proofs.Math.ListN.{get_or-append, get_or-eq_default}
@@ -9,14 +11,16 @@ use Rattle.jp_regexp.specs.declared.those.Those.{Those}
 use Rattle.jp_regexp.specs.declared.those.Those.TheVariants as those
 use Rattle.jp_regexp.specs.Alike.{Alike, AreOf}
 use Rattle.jp_regexp.specs.CharSets.{is_scalar}
-use Rattle.jp_regexp.specs.Steps.{AreStates, Follows, Grows, HasPlaces, IsCell, IsCellOf, IsState, IsTableOf, cell_at}
+use Rattle.jp_regexp.specs.Steps.{AreStates, Follows, Grows, HasPlaces, IsCell, IsCellOf, IsState, IsTableOf}
+use Rattle.jp_regexp.specs.Steps.{cell_at}
 use Rattle.jp_regexp.specs.Unrolled.{Unrolled}
 use Rattle.jp_regexp.specs.Walk.{advance, is_elem, leaves, Rises}
 use Rattle.jp_regexp.specs.declared.reach.Reach.{Reach}
 use Rattle.jp_regexp.proofs.SetLemmas.{advance_rises}
 
 -- a number that was read of a list
-pub first_is : (xs : List ℕ) (i x n : ℕ) → i < length xs → x ≡ slice_index_or xs i x → n ≡ x → n ≡ slice_index_or xs i 0
+pub first_is : (xs : List ℕ) (i x n : ℕ) → i < length xs → x ≡ slice_index_or xs i x → n ≡ x → n ≡
+    slice_index_or xs i 0
 first_is xs i x n lt e f = f ∙ e ∙ get_or_default_zero xs i x lt
 
 ascii_scalar : (c : ℕ) → c < 128 → IsTrue (is_scalar c)
@@ -27,9 +31,14 @@ module _ (p : Unrolled) where
   pub state_with : (s : State) (live : List ℕ) → Rises 0 live → s.live.items ≡ live →
       s.accepts ≡ leaves (is_elem live) p 0 s.at_start → IsState p s
   state_with s live up e a =
-      record { rises = subst (Rises 0) (sym e) up; accepts = a ∙ ap (λ xs. leaves (is_elem xs) p 0 s.at_start) (sym e) }
+      record {
+        rises = subst (Rises 0) (sym e) up;
+        accepts = a ∙ ap
+            (λ xs. leaves (is_elem xs) p 0 s.at_start) (sym e);
+      }
 
-  pub only_start : (states : List State) (s : State) → states ≡ s ∷ [] → IsState p s → HasPlaces s [] true → AreStates p states
+  pub only_start : (states : List State) (s : State) → states ≡ s ∷ [] → IsState p s → HasPlaces s [] true →
+      AreStates p states
   only_start states s e of start =
       subst (AreStates p) (sym e) (record { each = each; first = λ d lt. start }) where
         each : (i : ℕ) (d : State) → i < 1 → IsState p (slice_index_or (s ∷ []) i d)
@@ -39,7 +48,8 @@ module _ (p : Unrolled) where
   pub grows_same : (states : List State) → AreStates p states → Grows p states states
   grows_same states of = record { states = of; longer = omega arith; same = λ i d lt. refl }
 
-  pub grows_more : (states new : List State) (s : State) → 0 < length states → AreStates p states → IsState p s →
+  pub grows_more : (states new : List State) (s : State) → 0 < length states → AreStates p states → IsState p
+      s →
       new ≡ states ++ s ∷ [] → Grows p states new
   grows_more states new s some of one e = subst (Grows p states) (sym e) more where
     here : (i : ℕ) (d : State) → i < length states + 1 → (i < length states) ⊎ (length states ≤ i) →
@@ -54,7 +64,8 @@ module _ (p : Unrolled) where
     more = record {
       states = record {
         each = λ i d lt. here i d (omega (arith, length-append states (s ∷ []))) (cases_lt i (length states));
-        first = λ d lt. subst (λ t. HasPlaces t [] true) (sym (get_or-append states (s ∷ []) d 0 some)) (of.first d some);
+        first = λ d lt. subst (λ t. HasPlaces t [] true) (sym (get_or-append states (s ∷ []) d 0 some))
+            (of.first d some);
       };
       longer = omega (arith, length-append states (s ∷ []));
       same = λ i d lt. get_or-append states (s ∷ []) d i lt;
@@ -69,7 +80,8 @@ module _ (p : Unrolled) where
           within = λ n e. omega (arith, old.within n e, grows.longer);
           follows = λ n s t e.
               subst (λ from. Follows p anew from c (slice_index_or new n t)) (sym (grows.same i s lt))
-              (subst (λ to. Follows p anew (slice_index_or states i s) c to) (sym (grows.same n t (old.within n e)))
+              (subst (λ to. Follows p anew (slice_index_or states i s) c to)
+              (sym (grows.same n t (old.within n e)))
               (old.follows n s t e));
         }
 
@@ -77,7 +89,8 @@ module _ (p : Unrolled) where
     empty_cell states i column v z c scalar is =
         record { within = λ n e. absurd (omega arith); follows = λ n s t e. absurd (omega arith) }
 
-    pub first_table : (states : List State) → length states ≡ 1 → AreStates p states → IsTableOf p anew states []
+    pub first_table : (states : List State) → length states ≡ 1 → AreStates p states → IsTableOf p anew
+        states []
     first_table states one of = record {
       known = of;
       few = omega arith;
@@ -85,7 +98,8 @@ module _ (p : Unrolled) where
     }
 
     -- the cell of a character is that of each that is like it
-    pub cell_alike : (states : List State) (i v : ℕ) (those : Those) → Alike p those → (c d : ℕ) → AreOf those c d →
+    pub cell_alike : (states : List State) (i v : ℕ) (those : Those) → Alike p those → (c d : ℕ) → AreOf
+        those c d →
         IsCell p anew states i c v → IsCell p anew states i d v
     cell_alike states i v those alike c d are of = record {
       within = of.within;
@@ -96,7 +110,8 @@ module _ (p : Unrolled) where
     }
 
     -- the column of a character of ASCII is its own
-    pub cell_ascii : (states : List State) (i v code column : ℕ) → code ≡ column → column < 128 → IsCell p anew states i code v →
+    pub cell_ascii : (states : List State) (i v code column : ℕ) → code ≡ column → column < 128 → IsCell p
+        anew states i code v →
         IsCellOf p anew states i column v
     cell_ascii states i v code column e lt of c scalar is =
         let same : code ≡ c = omega arith in
@@ -104,10 +119,12 @@ module _ (p : Unrolled) where
 
     -- the column of a character that is like another of ASCII
     pub cell_first : (states : List State) (i v first column : ℕ) → column < 128 → first < column →
-        Alike p (those.Both first column) → IsCellOf p anew states i first v → IsCellOf p anew states i column v
+        Alike p (those.Both first column) → IsCellOf p anew states i first v → IsCellOf p anew states i
+        column v
     cell_first states i v first column lt below alike of c scalar is =
         let same : column ≡ c = omega arith in
-        let one : IsCell p anew states i first v = of first (ascii_scalar first (omega arith)) (omega arith) in
+        let one : IsCell p anew states i first v = of first (ascii_scalar first (omega arith)) (omega arith)
+        in
         subst (λ n. IsCell p anew states i n v) same
         (cell_alike states i v (those.Both first column) alike first column (refl, refl) one)
 
@@ -117,11 +134,14 @@ module _ (p : Unrolled) where
     cell_past states i v column e alike of c scalar is =
         cell_alike states i v those.PastAscii alike 128 c (refl, omega arith, scalar) of
 
-    module _ (states new : List State) (cells after : List ℕ) (from column v : ℕ) (known : from < length states)
-        (next : length cells ≡ from * 129 + column) (grows : Grows p states new) (table : IsTableOf p anew states cells)
+    module _ (states new : List State) (cells after : List ℕ) (from column v : ℕ)
+        (known : from < length states)
+        (next : length cells ≡ from * 129 + column) (grows : Grows p states new)
+        (table : IsTableOf p anew states cells)
         (one : IsCellOf p anew new from column v) (in_row : column < 129) where
       cell_here : (i k : ℕ) → i < length new → k < 129 →
-          (i * 129 + k < length cells) ⊎ (length cells ≤ i * 129 + k) → IsCellOf p anew new i k (cell_at (cells ++ v ∷ []) i k)
+          (i * 129 + k < length cells) ⊎ (length cells ≤ i * 129 + k) → IsCellOf p anew new i k
+          (cell_at (cells ++ v ∷ []) i k)
       cell_here i k lt lo (inl h) =
           let old : i < length states = omega arith in
           subst (IsCellOf p anew new i k) (sym (get_or-append cells (v ∷ []) 0 (i * 129 + k) h))
@@ -148,8 +168,10 @@ module _ (p : Unrolled) where
       })
 
 -- the places behind a character rise
-pub reads_rises : (p : Unrolled) (c : ℕ) (places before after : List ℕ) (at : Reach) → before ≡ [] → at.past ≡ 0 →
+pub reads_rises : (p : Unrolled) (c : ℕ) (places before after : List ℕ) (at : Reach) → before ≡ [] → at.past
+    ≡ 0 →
     after ≡ before ++ advance (is_elem places) c p at.past at.entered → Rises 0 after
 reads_rises p c places before after at none first e =
     subst (Rises 0) (sym (e ∙ ap (λ xs. xs ++ advance (is_elem places) c p at.past at.entered) none))
-    (subst (λ n. Rises n (advance (is_elem places) c p at.past at.entered)) first (advance_rises (is_elem places) c p at.past at.entered))
+    (subst (λ n. Rises n (advance (is_elem places) c p at.past at.entered)) first
+    (advance_rises (is_elem places) c p at.past at.entered))

@@ -27,7 +27,8 @@ pub record Alike (p : Unrolled) (those : Those) : Type 0 where
 
 -- each of the parts
 pub record AllAlike (parts : List Part) (those : Those) : Type 0 where
-  pub each : (k : ℕ) (part : Part) → k < length parts → Alike (unrolled_in (slice_index_or parts k part)) those
+  pub each : (k : ℕ) (part : Part) → k < length parts → Alike (unrolled_in (slice_index_or parts k part))
+      those
 
 -- an element of a class that holds ASCII characters alone
 abbrev pub IsAscii : Element → Type 0

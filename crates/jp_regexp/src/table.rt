@@ -1,6 +1,6 @@
 //! The steps of a pattern, looked up by numbers of states.
 
-ghost use Rattle.std.specs.Prelude.{◌≡◌, ◌+◌, ◌<◌, ◌≤◌, [], false, IfOk, IfSome, IsTrue, length, slice_index_or};
+ghost use Rattle.std.specs.Prelude.{◌≡◌, ◌+◌, ◌<◌, ◌≤◌, [], false, IfOk, IfSome, IsTrue};
 ghost use Rattle.jp_regexp.specs.Parts.{meaning, unrolled_in};
 ghost use Rattle.jp_regexp.specs.Profile.{max_size};
 ghost use Rattle.jp_regexp.specs.Unrolled.{letters};

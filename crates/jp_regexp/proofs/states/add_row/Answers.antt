@@ -12,7 +12,9 @@ loop-column-preserved c =
     record {
       known = omega (arith, old.invariant.known, made.grows.longer);
       next = omega (arith, old.invariant.next, c.in_ok-push.ensures.len);
-      table = table_more (unrolled_in source.root.now) source.anew old.states.items states old.cells.items c.push.new.self.items c.args.from
-          old.column c.in_ok-cell.cell old.invariant.known old.invariant.next made.grows old.invariant.table made.cell (omega arith)
+      table = table_more (unrolled_in source.root.now) source.anew old.states.items states old.cells.items
+          c.push.new.self.items c.args.from
+          old.column c.in_ok-cell.cell old.invariant.known old.invariant.next made.grows old.invariant.table
+          made.cell (omega arith)
           made.few c.in_ok-push.ensures.items;
     }

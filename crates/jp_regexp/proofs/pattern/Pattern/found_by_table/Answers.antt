@@ -2,9 +2,11 @@ use Rattle.std.proofs.Common.{◌≡◌, ◌<◌, length, true, [], refl, sym, a
 use Rattle.std.specs.Str.{chars}
 use Rattle.std.specs.Str.Iter.{chars_rest}
 use Rattle.jp_regexp.specs.Held.{pattern_of}
-use Rattle.jp_regexp.proofs.FindLemmas.{reading_first, reading_more, reading_end, began_first, no_part_first, find_more, no_part_more, began_found, found_began}
+use Rattle.jp_regexp.proofs.FindLemmas.{reading_first, reading_more, reading_end, began_first, no_part_first}
+use Rattle.jp_regexp.proofs.FindLemmas.{find_more, no_part_more, began_found, found_began}
 use Rattle.jp_regexp.proofs.ProfileLemmas.{kept_profile, kept_table}
-use Rattle.jp_regexp.proofs.TableLemmas.{LeftAt, is_some, next_takes, next_within, start_left, left_state, state_accepts, state_left}
+use Rattle.jp_regexp.proofs.TableLemmas.{LeftAt, is_some, next_takes, next_within, start_left, left_state}
+use Rattle.jp_regexp.proofs.TableLemmas.{state_accepts, state_left}
 use Rattle.jp_regexp.proofs.pattern.Pattern.found_by_table.Goals as goal
 
 pub loop-c-init : goal.loop-c-init
@@ -12,7 +14,11 @@ loop-c-init c =
     let self = c.args.self.now in
     let p = pattern_of self in
     let of = kept_table _ true self.part self.part_steps in
-    let some : 0 < length self.part.states.items = omega (arith, is_some _ c.is_empty.result c.is_empty.ensures c.if-is_empty.false) in
+    let some : 0 < length self.part.states.items = omega (
+      arith,
+      is_some _ c.is_empty.result
+          c.is_empty.ensures c.if-is_empty.false,
+    ) in
     let begins : chars_rest c.into_iter-c-iterator.result ≡ c.args.text.now =
     ap chars_rest c.into_iter-c-iterator.ensures.into_iter_gives ∙ c.chars-c-items.ensures.rest in
     let here = start_left p self.part.states.items of.known some in
@@ -40,14 +46,20 @@ loop-c-preserved c =
     let char = c.in-Some.c in
     let next = c.in_ok-state.state in
     let here = c.index.result.now in
-    let accepts = state_accepts p counts true states self.part.cells.items of c.loop-c.state here here kept.known c.index.ensures in
+    let accepts = state_accepts p counts true states self.part.cells.items of c.loop-c.state here here
+    kept.known c.index.ensures in
     record {
-      known = next_within p counts true states self.part.cells.items of c.loop-c.state char next kept.known cell.scalar cell.cell;
-      left = λ s. find_more p c.loop-c.yielded char (LeftAt p states c.loop-c.state s) (LeftAt p states next s) (kept.left s)
-          (next_takes p counts true states self.part.cells.items of c.loop-c.state char next kept.known cell.scalar cell.cell s s);
+      known = next_within p counts true states self.part.cells.items of c.loop-c.state char next kept.known
+          cell.scalar cell.cell;
+      left = λ s. find_more p c.loop-c.yielded char (LeftAt p states c.loop-c.state s)
+          (LeftAt p states next s) (kept.left s)
+          (next_takes p counts true states self.part.cells.items of c.loop-c.state char next kept.known
+          cell.scalar cell.cell s s);
       none = no_part_more p c.loop-c.yielded char kept.none
-          (λ h. true≢false (sym (accepts.1 (state_left p states c.loop-c.state here here c.index.ensures [] ((kept.left here []).1 h))) ∙ c.if-index.false));
-      reading = reading_more (chars c.args.text.now) c.loop-c.yielded c.loop-c.c-iterator c.next.new.self kept.reading char c.in-Some.ensures.steps;
+          (λ h. true≢false (sym (accepts.1 (state_left p states c.loop-c.state here here c.index.ensures []
+          ((kept.left here []).1 h))) ∙ c.if-index.false));
+      reading = reading_more (chars c.args.text.now) c.loop-c.yielded c.loop-c.c-iterator c.next.new.self
+          kept.reading char c.in-Some.ensures.steps;
     }
 
 pub returns-then-index : goal.returns-then-index
@@ -58,9 +70,11 @@ returns-then-index c =
     let states = self.part.states.items in
     let here = c.index.result.now in
     let of = kept_table _ true self.part self.part_steps in
-    let accepts = state_accepts p (kept_profile p self.in_profile).counts true states self.part.cells.items of c.loop-c.state here here kept.known c.index.ensures in (
+    let accepts = state_accepts p (kept_profile p self.in_profile).counts true states self.part.cells.items
+    of c.loop-c.state here here kept.known c.index.ensures in (
       λ h. began_found p (chars c.args.text.now) c.loop-c.yielded kept.reading.rest kept.reading.splits
-          ((kept.left here []).0 (left_state p states c.loop-c.state here here c.index.ensures [] (accepts.0 c.if-index.true))),
+          ((kept.left here []).0 (left_state p states c.loop-c.state here here c.index.ensures []
+          (accepts.0 c.if-index.true))),
       λ h. refl,
     )
 
@@ -73,10 +87,13 @@ returns c =
     let here = c.index-2.result.now in
     let of = kept_table _ true self.part self.part_steps in
     let text = chars c.args.text.now in
-    let accepts = state_accepts p (kept_profile p self.in_profile).counts true states self.part.cells.items of c.loop-c.state here here kept.known c.index-2.ensures in
-    let whole = reading_end text c.loop-c.yielded c.loop-c.c-iterator c.next.new.self kept.reading c.in-None.ensures.steps in (
+    let accepts = state_accepts p (kept_profile p self.in_profile).counts true states self.part.cells.items
+    of c.loop-c.state here here kept.known c.index-2.ensures in
+    let whole = reading_end text c.loop-c.yielded c.loop-c.c-iterator c.next.new.self kept.reading
+    c.in-None.ensures.steps in (
       λ h. began_found p text c.loop-c.yielded [] (whole ∙ sym (append-nil c.loop-c.yielded))
-          ((kept.left here []).0 (left_state p states c.loop-c.state here here c.index-2.ensures [] (accepts.0 h))),
+          ((kept.left here []).0 (left_state p states c.loop-c.state here here c.index-2.ensures []
+          (accepts.0 h))),
       λ h. accepts.1 (state_left p states c.loop-c.state here here c.index-2.ensures []
           ((kept.left here []).1 (found_began p text c.loop-c.yielded whole kept.none h))),
     )

@@ -7,7 +7,8 @@ use Rattle.jp_regexp.proofs.FindLemmas.{BeganIn, NoPartIn, IsReading}
 use Rattle.jp_regexp.proofs.TableLemmas.{LeftAt}
 use Rattle.jp_regexp.proofs.pattern.Pattern.found_by_table.Given as goal
 
--- what is left is what completes a text that began somewhere in what was read, and nothing was complete before
+-- what is left is what completes a text that began somewhere in what was read, and nothing was complete
+-- before
 abbrev pub invariant-loop-c : goal.invariant-loop-c
 invariant-loop-c l = record {
   known : l.state < length l.self.part.states.items;

@@ -7,6 +7,8 @@ use Rattle.jp_regexp.proofs.pattern.Pattern.may_begin.Goals as goal
 pub returns-in-Some : goal.returns-in-Some
 returns-in-Some c = λ e.
     let self = c.args.self.now in
-    nothing_begins (pattern_of self) self.part.states.items self.part.cells.items (kept_table _ true self.part self.part_steps) c.args.c
-    (omega (arith, is_some _ c.is_empty.result c.is_empty.ensures c.if-is_empty.false)) c.in-Some.ensures.scalar
+    nothing_begins (pattern_of self) self.part.states.items self.part.cells.items
+    (kept_table _ true self.part self.part_steps) c.args.c
+    (omega (arith, is_some _ c.is_empty.result c.is_empty.ensures c.if-is_empty.false))
+    c.in-Some.ensures.scalar
     (c.in-Some.ensures.cell ∙ ap (λ n. n + 1) (is_zero c.in-Some.next e))

@@ -9,7 +9,8 @@ use Rattle.jp_regexp.proofs.pattern.Pattern.read.Goals as goal
 
 pub returns-in-Err-NoPattern : goal.returns-in-Err-NoPattern
 returns-in-Err-NoPattern c =
-    let none = rw (c.in-Err-NoPattern.field-0-is, c.deref.ensures.value, c.in_ok-text.ensures) at c.in-Err-NoPattern.ensures in
+    let none = rw (c.in-Err-NoPattern.field-0-is, c.deref.ensures.value, c.in_ok-text.ensures) at
+    c.in-Err-NoPattern.ensures in
     no_pattern (chars c.args.text.now) none
 
 pub returns-then-size-gt-MAX_SIZE : goal.returns-then-size-gt-MAX_SIZE
@@ -17,13 +18,15 @@ returns-then-size-gt-MAX_SIZE c =
     let read = rw (c.deref.ensures.value, c.in_ok-text.ensures) at c.in-Ok.ensures in
     let p = node_of c.in-Ok.node in
     let same = c.size.ensures ∙ ap (λ q. min (size q) 4_294_967_295) c.in_ok-root-in-Ok.ensures.same in
-    too_large (chars c.args.text.now) p read (size_over (size p) c.size.result 4_294_967_295 same c.if-size-gt-MAX_SIZE.true)
+    too_large (chars c.args.text.now) p read (size_over (size p) c.size.result 4_294_967_295 same
+    c.if-size-gt-MAX_SIZE.true)
 
 pub returns : goal.returns
 returns c =
     let read = rw (c.deref.ensures.value, c.in_ok-text.ensures) at c.in-Ok.ensures in
     let p = node_of c.in-Ok.node in
-    let is : c.size.result ≡ min (size p) 4_294_967_295 = c.size.ensures ∙ ap (λ q. min (size q) 4_294_967_295) c.in_ok-root-in-Ok.ensures.same in
+    let is : c.size.result ≡ min (size p) 4_294_967_295 = c.size.ensures ∙ ap
+    (λ q. min (size q) 4_294_967_295) c.in_ok-root-in-Ok.ensures.same in
     let fits = c.if-size-gt-MAX_SIZE.false in
     let same = size_is (size p) c.size.result 4_294_967_295 is fits (lit< tt) in
     subst (IsPatternOf (chars c.args.text.now)) (sym c.in_ok-root-in-Ok.ensures.same)
@@ -33,7 +36,8 @@ pub invariant_of-result : goal.invariant_of-result
 invariant_of-result c =
     let read = rw (c.deref.ensures.value, c.in_ok-text.ensures) at c.in-Ok.ensures in
     let p = node_of c.in-Ok.node in
-    let is : c.size.result ≡ min (size p) 4_294_967_295 = c.size.ensures ∙ ap (λ q. min (size q) 4_294_967_295) c.in_ok-root-in-Ok.ensures.same in
+    let is : c.size.result ≡ min (size p) 4_294_967_295 = c.size.ensures ∙ ap
+    (λ q. min (size q) 4_294_967_295) c.in_ok-root-in-Ok.ensures.same in
     let fits = c.if-size-gt-MAX_SIZE.false in
     let same = size_is (size p) c.size.result 4_294_967_295 is fits (lit< tt) in
     let root = c.in_ok-root-in-Ok.root in
