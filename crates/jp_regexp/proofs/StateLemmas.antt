@@ -77,24 +77,24 @@ module _ (p : Unrolled) where
     cell_kept states new grows i column v lt of c scalar is =
         let old = of c scalar is in
         record {
-          within = λ n e. omega (arith, old.within n e, grows.longer);
-          follows = λ n s t e.
-              subst (λ from. Follows p anew from c (slice_index_or new n t)) (sym (grows.same i s lt))
+          within = λ e. omega (arith, old.within e, grows.longer);
+          follows = λ s t e.
+              subst (λ from. Follows p anew from c (slice_index_or new v t)) (sym (grows.same i s lt))
               (subst (λ to. Follows p anew (slice_index_or states i s) c to)
-              (sym (grows.same n t (old.within n e)))
-              (old.follows n s t e));
+              (sym (grows.same v t (old.within e)))
+              (old.follows s t e));
         }
 
-    pub empty_cell : (states : List State) (i column v : ℕ) → v ≡ 0 → IsCellOf p anew states i column v
+    pub empty_cell : (states : List State) (i column v : ℕ) → v ≡ 255 → IsCellOf p anew states i column v
     empty_cell states i column v z c scalar is =
-        record { within = λ n e. absurd (omega arith); follows = λ n s t e. absurd (omega arith) }
+        record { within = λ e. absurd (omega arith); follows = λ s t e. absurd (omega arith) }
 
     pub first_table : (states : List State) → length states ≡ 1 → AreStates p states → IsTableOf p anew
         states []
     first_table states one of = record {
       known = of;
       few = omega arith;
-      cell = λ i column lt in_row. empty_cell states i column 0 refl;
+      cell = λ i column lt in_row. empty_cell states i column 255 refl;
     }
 
     -- the cell of a character is that of each that is like it
@@ -103,11 +103,15 @@ module _ (p : Unrolled) where
         IsCell p anew states i c v → IsCell p anew states i d v
     cell_alike states i v those alike c d are of = record {
       within = of.within;
-      follows = λ n s t e.
+      follows = λ s t e.
           let from = slice_index_or states i s in
-          subst (λ live. HasPlaces (slice_index_or states n t) live anew)
-          (alike.reads c d are (is_elem from.live.items) 0 from.at_start) (of.follows n s t e);
+          subst (λ live. HasPlaces (slice_index_or states v t) live anew)
+          (alike.reads c d are (is_elem from.live.items) 0 from.at_start) (of.follows s t e);
     }
+
+    -- no character has a column behind the others'
+    pub cell_none : (states : List State) (i v column : ℕ) → 128 < column → IsCellOf p anew states i column v
+    cell_none states i v column lt c scalar is = absurd (omega arith)
 
     -- the column of a character of ASCII is its own
     pub cell_ascii : (states : List State) (i v code column : ℕ) → code ≡ column → column < 128 → IsCell p
@@ -136,35 +140,35 @@ module _ (p : Unrolled) where
 
     module _ (states new : List State) (cells after : List ℕ) (from column v : ℕ)
         (known : from < length states)
-        (next : length cells ≡ from * 129 + column) (grows : Grows p states new)
+        (next : length cells ≡ from * 256 + column) (grows : Grows p states new)
         (table : IsTableOf p anew states cells)
-        (one : IsCellOf p anew new from column v) (in_row : column < 129) where
-      cell_here : (i k : ℕ) → i < length new → k < 129 →
-          (i * 129 + k < length cells) ⊎ (length cells ≤ i * 129 + k) → IsCellOf p anew new i k
+        (one : IsCellOf p anew new from column v) (in_row : column < 256) where
+      cell_here : (i k : ℕ) → i < length new → k < 256 →
+          (i * 256 + k < length cells) ⊎ (length cells ≤ i * 256 + k) → IsCellOf p anew new i k
           (cell_at (cells ++ v ∷ []) i k)
       cell_here i k lt lo (inl h) =
           let old : i < length states = omega arith in
-          subst (IsCellOf p anew new i k) (sym (get_or-append cells (v ∷ []) 0 (i * 129 + k) h))
+          subst (IsCellOf p anew new i k) (sym (get_or-append cells (v ∷ []) 255 (i * 256 + k) h))
           (cell_kept states new grows i k (cell_at cells i k) old (table.cell i k old lo))
-      cell_here i k lt lo (inr h) = last (cases_lt (from * 129 + column) (i * 129 + k)) where
-        last : (from * 129 + column < i * 129 + k) ⊎ (i * 129 + k ≤ from * 129 + column) →
+      cell_here i k lt lo (inr h) = last (cases_lt (from * 256 + column) (i * 256 + k)) where
+        last : (from * 256 + column < i * 256 + k) ⊎ (i * 256 + k ≤ from * 256 + column) →
             IsCellOf p anew new i k (cell_at (cells ++ v ∷ []) i k)
         last (inl past) =
-            let end : length (cells ++ v ∷ []) ≤ i * 129 + k = omega (arith, length-append cells (v ∷ [])) in
-            empty_cell new i k _ (get_or-eq_default (cells ++ v ∷ []) 0 end)
+            let end : length (cells ++ v ∷ []) ≤ i * 256 + k = omega (arith, length-append cells (v ∷ [])) in
+            empty_cell new i k _ (get_or-eq_default (cells ++ v ∷ []) 255 end)
         last (inr up) =
             let row : from ≡ i = omega arith in
             let same : column ≡ k = omega arith in
-            let at : length cells ≡ i * 129 + k = omega arith in
-            subst (λ n. IsCellOf p anew new i k (slice_index_or (cells ++ v ∷ []) n 0)) at
-            (subst (IsCellOf p anew new i k) (sym (get_or-append_seam cells v [] 0))
+            let at : length cells ≡ i * 256 + k = omega arith in
+            subst (λ n. IsCellOf p anew new i k (slice_index_or (cells ++ v ∷ []) n 255)) at
+            (subst (IsCellOf p anew new i k) (sym (get_or-append_seam cells v [] 255))
             (subst (λ n. IsCellOf p anew new n k v) row (subst (λ n. IsCellOf p anew new from n v) same one)))
 
       pub table_more : length new ≤ 255 → after ≡ cells ++ v ∷ [] → IsTableOf p anew new after
       table_more few e = subst (IsTableOf p anew new) (sym e) (record {
         known = grows.states;
         few = few;
-        cell = λ i k lt lo. cell_here i k lt lo (cases_lt (i * 129 + k) (length cells));
+        cell = λ i k lt lo. cell_here i k lt lo (cases_lt (i * 256 + k) (length cells));
       })
 
 -- the places behind a character rise

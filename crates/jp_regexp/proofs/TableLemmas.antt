@@ -1,5 +1,5 @@
 -- What the steps of a table lead to.
-use Rattle.std.proofs.Common.{◌≡◌, ℕ, zero, suc, ◌+◌, ◌<◌, ◌⊎◌, ◌↔◌, Bool, true, false, IsTrue, List, [], ◌∷◌}
+use Rattle.std.proofs.Common.{◌≡◌, ℕ, zero, suc, ◌<◌, ◌⊎◌, ◌↔◌, Bool, true, false, IsTrue, List, [], ◌∷◌}
 use Rattle.std.proofs.Common.{length, slice_index_or, refl, sym, ap, ◌∙◌, subst, arith, nat_eq, not}
 use Rattle.std.proofs.Common.{true≢false}
 use Rattle.jp_regexp.specs.declared.table.State.{State}
@@ -8,7 +8,7 @@ use Rattle.jp_regexp.specs.CharSets.{is_scalar}
 use Rattle.jp_regexp.specs.Language.{Member}
 use Rattle.jp_regexp.specs.Pattern.{Text, Pattern}
 use Rattle.jp_regexp.specs.Profile.{HasCounts}
-use Rattle.jp_regexp.specs.Steps.{AreStates, HasPlaces, IsState, IsTableOf, cell_at, column_of}
+use Rattle.jp_regexp.specs.Steps.{AreStates, HasPlaces, IsCell, IsState, IsTableOf, cell_at, column_of}
 use Rattle.jp_regexp.specs.Unrolled.{unrolled, SomePlaceHas, all_places}
 use Rattle.jp_regexp.specs.Walk.{advance, is_elem}
 use Rattle.std.proofs.lemmas.Bool.Decides.{nat_tests}
@@ -51,23 +51,27 @@ module _ (p : Pattern) where
         let here : IsState (unrolled p) s = subst (IsState (unrolled p)) (sym e) (of.known.each i t lt) in
         accepted p counts s.at_start s.live.items here.rises s.accepts here.accepts
 
-    pub next_within : (i c n : ℕ) → i < length states → IsTrue (is_scalar c) → cell_at cells i (column_of c)
-        ≡ n + 1 → n < length states
-    next_within i c n lt scalar e = (of.cell i (column_of c) lt (omega arith) c scalar refl).within n e
+    module _ (i c n : ℕ) (lt : i < length states) (scalar : IsTrue (is_scalar c)) (small : n < 255)
+        (e : cell_at cells i (column_of c) ≡ n) where
+      cell : IsCell (unrolled p) anew states i c n
+      cell =
+          subst (IsCell (unrolled p) anew states i c) e (of.cell i (column_of c) lt (omega arith) c scalar
+          refl)
 
-    pub next_takes : (i c n : ℕ) → i < length states → IsTrue (is_scalar c) → cell_at cells i (column_of c) ≡
-        n + 1 → (s t : State) (u : Text) →
-        SomePlaceHas p (places_at (slice_index_or states n t)) u
-        ↔ (SomePlaceHas p (places_at (slice_index_or states i s)) (c ∷ u) ⊎ (IsTrue anew × Member p u))
-    next_takes i c n lt scalar e s t u =
-        let from = slice_index_or states i s in
-        let next = advance (is_elem from.live.items) c (unrolled p) 0 from.at_start in
-        let step = takes_step p counts from.at_start from.live.items (of.known.each i s lt).rises c anew next
-        refl u in
-        subst (λ places. SomePlaceHas p places u ↔ (SomePlaceHas p (places_at from) (c ∷ u) ⊎
-        (IsTrue anew × Member p u)))
-        (sym (has_places (slice_index_or states n t) next anew
-        ((of.cell i (column_of c) lt (omega arith) c scalar refl).follows n s t e))) step
+      pub next_within : n < length states
+      next_within = cell.within small
+
+      pub next_takes : (s t : State) (u : Text) → SomePlaceHas p (places_at (slice_index_or states n t)) u
+          ↔ (SomePlaceHas p (places_at (slice_index_or states i s)) (c ∷ u) ⊎ (IsTrue anew × Member p u))
+      next_takes s t u =
+          let from = slice_index_or states i s in
+          let next = advance (is_elem from.live.items) c (unrolled p) 0 from.at_start in
+          let step =
+          takes_step p counts from.at_start from.live.items (of.known.each i s lt).rises c anew next refl u in
+          subst
+          (λ places. SomePlaceHas p places u
+          ↔ (SomePlaceHas p (places_at from) (c ∷ u) ⊎ (IsTrue anew × Member p u)))
+          (sym (has_places (slice_index_or states n t) next anew (cell.follows s t small))) step
 
 -- the text is among those that are left at the state of this number
 abbrev pub LeftAt : Pattern → List State → ℕ → State → Text → Type 0
@@ -92,14 +96,15 @@ start_left p states of some s u =
     (all_left p u)
 
 -- a step from the start back to the start
-pub nothing_begins : (p : Pattern) (states : List State) (cells : List ℕ) → IsTableOf (unrolled p) true
-    states cells → (c : ℕ) →
-    0 < length states → IsTrue (is_scalar c) → cell_at cells 0 (column_of c) ≡ 0 + 1 → advance (is_elem []) c
-    (unrolled p) 0 true ≡ []
+pub nothing_begins : (p : Pattern) (states : List State) (cells : List ℕ) →
+    IsTableOf (unrolled p) true states cells → (c : ℕ) → 0 < length states → IsTrue (is_scalar c) →
+    cell_at cells 0 (column_of c) ≡ 0 → advance (is_elem []) c (unrolled p) 0 true ≡ []
 nothing_begins p [] cells of c some scalar e = absurd (omega arith)
 nothing_begins p (s ∷ states) cells of c some scalar e =
     let first = of.known.first s some in
-    let next = (of.cell 0 (column_of c) some (omega arith) c scalar refl).follows 0 s s e in
+    let here = of.cell 0 (column_of c) some (omega arith) c scalar refl in
+    let one = subst (IsCell (unrolled p) true (s ∷ states) 0 c) e here in
+    let next = one.follows s s (omega arith) in
     ap (λ live. advance (is_elem live) c (unrolled p) 0 true) (sym first.places)
     ∙ ap (λ b. advance (is_elem s.live.items) c (unrolled p) 0 b) (sym first.start)
     ∙ (sym next.places ∙ first.places)

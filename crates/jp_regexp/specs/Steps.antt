@@ -32,11 +32,11 @@ pub record Grows (p : Unrolled) (old new : List State) : Type 0 where
 abbrev pub Follows : Unrolled → Bool → State → ℕ → State → Type 0
 Follows p anew from c to = HasPlaces to (advance (is_elem from.live.items) c p 0 from.at_start) anew
 
--- what a cell of a state and a character holds is 0, or one more than the number of the next state
+-- what a cell of a state and a character holds is the number of the next state, if it is not 255
 pub record IsCell (p : Unrolled) (anew : Bool) (states : List State) (i c cell : ℕ) : Type 0 where
-  pub within : (n : ℕ) → cell ≡ n + 1 → n < length states
-  pub follows : (n : ℕ) (s t : State) → cell ≡ n + 1 →
-      Follows p anew (slice_index_or states i s) c (slice_index_or states n t)
+  pub within : cell < 255 → cell < length states
+  pub follows : (s t : State) → cell < 255 →
+      Follows p anew (slice_index_or states i s) c (slice_index_or states cell t)
 
 -- each character of ASCII has a column, by its code, and the others have one
 abbrev pub column_of : ℕ → ℕ
@@ -44,7 +44,7 @@ column_of c = min c 128
 
 -- the cell of a state and a column
 abbrev pub cell_at : List ℕ → ℕ → ℕ → ℕ
-cell_at cells i column = slice_index_or cells (i * 129 + column) 0
+cell_at cells i column = slice_index_or cells (i * 256 + column) 255
 
 -- what is in the cell is right for each character of the column
 abbrev pub IsCellOf : Unrolled → Bool → List State → ℕ → ℕ → ℕ → Type 0
@@ -55,7 +55,7 @@ IsCellOf p anew states i column cell =
 pub record IsTableOf (p : Unrolled) (anew : Bool) (states : List State) (cells : List ℕ) : Type 0 where
   pub known : AreStates p states
   pub few : length states ≤ 255
-  pub cell : (i column : ℕ) → i < length states → column < 129 →
+  pub cell : (i column : ℕ) → i < length states → column < 256 →
       IsCellOf p anew states i column (cell_at cells i column)
 
 abbrev pub IsTable : Unrolled → Bool → Table → Type 0

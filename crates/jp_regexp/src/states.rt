@@ -7,7 +7,7 @@ ghost use Rattle.jp_regexp.specs.Parts.{unrolled_in};
 ghost use Rattle.jp_regexp.specs.Steps.{AreStates, Grows, HasPlaces, IsCell, IsCellOf, IsTable, IsTableOf};
 
 use crate::source::Source;
-use crate::table::{PAST_ASCII, State, Table, WIDTH, places_behind, state_of};
+use crate::table::{NONE, PAST_ASCII, State, Table, WIDTH, places_behind, state_of};
 use std::alloc::{AllocError, Global};
 
 /// Whether the state has these places and no others.
@@ -50,13 +50,14 @@ fn cell_of(
 {
     let next = places_behind(alloc, source.root, &states[from], c)?;
     if let Some(n) = find_state(states, &next, source.anew) {
-        return Ok((n + 1) as u8);
+        return Ok(n as u8);
     }
     if states.len() >= source.most {
-        return Ok(0);
+        return Ok(NONE);
     }
+    let number = states.len() as u8;
     states.push(state_of(source.root, next, source.anew))?;
-    Ok(states.len() as u8)
+    Ok(number)
 }
 
 /// What the cell of a state and a column holds: that of the first character that is like it, where that is
@@ -70,8 +71,8 @@ fn column_cell(
     column: usize,
 ) -> Result<u8, AllocError>
     requires known { from < length states.old.items }
-    requires next { length cells.now ≡ from * 129 + column }
-    requires column { column < 129 }
+    requires next { length cells.now ≡ from * 256 + column }
+    requires column { column < 256 }
     requires table { IsTableOf (unrolled_in source.root.now) source.anew states.old.items cells.now }
     ensures grows { IfOk result (λ cell. Grows (unrolled_in source.entry.root.now) states.old.items
         states.new.items) }
@@ -81,9 +82,12 @@ fn column_cell(
 {
     if column == PAST_ASCII {
         if !source.classes.past_ascii {
-            return Ok(0);
+            return Ok(NONE);
         }
         return Ok(cell_of(alloc, source, states, from, '\u{80}')?);
+    }
+    if column > PAST_ASCII {
+        return Ok(NONE);
     }
     let first = source.classes.first[column];
     let known = usize::from(first);
@@ -122,9 +126,9 @@ fn add_row(
     from: usize,
 ) -> Result<(), AllocError>
     requires known { from < length states.old.items }
-    requires next { length cells.old.items ≡ from * 129 }
+    requires next { length cells.old.items ≡ from * 256 }
     requires table { IsTableOf (unrolled_in source.root.now) source.anew states.old.items cells.old.items }
-    ensures next { OnOk result (length cells.new.items ≡ from * 129 + 129) }
+    ensures next { OnOk result (length cells.new.items ≡ from * 256 + 256) }
     ensures table { OnOk result (IsTableOf (unrolled_in source.entry.root.now) source.entry.anew
         states.new.items cells.new.items) }
 {

@@ -12,8 +12,12 @@ use crate::parts::Part;
 use crate::reach::Reach;
 use std::alloc::{AllocError, Global};
 
-/// How many cells a state has: one for each character of ASCII, by its code, and one for the others.
-pub const WIDTH: usize = PAST_ASCII + 1;
+/// How many cells a state has: one for each character of ASCII, by its code, one for the others, and as
+/// many more as make it a power of two.
+pub const WIDTH: usize = 256;
+
+/// The cell of a step that is not in the table.
+pub const NONE: u8 = 255;
 
 /// The cell of the characters that are not of ASCII.
 pub const PAST_ASCII: usize = 128;
@@ -34,8 +38,8 @@ pub struct State {
 pub struct Table {
     /// State 0 is the start. There are none where the table was not made.
     pub states: Vec<State>,
-    /// For each state, and then for each character of ASCII and for all others, the number of the next state
-    /// and one; 0 where that is not in the table.
+    /// For each state, and then for each character of ASCII and for all others, the number of the next state,
+    /// or `NONE`.
     pub cells: Vec<u8>,
 }
 
@@ -65,21 +69,18 @@ impl Table {
         }
     }
 
-    /// The number of the state behind a character, where the table has it.
-    pub fn next(&self, state: usize, c: char) -> Option<usize>
+    /// The number of the state behind a character, or `NONE` where the table does not have it.
+    pub fn next(&self, state: usize, c: char) -> u8
         requires { state < 256 }
-        ensures scalar { IfSome result (λ n. IsTrue (is_scalar c)) }
-        ensures cell { IfSome result (λ n. cell_at self.now.cells.items state (column_of c) ≡ n + 1) }
+        ensures scalar { IsTrue (is_scalar c) }
+        ensures cell { result < 255 → cell_at self.now.cells.items state (column_of c) ≡ result }
     {
         let index = state * WIDTH + (c as usize).min(PAST_ASCII);
-        if index >= self.cells.len() {
-            return None;
+        if index < self.cells.len() {
+            self.cells[index]
+        } else {
+            NONE
         }
-        let cell = usize::from(self.cells[index]);
-        if cell == 0 {
-            return None;
-        }
-        Some(cell - 1)
     }
 }
 

@@ -51,9 +51,6 @@ impl Pattern {
         if self.part.states.is_empty() {
             return true;
         }
-        match self.part.next(0, c) {
-            Some(next) => next != 0,
-            None => true,
-        }
+        self.part.next(0, c) != 0
     }
 }

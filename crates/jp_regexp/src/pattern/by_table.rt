@@ -6,6 +6,7 @@ ghost use Rattle.jp_regexp.specs.Held.{HasPart, pattern_of};
 ghost use Rattle.jp_regexp.specs.Language.{Member};
 
 use crate::pattern::Pattern;
+use crate::table::NONE;
 
 impl Pattern {
     /// Whether the whole text is in the pattern's language, where the table tells (RFC 9485, 4).
@@ -18,7 +19,11 @@ impl Pattern {
         }
         let mut state = 0;
         for c in text.chars() {
-            state = table.next(state, c)?;
+            let behind = table.next(state, c);
+            if behind == NONE {
+                return None;
+            }
+            state = usize::from(behind);
             if table.states[state].is_dead() {
                 return Some(false);
             }
@@ -39,7 +44,11 @@ impl Pattern {
             if table.states[state].accepts {
                 return Some(true);
             }
-            state = table.next(state, c)?;
+            let behind = table.next(state, c);
+            if behind == NONE {
+                return None;
+            }
+            state = usize::from(behind);
         }
         Some(table.states[state].accepts)
     }

@@ -1,5 +1,7 @@
-use Rattle.std.proofs.Common.{◌<◌, length, sym, subst, arith}
+use Rattle.std.proofs.Common.{◌+◌, ◌*◌, ◌<◌, length, sym, subst, arith}
+use Rattle.std.proofs.lemmas.Grind.{get_or_default_zero}
 use Rattle.jp_regexp.specs.Parts.{unrolled_in}
+use Rattle.jp_regexp.specs.Steps.{IsCellOf}
 use Rattle.jp_regexp.specs.Alike.{Alike}
 use Rattle.jp_regexp.specs.declared.those.Those.TheVariants as those
 use Rattle.jp_regexp.proofs.ProfileLemmas.{kept_classes}
@@ -36,10 +38,14 @@ returns-then-known-column-clause-cell c =
     inside c.index-first.ensures c.from-known.ensures in
     let alike : Alike p (those.Both c.from-known.result column) =
     subst (λ n. Alike p (those.Both n column)) (sym e) (classes.first.alike column inside) in
-    cell_first p source.anew c.args.states.now.items c.args.from _ c.from-known.result column
-    (omega (arith, c.requires.column, c.if-column-eq-PAST_ASCII.false))
-    c.if-known-column.true alike (c.requires.table.cell c.args.from c.from-known.result c.requires.known
-    (omega arith))
+    let known = c.from-known.result in
+    let cell = c.requires.table.cell c.args.from known c.requires.known (omega (arith, c.requires.column)) in
+    let inside : c.args.from * 256 + known < length c.args.cells.now = omega (arith, c.requires.next) in
+    cell_first p source.anew c.args.states.now.items c.args.from _ known column
+    (omega (arith, c.requires.column, c.if-column-eq-PAST_ASCII.false, c.if-column-gt-PAST_ASCII.false))
+    c.if-known-column.true alike
+    (subst (IsCellOf p source.anew c.args.states.now.items c.args.from known)
+    (get_or_default_zero c.args.cells.now (c.args.from * 256 + known) 255 inside) cell)
 
 pub returns-clause-cell : goal.returns-clause-cell
 returns-clause-cell c =

@@ -2,6 +2,7 @@ use Rattle.std.proofs.Common.{◌≡◌, ◌<◌, length, true, [], refl, sym, a
 use Rattle.std.specs.Str.{chars}
 use Rattle.std.specs.Str.Iter.{chars_rest}
 use Rattle.jp_regexp.specs.Held.{pattern_of}
+use Rattle.jp_regexp.specs.Steps.{cell_at, column_of}
 use Rattle.jp_regexp.proofs.FindLemmas.{reading_first, reading_more, reading_end, began_first, no_part_first}
 use Rattle.jp_regexp.proofs.FindLemmas.{find_more, no_part_more, began_found, found_began}
 use Rattle.jp_regexp.proofs.ProfileLemmas.{kept_profile, kept_table}
@@ -29,8 +30,8 @@ loop-c-init c =
       reading = reading_first c.args.text.now c.into_iter-c-iterator.result c.utf8.text begins;
     }
 
-pub next-requires-in-loop-c : goal.next-requires-in-loop-c
-next-requires-in-loop-c c =
+pub next-behind-requires : goal.next-behind-requires
+next-behind-requires c =
     let self = c.args.self.now in
     omega (arith, (kept_table _ true self.part self.part_steps).few, c.loop-c.invariant.known)
 
@@ -42,19 +43,21 @@ loop-c-preserved c =
     let of = kept_table _ true self.part self.part_steps in
     let states = self.part.states.items in
     let kept = c.loop-c.invariant in
-    let cell = c.in_ok-state.ensures in
+    let n = c.from-state.result in
+    let small : n < 255 = omega arith in
+    let e : cell_at self.part.cells.items c.loop-c.state (column_of c.in-Some.c) ≡ n =
+    c.next-behind.ensures.cell (omega arith) ∙ sym c.from-state.ensures in
     let char = c.in-Some.c in
-    let next = c.in_ok-state.state in
     let here = c.index.result.now in
     let accepts = state_accepts p counts true states self.part.cells.items of c.loop-c.state here here
     kept.known c.index.ensures in
     record {
-      known = next_within p counts true states self.part.cells.items of c.loop-c.state char next kept.known
-          cell.scalar cell.cell;
+      known = next_within p counts true states self.part.cells.items of c.loop-c.state char n kept.known
+          c.next-behind.ensures.scalar small e;
       left = λ s. find_more p c.loop-c.yielded char (LeftAt p states c.loop-c.state s)
-          (LeftAt p states next s) (kept.left s)
-          (next_takes p counts true states self.part.cells.items of c.loop-c.state char next kept.known
-          cell.scalar cell.cell s s);
+          (LeftAt p states n s) (kept.left s)
+          (next_takes p counts true states self.part.cells.items of c.loop-c.state char n kept.known
+          c.next-behind.ensures.scalar small e s s);
       none = no_part_more p c.loop-c.yielded char kept.none
           (λ h. true≢false (sym (accepts.1 (state_left p states c.loop-c.state here here c.index.ensures []
           ((kept.left here []).1 h))) ∙ c.if-index.false));

@@ -3,6 +3,7 @@ use Rattle.std.proofs.Common.{arith}
 use Rattle.std.specs.Str.{chars}
 use Rattle.std.specs.Str.Iter.{chars_rest}
 use Rattle.jp_regexp.specs.Held.{pattern_of}
+use Rattle.jp_regexp.specs.Steps.{cell_at, column_of}
 use Rattle.jp_regexp.specs.Language.{Member}
 use Rattle.jp_regexp.specs.Unrolled.{SomePlaceHas}
 use Rattle.jp_regexp.proofs.FindLemmas.{reading_first, reading_more, reading_end, none_left, match_more}
@@ -29,21 +30,24 @@ loop-c-init c =
       reading = reading_first c.args.text.now c.into_iter-c-iterator.result c.utf8.text begins;
     }
 
-pub next-requires-in-loop-c : goal.next-requires-in-loop-c
-next-requires-in-loop-c c =
+pub next-behind-requires : goal.next-behind-requires
+next-behind-requires c =
     let self = c.args.self.now in
     omega (arith, (kept_table _ false self.whole self.whole_steps).few, c.loop-c.invariant.known)
 
 pub index-requires : goal.index-requires
 index-requires c =
     let self = c.args.self.now in
-    let cell = c.in_ok-state.ensures in
+    let n = c.from-state.result in
+    let small : n < 255 = omega arith in
+    let e : cell_at self.whole.cells.items c.loop-c.state (column_of c.in-Some.c) ≡ n =
+    c.next-behind.ensures.cell (omega arith) ∙ sym c.from-state.ensures in
     omega (
       arith,
       next_within (pattern_of self) (kept_profile _ self.in_profile).counts false self.whole.states.items
           self.whole.cells.items
-          (kept_table _ false self.whole self.whole_steps) c.loop-c.state c.in-Some.c c.in_ok-state.state
-          c.loop-c.invariant.known cell.scalar cell.cell,
+          (kept_table _ false self.whole self.whole_steps) c.loop-c.state c.in-Some.c n
+          c.loop-c.invariant.known c.next-behind.ensures.scalar small e,
     )
 
 pub loop-c-preserved : goal.loop-c-preserved
@@ -54,16 +58,18 @@ loop-c-preserved c =
     let of = kept_table _ false self.whole self.whole_steps in
     let states = self.whole.states.items in
     let kept = c.loop-c.invariant in
-    let cell = c.in_ok-state.ensures in
+    let n = c.from-state.result in
+    let small : n < 255 = omega arith in
+    let e : cell_at self.whole.cells.items c.loop-c.state (column_of c.in-Some.c) ≡ n =
+    c.next-behind.ensures.cell (omega arith) ∙ sym c.from-state.ensures in
     let char = c.in-Some.c in
-    let next = c.in_ok-state.state in
     record {
-      known = next_within p counts false states self.whole.cells.items of c.loop-c.state char next kept.known
-          cell.scalar cell.cell;
-      left = λ s. match_more p (LeftAt p states c.loop-c.state s) (LeftAt p states next s) (Member p)
+      known = next_within p counts false states self.whole.cells.items of c.loop-c.state char n kept.known
+          c.next-behind.ensures.scalar small e;
+      left = λ s. match_more p (LeftAt p states c.loop-c.state s) (LeftAt p states n s) (Member p)
           c.loop-c.yielded char (kept.left s)
-          (next_takes p counts false states self.whole.cells.items of c.loop-c.state char next kept.known
-          cell.scalar cell.cell s s);
+          (next_takes p counts false states self.whole.cells.items of c.loop-c.state char n kept.known
+          c.next-behind.ensures.scalar small e s s);
       reading = reading_more (chars c.args.text.now) c.loop-c.yielded c.loop-c.c-iterator c.next.new.self
           kept.reading char c.in-Some.ensures.steps;
     }
@@ -76,20 +82,22 @@ returns-then-is_dead c =
     let of = kept_table _ false self.whole self.whole_steps in
     let states = self.whole.states.items in
     let kept = c.loop-c.invariant in
-    let cell = c.in_ok-state.ensures in
+    let n = c.from-state.result in
+    let small : n < 255 = omega arith in
+    let e : cell_at self.whole.cells.items c.loop-c.state (column_of c.in-Some.c) ≡ n =
+    c.next-behind.ensures.cell (omega arith) ∙ sym c.from-state.ensures in
     let char = c.in-Some.c in
-    let next = c.in_ok-state.state in
     let s = c.index.result.now in
     let reading = reading_more (chars c.args.text.now) c.loop-c.yielded c.loop-c.c-iterator c.next.new.self
     kept.reading char c.in-Some.ensures.steps in
-    let more = match_more p (LeftAt p states c.loop-c.state s) (LeftAt p states next s) (Member p)
+    let more = match_more p (LeftAt p states c.loop-c.state s) (LeftAt p states n s) (Member p)
     c.loop-c.yielded char (kept.left s)
-    (next_takes p counts false states self.whole.cells.items of c.loop-c.state char next kept.known
-    cell.scalar cell.cell s s) in
+    (next_takes p counts false states self.whole.cells.items of c.loop-c.state char n kept.known
+    c.next-behind.ensures.scalar small e s s) in
     let none = has_places p s [] false (c.is_dead.ensures c.if-is_dead.true) in (
       λ h. absurd (true≢false (sym h)),
       λ m. absurd (none_left p reading.rest (subst (λ places. SomePlaceHas p places reading.rest) none
-          (state_left p states next s s c.index.ensures reading.rest
+          (state_left p states n s s c.index.ensures reading.rest
           ((more reading.rest).1 (subst (Member p) reading.splits m))))),
     )
 

@@ -1,14 +1,14 @@
-use Rattle.std.proofs.Common.{◌+◌, ap, ◌∙◌, true, arith}
+use Rattle.std.proofs.Common.{true, arith, ◌∙◌}
 use Rattle.jp_regexp.specs.Held.{pattern_of}
 use Rattle.jp_regexp.proofs.ProfileLemmas.{kept_table}
 use Rattle.jp_regexp.proofs.TableLemmas.{is_some, is_zero, nothing_begins}
 use Rattle.jp_regexp.proofs.pattern.Pattern.may_begin.Goals as goal
 
-pub returns-in-Some : goal.returns-in-Some
-returns-in-Some c = λ e.
+pub returns : goal.returns
+returns c = λ h.
     let self = c.args.self.now in
+    let zero = is_zero c.next.result h in
     nothing_begins (pattern_of self) self.part.states.items self.part.cells.items
     (kept_table _ true self.part self.part_steps) c.args.c
     (omega (arith, is_some _ c.is_empty.result c.is_empty.ensures c.if-is_empty.false))
-    c.in-Some.ensures.scalar
-    (c.in-Some.ensures.cell ∙ ap (λ n. n + 1) (is_zero c.in-Some.next e))
+    c.next.ensures.scalar (c.next.ensures.cell (omega arith) ∙ zero)
