@@ -36,7 +36,7 @@ IsAscii (Element.one x) = x < 128
 IsAscii (Element.range low high) = high < 128
 IsAscii (Element.of_category negated categories) = ⊥
 
--- each character of ASCII stands with the first that is like it
+-- each character of ASCII stands with one that is like it, which is not above it
 pub record AreFirst (p : Unrolled) (first : List ℕ) : Type 0 where
   pub below : (k : ℕ) → k < length first → slice_index_or first k 0 ≤ k
   pub alike : (k : ℕ) → k < length first → Alike p (those.Both (slice_index_or first k 0) k)

@@ -13,7 +13,7 @@ use std::alloc::{AllocError, Global};
 /// Which characters are alike to a pattern.
 #[derive(Drop)]
 pub struct Classes {
-    /// For each character of ASCII, by its code, the first that is like it.
+    /// For each character of ASCII, by its code, one that is like it, which is not above it.
     pub first: Vec<u8>,
     /// Whether all that are not of ASCII are alike.
     pub past_ascii: bool,
@@ -35,14 +35,14 @@ pub fn make_classes(alloc: Global, root: &Part) -> Result<Classes, AllocError>
     Ok(Classes { first, past_ascii })
 }
 
-/// The first character that is like this one; those before it are known.
+/// The first character of the class of the one before, or of the class of 0, where this one is like it.
 fn first_alike(root: &Part, first: &[u8], code: u8) -> u8
     ensures first { result ≤ code }
     ensures alike { Alike (unrolled_in root.now) (those.Both result code) }
 {
-    for other in 0..code {
-        let is_first = first.get(usize::from(other)) == Some(&other);
-        if is_first && is_alike(root, Those::Both(char::from(other), char::from(code))) {
+    let before = first.last().copied().unwrap_or(0);
+    for other in [before, 0] {
+        if other < code && is_alike(root, Those::Both(char::from(other), char::from(code))) {
             return other;
         }
     }

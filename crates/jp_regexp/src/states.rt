@@ -60,8 +60,7 @@ fn cell_of(
     Ok(number)
 }
 
-/// What the cell of a state and a column holds: that of the first character that is like it, where that is
-/// another one.
+/// What the cell of a state and a column holds: that of a lower character that is like it, if there is one.
 fn column_cell(
     alloc: Global,
     source: Source<'_>,
