@@ -1,3 +1,4 @@
+pub mod AlikeLemmas
 pub mod CharacterLemmas
 pub mod CopyLemmas
 pub mod Derivatives
@@ -23,7 +24,9 @@ pub mod SetLemmas
 pub mod SizeLemmas
 pub mod SizedLemmas
 pub mod SkipLemmas
+pub mod StateLemmas
 pub mod StepLemmas
+pub mod TableLemmas
 pub mod TermLemmas
 pub mod TextExamples
 pub mod TurnLemmas

@@ -1,10 +1,13 @@
 -- That a pattern is within the limits has one proof, so a value that keeps it quietly keeps it.
 use Rattle.std.proofs.Math.Logic.{∥∥₁_elim}
 use Rattle.std.proofs.Props.{props}
-use Rattle.std.proofs.Common.{◌≡◌, ℕ, zero, suc, ◌<◌, ◌≤◌, Some, None, List, [], ◌∷◌, Bool, length, slice_index_or, ap, sym, arith}
-use Rattle.std.specs.Prelude.{slice_get}
+use Rattle.std.proofs.Common.{◌≤◌, Some, None, Bool}
 use Rattle.jp_regexp.specs.Unrolled.{Unrolled}
-use Rattle.jp_regexp.specs.Walk.{HasBeginnings}
+use Rattle.jp_regexp.specs.Alike.{AreClasses}
+use Rattle.jp_regexp.specs.declared.classes.Classes.{Classes}
+use Rattle.jp_regexp.specs.Steps.{IsTable}
+use Rattle.jp_regexp.specs.Walk.{Rises-prop}
+use Rattle.jp_regexp.specs.declared.table.Table.{Table}
 use Rattle.jp_regexp.specs.Pattern.{Pattern, empty, letter, group, seq, either, repeat, plus}
 use Rattle.jp_regexp.specs.Profile.{InProfile, HasCounts, size}
 
@@ -27,11 +30,9 @@ kept_profile p h = ∥∥₁_elim h (profile_prop p) (λ of. of)
 pub kept_size : (p : Pattern) → ∥ InProfile p ∥₁ → size p ≤ 10_000
 kept_size p h = (kept_profile p h).size_fits
 
-pub kept_beginnings : (p : Unrolled) (begins : List Bool) → ∥ HasBeginnings p begins ∥₁ → HasBeginnings p begins
-kept_beginnings p begins h = ∥∥₁_elim h (hlevel props) (λ of. of)
+pub kept_table : (p : Unrolled) (anew : Bool) (table : Table) → ∥ IsTable p anew table ∥₁ → IsTable p anew
+    table
+kept_table p anew table h = ∥∥₁_elim h (hlevel (props, Rises-prop)) (λ of. of)
 
--- an element that was read by its index
-pub got : (xs : List Bool) (i : ℕ) (b : Bool) → i < length xs → b ≡ slice_index_or xs i b → slice_get xs i ≡ Some b
-got [] i b lt e = absurd (omega arith)
-got (x ∷ xs) zero b lt e = ap Some (sym e)
-got (x ∷ xs) (suc i) b lt e = got xs i b (omega arith) e
+pub kept_classes : (p : Unrolled) (classes : Classes) → ∥ AreClasses p classes ∥₁ → AreClasses p classes
+kept_classes p classes h = ∥∥₁_elim h (hlevel props) (λ of. of)

@@ -1,32 +1,38 @@
 -- What is left of the set of places of a pattern.
-use Rattle.std.proofs.Common.{◌≡◌, ℕ, zero, suc, ◌+◌, ◌≤◌, ◌<◌, ◌⊎◌, ◌↔◌, Bool, true, false, IsTrue, List, [], ◌∷◌, ◌++◌, length, refl, sym, ap₂, ◌∙◌, subst, inl, inr, ⊎_elim, arith}
+use Rattle.std.proofs.Common.{◌≡◌, ℕ, zero, suc, ◌+◌, ◌≤◌, ◌<◌, ◌⊎◌, ◌↔◌, Bool, true, false, IsTrue, List, []}
+use Rattle.std.proofs.Common.{◌∷◌, ◌++◌, length, sym, ap₂, ◌∙◌, subst, inl, inr, ⊎_elim, arith}
 use Rattle.std.specs.List.Sorted.{IsStrictlyIncreasing}
 use Rattle.std.specs.Prelude.{slice_index}
 use Rattle.jp_regexp.specs.Pattern.{Text, Pattern}
 use Rattle.jp_regexp.specs.Language.{Member}
 use Rattle.jp_regexp.specs.Profile.{HasCounts, size}
 use Rattle.jp_regexp.specs.Unrolled.{unrolled, letters, SomePlaceHas, all_places}
-use Rattle.jp_regexp.specs.Walk.{leaves, advance, is_elem, Rises, IsAt}
+use Rattle.jp_regexp.specs.Walk.{leaves, advance, is_elem, Rises}
 use Rattle.jp_regexp.proofs.SetLemmas.{left_has, has_left, step_sound, step_whole, advance_rises, advance_few}
 use Rattle.jp_regexp.proofs.StepLemmas.{leaves_sound, leaves_whole}
 use Rattle.jp_regexp.proofs.UnrolledLemmas.{unrolled_whole, unrolled_sound, letters-unrolled}
 
 module _ (p : Pattern) (counts : HasCounts p) (start : Bool) (live : List ℕ) (rises : Rises 0 live) where
-  pub takes_step : (c : ℕ) (anew : Bool) (next : List ℕ) → next ≡ advance (is_elem live) c (unrolled p) 0 start → (t : Text) →
-      SomePlaceHas p (all_places anew next) t ↔ (SomePlaceHas p (all_places start live) (c ∷ t) ⊎ (IsTrue anew × Member p t))
+  pub takes_step : (c : ℕ) (anew : Bool) (next : List ℕ) → next ≡ advance (is_elem live) c (unrolled p) 0
+      start → (t : Text) →
+      SomePlaceHas p (all_places anew next) t ↔ (SomePlaceHas p (all_places start live) (c ∷ t) ⊎
+      (IsTrue anew × Member p t))
   takes_step c anew next e t =
       let all = advance (is_elem live) c (unrolled p) 0 start in
       let up = advance_rises (is_elem live) c (unrolled p) 0 start in
-      subst (λ n. SomePlaceHas p (all_places anew n) t ↔ (SomePlaceHas p (all_places start live) (c ∷ t) ⊎ (IsTrue anew × Member p t))) (sym e) (
+      subst (λ n. SomePlaceHas p (all_places anew n) t ↔ (SomePlaceHas p (all_places start live) (c ∷ t) ⊎
+      (IsTrue anew × Member p t))) (sym e) (
         λ h. ⊎_elim
             (λ g. inl (left_has p start live (c ∷ t) counts g))
             (λ g. inr (g.0, unrolled_sound p t counts g.1))
             (step_sound (unrolled p) start live c anew t (has_left p anew all t up h)),
         λ h. left_has p anew all t counts (step_whole (unrolled p) start live c anew t
-            (⊎_elim (λ g. inl (has_left p start live (c ∷ t) rises g)) (λ g. inr (g.0, unrolled_whole p t g.1)) h)),
+            (⊎_elim (λ g. inl (has_left p start live (c ∷ t) rises g))
+            (λ g. inr (g.0, unrolled_whole p t g.1)) h)),
       )
 
-  pub accepted : (b : Bool) → b ≡ leaves (is_elem live) (unrolled p) 0 start → IsTrue b ↔ SomePlaceHas p (all_places start live) []
+  pub accepted : (b : Bool) → b ≡ leaves (is_elem live) (unrolled p) 0 start → IsTrue b ↔ SomePlaceHas p
+      (all_places start live) []
   accepted b e = (
     λ h. left_has p start live [] counts (leaves_sound (is_elem live) (unrolled p) 0 start (sym e ∙ h)),
     λ h. e ∙ leaves_whole (is_elem live) (unrolled p) 0 start (has_left p start live [] rises h),
@@ -34,12 +40,14 @@ module _ (p : Pattern) (counts : HasCounts p) (start : Bool) (live : List ℕ) (
 
 pub next_rises : (p : Pattern) (c : ℕ) (start : Bool) (live next : List ℕ) →
     next ≡ advance (is_elem live) c (unrolled p) 0 start → Rises 0 next
-next_rises p c start live next e = subst (Rises 0) (sym e) (advance_rises (is_elem live) c (unrolled p) 0 start)
+next_rises p c start live next e = subst (Rises 0) (sym e) (advance_rises (is_elem live) c (unrolled p) 0
+    start)
 
 pub next_few : (p : Pattern) (c : ℕ) (start : Bool) (live next : List ℕ) →
     next ≡ advance (is_elem live) c (unrolled p) 0 start → length next ≤ size p
 next_few p c start live next e =
-    subst (λ xs. length xs ≤ size p) (sym e) (subst (λ n. length (advance (is_elem live) c (unrolled p) 0 start) ≤ n) (letters-unrolled p)
+    subst (λ xs. length xs ≤ size p) (sym e) (subst (λ n. length
+    (advance (is_elem live) c (unrolled p) 0 start) ≤ n) (letters-unrolled p)
     (advance_few (is_elem live) c (unrolled p) start))
 
 -- the k-th of a list and the next
@@ -49,7 +57,8 @@ at_tail x xs k h =
     let e : suc k + 1 ≡ suc (k + 1) = omega arith in
     subst (λ n. slice_index (x ∷ xs) (suc k) < slice_index (x ∷ xs) n) (sym e) h
 
-rising_at : (low : ℕ) (xs : List ℕ) → Rises low xs → (k : ℕ) → k + 1 < length xs → slice_index xs k < slice_index xs (k + 1)
+rising_at : (low : ℕ) (xs : List ℕ) → Rises low xs → (k : ℕ) → k + 1 < length xs → slice_index xs k <
+    slice_index xs (k + 1)
 rising_at low [] h k lt = absurd (omega arith)
 rising_at low (x ∷ []) h k lt = absurd (omega arith)
 rising_at low (x ∷ y ∷ xs) h zero lt = h.1.0
@@ -69,7 +78,8 @@ at_most_size p le = omega (arith, letters-unrolled p)
 
 -- the places that a step gives
 pub read_next : (p : Pattern) (c : ℕ) (start : Bool) (live seen cleared filled next : List ℕ) →
-    seen ≡ live → cleared ≡ [] → filled ≡ cleared ++ advance (is_elem seen) c (unrolled p) 0 start → next ≡ filled →
+    seen ≡ live → cleared ≡ [] → filled ≡ cleared ++ advance (is_elem seen) c (unrolled p) 0 start → next ≡
+    filled →
     next ≡ advance (is_elem live) c (unrolled p) 0 start
 read_next p c start live seen cleared filled next e f g h =
     h ∙ g ∙ ap₂ (λ xs ys. xs ++ advance (is_elem ys) c (unrolled p) 0 start) f e

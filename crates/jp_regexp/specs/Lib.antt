@@ -1,3 +1,4 @@
+pub mod Alike
 pub mod CategoryNames
 pub mod CharSetShape
 pub mod CharSets
@@ -11,6 +12,7 @@ pub mod Quantity
 pub mod Reading
 pub mod Samples
 pub mod Shape
+pub mod Steps
 pub mod Terms
 pub mod Tests
 pub mod Tree

@@ -1,9 +1,8 @@
 -- A working file, which nobody has to believe: one step on a set of places, as the code walks it. No public
 -- contract names it.
-use Rattle.std.specs.Prelude.{◌≡◌, ℕ, ◌+◌, ◌<◌, ◌≤◌, Bool, true, false, ◌&&◌, ◌||◌, ◌⊎◌, List, []}
+use Rattle.std.specs.Prelude.{◌≡◌, ℕ, ◌+◌, ◌<◌, ◌≤◌, Bool, false, ◌&&◌, ◌||◌, ◌⊎◌, List, []}
 use Rattle.std.specs.Prelude.{◌∷◌, ◌++◌, ⊤, nat_eq, nat_le, nat_lt, if◌then◌else◌, drop, length}
 use Rattle.std.specs.Prelude.{slice_index_or}
-use Rattle.std.specs.Prelude.{slice_get, Some}
 use Rattle.std.specs.Coded.{×_prop, Unit-prop, le_prop}
 use Rattle.jp_regexp.specs.declared.reach.Reach.{Reach}
 use Rattle.jp_regexp.specs.declared.parts.Part.{Part}
@@ -73,11 +72,6 @@ reads_letter set c at = read_if (in_set set c) at
 -- none of the next n places is in the set
 abbrev pub Dead : (ℕ → Bool) → ℕ → ℕ → Type 0
 Dead live off n = (k : ℕ) → 0 < k → k ≤ n → live (off + k) ≡ false
-
--- no text of the pattern begins with a character of which the list says so, by its code
-abbrev pub HasBeginnings : Unrolled → List Bool → Type 0
-HasBeginnings p begins =
-    (code : ℕ) → slice_get begins code ≡ Some false → advance (is_elem []) code p 0 true ≡ []
 
 -- where a walk over a pattern leads
 pub record IsWalk (places : List ℕ) (p : Unrolled) (old new : Reach) : Type 0 where

@@ -2,8 +2,9 @@
 #![tactic(auto)]
 
 mod advance;
-mod beginnings;
+mod alike;
 mod categories;
+mod classes;
 mod examples;
 mod fault;
 pub mod laws;
@@ -16,7 +17,11 @@ mod read_counts;
 mod read_patterns;
 mod read_sets;
 mod sets;
+mod source;
+mod states;
+mod table;
 mod terms;
+mod those;
 mod tree;
 
 pub use pattern::Pattern;

@@ -1,7 +1,7 @@
 //! Generated patterns on all texts of up to five of the characters a, b and c. The expected values come
 //! from the module `re` of Python 3, `fullmatch` and `search`.
 
-use crate::reading::read;
+use crate::reading::{answers, both};
 use std::alloc::Global;
 use std::str::SplitWhitespace;
 use std::test::*;
@@ -259,16 +259,17 @@ fn generated(rt: HostRuntime) -> Result<(), Fail> {
             number(&mut words)?,
         );
         let text = words.next().unwrap_or("");
-        let pattern = read(alloc, text)?;
+        let patterns = both(alloc, text)?;
         let mut whole = (0u64, 0u64);
         let mut part = (0u64, 0u64);
         let mut i = 0u64;
         for text in &texts {
             i = i.wrapping_add(1);
-            if pattern.matches(alloc, text)? {
+            let (is_whole, is_part) = answers(alloc, &patterns, text)?;
+            if is_whole {
                 whole = counted(whole, i);
             }
-            if pattern.found_in(alloc, text)? {
+            if is_part {
                 part = counted(part, i);
             }
         }

@@ -1,6 +1,6 @@
 //! Which texts match, and in which a part matches.
 
-use crate::reading::{read, repeated};
+use crate::reading::{answers, both, read, repeated};
 use std::test::*;
 
 /// In each line a pattern, whether the text matches, whether a part of it does, and the text.
@@ -176,22 +176,19 @@ fn rows(rt: HostRuntime) -> Result<(), Fail> {
         let Some((part, text)) = rest.split_once(' ') else {
             return Err("no second answer")?;
         };
-        let read = read(rt.alloc(), pattern)?;
+        let wanted = (whole == "yes", part == "yes");
         assert_eq!(rt;
-            read.matches(rt.alloc(), text)?,
-            whole == "yes",
+            answers(rt.alloc(), &both(rt.alloc(), pattern)?, text)?,
+            wanted,
             "{pattern} at {text}"
-        );
-        assert_eq!(rt;
-            read.found_in(rt.alloc(), text)?,
-            part == "yes",
-            "{pattern} in {text}"
         );
     }
     for (pattern, whole, part, text) in OTHERS {
-        let read = read(rt.alloc(), pattern)?;
-        assert_eq!(rt; read.matches(rt.alloc(), text)?, whole, "{pattern}");
-        assert_eq!(rt; read.found_in(rt.alloc(), text)?, part, "{pattern}");
+        assert_eq!(rt;
+            answers(rt.alloc(), &both(rt.alloc(), pattern)?, text)?,
+            (whole, part),
+            "{pattern}"
+        );
     }
     Ok(())
 }

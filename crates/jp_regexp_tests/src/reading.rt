@@ -54,6 +54,25 @@ pub fn read(alloc: Global, text: &str) -> Result<Pattern, Fail> {
     }
 }
 
+/// The pattern as it is read, and made ready.
+pub fn both(alloc: Global, text: &str) -> Result<[Pattern; 2], Fail> {
+    match Pattern::ready(alloc, text)? {
+        Some(ready) => Ok([read(alloc, text)?, ready]),
+        None => Err("no pattern")?,
+    }
+}
+
+/// Whether the whole text matches, and whether a part does: both patterns say the same.
+pub fn answers(alloc: Global, both: &[Pattern; 2], text: &str) -> Result<(bool, bool), Fail> {
+    let [read, ready] = both;
+    let whole = read.matches(alloc, text)?;
+    let part = read.found_in(alloc, text)?;
+    if ready.matches(alloc, text)? != whole || ready.found_in(alloc, text)? != part {
+        return Err("another answer by tables")?;
+    }
+    Ok((whole, part))
+}
+
 /// The part so many times over.
 pub fn repeated(alloc: Global, part: &str, count: usize) -> Result<String, Fail> {
     let mut text = String::new(alloc);
@@ -98,6 +117,7 @@ fn no_patterns(rt: HostRuntime) -> Result<(), Fail> {
     let alloc = rt.alloc();
     for text in REFUSED.lines() {
         assert!(rt; Pattern::read(alloc, text)?.is_none(), "at {text}");
+        assert!(rt; Pattern::ready(alloc, text)?.is_none(), "at {text}");
     }
     for part in ["(", "[", "a", "[a", "()(", "{", "\\p{", "a{1"] {
         let text = repeated(alloc, part, 300_000)?;

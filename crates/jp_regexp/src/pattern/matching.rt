@@ -1,12 +1,10 @@
 //! What a pattern matches.
 
-ghost use Rattle.std.specs.Prelude.{◌≡◌, ◌≤◌, ◌↔◌, [], IfOk, IsTrue, false, true};
+ghost use Rattle.std.specs.Prelude.{◌≡◌, ◌≤◌, ◌↔◌, IfOk, IsTrue};
 ghost use Rattle.std.specs.Str.{chars};
 ghost use Rattle.jp_regexp.specs.Held.{HasPart, pattern_of};
 ghost use Rattle.jp_regexp.specs.Language.{Member};
 ghost use Rattle.jp_regexp.specs.Profile.{max_size, size};
-ghost use Rattle.jp_regexp.specs.Unrolled.{unrolled};
-ghost use Rattle.jp_regexp.specs.Walk.{advance, is_elem};
 
 use crate::pattern::Pattern;
 use std::alloc::{AllocError, Global};
@@ -35,14 +33,10 @@ impl Pattern {
     pub fn matches(&self, alloc: Global, text: &str) -> Result<bool, AllocError>
         ensures { IfOk result (λ b. IsTrue b ↔ Member (pattern_of self.now) (chars text.now)) }
     {
-        let mut terms = self.start(alloc)?;
-        for c in text.chars() {
-            terms.step(c, false)?;
-            if terms.is_empty() {
-                return Ok(false);
-            }
+        match self.matches_by_table(text) {
+            Some(matches) => Ok(matches),
+            None => self.matches_by_places(alloc, text),
         }
-        Ok(terms.accepts())
     }
 
     /// Whether some part of consecutive characters of the text is in the pattern's language, the empty
@@ -54,26 +48,9 @@ impl Pattern {
     pub fn found_in(&self, alloc: Global, text: &str) -> Result<bool, AllocError>
         ensures { IfOk result (λ b. IsTrue b ↔ HasPart (pattern_of self.now) (chars text.now)) }
     {
-        let mut terms = self.start(alloc)?;
-        if terms.accepts() {
-            return Ok(true);
+        match self.found_by_table(text) {
+            Some(found) => Ok(found),
+            None => self.found_by_places(alloc, text),
         }
-        for c in text.chars() {
-            if terms.is_at_start() && !self.may_begin(c) {
-                continue;
-            }
-            if terms.read(c, true)? {
-                return Ok(true);
-            }
-        }
-        Ok(terms.accepts())
-    }
-
-    /// Whether a text of the pattern may begin with the character, as far as the table tells.
-    fn may_begin(&self, c: char) -> bool
-        ensures { result ≡ false → advance (is_elem []) c (unrolled (pattern_of self.now)) 0 true ≡ [] }
-    {
-        let code = c as usize;
-        code >= self.begins.len() || self.begins[code]
     }
 }

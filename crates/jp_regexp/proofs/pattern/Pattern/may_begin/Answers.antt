@@ -1,10 +1,14 @@
-use Rattle.std.proofs.Common.{◌≡◌, false, slice_index_or, subst, arith}
+use Rattle.std.proofs.Common.{true, arith, ◌∙◌}
 use Rattle.jp_regexp.specs.Held.{pattern_of}
-use Rattle.jp_regexp.specs.Unrolled.{unrolled}
-use Rattle.jp_regexp.proofs.ProfileLemmas.{kept_beginnings, got}
+use Rattle.jp_regexp.proofs.ProfileLemmas.{kept_table}
+use Rattle.jp_regexp.proofs.TableLemmas.{is_some, is_zero, nothing_begins}
 use Rattle.jp_regexp.proofs.pattern.Pattern.may_begin.Goals as goal
 
-pub returns-else-code-len : goal.returns-else-code-len
-returns-else-code-len c = λ e.
-    kept_beginnings (unrolled (pattern_of c.args.self.now)) c.args.self.now.begins.items c.args.self.now.has_beginnings c.args.c
-    (got c.args.self.now.begins.items c.args.c false (omega arith) (subst (λ b. b ≡ slice_index_or c.args.self.now.begins.items c.args.c b) e c.index.ensures))
+pub returns : goal.returns
+returns c = λ h.
+    let self = c.args.self.now in
+    let zero = is_zero c.next.result h in
+    nothing_begins (pattern_of self) self.part.states.items self.part.cells.items
+    (kept_table _ true self.part self.part_steps) c.args.c
+    (omega (arith, is_some _ c.is_empty.result c.is_empty.ensures c.if-is_empty.false))
+    c.next.ensures.scalar (c.next.ensures.cell (omega arith) ∙ zero)

@@ -1,15 +1,16 @@
-use Rattle.std.proofs.Common.{◌≡◌, ◌≤◌, min, sym, ap, ◌∙◌, subst, lit<, arith}
+use Rattle.std.proofs.Common.{◌≡◌, ◌≤◌, min, sym, ap, ◌∙◌, subst, lit<, true, false}
 use Rattle.std.specs.Str.{chars}
 use Rattle.jp_regexp.specs.Profile.{size, InProfile, IsPatternOf}
 use Rattle.jp_regexp.specs.Tree.{node_of}
 use Rattle.jp_regexp.specs.Parts.{pattern_in}
-use Rattle.jp_regexp.proofs.UnrolledLemmas.{letters-unrolled}
+use Rattle.jp_regexp.proofs.TableLemmas.{no_table}
 use Rattle.jp_regexp.proofs.ReadLemmas.{is_pattern, no_pattern, too_large, size_is, size_over}
 use Rattle.jp_regexp.proofs.pattern.Pattern.read.Goals as goal
 
 pub returns-in-Err-NoPattern : goal.returns-in-Err-NoPattern
 returns-in-Err-NoPattern c =
-    let none = rw (c.in-Err-NoPattern.field-0-is, c.deref.ensures.value, c.in_ok-text.ensures) at c.in-Err-NoPattern.ensures in
+    let none = rw (c.in-Err-NoPattern.field-0-is, c.deref.ensures.value, c.in_ok-text.ensures) at
+    c.in-Err-NoPattern.ensures in
     no_pattern (chars c.args.text.now) none
 
 pub returns-then-size-gt-MAX_SIZE : goal.returns-then-size-gt-MAX_SIZE
@@ -17,13 +18,15 @@ returns-then-size-gt-MAX_SIZE c =
     let read = rw (c.deref.ensures.value, c.in_ok-text.ensures) at c.in-Ok.ensures in
     let p = node_of c.in-Ok.node in
     let same = c.size.ensures ∙ ap (λ q. min (size q) 4_294_967_295) c.in_ok-root-in-Ok.ensures.same in
-    too_large (chars c.args.text.now) p read (size_over (size p) c.size.result 4_294_967_295 same c.if-size-gt-MAX_SIZE.true)
+    too_large (chars c.args.text.now) p read (size_over (size p) c.size.result 4_294_967_295 same
+    c.if-size-gt-MAX_SIZE.true)
 
 pub returns : goal.returns
 returns c =
     let read = rw (c.deref.ensures.value, c.in_ok-text.ensures) at c.in-Ok.ensures in
     let p = node_of c.in-Ok.node in
-    let is : c.size.result ≡ min (size p) 4_294_967_295 = c.size.ensures ∙ ap (λ q. min (size q) 4_294_967_295) c.in_ok-root-in-Ok.ensures.same in
+    let is : c.size.result ≡ min (size p) 4_294_967_295 = c.size.ensures ∙ ap
+    (λ q. min (size q) 4_294_967_295) c.in_ok-root-in-Ok.ensures.same in
     let fits = c.if-size-gt-MAX_SIZE.false in
     let same = size_is (size p) c.size.result 4_294_967_295 is fits (lit< tt) in
     subst (IsPatternOf (chars c.args.text.now)) (sym c.in_ok-root-in-Ok.ensures.same)
@@ -33,16 +36,15 @@ pub invariant_of-result : goal.invariant_of-result
 invariant_of-result c =
     let read = rw (c.deref.ensures.value, c.in_ok-text.ensures) at c.in-Ok.ensures in
     let p = node_of c.in-Ok.node in
-    let is : c.size.result ≡ min (size p) 4_294_967_295 = c.size.ensures ∙ ap (λ q. min (size q) 4_294_967_295) c.in_ok-root-in-Ok.ensures.same in
+    let is : c.size.result ≡ min (size p) 4_294_967_295 = c.size.ensures ∙ ap
+    (λ q. min (size q) 4_294_967_295) c.in_ok-root-in-Ok.ensures.same in
     let fits = c.if-size-gt-MAX_SIZE.false in
     let same = size_is (size p) c.size.result 4_294_967_295 is fits (lit< tt) in
+    let root = c.in_ok-root-in-Ok.root in
     record {
       sized = c.in_ok-root-in-Ok.ensures.sized;
       in_profile = ∣ subst InProfile (sym c.in_ok-root-in-Ok.ensures.same)
           (is_pattern (chars c.args.text.now) p read (subst (λ n. n ≤ 10_000) same fits)).in_profile ∣₁;
-      has_beginnings = ∣ c.in_ok-begins-in-Ok.ensures ∣₁;
+      whole_steps = ∣ no_table (pattern_in root) false c.new-whole.result c.new-whole.ensures.states ∣₁;
+      part_steps = ∣ no_table (pattern_in root) true c.new-part.result c.new-part.ensures.states ∣₁;
     }
-
-pub beginnings-requires-clause-fits : goal.beginnings-requires-clause-fits
-beginnings-requires-clause-fits c =
-    omega (arith, letters-unrolled (pattern_in c.in_ok-root-in-Ok.root), c.size.ensures, c.if-size-gt-MAX_SIZE.false)

@@ -1,4 +1,5 @@
-use Rattle.std.proofs.Common.{◌≡◌, ◌⊎◌, ◌↔◌, IsTrue, [], ◌∷◌, true, refl, sym, ap, ◌∙◌, subst, true≢false, append-nil}
+use Rattle.std.proofs.Common.{◌≡◌, ◌⊎◌, ◌↔◌, IsTrue, [], ◌∷◌, true, refl, sym, ap, ◌∙◌, subst, true≢false}
+use Rattle.std.proofs.Common.{append-nil}
 use Rattle.std.specs.Str.{chars}
 use Rattle.std.specs.Str.Iter.{chars_rest}
 use Rattle.jp_regexp.specs.Held.{pattern_of}
@@ -6,17 +7,21 @@ use Rattle.jp_regexp.specs.Language.{Member}
 use Rattle.jp_regexp.specs.Pattern.{Text}
 use Rattle.jp_regexp.specs.Terms.{IsLeft, pattern_read_by, places_of}
 use Rattle.jp_regexp.specs.Unrolled.{SomePlaceHas}
-use Rattle.jp_regexp.proofs.FindLemmas.{reading_first, reading_more, reading_end, all_left, began_first, no_part_first, find_more, no_part_more, began_found, found_began, skip_left, not_at_first, first_left}
+use Rattle.jp_regexp.proofs.FindLemmas.{reading_first, reading_more, reading_end, all_left, began_first}
+use Rattle.jp_regexp.proofs.FindLemmas.{no_part_first, find_more, no_part_more, began_found, found_began}
+use Rattle.jp_regexp.proofs.FindLemmas.{skip_left, not_at_first, first_left}
 use Rattle.jp_regexp.proofs.ProfileLemmas.{kept_profile}
-use Rattle.jp_regexp.proofs.pattern.Pattern.found_in.Goals as goal
+use Rattle.jp_regexp.proofs.pattern.Pattern.found_by_places.Goals as goal
 
 pub loop-c-init : goal.loop-c-init
 loop-c-init c =
     let terms = c.in_ok-terms.terms in
     let p = pattern_of c.args.self.now in
     let here : (u : Text) → IsLeft terms u ↔ Member p u =
-    subst (λ q. (u : Text) → SomePlaceHas q (places_of terms) u ↔ Member p u) (sym c.in_ok-terms.ensures.pattern)
-    (subst (λ ps. (u : Text) → SomePlaceHas p ps u ↔ Member p u) (sym c.in_ok-terms.ensures.places) (all_left p)) in
+    subst (λ q. (u : Text) → SomePlaceHas q (places_of terms) u ↔ Member p u)
+    (sym c.in_ok-terms.ensures.pattern)
+    (subst (λ ps. (u : Text) → SomePlaceHas p ps u ↔ Member p u) (sym c.in_ok-terms.ensures.places)
+    (all_left p)) in
     let begins : chars_rest c.into_iter-c-iterator.result ≡ c.args.text.now =
     ap chars_rest c.into_iter-c-iterator.ensures.into_iter_gives ∙ c.chars-c-items.ensures.rest in
     let reading = reading_first c.args.text.now c.into_iter-c-iterator.result c.utf8.text begins in (
@@ -33,12 +38,14 @@ loop-c-preserved c =
     let old = c.loop-c.terms in
     let new = c.read.new.self in
     let step : (t : Text) → IsLeft new t ↔ (IsLeft old (c.in-Some.c ∷ t) ⊎ (IsTrue true × Member p t)) =
-    subst (λ q. (t : Text) → IsLeft new t ↔ (IsLeft old (c.in-Some.c ∷ t) ⊎ (IsTrue true × Member q t))) kept.0 c.in_ok-read.ensures.ok in (
+    subst (λ q. (t : Text) → IsLeft new t ↔ (IsLeft old (c.in-Some.c ∷ t) ⊎ (IsTrue true × Member q t)))
+    kept.0 c.in_ok-read.ensures.ok in (
       c.read.ensures.pattern ∙ kept.0,
       find_more p c.loop-c.yielded c.in-Some.c (IsLeft old) (IsLeft new) kept.1 step,
       no_part_more p c.loop-c.yielded c.in-Some.c kept.2
           (λ h. true≢false (sym (c.in_ok-read.ensures.accepted.1 ((kept.1 []).1 h)) ∙ c.if-branch.false)),
-      reading_more (chars c.args.text.now) c.loop-c.yielded c.loop-c.c-iterator c.next.new.self kept.3 c.in-Some.c c.in-Some.ensures.steps,
+      reading_more (chars c.args.text.now) c.loop-c.yielded c.loop-c.c-iterator c.next.new.self kept.3
+          c.in-Some.c c.in-Some.ensures.steps,
     )
 
 pub returns-then-branch : goal.returns-then-branch
@@ -55,8 +62,10 @@ returns c =
     let kept = c.loop-c.invariant in
     let p = pattern_of c.args.self.now in
     let text = chars c.args.text.now in
-    let whole = reading_end text c.loop-c.yielded c.loop-c.c-iterator c.next.new.self kept.3 c.in-None.ensures.steps in (
-      λ h. began_found p text c.loop-c.yielded [] (whole ∙ sym (append-nil c.loop-c.yielded)) ((kept.1 []).0 (c.accepts-2.ensures.0 h)),
+    let whole = reading_end text c.loop-c.yielded c.loop-c.c-iterator c.next.new.self kept.3
+    c.in-None.ensures.steps in (
+      λ h. began_found p text c.loop-c.yielded [] (whole ∙ sym (append-nil c.loop-c.yielded))
+          ((kept.1 []).0 (c.accepts-2.ensures.0 h)),
       λ h. c.accepts-2.ensures.1 ((kept.1 []).1 (found_began p text c.loop-c.yielded whole kept.2 h)),
     )
 
@@ -69,10 +78,13 @@ loop-c-preserved-then-not-may_begin c =
     let places : places_of terms ≡ 0 ∷ [] = c.is_at_start.ensures.0 c.if-is_at_start.true in
     let none = c.may_begin.ensures c.if-not-may_begin.true in (
       kept.0,
-      skip_left p (kept_profile p c.args.self.now.in_profile).counts c.loop-c.yielded char (pattern_read_by terms) (places_of terms) kept.0 places none kept.1,
+      skip_left p (kept_profile p c.args.self.now.in_profile).counts c.loop-c.yielded char
+          (pattern_read_by terms) (places_of terms) kept.0 places none kept.1,
       no_part_more p c.loop-c.yielded char kept.2
           (λ h. not_at_first p (pattern_read_by terms) (places_of terms) c.loop-c.yielded kept.0 places kept.1
-          (λ m. true≢false (sym (c.accepts.ensures.1 (first_left p (pattern_read_by c.in_ok-terms.terms) (places_of c.in_ok-terms.terms)
+          (λ m. true≢false (sym (c.accepts.ensures.1 (first_left p (pattern_read_by c.in_ok-terms.terms)
+          (places_of c.in_ok-terms.terms)
           c.in_ok-terms.ensures.pattern c.in_ok-terms.ensures.places m)) ∙ c.if-accepts.false)) h),
-      reading_more (chars c.args.text.now) c.loop-c.yielded c.loop-c.c-iterator c.next.new.self kept.3 char c.in-Some.ensures.steps,
+      reading_more (chars c.args.text.now) c.loop-c.yielded c.loop-c.c-iterator c.next.new.self kept.3 char
+          c.in-Some.ensures.steps,
     )

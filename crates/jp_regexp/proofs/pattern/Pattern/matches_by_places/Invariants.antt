@@ -5,7 +5,7 @@ use Rattle.jp_regexp.specs.Language.{Member}
 use Rattle.jp_regexp.specs.Pattern.{Text}
 use Rattle.jp_regexp.proofs.FindLemmas.{IsReading}
 use Rattle.jp_regexp.specs.Terms.{IsLeft, pattern_read_by}
-use Rattle.jp_regexp.proofs.pattern.Pattern.matches.Given as goal
+use Rattle.jp_regexp.proofs.pattern.Pattern.matches_by_places.Given as goal
 
 -- what is left is what completes the text that was read
 abbrev pub invariant-loop-c : goal.invariant-loop-c

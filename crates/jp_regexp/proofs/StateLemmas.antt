@@ -1,0 +1,181 @@
+-- The states of a table, and its cells.
+use Rattle.std.proofs.Common.{◌≡◌, ℕ, zero, suc, ◌+◌, ◌*◌, ◌<◌, ◌≤◌, ◌⊎◌, Bool, true, nat_lt, IsTrue, List}
+use Rattle.std.proofs.Common.{[], ◌∷◌, ◌++◌, length, slice_index_or, inl, inr, refl, sym, ap, ◌∙◌, subst}
+use Rattle.std.proofs.Common.{arith, length-append}
+use Rattle.std.proofs.lemmas.Grind.{get_or_default_zero}
+use Rattle.std.proofs.lemmas.Bool.{cases_lt, lt-ltb, or_left}
+use Rattle.std.proofs.Math.ListN.{get_or-append, get_or-eq_default}
+use Rattle.std.proofs.Math.Seq.{get_or-append_seam}
+use Rattle.jp_regexp.specs.declared.table.State.{State}
+use Rattle.jp_regexp.specs.declared.those.Those.{Those}
+use Rattle.jp_regexp.specs.declared.those.Those.TheVariants as those
+use Rattle.jp_regexp.specs.Alike.{Alike, AreOf}
+use Rattle.jp_regexp.specs.CharSets.{is_scalar}
+use Rattle.jp_regexp.specs.Steps.{AreStates, Follows, Grows, HasPlaces, IsCell, IsCellOf, IsState, IsTableOf}
+use Rattle.jp_regexp.specs.Steps.{cell_at}
+use Rattle.jp_regexp.specs.Unrolled.{Unrolled}
+use Rattle.jp_regexp.specs.Walk.{advance, is_elem, leaves, Rises}
+use Rattle.jp_regexp.specs.declared.reach.Reach.{Reach}
+use Rattle.jp_regexp.proofs.SetLemmas.{advance_rises}
+
+-- a number that was read of a list
+pub first_is : (xs : List ℕ) (i x n : ℕ) → i < length xs → x ≡ slice_index_or xs i x → n ≡ x → n ≡
+    slice_index_or xs i 0
+first_is xs i x n lt e f = f ∙ e ∙ get_or_default_zero xs i x lt
+
+ascii_scalar : (c : ℕ) → c < 128 → IsTrue (is_scalar c)
+ascii_scalar c lt = or_left (nat_lt c 0xd800) _ (lt-ltb c 0xd800 (omega arith))
+
+module _ (p : Unrolled) where
+  -- a state of these places
+  pub state_with : (s : State) (live : List ℕ) → Rises 0 live → s.live.items ≡ live →
+      s.accepts ≡ leaves (is_elem live) p 0 s.at_start → IsState p s
+  state_with s live up e a =
+      record {
+        rises = subst (Rises 0) (sym e) up;
+        accepts = a ∙ ap
+            (λ xs. leaves (is_elem xs) p 0 s.at_start) (sym e);
+      }
+
+  pub only_start : (states : List State) (s : State) → states ≡ s ∷ [] → IsState p s → HasPlaces s [] true →
+      AreStates p states
+  only_start states s e of start =
+      subst (AreStates p) (sym e) (record { each = each; first = λ d lt. start }) where
+        each : (i : ℕ) (d : State) → i < 1 → IsState p (slice_index_or (s ∷ []) i d)
+        each zero d lt = of
+        each (suc i) d lt = absurd (omega arith)
+
+  pub grows_same : (states : List State) → AreStates p states → Grows p states states
+  grows_same states of = record { states = of; longer = omega arith; same = λ i d lt. refl }
+
+  pub grows_more : (states new : List State) (s : State) → 0 < length states → AreStates p states → IsState p
+      s →
+      new ≡ states ++ s ∷ [] → Grows p states new
+  grows_more states new s some of one e = subst (Grows p states) (sym e) more where
+    here : (i : ℕ) (d : State) → i < length states + 1 → (i < length states) ⊎ (length states ≤ i) →
+        IsState p (slice_index_or (states ++ s ∷ []) i d)
+    here i d h (inl lt) = subst (IsState p) (sym (get_or-append states (s ∷ []) d i lt)) (of.each i d lt)
+    here i d h (inr ge) =
+        let at : length states ≡ i = omega arith in
+        subst (λ n. IsState p (slice_index_or (states ++ s ∷ []) n d)) at
+        (subst (IsState p) (sym (get_or-append_seam states s [] d)) one)
+
+    more : Grows p states (states ++ s ∷ [])
+    more = record {
+      states = record {
+        each = λ i d lt. here i d (omega (arith, length-append states (s ∷ []))) (cases_lt i (length states));
+        first = λ d lt. subst (λ t. HasPlaces t [] true) (sym (get_or-append states (s ∷ []) d 0 some))
+            (of.first d some);
+      };
+      longer = omega (arith, length-append states (s ∷ []));
+      same = λ i d lt. get_or-append states (s ∷ []) d i lt;
+    }
+
+  module _ (anew : Bool) where
+    cell_kept : (states new : List State) → Grows p states new → (i column v : ℕ) → i < length states →
+        IsCellOf p anew states i column v → IsCellOf p anew new i column v
+    cell_kept states new grows i column v lt of c scalar is =
+        let old = of c scalar is in
+        record {
+          within = λ e. omega (arith, old.within e, grows.longer);
+          follows = λ s t e.
+              subst (λ from. Follows p anew from c (slice_index_or new v t)) (sym (grows.same i s lt))
+              (subst (λ to. Follows p anew (slice_index_or states i s) c to)
+              (sym (grows.same v t (old.within e)))
+              (old.follows s t e));
+        }
+
+    pub empty_cell : (states : List State) (i column v : ℕ) → v ≡ 255 → IsCellOf p anew states i column v
+    empty_cell states i column v z c scalar is =
+        record { within = λ e. absurd (omega arith); follows = λ s t e. absurd (omega arith) }
+
+    pub first_table : (states : List State) → length states ≡ 1 → AreStates p states → IsTableOf p anew
+        states []
+    first_table states one of = record {
+      known = of;
+      few = omega arith;
+      cell = λ i column lt in_row. empty_cell states i column 255 refl;
+    }
+
+    -- the cell of a character is that of each that is like it
+    pub cell_alike : (states : List State) (i v : ℕ) (those : Those) → Alike p those → (c d : ℕ) → AreOf
+        those c d →
+        IsCell p anew states i c v → IsCell p anew states i d v
+    cell_alike states i v those alike c d are of = record {
+      within = of.within;
+      follows = λ s t e.
+          let from = slice_index_or states i s in
+          subst (λ live. HasPlaces (slice_index_or states v t) live anew)
+          (alike.reads c d are (is_elem from.live.items) 0 from.at_start) (of.follows s t e);
+    }
+
+    -- no character has a column behind the others'
+    pub cell_none : (states : List State) (i v column : ℕ) → 128 < column → IsCellOf p anew states i column v
+    cell_none states i v column lt c scalar is = absurd (omega arith)
+
+    -- the column of a character of ASCII is its own
+    pub cell_ascii : (states : List State) (i v code column : ℕ) → code ≡ column → column < 128 → IsCell p
+        anew states i code v →
+        IsCellOf p anew states i column v
+    cell_ascii states i v code column e lt of c scalar is =
+        let same : code ≡ c = omega arith in
+        subst (λ n. IsCell p anew states i n v) same of
+
+    -- the column of a character that is like another of ASCII
+    pub cell_first : (states : List State) (i v first column : ℕ) → column < 128 → first < column →
+        Alike p (those.Both first column) → IsCellOf p anew states i first v → IsCellOf p anew states i
+        column v
+    cell_first states i v first column lt below alike of c scalar is =
+        let same : column ≡ c = omega arith in
+        let one : IsCell p anew states i first v = of first (ascii_scalar first (omega arith)) (omega arith)
+        in
+        subst (λ n. IsCell p anew states i n v) same
+        (cell_alike states i v (those.Both first column) alike first column (refl, refl) one)
+
+    -- the column of all others
+    pub cell_past : (states : List State) (i v column : ℕ) → column ≡ 128 → Alike p those.PastAscii →
+        IsCell p anew states i 128 v → IsCellOf p anew states i column v
+    cell_past states i v column e alike of c scalar is =
+        cell_alike states i v those.PastAscii alike 128 c (refl, omega arith, scalar) of
+
+    module _ (states new : List State) (cells after : List ℕ) (from column v : ℕ)
+        (known : from < length states)
+        (next : length cells ≡ from * 256 + column) (grows : Grows p states new)
+        (table : IsTableOf p anew states cells)
+        (one : IsCellOf p anew new from column v) (in_row : column < 256) where
+      cell_here : (i k : ℕ) → i < length new → k < 256 →
+          (i * 256 + k < length cells) ⊎ (length cells ≤ i * 256 + k) → IsCellOf p anew new i k
+          (cell_at (cells ++ v ∷ []) i k)
+      cell_here i k lt lo (inl h) =
+          let old : i < length states = omega arith in
+          subst (IsCellOf p anew new i k) (sym (get_or-append cells (v ∷ []) 255 (i * 256 + k) h))
+          (cell_kept states new grows i k (cell_at cells i k) old (table.cell i k old lo))
+      cell_here i k lt lo (inr h) = last (cases_lt (from * 256 + column) (i * 256 + k)) where
+        last : (from * 256 + column < i * 256 + k) ⊎ (i * 256 + k ≤ from * 256 + column) →
+            IsCellOf p anew new i k (cell_at (cells ++ v ∷ []) i k)
+        last (inl past) =
+            let end : length (cells ++ v ∷ []) ≤ i * 256 + k = omega (arith, length-append cells (v ∷ [])) in
+            empty_cell new i k _ (get_or-eq_default (cells ++ v ∷ []) 255 end)
+        last (inr up) =
+            let row : from ≡ i = omega arith in
+            let same : column ≡ k = omega arith in
+            let at : length cells ≡ i * 256 + k = omega arith in
+            subst (λ n. IsCellOf p anew new i k (slice_index_or (cells ++ v ∷ []) n 255)) at
+            (subst (IsCellOf p anew new i k) (sym (get_or-append_seam cells v [] 255))
+            (subst (λ n. IsCellOf p anew new n k v) row (subst (λ n. IsCellOf p anew new from n v) same one)))
+
+      pub table_more : length new ≤ 255 → after ≡ cells ++ v ∷ [] → IsTableOf p anew new after
+      table_more few e = subst (IsTableOf p anew new) (sym e) (record {
+        known = grows.states;
+        few = few;
+        cell = λ i k lt lo. cell_here i k lt lo (cases_lt (i * 256 + k) (length cells));
+      })
+
+-- the places behind a character rise
+pub reads_rises : (p : Unrolled) (c : ℕ) (places before after : List ℕ) (at : Reach) → before ≡ [] → at.past
+    ≡ 0 →
+    after ≡ before ++ advance (is_elem places) c p at.past at.entered → Rises 0 after
+reads_rises p c places before after at none first e =
+    subst (Rises 0) (sym (e ∙ ap (λ xs. xs ++ advance (is_elem places) c p at.past at.entered) none))
+    (subst (λ n. Rises n (advance (is_elem places) c p at.past at.entered)) first
+    (advance_rises (is_elem places) c p at.past at.entered))

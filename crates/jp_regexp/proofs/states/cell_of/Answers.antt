@@ -1,0 +1,16 @@
+use Rattle.std.proofs.Common.{arith, ap, ◌∙◌, sym}
+use Rattle.jp_regexp.specs.Parts.{unrolled_in}
+use Rattle.jp_regexp.specs.Walk.{is_elem, leaves}
+use Rattle.jp_regexp.proofs.StateLemmas.{grows_more, state_with}
+use Rattle.jp_regexp.proofs.states.cell_of.Goals as goal
+
+pub returns-clause-grows : goal.returns-clause-grows
+returns-clause-grows c =
+    let p = unrolled_in c.args.source.root.now in
+    let made = c.state_of.ensures in
+    let live = c.in_ok-next.next.items in
+    grows_more p c.args.states.now.items c.push.new.self.items c.state_of.result (omega arith)
+    c.requires.states
+    (state_with p c.state_of.result live c.in_ok-next.ensures.rises made.live
+    (made.accepts ∙ ap (λ b. leaves (is_elem live) p 0 b) (sym made.at_start)))
+    c.in_ok-push.ensures.items

@@ -1,0 +1,55 @@
+//! What a pattern matches, where its tables have each step that is taken.
+
+ghost use Rattle.std.specs.Prelude.{◌≡◌, ◌↔◌, IfSome, IsTrue};
+ghost use Rattle.std.specs.Str.{chars};
+ghost use Rattle.jp_regexp.specs.Held.{HasPart, pattern_of};
+ghost use Rattle.jp_regexp.specs.Language.{Member};
+
+use crate::pattern::Pattern;
+use crate::table::NONE;
+
+impl Pattern {
+    /// Whether the whole text is in the pattern's language, where the table tells (RFC 9485, 4).
+    pub(crate) fn matches_by_table(&self, text: &str) -> Option<bool>
+        ensures { IfSome result (λ b. IsTrue b ↔ Member (pattern_of self.now) (chars text.now)) }
+    {
+        let table = &self.whole;
+        if table.states.is_empty() {
+            return None;
+        }
+        let mut state = 0;
+        for c in text.chars() {
+            let behind = table.next(state, c);
+            if behind == NONE {
+                return None;
+            }
+            state = usize::from(behind);
+            if table.states[state].is_dead() {
+                return Some(false);
+            }
+        }
+        Some(table.states[state].accepts)
+    }
+
+    /// Whether some part of the text is in the pattern's language, where the table tells.
+    pub(crate) fn found_by_table(&self, text: &str) -> Option<bool>
+        ensures { IfSome result (λ b. IsTrue b ↔ HasPart (pattern_of self.now) (chars text.now)) }
+    {
+        let table = &self.part;
+        if table.states.is_empty() {
+            return None;
+        }
+        let mut state = 0;
+        for c in text.chars() {
+            if table.states[state].accepts {
+                return Some(true);
+            }
+            let behind = table.next(state, c);
+            if behind == NONE {
+                return None;
+            }
+            state = usize::from(behind);
+        }
+        Some(table.states[state].accepts)
+    }
+}
