@@ -9,14 +9,14 @@ pub tend-requires-clause-sound : goal.tend-requires-clause-sound
 tend-requires-clause-sound g c =
     let v = view_of c.loop-piece.seat in
     let parts = c.loop-piece.parts.items in
-    subst (λ (w : View). AreSound c.args.pieces.now w.claims w.reports parts) (sym c.in-Some.ensures.claimed)
+    subst (λ (w : View). AreSound c.args.pieces.now w.claims w.reports parts) (sym {A = View} c.in-Some.ensures.claimed)
     (sound_claim c.args.pieces.now v.claims v.reports parts c.in-Some.piece c.loop-piece.invariant.sound)
 
 pub tend-requires-clause-tended : goal.tend-requires-clause-tended
 tend-requires-clause-tended g c =
     let v = view_of c.loop-piece.seat in
     let parts = c.loop-piece.parts.items in
-    subst (λ (w : View). OthersAreTended c.in-Some.piece w.claims w.looks parts) (sym c.in-Some.ensures.claimed)
+    subst (λ (w : View). OthersAreTended c.in-Some.piece w.claims w.looks parts) (sym {A = View} c.in-Some.ensures.claimed)
     (tended_claim v.claims v.looks parts c.in-Some.piece (c.loop-piece.invariant.tended c.if-not-wanted.true))
 
 pub loop-piece-preserved-then-not-wanted : goal.loop-piece-preserved-then-not-wanted
@@ -36,7 +36,7 @@ loop-piece-preserved g c =
     record {
       seat = c.in-Some.ensures.seat;
       floor = floor_above (view_of c.claim.new.seat).claims c.in-Some.piece c.in-Some.ensures.mine;
-      sound = subst (λ (w : View). AreSound c.args.pieces.now w.claims w.reports parts) (sym c.in-Some.ensures.claimed)
+      sound = subst (λ (w : View). AreSound c.args.pieces.now w.claims w.reports parts) (sym {A = View} c.in-Some.ensures.claimed)
           (sound_claim c.args.pieces.now v.claims v.reports parts c.in-Some.piece c.loop-piece.invariant.sound);
       tended = λ fine. let wanted = c.if-not-wanted.false in absurd (cc);
     }
@@ -47,6 +47,6 @@ returns-clause-worked g c =
     let parts = c.loop-piece.parts.items in
     record {
       told = c.in_default.ensures.told;
-      sound = subst (λ (w : View). AreSound c.args.pieces.now w.claims w.reports parts) (sym c.in_default.ensures.none) c.loop-piece.invariant.sound;
-      tended = λ fine. subst (λ (w : View). AreTended w.claims w.looks parts) (sym c.in_default.ensures.none) (c.loop-piece.invariant.tended fine);
+      sound = subst (λ (w : View). AreSound c.args.pieces.now w.claims w.reports parts) (sym {A = View} c.in_default.ensures.none) c.loop-piece.invariant.sound;
+      tended = λ fine. subst (λ (w : View). AreTended w.claims w.looks parts) (sym {A = View} c.in_default.ensures.none) (c.loop-piece.invariant.tended fine);
     }
