@@ -1,5 +1,7 @@
 -- What placing a part, and joining what stands at a place, do.
-use Rattle.std.proofs.Common.{◌≡◌, ◌≢◌, refl, ℕ, zero, suc, ◌<◌, ◌≤◌, List, [], ◌∷◌, ◌++◌, length, set, replicate, Option, Some, None, option_map, false, Contains, sym, ap, subst, ⊎_elim, ◌∙◌, arith, append_assoc}
+use Rattle.std.proofs.Common.{◌≡◌, ◌≢◌, refl, ℕ, zero, suc, ◌<◌, ◌≤◌, List, [], ◌∷◌, ◌++◌, length, set}
+use Rattle.std.proofs.Common.{replicate, Option, Some, None, option_map, false, Contains, sym, ap, subst}
+use Rattle.std.proofs.Common.{⊎_elim, ◌∙◌, arith, append_assoc}
 use Rattle.std.specs.Prelude.{is_some, slice_get}
 use mathlib.Core.Logic.{dite}
 use native.Mathlib.Decide.{ℕ_discrete}
@@ -34,7 +36,8 @@ from_none n x a at =
     let none : List (Option Answer) = replicate n None in
     let w = slice_get_within none x (Some a) at in
     let short : x < n = omega (arith, w, length-replicate {A = Option Answer} n None) in
-    let e : ◌≡◌ {A = Option Answer} None (Some a) = sym (get_or-replicate n x None None short) ∙ get_or_from_slice_get none x (Some a) None at in
+    let e : ◌≡◌ {A = Option Answer} None (Some a) = sym (get_or-replicate n x None None short)
+    ∙ get_or_from_slice_get none x (Some a) None at in
     absurd (cc)
 
 -- a place past the end
@@ -48,38 +51,57 @@ module _ (parts : List Part) (new : Part) (placed : List (Option Answer)) where
   put = set placed new.piece (Some new.answer)
 
   -- one more part is put
-  pub placed_more : (n : ℕ) → length placed ≡ n → ((x : ℕ) → x < n → Contains (pieces_of parts) x → IsPlaced placed x)
+  pub placed_more : (n : ℕ) → length placed ≡ n → ((x : ℕ) → x < n → Contains (pieces_of parts) x
+      → IsPlaced placed x)
       → (x : ℕ) → x < n → Contains (pieces_of (parts ++ new ∷ [])) x → IsPlaced put x
   placed_more n len old x below has = dite (ℕ_discrete x new.piece)
-      (λ e. let room : new.piece < length placed = omega arith in (new.answer, subst (λ y. StandsAt put y new.answer) (sym e) (get_same placed new.piece (Some new.answer) room)))
+      (λ e. let room : new.piece < length placed = omega arith in (
+        new.answer,
+        subst (λ y. StandsAt put y new.answer) (sym e) (get_same placed new.piece
+            (Some new.answer) room),
+      ))
       (λ apart. ⊎_elim
       (λ h. let o = old x below h in (o.0, get_other placed new.piece x (Some new.answer) apart ∙ o.1))
       (λ (e : new.piece ≡ x). absurd (apart (sym e)))
       (has_cases parts new x has))
 
-  same_part : (x : ℕ) (a : Answer) → new.piece ≡ x → new.answer ≡ a → ◌≡◌ {A = Part} new (record { piece = x; answer = a })
-  same_part x a e f = ap (λ (y : ℕ). record { piece = y; answer = new.answer }) e ∙ ap (λ (b : Answer). record { piece = x; answer = b }) f
+  same_part : (x : ℕ) (a : Answer) → new.piece ≡ x → new.answer ≡ a
+      → ◌≡◌ {A = Part} new (record { piece = x; answer = a })
+  same_part x a e f = ap (λ (y : ℕ). record { piece = y; answer = new.answer }) e
+      ∙ ap (λ (b : Answer). record { piece = x; answer = b }) f
 
   pub from_more : ComeFrom parts placed → ComeFrom (parts ++ new ∷ []) put
   from_more old x a at = dite (ℕ_discrete x new.piece)
       (λ e.
       let here : StandsAt put new.piece a = subst (λ y. StandsAt put y a) e at in
       let w = slice_get_within put new.piece (Some a) here in
-      let room : new.piece < length placed = omega (arith, w, length-set {A = Option Answer} placed new.piece (Some new.answer)) in
-      let same : Some (Some new.answer) ≡ Some (Some a) = sym (get_same placed new.piece (Some new.answer) room) ∙ here in
+      let room : new.piece < length placed = omega (
+        arith,
+        w,
+        length-set {A = Option Answer} placed
+            new.piece (Some new.answer),
+      ) in
+      let same : Some (Some new.answer) ≡ Some (Some a) = sym (get_same placed new.piece
+      (Some new.answer) room) ∙ here in
       let f : new.answer ≡ a = cc in
       subst (Contains (parts ++ new ∷ [])) (same_part x a (sym e) f) (Contains-push parts new))
-      (λ apart. Contains-append_left parts (new ∷ []) (record { piece = x; answer = a }) (old x a (sym (get_other placed new.piece x (Some new.answer) apart) ∙ at)))
+      (λ apart. Contains-append_left parts (new ∷ []) (record { piece = x; answer = a }) (old x a (sym
+      (get_other placed new.piece x (Some new.answer) apart) ∙ at)))
 
-goes_on : (a : Answer) (rest : answers.Answer) → false ≡ is_some a.stopped → joined (answer_of a) rest ≡ after a.bytes.items rest
+goes_on : (a : Answer) (rest : answers.Answer) → false ≡ is_some a.stopped
+    → joined (answer_of a) rest ≡ after a.bytes.items rest
 goes_on a rest plain = by_stop a.stopped plain where
-  by_stop : (s : Option DocStop) → false ≡ is_some s → unless_stopped (option_map (λ s. (s.line, s.fault)) s) (answer_of a) rest ≡ after a.bytes.items rest
+  by_stop : (s : Option DocStop) → false ≡ is_some s
+      → unless_stopped (option_map (λ s. (s.line, s.fault)) s) (answer_of a) rest ≡ after a.bytes.items rest
   by_stop None e = refl
   by_stop (Some s) e = absurd (cc)
 
 -- one more answer is joined, and has not stopped
-pub joined_more : (all rest : answers.Answer) (a : Answer) (bytes new : List ℕ) → all ≡ after bytes (joined (answer_of a) rest) → false ≡ is_some a.stopped → new ≡ bytes ++ a.bytes.items
+pub joined_more : (all rest : answers.Answer) (a : Answer) (bytes new : List ℕ)
+    → all ≡ after bytes (joined (answer_of a) rest) → false ≡ is_some a.stopped → new ≡ bytes ++ a.bytes.items
     → all ≡ after new rest
 joined_more all rest a bytes new so plain is =
-    so ∙ ap (after bytes) (goes_on a rest plain) ∙ ap (λ bs. record { bytes = bs; stopped = rest.stopped }) (sym (append_assoc bytes a.bytes.items rest.bytes))
+    so ∙ ap (after bytes) (goes_on a rest plain) ∙ ap
+    (λ bs. record { bytes = bs; stopped = rest.stopped }) (sym
+    (append_assoc bytes a.bytes.items rest.bytes))
     ∙ ap (λ bs. after bs rest) (sym is)

@@ -1,10 +1,15 @@
 -- What the workers did together, and the answer that their parts give.
-use Rattle.std.proofs.Common.{◌≡◌, refl, ℕ, zero, suc, ◌+◌, ◌*◌, ◌<◌, ◌≤◌, ◌⊎◌, inl, inr, List, [], ◌∷◌, ◌++◌, length, take, drop, map, flat_map, Option, Some, None, Result, Ok, Err, false, All, Contains, sym, ap, subst, ⊎_elim, ◌∙◌, arith, add-zero, zero-add, append-nil}
+use Rattle.std.proofs.Common.{◌≡◌, refl, ℕ, zero, suc, ◌+◌, ◌*◌, ◌<◌, ◌≤◌, ◌⊎◌, inl, inr, List, [], ◌∷◌, ◌++◌}
+use Rattle.std.proofs.Common.{length, take, drop, map, flat_map, Option, Some, None, Result, Ok, Err, false}
+use Rattle.std.proofs.Common.{All, Contains, sym, ap, subst, ⊎_elim, ◌∙◌, arith, add-zero, zero-add}
+use Rattle.std.proofs.Common.{append-nil}
 use Rattle.std.specs.Prelude.{IsSome, IfOk, min}
 use Rattle.std.proofs.Math.ListN.{drop_of_length-le}
 use Rattle.std.proofs.Math.Nat.{add-mul, one-mul, zero-mul}
 use Rattle.std.proofs.lemmas.List.{map-append, drop-drop, take-append-drop}
-use Rattle.std.proofs.lemmas.List.Elements.{All-nil, All-append, All-head, All-tail, All-contains, Contains-append_left, Contains-append_right, Contains-append_cases}
+use Rattle.std.proofs.lemmas.List.Elements.{All-nil, All-append, All-head, All-tail, All-contains}
+use Rattle.std.proofs.lemmas.List.Elements.{Contains-append_left, Contains-append_right}
+use Rattle.std.proofs.lemmas.List.Elements.{Contains-append_cases}
 use Rattle.std.proofs.lemmas.List.Sums.{sum_by-cons}
 use Rattle.std.proofs.lemmas.Option.{get_or_from_slice_get}
 use Rattle.jp_doc.specs.Lines.{Line, line_of}
@@ -32,37 +37,46 @@ use Rattle.jp_answer.proofs.Joining.{after_joined_by, pieces_joined}
 
 -- an answer is joined to others
 
-assoc_by : (stop : Option (ℕ × DocFault)) (a b c : answers.Answer) → a.stopped ≡ stop → joined (unless_stopped stop a b) c ≡ unless_stopped stop a (joined b c)
+assoc_by : (stop : Option (ℕ × DocFault)) (a b c : answers.Answer) → a.stopped ≡ stop
+    → joined (unless_stopped stop a b) c ≡ unless_stopped stop a (joined b c)
 assoc_by None a b c e = sym (after_joined_by a.bytes b.stopped b c)
 assoc_by (Some s) a b c e = ap (λ (t : Option (ℕ × DocFault)). unless_stopped t a c) e
 
 joined_assoc : (a b c : answers.Answer) → joined (joined a b) c ≡ joined a (joined b c)
 joined_assoc a b c = assoc_by a.stopped a b c refl
 
-first_stops : (stop : Option (ℕ × DocFault)) (a b : answers.Answer) → a.stopped ≡ stop → IsSome stop → IsSome (unless_stopped stop a b).stopped
+first_stops : (stop : Option (ℕ × DocFault)) (a b : answers.Answer) → a.stopped ≡ stop → IsSome stop
+    → IsSome (unless_stopped stop a b).stopped
 first_stops None a b e h = absurd (cc)
 first_stops (Some s) a b e h = subst IsSome (sym e) refl
 
-second_stops : (stop : Option (ℕ × DocFault)) (a b : answers.Answer) → a.stopped ≡ stop → IsSome b.stopped → IsSome (unless_stopped stop a b).stopped
+second_stops : (stop : Option (ℕ × DocFault)) (a b : answers.Answer) → a.stopped ≡ stop
+    → IsSome b.stopped → IsSome (unless_stopped stop a b).stopped
 second_stops None a b e h = h
 second_stops (Some s) a b e h = subst IsSome (sym e) refl
 
 -- where one that stands there has stopped, so have all together
-all_stop : (placed : List (Option Answer)) (x : ℕ) (a : Answer) → StandsAt placed x a → IsSome (answer_of a).stopped → IsSome (joined_all placed).stopped
+all_stop : (placed : List (Option Answer)) (x : ℕ) (a : Answer) → StandsAt placed x a
+    → IsSome (answer_of a).stopped → IsSome (joined_all placed).stopped
 all_stop [] x a at h = absurd (cc)
 all_stop (None ∷ os) zero a at h = absurd (cc)
 all_stop (Some b ∷ os) zero a at h =
     let e : b ≡ a = cc in
-    first_stops (answer_of b).stopped (answer_of b) (joined_all os) refl (subst (λ (c : Answer). IsSome (answer_of c).stopped) (sym e) h)
+    first_stops (answer_of b).stopped (answer_of b) (joined_all os) refl (subst (λ (c : Answer). IsSome
+    (answer_of c).stopped) (sym e) h)
 all_stop (None ∷ os) (suc x) a at h = all_stop os x a at h
-all_stop (Some b ∷ os) (suc x) a at h = second_stops (answer_of b).stopped (answer_of b) (joined_all os) refl (all_stop os x a at h)
+all_stop (Some b ∷ os) (suc x) a at h = second_stops (answer_of b).stopped (answer_of b)
+    (joined_all os) refl (all_stop os x a at h)
 
-stopped_alone : (stop : Option (ℕ × DocFault)) (a b : answers.Answer) → IsSome stop → unless_stopped stop a b ≡ a
+stopped_alone : (stop : Option (ℕ × DocFault)) (a b : answers.Answer) → IsSome stop
+    → unless_stopped stop a b ≡ a
 stopped_alone None a b h = absurd (cc)
 stopped_alone (Some s) a b h = refl
 
-with_nothing : (stop : Option (ℕ × DocFault)) (a : answers.Answer) → a.stopped ≡ stop → unless_stopped stop a nothing ≡ a
-with_nothing None a e = ap (λ bs. record { bytes = bs; stopped = None }) (append-nil a.bytes) ∙ ap (λ s. record { bytes = a.bytes; stopped = s }) (sym e)
+with_nothing : (stop : Option (ℕ × DocFault)) (a : answers.Answer) → a.stopped ≡ stop
+    → unless_stopped stop a nothing ≡ a
+with_nothing None a e = ap (λ bs. record { bytes = bs; stopped = None }) (append-nil a.bytes)
+    ∙ ap (λ s. record { bytes = a.bytes; stopped = s }) (sym e)
 with_nothing (Some s) a e = refl
 
 module _ (p : Pieces) where
@@ -78,14 +92,18 @@ module _ (p : Pieces) where
       let rest : List code.Line = drop (x * p.size) p.lines.now in
       let cut : rest ≡ take p.size rest ++ drop ((x + 1) * p.size) p.lines.now =
       sym (take-append-drop p.size rest)
-      ∙ ap (λ (l : List code.Line). take p.size rest ++ l) (drop-drop p.size (x * p.size) p.lines.now ∙ ap (λ n. drop n p.lines.now) (next_place x)) in
+      ∙ ap (λ (l : List code.Line). take p.size rest ++ l) (drop-drop p.size (x * p.size) p.lines.now
+      ∙ ap (λ n. drop n p.lines.now) (next_place x)) in
       ap (map line_of) cut ∙ map-append line_of (take p.size rest) (drop ((x + 1) * p.size) p.lines.now)
 
   -- the answer to the piece with this number stands at each place, counted from a piece on
   abbrev StandFrom : Tests → ℕ → List (Option Answer) → Type 0
-  StandFrom t x placed = (k : ℕ) → k < length placed → (a : Answer) × StandsAt placed k a × (answer t (planned_query p.plan.now) (piece_lines p (x + k)) ≡ answer_of a)
+  StandFrom t x placed = (k : ℕ) → k < length placed
+      → (a : Answer) × StandsAt placed k a × (answer t (planned_query p.plan.now) (piece_lines p (x + k))
+      ≡ answer_of a)
 
-  one_later : (t : Tests) (x : ℕ) (o : Option Answer) (os : List (Option Answer)) → StandFrom t x (o ∷ os) → StandFrom t (x + 1) os
+  one_later : (t : Tests) (x : ℕ) (o : Option Answer) (os : List (Option Answer))
+      → StandFrom t x (o ∷ os) → StandFrom t (x + 1) os
   one_later t x o os each k h =
       let (a, at, is) = each (suc k) (omega arith) in
       let e : x + suc k ≡ x + 1 + k = omega arith in
@@ -93,14 +111,16 @@ module _ (p : Pieces) where
 
   -- what stands there, and then the answer to the other lines
   joined_pieces : (t : Tests) (placed : List (Option Answer)) (x : ℕ) → StandFrom t x placed
-      → joined (joined_all placed) (answer t (planned_query p.plan.now) (lines_from (x + length placed))) ≡ answer t (planned_query p.plan.now) (lines_from x)
+      → joined (joined_all placed) (answer t (planned_query p.plan.now) (lines_from (x + length placed)))
+      ≡ answer t (planned_query p.plan.now) (lines_from x)
   joined_pieces t [] x each = ap (λ n. answer t (planned_query p.plan.now) (lines_from n)) (add-zero x)
   joined_pieces t (None ∷ os) x each = let (a, at, is) = each 0 (omega arith) in absurd (cc)
   joined_pieces t (Some b ∷ os) x each =
       let q = planned_query p.plan.now in
       let (a, at, is) = each 0 (omega arith) in
       let same : b ≡ a = cc in
-      let here : answer_of b ≡ answer t q (piece_lines p x) = ap answer_of same ∙ sym is ∙ ap (λ n. answer t q (piece_lines p n)) (add-zero x) in
+      let here : answer_of b ≡ answer t q (piece_lines p x) = ap answer_of same ∙ sym is
+      ∙ ap (λ n. answer t q (piece_lines p n)) (add-zero x) in
       let e : x + suc (length os) ≡ x + 1 + length os = omega arith in
       ap (λ n. joined (joined (answer_of b) (joined_all os)) (answer t q (lines_from n))) e
       ∙ joined_assoc (answer_of b) (joined_all os) (answer t q (lines_from (x + 1 + length os)))
@@ -111,7 +131,8 @@ module _ (p : Pieces) where
   -- what stands there are the answers to the first pieces, and these are all or have a faulty one
   pub record ArePlaced (placed : List (Option Answer)) : Type 0 where
     pub each : (x : ℕ) → x < length placed → (a : Answer) × StandsAt placed x a × IsPieceAnswer p x a
-    pub enough : (length p.lines.now ≤ length placed * p.size) ⊎ ((x : ℕ) × (x < length placed) × IsFaulty p x)
+    pub enough : (length p.lines.now ≤ length placed * p.size) ⊎ ((x : ℕ) × (x < length placed)
+        × IsFaulty p x)
 
   from_start : lines_from 0 ≡ map line_of p.lines.now
   from_start = ap (λ n. map line_of (drop n p.lines.now)) (zero-mul p.size)
@@ -124,10 +145,16 @@ module _ (p : Pieces) where
       let all = joined_all placed in
       let rest = answer t q (lines_from (0 + length placed)) in
       let whole : joined all rest ≡ answer t q (map line_of p.lines.now) =
-      joined_pieces t placed 0 (λ k lt. let (a, at, is) = h.each k lt in (a, at, subst (λ n. answer t q (piece_lines p n) ≡ answer_of a) (sym (zero-add k)) (is.answer t right))) ∙ ap (answer t q) from_start in
+      joined_pieces t placed 0 (λ k lt. let (a, at, is) = h.each k lt in (
+        a,
+        at,
+        subst (λ n. answer t q (piece_lines p n) ≡ answer_of a) (sym (zero-add k))
+            (is.answer t right),
+      )) ∙ ap (answer t q) from_start in
       sym whole ∙ ⊎_elim
       (λ (long : length p.lines.now ≤ length placed * p.size).
-      let none : lines_from (0 + length placed) ≡ [] = ap (λ n. lines_from n) (zero-add (length placed)) ∙ ap (map line_of) (drop_of_length-le p.lines.now long) in
+      let none : lines_from (0 + length placed) ≡ [] = ap (λ n. lines_from n) (zero-add (length placed))
+      ∙ ap (map line_of) (drop_of_length-le p.lines.now long) in
       ap (λ ls. joined all (answer t q ls)) none ∙ with_nothing all.stopped all refl)
       (λ (f : (x : ℕ) × (x < length placed) × IsFaulty p x).
       let (a, at, is) = h.each f.0 f.1 in
@@ -143,23 +170,32 @@ abbrev parts_of : List Worker → List Part
 parts_of ws = flat_map (λ w. w.parts.items) ws
 
 has_left : (xs ys : List Part) (x : ℕ) → Contains (pieces_of xs) x → Contains (pieces_of (xs ++ ys)) x
-has_left xs ys x h = subst (λ l. Contains l x) (sym (map-append (λ (q : Part). q.piece) xs ys)) (Contains-append_left (pieces_of xs) (pieces_of ys) x h)
+has_left xs ys x h = subst (λ l. Contains l x) (sym (map-append (λ (q : Part). q.piece) xs ys))
+    (Contains-append_left (pieces_of xs) (pieces_of ys) x h)
 
 has_right : (xs ys : List Part) (x : ℕ) → Contains (pieces_of ys) x → Contains (pieces_of (xs ++ ys)) x
-has_right xs ys x h = subst (λ l. Contains l x) (sym (map-append (λ (q : Part). q.piece) xs ys)) (Contains-append_right (pieces_of xs) (pieces_of ys) x h)
+has_right xs ys x h = subst (λ l. Contains l x) (sym (map-append (λ (q : Part). q.piece) xs ys))
+    (Contains-append_right (pieces_of xs) (pieces_of ys) x h)
 
-has_either : (xs ys : List Part) (x : ℕ) → Contains (pieces_of (xs ++ ys)) x → Contains (pieces_of xs) x ⊎ Contains (pieces_of ys) x
-has_either xs ys x h = Contains-append_cases (pieces_of xs) (pieces_of ys) x (subst (λ l. Contains l x) (map-append (λ (q : Part). q.piece) xs ys) h)
+has_either : (xs ys : List Part) (x : ℕ) → Contains (pieces_of (xs ++ ys)) x
+    → Contains (pieces_of xs) x ⊎ Contains (pieces_of ys) x
+has_either xs ys x h = Contains-append_cases (pieces_of xs) (pieces_of ys) x (subst (λ l. Contains l x)
+    (map-append (λ (q : Part). q.piece) xs ys) h)
 
-tended_left : (looks more : List ℕ) (xs ys : List Part) (x : ℕ) → IsTended looks xs x → IsTended (looks ++ more) (xs ++ ys) x
+tended_left : (looks more : List ℕ) (xs ys : List Part) (x : ℕ) → IsTended looks xs x
+    → IsTended (looks ++ more) (xs ++ ys) x
 tended_left looks more xs ys x (inl has) = inl (has_left xs ys x has)
-tended_left looks more xs ys x (inr (mark, seen, below)) = inr (mark, Contains-append_left looks more mark seen, below)
+tended_left looks more xs ys x (inr (mark, seen, below)) = inr
+    (mark, Contains-append_left looks more mark seen, below)
 
-tended_right : (looks more : List ℕ) (xs ys : List Part) (x : ℕ) → IsTended more ys x → IsTended (looks ++ more) (xs ++ ys) x
+tended_right : (looks more : List ℕ) (xs ys : List Part) (x : ℕ) → IsTended more ys x
+    → IsTended (looks ++ more) (xs ++ ys) x
 tended_right looks more xs ys x (inl has) = inl (has_right xs ys x has)
-tended_right looks more xs ys x (inr (mark, seen, below)) = inr (mark, Contains-append_right looks more mark seen, below)
+tended_right looks more xs ys x (inr (mark, seen, below)) = inr
+    (mark, Contains-append_right looks more mark seen, below)
 
-pub told_some : (p : Pieces) (ws : List Worker) → All (IsWorked p) ws → 0 < length ws → 0 < times_told (views_of ws)
+pub told_some : (p : Pieces) (ws : List Worker) → All (IsWorked p) ws → 0 < length ws
+    → 0 < times_told (views_of ws)
 told_some p [] h long = absurd (omega arith)
 told_some p (w ∷ ws) h long =
     let told = (All-head (IsWorked p) w ws h).told in
@@ -172,8 +208,10 @@ pub record AllAreSound (p : Pieces) (claims reports looks : List ℕ) (parts : L
   pub faulty : (x : ℕ) → Contains reports x → IsFaulty p x
   pub tended : AreTended claims looks parts
 
-pub together : (p : Pieces) (ws : List Worker) → All (IsWorked p) ws → All (λ (w : Worker). w.wanted ≡ false) ws
-    → AllAreSound p (all_claims (views_of ws)) (all_reports (views_of ws)) (all_looks (views_of ws)) (parts_of ws)
+pub together : (p : Pieces) (ws : List Worker) → All (IsWorked p) ws
+    → All (λ (w : Worker). w.wanted ≡ false) ws
+    → AllAreSound p (all_claims (views_of ws)) (all_reports (views_of ws)) (all_looks (views_of ws))
+    (parts_of ws)
 together p [] h fine = record {
   right = All-nil (λ (q : Part). IsPieceAnswer p q.piece q.answer);
   faulty = λ x c. let lt = c.1 in absurd (omega arith);
@@ -183,11 +221,14 @@ together p (w ∷ ws) h fine =
     let v = view_of w.seat in
     let vs = views_of ws in
     let first = All-head (IsWorked p) w ws h in
-    let others = together p ws (All-tail (IsWorked p) w ws h) (All-tail (λ (w : Worker). w.wanted ≡ false) w ws fine) in
+    let others = together p ws (All-tail (IsWorked p) w ws h) (All-tail (λ (w : Worker). w.wanted
+    ≡ false) w ws fine) in
     let done = first.tended (All-head (λ (w : Worker). w.wanted ≡ false) w ws fine) in
     record {
-      right = All-append (λ (q : Part). IsPieceAnswer p q.piece q.answer) w.parts.items (parts_of ws) first.sound.right others.right;
-      faulty = λ x c. ⊎_elim (λ here. (first.sound.stopped x here).1) (others.faulty x) (Contains-append_cases v.reports (all_reports vs) x c);
+      right = All-append (λ (q : Part). IsPieceAnswer p q.piece q.answer) w.parts.items
+          (parts_of ws) first.sound.right others.right;
+      faulty = λ x c. ⊎_elim (λ here. (first.sound.stopped x here).1) (others.faulty x)
+          (Contains-append_cases v.reports (all_reports vs) x c);
       tended = λ x c. ⊎_elim
           (λ here. tended_left v.looks (all_looks vs) w.parts.items (parts_of ws) x (done x here))
           (λ there. tended_right v.looks (all_looks vs) w.parts.items (parts_of ws) x (others.tended x there))
@@ -195,48 +236,73 @@ together p (w ∷ ws) h fine =
     }
 
 -- each piece up to the final mark has a part
-pub each_has : (p : Pieces) (pieces claimed least : ℕ) (views : List View) (parts : List Part) → Tallies pieces claimed least views → 0 < times_told views
-    → AllAreSound p (all_claims views) (all_reports views) (all_looks views) parts → (x : ℕ) → x < pieces → x ≤ least → Contains (pieces_of parts) x
+pub each_has : (p : Pieces) (pieces claimed least : ℕ) (views : List View) (parts : List Part)
+    → Tallies pieces claimed least views → 0 < times_told views
+    → AllAreSound p (all_claims views) (all_reports views) (all_looks views) parts → (x : ℕ) → x < pieces
+    → x ≤ least → Contains (pieces_of parts) x
 each_has p pieces claimed least views parts t told s x within under =
     ⊎_elim
     (λ (has : Contains (pieces_of parts) x). has)
     (λ (k : (mark : ℕ) × Contains (all_looks views) mark × (mark < x)).
-    let lt = k.2 in let b = All-contains (λ y. least ≤ y) (all_looks views) k.0 t.mark.under_looks k.1 in absurd (omega arith))
+    let lt = k.2 in let b = All-contains (λ y. least ≤ y) (all_looks views) k.0 t.mark.under_looks k.1 in
+    absurd (omega arith))
     (s.tended x (claims_all pieces claimed least x views t told within))
 
-pub placed_so : (p : Pieces) (pieces claimed least : ℕ) (views : List View) (parts : List Part) (placed : List (Option Answer)) (n : ℕ) → AreAllPieces p pieces
-    → Tallies pieces claimed least views → 0 < times_told views → AllAreSound p (all_claims views) (all_reports views) (all_looks views) parts
-    → n ≡ min (least + 1) pieces → length placed ≡ n → ((x : ℕ) → x < n → Contains (pieces_of parts) x → IsPlaced placed x) → ComeFrom parts placed
+pub placed_so : (p : Pieces) (pieces claimed least : ℕ) (views : List View) (parts : List Part)
+    (placed : List (Option Answer)) (n : ℕ) → AreAllPieces p pieces
+    → Tallies pieces claimed least views → 0 < times_told views
+    → AllAreSound p (all_claims views) (all_reports views) (all_looks views) parts
+    → n ≡ min (least + 1) pieces → length placed ≡ n → ((x : ℕ) → x < n → Contains (pieces_of parts) x
+    → IsPlaced placed x) → ComeFrom parts placed
     → ArePlaced p placed
 placed_so p pieces claimed least views parts placed n cut t told s e len filled from = record {
   each = λ x below.
       let has = each_has p pieces claimed least views parts t told s x (omega arith) (omega arith) in
-      let (a, at) = filled x (omega arith) has in
-      (a, at, All-contains (λ (q : Part). IsPieceAnswer p q.piece q.answer) parts (record { piece = x; answer = a }) s.right (from x a at));
+      let (a, at) = filled x (omega arith) has in (
+        a,
+        at,
+        All-contains (λ (q : Part). IsPieceAnswer p q.piece q.answer) parts
+            (record { piece = x; answer = a }) s.right (from x a at),
+      );
   enough = ⊎_elim
-      (λ (same : least ≡ pieces). let k : length placed ≡ pieces = omega arith in inl (subst (λ n. length p.lines.now ≤ n * p.size) (sym k) cut.all))
-      (λ (given : Contains (all_reports views) least). let below = claims_below pieces claimed least least views t (All-contains (Contains (all_claims views)) (all_reports views) least t.reports_claimed given) in let whole = t.all_claimed told in inr (least, omega arith, s.faulty least given))
+      (λ (same : least ≡ pieces). let k : length placed ≡ pieces = omega arith in
+      inl (subst (λ n. length p.lines.now ≤ n * p.size) (sym k) cut.all))
+      (λ (given : Contains (all_reports views) least). let below = claims_below pieces claimed least least
+      views t (All-contains (Contains (all_claims views))
+      (all_reports views) least t.reports_claimed given) in let whole = t.all_claimed told in
+      inr (least, omega arith, s.faulty least given))
       t.mark.given;
 }
 
 -- an answer stands at each place
-pub each_some : (p : Pieces) (placed : List (Option Answer)) → ArePlaced p placed → All (λ (o : Option Answer). IsSome o) placed
+pub each_some : (p : Pieces) (placed : List (Option Answer)) → ArePlaced p placed
+    → All (λ (o : Option Answer). IsSome o) placed
 each_some p placed h k d below =
     let (a, at, is) = h.each k below in
     subst IsSome (sym (get_or_from_slice_get placed k (Some a) d at)) refl
 
 -- the same of the workers, their seats and their parts
-pub all_placed : (p : Pieces) (pieces claimed least : ℕ) (ws : List Worker) (seats : List Seat) (parts : List Part) (placed : List (Option Answer)) (n : ℕ)
-    → 0 < length ws → All (IsWorked p) ws → All (λ (w : Worker). w.wanted ≡ false) ws → seats ≡ map (λ w. w.seat) ws → parts ≡ parts_of ws
-    → AreAllPieces p pieces → Tallies pieces claimed least (map view_of seats) → n ≡ min (least + 1) pieces → length placed ≡ n
-    → ((x : ℕ) → x < n → Contains (pieces_of parts) x → IsPlaced placed x) → ComeFrom parts placed → ArePlaced p placed
-all_placed p pieces claimed least ws seats parts placed n some worked fine of_seats of_parts cut tally e len filled from =
-    let t : Tallies pieces claimed least (views_of ws) = subst (λ (ss : List Seat). Tallies pieces claimed least (map view_of ss)) of_seats tally in
-    placed_so p pieces claimed least (views_of ws) (parts_of ws) placed n cut t (told_some p ws worked some) (together p ws worked fine) e len
-    (subst (λ (ps : List Part). (x : ℕ) → x < n → Contains (pieces_of ps) x → IsPlaced placed x) of_parts filled)
+pub all_placed : (p : Pieces) (pieces claimed least : ℕ) (ws : List Worker) (seats : List Seat)
+    (parts : List Part) (placed : List (Option Answer)) (n : ℕ)
+    → 0 < length ws → All (IsWorked p) ws → All (λ (w : Worker). w.wanted ≡ false) ws
+    → seats ≡ map (λ w. w.seat) ws → parts ≡ parts_of ws
+    → AreAllPieces p pieces → Tallies pieces claimed least (map view_of seats)
+    → n ≡ min (least + 1) pieces → length placed ≡ n
+    → ((x : ℕ) → x < n → Contains (pieces_of parts) x → IsPlaced placed x) → ComeFrom parts placed
+    → ArePlaced p placed
+all_placed p pieces claimed least ws seats parts placed n some worked fine of_seats of_parts cut tally e
+    len filled from =
+    let t : Tallies pieces claimed least (views_of ws) = subst (λ
+    (ss : List Seat). Tallies pieces claimed least (map view_of ss)) of_seats tally in
+    placed_so p pieces claimed least (views_of ws) (parts_of ws) placed n cut t
+    (told_some p ws worked some) (together p ws worked fine) e len
+    (subst (λ (ps : List Part). (x : ℕ) → x < n → Contains (pieces_of ps) x
+    → IsPlaced placed x) of_parts filled)
     (subst (λ (ps : List Part). ComeFrom ps placed) of_parts from)
 
-pub ok_joined : {E : Type 0} (p : Pieces) (placed : List (Option Answer)) (r : Result Answer E) → ArePlaced p placed → IfOk r (λ a. answer_of a ≡ joined_all placed)
-    → IfOk r (λ a. (t : Tests) → AreRight t → answer t (planned_query p.plan.now) (map line_of p.lines.now) ≡ answer_of a)
+pub ok_joined : {E : Type 0} (p : Pieces) (placed : List (Option Answer)) (r : Result Answer E)
+    → ArePlaced p placed → IfOk r (λ a. answer_of a ≡ joined_all placed)
+    → IfOk r (λ a. (t : Tests) → AreRight t → answer t (planned_query p.plan.now)
+    (map line_of p.lines.now) ≡ answer_of a)
 ok_joined p placed (Ok a) h e = λ t right. placed_answer p placed h t right ∙ sym e
 ok_joined p placed (Err e) h k = tt

@@ -1,10 +1,13 @@
 -- What each step of a worker does to what it has done.
-use Rattle.std.proofs.Common.{◌≡◌, ◌≢◌, refl, inl, inr, ℕ, ◌+◌, ◌-◌, ◌<◌, List, [], ◌∷◌, ◌++◌, Option, Some, None, option_map, Result, Ok, Err, Bool, true, false, Contains, sym, subst, ⊎_elim, arith}
+use Rattle.std.proofs.Common.{◌≡◌, ◌≢◌, refl, inl, inr, ℕ, ◌+◌, ◌-◌, ◌<◌, List, [], ◌∷◌, ◌++◌, Option, Some}
+use Rattle.std.proofs.Common.{None, option_map, Result, Ok, Err, Bool, true, false, Contains, sym, subst}
+use Rattle.std.proofs.Common.{⊎_elim, arith}
 use Rattle.std.specs.Prelude.{⊤, OnOk, IsSome, is_some, is_err}
 use mathlib.Core.Logic.{dite, ◌⊎◌}
 use native.Mathlib.Decide.{ℕ_discrete}
 use Rattle.std.proofs.lemmas.List.{map-append}
-use Rattle.std.proofs.lemmas.List.Elements.{All-nil, All-push, Contains-push, Contains-push_cases, Contains-append_left}
+use Rattle.std.proofs.lemmas.List.Elements.{All-nil, All-push, Contains-push, Contains-push_cases}
+use Rattle.std.proofs.lemmas.List.Elements.{Contains-append_left}
 use Rattle.jp_answer.specs.Pieces.{IsFaulty, IsPieceAnswer}
 use Rattle.jp_answer.specs.Worked.{pieces_of, AreSound, IsTended, AreTended, OthersAreTended}
 use Rattle.jp_answer.specs.declared.outcome.Answer.{Answer}
@@ -15,16 +18,21 @@ use Rattle.jp_answer.specs.declared.worker.Part.{Part}
 abbrev part : ℕ → Answer → Part
 part x a = record { piece = x; answer = a }
 
-still_has : (parts : List Part) (new : Part) (x : ℕ) → Contains (pieces_of parts) x → Contains (pieces_of (parts ++ new ∷ [])) x
+still_has : (parts : List Part) (new : Part) (x : ℕ) → Contains (pieces_of parts) x
+    → Contains (pieces_of (parts ++ new ∷ [])) x
 still_has parts new x h =
-    subst (λ l. Contains l x) (sym (map-append (λ (p : Part). p.piece) parts (new ∷ []))) (Contains-append_left (pieces_of parts) (new.piece ∷ []) x h)
+    subst (λ l. Contains l x) (sym (map-append (λ (p : Part). p.piece) parts (new ∷ [])))
+    (Contains-append_left (pieces_of parts) (new.piece ∷ []) x h)
 
 now_has : (parts : List Part) (new : Part) → Contains (pieces_of (parts ++ new ∷ [])) new.piece
-now_has parts new = subst (λ l. Contains l new.piece) (sym (map-append (λ (p : Part). p.piece) parts (new ∷ []))) (Contains-push (pieces_of parts) new.piece)
+now_has parts new = subst (λ l. Contains l new.piece) (sym (map-append (λ (p : Part). p.piece) parts
+    (new ∷ []))) (Contains-push (pieces_of parts) new.piece)
 
-pub has_cases : (parts : List Part) (new : Part) (x : ℕ) → Contains (pieces_of (parts ++ new ∷ [])) x → Contains (pieces_of parts) x ⊎ (new.piece ≡ x)
+pub has_cases : (parts : List Part) (new : Part) (x : ℕ) → Contains (pieces_of (parts ++ new ∷ [])) x
+    → Contains (pieces_of parts) x ⊎ (new.piece ≡ x)
 has_cases parts new x h =
-    Contains-push_cases (pieces_of parts) new.piece x (subst (λ l. Contains l x) (map-append (λ (p : Part). p.piece) parts (new ∷ [])) h)
+    Contains-push_cases (pieces_of parts) new.piece x (subst (λ l. Contains l x) (map-append (λ
+    (p : Part). p.piece) parts (new ∷ [])) h)
 
 some_mapped : {X Y : Type 0} (f : X → Y) (o : Option X) → true ≡ is_some o → IsSome (option_map f o)
 some_mapped f None e = absurd cc
@@ -36,10 +44,12 @@ none_mapped f (Some x) e h = cc
 
 module _ (p : Pieces) where
   pub is_faulty : (x : ℕ) (a : Answer) → IsPieceAnswer p x a → true ≡ is_some a.stopped → IsFaulty p x
-  is_faulty x a r e = subst IsSome (sym r.stopped) (some_mapped (λ (s : DocStop). (s.line, s.fault)) a.stopped e)
+  is_faulty x a r e = subst IsSome (sym r.stopped) (some_mapped (λ (s : DocStop).
+      (s.line, s.fault)) a.stopped e)
 
   pub not_faulty : (x : ℕ) (a : Answer) → IsPieceAnswer p x a → false ≡ is_some a.stopped → IsFaulty p x → ⊥
-  not_faulty x a r e f = none_mapped (λ (s : DocStop). (s.line, s.fault)) a.stopped e (subst IsSome r.stopped f)
+  not_faulty x a r e f = none_mapped (λ (s : DocStop). (s.line, s.fault)) a.stopped e
+      (subst IsSome r.stopped f)
 
   pub sound_none : AreSound p [] [] []
   sound_none = record {
@@ -50,7 +60,8 @@ module _ (p : Pieces) where
   }
 
   -- one more piece is claimed
-  pub sound_claim : (claims reports : List ℕ) (parts : List Part) (x : ℕ) → AreSound p claims reports parts → AreSound p (claims ++ x ∷ []) reports parts
+  pub sound_claim : (claims reports : List ℕ) (parts : List Part) (x : ℕ)
+      → AreSound p claims reports parts → AreSound p (claims ++ x ∷ []) reports parts
   sound_claim claims reports parts x s = record {
     right = s.right;
     claimed = λ y h. Contains-append_left claims (x ∷ []) y (s.claimed y h);
@@ -59,24 +70,33 @@ module _ (p : Pieces) where
   }
 
   -- one more piece is answered, and has not stopped
-  pub sound_part : (claims reports : List ℕ) (parts : List Part) (x : ℕ) (a : Answer) → AreSound p claims reports parts → Contains claims x
+  pub sound_part : (claims reports : List ℕ) (parts : List Part) (x : ℕ) (a : Answer)
+      → AreSound p claims reports parts → Contains claims x
       → IsPieceAnswer p x a → (IsFaulty p x → ⊥) → AreSound p claims reports (parts ++ part x a ∷ [])
   sound_part claims reports parts x a s mine right plain = record {
     right = All-push (λ (q : Part). IsPieceAnswer p q.piece q.answer) parts (part x a) s.right right;
-    claimed = λ y h. ⊎_elim (s.claimed y) (λ (e : x ≡ y). subst (Contains claims) e mine) (has_cases parts (part x a) y h);
+    claimed = λ y h. ⊎_elim (s.claimed y) (λ (e : x ≡ y). subst (Contains claims) e mine) (has_cases parts
+        (part x a) y h);
     stopped = λ y h. let old = s.stopped y h in (still_has parts (part x a) y old.0, old.1);
-    reported = λ y h f. ⊎_elim (λ old. s.reported y old f) (λ (e : x ≡ y). absurd (plain (subst (IsFaulty p) (sym e) f))) (has_cases parts (part x a) y h);
+    reported = λ y h f. ⊎_elim (λ old. s.reported y old f) (λ (e : x ≡ y). absurd (plain (subst
+        (IsFaulty p) (sym e) f))) (has_cases parts (part x a) y h);
   }
 
   -- one more piece is answered, has stopped, and is reported
-  pub sound_stop : (claims reports : List ℕ) (parts : List Part) (x : ℕ) (a : Answer) → AreSound p claims reports parts → Contains claims x
+  pub sound_stop : (claims reports : List ℕ) (parts : List Part) (x : ℕ) (a : Answer)
+      → AreSound p claims reports parts → Contains claims x
       → IsPieceAnswer p x a → IsFaulty p x → AreSound p claims (reports ++ x ∷ []) (parts ++ part x a ∷ [])
   sound_stop claims reports parts x a s mine right faulty = record {
     right = All-push (λ (q : Part). IsPieceAnswer p q.piece q.answer) parts (part x a) s.right right;
-    claimed = λ y h. ⊎_elim (s.claimed y) (λ (e : x ≡ y). subst (Contains claims) e mine) (has_cases parts (part x a) y h);
+    claimed = λ y h. ⊎_elim (s.claimed y) (λ (e : x ≡ y). subst (Contains claims) e mine) (has_cases parts
+        (part x a) y h);
     stopped = λ y h. ⊎_elim
         (λ old. let was = s.stopped y old in (still_has parts (part x a) y was.0, was.1))
-        (λ (e : x ≡ y). (subst (Contains (pieces_of (parts ++ part x a ∷ []))) e (now_has parts (part x a)), subst (IsFaulty p) e faulty))
+        (λ (e : x ≡ y). (
+          subst (Contains (pieces_of (parts ++ part x a ∷ []))) e (now_has parts
+              (part x a)),
+          subst (IsFaulty p) e faulty,
+        ))
         (Contains-push_cases reports x y h);
     reported = λ y h f. ⊎_elim
         (λ old. Contains-append_left reports (x ∷ []) y (s.reported y old f))
@@ -88,23 +108,31 @@ pub tended_none : (looks : List ℕ) (parts : List Part) → AreTended [] looks 
 tended_none looks parts = λ x h. let lt = h.1 in absurd (omega arith)
 
 -- one more piece is claimed
-pub tended_claim : (claims looks : List ℕ) (parts : List Part) (x : ℕ) → AreTended claims looks parts → OthersAreTended x (claims ++ x ∷ []) looks parts
-tended_claim claims looks parts x t = λ y h apart. ⊎_elim (λ old. t y old) (λ (e : x ≡ y). absurd (apart (sym e))) (Contains-push_cases claims x y h)
+pub tended_claim : (claims looks : List ℕ) (parts : List Part) (x : ℕ) → AreTended claims looks parts
+    → OthersAreTended x (claims ++ x ∷ []) looks parts
+tended_claim claims looks parts x t = λ y h apart. ⊎_elim (λ old. t y old) (λ (e : x ≡ y). absurd (apart
+    (sym e))) (Contains-push_cases claims x y h)
 
-by_case : (looks : List ℕ) (parts : List Part) (x y : ℕ) → (y ≢ x → IsTended looks parts y) → IsTended looks parts x → IsTended looks parts y
-by_case looks parts x y others here = dite (ℕ_discrete y x) (λ e. subst (IsTended looks parts) (sym e) here) others
+by_case : (looks : List ℕ) (parts : List Part) (x y : ℕ) → (y ≢ x → IsTended looks parts y)
+    → IsTended looks parts x → IsTended looks parts y
+by_case looks parts x y others here = dite (ℕ_discrete y x) (λ e. subst (IsTended looks parts)
+    (sym e) here) others
 
-still_tended : (looks : List ℕ) (parts : List Part) (mark y : ℕ) → IsTended looks parts y → IsTended (looks ++ mark ∷ []) parts y
+still_tended : (looks : List ℕ) (parts : List Part) (mark y : ℕ) → IsTended looks parts y
+    → IsTended (looks ++ mark ∷ []) parts y
 still_tended looks parts mark y t =
-    ⊎_elim (λ has. inl has) (λ (k : (n : ℕ) × Contains looks n × (n < y)). inr (k.0, Contains-append_left looks (mark ∷ []) k.0 k.1, k.2)) t
+    ⊎_elim (λ has. inl has) (λ (k : (n : ℕ) × Contains looks n × (n < y)). inr
+    (k.0, Contains-append_left looks (mark ∷ []) k.0 k.1, k.2)) t
 
 -- a mark below the piece was seen
-pub tended_left : (claims looks : List ℕ) (parts : List Part) (x mark : ℕ) → OthersAreTended x claims looks parts → mark < x → AreTended claims (looks ++ mark ∷ []) parts
+pub tended_left : (claims looks : List ℕ) (parts : List Part) (x mark : ℕ)
+    → OthersAreTended x claims looks parts → mark < x → AreTended claims (looks ++ mark ∷ []) parts
 tended_left claims looks parts x mark t above = λ y h. by_case (looks ++ mark ∷ []) parts x y
     (λ apart. still_tended looks parts mark y (t y h apart)) (inr (mark, Contains-push looks mark, above))
 
 -- the mark was seen, and then the piece was answered
-pub tended_part : (claims looks : List ℕ) (parts : List Part) (x mark : ℕ) (a : Answer) → OthersAreTended x claims looks parts
+pub tended_part : (claims looks : List ℕ) (parts : List Part) (x mark : ℕ) (a : Answer)
+    → OthersAreTended x claims looks parts
     → AreTended claims (looks ++ mark ∷ []) (parts ++ part x a ∷ [])
 tended_part claims looks parts x mark a t = λ y h. by_case (looks ++ mark ∷ []) (parts ++ part x a ∷ []) x y
     (λ apart. ⊎_elim
@@ -114,7 +142,8 @@ tended_part claims looks parts x mark a t = λ y h. by_case (looks ++ mark ∷ [
     (inl (now_has parts (part x a)))
 
 -- what holds at an Ok of a result that was tested
-pub at_ok : {E P : Type 0} (r : Result ⊤ E) (failed : Bool) → failed ≡ is_err r → failed ≡ false → OnOk r P → P
+pub at_ok : {E P : Type 0} (r : Result ⊤ E) (failed : Bool) → failed ≡ is_err r → failed ≡ false
+    → OnOk r P → P
 at_ok (Ok x) failed is fine h = h
 at_ok (Err e) failed is fine h = absurd (cc)
 

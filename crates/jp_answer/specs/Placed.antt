@@ -15,7 +15,8 @@ IsPlaced placed x = (a : code.Answer) × StandsAt placed x a
 
 -- what stands at a number is a part of that piece
 abbrev pub ComeFrom : List Part → List (Option code.Answer) → Type 0
-ComeFrom parts placed = (x : ℕ) (a : code.Answer) → StandsAt placed x a → Contains parts (record { piece = x; answer = a })
+ComeFrom parts placed = (x : ℕ) (a : code.Answer) → StandsAt placed x a
+    → Contains parts (record { piece = x; answer = a })
 
 -- no bytes, and not stopped
 abbrev pub nothing : Answer

@@ -6,6 +6,7 @@ ghost use Rattle.jp_syntax.specs.Tree as tree;
 ghost use Rattle.jp_syntax.specs.declared.tree.Start.TheVariants.{Root};
 ghost use Rattle.jp_regexp.specs.Tests.{Tests};
 ghost use Rattle.jp_answer.specs.Answer.{stream_answer};
+ghost use Rattle.jp_answer.specs.Faults.{first_fault};
 
 /// `$.a` on the lines `{"a":1}`, an empty one and `{"a":null}`.
 #[tactic(auto, unfolding(crate::proofs::OnLiterals::runs_on_literals))]
@@ -65,4 +66,13 @@ fn faulty_lines()
               "$['a']" ++ 9 ∷ codes "2" ++ 10 ∷ [];
           stopped = Some (3, NotWhole);
         } }
+{}
+
+/// The lines `[]`, `{` and `1.5`, with the numbers 1, 3 and 4.
+#[tactic(auto, unfolding(crate::proofs::OnLiterals::runs_on_literals))]
+fn first_faults()
+    ensures second { first_fault ((1, codes "[]") ∷ (3, codes "{") ∷ (4, codes "1.5") ∷ [])
+        ≡ Some (3, Unreadable) }
+    ensures last { first_fault ((1, codes "[]") ∷ (4, codes "1.5") ∷ []) ≡ Some (4, NotWhole) }
+    ensures none { first_fault ((1, codes "[]") ∷ []) ≡ None }
 {}

@@ -5,11 +5,16 @@ ghost use Rattle.jp_doc.specs.Lines.{Line};
 ghost use Rattle.jp_syntax.specs.Tree.{Query};
 ghost use Rattle.jp_regexp.specs.Tests.{Tests};
 ghost use Rattle.jp_answer.specs.Answer.{answer, joined};
+ghost use Rattle.jp_answer.specs.Faults.{first_fault};
 
 /// The answer to lines and further lines is the answer to the first where that has stopped, and else its
-/// bytes and then the
-/// answer to the further lines. So it is the same in whatever pieces the lines are taken.
+/// bytes and then the answer to the further lines. So it is the same in whatever pieces the lines are taken.
 pub fn pieces()
     ensures { (t : Tests) (q : Query) (a b : List Line) → answer t q (a ++ b)
         ≡ joined (answer t q a) (answer t q b) }
+{}
+
+/// An answer stops at the first faulty line, whatever is asked.
+pub fn first_fault_stops()
+    ensures { (t : Tests) (q : Query) (ls : List Line) → (answer t q ls).stopped ≡ first_fault ls }
 {}

@@ -1,7 +1,7 @@
 //! The parts of all workers, put in order and joined.
 
-ghost use Rattle.std.specs.Prelude.{◌≡◌, ◌<◌, ℕ, None, false, map, flat_map, replicate, All, Contains, IfOk};
-ghost use Rattle.std.specs.Prelude.{OnOk, IsSome, Some, slice_set, vec_len};
+ghost use Rattle.std.specs.Prelude.{◌≡◌, ◌<◌, ◌++◌, ℕ, None, false, map, flat_map, replicate, All, Contains};
+ghost use Rattle.std.specs.Prelude.{IfOk, OnOk, IsSome, Some, slice_set, vec_len};
 ghost use Rattle.jp_answer.specs.Answered.{answer_of};
 ghost use Rattle.jp_answer.specs.Placed.{IsPlaced, ComeFrom, joined_all};
 ghost use Rattle.jp_answer.specs.Worked.{pieces_of};
@@ -86,7 +86,7 @@ pub(crate) fn join(alloc: Global, placed: Vec<Option<Answer>>) -> Result<Answer,
     let mut bytes = Vec::new(alloc);
     for place in placed {
         let Some(answer) = place else { unreachable!() };
-        bytes.extend_from_slice(&answer.bytes)?;
+        bytes = joined_bytes(bytes, answer.bytes)?;
         if answer.stopped.is_some() {
             return Ok(Answer {
                 bytes,
@@ -98,4 +98,16 @@ pub(crate) fn join(alloc: Global, placed: Vec<Option<Answer>>) -> Result<Answer,
         bytes,
         stopped: None,
     })
+}
+
+/// Some bytes, and then more, without a copy where the first are none.
+fn joined_bytes(bytes: Vec<u8>, more: Vec<u8>) -> Result<Vec<u8>, AllocError>
+    ensures { IfOk result (λ v. v.items ≡ bytes.items ++ more.items) }
+{
+    if bytes.is_empty() {
+        return Ok(more);
+    }
+    let mut all = bytes;
+    all.extend_from_slice(&more)?;
+    Ok(all)
 }

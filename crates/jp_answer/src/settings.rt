@@ -22,7 +22,8 @@ impl Settings {
     ///
     /// # Errors
     ///
-    /// [`RunFault::Settings`] for a number of workers outside 1 to 64, or of documents outside 1 to 1,000,000.
+    /// [`RunFault::Settings`] for a number of workers outside 1 to 64, or of documents outside 1 to
+    /// 1,000,000.
     pub fn new(workers: u64, piece: u64, batch: u64) -> Result<Settings, RunFault>
         ensures settings { IfOk result (λ s. (s.workers ≡ workers) × (s.piece ≡ piece) × (s.batch ≡ batch)) }
         ensures in_range { IsOk result ↔ AreSettings workers piece batch }

@@ -58,7 +58,8 @@ pub(crate) fn work<G: Gate>(
     }
 }
 
-/// Looks at the mark, and unless it is lower, answers the piece, and reports it where its answer has stopped.
+/// Looks at the mark, and unless it is lower, answers the piece, and reports it where its answer has
+/// stopped.
 fn tend<G: Gate>(
     alloc: Global,
     pieces: &Pieces,
@@ -70,7 +71,8 @@ fn tend<G: Gate>(
 ) -> Result<(), AllocError>
     requires seat { IsSeatOf board.now seat.old × Contains (view_of seat.old).claims piece }
     requires piece { piece * pieces.now.size < length pieces.now.lines.now }
-    requires sound { AreSound pieces.now (view_of seat.old).claims (view_of seat.old).reports parts.old.items }
+    requires sound { AreSound pieces.now (view_of seat.old).claims (view_of seat.old).reports
+        parts.old.items }
     requires tended { OthersAreTended piece (view_of seat.old).claims (view_of seat.old).looks
         parts.old.items }
     ensures seat { IsSeatOf board.now seat.new × ((view_of seat.new).claims ≡ (view_of seat.old).claims) }

@@ -3,8 +3,6 @@
 #![tactic(auto)]
 
 #[cfg(test)]
-mod first_marked;
-#[cfg(test)]
 mod one_thread;
 #[cfg(test)]
 mod threads;

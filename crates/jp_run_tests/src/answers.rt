@@ -49,7 +49,7 @@ fn answered<R: Threads + Sync, G: Gate + Sync>(
 
 #[test]
 fn the_first_faulty_line_stops_the_answer(rt: HostRuntime) -> Result<(), Fail> {
-    let rows: [(&[u8], &[u8], u64, DocFault); 2] = [
+    let rows: [(&[u8], &[u8], u64, DocFault); 3] = [
         (
             b"{\"a\":1}\n{\n{\"a\":2}\n{\"a\":1.5}\n",
             b"1\t$['a']\t1\n",
@@ -62,6 +62,8 @@ fn the_first_faulty_line_stops_the_answer(rt: HostRuntime) -> Result<(), Fail> {
             3,
             DocFault::NotWhole,
         ),
+        // The first of several faulty lines, and the first line.
+        (b"]\n{}\n[\n{\n", b"", 1, DocFault::Unreadable),
     ];
     for (text, bytes, line, fault) in rows {
         for workers in [1u64, 4] {

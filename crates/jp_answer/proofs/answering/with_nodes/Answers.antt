@@ -10,4 +10,5 @@ use Rattle.jp_answer.proofs.answering.with_nodes.Goals as goal
 pub returns : goal.returns
 returns c = λ t right.
     let ns = document_nodes t (planned_query c.args.plan.now) (document_value c.args.document.now) in
-    ap (λ w. w.1) (c.in-Ok.ensures t right ∙ ap (λ k. fold put_line k ns) c.begin.ensures ∙ lines_fold c.args.number c.args.written.1 ns)
+    ap (λ w. w.1) (c.in-Ok.ensures t right ∙ ap (λ k. fold put_line k ns) c.begin.ensures
+    ∙ lines_fold c.args.number c.args.written.1 ns)

@@ -11,8 +11,12 @@ loop-worker-preserved c =
     let w = c.in-Some.worker in
     let rest = into_iter_items c.next.new.self in
     record {
-      all = c.loop-worker.invariant.all ∙ ap (λ ws. done ++ ws) c.in-Some.ensures.steps.0 ∙ sym (append_assoc done (w ∷ []) rest);
-      seats = c.in_ok-push.ensures.items ∙ ap (λ ss. ss ++ w.seat ∷ []) c.loop-worker.invariant.seats ∙ sym (map-append (λ (w : Worker). w.seat) done (w ∷ []));
-      parts = c.in_ok-append.ensures.items ∙ ap (λ ps. ps ++ w.parts.items) c.loop-worker.invariant.parts ∙ flat_map_more (λ (w : Worker). w.parts.items) [] done w;
-      wanted = All-push (λ (w : Worker). w.wanted ≡ false) done w c.loop-worker.invariant.wanted c.if-wanted.false;
+      all = c.loop-worker.invariant.all ∙ ap (λ ws. done ++ ws) c.in-Some.ensures.steps.0
+          ∙ sym (append_assoc done (w ∷ []) rest);
+      seats = c.in_ok-push.ensures.items ∙ ap (λ ss. ss ++ w.seat ∷ []) c.loop-worker.invariant.seats
+          ∙ sym (map-append (λ (w : Worker). w.seat) done (w ∷ []));
+      parts = c.in_ok-append.ensures.items ∙ ap (λ ps. ps ++ w.parts.items) c.loop-worker.invariant.parts
+          ∙ flat_map_more (λ (w : Worker). w.parts.items) [] done w;
+      wanted = All-push (λ (w : Worker). w.wanted ≡ false) done w c.loop-worker.invariant.wanted
+          c.if-wanted.false;
     }

@@ -1,4 +1,4 @@
-use Rattle.std.proofs.Common.{List, ◌++◌, ◌∷◌, Option, ◌∙◌, ap}
+use Rattle.std.proofs.Common.{List, ◌∷◌, Option, ◌∙◌, ap}
 use Rattle.std.specs.Prelude.{IsSome}
 use Rattle.std.proofs.lemmas.List.Elements.{All-rest}
 use Rattle.std.specs.Vec.Iter.{into_iter_items}
@@ -15,8 +15,11 @@ loop-place-preserved c =
     let rest = into_iter_items c.next.new.self in
     let next = c.in-Some.ensures.steps.0 ∙ ap (λ (o : Option Answer). o ∷ rest) c.in-Some-place.is in
     record {
-      so_far = joined_more (joined_all c.args.placed.items) (joined_all rest) a bytes c.extend_from_slice.new.self.items
-          (c.loop-place.invariant.so_far ∙ ap (λ (os : List (Option Answer)). after bytes (joined_all os)) next)
-          c.if-is_some.ensures (c.in_ok-extend_from_slice.ensures.items ∙ ap (λ bs. bytes ++ bs) c.deref.ensures.value);
-      some = All-rest (λ (o : Option Answer). IsSome o) c.in-Some.place rest (into_iter_items c.loop-place.place-iterator) c.in-Some.ensures.steps.0 c.loop-place.invariant.some;
+      so_far = joined_more (joined_all c.args.placed.items)
+          (joined_all rest) a bytes c.in_ok-bytes.bytes.items
+          (c.loop-place.invariant.so_far ∙ ap (λ (os : List (Option Answer)). after bytes
+          (joined_all os)) next)
+          c.if-is_some.ensures c.in_ok-bytes.ensures;
+      some = All-rest (λ (o : Option Answer). IsSome o) c.in-Some.place rest
+          (into_iter_items c.loop-place.place-iterator) c.in-Some.ensures.steps.0 c.loop-place.invariant.some;
     }

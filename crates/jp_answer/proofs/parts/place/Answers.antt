@@ -13,9 +13,11 @@ loop-part-preserved c =
     let before = c.loop-part.placed.items in
     let kept = c.loop-part.invariant in
     record {
-      all = kept.all ∙ ap (λ ps. done ++ ps) c.in-Some.ensures.steps.0 ∙ sym (append_assoc done (new ∷ []) (into_iter_items c.next.new.self));
+      all = kept.all ∙ ap (λ ps. done ++ ps) c.in-Some.ensures.steps.0
+          ∙ sym (append_assoc done (new ∷ []) (into_iter_items c.next.new.self));
       len = grind (arith, common_steps);
-      placed = λ x below has. subst (λ ps. IsPlaced ps x) (sym c.put.ensures) (placed_more done new before c.args.count kept.len kept.placed x below has);
+      placed = λ x below has. subst (λ ps. IsPlaced ps x) (sym c.put.ensures)
+          (placed_more done new before c.args.count kept.len kept.placed x below has);
       parts = subst (ComeFrom (done ++ new ∷ [])) (sym c.put.ensures) (from_more done new before kept.parts);
     }
 

@@ -9,8 +9,10 @@ use Rattle.jp_answer.proofs.worker.tend.Goals as goal
 pub returns-then-mark-piece-clause-tended : goal.returns-then-mark-piece-clause-tended
 returns-then-mark-piece-clause-tended g c =
     let v = view_of c.args.seat.now in
-    subst (λ (w : View). AreTended w.claims w.looks c.args.parts.now.items) (sym c.look-mark.ensures.look)
-    (tended_left v.claims v.looks c.args.parts.now.items c.args.piece c.look-mark.result c.requires.tended c.if-mark-piece.true)
+    subst (λ (w : View). AreTended w.claims w.looks c.args.parts.now.items)
+    (sym {A = View} c.look-mark.ensures.look)
+    (tended_left v.claims v.looks c.args.parts.now.items c.args.piece c.look-mark.result c.requires.tended
+    c.if-mark-piece.true)
 
 pub returns-then-stopped-clause-sound : goal.returns-then-stopped-clause-sound
 returns-then-stopped-clause-sound g c =
@@ -20,18 +22,21 @@ returns-then-stopped-clause-sound g c =
     let a = c.in_ok-answer.answer in
     let r = c.in_ok-answer.ensures in
     let reported = c.report.ensures.report ∙ ap (λ (w : View). with_report w x) c.look-mark.ensures.look in
-    subst (λ (w : View). AreSound p w.claims w.reports c.push.new.self.items) (sym reported)
+    subst (λ (w : View). AreSound p w.claims w.reports c.push.new.self.items) (sym {A = View} reported)
     (subst (AreSound p v.claims (v.reports ++ x ∷ [])) (sym c.in_ok-push.ensures.items)
-    (sound_stop p v.claims v.reports c.args.parts.now.items x a c.requires.sound c.requires.seat.1 r (is_faulty p x a r c.if-stopped.ensures)))
+    (sound_stop p v.claims v.reports c.args.parts.now.items x a c.requires.sound c.requires.seat.1 r
+    (is_faulty p x a r c.if-stopped.ensures)))
 
 pub returns-then-stopped-clause-tended : goal.returns-then-stopped-clause-tended
 returns-then-stopped-clause-tended g c =
     let v = view_of c.args.seat.now in
     let m = c.look-mark.result in
-    let reported = c.report.ensures.report ∙ ap (λ (w : View). with_report w c.args.piece) c.look-mark.ensures.look in
-    subst (λ (w : View). AreTended w.claims w.looks c.push.new.self.items) (sym reported)
+    let reported = c.report.ensures.report ∙ ap (λ (w : View). with_report w c.args.piece)
+    c.look-mark.ensures.look in
+    subst (λ (w : View). AreTended w.claims w.looks c.push.new.self.items) (sym {A = View} reported)
     (subst (AreTended v.claims (v.looks ++ m ∷ [])) (sym c.in_ok-push.ensures.items)
-    (tended_part v.claims v.looks c.args.parts.now.items c.args.piece m c.in_ok-answer.answer c.requires.tended))
+    (tended_part v.claims v.looks c.args.parts.now.items c.args.piece m c.in_ok-answer.answer
+    c.requires.tended))
 
 pub returns-else-stopped-clause-sound : goal.returns-else-stopped-clause-sound
 returns-else-stopped-clause-sound g c =
@@ -40,14 +45,18 @@ returns-else-stopped-clause-sound g c =
     let x = c.args.piece in
     let a = c.in_ok-answer.answer in
     let r = c.in_ok-answer.ensures in
-    subst (λ (w : View). AreSound p w.claims w.reports c.push.new.self.items) (sym c.look-mark.ensures.look)
+    subst (λ (w : View). AreSound p w.claims w.reports c.push.new.self.items)
+    (sym {A = View} c.look-mark.ensures.look)
     (subst (AreSound p v.claims v.reports) (sym c.in_ok-push.ensures.items)
-    (sound_part p v.claims v.reports c.args.parts.now.items x a c.requires.sound c.requires.seat.1 r (not_faulty p x a r c.if-stopped.ensures)))
+    (sound_part p v.claims v.reports c.args.parts.now.items x a c.requires.sound c.requires.seat.1 r
+    (not_faulty p x a r c.if-stopped.ensures)))
 
 pub returns-else-stopped-clause-tended : goal.returns-else-stopped-clause-tended
 returns-else-stopped-clause-tended g c =
     let v = view_of c.args.seat.now in
     let m = c.look-mark.result in
-    subst (λ (w : View). AreTended w.claims w.looks c.push.new.self.items) (sym c.look-mark.ensures.look)
+    subst (λ (w : View). AreTended w.claims w.looks c.push.new.self.items)
+    (sym {A = View} c.look-mark.ensures.look)
     (subst (AreTended v.claims (v.looks ++ m ∷ [])) (sym c.in_ok-push.ensures.items)
-    (tended_part v.claims v.looks c.args.parts.now.items c.args.piece m c.in_ok-answer.answer c.requires.tended))
+    (tended_part v.claims v.looks c.args.parts.now.items c.args.piece m c.in_ok-answer.answer
+    c.requires.tended))

@@ -9,14 +9,16 @@ pub tend-requires-clause-sound : goal.tend-requires-clause-sound
 tend-requires-clause-sound g c =
     let v = view_of c.loop-piece.seat in
     let parts = c.loop-piece.parts.items in
-    subst (λ (w : View). AreSound c.args.pieces.now w.claims w.reports parts) (sym c.in-Some.ensures.claimed)
+    subst (λ (w : View). AreSound c.args.pieces.now w.claims w.reports parts)
+    (sym {A = View} c.in-Some.ensures.claimed)
     (sound_claim c.args.pieces.now v.claims v.reports parts c.in-Some.piece c.loop-piece.invariant.sound)
 
 pub tend-requires-clause-tended : goal.tend-requires-clause-tended
 tend-requires-clause-tended g c =
     let v = view_of c.loop-piece.seat in
     let parts = c.loop-piece.parts.items in
-    subst (λ (w : View). OthersAreTended c.in-Some.piece w.claims w.looks parts) (sym c.in-Some.ensures.claimed)
+    subst (λ (w : View). OthersAreTended c.in-Some.piece w.claims w.looks parts)
+    (sym {A = View} c.in-Some.ensures.claimed)
     (tended_claim v.claims v.looks parts c.in-Some.piece (c.loop-piece.invariant.tended c.if-not-wanted.true))
 
 pub loop-piece-preserved-then-not-wanted : goal.loop-piece-preserved-then-not-wanted
@@ -24,9 +26,11 @@ loop-piece-preserved-then-not-wanted g c =
     let claims = (view_of c.tend.new.seat).claims in
     record {
       seat = c.tend.ensures.seat.0;
-      floor = floor_above claims c.in-Some.piece (subst (λ l. Contains l c.in-Some.piece) (sym c.tend.ensures.seat.1) c.in-Some.ensures.mine);
+      floor = floor_above claims c.in-Some.piece (subst (λ l. Contains l c.in-Some.piece)
+          (sym c.tend.ensures.seat.1) c.in-Some.ensures.mine);
       sound = c.tend.ensures.sound;
-      tended = λ fine. at_ok c.tend.result c.is_err-wanted.result c.is_err-wanted.ensures.value fine c.tend.ensures.tended;
+      tended = λ fine. at_ok c.tend.result c.is_err-wanted.result c.is_err-wanted.ensures.value fine
+          c.tend.ensures.tended;
     }
 
 pub loop-piece-preserved : goal.loop-piece-preserved
@@ -36,8 +40,10 @@ loop-piece-preserved g c =
     record {
       seat = c.in-Some.ensures.seat;
       floor = floor_above (view_of c.claim.new.seat).claims c.in-Some.piece c.in-Some.ensures.mine;
-      sound = subst (λ (w : View). AreSound c.args.pieces.now w.claims w.reports parts) (sym c.in-Some.ensures.claimed)
-          (sound_claim c.args.pieces.now v.claims v.reports parts c.in-Some.piece c.loop-piece.invariant.sound);
+      sound = subst (λ (w : View). AreSound c.args.pieces.now w.claims w.reports parts)
+          (sym {A = View} c.in-Some.ensures.claimed)
+          (sound_claim c.args.pieces.now v.claims v.reports parts c.in-Some.piece
+          c.loop-piece.invariant.sound);
       tended = λ fine. let wanted = c.if-not-wanted.false in absurd (cc);
     }
 
@@ -47,6 +53,8 @@ returns-clause-worked g c =
     let parts = c.loop-piece.parts.items in
     record {
       told = c.in_default.ensures.told;
-      sound = subst (λ (w : View). AreSound c.args.pieces.now w.claims w.reports parts) (sym c.in_default.ensures.none) c.loop-piece.invariant.sound;
-      tended = λ fine. subst (λ (w : View). AreTended w.claims w.looks parts) (sym c.in_default.ensures.none) (c.loop-piece.invariant.tended fine);
+      sound = subst (λ (w : View). AreSound c.args.pieces.now w.claims w.reports parts)
+          (sym {A = View} c.in_default.ensures.none) c.loop-piece.invariant.sound;
+      tended = λ fine. subst (λ (w : View). AreTended w.claims w.looks parts)
+          (sym {A = View} c.in_default.ensures.none) (c.loop-piece.invariant.tended fine);
     }

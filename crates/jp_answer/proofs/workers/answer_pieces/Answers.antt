@@ -8,19 +8,33 @@ use Rattle.jp_answer.proofs.workers.answer_pieces.Goals as goal
 
 pub close-mark-requires-clause-seats : goal.close-mark-requires-clause-seats
 close-mark-requires-clause-seats g c =
-    subst (All (IsSeatOf c.in_ok-board.board)) (sym c.in_ok-seats.ensures.seats) (All-map (IsSeatOf c.in_ok-board.board) (λ (w : Worker). w.seat) c.in_ok-done.done.items c.in_ok-done.ensures.seats)
+    subst (All (IsSeatOf c.in_ok-board.board)) (sym c.in_ok-seats.ensures.seats) (All-map
+    (IsSeatOf c.in_ok-board.board) (λ (w : Worker). w.seat) c.in_ok-done.done.items
+    c.in_ok-done.ensures.seats)
 
 pub join-requires : goal.join-requires
 join-requires g c = each_some c.args.pieces.now c.in_ok-placed.placed.items
-    (all_placed c.args.pieces.now c.count-count.result c.close-mark.ensures.0 c.close-mark.result c.in_ok-done.done.items c.in_ok-seats.seats.items
-    c.in_ok-seats.parts.items c.in_ok-placed.placed.items c.min.result (omega (arith, c.in_ok-done.ensures.len, c.in_ok-board.ensures.len, c.requires.0)) c.in_ok-done.ensures.worked c.in_ok-seats.ensures.wanted c.in_ok-seats.ensures.seats
-    c.in_ok-seats.ensures.parts c.count-count.ensures.pieces (subst (λ (n : ℕ). Tallies n c.close-mark.ensures.0 c.close-mark.result (map view_of c.in_ok-seats.seats.items)) c.in_ok-board.ensures.board.0 c.close-mark.ensures.1)
-    c.min.ensures (sym c.in_ok-placed.placed.ok.0 ∙ c.in_ok-placed.ensures.len) c.in_ok-placed.ensures.placed c.in_ok-placed.ensures.parts)
+    (all_placed c.args.pieces.now c.count-count.result c.close-mark.ensures.0 c.close-mark.result
+    c.in_ok-done.done.items c.in_ok-seats.seats.items
+    c.in_ok-seats.parts.items c.in_ok-placed.placed.items c.min.result (omega
+    (arith, c.in_ok-done.ensures.len, c.in_ok-board.ensures.len, c.requires.0))
+    c.in_ok-done.ensures.worked c.in_ok-seats.ensures.wanted c.in_ok-seats.ensures.seats
+    c.in_ok-seats.ensures.parts c.count-count.ensures.pieces (subst (λ
+    (n : ℕ). Tallies n c.close-mark.ensures.0 c.close-mark.result
+    (map view_of c.in_ok-seats.seats.items)) c.in_ok-board.ensures.board.0 c.close-mark.ensures.1)
+    c.min.ensures (sym c.in_ok-placed.placed.ok.0 ∙ c.in_ok-placed.ensures.len)
+    c.in_ok-placed.ensures.placed c.in_ok-placed.ensures.parts)
 
 pub returns : goal.returns
 returns g c = ok_joined c.args.pieces.now c.in_ok-placed.placed.items c.join.result
-    (all_placed c.args.pieces.now c.count-count.result c.close-mark.ensures.0 c.close-mark.result c.in_ok-done.done.items c.in_ok-seats.seats.items
-    c.in_ok-seats.parts.items c.in_ok-placed.placed.items c.min.result (omega (arith, c.in_ok-done.ensures.len, c.in_ok-board.ensures.len, c.requires.0)) c.in_ok-done.ensures.worked c.in_ok-seats.ensures.wanted c.in_ok-seats.ensures.seats
-    c.in_ok-seats.ensures.parts c.count-count.ensures.pieces (subst (λ (n : ℕ). Tallies n c.close-mark.ensures.0 c.close-mark.result (map view_of c.in_ok-seats.seats.items)) c.in_ok-board.ensures.board.0 c.close-mark.ensures.1)
-    c.min.ensures (sym c.in_ok-placed.placed.ok.0 ∙ c.in_ok-placed.ensures.len) c.in_ok-placed.ensures.placed c.in_ok-placed.ensures.parts)
+    (all_placed c.args.pieces.now c.count-count.result c.close-mark.ensures.0 c.close-mark.result
+    c.in_ok-done.done.items c.in_ok-seats.seats.items
+    c.in_ok-seats.parts.items c.in_ok-placed.placed.items c.min.result (omega
+    (arith, c.in_ok-done.ensures.len, c.in_ok-board.ensures.len, c.requires.0))
+    c.in_ok-done.ensures.worked c.in_ok-seats.ensures.wanted c.in_ok-seats.ensures.seats
+    c.in_ok-seats.ensures.parts c.count-count.ensures.pieces (subst (λ
+    (n : ℕ). Tallies n c.close-mark.ensures.0 c.close-mark.result
+    (map view_of c.in_ok-seats.seats.items)) c.in_ok-board.ensures.board.0 c.close-mark.ensures.1)
+    c.min.ensures (sym c.in_ok-placed.placed.ok.0 ∙ c.in_ok-placed.ensures.len)
+    c.in_ok-placed.ensures.placed c.in_ok-placed.ensures.parts)
     c.join.ensures
