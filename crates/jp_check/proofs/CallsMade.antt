@@ -1,9 +1,8 @@
 -- Calls with one argument, and with two.
-use Rattle.std.proofs.Common.{◌≡◌, ℕ, ◌<◌, ◌≤◌, List, [], ◌∷◌, length, get_or, refl, sym, ap, ap₂, ◌∙◌, arith}
+use Rattle.std.proofs.Common.{◌≡◌, ℕ, ◌<◌, ◌≤◌, List, [], ◌∷◌, length, get_or, sym, ap, ap₂, ◌∙◌, arith}
 use Rattle.std.specs.Prelude.{string_bytes}
 use Rattle.std.specs.Str.{chars}
 use Rattle.jp_syntax.specs.Tree as tree
-use Rattle.jp_syntax.specs.View.{text_of}
 use Rattle.jp_syntax.specs.PartViews.{argument_of, arguments_of, call_of}
 use Rattle.jp_syntax.specs.declared.tree.Argument.{Argument}
 use Rattle.jp_syntax.specs.declared.tree.Call.{Call, out-Call}

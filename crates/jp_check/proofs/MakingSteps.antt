@@ -5,7 +5,7 @@ use Rattle.std.proofs.lemmas.List.{at_drop_more, at_drop_all, map-append}
 use Rattle.jp_check.specs.Making.{Begins, Reads}
 use Rattle.jp_syntax.specs.Tree as tree
 use Rattle.jp_syntax.specs.declared.tree.Start.TheVariants as start
-use Rattle.jp_check.specs.Ready.{Wanted, wanted, where_wanted, root_at, the_root, wanted_in, roots_behind, roots_of, segments_in}
+use Rattle.jp_check.specs.Ready.{Wanted, wanted, where_wanted, root_at, wanted_in, roots_behind, roots_of, segments_in}
 use Rattle.jp_check.specs.declared.ready.Want.{Want}
 use Rattle.jp_check.specs.declared.ready.Want.TheVariants as want
 use Rattle.jp_check.specs.declared.ready.RootQuery.{RootQuery}
@@ -60,14 +60,14 @@ slot_found rs more r all d e h =
     let n : length rs ≡ length (roots_of rs) = omega (arith, count) in
     ap (λ ws. get_or ws (length rs) d) is ∙ ap (λ k. get_or (roots_of rs ++ w ∷ h.0) k d) n ∙ get_or-append_seam (roots_of rs) w h.0 d
 
-pub where_found : (w : Want) (q : tree.Query) → where_wanted w (wanted w q) ≡ q
-where_found want.First q = refl
-where_found want.Count q = refl
-where_found want.Only q = refl
+pub where_found : (w : Want) (ss : tree.Segments) → where_wanted w (wanted w ss) ≡ ss
+where_found want.First ss = refl
+where_found want.Count ss = refl
+where_found want.Only ss = refl
 
 pub root_found : (rs more : List RootQuery) (r : RootQuery) (slot : ℕ) (all : List Wanted) → slot ≡ length rs → more ≡ rs ++ r ∷ [] → Begins (roots_of more) all
     → root_at all slot r.want ≡ tree.query start.Root (segments_in (roots_of rs) r.segments.items)
 root_found rs more r slot all at e h =
     ap (λ k. root_at all k r.want) at
-    ∙ ap (where_wanted r.want) (slot_found rs more r all (wanted r.want the_root) e h)
-    ∙ where_found r.want (tree.query start.Root (segments_in (roots_of rs) r.segments.items))
+    ∙ ap (λ w. tree.query start.Root (where_wanted r.want w)) (slot_found rs more r all (wanted r.want tree.no_segments) e h)
+    ∙ ap (tree.query start.Root) (where_found r.want (segments_in (roots_of rs) r.segments.items))

@@ -1,6 +1,6 @@
 -- What a ready tree stands for, part by part.
 use Rattle.std.proofs.Common.{◌≡◌, ℕ, Bool, codes, map, sym, ap, ◌∙◌}
-use Rattle.std.specs.Prelude.{List, [], ◌∷◌, String, Vec, Box}
+use Rattle.std.specs.Prelude.{List, String, Vec, Box}
 use Rattle.std.specs.declared.alloc.Global.{Global}
 use Rattle.jp_syntax.specs.Tree as tree
 use Rattle.jp_syntax.specs.View.{text_of}

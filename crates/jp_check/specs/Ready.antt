@@ -18,31 +18,28 @@ use Rattle.jp_check.specs.declared.ready.Logical.TheOpen.{Logical-F, Nodes-F, Se
 use Rattle.jp_check.specs.declared.ready.RootQuery.{RootQuery}
 use Rattle.jp_check.specs.declared.ready.Query.{Query}
 
--- a `$` query inside a filter, by what the filter wants of it
+-- the segments of a `$` query inside a filter, by what the filter wants of it
 pub data Wanted : Type 0 where
-  first_of : tree.Query → Wanted
-  count_of : tree.Query → Wanted
-  only_of : tree.Query → Wanted
+  first_of : tree.Segments → Wanted
+  count_of : tree.Segments → Wanted
+  only_of : tree.Segments → Wanted
 
-abbrev pub wanted : Want → tree.Query → Wanted
-wanted First q = first_of q
-wanted Count q = count_of q
-wanted Only q = only_of q
+abbrev pub wanted : Want → tree.Segments → Wanted
+wanted First ss = first_of ss
+wanted Count ss = count_of ss
+wanted Only ss = only_of ss
 
--- `$`
-abbrev pub the_root : tree.Query
-the_root = tree.query start.Root tree.no_segments
-
--- the query, where this is what is wanted of it, and else `$`
-abbrev pub where_wanted : Want → Wanted → tree.Query
-where_wanted First (first_of q) = q
-where_wanted Count (count_of q) = q
-where_wanted Only (only_of q) = q
-where_wanted _ _ = the_root
+-- the segments, where this is what is wanted of them, and else none
+abbrev pub where_wanted : Want → Wanted → tree.Segments
+where_wanted First (first_of ss) = ss
+where_wanted Count (count_of ss) = ss
+where_wanted Only (only_of ss) = ss
+where_wanted _ _ = tree.no_segments
 
 -- the `$` query of a slot, of which this is wanted, and `$` where there is none
 abbrev pub root_at : List Wanted → ℕ → Want → tree.Query
-root_at roots slot want = where_wanted want (get_or roots slot (wanted want the_root))
+root_at roots slot want =
+    tree.query start.Root (where_wanted want (get_or roots slot (wanted want tree.no_segments)))
 
 abbrev pub position_text : Position → tree.Text
 position_text p = text_of p.text
@@ -145,7 +142,7 @@ module _ (roots : List Wanted) where
 
 -- a `$` query of the list, where those before it are these
 abbrev pub wanted_in : List Wanted → RootQuery → Wanted
-wanted_in before r = wanted r.want (tree.query start.Root (segments_in before r.segments.items))
+wanted_in before r = wanted r.want (segments_in before r.segments.items)
 
 -- the `$` queries of the list, one after another
 abbrev pub roots_behind : List Wanted → List RootQuery → List Wanted

@@ -16,7 +16,7 @@ use crate::known::KnownPattern;
 use crate::leaves::{make_constant, make_position, make_slice, read_pattern};
 use crate::patterns::literal_text;
 use crate::ready::{Logical, Nodes, Query, RootQuery, Segment, Selector, Value, Want};
-use jp_syntax::{Argument, Call, Comparable, Start};
+use jp_syntax::{Argument, Call, Comparable, Comparison, Start};
 use std::alloc::{AllocError, Global};
 
 /// A query made ready.
@@ -121,20 +121,46 @@ fn make_logical(
     match logical {
         jp_syntax::Logical::Any(parts) => Ok(Logical::Any(make_parts(alloc, parts, roots)?)),
         jp_syntax::Logical::All(parts) => Ok(Logical::All(make_parts(alloc, parts, roots)?)),
-        jp_syntax::Logical::Not(part) => {
-            let part = make_logical(alloc, part, roots)?;
-            Ok(Logical::Not(Box::new(alloc, part)?))
-        }
-        jp_syntax::Logical::Compare(comparison) => {
-            let left = make_side(alloc, &comparison.left, roots)?;
-            let right = make_side(alloc, &comparison.right, roots)?;
-            Ok(Logical::Compare(left, comparison.op, right))
-        }
+        jp_syntax::Logical::Not(part) => make_negation(alloc, part, roots),
+        jp_syntax::Logical::Compare(comparison) => make_comparison(alloc, comparison, roots),
         jp_syntax::Logical::Test(query) => {
             Ok(Logical::Test(make_nodes(alloc, Want::First, query, roots)?))
         }
         jp_syntax::Logical::Call(call) => make_test_call(alloc, call, roots),
     }
+}
+
+/// `!` and a part. It is no part of `make_logical`, whose frame is needed once a bracket.
+#[cycle(making)]
+#[inline(never)]
+fn make_negation(
+    alloc: Global,
+    part: &jp_syntax::Logical,
+    roots: &mut Vec<RootQuery>,
+) -> Result<Logical, AllocError>
+    ensures made { IfOk result (λ l. Reads (ready.roots_of roots.new.items)
+        (λ all. ready.logical_in all l) (tree.negation (view.logical_of part.now))) }
+    ensures roots { OnOk result (Begins (ready.roots_of roots.old.items) (ready.roots_of roots.new.items)) }
+{
+    let part = make_logical(alloc, part, roots)?;
+    Ok(Logical::Not(Box::new(alloc, part)?))
+}
+
+/// A comparison. It is no part of `make_logical`, whose frame is needed once a bracket.
+#[cycle(making)]
+#[inline(never)]
+fn make_comparison(
+    alloc: Global,
+    comparison: &Comparison,
+    roots: &mut Vec<RootQuery>,
+) -> Result<Logical, AllocError>
+    ensures made { IfOk result (λ l. Reads (ready.roots_of roots.new.items)
+        (λ all. ready.logical_in all l) (tree.comparing (view.comparison_of comparison.now))) }
+    ensures roots { OnOk result (Begins (ready.roots_of roots.old.items) (ready.roots_of roots.new.items)) }
+{
+    let left = make_side(alloc, &comparison.left, roots)?;
+    let right = make_side(alloc, &comparison.right, roots)?;
+    Ok(Logical::Compare(left, comparison.op, right))
 }
 
 /// The parts of `||` or `&&`.
@@ -272,6 +298,7 @@ fn make_value_call(
 
 /// A call that gives true or false. Any other, which no accepted query has, is refused.
 #[cycle(making)]
+#[inline(never)]
 fn make_test_call(
     alloc: Global,
     call: &Call,

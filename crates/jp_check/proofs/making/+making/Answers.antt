@@ -1,7 +1,6 @@
-use Rattle.std.proofs.Common.{Some, option_map, ◌≡◌, ◌∙◌, ap, ap₂, sym, map, length, codes, refl}
+use Rattle.std.proofs.Common.{Some, option_map, ◌≡◌, ◌∙◌, ap, ap₂, sym, map, codes, refl}
 use Rattle.std.proofs.lemmas.Result.{IfOk-weaker}
 use Rattle.jp_syntax.specs.Tree as tree
-use Rattle.jp_syntax.specs.View.{query_of}
 use Rattle.jp_syntax.specs.PartViews.{argument_of, comparable_of, logical_of, selector_of, segment_of}
 use Rattle.jp_syntax.proofs.Views.{filter_made, any_made, all_made, not_made, compare_made, test_made, test_call_made, single_made, value_call_made, query_argument_made, call_argument_made}
 use Rattle.jp_syntax.specs.declared.tree.Start.TheVariants as start
@@ -10,8 +9,8 @@ use Rattle.jp_check.specs.declared.ready.RootQuery.{RootQuery}
 use Rattle.std.specs.Str.{chars}
 use Rattle.jp_check.specs.Functions.{function_named, length_function, count_function, value_function}
 use Rattle.jp_check.specs.Kinds.{function_of}
-use Rattle.jp_check.specs.Ready.{roots_of, segment_in, selector_in, logical_in, value_in, nodes_in, as_argument, text_argument, call_of_one, call_of_two}
-use Rattle.jp_check.proofs.Levels.{query_level, segment_level, comparison_level, call_level}
+use Rattle.jp_check.specs.Ready.{segment_in, selector_in, logical_in, value_in, as_argument, text_argument, call_of_one, call_of_two}
+use Rattle.jp_check.proofs.Levels.{query_level, segment_level, comparison_level}
 use Rattle.jp_check.proofs.CallsMade.{called_one, called_two, text_is}
 use Rattle.jp_check.proofs.Naming.{named_length, named_count, named_value}
 use Rattle.jp_check.proofs.MakingSteps.{begins_itself, begins_on, made_more, made_all, listed_begins, root_found}
@@ -64,18 +63,31 @@ make_logical-returns-in_ok-make_parts-in-All-clause-made t c = λ all h.
     ∙ ap (λ ls. tree.all (tree.logicals ls)) (c.in_ok-make_parts-in-All.ensures.made all h ∙ ap (map logical_of) c.deref-in-All.ensures.value)
     ∙ sym (ap logical_of c.in-All.is ∙ all_made c.in-All.parts)
 
-pub make_logical-returns-in_ok-new-in-Not-clause-made : goal.make_logical-returns-in_ok-new-in-Not-clause-made
-make_logical-returns-in_ok-new-in-Not-clause-made t c = λ all h.
-    not_read all c.in_ok-new-in-Not.field-0
-    ∙ ap tree.negation (ap (logical_in all) c.in_ok-new-in-Not.ensures.ok ∙ c.in_ok-part-in-Not.ensures.made all h ∙ ap logical_of c.deref-in-Not.ensures)
-    ∙ sym (ap logical_of c.in-Not.is ∙ not_made c.in-Not.part)
+pub make_negation-returns-clause-made : goal.make_negation-returns-clause-made
+make_negation-returns-clause-made t c = λ all h.
+    not_read all c.in_ok-new.field-0
+    ∙ ap tree.negation (ap (logical_in all) c.in_ok-new.ensures.ok ∙ c.in_ok-part.ensures.made all h)
 
-pub make_logical-returns-in_ok-right-in-Compare-clause-made : goal.make_logical-returns-in_ok-right-in-Compare-clause-made
-make_logical-returns-in_ok-right-in-Compare-clause-made t c = λ all h.
-    let sides = c.in-Compare.comparison in
-    compare_read all c.in_ok-left-in-Compare.left sides.op c.in_ok-right-in-Compare.right
-    ∙ ap₂ (λ l r. tree.comparing (tree.comparison l sides.op r)) (c.in_ok-left-in-Compare.ensures.made all (begins_on _ _ _ c.in_ok-right-in-Compare.ensures.roots h)) (c.in_ok-right-in-Compare.ensures.made all h)
-    ∙ sym (ap logical_of c.in-Compare.is ∙ compare_made sides ∙ ap tree.comparing (comparison_level sides))
+pub make_comparison-returns-clause-made : goal.make_comparison-returns-clause-made
+make_comparison-returns-clause-made t c = λ all h.
+    let sides = c.args.comparison.now in
+    compare_read all c.in_ok-left.left sides.op c.in_ok-right.right
+    ∙ ap₂ (λ l r. tree.comparing (tree.comparison l sides.op r))
+    (c.in_ok-left.ensures.made all (begins_on _ _ _ c.in_ok-right.ensures.roots h))
+    (c.in_ok-right.ensures.made all h)
+    ∙ sym (ap tree.comparing (comparison_level sides))
+
+pub make_logical-returns-in-Not-clause-made : goal.make_logical-returns-in-Not-clause-made
+make_logical-returns-in-Not-clause-made t c =
+    IfOk-weaker c.make_negation.result _ _
+    (λ l r all h. r all h ∙ ap (λ x. tree.negation (logical_of x)) c.deref-in-Not.ensures ∙ sym (ap logical_of c.in-Not.is ∙ not_made c.in-Not.part))
+    c.make_negation.ensures.made
+
+pub make_logical-returns-in-Compare-clause-made : goal.make_logical-returns-in-Compare-clause-made
+make_logical-returns-in-Compare-clause-made t c =
+    IfOk-weaker c.make_comparison.result _ _
+    (λ l r all h. r all h ∙ sym (ap logical_of c.in-Compare.is ∙ compare_made c.in-Compare.comparison))
+    c.make_comparison.ensures.made
 
 pub make_logical-returns-in_ok-make_nodes-in-Test-clause-made : goal.make_logical-returns-in_ok-make_nodes-in-Test-clause-made
 make_logical-returns-in_ok-make_nodes-in-Test-clause-made t c = λ all h.
