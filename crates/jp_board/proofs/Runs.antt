@@ -1,5 +1,6 @@
 -- Proofs of the worked examples.
-use Rattle.std.proofs.Common.{◌≡◌, ℕ, zero, suc, ◌≤◌, List, length, [], ◌∷◌, refl, ap, ⊎_elim, arith, Contains}
+use Rattle.std.proofs.Common.{◌≡◌, ℕ, zero, suc, ◌≤◌, List, length, [], ◌∷◌, refl, ap, ⊎_elim, arith}
+use Rattle.std.proofs.Common.{Contains}
 use Rattle.std.proofs.lemmas.List.Elements.{All-contains}
 use Rattle.std.proofs.lemmas.List.Sorted.{Contains-permutation}
 use Rattle.jp_board.specs.declared.view.View.{View}
@@ -15,7 +16,8 @@ of_one : (x y : ℕ) → Contains (x ∷ []) y → x ≡ y
 of_one x y (zero, lt, is) = is
 of_one x y (suc k, lt, is) = absurd (omega (arith, lt))
 
-pub one_run : LeadTo (join 0 1 ∷ claim 0 ∷ look 0 ∷ report 1 1 ∷ claim 1 ∷ claim 0 ∷ split 0 ∷ []) (first_state 2 2)
+pub one_run : LeadTo (join 0 1 ∷ claim 0 ∷ look 0 ∷ report 1 1 ∷ claim 1 ∷ claim 0 ∷ split 0 ∷ [])
+    (first_state 2 2)
     (record {
       next = 3;
       least = 1;
@@ -83,7 +85,8 @@ no_one (suc zero, lt, is) = omega (arith, is)
 no_one (suc (suc k), lt, is) = omega (arith, lt)
 
 pub not_claimed_twice : ¬ IsLawful 2 1 claimed_twice
-not_claimed_twice law = no_one (Contains-permutation (numbers_below 2) zeros 1 law.claimed_once (1, omega arith, refl))
+not_claimed_twice law =
+    no_one (Contains-permutation (numbers_below 2) zeros 1 law.claimed_once (1, omega arith, refl))
 
 pub not_skipped : ¬ IsLawful 2 1 skipped
 not_skipped law = let below = claim_below law 1 (0, omega arith, refl) in omega arith
@@ -95,7 +98,9 @@ pub not_told_twice : ¬ IsLawful 2 1 told_twice
 not_told_twice law = let top = next_le law in omega arith
 
 pub not_risen : ¬ IsLawful 2 1 risen
-not_risen law = let low = All-contains (λ x. 2 ≤ x) (0 ∷ []) 0 law.mark.under_looks (0, omega arith, refl) in omega arith
+not_risen law = let low = All-contains (λ x. 2 ≤ x) (0 ∷ []) 0 law.mark.under_looks (0, omega arith, refl) in
+    omega arith
 
 pub not_invented : ¬ IsLawful 2 1 invented
-not_invented law = ⊎_elim (λ e. omega arith) (λ (c : Contains [] 1). let lt = c.1 in omega arith) law.mark.given
+not_invented law = ⊎_elim (λ e. omega arith) (λ (c : Contains [] 1). let lt = c.1 in omega arith)
+    law.mark.given

@@ -1,5 +1,6 @@
 -- The order of texts by their UTF-8 bytes is that by their scalar values.
-use Rattle.std.proofs.Common.{◌≡◌, ℕ, zero, suc, ◌+◌, ◌/◌, ◌%◌, ◌<◌, ◌≤◌, ◌⊎◌, inl, inr, List, [], ◌∷◌, ◌++◌, Less, Equal, Greater, nat_cmp, refl, sym, ap, ◌∙◌, subst, arith}
+use Rattle.std.proofs.Common.{◌≡◌, ℕ, zero, suc, ◌+◌, ◌/◌, ◌%◌, ◌<◌, ◌≤◌, ◌⊎◌, inl, inr, List, [], ◌∷◌, ◌++◌}
+use Rattle.std.proofs.Common.{Less, Equal, Greater, nat_cmp, refl, sym, ap, ◌∙◌, subst, arith}
 use Rattle.std.proofs.Math.Utf8.{encode}
 use Rattle.std.proofs.lemmas.Bool.{cases_lt, cases_order, lt-ltb, le-ltb}
 use Rattle.std.proofs.lemmas.Cmp.{nat_list_cmp_total}
@@ -9,7 +10,8 @@ use Rattle.std.specs.Ordering.{ordering_then, ordering_reverse}
 use Rattle.std.specs.Prelude.{encode_utf8_all}
 use Rattle.jp_doc.specs.Json.{Text, text_cmp}
 
--- a first byte that holds what is left of the number after its last digits to the base of 64, and a byte for each of these
+-- a first byte that holds what is left of the number after its last digits to the base of 64, and a byte
+-- for each of these
 abbrev spread : ℕ → ℕ → ℕ → List ℕ
 spread zero mark c = (mark + c) ∷ []
 spread (suc n) mark c = spread n mark (c / 64) ++ (128 + c % 64) ∷ []
@@ -75,12 +77,15 @@ greater x y h = sym (nat_cmp_is x y Greater h)
 below_less : (xs ys u v : List ℕ) → IsBelow xs ys → slice_cmp nat_cmp (xs ++ u) (ys ++ v) ≡ Less
 below_less [] ys u v h = absurd h
 below_less (x ∷ xs) [] u v h = absurd h
-below_less (x ∷ xs) (y ∷ ys) u v (inl h) = ap (λ o. ordering_then o (slice_cmp nat_cmp (xs ++ u) (ys ++ v))) (less x y h)
+below_less (x ∷ xs) (y ∷ ys) u v (inl h) = ap (λ o. ordering_then o (slice_cmp nat_cmp (xs ++ u) (ys ++ v)))
+    (less x y h)
 below_less (x ∷ xs) (y ∷ ys) u v (inr h) =
-    ap (λ o. ordering_then o (slice_cmp nat_cmp (xs ++ u) (ys ++ v))) (equal x y h.0) ∙ below_less xs ys u v h.1
+    ap (λ o. ordering_then o (slice_cmp nat_cmp (xs ++ u) (ys ++ v))) (equal x y h.0)
+    ∙ below_less xs ys u v h.1
 
 -- two numbers by their last digit and those before it, to the base of 64
-digits_of : (c d : ℕ) → c < d → (c / 64 ≡ d / 64) ⊎ ((c / 64 < d / 64) ⊎ (d / 64 < c / 64)) → (c / 64 < d / 64) ⊎ ((c / 64 ≡ d / 64) × (c % 64 < d % 64))
+digits_of : (c d : ℕ) → c < d → (c / 64 ≡ d / 64) ⊎ ((c / 64 < d / 64) ⊎ (d / 64 < c / 64))
+    → (c / 64 < d / 64) ⊎ ((c / 64 ≡ d / 64) × (c % 64 < d % 64))
 digits_of c d h (inl e) = inr (e, omega arith)
 digits_of c d h (inr (inl k)) = inl k
 digits_of c d h (inr (inr k)) = absurd (omega arith)
@@ -98,19 +103,24 @@ below_after : (xs u v : List ℕ) → IsBelow u v → IsBelow (xs ++ u) (xs ++ v
 below_after [] u v h = h
 below_after (x ∷ xs) u v h = inr (refl, below_after xs u v h)
 
-digit_below : (n mark c d : ℕ) → ((a b : ℕ) → a < b → IsBelow (spread n mark a) (spread n mark b)) → (c / 64 < d / 64) ⊎ ((c / 64 ≡ d / 64) × (c % 64 < d % 64))
+digit_below : (n mark c d : ℕ) → ((a b : ℕ) → a < b → IsBelow (spread n mark a) (spread n mark b))
+    → (c / 64 < d / 64) ⊎ ((c / 64 ≡ d / 64) × (c % 64 < d % 64))
     → IsBelow (spread (suc n) mark c) (spread (suc n) mark d)
 digit_below n mark c d before (inl h) =
-    below_more (spread n mark (c / 64)) (spread n mark (d / 64)) ((128 + c % 64) ∷ []) ((128 + d % 64) ∷ []) (before (c / 64) (d / 64) h)
+    below_more (spread n mark (c / 64)) (spread n mark (d / 64)) ((128 + c % 64) ∷ []) ((128 + d % 64) ∷ [])
+    (before (c / 64) (d / 64) h)
 digit_below n mark c d before (inr h) =
-    subst (λ q. IsBelow (spread n mark (c / 64) ++ (128 + c % 64) ∷ []) (spread n mark q ++ (128 + d % 64) ∷ [])) h.0
-    (below_after (spread n mark (c / 64)) ((128 + c % 64) ∷ []) ((128 + d % 64) ∷ []) (inl (omega (arith, h.1))))
+    subst (λ q. IsBelow (spread n mark (c / 64) ++ (128 + c % 64) ∷ []) (spread n mark q ++ (128 + d % 64)
+    ∷ [])) h.0
+    (below_after (spread n mark (c / 64)) ((128 + c % 64) ∷ []) ((128 + d % 64) ∷ [])
+    (inl (omega (arith, h.1))))
 
 spread_below : (n mark c d : ℕ) → c < d → IsBelow (spread n mark c) (spread n mark d)
 spread_below zero mark c d h = inl (omega arith)
 spread_below (suc n) mark c d h = digit_below n mark c d (spread_below n mark) (digits c d h)
 
-both : (c d : ℕ) (xs ys : List ℕ) → encode c ≡ xs → encode d ≡ ys → IsBelow xs ys → IsBelow (encode c) (encode d)
+both : (c d : ℕ) (xs ys : List ℕ) → encode c ≡ xs → encode d ≡ ys → IsBelow xs ys
+    → IsBelow (encode c) (encode d)
 both c d xs ys e f h = rw (e, f) h
 
 forms_below : (c d : ℕ) → c < d → Form c → Form d → IsBelow (encode c) (encode d)
@@ -136,7 +146,8 @@ encode_below c d h = forms_below c d h (form c) (form d)
 
 same_front : (xs u v : List ℕ) → slice_cmp nat_cmp (xs ++ u) (xs ++ v) ≡ slice_cmp nat_cmp u v
 same_front [] u v = refl
-same_front (x ∷ xs) u v = ap (λ o. ordering_then o (slice_cmp nat_cmp (xs ++ u) (xs ++ v))) (equal x x refl) ∙ same_front xs u v
+same_front (x ∷ xs) u v = ap (λ o. ordering_then o (slice_cmp nat_cmp (xs ++ u) (xs ++ v))) (equal x x refl)
+    ∙ same_front xs u v
 
 has_bytes : (c : ℕ) (u : List ℕ) → Form c → slice_cmp nat_cmp [] (encode c ++ u) ≡ Less
 has_bytes c u (one k e) = rw e refl
@@ -144,8 +155,10 @@ has_bytes c u (two k l e) = rw e refl
 has_bytes c u (three k l e) = rw e refl
 has_bytes c u (four k e) = rw e refl
 
-order_from : (c d : ℕ) (cs ds : List ℕ) → slice_cmp nat_cmp (encode_utf8_all cs) (encode_utf8_all ds) ≡ slice_cmp nat_cmp cs ds → (c ≡ d) ⊎ ((c < d) ⊎ (d < c))
-    → slice_cmp nat_cmp (encode c ++ encode_utf8_all cs) (encode d ++ encode_utf8_all ds) ≡ slice_cmp nat_cmp (c ∷ cs) (d ∷ ds)
+order_from : (c d : ℕ) (cs ds : List ℕ) → slice_cmp nat_cmp (encode_utf8_all cs) (encode_utf8_all ds)
+    ≡ slice_cmp nat_cmp cs ds → (c ≡ d) ⊎ ((c < d) ⊎ (d < c))
+    → slice_cmp nat_cmp (encode c ++ encode_utf8_all cs) (encode d ++ encode_utf8_all ds)
+    ≡ slice_cmp nat_cmp (c ∷ cs) (d ∷ ds)
 order_from c d cs ds later (inl e) =
     ap (λ x. slice_cmp nat_cmp (encode c ++ encode_utf8_all cs) (encode x ++ encode_utf8_all ds)) (sym e)
     ∙ same_front (encode c) (encode_utf8_all cs) (encode_utf8_all ds) ∙ later
@@ -155,13 +168,15 @@ order_from c d cs ds later (inr (inl h)) =
     ∙ sym (ap (λ o. ordering_then o (slice_cmp nat_cmp cs ds)) (less c d h))
 order_from c d cs ds later (inr (inr h)) =
     nat_list_cmp_total.antisymm (encode c ++ encode_utf8_all cs) (encode d ++ encode_utf8_all ds)
-    ∙ ap ordering_reverse (below_less (encode d) (encode c) (encode_utf8_all ds) (encode_utf8_all cs) (encode_below d c h))
+    ∙ ap ordering_reverse (below_less (encode d) (encode c) (encode_utf8_all ds) (encode_utf8_all cs)
+    (encode_below d c h))
     ∙ sym (ap (λ o. ordering_then o (slice_cmp nat_cmp cs ds)) (greater c d h))
 
 order : (s t : List ℕ) → slice_cmp nat_cmp (encode_utf8_all s) (encode_utf8_all t) ≡ slice_cmp nat_cmp s t
 order [] [] = refl
 order [] (d ∷ ds) = has_bytes d (encode_utf8_all ds) (form d)
-order (c ∷ cs) [] = nat_list_cmp_total.antisymm (encode_utf8_all (c ∷ cs)) [] ∙ ap ordering_reverse (has_bytes c (encode_utf8_all cs) (form c))
+order (c ∷ cs) [] = nat_list_cmp_total.antisymm (encode_utf8_all (c ∷ cs)) []
+    ∙ ap ordering_reverse (has_bytes c (encode_utf8_all cs) (form c))
 order (c ∷ cs) (d ∷ ds) = order_from c d cs ds (order cs ds) (cases_order c d)
 
 pub text_order : (s t : Text) → text_cmp s t ≡ slice_cmp nat_cmp s t

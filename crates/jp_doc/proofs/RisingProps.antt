@@ -4,7 +4,8 @@ use Rattle.std.proofs.Props.{props}
 use Rattle.std.specs.Ordering.{Ordering-set}
 use Rattle.serde_json.specs.declared.value.Value.{Value}
 use Rattle.jp_doc.specs.DocumentValue.{IsDocumentValue}
-use Rattle.jp_doc.specs.Json.{Text, value_of, Json, null, truth, whole, text, array, object, Items, no_items, add_item, Members, no_members, add_member}
+use Rattle.jp_doc.specs.Json.{Text, value_of, Json, null, truth, whole, text, array, object, Items, no_items}
+use Rattle.jp_doc.specs.Json.{add_item, Members, no_members, add_member}
 use Rattle.jp_doc.specs.Rising.{IsBelow, IsRising, ItemsRise, MembersRise}
 
 below_prop : (k : Text) (ms : Members) → IsProp (IsBelow k ms)

@@ -1,5 +1,6 @@
 -- What holds of every `Value`: its texts are UTF-8, and the numbers that it has as negative are.
-use Rattle.std.proofs.Common.{◌≡◌, ℕ, ℤ, pos, negsuc, arith, true, List, [], ◌∷◌, map, refl, sym, ap, ◌∙◌, bytes_eq, subst, String, Global}
+use Rattle.std.proofs.Common.{◌≡◌, ℕ, ℤ, pos, negsuc, arith, true, List, [], ◌∷◌, map, refl, sym, ap, ◌∙◌}
+use Rattle.std.proofs.Common.{bytes_eq, subst, String, Global}
 use Rattle.std.proofs.lemmas.Bool.{ltb-true}
 use Rattle.std.proofs.lemmas.Bool.Decides.{same_from_decides}
 use Rattle.std.proofs.lemmas.Slice.Eq.{bytes_eq-Decides}
@@ -58,11 +59,14 @@ items_known : (vs : List Known) → ItemsAreOfValue (items_of (map view (map (λ
 items_known [] = tt
 items_known (v ∷ vs) = (v.1, items_known vs)
 
-members_known : (es : List (String Global × Known)) → MembersAreOfValue (members_of (map (λ (m : String Global × Value). (m.0, view m.1)) (map (λ (e : String Global × Known). (e.0, e.1.0)) es)))
+members_known : (es : List (String Global × Known))
+    → MembersAreOfValue (members_of (map (λ (m : String Global × Value). (m.0, view m.1))
+    (map (λ (e : String Global × Known). (e.0, e.1.0)) es)))
 members_known [] = tt
 members_known (e ∷ es) = (IsUtf8-string_bytes e.0, e.1.1, members_known es)
 
-level_known : (y : Value-F Known) → IsOfValue (view_step (map-Value Value Data view (map-Value Known Value (λ e. e.0) y)))
+level_known : (y : Value-F Known)
+    → IsOfValue (view_step (map-Value Value Data view (map-Value Known Value (λ e. e.0) y)))
 level_known Value-F.Null = tt
 level_known (Value-F.Bool b) = tt
 level_known (Value-F.Number x) = exact x.n x.valid
@@ -74,12 +78,16 @@ rolled_known : (y : Value-F Known) → IsOfValue (view (roll-Value (map-Value Kn
 rolled_known y = rw (fold-roll-Value Data view_step (map-Value Known Value (λ e. e.0) y)) (level_known y)
 
 pub value_has : (v : Value) → IsOfValue (view v)
-value_has = ind-Value (λ v. IsOfValue (view v)) (λ x y is. subst (λ z. IsOfValue (view (roll-Value z))) is (rolled_known y))
+value_has = ind-Value (λ v. IsOfValue (view v)) (λ x y is. subst (λ z. IsOfValue (view (roll-Value z))) is
+    (rolled_known y))
 
 -- texts are the same just where their bytes are
 pub text_eq-bytes : (k l : List ℕ) → IsUtf8 k → IsUtf8 l → bytes_eq (chars k) (chars l) ≡ bytes_eq k l
 text_eq-bytes k l u v =
     let decoded = bytes_eq-Decides (chars k) (chars l) in
-    same_from_decides (bytes_eq (chars k) (chars l)) (bytes_eq k l)
-    (λ t. sym (encodes-chars k u) ∙ ap encode_utf8_all (decoded.0 t) ∙ encodes-chars l v, λ e. decoded.1 (ap chars e))
+    same_from_decides (bytes_eq (chars k) (chars l)) (bytes_eq k l) (
+      λ t. sym (encodes-chars k u) ∙ ap encode_utf8_all (decoded.0 t)
+          ∙ encodes-chars l v,
+      λ e. decoded.1 (ap chars e),
+    )
     (bytes_eq-Decides k l)

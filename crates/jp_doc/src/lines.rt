@@ -51,6 +51,14 @@ impl Lines {
         self.count
     }
 
+    /// How many bytes of the next line are held: those fed since the last line feed, or since the last
+    /// `finish`, by calls that succeeded. It takes no memory.
+    pub fn held(&self) -> u64
+        ensures { result ≡ length self.now.open_line }
+    {
+        self.open_line.len() as u64
+    }
+
     /// Adds the lines that the piece completes to `out`, without those that are blank.
     ///
     /// `AllocError` if a growth was refused: then nothing has changed, and the piece can be fed again.

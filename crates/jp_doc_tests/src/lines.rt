@@ -62,6 +62,20 @@ fn empty_input(rt: HostRuntime) -> Result<(), Fail> {
 }
 
 #[test]
+fn bytes_held(rt: HostRuntime) -> Result<(), Fail> {
+    let mut lines = Lines::new(rt.alloc());
+    let mut out = Vec::new(rt.alloc());
+    lines.feed(b"ab", &mut out)?;
+    assert_eq!(rt; lines.held(), 2);
+    lines.feed(b"\nc", &mut out)?;
+    assert_eq!(rt; lines.held(), 1);
+    assert!(rt; lines.count() < 10);
+    lines.finish(&mut out)?;
+    assert_eq!(rt; lines.held(), 0);
+    Ok(())
+}
+
+#[test]
 fn a_feed_after_a_finish(rt: HostRuntime) -> Result<(), Fail> {
     let mut lines = Lines::new(rt.alloc());
     let mut out = Vec::new(rt.alloc());

@@ -1,5 +1,7 @@
--- The characters of a name, escaped, spell the name between single quotes, and leave the count of brackets as it is.
-use Rattle.std.proofs.Common.{◌≡◌, ℕ, ◌/◌, ◌%◌, ◌<◌, ◌≤◌, ◌==◌, nat_lt, Bool, true, false, not, IsTrue, if◌then◌else◌, [], ◌∷◌, ◌++◌, codes, refl, sym, subst, arith, Some}
+-- The characters of a name, escaped, spell the name between single quotes, and leave the count of brackets
+-- as it is.
+use Rattle.std.proofs.Common.{◌≡◌, ℕ, ◌/◌, ◌%◌, ◌<◌, ◌≤◌, ◌==◌, nat_lt, Bool, true, false, not, IsTrue}
+use Rattle.std.proofs.Common.{if◌then◌else◌, [], ◌∷◌, ◌++◌, codes, refl, sym, subst, arith, Some}
 use Rattle.std.proofs.lemmas.Bool.Decides.{nat_tests}
 use Rattle.std.specs.List.{flat_map}
 use borrow.Author.Tests.{eqb-true, ltb-true, ltb-false, le-leb}
@@ -24,16 +26,19 @@ control_text c = codes "\\u00" ++ hex_digit (c / 16) ∷ hex_digit (c % 16) ∷ 
 
 -- an escaped character, by its cases
 module _ (P : Text → Type 0) where
-  if_equal : (c d : ℕ) (b : Bool) (x y : Text) → (c == d) ≡ b → (c ≡ d → P x) → ((c == d) ≡ false → P y) → P (if b then x else y)
+  if_equal : (c d : ℕ) (b : Bool) (x y : Text) → (c == d) ≡ b → (c ≡ d → P x) → ((c == d) ≡ false → P y)
+      → P (if b then x else y)
   if_equal c d true x y e f g = f (eqb-true c d e)
   if_equal c d false x y e f g = g e
 
-  if_less : (c d : ℕ) (b : Bool) (x y : Text) → nat_lt c d ≡ b → (c < d → P x) → (d ≤ c → P y) → P (if b then x else y)
+  if_less : (c d : ℕ) (b : Bool) (x y : Text) → nat_lt c d ≡ b → (c < d → P x) → (d ≤ c → P y)
+      → P (if b then x else y)
   if_less c d true x y e f g = f (ltb-true c d e)
   if_less c d false x y e f g = g (ltb-false c d e)
 
   by_character : (c : ℕ)
-      → (c ≡ 39 → P (codes "\\'")) → (c ≡ 92 → P (codes "\\\\")) → (c ≡ 8 → P (codes "\\b")) → (c ≡ 9 → P (codes "\\t"))
+      → (c ≡ 39 → P (codes "\\'"))
+      → (c ≡ 92 → P (codes "\\\\")) → (c ≡ 8 → P (codes "\\b")) → (c ≡ 9 → P (codes "\\t"))
       → (c ≡ 10 → P (codes "\\n")) → (c ≡ 12 → P (codes "\\f")) → (c ≡ 13 → P (codes "\\r"))
       → (c < 32 → P (control_text c))
       → ((c == 39) ≡ false → (c == 92) ≡ false → 32 ≤ c → P (c ∷ []))
@@ -49,7 +54,8 @@ module _ (P : Text → Type 0) where
       if_less c 32 (nat_lt c 32) _ _ refl control (λ high. itself no_quote no_backslash high))))))))
 
 -- a letter's escape
-letter_piece : (c letter value : ℕ) → escaped_by 39 letter ≡ Some value → c ≡ value → Piece 39 (92 ∷ letter ∷ []) c
+letter_piece : (c letter value : ℕ) → escaped_by 39 letter ≡ Some value → c ≡ value
+    → Piece 39 (92 ∷ letter ∷ []) c
 letter_piece c letter value e h = subst (Piece 39 (92 ∷ letter ∷ [])) (sym h) (escape letter value e)
 
 control_value : (c : ℕ) → c < 32 → hex_number 48 48 (hex_digit (c / 16)) (hex_digit (c % 16)) ≡ c
@@ -61,21 +67,25 @@ control_value c h =
 control_hex : (c : ℕ) → c < 32 → HexIs (48 ∷ 48 ∷ hex_digit (c / 16) ∷ hex_digit (c % 16) ∷ []) c
 control_hex c h =
     subst (HexIs (48 ∷ 48 ∷ hex_digit (c / 16) ∷ hex_digit (c % 16) ∷ [])) (control_value c h)
-    (four 48 48 (hex_digit (c / 16)) (hex_digit (c % 16)) (refl, (refl, (hex_digit_is (c / 16) (omega arith), (hex_digit_is (c % 16) (omega arith), tt)))))
+    (four 48 48 (hex_digit (c / 16)) (hex_digit (c % 16))
+    (refl, (refl, (hex_digit_is (c / 16) (omega arith), (hex_digit_is (c % 16) (omega arith), tt)))))
 
 control_scalar : (c : ℕ) → c < 32 → IsTrue (not (is_surrogate c))
 control_scalar c h = grind (arith, nat_tests)
 
-bare_itself : (c : ℕ) → IsTrue (is_scalar c) → (c == 39) ≡ false → (c == 92) ≡ false → 32 ≤ c → IsTrue (is_bare 39 c)
+bare_itself : (c : ℕ) → IsTrue (is_scalar c) → (c == 39) ≡ false → (c == 92) ≡ false → 32 ≤ c
+    → IsTrue (is_bare 39 c)
 bare_itself c s q b h = rw (q, b, le-leb 32 c h, s) refl
 
 -- an escaped character spells the character between single quotes
 pub escaped_piece : (c : ℕ) → IsTrue (is_scalar c) → Piece 39 (escaped c) c
 escaped_piece c s =
     by_character (λ t. Piece 39 t c) c
-    (letter_piece c 39 39 refl) (letter_piece c 92 92 refl) (letter_piece c 98 8 refl) (letter_piece c 116 9 refl)
+    (letter_piece c 39 39 refl) (letter_piece c 92 92 refl) (letter_piece c 98 8 refl)
+    (letter_piece c 116 9 refl)
     (letter_piece c 110 10 refl) (letter_piece c 102 12 refl) (letter_piece c 114 13 refl)
-    (λ h. unicode (48 ∷ 48 ∷ hex_digit (c / 16) ∷ hex_digit (c % 16) ∷ []) c (control_hex c h) (control_scalar c h))
+    (λ h. unicode (48 ∷ 48 ∷ hex_digit (c / 16) ∷ hex_digit (c % 16) ∷ []) c (control_hex c h)
+    (control_scalar c h))
     (λ q b h. bare c (bare_itself c s q b h))
 
 pub name_pieces : (k : Text) → Each is_scalar k → Star (Piece 39) (flat_map escaped k) k
@@ -103,7 +113,8 @@ hex_digit_bare d h = stays_bare (hex_digit d) (grind (arith, nat_tests)) (grind 
 
 stays_control : (c : ℕ) → c < 32 → Stays (control_text c)
 stays_control c h =
-    passes_on quoted_place quoted_place quoted_place (codes "\\u00") (hex_digit (c / 16) ∷ hex_digit (c % 16) ∷ [])
+    passes_on quoted_place quoted_place quoted_place (codes "\\u00") (hex_digit (c / 16) ∷ hex_digit (c % 16)
+    ∷ [])
     (record { leads = refl; flat = omega arith })
     (passes_on quoted_place quoted_place quoted_place (hex_digit (c / 16) ∷ []) (hex_digit (c % 16) ∷ [])
     (hex_digit_bare (c / 16) (omega arith)) (hex_digit_bare (c % 16) (omega arith)))
@@ -118,4 +129,5 @@ escaped_stays c =
 
 pub name_stays : (k : Text) → Passes quoted_place (flat_map escaped k) quoted_place
 name_stays [] = passes_none quoted_place (omega arith)
-name_stays (c ∷ k) = passes_on quoted_place quoted_place quoted_place (escaped c) (flat_map escaped k) (escaped_stays c) (name_stays k)
+name_stays (c ∷ k) = passes_on quoted_place quoted_place quoted_place (escaped c) (flat_map escaped k)
+    (escaped_stays c) (name_stays k)

@@ -22,16 +22,20 @@ module _ (l : Location) (q : Query) (is : q ≡ path_query l) (h : AreSteps l) w
   accepted = subst (IsAccepted (path_text l)) (sym is) (path_accepted l h)
 
   pub checkable : ∥ ((t : Text) × (bracket_depth t ≤ max_depth) × Spells t q) ∥₁
-  checkable = ∣ (path_text l, (path_accepted l h).0, subst (Spells (path_text l)) (sym is) (path_spelled l h)) ∣₁
+  checkable = ∣ (path_text l, (path_accepted l h).0, subst (Spells (path_text l)) (sym is) (path_spelled l h))
+      ∣₁
 
   pub only : (other : Query) → IsAccepted (path_text l) other → other ≡ q
   only other p = path_accepted_only l other h p ∙ sym is
 
-  pub own : (tests : Tests) (root v : Json) → value_at l root ≡ Some v → document_nodes tests q root ≡ node l v ∷ []
-  own tests root v there = ap (λ (x : Query). document_nodes tests x root) is ∙ query_selects tests l root v h there
+  pub own : (tests : Tests) (root v : Json) → value_at l root ≡ Some v → document_nodes tests q root
+      ≡ node l v ∷ []
+  own tests root v there = ap (λ (x : Query). document_nodes tests x root) is
+      ∙ query_selects tests l root v h there
 
 -- a plan of that query is the plan of whatever the path's text is accepted with
-pub planned_only : (r : Result Plan QueryFault) (t : Text) (q : Query) → IfOk r (λ p. planned_query p ≡ q) → ((other : Query) → IsAccepted t other → other ≡ q)
+pub planned_only : (r : Result Plan QueryFault) (t : Text) (q : Query) → IfOk r (λ p. planned_query p ≡ q)
+    → ((other : Query) → IsAccepted t other → other ≡ q)
     → IfOk r (λ p. (other : Query) → IsAccepted t other → other ≡ planned_query p)
 planned_only (Ok p) t q e one = λ other a. one other a ∙ sym e
 planned_only (Err f) t q e one = tt

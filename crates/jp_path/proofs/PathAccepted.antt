@@ -25,7 +25,8 @@ no_fraction [] = refl
 no_fraction (at.name k ∷ l) = no_fraction l
 no_fraction (at.index i ∷ l) = no_fraction l
 
-within_range : (l : Location) → AreSteps l → list_all is_in_range (segments_numbers (segments (map step_segment l))) ≡ true
+within_range : (l : Location) → AreSteps l
+    → list_all is_in_range (segments_numbers (segments (map step_segment l))) ≡ true
 within_range [] h = refl
 within_range (at.name k ∷ l) h = within_range l h.1
 within_range (at.index i ∷ l) h =
@@ -41,10 +42,18 @@ well_typed (at.index i ∷ l) = well_typed l
 pub path_accepted : (l : Location) → AreSteps l → IsAccepted (path_text l) (path_query l)
 path_accepted l h =
     let flat : bracket_depth (path_text l) ≤ 1 = path_depth l h in
-    let within : bracket_depth (path_text l) ≤ max_depth = omega arith in
-    (within, (path_query l, path_spelled l h, accepts (path_query l) (no_fraction l) (within_range l h) (well_typed l)))
+    let within : bracket_depth (path_text l) ≤ max_depth = omega arith in (
+      within,
+      (
+        path_query l,
+        path_spelled l h,
+        accepts (path_query l) (no_fraction l) (within_range l h)
+            (well_typed l),
+      ),
+    )
 
-pub path_accepted_only : (l : Location) (q : Query) → AreSteps l → IsAccepted (path_text l) q → q ≡ path_query l
+pub path_accepted_only : (l : Location) (q : Query) → AreSteps l → IsAccepted (path_text l) q
+    → q ≡ path_query l
 path_accepted_only l q h p = (accepts_only p.1.0 q p.1.2).0 ∙ path_spelled_only l p.1.0 h p.1.1
 
 steps_are_indexes : (l : Location) → AreSteps l → AreIndexes l
@@ -53,13 +62,16 @@ steps_are_indexes (at.name k ∷ l) h = (tt, steps_are_indexes l h.1)
 steps_are_indexes (at.index i ∷ l) h = (h.0, steps_are_indexes l h.1)
 
 module _ (t : Tests) (l : Location) (root v : Json) where
-  pub query_selects : AreSteps l → value_at l root ≡ Some v → document_nodes t (path_query l) root ≡ node l v ∷ []
+  pub query_selects : AreSteps l → value_at l root ≡ Some v → document_nodes t (path_query l) root
+      ≡ node l v ∷ []
   query_selects h e = own_node t root l v (steps_are_indexes l h) e
 
-  pub text_selects : AreSteps l → value_at l root ≡ Some v → (q : Query) × IsAccepted (path_text l) q × (document_nodes t q root ≡ node l v ∷ [])
+  pub text_selects : AreSteps l → value_at l root ≡ Some v → (q : Query) × IsAccepted (path_text l) q
+      × (document_nodes t q root ≡ node l v ∷ [])
   text_selects h e = (path_query l, path_accepted l h, query_selects h e)
 
-  pub any_selects : (q : Query) → AreSteps l → value_at l root ≡ Some v → IsAccepted (path_text l) q → document_nodes t q root ≡ node l v ∷ []
+  pub any_selects : (q : Query) → AreSteps l → value_at l root ≡ Some v → IsAccepted (path_text l) q
+      → document_nodes t q root ≡ node l v ∷ []
   any_selects q h e p =
       let same : q ≡ path_query l = path_accepted_only l q h p in
       ap (λ (x : Query). document_nodes t x root) same ∙ query_selects h e

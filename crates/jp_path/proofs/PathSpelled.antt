@@ -1,5 +1,6 @@
 -- The text of a path spells the path's query, with one bracket open at most.
-use Rattle.std.proofs.Common.{◌≡◌, ◌≤◌, [], ◌∷◌, ◌++◌, codes, decimal, map, refl, ap, ◌∙◌, subst, append_assoc, arith}
+use Rattle.std.proofs.Common.{◌≡◌, ◌≤◌, [], ◌∷◌, ◌++◌, codes, decimal, map, refl, ap, ◌∙◌, subst}
+use Rattle.std.proofs.Common.{append_assoc, arith}
 use Rattle.std.proofs.lemmas.List.{append-nil}
 use Rattle.std.specs.List.{flat_map}
 use Rattle.jp_doc.specs.Location as at
@@ -28,7 +29,8 @@ name_string k h = quoted 39 (flat_map escaped k) k refl (name_pieces k h)
 
 -- the quotes and the brackets round a name, and the brackets round an index
 name_joined : (t : Text) → 91 ∷ ((39 ∷ t ++ 39 ∷ []) ++ []) ++ 93 ∷ [] ≡ 91 ∷ 39 ∷ (t ++ 39 ∷ 93 ∷ [])
-name_joined t = ap (λ (u : Text). 91 ∷ 39 ∷ u) (ap (λ (u : Text). u ++ 93 ∷ []) (append-nil (t ++ 39 ∷ [])) ∙ append_assoc t (39 ∷ []) (93 ∷ []))
+name_joined t = ap (λ (u : Text). 91 ∷ 39 ∷ u) (ap (λ (u : Text). u ++ 93 ∷ []) (append-nil (t ++ 39 ∷ []))
+    ∙ append_assoc t (39 ∷ []) (93 ∷ []))
 
 index_joined : (t : Text) → 91 ∷ (t ++ []) ++ 93 ∷ [] ≡ 91 ∷ (t ++ 93 ∷ [])
 index_joined t = ap (λ (u : Text). 91 ∷ (u ++ 93 ∷ [])) (append-nil t)
@@ -42,12 +44,14 @@ bracket s x p =
 step_spelled : (s : at.Step) → IsStep s → SegmentIs Nowhere (step_text s) (step_segment s)
 step_spelled (at.name k) h =
     subst (λ (t : Text). SegmentIs Nowhere t (step_segment (at.name k))) (name_joined (flat_map escaped k))
-    (bracket (39 ∷ flat_map escaped k ++ 39 ∷ []) (tree.name k) (sp.name (39 ∷ flat_map escaped k ++ 39 ∷ []) k (name_string k h)))
+    (bracket (39 ∷ flat_map escaped k ++ 39 ∷ []) (tree.name k) (sp.name (39 ∷ flat_map escaped k ++ 39 ∷ [])
+    k (name_string k h)))
 step_spelled (at.index i) h =
     subst (λ (t : Text). SegmentIs Nowhere t (step_segment (at.index i))) (index_joined (decimal i))
     (bracket (decimal i) (tree.index (decimal i)) (sp.index (decimal i) (decimal_is_int i h)))
 
-steps_spelled : (l : Location) → AreSteps l → Star (Behind (SegmentIs Nowhere)) (flat_map step_text l) (map step_segment l)
+steps_spelled : (l : Location) → AreSteps l → Star (Behind (SegmentIs Nowhere)) (flat_map step_text l)
+    (map step_segment l)
 steps_spelled [] h = none
 steps_spelled (s ∷ l) h =
     more (step_text s) (flat_map step_text l) (step_segment s) (map step_segment l)
@@ -62,19 +66,23 @@ step_stays : (s : at.Step) → IsStep s → Passes (outside 0) (step_text s) (ou
 step_stays (at.name k) h =
     passes_on (outside 0) quoted_place (outside 0) (codes "['") (flat_map escaped k ++ codes "']")
     (record { leads = refl; flat = omega arith })
-    (passes_on quoted_place quoted_place (outside 0) (flat_map escaped k) (codes "']") (name_stays k) (record { leads = refl; flat = omega arith }))
+    (passes_on quoted_place quoted_place (outside 0) (flat_map escaped k) (codes "']") (name_stays k)
+    (record { leads = refl; flat = omega arith }))
 step_stays (at.index i) h =
     passes_on (outside 0) (outside 1) (outside 0) (codes "[") (decimal i ++ codes "]")
     (record { leads = refl; flat = omega arith })
-    (passes_on (outside 1) (outside 1) (outside 0) (decimal i) (codes "]") (decimal_stays i h) (record { leads = refl; flat = omega arith }))
+    (passes_on (outside 1) (outside 1) (outside 0) (decimal i) (codes "]") (decimal_stays i h)
+    (record { leads = refl; flat = omega arith }))
 
 steps_stay : (l : Location) → AreSteps l → Passes (outside 0) (flat_map step_text l) (outside 0)
 steps_stay [] h = passes_none (outside 0) (omega arith)
-steps_stay (s ∷ l) h = passes_on (outside 0) (outside 0) (outside 0) (step_text s) (flat_map step_text l) (step_stays s h.0) (steps_stay l h.1)
+steps_stay (s ∷ l) h = passes_on (outside 0) (outside 0) (outside 0) (step_text s) (flat_map step_text l)
+    (step_stays s h.0) (steps_stay l h.1)
 
 pub path_depth : (l : Location) → AreSteps l → bracket_depth (path_text l) ≤ 1
 path_depth l h =
-    let p = passes_on (outside 0) (outside 0) (outside 0) (codes "$") (flat_map step_text l) (record { leads = refl; flat = omega arith }) (steps_stay l h) in
+    let p = passes_on (outside 0) (outside 0) (outside 0) (codes "$") (flat_map step_text l)
+    (record { leads = refl; flat = omega arith }) (steps_stay l h) in
     p.flat
 
 pub path_spelled_only : (l : Location) (q : Query) → AreSteps l → Spells (path_text l) q → q ≡ path_query l

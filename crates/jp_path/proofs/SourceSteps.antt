@@ -1,5 +1,6 @@
 -- The steps of `src/`, and the segments made of them.
-use Rattle.std.proofs.Common.{◌≡◌, ℕ, ◌+◌, ◌<◌, add-one, drop, length, get_or, map, true, IsTrue, Result, Ok, Err, List, [], ◌∷◌, ◌++◌, refl, ap, sym, ◌∙◌, subst, append_assoc, arith}
+use Rattle.std.proofs.Common.{◌≡◌, ℕ, ◌+◌, ◌<◌, add-one, drop, length, get_or, map, true, IsTrue, Result, Ok}
+use Rattle.std.proofs.Common.{Err, List, [], ◌∷◌, ◌++◌, refl, ap, sym, ◌∙◌, subst, append_assoc, arith}
 use Rattle.std.specs.Prelude.{IfOk, String, string_bytes}
 use Rattle.std.specs.Str.{chars, IsAscii}
 use Rattle.std.specs.declared.alloc.Global.{Global}
@@ -19,7 +20,8 @@ use Rattle.jp_syntax.specs.declared.tree.Segment.{Segment}
 use Rattle.jp_path.specs.PathQuery.{step_segment, IsStep, AreSteps}
 
 -- a text of ASCII characters
-pub ascii_text : {E : Type 0} (r : Result (String Global) E) (bs ds : List ℕ) → IsAscii bs → bs ≡ ds → IfOk r (λ s. string_bytes s ≡ bs) → IfOk r (λ s. chars (string_bytes s) ≡ ds)
+pub ascii_text : {E : Type 0} (r : Result (String Global) E) (bs ds : List ℕ) → IsAscii bs → bs ≡ ds
+    → IfOk r (λ s. string_bytes s ≡ bs) → IfOk r (λ s. chars (string_bytes s) ≡ ds)
 ascii_text (Ok s) bs ds a e h = ap chars h ∙ chars-IsAscii bs a ∙ e
 ascii_text (Err x) bs ds a e h = tt
 
@@ -28,20 +30,26 @@ is_scalar_value c h = grind (arith, nat_tests)
 
 pub each_scalar : (cs : List ℕ) → scalars cs ≡ true → Each is_scalar cs
 each_scalar [] h = tt
-each_scalar (c ∷ cs) h = let parts = and_parts (scalar c) (scalars cs) h in (is_scalar_value c parts.0, each_scalar cs parts.1)
+each_scalar (c ∷ cs) h = let parts = and_parts (scalar c) (scalars cs) h in
+    (is_scalar_value c parts.0, each_scalar cs parts.1)
 
 -- a string holds scalar values alone
 pub text_is_scalar : (s : String Global) → Each is_scalar (chars (string_bytes s))
-text_is_scalar s = each_scalar (chars (string_bytes s)) (scalars-chars (string_bytes s) (IsUtf8-string_bytes s))
+text_is_scalar s = each_scalar (chars (string_bytes s))
+    (scalars-chars (string_bytes s) (IsUtf8-string_bytes s))
 
 abbrev segments_behind : List code.Step → List tree.Segment
 segments_behind steps = map step_segment (map step_of steps)
 
-module _ (steps : List code.Step) (i : ℕ) (s : code.Step) (here : i < length steps) (is : s ≡ get_or steps i s) where
+module _ (steps : List code.Step) (i : ℕ) (s : code.Step) (here : i < length steps)
+    (is : s ≡ get_or steps i s) where
   cut : drop i steps ≡ s ∷ drop (i + 1) steps
   cut = drop-cons steps i s here ∙ rw (← is, add-one i) refl
 
-  pub next_segment : (old new : List Segment) (x : Segment) (total : List tree.Segment) → segments_of old ++ segments_behind (drop i steps) ≡ total → new ≡ old ++ x ∷ [] → segment_of x ≡ step_segment (step_of s) → segments_of new ++ segments_behind (drop (i + 1) steps) ≡ total
+  pub next_segment : (old new : List Segment) (x : Segment) (total : List tree.Segment)
+      → segments_of old ++ segments_behind (drop i steps) ≡ total → new ≡ old ++ x ∷ []
+      → segment_of x ≡ step_segment (step_of s) → segments_of new ++ segments_behind (drop (i + 1) steps)
+      ≡ total
   next_segment old new x total e pushed made =
       let more : List tree.Segment = segments_behind (drop (i + 1) steps) in
       ap (λ (xs : List Segment). segments_of xs ++ more) pushed
@@ -51,5 +59,6 @@ module _ (steps : List code.Step) (i : ℕ) (s : code.Step) (here : i < length s
       ∙ ap (λ (xs : List code.Step). segments_of old ++ segments_behind xs) (sym cut)
       ∙ e
 
-  pub next_steps : (P : Type 0) → (AreSteps (map step_of (drop i steps)) → P) → IsStep (step_of s) → AreSteps (map step_of (drop (i + 1) steps)) → P
+  pub next_steps : (P : Type 0) → (AreSteps (map step_of (drop i steps)) → P) → IsStep (step_of s)
+      → AreSteps (map step_of (drop (i + 1) steps)) → P
   next_steps P f h rest = f (subst (λ (xs : List code.Step). AreSteps (map step_of xs)) (sym cut) (h, rest))

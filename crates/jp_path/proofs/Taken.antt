@@ -4,7 +4,8 @@ use Rattle.std.specs.List.{fold, flat_map}
 use Rattle.jp_doc.specs.Location.{Node}
 use Rattle.jp_path.specs.OutputLine.{node_line, put_line}
 
-pub lines_fold : (number : ℕ) (bytes : List ℕ) (ns : List Node) → fold put_line (number, bytes) ns ≡ (number, bytes ++ flat_map (node_line number) ns)
+pub lines_fold : (number : ℕ) (bytes : List ℕ) (ns : List Node) → fold put_line (number, bytes) ns
+    ≡ (number, bytes ++ flat_map (node_line number) ns)
 lines_fold number bytes [] = ap (λ bs. (number, bs)) (sym (append-nil bytes))
 lines_fold number bytes (n ∷ ns) =
     lines_fold number (bytes ++ node_line number n) ns

@@ -1,5 +1,6 @@
 -- What is read of a text that is written out, as what it spells: each example computes.
-use Rattle.std.proofs.Common.{◌≡◌, ℕ, Bool, true, false, not, ◌==◌, IsTrue, length, List, [], ◌∷◌, ◌++◌, Option, Some, None, refl, ap, sym, ◌∙◌, subst, if◌then◌else◌}
+use Rattle.std.proofs.Common.{◌≡◌, ℕ, Bool, true, false, not, ◌==◌, IsTrue, length, List, [], ◌∷◌, ◌++◌}
+use Rattle.std.proofs.Common.{Option, Some, None, refl, ap, sym, ◌∙◌, subst, if◌then◌else◌}
 use Rattle.std.specs.Prelude.{is_none}
 use Rattle.std.specs.List.{AllByRecursion, list_all}
 use Rattle.std.proofs.lemmas.Bool.{and_parts, not-true, eqb-true}
@@ -14,7 +15,8 @@ use Rattle.jp_syntax.specs.Reading.{Outcome, read, int_at, number_at, string_at}
 use Rattle.jp_syntax.proofs.ReadSound.{read_sound}
 use Rattle.jp_syntax.proofs.OneTree.{none_spelled}
 use Rattle.jp_syntax.proofs.Fronts.{Front}
-use Rattle.jp_syntax.proofs.LeavesRead.{Itself, int_sound, int_whole, number_sound, number_whole, string_sound, string_whole}
+use Rattle.jp_syntax.proofs.LeavesRead.{Itself, int_sound, int_whole, number_sound, number_whole}
+use Rattle.jp_syntax.proofs.LeavesRead.{string_sound, string_whole}
 
 pub spelled : (t : Text) (q : Query) → read (length t) t ≡ Some q → Spells t q
 spelled t q e = read_sound (length t) t q e
@@ -41,7 +43,8 @@ abbrev pub all_read : Outcome Text → Bool
 all_read None = false
 all_read (Some r) = length r.1 == 0
 
-at_end : {Part : Text → Type 0} (t : Text) (o : Outcome Text) → ((x rest : Text) → o ≡ Some (x, rest) → Front (Itself Part) t x rest) → IsTrue (all_read o) → Part t
+at_end : {Part : Text → Type 0} (t : Text) (o : Outcome Text)
+    → ((x rest : Text) → o ≡ Some (x, rest) → Front (Itself Part) t x rest) → IsTrue (all_read o) → Part t
 at_end t None sound h = absurd cc
 at_end {Part} t (Some r) sound h =
     let f = sound r.0 r.1 refl in
@@ -65,10 +68,12 @@ module _ (Part : Text → Type 0) (read_at : Text → Outcome Text)
         let none : false ≡ true = sym e ∙ k in
         absurd cc
 
-    pub none_are : (ts : List Text) → IsTrue (list_all (λ t. not (all_read (read_at t))) ts) → AllByRecursion (λ t. Part t → ⊥) ts
+    pub none_are : (ts : List Text) → IsTrue (list_all (λ t. not (all_read (read_at t))) ts)
+        → AllByRecursion (λ t. Part t → ⊥) ts
     none_are [] h = tt
     none_are (t ∷ ts) h =
-        let parts = and_parts (not (all_read (read_at t))) (list_all (λ t. not (all_read (read_at t))) ts) h in
+        let parts = and_parts (not (all_read (read_at t))) (list_all (λ t. not (all_read (read_at t))) ts)
+        h in
         (none_is t (not-true (all_read (read_at t)) parts.0), none_are ts parts.1)
 
 int_alone : (t : Text) → IsInt t → int_at (t ++ []) ≡ Some (t, [])
@@ -98,7 +103,8 @@ abbrev pub text_read : Text → Outcome Text
 text_read [] = None
 text_read (c ∷ t) = if is_quote c then string_at c t else None
 
-pub string : (quote : ℕ) (t value : Text) → IsTrue (is_quote quote) → string_at quote t ≡ Some (value, []) → IsString (quote ∷ t) value
+pub string : (quote : ℕ) (t value : Text) → IsTrue (is_quote quote) → string_at quote t ≡ Some (value, [])
+    → IsString (quote ∷ t) value
 string quote t value q e =
     let f = string_sound quote t value [] q e in
     let same : quote ∷ t ≡ f.front = f.whole ∙ append-nil f.front in
@@ -117,5 +123,6 @@ pub no_strings : (ts : List Text) → IsTrue (list_all (λ t. not (all_read (tex
 unfolding NoneIsString
 no_strings [] h = tt
 no_strings (t ∷ ts) h =
-    let parts = and_parts (not (all_read (text_read t))) (list_all (λ t. not (all_read (text_read t))) ts) h in
+    let parts = and_parts (not (all_read (text_read t))) (list_all (λ t. not (all_read (text_read t))) ts)
+    h in
     ((λ value. no_string t value (not-true (all_read (text_read t)) parts.0)), no_strings ts parts.1)

@@ -1,5 +1,6 @@
 -- The last character of a text.
-use Rattle.std.proofs.Common.{◌≡◌, ℕ, Bool, true, false, not, ◌||◌, ◌==◌, IsTrue, arith, refl, ap, ◌⊎◌, inl, inr, List, [], ◌∷◌, ◌++◌, codes}
+use Rattle.std.proofs.Common.{◌≡◌, ℕ, Bool, true, false, not, ◌||◌, ◌==◌, IsTrue, arith, refl, ap, ◌⊎◌, inl}
+use Rattle.std.proofs.Common.{inr, List, [], ◌∷◌, ◌++◌, codes}
 use Rattle.std.proofs.lemmas.Bool.{or_cases, eqb-true, cases_Bool, not_from_false, not-true}
 use Rattle.std.proofs.lemmas.Bool.Decides.{nat_tests}
 use Rattle.std.proofs.lemmas.List.{append-nil}
@@ -7,7 +8,9 @@ use Rattle.jp_syntax.specs.Tree.{Text}
 use Rattle.jp_syntax.specs.Tree as tree
 use Rattle.jp_syntax.specs.Characters.{is_blank, is_digit, is_positive_digit, is_name_character}
 use Rattle.jp_syntax.specs.Parts.{Each, Star, none, more, Behind, behind, IsOptional, absent, present}
-use Rattle.jp_syntax.specs.Numbers.{IsInt, zero_int, positive_int, negative_int, IsDigits, digits, IsWhole, whole_int, minus_zero, IsFraction, fraction, IsExponent, exponent, IsNumber, number}
+use Rattle.jp_syntax.specs.Numbers.{IsInt, zero_int, positive_int, negative_int, IsDigits, digits, IsWhole}
+use Rattle.jp_syntax.specs.Numbers.{whole_int, minus_zero, IsFraction, fraction, IsExponent, exponent}
+use Rattle.jp_syntax.specs.Numbers.{IsNumber, number}
 use Rattle.jp_syntax.specs.Spelling as sp
 
 -- whether there is a last character and it is of this class
@@ -32,7 +35,8 @@ pub ends_in_each : (p : ℕ → Bool) (c : ℕ) (t : Text) → IsTrue (p c) → 
 ends_in_each p c [] h k = h
 ends_in_each p c (d ∷ t) h k = ends_in_each p d t k.0 k.1
 
-pub ends_in_weaker : (p r : ℕ → Bool) → ((c : ℕ) → IsTrue (p c) → IsTrue (r c)) → (t : Text) → IsTrue (ends_in p t) → IsTrue (ends_in r t)
+pub ends_in_weaker : (p r : ℕ → Bool) → ((c : ℕ) → IsTrue (p c) → IsTrue (r c)) → (t : Text)
+    → IsTrue (ends_in p t) → IsTrue (ends_in r t)
 ends_in_weaker p r f [] h = absurd cc
 ends_in_weaker p r f (c ∷ []) h = f c h
 ends_in_weaker p r f (c ∷ d ∷ t) h = ends_in_weaker p r f (d ∷ t) h
@@ -52,7 +56,8 @@ pub never_at : (p : ℕ → Bool) (n : ℕ) → p n ≡ false → (c : ℕ) → 
 never_at p n h c k e = let same = ap p (eqb-true c n e) in cc
 
 -- what is of a class without blanks is not blank
-pub never_blank : (p : ℕ → Bool) → p 32 ≡ false → p 9 ≡ false → p 10 ≡ false → p 13 ≡ false → (c : ℕ) → IsTrue (p c) → IsTrue (not_blank c)
+pub never_blank : (p : ℕ → Bool) → p 32 ≡ false → p 9 ≡ false → p 10 ≡ false → p 13 ≡ false → (c : ℕ)
+    → IsTrue (p c) → IsTrue (not_blank c)
 never_blank p h32 h9 h10 h13 c h =
     elim (cases_Bool (is_blank c)) [
       | inr e ↦ not_from_false (is_blank c) e
@@ -69,16 +74,19 @@ never_blank p h32 h9 h10 h13 c h =
     ]
 
 -- what ends well goes on ending well before nothing, or before what does
-pub ends_before : (p : ℕ → Bool) (s t : Text) → IsTrue (ends_in p s) → (t ≡ []) ⊎ IsTrue (ends_in p t) → IsTrue (ends_in p (s ++ t))
+pub ends_before : (p : ℕ → Bool) (s t : Text) → IsTrue (ends_in p s) → (t ≡ []) ⊎ IsTrue (ends_in p t)
+    → IsTrue (ends_in p (s ++ t))
 ends_before p s t h (inl e) = rw (e, append-nil s) h
 ends_before p s t h (inr k) = ends_in_append p s t k
 
-pub both_end : (p : ℕ → Bool) (s t : Text) → (s ≡ []) ⊎ IsTrue (ends_in p s) → (t ≡ []) ⊎ IsTrue (ends_in p t) → (s ++ t ≡ []) ⊎ IsTrue (ends_in p (s ++ t))
+pub both_end : (p : ℕ → Bool) (s t : Text) → (s ≡ []) ⊎ IsTrue (ends_in p s) → (t ≡ []) ⊎ IsTrue (ends_in p t)
+    → (s ++ t ≡ []) ⊎ IsTrue (ends_in p (s ++ t))
 both_end p s t (inl e) (inl k) = inl (rw (e, k) refl)
 both_end p s t (inl e) (inr k) = inr (ends_in_append p s t k)
 both_end p s t (inr h) k = inr (ends_before p s t h k)
 
-pub optional_ends : (IsPart : Text → Type 0) (p : ℕ → Bool) → ((t : Text) → IsPart t → IsTrue (ends_in p t)) → (t : Text) → IsOptional IsPart t → (t ≡ []) ⊎ IsTrue (ends_in p t)
+pub optional_ends : (IsPart : Text → Type 0) (p : ℕ → Bool) → ((t : Text) → IsPart t → IsTrue (ends_in p t))
+    → (t : Text) → IsOptional IsPart t → (t ≡ []) ⊎ IsTrue (ends_in p t)
 optional_ends IsPart p ends t absent = inl refl
 optional_ends IsPart p ends t (present u h) = inr (ends t h)
 
@@ -86,7 +94,8 @@ optional_ends IsPart p ends t (present u h) = inr (ends t h)
 pub int_ends : (t : Text) → IsInt t → IsTrue (ends_in is_digit t)
 int_ends t zero_int = refl
 int_ends t (positive_int c u h k) = ends_in_each is_digit c u (positive_is_digit c h) k
-int_ends t (negative_int c u h k) = ends_in_append is_digit (45 ∷ []) (c ∷ u) (ends_in_each is_digit c u (positive_is_digit c h) k)
+int_ends t (negative_int c u h k) = ends_in_append is_digit (45 ∷ []) (c ∷ u)
+    (ends_in_each is_digit c u (positive_is_digit c h) k)
 
 pub whole_ends : (t : Text) → IsWhole t → IsTrue (ends_in is_digit t)
 whole_ends t (whole_int u h) = int_ends t h
@@ -100,37 +109,47 @@ exponent_ends t (exponent mark s u m g h) = ends_in_append is_digit (mark ∷ s)
 
 pub number_ends : (t : Text) → IsNumber t → IsTrue (ends_in is_digit t)
 number_ends t (number r s u w f e) =
-    ends_before is_digit r (s ++ u) (whole_ends r w) (both_end is_digit s u (optional_ends IsFraction is_digit fraction_ends s f) (optional_ends IsExponent is_digit exponent_ends u e))
+    ends_before is_digit r (s ++ u) (whole_ends r w)
+    (both_end is_digit s u (optional_ends IsFraction is_digit fraction_ends s f)
+    (optional_ends IsExponent is_digit exponent_ends u e))
 
 -- no name ends in a blank
 pub shorthand_ends : (t : Text) → sp.IsShorthand t → IsTrue (ends_in not_blank t)
 shorthand_ends t (sp.shorthand c u h k) =
     let first : IsTrue (is_name_character c) = rw h refl in
-    ends_in_weaker is_name_character not_blank (never_blank is_name_character refl refl refl refl) (c ∷ u) (ends_in_each is_name_character c u first k)
+    ends_in_weaker is_name_character not_blank (never_blank is_name_character refl refl refl refl) (c ∷ u)
+    (ends_in_each is_name_character c u first k)
 
 -- no segment ends in a blank
 module _ (Inner : Text → tree.Logical → Type 0) where
-  pub bracketed_ends : (t : Text) (xs : List tree.Selector) → sp.BracketedIs Inner t xs → IsTrue (ends_in not_blank t)
+  pub bracketed_ends : (t : Text) (xs : List tree.Selector) → sp.BracketedIs Inner t xs
+      → IsTrue (ends_in not_blank t)
   bracketed_ends t xs (sp.bracketed r s u ys a p b) =
       let end : Text = u ++ codes "]" in
-      ends_in_append not_blank (codes "[") (r ++ (s ++ end)) (ends_in_append not_blank r (s ++ end) (ends_in_append not_blank s end (ends_in_append not_blank u (codes "]") refl)))
+      ends_in_append not_blank (codes "[") (r ++ (s ++ end))
+      (ends_in_append not_blank r (s ++ end)
+      (ends_in_append not_blank s end (ends_in_append not_blank u (codes "]") refl)))
 
   pub segment_ends : (t : Text) (x : tree.Segment) → sp.SegmentIs Inner t x → IsTrue (ends_in not_blank t)
   segment_ends t x (sp.child_bracketed u xs p) = bracketed_ends t xs p
   segment_ends t x sp.child_wildcard = refl
   segment_ends t x (sp.child_name u p) = ends_in_append not_blank (codes ".") u (shorthand_ends u p)
-  segment_ends t x (sp.descendant_bracketed u xs p) = ends_in_append not_blank (codes "..") u (bracketed_ends u xs p)
+  segment_ends t x (sp.descendant_bracketed u xs p) = ends_in_append not_blank (codes "..") u
+      (bracketed_ends u xs p)
   segment_ends t x sp.descendant_wildcard = refl
   segment_ends t x (sp.descendant_name u p) = ends_in_append not_blank (codes "..") u (shorthand_ends u p)
 
-  pub segments_end : (t : Text) (ss : List tree.Segment) → Star (Behind (sp.SegmentIs Inner)) t ss → (t ≡ []) ⊎ IsTrue (ends_in not_blank t)
+  pub segments_end : (t : Text) (ss : List tree.Segment) → Star (Behind (sp.SegmentIs Inner)) t ss
+      → (t ≡ []) ⊎ IsTrue (ends_in not_blank t)
   segments_end t ss none = inl refl
   segments_end t ss (more r u x xs (behind b v y hb p) rest) =
-      inr (ends_before not_blank r u (ends_in_append not_blank b v (segment_ends v y p)) (segments_end u xs rest))
+      inr (ends_before not_blank r u (ends_in_append not_blank b v (segment_ends v y p))
+      (segments_end u xs rest))
 
 -- no spelled text ends in a blank
 pub spelled_ends : (t : Text) (q : tree.Query) → sp.Spells t q → IsTrue (ends_in not_blank t)
-spelled_ends t q (sp.spells levels u ss p) = ends_before not_blank (codes "$") u refl (segments_end (sp.LogicalIs levels) u ss p)
+spelled_ends t q (sp.spells levels u ss p) = ends_before not_blank (codes "$") u refl
+    (segments_end (sp.LogicalIs levels) u ss p)
 
 pub last_is_no_blank : (t : Text) (c : ℕ) (q : tree.Query) → sp.Spells (t ++ c ∷ []) q → is_blank c ≡ false
 last_is_no_blank t c q h =

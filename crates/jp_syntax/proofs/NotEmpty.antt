@@ -6,7 +6,8 @@ use Rattle.jp_syntax.specs.Parts.{Behind, behind, After, after}
 use Rattle.jp_syntax.specs.Spelling as is
 use Rattle.jp_syntax.specs.Spelling.{SegmentIs}
 
-pub after_some : {A : Type 0} (c : ℕ) (mark : Text) (Part : Text → A → Type 0) (s : Text) (x : A) → After (c ∷ mark) Part s x → 0 < length s
+pub after_some : {A : Type 0} (c : ℕ) (mark : Text) (Part : Text → A → Type 0) (s : Text) (x : A)
+    → After (c ∷ mark) Part s x → 0 < length s
 after_some c mark Part w y (after r s t x h b p) = omega (arith, length-append r (c ∷ mark ++ (s ++ t)))
 
 module _ (Inner : Text → tree.Logical → Type 0) where

@@ -1,14 +1,17 @@
 -- Sides by themselves, and what begins each part.
-use Rattle.std.proofs.Common.{◌≡◌, ℕ, zero, suc, Bool, true, false, ◌||◌, ◌==◌, List, [], ◌∷◌, ◌++◌, Some, refl, subst}
+use Rattle.std.proofs.Common.{◌≡◌, ℕ, zero, suc, Bool, true, false, ◌||◌, ◌==◌, List, [], ◌∷◌, ◌++◌, Some}
+use Rattle.std.proofs.Common.{refl, subst}
 use Rattle.std.proofs.lemmas.Option.{same_Some}
 use Rattle.jp_syntax.specs.Tree.{Text}
 use Rattle.jp_syntax.specs.Tree as tree
 use Rattle.jp_syntax.specs.Characters.{is_lower, is_positive_digit, is_quote}
 use Rattle.jp_syntax.specs.Parts.{Separated, separated}
 use Rattle.jp_syntax.specs.Strings.{quoted}
-use Rattle.jp_syntax.specs.Numbers.{zero_int, positive_int, negative_int, IsWhole, whole_int, minus_zero, number}
+use Rattle.jp_syntax.specs.Numbers.{zero_int, positive_int, negative_int, IsWhole, whole_int, minus_zero}
+use Rattle.jp_syntax.specs.Numbers.{number}
 use Rattle.jp_syntax.specs.Spelling as is
-use Rattle.jp_syntax.specs.Spelling.{IsFunctionName, function_name, LiteralIs, QueryIs, CallIs, ComparableIs, PlainIs, BasicIs, AndIs, OrIs, LogicalIs, begins_with}
+use Rattle.jp_syntax.specs.Spelling.{IsFunctionName, function_name, LiteralIs, QueryIs, CallIs, ComparableIs}
+use Rattle.jp_syntax.specs.Spelling.{PlainIs, BasicIs, AndIs, OrIs, LogicalIs, begins_with}
 use Rattle.jp_syntax.specs.Reading.{as_test, is_side}
 use Rattle.jp_syntax.proofs.Following.{firm, differs}
 
@@ -34,7 +37,8 @@ in_append : (p : ℕ → Bool) (s t : Text) → leads_in p s ≡ true → leads_
 in_append p [] t h = absurd cc
 in_append p (c ∷ s) t h = h
 
-in_wider : (p q : ℕ → Bool) → ((c : ℕ) → p c ≡ true → q c ≡ true) → (s : Text) → leads_in p s ≡ true → leads_in q s ≡ true
+in_wider : (p q : ℕ → Bool) → ((c : ℕ) → p c ≡ true → q c ≡ true) → (s : Text) → leads_in p s ≡ true
+    → leads_in q s ≡ true
 in_wider p q wider [] h = absurd cc
 in_wider p q wider (c ∷ s) h = wider c h
 
@@ -43,7 +47,13 @@ leads_append s t h = in_append is_lead s t h
 
 pub leads_firm : (s : Text) → leads s ≡ true → firm s ≡ true
 leads_firm [] h = absurd cc
-leads_firm (c ∷ s) h = rw (differs is_lead 32 refl c h, differs is_lead 9 refl c h, differs is_lead 10 refl c h, differs is_lead 13 refl c h) refl
+leads_firm (c ∷ s) h = rw (
+  differs is_lead 32 refl c h,
+  differs is_lead 9 refl c h,
+  differs is_lead 10 refl c
+      h,
+  differs is_lead 13 refl c h,
+) refl
 
 or_right : (x y : Bool) → y ≡ true → (x || y) ≡ true
 or_right true y h = refl
@@ -59,7 +69,8 @@ quote_leads : (c : ℕ) → is_quote c ≡ true → is_literal_lead c ≡ true
 quote_leads c h = or_left _ (is_lower c) (or_right _ (is_quote c) h)
 
 digit_leads : (c : ℕ) → is_positive_digit c ≡ true → is_literal_lead c ≡ true
-digit_leads c h = or_left _ (is_lower c) (or_left _ (is_quote c) (or_left _ (c == 48) (or_right _ (is_positive_digit c) h)))
+digit_leads c h = or_left _ (is_lower c)
+    (or_left _ (is_quote c) (or_left _ (c == 48) (or_right _ (is_positive_digit c) h)))
 
 operand_wider : (c : ℕ) → is_literal_lead c ≡ true → is_operand_lead c ≡ true
 operand_wider c h = or_right (c == 36 || c == 64) (is_literal_lead c) h
@@ -85,17 +96,20 @@ whole_leads s (whole_int t (negative_int c u d h)) = refl
 whole_leads s minus_zero = refl
 
 literal_lead : (s : Text) (x : tree.Literal) → LiteralIs s x → leads_in is_literal_lead s ≡ true
-literal_lead s x (is.number_literal t (number r u v w f e)) = in_append is_literal_lead r (u ++ v) (whole_leads r w)
+literal_lead s x (is.number_literal t (number r u v w f e)) = in_append is_literal_lead r (u ++ v)
+    (whole_leads r w)
 literal_lead s x (is.text_literal t value (quoted quote u v q ps)) = quote_leads quote q
 literal_lead s x is.true_literal = refl
 literal_lead s x is.false_literal = refl
 literal_lead s x is.null_literal = refl
 
 pub literal_leads : (s : Text) (x : tree.Literal) → LiteralIs s x → leads s ≡ true
-literal_leads s x p = in_wider is_operand_lead is_lead lead_wider s (in_wider is_literal_lead is_operand_lead operand_wider s (literal_lead s x p))
+literal_leads s x p = in_wider is_operand_lead is_lead lead_wider s (in_wider is_literal_lead is_operand_lead
+    operand_wider s (literal_lead s x p))
 
 -- a literal begins with none of these
-pub literal_begins : (d : ℕ) (s : Text) (x : tree.Literal) → LiteralIs s x → is_literal_lead d ≡ false → begins_with d s ≡ false
+pub literal_begins : (d : ℕ) (s : Text) (x : tree.Literal) → LiteralIs s x → is_literal_lead d ≡ false
+    → begins_with d s ≡ false
 literal_begins d s x p n = begins_none is_literal_lead d s n (literal_lead s x p)
 
 module _ (Inner : Text → tree.Logical → Type 0) where
@@ -120,10 +134,13 @@ module _ (Inner : Text → tree.Logical → Type 0) where
   side_fits s x (is.single_side t q p h) = h
   side_fits s x (is.call_side t c p) = refl
 
-  pub test_of : (s : Text) (x : tree.Comparable) (l : tree.Logical) → OperandIs s x → as_test x ≡ Some l → PlainIs Inner s l
+  pub test_of : (s : Text) (x : tree.Comparable) (l : tree.Logical) → OperandIs s x → as_test x ≡ Some l
+      → PlainIs Inner s l
   test_of s x l (literal_operand t y p) h = absurd cc
-  test_of s x l (query_operand t q p) h = let e : tree.test q ≡ l = same_Some (tree.test q) l h in subst (λ (k : tree.Logical). PlainIs Inner s k) e (is.tested t q p)
-  test_of s x l (call_operand t c p) h = let e : tree.test_call c ≡ l = same_Some (tree.test_call c) l h in subst (λ (k : tree.Logical). PlainIs Inner s k) e (is.called t c p)
+  test_of s x l (query_operand t q p) h = let e : tree.test q ≡ l = same_Some (tree.test q) l h in subst
+      (λ (k : tree.Logical). PlainIs Inner s k) e (is.tested t q p)
+  test_of s x l (call_operand t c p) h = let e : tree.test_call c ≡ l = same_Some (tree.test_call c) l h in
+      subst (λ (k : tree.Logical). PlainIs Inner s k) e (is.called t c p)
 
   -- each part begins, and not with a blank
 
@@ -136,7 +153,8 @@ module _ (Inner : Text → tree.Logical → Type 0) where
   call_leads s c (is.call f r t u xs n a p b) = name_leads f _ n
 
   operand_lead : (s : Text) (x : tree.Comparable) → OperandIs s x → leads_in is_operand_lead s ≡ true
-  operand_lead s x (literal_operand t y p) = in_wider is_literal_lead is_operand_lead operand_wider t (literal_lead t y p)
+  operand_lead s x (literal_operand t y p) = in_wider is_literal_lead is_operand_lead operand_wider t
+      (literal_lead t y p)
   operand_lead s x (query_operand t q p) = query_leads t q p
   operand_lead s x (call_operand t c p) = call_leads t c p
 
@@ -144,7 +162,8 @@ module _ (Inner : Text → tree.Logical → Type 0) where
   operand_leads s x p = in_wider is_operand_lead is_lead lead_wider s (operand_lead s x p)
 
   -- a side begins with none of these
-  pub operand_begins : (d : ℕ) (s : Text) (x : tree.Comparable) → OperandIs s x → is_operand_lead d ≡ false → begins_with d s ≡ false
+  pub operand_begins : (d : ℕ) (s : Text) (x : tree.Comparable) → OperandIs s x → is_operand_lead d ≡ false
+      → begins_with d s ≡ false
   operand_begins d s x p n = begins_none is_operand_lead d s n (operand_lead s x p)
 
   pub plain_leads : (s : Text) (x : tree.Logical) → PlainIs Inner s x → leads s ≡ true
@@ -155,9 +174,12 @@ module _ (Inner : Text → tree.Logical → Type 0) where
   pub basic_leads : (s : Text) (x : tree.Logical) → BasicIs Inner s x → leads s ≡ true
   basic_leads s x (is.plain t l p) = plain_leads t l p
   basic_leads s x (is.negated a t l h p) = refl
-  basic_leads s x (is.compared t u left right o p r) = leads_append t u (operand_leads t left (operand_of t left p))
+  basic_leads s x (is.compared t u left right o p r) =
+      leads_append t u (operand_leads t left (operand_of t left p))
 
-  separated_leads : (mark : Text) (Part : Text → tree.Logical → Type 0) → ((s : Text) (x : tree.Logical) → Part s x → leads s ≡ true) → (s : Text) (xs : List tree.Logical) → Separated mark Part s xs → leads s ≡ true
+  separated_leads : (mark : Text) (Part : Text → tree.Logical → Type 0)
+      → ((s : Text) (x : tree.Logical) → Part s x → leads s ≡ true) → (s : Text) (xs : List tree.Logical)
+      → Separated mark Part s xs → leads s ≡ true
   separated_leads mark Part h w ys (separated s t x xs p ps) = leads_append s t (h s x p)
 
   pub and_leads : (s : Text) (x : tree.Logical) → AndIs Inner s x → leads s ≡ true

@@ -3,7 +3,8 @@ use Rattle.std.proofs.Common.{ℕ, [], ◌∷◌}
 use Rattle.jp_syntax.specs.Parts.{Behind, After}
 use Rattle.jp_syntax.specs.Strings.{Piece}
 use Rattle.jp_syntax.specs.Spelling.{SelectorIs, SegmentIs, ArgumentIs, BasicIs, AndIs, LogicalIs}
-use Rattle.jp_syntax.specs.Reading.{skip, next_item, next_basic, next_and, piece_at, selector_at, argument_at, segment_behind, basic_at, and_at, logical_at}
+use Rattle.jp_syntax.specs.Reading.{skip, next_item, next_basic, next_and, piece_at, selector_at, argument_at}
+use Rattle.jp_syntax.specs.Reading.{segment_behind, basic_at, and_at, logical_at}
 use Rattle.jp_syntax.proofs.LeavesRead.{Close, piece_sound, piece_some}
 use Rattle.jp_syntax.proofs.NotEmpty.{after_some, segment_some}
 use Rattle.jp_syntax.proofs.Operands.{logical_firm}
@@ -12,19 +13,24 @@ use Rattle.jp_syntax.proofs.ReadSound.{argument_sound, basic_sound, and_sound, t
 use Rattle.jp_syntax.proofs.Turns.{GetsOn, gets_on}
 
 pub pieces_get_on : (quote : ℕ) → GetsOn (piece_at quote)
-pieces_get_on quote = gets_on (piece_at quote) (Piece quote) (Close quote) (piece_sound quote) (piece_some quote)
+pieces_get_on quote = gets_on (piece_at quote) (Piece quote) (Close quote) (piece_sound quote)
+    (piece_some quote)
 
 module _ (n : ℕ) where
   pub selectors_get_on : GetsOn (λ u. next_item 93 (selector_at (logical_at n)) (skip u))
   selectors_get_on =
-      gets_on (λ u. next_item 93 (selector_at (logical_at n)) (skip u)) (After (44 ∷ []) (SelectorIs (LogicalIs n))) (Closing 93)
-      (next_sound 93 (selector_at (logical_at n)) (SelectorIs (LogicalIs n)) (selector_sound (logical_at n) (LogicalIs n) (logical_sound n)))
+      gets_on (λ u. next_item 93 (selector_at (logical_at n)) (skip u))
+      (After (44 ∷ []) (SelectorIs (LogicalIs n))) (Closing 93)
+      (next_sound 93 (selector_at (logical_at n)) (SelectorIs (LogicalIs n))
+      (selector_sound (logical_at n) (LogicalIs n) (logical_sound n)))
       (after_some 44 [] (SelectorIs (LogicalIs n)))
 
   pub arguments_get_on : GetsOn (λ u. next_item 41 (argument_at (logical_at n)) (skip u))
   arguments_get_on =
-      gets_on (λ u. next_item 41 (argument_at (logical_at n)) (skip u)) (After (44 ∷ []) (ArgumentIs (LogicalIs n))) (Closing 41)
-      (next_sound 41 (argument_at (logical_at n)) (ArgumentIs (LogicalIs n)) (argument_sound (logical_at n) (LogicalIs n) (logical_sound n) (logical_firm n)))
+      gets_on (λ u. next_item 41 (argument_at (logical_at n)) (skip u))
+      (After (44 ∷ []) (ArgumentIs (LogicalIs n))) (Closing 41)
+      (next_sound 41 (argument_at (logical_at n)) (ArgumentIs (LogicalIs n))
+      (argument_sound (logical_at n) (LogicalIs n) (logical_sound n) (logical_firm n)))
       (after_some 44 [] (ArgumentIs (LogicalIs n)))
 
   pub segments_get_on : GetsOn (λ u. segment_behind (logical_at n) u (skip u))
@@ -35,12 +41,15 @@ module _ (n : ℕ) where
 
   pub basics_get_on : GetsOn (λ u. next_basic (logical_at n) u (skip u))
   basics_get_on =
-      gets_on (λ u. next_basic (logical_at n) u (skip u)) (After (38 ∷ 38 ∷ []) (BasicIs (LogicalIs n))) Nothing
-      (turn_sound (logical_at n) (LogicalIs n) (logical_sound n) (logical_firm n) 38 (basic_at (logical_at n)) (BasicIs (LogicalIs n)) (basic_sound (logical_at n) (LogicalIs n) (logical_sound n) (logical_firm n)))
+      gets_on (λ u. next_basic (logical_at n) u (skip u)) (After (38 ∷ 38 ∷ []) (BasicIs (LogicalIs n)))
+      Nothing
+      (turn_sound (logical_at n) (LogicalIs n) (logical_sound n) (logical_firm n) 38 (basic_at (logical_at n))
+      (BasicIs (LogicalIs n)) (basic_sound (logical_at n) (LogicalIs n) (logical_sound n) (logical_firm n)))
       (after_some 38 (38 ∷ []) (BasicIs (LogicalIs n)))
 
   pub ands_get_on : GetsOn (λ u. next_and (logical_at n) u (skip u))
   ands_get_on =
       gets_on (λ u. next_and (logical_at n) u (skip u)) (After (124 ∷ 124 ∷ []) (AndIs (LogicalIs n))) Nothing
-      (turn_sound (logical_at n) (LogicalIs n) (logical_sound n) (logical_firm n) 124 (and_at (logical_at n)) (AndIs (LogicalIs n)) (and_sound (logical_at n) (LogicalIs n) (logical_sound n) (logical_firm n)))
+      (turn_sound (logical_at n) (LogicalIs n) (logical_sound n) (logical_firm n) 124 (and_at (logical_at n))
+      (AndIs (LogicalIs n)) (and_sound (logical_at n) (LogicalIs n) (logical_sound n) (logical_firm n)))
       (after_some 124 (124 ∷ []) (AndIs (LogicalIs n)))

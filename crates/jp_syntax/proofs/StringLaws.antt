@@ -1,9 +1,11 @@
 -- The values of string literals.
-use Rattle.std.proofs.Common.{ℕ, [], ◌∷◌, ◌≤◌, Bool, true, false, not, ◌&&◌, ◌==◌, IsTrue, arith, refl, ap, Option, Some, None, if◌then◌else◌, nat_le}
+use Rattle.std.proofs.Common.{ℕ, [], ◌∷◌, ◌≤◌, Bool, true, false, not, ◌&&◌, ◌==◌, IsTrue, arith, refl, ap}
+use Rattle.std.proofs.Common.{Option, Some, None, if◌then◌else◌, nat_le}
 use Rattle.std.proofs.lemmas.Bool.{and_parts}
 use Rattle.std.proofs.lemmas.Bool.Decides.{nat_tests}
 use Rattle.jp_syntax.specs.Tree.{Text}
-use Rattle.jp_syntax.specs.Characters.{is_scalar, is_quote, is_bare, escaped, is_hex_digit, hex_value, is_surrogate, is_high_surrogate, is_low_surrogate, pair_value}
+use Rattle.jp_syntax.specs.Characters.{is_scalar, is_quote, is_bare, escaped, is_hex_digit, hex_value}
+use Rattle.jp_syntax.specs.Characters.{is_surrogate, is_high_surrogate, is_low_surrogate, pair_value}
 use Rattle.jp_syntax.specs.Parts.{Each, Star, none, more}
 use Rattle.jp_syntax.specs.Strings.{Piece, bare, escape, unicode, surrogates, HexIs, four, IsString, quoted}
 
@@ -11,7 +13,8 @@ abbrev scalar_if_any : Option ℕ → Bool
 scalar_if_any (Some n) = is_scalar n
 scalar_if_any None = true
 
-either_scalar : (b : Bool) (x y : Option ℕ) → IsTrue (scalar_if_any x) → IsTrue (scalar_if_any y) → IsTrue (scalar_if_any (if b then x else y))
+either_scalar : (b : Bool) (x y : Option ℕ) → IsTrue (scalar_if_any x) → IsTrue (scalar_if_any y)
+    → IsTrue (scalar_if_any (if b then x else y))
 either_scalar true x y h k = h
 either_scalar false x y h k = k
 
@@ -43,10 +46,12 @@ hex_within t n (four a b c d h) =
 plain_scalar : (n : ℕ) → n ≤ 65535 → IsTrue (not (is_surrogate n)) → IsTrue (is_scalar n)
 plain_scalar n h k = grind (arith, nat_tests)
 
-pair_scalar : (high low : ℕ) → IsTrue (is_high_surrogate high) → IsTrue (is_low_surrogate low) → IsTrue (is_scalar (pair_value high low))
+pair_scalar : (high low : ℕ) → IsTrue (is_high_surrogate high) → IsTrue (is_low_surrogate low)
+    → IsTrue (is_scalar (pair_value high low))
 pair_scalar high low h k = grind (arith, nat_tests)
 
-pub piece_scalar : (quote : ℕ) (t : Text) (value : ℕ) → IsTrue (is_quote quote) → Piece quote t value → IsTrue (is_scalar value)
+pub piece_scalar : (quote : ℕ) (t : Text) (value : ℕ) → IsTrue (is_quote quote) → Piece quote t value
+    → IsTrue (is_scalar value)
 piece_scalar quote t value q (bare c h) =
     let outer = and_parts (nat_le 0x20 c && is_scalar c && not (c == quote)) (not (c == 92)) h in
     let inner = and_parts (nat_le 0x20 c && is_scalar c) (not (c == quote)) outer.0 in
@@ -57,9 +62,11 @@ piece_scalar quote t value q (escape letter v e) =
 piece_scalar quote t value q (unicode u v h k) = plain_scalar v (hex_within u v h) k
 piece_scalar quote t value q (surrogates u v high low h i k l) = pair_scalar high low i l
 
-pub pieces_scalar : (quote : ℕ) (t value : Text) → IsTrue (is_quote quote) → Star (Piece quote) t value → Each is_scalar value
+pub pieces_scalar : (quote : ℕ) (t value : Text) → IsTrue (is_quote quote) → Star (Piece quote) t value
+    → Each is_scalar value
 pieces_scalar quote t value q none = tt
-pieces_scalar quote t value q (more s u x xs p ps) = (piece_scalar quote s x q p, pieces_scalar quote u xs q ps)
+pieces_scalar quote t value q (more s u x xs p ps) =
+    (piece_scalar quote s x q p, pieces_scalar quote u xs q ps)
 
 pub string_scalar : (t value : Text) → IsString t value → Each is_scalar value
 string_scalar t value (quoted quote u v q p) = pieces_scalar quote u value q p

@@ -13,7 +13,8 @@ module _ (bs : List ℕ) (u : IsUtf8 bs) where
   other_word : (w : List ℕ) → encode_utf8_all w ≡ w → (bs ≡ w → ⊥) → bytes_eq (chars bs) w ≡ false
   other_word w e h =
       elim (cases_Bool (bytes_eq (chars bs) w)) [
-        | inl k ↦ absurd (h (sym (encodes-chars bs u) ∙ ap encode_utf8_all ((bytes_eq-Decides (chars bs) w).0 k) ∙ e))
+        | inl k ↦ absurd (h (sym (encodes-chars bs u)
+            ∙ ap encode_utf8_all ((bytes_eq-Decides (chars bs) w).0 k) ∙ e))
         | inr k ↦ k
       ]
 
@@ -29,6 +30,12 @@ module _ (bs : List ℕ) (u : IsUtf8 bs) where
   unfolding chars
   null_read e = rw e refl
 
-  pub none_read : (bs ≡ codes "true" → ⊥) → (bs ≡ codes "false" → ⊥) → (bs ≡ codes "null" → ⊥) → word_literal (chars bs) ≡ None
+  pub none_read : (bs ≡ codes "true" → ⊥) → (bs ≡ codes "false" → ⊥) → (bs ≡ codes "null" → ⊥)
+      → word_literal (chars bs) ≡ None
   unfolding encode
-  none_read a b d = rw (other_word (codes "true") refl a, other_word (codes "false") refl b, other_word (codes "null") refl d) refl
+  none_read a b d = rw (
+    other_word (codes "true") refl a,
+    other_word (codes "false") refl b,
+    other_word
+        (codes "null") refl d,
+  ) refl

@@ -1,4 +1,5 @@
-use Rattle.jp_board.proofs.Runs.{not_claimed_twice, not_skipped, not_told_early, not_told_twice, not_risen, not_invented}
+use Rattle.jp_board.proofs.Runs.{not_claimed_twice, not_skipped, not_told_early, not_told_twice, not_risen}
+use Rattle.jp_board.proofs.Runs.{not_invented}
 use Rattle.jp_board.proofs.examples.states_that_are_not_lawful.Goals as goal
 
 pub returns-clause-one_piece_claimed_twice : goal.returns-clause-one_piece_claimed_twice

@@ -1,4 +1,5 @@
-use Rattle.jp_board.proofs.Runs.{told_no_claim, unclaimed_no_report, spent_no_look, worked_no_split, itself_no_join}
+use Rattle.jp_board.proofs.Runs.{told_no_claim, unclaimed_no_report, spent_no_look, worked_no_split}
+use Rattle.jp_board.proofs.Runs.{itself_no_join}
 use Rattle.jp_board.proofs.examples.steps_that_may_not_be.Goals as goal
 
 pub returns-clause-claim_of_the_told : goal.returns-clause-claim_of_the_told

@@ -11,6 +11,8 @@ returns c =
     let b = c.args.board.some_seat in
     let l = c.in-Ok.ensures.all in
     let seats = c.args.seats.items in
-    let t = subst (λ (n : ℕ). Tallies n c.in-Ok.tally.claimed c.in-Ok.tally.least (map view_of seats)) c.requires.pieces c.in-Ok.ensures.tally in
+    let t = subst (λ (n : ℕ). Tallies n c.in-Ok.tally.claimed c.in-Ok.tally.least (map view_of seats))
+    c.requires.pieces c.in-Ok.ensures.tally in
     let whole = t.all_claimed (told_some seats c.requires.seats.1 (let e = l.0 refl in omega arith)) in
-    first_found c.args.items.now c.in-Ok.tally.claimed c.in-Ok.tally.least (map view_of seats) t whole (All-map (AllTended c.args.items.now) view_of seats c.requires.tended)
+    first_found c.args.items.now c.in-Ok.tally.claimed c.in-Ok.tally.least (map view_of seats) t whole
+    (All-map (AllTended c.args.items.now) view_of seats c.requires.tended)

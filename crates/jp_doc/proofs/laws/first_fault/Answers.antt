@@ -1,4 +1,5 @@
-use Rattle.jp_doc.proofs.ReadingLaws.{unreadable_is_unread, not_whole_has_float, long_array_is_long, document_is_read, no_memory_fault}
+use Rattle.jp_doc.proofs.ReadingLaws.{unreadable_is_unread, not_whole_has_float, long_array_is_long}
+use Rattle.jp_doc.proofs.ReadingLaws.{document_is_read, no_memory_fault}
 use Rattle.jp_doc.proofs.laws.first_fault.Goals as goal
 
 pub returns-clause-unreadable : goal.returns-clause-unreadable

@@ -1,4 +1,5 @@
-use Rattle.std.proofs.Common.{◌≡◌, Bool, true, false, ◌||◌, nat_lt, List, [], ◌∷◌, length, Ok, refl, sym, ap, ◌∙◌, suc}
+use Rattle.std.proofs.Common.{◌≡◌, Bool, true, false, ◌||◌, nat_lt, List, [], ◌∷◌, length, Ok, refl, sym, ap}
+use Rattle.std.proofs.Common.{◌∙◌, suc}
 use Rattle.serde_json.proofs.Views.{view-Array}
 use Rattle.serde_json.specs.View.{items_view}
 use Rattle.serde_json.specs.Written.{items_have_float}
@@ -16,7 +17,8 @@ or_none : (a : Bool) → a ≡ a || false
 or_none true = refl
 or_none false = refl
 
-this_alone : (float within this : Bool) → tested float within ≡ Ok false → tested float (this || within) ≡ Ok this
+this_alone : (float within this : Bool) → tested float within ≡ Ok false → tested float (this || within)
+    ≡ Ok this
 this_alone true within this e = cc
 this_alone false true this e = cc
 this_alone false false this e = ap (λ b. tested false b) (sym (or_none this))

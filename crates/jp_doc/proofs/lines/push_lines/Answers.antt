@@ -2,7 +2,8 @@ use Rattle.jp_doc.proofs.FeedLaws.{goes_on, goes_end}
 use Rattle.jp_doc.proofs.lines.push_lines.Goals as goal
 
 pub loop-line-preserved : goal.loop-line-preserved
-loop-line-preserved c = goes_on _ _ _ _ _ _ _ _ _ c.loop-line.invariant c.in-Some.ensures.some.0 c.in-Some.ensures.some.1 c.in_ok-push_line.ensures.lines
+loop-line-preserved c = goes_on _ _ _ _ _ _ _ _ _ c.loop-line.invariant c.in-Some.ensures.some.0
+    c.in-Some.ensures.some.1 c.in_ok-push_line.ensures.lines
 
 pub returns-clause-lines : goal.returns-clause-lines
 returns-clause-lines c = (goes_end _ _ _ _ _ _ c.loop-line.invariant c.in_default.ensures.none).0

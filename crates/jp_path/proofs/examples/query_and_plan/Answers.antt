@@ -8,4 +8,5 @@ use Rattle.jp_path.proofs.examples.query_and_plan.Goals as goal
 pub returns : goal.returns
 returns c =
     sym (c.in_ok-query.ensures.only (planned_query c.in_ok-plan.plan)
-    (subst (λ (t : Text). IsAccepted t (planned_query c.in_ok-plan.plan)) (ap chars c.as_str.ensures.value ∙ c.in_ok-text.ensures) c.in_ok-plan.ensures.ok))
+    (subst (λ (t : Text). IsAccepted t (planned_query c.in_ok-plan.plan)) (ap chars c.as_str.ensures.value
+    ∙ c.in_ok-text.ensures) c.in_ok-plan.ensures.ok))

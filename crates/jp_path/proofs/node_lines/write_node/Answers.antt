@@ -8,7 +8,9 @@ use Rattle.jp_path.proofs.node_lines.write_node.Goals as goal
 
 pub returns-clause-ok : goal.returns-clause-ok
 returns-clause-ok c =
-    line_appended c.args.out.now.items _ _ c.args.number (link_steps c.args.trail.now) (value_of c.args.value.now)
+    line_appended c.args.out.now.items _ _ c.args.number (link_steps c.args.trail.now)
+    (value_of c.args.value.now)
     (ap compact_text (sym (value_back c.args.value.now c.requires)))
     (c.in_ok-extend_from_slice.ensures.items
-    ∙ ap (λ bs. c.args.out.now.items ++ bs) (c.as_slice.ensures.value ∙ (rw c.clear.ensures.items at c.in_ok-append_parts.ensures.ok)))
+    ∙ ap (λ bs. c.args.out.now.items ++ bs) (c.as_slice.ensures.value
+    ∙ (rw c.clear.ensures.items at c.in_ok-append_parts.ensures.ok)))

@@ -8,6 +8,8 @@ use Rattle.jp_path.proofs.output_line.write_line.Goals as goal
 
 pub returns-in-Ok-clause-ok : goal.returns-in-Ok-clause-ok
 returns-in-Ok-clause-ok c =
-    line_appended c.args.out.now.items _ c.as_str.result.now c.args.number (location_of c.args.location.now) (value_of c.args.value.now)
-    (c.as_str.ensures.value ∙ c.in_ok-text.ensures.text c.requires ∙ ap compact_text (sym (value_back c.args.value.now c.requires)))
+    line_appended c.args.out.now.items _ c.as_str.result.now c.args.number (location_of c.args.location.now)
+    (value_of c.args.value.now)
+    (c.as_str.ensures.value ∙ c.in_ok-text.ensures.text c.requires
+    ∙ ap compact_text (sym (value_back c.args.value.now c.requires)))
     c.in-Ok.ensures.ok

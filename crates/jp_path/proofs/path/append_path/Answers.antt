@@ -5,7 +5,8 @@ use Rattle.jp_path.proofs.path.append_path.Goals as goal
 
 pub loop-step-preserved : goal.loop-step-preserved
 loop-step-preserved c = record {
-  rest = next_step c.deref-step-items.result.now c.loop-step.step-index c.step-item.result _ _ _ c.loop-step-test.true c.step-item.is c.loop-step.invariant.rest c.in_ok-append_step.ensures.ok;
+  rest = next_step c.deref-step-items.result.now c.loop-step.step-index c.step-item.result _ _ _
+      c.loop-step-test.true c.step-item.is c.loop-step.invariant.rest c.in_ok-append_step.ensures.ok;
   text = λ u. c.in_ok-append_step.ensures.text (c.loop-step.invariant.text u);
   kept = extends_on _ _ _ c.loop-step.invariant.kept c.in_ok-append_step.ensures.kept;
 }

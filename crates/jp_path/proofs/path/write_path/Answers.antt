@@ -6,7 +6,8 @@ use Rattle.jp_path.proofs.path.write_path.Goals as goal
 
 pub unreachable-requires : goal.unreachable-requires
 unreachable-requires c =
-    let ok = c.in-Err.ensures.succeeds (c.in_ok-append_path.ensures.text (subst IsUtf8 (sym c.new-bytes.ensures.items) IsUtf8-nil)) in
+    let ok = c.in-Err.ensures.succeeds
+    (c.in_ok-append_path.ensures.text (subst IsUtf8 (sym c.new-bytes.ensures.items) IsUtf8-nil)) in
     absurd cc
 
 pub returns : goal.returns

@@ -6,10 +6,12 @@ use Rattle.jp_path.proofs.query.path_segments.Goals as goal
 pub loop-step-preserved : goal.loop-step-preserved
 loop-step-preserved c = record {
   rest =
-      next_segment c.deref-step-items.result.now c.loop-step.step-index c.step-item.result c.loop-step-test.true c.step-item.is
+      next_segment c.deref-step-items.result.now c.loop-step.step-index c.step-item.result
+      c.loop-step-test.true c.step-item.is
       _ _ c.child_segment.result _ c.loop-step.invariant.rest c.in_ok-push.ensures.items
       (c.child_segment.ensures.child ∙ ap tree.child c.in_ok-one_selector.ensures.selector);
   steps =
-      next_steps c.deref-step-items.result.now c.loop-step.step-index c.step-item.result c.loop-step-test.true c.step-item.is
+      next_steps c.deref-step-items.result.now c.loop-step.step-index c.step-item.result c.loop-step-test.true
+      c.step-item.is
       _ c.loop-step.invariant.steps c.in_ok-one_selector.ensures.step;
 }

@@ -6,4 +6,5 @@ use Rattle.jp_path.proofs.SourceSteps.{text_is_scalar}
 use Rattle.jp_path.proofs.query.selector_for.Goals as goal
 
 pub returns-in_ok-from_str-in-Name-clause-step : goal.returns-in_ok-from_str-in-Name-clause-step
-returns-in_ok-from_str-in-Name-clause-step c = subst (λ (s : code.Step). IsStep (step_of s)) (sym c.in-Name.is) (text_is_scalar c.in-Name.name)
+returns-in_ok-from_str-in-Name-clause-step c = subst (λ (s : code.Step). IsStep (step_of s))
+    (sym c.in-Name.is) (text_is_scalar c.in-Name.name)

@@ -16,12 +16,14 @@ write_members-loop-key-preserved t c =
       before = search rules;
       rest = λ none.
           let old = l.invariant.rest none in
-          let whole : (has_float d || members_have_float (members_view left)) ≡ false = ap (λ es. members_have_float (members_view es)) (sym step) ∙ old.0 in
+          let whole : (has_float d || members_have_float (members_view left)) ≡ false =
+          ap (λ es. members_have_float (members_view es)) (sym step) ∙ old.0 in
           let parts = or_parts (has_float d) (members_have_float (members_view left)) whole in (
             parts.1,
             next_member l.out.tokens c.key.new.self.tokens c.write.new.out.tokens _ _ d (members_view left)
                 (c.in_ok-key.ensures.ok ∙ ap (λ k. l.out.tokens ++ key k ∷ []) c.as_str.ensures.value)
                 (c.in_ok-write.ensures.ok parts.0)
-                (ap (λ es. l.out.tokens ++ members_tokens (members_outline (members_view es))) (sym step) ∙ old.1),
+                (ap (λ es. l.out.tokens ++ members_tokens (members_outline (members_view es))) (sym step)
+                ∙ old.1),
           );
     }

@@ -9,7 +9,9 @@ invariant-write_items-loop-item l =
     let rest = items_view (drop l.item-index l.item-items) in record {
       before : l.out.before ≡ l.initial.out.before;
       rest : items_have_float (items_view l.item-items) ≡ false
-          → (items_have_float rest ≡ false) × (l.out.tokens ++ items_tokens (items_outline rest) ≡ l.initial.out.tokens ++ items_tokens (items_outline (items_view l.item-items)));
+          → (items_have_float rest ≡ false)
+          × (l.out.tokens ++ items_tokens (items_outline rest) ≡ l.initial.out.tokens ++ items_tokens
+          (items_outline (items_view l.item-items)));
     }
 
 abbrev pub invariant-write_members-loop-key : goal.invariant-write_members-loop-key
@@ -18,5 +20,6 @@ invariant-write_members-loop-key l =
     let rest = members_view l.key-iterator in record {
       before : l.out.before ≡ l.initial.out.before;
       rest : members_have_float all ≡ false
-          → (members_have_float rest ≡ false) × (l.out.tokens ++ members_tokens (members_outline rest) ≡ l.initial.out.tokens ++ members_tokens (members_outline all));
+          → (members_have_float rest ≡ false) × (l.out.tokens ++ members_tokens (members_outline rest)
+          ≡ l.initial.out.tokens ++ members_tokens (members_outline all));
     }

@@ -12,4 +12,5 @@ returns c =
     on_ok_weaker c.write-written.result (λ e.
     text_of_tokens c.args.out.now.items _ _ c.write-written.new.out.tokens d c.into_inner.ensures.items
     (c.write-written.ensures.before ∙ c.new-writer.ensures.before ∙ ap (λ v. v.items) c.replace.ensures.value)
-    (e c.requires ∙ ap (λ ts. ts ++ json_tokens (outline d)) c.new-writer.ensures.tokens)) c.write-written.ensures.ok
+    (e c.requires ∙ ap (λ ts. ts ++ json_tokens (outline d)) c.new-writer.ensures.tokens))
+    c.write-written.ensures.ok

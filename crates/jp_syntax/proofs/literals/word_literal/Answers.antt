@@ -12,4 +12,5 @@ pub returns-in-null : goal.returns-in-null
 returns-in-null c = sym (null_read c.args.word.now c.utf8.word c.in-null.is)
 
 pub returns-in_default : goal.returns-in_default
-returns-in_default c = sym (none_read c.args.word.now c.utf8.word c.in_default.not-true c.in_default.not-false c.in_default.not-null)
+returns-in_default c = sym (none_read c.args.word.now c.utf8.word c.in_default.not-true c.in_default.not-false
+    c.in_default.not-null)

@@ -6,7 +6,10 @@ use Rattle.jp_syntax.proofs.Cuts.{some_front, front_read}
 use Rattle.jp_syntax.proofs.numbers.int_at.Goals as goal
 
 pub up_to-requires : goal.up_to-requires
-up_to-requires c = some_front IsInt (reading.int_at (chars c.args.text.now)) (chars c.args.text.now) (chars c.in_ok-rest.rest.now) c.in_ok-rest.ensures (int_sound (chars c.args.text.now))
+up_to-requires c = some_front IsInt (reading.int_at (chars c.args.text.now)) (chars c.args.text.now)
+    (chars c.in_ok-rest.rest.now) c.in_ok-rest.ensures (int_sound (chars c.args.text.now))
 
 pub returns : goal.returns
-returns c = front_read IsInt (reading.int_at (chars c.args.text.now)) (chars c.args.text.now) (chars c.in_ok-rest.rest.now) c.in_ok-rest.ensures (int_sound (chars c.args.text.now)) (chars c.up_to.result.now) c.up_to.ensures
+returns c = front_read IsInt (reading.int_at (chars c.args.text.now)) (chars c.args.text.now)
+    (chars c.in_ok-rest.rest.now) c.in_ok-rest.ensures (int_sound (chars c.args.text.now))
+    (chars c.up_to.result.now) c.up_to.ensures

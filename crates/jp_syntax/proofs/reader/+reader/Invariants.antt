@@ -2,7 +2,8 @@ use Rattle.std.proofs.Common.{◌≡◌, ◌+◌, ◌*◌, length}
 use Rattle.std.specs.Str.{chars}
 use denote.Text.{Utf8}
 use denote.Shadow.{shadow}
-use Rattle.jp_syntax.specs.Reading.{skip, logical_at, next_and, next_basic, segment_behind, next_item, selector_at, argument_at, all_of}
+use Rattle.jp_syntax.specs.Reading.{skip, logical_at, next_and, next_basic, segment_behind, next_item}
+use Rattle.jp_syntax.specs.Reading.{selector_at, argument_at, all_of}
 use Rattle.jp_syntax.specs.PartViews.{selectors_of, segments_of, arguments_of, logicals_of}
 use Rattle.jp_syntax.proofs.reader.+reader.Given as goal
 
@@ -100,19 +101,33 @@ abbrev pub decreases-logical_at : goal.decreases-logical_at
 decreases-logical_at l = 50 * l.left + 0
 
 abbrev pub invariant-selectors_from-loop-found : goal.invariant-selectors_from-loop-found
-invariant-selectors_from-loop-found l = shadow (Utf8 l.rest) × (all_of (λ u. next_item 93 (selector_at (logical_at l.left)) (skip u)) (selectors_of l.fn.found.items) (chars l.fn.text) ≡ all_of (λ u. next_item 93 (selector_at (logical_at l.left)) (skip u)) (selectors_of l.found.items) (chars l.rest))
+invariant-selectors_from-loop-found l = shadow (Utf8 l.rest)
+    × (all_of (λ u. next_item 93 (selector_at (logical_at l.left)) (skip u)) (selectors_of l.fn.found.items)
+    (chars l.fn.text) ≡ all_of (λ u. next_item 93 (selector_at (logical_at l.left)) (skip u))
+    (selectors_of l.found.items) (chars l.rest))
 
 abbrev pub invariant-arguments_from-loop-found : goal.invariant-arguments_from-loop-found
-invariant-arguments_from-loop-found l = shadow (Utf8 l.rest) × (all_of (λ u. next_item 41 (argument_at (logical_at l.left)) (skip u)) (arguments_of l.fn.found.items) (chars l.fn.text) ≡ all_of (λ u. next_item 41 (argument_at (logical_at l.left)) (skip u)) (arguments_of l.found.items) (chars l.rest))
+invariant-arguments_from-loop-found l = shadow (Utf8 l.rest)
+    × (all_of (λ u. next_item 41 (argument_at (logical_at l.left)) (skip u)) (arguments_of l.fn.found.items)
+    (chars l.fn.text) ≡ all_of (λ u. next_item 41 (argument_at (logical_at l.left)) (skip u))
+    (arguments_of l.found.items) (chars l.rest))
 
 abbrev pub invariant-segments_from-loop-found : goal.invariant-segments_from-loop-found
-invariant-segments_from-loop-found l = shadow (Utf8 l.rest) × (all_of (λ u. segment_behind (logical_at l.left) u (skip u)) (segments_of l.fn.found.items) (chars l.fn.text) ≡ all_of (λ u. segment_behind (logical_at l.left) u (skip u)) (segments_of l.found.items) (chars l.rest))
+invariant-segments_from-loop-found l = shadow (Utf8 l.rest)
+    × (all_of (λ u. segment_behind (logical_at l.left) u (skip u)) (segments_of l.fn.found.items)
+    (chars l.fn.text) ≡ all_of (λ u. segment_behind (logical_at l.left) u (skip u))
+    (segments_of l.found.items) (chars l.rest))
 
 abbrev pub invariant-basics_from-loop-found : goal.invariant-basics_from-loop-found
-invariant-basics_from-loop-found l = shadow (Utf8 l.rest) × (all_of (λ u. next_basic (logical_at l.left) u (skip u)) (logicals_of l.fn.found.items) (chars l.fn.text) ≡ all_of (λ u. next_basic (logical_at l.left) u (skip u)) (logicals_of l.found.items) (chars l.rest))
+invariant-basics_from-loop-found l = shadow (Utf8 l.rest)
+    × (all_of (λ u. next_basic (logical_at l.left) u (skip u)) (logicals_of l.fn.found.items)
+    (chars l.fn.text) ≡ all_of (λ u. next_basic (logical_at l.left) u (skip u)) (logicals_of l.found.items)
+    (chars l.rest))
 
 abbrev pub invariant-ands_from-loop-found : goal.invariant-ands_from-loop-found
-invariant-ands_from-loop-found l = shadow (Utf8 l.rest) × (all_of (λ u. next_and (logical_at l.left) u (skip u)) (logicals_of l.fn.found.items) (chars l.fn.text) ≡ all_of (λ u. next_and (logical_at l.left) u (skip u)) (logicals_of l.found.items) (chars l.rest))
+invariant-ands_from-loop-found l = shadow (Utf8 l.rest)
+    × (all_of (λ u. next_and (logical_at l.left) u (skip u)) (logicals_of l.fn.found.items) (chars l.fn.text)
+    ≡ all_of (λ u. next_and (logical_at l.left) u (skip u)) (logicals_of l.found.items) (chars l.rest))
 
 abbrev pub decreases-selectors_from-loop-found : goal.decreases-selectors_from-loop-found
 decreases-selectors_from-loop-found l = length (chars l.rest)

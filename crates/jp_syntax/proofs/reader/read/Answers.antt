@@ -8,12 +8,25 @@ pub returns-then-not-is_empty : goal.returns-then-not-is_empty
 unfolding read
 returns-then-not-is_empty c =
     let text : IsUtf8 c.in_ok-segments-in-Some-eq36-default.rest.now = search rules in
-    let end = at_end c.in_ok-segments-in-Some-eq36-default.rest.now text ∙ sym c.is_empty.ensures ∙ c.if-not-is_empty.true in
-    rw (c.in-Some-eq36-default.ensures, c.in_ok-segments-in-Some-eq36-default.ensures, c.in-Some-eq36-default.field-0-0-test, end) refl
+    let end = at_end c.in_ok-segments-in-Some-eq36-default.rest.now text ∙ sym c.is_empty.ensures
+    ∙ c.if-not-is_empty.true in
+    rw (
+      c.in-Some-eq36-default.ensures,
+      c.in_ok-segments-in-Some-eq36-default.ensures,
+      c.in-Some-eq36-default.field-0-0-test,
+      end,
+    ) refl
 
 pub returns-else-not-is_empty : goal.returns-else-not-is_empty
 unfolding read
 returns-else-not-is_empty c =
     let text : IsUtf8 c.in_ok-segments-in-Some-eq36-default.rest.now = search rules in
-    let end = at_end c.in_ok-segments-in-Some-eq36-default.rest.now text ∙ sym c.is_empty.ensures ∙ c.if-not-is_empty.false in
-    rw (c.in-Some-eq36-default.ensures, c.in_ok-segments-in-Some-eq36-default.ensures, c.in-Some-eq36-default.field-0-0-test, end, c.query_from.ensures) refl
+    let end = at_end c.in_ok-segments-in-Some-eq36-default.rest.now text ∙ sym c.is_empty.ensures
+    ∙ c.if-not-is_empty.false in
+    rw (
+      c.in-Some-eq36-default.ensures,
+      c.in_ok-segments-in-Some-eq36-default.ensures,
+      c.in-Some-eq36-default.field-0-0-test,
+      end,
+      c.query_from.ensures,
+    ) refl

@@ -5,18 +5,23 @@ use Rattle.jp_syntax.proofs.Top.{is_found, is_only, is_none, is_deep, is_fault}
 use Rattle.jp_syntax.proofs.reader.read_query.Goals as goal
 
 pub returns-clause-found : goal.returns-clause-found
-returns-clause-found c = is_found (length c.args.text.now) (chars c.args.text.now) (chars_fit c.args.text.now c.utf8.text) c.read.result c.read.ensures
+returns-clause-found c = is_found (length c.args.text.now) (chars c.args.text.now)
+    (chars_fit c.args.text.now c.utf8.text) c.read.result c.read.ensures
 
 pub returns-clause-only : goal.returns-clause-only
-returns-clause-only c = is_only (length c.args.text.now) (chars c.args.text.now) (chars_fit c.args.text.now c.utf8.text) c.read.result c.read.ensures
+returns-clause-only c = is_only (length c.args.text.now) (chars c.args.text.now)
+    (chars_fit c.args.text.now c.utf8.text) c.read.result c.read.ensures
 
 pub returns-clause-syntax : goal.returns-clause-syntax
-returns-clause-syntax c = is_none (length c.args.text.now) (chars c.args.text.now) (chars_fit c.args.text.now c.utf8.text) c.read.result c.read.ensures
+returns-clause-syntax c = is_none (length c.args.text.now) (chars c.args.text.now)
+    (chars_fit c.args.text.now c.utf8.text) c.read.result c.read.ensures
 
 pub returns-clause-too_deep : goal.returns-clause-too_deep
 returns-clause-too_deep c =
-    is_deep (length c.args.text.now) (chars c.args.text.now) (chars_fit c.args.text.now c.utf8.text) c.read.result c.read.ensures
+    is_deep (length c.args.text.now) (chars c.args.text.now) (chars_fit c.args.text.now c.utf8.text)
+    c.read.result c.read.ensures
     (rw c.bracket_depth.ensures at c.if-bracket_depth-gt-MAX_DEPTH.false)
 
 pub returns-clause-faults : goal.returns-clause-faults
-returns-clause-faults c = is_fault (length c.args.text.now) (chars c.args.text.now) (chars_fit c.args.text.now c.utf8.text) c.read.result c.read.ensures
+returns-clause-faults c = is_fault (length c.args.text.now) (chars c.args.text.now)
+    (chars_fit c.args.text.now c.utf8.text) c.read.result c.read.ensures

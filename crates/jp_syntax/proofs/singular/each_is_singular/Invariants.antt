@@ -5,7 +5,8 @@ use Rattle.jp_syntax.specs.Singular.{each_is_singular}
 use Rattle.jp_syntax.proofs.singular.each_is_singular.Given as goal
 
 abbrev pub invariant-loop-rest : goal.invariant-loop-rest
-invariant-loop-rest l = each_is_singular (segments (segments_of l.rest)) ≡ each_is_singular (segments (segments_of l.segments))
+invariant-loop-rest l = each_is_singular (segments (segments_of l.rest))
+    ≡ each_is_singular (segments (segments_of l.segments))
 
 abbrev pub decreases-loop-rest : goal.decreases-loop-rest
 decreases-loop-rest l = length l.rest

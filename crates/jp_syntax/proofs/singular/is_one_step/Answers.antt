@@ -5,7 +5,8 @@ use Rattle.jp_syntax.specs.Singular as singular
 use Rattle.jp_syntax.specs.declared.tree.Selector.{Selector}
 use Rattle.jp_syntax.proofs.singular.is_one_step.Goals as goal
 
-two : (xs : List Selector) → 2 ≤ length xs → false ≡ singular.is_one_step (tree.selectors (view.selectors_of xs))
+two : (xs : List Selector) → 2 ≤ length xs
+    → false ≡ singular.is_one_step (tree.selectors (view.selectors_of xs))
 two [] h = absurd (omega arith)
 two (x ∷ []) h = absurd (omega arith)
 two (x ∷ y ∷ xs) h = refl

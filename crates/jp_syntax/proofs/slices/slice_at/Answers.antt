@@ -4,4 +4,5 @@ use Rattle.jp_syntax.proofs.slices.slice_at.Goals as goal
 
 pub returns : goal.returns
 unfolding slice_at
-returns c = rw (c.in_ok-mark_at.ensures, c.in_ok-past.ensures, c.in_ok-step.ensures, c.slice_selector.ensures) refl
+returns c = rw (c.in_ok-mark_at.ensures, c.in_ok-past.ensures, c.in_ok-step.ensures, c.slice_selector.ensures)
+    refl

@@ -8,4 +8,5 @@ pub returns-in-Some-escaped : goal.returns-in-Some-escaped
 unfolding escape_at
 returns-in-Some-escaped c =
     let given : ℕ → Turn ℕ = λ value. Some (Some value, chars c.in-Some.rest.now) in
-    rw (c.in-Some.ensures, ne_eqb c.in-Some.c 117 c.in-Some.c-test.1) (sym (ap (λ (o : Option ℕ). o >>= given) c.in-Some-escaped.ensures))
+    rw (c.in-Some.ensures, ne_eqb c.in-Some.c 117 c.in-Some.c-test.1)
+    (sym (ap (λ (o : Option ℕ). o >>= given) c.in-Some-escaped.ensures))

@@ -8,10 +8,19 @@ use Rattle.jp_syntax.proofs.text.name_at.Goals as goal
 
 pub up_to-requires : goal.up_to-requires
 up_to-requires c =
-    let read = run_behind is_first is_name_character (chars c.args.text.now) (chars c.in-Some.more.now) (chars c.past_name-rest.result.now) c.in-Some.c c.in-Some.ensures (sym c.is_first.ensures ∙ c.if-is_first.true) c.past_name-rest.ensures in
-    some_front (IsRun is_first is_name_character) (run_at is_first is_name_character (chars c.args.text.now)) (chars c.args.text.now) (chars c.past_name-rest.result.now) read (run_sound is_first is_name_character (chars c.args.text.now))
+    let read = run_behind is_first is_name_character (chars c.args.text.now) (chars c.in-Some.more.now)
+    (chars c.past_name-rest.result.now) c.in-Some.c c.in-Some.ensures (sym c.is_first.ensures
+    ∙ c.if-is_first.true) c.past_name-rest.ensures in
+    some_front (IsRun is_first is_name_character) (run_at is_first is_name_character (chars c.args.text.now))
+    (chars c.args.text.now) (chars c.past_name-rest.result.now) read
+    (run_sound is_first is_name_character (chars c.args.text.now))
 
 pub returns-in-Some : goal.returns-in-Some
 returns-in-Some c =
-    let read = run_behind is_first is_name_character (chars c.args.text.now) (chars c.in-Some.more.now) (chars c.past_name-rest.result.now) c.in-Some.c c.in-Some.ensures (sym c.is_first.ensures ∙ c.if-is_first.true) c.past_name-rest.ensures in
-    front_read (IsRun is_first is_name_character) (run_at is_first is_name_character (chars c.args.text.now)) (chars c.args.text.now) (chars c.past_name-rest.result.now) read (run_sound is_first is_name_character (chars c.args.text.now)) (chars c.up_to.result.now) c.up_to.ensures
+    let read = run_behind is_first is_name_character (chars c.args.text.now) (chars c.in-Some.more.now)
+    (chars c.past_name-rest.result.now) c.in-Some.c c.in-Some.ensures (sym c.is_first.ensures
+    ∙ c.if-is_first.true) c.past_name-rest.ensures in
+    front_read (IsRun is_first is_name_character) (run_at is_first is_name_character (chars c.args.text.now))
+    (chars c.args.text.now) (chars c.past_name-rest.result.now) read
+    (run_sound is_first is_name_character (chars c.args.text.now)) (chars c.up_to.result.now)
+    c.up_to.ensures

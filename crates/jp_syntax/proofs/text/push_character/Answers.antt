@@ -4,4 +4,5 @@ use Rattle.jp_syntax.proofs.Cuts.{pushed}
 use Rattle.jp_syntax.proofs.text.push_character.Goals as goal
 
 pub returns : goal.returns
-returns c = pushed c.push.result _ _ c.args.c (IsUtf8-string_bytes c.args.text.now) (rw c.ranges.c.0 refl) c.push.ensures.bytes
+returns c = pushed c.push.result _ _ c.args.c (IsUtf8-string_bytes c.args.text.now) (rw c.ranges.c.0 refl)
+    c.push.ensures.bytes

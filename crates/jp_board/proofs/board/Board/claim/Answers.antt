@@ -3,4 +3,9 @@ use Rattle.jp_board.proofs.Steps.{claims}
 use Rattle.jp_board.proofs.board.Board.claim.Goals as goal
 
 pub fetch_add-found-requires : goal.fetch_add-found-requires
-fetch_add-found-requires c = (search rules, search rules, claims _ _ _ _ c.args.seat.now.one (c.args.seat.now.told_once ∙ ap (λ b. if b then 1 else 0) c.if-seat.false))
+fetch_add-found-requires c = (
+  search rules,
+  search rules,
+  claims _ _ _ _ c.args.seat.now.one (c.args.seat.now.told_once
+      ∙ ap (λ b. if b then 1 else 0) c.if-seat.false),
+)

@@ -4,4 +4,6 @@ use Rattle.jp_board.proofs.Tallying.{tallies_same}
 use Rattle.jp_board.proofs.board.Board.close.Goals as goal
 
 pub returns-clause-tally : goal.returns-clause-tally
-returns-clause-tally c = tallies_same c.args.self.pieces c.settle.result.claimed c.settle.result.least (map view_of c.args.seats.items) (c.gather-all.result.me.0 ∷ []) c.gather-all.ensures.same c.settle.ensures
+returns-clause-tally c = tallies_same c.args.self.pieces c.settle.result.claimed c.settle.result.least
+    (map view_of c.args.seats.items) (c.gather-all.result.me.0 ∷ []) c.gather-all.ensures.same
+    c.settle.ensures

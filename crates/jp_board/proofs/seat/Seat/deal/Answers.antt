@@ -29,6 +29,13 @@ loop-done-preserved c =
       (let k = left.1 in omega arith),
       (let l = c.push_reserved.ensures.len in omega arith),
       (let l = c.push_reserved.ensures.capacity in omega arith),
-      subst (All (IsAt id key.0 key.1)) items (All-push (IsAt id key.0 key.1) c.loop-done.dealt.items c.new.result inv.5 (ap (λ x. x.table_id) n ∙ s.3 ∙ inv.0, ap (λ v. v.pieces) is, ap (λ v. v.made) is)),
-      subst (All (IsFresh key.0 key.1)) items (All-push (IsFresh key.0 key.1) c.loop-done.dealt.items c.new.result inv.6 is),
+      subst (All (IsAt id key.0 key.1)) items (All-push (IsAt id key.0 key.1) c.loop-done.dealt.items
+          c.new.result inv.5 (
+            ap (λ x. x.table_id) n ∙ s.3 ∙ inv.0,
+            ap (λ v. v.pieces) is,
+            ap (λ v. v.made)
+                is,
+          )),
+      subst (All (IsFresh key.0 key.1)) items (All-push (IsFresh key.0 key.1) c.loop-done.dealt.items
+          c.new.result inv.6 is),
     )

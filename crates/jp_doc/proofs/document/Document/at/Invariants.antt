@@ -6,4 +6,5 @@ use Rattle.jp_doc.proofs.document.Document.at.Given as goal
 
 abbrev pub invariant-loop-step : goal.invariant-loop-step
 invariant-loop-step l =
-    (value_at (map step_of (drop l.step-index l.steps)) (value_of l.value) ≡ value_at (map step_of l.steps) (value_of l.initial.value)) × IsDocumentValue l.value
+    (value_at (map step_of (drop l.step-index l.steps)) (value_of l.value) ≡ value_at (map step_of l.steps)
+    (value_of l.initial.value)) × IsDocumentValue l.value

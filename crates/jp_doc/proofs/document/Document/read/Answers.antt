@@ -1,4 +1,5 @@
-use Rattle.std.proofs.Common.{arith, ◌≡◌, ◌≢◌, ◌≤◌, List, ℕ, length, Result, Ok, Err, IfOk, IfErr, ap, sym, ◌∙◌}
+use Rattle.std.proofs.Common.{arith, ◌≡◌, ◌≢◌, ◌≤◌, List, ℕ, length, Result, Ok, Err, IfOk, IfErr, ap, sym}
+use Rattle.std.proofs.Common.{◌∙◌}
 use Rattle.serde_json.specs.Errors.{IsMemory}
 use Rattle.serde_json.specs.View.{view}
 use Rattle.jp_doc.specs.Document.{answer_of, document_value}
@@ -31,7 +32,8 @@ pub returns-in-Err-clause-fault : goal.returns-in-Err-clause-fault
 returns-in-Err-clause-fault c = λ other.
     let short : length c.args.line.now ≤ max_line = omega arith in
     let spared = λ (m : IsMemory c.in-Err.error). other (c.fault_of.ensures.memory m) in
-    reading_unread c.args.line.now short (c.in-Err.ensures.err spared) ∙ ap Err (sym (c.fault_of.ensures.other spared))
+    reading_unread c.args.line.now short (c.in-Err.ensures.err spared)
+    ∙ ap Err (sym (c.fault_of.ensures.other spared))
 
 pub of_value-requires-clause-rising : goal.of_value-requires-clause-rising
 of_value-requires-clause-rising c =
@@ -41,7 +43,8 @@ pub returns-in-Ok-clause-ok : goal.returns-in-Ok-clause-ok
 returns-in-Ok-clause-ok c =
     let short : length c.args.line.now ≤ max_line = omega arith in
     ok_answer c.args.line.now c.of_value.result
-    (reading_read c.args.line.now (view c.in-Ok.root) short c.in-Ok.ensures.ok ∙ sym c.of_value.ensures.answer)
+    (reading_read c.args.line.now (view c.in-Ok.root) short c.in-Ok.ensures.ok
+    ∙ sym c.of_value.ensures.answer)
 
 pub returns-in-Ok-clause-rising : goal.returns-in-Ok-clause-rising
 returns-in-Ok-clause-rising c = rising_answer c.of_value.result
@@ -50,4 +53,5 @@ pub returns-in-Ok-clause-fault : goal.returns-in-Ok-clause-fault
 returns-in-Ok-clause-fault c =
     let short : length c.args.line.now ≤ max_line = omega arith in
     err_answer c.args.line.now c.of_value.result
-    (reading_read c.args.line.now (view c.in-Ok.root) short c.in-Ok.ensures.ok ∙ sym c.of_value.ensures.answer)
+    (reading_read c.args.line.now (view c.in-Ok.root) short c.in-Ok.ensures.ok
+    ∙ sym c.of_value.ensures.answer)
