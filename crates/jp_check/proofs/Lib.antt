@@ -8,3 +8,8 @@ pub mod PatternSets
 pub mod TextLists
 pub mod Verdicts
 pub mod OneVerdict
+pub mod WrittenNumbers
+pub mod ReadyViews
+pub mod MakingSteps
+pub mod Naming
+pub mod CallsMade

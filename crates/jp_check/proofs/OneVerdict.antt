@@ -1,5 +1,5 @@
 -- A text has one verdict.
-use Rattle.std.proofs.Common.{◌≡◌, ◌⊎◌, inl, inr, Result, Ok, Err, refl, sym, ◌∙◌, ap, arith}
+use Rattle.std.proofs.Common.{◌≡◌, Result, Ok, Err, refl, sym, ◌∙◌, ap, arith}
 use Rattle.std.specs.Prelude.{◌<◌, ◌≤◌}
 use Rattle.jp_syntax.specs.Tree.{Text, Query}
 use Rattle.jp_syntax.specs.Spelling.{Spells}

@@ -8,3 +8,6 @@ pub mod Plan
 pub mod LiteralPatterns
 pub mod Known
 pub mod Samples
+pub mod Ready
+pub mod Making
+pub mod QuerySets

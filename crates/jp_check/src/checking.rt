@@ -10,6 +10,7 @@ ghost use Rattle.jp_check.specs.Verdict.{verdict_of, IsVerdict, IsAccepted};
 ghost use Rattle.jp_check.specs.Plan.{planned_query};
 
 use crate::accepted::Plan;
+use crate::making::make_query;
 use crate::patterns::query_patterns;
 use crate::walk::query_faults;
 use jp_syntax::{Query, QueryFault, read_query};
@@ -55,7 +56,12 @@ pub fn check(alloc: Global, query: Query) -> Result<Plan, QueryFault>
     verdict(&query)?;
     let mut patterns = Vec::new(alloc);
     query_patterns(alloc, &query, &mut patterns)?;
-    Ok(Plan { query, patterns })
+    let ready = make_query(alloc, &query)?;
+    Ok(Plan {
+        query,
+        patterns,
+        ready,
+    })
 }
 
 /// The plan of the query that the text spells (RFC 9535, 2.1).

@@ -18,8 +18,10 @@ pub enum Known<'a> {
 
 /// A text, and the pattern that it is, if it is one.
 #[derive(Drop)]
-pub(crate) struct KnownPattern {
-    pub(crate) text: String,
-    pub(crate) pattern: Option<Pattern>,
-    ghost read: { ∥ IsRead (text_of text) pattern ∥₁ },
+pub struct KnownPattern {
+    /// The text.
+    pub text: String,
+    /// The pattern, if the text is an I-Regexp within the limits (RFC 9485).
+    pub pattern: Option<Pattern>,
+    pub ghost read: { ∥ IsRead (text_of text) pattern ∥₁ },
 }

@@ -8,10 +8,14 @@ mod faults;
 mod functions;
 mod known;
 pub mod laws;
+mod leaves;
+mod making;
 mod numbers;
 mod patterns;
+pub mod ready;
 mod typing;
 mod walk;
+mod written;
 
 pub use accepted::Plan;
 pub use checking::{check, plan};

@@ -11,14 +11,13 @@ ghost use Rattle.jp_check.specs.LiteralPatterns as literal;
 
 use crate::functions::{Function, function_named};
 use crate::known::KnownPattern;
-use jp_regexp::Pattern;
 use jp_syntax::{
     Argument, Call, Comparable, Comparison, Literal, Logical, Query, Segment, Selector,
 };
 use std::alloc::{AllocError, Global};
 
 /// The text that an argument is as a literal.
-fn literal_text(argument: &Argument) -> Option<&str>
+pub(crate) fn literal_text(argument: &Argument) -> Option<&str>
     ensures { option_to_list (option_map (λ s. chars s.now) result)
         ≡ literal.literal_text (view.argument_of argument.now) }
 {
@@ -58,7 +57,7 @@ fn given_pattern(function: Option<Function>, given: &[Argument]) -> Option<&str>
 fn push_known(alloc: Global, text: &str, known: &mut Vec<KnownPattern>) -> Result<(), AllocError>
     ensures { OnOk result (known_texts known.new.items ≡ known_texts known.old.items ++ chars text.now ∷ []) }
 {
-    let pattern = Pattern::ready(alloc, text)?;
+    let pattern = Pattern::read(alloc, text)?;
     let text = String::from_str(alloc, text)?;
     known.push(KnownPattern { text, pattern })?;
     Ok(())

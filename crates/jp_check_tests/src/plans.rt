@@ -1,5 +1,6 @@
 //! The calls with ample memory. The expected answers come from the rules of RFC 9535.
 
+use jp_check::ready::{Selector, Want};
 use jp_check::{Known, check, plan};
 use jp_syntax::{QueryFault, read_query};
 use std::alloc::{AllocError, Global};
@@ -122,6 +123,29 @@ fn known_patterns(rt: HostRuntime) -> Result<(), Fail> {
     assert!(rt; matches!(plan.pattern("a"), Known::Read(_)));
     assert!(rt; matches!(plan.pattern("["), Known::NoPattern));
     assert!(rt; matches!(plan.pattern("b"), Known::Unknown));
+    Ok(())
+}
+
+#[test]
+fn ready_queries(rt: HostRuntime) -> Result<(), Fail> {
+    let plan = plan(
+        rt.alloc(),
+        "$[-7,?count($[?@.a==$.b])>value($..c)&&search(@,'a')]",
+    )?;
+    let ready = plan.ready();
+    let [segment] = ready.segments.as_slice() else {
+        panic!(rt; "not one segment");
+    };
+    let [Selector::Index(index), Selector::Filter(_)] = segment.selectors.as_slice() else {
+        panic!(rt; "not an index and a filter");
+    };
+    assert_eq!(rt; index.value, -7);
+    let [first, count, only] = ready.roots.as_slice() else {
+        panic!(rt; "not three queries");
+    };
+    assert_eq!(rt; first.want, Want::First);
+    assert_eq!(rt; count.want, Want::Count);
+    assert_eq!(rt; only.want, Want::Only);
     Ok(())
 }
 

@@ -6,7 +6,7 @@ use Rattle.std.specs.Ordering.{ordering_reverse}
 use Rattle.std.specs.Prelude.{IsTrue, ◌↔◌, encode_utf8_all}
 use Rattle.jp_doc.specs.Json.{Text, text_eq, text_cmp, Json, object, Members, no_members, add_member}
 use Rattle.jp_doc.specs.Location.{member_at}
-use Rattle.jp_doc.specs.Rising.{IsTextBelow, IsBelow, IsRising, MembersRise}
+use Rattle.jp_doc.specs.Rising.{IsTextBelow, IsBelow, MembersRise}
 use Rattle.jp_eval.specs.Comparison.{eq}
 use Rattle.jp_eval.proofs.Sameness.{same_is_equal, self_same}
 

@@ -1,12 +1,12 @@
 -- Where the places of slices lie.
-use Rattle.std.proofs.Common.{◌≡◌, ℕ, ◌≤◌, ℤ, Bool, true, false, cond, List, [], Option, refl, ap, ◌∙◌, subst, arith}
+use Rattle.std.proofs.Common.{◌≡◌, ℕ, ◌≤◌, ℤ, pos, negsuc, Bool, true, false, cond, List, [], Option, refl, ap, ap₂, ◌∙◌, arith}
+use Rattle.std.specs.Prelude.{nat_lt}
+use Rattle.std.proofs.lemmas.Bool.Decides.{nat_tests}
 use Rattle.std.proofs.lemmas.Int.{ints}
 use Rattle.jp_doc.specs.Json.{Json, null, truth, whole, text, array, object}
-use Rattle.jp_eval.specs.BoundsView.{nearest}
 use Rattle.jp_eval.specs.Nodelist.{place_of, index_places, slice_places}
 use Rattle.jp_eval.specs.Places.{AreWithin, item_count}
 use Rattle.jp_eval.specs.Slice.{Bounds, slice_bounds, slice_indexes}
-use Rattle.jp_eval.proofs.Saturation.{no_place, place_saturated}
 
 pub within_more : (b : Bounds) (n m : ℕ) → n ≤ m → AreWithin b n → AreWithin b m
 within_more b n m h w = record {
@@ -17,6 +17,10 @@ within_more b n m h w = record {
   step = w.step;
 }
 
+no_place : (z : ℤ) → place_of z 0 ≡ []
+no_place (pos n) = let t : nat_lt n 0 ≡ false = grind (arith, nat_tests) in rw t refl
+no_place (negsuc n) = let t : nat_lt n 0 ≡ false = grind (arith, nat_tests) in rw t refl
+
 index_level : (z : ℤ) (v : Json) → place_of z (item_count v) ≡ index_places z v
 index_level z null = no_place z
 index_level z (truth b) = no_place z
@@ -25,8 +29,8 @@ index_level z (text t) = no_place z
 index_level z (array vs) = refl
 index_level z (object ms) = no_place z
 
-pub index_found : (v : Json) (z place : ℤ) (len : ℕ) → place ≡ nearest z → len ≡ item_count v → len ≤ 16777216 → place_of place len ≡ index_places z v
-index_found v z place len e same short = ap (λ p. place_of p len) e ∙ place_saturated z len short ∙ ap (place_of z) same ∙ index_level z v
+pub index_found : (v : Json) (z place : ℤ) (len : ℕ) → place ≡ z → len ≡ item_count v → place_of place len ≡ index_places z v
+index_found v z place len e same = ap₂ place_of e same ∙ index_level z v
 
 abbrev nothing : List ℕ
 nothing = []
@@ -44,6 +48,6 @@ slice_level first past step (text t) = no_indexes _ _
 slice_level first past step (array vs) = refl
 slice_level first past step (object ms) = no_indexes _ _
 
-pub slice_found : (v : Json) (first past step : Option ℤ) (len : ℕ) (b : Bounds) → len ≡ item_count v → slice_indexes b len ≡ slice_indexes (slice_bounds first past step len) len
+pub slice_found : (v : Json) (first past step : Option ℤ) (len : ℕ) (b : Bounds) → len ≡ item_count v → b ≡ slice_bounds first past step len
     → slice_indexes b (item_count v) ≡ slice_places first past step v
-slice_found v first past step len b same e = subst (λ n. slice_indexes b n ≡ slice_indexes (slice_bounds first past step n) n) same e ∙ slice_level first past step v
+slice_found v first past step len b same e = ap (λ c. slice_indexes c (item_count v)) (e ∙ ap (slice_bounds first past step) same) ∙ slice_level first past step v

@@ -22,8 +22,9 @@ use Rattle.jp_eval.specs.Slice.{Bounds}
 use Rattle.jp_eval.specs.Walk.{picked, picked_by, reached}
 use Rattle.jp_eval.specs.declared.part.Part.{Part}
 use Rattle.jp_trail.specs.declared.link.Link.{Link}
-use Rattle.jp_syntax.specs.declared.tree.Segment.{Segment}
-use Rattle.jp_syntax.specs.declared.tree.Selector.{Selector}
+use Rattle.jp_check.specs.declared.ready.Segment.{Segment}
+use Rattle.jp_check.specs.declared.ready.Selector.{Selector}
+use Rattle.jp_eval.specs.Base.{Base}
 use Rattle.jp_eval.proofs.Chains.{reached-append, reached-none, reached-descend}
 use Rattle.jp_eval.proofs.Keeping.{stepped, ended, plus-append}
 
@@ -48,23 +49,23 @@ pub over : {K : Type 0} (put : K → Node → K) {X : Type 0} (f : List X → Li
 over put f xs i k start all h none inv = ended put k start all (sym (ap (plus put k) (at_drop_all f xs i h ∙ none)) ∙ inv)
 
 -- one selector
-pub applied : {K : Type 0} (put : K → Node → K) (root : Json) (xs : List Selector) (i : ℕ) (x : Selector) (rest : List Segment) (n : Node) (k mid start : K) (all : List Node) → i < length xs → x ≡ get_or xs i x
-    → mid ≡ plus put k (reached root rest (picked root x n)) → plus put k (reached root rest (picked_by root (drop i xs) n)) ≡ plus put start all
-    → plus put mid (reached root rest (picked_by root (drop (i + 1) xs) n)) ≡ plus put start all
-applied put root xs i x rest n k mid start all h is e inv =
-    let first : reached root rest (picked_by root (drop i xs) n) ≡ reached root rest (picked root x n) ++ reached root rest (picked_by root (drop (i + 1) xs) n) =
-    at_drop_more (λ ys. reached root rest (picked_by root ys n)) xs i x h
-    ∙ ap (λ y. reached root rest (picked root y n ++ picked_by root (drop (i + 1) xs) n)) (sym is)
-    ∙ reached-append root rest (picked root x n) (picked_by root (drop (i + 1) xs) n) in
-    stepped put k mid (reached root rest (picked root x n)) (reached root rest (picked_by root (drop (i + 1) xs) n)) all start e (sym (ap (plus put k) first) ∙ inv)
+pub applied : {K : Type 0} (put : K → Node → K) (base : Base) (xs : List Selector) (i : ℕ) (x : Selector) (rest : List Segment) (n : Node) (k mid start : K) (all : List Node) → i < length xs → x ≡ get_or xs i x
+    → mid ≡ plus put k (reached base rest (picked base x n)) → plus put k (reached base rest (picked_by base (drop i xs) n)) ≡ plus put start all
+    → plus put mid (reached base rest (picked_by base (drop (i + 1) xs) n)) ≡ plus put start all
+applied put base xs i x rest n k mid start all h is e inv =
+    let first : reached base rest (picked_by base (drop i xs) n) ≡ reached base rest (picked base x n) ++ reached base rest (picked_by base (drop (i + 1) xs) n) =
+    at_drop_more (λ ys. reached base rest (picked_by base ys n)) xs i x h
+    ∙ ap (λ y. reached base rest (picked base y n ++ picked_by base (drop (i + 1) xs) n)) (sym is)
+    ∙ reached-append base rest (picked base x n) (picked_by base (drop (i + 1) xs) n) in
+    stepped put k mid (reached base rest (picked base x n)) (reached base rest (picked_by base (drop (i + 1) xs) n)) all start e (sym (ap (plus put k) first) ∙ inv)
 
-pub descended : {K : Type 0} (put : K → Node → K) (root : Json) (xs : List Selector) (rest : List Segment) (n : Node) (k mid last : K) → mid ≡ plus put k (reached root rest (picked_by root xs n))
-    → last ≡ plus put mid (flat_map (λ c. reached root rest (flat_map (picked_by root xs) (descendants c))) (children n))
-    → last ≡ plus put k (reached root rest (flat_map (picked_by root xs) (descendants n)))
-descended put root xs rest n k mid last here below =
-    below ∙ ap (λ j. plus put j (flat_map (λ c. reached root rest (flat_map (picked_by root xs) (descendants c))) (children n))) here
-    ∙ sym (plus-append put k (reached root rest (picked_by root xs n)) (flat_map (λ c. reached root rest (flat_map (picked_by root xs) (descendants c))) (children n)))
-    ∙ ap (plus put k) (sym (reached-descend root xs rest n))
+pub descended : {K : Type 0} (put : K → Node → K) (base : Base) (xs : List Selector) (rest : List Segment) (n : Node) (k mid last : K) → mid ≡ plus put k (reached base rest (picked_by base xs n))
+    → last ≡ plus put mid (flat_map (λ c. reached base rest (flat_map (picked_by base xs) (descendants c))) (children n))
+    → last ≡ plus put k (reached base rest (flat_map (picked_by base xs) (descendants n)))
+descended put base xs rest n k mid last here below =
+    below ∙ ap (λ j. plus put j (flat_map (λ c. reached base rest (flat_map (picked_by base xs) (descendants c))) (children n))) here
+    ∙ sym (plus-append put k (reached base rest (picked_by base xs n)) (flat_map (λ c. reached base rest (flat_map (picked_by base xs) (descendants c))) (children n)))
+    ∙ ap (plus put k) (sym (reached-descend base xs rest n))
 
 -- ---- items
 
@@ -133,24 +134,24 @@ none_at n o p is none = ap (λ x. items_at n (option_to_list x)) is ∙ ap (λ x
 pub one_at : (n : Node) (o : Option ℕ) (p : ℕ) (v : Json) → o ≡ Some p → Some v ≡ item_of p n.value → items_at n (option_to_list o) ≡ node (n.location ++ index p ∷ []) v ∷ []
 one_at n o p v is some = ap (λ x. items_at n (option_to_list x)) is ∙ ap (λ x. node_if_some (n.location ++ index p ∷ []) x ++ []) (sym some)
 
-pub place_done : {K : Type 0} (put : K → Node → K) (root : Json) (rest : List Segment) (n : Node) (b : Bounds) (len : ℕ) (next further : Option ℕ) (p : ℕ) (k mid start : K) (all : List Node) → next ≡ Some p → from_place b len further ≡ later b len p
-    → mid ≡ plus put k (reached root rest (items_at n (p ∷ [])))
-    → plus put k (reached root rest (items_at n (from_place b len next))) ≡ plus put start all
-    → plus put mid (reached root rest (items_at n (from_place b len further))) ≡ plus put start all
-place_done put root rest n b len next further p k mid start all is behind e inv =
-    let found = reached root rest (items_at n (p ∷ [])) in
-    let others = reached root rest (items_at n (from_place b len further)) in
-    let first : reached root rest (items_at n (from_place b len next)) ≡ found ++ others =
-    ap (λ o. reached root rest (items_at n (from_place b len o))) is
-    ∙ ap (λ t. reached root rest (t ++ items_at n (later b len p))) (sym (append-nil (child (index p) n)))
-    ∙ reached-append root rest (items_at n (p ∷ [])) (items_at n (later b len p))
-    ∙ ap (λ l. found ++ reached root rest (items_at n l)) (sym behind) in
+pub place_done : {K : Type 0} (put : K → Node → K) (base : Base) (rest : List Segment) (n : Node) (b : Bounds) (len : ℕ) (next further : Option ℕ) (p : ℕ) (k mid start : K) (all : List Node) → next ≡ Some p → from_place b len further ≡ later b len p
+    → mid ≡ plus put k (reached base rest (items_at n (p ∷ [])))
+    → plus put k (reached base rest (items_at n (from_place b len next))) ≡ plus put start all
+    → plus put mid (reached base rest (items_at n (from_place b len further))) ≡ plus put start all
+place_done put base rest n b len next further p k mid start all is behind e inv =
+    let found = reached base rest (items_at n (p ∷ [])) in
+    let others = reached base rest (items_at n (from_place b len further)) in
+    let first : reached base rest (items_at n (from_place b len next)) ≡ found ++ others =
+    ap (λ o. reached base rest (items_at n (from_place b len o))) is
+    ∙ ap (λ t. reached base rest (t ++ items_at n (later b len p))) (sym (append-nil (child (index p) n)))
+    ∙ reached-append base rest (items_at n (p ∷ [])) (items_at n (later b len p))
+    ∙ ap (λ l. found ++ reached base rest (items_at n l)) (sym behind) in
     stepped put k mid found others all start e (sym (ap (plus put k) first) ∙ inv)
 
-pub places_over : {K : Type 0} (put : K → Node → K) (root : Json) (rest : List Segment) (n : Node) (b : Bounds) (len : ℕ) (next : Option ℕ) (k start : K) (all : List Node) → next ≡ None
-    → plus put k (reached root rest (items_at n (from_place b len next))) ≡ plus put start all → k ≡ plus put start all
-places_over put root rest n b len next k start all is inv =
-    ended put k start all (sym (ap (plus put k) (ap (λ o. reached root rest (items_at n (from_place b len o))) is ∙ reached-none root rest)) ∙ inv)
+pub places_over : {K : Type 0} (put : K → Node → K) (base : Base) (rest : List Segment) (n : Node) (b : Bounds) (len : ℕ) (next : Option ℕ) (k start : K) (all : List Node) → next ≡ None
+    → plus put k (reached base rest (items_at n (from_place b len next))) ≡ plus put start all → k ≡ plus put start all
+places_over put base rest n b len next k start all is inv =
+    ended put k start all (sym (ap (plus put k) (ap (λ o. reached base rest (items_at n (from_place b len o))) is ∙ reached-none base rest)) ∙ inv)
 
 pub members_over : {K : Type 0} (put : K → Node → K) (f : Node → List Node) (at : Location) (es : List Entry) (k start : K) (all : List Node) → es ≡ []
     → plus put k (flat_map f (member_nodes at (members_of (members_view es)))) ≡ plus put start all → k ≡ plus put start all

@@ -12,7 +12,3 @@ bounds_value b = record { lower = b.lower; upper = b.upper; step = b.step }
 pub record IsPosition (z : ℤ) : Type 0 where
   pub least : neg_ℤ (pos max_index) ≤ℤ z
   pub greatest : z ≤ℤ pos max_index
-
--- the nearest such number
-abbrev pub nearest : ℤ → ℤ
-nearest z = spec.clamped (neg_ℤ (pos max_index)) (pos max_index) z

@@ -13,5 +13,7 @@ pub mod Inside
 pub mod Links
 pub mod Kept
 pub mod Taken
-pub mod Given
+pub mod Texts
+pub mod Answers
+pub mod Base
 pub mod Walk

@@ -12,8 +12,9 @@ ghost use Rattle.jp_eval.specs.declared.evaluation.EvalFault.TheVariants.{Memory
 use crate::found::{Found, into_taker};
 use crate::locations::Locations;
 use crate::part::Part;
+use crate::roots::answer_all;
 use crate::visit::Visit;
-use crate::walk::{Ground, find};
+use crate::walk::run;
 use jp_check::Plan;
 use jp_doc::{Document, Location};
 use jp_trail::Trail;
@@ -54,10 +55,17 @@ pub fn visit_nodes<V: Visit + Drop>(
         (document_nodes tests (planned_query plan.now) (document_value document.now))) }
 {
     let root = Part::root_of(document);
-    let ground = Ground { alloc, plan, root };
+    let ready = plan.ready();
+    let ground = answer_all::<V>(alloc, root, ready.roots.as_slice())?;
     let mut path = Trail::new(alloc);
     let mut found = Found::Taker(taker);
-    find(&ground, plan.query(), root, &mut path, &mut found)?;
+    run(
+        &ground,
+        ready.segments.as_slice(),
+        root,
+        &mut path,
+        &mut found,
+    )?;
     match into_taker(found) {
         Some(taker) => Ok(taker),
         None => Err(EvalFault::Memory),

@@ -39,6 +39,17 @@ pub(crate) enum Alone<'v> {
     Several,
 }
 
+/// What a filter wanted of the nodes of a `$` query.
+#[derive(Clone, Copy)]
+pub(crate) enum Answer<'v> {
+    /// The value of the first.
+    First(Option<Part<'v>>),
+    /// How many there are.
+    Count(u64),
+    /// The value, if there is one alone.
+    Only(Alone<'v>),
+}
+
 /// Whether a further node would change nothing.
 pub(crate) fn is_full<V: Visit + Drop>(found: &Found<'_, V>) -> bool
     ensures { IsTrue result → (n : Node) → put_found V.put (kept V.kept found.now) n ≡ kept V.kept found.now }
@@ -125,7 +136,7 @@ pub(crate) fn into_first<'v, V: Visit + Drop>(found: Found<'v, V>) -> Option<Par
 }
 
 /// How many nodes there are, where that is kept.
-fn count_of<V: Visit + Drop>(found: &Found<'_, V>) -> u64
+pub(crate) fn count_of<V: Visit + Drop>(found: &Found<'_, V>) -> u64
     ensures { result ≡ kept_count (kept V.kept found.now) }
 {
     match found {
@@ -136,29 +147,28 @@ fn count_of<V: Visit + Drop>(found: &Found<'_, V>) -> u64
     }
 }
 
-/// The same, as a number.
-pub(crate) fn into_count<'v, V: Visit + Drop>(found: Found<'v, V>) -> Operand<'v>
-    ensures value { operand_value result ≡ Some (number_value (kept_count (kept V.kept found.entry))) }
-    ensures whole { HasWholeNumbers result }
-{
-    Operand::Whole(count_of(&found) as i128)
-}
-
-/// The value of the only node, where that is kept and there is one alone.
-pub(crate) fn into_only<'v, V: Visit + Drop>(found: Found<'v, V>) -> Operand<'v>
-    ensures value { operand_value result ≡ kept_only (kept V.kept found.entry) }
-    ensures whole { HasWholeNumbers result }
+/// What is kept of the values as far as it matters whether there is exactly one, where that is kept.
+pub(crate) fn into_alone<'v, V: Visit + Drop>(found: Found<'v, V>) -> Alone<'v>
+    ensures { alone_value (alone_of result) ≡ kept_only (kept V.kept found.entry) }
 {
     match found {
-        Found::Only(alone) => only_operand(alone),
-        Found::Taker(_) => Operand::Nothing,
-        Found::First(_) => Operand::Nothing,
-        Found::Count(_) => Operand::Nothing,
+        Found::Only(alone) => alone,
+        Found::Taker(_) => Alone::None,
+        Found::First(_) => Alone::None,
+        Found::Count(_) => Alone::None,
     }
 }
 
+/// The number.
+pub(crate) fn count_operand<'v>(count: u64) -> Operand<'v>
+    ensures value { operand_value result ≡ Some (number_value count) }
+    ensures whole { HasWholeNumbers result }
+{
+    Operand::Whole(count as i128)
+}
+
 /// The value that is alone, or nothing.
-fn only_operand(alone: Alone<'_>) -> Operand<'_>
+pub(crate) fn only_operand(alone: Alone<'_>) -> Operand<'_>
     ensures value { operand_value result ≡ alone_value (alone_of alone.entry) }
     ensures whole { HasWholeNumbers result }
 {

@@ -2,67 +2,33 @@
 
 ghost use Rattle.std.specs.Prelude.{◌≡◌, Some, length, option_map, IfOk};
 ghost use Rattle.std.specs.Str.{chars};
-ghost use Rattle.jp_syntax.specs.View.{literal_of};
+ghost use Rattle.jp_doc.specs.Json as json;
+ghost use Rattle.jp_syntax.specs.View.{text_of as characters};
+ghost use Rattle.jp_check.specs.Ready.{constant_of};
 ghost use Rattle.jp_eval.specs.Functions as spec;
-ghost use Rattle.jp_eval.specs.Given.{given_of, GivesWholeNumbers, text_in};
+ghost use Rattle.jp_eval.specs.Texts.{text_in};
 ghost use Rattle.jp_eval.specs.Nodelist.{literal_value};
 ghost use Rattle.jp_eval.specs.Operands.{operand_value, HasWholeNumbers};
 ghost use Rattle.jp_eval.specs.Part.{part_value};
 ghost use Rattle.jp_eval.specs.RightTests.{tests};
 
 use crate::compare::{Operand, plain};
-use crate::numbers::whole_number;
 use crate::part::Part;
-use jp_check::{Known, Plan};
+use jp_check::ready::{Constant, KnownPattern};
 use jp_regexp::Pattern;
-use jp_syntax::Literal;
 use serde_json::Value;
 use std::alloc::{AllocError, Global};
 
-/// What a call gives.
-#[derive(Clone, Copy)]
-pub(crate) enum Given<'v> {
-    /// A value, or nothing.
-    Value(Operand<'v>),
-    /// True or false.
-    Truth(bool),
-}
-
-/// What is given, as a value.
-pub(crate) fn as_value(given: Given<'_>) -> Operand<'_>
-    requires { GivesWholeNumbers given }
-    ensures value { operand_value result ≡ spec.as_value (given_of given.entry) }
+/// The value of a literal.
+pub(crate) fn literal(constant: &Constant) -> Operand<'_>
+    ensures value { operand_value result ≡ Some (literal_value (constant_of constant.now)) }
     ensures whole { HasWholeNumbers result }
 {
-    match given {
-        Given::Value(value) => value,
-        Given::Truth(_) => Operand::Nothing,
-    }
-}
-
-/// What is given, as true or false.
-pub(crate) fn as_truth(given: Given<'_>) -> bool
-    ensures { result ≡ spec.as_truth (given_of given.entry) }
-{
-    match given {
-        Given::Value(_) => false,
-        Given::Truth(truth) => truth,
-    }
-}
-
-/// The value of a literal. A number of more than 38 digits, which no accepted query has, is refused.
-pub(crate) fn literal(literal: &Literal) -> Result<Operand<'_>, AllocError>
-    ensures value { IfOk result (λ o. operand_value o ≡ Some (literal_value (literal_of literal.now))) }
-    ensures whole { IfOk result HasWholeNumbers }
-{
-    match literal {
-        Literal::Number(text) => match whole_number(text.as_str()) {
-            Some(number) => Ok(Operand::Whole(number)),
-            None => Err(AllocError),
-        },
-        Literal::Text(text) => Ok(Operand::Text(text.as_str())),
-        Literal::Truth(truth) => Ok(Operand::Truth(*truth)),
-        Literal::Null => Ok(Operand::Null),
+    match constant {
+        Constant::Whole(number) => Operand::Whole(number.value),
+        Constant::Text(text) => Operand::Text(text.as_str()),
+        Constant::Truth(truth) => Operand::Truth(*truth),
+        Constant::Null => Operand::Null,
     }
 }
 
@@ -111,7 +77,6 @@ fn text_of(operand: Operand<'_>) -> Option<&str>
 /// Whether the whole text matches the pattern. Of anything but two texts it is false.
 pub(crate) fn matches(
     alloc: Global,
-    plan: &Plan,
     text: Operand<'_>,
     pattern_text: Operand<'_>,
 ) -> Result<bool, AllocError>
@@ -121,7 +86,7 @@ pub(crate) fn matches(
         (operand_value pattern_text.entry)) }
 {
     match (text_of(text), text_of(pattern_text)) {
-        (Some(text), Some(pattern_text)) => is_match(alloc, plan, text, pattern_text),
+        (Some(text), Some(pattern_text)) => is_match_read(alloc, text, pattern_text),
         _ => Ok(false),
     }
 }
@@ -129,7 +94,6 @@ pub(crate) fn matches(
 /// Whether some part of the text matches the pattern. Of anything but two texts it is false.
 pub(crate) fn searches(
     alloc: Global,
-    plan: &Plan,
     text: Operand<'_>,
     pattern_text: Operand<'_>,
 ) -> Result<bool, AllocError>
@@ -139,19 +103,50 @@ pub(crate) fn searches(
         (operand_value pattern_text.entry)) }
 {
     match (text_of(text), text_of(pattern_text)) {
-        (Some(text), Some(pattern_text)) => is_found(alloc, plan, text, pattern_text),
+        (Some(text), Some(pattern_text)) => is_found_read(alloc, text, pattern_text),
         _ => Ok(false),
     }
 }
 
-/// Whether the whole text matches the pattern that a text is: a literal one is in the plan.
-fn is_match(alloc: Global, plan: &Plan, text: &str, pattern_text: &str) -> Result<bool, AllocError>
-    ensures { IfOk result (λ b. b ≡ tests.is_match (chars text.now) (chars pattern_text.now)) }
+/// Whether the whole text matches a literal pattern. Of anything but a text it is false.
+pub(crate) fn matches_known(
+    alloc: Global,
+    text: Operand<'_>,
+    known: &KnownPattern,
+) -> Result<bool, AllocError>
+    requires { HasWholeNumbers text }
+    ensures { IfOk result (λ b. b ≡ spec.tested tests.is_match (operand_value text.entry)
+        (Some (json.text (characters known.now.text)))) }
 {
-    match plan.pattern(pattern_text) {
-        Known::Read(pattern) => pattern.matches(alloc, text),
-        Known::NoPattern => Ok(false),
-        Known::Unknown => is_match_read(alloc, text, pattern_text),
+    match text_of(text) {
+        Some(text) => is_match(alloc, text, known),
+        None => Ok(false),
+    }
+}
+
+/// Whether some part of the text matches a literal pattern. Of anything but a text it is false.
+pub(crate) fn searches_known(
+    alloc: Global,
+    text: Operand<'_>,
+    known: &KnownPattern,
+) -> Result<bool, AllocError>
+    requires { HasWholeNumbers text }
+    ensures { IfOk result (λ b. b ≡ spec.tested tests.is_found (operand_value text.entry)
+        (Some (json.text (characters known.now.text)))) }
+{
+    match text_of(text) {
+        Some(text) => is_found(alloc, text, known),
+        None => Ok(false),
+    }
+}
+
+/// Whether the whole text matches a literal pattern.
+fn is_match(alloc: Global, text: &str, known: &KnownPattern) -> Result<bool, AllocError>
+    ensures { IfOk result (λ b. b ≡ tests.is_match (chars text.now) (characters known.now.text)) }
+{
+    match &known.pattern {
+        Some(pattern) => pattern.matches(alloc, text),
+        None => Ok(false),
     }
 }
 
@@ -165,14 +160,13 @@ fn is_match_read(alloc: Global, text: &str, pattern_text: &str) -> Result<bool, 
     }
 }
 
-/// Whether some part of the text matches the pattern that a text is: a literal one is in the plan.
-fn is_found(alloc: Global, plan: &Plan, text: &str, pattern_text: &str) -> Result<bool, AllocError>
-    ensures { IfOk result (λ b. b ≡ tests.is_found (chars text.now) (chars pattern_text.now)) }
+/// Whether some part of the text matches a literal pattern.
+fn is_found(alloc: Global, text: &str, known: &KnownPattern) -> Result<bool, AllocError>
+    ensures { IfOk result (λ b. b ≡ tests.is_found (chars text.now) (characters known.now.text)) }
 {
-    match plan.pattern(pattern_text) {
-        Known::Read(pattern) => pattern.found_in(alloc, text),
-        Known::NoPattern => Ok(false),
-        Known::Unknown => is_found_read(alloc, text, pattern_text),
+    match &known.pattern {
+        Some(pattern) => pattern.found_in(alloc, text),
+        None => Ok(false),
     }
 }
 

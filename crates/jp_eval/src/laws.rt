@@ -8,6 +8,7 @@ ghost use Rattle.jp_doc.specs.Location.{Node, member_at, value_at};
 ghost use Rattle.jp_doc.specs.Rising.{IsRising, MembersRise};
 ghost use Rattle.jp_syntax.specs.Tree.{Query, Segment, segments, query_from};
 ghost use Rattle.jp_syntax.specs.declared.tree.Start.{Start};
+ghost use Rattle.jp_syntax.specs.declared.tree.Start.TheVariants.{Root};
 ghost use Rattle.jp_regexp.specs.Tests.{Tests};
 ghost use Rattle.jp_eval.specs.Nodes.{children, descendants as descendants_of};
 ghost use Rattle.jp_eval.specs.Slice.{slice_bounds, slice_indexes, RisesFrom, FallsBelow};
@@ -60,6 +61,12 @@ pub fn further_segments()
     ensures { (t : Tests) (root : Json) (start : Start) (ss more : List Segment) (current : Node) →
         nodelist t root (query_from start (ss ++ more)) current
         ≡ through t root (segments more) (nodelist t root (query_from start ss) current) }
+{}
+
+/// What a query from the root selects does not depend on the current node.
+pub fn root_queries()
+    ensures { (t : Tests) (root : Json) (ss : List Segment) (current other : Node) →
+        nodelist t root (query_from Root ss) current ≡ nodelist t root (query_from Root ss) other }
 {}
 
 /// In a document whose objects have each name once, a location in the nodelist leads to the value that it is

@@ -2,14 +2,13 @@
 
 ghost use Rattle.std.specs.Prelude.{◌≡◌, ◌≤◌, ◌<◌, ◌^◌, ◌-◌, ◌<ℤ◌, pos, ℕ, option_map, unwrap_or};
 ghost use Rattle.std.specs.Option.{ForSome};
-ghost use Rattle.jp_syntax.specs.View.{text_of};
-ghost use Rattle.jp_eval.specs.BoundsView.{bounds_value, nearest, IsPosition};
+ghost use Rattle.jp_check.specs.Ready.{position_text};
+ghost use Rattle.jp_eval.specs.BoundsView.{bounds_value, IsPosition};
 ghost use Rattle.jp_eval.specs.Nodelist.{written_value};
 ghost use Rattle.jp_eval.specs.Places.{AreWithin, IfPlace, IsPlace, from_place, later};
 ghost use Rattle.jp_eval.specs.Slice as spec;
 
-use crate::numbers::position;
-use jp_syntax::Slice;
+use jp_check::ready::{Position, Slice};
 
 /// The bounds of a slice within an array: from `lower` up, or from `upper` down, by `step`.
 #[derive(Clone, Copy, Debug, PartialEq, Eq)]
@@ -175,13 +174,13 @@ pub(crate) fn place_after(bounds: Bounds, place: u32) -> Option<u32>
     }
 }
 
-/// The number that is written, if there is one, or the nearest one in range.
-fn written(number: &Option<String>) -> Option<i64>
-    ensures value { result ≡ option_map nearest (written_value (option_map text_of number.now)) }
+/// The number of a slice, if there is one.
+fn written(number: &Option<Position>) -> Option<i64>
+    ensures value { result ≡ written_value (option_map position_text number.now) }
     ensures within { ForSome result IsPosition }
 {
     match number {
-        Some(text) => Some(position(text.as_str())),
+        Some(position) => Some(position.value),
         None => None,
     }
 }
@@ -190,10 +189,10 @@ fn written(number: &Option<String>) -> Option<i64>
 pub(crate) fn bounds_of(slice: &Slice, len: u32) -> Bounds
     requires { len ≤ 16777216 }
     ensures within { AreWithin (bounds_value result) len }
-    ensures indexes { spec.slice_indexes (bounds_value result) len
-        ≡ spec.slice_indexes (spec.slice_bounds (written_value (option_map text_of slice.now.first))
-        (written_value (option_map text_of slice.now.past))
-        (written_value (option_map text_of slice.now.step)) len) len }
+    ensures bounds { bounds_value result
+        ≡ spec.slice_bounds (written_value (option_map position_text slice.now.first))
+        (written_value (option_map position_text slice.now.past))
+        (written_value (option_map position_text slice.now.step)) len }
 {
     let first = written(&slice.first);
     let past = written(&slice.past);

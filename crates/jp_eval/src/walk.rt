@@ -1,17 +1,15 @@
 //! The walk of a query through a document, depth first, on one path.
 
-ghost use Rattle.std.specs.Prelude.{◌≡◌, ◌≤◌, [], ◌∷◌, length, map, option_map, option_to_list, IfOk, OnOk};
+ghost use Rattle.std.specs.Prelude.{◌≡◌, ◌≤◌, [], ◌∷◌, length, option_map, option_to_list, IfOk, OnOk};
 ghost use Rattle.std.specs.List.{All, flat_map, list_any, list_all};
 ghost use Rattle.serde_json.specs.View.{items_view, members_view};
+ghost use Rattle.jp_check.specs.declared.ready.Want.TheVariants.{First, Count, Only};
 ghost use Rattle.jp_doc.specs.DocumentValue.{IsDocumentValue};
 ghost use Rattle.jp_doc.specs.Json.{items_of, members_of};
-ghost use Rattle.jp_syntax.specs.View.{query_of};
-ghost use Rattle.jp_syntax.specs.PartViews.{argument_of, call_of, comparable_of, comparison_of};
+ghost use Rattle.jp_eval.specs.Base.{base_of};
 ghost use Rattle.jp_eval.specs.BoundsView.{bounds_value};
-ghost use Rattle.jp_eval.specs.Functions.{first_value, as_nodes, as_value as value_of_handed, called};
-ghost use Rattle.jp_check.specs.Kinds.{function_of};
-ghost use Rattle.jp_eval.specs.Given.{given_of, GivesWholeNumbers};
-ghost use Rattle.jp_eval.specs.Kept.{kept, put_found, plus};
+ghost use Rattle.jp_eval.specs.Functions.{first_value, only_value};
+ghost use Rattle.jp_eval.specs.Kept.{kept, put_found, plus, alone_of, alone_value};
 ghost use Rattle.jp_eval.specs.Links.{here};
 ghost use Rattle.jp_trail.specs.Links.{link_steps};
 ghost use Rattle.jp_eval.specs.Nodelist as spec;
@@ -19,30 +17,25 @@ ghost use Rattle.jp_eval.specs.Nodes.{children, descendants, item_nodes, member_
 ghost use Rattle.jp_eval.specs.Operands.{operand_value, HasWholeNumbers};
 ghost use Rattle.jp_eval.specs.Part.{part_value};
 ghost use Rattle.jp_eval.specs.Places.{AreWithin, item_count};
-ghost use Rattle.jp_eval.specs.RightTests.{tests};
 ghost use Rattle.jp_eval.specs.Slice.{slice_indexes};
-ghost use Rattle.jp_eval.specs.Walk.{picked, picked_by, reached, is_true, done};
+ghost use Rattle.jp_eval.specs.Walk.{picked, picked_by, reached, is_true, value_given, nodes_given, done};
 
 use crate::compare::{Operand, compare};
-use crate::found::{Alone, Found, add, into_count, into_first, into_only, is_full};
-use crate::functions::{Given, as_truth, as_value, length, literal, matches, operand, searches};
-use crate::numbers::{place, position};
+use crate::found::{
+    Alone, Found, add, count_of, count_operand, into_alone, into_first, is_full, only_operand,
+};
+use crate::functions::{
+    length, literal, matches, matches_known, operand, searches, searches_known,
+};
+use crate::ground::Ground;
+use crate::numbers::place;
 use crate::part::{Inside, Part};
 use crate::slice::{Bounds, bounds_of, first_place, place_after};
 use crate::visit::Visit;
-use jp_check::{Function, Plan, function_named};
-use jp_syntax::{Argument, Call, Comparable, Comparison, Logical, Query, Segment, Selector, Start};
+use jp_check::ready::{Logical, Nodes, Segment, Selector, Value as Giver};
 use jp_trail::{Link, Trail};
 use serde_json::{Map, Value};
-use std::alloc::{AllocError, Global};
-
-/// What a walk is given throughout: the plan with its patterns, and the document.
-#[derive(Clone, Copy)]
-pub(crate) struct Ground<'v> {
-    pub(crate) alloc: Global,
-    pub(crate) plan: &'v Plan,
-    pub(crate) root: Part<'v>,
-}
+use std::alloc::AllocError;
 
 /// What is done at a value.
 #[derive(Clone, Copy)]
@@ -55,31 +48,6 @@ pub(crate) enum Task<'v> {
     Test(&'v Logical, &'v [Segment]),
 }
 
-/// The nodes of a query, where `@` is the value at the path.
-#[cycle(walk)]
-pub(crate) fn find<'v, V: Visit + Drop>(
-    ground: &Ground<'v>,
-    query: &'v Query,
-    value: Part<'v>,
-    path: &mut Trail<'v>,
-    found: &mut Found<'v, V>,
-) -> Result<(), AllocError>
-    ensures found { OnOk result (kept V.kept found.new
-        ≡ plus (put_found V.put) (kept V.kept found.old)
-        (spec.nodelist tests (part_value ground.now.root) (query_of query.now)
-        (here path.old value.entry))) }
-    ensures path { OnOk result (path.new ≡ path.old) }
-{
-    let segments = query.segments.as_slice();
-    match query.start {
-        Start::Root => {
-            let mut start = Trail::new(ground.alloc);
-            run(ground, segments, ground.root, &mut start, found)
-        }
-        Start::Current => run(ground, segments, value, path, found),
-    }
-}
-
 #[cycle(walk)]
 fn go<'v, V: Visit + Drop>(
     ground: &Ground<'v>,
@@ -90,7 +58,7 @@ fn go<'v, V: Visit + Drop>(
 ) -> Result<(), AllocError>
     ensures found { OnOk result (kept V.kept found.new
         ≡ plus (put_found V.put) (kept V.kept found.old)
-        (done (part_value ground.now.root) task.entry (here path.old value.entry))) }
+        (done (base_of ground.now) task.entry (here path.old value.entry))) }
     ensures path { OnOk result (path.new ≡ path.old) }
 {
     match task {
@@ -107,7 +75,7 @@ fn go<'v, V: Visit + Drop>(
 
 /// The segments from the value on.
 #[cycle(walk)]
-fn run<'v, V: Visit + Drop>(
+pub(crate) fn run<'v, V: Visit + Drop>(
     ground: &Ground<'v>,
     segments: &'v [Segment],
     value: Part<'v>,
@@ -115,7 +83,7 @@ fn run<'v, V: Visit + Drop>(
     found: &mut Found<'v, V>,
 ) -> Result<(), AllocError>
     ensures found { OnOk result (kept V.kept found.new
-        ≡ plus (put_found V.put) (kept V.kept found.old) (reached (part_value ground.now.root) segments.now
+        ≡ plus (put_found V.put) (kept V.kept found.old) (reached (base_of ground.now) segments.now
         (here path.old value.entry ∷ []))) }
     ensures path { OnOk result (path.new ≡ path.old) }
 {
@@ -143,8 +111,8 @@ fn descend<'v, V: Visit + Drop>(
     found: &mut Found<'v, V>,
 ) -> Result<(), AllocError>
     ensures found { OnOk result (kept V.kept found.new
-        ≡ plus (put_found V.put) (kept V.kept found.old) (reached (part_value ground.now.root) rest.now
-        (flat_map (picked_by (part_value ground.now.root) selectors.now)
+        ≡ plus (put_found V.put) (kept V.kept found.old) (reached (base_of ground.now) rest.now
+        (flat_map (picked_by (base_of ground.now) selectors.now)
         (descendants (here path.old value.entry))))) }
     ensures path { OnOk result (path.new ≡ path.old) }
 {
@@ -164,8 +132,8 @@ fn apply<'v, V: Visit + Drop>(
     found: &mut Found<'v, V>,
 ) -> Result<(), AllocError>
     ensures found { OnOk result (kept V.kept found.new
-        ≡ plus (put_found V.put) (kept V.kept found.old) (reached (part_value ground.now.root) rest.now
-        (picked_by (part_value ground.now.root) selectors.now (here path.old value.entry)))) }
+        ≡ plus (put_found V.put) (kept V.kept found.old) (reached (base_of ground.now) rest.now
+        (picked_by (base_of ground.now) selectors.now (here path.old value.entry)))) }
     ensures path { OnOk result (path.new ≡ path.old) }
 {
     for selector in selectors {
@@ -188,8 +156,8 @@ fn select<'v, V: Visit + Drop>(
     found: &mut Found<'v, V>,
 ) -> Result<(), AllocError>
     ensures found { OnOk result (kept V.kept found.new
-        ≡ plus (put_found V.put) (kept V.kept found.old) (reached (part_value ground.now.root) rest.now
-        (picked (part_value ground.now.root) selector.now (here path.old value.entry)))) }
+        ≡ plus (put_found V.put) (kept V.kept found.old) (reached (base_of ground.now) rest.now
+        (picked (base_of ground.now) selector.now (here path.old value.entry)))) }
     ensures path { OnOk result (path.new ≡ path.old) }
 {
     match selector {
@@ -203,7 +171,7 @@ fn select<'v, V: Visit + Drop>(
         }
         Selector::Wild => each_child(ground, Task::Run(rest), value, path, found),
         Selector::Index(index) => {
-            let place = place(position(index.as_str()), value.item_count());
+            let place = place(index.value, value.item_count());
             at_place(ground, place, rest, value, path, found)
         }
         Selector::Slice(slice) => {
@@ -225,7 +193,7 @@ fn at_place<'v, V: Visit + Drop>(
     found: &mut Found<'v, V>,
 ) -> Result<(), AllocError>
     ensures found { OnOk result (kept V.kept found.new
-        ≡ plus (put_found V.put) (kept V.kept found.old) (reached (part_value ground.now.root) rest.now
+        ≡ plus (put_found V.put) (kept V.kept found.old) (reached (base_of ground.now) rest.now
         (spec.items_at (here path.old value.entry) (option_to_list place)))) }
     ensures path { OnOk result (path.new ≡ path.old) }
 {
@@ -252,7 +220,7 @@ fn each_place<'v, V: Visit + Drop>(
 ) -> Result<(), AllocError>
     requires { AreWithin (bounds_value bounds) (item_count (part_value value)) }
     ensures found { OnOk result (kept V.kept found.new
-        ≡ plus (put_found V.put) (kept V.kept found.old) (reached (part_value ground.now.root) rest.now
+        ≡ plus (put_found V.put) (kept V.kept found.old) (reached (base_of ground.now) rest.now
         (spec.items_at (here path.old value.entry)
         (slice_indexes (bounds_value bounds) (item_count (part_value value.entry)))))) }
     ensures path { OnOk result (path.new ≡ path.old) }
@@ -279,7 +247,7 @@ fn each_child<'v, V: Visit + Drop>(
 ) -> Result<(), AllocError>
     ensures found { OnOk result (kept V.kept found.new
         ≡ plus (put_found V.put) (kept V.kept found.old)
-        (flat_map (done (part_value ground.now.root) task.entry)
+        (flat_map (done (base_of ground.now) task.entry)
         (children (here path.old value.entry)))) }
     ensures path { OnOk result (path.new ≡ path.old) }
 {
@@ -302,7 +270,7 @@ fn each_item<'v, V: Visit + Drop>(
     requires short { length items.now.items ≤ 16777216 }
     ensures found { OnOk result (kept V.kept found.new
         ≡ plus (put_found V.put) (kept V.kept found.old)
-        (flat_map (done (part_value ground.now.root) task.entry)
+        (flat_map (done (base_of ground.now) task.entry)
         (item_nodes (link_steps path.old) 0 (items_of (items_view items.now.items))))) }
     ensures path { OnOk result (path.new ≡ path.old) }
 {
@@ -328,7 +296,7 @@ fn each_member<'v, V: Visit + Drop>(
     requires { All (λ m. IsDocumentValue m.1) members.now.entries }
     ensures found { OnOk result (kept V.kept found.new
         ≡ plus (put_found V.put) (kept V.kept found.old)
-        (flat_map (done (part_value ground.now.root) task.entry)
+        (flat_map (done (base_of ground.now) task.entry)
         (member_nodes (link_steps path.old) (members_of (members_view members.now.entries))))) }
     ensures path { OnOk result (path.new ≡ path.old) }
 {
@@ -343,47 +311,6 @@ fn each_member<'v, V: Visit + Drop>(
     Ok(())
 }
 
-/// The value of the first node of a query.
-#[cycle(walk)]
-fn first<'v, V: Visit + Drop>(
-    ground: &Ground<'v>,
-    query: &'v Query,
-    value: Part<'v>,
-    path: &mut Trail<'v>,
-) -> Result<Option<Part<'v>>, AllocError>
-    ensures value { IfOk result (λ o. option_map part_value o
-        ≡ first_value (spec.nodelist tests (part_value ground.now.root) (query_of query.now)
-        (here path.old value.entry))) }
-    ensures path { OnOk result (path.new ≡ path.old) }
-{
-    let mut found = Found::<'v, V>::First(None);
-    find(ground, query, value, path, &mut found)?;
-    Ok(into_first(found))
-}
-
-/// The nodes that an argument hands over.
-#[cycle(walk)]
-fn hand_nodes<'v, V: Visit + Drop>(
-    ground: &Ground<'v>,
-    argument: &'v Argument,
-    value: Part<'v>,
-    path: &mut Trail<'v>,
-    found: &mut Found<'v, V>,
-) -> Result<(), AllocError>
-    ensures found { OnOk result (kept V.kept found.new
-        ≡ plus (put_found V.put) (kept V.kept found.old)
-        (as_nodes (spec.handed tests (part_value ground.now.root)
-        (argument_of argument.now) (here path.old value.entry)))) }
-    ensures path { OnOk result (path.new ≡ path.old) }
-{
-    match argument {
-        Argument::Query(query) => find(ground, query, value, path, found),
-        Argument::Literal(_) => Ok(()),
-        Argument::Logical(_) => Ok(()),
-        Argument::Call(_) => Ok(()),
-    }
-}
-
 /// Whether the expression is true, where `@` is the value at the path.
 #[cycle(walk)]
 fn holds<'v, V: Visit + Drop>(
@@ -392,7 +319,7 @@ fn holds<'v, V: Visit + Drop>(
     value: Part<'v>,
     path: &mut Trail<'v>,
 ) -> Result<bool, AllocError>
-    ensures truth { IfOk result (λ b. b ≡ is_true (part_value ground.now.root) test.now
+    ensures truth { IfOk result (λ b. b ≡ is_true (base_of ground.now) test.now
         (here path.old value.entry)) }
     ensures path { OnOk result (path.new ≡ path.old) }
 {
@@ -400,9 +327,30 @@ fn holds<'v, V: Visit + Drop>(
         Logical::Any(parts) => any::<V>(ground, parts.as_slice(), value, path),
         Logical::All(parts) => all::<V>(ground, parts.as_slice(), value, path),
         Logical::Not(part) => Ok(!holds::<V>(ground, part, value, path)?),
-        Logical::Compare(comparison) => compares::<V>(ground, comparison, value, path),
-        Logical::Test(query) => Ok(first::<V>(ground, query, value, path)?.is_some()),
-        Logical::Call(call) => Ok(as_truth(give::<V>(ground, call, value, path)?)),
+        Logical::Compare(left, operator, right) => {
+            let left = give::<V>(ground, left, value, path)?;
+            let right = give::<V>(ground, right, value, path)?;
+            Ok(compare(*operator, left, right))
+        }
+        Logical::Test(nodes) => Ok(first::<V>(ground, nodes, value, path)?.is_some()),
+        Logical::Match(text, pattern) => {
+            let text = give::<V>(ground, text, value, path)?;
+            let pattern = give::<V>(ground, pattern, value, path)?;
+            matches(ground.alloc, text, pattern)
+        }
+        Logical::MatchRead(text, known) => {
+            let text = give::<V>(ground, text, value, path)?;
+            matches_known(ground.alloc, text, known)
+        }
+        Logical::Search(text, pattern) => {
+            let text = give::<V>(ground, text, value, path)?;
+            let pattern = give::<V>(ground, pattern, value, path)?;
+            searches(ground.alloc, text, pattern)
+        }
+        Logical::SearchRead(text, known) => {
+            let text = give::<V>(ground, text, value, path)?;
+            searches_known(ground.alloc, text, known)
+        }
     }
 }
 
@@ -414,7 +362,7 @@ fn any<'v, V: Visit + Drop>(
     path: &mut Trail<'v>,
 ) -> Result<bool, AllocError>
     ensures truth { IfOk result (λ b. b ≡ list_any
-        (λ l. is_true (part_value ground.now.root) l (here path.old value.entry)) parts.now) }
+        (λ l. is_true (base_of ground.now) l (here path.old value.entry)) parts.now) }
     ensures path { OnOk result (path.new ≡ path.old) }
 {
     for part in parts {
@@ -433,7 +381,7 @@ fn all<'v, V: Visit + Drop>(
     path: &mut Trail<'v>,
 ) -> Result<bool, AllocError>
     ensures truth { IfOk result (λ b. b ≡ list_all
-        (λ l. is_true (part_value ground.now.root) l (here path.old value.entry)) parts.now) }
+        (λ l. is_true (base_of ground.now) l (here path.old value.entry)) parts.now) }
     ensures path { OnOk result (path.new ≡ path.old) }
 {
     for part in parts {
@@ -444,146 +392,90 @@ fn all<'v, V: Visit + Drop>(
     Ok(true)
 }
 
-#[cycle(walk)]
-fn compares<'v, V: Visit + Drop>(
-    ground: &Ground<'v>,
-    comparison: &'v Comparison,
-    value: Part<'v>,
-    path: &mut Trail<'v>,
-) -> Result<bool, AllocError>
-    ensures truth { IfOk result (λ b. b ≡ spec.comparison_holds tests (part_value ground.now.root)
-        (comparison_of comparison.now) (here path.old value.entry)) }
-    ensures path { OnOk result (path.new ≡ path.old) }
-{
-    let left = side::<V>(ground, &comparison.left, value, path)?;
-    let right = side::<V>(ground, &comparison.right, value, path)?;
-    Ok(compare(comparison.op, left, right))
-}
-
-/// The value of a side of a comparison, or nothing.
-#[cycle(walk)]
-fn side<'v, V: Visit + Drop>(
-    ground: &Ground<'v>,
-    side: &'v Comparable,
-    value: Part<'v>,
-    path: &mut Trail<'v>,
-) -> Result<Operand<'v>, AllocError>
-    ensures value { IfOk result (λ o. operand_value o
-        ≡ spec.value_of tests (part_value ground.now.root) (comparable_of side.now)
-        (here path.old value.entry)) }
-    ensures whole { IfOk result HasWholeNumbers }
-    ensures path { OnOk result (path.new ≡ path.old) }
-{
-    match side {
-        Comparable::Literal(constant) => literal(constant),
-        Comparable::Single(query) => Ok(operand(first::<V>(ground, query, value, path)?)),
-        Comparable::Call(call) => Ok(as_value(give::<V>(ground, call, value, path)?)),
-    }
-}
-
-/// What a call gives.
+/// The value that stands there, or nothing.
 #[cycle(walk)]
 fn give<'v, V: Visit + Drop>(
     ground: &Ground<'v>,
-    call: &'v Call,
-    value: Part<'v>,
-    path: &mut Trail<'v>,
-) -> Result<Given<'v>, AllocError>
-    ensures given { IfOk result (λ g. given_of g
-        ≡ spec.given_by tests (part_value ground.now.root) (call_of call.now) (here path.old value.entry)) }
-    ensures whole { IfOk result GivesWholeNumbers }
-    ensures path { OnOk result (path.new ≡ path.old) }
-{
-    let Some(function) = function_named(call.name.as_str()) else {
-        return Ok(Given::Value(Operand::Nothing));
-    };
-    match call.arguments.as_slice() {
-        [] => Ok(Given::Value(Operand::Nothing)),
-        [only] => give_of_one::<V>(ground, function, only, value, path),
-        [text, pattern] => give_of_two::<V>(ground, function, text, pattern, value, path),
-        [_, _, _, ..] => Ok(Given::Value(Operand::Nothing)),
-    }
-}
-
-#[cycle(walk)]
-fn give_of_one<'v, V: Visit + Drop>(
-    ground: &Ground<'v>,
-    function: Function,
-    argument: &'v Argument,
-    value: Part<'v>,
-    path: &mut Trail<'v>,
-) -> Result<Given<'v>, AllocError>
-    ensures given { IfOk result (λ g. given_of g
-        ≡ called tests (function_of function)
-        (spec.handed tests (part_value ground.now.root) (argument_of argument.now)
-        (here path.old value.entry) ∷ [])) }
-    ensures whole { IfOk result GivesWholeNumbers }
-    ensures path { OnOk result (path.new ≡ path.old) }
-{
-    match function {
-        Function::Length => {
-            let handed = hand::<V>(ground, argument, value, path)?;
-            Ok(Given::Value(length(handed)))
-        }
-        Function::Count => {
-            let mut found = Found::<'v, V>::Count(0);
-            hand_nodes(ground, argument, value, path, &mut found)?;
-            Ok(Given::Value(into_count(found)))
-        }
-        Function::Value => {
-            let mut found = Found::<'v, V>::Only(Alone::None);
-            hand_nodes(ground, argument, value, path, &mut found)?;
-            Ok(Given::Value(into_only(found)))
-        }
-        Function::Match | Function::Search => Ok(Given::Value(Operand::Nothing)),
-    }
-}
-
-#[cycle(walk)]
-fn give_of_two<'v, V: Visit + Drop>(
-    ground: &Ground<'v>,
-    function: Function,
-    text: &'v Argument,
-    pattern: &'v Argument,
-    value: Part<'v>,
-    path: &mut Trail<'v>,
-) -> Result<Given<'v>, AllocError>
-    ensures given { IfOk result (λ g. given_of g ≡ called tests (function_of function)
-        (spec.handed tests (part_value ground.now.root) (argument_of text.now) (here path.old value.entry)
-        ∷ spec.handed tests (part_value ground.now.root) (argument_of pattern.now)
-        (here path.old value.entry) ∷ [])) }
-    ensures whole { IfOk result GivesWholeNumbers }
-    ensures path { OnOk result (path.new ≡ path.old) }
-{
-    let text = hand::<V>(ground, text, value, path)?;
-    let pattern = hand::<V>(ground, pattern, value, path)?;
-    match function {
-        Function::Match => Ok(Given::Truth(matches(ground.alloc, ground.plan, text, pattern)?)),
-        Function::Search => Ok(Given::Truth(searches(ground.alloc, ground.plan, text, pattern)?)),
-        Function::Length | Function::Count | Function::Value => {
-            Ok(Given::Value(Operand::Nothing))
-        }
-    }
-}
-
-/// The value that an argument hands over, or nothing.
-#[cycle(walk)]
-fn hand<'v, V: Visit + Drop>(
-    ground: &Ground<'v>,
-    argument: &'v Argument,
+    giver: &'v Giver,
     value: Part<'v>,
     path: &mut Trail<'v>,
 ) -> Result<Operand<'v>, AllocError>
     ensures value { IfOk result (λ o. operand_value o
-        ≡ value_of_handed (spec.handed tests (part_value ground.now.root) (argument_of argument.now)
-        (here path.old value.entry))) }
+        ≡ value_given (base_of ground.now) giver.now (here path.old value.entry)) }
     ensures whole { IfOk result HasWholeNumbers }
     ensures path { OnOk result (path.new ≡ path.old) }
 {
-    match argument {
-        Argument::Literal(constant) => literal(constant),
-        Argument::Query(query) => Ok(operand(first::<V>(ground, query, value, path)?)),
-        Argument::Logical(_) => Ok(Operand::Nothing),
-        Argument::Call(call) => Ok(as_value(give::<V>(ground, call, value, path)?)),
+    match giver {
+        Giver::Constant(constant) => Ok(literal(constant)),
+        Giver::Single(nodes) => Ok(operand(first::<V>(ground, nodes, value, path)?)),
+        Giver::Length(of) => Ok(length(give::<V>(ground, of, value, path)?)),
+        Giver::Count(nodes) => Ok(count_operand(count::<V>(ground, nodes, value, path)?)),
+        Giver::Only(nodes) => Ok(only_operand(only::<V>(ground, nodes, value, path)?)),
+    }
+}
+
+/// The value of the first node of a query.
+#[cycle(walk)]
+fn first<'v, V: Visit + Drop>(
+    ground: &Ground<'v>,
+    nodes: &'v Nodes,
+    value: Part<'v>,
+    path: &mut Trail<'v>,
+) -> Result<Option<Part<'v>>, AllocError>
+    ensures value { IfOk result (λ o. option_map part_value o
+        ≡ first_value (nodes_given (base_of ground.now) nodes.now First (here path.old value.entry))) }
+    ensures path { OnOk result (path.new ≡ path.old) }
+{
+    match nodes {
+        Nodes::Here(segments) => {
+            let mut found = Found::<'v, V>::First(None);
+            run(ground, segments.as_slice(), value, path, &mut found)?;
+            Ok(into_first(found))
+        }
+        Nodes::Root(slot) => Ok(ground.first(*slot)),
+    }
+}
+
+/// How many nodes a query has.
+#[cycle(walk)]
+fn count<'v, V: Visit + Drop>(
+    ground: &Ground<'v>,
+    nodes: &'v Nodes,
+    value: Part<'v>,
+    path: &mut Trail<'v>,
+) -> Result<u64, AllocError>
+    ensures value { IfOk result (λ k. k
+        ≡ length (nodes_given (base_of ground.now) nodes.now Count (here path.old value.entry))) }
+    ensures path { OnOk result (path.new ≡ path.old) }
+{
+    match nodes {
+        Nodes::Here(segments) => {
+            let mut found = Found::<'v, V>::Count(0);
+            run(ground, segments.as_slice(), value, path, &mut found)?;
+            Ok(count_of(&found))
+        }
+        Nodes::Root(slot) => Ok(ground.count(*slot)),
+    }
+}
+
+/// The value of the node of a query, as long as there is one alone.
+#[cycle(walk)]
+fn only<'v, V: Visit + Drop>(
+    ground: &Ground<'v>,
+    nodes: &'v Nodes,
+    value: Part<'v>,
+    path: &mut Trail<'v>,
+) -> Result<Alone<'v>, AllocError>
+    ensures value { IfOk result (λ a. alone_value (alone_of a)
+        ≡ only_value (nodes_given (base_of ground.now) nodes.now Only (here path.old value.entry))) }
+    ensures path { OnOk result (path.new ≡ path.old) }
+{
+    match nodes {
+        Nodes::Here(segments) => {
+            let mut found = Found::<'v, V>::Only(Alone::None);
+            run(ground, segments.as_slice(), value, path, &mut found)?;
+            Ok(into_alone(found))
+        }
+        Nodes::Root(slot) => Ok(ground.only(*slot)),
     }
 }

@@ -1,39 +1,38 @@
-use Rattle.std.proofs.Common.{◌≡◌, suc, ◌<◌, ◌≤◌, [], ◌∷◌, ◌++◌, length, get_or, map, not, true, false, inl, inr, is_some, w64, Some, None, option_map, option_to_list, refl, sym, ap, ap₂, ◌∙◌, arith, rules}
-use Rattle.std.proofs.lemmas.Grind.{common_steps}
+use Rattle.std.proofs.Common.{◌≡◌, ◌<◌, ◌≤◌, [], ◌∷◌, ◌++◌, length, get_or, not, true, false, is_some, w64, Some, None, option_map, option_to_list, refl, sym, ap, ap₂, ◌∙◌, arith, rules}
 use mir.Val.{SFits}
 use Rattle.std.proofs.lemmas.Int.{to_z-of_z}
 use Rattle.std.proofs.lemmas.List.{nil_from_length, at_drop_all}
 use Rattle.std.proofs.lemmas.Result.{IfOk-weaker, on_ok_weaker}
 use Rattle.std.specs.List.{flat_map, list_any, list_all}
 use Rattle.std.specs.Str.{chars}
-use Rattle.serde_json.specs.Data.{depth, items_depth, members_depth}
-use Rattle.serde_json.specs.View.{view, items_view, members_view}
+use Rattle.serde_json.specs.Data.{depth}
+use Rattle.serde_json.specs.View.{view, items_view}
 use Rattle.jp_doc.specs.DocumentValue.{IsDocumentValue}
-use Rattle.jp_doc.specs.Json.{items_of, value_of}
+use Rattle.jp_doc.specs.Json.{items_of, value_of, text}
 use Rattle.jp_doc.specs.Location.{node, name, member_of}
-use Rattle.jp_syntax.specs.View.{query_of, text_of}
-use Rattle.jp_eval.specs.Comparison.{compared}
 use Rattle.jp_check.specs.Numbers.{whole_number}
-use Rattle.jp_syntax.specs.PartViews.{argument_of}
-use Rattle.jp_syntax.proofs.Views.{literal_argument_made, logical_argument_made, query_argument_made, call_argument_made}
-use Rattle.jp_eval.specs.BoundsView.{bounds_value, nearest}
-use Rattle.jp_eval.specs.Functions.{as_truth, as_value, as_nodes, handed_value, number_value}
-use Rattle.jp_check.specs.Kinds.{function_of}
+use Rattle.jp_syntax.specs.View.{text_of}
+use Rattle.jp_check.specs.Ready.{position_text}
+use Rattle.jp_check.specs.declared.ready.Want.TheVariants as want
+use Rattle.jp_eval.specs.Base.{base_of}
+use Rattle.jp_eval.specs.BoundsView.{bounds_value}
+use Rattle.jp_eval.specs.Comparison.{compared}
+use Rattle.jp_eval.specs.Functions.{tested, number_value, first_value, only_value, length_value}
+use Rattle.jp_eval.specs.Nodelist.{items_at, written_value}
 use Rattle.jp_eval.specs.Kept.{kept, put_found, plus, kept_first, kept_count, kept_only}
 use Rattle.jp_eval.specs.Links.{here}
 use Rattle.jp_trail.specs.Links.{link_steps}
-use Rattle.jp_eval.specs.Nodelist.{items_at, comparison_holds, handed, nodelist, written_value}
-use Rattle.jp_eval.specs.Nodes.{children, children_at, descendants, item_nodes, node_if_some}
+use Rattle.jp_eval.specs.Nodes.{children, descendants, item_nodes, node_if_some}
 use Rattle.jp_eval.specs.Part.{part_value}
 use Rattle.jp_eval.specs.Places.{item_count}
 use Rattle.jp_eval.specs.RightTests.{tests}
-use Rattle.jp_eval.specs.Walk.{picked, picked_by, reached, is_true, done}
+use Rattle.jp_eval.specs.Walk.{picked, picked_by, reached, is_true, value_given, nodes_given, done}
 use Rattle.jp_eval.proofs.Chains.{reached-none, reached-end, reached-each, reached-filter, reached-plain, reached-deep}
 use Rattle.jp_eval.proofs.Inside.{part_is_short}
 use Rattle.jp_eval.proofs.Keeping.{plus-one, nothing_found, full_enough}
-use Rattle.jp_eval.proofs.Parts.{picked_name, picked_wild, picked_index, picked_slice, picked_filter, true_any, true_all, true_not, true_compare, true_call, true_test, from_root, from_here, given_unknown, given_one, given_two, given_other, first_kept, counted, only_kept, named, no_nodes, some_mapped}
+use Rattle.jp_eval.proofs.Parts.{first_kept, counted, only_kept, some_mapped}
+use Rattle.jp_eval.proofs.ReadyParts.{picked_name, picked_wild, picked_index, picked_slice, picked_filter, true_any, true_all, true_not, true_compare, true_test, true_match, true_search, true_match_known, true_search_known, given_constant, given_single, given_length, given_count, given_only, nodes_here, nodes_root}
 use Rattle.jp_eval.proofs.Places.{within_more, index_found, slice_found}
-use Rattle.jp_eval.proofs.TreeViews.{comparison_is}
 use Rattle.jp_eval.proofs.WalkSteps.{back_up, here_further, link_further, over, applied, descended, first_left, others_left, no_deeper, item_done, first_member_left, other_members_left, members_no_deeper, member_done, members_over, any_further, any_found, all_further, all_found, none_at, one_at, place_done, places_over}
 use Rattle.jp_eval.proofs.walk.+walk.Goals as goal
 
@@ -41,35 +40,30 @@ pub apply-loop-selector-preserved : goal.apply-loop-selector-preserved
 apply-loop-selector-preserved g t c =
     let h : c.loop-selector.selector-index < length c.args.selectors.now = omega arith in
     rw c.in_ok-select.ensures.path
-    (c.loop-selector.invariant.0, applied (put_found g.V.Visit.put) (part_value c.args.ground.now.root) c.args.selectors.now c.loop-selector.selector-index c.selector-item.result c.args.rest.now (here c.loop-selector.path c.args.value) _ _ _ _ h c.selector-item.is c.in_ok-select.ensures.found c.loop-selector.invariant.1)
+    (c.loop-selector.invariant.0, applied (put_found g.V.Visit.put) (base_of c.args.ground.now) c.args.selectors.now c.loop-selector.selector-index c.selector-item.result c.args.rest.now (here c.loop-selector.path c.args.value) _ _ _ _ h c.selector-item.is c.in_ok-select.ensures.found c.loop-selector.invariant.1)
 
 pub apply-returns-clause-found : goal.apply-returns-clause-found
 apply-returns-clause-found g t c =
-    over (put_found g.V.Visit.put) (λ xs. reached (part_value c.args.ground.now.root) c.args.rest.now (picked_by (part_value c.args.ground.now.root) xs (here c.loop-selector.path c.args.value))) c.args.selectors.now c.loop-selector.selector-index _ _ _ (omega arith) (reached-none (part_value c.args.ground.now.root) c.args.rest.now) c.loop-selector.invariant.1
+    over (put_found g.V.Visit.put) (λ xs. reached (base_of c.args.ground.now) c.args.rest.now (picked_by (base_of c.args.ground.now) xs (here c.loop-selector.path c.args.value))) c.args.selectors.now c.loop-selector.selector-index _ _ _ (omega arith) (reached-none (base_of c.args.ground.now) c.args.rest.now) c.loop-selector.invariant.1
 
 pub at_place-returns-in_default-clause-found : goal.at_place-returns-in_default-clause-found
 at_place-returns-in_default-clause-found g t c =
-    nothing_found (put_found g.V.Visit.put) _ _ (ap (λ o. reached (part_value c.args.ground.now.root) c.args.rest.now (items_at (here c.args.path.now c.args.value) (option_to_list o))) c.in_default.is ∙ reached-none (part_value c.args.ground.now.root) c.args.rest.now)
+    nothing_found (put_found g.V.Visit.put) _ _ (ap (λ o. reached (base_of c.args.ground.now) c.args.rest.now (items_at (here c.args.path.now c.args.value) (option_to_list o))) c.in_default.is ∙ reached-none (base_of c.args.ground.now) c.args.rest.now)
 
 pub at_place-returns-in_default-item-clause-found : goal.at_place-returns-in_default-item-clause-found
 at_place-returns-in_default-item-clause-found g t c =
-    nothing_found (put_found g.V.Visit.put) _ _ (ap (reached (part_value c.args.ground.now.root) c.args.rest.now) (none_at (here c.args.path.now c.args.value) c.args.place c.in-Some.place c.in-Some.is c.in_default-item.ensures.value) ∙ reached-none (part_value c.args.ground.now.root) c.args.rest.now)
+    nothing_found (put_found g.V.Visit.put) _ _ (ap (reached (base_of c.args.ground.now) c.args.rest.now) (none_at (here c.args.path.now c.args.value) c.args.place c.in-Some.place c.in-Some.is c.in_default-item.ensures.value) ∙ reached-none (base_of c.args.ground.now) c.args.rest.now)
 
 pub at_place-returns-in_ok-run-clause-found : goal.at_place-returns-in_ok-run-clause-found
 at_place-returns-in_ok-run-clause-found g t c =
     c.in_ok-run.ensures.found
-    ∙ ap (λ ns. plus (put_found g.V.Visit.put) (kept g.V.Visit.kept c.args.found.now) (reached (part_value c.args.ground.now.root) c.args.rest.now ns))
+    ∙ ap (λ ns. plus (put_found g.V.Visit.put) (kept g.V.Visit.kept c.args.found.now) (reached (base_of c.args.ground.now) c.args.rest.now ns))
     (ap (λ n. n ∷ []) (here_further c.args.path.now c.push.new.self _ c.in-Some-item.child c.in_ok-push.ensures.ok)
     ∙ sym (one_at (here c.args.path.now c.args.value) c.args.place c.in-Some.place _ c.in-Some.is c.in-Some-item.ensures.value))
 
-pub compares-returns-clause-truth : goal.compares-returns-clause-truth
-compares-returns-clause-truth g t c =
-    let right = rw c.in_ok-left.ensures.path at c.in_ok-right.ensures.value in
-    c.compare.ensures ∙ ap₂ (compared c.args.comparison.now.op) c.in_ok-left.ensures.value right ∙ sym (ap (λ x. comparison_holds tests (part_value c.args.ground.now.root) x (here c.args.path.now c.args.value)) (comparison_is c.args.comparison.now))
-
 pub descend-returns-clause-found : goal.descend-returns-clause-found
 descend-returns-clause-found g t c =
-    on_ok_weaker c.each_child.result (λ e. descended (put_found g.V.Visit.put) (part_value c.args.ground.now.root) c.args.selectors.now c.args.rest.now (here c.args.path.now c.args.value) _ _ _ c.in_ok-apply.ensures.found (rw c.in_ok-apply.ensures.path at e)) c.each_child.ensures.found
+    on_ok_weaker c.each_child.result (λ e. descended (put_found g.V.Visit.put) (base_of c.args.ground.now) c.args.selectors.now c.args.rest.now (here c.args.path.now c.args.value) _ _ _ c.in_ok-apply.ensures.found (rw c.in_ok-apply.ensures.path at e)) c.each_child.ensures.found
 
 pub each_item-returns-then-is_full-clause-found : goal.each_item-returns-then-is_full-clause-found
 each_item-returns-then-is_full-clause-found g t c =
@@ -91,14 +85,14 @@ each_item-loop-index-preserved g t c =
       c.loop-index.invariant.0,
       others_left IsDocumentValue xs i c.loop-index.invariant.1,
       omega (arith, c.loop-index.invariant.2),
-      item_done (put_found g.V.Visit.put) (done (part_value c.args.ground.now.root) c.args.task) (link_steps c.loop-index.path) xs i c.value-item.result _ _ _ _ h (c.value-item.is ∙ ap (λ l. get_or l i c.value-item.result) c.deref-value-items.ensures.value)
-          (c.in_ok-go.ensures.found ∙ ap (λ s. plus (put_found g.V.Visit.put) (kept g.V.Visit.kept c.loop-index.found) (done (part_value c.args.ground.now.root) c.args.task (node s (value_of c.value-item.result)))) (link_further c.loop-index.path c.push.new.self _ c.in_ok-push.ensures.ok)) c.loop-index.invariant.3,
+      item_done (put_found g.V.Visit.put) (done (base_of c.args.ground.now) c.args.task) (link_steps c.loop-index.path) xs i c.value-item.result _ _ _ _ h (c.value-item.is ∙ ap (λ l. get_or l i c.value-item.result) c.deref-value-items.ensures.value)
+          (c.in_ok-go.ensures.found ∙ ap (λ s. plus (put_found g.V.Visit.put) (kept g.V.Visit.kept c.loop-index.found) (done (base_of c.args.ground.now) c.args.task (node s (value_of c.value-item.result)))) (link_further c.loop-index.path c.push.new.self _ c.in_ok-push.ensures.ok)) c.loop-index.invariant.3,
     )
 
 pub each_item-returns-clause-found : goal.each_item-returns-clause-found
 each_item-returns-clause-found g t c =
     let h : length c.args.items.now.items ≤ c.loop-index.index = search rules in
-    over (put_found g.V.Visit.put) (λ xs. flat_map (done (part_value c.args.ground.now.root) c.args.task) (item_nodes (link_steps c.loop-index.path) c.loop-index.index (items_of (items_view xs)))) c.args.items.now.items c.loop-index.index _ _ _ h refl c.loop-index.invariant.3
+    over (put_found g.V.Visit.put) (λ xs. flat_map (done (base_of c.args.ground.now) c.args.task) (item_nodes (link_steps c.loop-index.path) c.loop-index.index (items_of (items_view xs)))) c.args.items.now.items c.loop-index.index _ _ _ h refl c.loop-index.invariant.3
 
 pub each_member-invariant_of-go : goal.each_member-invariant_of-go
 each_member-invariant_of-go g t c =
@@ -114,15 +108,15 @@ each_member-loop-name-preserved g t c =
       c.loop-name.invariant.0,
       other_members_left IsDocumentValue c.loop-name.name-iterator c.next.new.self (c.in-Some.name.now, c.in-Some.value.now) e c.loop-name.invariant.1,
       omega (arith, c.loop-name.invariant.2),
-      member_done (put_found g.V.Visit.put) (done (part_value c.args.ground.now.root) c.args.task) (link_steps c.loop-name.path) c.loop-name.name-iterator c.next.new.self (c.in-Some.name.now, c.in-Some.value.now) _ _ _ _ e
-          (c.in_ok-go.ensures.found ∙ ap (λ s. plus (put_found g.V.Visit.put) (kept g.V.Visit.kept c.loop-name.found) (done (part_value c.args.ground.now.root) c.args.task (node s (value_of c.in-Some.value.now))))
+      member_done (put_found g.V.Visit.put) (done (base_of c.args.ground.now) c.args.task) (link_steps c.loop-name.path) c.loop-name.name-iterator c.next.new.self (c.in-Some.name.now, c.in-Some.value.now) _ _ _ _ e
+          (c.in_ok-go.ensures.found ∙ ap (λ s. plus (put_found g.V.Visit.put) (kept g.V.Visit.kept c.loop-name.found) (done (base_of c.args.ground.now) c.args.task (node s (value_of c.in-Some.value.now))))
           (link_further c.loop-name.path c.push.new.self _ c.in_ok-push.ensures.ok ∙ ap (λ k. link_steps c.loop-name.path ++ name (chars k) ∷ []) c.as_str.ensures.value)) c.loop-name.invariant.3,
     )
 
 pub each_member-returns-clause-found : goal.each_member-returns-clause-found
 each_member-returns-clause-found g t c =
     let e : c.loop-name.name-iterator ≡ [] = search rules in
-    members_over (put_found g.V.Visit.put) (done (part_value c.args.ground.now.root) c.args.task) (link_steps c.loop-name.path) c.loop-name.name-iterator _ _ _ e c.loop-name.invariant.3
+    members_over (put_found g.V.Visit.put) (done (base_of c.args.ground.now) c.args.task) (link_steps c.loop-name.path) c.loop-name.name-iterator _ _ _ e c.loop-name.invariant.3
 
 pub each_place-first_place-next-requires : goal.each_place-first_place-next-requires
 each_place-first_place-next-requires g t c = within_more _ _ _ (part_is_short c.args.value) c.requires
@@ -135,47 +129,11 @@ each_place-loop-next-smaller g t c =
 pub each_place-loop-next-preserved : goal.each_place-loop-next-preserved
 each_place-loop-next-preserved g t c =
     rw c.in_ok-at_place.ensures.path
-    (c.loop-next.invariant.0, c.place_after-next.ensures.place, place_done (put_found g.V.Visit.put) (part_value c.args.ground.now.root) c.args.rest.now (here c.loop-next.path c.args.value) (bounds_value c.args.bounds) (item_count (part_value c.args.value)) c.loop-next.next c.place_after-next.result c.in-Some.place _ _ _ _ c.in-Some.is (c.place_after-next.ensures.indexes _ c.requires) c.in_ok-at_place.ensures.found c.loop-next.invariant.2)
+    (c.loop-next.invariant.0, c.place_after-next.ensures.place, place_done (put_found g.V.Visit.put) (base_of c.args.ground.now) c.args.rest.now (here c.loop-next.path c.args.value) (bounds_value c.args.bounds) (item_count (part_value c.args.value)) c.loop-next.next c.place_after-next.result c.in-Some.place _ _ _ _ c.in-Some.is (c.place_after-next.ensures.indexes _ c.requires) c.in_ok-at_place.ensures.found c.loop-next.invariant.2)
 
 pub each_place-returns-clause-found : goal.each_place-returns-clause-found
 each_place-returns-clause-found g t c =
-    places_over (put_found g.V.Visit.put) (part_value c.args.ground.now.root) c.args.rest.now (here c.loop-next.path c.args.value) (bounds_value c.args.bounds) (item_count (part_value c.args.value)) c.loop-next.next _ _ _ c.in_default.is c.loop-next.invariant.2
-
-pub find-returns-in-Root-clause-found : goal.find-returns-in-Root-clause-found
-find-returns-in-Root-clause-found g t c =
-    on_ok_weaker c.run.result (λ e. e ∙ ap (plus (put_found g.V.Visit.put) (kept g.V.Visit.kept c.args.found.now)) (from_root (part_value c.args.ground.now.root) (here c.args.path.now c.args.value) c.args.query.now c.as_slice-segments.result.now c.args.ground.now.root c.new-start.result c.in-Root.is c.as_slice-segments.ensures.value c.new-start.ensures refl)) c.run.ensures.found
-
-pub find-returns-in-Current-clause-found : goal.find-returns-in-Current-clause-found
-find-returns-in-Current-clause-found g t c =
-    on_ok_weaker c.run-in-Current.result (λ e. e ∙ ap (plus (put_found g.V.Visit.put) (kept g.V.Visit.kept c.args.found.now)) (from_here (part_value c.args.ground.now.root) (here c.args.path.now c.args.value) c.args.query.now c.as_slice-segments.result.now c.in-Current.is c.as_slice-segments.ensures.value)) c.run-in-Current.ensures.found
-
-pub first-returns-clause-value : goal.first-returns-clause-value
-first-returns-clause-value g t c = c.into_first.ensures ∙ ap kept_first c.in_ok-find.ensures.found ∙ first_kept g.V.Visit.put _
-
-pub give-returns-in_default-clause-given : goal.give-returns-in_default-clause-given
-give-returns-in_default-clause-given g t c =
-    sym (given_unknown (part_value c.args.ground.now.root) (here c.args.path.now c.args.value) c.args.call.now (named c.args.call.now c.as_str.result.now c.as_str.ensures.value (sym (ap (option_map function_of) (sym c.in_default.is) ∙ c.function_named.ensures))))
-
-pub give-returns-in-len1-clause-given : goal.give-returns-in-len1-clause-given
-give-returns-in-len1-clause-given g t c =
-    let known = named c.args.call.now c.as_str.result.now c.as_str.ensures.value (sym (ap (option_map function_of) (sym c.in-Some.is) ∙ c.function_named.ensures)) in
-    IfOk-weaker c.give_of_one.result _ _ (λ g e. e ∙ sym (given_one (part_value c.args.ground.now.root) (here c.args.path.now c.args.value) c.args.call.now c.as_slice.result.now _ _ c.as_slice.ensures.value (omega (arith, c.in-len1.len_at_least, c.in-len1.len_below)) c.only-item.is known)) c.give_of_one.ensures.given
-
-pub give-returns-in-len2-clause-given : goal.give-returns-in-len2-clause-given
-give-returns-in-len2-clause-given g t c =
-    let known = named c.args.call.now c.as_str.result.now c.as_str.ensures.value (sym (ap (option_map function_of) (sym c.in-Some.is) ∙ c.function_named.ensures)) in
-    IfOk-weaker c.give_of_two.result _ _ (λ g e. e ∙ sym (given_two (part_value c.args.ground.now.root) (here c.args.path.now c.args.value) c.args.call.now c.as_slice.result.now _ _ _ c.as_slice.ensures.value (omega (arith, c.in-len2.len_at_least, c.in-len2.len_below)) c.text-item.is c.pattern-item.is known)) c.give_of_two.ensures.given
-
-pub give_of_one-returns-in-Match-clause-given : goal.give_of_one-returns-in-Match-clause-given
-give_of_one-returns-in-Match-clause-given g t c = elim c.in-Match.is [ inl e ↦ rw e refl | inr e ↦ rw e refl ]
-
-pub give_of_two-returns-in-Length : goal.give_of_two-returns-in-Length
-give_of_two-returns-in-Length g t c =
-    record {
-      given = elim c.in-Length.is [ inl e ↦ rw e refl | inr f ↦ elim f [ inl e ↦ rw e refl | inr e ↦ rw e refl ] ];
-      whole = tt;
-      path = c.in_ok-pattern.ensures.path ∙ c.in_ok-text.ensures.path;
-    }
+    places_over (put_found g.V.Visit.put) (base_of c.args.ground.now) c.args.rest.now (here c.loop-next.path c.args.value) (bounds_value c.args.bounds) (item_count (part_value c.args.value)) c.loop-next.next _ _ _ c.in_default.is c.loop-next.invariant.2
 
 pub go-returns-in-Run-clause-found : goal.go-returns-in-Run-clause-found
 go-returns-in-Run-clause-found g t c = rw c.in-Run.is c.run.ensures.found
@@ -186,61 +144,45 @@ go-returns-in-Descend-clause-found g t c = rw c.in-Descend.is c.descend.ensures.
 pub go-returns-in_ok-run-in-Test-clause-found : goal.go-returns-in_ok-run-in-Test-clause-found
 go-returns-in_ok-run-in-Test-clause-found g t c =
     let n = here c.args.path.now c.args.value in
-    let truth : is_true (part_value c.args.ground.now.root) c.in-Test.test.now n ≡ true = sym c.in_ok-holds-in-Test.ensures.truth ∙ c.if-branch.true in
+    let truth : is_true (base_of c.args.ground.now) c.in-Test.test.now n ≡ true = sym c.in_ok-holds-in-Test.ensures.truth ∙ c.if-branch.true in
     rw (c.in-Test.is, truth) (rw c.in_ok-holds-in-Test.ensures.path at c.in_ok-run-in-Test.ensures.found)
 
 pub go-returns-else-branch-clause-found : goal.go-returns-else-branch-clause-found
 go-returns-else-branch-clause-found g t c =
     let n = here c.args.path.now c.args.value in
-    let truth : is_true (part_value c.args.ground.now.root) c.in-Test.test.now n ≡ false = sym c.in_ok-holds-in-Test.ensures.truth ∙ c.if-branch.false in
-    rw (c.in-Test.is, truth) (nothing_found (put_found g.V.Visit.put) _ _ (reached-none (part_value c.args.ground.now.root) c.in-Test.rest.now))
-
-pub hand-returns-in-Literal-clause-value : goal.hand-returns-in-Literal-clause-value
-hand-returns-in-Literal-clause-value g t c =
-    IfOk-weaker c.literal.result _ _ (λ o e. e ∙ sym (ap (λ a. as_value (handed tests (part_value c.args.ground.now.root) (argument_of a) (here c.args.path.now c.args.value))) c.in-Literal.is ∙ ap (λ a. as_value (handed tests (part_value c.args.ground.now.root) a (here c.args.path.now c.args.value))) (literal_argument_made c.in-Literal.constant))) c.literal.ensures.value
-
-pub hand-returns-in-Logical-clause-value : goal.hand-returns-in-Logical-clause-value
-hand-returns-in-Logical-clause-value g t c =
-    sym (ap (λ a. as_value (handed tests (part_value c.args.ground.now.root) (argument_of a) (here c.args.path.now c.args.value))) c.in-Logical.is ∙ ap (λ a. as_value (handed tests (part_value c.args.ground.now.root) a (here c.args.path.now c.args.value))) (logical_argument_made c.in-Logical.field-0))
+    let truth : is_true (base_of c.args.ground.now) c.in-Test.test.now n ≡ false = sym c.in_ok-holds-in-Test.ensures.truth ∙ c.if-branch.false in
+    rw (c.in-Test.is, truth) (nothing_found (put_found g.V.Visit.put) _ _ (reached-none (base_of c.args.ground.now) c.in-Test.rest.now))
 
 pub holds-returns-in-Any-clause-truth : goal.holds-returns-in-Any-clause-truth
 holds-returns-in-Any-clause-truth g t c =
-    IfOk-weaker c.any.result _ _ (λ b e. e ∙ ap (list_any (λ l. is_true (part_value c.args.ground.now.root) l (here c.args.path.now c.args.value))) c.as_slice.ensures.value ∙ sym (ap (λ l. is_true (part_value c.args.ground.now.root) l (here c.args.path.now c.args.value)) c.in-Any.is ∙ true_any (part_value c.args.ground.now.root) (here c.args.path.now c.args.value) c.in-Any.parts)) c.any.ensures.truth
+    IfOk-weaker c.any.result _ _ (λ b e. e ∙ ap (list_any (λ l. is_true (base_of c.args.ground.now) l (here c.args.path.now c.args.value))) c.as_slice.ensures.value ∙ sym (ap (λ l. is_true (base_of c.args.ground.now) l (here c.args.path.now c.args.value)) c.in-Any.is ∙ true_any (base_of c.args.ground.now) (here c.args.path.now c.args.value) c.in-Any.parts)) c.any.ensures.truth
 
 pub holds-returns-in-All-clause-truth : goal.holds-returns-in-All-clause-truth
 holds-returns-in-All-clause-truth g t c =
-    IfOk-weaker c.all.result _ _ (λ b e. e ∙ ap (list_all (λ l. is_true (part_value c.args.ground.now.root) l (here c.args.path.now c.args.value))) c.as_slice-in-All.ensures.value ∙ sym (ap (λ l. is_true (part_value c.args.ground.now.root) l (here c.args.path.now c.args.value)) c.in-All.is ∙ true_all (part_value c.args.ground.now.root) (here c.args.path.now c.args.value) c.in-All.parts)) c.all.ensures.truth
-
-pub holds-returns-in-Compare-clause-truth : goal.holds-returns-in-Compare-clause-truth
-holds-returns-in-Compare-clause-truth g t c =
-    IfOk-weaker c.compares.result _ _ (λ b e. e ∙ sym (ap (λ l. is_true (part_value c.args.ground.now.root) l (here c.args.path.now c.args.value)) c.in-Compare.is ∙ true_compare (part_value c.args.ground.now.root) (here c.args.path.now c.args.value) c.in-Compare.comparison)) c.compares.ensures.truth
+    IfOk-weaker c.all.result _ _ (λ b e. e ∙ ap (list_all (λ l. is_true (base_of c.args.ground.now) l (here c.args.path.now c.args.value))) c.as_slice-in-All.ensures.value ∙ sym (ap (λ l. is_true (base_of c.args.ground.now) l (here c.args.path.now c.args.value)) c.in-All.is ∙ true_all (base_of c.args.ground.now) (here c.args.path.now c.args.value) c.in-All.parts)) c.all.ensures.truth
 
 pub holds-returns-in_ok-holds-in-Not-clause-truth : goal.holds-returns-in_ok-holds-in-Not-clause-truth
 holds-returns-in_ok-holds-in-Not-clause-truth g t c =
-    ap not (c.in_ok-holds-in-Not.ensures.truth ∙ ap (λ l. is_true (part_value c.args.ground.now.root) l (here c.args.path.now c.args.value)) c.deref.ensures) ∙ sym (ap (λ l. is_true (part_value c.args.ground.now.root) l (here c.args.path.now c.args.value)) c.in-Not.is ∙ true_not (part_value c.args.ground.now.root) (here c.args.path.now c.args.value) c.in-Not.part)
+    ap not (c.in_ok-holds-in-Not.ensures.truth ∙ ap (λ l. is_true (base_of c.args.ground.now) l (here c.args.path.now c.args.value)) c.deref.ensures) ∙ sym (ap (λ l. is_true (base_of c.args.ground.now) l (here c.args.path.now c.args.value)) c.in-Not.is ∙ true_not (base_of c.args.ground.now) (here c.args.path.now c.args.value) c.in-Not.part)
 
 pub holds-returns-in_ok-first-in-Test-clause-truth : goal.holds-returns-in_ok-first-in-Test-clause-truth
 holds-returns-in_ok-first-in-Test-clause-truth g t c =
-    c.is_some.ensures ∙ sym (some_mapped part_value c.in_ok-first-in-Test.field-0) ∙ ap is_some c.in_ok-first-in-Test.ensures.value ∙ sym (ap (λ l. is_true (part_value c.args.ground.now.root) l (here c.args.path.now c.args.value)) c.in-Test.is ∙ true_test (part_value c.args.ground.now.root) (here c.args.path.now c.args.value) c.in-Test.query)
-
-pub holds-returns-in_ok-give-in-Call-clause-truth : goal.holds-returns-in_ok-give-in-Call-clause-truth
-holds-returns-in_ok-give-in-Call-clause-truth g t c =
-    c.as_truth.ensures ∙ ap as_truth c.in_ok-give-in-Call.ensures.given ∙ sym (ap (λ l. is_true (part_value c.args.ground.now.root) l (here c.args.path.now c.args.value)) c.in-Call.is ∙ true_call (part_value c.args.ground.now.root) (here c.args.path.now c.args.value) c.in-Call.call)
+    c.is_some.ensures ∙ sym (some_mapped part_value c.in_ok-first-in-Test.field-0) ∙ ap is_some c.in_ok-first-in-Test.ensures.value ∙ sym (ap (λ l. is_true (base_of c.args.ground.now) l (here c.args.path.now c.args.value)) c.in-Test.is ∙ true_test (base_of c.args.ground.now) (here c.args.path.now c.args.value) c.in-Test.nodes)
 
 pub run-returns-in-None-clause-found : goal.run-returns-in-None-clause-found
 run-returns-in-None-clause-found g t c =
     on_ok_weaker c.add.result (λ e. e ∙ sym (plus-one (put_found g.V.Visit.put) (kept g.V.Visit.kept c.args.found.now) (here c.args.path.now c.args.value))
-    ∙ ap (plus (put_found g.V.Visit.put) (kept g.V.Visit.kept c.args.found.now)) (sym (ap (λ ss. reached (part_value c.args.ground.now.root) ss (here c.args.path.now c.args.value ∷ [])) (nil_from_length c.args.segments.now c.in-None.ensures.cases) ∙ reached-end (part_value c.args.ground.now.root) (here c.args.path.now c.args.value ∷ [])))) c.add.ensures.found
+    ∙ ap (plus (put_found g.V.Visit.put) (kept g.V.Visit.kept c.args.found.now)) (sym (ap (λ ss. reached (base_of c.args.ground.now) ss (here c.args.path.now c.args.value ∷ [])) (nil_from_length c.args.segments.now c.in-None.ensures.cases) ∙ reached-end (base_of c.args.ground.now) (here c.args.path.now c.args.value ∷ [])))) c.add.ensures.found
 
 pub run-returns-then-segment-clause-found : goal.run-returns-then-segment-clause-found
 run-returns-then-segment-clause-found g t c =
-    on_ok_weaker c.descend.result (λ e. e ∙ ap (plus (put_found g.V.Visit.put) (kept g.V.Visit.kept c.args.found.now)) (ap (λ xs. reached (part_value c.args.ground.now.root) c.in-Some.rest.now (flat_map (picked_by (part_value c.args.ground.now.root) xs) (descendants (here c.args.path.now c.args.value)))) c.as_slice-selectors.ensures.value
-    ∙ sym (ap (λ ss. reached (part_value c.args.ground.now.root) ss (here c.args.path.now c.args.value ∷ [])) c.in-Some.ensures.cases.0 ∙ reached-deep (part_value c.args.ground.now.root) c.in-Some.segment.now c.in-Some.rest.now (here c.args.path.now c.args.value) c.if-segment.true))) c.descend.ensures.found
+    on_ok_weaker c.descend.result (λ e. e ∙ ap (plus (put_found g.V.Visit.put) (kept g.V.Visit.kept c.args.found.now)) (ap (λ xs. reached (base_of c.args.ground.now) c.in-Some.rest.now (flat_map (picked_by (base_of c.args.ground.now) xs) (descendants (here c.args.path.now c.args.value)))) c.as_slice-selectors.ensures.value
+    ∙ sym (ap (λ ss. reached (base_of c.args.ground.now) ss (here c.args.path.now c.args.value ∷ [])) c.in-Some.ensures.cases.0 ∙ reached-deep (base_of c.args.ground.now) c.in-Some.segment.now c.in-Some.rest.now (here c.args.path.now c.args.value) c.if-segment.true))) c.descend.ensures.found
 
 pub run-returns-else-segment-clause-found : goal.run-returns-else-segment-clause-found
 run-returns-else-segment-clause-found g t c =
-    on_ok_weaker c.apply.result (λ e. e ∙ ap (plus (put_found g.V.Visit.put) (kept g.V.Visit.kept c.args.found.now)) (ap (λ xs. reached (part_value c.args.ground.now.root) c.in-Some.rest.now (picked_by (part_value c.args.ground.now.root) xs (here c.args.path.now c.args.value))) c.as_slice-selectors.ensures.value
-    ∙ sym (ap (λ ss. reached (part_value c.args.ground.now.root) ss (here c.args.path.now c.args.value ∷ [])) c.in-Some.ensures.cases.0 ∙ reached-plain (part_value c.args.ground.now.root) c.in-Some.segment.now c.in-Some.rest.now (here c.args.path.now c.args.value) c.if-segment.false))) c.apply.ensures.found
+    on_ok_weaker c.apply.result (λ e. e ∙ ap (plus (put_found g.V.Visit.put) (kept g.V.Visit.kept c.args.found.now)) (ap (λ xs. reached (base_of c.args.ground.now) c.in-Some.rest.now (picked_by (base_of c.args.ground.now) xs (here c.args.path.now c.args.value))) c.as_slice-selectors.ensures.value
+    ∙ sym (ap (λ ss. reached (base_of c.args.ground.now) ss (here c.args.path.now c.args.value ∷ [])) c.in-Some.ensures.cases.0 ∙ reached-plain (base_of c.args.ground.now) c.in-Some.segment.now c.in-Some.rest.now (here c.args.path.now c.args.value) c.if-segment.false))) c.apply.ensures.found
 
 pub select-run-requires : goal.select-run-requires
 select-run-requires g t c =
@@ -250,95 +192,85 @@ select-run-requires g t c =
 pub select-returns-in_default-clause-found : goal.select-returns-in_default-clause-found
 select-returns-in_default-clause-found g t c =
     let none : None ≡ member_of (text_of c.in-Name.name) (part_value c.args.value) = c.in_default.ensures.value ∙ ap (λ k. member_of (chars k) (part_value c.args.value)) c.as_str.ensures.value in
-    nothing_found (put_found g.V.Visit.put) _ _ (ap (reached (part_value c.args.ground.now.root) c.args.rest.now) (ap (λ x. picked (part_value c.args.ground.now.root) x (here c.args.path.now c.args.value)) c.in-Name.is ∙ picked_name (part_value c.args.ground.now.root) (here c.args.path.now c.args.value) c.in-Name.name ∙ ap (node_if_some _) (sym none)) ∙ reached-none (part_value c.args.ground.now.root) c.args.rest.now)
+    nothing_found (put_found g.V.Visit.put) _ _ (ap (reached (base_of c.args.ground.now) c.args.rest.now) (ap (λ x. picked (base_of c.args.ground.now) x (here c.args.path.now c.args.value)) c.in-Name.is ∙ picked_name (base_of c.args.ground.now) (here c.args.path.now c.args.value) c.in-Name.name ∙ ap (node_if_some _) (sym none)) ∙ reached-none (base_of c.args.ground.now) c.args.rest.now)
 
 pub select-returns-in_ok-run-in-Name-clause-found : goal.select-returns-in_ok-run-in-Name-clause-found
 select-returns-in_ok-run-in-Name-clause-found g t c =
     let some = c.in-Some.ensures.value ∙ ap (λ k. member_of (chars k) (part_value c.args.value)) c.as_str.ensures.value in
     c.in_ok-run-in-Name.ensures.found
-    ∙ ap (λ ns. plus (put_found g.V.Visit.put) (kept g.V.Visit.kept c.args.found.now) (reached (part_value c.args.ground.now.root) c.args.rest.now ns))
+    ∙ ap (λ ns. plus (put_found g.V.Visit.put) (kept g.V.Visit.kept c.args.found.now) (reached (base_of c.args.ground.now) c.args.rest.now ns))
     (ap (λ n. n ∷ []) (here_further c.args.path.now c.push.new.self _ c.in-Some.child c.in_ok-push-in-Name.ensures.ok ∙ ap (λ k. node (link_steps c.args.path.now ++ name (chars k) ∷ []) (part_value c.in-Some.child)) c.as_str-in-Some.ensures.value)
-    ∙ sym (ap (λ x. picked (part_value c.args.ground.now.root) x (here c.args.path.now c.args.value)) c.in-Name.is ∙ picked_name (part_value c.args.ground.now.root) (here c.args.path.now c.args.value) c.in-Name.name ∙ ap (node_if_some _) (sym some)))
+    ∙ sym (ap (λ x. picked (base_of c.args.ground.now) x (here c.args.path.now c.args.value)) c.in-Name.is ∙ picked_name (base_of c.args.ground.now) (here c.args.path.now c.args.value) c.in-Name.name ∙ ap (node_if_some _) (sym some)))
 
 pub select-returns-in-Wild-clause-found : goal.select-returns-in-Wild-clause-found
 select-returns-in-Wild-clause-found g t c =
-    on_ok_weaker c.each_child.result (λ e. e ∙ ap (plus (put_found g.V.Visit.put) (kept g.V.Visit.kept c.args.found.now)) (sym (ap (reached (part_value c.args.ground.now.root) c.args.rest.now) (ap (λ x. picked (part_value c.args.ground.now.root) x (here c.args.path.now c.args.value)) c.in-Wild.is ∙ picked_wild (part_value c.args.ground.now.root) (here c.args.path.now c.args.value)) ∙ reached-each (part_value c.args.ground.now.root) c.args.rest.now (children (here c.args.path.now c.args.value))))) c.each_child.ensures.found
+    on_ok_weaker c.each_child.result (λ e. e ∙ ap (plus (put_found g.V.Visit.put) (kept g.V.Visit.kept c.args.found.now)) (sym (ap (reached (base_of c.args.ground.now) c.args.rest.now) (ap (λ x. picked (base_of c.args.ground.now) x (here c.args.path.now c.args.value)) c.in-Wild.is ∙ picked_wild (base_of c.args.ground.now) (here c.args.path.now c.args.value)) ∙ reached-each (base_of c.args.ground.now) c.args.rest.now (children (here c.args.path.now c.args.value))))) c.each_child.ensures.found
 
 pub select-returns-in-Index-clause-found : goal.select-returns-in-Index-clause-found
 select-returns-in-Index-clause-found g t c =
-    let f : SFits w64 c.position.result = search rules in
+    let f : SFits w64 c.in-Index.index.value = search rules in
     let placed = simp to_z-of_z at c.place-place.ensures in
-    on_ok_weaker c.at_place.result (λ e. e ∙ ap (λ ps. plus (put_found g.V.Visit.put) (kept g.V.Visit.kept c.args.found.now) (reached (part_value c.args.ground.now.root) c.args.rest.now (items_at (here c.args.path.now c.args.value) ps)))
-    (placed ∙ index_found (part_value c.args.value) (whole_number (text_of c.in-Index.index)) c.position.result c.item_count.result (c.position.ensures.value ∙ ap (λ b. nearest (whole_number (chars b))) c.as_str-in-Index.ensures.value) c.item_count.ensures.count c.item_count.ensures.short)
-    ∙ ap (λ ns. plus (put_found g.V.Visit.put) (kept g.V.Visit.kept c.args.found.now) (reached (part_value c.args.ground.now.root) c.args.rest.now ns)) (sym (ap (λ x. picked (part_value c.args.ground.now.root) x (here c.args.path.now c.args.value)) c.in-Index.is ∙ picked_index (part_value c.args.ground.now.root) (here c.args.path.now c.args.value) c.in-Index.index))) c.at_place.ensures.found
+    on_ok_weaker c.at_place.result (λ e. e ∙ ap (λ ps. plus (put_found g.V.Visit.put) (kept g.V.Visit.kept c.args.found.now) (reached (base_of c.args.ground.now) c.args.rest.now (items_at (here c.args.path.now c.args.value) ps)))
+    (placed ∙ index_found (part_value c.args.value) (whole_number (position_text c.in-Index.index)) c.in-Index.index.value c.item_count.result c.in-Index.index.read c.item_count.ensures.count)
+    ∙ ap (λ ns. plus (put_found g.V.Visit.put) (kept g.V.Visit.kept c.args.found.now) (reached (base_of c.args.ground.now) c.args.rest.now ns)) (sym (ap (λ x. picked (base_of c.args.ground.now) x (here c.args.path.now c.args.value)) c.in-Index.is ∙ picked_index (base_of c.args.ground.now) (here c.args.path.now c.args.value) c.in-Index.index))) c.at_place.ensures.found
 
 pub select-returns-in-Slice-clause-found : goal.select-returns-in-Slice-clause-found
 select-returns-in-Slice-clause-found g t c =
-    on_ok_weaker c.each_place.result (λ e. e ∙ ap (λ ps. plus (put_found g.V.Visit.put) (kept g.V.Visit.kept c.args.found.now) (reached (part_value c.args.ground.now.root) c.args.rest.now (items_at (here c.args.path.now c.args.value) ps)))
-    (slice_found (part_value c.args.value) (written_value (option_map text_of c.in-Slice.slice.first)) (written_value (option_map text_of c.in-Slice.slice.past)) (written_value (option_map text_of c.in-Slice.slice.step)) c.item_count-in-Slice.result (bounds_value c.bounds_of-bounds.result) c.item_count-in-Slice.ensures.count c.bounds_of-bounds.ensures.indexes)
-    ∙ ap (λ ns. plus (put_found g.V.Visit.put) (kept g.V.Visit.kept c.args.found.now) (reached (part_value c.args.ground.now.root) c.args.rest.now ns)) (sym (ap (λ x. picked (part_value c.args.ground.now.root) x (here c.args.path.now c.args.value)) c.in-Slice.is ∙ picked_slice (part_value c.args.ground.now.root) (here c.args.path.now c.args.value) c.in-Slice.slice))) c.each_place.ensures.found
+    on_ok_weaker c.each_place.result (λ e. e ∙ ap (λ ps. plus (put_found g.V.Visit.put) (kept g.V.Visit.kept c.args.found.now) (reached (base_of c.args.ground.now) c.args.rest.now (items_at (here c.args.path.now c.args.value) ps)))
+    (slice_found (part_value c.args.value) (written_value (option_map position_text c.in-Slice.slice.first)) (written_value (option_map position_text c.in-Slice.slice.past)) (written_value (option_map position_text c.in-Slice.slice.step)) c.item_count-in-Slice.result (bounds_value c.bounds_of-bounds.result) c.item_count-in-Slice.ensures.count c.bounds_of-bounds.ensures.bounds)
+    ∙ ap (λ ns. plus (put_found g.V.Visit.put) (kept g.V.Visit.kept c.args.found.now) (reached (base_of c.args.ground.now) c.args.rest.now ns)) (sym (ap (λ x. picked (base_of c.args.ground.now) x (here c.args.path.now c.args.value)) c.in-Slice.is ∙ picked_slice (base_of c.args.ground.now) (here c.args.path.now c.args.value) c.in-Slice.slice))) c.each_place.ensures.found
 
 pub select-returns-in-Filter-clause-found : goal.select-returns-in-Filter-clause-found
 select-returns-in-Filter-clause-found g t c =
-    on_ok_weaker c.each_child-in-Filter.result (λ e. e ∙ ap (plus (put_found g.V.Visit.put) (kept g.V.Visit.kept c.args.found.now)) (sym (ap (reached (part_value c.args.ground.now.root) c.args.rest.now) (ap (λ x. picked (part_value c.args.ground.now.root) x (here c.args.path.now c.args.value)) c.in-Filter.is ∙ picked_filter (part_value c.args.ground.now.root) (here c.args.path.now c.args.value) c.in-Filter.test) ∙ reached-filter (part_value c.args.ground.now.root) c.args.rest.now (is_true (part_value c.args.ground.now.root) c.in-Filter.test) (children (here c.args.path.now c.args.value))))) c.each_child-in-Filter.ensures.found
+    on_ok_weaker c.each_child-in-Filter.result (λ e. e ∙ ap (plus (put_found g.V.Visit.put) (kept g.V.Visit.kept c.args.found.now)) (sym (ap (reached (base_of c.args.ground.now) c.args.rest.now) (ap (λ x. picked (base_of c.args.ground.now) x (here c.args.path.now c.args.value)) c.in-Filter.is ∙ picked_filter (base_of c.args.ground.now) (here c.args.path.now c.args.value) c.in-Filter.test) ∙ reached-filter (base_of c.args.ground.now) c.args.rest.now (is_true (base_of c.args.ground.now) c.in-Filter.test) (children (here c.args.path.now c.args.value))))) c.each_child-in-Filter.ensures.found
 
 pub all-loop-part-preserved : goal.all-loop-part-preserved
 all-loop-part-preserved g t c =
     let h : c.loop-part.part-index < length c.args.parts.now = omega arith in
     let truth = c.in_ok-holds.ensures.truth in
-    let on : is_true (part_value c.args.ground.now.root) c.part-item.result (here c.args.path.now c.args.value) ≡ true = sym (rw c.loop-part.invariant.0 at truth) ∙ c.if-not-branch.false in
-    (c.in_ok-holds.ensures.path ∙ c.loop-part.invariant.0, all_further (λ l. is_true (part_value c.args.ground.now.root) l (here c.args.path.now c.args.value)) c.args.parts.now c.loop-part.part-index c.part-item.result h c.part-item.is on ∙ c.loop-part.invariant.1)
+    let on : is_true (base_of c.args.ground.now) c.part-item.result (here c.args.path.now c.args.value) ≡ true = sym (rw c.loop-part.invariant.0 at truth) ∙ c.if-not-branch.false in
+    (c.in_ok-holds.ensures.path ∙ c.loop-part.invariant.0, all_further (λ l. is_true (base_of c.args.ground.now) l (here c.args.path.now c.args.value)) c.args.parts.now c.loop-part.part-index c.part-item.result h c.part-item.is on ∙ c.loop-part.invariant.1)
 
 pub all-returns-clause-truth : goal.all-returns-clause-truth
 all-returns-clause-truth g t c =
-    sym (at_drop_all (list_all (λ l. is_true (part_value c.args.ground.now.root) l (here c.args.path.now c.args.value))) c.args.parts.now c.loop-part.part-index (omega arith)) ∙ c.loop-part.invariant.1
+    sym (at_drop_all (list_all (λ l. is_true (base_of c.args.ground.now) l (here c.args.path.now c.args.value))) c.args.parts.now c.loop-part.part-index (omega arith)) ∙ c.loop-part.invariant.1
 
 pub all-returns-then-not-branch-clause-truth : goal.all-returns-then-not-branch-clause-truth
 all-returns-then-not-branch-clause-truth g t c =
     let h : c.loop-part.part-index < length c.args.parts.now = omega arith in
     let truth = c.in_ok-holds.ensures.truth in
-    let off : is_true (part_value c.args.ground.now.root) c.part-item.result (here c.args.path.now c.args.value) ≡ false = sym (rw c.loop-part.invariant.0 at truth) ∙ c.if-not-branch.true in
-    sym (all_found (λ l. is_true (part_value c.args.ground.now.root) l (here c.args.path.now c.args.value)) c.args.parts.now c.loop-part.part-index c.part-item.result h c.part-item.is off) ∙ c.loop-part.invariant.1
+    let off : is_true (base_of c.args.ground.now) c.part-item.result (here c.args.path.now c.args.value) ≡ false = sym (rw c.loop-part.invariant.0 at truth) ∙ c.if-not-branch.true in
+    sym (all_found (λ l. is_true (base_of c.args.ground.now) l (here c.args.path.now c.args.value)) c.args.parts.now c.loop-part.part-index c.part-item.result h c.part-item.is off) ∙ c.loop-part.invariant.1
 
 pub any-loop-part-preserved : goal.any-loop-part-preserved
 any-loop-part-preserved g t c =
     let h : c.loop-part.part-index < length c.args.parts.now = omega arith in
     let truth = c.in_ok-holds.ensures.truth in
-    let off : is_true (part_value c.args.ground.now.root) c.part-item.result (here c.args.path.now c.args.value) ≡ false = sym (rw c.loop-part.invariant.0 at truth) ∙ c.if-branch.false in
-    (c.in_ok-holds.ensures.path ∙ c.loop-part.invariant.0, any_further (λ l. is_true (part_value c.args.ground.now.root) l (here c.args.path.now c.args.value)) c.args.parts.now c.loop-part.part-index c.part-item.result h c.part-item.is off ∙ c.loop-part.invariant.1)
+    let off : is_true (base_of c.args.ground.now) c.part-item.result (here c.args.path.now c.args.value) ≡ false = sym (rw c.loop-part.invariant.0 at truth) ∙ c.if-branch.false in
+    (c.in_ok-holds.ensures.path ∙ c.loop-part.invariant.0, any_further (λ l. is_true (base_of c.args.ground.now) l (here c.args.path.now c.args.value)) c.args.parts.now c.loop-part.part-index c.part-item.result h c.part-item.is off ∙ c.loop-part.invariant.1)
 
 pub any-returns-clause-truth : goal.any-returns-clause-truth
 any-returns-clause-truth g t c =
-    sym (at_drop_all (list_any (λ l. is_true (part_value c.args.ground.now.root) l (here c.args.path.now c.args.value))) c.args.parts.now c.loop-part.part-index (omega arith)) ∙ c.loop-part.invariant.1
+    sym (at_drop_all (list_any (λ l. is_true (base_of c.args.ground.now) l (here c.args.path.now c.args.value))) c.args.parts.now c.loop-part.part-index (omega arith)) ∙ c.loop-part.invariant.1
 
 pub any-returns-then-branch-clause-truth : goal.any-returns-then-branch-clause-truth
 any-returns-then-branch-clause-truth g t c =
     let h : c.loop-part.part-index < length c.args.parts.now = omega arith in
     let truth = c.in_ok-holds.ensures.truth in
-    let on : is_true (part_value c.args.ground.now.root) c.part-item.result (here c.args.path.now c.args.value) ≡ true = sym (rw c.loop-part.invariant.0 at truth) ∙ c.if-branch.true in
-    sym (any_found (λ l. is_true (part_value c.args.ground.now.root) l (here c.args.path.now c.args.value)) c.args.parts.now c.loop-part.part-index c.part-item.result h c.part-item.is on) ∙ c.loop-part.invariant.1
-
-pub give-returns-in-empty-clause-given : goal.give-returns-in-empty-clause-given
-give-returns-in-empty-clause-given g t c =
-    let known = named c.args.call.now c.as_str.result.now c.as_str.ensures.value (sym (ap (option_map function_of) (sym c.in-Some.is) ∙ c.function_named.ensures)) in
-    sym (given_other (part_value c.args.ground.now.root) (here c.args.path.now c.args.value) c.args.call.now c.as_slice.result.now _ c.as_slice.ensures.value (λ e. absurd (omega (arith, c.in-empty.len_below, e))) (λ e. absurd (omega (arith, c.in-empty.len_below, e))) known)
-
-pub give-returns-in-len3-up-clause-given : goal.give-returns-in-len3-up-clause-given
-give-returns-in-len3-up-clause-given g t c =
-    let known = named c.args.call.now c.as_str.result.now c.as_str.ensures.value (sym (ap (option_map function_of) (sym c.in-Some.is) ∙ c.function_named.ensures)) in
-    sym (given_other (part_value c.args.ground.now.root) (here c.args.path.now c.args.value) c.args.call.now c.as_slice.result.now _ c.as_slice.ensures.value (λ e. absurd (omega (arith, c.in-len3-up.len_at_least, e))) (λ e. absurd (omega (arith, c.in-len3-up.len_at_least, e))) known)
+    let on : is_true (base_of c.args.ground.now) c.part-item.result (here c.args.path.now c.args.value) ≡ true = sym (rw c.loop-part.invariant.0 at truth) ∙ c.if-branch.true in
+    sym (any_found (λ l. is_true (base_of c.args.ground.now) l (here c.args.path.now c.args.value)) c.args.parts.now c.loop-part.part-index c.part-item.result h c.part-item.is on) ∙ c.loop-part.invariant.1
 
 pub each_child-returns-in-Items-clause-found : goal.each_child-returns-in-Items-clause-found
 each_child-returns-in-Items-clause-found g t c =
-    on_ok_weaker c.each_item.result (λ e. e ∙ ap (λ ns. plus (put_found g.V.Visit.put) (kept g.V.Visit.kept c.args.found.now) (flat_map (done (part_value c.args.ground.now.root) c.args.task) ns)) (sym (c.in-Items.ensures.children (link_steps c.args.path.now)))) c.each_item.ensures.found
+    on_ok_weaker c.each_item.result (λ e. e ∙ ap (λ ns. plus (put_found g.V.Visit.put) (kept g.V.Visit.kept c.args.found.now) (flat_map (done (base_of c.args.ground.now) c.args.task) ns)) (sym (c.in-Items.ensures.children (link_steps c.args.path.now)))) c.each_item.ensures.found
 
 pub each_child-returns-in-Members-clause-found : goal.each_child-returns-in-Members-clause-found
 each_child-returns-in-Members-clause-found g t c =
-    on_ok_weaker c.each_member.result (λ e. e ∙ ap (λ ns. plus (put_found g.V.Visit.put) (kept g.V.Visit.kept c.args.found.now) (flat_map (done (part_value c.args.ground.now.root) c.args.task) ns)) (sym (c.in-Members.ensures.children (link_steps c.args.path.now)))) c.each_member.ensures.found
+    on_ok_weaker c.each_member.result (λ e. e ∙ ap (λ ns. plus (put_found g.V.Visit.put) (kept g.V.Visit.kept c.args.found.now) (flat_map (done (base_of c.args.ground.now) c.args.task) ns)) (sym (c.in-Members.ensures.children (link_steps c.args.path.now)))) c.each_member.ensures.found
 
 pub each_child-returns-in-Nothing-clause-found : goal.each_child-returns-in-Nothing-clause-found
 each_child-returns-in-Nothing-clause-found g t c =
-    nothing_found (put_found g.V.Visit.put) _ _ (ap (flat_map (done (part_value c.args.ground.now.root) c.args.task)) (c.in-Nothing.ensures.children (link_steps c.args.path.now)))
+    nothing_found (put_found g.V.Visit.put) _ _ (ap (flat_map (done (base_of c.args.ground.now) c.args.task)) (c.in-Nothing.ensures.children (link_steps c.args.path.now)))
 
 pub apply-returns-then-is_full-clause-found : goal.apply-returns-then-is_full-clause-found
 apply-returns-then-is_full-clause-found g t c =
@@ -355,22 +287,67 @@ each_place-returns-then-is_full-clause-found g t c =
 pub each_place-place_after-next-requires-clause-bounds : goal.each_place-place_after-next-requires-clause-bounds
 each_place-place_after-next-requires-clause-bounds g t c = within_more _ _ _ (part_is_short c.args.value) c.requires
 
-pub hand_nodes-returns-in-Literal-clause-found : goal.hand_nodes-returns-in-Literal-clause-found
-hand_nodes-returns-in-Literal-clause-found g t c =
-    nothing_found (put_found g.V.Visit.put) _ _ (ap (λ a. as_nodes (handed tests (part_value c.args.ground.now.root) (argument_of a) (here c.args.path.now c.args.value))) c.in-Literal.is ∙ ap (λ a. as_nodes (handed tests (part_value c.args.ground.now.root) a (here c.args.path.now c.args.value))) (literal_argument_made _))
+pub first-returns-in_ok-run-in-Here-clause-value : goal.first-returns-in_ok-run-in-Here-clause-value
+first-returns-in_ok-run-in-Here-clause-value g t c =
+    c.into_first.ensures ∙ ap kept_first c.in_ok-run-in-Here.ensures.found ∙ first_kept g.V.Visit.put _
+    ∙ ap first_value (nodes_here (base_of c.args.ground.now) (here c.args.path.now c.args.value) c.in-Here.segments c.as_slice.result.now want.First c.as_slice.ensures.value ∙ sym (ap (λ q. nodes_given (base_of c.args.ground.now) q want.First (here c.args.path.now c.args.value)) c.in-Here.is))
 
-pub hand_nodes-returns-in-Logical-clause-found : goal.hand_nodes-returns-in-Logical-clause-found
-hand_nodes-returns-in-Logical-clause-found g t c =
-    nothing_found (put_found g.V.Visit.put) _ _ (ap (λ a. as_nodes (handed tests (part_value c.args.ground.now.root) (argument_of a) (here c.args.path.now c.args.value))) c.in-Logical.is ∙ ap (λ a. as_nodes (handed tests (part_value c.args.ground.now.root) a (here c.args.path.now c.args.value))) (logical_argument_made _))
+pub holds-returns-in_ok-pattern-in-Match-clause-truth : goal.holds-returns-in_ok-pattern-in-Match-clause-truth
+holds-returns-in_ok-pattern-in-Match-clause-truth g t c =
+    let second = rw c.in_ok-text-in-Match.ensures.path at c.in_ok-pattern-in-Match.ensures.value in
+    IfOk-weaker c.matches.result _ _ (λ b e. e ∙ ap₂ (tested tests.is_match) c.in_ok-text-in-Match.ensures.value second ∙ sym (ap (λ l. is_true (base_of c.args.ground.now) l (here c.args.path.now c.args.value)) c.in-Match.is ∙ true_match (base_of c.args.ground.now) (here c.args.path.now c.args.value) c.in-Match.text c.in-Match.pattern)) c.matches.ensures
 
-pub hand_nodes-returns-in-Call-clause-found : goal.hand_nodes-returns-in-Call-clause-found
-hand_nodes-returns-in-Call-clause-found g t c =
-    nothing_found (put_found g.V.Visit.put) _ _ (ap (λ a. as_nodes (handed tests (part_value c.args.ground.now.root) (argument_of a) (here c.args.path.now c.args.value))) c.in-Call.is ∙ ap (λ a. as_nodes (handed tests (part_value c.args.ground.now.root) a (here c.args.path.now c.args.value))) (call_argument_made _) ∙ no_nodes (part_value c.args.ground.now.root) (here c.args.path.now c.args.value) _)
+pub holds-returns-in_ok-pattern-in-Search-clause-truth : goal.holds-returns-in_ok-pattern-in-Search-clause-truth
+holds-returns-in_ok-pattern-in-Search-clause-truth g t c =
+    let second = rw c.in_ok-text-in-Search.ensures.path at c.in_ok-pattern-in-Search.ensures.value in
+    IfOk-weaker c.searches.result _ _ (λ b e. e ∙ ap₂ (tested tests.is_found) c.in_ok-text-in-Search.ensures.value second ∙ sym (ap (λ l. is_true (base_of c.args.ground.now) l (here c.args.path.now c.args.value)) c.in-Search.is ∙ true_search (base_of c.args.ground.now) (here c.args.path.now c.args.value) c.in-Search.text c.in-Search.pattern)) c.searches.ensures
 
-pub give_of_one-returns-in_ok-hand_nodes-in-Count-clause-given : goal.give_of_one-returns-in_ok-hand_nodes-in-Count-clause-given
-give_of_one-returns-in_ok-hand_nodes-in-Count-clause-given g t c =
-    rw c.in-Count.is (ap handed_value (c.into_count.ensures.value ∙ ap (λ n. Some (number_value n)) (ap kept_count c.in_ok-hand_nodes-in-Count.ensures.found ∙ counted g.V.Visit.put _)))
+pub holds-returns-in_ok-right-in-Compare-clause-truth : goal.holds-returns-in_ok-right-in-Compare-clause-truth
+holds-returns-in_ok-right-in-Compare-clause-truth g t c =
+    let second = rw c.in_ok-left-in-Compare.ensures.path at c.in_ok-right-in-Compare.ensures.value in
+    c.compare.ensures ∙ ap₂ (compared c.in-Compare.operator) c.in_ok-left-in-Compare.ensures.value second ∙ sym (ap (λ l. is_true (base_of c.args.ground.now) l (here c.args.path.now c.args.value)) c.in-Compare.is ∙ true_compare (base_of c.args.ground.now) (here c.args.path.now c.args.value) c.in-Compare.left c.in-Compare.operator c.in-Compare.right)
 
-pub give_of_one-returns-in_ok-hand_nodes-in-Value-clause-given : goal.give_of_one-returns-in_ok-hand_nodes-in-Value-clause-given
-give_of_one-returns-in_ok-hand_nodes-in-Value-clause-given g t c =
-    rw c.in-Value.is (ap handed_value (c.into_only.ensures.value ∙ ap kept_only c.in_ok-hand_nodes-in-Value.ensures.found ∙ only_kept g.V.Visit.put _))
+pub holds-returns-in_ok-text-in-MatchRead-clause-truth : goal.holds-returns-in_ok-text-in-MatchRead-clause-truth
+holds-returns-in_ok-text-in-MatchRead-clause-truth g t c =
+    IfOk-weaker c.matches_known.result _ _ (λ b e. e ∙ ap (λ o. tested tests.is_match o (Some (text (text_of c.in-MatchRead.known.text)))) c.in_ok-text-in-MatchRead.ensures.value ∙ sym (ap (λ l. is_true (base_of c.args.ground.now) l (here c.args.path.now c.args.value)) c.in-MatchRead.is ∙ true_match_known (base_of c.args.ground.now) (here c.args.path.now c.args.value) c.in-MatchRead.text c.in-MatchRead.known)) c.matches_known.ensures
+
+pub holds-returns-in_ok-text-in-SearchRead-clause-truth : goal.holds-returns-in_ok-text-in-SearchRead-clause-truth
+holds-returns-in_ok-text-in-SearchRead-clause-truth g t c =
+    IfOk-weaker c.searches_known.result _ _ (λ b e. e ∙ ap (λ o. tested tests.is_found o (Some (text (text_of c.in-SearchRead.known.text)))) c.in_ok-text-in-SearchRead.ensures.value ∙ sym (ap (λ l. is_true (base_of c.args.ground.now) l (here c.args.path.now c.args.value)) c.in-SearchRead.is ∙ true_search_known (base_of c.args.ground.now) (here c.args.path.now c.args.value) c.in-SearchRead.text c.in-SearchRead.known)) c.searches_known.ensures
+
+pub give-returns-in-Constant-clause-value : goal.give-returns-in-Constant-clause-value
+give-returns-in-Constant-clause-value g t c = c.literal.ensures.value ∙ sym (ap (λ v. value_given (base_of c.args.ground.now) v (here c.args.path.now c.args.value)) c.in-Constant.is ∙ given_constant (base_of c.args.ground.now) (here c.args.path.now c.args.value) c.in-Constant.constant)
+
+pub give-returns-in_ok-count-in-Count-clause-value : goal.give-returns-in_ok-count-in-Count-clause-value
+give-returns-in_ok-count-in-Count-clause-value g t c = c.count_operand.ensures.value ∙ ap (λ k. Some (number_value k)) c.in_ok-count-in-Count.ensures.value ∙ sym (ap (λ v. value_given (base_of c.args.ground.now) v (here c.args.path.now c.args.value)) c.in-Count.is ∙ given_count (base_of c.args.ground.now) (here c.args.path.now c.args.value) c.in-Count.nodes)
+
+pub give-returns-in_ok-first-in-Single-clause-value : goal.give-returns-in_ok-first-in-Single-clause-value
+give-returns-in_ok-first-in-Single-clause-value g t c = c.operand.ensures.value ∙ c.in_ok-first-in-Single.ensures.value ∙ sym (ap (λ v. value_given (base_of c.args.ground.now) v (here c.args.path.now c.args.value)) c.in-Single.is ∙ given_single (base_of c.args.ground.now) (here c.args.path.now c.args.value) c.in-Single.nodes)
+
+pub give-returns-in_ok-give-in-Length-clause-value : goal.give-returns-in_ok-give-in-Length-clause-value
+give-returns-in_ok-give-in-Length-clause-value g t c = c.length.ensures.value ∙ ap length_value (c.in_ok-give-in-Length.ensures.value ∙ ap (λ v. value_given (base_of c.args.ground.now) v (here c.args.path.now c.args.value)) c.deref.ensures) ∙ sym (ap (λ v. value_given (base_of c.args.ground.now) v (here c.args.path.now c.args.value)) c.in-Length.is ∙ given_length (base_of c.args.ground.now) (here c.args.path.now c.args.value) c.in-Length.of)
+
+pub give-returns-in_ok-only-in-Only-clause-value : goal.give-returns-in_ok-only-in-Only-clause-value
+give-returns-in_ok-only-in-Only-clause-value g t c = c.only_operand.ensures.value ∙ c.in_ok-only-in-Only.ensures.value ∙ sym (ap (λ v. value_given (base_of c.args.ground.now) v (here c.args.path.now c.args.value)) c.in-Only.is ∙ given_only (base_of c.args.ground.now) (here c.args.path.now c.args.value) c.in-Only.nodes)
+
+pub first-returns-in-Root-clause-value : goal.first-returns-in-Root-clause-value
+first-returns-in-Root-clause-value g t c =
+    c.first.ensures (here c.args.path.now c.args.value) ∙ ap first_value (nodes_root (base_of c.args.ground.now) (here c.args.path.now c.args.value) c.in-Root.slot want.First ∙ sym (ap (λ q. nodes_given (base_of c.args.ground.now) q want.First (here c.args.path.now c.args.value)) c.in-Root.is))
+
+pub count-returns-in-Root-clause-value : goal.count-returns-in-Root-clause-value
+count-returns-in-Root-clause-value g t c =
+    c.count.ensures (here c.args.path.now c.args.value) ∙ ap length (nodes_root (base_of c.args.ground.now) (here c.args.path.now c.args.value) c.in-Root.slot want.Count ∙ sym (ap (λ q. nodes_given (base_of c.args.ground.now) q want.Count (here c.args.path.now c.args.value)) c.in-Root.is))
+
+pub count-returns-in_ok-run-in-Here-clause-value : goal.count-returns-in_ok-run-in-Here-clause-value
+count-returns-in_ok-run-in-Here-clause-value g t c =
+    c.count_of.ensures ∙ ap kept_count c.in_ok-run-in-Here.ensures.found ∙ counted g.V.Visit.put _
+    ∙ ap length (nodes_here (base_of c.args.ground.now) (here c.args.path.now c.args.value) c.in-Here.segments c.as_slice.result.now want.Count c.as_slice.ensures.value ∙ sym (ap (λ q. nodes_given (base_of c.args.ground.now) q want.Count (here c.args.path.now c.args.value)) c.in-Here.is))
+
+pub only-returns-in-Root-clause-value : goal.only-returns-in-Root-clause-value
+only-returns-in-Root-clause-value g t c =
+    c.only.ensures (here c.args.path.now c.args.value) ∙ ap only_value (nodes_root (base_of c.args.ground.now) (here c.args.path.now c.args.value) c.in-Root.slot want.Only ∙ sym (ap (λ q. nodes_given (base_of c.args.ground.now) q want.Only (here c.args.path.now c.args.value)) c.in-Root.is))
+
+pub only-returns-in_ok-run-in-Here-clause-value : goal.only-returns-in_ok-run-in-Here-clause-value
+only-returns-in_ok-run-in-Here-clause-value g t c =
+    c.into_alone.ensures ∙ ap kept_only c.in_ok-run-in-Here.ensures.found ∙ only_kept g.V.Visit.put _
+    ∙ ap only_value (nodes_here (base_of c.args.ground.now) (here c.args.path.now c.args.value) c.in-Here.segments c.as_slice.result.now want.Only c.as_slice.ensures.value ∙ sym (ap (λ q. nodes_given (base_of c.args.ground.now) q want.Only (here c.args.path.now c.args.value)) c.in-Here.is))

@@ -5,14 +5,12 @@ use Rattle.serde_json.specs.Data.{depth, items_depth, members_depth}
 use Rattle.serde_json.specs.View.{view, items_view, members_view}
 use Rattle.jp_doc.specs.DocumentValue.{IsDocumentValue}
 use Rattle.jp_doc.specs.Json.{items_of, members_of}
-use Rattle.jp_syntax.specs.declared.tree.Query.{size-Query}
-use Rattle.jp_syntax.specs.declared.tree.Segment.{size-Segment}
-use Rattle.jp_syntax.specs.declared.tree.Selector.{size-Selector}
-use Rattle.jp_syntax.specs.declared.tree.Logical.{size-Logical}
-use Rattle.jp_syntax.specs.declared.tree.Comparison.{size-Comparison}
-use Rattle.jp_syntax.specs.declared.tree.Comparable.{size-Comparable}
-use Rattle.jp_syntax.specs.declared.tree.Call.{size-Call}
-use Rattle.jp_syntax.specs.declared.tree.Argument.{size-Argument}
+use Rattle.jp_check.specs.declared.ready.Segment.{size-Segment}
+use Rattle.jp_check.specs.declared.ready.Selector.{size-Selector}
+use Rattle.jp_check.specs.declared.ready.Logical.{size-Logical}
+use Rattle.jp_check.specs.declared.ready.Value.{size-Value}
+use Rattle.jp_check.specs.declared.ready.Nodes.{size-Nodes}
+use Rattle.jp_eval.specs.Base.{base_of}
 use Rattle.jp_eval.specs.BoundsView.{bounds_value}
 use Rattle.jp_eval.specs.Kept.{kept, put_found, plus}
 use Rattle.jp_eval.specs.Links.{here}
@@ -36,9 +34,6 @@ task_size (Test l rest) = max (size-Logical l.now) (most size-Segment rest.now)
 -- the size of what is left of the query, then the depth of the value, then the rank of the function
 abbrev pub weight : ℕ → Part → ℕ → ℕ
 weight size p rank = 2000 * size + 8 * depth (view p.value.now) + rank
-
-abbrev pub decreases-find : goal.decreases-find
-decreases-find g l = weight (size-Query l.query.now) l.value 2
 
 abbrev pub decreases-go : goal.decreases-go
 decreases-go g l = weight (task_size l.task) l.value 8
@@ -71,10 +66,16 @@ abbrev pub decreases-each_member : goal.decreases-each_member
 decreases-each_member g l = 2000 * task_size l.task + 8 * members_depth (members_view l.members.now.entries) + 9
 
 abbrev pub decreases-first : goal.decreases-first
-decreases-first g l = weight (size-Query l.query.now) l.value 3
+decreases-first g l = weight (size-Nodes l.nodes.now) l.value 7
 
-abbrev pub decreases-hand_nodes : goal.decreases-hand_nodes
-decreases-hand_nodes g l = weight (size-Argument l.argument.now) l.value 4
+abbrev pub decreases-count : goal.decreases-count
+decreases-count g l = weight (size-Nodes l.nodes.now) l.value 7
+
+abbrev pub decreases-only : goal.decreases-only
+decreases-only g l = weight (size-Nodes l.nodes.now) l.value 7
+
+abbrev pub decreases-give : goal.decreases-give
+decreases-give g l = weight (size-Value l.giver.now) l.value 7
 
 abbrev pub decreases-holds : goal.decreases-holds
 decreases-holds g l = weight (size-Logical l.test.now) l.value 7
@@ -85,34 +86,16 @@ decreases-any g l = weight (most size-Logical l.parts.now) l.value 8
 abbrev pub decreases-all : goal.decreases-all
 decreases-all g l = weight (most size-Logical l.parts.now) l.value 8
 
-abbrev pub decreases-compares : goal.decreases-compares
-decreases-compares g l = weight (size-Comparison l.comparison.now) l.value 6
-
-abbrev pub decreases-side : goal.decreases-side
-decreases-side g l = weight (size-Comparable l.side.now) l.value 5
-
-abbrev pub decreases-give : goal.decreases-give
-decreases-give g l = weight (size-Call l.call.now) l.value 6
-
-abbrev pub decreases-give_of_one : goal.decreases-give_of_one
-decreases-give_of_one g l = weight (size-Argument l.argument.now) l.value 5
-
-abbrev pub decreases-give_of_two : goal.decreases-give_of_two
-decreases-give_of_two g l = weight (max (size-Argument l.text.now) (size-Argument l.pattern.now)) l.value 5
-
-abbrev pub decreases-hand : goal.decreases-hand
-decreases-hand g l = weight (size-Argument l.argument.now) l.value 4
-
 abbrev pub invariant-apply-loop-selector : goal.invariant-apply-loop-selector
 invariant-apply-loop-selector g l =
-    let root = part_value l.ground.root in
+    let root = base_of l.ground in
     (l.path ≡ l.initial.path)
     × (plus (put_found g.V.Visit.put) (kept g.V.Visit.kept l.found) (reached root l.rest (picked_by root (drop l.selector-index l.selectors) (here l.path l.value)))
     ≡ plus (put_found g.V.Visit.put) (kept g.V.Visit.kept l.initial.found) (reached root l.rest (picked_by root l.selectors (here l.initial.path l.value))))
 
 abbrev pub invariant-each_place-loop-next : goal.invariant-each_place-loop-next
 invariant-each_place-loop-next g l =
-    let root = part_value l.ground.root in
+    let root = base_of l.ground in
     let bounds = bounds_value l.bounds in
     let len = item_count (part_value l.value) in
     (l.path ≡ l.initial.path)
@@ -125,7 +108,7 @@ decreases-each_place-loop-next g l = length (from_place (bounds_value l.bounds) 
 
 abbrev pub invariant-each_item-loop-index : goal.invariant-each_item-loop-index
 invariant-each_item-loop-index g l =
-    let root = part_value l.ground.root in
+    let root = base_of l.ground in
     (l.path ≡ l.initial.path)
     × All IsDocumentValue (drop l.index l.items.items)
     × (items_depth (items_view (drop l.index l.items.items)) ≤ items_depth (items_view l.items.items))
@@ -134,7 +117,7 @@ invariant-each_item-loop-index g l =
 
 abbrev pub invariant-each_member-loop-name : goal.invariant-each_member-loop-name
 invariant-each_member-loop-name g l =
-    let root = part_value l.ground.root in
+    let root = base_of l.ground in
     (l.path ≡ l.initial.path)
     × All (λ m. IsDocumentValue m.1) l.name-iterator
     × (members_depth (members_view l.name-iterator) ≤ members_depth (members_view l.members.entries))
@@ -144,11 +127,11 @@ invariant-each_member-loop-name g l =
 abbrev pub invariant-any-loop-part : goal.invariant-any-loop-part
 invariant-any-loop-part g l =
     (l.path ≡ l.initial.path)
-    × (list_any (λ p. is_true (part_value l.ground.root) p (here l.initial.path l.value)) (drop l.part-index l.parts)
-    ≡ list_any (λ p. is_true (part_value l.ground.root) p (here l.initial.path l.value)) l.parts)
+    × (list_any (λ p. is_true (base_of l.ground) p (here l.initial.path l.value)) (drop l.part-index l.parts)
+    ≡ list_any (λ p. is_true (base_of l.ground) p (here l.initial.path l.value)) l.parts)
 
 abbrev pub invariant-all-loop-part : goal.invariant-all-loop-part
 invariant-all-loop-part g l =
     (l.path ≡ l.initial.path)
-    × (list_all (λ p. is_true (part_value l.ground.root) p (here l.initial.path l.value)) (drop l.part-index l.parts)
-    ≡ list_all (λ p. is_true (part_value l.ground.root) p (here l.initial.path l.value)) l.parts)
+    × (list_all (λ p. is_true (base_of l.ground) p (here l.initial.path l.value)) (drop l.part-index l.parts)
+    ≡ list_all (λ p. is_true (base_of l.ground) p (here l.initial.path l.value)) l.parts)

@@ -3,7 +3,7 @@ use Rattle.std.proofs.lemmas.List.{nil_from_length}
 use Rattle.std.proofs.lemmas.Str.{chars_past_char, chars-nil}
 use Rattle.std.specs.Str.{chars}
 use Rattle.jp_check.specs.Numbers.{is_negative}
-use Rattle.jp_eval.proofs.numbers.is_negative.Goals as goal
+use Rattle.jp_check.proofs.written.is_negative.Goals as goal
 
 pub returns-in-Some : goal.returns-in-Some
 returns-in-Some c =

@@ -1,7 +1,7 @@
 use Rattle.std.proofs.Common.{◌≡◌, ◌<◌, ◌^◌, length, drop}
 use Rattle.std.specs.Str.{chars}
 use Rattle.jp_check.specs.Numbers.{magnitude, digits_from}
-use Rattle.jp_eval.proofs.numbers.magnitude.Given as goal
+use Rattle.jp_check.proofs.written.magnitude.Given as goal
 
 abbrev pub invariant-loop-c : goal.invariant-loop-c
 invariant-loop-c l =

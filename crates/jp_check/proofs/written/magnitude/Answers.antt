@@ -4,8 +4,8 @@ use Rattle.std.proofs.lemmas.Iterator.Consumers.{YieldsList-turn, YieldsList-end
 use Rattle.std.proofs.lemmas.List.{at_drop_all, length_push}
 use Rattle.std.specs.Str.{chars}
 use Rattle.jp_check.specs.Numbers.{digits_from}
-use Rattle.jp_eval.proofs.WrittenNumbers.{digits_grow, digit_read, magnitude_is}
-use Rattle.jp_eval.proofs.numbers.magnitude.Goals as goal
+use Rattle.jp_check.proofs.WrittenNumbers.{digits_grow, digit_read, magnitude_is}
+use Rattle.jp_check.proofs.written.magnitude.Goals as goal
 
 pub loop-c-init : goal.loop-c-init
 loop-c-init c = (magnitude_is (chars c.args.text.now), omega arith)

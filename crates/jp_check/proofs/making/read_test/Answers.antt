@@ -1,0 +1,23 @@
+use Rattle.std.proofs.Common.{◌≡◌, ◌∙◌, ap, sym, Some, option_map}
+use Rattle.jp_syntax.specs.Tree as tree
+use Rattle.jp_syntax.specs.View.{text_of}
+use Rattle.jp_check.specs.Functions.{function_named, match_function, search_function}
+use Rattle.jp_check.specs.Kinds.{function_of}
+use Rattle.jp_check.specs.Ready.{call_of_two, as_argument, text_argument, value_in}
+use Rattle.jp_check.proofs.Naming.{named_match, named_search}
+use Rattle.jp_check.proofs.ReadyViews.{match_known, search_known}
+use Rattle.jp_check.proofs.making.read_test.Goals as goal
+
+pub returns-in-Some-Match : goal.returns-in-Some-Match
+returns-in-Some-Match c = λ all name e.
+    let told = c.in-Some-Match.field-0-is in
+    let known : function_named name ≡ Some match_function = sym e ∙ ap (option_map function_of) c.in-Some-Match.is ∙ ap (λ f. Some (function_of f)) (rw c.in-Some-Match.is at told) in
+    match_known all c.args.text c.args.pattern
+    ∙ ap (λ n. tree.test_call (call_of_two n (as_argument (value_in all c.args.text)) (text_argument (text_of c.args.pattern.text)))) (sym (named_match name known))
+
+pub returns-in-Some-Search : goal.returns-in-Some-Search
+returns-in-Some-Search c = λ all name e.
+    let told = c.in-Some-Search.field-0-is in
+    let known : function_named name ≡ Some search_function = sym e ∙ ap (option_map function_of) c.in-Some-Search.is ∙ ap (λ f. Some (function_of f)) (rw c.in-Some-Search.is at told) in
+    search_known all c.args.text c.args.pattern
+    ∙ ap (λ n. tree.test_call (call_of_two n (as_argument (value_in all c.args.text)) (text_argument (text_of c.args.pattern.text)))) (sym (named_search name known))

@@ -1,0 +1,157 @@
+-- The query that a ready tree stands for.
+use Rattle.std.specs.Prelude.{ℕ, List, [], ◌∷◌, ◌++◌, map, get_or, codes, option_map}
+use Rattle.jp_syntax.specs.Tree as tree
+use Rattle.jp_syntax.specs.View.{text_of}
+use Rattle.jp_syntax.specs.declared.tree.Start.TheVariants as start
+use Rattle.jp_check.specs.declared.ready.Want.{Want}
+use Rattle.jp_check.specs.declared.ready.Want.TheVariants.{First, Count, Only}
+use Rattle.jp_check.specs.declared.ready.Position.{Position}
+use Rattle.jp_check.specs.declared.ready.Slice.{Slice}
+use Rattle.jp_check.specs.declared.ready.Constant.{Constant}
+use Rattle.jp_check.specs.declared.ready.Constant.TheVariants as constant
+use Rattle.jp_check.specs.declared.ready.Segment.{Segment, fold-Segment}
+use Rattle.jp_check.specs.declared.ready.Selector.{Selector, fold-Selector}
+use Rattle.jp_check.specs.declared.ready.Logical.{Logical, fold-Logical}
+use Rattle.jp_check.specs.declared.ready.Value.{Value, fold-Value}
+use Rattle.jp_check.specs.declared.ready.Nodes.{Nodes, fold-Nodes}
+use Rattle.jp_check.specs.declared.ready.Logical.TheOpen.{Logical-F, Nodes-F, Selector-F, Value-F, Segment-F}
+use Rattle.jp_check.specs.declared.ready.RootQuery.{RootQuery}
+use Rattle.jp_check.specs.declared.ready.Query.{Query}
+
+-- the segments of a `$` query inside a filter, by what the filter wants of it
+pub data Wanted : Type 0 where
+  first_of : tree.Segments → Wanted
+  count_of : tree.Segments → Wanted
+  only_of : tree.Segments → Wanted
+
+abbrev pub wanted : Want → tree.Segments → Wanted
+wanted First ss = first_of ss
+wanted Count ss = count_of ss
+wanted Only ss = only_of ss
+
+-- the segments, where this is what is wanted of them, and else none
+abbrev pub where_wanted : Want → Wanted → tree.Segments
+where_wanted First (first_of ss) = ss
+where_wanted Count (count_of ss) = ss
+where_wanted Only (only_of ss) = ss
+where_wanted _ _ = tree.no_segments
+
+-- the `$` query of a slot, of which this is wanted, and `$` where there is none
+abbrev pub root_at : List Wanted → ℕ → Want → tree.Query
+root_at roots slot want =
+    tree.query start.Root (where_wanted want (get_or roots slot (wanted want tree.no_segments)))
+
+abbrev pub position_text : Position → tree.Text
+position_text p = text_of p.text
+
+abbrev pub slice_of : Slice → tree.Selector
+slice_of s = tree.slice (option_map position_text s.first) (option_map position_text s.past)
+    (option_map position_text s.step)
+
+abbrev pub constant_of : Constant → tree.Literal
+constant_of (constant.Whole n) = tree.number (text_of n.text)
+constant_of (constant.Text s) = tree.text (text_of s)
+constant_of (constant.Truth b) = tree.truth b
+constant_of constant.Null = tree.null
+
+-- a side of a comparison as an argument
+abbrev pub as_argument : tree.Comparable → tree.Argument
+as_argument (tree.literal x) = tree.literal_argument x
+as_argument (tree.single q) = tree.query_argument q
+as_argument (tree.value_call c) = tree.call_argument c
+
+-- calls with one argument, and with two
+abbrev pub call_of_one : tree.Text → tree.Argument → tree.Call
+call_of_one function a = tree.call function (tree.arguments (a ∷ []))
+
+abbrev pub call_of_two : tree.Text → tree.Argument → tree.Argument → tree.Call
+call_of_two function a b = tree.call function (tree.arguments (a ∷ b ∷ []))
+
+-- an argument that is a text
+abbrev pub text_argument : tree.Text → tree.Argument
+text_argument t = tree.literal_argument (tree.text t)
+
+-- One level of the tree, where each part is already seen as what it stands for. `$` queries are these.
+module _ (roots : List Wanted) where
+  abbrev pub nodes_level : Nodes-F tree.Logical (Want → tree.Query) tree.Selector tree.Comparable tree.Segment
+      → Want → tree.Query
+  nodes_level (Nodes-F.Here ss) want = tree.query start.Current (tree.segments ss.items)
+  nodes_level (Nodes-F.Root slot) want = root_at roots slot want
+
+abbrev pub logical_level : Logical-F tree.Logical (Want → tree.Query) tree.Selector tree.Comparable tree.Segment
+    → tree.Logical
+logical_level (Logical-F.Any ls) = tree.any (tree.logicals ls.items)
+logical_level (Logical-F.All ls) = tree.all (tree.logicals ls.items)
+logical_level (Logical-F.Not l) = tree.negation l.value
+logical_level (Logical-F.Compare left o right) = tree.comparing (tree.comparison left o right)
+logical_level (Logical-F.Test q) = tree.test (q First)
+logical_level (Logical-F.Match s p) = tree.test_call (call_of_two (codes "match") (as_argument s) (as_argument p))
+logical_level (Logical-F.MatchRead s p) = tree.test_call
+    (call_of_two (codes "match") (as_argument s) (text_argument (text_of p.text)))
+logical_level (Logical-F.Search s p) = tree.test_call
+    (call_of_two (codes "search") (as_argument s) (as_argument p))
+logical_level (Logical-F.SearchRead s p) = tree.test_call
+    (call_of_two (codes "search") (as_argument s) (text_argument (text_of p.text)))
+
+abbrev pub selector_level : Selector-F tree.Logical (Want → tree.Query) tree.Selector tree.Comparable tree.Segment
+    → tree.Selector
+selector_level (Selector-F.Name s) = tree.name (text_of s)
+selector_level Selector-F.Wild = tree.wildcard
+selector_level (Selector-F.Index p) = tree.index (position_text p)
+selector_level (Selector-F.Slice s) = slice_of s
+selector_level (Selector-F.Filter l) = tree.filter l
+
+abbrev pub value_level : Value-F tree.Logical (Want → tree.Query) tree.Selector tree.Comparable tree.Segment
+    → tree.Comparable
+value_level (Value-F.Constant x) = tree.literal (constant_of x)
+value_level (Value-F.Single q) = tree.single (q First)
+value_level (Value-F.Length v) = tree.value_call (call_of_one (codes "length") (as_argument v.value))
+value_level (Value-F.Count q) = tree.value_call
+    (call_of_one (codes "count") (tree.query_argument (q Count)))
+value_level (Value-F.Only q) = tree.value_call
+    (call_of_one (codes "value") (tree.query_argument (q Only)))
+
+abbrev pub segment_level : Segment-F tree.Logical (Want → tree.Query) tree.Selector tree.Comparable tree.Segment
+    → tree.Segment
+segment_level s = tree.segment s.deep (tree.selectors s.selectors.items)
+
+-- what the parts of a ready tree stand for, where its `$` queries are these
+module _ (roots : List Wanted) where
+  abbrev pub segment_in : Segment → tree.Segment
+  segment_in = fold-Segment tree.Logical (Want → tree.Query) tree.Selector tree.Comparable tree.Segment
+      logical_level (nodes_level roots) selector_level value_level segment_level
+
+  abbrev pub selector_in : Selector → tree.Selector
+  selector_in = fold-Selector tree.Logical (Want → tree.Query) tree.Selector tree.Comparable tree.Segment
+      logical_level (nodes_level roots) selector_level value_level segment_level
+
+  abbrev pub logical_in : Logical → tree.Logical
+  logical_in = fold-Logical tree.Logical (Want → tree.Query) tree.Selector tree.Comparable tree.Segment
+      logical_level (nodes_level roots) selector_level value_level segment_level
+
+  abbrev pub value_in : Value → tree.Comparable
+  value_in = fold-Value tree.Logical (Want → tree.Query) tree.Selector tree.Comparable tree.Segment
+      logical_level (nodes_level roots) selector_level value_level segment_level
+
+  abbrev pub nodes_in : Nodes → Want → tree.Query
+  nodes_in = fold-Nodes tree.Logical (Want → tree.Query) tree.Selector tree.Comparable tree.Segment
+      logical_level (nodes_level roots) selector_level value_level segment_level
+
+  abbrev pub segments_in : List Segment → tree.Segments
+  segments_in ss = tree.segments (map segment_in ss)
+
+-- a `$` query of the list, where those before it are these
+abbrev pub wanted_in : List Wanted → RootQuery → Wanted
+wanted_in before r = wanted r.want (segments_in before r.segments.items)
+
+-- the `$` queries of the list, one after another
+abbrev pub roots_behind : List Wanted → List RootQuery → List Wanted
+roots_behind before [] = before
+roots_behind before (r ∷ rs) = roots_behind (before ++ wanted_in before r ∷ []) rs
+
+abbrev pub roots_of : List RootQuery → List Wanted
+roots_of rs = roots_behind [] rs
+
+-- the query
+abbrev pub ready_query : Query → tree.Query
+ready_query q = tree.query q.start (segments_in (roots_of q.roots.items) q.segments.items)

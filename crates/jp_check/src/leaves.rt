@@ -1,0 +1,72 @@
+//! The leaves of a ready tree.
+
+ghost use Rattle.std.specs.Prelude.{◌≡◌, option_map, IfOk};
+ghost use Rattle.std.specs.Str.{chars};
+ghost use Rattle.jp_syntax.specs.View.{literal_of, slice_of, text_of};
+ghost use Rattle.jp_check.specs.Ready as ready;
+
+use crate::known::KnownPattern;
+use crate::ready::{Constant, Number, Position, Slice};
+use crate::written::{position, whole_number};
+use jp_regexp::Pattern;
+use jp_syntax::Literal;
+use std::alloc::{AllocError, Global};
+
+/// The text, and the pattern that it is, if it is one, made ready for many texts.
+pub(crate) fn read_pattern(alloc: Global, text: &str) -> Result<KnownPattern, AllocError>
+    ensures { IfOk result (λ k. text_of k.text ≡ chars text.now) }
+{
+    let pattern = Pattern::ready(alloc, text)?;
+    let text = String::from_str(alloc, text)?;
+    Ok(KnownPattern { text, pattern })
+}
+
+/// An index or a number of a slice.
+pub(crate) fn make_position(alloc: Global, text: &str) -> Result<Position, AllocError>
+    ensures { IfOk result (λ p. ready.position_text p ≡ chars text.now) }
+{
+    let value = position(text).ok_or(AllocError)?;
+    let text = String::from_str(alloc, text)?;
+    Ok(Position { text, value })
+}
+
+/// A number of a slice, which may be left out.
+fn make_part(alloc: Global, part: &Option<String>) -> Result<Option<Position>, AllocError>
+    ensures { IfOk result (λ o. option_map ready.position_text o ≡ option_map text_of part.now) }
+{
+    match part {
+        None => Ok(None),
+        Some(text) => Ok(Some(make_position(alloc, text.as_str())?)),
+    }
+}
+
+/// The numbers of a slice.
+pub(crate) fn make_slice(alloc: Global, slice: &jp_syntax::Slice) -> Result<Slice, AllocError>
+    ensures { IfOk result (λ s. ready.slice_of s ≡ slice_of slice.now) }
+{
+    let first = make_part(alloc, &slice.first)?;
+    let past = make_part(alloc, &slice.past)?;
+    let step = make_part(alloc, &slice.step)?;
+    Ok(Slice { first, past, step })
+}
+
+/// A number literal.
+fn make_number(alloc: Global, text: &str) -> Result<Number, AllocError>
+    ensures { IfOk result (λ n. text_of n.text ≡ chars text.now) }
+{
+    let value = whole_number(text).ok_or(AllocError)?;
+    let text = String::from_str(alloc, text)?;
+    Ok(Number { text, value })
+}
+
+/// A literal.
+pub(crate) fn make_constant(alloc: Global, literal: &Literal) -> Result<Constant, AllocError>
+    ensures { IfOk result (λ x. ready.constant_of x ≡ literal_of literal.now) }
+{
+    match literal {
+        Literal::Number(text) => Ok(Constant::Whole(make_number(alloc, text.as_str())?)),
+        Literal::Text(text) => Ok(Constant::Text(String::from_str(alloc, text.as_str())?)),
+        Literal::Truth(truth) => Ok(Constant::Truth(*truth)),
+        Literal::Null => Ok(Constant::Null),
+    }
+}

@@ -1,0 +1,360 @@
+//! A query made ready, in one walk over its tree.
+
+ghost use Rattle.std.specs.Prelude.{◌≡◌, List, map, option_map, IfOk, OnOk};
+ghost use Rattle.jp_syntax.specs.Tree as tree;
+ghost use Rattle.jp_syntax.specs.Tree.{Text};
+ghost use Rattle.jp_syntax.specs.View.{query_of, text_of};
+ghost use Rattle.jp_syntax.specs.PartViews as view;
+ghost use Rattle.jp_check.specs.Functions as functions;
+ghost use Rattle.jp_check.specs.Kinds.{function_of};
+ghost use Rattle.jp_check.specs.Ready as ready;
+ghost use Rattle.jp_check.specs.Ready.{Wanted};
+ghost use Rattle.jp_check.specs.Making.{Begins, Reads};
+
+use crate::functions::{Function, function_named};
+use crate::known::KnownPattern;
+use crate::leaves::{make_constant, make_position, make_slice, read_pattern};
+use crate::patterns::literal_text;
+use crate::ready::{Logical, Nodes, Query, RootQuery, Segment, Selector, Value, Want};
+use jp_syntax::{Argument, Call, Comparable, Comparison, Start};
+use std::alloc::{AllocError, Global};
+
+/// A query made ready.
+pub(crate) fn make_query(alloc: Global, query: &jp_syntax::Query) -> Result<Query, AllocError>
+    ensures { IfOk result (λ r. ready.ready_query r ≡ query_of query.now) }
+{
+    let mut roots = Vec::new(alloc);
+    let segments = make_segments(alloc, query.segments.as_slice(), &mut roots)?;
+    Ok(Query {
+        start: query.start,
+        segments,
+        roots,
+    })
+}
+
+#[cycle(making)]
+fn make_segments(
+    alloc: Global,
+    segments: &[jp_syntax::Segment],
+    roots: &mut Vec<RootQuery>,
+) -> Result<Vec<Segment>, AllocError>
+    ensures made { IfOk result (λ v. Reads (ready.roots_of roots.new.items)
+        (λ all. map (ready.segment_in all) v.items) (view.segments_of segments.now)) }
+    ensures roots { OnOk result (Begins (ready.roots_of roots.old.items) (ready.roots_of roots.new.items)) }
+{
+    let mut made = Vec::with_capacity(alloc, segments.len())?;
+    for segment in segments {
+        made.push(make_segment(alloc, segment, roots)?)?;
+    }
+    Ok(made)
+}
+
+#[cycle(making)]
+fn make_segment(
+    alloc: Global,
+    segment: &jp_syntax::Segment,
+    roots: &mut Vec<RootQuery>,
+) -> Result<Segment, AllocError>
+    ensures made { IfOk result (λ s. Reads (ready.roots_of roots.new.items)
+        (λ all. ready.segment_in all s) (view.segment_of segment.now)) }
+    ensures roots { OnOk result (Begins (ready.roots_of roots.old.items) (ready.roots_of roots.new.items)) }
+{
+    let selectors = make_selectors(alloc, segment.selectors.as_slice(), roots)?;
+    Ok(Segment {
+        deep: segment.deep,
+        selectors,
+    })
+}
+
+#[cycle(making)]
+fn make_selectors(
+    alloc: Global,
+    selectors: &[jp_syntax::Selector],
+    roots: &mut Vec<RootQuery>,
+) -> Result<Vec<Selector>, AllocError>
+    ensures made { IfOk result (λ v. Reads (ready.roots_of roots.new.items)
+        (λ all. map (ready.selector_in all) v.items) (view.selectors_of selectors.now)) }
+    ensures roots { OnOk result (Begins (ready.roots_of roots.old.items) (ready.roots_of roots.new.items)) }
+{
+    let mut made = Vec::with_capacity(alloc, selectors.len())?;
+    for selector in selectors {
+        made.push(make_selector(alloc, selector, roots)?)?;
+    }
+    Ok(made)
+}
+
+#[cycle(making)]
+fn make_selector(
+    alloc: Global,
+    selector: &jp_syntax::Selector,
+    roots: &mut Vec<RootQuery>,
+) -> Result<Selector, AllocError>
+    ensures made { IfOk result (λ x. Reads (ready.roots_of roots.new.items)
+        (λ all. ready.selector_in all x) (view.selector_of selector.now)) }
+    ensures roots { OnOk result (Begins (ready.roots_of roots.old.items) (ready.roots_of roots.new.items)) }
+{
+    match selector {
+        jp_syntax::Selector::Name(name) => {
+            Ok(Selector::Name(String::from_str(alloc, name.as_str())?))
+        }
+        jp_syntax::Selector::Wild => Ok(Selector::Wild),
+        jp_syntax::Selector::Index(text) => {
+            Ok(Selector::Index(make_position(alloc, text.as_str())?))
+        }
+        jp_syntax::Selector::Slice(slice) => Ok(Selector::Slice(make_slice(alloc, slice)?)),
+        jp_syntax::Selector::Filter(logical) => {
+            Ok(Selector::Filter(make_logical(alloc, logical, roots)?))
+        }
+    }
+}
+
+#[cycle(making)]
+fn make_logical(
+    alloc: Global,
+    logical: &jp_syntax::Logical,
+    roots: &mut Vec<RootQuery>,
+) -> Result<Logical, AllocError>
+    ensures made { IfOk result (λ l. Reads (ready.roots_of roots.new.items)
+        (λ all. ready.logical_in all l) (view.logical_of logical.now)) }
+    ensures roots { OnOk result (Begins (ready.roots_of roots.old.items) (ready.roots_of roots.new.items)) }
+{
+    match logical {
+        jp_syntax::Logical::Any(parts) => Ok(Logical::Any(make_parts(alloc, parts, roots)?)),
+        jp_syntax::Logical::All(parts) => Ok(Logical::All(make_parts(alloc, parts, roots)?)),
+        jp_syntax::Logical::Not(part) => make_negation(alloc, part, roots),
+        jp_syntax::Logical::Compare(comparison) => make_comparison(alloc, comparison, roots),
+        jp_syntax::Logical::Test(query) => {
+            Ok(Logical::Test(make_nodes(alloc, Want::First, query, roots)?))
+        }
+        jp_syntax::Logical::Call(call) => make_test_call(alloc, call, roots),
+    }
+}
+
+/// `!` and a part. It is no part of `make_logical`, whose frame is needed once a bracket.
+#[cycle(making)]
+#[inline(never)]
+fn make_negation(
+    alloc: Global,
+    part: &jp_syntax::Logical,
+    roots: &mut Vec<RootQuery>,
+) -> Result<Logical, AllocError>
+    ensures made { IfOk result (λ l. Reads (ready.roots_of roots.new.items)
+        (λ all. ready.logical_in all l) (tree.negation (view.logical_of part.now))) }
+    ensures roots { OnOk result (Begins (ready.roots_of roots.old.items) (ready.roots_of roots.new.items)) }
+{
+    let part = make_logical(alloc, part, roots)?;
+    Ok(Logical::Not(Box::new(alloc, part)?))
+}
+
+/// A comparison. It is no part of `make_logical`, whose frame is needed once a bracket.
+#[cycle(making)]
+#[inline(never)]
+fn make_comparison(
+    alloc: Global,
+    comparison: &Comparison,
+    roots: &mut Vec<RootQuery>,
+) -> Result<Logical, AllocError>
+    ensures made { IfOk result (λ l. Reads (ready.roots_of roots.new.items)
+        (λ all. ready.logical_in all l) (tree.comparing (view.comparison_of comparison.now))) }
+    ensures roots { OnOk result (Begins (ready.roots_of roots.old.items) (ready.roots_of roots.new.items)) }
+{
+    let left = make_side(alloc, &comparison.left, roots)?;
+    let right = make_side(alloc, &comparison.right, roots)?;
+    Ok(Logical::Compare(left, comparison.op, right))
+}
+
+/// The parts of `||` or `&&`.
+#[cycle(making)]
+fn make_parts(
+    alloc: Global,
+    parts: &[jp_syntax::Logical],
+    roots: &mut Vec<RootQuery>,
+) -> Result<Vec<Logical>, AllocError>
+    ensures made { IfOk result (λ v. Reads (ready.roots_of roots.new.items)
+        (λ all. map (ready.logical_in all) v.items) (view.logicals_of parts.now)) }
+    ensures roots { OnOk result (Begins (ready.roots_of roots.old.items) (ready.roots_of roots.new.items)) }
+{
+    let mut made = Vec::with_capacity(alloc, parts.len())?;
+    for part in parts {
+        made.push(make_logical(alloc, part, roots)?)?;
+    }
+    Ok(made)
+}
+
+/// A query inside a filter, of whose nodes this is wanted.
+#[cycle(making)]
+fn make_nodes(
+    alloc: Global,
+    want: Want,
+    query: &jp_syntax::Query,
+    roots: &mut Vec<RootQuery>,
+) -> Result<Nodes, AllocError>
+    ensures made { IfOk result (λ q. Reads (ready.roots_of roots.new.items)
+        (λ all. ready.nodes_in all q want) (query_of query.now)) }
+    ensures roots { OnOk result (Begins (ready.roots_of roots.old.items) (ready.roots_of roots.new.items)) }
+{
+    let segments = make_segments(alloc, query.segments.as_slice(), roots)?;
+    match query.start {
+        Start::Current => Ok(Nodes::Here(segments)),
+        Start::Root => {
+            let slot = roots.len();
+            roots.push(RootQuery { want, segments })?;
+            Ok(Nodes::Root(slot))
+        }
+    }
+}
+
+/// A side of a comparison.
+#[cycle(making)]
+fn make_side(
+    alloc: Global,
+    side: &Comparable,
+    roots: &mut Vec<RootQuery>,
+) -> Result<Value, AllocError>
+    ensures made { IfOk result (λ v. Reads (ready.roots_of roots.new.items)
+        (λ all. ready.value_in all v) (view.comparable_of side.now)) }
+    ensures roots { OnOk result (Begins (ready.roots_of roots.old.items) (ready.roots_of roots.new.items)) }
+{
+    match side {
+        Comparable::Literal(literal) => Ok(Value::Constant(make_constant(alloc, literal)?)),
+        Comparable::Single(query) => {
+            Ok(Value::Single(make_nodes(alloc, Want::First, query, roots)?))
+        }
+        Comparable::Call(call) => make_value_call(alloc, call, roots),
+    }
+}
+
+/// An argument that gives a value. Any other, which no accepted query has, is refused.
+#[cycle(making)]
+fn make_value(
+    alloc: Global,
+    argument: &Argument,
+    roots: &mut Vec<RootQuery>,
+) -> Result<Value, AllocError>
+    ensures made { IfOk result (λ v. Reads (ready.roots_of roots.new.items)
+        (λ all. ready.as_argument (ready.value_in all v)) (view.argument_of argument.now)) }
+    ensures roots { OnOk result (Begins (ready.roots_of roots.old.items) (ready.roots_of roots.new.items)) }
+{
+    match argument {
+        Argument::Literal(literal) => Ok(Value::Constant(make_constant(alloc, literal)?)),
+        Argument::Query(query) => {
+            Ok(Value::Single(make_nodes(alloc, Want::First, query, roots)?))
+        }
+        Argument::Logical(_) => Err(AllocError),
+        Argument::Call(call) => make_value_call(alloc, call, roots),
+    }
+}
+
+/// An argument that gives nodes. Any other, which no accepted query has, is refused.
+#[cycle(making)]
+fn make_argument_nodes(
+    alloc: Global,
+    want: Want,
+    argument: &Argument,
+    roots: &mut Vec<RootQuery>,
+) -> Result<Nodes, AllocError>
+    ensures made { IfOk result (λ q. Reads (ready.roots_of roots.new.items)
+        (λ all. tree.query_argument (ready.nodes_in all q want)) (view.argument_of argument.now)) }
+    ensures roots { OnOk result (Begins (ready.roots_of roots.old.items) (ready.roots_of roots.new.items)) }
+{
+    match argument {
+        Argument::Query(query) => make_nodes(alloc, want, query, roots),
+        Argument::Literal(_) => Err(AllocError),
+        Argument::Logical(_) => Err(AllocError),
+        Argument::Call(_) => Err(AllocError),
+    }
+}
+
+/// A call that gives a value. Any other, which no accepted query has, is refused.
+#[cycle(making)]
+fn make_value_call(
+    alloc: Global,
+    call: &Call,
+    roots: &mut Vec<RootQuery>,
+) -> Result<Value, AllocError>
+    ensures made { IfOk result (λ v. Reads (ready.roots_of roots.new.items)
+        (λ all. ready.value_in all v) (tree.value_call (view.call_of call.now))) }
+    ensures roots { OnOk result (Begins (ready.roots_of roots.old.items) (ready.roots_of roots.new.items)) }
+{
+    let [argument] = call.arguments.as_slice() else {
+        return Err(AllocError);
+    };
+    match function_named(call.name.as_str()) {
+        Some(Function::Length) => {
+            let value = make_value(alloc, argument, roots)?;
+            Ok(Value::Length(Box::new(alloc, value)?))
+        }
+        Some(Function::Count) => {
+            Ok(Value::Count(make_argument_nodes(alloc, Want::Count, argument, roots)?))
+        }
+        Some(Function::Value) => {
+            Ok(Value::Only(make_argument_nodes(alloc, Want::Only, argument, roots)?))
+        }
+        Some(Function::Match) => Err(AllocError),
+        Some(Function::Search) => Err(AllocError),
+        None => Err(AllocError),
+    }
+}
+
+/// A call that gives true or false. Any other, which no accepted query has, is refused.
+#[cycle(making)]
+#[inline(never)]
+fn make_test_call(
+    alloc: Global,
+    call: &Call,
+    roots: &mut Vec<RootQuery>,
+) -> Result<Logical, AllocError>
+    ensures made { IfOk result (λ l. Reads (ready.roots_of roots.new.items)
+        (λ all. ready.logical_in all l) (tree.test_call (view.call_of call.now))) }
+    ensures roots { OnOk result (Begins (ready.roots_of roots.old.items) (ready.roots_of roots.new.items)) }
+{
+    let [text, pattern] = call.arguments.as_slice() else {
+        return Err(AllocError);
+    };
+    let function = function_named(call.name.as_str());
+    let text = make_value(alloc, text, roots)?;
+    if let Some(pattern) = literal_text(pattern) {
+        let pattern = read_pattern(alloc, pattern)?;
+        let test = read_test(function, text, pattern)?;
+        return Ok(test);
+    }
+    let pattern = make_value(alloc, pattern, roots)?;
+    let test = given_test(function, text, pattern)?;
+    Ok(test)
+}
+
+/// A call with a literal pattern.
+fn read_test(
+    function: Option<Function>,
+    text: Value,
+    pattern: KnownPattern,
+) -> Result<Logical, AllocError>
+    ensures { IfOk result (λ l. (all : List Wanted) (name : Text)
+        → option_map function_of function ≡ functions.function_named name
+        → ready.logical_in all l ≡ tree.test_call (ready.call_of_two name
+        (ready.as_argument (ready.value_in all text)) (ready.text_argument (text_of pattern.text)))) }
+{
+    match function {
+        Some(Function::Match) => Ok(Logical::MatchRead(text, pattern)),
+        Some(Function::Search) => Ok(Logical::SearchRead(text, pattern)),
+        _ => Err(AllocError),
+    }
+}
+
+/// A call with a pattern that is known only at a node.
+fn given_test(
+    function: Option<Function>,
+    text: Value,
+    pattern: Value,
+) -> Result<Logical, AllocError>
+    ensures { IfOk result (λ l. (all : List Wanted) (name : Text)
+        → option_map function_of function ≡ functions.function_named name
+        → ready.logical_in all l ≡ tree.test_call (ready.call_of_two name
+        (ready.as_argument (ready.value_in all text)) (ready.as_argument (ready.value_in all pattern)))) }
+{
+    match function {
+        Some(Function::Match) => Ok(Logical::Match(text, pattern)),
+        Some(Function::Search) => Ok(Logical::Search(text, pattern)),
+        _ => Err(AllocError),
+    }
+}

@@ -1,0 +1,165 @@
+//! The tree of a query made ready: what can be known of it before there is a document.
+//!
+//! Numbers are read, functions are resolved, literal patterns are read, and each `$` query inside a filter has
+//! a slot: it stands in a list of its own, behind those that stand inside it.
+
+ghost use Rattle.std.specs.Prelude.{◌≡◌, ◌≤ℤ◌, neg_ℤ, pos};
+ghost use Rattle.std.proofs.Props.{props};
+ghost use Rattle.jp_syntax.specs.View.{text_of};
+ghost use Rattle.jp_check.specs.Numbers.{whole_number, max_index};
+
+pub use crate::known::KnownPattern;
+use jp_syntax::{Operator, Start};
+
+/// A query made ready.
+#[derive(Drop)]
+pub struct Query {
+    /// The identifier that the query begins with.
+    pub start: Start,
+    /// The segments, in the order of the text.
+    pub segments: Vec<Segment>,
+    /// The `$` queries inside its filters, each behind those inside of it.
+    pub roots: Vec<RootQuery>,
+}
+
+/// A `$` query inside a filter.
+#[derive(Drop)]
+pub struct RootQuery {
+    /// What the filter wants of its nodes.
+    pub want: Want,
+    /// Its segments.
+    pub segments: Vec<Segment>,
+}
+
+/// What a filter wants of the nodes of a query.
+#[derive(Clone, Copy, Debug, PartialEq, Eq)]
+pub enum Want {
+    /// The value of the first, if there is one.
+    First,
+    /// How many there are.
+    Count,
+    /// The value of the only one, if there is exactly one.
+    Only,
+}
+
+/// A segment (RFC 9535, 2.5).
+#[cycle(ready)]
+#[derive(Drop)]
+pub struct Segment {
+    /// Whether it is a descendant segment.
+    pub deep: bool,
+    /// Its selectors.
+    pub selectors: Vec<Selector>,
+}
+
+/// A selector (RFC 9535, 2.3).
+#[cycle(ready)]
+#[derive(Drop)]
+pub enum Selector {
+    /// The member of this name.
+    Name(String),
+    /// All children.
+    Wild,
+    /// The item at this index.
+    Index(Position),
+    /// The items of a slice.
+    Slice(Slice),
+    /// The children for which the expression is true.
+    Filter(Logical),
+}
+
+/// An index or a number of a slice, at most 9007199254740991 from zero.
+#[derive(Drop)]
+pub struct Position {
+    /// As it is written.
+    pub text: String,
+    /// The number.
+    pub value: i64,
+    pub ghost read: { value ≡ whole_number (text_of text) },
+    pub ghost least: { neg_ℤ (pos max_index) ≤ℤ value } by { Prim.hlevel props },
+    pub ghost greatest: { value ≤ℤ pos max_index } by { Prim.hlevel props },
+}
+
+/// The numbers of a slice.
+#[derive(Drop)]
+pub struct Slice {
+    /// Where it starts.
+    pub first: Option<Position>,
+    /// Where it ends; this index itself is left out.
+    pub past: Option<Position>,
+    /// The distance between two items.
+    pub step: Option<Position>,
+}
+
+/// A logical expression (RFC 9535, 2.3.5).
+#[cycle(ready)]
+#[derive(Drop)]
+pub enum Logical {
+    /// Parts joined by `||`.
+    Any(Vec<Logical>),
+    /// Parts joined by `&&`.
+    All(Vec<Logical>),
+    /// `!` and a part.
+    Not(Box<Logical>),
+    /// A comparison.
+    Compare(Value, Operator, Value),
+    /// A query, which is true where it selects some node.
+    Test(Nodes),
+    /// `match` of a text and a pattern's text.
+    Match(Value, Value),
+    /// `match` of a text and a literal pattern.
+    MatchRead(Value, KnownPattern),
+    /// `search` of a text and a pattern's text.
+    Search(Value, Value),
+    /// `search` of a text and a literal pattern.
+    SearchRead(Value, KnownPattern),
+}
+
+/// What gives a value, or nothing: a side of a comparison, or an argument.
+#[cycle(ready)]
+#[derive(Drop)]
+pub enum Value {
+    /// A literal.
+    Constant(Constant),
+    /// The value of the only node of a singular query.
+    Single(Nodes),
+    /// `length` of a value.
+    Length(Box<Value>),
+    /// `count` of the nodes of a query.
+    Count(Nodes),
+    /// `value` of the nodes of a query.
+    Only(Nodes),
+}
+
+/// A query inside a filter.
+#[cycle(ready)]
+#[derive(Drop)]
+pub enum Nodes {
+    /// The segments from the current node on.
+    Here(Vec<Segment>),
+    /// The `$` query at this place of the list.
+    Root(usize),
+}
+
+/// A literal.
+#[derive(Drop)]
+pub enum Constant {
+    /// A whole number.
+    Whole(Number),
+    /// A string's value.
+    Text(String),
+    /// `true` or `false`.
+    Truth(bool),
+    /// `null`
+    Null,
+}
+
+/// A number literal.
+#[derive(Drop)]
+pub struct Number {
+    /// As it is written.
+    pub text: String,
+    /// The number.
+    pub value: i128,
+    pub ghost read: { value ≡ whole_number (text_of text) },
+}

@@ -1,0 +1,14 @@
+-- A step of a proof, which nobody has to believe: what a ready tree is read by.
+use Rattle.std.specs.Prelude.{List}
+use Rattle.jp_doc.specs.Json.{Json}
+use Rattle.jp_check.specs.Ready.{Wanted, roots_of}
+use Rattle.jp_eval.specs.Part.{part_value}
+use Rattle.jp_eval.specs.declared.ground.Ground.{Ground}
+
+-- the document, and the `$` queries inside filters
+pub record Base : Type 0 where
+  pub root : Json
+  pub roots : List Wanted
+
+abbrev pub base_of : Ground → Base
+base_of g = record { root = part_value g.root; roots = roots_of g.roots.now }

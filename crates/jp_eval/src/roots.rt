@@ -1,0 +1,61 @@
+//! The `$` queries inside filters, each answered once a document.
+
+ghost use Rattle.std.specs.Prelude.{◌≡◌, true, IfOk};
+ghost use Rattle.jp_check.specs.Ready.{roots_of, wanted_in};
+ghost use Rattle.jp_eval.specs.Answers.{is_answer};
+ghost use Rattle.jp_eval.specs.Part.{part_value};
+
+use crate::found::{Alone, Answer, Found, count_of, into_alone, into_first};
+use crate::ground::Ground;
+use crate::part::Part;
+use crate::visit::Visit;
+use crate::walk::run;
+use jp_check::ready::{RootQuery, Want};
+use jp_trail::Trail;
+use std::alloc::{AllocError, Global};
+
+/// What the filters want of these `$` queries, each found with the answers of those before it.
+pub(crate) fn answer_all<'v, V: Visit + Drop>(
+    alloc: Global,
+    root: Part<'v>,
+    roots: &'v [RootQuery],
+) -> Result<Ground<'v>, AllocError>
+    ensures root { IfOk result (λ g. part_value g.root ≡ part_value root.entry) }
+    ensures roots { IfOk result (λ g. g.roots.now ≡ roots.now) }
+{
+    let mut ground = Ground::new(alloc, root);
+    for (slot, query) in roots.iter().enumerate() {
+        let answer = answer::<V>(&ground, query)?;
+        ground = ground.with(&roots[..slot + 1], query, answer)?;
+    }
+    Ok(ground)
+}
+
+/// What is wanted of a `$` query.
+fn answer<'v, V: Visit + Drop>(
+    ground: &Ground<'v>,
+    query: &'v RootQuery,
+) -> Result<Answer<'v>, AllocError>
+    ensures { IfOk result (λ a. is_answer (part_value ground.now.root)
+        (wanted_in (roots_of ground.now.roots.now) query.now) a ≡ true) }
+{
+    let segments = query.segments.as_slice();
+    let mut path = Trail::new(ground.alloc);
+    match query.want {
+        Want::First => {
+            let mut found = Found::<'v, V>::First(None);
+            run(ground, segments, ground.root, &mut path, &mut found)?;
+            Ok(Answer::First(into_first(found)))
+        }
+        Want::Count => {
+            let mut found = Found::<'v, V>::Count(0);
+            run(ground, segments, ground.root, &mut path, &mut found)?;
+            Ok(Answer::Count(count_of(&found)))
+        }
+        Want::Only => {
+            let mut found = Found::<'v, V>::Only(Alone::None);
+            run(ground, segments, ground.root, &mut path, &mut found)?;
+            Ok(Answer::Only(into_alone(found)))
+        }
+    }
+}
