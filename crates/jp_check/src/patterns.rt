@@ -11,6 +11,7 @@ ghost use Rattle.jp_check.specs.LiteralPatterns as literal;
 
 use crate::functions::{Function, function_named};
 use crate::known::KnownPattern;
+use jp_regexp::Pattern;
 use jp_syntax::{
     Argument, Call, Comparable, Comparison, Literal, Logical, Query, Segment, Selector,
 };
