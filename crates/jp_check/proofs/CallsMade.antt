@@ -10,30 +10,40 @@ use Rattle.jp_check.specs.Ready.{call_of_one, call_of_two, text_argument}
 use Rattle.jp_check.specs.LiteralPatterns.{literal_text}
 use Rattle.jp_check.proofs.Levels.{call_level}
 
-one_is : (xs : List Argument) (a : Argument) → 1 ≤ length xs → length xs < 2 → a ≡ get_or xs 0 a → xs ≡ a ∷ []
+one_is : (xs : List Argument) (a : Argument) → 1 ≤ length xs → length xs < 2 → a ≡ get_or xs 0 a
+    → xs ≡ a ∷ []
 one_is [] a low high is = absurd (omega arith)
 one_is (x ∷ []) a low high is = ap (λ y. y ∷ []) (sym is)
 one_is (x ∷ y ∷ xs) a low high is = absurd (omega arith)
 
-two_are : (xs : List Argument) (a b : Argument) → 2 ≤ length xs → length xs < 3 → a ≡ get_or xs 0 a → b ≡ get_or xs 1 b → xs ≡ a ∷ b ∷ []
+two_are : (xs : List Argument) (a b : Argument) → 2 ≤ length xs → length xs < 3 → a ≡ get_or xs 0 a
+    → b ≡ get_or xs 1 b → xs ≡ a ∷ b ∷ []
 two_are [] a b low high is is2 = absurd (omega arith)
 two_are (x ∷ []) a b low high is is2 = absurd (omega arith)
 two_are (x ∷ y ∷ []) a b low high is is2 = ap₂ (λ u v. u ∷ v ∷ []) (sym is) (sym is2)
 two_are (x ∷ y ∷ z ∷ xs) a b low high is is2 = absurd (omega arith)
 
-call_made_of : (x : Call) (bytes : List ℕ) (name : tree.Text) (xs all : List Argument) → bytes ≡ string_bytes (out-Call x).name → chars bytes ≡ name → xs ≡ (out-Call x).arguments.items → xs ≡ all
+call_made_of : (x : Call) (bytes : List ℕ) (name : tree.Text) (xs all : List Argument)
+    → bytes ≡ string_bytes (out-Call x).name → chars bytes ≡ name → xs ≡ (out-Call x).arguments.items
+    → xs ≡ all
     → call_of x ≡ tree.call name (tree.arguments (arguments_of all))
 call_made_of x bytes name xs all same is same_items are =
     call_level x
-    ∙ ap₂ (λ t ys. tree.call t (tree.arguments (arguments_of ys))) (ap chars (sym same) ∙ is) (sym same_items ∙ are)
+    ∙ ap₂ (λ t ys. tree.call t (tree.arguments (arguments_of ys))) (ap chars (sym same) ∙ is)
+    (sym same_items ∙ are)
 
-pub called_one : (x : Call) (bytes : List ℕ) (name : tree.Text) (xs : List Argument) (a : Argument) → bytes ≡ string_bytes (out-Call x).name → chars bytes ≡ name → xs ≡ (out-Call x).arguments.items
+pub called_one : (x : Call) (bytes : List ℕ) (name : tree.Text) (xs : List Argument) (a : Argument)
+    → bytes ≡ string_bytes (out-Call x).name → chars bytes ≡ name → xs ≡ (out-Call x).arguments.items
     → 1 ≤ length xs → length xs < 2 → a ≡ get_or xs 0 a → call_of x ≡ call_of_one name (argument_of a)
-called_one x bytes name xs a same is same_items low high first = call_made_of x bytes name xs (a ∷ []) same is same_items (one_is xs a low high first)
+called_one x bytes name xs a same is same_items low high first = call_made_of x bytes name xs (a ∷ [])
+    same is same_items (one_is xs a low high first)
 
-pub called_two : (x : Call) (bytes : List ℕ) (name : tree.Text) (xs : List Argument) (a b : Argument) → bytes ≡ string_bytes (out-Call x).name → chars bytes ≡ name → xs ≡ (out-Call x).arguments.items
-    → 2 ≤ length xs → length xs < 3 → a ≡ get_or xs 0 a → b ≡ get_or xs 1 b → call_of x ≡ call_of_two name (argument_of a) (argument_of b)
-called_two x bytes name xs a b same is same_items low high first second = call_made_of x bytes name xs (a ∷ b ∷ []) same is same_items (two_are xs a b low high first second)
+pub called_two : (x : Call) (bytes : List ℕ) (name : tree.Text) (xs : List Argument) (a b : Argument)
+    → bytes ≡ string_bytes (out-Call x).name → chars bytes ≡ name → xs ≡ (out-Call x).arguments.items
+    → 2 ≤ length xs → length xs < 3 → a ≡ get_or xs 0 a → b ≡ get_or xs 1 b
+    → call_of x ≡ call_of_two name (argument_of a) (argument_of b)
+called_two x bytes name xs a b same is same_items low high first second =
+    call_made_of x bytes name xs (a ∷ b ∷ []) same is same_items (two_are xs a b low high first second)
 
 -- an argument that is this text as a literal
 pub text_is : (a : tree.Argument) (t : tree.Text) → t ∷ [] ≡ literal_text a → a ≡ text_argument t

@@ -1,5 +1,6 @@
 -- Texts among those that were read.
-use Rattle.std.proofs.Common.{◌≡◌, ℕ, ◌<◌, Bool, true, false, List, length, get_or, sym, ap, ◌∙◌, subst, arith}
+use Rattle.std.proofs.Common.{◌≡◌, ℕ, ◌<◌, Bool, true, false, List, length, get_or, sym, ap, ◌∙◌, subst}
+use Rattle.std.proofs.Common.{arith}
 use Rattle.std.specs.Prelude.{string_bytes, Contains}
 use Rattle.std.specs.Str.{chars, IsUtf8, bytes_eq}
 use Rattle.std.proofs.lemmas.List.{get_or-map, length-map}
@@ -17,20 +18,34 @@ same_bytes : (bs ds : List ℕ) → IsUtf8 bs → IsUtf8 ds → chars bs ≡ cha
 same_bytes bs ds u v e = sym (encodes-chars bs u) ∙ ap encodes e ∙ encodes-chars ds v
 
 -- the text at a place
-known_at : (ks : List KnownPattern) (i : ℕ) (k : KnownPattern) (d : List ℕ) → i < length ks → k ≡ get_or ks i k → get_or (known_texts ks) i d ≡ text_of k.text
-known_at ks i k d within is = get_or-map (λ (k' : KnownPattern). text_of k'.text) ks i k d within ∙ ap (λ (k' : KnownPattern). text_of k'.text) (sym is)
+known_at : (ks : List KnownPattern) (i : ℕ) (k : KnownPattern) (d : List ℕ) → i < length ks
+    → k ≡ get_or ks i k → get_or (known_texts ks) i d ≡ text_of k.text
+known_at ks i k d within is = get_or-map (λ (k' : KnownPattern). text_of k'.text) ks i k d within
+    ∙ ap (λ (k' : KnownPattern). text_of k'.text) (sym is)
 
-pub known_contains : (ks : List KnownPattern) (i : ℕ) (k : KnownPattern) (text : List ℕ) (r : Bool) → i < length ks → k ≡ get_or ks i k → r ≡ bytes_eq (string_bytes k.text) text → r ≡ true → Contains (known_texts ks) (chars text)
-known_contains ks i k text r within is compared e =
-    (i, omega (arith, length-map ks (λ (k' : KnownPattern). text_of k'.text)), known_at ks i k (chars text) within is ∙ ap chars ((bytes_eq-Decides (string_bytes k.text) text).0 (sym compared ∙ e)))
+pub known_contains : (ks : List KnownPattern) (i : ℕ) (k : KnownPattern) (text : List ℕ) (r : Bool)
+    → i < length ks → k ≡ get_or ks i k → r ≡ bytes_eq (string_bytes k.text) text → r ≡ true
+    → Contains (known_texts ks) (chars text)
+known_contains ks i k text r within is compared e = (
+  i,
+  omega (arith, length-map ks (λ (k' : KnownPattern). text_of k'.text)),
+  known_at ks i k
+      (chars text) within is
+      ∙ ap chars ((bytes_eq-Decides (string_bytes k.text) text).0 (sym compared ∙ e)),
+)
 
-pub known_is_other : (ks : List KnownPattern) (i : ℕ) (k : KnownPattern) (text : List ℕ) (r : Bool) → IsUtf8 text → i < length ks → k ≡ get_or ks i k → r ≡ bytes_eq (string_bytes k.text) text → r ≡ false → get_or (known_texts ks) i (chars text) ≡ chars text → ⊥
+pub known_is_other : (ks : List KnownPattern) (i : ℕ) (k : KnownPattern) (text : List ℕ) (r : Bool)
+    → IsUtf8 text → i < length ks → k ≡ get_or ks i k → r ≡ bytes_eq (string_bytes k.text) text
+    → r ≡ false → get_or (known_texts ks) i (chars text) ≡ chars text → ⊥
 known_is_other ks i k text r utf8 within is compared e found =
-    let same : string_bytes k.text ≡ text = same_bytes _ text (IsUtf8-string_bytes k.text) utf8 (sym (known_at ks i k (chars text) within is) ∙ found) in
+    let same : string_bytes k.text ≡ text = same_bytes _ text (IsUtf8-string_bytes k.text) utf8
+    (sym (known_at ks i k (chars text) within is) ∙ found) in
     let equal : r ≡ true = compared ∙ (bytes_eq-Decides (string_bytes k.text) text).1 same in
     absurd cc
 
 -- what was read of the text at a place where it is this one
-pub known_read : (k : KnownPattern) (text : List ℕ) (r : Bool) → r ≡ bytes_eq (string_bytes k.text) text → r ≡ true → IsRead (chars text) k.pattern
+pub known_read : (k : KnownPattern) (text : List ℕ) (r : Bool) → r ≡ bytes_eq (string_bytes k.text) text
+    → r ≡ true → IsRead (chars text) k.pattern
 known_read k text r compared e =
-    subst (λ bs. IsRead (chars bs) k.pattern) ((bytes_eq-Decides (string_bytes k.text) text).0 (sym compared ∙ e)) (read_had (text_of k.text) k.pattern k.read)
+    subst (λ bs. IsRead (chars bs) k.pattern) ((bytes_eq-Decides (string_bytes k.text) text).0
+    (sym compared ∙ e)) (read_had (text_of k.text) k.pattern k.read)

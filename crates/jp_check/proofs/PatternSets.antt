@@ -1,10 +1,12 @@
--- What is known on the quiet of reading a text as a pattern is known: the trees of patterns are a set, and a text has at most one.
+-- What is known on the quiet of reading a text as a pattern is known: the trees of patterns are a set, and a
+-- text has at most one.
 use ghost.Sets.{retract_set}
 use Rattle.std.proofs.Math.Logic.{∥∥₁_elim}
 use Rattle.std.proofs.Props.{props}
 use Rattle.std.proofs.Common.{◌≡◌, ℕ, Option, Some, None, refl, ap, ◌∙◌, subst, inl, inr}
 use Rattle.jp_regexp.specs.Shape.{Shapes}
-use Rattle.jp_regexp.specs.Pattern.{Text, Element, CharSet, Pattern, empty, letter, group, seq, either, repeat, plus}
+use Rattle.jp_regexp.specs.Pattern.{Text, Element, CharSet, Pattern, empty, letter, group, seq, either}
+use Rattle.jp_regexp.specs.Pattern.{repeat, plus}
 use Rattle.jp_regexp.specs.Profile.{IsPatternOf, InProfile, HasCounts}
 use Rattle.jp_regexp.specs.Held.{IsRead, pattern_of}
 use Rattle.jp_regexp.specs.declared.pattern.Pattern.{Pattern as HeldPattern}
@@ -50,13 +52,16 @@ original-copy : (p : Pattern) → original (copy_of p) ≡ p
 original-copy empty = refl
 original-copy (letter set) = refl
 original-copy (group p) = ap group (original-copy p)
-original-copy (seq p q) = ap (λ r. seq r (original (copy_of q))) (original-copy p) ∙ ap (seq p) (original-copy q)
-original-copy (either p q) = ap (λ r. either r (original (copy_of q))) (original-copy p) ∙ ap (either p) (original-copy q)
+original-copy (seq p q) = ap (λ r. seq r (original (copy_of q))) (original-copy p)
+    ∙ ap (seq p) (original-copy q)
+original-copy (either p q) = ap (λ r. either r (original (copy_of q))) (original-copy p)
+    ∙ ap (either p) (original-copy q)
 original-copy (repeat least most p) = ap (repeat least most) (original-copy p)
 original-copy (plus p) = ap plus (original-copy p)
 
 pattern_set : IsSet Pattern
-pattern_set = retract_set copy_of original original-copy (copy_set char_set_set (hlevel props) (hlevel props))
+pattern_set = retract_set copy_of original original-copy
+    (copy_set char_set_set (hlevel props) (hlevel props))
 
 counts_prop : (p : Pattern) → IsProp (HasCounts p)
 counts_prop empty = hlevel props
@@ -75,7 +80,8 @@ pattern_had : (t : Text) (p : Pattern) → ∥ IsPatternOf t p ∥₁ → IsPatt
 pattern_had t p h =
     elim (decided t) [
       | inl found ↦ record {
-        shapes = subst (Shapes t) (∥∥₁_elim h (pattern_set found.0 p) (λ of. one_tree t found.0 p found.1 of.shapes)) found.1;
+        shapes = subst (Shapes t)
+            (∥∥₁_elim h (pattern_set found.0 p) (λ of. one_tree t found.0 p found.1 of.shapes)) found.1;
         in_profile = ∥∥₁_elim h (profile_prop p) (λ of. of.in_profile);
       }
       | inr none ↦ absurd (∥∥₁_elim h (hlevel props) (λ of. none p of.shapes))

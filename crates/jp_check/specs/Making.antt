@@ -1,5 +1,5 @@
--- A step of a proof, which nobody has to believe: what a part of a ready tree stands for, whatever `$` queries
--- are listed behind those that are listed already.
+-- A step of a proof, which nobody has to believe: what a part of a ready tree stands for, whatever `$`
+-- queries are listed behind those that are listed already.
 use Rattle.std.specs.Prelude.{◌≡◌, ◌++◌, List}
 use Rattle.jp_check.specs.Ready.{Wanted}
 

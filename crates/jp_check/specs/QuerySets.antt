@@ -1,8 +1,9 @@
--- A step of a proof, which nobody has to believe: the trees of queries are a set, as each is a retract of a copy
--- that is one.
+-- A step of a proof, which nobody has to believe: the trees of queries are a set, as each is a retract of a
+-- copy that is one.
 use ghost.Sets.{retract_set}
 use Rattle.std.proofs.Props.{props}
-use Rattle.std.proofs.Common.{◌≡◌, ℕ, ◌==◌, Bool, true, false, List, [], Option, Some, None, refl, ap, ap₂, ◌∙◌}
+use Rattle.std.proofs.Common.{◌≡◌, ℕ, ◌==◌, Bool, true, false, List, [], Option, Some, None, refl, ap}
+use Rattle.std.proofs.Common.{ap₂, ◌∙◌}
 use Rattle.std.specs.Prelude.{if◌then◌else◌}
 use Rattle.jp_syntax.specs.Tree as tree
 use Rattle.jp_syntax.specs.declared.tree.Start.{Start}
@@ -50,7 +51,8 @@ number_of op.Lt = 4
 number_of op.Gt = 5
 
 abbrev operator_of : ℕ → Operator
-operator_of k = if k == 0 then op.Eq else if k == 1 then op.Ne else if k == 2 then op.Le else if k == 3 then op.Ge else if k == 4 then op.Lt else op.Gt
+operator_of k = if k == 0 then op.Eq else if k == 1 then op.Ne else if k == 2 then op.Le else if k == 3
+    then op.Ge else if k == 4 then op.Lt else op.Gt
 
 operator-number : (o : Operator) → operator_of (number_of o) ≡ o
 operator-number op.Eq = refl
@@ -84,7 +86,8 @@ copy_literal tree.null = end
 
 abbrev original_literal : Copy → tree.Literal
 original_literal (mark k a b) =
-    if k == 0 then tree.number (original_word a) else if k == 1 then tree.text (original_word a) else tree.truth (original_truth a)
+    if k == 0 then tree.number (original_word a) else if k == 1 then tree.text (original_word a) else
+    tree.truth (original_truth a)
 original_literal _ = tree.null
 
 original-literal : (x : tree.Literal) → original_literal (copy_literal x) ≡ x
@@ -166,19 +169,26 @@ abbrev mutual
   original_segment _ = tree.segment true tree.no_selectors
 
   original_selector : Copy → tree.Selector
-  original_selector (mark k a b) = if k == 0 then tree.name (original_word a) else if k == 1 then tree.index (original_word a) else if k == 2 then tree.filter (original_logical a) else tree.slice (original_part a) (original_part (left b)) (original_part (right b))
+  original_selector (mark k a b) = if k == 0 then tree.name (original_word a) else if k == 1 then
+      tree.index (original_word a) else if k == 2 then tree.filter (original_logical a) else tree.slice
+      (original_part a) (original_part (left b)) (original_part (right b))
   original_selector _ = tree.wildcard
 
   original_logical : Copy → tree.Logical
-  original_logical (mark k a b) = if k == 0 then tree.any (original_logicals a) else if k == 1 then tree.all (original_logicals a) else if k == 2 then tree.negation (original_logical a) else if k == 3 then tree.comparing (original_comparison a) else if k == 4 then tree.test (original_query a) else tree.test_call (original_call a)
+  original_logical (mark k a b) = if k == 0 then tree.any (original_logicals a) else if k == 1 then
+      tree.all (original_logicals a) else if k == 2 then tree.negation (original_logical a) else if k == 3
+      then tree.comparing (original_comparison a) else if k == 4 then tree.test (original_query a) else
+      tree.test_call (original_call a)
   original_logical _ = tree.any tree.no_logicals
 
   original_comparison : Copy → tree.Comparison
-  original_comparison (mark k a b) = tree.comparison (original_comparable a) (operator_of k) (original_comparable b)
+  original_comparison (mark k a b) = tree.comparison (original_comparable a) (operator_of k)
+      (original_comparable b)
   original_comparison _ = tree.comparison (tree.literal tree.null) op.Eq (tree.literal tree.null)
 
   original_comparable : Copy → tree.Comparable
-  original_comparable (mark k a b) = if k == 0 then tree.literal (original_literal a) else if k == 1 then tree.single (original_query a) else tree.value_call (original_call a)
+  original_comparable (mark k a b) = if k == 0 then tree.literal (original_literal a) else if k == 1 then
+      tree.single (original_query a) else tree.value_call (original_call a)
   original_comparable _ = tree.literal tree.null
 
   original_call : Copy → tree.Call
@@ -186,7 +196,9 @@ abbrev mutual
   original_call _ = tree.call [] tree.no_arguments
 
   original_argument : Copy → tree.Argument
-  original_argument (mark k a b) = if k == 0 then tree.literal_argument (original_literal a) else if k == 1 then tree.query_argument (original_query a) else if k == 2 then tree.logical_argument (original_logical a) else tree.call_argument (original_call a)
+  original_argument (mark k a b) = if k == 0 then tree.literal_argument (original_literal a) else if k ==
+      1 then tree.query_argument (original_query a) else if k == 2 then tree.logical_argument
+      (original_logical a) else tree.call_argument (original_call a)
   original_argument _ = tree.literal_argument tree.null
 
   original_segments : Copy → tree.Segments
@@ -210,13 +222,16 @@ mutual
   original-query (tree.query s ss) = ap₂ (λ u v. tree.query u v) (original-start s) (original-segments ss)
 
   original-segment : (x : tree.Segment) → original_segment (copy_segment x) ≡ x
-  original-segment (tree.segment b xs) = ap₂ (λ u v. tree.segment u v) (original-truth b) (original-selectors xs)
+  original-segment (tree.segment b xs) = ap₂ (λ u v. tree.segment u v) (original-truth b)
+      (original-selectors xs)
 
   original-selector : (x : tree.Selector) → original_selector (copy_selector x) ≡ x
   original-selector (tree.name t) = refl
   original-selector (tree.index t) = refl
   original-selector (tree.filter l) = ap (λ u. tree.filter u) (original-logical l)
-  original-selector (tree.slice p q r) = ap (λ u. tree.slice u (original_part (copy_part q)) (original_part (copy_part r))) (original-part p) ∙ ap₂ (λ u v. tree.slice p u v) (original-part q) (original-part r)
+  original-selector (tree.slice p q r) =
+      ap (λ u. tree.slice u (original_part (copy_part q)) (original_part (copy_part r))) (original-part p)
+      ∙ ap₂ (λ u v. tree.slice p u v) (original-part q) (original-part r)
   original-selector tree.wildcard = refl
 
   original-logical : (x : tree.Logical) → original_logical (copy_logical x) ≡ x
@@ -228,7 +243,10 @@ mutual
   original-logical (tree.test_call c) = ap (λ u. tree.test_call u) (original-call c)
 
   original-comparison : (x : tree.Comparison) → original_comparison (copy_comparison x) ≡ x
-  original-comparison (tree.comparison l o r) = ap (λ u. tree.comparison u (operator_of (number_of o)) (original_comparable (copy_comparable r))) (original-comparable l) ∙ ap₂ (λ u v. tree.comparison l u v) (operator-number o) (original-comparable r)
+  original-comparison (tree.comparison l o r) =
+      ap (λ u. tree.comparison u (operator_of (number_of o)) (original_comparable (copy_comparable r)))
+      (original-comparable l) ∙ ap₂ (λ u v. tree.comparison l u v) (operator-number o)
+      (original-comparable r)
 
   original-comparable : (x : tree.Comparable) → original_comparable (copy_comparable x) ≡ x
   original-comparable (tree.literal x) = ap (λ u. tree.literal u) (original-literal x)
@@ -246,19 +264,23 @@ mutual
 
   original-segments : (x : tree.Segments) → original_segments (copy_segments x) ≡ x
   original-segments tree.no_segments = refl
-  original-segments (tree.add_segment x xs) = ap₂ (λ u v. tree.add_segment u v) (original-segment x) (original-segments xs)
+  original-segments (tree.add_segment x xs) = ap₂ (λ u v. tree.add_segment u v) (original-segment x)
+      (original-segments xs)
 
   original-selectors : (x : tree.Selectors) → original_selectors (copy_selectors x) ≡ x
   original-selectors tree.no_selectors = refl
-  original-selectors (tree.add_selector x xs) = ap₂ (λ u v. tree.add_selector u v) (original-selector x) (original-selectors xs)
+  original-selectors (tree.add_selector x xs) = ap₂ (λ u v. tree.add_selector u v) (original-selector x)
+      (original-selectors xs)
 
   original-logicals : (x : tree.Logicals) → original_logicals (copy_logicals x) ≡ x
   original-logicals tree.no_logicals = refl
-  original-logicals (tree.add_logical x xs) = ap₂ (λ u v. tree.add_logical u v) (original-logical x) (original-logicals xs)
+  original-logicals (tree.add_logical x xs) = ap₂ (λ u v. tree.add_logical u v) (original-logical x)
+      (original-logicals xs)
 
   original-arguments : (x : tree.Arguments) → original_arguments (copy_arguments x) ≡ x
   original-arguments tree.no_arguments = refl
-  original-arguments (tree.add_argument x xs) = ap₂ (λ u v. tree.add_argument u v) (original-argument x) (original-arguments xs)
+  original-arguments (tree.add_argument x xs) = ap₂ (λ u v. tree.add_argument u v) (original-argument x)
+      (original-arguments xs)
 
 pub query_set : IsSet tree.Query
 query_set = retract_set copy_query original_query original-query (copy_set (hlevel props) (hlevel props))

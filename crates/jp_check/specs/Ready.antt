@@ -14,7 +14,8 @@ use Rattle.jp_check.specs.declared.ready.Selector.{Selector, fold-Selector}
 use Rattle.jp_check.specs.declared.ready.Logical.{Logical, fold-Logical}
 use Rattle.jp_check.specs.declared.ready.Value.{Value, fold-Value}
 use Rattle.jp_check.specs.declared.ready.Nodes.{Nodes, fold-Nodes}
-use Rattle.jp_check.specs.declared.ready.Logical.TheOpen.{Logical-F, Nodes-F, Selector-F, Value-F, Segment-F}
+use Rattle.jp_check.specs.declared.ready.Logical.TheOpen.{Logical-F, Nodes-F, Selector-F, Value-F}
+use Rattle.jp_check.specs.declared.ready.Logical.TheOpen.{Segment-F}
 use Rattle.jp_check.specs.declared.ready.RootQuery.{RootQuery}
 use Rattle.jp_check.specs.declared.ready.Query.{Query}
 
@@ -73,19 +74,22 @@ text_argument t = tree.literal_argument (tree.text t)
 
 -- One level of the tree, where each part is already seen as what it stands for. `$` queries are these.
 module _ (roots : List Wanted) where
-  abbrev pub nodes_level : Nodes-F tree.Logical (Want → tree.Query) tree.Selector tree.Comparable tree.Segment
+  abbrev pub nodes_level : Nodes-F tree.Logical (Want → tree.Query) tree.Selector tree.Comparable
+      tree.Segment
       → Want → tree.Query
   nodes_level (Nodes-F.Here ss) want = tree.query start.Current (tree.segments ss.items)
   nodes_level (Nodes-F.Root slot) want = root_at roots slot want
 
-abbrev pub logical_level : Logical-F tree.Logical (Want → tree.Query) tree.Selector tree.Comparable tree.Segment
+abbrev pub logical_level : Logical-F tree.Logical (Want → tree.Query) tree.Selector tree.Comparable
+    tree.Segment
     → tree.Logical
 logical_level (Logical-F.Any ls) = tree.any (tree.logicals ls.items)
 logical_level (Logical-F.All ls) = tree.all (tree.logicals ls.items)
 logical_level (Logical-F.Not l) = tree.negation l.value
 logical_level (Logical-F.Compare left o right) = tree.comparing (tree.comparison left o right)
 logical_level (Logical-F.Test q) = tree.test (q First)
-logical_level (Logical-F.Match s p) = tree.test_call (call_of_two (codes "match") (as_argument s) (as_argument p))
+logical_level (Logical-F.Match s p) =
+    tree.test_call (call_of_two (codes "match") (as_argument s) (as_argument p))
 logical_level (Logical-F.MatchRead s p) = tree.test_call
     (call_of_two (codes "match") (as_argument s) (text_argument (text_of p.text)))
 logical_level (Logical-F.Search s p) = tree.test_call
@@ -93,7 +97,8 @@ logical_level (Logical-F.Search s p) = tree.test_call
 logical_level (Logical-F.SearchRead s p) = tree.test_call
     (call_of_two (codes "search") (as_argument s) (text_argument (text_of p.text)))
 
-abbrev pub selector_level : Selector-F tree.Logical (Want → tree.Query) tree.Selector tree.Comparable tree.Segment
+abbrev pub selector_level : Selector-F tree.Logical (Want → tree.Query) tree.Selector tree.Comparable
+    tree.Segment
     → tree.Selector
 selector_level (Selector-F.Name s) = tree.name (text_of s)
 selector_level Selector-F.Wild = tree.wildcard
@@ -101,7 +106,8 @@ selector_level (Selector-F.Index p) = tree.index (position_text p)
 selector_level (Selector-F.Slice s) = slice_of s
 selector_level (Selector-F.Filter l) = tree.filter l
 
-abbrev pub value_level : Value-F tree.Logical (Want → tree.Query) tree.Selector tree.Comparable tree.Segment
+abbrev pub value_level : Value-F tree.Logical (Want → tree.Query) tree.Selector tree.Comparable
+    tree.Segment
     → tree.Comparable
 value_level (Value-F.Constant x) = tree.literal (constant_of x)
 value_level (Value-F.Single q) = tree.single (q First)
@@ -111,7 +117,8 @@ value_level (Value-F.Count q) = tree.value_call
 value_level (Value-F.Only q) = tree.value_call
     (call_of_one (codes "value") (tree.query_argument (q Only)))
 
-abbrev pub segment_level : Segment-F tree.Logical (Want → tree.Query) tree.Selector tree.Comparable tree.Segment
+abbrev pub segment_level : Segment-F tree.Logical (Want → tree.Query) tree.Selector tree.Comparable
+    tree.Segment
     → tree.Segment
 segment_level s = tree.segment s.deep (tree.selectors s.selectors.items)
 

@@ -1,7 +1,7 @@
 //! The tree of a query made ready: what can be known of it before there is a document.
 //!
-//! Numbers are read, functions are resolved, literal patterns are read, and each `$` query inside a filter has
-//! a slot: it stands in a list of its own, behind those that stand inside it.
+//! Numbers are read, functions are resolved, literal patterns are read, and each `$` query inside a filter
+//! stands in a list of its own, behind those that stand inside it.
 
 ghost use Rattle.std.specs.Prelude.{◌≡◌, ◌≤ℤ◌, neg_ℤ, pos};
 ghost use Rattle.std.proofs.Props.{props};

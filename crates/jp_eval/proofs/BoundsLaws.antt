@@ -20,14 +20,20 @@ pub below_len : (z : ℤ) (len : ℕ) → z ≤ℤ (pos len -ℤ pos 1) → z <�
 below_len z len h = omega (arith, ints)
 
 module _ (first past : Option ℤ) (step : ℤ) (len : ℕ) where
-  pub bounds_of_rising : int_lt step (pos 0) ≡ false → (pos 0 ≤ℤ (slice_bounds first past (Some step) len).lower) × ((slice_bounds first past (Some step) len).upper ≤ℤ pos len)
+  pub bounds_of_rising : int_lt step (pos 0) ≡ false
+      → (pos 0 ≤ℤ (slice_bounds first past (Some step) len).lower)
+      × ((slice_bounds first past (Some step) len).upper ≤ℤ pos len)
   bounds_of_rising h = rw h (
     clamped_low (pos 0) (pos len) (normalized (unwrap_or first (pos 0)) len) (from_zero len),
     clamped_high (pos 0) (pos len) (normalized (unwrap_or past (pos len)) len) (from_zero len),
   )
 
-  pub bounds_of_falling : int_lt step (pos 0) ≡ true → (negsuc 0 ≤ℤ (slice_bounds first past (Some step) len).lower) × ((slice_bounds first past (Some step) len).upper <ℤ pos len)
+  pub bounds_of_falling : int_lt step (pos 0) ≡ true
+      → (negsuc 0 ≤ℤ (slice_bounds first past (Some step) len).lower)
+      × ((slice_bounds first past (Some step) len).upper <ℤ pos len)
   bounds_of_falling h = rw h (
-    clamped_low (negsuc 0) (pos len -ℤ pos 1) (normalized (unwrap_or past (neg_ℤ (pos len) -ℤ pos 1)) len) (from_minus_one len),
-    below_len (falling_bounds first past step len).upper len (clamped_high (negsuc 0) (pos len -ℤ pos 1) (normalized (unwrap_or first (pos len -ℤ pos 1)) len) (from_minus_one len)),
+    clamped_low (negsuc 0) (pos len -ℤ pos 1) (normalized (unwrap_or past (neg_ℤ (pos len) -ℤ pos 1)) len)
+        (from_minus_one len),
+    below_len (falling_bounds first past step len).upper len (clamped_high (negsuc 0) (pos len -ℤ pos 1)
+        (normalized (unwrap_or first (pos len -ℤ pos 1)) len) (from_minus_one len)),
   )

@@ -1,11 +1,15 @@
 -- Values inside a value of a document.
-use Rattle.std.proofs.Common.{◌≡◌, ℕ, zero, suc, ◌<◌, ◌≤◌, List, [], ◌∷◌, length, Option, Some, None, IfSome, option_map, Bool, false, nat_lt, Ordering, Less, Equal, Greater, nat_cmp, Bor, Vec, Global, BTreeMap, String, refl, sym, ap, ◌∙◌, subst, arith, rules}
+use Rattle.std.proofs.Common.{◌≡◌, ℕ, zero, suc, ◌<◌, ◌≤◌, List, [], ◌∷◌, length, Option, Some, None}
+use Rattle.std.proofs.Common.{IfSome, option_map, Bool, false, nat_lt, Ordering, Less, Equal, Greater}
+use Rattle.std.proofs.Common.{nat_cmp, Bor, Vec, Global, BTreeMap, String, refl, sym, ap, ◌∙◌, subst}
+use Rattle.std.proofs.Common.{arith, rules}
 use Rattle.std.proofs.lemmas.Bool.Decides.{nat_tests}
 use Rattle.std.specs.Cmp.Lexicographic.{slice_cmp}
 use Rattle.std.specs.List.{All}
 use Rattle.std.specs.Ordering.{match_ordering}
 use Rattle.serde_json.proofs.Views.{Entry, view-Array, view-Object}
-use Rattle.serde_json.specs.Data.{Data, null, boolean, number, string, array, object, Items, no_items, item, Members, no_members, member, depth, items_depth, members_depth}
+use Rattle.serde_json.specs.Data.{Data, null, boolean, number, string, array, object, Items, no_items}
+use Rattle.serde_json.specs.Data.{item, Members, no_members, member, depth, items_depth, members_depth}
 use Rattle.serde_json.specs.Find.{get, get_member, at, get_item}
 use Rattle.serde_json.specs.View.{view, items_view, members_view}
 use Rattle.serde_json.specs.View.{number_view}
@@ -26,14 +30,17 @@ use Rattle.jp_doc.specs.Json.{Json, value_of, json_of, items_of, members_of, ite
 
 -- ---- depth
 
-pick : (o : Ordering) (n : ℕ) (e : Data) (rest : Option Data) → depth e < n → IfSome rest (λ d. depth d < n) → IfSome (match_ordering o rest (Some e) rest) (λ d. depth d < n)
+pick : (o : Ordering) (n : ℕ) (e : Data) (rest : Option Data) → depth e < n
+    → IfSome rest (λ d. depth d < n) → IfSome (match_ordering o rest (Some e) rest) (λ d. depth d < n)
 pick Less n e rest p q = q
 pick Equal n e rest p q = p
 pick Greater n e rest p q = q
 
-member_below : (name : List ℕ) (ms : Members) (n : ℕ) → members_depth ms < n → IfSome (get_member name ms) (λ d. depth d < n)
+member_below : (name : List ℕ) (ms : Members) (n : ℕ) → members_depth ms < n
+    → IfSome (get_member name ms) (λ d. depth d < n)
 member_below name no_members n h = tt
-member_below name (member k d ms) n h = pick (slice_cmp nat_cmp name k) n d _ (omega arith) (member_below name ms n (omega arith))
+member_below name (member k d ms) n h = pick (slice_cmp nat_cmp name k) n d _ (omega arith)
+    (member_below name ms n (omega arith))
 
 name_below : (name : List ℕ) (d : Data) → IfSome (get name d) (λ e. depth e < depth d)
 name_below name null = tt
@@ -56,38 +63,49 @@ index_below i (string s) = tt
 index_below i (array ds) = item_below i ds (depth (array ds)) (omega arith)
 index_below i (object ms) = tt
 
-found_below : (r : Option (Bor Value)) (o : Option Data) (n : ℕ) → option_map (λ v. view v.now) r ≡ o → IfSome o (λ d. depth d < n) → IfSome r (λ v. depth (view v.now) < n)
+found_below : (r : Option (Bor Value)) (o : Option Data) (n : ℕ) → option_map (λ v. view v.now) r ≡ o
+    → IfSome o (λ d. depth d < n) → IfSome r (λ v. depth (view v.now) < n)
 found_below None o n same p = tt
 found_below (Some v) o n same p = subst (λ x. IfSome x (λ d. depth d < n)) (sym same) p
 
-pub member_is_below : (r : Option (Bor Value)) (v : Value) (name : List ℕ) → option_map (λ v. view v.now) r ≡ get name (view v) → IfSome r (λ w. depth (view w.now) < depth (view v))
+pub member_is_below : (r : Option (Bor Value)) (v : Value) (name : List ℕ)
+    → option_map (λ v. view v.now) r ≡ get name (view v)
+    → IfSome r (λ w. depth (view w.now) < depth (view v))
 member_is_below r v name e = found_below r _ (depth (view v)) e (name_below name (view v))
 
-pub item_is_below : (r : Option (Bor Value)) (v : Value) (i : ℕ) → option_map (λ v. view v.now) r ≡ at i (view v) → IfSome r (λ w. depth (view w.now) < depth (view v))
+pub item_is_below : (r : Option (Bor Value)) (v : Value) (i : ℕ) → option_map (λ v. view v.now) r
+    ≡ at i (view v) → IfSome r (λ w. depth (view w.now) < depth (view v))
 item_is_below r v i e = found_below r _ (depth (view v)) e (index_below i (view v))
 
 -- what holds of the value that was found
-pub of_found : (P : Value → Type 0) (r : Option (Bor Value)) (v : Bor Value) → r ≡ Some v → IfSome r (λ w. P w.now) → P v.now
+pub of_found : (P : Value → Type 0) (r : Option (Bor Value)) (v : Bor Value) → r ≡ Some v
+    → IfSome r (λ w. P w.now) → P v.now
 of_found P r v is h = let Q : Option (Bor Value) → Type 0 = λ x. IfSome x (λ w. P w.now) in subst Q is h
 
 -- ---- arrays and objects
 
-pub array_parts : (value : Value) (v : Vec Value Global) → value ≡ Array v → IsDocumentValue value → All IsDocumentValue v.items
+pub array_parts : (value : Value) (v : Vec Value Global) → value ≡ Array v → IsDocumentValue value
+    → All IsDocumentValue v.items
 array_parts value v is p = array_kept v (subst IsDocumentValue is p)
 
-pub object_parts : (value : Value) (m : BTreeMap (String Global) Value) → value ≡ Object m → IsDocumentValue value → All (λ (e : Entry). IsDocumentValue e.1) m.entries
+pub object_parts : (value : Value) (m : BTreeMap (String Global) Value) → value ≡ Object m
+    → IsDocumentValue value → All (λ (e : Entry). IsDocumentValue e.1) m.entries
 object_parts value m is p = object_kept m (subst IsDocumentValue is p)
 
-pub array_value : (value : Value) (v : Vec Value Global) → value ≡ Array v → value_of value ≡ json.array (items_of (items_view v.items))
+pub array_value : (value : Value) (v : Vec Value Global) → value ≡ Array v
+    → value_of value ≡ json.array (items_of (items_view v.items))
 array_value value v is = ap value_of is ∙ ap json_of (view-Array v)
 
-pub object_value : (value : Value) (m : BTreeMap (String Global) Value) → value ≡ Object m → value_of value ≡ json.object (members_of (members_view m.entries))
+pub object_value : (value : Value) (m : BTreeMap (String Global) Value) → value ≡ Object m
+    → value_of value ≡ json.object (members_of (members_view m.entries))
 object_value value m is = ap value_of is ∙ ap json_of (view-Object m)
 
-pub array_depth : (value : Value) (v : Vec Value Global) → value ≡ Array v → depth (view value) ≡ suc (items_depth (items_view v.items))
+pub array_depth : (value : Value) (v : Vec Value Global) → value ≡ Array v
+    → depth (view value) ≡ suc (items_depth (items_view v.items))
 array_depth value v is = ap (λ w. depth (view w)) is ∙ ap depth (view-Array v)
 
-pub object_depth : (value : Value) (m : BTreeMap (String Global) Value) → value ≡ Object m → depth (view value) ≡ suc (members_depth (members_view m.entries))
+pub object_depth : (value : Value) (m : BTreeMap (String Global) Value) → value ≡ Object m
+    → depth (view value) ≡ suc (members_depth (members_view m.entries))
 object_depth value m is = ap (λ w. depth (view w)) is ∙ ap depth (view-Object m)
 
 pub item_list_length : (vs : List Value) → length (item_list (items_of (items_view vs))) ≡ length vs
@@ -97,17 +115,21 @@ item_list_length (v ∷ vs) = ap (λ n. suc n) (item_list_length vs)
 within : (n : ℕ) → nat_lt max_items n ≡ false → n ≤ 16777216
 within n h = grind (arith, nat_tests)
 
-pub array_is_short : (value : Value) (v : Vec Value Global) → value ≡ Array v → IsDocumentValue value → length v.items ≤ 16777216
+pub array_is_short : (value : Value) (v : Vec Value Global) → value ≡ Array v → IsDocumentValue value
+    → length v.items ≤ 16777216
 array_is_short value v is p =
-    let short : has_long_array max_items (json.array (items_of (items_view v.items))) ≡ false = ap (has_long_array max_items) (sym (array_value value v is)) ∙ p.short_arrays in
-    within (length v.items) (ap (nat_lt max_items) (sym (item_list_length v.items)) ∙ first_false _ _ short)
+    let short : has_long_array max_items (json.array (items_of (items_view v.items))) ≡ false =
+    ap (has_long_array max_items) (sym (array_value value v is)) ∙ p.short_arrays in
+    within (length v.items) (ap (nat_lt max_items) (sym (item_list_length v.items))
+    ∙ first_false _ _ short)
 
 count_by_level : (v : Json) → has_long_array max_items v ≡ false → item_count v ≤ 4294967295
 count_by_level json.null h = omega arith
 count_by_level (json.truth b) h = omega arith
 count_by_level (json.whole z) h = omega arith
 count_by_level (json.text s) h = omega arith
-count_by_level (json.array vs) h = let short : length (item_list vs) ≤ 16777216 = within (length (item_list vs)) (first_false _ _ h) in omega arith
+count_by_level (json.array vs) h = let short : length (item_list vs) ≤ 16777216 =
+    within (length (item_list vs)) (first_false _ _ h) in omega arith
 count_by_level (json.object ms) h = omega arith
 
 pub part_is_short : (p : Part) → item_count (part_value p) ≤ 4294967295
@@ -121,8 +143,10 @@ null_value v is = ap value_of is ∙ search (rules, the_lemmas)
 pub bool_value : (v : Value) (b : Bool) → v ≡ variant.Bool b → value_of v ≡ json.truth b
 bool_value v b is = ap value_of is ∙ search (rules, the_lemmas)
 
-pub number_value : (v : Value) (n : Number) → v ≡ variant.Number n → value_of v ≡ json.whole (whole_of (number_view n))
+pub number_value : (v : Value) (n : Number) → v ≡ variant.Number n
+    → value_of v ≡ json.whole (whole_of (number_view n))
 number_value v n is = ap value_of is ∙ search (rules, the_lemmas)
 
-pub string_value : (v : Value) (s : String Global) → v ≡ variant.String s → value_of v ≡ json.text (chars (string_bytes s))
+pub string_value : (v : Value) (s : String Global) → v ≡ variant.String s
+    → value_of v ≡ json.text (chars (string_bytes s))
 string_value v s is = ap value_of is ∙ search (rules, the_lemmas)

@@ -21,10 +21,12 @@ module _ {K : Type 0} (put : K → Node → K) where
   -- one more part of what is to be found
   pub stepped : (k mid : K) (found rest all : List Node) (start : K) → mid ≡ plus put k found
       → plus put k (found ++ rest) ≡ plus put start all → plus put mid rest ≡ plus put start all
-  stepped k mid found rest all start e h = ap (λ j. plus put j rest) e ∙ sym (plus-append k found rest) ∙ h
+  stepped k mid found rest all start e h = ap (λ j. plus put j rest) e ∙ sym (plus-append k found rest)
+      ∙ h
 
   -- nothing is left to be found
-  pub ended : (k start : K) (all : List Node) → plus put k [] ≡ plus put start all → k ≡ plus put start all
+  pub ended : (k start : K) (all : List Node) → plus put k [] ≡ plus put start all
+      → k ≡ plus put start all
   ended k start all h = sym (plus-none k) ∙ h
 
   -- nothing is found
@@ -47,11 +49,13 @@ out_of (first o) d = d
 out_of (count n) d = d
 out_of (only a) d = d
 
-taken_fold : {K : Type 0} (put : K → Node → K) (k : K) (ns : List Node) → fold (put_found put) (taken k) ns ≡ taken (fold put k ns)
+taken_fold : {K : Type 0} (put : K → Node → K) (k : K) (ns : List Node)
+    → fold (put_found put) (taken k) ns ≡ taken (fold put k ns)
 taken_fold put k [] = refl
 taken_fold put k (n ∷ ns) = taken_fold put (put k n) ns
 
 -- the taker that comes out of a walk that began with one
-pub taken_out : {K : Type 0} (put : K → Node → K) (k start : K) (ns : List Node) → taken k ≡ plus (put_found put) (taken start) ns → k ≡ fold put start ns
+pub taken_out : {K : Type 0} (put : K → Node → K) (k start : K) (ns : List Node)
+    → taken k ≡ plus (put_found put) (taken start) ns → k ≡ fold put start ns
 unfolding out_of plus
 taken_out put k start ns h = ap (λ x. out_of x k) (h ∙ taken_fold put start ns)

@@ -1,33 +1,41 @@
 -- What is kept of the nodes that a filter asks for.
-use Rattle.std.proofs.Common.{◌≡◌, ℕ, ◌+◌, List, [], ◌∷◌, Option, Some, None, option_map, is_some, length, refl, ◌∙◌, arith}
+use Rattle.std.proofs.Common.{◌≡◌, ℕ, ◌+◌, List, [], ◌∷◌, Option, Some, None, option_map, is_some, length}
+use Rattle.std.proofs.Common.{refl, ◌∙◌, arith}
 use Rattle.std.specs.List.{fold}
 use Rattle.jp_doc.specs.Json.{Json}
 use Rattle.jp_doc.specs.Location.{Node}
 use Rattle.jp_eval.specs.Functions.{first_value, only_value}
-use Rattle.jp_eval.specs.Kept.{kept_first, kept_count, kept_only, put_found, plus, first, count, only, none as no_value, several}
+use Rattle.jp_eval.specs.Kept.{kept_first, kept_count, kept_only, put_found, plus, first, count, only}
+use Rattle.jp_eval.specs.Kept.{none as no_value, several}
 
-first_stays : {K : Type 0} (put : K → Node → K) (v : Json) (ns : List Node) → kept_first (fold (put_found put) (first (Some v)) ns) ≡ Some v
+first_stays : {K : Type 0} (put : K → Node → K) (v : Json) (ns : List Node)
+    → kept_first (fold (put_found put) (first (Some v)) ns) ≡ Some v
 first_stays put v [] = refl
 first_stays put v (n ∷ ns) = first_stays put v ns
 
-pub first_kept : {K : Type 0} (put : K → Node → K) (ns : List Node) → kept_first (plus (put_found put) (first None) ns) ≡ first_value ns
+pub first_kept : {K : Type 0} (put : K → Node → K) (ns : List Node)
+    → kept_first (plus (put_found put) (first None) ns) ≡ first_value ns
 unfolding plus
 first_kept put [] = refl
 first_kept put (n ∷ ns) = first_stays put n.value ns
 
-counted_on : {K : Type 0} (put : K → Node → K) (m : ℕ) (ns : List Node) → kept_count (fold (put_found put) (count m) ns) ≡ m + length ns
+counted_on : {K : Type 0} (put : K → Node → K) (m : ℕ) (ns : List Node)
+    → kept_count (fold (put_found put) (count m) ns) ≡ m + length ns
 counted_on put m [] = omega arith
 counted_on put m (n ∷ ns) = counted_on put (m + 1) ns ∙ omega arith
 
-pub counted : {K : Type 0} (put : K → Node → K) (ns : List Node) → kept_count (plus (put_found put) (count 0) ns) ≡ length ns
+pub counted : {K : Type 0} (put : K → Node → K) (ns : List Node)
+    → kept_count (plus (put_found put) (count 0) ns) ≡ length ns
 unfolding plus
 counted put ns = counted_on put 0 ns ∙ omega arith
 
-several_stay : {K : Type 0} (put : K → Node → K) (ns : List Node) → kept_only (fold (put_found put) (only several) ns) ≡ None
+several_stay : {K : Type 0} (put : K → Node → K) (ns : List Node)
+    → kept_only (fold (put_found put) (only several) ns) ≡ None
 several_stay put [] = refl
 several_stay put (n ∷ ns) = several_stay put ns
 
-pub only_kept : {K : Type 0} (put : K → Node → K) (ns : List Node) → kept_only (plus (put_found put) (only no_value) ns) ≡ only_value ns
+pub only_kept : {K : Type 0} (put : K → Node → K) (ns : List Node)
+    → kept_only (plus (put_found put) (only no_value) ns) ≡ only_value ns
 unfolding plus
 only_kept put [] = refl
 only_kept put (n ∷ []) = refl

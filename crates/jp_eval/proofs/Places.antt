@@ -1,5 +1,6 @@
 -- Where the places of slices lie.
-use Rattle.std.proofs.Common.{◌≡◌, ℕ, ◌≤◌, ℤ, pos, negsuc, Bool, true, false, cond, List, [], Option, refl, ap, ap₂, ◌∙◌, arith}
+use Rattle.std.proofs.Common.{◌≡◌, ℕ, ◌≤◌, ℤ, pos, negsuc, Bool, true, false, cond, List, [], Option}
+use Rattle.std.proofs.Common.{refl, ap, ap₂, ◌∙◌, arith}
 use Rattle.std.specs.Prelude.{nat_lt}
 use Rattle.std.proofs.lemmas.Bool.Decides.{nat_tests}
 use Rattle.std.proofs.lemmas.Int.{ints}
@@ -29,7 +30,8 @@ index_level z (text t) = no_place z
 index_level z (array vs) = refl
 index_level z (object ms) = no_place z
 
-pub index_found : (v : Json) (z place : ℤ) (len : ℕ) → place ≡ z → len ≡ item_count v → place_of place len ≡ index_places z v
+pub index_found : (v : Json) (z place : ℤ) (len : ℕ) → place ≡ z → len ≡ item_count v
+    → place_of place len ≡ index_places z v
 index_found v z place len e same = ap₂ place_of e same ∙ index_level z v
 
 abbrev nothing : List ℕ
@@ -40,7 +42,9 @@ no_indexes true c = refl
 no_indexes false true = refl
 no_indexes false false = refl
 
-slice_level : (first past step : Option ℤ) (v : Json) → slice_indexes (slice_bounds first past step (item_count v)) (item_count v) ≡ slice_places first past step v
+slice_level : (first past step : Option ℤ) (v : Json)
+    → slice_indexes (slice_bounds first past step (item_count v)) (item_count v) ≡ slice_places first past
+    step v
 slice_level first past step null = no_indexes _ _
 slice_level first past step (truth b) = no_indexes _ _
 slice_level first past step (whole y) = no_indexes _ _
@@ -48,6 +52,8 @@ slice_level first past step (text t) = no_indexes _ _
 slice_level first past step (array vs) = refl
 slice_level first past step (object ms) = no_indexes _ _
 
-pub slice_found : (v : Json) (first past step : Option ℤ) (len : ℕ) (b : Bounds) → len ≡ item_count v → b ≡ slice_bounds first past step len
+pub slice_found : (v : Json) (first past step : Option ℤ) (len : ℕ) (b : Bounds) → len ≡ item_count v
+    → b ≡ slice_bounds first past step len
     → slice_indexes b (item_count v) ≡ slice_places first past step v
-slice_found v first past step len b same e = ap (λ c. slice_indexes c (item_count v)) (e ∙ ap (slice_bounds first past step) same) ∙ slice_level first past step v
+slice_found v first past step len b same e = ap (λ c. slice_indexes c (item_count v)) (e
+    ∙ ap (slice_bounds first past step) same) ∙ slice_level first past step v

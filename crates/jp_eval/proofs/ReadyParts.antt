@@ -1,5 +1,6 @@
 -- What the parts of a ready tree select, and where they are true.
-use Rattle.std.proofs.Common.{◌≡◌, List, [], ◌∷◌, not, ◌&&◌, ◌||◌, map, Some, option_map, is_some, length, Vec, Box, String, Global, refl, sym, ap, ap₂, ◌∙◌, rules}
+use Rattle.std.proofs.Common.{◌≡◌, List, [], ◌∷◌, not, ◌&&◌, ◌||◌, map, Some, option_map, is_some, length}
+use Rattle.std.proofs.Common.{Vec, Box, String, Global, refl, sym, ap, ap₂, ◌∙◌, rules}
 use Rattle.std.specs.List.{filter, list_any, list_all}
 use Rattle.jp_doc.specs.Json as json
 use Rattle.jp_doc.specs.Json.{Json}
@@ -11,8 +12,12 @@ use Rattle.jp_syntax.specs.declared.tree.Operator.{Operator}
 use Rattle.jp_syntax.specs.declared.tree.Start.{Start}
 use Rattle.jp_syntax.specs.declared.tree.Start.TheVariants as start
 use Rattle.jp_check.specs.Numbers.{whole_number}
-use Rattle.jp_check.specs.Ready.{Wanted, root_at, position_text, constant_of, as_argument, segment_in, selector_in, logical_in, value_in, nodes_in, segments_in}
-use Rattle.jp_check.proofs.ReadyViews.{name_read, wild_read, index_read, slice_read, filter_read, any_read, all_read, not_read, compare_read, test_read, match_read, match_known, search_read, search_known, constant_read, single_read, length_read, count_read, only_read, here_read, root_read}
+use Rattle.jp_check.specs.Ready.{Wanted, root_at, position_text, constant_of, as_argument, segment_in}
+use Rattle.jp_check.specs.Ready.{selector_in, logical_in, value_in, nodes_in, segments_in}
+use Rattle.jp_check.proofs.ReadyViews.{name_read, wild_read, index_read, slice_read, filter_read}
+use Rattle.jp_check.proofs.ReadyViews.{any_read, all_read, not_read, compare_read, test_read, match_read}
+use Rattle.jp_check.proofs.ReadyViews.{match_known, search_read, search_known, constant_read, single_read}
+use Rattle.jp_check.proofs.ReadyViews.{length_read, count_read, only_read, here_read, root_read}
 use Rattle.jp_check.specs.declared.known.KnownPattern.{KnownPattern}
 use Rattle.jp_check.specs.declared.ready.Want.{Want}
 use Rattle.jp_check.specs.declared.ready.Want.TheVariants.{First, Count, Only}
@@ -35,13 +40,16 @@ use Rattle.jp_eval.specs.Links.{here}
 use Rattle.jp_eval.specs.Part.{part_value}
 use Rattle.jp_eval.specs.declared.part.Part.{Part}
 use Rattle.jp_eval.specs.Comparison.{compared}
-use Rattle.jp_eval.specs.Functions.{first_value, only_value, is_empty, as_value, tested, length_value, number_value}
+use Rattle.jp_eval.specs.Functions.{first_value, only_value, is_empty, as_value, tested, length_value}
+use Rattle.jp_eval.specs.Functions.{number_value}
 use Rattle.jp_eval.specs.Nodelist as spec
 use Rattle.jp_eval.specs.Nodes.{child, children}
 use Rattle.jp_eval.specs.RightTests.{tests}
 use Rattle.jp_eval.specs.Walk.{picked, reached, is_true, value_given, nodes_given}
 
-pub segment_is : (roots : List Wanted) (s : Segment) → segment_in roots s ≡ tree.segment (out-Segment s).deep (tree.selectors (map (selector_in roots) (out-Segment s).selectors.items))
+pub segment_is : (roots : List Wanted) (s : Segment)
+    → segment_in roots s ≡ tree.segment (out-Segment s).deep
+    (tree.selectors (map (selector_in roots) (out-Segment s).selectors.items))
 segment_is roots s = search (rules, the_lemmas)
 
 module _ (base : Base) (n : Node) where
@@ -53,12 +61,15 @@ module _ (base : Base) (n : Node) where
   unfolding picked
   picked_wild = ap (λ x. spec.select tests base.root x n) (wild_read base.roots)
 
-  pub picked_index : (p : Position) → picked base (sel.Index p) n ≡ spec.items_at n (spec.index_places (whole_number (position_text p)) n.value)
+  pub picked_index : (p : Position) → picked base (sel.Index p) n
+      ≡ spec.items_at n (spec.index_places (whole_number (position_text p)) n.value)
   unfolding picked
   picked_index p = ap (λ x. spec.select tests base.root x n) (index_read base.roots p)
 
   pub picked_slice : (s : Slice) → picked base (sel.Slice s) n
-      ≡ spec.items_at n (spec.slice_places (spec.written_value (option_map position_text s.first)) (spec.written_value (option_map position_text s.past)) (spec.written_value (option_map position_text s.step)) n.value)
+      ≡ spec.items_at n (spec.slice_places (spec.written_value (option_map position_text s.first))
+      (spec.written_value (option_map position_text s.past))
+      (spec.written_value (option_map position_text s.step)) n.value)
   unfolding picked
   picked_slice s = ap (λ x. spec.select tests base.root x n) (slice_read base.roots s)
 
@@ -66,21 +77,29 @@ module _ (base : Base) (n : Node) where
   unfolding picked is_true
   picked_filter l = ap (λ x. spec.select tests base.root x n) (filter_read base.roots l)
 
-  some_holds : (ls : List Logical) → spec.any_holds tests base.root (tree.logicals (map (logical_in base.roots) ls)) n ≡ list_any (λ l. is_true base l n) ls
+  some_holds : (ls : List Logical)
+      → spec.any_holds tests base.root (tree.logicals (map (logical_in base.roots) ls)) n
+      ≡ list_any (λ l. is_true base l n) ls
   unfolding is_true
   some_holds [] = refl
-  some_holds (l ∷ ls) = ap (λ b. spec.holds tests base.root (logical_in base.roots l) n || b) (some_holds ls)
+  some_holds (l ∷ ls) = ap (λ b. spec.holds tests base.root (logical_in base.roots l) n || b)
+      (some_holds ls)
 
-  each_holds : (ls : List Logical) → spec.all_hold tests base.root (tree.logicals (map (logical_in base.roots) ls)) n ≡ list_all (λ l. is_true base l n) ls
+  each_holds : (ls : List Logical)
+      → spec.all_hold tests base.root (tree.logicals (map (logical_in base.roots) ls)) n
+      ≡ list_all (λ l. is_true base l n) ls
   unfolding is_true
   each_holds [] = refl
-  each_holds (l ∷ ls) = ap (λ b. spec.holds tests base.root (logical_in base.roots l) n && b) (each_holds ls)
+  each_holds (l ∷ ls) = ap (λ b. spec.holds tests base.root (logical_in base.roots l) n && b)
+      (each_holds ls)
 
-  pub true_any : (v : Vec Logical Global) → is_true base (log.Any v) n ≡ list_any (λ l. is_true base l n) v.items
+  pub true_any : (v : Vec Logical Global) → is_true base (log.Any v) n ≡ list_any (λ l. is_true base l n)
+      v.items
   unfolding is_true
   true_any v = ap (λ x. spec.holds tests base.root x n) (any_read base.roots v) ∙ some_holds v.items
 
-  pub true_all : (v : Vec Logical Global) → is_true base (log.All v) n ≡ list_all (λ l. is_true base l n) v.items
+  pub true_all : (v : Vec Logical Global) → is_true base (log.All v) n ≡ list_all (λ l. is_true base l n)
+      v.items
   unfolding is_true
   true_all v = ap (λ x. spec.holds tests base.root x n) (all_read base.roots v) ∙ each_holds v.items
 
@@ -88,7 +107,8 @@ module _ (base : Base) (n : Node) where
   unfolding is_true
   true_not b = ap (λ x. spec.holds tests base.root x n) (not_read base.roots b)
 
-  pub true_compare : (v : Value) (o : Operator) (w : Value) → is_true base (log.Compare v o w) n ≡ compared o (value_given base v n) (value_given base w n)
+  pub true_compare : (v : Value) (o : Operator) (w : Value) → is_true base (log.Compare v o w) n
+      ≡ compared o (value_given base v n) (value_given base w n)
   unfolding is_true value_given
   true_compare v o w = ap (λ x. spec.holds tests base.root x n) (compare_read base.roots v o w)
 
@@ -96,57 +116,72 @@ module _ (base : Base) (n : Node) where
   some_first [] = refl
   some_first (m ∷ ns) = refl
 
-  pub true_test : (q : Nodes) → is_true base (log.Test q) n ≡ is_some (first_value (nodes_given base q First n))
+  pub true_test : (q : Nodes) → is_true base (log.Test q) n
+      ≡ is_some (first_value (nodes_given base q First n))
   unfolding is_true nodes_given
-  true_test q = ap (λ y. spec.holds tests base.root y n) (test_read base.roots q) ∙ sym (some_first (spec.nodelist tests base.root (nodes_in base.roots q First) n))
+  true_test q = ap (λ y. spec.holds tests base.root y n) (test_read base.roots q)
+      ∙ sym (some_first (spec.nodelist tests base.root (nodes_in base.roots q First) n))
 
   -- what an argument hands over as a value
-  handed_value_of : (c : tree.Comparable) → as_value (spec.handed tests base.root (as_argument c) n) ≡ spec.value_of tests base.root c n
+  handed_value_of : (c : tree.Comparable) → as_value (spec.handed tests base.root (as_argument c) n)
+      ≡ spec.value_of tests base.root c n
   handed_value_of (tree.literal x) = refl
   handed_value_of (tree.single q) = refl
   handed_value_of (tree.value_call x) = refl
 
-  pub true_match : (v w : Value) → is_true base (log.Match v w) n ≡ tested tests.is_match (value_given base v n) (value_given base w n)
+  pub true_match : (v w : Value) → is_true base (log.Match v w) n
+      ≡ tested tests.is_match (value_given base v n) (value_given base w n)
   unfolding is_true value_given
   true_match v w =
       ap (λ y. spec.holds tests base.root y n) (match_read base.roots v w)
-      ∙ ap₂ (tested tests.is_match) (handed_value_of (value_in base.roots v)) (handed_value_of (value_in base.roots w))
+      ∙ ap₂ (tested tests.is_match) (handed_value_of (value_in base.roots v))
+      (handed_value_of (value_in base.roots w))
 
-  pub true_search : (v w : Value) → is_true base (log.Search v w) n ≡ tested tests.is_found (value_given base v n) (value_given base w n)
+  pub true_search : (v w : Value) → is_true base (log.Search v w) n
+      ≡ tested tests.is_found (value_given base v n) (value_given base w n)
   unfolding is_true value_given
   true_search v w =
       ap (λ y. spec.holds tests base.root y n) (search_read base.roots v w)
-      ∙ ap₂ (tested tests.is_found) (handed_value_of (value_in base.roots v)) (handed_value_of (value_in base.roots w))
+      ∙ ap₂ (tested tests.is_found) (handed_value_of (value_in base.roots v))
+      (handed_value_of (value_in base.roots w))
 
-  pub true_match_known : (v : Value) (k : KnownPattern) → is_true base (log.MatchRead v k) n ≡ tested tests.is_match (value_given base v n) (Some (json.text (text_of k.text)))
+  pub true_match_known : (v : Value) (k : KnownPattern) → is_true base (log.MatchRead v k) n
+      ≡ tested tests.is_match (value_given base v n) (Some (json.text (text_of k.text)))
   unfolding is_true value_given
   true_match_known v k =
       ap (λ y. spec.holds tests base.root y n) (match_known base.roots v k)
-      ∙ ap (λ o. tested tests.is_match o (Some (json.text (text_of k.text)))) (handed_value_of (value_in base.roots v))
+      ∙ ap (λ o. tested tests.is_match o (Some (json.text (text_of k.text))))
+      (handed_value_of (value_in base.roots v))
 
-  pub true_search_known : (v : Value) (k : KnownPattern) → is_true base (log.SearchRead v k) n ≡ tested tests.is_found (value_given base v n) (Some (json.text (text_of k.text)))
+  pub true_search_known : (v : Value) (k : KnownPattern) → is_true base (log.SearchRead v k) n
+      ≡ tested tests.is_found (value_given base v n) (Some (json.text (text_of k.text)))
   unfolding is_true value_given
   true_search_known v k =
       ap (λ y. spec.holds tests base.root y n) (search_known base.roots v k)
-      ∙ ap (λ o. tested tests.is_found o (Some (json.text (text_of k.text)))) (handed_value_of (value_in base.roots v))
+      ∙ ap (λ o. tested tests.is_found o (Some (json.text (text_of k.text))))
+      (handed_value_of (value_in base.roots v))
 
   -- ---- values
 
-  pub given_constant : (x : Constant) → value_given base (val.Constant x) n ≡ Some (spec.literal_value (constant_of x))
+  pub given_constant : (x : Constant) → value_given base (val.Constant x) n
+      ≡ Some (spec.literal_value (constant_of x))
   unfolding value_given
   given_constant x = ap (λ y. spec.value_of tests base.root y n) (constant_read base.roots x)
 
-  pub given_single : (q : Nodes) → value_given base (val.Single q) n ≡ first_value (nodes_given base q First n)
+  pub given_single : (q : Nodes) → value_given base (val.Single q) n
+      ≡ first_value (nodes_given base q First n)
   unfolding value_given nodes_given
   given_single q = ap (λ y. spec.value_of tests base.root y n) (single_read base.roots q)
 
-  pub given_length : (b : Box Value Global) → value_given base (val.Length b) n ≡ length_value (value_given base b.value n)
+  pub given_length : (b : Box Value Global) → value_given base (val.Length b) n
+      ≡ length_value (value_given base b.value n)
   unfolding value_given
   given_length b =
       ap (λ y. spec.value_of tests base.root y n) (length_read base.roots b)
       ∙ ap length_value (handed_value_of (value_in base.roots b.value))
 
-  pub given_count : (q : Nodes) → value_given base (val.Count q) n ≡ Some (number_value (length (nodes_given base q Count n)))
+  pub given_count : (q : Nodes) → value_given base (val.Count q) n
+      ≡ Some (number_value (length (nodes_given base q Count n)))
   unfolding value_given nodes_given
   given_count q = ap (λ y. spec.value_of tests base.root y n) (count_read base.roots q)
 
@@ -156,24 +191,29 @@ module _ (base : Base) (n : Node) where
 
   -- ---- queries
 
-  pub nodes_here : (v : Vec Segment Global) (ss : List Segment) (w : Want) → ss ≡ v.items → reached base ss (n ∷ []) ≡ nodes_given base (nod.Here v) w n
+  pub nodes_here : (v : Vec Segment Global) (ss : List Segment) (w : Want) → ss ≡ v.items
+      → reached base ss (n ∷ []) ≡ nodes_given base (nod.Here v) w n
   unfolding reached nodes_given
   nodes_here v ss w same =
       ap (λ xs. spec.through tests base.root (segments_in base.roots xs) (n ∷ [])) same
       ∙ sym (ap (λ q. spec.nodelist tests base.root q n) (here_read base.roots v w))
 
-  pub nodes_root : (slot : _) (w : Want) → spec.nodelist tests base.root (root_at base.roots slot w) n ≡ nodes_given base (nod.Root slot) w n
+  pub nodes_root : (slot : _) (w : Want) → spec.nodelist tests base.root (root_at base.roots slot w) n
+      ≡ nodes_given base (nod.Root slot) w n
   unfolding nodes_given
   nodes_root slot w = sym (ap (λ q. spec.nodelist tests base.root q n) (root_read base.roots slot w))
 
-pub from_root : (base : Base) (v : Vec Segment Global) (ss : List Segment) (p : Part) (path : List Link) → ss ≡ v.items → path ≡ [] → part_value p ≡ base.root
+pub from_root : (base : Base) (v : Vec Segment Global) (ss : List Segment) (p : Part) (path : List Link)
+    → ss ≡ v.items → path ≡ [] → part_value p ≡ base.root
     → reached base ss (here path p ∷ []) ≡ root_nodes base.root (segments_in base.roots v.items)
 unfolding reached
 from_root base v ss p path same none is =
-    ap₂ (λ l w. spec.through tests base.root (segments_in base.roots ss) (node (link_steps l) w ∷ [])) none is
+    ap₂ (λ l w. spec.through tests base.root (segments_in base.roots ss) (node (link_steps l) w ∷ []))
+    none is
     ∙ ap (λ xs. root_nodes base.root (segments_in base.roots xs)) same
 
 -- from the root of a document on, wherever the query begins
-pub started : (s : Start) (ss : tree.Segments) (v : Json) → root_nodes v ss ≡ spec.document_nodes tests (tree.query s ss) v
+pub started : (s : Start) (ss : tree.Segments) (v : Json)
+    → root_nodes v ss ≡ spec.document_nodes tests (tree.query s ss) v
 started start.Root ss v = refl
 started start.Current ss v = refl

@@ -3,7 +3,8 @@ use Rattle.std.proofs.Common.{◌≡◌, Bool, true, false, ◌&&◌, refl, ap, 
 use Rattle.std.specs.Prelude.{IsTrue, ◌↔◌}
 use Rattle.std.proofs.lemmas.Bool.Decides.{Decides-int_eq}
 use Rattle.std.proofs.lemmas.Slice.Eq.{bytes_eq-Decides}
-use Rattle.jp_doc.specs.Json.{text_eq, Json, null, truth, whole, text, array, object, Items, no_items, add_item, Members, no_members, add_member}
+use Rattle.jp_doc.specs.Json.{text_eq, Json, null, truth, whole, text, array, object, Items, no_items}
+use Rattle.jp_doc.specs.Json.{add_item, Members, no_members, add_member}
 use Rattle.jp_eval.specs.Comparison.{truth_eq, same, same_items, same_members}
 
 both : (a b : Bool) → (a && b) ≡ true → (a ≡ true) × (b ≡ true)
@@ -98,7 +99,9 @@ mutual
   members_self_same : (ms : Members) → same_members ms ms ≡ true
   members_self_same no_members = refl
   members_self_same (add_member k v ms) =
-      joint (text_eq k k && same v v) (same_members ms ms) (joint (text_eq k k) (same v v) ((bytes_eq-Decides k k).1 refl) (self_same v)) (members_self_same ms)
+      joint (text_eq k k && same v v) (same_members ms ms)
+      (joint (text_eq k k) (same v v) ((bytes_eq-Decides k k).1 refl) (self_same v))
+      (members_self_same ms)
 
 pub same_is_equal : (v w : Json) → IsTrue (same v w) ↔ (v ≡ w)
 same_is_equal v w = (equal v w, λ e. subst (λ x. same v x ≡ true) e (self_same v))

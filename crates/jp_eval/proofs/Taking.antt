@@ -4,6 +4,8 @@ use Rattle.std.specs.List.{fold}
 use Rattle.jp_doc.specs.Location.{Location, Node}
 use Rattle.jp_eval.specs.Taken.{put_location}
 
-pub locations_fold : (ls : List Location) (ns : List Node) → fold put_location ls ns ≡ ls ++ map (λ n. n.location) ns
+pub locations_fold : (ls : List Location) (ns : List Node) → fold put_location ls ns
+    ≡ ls ++ map (λ n. n.location) ns
 locations_fold ls [] = sym (append-nil ls)
-locations_fold ls (n ∷ ns) = locations_fold (ls ++ n.location ∷ []) ns ∙ append_assoc ls (n.location ∷ []) (map (λ n. n.location) ns)
+locations_fold ls (n ∷ ns) = locations_fold (ls ++ n.location ∷ []) ns
+    ∙ append_assoc ls (n.location ∷ []) (map (λ n. n.location) ns)

@@ -1,5 +1,7 @@
 -- The steps of the walk.
-use Rattle.std.proofs.Common.{◌≡◌, ℕ, zero, suc, ◌+◌, ◌-◌, ◌<◌, ◌≤◌, List, [], ◌∷◌, ◌++◌, length, length-append, get_or, take, drop, Option, Some, None, option_to_list, Bool, true, false, ◌&&◌, ◌||◌, refl, sym, ap, ◌∙◌, subst, arith, append-nil}
+use Rattle.std.proofs.Common.{◌≡◌, ℕ, zero, suc, ◌+◌, ◌-◌, ◌<◌, ◌≤◌, List, [], ◌∷◌, ◌++◌, length}
+use Rattle.std.proofs.Common.{length-append, get_or, take, drop, Option, Some, None, option_to_list, Bool}
+use Rattle.std.proofs.Common.{true, false, ◌&&◌, ◌||◌, refl, sym, ap, ◌∙◌, subst, arith, append-nil}
 use Rattle.std.proofs.Math.Seq.{take-append_seam}
 use Rattle.std.proofs.lemmas.List.{at_drop_more, at_drop_all, map-append}
 use Rattle.std.specs.List.{All, flat_map, list_any, list_all}
@@ -28,48 +30,68 @@ use Rattle.jp_eval.specs.Base.{Base}
 use Rattle.jp_eval.proofs.Chains.{reached-append, reached-none, reached-descend}
 use Rattle.jp_eval.proofs.Keeping.{stepped, ended, plus-append}
 
-front_of_one_more : (path : List Link) (l : Link) → take (length (path ++ l ∷ []) - 1) (path ++ l ∷ []) ≡ path
+front_of_one_more : (path : List Link) (l : Link) → take (length (path ++ l ∷ []) - 1) (path ++ l ∷ [])
+    ≡ path
 front_of_one_more path l =
     let e : length (path ++ l ∷ []) - 1 ≡ length path = omega (arith, length-append path (l ∷ [])) in
     ap (λ n. take n (path ++ l ∷ [])) e ∙ take-append_seam path (l ∷ [])
 
 -- one link further
-pub link_further : (path more : List Link) (l : Link) → more ≡ path ++ l ∷ [] → link_steps more ≡ link_steps path ++ link_step l ∷ []
+pub link_further : (path more : List Link) (l : Link) → more ≡ path ++ l ∷ []
+    → link_steps more ≡ link_steps path ++ link_step l ∷ []
 link_further path more l e = ap link_steps e ∙ map-append link_step path (l ∷ [])
 
 -- one link back
-pub back_up : (path pushed walked back : List Link) (l : Link) → pushed ≡ path ++ l ∷ [] → walked ≡ pushed → back ≡ take (length walked - 1) walked → back ≡ path
-back_up path pushed walked back l e f g = g ∙ ap (λ ls. take (length ls - 1) ls) (f ∙ e) ∙ front_of_one_more path l
+pub back_up : (path pushed walked back : List Link) (l : Link) → pushed ≡ path ++ l ∷ [] → walked ≡ pushed
+    → back ≡ take (length walked - 1) walked → back ≡ path
+back_up path pushed walked back l e f g = g ∙ ap (λ ls. take (length ls - 1) ls) (f ∙ e)
+    ∙ front_of_one_more path l
 
-pub here_further : (path more : List Link) (l : Link) (p : Part) → more ≡ path ++ l ∷ [] → here more p ≡ node (link_steps path ++ link_step l ∷ []) (part_value p)
+pub here_further : (path more : List Link) (l : Link) (p : Part) → more ≡ path ++ l ∷ []
+    → here more p ≡ node (link_steps path ++ link_step l ∷ []) (part_value p)
 here_further path more l p e = ap (λ s. node s (part_value p)) (link_further path more l e)
 
 -- the whole list has been gone over
-pub over : {K : Type 0} (put : K → Node → K) {X : Type 0} (f : List X → List Node) (xs : List X) (i : ℕ) (k start : K) (all : List Node) → length xs ≤ i → f [] ≡ [] → plus put k (f (drop i xs)) ≡ plus put start all → k ≡ plus put start all
-over put f xs i k start all h none inv = ended put k start all (sym (ap (plus put k) (at_drop_all f xs i h ∙ none)) ∙ inv)
+pub over : {K : Type 0} (put : K → Node → K) {X : Type 0} (f : List X → List Node) (xs : List X) (i : ℕ)
+    (k start : K) (all : List Node) → length xs ≤ i → f [] ≡ [] → plus put k (f (drop i xs))
+    ≡ plus put start all → k ≡ plus put start all
+over put f xs i k start all h none inv =
+    ended put k start all (sym (ap (plus put k) (at_drop_all f xs i h ∙ none)) ∙ inv)
 
 -- one selector
-pub applied : {K : Type 0} (put : K → Node → K) (base : Base) (xs : List Selector) (i : ℕ) (x : Selector) (rest : List Segment) (n : Node) (k mid start : K) (all : List Node) → i < length xs → x ≡ get_or xs i x
-    → mid ≡ plus put k (reached base rest (picked base x n)) → plus put k (reached base rest (picked_by base (drop i xs) n)) ≡ plus put start all
+pub applied : {K : Type 0} (put : K → Node → K) (base : Base) (xs : List Selector) (i : ℕ) (x : Selector)
+    (rest : List Segment) (n : Node) (k mid start : K) (all : List Node) → i < length xs
+    → x ≡ get_or xs i x
+    → mid ≡ plus put k (reached base rest (picked base x n))
+    → plus put k (reached base rest (picked_by base (drop i xs) n)) ≡ plus put start all
     → plus put mid (reached base rest (picked_by base (drop (i + 1) xs) n)) ≡ plus put start all
 applied put base xs i x rest n k mid start all h is e inv =
-    let first : reached base rest (picked_by base (drop i xs) n) ≡ reached base rest (picked base x n) ++ reached base rest (picked_by base (drop (i + 1) xs) n) =
+    let first : reached base rest (picked_by base (drop i xs) n) ≡ reached base rest (picked base x n)
+    ++ reached base rest (picked_by base (drop (i + 1) xs) n) =
     at_drop_more (λ ys. reached base rest (picked_by base ys n)) xs i x h
     ∙ ap (λ y. reached base rest (picked base y n ++ picked_by base (drop (i + 1) xs) n)) (sym is)
     ∙ reached-append base rest (picked base x n) (picked_by base (drop (i + 1) xs) n) in
-    stepped put k mid (reached base rest (picked base x n)) (reached base rest (picked_by base (drop (i + 1) xs) n)) all start e (sym (ap (plus put k) first) ∙ inv)
+    stepped put k mid (reached base rest (picked base x n))
+    (reached base rest (picked_by base (drop (i + 1) xs) n)) all start e (sym (ap (plus put k) first)
+    ∙ inv)
 
-pub descended : {K : Type 0} (put : K → Node → K) (base : Base) (xs : List Selector) (rest : List Segment) (n : Node) (k mid last : K) → mid ≡ plus put k (reached base rest (picked_by base xs n))
-    → last ≡ plus put mid (flat_map (λ c. reached base rest (flat_map (picked_by base xs) (descendants c))) (children n))
+pub descended : {K : Type 0} (put : K → Node → K) (base : Base) (xs : List Selector) (rest : List Segment)
+    (n : Node) (k mid last : K) → mid ≡ plus put k (reached base rest (picked_by base xs n))
+    → last ≡ plus put mid
+    (flat_map (λ c. reached base rest (flat_map (picked_by base xs) (descendants c))) (children n))
     → last ≡ plus put k (reached base rest (flat_map (picked_by base xs) (descendants n)))
 descended put base xs rest n k mid last here below =
-    below ∙ ap (λ j. plus put j (flat_map (λ c. reached base rest (flat_map (picked_by base xs) (descendants c))) (children n))) here
-    ∙ sym (plus-append put k (reached base rest (picked_by base xs n)) (flat_map (λ c. reached base rest (flat_map (picked_by base xs) (descendants c))) (children n)))
+    below ∙ ap (λ j. plus put j
+    (flat_map (λ c. reached base rest (flat_map (picked_by base xs) (descendants c))) (children n)))
+    here
+    ∙ sym (plus-append put k (reached base rest (picked_by base xs n))
+    (flat_map (λ c. reached base rest (flat_map (picked_by base xs) (descendants c))) (children n)))
     ∙ ap (plus put k) (sym (reached-descend base xs rest n))
 
 -- ---- items
 
-pub first_left : (P : Value → Type 0) (xs : List Value) (i : ℕ) (x : Value) → i < length xs → x ≡ get_or xs i x → All P (drop i xs) → P x
+pub first_left : (P : Value → Type 0) (xs : List Value) (i : ℕ) (x : Value) → i < length xs
+    → x ≡ get_or xs i x → All P (drop i xs) → P x
 first_left P [] i x h is all = absurd (omega arith)
 first_left P (y ∷ xs) zero x h is all = subst P (sym is) (all 0 x (omega arith))
 first_left P (y ∷ xs) (suc i) x h is all = first_left P xs i x (omega arith) is all
@@ -81,60 +103,84 @@ drop_none : (i : ℕ) → drop {A = Value} i [] ≡ []
 drop_none zero = refl
 drop_none (suc i) = refl
 
-pub others_left : (P : Value → Type 0) (xs : List Value) (i : ℕ) → All P (drop i xs) → All P (drop (i + 1) xs)
+pub others_left : (P : Value → Type 0) (xs : List Value) (i : ℕ) → All P (drop i xs)
+    → All P (drop (i + 1) xs)
 others_left P [] i all = λ k d h. absurd (omega (arith, ap length (drop_none (i + 1)), h))
 others_left P (x ∷ xs) zero all = λ k d h. all (suc k) d (omega arith)
 others_left P (x ∷ xs) (suc i) all = rw (next i) (others_left P xs i all)
 
-pub no_deeper : (xs : List Value) (i : ℕ) → items_depth (items_view (drop (i + 1) xs)) ≤ items_depth (items_view (drop i xs))
+pub no_deeper : (xs : List Value) (i : ℕ) → items_depth (items_view (drop (i + 1) xs)) ≤ items_depth
+    (items_view (drop i xs))
 no_deeper [] i = rw (drop_none (i + 1), drop_none i) (omega arith)
 no_deeper (x ∷ xs) zero = omega arith
 no_deeper (x ∷ xs) (suc i) = rw (next i) (no_deeper xs i)
 
-pub first_no_deeper : (xs : List Value) (i : ℕ) (x : Value) → i < length xs → x ≡ get_or xs i x → depth (view x) ≤ items_depth (items_view (drop i xs))
+pub first_no_deeper : (xs : List Value) (i : ℕ) (x : Value) → i < length xs → x ≡ get_or xs i x
+    → depth (view x) ≤ items_depth (items_view (drop i xs))
 first_no_deeper [] i x h is = absurd (omega arith)
-first_no_deeper (y ∷ xs) zero x h is = subst (λ z. depth (view z) ≤ items_depth (items_view (y ∷ xs))) (sym is) (omega arith)
+first_no_deeper (y ∷ xs) zero x h is = subst (λ z. depth (view z) ≤ items_depth (items_view (y ∷ xs)))
+    (sym is) (omega arith)
 first_no_deeper (y ∷ xs) (suc i) x h is = first_no_deeper xs i x (omega arith) is
 
-pub item_done : {K : Type 0} (put : K → Node → K) (f : Node → List Node) (at : Location) (xs : List Value) (i : ℕ) (x : Value) (k mid start : K) (all : List Node) → i < length xs → x ≡ get_or xs i x
+pub item_done : {K : Type 0} (put : K → Node → K) (f : Node → List Node) (at : Location) (xs : List Value)
+    (i : ℕ) (x : Value) (k mid start : K) (all : List Node) → i < length xs → x ≡ get_or xs i x
     → mid ≡ plus put k (f (node (at ++ index i ∷ []) (value_of x)))
     → plus put k (flat_map f (item_nodes at i (items_of (items_view (drop i xs))))) ≡ plus put start all
-    → plus put mid (flat_map f (item_nodes at (i + 1) (items_of (items_view (drop (i + 1) xs))))) ≡ plus put start all
+    → plus put mid (flat_map f (item_nodes at (i + 1) (items_of (items_view (drop (i + 1) xs)))))
+    ≡ plus put start all
 item_done put f at xs i x k mid start all h is e inv =
     let others = flat_map f (item_nodes at (i + 1) (items_of (items_view (drop (i + 1) xs)))) in
-    let first : flat_map f (item_nodes at i (items_of (items_view (drop i xs)))) ≡ f (node (at ++ index i ∷ []) (value_of x)) ++ others =
+    let first : flat_map f (item_nodes at i (items_of (items_view (drop i xs))))
+    ≡ f (node (at ++ index i ∷ []) (value_of x)) ++ others =
     at_drop_more (λ ys. flat_map f (item_nodes at i (items_of (items_view ys)))) xs i x h
     ∙ ap (λ y. f (node (at ++ index i ∷ []) (value_of y)) ++ others) (sym is) in
-    stepped put k mid (f (node (at ++ index i ∷ []) (value_of x))) others all start e (sym (ap (plus put k) first) ∙ inv)
+    stepped put k mid (f (node (at ++ index i ∷ []) (value_of x))) others all start e
+    (sym (ap (plus put k) first) ∙ inv)
 
 -- ---- members
 
-pub first_member_left : (P : Value → Type 0) (es others : List Entry) (e : Entry) → es ≡ e ∷ others → All (λ (m : Entry). P m.1) es → P e.1
-first_member_left P es others e is all = subst (λ (l : List Entry). All (λ (m : Entry). P m.1) l) is all 0 e (omega arith)
+pub first_member_left : (P : Value → Type 0) (es others : List Entry) (e : Entry) → es ≡ e ∷ others
+    → All (λ (m : Entry). P m.1) es → P e.1
+first_member_left P es others e is all = subst (λ (l : List Entry). All (λ (m : Entry). P m.1) l) is all 0
+    e (omega arith)
 
-pub other_members_left : (P : Value → Type 0) (es others : List Entry) (e : Entry) → es ≡ e ∷ others → All (λ (m : Entry). P m.1) es → All (λ (m : Entry). P m.1) others
-other_members_left P es others e is all = λ k d h. subst (λ (l : List Entry). All (λ (m : Entry). P m.1) l) is all (suc k) d (omega arith)
+pub other_members_left : (P : Value → Type 0) (es others : List Entry) (e : Entry) → es ≡ e ∷ others
+    → All (λ (m : Entry). P m.1) es → All (λ (m : Entry). P m.1) others
+other_members_left P es others e is all =
+    λ k d h. subst (λ (l : List Entry). All (λ (m : Entry). P m.1) l) is all (suc k) d (omega arith)
 
-pub members_no_deeper : (es others : List Entry) (e : Entry) → es ≡ e ∷ others → members_depth (members_view others) ≤ members_depth (members_view es)
-members_no_deeper es others e is = subst (λ (l : List Entry). members_depth (members_view others) ≤ members_depth (members_view l)) (sym is) (omega arith)
+pub members_no_deeper : (es others : List Entry) (e : Entry) → es ≡ e ∷ others
+    → members_depth (members_view others) ≤ members_depth (members_view es)
+members_no_deeper es others e is =
+    subst (λ (l : List Entry). members_depth (members_view others) ≤ members_depth (members_view l))
+    (sym is) (omega arith)
 
-pub member_done : {K : Type 0} (put : K → Node → K) (f : Node → List Node) (at : Location) (es others : List Entry) (e : Entry) (k mid start : K) (all : List Node) → es ≡ e ∷ others
+pub member_done : {K : Type 0} (put : K → Node → K) (f : Node → List Node) (at : Location)
+    (es others : List Entry) (e : Entry) (k mid start : K) (all : List Node) → es ≡ e ∷ others
     → mid ≡ plus put k (f (node (at ++ name (chars (string_bytes e.0)) ∷ []) (value_of e.1)))
     → plus put k (flat_map f (member_nodes at (members_of (members_view es)))) ≡ plus put start all
     → plus put mid (flat_map f (member_nodes at (members_of (members_view others)))) ≡ plus put start all
 member_done put f at es others e k mid start all is found inv =
-    stepped put k mid (f (node (at ++ name (chars (string_bytes e.0)) ∷ []) (value_of e.1))) (flat_map f (member_nodes at (members_of (members_view others)))) all start found
-    (sym (ap (λ (l : List Entry). plus put k (flat_map f (member_nodes at (members_of (members_view l))))) is) ∙ inv)
+    stepped put k mid (f (node (at ++ name (chars (string_bytes e.0)) ∷ []) (value_of e.1)))
+    (flat_map f (member_nodes at (members_of (members_view others)))) all start found
+    (sym (ap (λ (l : List Entry). plus put k (flat_map f (member_nodes at (members_of (members_view l)))))
+    is) ∙ inv)
 
 -- ---- places
 
-pub none_at : (n : Node) (o : Option ℕ) (p : ℕ) → o ≡ Some p → None ≡ item_of p n.value → items_at n (option_to_list o) ≡ []
-none_at n o p is none = ap (λ x. items_at n (option_to_list x)) is ∙ ap (λ x. node_if_some (n.location ++ index p ∷ []) x ++ []) (sym none)
+pub none_at : (n : Node) (o : Option ℕ) (p : ℕ) → o ≡ Some p → None ≡ item_of p n.value
+    → items_at n (option_to_list o) ≡ []
+none_at n o p is none = ap (λ x. items_at n (option_to_list x)) is
+    ∙ ap (λ x. node_if_some (n.location ++ index p ∷ []) x ++ []) (sym none)
 
-pub one_at : (n : Node) (o : Option ℕ) (p : ℕ) (v : Json) → o ≡ Some p → Some v ≡ item_of p n.value → items_at n (option_to_list o) ≡ node (n.location ++ index p ∷ []) v ∷ []
-one_at n o p v is some = ap (λ x. items_at n (option_to_list x)) is ∙ ap (λ x. node_if_some (n.location ++ index p ∷ []) x ++ []) (sym some)
+pub one_at : (n : Node) (o : Option ℕ) (p : ℕ) (v : Json) → o ≡ Some p → Some v ≡ item_of p n.value
+    → items_at n (option_to_list o) ≡ node (n.location ++ index p ∷ []) v ∷ []
+one_at n o p v is some = ap (λ x. items_at n (option_to_list x)) is
+    ∙ ap (λ x. node_if_some (n.location ++ index p ∷ []) x ++ []) (sym some)
 
-pub place_done : {K : Type 0} (put : K → Node → K) (base : Base) (rest : List Segment) (n : Node) (b : Bounds) (len : ℕ) (next further : Option ℕ) (p : ℕ) (k mid start : K) (all : List Node) → next ≡ Some p → from_place b len further ≡ later b len p
+pub place_done : {K : Type 0} (put : K → Node → K) (base : Base) (rest : List Segment) (n : Node)
+    (b : Bounds) (len : ℕ) (next further : Option ℕ) (p : ℕ) (k mid start : K) (all : List Node)
+    → next ≡ Some p → from_place b len further ≡ later b len p
     → mid ≡ plus put k (reached base rest (items_at n (p ∷ [])))
     → plus put k (reached base rest (items_at n (from_place b len next))) ≡ plus put start all
     → plus put mid (reached base rest (items_at n (from_place b len further))) ≡ plus put start all
@@ -148,26 +194,40 @@ place_done put base rest n b len next further p k mid start all is behind e inv 
     ∙ ap (λ l. found ++ reached base rest (items_at n l)) (sym behind) in
     stepped put k mid found others all start e (sym (ap (plus put k) first) ∙ inv)
 
-pub places_over : {K : Type 0} (put : K → Node → K) (base : Base) (rest : List Segment) (n : Node) (b : Bounds) (len : ℕ) (next : Option ℕ) (k start : K) (all : List Node) → next ≡ None
-    → plus put k (reached base rest (items_at n (from_place b len next))) ≡ plus put start all → k ≡ plus put start all
+pub places_over : {K : Type 0} (put : K → Node → K) (base : Base) (rest : List Segment) (n : Node)
+    (b : Bounds) (len : ℕ) (next : Option ℕ) (k start : K) (all : List Node) → next ≡ None
+    → plus put k (reached base rest (items_at n (from_place b len next))) ≡ plus put start all
+    → k ≡ plus put start all
 places_over put base rest n b len next k start all is inv =
-    ended put k start all (sym (ap (plus put k) (ap (λ o. reached base rest (items_at n (from_place b len o))) is ∙ reached-none base rest)) ∙ inv)
+    ended put k start all
+    (sym (ap (plus put k) (ap (λ o. reached base rest (items_at n (from_place b len o))) is
+    ∙ reached-none base rest)) ∙ inv)
 
-pub members_over : {K : Type 0} (put : K → Node → K) (f : Node → List Node) (at : Location) (es : List Entry) (k start : K) (all : List Node) → es ≡ []
-    → plus put k (flat_map f (member_nodes at (members_of (members_view es)))) ≡ plus put start all → k ≡ plus put start all
-members_over put f at es k start all is inv = ended put k start all (sym (ap (λ (l : List Entry). plus put k (flat_map f (member_nodes at (members_of (members_view l))))) is) ∙ inv)
+pub members_over : {K : Type 0} (put : K → Node → K) (f : Node → List Node) (at : Location)
+    (es : List Entry) (k start : K) (all : List Node) → es ≡ []
+    → plus put k (flat_map f (member_nodes at (members_of (members_view es)))) ≡ plus put start all
+    → k ≡ plus put start all
+members_over put f at es k start all is inv =
+    ended put k start all
+    (sym (ap (λ (l : List Entry). plus put k (flat_map f (member_nodes at (members_of (members_view l)))))
+    is) ∙ inv)
 
 -- ---- some part, and each part
 
-module _ {X : Type 0} (p : X → Bool) (xs : List X) (i : ℕ) (x : X) (h : i < length xs) (is : x ≡ get_or xs i x) where
+module _ {X : Type 0} (p : X → Bool) (xs : List X) (i : ℕ) (x : X) (h : i < length xs)
+    (is : x ≡ get_or xs i x) where
   pub any_further : p x ≡ false → list_any p (drop (i + 1) xs) ≡ list_any p (drop i xs)
-  any_further off = sym (at_drop_more (list_any p) xs i x h ∙ ap (λ b. b || list_any p (drop (i + 1) xs)) (ap p (sym is) ∙ off))
+  any_further off = sym (at_drop_more (list_any p) xs i x h ∙ ap (λ b. b || list_any p (drop (i + 1) xs))
+      (ap p (sym is) ∙ off))
 
   pub any_found : p x ≡ true → list_any p (drop i xs) ≡ true
-  any_found on = at_drop_more (list_any p) xs i x h ∙ ap (λ b. b || list_any p (drop (i + 1) xs)) (ap p (sym is) ∙ on)
+  any_found on = at_drop_more (list_any p) xs i x h ∙ ap (λ b. b || list_any p (drop (i + 1) xs))
+      (ap p (sym is) ∙ on)
 
   pub all_further : p x ≡ true → list_all p (drop (i + 1) xs) ≡ list_all p (drop i xs)
-  all_further on = sym (at_drop_more (list_all p) xs i x h ∙ ap (λ b. b && list_all p (drop (i + 1) xs)) (ap p (sym is) ∙ on))
+  all_further on = sym (at_drop_more (list_all p) xs i x h ∙ ap (λ b. b && list_all p (drop (i + 1) xs))
+      (ap p (sym is) ∙ on))
 
   pub all_found : p x ≡ false → list_all p (drop i xs) ≡ false
-  all_found off = at_drop_more (list_all p) xs i x h ∙ ap (λ b. b && list_all p (drop (i + 1) xs)) (ap p (sym is) ∙ off)
+  all_found off = at_drop_more (list_all p) xs i x h ∙ ap (λ b. b && list_all p (drop (i + 1) xs))
+      (ap p (sym is) ∙ off)

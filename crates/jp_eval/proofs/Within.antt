@@ -10,7 +10,11 @@ use Rattle.jp_eval.proofs.BoundsLaws.{clamped_low, clamped_high, from_zero, from
 use Rattle.jp_eval.proofs.Positions.{position_or}
 
 step_within : (o : Option ℤ) → ForSome o IsPosition → IsPosition (unwrap_or o (pos 1))
-step_within o h = position_or o (pos 1) h (record { least = omega (arith, ints); greatest = omega (arith, ints) })
+step_within o h = position_or o (pos 1) h (record {
+  least = omega (arith, ints);
+  greatest =
+      omega (arith, ints);
+})
 
 minus_one_below : (z : ℤ) → pos 0 ≤ℤ z → negsuc 0 ≤ℤ z
 minus_one_below z h = omega (arith, ints)
@@ -29,10 +33,12 @@ one_more z len h = omega (arith, ints)
 no_more : (z : ℤ) (len : ℕ) → z ≤ℤ (pos len -ℤ pos 1) → z ≤ℤ pos len
 no_more z len h = omega (arith, ints)
 
-within_by : (first past : Option ℤ) (s : ℤ) (len : ℕ) (b : Bool) → int_lt s (pos 0) ≡ b → IsPosition s → AreWithin (bounds_by_step first past s len) len
+within_by : (first past : Option ℤ) (s : ℤ) (len : ℕ) (b : Bool) → int_lt s (pos 0) ≡ b → IsPosition s
+    → AreWithin (bounds_by_step first past s len) len
 within_by first past s len false t h =
     let low = clamped_low (pos 0) (pos len) (normalized (unwrap_or first (pos 0)) len) (from_zero len) in
-    let high = clamped_high (pos 0) (pos len) (normalized (unwrap_or past (pos len)) len) (from_zero len) in
+    let high = clamped_high (pos 0) (pos len) (normalized (unwrap_or past (pos len)) len)
+    (from_zero len) in
     rw t (record {
       lower = minus_one_below _ low;
       lower_of_rising = λ _. low;
@@ -41,8 +47,10 @@ within_by first past s len false t h =
       step = h;
     })
 within_by first past s len true t h =
-    let low = clamped_low (negsuc 0) (pos len -ℤ pos 1) (normalized (unwrap_or past (neg_ℤ (pos len) -ℤ pos 1)) len) (from_minus_one len) in
-    let high = clamped_high (negsuc 0) (pos len -ℤ pos 1) (normalized (unwrap_or first (pos len -ℤ pos 1)) len) (from_minus_one len) in
+    let low = clamped_low (negsuc 0) (pos len -ℤ pos 1)
+    (normalized (unwrap_or past (neg_ℤ (pos len) -ℤ pos 1)) len) (from_minus_one len) in
+    let high = clamped_high (negsuc 0) (pos len -ℤ pos 1) (normalized (unwrap_or first (pos len -ℤ pos 1))
+    len) (from_minus_one len) in
     rw t (record {
       lower = low;
       lower_of_rising = λ up. absurd (not_up s t up);
@@ -51,5 +59,7 @@ within_by first past s len true t h =
       step = h;
     })
 
-pub are_within : (first past step : Option ℤ) (len : ℕ) → ForSome step IsPosition → AreWithin (slice_bounds first past step len) len
-are_within first past step len h = within_by first past (unwrap_or step (pos 1)) len (int_lt (unwrap_or step (pos 1)) (pos 0)) refl (step_within step h)
+pub are_within : (first past step : Option ℤ) (len : ℕ) → ForSome step IsPosition
+    → AreWithin (slice_bounds first past step len) len
+are_within first past step len h = within_by first past (unwrap_or step (pos 1)) len
+    (int_lt (unwrap_or step (pos 1)) (pos 0)) refl (step_within step h)

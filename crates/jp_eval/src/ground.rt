@@ -54,8 +54,8 @@ impl<'v> Ground<'v> {
         answer: Answer<'v>,
     ) -> Result<Ground<'v>, AllocError>
         requires roots { roots.now ≡ self.roots.now ++ query.now ∷ [] }
-        requires answer { is_answer (part_value self.root) (wanted_in (roots_of self.roots.now) query.now) answer
-            ≡ true }
+        requires answer { is_answer (part_value self.root)
+            (wanted_in (roots_of self.roots.now) query.now) answer ≡ true }
         ensures root { IfOk result (λ g. part_value g.root ≡ part_value self.entry.root) }
         ensures roots { IfOk result (λ g. g.roots.now ≡ roots.now) }
     {
@@ -77,7 +77,8 @@ impl<'v> Ground<'v> {
     /// What is kept of the `$` query of a slot, if there is one.
     fn answer(&self, slot: usize) -> Option<Answer<'v>>
         ensures { (d : Wanted) → MatchOption result (get_or (roots_of self.now.roots.now) slot d ≡ d)
-            (λ a. is_answer (part_value self.now.root) (get_or (roots_of self.now.roots.now) slot d) a ≡ true) }
+            (λ a. is_answer (part_value self.now.root) (get_or (roots_of self.now.roots.now) slot d) a
+            ≡ true) }
     {
         match self.answers.get(slot) {
             Some(answer) => Some(*answer),

@@ -26,4 +26,12 @@ returns-in-value c = rw c.in-value.is refl
 pub returns-in_default : goal.returns-in_default
 returns-in_default c =
     let name = c.args.name.now in
-    rw (is_not name (codes "length") c.utf8.name refl c.in_default.not-length, is_not name (codes "count") c.utf8.name refl c.in_default.not-count, is_not name (codes "match") c.utf8.name refl c.in_default.not-match, is_not name (codes "search") c.utf8.name refl c.in_default.not-search, is_not name (codes "value") c.utf8.name refl c.in_default.not-value) refl
+    rw (
+      is_not name (codes "length") c.utf8.name refl c.in_default.not-length,
+      is_not name (codes "count")
+          c.utf8.name refl c.in_default.not-count,
+      is_not name (codes "match") c.utf8.name refl
+          c.in_default.not-match,
+      is_not name (codes "search") c.utf8.name refl c.in_default.not-search,
+      is_not name (codes "value") c.utf8.name refl c.in_default.not-value,
+    ) refl

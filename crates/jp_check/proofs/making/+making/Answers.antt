@@ -2,65 +2,89 @@ use Rattle.std.proofs.Common.{Some, option_map, ◌≡◌, ◌∙◌, ap, ap₂,
 use Rattle.std.proofs.lemmas.Result.{IfOk-weaker}
 use Rattle.jp_syntax.specs.Tree as tree
 use Rattle.jp_syntax.specs.PartViews.{argument_of, comparable_of, logical_of, selector_of, segment_of}
-use Rattle.jp_syntax.proofs.Views.{filter_made, any_made, all_made, not_made, compare_made, test_made, test_call_made, single_made, value_call_made, query_argument_made, call_argument_made}
+use Rattle.jp_syntax.proofs.Views.{filter_made, any_made, all_made, not_made, compare_made, test_made}
+use Rattle.jp_syntax.proofs.Views.{test_call_made, single_made, value_call_made, query_argument_made}
+use Rattle.jp_syntax.proofs.Views.{call_argument_made}
 use Rattle.jp_syntax.specs.declared.tree.Start.TheVariants as start
 use Rattle.jp_syntax.specs.declared.tree.Query.{out-Query}
 use Rattle.jp_check.specs.declared.ready.RootQuery.{RootQuery}
 use Rattle.std.specs.Str.{chars}
 use Rattle.jp_check.specs.Functions.{function_named, length_function, count_function, value_function}
 use Rattle.jp_check.specs.Kinds.{function_of}
-use Rattle.jp_check.specs.Ready.{segment_in, selector_in, logical_in, value_in, as_argument, text_argument, call_of_one, call_of_two}
+use Rattle.jp_check.specs.Ready.{segment_in, selector_in, logical_in, value_in, as_argument}
+use Rattle.jp_check.specs.Ready.{text_argument, call_of_one, call_of_two}
 use Rattle.jp_check.proofs.Levels.{query_level, segment_level, comparison_level}
 use Rattle.jp_check.proofs.CallsMade.{called_one, called_two, text_is}
 use Rattle.jp_check.proofs.Naming.{named_length, named_count, named_value}
-use Rattle.jp_check.proofs.MakingSteps.{begins_itself, begins_on, made_more, made_all, listed_begins, root_found}
-use Rattle.jp_check.proofs.ReadyViews.{filter_read, any_read, all_read, not_read, compare_read, test_read, single_read, length_read, count_read, only_read, here_read, root_read, segment_read}
+use Rattle.jp_check.proofs.MakingSteps.{begins_itself, begins_on, made_more, made_all, listed_begins}
+use Rattle.jp_check.proofs.MakingSteps.{root_found}
+use Rattle.jp_check.proofs.ReadyViews.{filter_read, any_read, all_read, not_read, compare_read, test_read}
+use Rattle.jp_check.proofs.ReadyViews.{single_read, length_read, count_read, only_read, here_read}
+use Rattle.jp_check.proofs.ReadyViews.{root_read, segment_read}
 use Rattle.jp_check.proofs.making.+making.Goals as goal
 
 pub make_segments-loop-segment-preserved : goal.make_segments-loop-segment-preserved
 make_segments-loop-segment-preserved t c = (
-  made_more segment_in segment_of c.args.segments.now c.loop-segment.segment-index c.segment-item.result c.in_ok-make_segment.field-0 _ _ _ _ c.loop-segment-test.true c.segment-item.is c.in_ok-push.ensures.items c.in_ok-make_segment.ensures.roots c.in_ok-make_segment.ensures.made c.loop-segment.invariant.0,
+  made_more segment_in segment_of c.args.segments.now c.loop-segment.segment-index c.segment-item.result
+      c.in_ok-make_segment.field-0 _ _ _ _ c.loop-segment-test.true c.segment-item.is
+      c.in_ok-push.ensures.items c.in_ok-make_segment.ensures.roots c.in_ok-make_segment.ensures.made
+      c.loop-segment.invariant.0,
   begins_on _ _ _ c.loop-segment.invariant.1 c.in_ok-make_segment.ensures.roots,
 )
 
 pub make_segments-returns-clause-made : goal.make_segments-returns-clause-made
 make_segments-returns-clause-made t c =
-    made_all segment_in segment_of c.args.segments.now c.loop-segment.segment-index _ _ c.loop-segment-test.false c.loop-segment.invariant.0
+    made_all segment_in segment_of c.args.segments.now c.loop-segment.segment-index _ _
+    c.loop-segment-test.false c.loop-segment.invariant.0
 
 pub make_selectors-loop-selector-preserved : goal.make_selectors-loop-selector-preserved
 make_selectors-loop-selector-preserved t c = (
-  made_more selector_in selector_of c.args.selectors.now c.loop-selector.selector-index c.selector-item.result c.in_ok-make_selector.field-0 _ _ _ _ c.loop-selector-test.true c.selector-item.is c.in_ok-push.ensures.items c.in_ok-make_selector.ensures.roots c.in_ok-make_selector.ensures.made c.loop-selector.invariant.0,
+  made_more selector_in selector_of c.args.selectors.now c.loop-selector.selector-index
+      c.selector-item.result c.in_ok-make_selector.field-0 _ _ _ _ c.loop-selector-test.true
+      c.selector-item.is c.in_ok-push.ensures.items c.in_ok-make_selector.ensures.roots
+      c.in_ok-make_selector.ensures.made c.loop-selector.invariant.0,
   begins_on _ _ _ c.loop-selector.invariant.1 c.in_ok-make_selector.ensures.roots,
 )
 
 pub make_selectors-returns-clause-made : goal.make_selectors-returns-clause-made
 make_selectors-returns-clause-made t c =
-    made_all selector_in selector_of c.args.selectors.now c.loop-selector.selector-index _ _ c.loop-selector-test.false c.loop-selector.invariant.0
+    made_all selector_in selector_of c.args.selectors.now c.loop-selector.selector-index _ _
+    c.loop-selector-test.false c.loop-selector.invariant.0
 
 pub make_parts-loop-part-preserved : goal.make_parts-loop-part-preserved
 make_parts-loop-part-preserved t c = (
-  made_more logical_in logical_of c.args.parts.now c.loop-part.part-index c.part-item.result c.in_ok-make_logical.field-0 _ _ _ _ c.loop-part-test.true c.part-item.is c.in_ok-push.ensures.items c.in_ok-make_logical.ensures.roots c.in_ok-make_logical.ensures.made c.loop-part.invariant.0,
+  made_more logical_in logical_of c.args.parts.now c.loop-part.part-index c.part-item.result
+      c.in_ok-make_logical.field-0 _ _ _ _ c.loop-part-test.true c.part-item.is c.in_ok-push.ensures.items
+      c.in_ok-make_logical.ensures.roots c.in_ok-make_logical.ensures.made c.loop-part.invariant.0,
   begins_on _ _ _ c.loop-part.invariant.1 c.in_ok-make_logical.ensures.roots,
 )
 
 pub make_parts-returns-clause-made : goal.make_parts-returns-clause-made
 make_parts-returns-clause-made t c =
-    made_all logical_in logical_of c.args.parts.now c.loop-part.part-index _ _ c.loop-part-test.false c.loop-part.invariant.0
+    made_all logical_in logical_of c.args.parts.now c.loop-part.part-index _ _ c.loop-part-test.false
+    c.loop-part.invariant.0
 
-pub make_argument_nodes-returns-in-Query-clause-made : goal.make_argument_nodes-returns-in-Query-clause-made
+pub make_argument_nodes-returns-in-Query-clause-made
+    : goal.make_argument_nodes-returns-in-Query-clause-made
 make_argument_nodes-returns-in-Query-clause-made t c =
-    IfOk-weaker c.make_nodes.result _ _ (λ q r all h. ap tree.query_argument (r all h) ∙ sym (ap argument_of c.in-Query.is ∙ query_argument_made c.in-Query.query)) c.make_nodes.ensures.made
+    IfOk-weaker c.make_nodes.result _ _ (λ q r all h. ap tree.query_argument (r all h)
+    ∙ sym (ap argument_of c.in-Query.is ∙ query_argument_made c.in-Query.query))
+    c.make_nodes.ensures.made
 
-pub make_logical-returns-in_ok-make_parts-in-Any-clause-made : goal.make_logical-returns-in_ok-make_parts-in-Any-clause-made
+pub make_logical-returns-in_ok-make_parts-in-Any-clause-made
+    : goal.make_logical-returns-in_ok-make_parts-in-Any-clause-made
 make_logical-returns-in_ok-make_parts-in-Any-clause-made t c = λ all h.
     any_read all c.in_ok-make_parts-in-Any.field-0
-    ∙ ap (λ ls. tree.any (tree.logicals ls)) (c.in_ok-make_parts-in-Any.ensures.made all h ∙ ap (map logical_of) c.deref.ensures.value)
+    ∙ ap (λ ls. tree.any (tree.logicals ls)) (c.in_ok-make_parts-in-Any.ensures.made all h
+    ∙ ap (map logical_of) c.deref.ensures.value)
     ∙ sym (ap logical_of c.in-Any.is ∙ any_made c.in-Any.parts)
 
-pub make_logical-returns-in_ok-make_parts-in-All-clause-made : goal.make_logical-returns-in_ok-make_parts-in-All-clause-made
+pub make_logical-returns-in_ok-make_parts-in-All-clause-made
+    : goal.make_logical-returns-in_ok-make_parts-in-All-clause-made
 make_logical-returns-in_ok-make_parts-in-All-clause-made t c = λ all h.
     all_read all c.in_ok-make_parts-in-All.field-0
-    ∙ ap (λ ls. tree.all (tree.logicals ls)) (c.in_ok-make_parts-in-All.ensures.made all h ∙ ap (map logical_of) c.deref-in-All.ensures.value)
+    ∙ ap (λ ls. tree.all (tree.logicals ls)) (c.in_ok-make_parts-in-All.ensures.made all h
+    ∙ ap (map logical_of) c.deref-in-All.ensures.value)
     ∙ sym (ap logical_of c.in-All.is ∙ all_made c.in-All.parts)
 
 pub make_negation-returns-clause-made : goal.make_negation-returns-clause-made
@@ -80,7 +104,8 @@ make_comparison-returns-clause-made t c = λ all h.
 pub make_logical-returns-in-Not-clause-made : goal.make_logical-returns-in-Not-clause-made
 make_logical-returns-in-Not-clause-made t c =
     IfOk-weaker c.make_negation.result _ _
-    (λ l r all h. r all h ∙ ap (λ x. tree.negation (logical_of x)) c.deref-in-Not.ensures ∙ sym (ap logical_of c.in-Not.is ∙ not_made c.in-Not.part))
+    (λ l r all h. r all h ∙ ap (λ x. tree.negation (logical_of x)) c.deref-in-Not.ensures
+    ∙ sym (ap logical_of c.in-Not.is ∙ not_made c.in-Not.part))
     c.make_negation.ensures.made
 
 pub make_logical-returns-in-Compare-clause-made : goal.make_logical-returns-in-Compare-clause-made
@@ -89,7 +114,8 @@ make_logical-returns-in-Compare-clause-made t c =
     (λ l r all h. r all h ∙ sym (ap logical_of c.in-Compare.is ∙ compare_made c.in-Compare.comparison))
     c.make_comparison.ensures.made
 
-pub make_logical-returns-in_ok-make_nodes-in-Test-clause-made : goal.make_logical-returns-in_ok-make_nodes-in-Test-clause-made
+pub make_logical-returns-in_ok-make_nodes-in-Test-clause-made
+    : goal.make_logical-returns-in_ok-make_nodes-in-Test-clause-made
 make_logical-returns-in_ok-make_nodes-in-Test-clause-made t c = λ all h.
     test_read all c.in_ok-make_nodes-in-Test.field-0
     ∙ ap tree.test (c.in_ok-make_nodes-in-Test.ensures.made all h)
@@ -97,39 +123,53 @@ make_logical-returns-in_ok-make_nodes-in-Test-clause-made t c = λ all h.
 
 pub make_logical-returns-in-Call-clause-made : goal.make_logical-returns-in-Call-clause-made
 make_logical-returns-in-Call-clause-made t c =
-    IfOk-weaker c.make_test_call.result _ _ (λ l r all h. r all h ∙ sym (ap logical_of c.in-Call.is ∙ test_call_made c.in-Call.call)) c.make_test_call.ensures.made
+    IfOk-weaker c.make_test_call.result _ _ (λ l r all h. r all h
+    ∙ sym (ap logical_of c.in-Call.is ∙ test_call_made c.in-Call.call)) c.make_test_call.ensures.made
 
 pub make_nodes-returns-in-Current-clause-made : goal.make_nodes-returns-in-Current-clause-made
 make_nodes-returns-in-Current-clause-made t c = λ all h.
     here_read all c.in_ok-segments.segments c.args.want
-    ∙ ap (λ ss. tree.query start.Current (tree.segments ss)) (c.in_ok-segments.ensures.made all h ∙ ap (map segment_of) c.as_slice.ensures.value)
-    ∙ sym (query_level c.args.query.now ∙ ap (λ s. tree.query s (tree.segments (map segment_of (out-Query c.args.query.now).segments.items))) c.in-Current.is)
+    ∙ ap (λ ss. tree.query start.Current (tree.segments ss)) (c.in_ok-segments.ensures.made all h
+    ∙ ap (map segment_of) c.as_slice.ensures.value)
+    ∙ sym (query_level c.args.query.now
+    ∙ ap (λ s. tree.query s
+    (tree.segments (map segment_of (out-Query c.args.query.now).segments.items))) c.in-Current.is)
 
-pub make_nodes-returns-in_ok-push-in-Root-clause-made : goal.make_nodes-returns-in_ok-push-in-Root-clause-made
+pub make_nodes-returns-in_ok-push-in-Root-clause-made
+    : goal.make_nodes-returns-in_ok-push-in-Root-clause-made
 make_nodes-returns-in_ok-push-in-Root-clause-made t c = λ all h.
     let r : RootQuery = record { want = c.args.want; segments = c.in_ok-segments.segments } in
     root_read all c.len-slot.result c.args.want
-    ∙ root_found c.make_segments.new.roots.items _ r c.len-slot.result all (c.len-slot.ensures ∙ c.make_segments.new.roots.ok.0) c.in_ok-push-in-Root.ensures.items h
-    ∙ ap (λ ss. tree.query start.Root (tree.segments ss)) (c.in_ok-segments.ensures.made _ (begins_itself _) ∙ ap (map segment_of) c.as_slice.ensures.value)
-    ∙ sym (query_level c.args.query.now ∙ ap (λ s. tree.query s (tree.segments (map segment_of (out-Query c.args.query.now).segments.items))) c.in-Root.is)
+    ∙ root_found c.make_segments.new.roots.items _ r c.len-slot.result all (c.len-slot.ensures
+    ∙ c.make_segments.new.roots.ok.0) c.in_ok-push-in-Root.ensures.items h
+    ∙ ap (λ ss. tree.query start.Root (tree.segments ss))
+    (c.in_ok-segments.ensures.made _ (begins_itself _) ∙ ap (map segment_of) c.as_slice.ensures.value)
+    ∙ sym (query_level c.args.query.now
+    ∙ ap (λ s. tree.query s
+    (tree.segments (map segment_of (out-Query c.args.query.now).segments.items))) c.in-Root.is)
 
-pub make_nodes-returns-in_ok-push-in-Root-clause-roots : goal.make_nodes-returns-in_ok-push-in-Root-clause-roots
+pub make_nodes-returns-in_ok-push-in-Root-clause-roots
+    : goal.make_nodes-returns-in_ok-push-in-Root-clause-roots
 make_nodes-returns-in_ok-push-in-Root-clause-roots t c =
-    begins_on _ _ _ c.in_ok-segments.ensures.roots (listed_begins c.make_segments.new.roots.items _ _ c.in_ok-push-in-Root.ensures.items)
+    begins_on _ _ _ c.in_ok-segments.ensures.roots (listed_begins c.make_segments.new.roots.items _ _
+    c.in_ok-push-in-Root.ensures.items)
 
 pub make_segment-returns-clause-made : goal.make_segment-returns-clause-made
 make_segment-returns-clause-made t c = λ all h.
     segment_read all c.args.segment.now.deep c.in_ok-selectors.selectors
-    ∙ ap (λ xs. tree.segment c.args.segment.now.deep (tree.selectors xs)) (c.in_ok-selectors.ensures.made all h ∙ ap (map selector_of) c.as_slice.ensures.value)
+    ∙ ap (λ xs. tree.segment c.args.segment.now.deep (tree.selectors xs))
+    (c.in_ok-selectors.ensures.made all h ∙ ap (map selector_of) c.as_slice.ensures.value)
     ∙ sym (segment_level c.args.segment.now)
 
-pub make_selector-returns-in_ok-make_logical-in-Filter-clause-made : goal.make_selector-returns-in_ok-make_logical-in-Filter-clause-made
+pub make_selector-returns-in_ok-make_logical-in-Filter-clause-made
+    : goal.make_selector-returns-in_ok-make_logical-in-Filter-clause-made
 make_selector-returns-in_ok-make_logical-in-Filter-clause-made t c = λ all h.
     filter_read all c.in_ok-make_logical-in-Filter.field-0
     ∙ ap tree.filter (c.in_ok-make_logical-in-Filter.ensures.made all h)
     ∙ sym (ap selector_of c.in-Filter.is ∙ filter_made c.in-Filter.logical)
 
-pub make_side-returns-in_ok-make_nodes-in-Single-clause-made : goal.make_side-returns-in_ok-make_nodes-in-Single-clause-made
+pub make_side-returns-in_ok-make_nodes-in-Single-clause-made
+    : goal.make_side-returns-in_ok-make_nodes-in-Single-clause-made
 make_side-returns-in_ok-make_nodes-in-Single-clause-made t c = λ all h.
     single_read all c.in_ok-make_nodes-in-Single.field-0
     ∙ ap tree.single (c.in_ok-make_nodes-in-Single.ensures.made all h)
@@ -137,9 +177,12 @@ make_side-returns-in_ok-make_nodes-in-Single-clause-made t c = λ all h.
 
 pub make_side-returns-in-Call-clause-made : goal.make_side-returns-in-Call-clause-made
 make_side-returns-in-Call-clause-made t c =
-    IfOk-weaker c.make_value_call.result _ _ (λ v r all h. r all h ∙ sym (ap comparable_of c.in-Call.is ∙ value_call_made c.in-Call.call)) c.make_value_call.ensures.made
+    IfOk-weaker c.make_value_call.result _ _ (λ v r all h. r all h
+    ∙ sym (ap comparable_of c.in-Call.is ∙ value_call_made c.in-Call.call))
+    c.make_value_call.ensures.made
 
-pub make_value-returns-in_ok-make_nodes-in-Query-clause-made : goal.make_value-returns-in_ok-make_nodes-in-Query-clause-made
+pub make_value-returns-in_ok-make_nodes-in-Query-clause-made
+    : goal.make_value-returns-in_ok-make_nodes-in-Query-clause-made
 make_value-returns-in_ok-make_nodes-in-Query-clause-made t c = λ all h.
     ap as_argument (single_read all c.in_ok-make_nodes-in-Query.field-0)
     ∙ ap tree.query_argument (c.in_ok-make_nodes-in-Query.ensures.made all h)
@@ -147,40 +190,69 @@ make_value-returns-in_ok-make_nodes-in-Query-clause-made t c = λ all h.
 
 pub make_value-returns-in-Call-clause-made : goal.make_value-returns-in-Call-clause-made
 make_value-returns-in-Call-clause-made t c =
-    IfOk-weaker c.make_value_call.result _ _ (λ v r all h. ap as_argument (r all h) ∙ sym (ap argument_of c.in-Call.is ∙ call_argument_made c.in-Call.call)) c.make_value_call.ensures.made
+    IfOk-weaker c.make_value_call.result _ _ (λ v r all h. ap as_argument (r all h)
+    ∙ sym (ap argument_of c.in-Call.is ∙ call_argument_made c.in-Call.call))
+    c.make_value_call.ensures.made
 
-pub make_value_call-returns-in_ok-new-in-Some-Length-clause-made : goal.make_value_call-returns-in_ok-new-in-Some-Length-clause-made
+pub make_value_call-returns-in_ok-new-in-Some-Length-clause-made
+    : goal.make_value_call-returns-in_ok-new-in-Some-Length-clause-made
 make_value_call-returns-in_ok-new-in-Some-Length-clause-made t c = λ all h.
-    let known : function_named (chars c.as_str.result.now) ≡ Some length_function = sym (ap (option_map function_of) (sym c.in-Some-Length.is) ∙ c.function_named.ensures) ∙ ap (λ f. Some (function_of f)) c.in-Some-Length.field-0-is in
+    let known : function_named (chars c.as_str.result.now) ≡ Some length_function =
+    sym (ap (option_map function_of) (sym c.in-Some-Length.is) ∙ c.function_named.ensures)
+    ∙ ap (λ f. Some (function_of f)) c.in-Some-Length.field-0-is in
     length_read all c.in_ok-new-in-Some-Length.field-0
-    ∙ ap (λ a. tree.value_call (call_of_one (codes "length") a)) (ap (λ v. as_argument (value_in all v)) c.in_ok-new-in-Some-Length.ensures.ok ∙ c.in_ok-value-in-Some-Length.ensures.made all h)
-    ∙ sym (ap tree.value_call (called_one c.args.call.now c.as_str.result.now (codes "length") c.as_slice.result.now c.argument-item.result c.as_str.ensures.value (named_length _ known) c.as_slice.ensures.value c.in-len1.len_at_least c.in-len1.len_below c.argument-item.is))
+    ∙ ap (λ a. tree.value_call (call_of_one (codes "length") a))
+    (ap (λ v. as_argument (value_in all v)) c.in_ok-new-in-Some-Length.ensures.ok
+    ∙ c.in_ok-value-in-Some-Length.ensures.made all h)
+    ∙ sym (ap tree.value_call (called_one c.args.call.now c.as_str.result.now (codes "length")
+    c.as_slice.result.now c.argument-item.result c.as_str.ensures.value (named_length _ known)
+    c.as_slice.ensures.value c.in-len1.len_at_least c.in-len1.len_below c.argument-item.is))
 
-pub make_value_call-returns-in_ok-make_argument_nodes-in-Some-Count-clause-made : goal.make_value_call-returns-in_ok-make_argument_nodes-in-Some-Count-clause-made
+pub make_value_call-returns-in_ok-make_argument_nodes-in-Some-Count-clause-made
+    : goal.make_value_call-returns-in_ok-make_argument_nodes-in-Some-Count-clause-made
 make_value_call-returns-in_ok-make_argument_nodes-in-Some-Count-clause-made t c = λ all h.
-    let known : function_named (chars c.as_str.result.now) ≡ Some count_function = sym (ap (option_map function_of) (sym c.in-Some-Count.is) ∙ c.function_named.ensures) ∙ ap (λ f. Some (function_of f)) c.in-Some-Count.field-0-is in
+    let known : function_named (chars c.as_str.result.now) ≡ Some count_function =
+    sym (ap (option_map function_of) (sym c.in-Some-Count.is) ∙ c.function_named.ensures)
+    ∙ ap (λ f. Some (function_of f)) c.in-Some-Count.field-0-is in
     count_read all c.in_ok-make_argument_nodes-in-Some-Count.field-0
-    ∙ ap (λ a. tree.value_call (call_of_one (codes "count") a)) (c.in_ok-make_argument_nodes-in-Some-Count.ensures.made all h)
-    ∙ sym (ap tree.value_call (called_one c.args.call.now c.as_str.result.now (codes "count") c.as_slice.result.now c.argument-item.result c.as_str.ensures.value (named_count _ known) c.as_slice.ensures.value c.in-len1.len_at_least c.in-len1.len_below c.argument-item.is))
+    ∙ ap (λ a. tree.value_call (call_of_one (codes "count") a))
+    (c.in_ok-make_argument_nodes-in-Some-Count.ensures.made all h)
+    ∙ sym (ap tree.value_call (called_one c.args.call.now c.as_str.result.now (codes "count")
+    c.as_slice.result.now c.argument-item.result c.as_str.ensures.value (named_count _ known)
+    c.as_slice.ensures.value c.in-len1.len_at_least c.in-len1.len_below c.argument-item.is))
 
-pub make_value_call-returns-in_ok-make_argument_nodes-in-Some-Value-clause-made : goal.make_value_call-returns-in_ok-make_argument_nodes-in-Some-Value-clause-made
+pub make_value_call-returns-in_ok-make_argument_nodes-in-Some-Value-clause-made
+    : goal.make_value_call-returns-in_ok-make_argument_nodes-in-Some-Value-clause-made
 make_value_call-returns-in_ok-make_argument_nodes-in-Some-Value-clause-made t c = λ all h.
-    let known : function_named (chars c.as_str.result.now) ≡ Some value_function = sym (ap (option_map function_of) (sym c.in-Some-Value.is) ∙ c.function_named.ensures) ∙ ap (λ f. Some (function_of f)) c.in-Some-Value.field-0-is in
+    let known : function_named (chars c.as_str.result.now) ≡ Some value_function =
+    sym (ap (option_map function_of) (sym c.in-Some-Value.is) ∙ c.function_named.ensures)
+    ∙ ap (λ f. Some (function_of f)) c.in-Some-Value.field-0-is in
     only_read all c.in_ok-make_argument_nodes-in-Some-Value.field-0
-    ∙ ap (λ a. tree.value_call (call_of_one (codes "value") a)) (c.in_ok-make_argument_nodes-in-Some-Value.ensures.made all h)
-    ∙ sym (ap tree.value_call (called_one c.args.call.now c.as_str.result.now (codes "value") c.as_slice.result.now c.argument-item.result c.as_str.ensures.value (named_value _ known) c.as_slice.ensures.value c.in-len1.len_at_least c.in-len1.len_below c.argument-item.is))
+    ∙ ap (λ a. tree.value_call (call_of_one (codes "value") a))
+    (c.in_ok-make_argument_nodes-in-Some-Value.ensures.made all h)
+    ∙ sym (ap tree.value_call (called_one c.args.call.now c.as_str.result.now (codes "value")
+    c.as_slice.result.now c.argument-item.result c.as_str.ensures.value (named_value _ known)
+    c.as_slice.ensures.value c.in-len1.len_at_least c.in-len1.len_below c.argument-item.is))
 
 pub make_test_call-returns-clause-made : goal.make_test_call-returns-clause-made
 make_test_call-returns-clause-made t c = λ all h.
     let name = chars c.as_str.result.now in
     c.in_ok-test-2.ensures all name c.function_named-function.ensures
-    ∙ ap₂ (λ s p. tree.test_call (call_of_two name s p)) (c.in_ok-text.ensures.made all (begins_on _ _ _ c.in_ok-pattern-2.ensures.roots h)) (c.in_ok-pattern-2.ensures.made all h)
-    ∙ sym (ap tree.test_call (called_two c.args.call.now c.as_str.result.now name c.as_slice.result.now c.text-item.result c.pattern-item.result c.as_str.ensures.value refl c.as_slice.ensures.value c.in-len2.len_at_least c.in-len2.len_below c.text-item.is c.pattern-item.is))
+    ∙ ap₂ (λ s p. tree.test_call (call_of_two name s p))
+    (c.in_ok-text.ensures.made all (begins_on _ _ _ c.in_ok-pattern-2.ensures.roots h))
+    (c.in_ok-pattern-2.ensures.made all h)
+    ∙ sym (ap tree.test_call (called_two c.args.call.now c.as_str.result.now name c.as_slice.result.now
+    c.text-item.result c.pattern-item.result c.as_str.ensures.value refl c.as_slice.ensures.value
+    c.in-len2.len_at_least c.in-len2.len_below c.text-item.is c.pattern-item.is))
 
 pub make_test_call-returns-in-Some-clause-made : goal.make_test_call-returns-in-Some-clause-made
 make_test_call-returns-in-Some-clause-made t c = λ all h.
     let name = chars c.as_str.result.now in
-    let literal : argument_of c.pattern-item.result ≡ text_argument (chars c.in-Some.pattern.now) = text_is (argument_of c.pattern-item.result) (chars c.in-Some.pattern.now) c.in-Some.ensures in
+    let literal : argument_of c.pattern-item.result ≡ text_argument (chars c.in-Some.pattern.now) =
+    text_is (argument_of c.pattern-item.result) (chars c.in-Some.pattern.now) c.in-Some.ensures in
     c.in_ok-test.ensures all name c.function_named-function.ensures
-    ∙ ap₂ (λ s p. tree.test_call (call_of_two name s p)) (c.in_ok-text.ensures.made all h) (ap text_argument c.in_ok-pattern.ensures ∙ sym literal)
-    ∙ sym (ap tree.test_call (called_two c.args.call.now c.as_str.result.now name c.as_slice.result.now c.text-item.result c.pattern-item.result c.as_str.ensures.value refl c.as_slice.ensures.value c.in-len2.len_at_least c.in-len2.len_below c.text-item.is c.pattern-item.is))
+    ∙ ap₂ (λ s p. tree.test_call (call_of_two name s p)) (c.in_ok-text.ensures.made all h)
+    (ap text_argument c.in_ok-pattern.ensures ∙ sym literal)
+    ∙ sym (ap tree.test_call (called_two c.args.call.now c.as_str.result.now name c.as_slice.result.now
+    c.text-item.result c.pattern-item.result c.as_str.ensures.value refl c.as_slice.ensures.value
+    c.in-len2.len_at_least c.in-len2.len_below c.text-item.is c.pattern-item.is))

@@ -6,15 +6,18 @@ use Rattle.jp_check.proofs.making.+making.Given as goal
 
 abbrev pub invariant-make_segments-loop-segment : goal.invariant-make_segments-loop-segment
 invariant-make_segments-loop-segment l =
-    Reads (roots_of l.roots.items) (λ all. map (segment_in all) l.made.items ++ map segment_of (drop l.segment-index l.segments)) (map segment_of l.segments)
+    Reads (roots_of l.roots.items) (λ all. map (segment_in all) l.made.items ++ map segment_of
+    (drop l.segment-index l.segments)) (map segment_of l.segments)
     × Begins (roots_of l.initial.roots.items) (roots_of l.roots.items)
 
 abbrev pub invariant-make_selectors-loop-selector : goal.invariant-make_selectors-loop-selector
 invariant-make_selectors-loop-selector l =
-    Reads (roots_of l.roots.items) (λ all. map (selector_in all) l.made.items ++ map selector_of (drop l.selector-index l.selectors)) (map selector_of l.selectors)
+    Reads (roots_of l.roots.items) (λ all. map (selector_in all) l.made.items ++ map selector_of
+    (drop l.selector-index l.selectors)) (map selector_of l.selectors)
     × Begins (roots_of l.initial.roots.items) (roots_of l.roots.items)
 
 abbrev pub invariant-make_parts-loop-part : goal.invariant-make_parts-loop-part
 invariant-make_parts-loop-part l =
-    Reads (roots_of l.roots.items) (λ all. map (logical_in all) l.made.items ++ map logical_of (drop l.part-index l.parts)) (map logical_of l.parts)
+    Reads (roots_of l.roots.items) (λ all. map (logical_in all) l.made.items ++ map logical_of
+    (drop l.part-index l.parts)) (map logical_of l.parts)
     × Begins (roots_of l.initial.roots.items) (roots_of l.roots.items)

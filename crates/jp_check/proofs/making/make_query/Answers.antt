@@ -8,5 +8,6 @@ use Rattle.jp_check.proofs.making.make_query.Goals as goal
 
 pub returns : goal.returns
 returns c =
-    ap (λ ss. tree.query (out-Query c.args.query.now).start (tree.segments ss)) (c.in_ok-segments.ensures.made _ (begins_itself _) ∙ ap (map segment_of) c.as_slice.ensures.value)
+    ap (λ ss. tree.query (out-Query c.args.query.now).start (tree.segments ss))
+    (c.in_ok-segments.ensures.made _ (begins_itself _) ∙ ap (map segment_of) c.as_slice.ensures.value)
     ∙ sym (query_level c.args.query.now)

@@ -11,13 +11,19 @@ use Rattle.jp_check.proofs.making.read_test.Goals as goal
 pub returns-in-Some-Match : goal.returns-in-Some-Match
 returns-in-Some-Match c = λ all name e.
     let told = c.in-Some-Match.field-0-is in
-    let known : function_named name ≡ Some match_function = sym e ∙ ap (option_map function_of) c.in-Some-Match.is ∙ ap (λ f. Some (function_of f)) (rw c.in-Some-Match.is at told) in
+    let known : function_named name ≡ Some match_function = sym e
+    ∙ ap (option_map function_of) c.in-Some-Match.is
+    ∙ ap (λ f. Some (function_of f)) (rw c.in-Some-Match.is at told) in
     match_known all c.args.text c.args.pattern
-    ∙ ap (λ n. tree.test_call (call_of_two n (as_argument (value_in all c.args.text)) (text_argument (text_of c.args.pattern.text)))) (sym (named_match name known))
+    ∙ ap (λ n. tree.test_call (call_of_two n (as_argument (value_in all c.args.text))
+    (text_argument (text_of c.args.pattern.text)))) (sym (named_match name known))
 
 pub returns-in-Some-Search : goal.returns-in-Some-Search
 returns-in-Some-Search c = λ all name e.
     let told = c.in-Some-Search.field-0-is in
-    let known : function_named name ≡ Some search_function = sym e ∙ ap (option_map function_of) c.in-Some-Search.is ∙ ap (λ f. Some (function_of f)) (rw c.in-Some-Search.is at told) in
+    let known : function_named name ≡ Some search_function = sym e
+    ∙ ap (option_map function_of) c.in-Some-Search.is
+    ∙ ap (λ f. Some (function_of f)) (rw c.in-Some-Search.is at told) in
     search_known all c.args.text c.args.pattern
-    ∙ ap (λ n. tree.test_call (call_of_two n (as_argument (value_in all c.args.text)) (text_argument (text_of c.args.pattern.text)))) (sym (named_search name known))
+    ∙ ap (λ n. tree.test_call (call_of_two n (as_argument (value_in all c.args.text))
+    (text_argument (text_of c.args.pattern.text)))) (sym (named_search name known))

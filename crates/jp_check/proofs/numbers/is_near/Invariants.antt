@@ -5,4 +5,5 @@ use Rattle.jp_check.proofs.numbers.is_near.Given as goal
 
 abbrev pub invariant-loop-c : goal.invariant-loop-c
 invariant-loop-c l =
-    (digits_from l.magnitude (drop (length l.yielded) (unsigned_digits (chars l.number))) ≡ magnitude (chars l.number)) × (l.magnitude ≤ max_index)
+    (digits_from l.magnitude (drop (length l.yielded) (unsigned_digits (chars l.number)))
+    ≡ magnitude (chars l.number)) × (l.magnitude ≤ max_index)

@@ -10,7 +10,9 @@ pub returns-then-kinds-arguments : goal.returns-then-kinds-arguments
 returns-then-kinds-arguments c =
     let ks = c.args.kinds.now in
     let xs = c.args.arguments.now in
-    all_from_yields_List fits_beside c.all.new.self _ c.all.result c.all.ensures.ran (YieldsList-from_zip (YieldsList-from_slice ks cc) (YieldsList-from_slice xs (cc))) (λ x b q k. search (rules, tests))
+    all_from_yields_List fits_beside c.all.new.self _ c.all.result c.all.ensures.ran
+    (YieldsList-from_zip (YieldsList-from_slice ks cc) (YieldsList-from_slice xs (cc)))
+    (λ x b q k. search (rules, tests))
     ∙ all_fit-paired ks xs c.if-kinds-arguments.true
 
 pub returns-else-kinds-arguments : goal.returns-else-kinds-arguments

@@ -5,4 +5,5 @@ use Rattle.jp_check.proofs.written.magnitude.Given as goal
 
 abbrev pub invariant-loop-c : goal.invariant-loop-c
 invariant-loop-c l =
-    (digits_from l.number (drop (length l.yielded) (chars l.text)) ≡ magnitude (chars l.text)) × (l.number < 2 ^ 127)
+    (digits_from l.number (drop (length l.yielded) (chars l.text)) ≡ magnitude (chars l.text))
+    × (l.number < 2 ^ 127)

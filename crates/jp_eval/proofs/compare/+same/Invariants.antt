@@ -10,10 +10,14 @@ abbrev pub invariant-same_items-loop-item : goal.invariant-same_items-loop-item
 invariant-same_items-loop-item l =
     (items_have_float (items_view (drop l.item-index l.item-items)) ≡ false)
     × (items_have_float (items_view (iter_rest l.others)) ≡ false)
-    × (same_items (items_of (items_view (drop l.item-index l.item-items))) (items_of (items_view (iter_rest l.others))) ≡ same_items (items_of (items_view l.left.items)) (items_of (items_view l.right.items)))
+    × (same_items (items_of (items_view (drop l.item-index l.item-items)))
+    (items_of (items_view (iter_rest l.others))) ≡ same_items (items_of (items_view l.left.items))
+    (items_of (items_view l.right.items)))
 
 abbrev pub invariant-same_members-loop-name : goal.invariant-same_members-loop-name
 invariant-same_members-loop-name l =
     (members_have_float (members_view l.name-iterator) ≡ false)
     × (members_have_float (members_view l.others) ≡ false)
-    × (same_members (members_of (members_view l.name-iterator)) (members_of (members_view l.others)) ≡ same_members (members_of (members_view l.left.entries)) (members_of (members_view l.right.entries)))
+    × (same_members (members_of (members_view l.name-iterator)) (members_of (members_view l.others))
+    ≡ same_members (members_of (members_view l.left.entries))
+    (members_of (members_view l.right.entries)))

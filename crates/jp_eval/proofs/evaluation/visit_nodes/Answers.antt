@@ -20,8 +20,10 @@ returns-in-Some g c =
     let query = planned_query c.args.plan.now in
     let at_root = c.in_ok-ground.ensures.root ∙ c.root_of-root.ensures in
     let nodes =
-    from_root (base_of ground) ready.segments c.as_slice-2.result.now c.root_of-root.result c.new-path.result c.as_slice-2.ensures.value c.new-path.ensures (sym c.in_ok-ground.ensures.root)
-    ∙ ap₂ (λ v rs. root_nodes v (segments_in (roots_of rs) ready.segments.items)) at_root (c.in_ok-ground.ensures.roots ∙ c.as_slice.ensures.value)
+    from_root (base_of ground) ready.segments c.as_slice-2.result.now c.root_of-root.result
+    c.new-path.result c.as_slice-2.ensures.value c.new-path.ensures (sym c.in_ok-ground.ensures.root)
+    ∙ ap₂ (λ v rs. root_nodes v (segments_in (roots_of rs) ready.segments.items)) at_root
+    (c.in_ok-ground.ensures.roots ∙ c.as_slice.ensures.value)
     ∙ started ready.start (segments_in (roots_of ready.roots.items) ready.segments.items) value
     ∙ ap (λ q. document_nodes tests q value) c.ready-ready.ensures in
     λ t right. taken_out g.V.Visit.put _ _ _ (c.in-Some.ensures ∙ c.in_ok-run.ensures.found)

@@ -8,7 +8,9 @@ use Rattle.jp_eval.proofs.functions.is_found_read.Goals as goal
 pub returns-in-Some : goal.returns-in-Some
 returns-in-Some c =
     let read = subst (IsRead (chars c.args.pattern_text.now)) c.in-Some.is c.in_ok-pattern.ensures in
-    IfOk-weaker c.found_in.result _ _ (λ b h. finding (chars c.args.text.now) (chars c.args.pattern_text.now) (pattern_of c.in-Some.pattern) b read h) c.found_in.ensures
+    IfOk-weaker c.found_in.result _ _
+    (λ b h. finding (chars c.args.text.now) (chars c.args.pattern_text.now)
+    (pattern_of c.in-Some.pattern) b read h) c.found_in.ensures
 
 pub returns-in-None : goal.returns-in-None
 returns-in-None c =

@@ -10,11 +10,14 @@ use Rattle.jp_eval.proofs.functions.is_match.Goals as goal
 pub returns-in-Some : goal.returns-in-Some
 returns-in-Some c =
     let known = c.args.known.now in
-    let read = subst (IsRead (text_of known.text)) c.in-Some.is (read_had (text_of known.text) known.pattern known.read) in
-    IfOk-weaker c.matches.result _ _ (λ b h. matching (chars c.args.text.now) (text_of known.text) (pattern_of c.in-Some.pattern) b read h) c.matches.ensures
+    let read = subst (IsRead (text_of known.text)) c.in-Some.is
+    (read_had (text_of known.text) known.pattern known.read) in
+    IfOk-weaker c.matches.result _ _ (λ b h. matching (chars c.args.text.now) (text_of known.text)
+    (pattern_of c.in-Some.pattern) b read h) c.matches.ensures
 
 pub returns-in-None : goal.returns-in-None
 returns-in-None c =
     let known = c.args.known.now in
-    let read = subst (IsRead (text_of known.text)) c.in-None.is (read_had (text_of known.text) known.pattern known.read) in
+    let read = subst (IsRead (text_of known.text)) c.in-None.is
+    (read_had (text_of known.text) known.pattern known.read) in
     matching_none (chars c.args.text.now) (text_of known.text) read

@@ -16,22 +16,34 @@ pub returns-in-First : goal.returns-in-First
 returns-in-First g c =
     let ground = c.args.ground.now in
     let query = c.args.query.now in
-    let nodes = from_root (base_of ground) query.segments c.as_slice-segments.result.now ground.root c.new-path.result c.as_slice-segments.ensures.value c.new-path.ensures refl in
-    ap (λ w. is_answer (part_value ground.root) (wanted w (segments_in (roots_of ground.roots.now) query.segments.items)) (answer.First c.into_first.result)) c.in-First.is
-    ∙ is_eq _ _ (c.into_first.ensures ∙ ap kept_first c.in_ok-run-in-First.ensures.found ∙ first_kept g.V.Visit.put _ ∙ ap first_value nodes)
+    let nodes = from_root (base_of ground) query.segments c.as_slice-segments.result.now ground.root
+    c.new-path.result c.as_slice-segments.ensures.value c.new-path.ensures refl in
+    ap (λ w. is_answer (part_value ground.root)
+    (wanted w (segments_in (roots_of ground.roots.now) query.segments.items))
+    (answer.First c.into_first.result)) c.in-First.is
+    ∙ is_eq _ _ (c.into_first.ensures ∙ ap kept_first c.in_ok-run-in-First.ensures.found
+    ∙ first_kept g.V.Visit.put _ ∙ ap first_value nodes)
 
 pub returns-in-Count : goal.returns-in-Count
 returns-in-Count g c =
     let ground = c.args.ground.now in
     let query = c.args.query.now in
-    let nodes = from_root (base_of ground) query.segments c.as_slice-segments.result.now ground.root c.new-path.result c.as_slice-segments.ensures.value c.new-path.ensures refl in
-    ap (λ w. is_answer (part_value ground.root) (wanted w (segments_in (roots_of ground.roots.now) query.segments.items)) (answer.Count c.count_of.result)) c.in-Count.is
-    ∙ same_count _ _ (c.count_of.ensures ∙ ap kept_count c.in_ok-run-in-Count.ensures.found ∙ counted g.V.Visit.put _ ∙ ap length nodes)
+    let nodes = from_root (base_of ground) query.segments c.as_slice-segments.result.now ground.root
+    c.new-path.result c.as_slice-segments.ensures.value c.new-path.ensures refl in
+    ap (λ w. is_answer (part_value ground.root)
+    (wanted w (segments_in (roots_of ground.roots.now) query.segments.items))
+    (answer.Count c.count_of.result)) c.in-Count.is
+    ∙ same_count _ _ (c.count_of.ensures ∙ ap kept_count c.in_ok-run-in-Count.ensures.found
+    ∙ counted g.V.Visit.put _ ∙ ap length nodes)
 
 pub returns : goal.returns
 returns g c =
     let ground = c.args.ground.now in
     let query = c.args.query.now in
-    let nodes = from_root (base_of ground) query.segments c.as_slice-segments.result.now ground.root c.new-path.result c.as_slice-segments.ensures.value c.new-path.ensures refl in
-    ap (λ w. is_answer (part_value ground.root) (wanted w (segments_in (roots_of ground.roots.now) query.segments.items)) (answer.Only c.into_alone.result)) c.in-Only.is
-    ∙ is_eq _ _ (c.into_alone.ensures ∙ ap kept_only c.in_ok-run-in-Only.ensures.found ∙ only_kept g.V.Visit.put _ ∙ ap only_value nodes)
+    let nodes = from_root (base_of ground) query.segments c.as_slice-segments.result.now ground.root
+    c.new-path.result c.as_slice-segments.ensures.value c.new-path.ensures refl in
+    ap (λ w. is_answer (part_value ground.root)
+    (wanted w (segments_in (roots_of ground.roots.now) query.segments.items))
+    (answer.Only c.into_alone.result)) c.in-Only.is
+    ∙ is_eq _ _ (c.into_alone.ensures ∙ ap kept_only c.in_ok-run-in-Only.ensures.found
+    ∙ only_kept g.V.Visit.put _ ∙ ap only_value nodes)

@@ -3,4 +3,5 @@ use Rattle.jp_eval.specs.Part.{part_value}
 use Rattle.jp_eval.proofs.roots.answer_all.Given as goal
 
 abbrev pub invariant-loop-slot : goal.invariant-loop-slot
-invariant-loop-slot g l = (l.ground.roots.now ≡ take l.slot l.roots) × (part_value l.ground.root ≡ part_value l.initial.root)
+invariant-loop-slot g l = (l.ground.roots.now ≡ take l.slot l.roots)
+    × (part_value l.ground.root ≡ part_value l.initial.root)

@@ -10,7 +10,8 @@ normalized-requires c =
     let u : SFits w64 c.unwrap_or.result = search rules in
     let d : SFits w64 c.args.default = c.ranges.default in
     let e = simp to_z-of_z at c.unwrap_or.ensures in
-    rw (to_z-of_z w64 c.unwrap_or.result u, e) (position_or c.args.number c.args.default c.requires.number c.requires.default)
+    rw (to_z-of_z w64 c.unwrap_or.result u, e) (position_or c.args.number c.args.default c.requires.number
+    c.requires.default)
 
 pub returns : goal.returns
 returns c =
@@ -23,4 +24,5 @@ returns c =
     let unwrapped = simp to_z-of_z at c.unwrap_or.ensures in
     let from_end = simp to_z-of_z at c.normalized.ensures in
     let within = simp to_z-of_z at c.clamped.ensures in
-    to_z-of_z w64 c.clamped.result r ∙ within ∙ ap (clamped c.args.low c.args.high) (from_end ∙ ap (λ z. normalized z c.args.len) unwrapped)
+    to_z-of_z w64 c.clamped.result r ∙ within ∙ ap (clamped c.args.low c.args.high) (from_end
+    ∙ ap (λ z. normalized z c.args.len) unwrapped)

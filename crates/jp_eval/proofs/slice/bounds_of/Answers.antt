@@ -8,11 +8,15 @@ use Rattle.jp_eval.proofs.slice.bounds_of.Goals as goal
 
 pub returns-clause-within : goal.returns-clause-within
 returns-clause-within c =
-    subst (λ b. AreWithin b c.args.len) (sym c.slice_bounds.ensures) (are_within c.written-first.result c.written-past.result c.written-step.result c.args.len c.written-step.ensures.within)
+    subst (λ b. AreWithin b c.args.len) (sym c.slice_bounds.ensures)
+    (are_within c.written-first.result c.written-past.result c.written-step.result c.args.len
+    c.written-step.ensures.within)
 
 pub returns-clause-bounds : goal.returns-clause-bounds
 returns-clause-bounds c =
     let s = c.args.slice.now in
     c.slice_bounds.ensures
-    ∙ ap₂ (λ f p. slice_bounds f p c.written-step.result c.args.len) c.written-first.ensures.value c.written-past.ensures.value
-    ∙ ap (λ t. slice_bounds (written_value (option_map position_text s.first)) (written_value (option_map position_text s.past)) t c.args.len) c.written-step.ensures.value
+    ∙ ap₂ (λ f p. slice_bounds f p c.written-step.result c.args.len) c.written-first.ensures.value
+    c.written-past.ensures.value
+    ∙ ap (λ t. slice_bounds (written_value (option_map position_text s.first))
+    (written_value (option_map position_text s.past)) t c.args.len) c.written-step.ensures.value

@@ -10,7 +10,8 @@ returns-then-bounds-clause-indexes c =
     let l : SFits w64 c.args.bounds.lower = search rules in
     let u : SFits w64 c.args.bounds.upper = search rules in
     let t = simp to_z-of_z at c.if-bounds.true in
-    λ len v. rw (to_z-of_z w64 c.args.bounds.upper u) (falling_starts (bounds_value c.args.bounds) _ c.requires.within c.requires.falling len v t)
+    λ len v. rw (to_z-of_z w64 c.args.bounds.upper u) (falling_starts (bounds_value c.args.bounds) _
+    c.requires.within c.requires.falling len v t)
 
 pub returns-else-bounds-clause-indexes : goal.returns-else-bounds-clause-indexes
 returns-else-bounds-clause-indexes c =

@@ -10,14 +10,16 @@ returns-then-bounds-clause-indexes c =
     let l : SFits w64 c.args.bounds.lower = search rules in
     let u : SFits w64 c.args.bounds.upper = search rules in
     let t = simp to_z-of_z at c.if-bounds.true in
-    λ len v. rw (to_z-of_z w64 c.args.bounds.lower l) (rising_starts (bounds_value c.args.bounds) _ c.requires.within c.requires.rising len v t)
+    λ len v. rw (to_z-of_z w64 c.args.bounds.lower l) (rising_starts (bounds_value c.args.bounds) _
+    c.requires.within c.requires.rising len v t)
 
 pub returns-then-bounds-clause-place : goal.returns-then-bounds-clause-place
 returns-then-bounds-clause-place c =
     let l : SFits w64 c.args.bounds.lower = search rules in
     let u : SFits w64 c.args.bounds.upper = search rules in
     let t = simp to_z-of_z at c.if-bounds.true in
-    rw (to_z-of_z w64 c.args.bounds.lower l) (rising_starts_at (bounds_value c.args.bounds) _ c.requires.within c.requires.rising t)
+    rw (to_z-of_z w64 c.args.bounds.lower l) (rising_starts_at (bounds_value c.args.bounds) _
+    c.requires.within c.requires.rising t)
 
 pub returns-else-bounds-clause-indexes : goal.returns-else-bounds-clause-indexes
 returns-else-bounds-clause-indexes c =

@@ -16,8 +16,15 @@ returns-then-step-lt0 c =
     let below = simp to_z-of_z at c.if-step-lt0.true in
     let lower = simp to_z-of_z at c.bound-lower.ensures in
     let upper = simp to_z-of_z at c.bound-upper.ensures in
-    rw (to_z-of_z w64 c.bound-lower.result l, to_z-of_z w64 c.bound-upper.result u, to_z-of_z w64 c.unwrap_or-step.result s)
-    (falling_is c.args.start c.args.end c.args.step c.args.len c.from-last.result c.unwrap_or-step.result c.bound-lower.result c.bound-upper.result c.from-last.ensures c.unwrap_or-step.ensures below lower upper)
+    rw (
+      to_z-of_z w64 c.bound-lower.result l,
+      to_z-of_z w64 c.bound-upper.result u,
+      to_z-of_z w64
+          c.unwrap_or-step.result s,
+    )
+    (falling_is c.args.start c.args.end c.args.step c.args.len c.from-last.result c.unwrap_or-step.result
+    c.bound-lower.result c.bound-upper.result c.from-last.ensures c.unwrap_or-step.ensures below lower
+    upper)
 
 pub returns-else-step-lt0 : goal.returns-else-step-lt0
 returns-else-step-lt0 c =
@@ -28,5 +35,12 @@ returns-else-step-lt0 c =
     let above = simp to_z-of_z at c.if-step-lt0.false in
     let lower = simp to_z-of_z at c.bound-lower-else-step-lt0.ensures in
     let upper = simp to_z-of_z at c.bound-upper-else-step-lt0.ensures in
-    rw (to_z-of_z w64 c.bound-lower-else-step-lt0.result l, to_z-of_z w64 c.bound-upper-else-step-lt0.result u, to_z-of_z w64 c.unwrap_or-step.result s)
-    (rising_is c.args.start c.args.end c.args.step c.args.len c.from-last.result c.unwrap_or-step.result c.bound-lower-else-step-lt0.result c.bound-upper-else-step-lt0.result c.from-last.ensures c.unwrap_or-step.ensures above lower upper)
+    rw (
+      to_z-of_z w64 c.bound-lower-else-step-lt0.result l,
+      to_z-of_z w64
+          c.bound-upper-else-step-lt0.result u,
+      to_z-of_z w64 c.unwrap_or-step.result s,
+    )
+    (rising_is c.args.start c.args.end c.args.step c.args.len c.from-last.result c.unwrap_or-step.result
+    c.bound-lower-else-step-lt0.result c.bound-upper-else-step-lt0.result c.from-last.ensures
+    c.unwrap_or-step.ensures above lower upper)

@@ -1,4 +1,6 @@
-use Rattle.std.proofs.Common.{◌≡◌, ◌<◌, ◌≤◌, [], ◌∷◌, ◌++◌, length, get_or, not, true, false, is_some, w64, Some, None, option_map, option_to_list, refl, sym, ap, ap₂, ◌∙◌, arith, rules}
+use Rattle.std.proofs.Common.{◌≡◌, ◌<◌, ◌≤◌, [], ◌∷◌, ◌++◌, length, get_or, not, true, false, is_some}
+use Rattle.std.proofs.Common.{w64, Some, None, option_map, option_to_list, refl, sym, ap, ap₂, ◌∙◌, arith}
+use Rattle.std.proofs.Common.{rules}
 use mir.Val.{SFits}
 use Rattle.std.proofs.lemmas.Int.{to_z-of_z}
 use Rattle.std.proofs.lemmas.List.{nil_from_length, at_drop_all}
@@ -27,96 +29,152 @@ use Rattle.jp_eval.specs.Part.{part_value}
 use Rattle.jp_eval.specs.Places.{item_count}
 use Rattle.jp_eval.specs.RightTests.{tests}
 use Rattle.jp_eval.specs.Walk.{picked, picked_by, reached, is_true, value_given, nodes_given, done}
-use Rattle.jp_eval.proofs.Chains.{reached-none, reached-end, reached-each, reached-filter, reached-plain, reached-deep}
+use Rattle.jp_eval.proofs.Chains.{reached-none, reached-end, reached-each, reached-filter, reached-plain}
+use Rattle.jp_eval.proofs.Chains.{reached-deep}
 use Rattle.jp_eval.proofs.Inside.{part_is_short}
 use Rattle.jp_eval.proofs.Keeping.{plus-one, nothing_found, full_enough}
 use Rattle.jp_eval.proofs.Parts.{first_kept, counted, only_kept, some_mapped}
-use Rattle.jp_eval.proofs.ReadyParts.{picked_name, picked_wild, picked_index, picked_slice, picked_filter, true_any, true_all, true_not, true_compare, true_test, true_match, true_search, true_match_known, true_search_known, given_constant, given_single, given_length, given_count, given_only, nodes_here, nodes_root}
+use Rattle.jp_eval.proofs.ReadyParts.{picked_name, picked_wild, picked_index, picked_slice, picked_filter}
+use Rattle.jp_eval.proofs.ReadyParts.{true_any, true_all, true_not, true_compare, true_test, true_match}
+use Rattle.jp_eval.proofs.ReadyParts.{true_search, true_match_known, true_search_known, given_constant}
+use Rattle.jp_eval.proofs.ReadyParts.{given_single, given_length, given_count, given_only, nodes_here}
+use Rattle.jp_eval.proofs.ReadyParts.{nodes_root}
 use Rattle.jp_eval.proofs.Places.{within_more, index_found, slice_found}
-use Rattle.jp_eval.proofs.WalkSteps.{back_up, here_further, link_further, over, applied, descended, first_left, others_left, no_deeper, item_done, first_member_left, other_members_left, members_no_deeper, member_done, members_over, any_further, any_found, all_further, all_found, none_at, one_at, place_done, places_over}
+use Rattle.jp_eval.proofs.WalkSteps.{back_up, here_further, link_further, over, applied, descended}
+use Rattle.jp_eval.proofs.WalkSteps.{first_left, others_left, no_deeper, item_done, first_member_left}
+use Rattle.jp_eval.proofs.WalkSteps.{other_members_left, members_no_deeper, member_done, members_over}
+use Rattle.jp_eval.proofs.WalkSteps.{any_further, any_found, all_further, all_found, none_at, one_at}
+use Rattle.jp_eval.proofs.WalkSteps.{place_done, places_over}
 use Rattle.jp_eval.proofs.walk.+walk.Goals as goal
 
 pub apply-loop-selector-preserved : goal.apply-loop-selector-preserved
 apply-loop-selector-preserved g t c =
     let h : c.loop-selector.selector-index < length c.args.selectors.now = omega arith in
-    rw c.in_ok-select.ensures.path
-    (c.loop-selector.invariant.0, applied (put_found g.V.Visit.put) (base_of c.args.ground.now) c.args.selectors.now c.loop-selector.selector-index c.selector-item.result c.args.rest.now (here c.loop-selector.path c.args.value) _ _ _ _ h c.selector-item.is c.in_ok-select.ensures.found c.loop-selector.invariant.1)
+    rw c.in_ok-select.ensures.path (
+      c.loop-selector.invariant.0,
+      applied (put_found g.V.Visit.put) (base_of c.args.ground.now)
+          c.args.selectors.now c.loop-selector.selector-index c.selector-item.result c.args.rest.now
+          (here c.loop-selector.path c.args.value) _ _ _ _ h c.selector-item.is c.in_ok-select.ensures.found
+          c.loop-selector.invariant.1,
+    )
 
 pub apply-returns-clause-found : goal.apply-returns-clause-found
 apply-returns-clause-found g t c =
-    over (put_found g.V.Visit.put) (λ xs. reached (base_of c.args.ground.now) c.args.rest.now (picked_by (base_of c.args.ground.now) xs (here c.loop-selector.path c.args.value))) c.args.selectors.now c.loop-selector.selector-index _ _ _ (omega arith) (reached-none (base_of c.args.ground.now) c.args.rest.now) c.loop-selector.invariant.1
+    over (put_found g.V.Visit.put) (λ xs. reached (base_of c.args.ground.now) c.args.rest.now
+    (picked_by (base_of c.args.ground.now) xs (here c.loop-selector.path c.args.value)))
+    c.args.selectors.now c.loop-selector.selector-index _ _ _ (omega arith)
+    (reached-none (base_of c.args.ground.now) c.args.rest.now) c.loop-selector.invariant.1
 
 pub at_place-returns-in_default-clause-found : goal.at_place-returns-in_default-clause-found
 at_place-returns-in_default-clause-found g t c =
-    nothing_found (put_found g.V.Visit.put) _ _ (ap (λ o. reached (base_of c.args.ground.now) c.args.rest.now (items_at (here c.args.path.now c.args.value) (option_to_list o))) c.in_default.is ∙ reached-none (base_of c.args.ground.now) c.args.rest.now)
+    nothing_found (put_found g.V.Visit.put) _ _
+    (ap (λ o. reached (base_of c.args.ground.now) c.args.rest.now
+    (items_at (here c.args.path.now c.args.value) (option_to_list o))) c.in_default.is
+    ∙ reached-none (base_of c.args.ground.now) c.args.rest.now)
 
 pub at_place-returns-in_default-item-clause-found : goal.at_place-returns-in_default-item-clause-found
 at_place-returns-in_default-item-clause-found g t c =
-    nothing_found (put_found g.V.Visit.put) _ _ (ap (reached (base_of c.args.ground.now) c.args.rest.now) (none_at (here c.args.path.now c.args.value) c.args.place c.in-Some.place c.in-Some.is c.in_default-item.ensures.value) ∙ reached-none (base_of c.args.ground.now) c.args.rest.now)
+    nothing_found (put_found g.V.Visit.put) _ _ (ap (reached (base_of c.args.ground.now) c.args.rest.now)
+    (none_at (here c.args.path.now c.args.value) c.args.place c.in-Some.place c.in-Some.is
+    c.in_default-item.ensures.value) ∙ reached-none (base_of c.args.ground.now) c.args.rest.now)
 
 pub at_place-returns-in_ok-run-clause-found : goal.at_place-returns-in_ok-run-clause-found
 at_place-returns-in_ok-run-clause-found g t c =
     c.in_ok-run.ensures.found
-    ∙ ap (λ ns. plus (put_found g.V.Visit.put) (kept g.V.Visit.kept c.args.found.now) (reached (base_of c.args.ground.now) c.args.rest.now ns))
-    (ap (λ n. n ∷ []) (here_further c.args.path.now c.push.new.self _ c.in-Some-item.child c.in_ok-push.ensures.ok)
-    ∙ sym (one_at (here c.args.path.now c.args.value) c.args.place c.in-Some.place _ c.in-Some.is c.in-Some-item.ensures.value))
+    ∙ ap (λ ns. plus (put_found g.V.Visit.put) (kept g.V.Visit.kept c.args.found.now)
+    (reached (base_of c.args.ground.now) c.args.rest.now ns))
+    (ap (λ n. n ∷ []) (here_further c.args.path.now c.push.new.self _ c.in-Some-item.child
+    c.in_ok-push.ensures.ok)
+    ∙ sym (one_at (here c.args.path.now c.args.value) c.args.place c.in-Some.place _ c.in-Some.is
+    c.in-Some-item.ensures.value))
 
 pub descend-returns-clause-found : goal.descend-returns-clause-found
 descend-returns-clause-found g t c =
-    on_ok_weaker c.each_child.result (λ e. descended (put_found g.V.Visit.put) (base_of c.args.ground.now) c.args.selectors.now c.args.rest.now (here c.args.path.now c.args.value) _ _ _ c.in_ok-apply.ensures.found (rw c.in_ok-apply.ensures.path at e)) c.each_child.ensures.found
+    on_ok_weaker c.each_child.result (λ e. descended (put_found g.V.Visit.put) (base_of c.args.ground.now)
+    c.args.selectors.now c.args.rest.now (here c.args.path.now c.args.value) _ _ _
+    c.in_ok-apply.ensures.found (rw c.in_ok-apply.ensures.path at e)) c.each_child.ensures.found
 
 pub each_item-returns-then-is_full-clause-found : goal.each_item-returns-then-is_full-clause-found
 each_item-returns-then-is_full-clause-found g t c =
-    full_enough (put_found g.V.Visit.put) _ _ _ _ (c.is_full.ensures c.if-is_full.true) c.loop-index.invariant.3
+    full_enough (put_found g.V.Visit.put) _ _ _ _ (c.is_full.ensures c.if-is_full.true)
+    c.loop-index.invariant.3
 
 pub each_item-invariant_of-go : goal.each_item-invariant_of-go
 each_item-invariant_of-go g t c =
     let h : c.loop-index.index < length c.args.items.now.items = search rules in
-    record { kept = first_left IsDocumentValue c.args.items.now.items c.loop-index.index c.value-item.result h (c.value-item.is ∙ ap (λ l. get_or l c.loop-index.index c.value-item.result) c.deref-value-items.ensures.value) c.loop-index.invariant.1 }
+    record {
+      kept = first_left IsDocumentValue c.args.items.now.items c.loop-index.index
+          c.value-item.result h (c.value-item.is ∙ ap (λ l. get_or l c.loop-index.index c.value-item.result)
+          c.deref-value-items.ensures.value) c.loop-index.invariant.1;
+    }
 
 pub each_item-loop-index-preserved : goal.each_item-loop-index-preserved
 each_item-loop-index-preserved g t c =
     let xs = c.args.items.now.items in
     let i = c.loop-index.index in
     let h : i < length xs = search rules in
-    let p : c.pop.new.self ≡ c.loop-index.path = back_up _ _ _ _ _ c.in_ok-push.ensures.ok c.in_ok-go.ensures.path c.pop.ensures in
+    let p : c.pop.new.self ≡ c.loop-index.path = back_up _ _ _ _ _ c.in_ok-push.ensures.ok
+    c.in_ok-go.ensures.path c.pop.ensures in
     let d = no_deeper xs i in
     rw p (
       c.loop-index.invariant.0,
       others_left IsDocumentValue xs i c.loop-index.invariant.1,
       omega (arith, c.loop-index.invariant.2),
-      item_done (put_found g.V.Visit.put) (done (base_of c.args.ground.now) c.args.task) (link_steps c.loop-index.path) xs i c.value-item.result _ _ _ _ h (c.value-item.is ∙ ap (λ l. get_or l i c.value-item.result) c.deref-value-items.ensures.value)
-          (c.in_ok-go.ensures.found ∙ ap (λ s. plus (put_found g.V.Visit.put) (kept g.V.Visit.kept c.loop-index.found) (done (base_of c.args.ground.now) c.args.task (node s (value_of c.value-item.result)))) (link_further c.loop-index.path c.push.new.self _ c.in_ok-push.ensures.ok)) c.loop-index.invariant.3,
+      item_done (put_found g.V.Visit.put) (done (base_of c.args.ground.now) c.args.task)
+          (link_steps c.loop-index.path) xs i c.value-item.result _ _ _ _ h (c.value-item.is
+          ∙ ap (λ l. get_or l i c.value-item.result) c.deref-value-items.ensures.value)
+          (c.in_ok-go.ensures.found
+          ∙ ap (λ s. plus (put_found g.V.Visit.put) (kept g.V.Visit.kept c.loop-index.found)
+          (done (base_of c.args.ground.now) c.args.task (node s (value_of c.value-item.result))))
+          (link_further c.loop-index.path c.push.new.self _ c.in_ok-push.ensures.ok))
+          c.loop-index.invariant.3,
     )
 
 pub each_item-returns-clause-found : goal.each_item-returns-clause-found
 each_item-returns-clause-found g t c =
     let h : length c.args.items.now.items ≤ c.loop-index.index = search rules in
-    over (put_found g.V.Visit.put) (λ xs. flat_map (done (base_of c.args.ground.now) c.args.task) (item_nodes (link_steps c.loop-index.path) c.loop-index.index (items_of (items_view xs)))) c.args.items.now.items c.loop-index.index _ _ _ h refl c.loop-index.invariant.3
+    over (put_found g.V.Visit.put) (λ xs. flat_map (done (base_of c.args.ground.now) c.args.task)
+    (item_nodes (link_steps c.loop-index.path) c.loop-index.index (items_of (items_view xs))))
+    c.args.items.now.items c.loop-index.index _ _ _ h refl c.loop-index.invariant.3
 
 pub each_member-invariant_of-go : goal.each_member-invariant_of-go
 each_member-invariant_of-go g t c =
-    let e : c.loop-name.name-iterator ≡ (c.in-Some.name.now, c.in-Some.value.now) ∷ c.next.new.self = search rules in
-    record { kept = first_member_left IsDocumentValue c.loop-name.name-iterator c.next.new.self (c.in-Some.name.now, c.in-Some.value.now) e c.loop-name.invariant.1 }
+    let e : c.loop-name.name-iterator ≡ (c.in-Some.name.now, c.in-Some.value.now) ∷ c.next.new.self =
+    search rules in
+    record {
+      kept = first_member_left IsDocumentValue c.loop-name.name-iterator c.next.new.self
+          (c.in-Some.name.now, c.in-Some.value.now) e c.loop-name.invariant.1;
+    }
 
 pub each_member-loop-name-preserved : goal.each_member-loop-name-preserved
 each_member-loop-name-preserved g t c =
-    let e : c.loop-name.name-iterator ≡ (c.in-Some.name.now, c.in-Some.value.now) ∷ c.next.new.self = search rules in
-    let p : c.pop.new.self ≡ c.loop-name.path = back_up _ _ _ _ _ c.in_ok-push.ensures.ok c.in_ok-go.ensures.path c.pop.ensures in
-    let d = members_no_deeper c.loop-name.name-iterator c.next.new.self (c.in-Some.name.now, c.in-Some.value.now) e in
+    let e : c.loop-name.name-iterator ≡ (c.in-Some.name.now, c.in-Some.value.now) ∷ c.next.new.self =
+    search rules in
+    let p : c.pop.new.self ≡ c.loop-name.path = back_up _ _ _ _ _ c.in_ok-push.ensures.ok
+    c.in_ok-go.ensures.path c.pop.ensures in
+    let d = members_no_deeper c.loop-name.name-iterator c.next.new.self
+    (c.in-Some.name.now, c.in-Some.value.now) e in
     rw p (
       c.loop-name.invariant.0,
-      other_members_left IsDocumentValue c.loop-name.name-iterator c.next.new.self (c.in-Some.name.now, c.in-Some.value.now) e c.loop-name.invariant.1,
+      other_members_left IsDocumentValue c.loop-name.name-iterator c.next.new.self
+          (c.in-Some.name.now, c.in-Some.value.now) e c.loop-name.invariant.1,
       omega (arith, c.loop-name.invariant.2),
-      member_done (put_found g.V.Visit.put) (done (base_of c.args.ground.now) c.args.task) (link_steps c.loop-name.path) c.loop-name.name-iterator c.next.new.self (c.in-Some.name.now, c.in-Some.value.now) _ _ _ _ e
-          (c.in_ok-go.ensures.found ∙ ap (λ s. plus (put_found g.V.Visit.put) (kept g.V.Visit.kept c.loop-name.found) (done (base_of c.args.ground.now) c.args.task (node s (value_of c.in-Some.value.now))))
-          (link_further c.loop-name.path c.push.new.self _ c.in_ok-push.ensures.ok ∙ ap (λ k. link_steps c.loop-name.path ++ name (chars k) ∷ []) c.as_str.ensures.value)) c.loop-name.invariant.3,
+      member_done (put_found g.V.Visit.put) (done (base_of c.args.ground.now) c.args.task)
+          (link_steps c.loop-name.path) c.loop-name.name-iterator c.next.new.self
+          (c.in-Some.name.now, c.in-Some.value.now) _ _ _ _ e
+          (c.in_ok-go.ensures.found
+          ∙ ap (λ s. plus (put_found g.V.Visit.put) (kept g.V.Visit.kept c.loop-name.found)
+          (done (base_of c.args.ground.now) c.args.task (node s (value_of c.in-Some.value.now))))
+          (link_further c.loop-name.path c.push.new.self _ c.in_ok-push.ensures.ok
+          ∙ ap (λ k. link_steps c.loop-name.path ++ name (chars k) ∷ []) c.as_str.ensures.value))
+          c.loop-name.invariant.3,
     )
 
 pub each_member-returns-clause-found : goal.each_member-returns-clause-found
 each_member-returns-clause-found g t c =
     let e : c.loop-name.name-iterator ≡ [] = search rules in
-    members_over (put_found g.V.Visit.put) (done (base_of c.args.ground.now) c.args.task) (link_steps c.loop-name.path) c.loop-name.name-iterator _ _ _ e c.loop-name.invariant.3
+    members_over (put_found g.V.Visit.put) (done (base_of c.args.ground.now) c.args.task)
+    (link_steps c.loop-name.path) c.loop-name.name-iterator _ _ _ e c.loop-name.invariant.3
 
 pub each_place-first_place-next-requires : goal.each_place-first_place-next-requires
 each_place-first_place-next-requires g t c = within_more _ _ _ (part_is_short c.args.value) c.requires
@@ -128,12 +186,23 @@ each_place-loop-next-smaller g t c =
 
 pub each_place-loop-next-preserved : goal.each_place-loop-next-preserved
 each_place-loop-next-preserved g t c =
-    rw c.in_ok-at_place.ensures.path
-    (c.loop-next.invariant.0, c.place_after-next.ensures.place, place_done (put_found g.V.Visit.put) (base_of c.args.ground.now) c.args.rest.now (here c.loop-next.path c.args.value) (bounds_value c.args.bounds) (item_count (part_value c.args.value)) c.loop-next.next c.place_after-next.result c.in-Some.place _ _ _ _ c.in-Some.is (c.place_after-next.ensures.indexes _ c.requires) c.in_ok-at_place.ensures.found c.loop-next.invariant.2)
+    rw c.in_ok-at_place.ensures.path (
+      c.loop-next.invariant.0,
+      c.place_after-next.ensures.place,
+      place_done (put_found g.V.Visit.put)
+          (base_of c.args.ground.now) c.args.rest.now (here c.loop-next.path c.args.value)
+          (bounds_value c.args.bounds) (item_count (part_value c.args.value)) c.loop-next.next
+          c.place_after-next.result c.in-Some.place _ _ _ _ c.in-Some.is
+          (c.place_after-next.ensures.indexes _ c.requires) c.in_ok-at_place.ensures.found
+          c.loop-next.invariant.2,
+    )
 
 pub each_place-returns-clause-found : goal.each_place-returns-clause-found
 each_place-returns-clause-found g t c =
-    places_over (put_found g.V.Visit.put) (base_of c.args.ground.now) c.args.rest.now (here c.loop-next.path c.args.value) (bounds_value c.args.bounds) (item_count (part_value c.args.value)) c.loop-next.next _ _ _ c.in_default.is c.loop-next.invariant.2
+    places_over (put_found g.V.Visit.put) (base_of c.args.ground.now) c.args.rest.now
+    (here c.loop-next.path c.args.value) (bounds_value c.args.bounds)
+    (item_count (part_value c.args.value)) c.loop-next.next _ _ _ c.in_default.is
+    c.loop-next.invariant.2
 
 pub go-returns-in-Run-clause-found : goal.go-returns-in-Run-clause-found
 go-returns-in-Run-clause-found g t c = rw c.in-Run.is c.run.ensures.found
@@ -144,210 +213,399 @@ go-returns-in-Descend-clause-found g t c = rw c.in-Descend.is c.descend.ensures.
 pub go-returns-in_ok-run-in-Test-clause-found : goal.go-returns-in_ok-run-in-Test-clause-found
 go-returns-in_ok-run-in-Test-clause-found g t c =
     let n = here c.args.path.now c.args.value in
-    let truth : is_true (base_of c.args.ground.now) c.in-Test.test.now n ≡ true = sym c.in_ok-holds-in-Test.ensures.truth ∙ c.if-branch.true in
+    let truth : is_true (base_of c.args.ground.now) c.in-Test.test.now n ≡ true =
+    sym c.in_ok-holds-in-Test.ensures.truth ∙ c.if-branch.true in
     rw (c.in-Test.is, truth) (rw c.in_ok-holds-in-Test.ensures.path at c.in_ok-run-in-Test.ensures.found)
 
 pub go-returns-else-branch-clause-found : goal.go-returns-else-branch-clause-found
 go-returns-else-branch-clause-found g t c =
     let n = here c.args.path.now c.args.value in
-    let truth : is_true (base_of c.args.ground.now) c.in-Test.test.now n ≡ false = sym c.in_ok-holds-in-Test.ensures.truth ∙ c.if-branch.false in
-    rw (c.in-Test.is, truth) (nothing_found (put_found g.V.Visit.put) _ _ (reached-none (base_of c.args.ground.now) c.in-Test.rest.now))
+    let truth : is_true (base_of c.args.ground.now) c.in-Test.test.now n ≡ false =
+    sym c.in_ok-holds-in-Test.ensures.truth ∙ c.if-branch.false in
+    rw (c.in-Test.is, truth) (nothing_found (put_found g.V.Visit.put) _ _
+    (reached-none (base_of c.args.ground.now) c.in-Test.rest.now))
 
 pub holds-returns-in-Any-clause-truth : goal.holds-returns-in-Any-clause-truth
 holds-returns-in-Any-clause-truth g t c =
-    IfOk-weaker c.any.result _ _ (λ b e. e ∙ ap (list_any (λ l. is_true (base_of c.args.ground.now) l (here c.args.path.now c.args.value))) c.as_slice.ensures.value ∙ sym (ap (λ l. is_true (base_of c.args.ground.now) l (here c.args.path.now c.args.value)) c.in-Any.is ∙ true_any (base_of c.args.ground.now) (here c.args.path.now c.args.value) c.in-Any.parts)) c.any.ensures.truth
+    IfOk-weaker c.any.result _ _ (λ b e. e
+    ∙ ap (list_any (λ l. is_true (base_of c.args.ground.now) l (here c.args.path.now c.args.value)))
+    c.as_slice.ensures.value
+    ∙ sym (ap (λ l. is_true (base_of c.args.ground.now) l (here c.args.path.now c.args.value))
+    c.in-Any.is ∙ true_any (base_of c.args.ground.now) (here c.args.path.now c.args.value)
+    c.in-Any.parts)) c.any.ensures.truth
 
 pub holds-returns-in-All-clause-truth : goal.holds-returns-in-All-clause-truth
 holds-returns-in-All-clause-truth g t c =
-    IfOk-weaker c.all.result _ _ (λ b e. e ∙ ap (list_all (λ l. is_true (base_of c.args.ground.now) l (here c.args.path.now c.args.value))) c.as_slice-in-All.ensures.value ∙ sym (ap (λ l. is_true (base_of c.args.ground.now) l (here c.args.path.now c.args.value)) c.in-All.is ∙ true_all (base_of c.args.ground.now) (here c.args.path.now c.args.value) c.in-All.parts)) c.all.ensures.truth
+    IfOk-weaker c.all.result _ _ (λ b e. e
+    ∙ ap (list_all (λ l. is_true (base_of c.args.ground.now) l (here c.args.path.now c.args.value)))
+    c.as_slice-in-All.ensures.value
+    ∙ sym (ap (λ l. is_true (base_of c.args.ground.now) l (here c.args.path.now c.args.value))
+    c.in-All.is ∙ true_all (base_of c.args.ground.now) (here c.args.path.now c.args.value)
+    c.in-All.parts)) c.all.ensures.truth
 
 pub holds-returns-in_ok-holds-in-Not-clause-truth : goal.holds-returns-in_ok-holds-in-Not-clause-truth
 holds-returns-in_ok-holds-in-Not-clause-truth g t c =
-    ap not (c.in_ok-holds-in-Not.ensures.truth ∙ ap (λ l. is_true (base_of c.args.ground.now) l (here c.args.path.now c.args.value)) c.deref.ensures) ∙ sym (ap (λ l. is_true (base_of c.args.ground.now) l (here c.args.path.now c.args.value)) c.in-Not.is ∙ true_not (base_of c.args.ground.now) (here c.args.path.now c.args.value) c.in-Not.part)
+    ap not (c.in_ok-holds-in-Not.ensures.truth
+    ∙ ap (λ l. is_true (base_of c.args.ground.now) l (here c.args.path.now c.args.value))
+    c.deref.ensures) ∙ sym
+    (ap (λ l. is_true (base_of c.args.ground.now) l (here c.args.path.now c.args.value)) c.in-Not.is
+    ∙ true_not (base_of c.args.ground.now) (here c.args.path.now c.args.value) c.in-Not.part)
 
 pub holds-returns-in_ok-first-in-Test-clause-truth : goal.holds-returns-in_ok-first-in-Test-clause-truth
 holds-returns-in_ok-first-in-Test-clause-truth g t c =
-    c.is_some.ensures ∙ sym (some_mapped part_value c.in_ok-first-in-Test.field-0) ∙ ap is_some c.in_ok-first-in-Test.ensures.value ∙ sym (ap (λ l. is_true (base_of c.args.ground.now) l (here c.args.path.now c.args.value)) c.in-Test.is ∙ true_test (base_of c.args.ground.now) (here c.args.path.now c.args.value) c.in-Test.nodes)
+    c.is_some.ensures ∙ sym (some_mapped part_value c.in_ok-first-in-Test.field-0)
+    ∙ ap is_some c.in_ok-first-in-Test.ensures.value
+    ∙ sym (ap (λ l. is_true (base_of c.args.ground.now) l (here c.args.path.now c.args.value))
+    c.in-Test.is ∙ true_test (base_of c.args.ground.now) (here c.args.path.now c.args.value)
+    c.in-Test.nodes)
 
 pub run-returns-in-None-clause-found : goal.run-returns-in-None-clause-found
 run-returns-in-None-clause-found g t c =
-    on_ok_weaker c.add.result (λ e. e ∙ sym (plus-one (put_found g.V.Visit.put) (kept g.V.Visit.kept c.args.found.now) (here c.args.path.now c.args.value))
-    ∙ ap (plus (put_found g.V.Visit.put) (kept g.V.Visit.kept c.args.found.now)) (sym (ap (λ ss. reached (base_of c.args.ground.now) ss (here c.args.path.now c.args.value ∷ [])) (nil_from_length c.args.segments.now c.in-None.ensures.cases) ∙ reached-end (base_of c.args.ground.now) (here c.args.path.now c.args.value ∷ [])))) c.add.ensures.found
+    on_ok_weaker c.add.result (λ e. e
+    ∙ sym (plus-one (put_found g.V.Visit.put) (kept g.V.Visit.kept c.args.found.now)
+    (here c.args.path.now c.args.value))
+    ∙ ap (plus (put_found g.V.Visit.put) (kept g.V.Visit.kept c.args.found.now))
+    (sym (ap (λ ss. reached (base_of c.args.ground.now) ss (here c.args.path.now c.args.value ∷ []))
+    (nil_from_length c.args.segments.now c.in-None.ensures.cases)
+    ∙ reached-end (base_of c.args.ground.now) (here c.args.path.now c.args.value ∷ []))))
+    c.add.ensures.found
 
 pub run-returns-then-segment-clause-found : goal.run-returns-then-segment-clause-found
 run-returns-then-segment-clause-found g t c =
-    on_ok_weaker c.descend.result (λ e. e ∙ ap (plus (put_found g.V.Visit.put) (kept g.V.Visit.kept c.args.found.now)) (ap (λ xs. reached (base_of c.args.ground.now) c.in-Some.rest.now (flat_map (picked_by (base_of c.args.ground.now) xs) (descendants (here c.args.path.now c.args.value)))) c.as_slice-selectors.ensures.value
-    ∙ sym (ap (λ ss. reached (base_of c.args.ground.now) ss (here c.args.path.now c.args.value ∷ [])) c.in-Some.ensures.cases.0 ∙ reached-deep (base_of c.args.ground.now) c.in-Some.segment.now c.in-Some.rest.now (here c.args.path.now c.args.value) c.if-segment.true))) c.descend.ensures.found
+    on_ok_weaker c.descend.result (λ e. e
+    ∙ ap (plus (put_found g.V.Visit.put) (kept g.V.Visit.kept c.args.found.now))
+    (ap (λ xs. reached (base_of c.args.ground.now) c.in-Some.rest.now
+    (flat_map (picked_by (base_of c.args.ground.now) xs)
+    (descendants (here c.args.path.now c.args.value)))) c.as_slice-selectors.ensures.value
+    ∙ sym (ap (λ ss. reached (base_of c.args.ground.now) ss (here c.args.path.now c.args.value ∷ []))
+    c.in-Some.ensures.cases.0 ∙ reached-deep (base_of c.args.ground.now) c.in-Some.segment.now
+    c.in-Some.rest.now (here c.args.path.now c.args.value) c.if-segment.true))) c.descend.ensures.found
 
 pub run-returns-else-segment-clause-found : goal.run-returns-else-segment-clause-found
 run-returns-else-segment-clause-found g t c =
-    on_ok_weaker c.apply.result (λ e. e ∙ ap (plus (put_found g.V.Visit.put) (kept g.V.Visit.kept c.args.found.now)) (ap (λ xs. reached (base_of c.args.ground.now) c.in-Some.rest.now (picked_by (base_of c.args.ground.now) xs (here c.args.path.now c.args.value))) c.as_slice-selectors.ensures.value
-    ∙ sym (ap (λ ss. reached (base_of c.args.ground.now) ss (here c.args.path.now c.args.value ∷ [])) c.in-Some.ensures.cases.0 ∙ reached-plain (base_of c.args.ground.now) c.in-Some.segment.now c.in-Some.rest.now (here c.args.path.now c.args.value) c.if-segment.false))) c.apply.ensures.found
+    on_ok_weaker c.apply.result (λ e. e
+    ∙ ap (plus (put_found g.V.Visit.put) (kept g.V.Visit.kept c.args.found.now))
+    (ap (λ xs. reached (base_of c.args.ground.now) c.in-Some.rest.now
+    (picked_by (base_of c.args.ground.now) xs (here c.args.path.now c.args.value)))
+    c.as_slice-selectors.ensures.value
+    ∙ sym (ap (λ ss. reached (base_of c.args.ground.now) ss (here c.args.path.now c.args.value ∷ []))
+    c.in-Some.ensures.cases.0 ∙ reached-plain (base_of c.args.ground.now) c.in-Some.segment.now
+    c.in-Some.rest.now (here c.args.path.now c.args.value) c.if-segment.false))) c.apply.ensures.found
 
 pub select-run-requires : goal.select-run-requires
 select-run-requires g t c =
-    let below : depth (view c.in-Some.child.value.now) < depth (view c.args.value.value.now) = c.in-Some.ensures.below in
+    let below : depth (view c.in-Some.child.value.now) < depth (view c.args.value.value.now) =
+    c.in-Some.ensures.below in
     search rules
 
 pub select-returns-in_default-clause-found : goal.select-returns-in_default-clause-found
 select-returns-in_default-clause-found g t c =
-    let none : None ≡ member_of (text_of c.in-Name.name) (part_value c.args.value) = c.in_default.ensures.value ∙ ap (λ k. member_of (chars k) (part_value c.args.value)) c.as_str.ensures.value in
-    nothing_found (put_found g.V.Visit.put) _ _ (ap (reached (base_of c.args.ground.now) c.args.rest.now) (ap (λ x. picked (base_of c.args.ground.now) x (here c.args.path.now c.args.value)) c.in-Name.is ∙ picked_name (base_of c.args.ground.now) (here c.args.path.now c.args.value) c.in-Name.name ∙ ap (node_if_some _) (sym none)) ∙ reached-none (base_of c.args.ground.now) c.args.rest.now)
+    let none : None ≡ member_of (text_of c.in-Name.name) (part_value c.args.value) =
+    c.in_default.ensures.value ∙ ap (λ k. member_of (chars k) (part_value c.args.value))
+    c.as_str.ensures.value in
+    nothing_found (put_found g.V.Visit.put) _ _ (ap (reached (base_of c.args.ground.now) c.args.rest.now)
+    (ap (λ x. picked (base_of c.args.ground.now) x (here c.args.path.now c.args.value)) c.in-Name.is
+    ∙ picked_name (base_of c.args.ground.now) (here c.args.path.now c.args.value) c.in-Name.name
+    ∙ ap (node_if_some _) (sym none)) ∙ reached-none (base_of c.args.ground.now) c.args.rest.now)
 
 pub select-returns-in_ok-run-in-Name-clause-found : goal.select-returns-in_ok-run-in-Name-clause-found
 select-returns-in_ok-run-in-Name-clause-found g t c =
-    let some = c.in-Some.ensures.value ∙ ap (λ k. member_of (chars k) (part_value c.args.value)) c.as_str.ensures.value in
+    let some = c.in-Some.ensures.value ∙ ap (λ k. member_of (chars k) (part_value c.args.value))
+    c.as_str.ensures.value in
     c.in_ok-run-in-Name.ensures.found
-    ∙ ap (λ ns. plus (put_found g.V.Visit.put) (kept g.V.Visit.kept c.args.found.now) (reached (base_of c.args.ground.now) c.args.rest.now ns))
-    (ap (λ n. n ∷ []) (here_further c.args.path.now c.push.new.self _ c.in-Some.child c.in_ok-push-in-Name.ensures.ok ∙ ap (λ k. node (link_steps c.args.path.now ++ name (chars k) ∷ []) (part_value c.in-Some.child)) c.as_str-in-Some.ensures.value)
-    ∙ sym (ap (λ x. picked (base_of c.args.ground.now) x (here c.args.path.now c.args.value)) c.in-Name.is ∙ picked_name (base_of c.args.ground.now) (here c.args.path.now c.args.value) c.in-Name.name ∙ ap (node_if_some _) (sym some)))
+    ∙ ap (λ ns. plus (put_found g.V.Visit.put) (kept g.V.Visit.kept c.args.found.now)
+    (reached (base_of c.args.ground.now) c.args.rest.now ns))
+    (ap (λ n. n ∷ []) (here_further c.args.path.now c.push.new.self _ c.in-Some.child
+    c.in_ok-push-in-Name.ensures.ok
+    ∙ ap (λ k. node (link_steps c.args.path.now ++ name (chars k) ∷ []) (part_value c.in-Some.child))
+    c.as_str-in-Some.ensures.value)
+    ∙ sym (ap (λ x. picked (base_of c.args.ground.now) x (here c.args.path.now c.args.value)) c.in-Name.is
+    ∙ picked_name (base_of c.args.ground.now) (here c.args.path.now c.args.value) c.in-Name.name
+    ∙ ap (node_if_some _) (sym some)))
 
 pub select-returns-in-Wild-clause-found : goal.select-returns-in-Wild-clause-found
 select-returns-in-Wild-clause-found g t c =
-    on_ok_weaker c.each_child.result (λ e. e ∙ ap (plus (put_found g.V.Visit.put) (kept g.V.Visit.kept c.args.found.now)) (sym (ap (reached (base_of c.args.ground.now) c.args.rest.now) (ap (λ x. picked (base_of c.args.ground.now) x (here c.args.path.now c.args.value)) c.in-Wild.is ∙ picked_wild (base_of c.args.ground.now) (here c.args.path.now c.args.value)) ∙ reached-each (base_of c.args.ground.now) c.args.rest.now (children (here c.args.path.now c.args.value))))) c.each_child.ensures.found
+    on_ok_weaker c.each_child.result (λ e. e
+    ∙ ap (plus (put_found g.V.Visit.put) (kept g.V.Visit.kept c.args.found.now))
+    (sym (ap (reached (base_of c.args.ground.now) c.args.rest.now)
+    (ap (λ x. picked (base_of c.args.ground.now) x (here c.args.path.now c.args.value)) c.in-Wild.is
+    ∙ picked_wild (base_of c.args.ground.now) (here c.args.path.now c.args.value))
+    ∙ reached-each (base_of c.args.ground.now) c.args.rest.now
+    (children (here c.args.path.now c.args.value))))) c.each_child.ensures.found
 
 pub select-returns-in-Index-clause-found : goal.select-returns-in-Index-clause-found
 select-returns-in-Index-clause-found g t c =
     let f : SFits w64 c.in-Index.index.value = search rules in
     let placed = simp to_z-of_z at c.place-place.ensures in
-    on_ok_weaker c.at_place.result (λ e. e ∙ ap (λ ps. plus (put_found g.V.Visit.put) (kept g.V.Visit.kept c.args.found.now) (reached (base_of c.args.ground.now) c.args.rest.now (items_at (here c.args.path.now c.args.value) ps)))
-    (placed ∙ index_found (part_value c.args.value) (whole_number (position_text c.in-Index.index)) c.in-Index.index.value c.item_count.result c.in-Index.index.read c.item_count.ensures.count)
-    ∙ ap (λ ns. plus (put_found g.V.Visit.put) (kept g.V.Visit.kept c.args.found.now) (reached (base_of c.args.ground.now) c.args.rest.now ns)) (sym (ap (λ x. picked (base_of c.args.ground.now) x (here c.args.path.now c.args.value)) c.in-Index.is ∙ picked_index (base_of c.args.ground.now) (here c.args.path.now c.args.value) c.in-Index.index))) c.at_place.ensures.found
+    on_ok_weaker c.at_place.result (λ e. e
+    ∙ ap (λ ps. plus (put_found g.V.Visit.put) (kept g.V.Visit.kept c.args.found.now)
+    (reached (base_of c.args.ground.now) c.args.rest.now (items_at (here c.args.path.now c.args.value)
+    ps)))
+    (placed ∙ index_found (part_value c.args.value) (whole_number (position_text c.in-Index.index))
+    c.in-Index.index.value c.item_count.result c.in-Index.index.read c.item_count.ensures.count)
+    ∙ ap (λ ns. plus (put_found g.V.Visit.put) (kept g.V.Visit.kept c.args.found.now)
+    (reached (base_of c.args.ground.now) c.args.rest.now ns))
+    (sym (ap (λ x. picked (base_of c.args.ground.now) x (here c.args.path.now c.args.value))
+    c.in-Index.is ∙ picked_index (base_of c.args.ground.now) (here c.args.path.now c.args.value)
+    c.in-Index.index))) c.at_place.ensures.found
 
 pub select-returns-in-Slice-clause-found : goal.select-returns-in-Slice-clause-found
 select-returns-in-Slice-clause-found g t c =
-    on_ok_weaker c.each_place.result (λ e. e ∙ ap (λ ps. plus (put_found g.V.Visit.put) (kept g.V.Visit.kept c.args.found.now) (reached (base_of c.args.ground.now) c.args.rest.now (items_at (here c.args.path.now c.args.value) ps)))
-    (slice_found (part_value c.args.value) (written_value (option_map position_text c.in-Slice.slice.first)) (written_value (option_map position_text c.in-Slice.slice.past)) (written_value (option_map position_text c.in-Slice.slice.step)) c.item_count-in-Slice.result (bounds_value c.bounds_of-bounds.result) c.item_count-in-Slice.ensures.count c.bounds_of-bounds.ensures.bounds)
-    ∙ ap (λ ns. plus (put_found g.V.Visit.put) (kept g.V.Visit.kept c.args.found.now) (reached (base_of c.args.ground.now) c.args.rest.now ns)) (sym (ap (λ x. picked (base_of c.args.ground.now) x (here c.args.path.now c.args.value)) c.in-Slice.is ∙ picked_slice (base_of c.args.ground.now) (here c.args.path.now c.args.value) c.in-Slice.slice))) c.each_place.ensures.found
+    on_ok_weaker c.each_place.result (λ e. e
+    ∙ ap (λ ps. plus (put_found g.V.Visit.put) (kept g.V.Visit.kept c.args.found.now)
+    (reached (base_of c.args.ground.now) c.args.rest.now (items_at (here c.args.path.now c.args.value)
+    ps)))
+    (slice_found (part_value c.args.value)
+    (written_value (option_map position_text c.in-Slice.slice.first))
+    (written_value (option_map position_text c.in-Slice.slice.past))
+    (written_value (option_map position_text c.in-Slice.slice.step)) c.item_count-in-Slice.result
+    (bounds_value c.bounds_of-bounds.result) c.item_count-in-Slice.ensures.count
+    c.bounds_of-bounds.ensures.bounds)
+    ∙ ap (λ ns. plus (put_found g.V.Visit.put) (kept g.V.Visit.kept c.args.found.now)
+    (reached (base_of c.args.ground.now) c.args.rest.now ns))
+    (sym (ap (λ x. picked (base_of c.args.ground.now) x (here c.args.path.now c.args.value))
+    c.in-Slice.is ∙ picked_slice (base_of c.args.ground.now) (here c.args.path.now c.args.value)
+    c.in-Slice.slice))) c.each_place.ensures.found
 
 pub select-returns-in-Filter-clause-found : goal.select-returns-in-Filter-clause-found
 select-returns-in-Filter-clause-found g t c =
-    on_ok_weaker c.each_child-in-Filter.result (λ e. e ∙ ap (plus (put_found g.V.Visit.put) (kept g.V.Visit.kept c.args.found.now)) (sym (ap (reached (base_of c.args.ground.now) c.args.rest.now) (ap (λ x. picked (base_of c.args.ground.now) x (here c.args.path.now c.args.value)) c.in-Filter.is ∙ picked_filter (base_of c.args.ground.now) (here c.args.path.now c.args.value) c.in-Filter.test) ∙ reached-filter (base_of c.args.ground.now) c.args.rest.now (is_true (base_of c.args.ground.now) c.in-Filter.test) (children (here c.args.path.now c.args.value))))) c.each_child-in-Filter.ensures.found
+    on_ok_weaker c.each_child-in-Filter.result (λ e. e
+    ∙ ap (plus (put_found g.V.Visit.put) (kept g.V.Visit.kept c.args.found.now))
+    (sym (ap (reached (base_of c.args.ground.now) c.args.rest.now)
+    (ap (λ x. picked (base_of c.args.ground.now) x (here c.args.path.now c.args.value)) c.in-Filter.is
+    ∙ picked_filter (base_of c.args.ground.now) (here c.args.path.now c.args.value) c.in-Filter.test)
+    ∙ reached-filter (base_of c.args.ground.now) c.args.rest.now
+    (is_true (base_of c.args.ground.now) c.in-Filter.test)
+    (children (here c.args.path.now c.args.value))))) c.each_child-in-Filter.ensures.found
 
 pub all-loop-part-preserved : goal.all-loop-part-preserved
 all-loop-part-preserved g t c =
     let h : c.loop-part.part-index < length c.args.parts.now = omega arith in
     let truth = c.in_ok-holds.ensures.truth in
-    let on : is_true (base_of c.args.ground.now) c.part-item.result (here c.args.path.now c.args.value) ≡ true = sym (rw c.loop-part.invariant.0 at truth) ∙ c.if-not-branch.false in
-    (c.in_ok-holds.ensures.path ∙ c.loop-part.invariant.0, all_further (λ l. is_true (base_of c.args.ground.now) l (here c.args.path.now c.args.value)) c.args.parts.now c.loop-part.part-index c.part-item.result h c.part-item.is on ∙ c.loop-part.invariant.1)
+    let on : is_true (base_of c.args.ground.now) c.part-item.result (here c.args.path.now c.args.value)
+    ≡ true = sym (rw c.loop-part.invariant.0 at truth) ∙ c.if-not-branch.false in (
+      c.in_ok-holds.ensures.path
+          ∙ c.loop-part.invariant.0,
+      all_further (λ l. is_true (base_of c.args.ground.now) l
+          (here c.args.path.now c.args.value)) c.args.parts.now c.loop-part.part-index c.part-item.result h
+          c.part-item.is on ∙ c.loop-part.invariant.1,
+    )
 
 pub all-returns-clause-truth : goal.all-returns-clause-truth
 all-returns-clause-truth g t c =
-    sym (at_drop_all (list_all (λ l. is_true (base_of c.args.ground.now) l (here c.args.path.now c.args.value))) c.args.parts.now c.loop-part.part-index (omega arith)) ∙ c.loop-part.invariant.1
+    sym (at_drop_all (list_all (λ l. is_true (base_of c.args.ground.now) l
+    (here c.args.path.now c.args.value))) c.args.parts.now c.loop-part.part-index (omega arith))
+    ∙ c.loop-part.invariant.1
 
 pub all-returns-then-not-branch-clause-truth : goal.all-returns-then-not-branch-clause-truth
 all-returns-then-not-branch-clause-truth g t c =
     let h : c.loop-part.part-index < length c.args.parts.now = omega arith in
     let truth = c.in_ok-holds.ensures.truth in
-    let off : is_true (base_of c.args.ground.now) c.part-item.result (here c.args.path.now c.args.value) ≡ false = sym (rw c.loop-part.invariant.0 at truth) ∙ c.if-not-branch.true in
-    sym (all_found (λ l. is_true (base_of c.args.ground.now) l (here c.args.path.now c.args.value)) c.args.parts.now c.loop-part.part-index c.part-item.result h c.part-item.is off) ∙ c.loop-part.invariant.1
+    let off : is_true (base_of c.args.ground.now) c.part-item.result (here c.args.path.now c.args.value)
+    ≡ false = sym (rw c.loop-part.invariant.0 at truth) ∙ c.if-not-branch.true in
+    sym (all_found (λ l. is_true (base_of c.args.ground.now) l (here c.args.path.now c.args.value))
+    c.args.parts.now c.loop-part.part-index c.part-item.result h c.part-item.is off)
+    ∙ c.loop-part.invariant.1
 
 pub any-loop-part-preserved : goal.any-loop-part-preserved
 any-loop-part-preserved g t c =
     let h : c.loop-part.part-index < length c.args.parts.now = omega arith in
     let truth = c.in_ok-holds.ensures.truth in
-    let off : is_true (base_of c.args.ground.now) c.part-item.result (here c.args.path.now c.args.value) ≡ false = sym (rw c.loop-part.invariant.0 at truth) ∙ c.if-branch.false in
-    (c.in_ok-holds.ensures.path ∙ c.loop-part.invariant.0, any_further (λ l. is_true (base_of c.args.ground.now) l (here c.args.path.now c.args.value)) c.args.parts.now c.loop-part.part-index c.part-item.result h c.part-item.is off ∙ c.loop-part.invariant.1)
+    let off : is_true (base_of c.args.ground.now) c.part-item.result (here c.args.path.now c.args.value)
+    ≡ false = sym (rw c.loop-part.invariant.0 at truth) ∙ c.if-branch.false in (
+      c.in_ok-holds.ensures.path
+          ∙ c.loop-part.invariant.0,
+      any_further (λ l. is_true (base_of c.args.ground.now) l
+          (here c.args.path.now c.args.value)) c.args.parts.now c.loop-part.part-index c.part-item.result h
+          c.part-item.is off ∙ c.loop-part.invariant.1,
+    )
 
 pub any-returns-clause-truth : goal.any-returns-clause-truth
 any-returns-clause-truth g t c =
-    sym (at_drop_all (list_any (λ l. is_true (base_of c.args.ground.now) l (here c.args.path.now c.args.value))) c.args.parts.now c.loop-part.part-index (omega arith)) ∙ c.loop-part.invariant.1
+    sym (at_drop_all (list_any (λ l. is_true (base_of c.args.ground.now) l
+    (here c.args.path.now c.args.value))) c.args.parts.now c.loop-part.part-index (omega arith))
+    ∙ c.loop-part.invariant.1
 
 pub any-returns-then-branch-clause-truth : goal.any-returns-then-branch-clause-truth
 any-returns-then-branch-clause-truth g t c =
     let h : c.loop-part.part-index < length c.args.parts.now = omega arith in
     let truth = c.in_ok-holds.ensures.truth in
-    let on : is_true (base_of c.args.ground.now) c.part-item.result (here c.args.path.now c.args.value) ≡ true = sym (rw c.loop-part.invariant.0 at truth) ∙ c.if-branch.true in
-    sym (any_found (λ l. is_true (base_of c.args.ground.now) l (here c.args.path.now c.args.value)) c.args.parts.now c.loop-part.part-index c.part-item.result h c.part-item.is on) ∙ c.loop-part.invariant.1
+    let on : is_true (base_of c.args.ground.now) c.part-item.result (here c.args.path.now c.args.value)
+    ≡ true = sym (rw c.loop-part.invariant.0 at truth) ∙ c.if-branch.true in
+    sym (any_found (λ l. is_true (base_of c.args.ground.now) l (here c.args.path.now c.args.value))
+    c.args.parts.now c.loop-part.part-index c.part-item.result h c.part-item.is on)
+    ∙ c.loop-part.invariant.1
 
 pub each_child-returns-in-Items-clause-found : goal.each_child-returns-in-Items-clause-found
 each_child-returns-in-Items-clause-found g t c =
-    on_ok_weaker c.each_item.result (λ e. e ∙ ap (λ ns. plus (put_found g.V.Visit.put) (kept g.V.Visit.kept c.args.found.now) (flat_map (done (base_of c.args.ground.now) c.args.task) ns)) (sym (c.in-Items.ensures.children (link_steps c.args.path.now)))) c.each_item.ensures.found
+    on_ok_weaker c.each_item.result (λ e. e
+    ∙ ap (λ ns. plus (put_found g.V.Visit.put) (kept g.V.Visit.kept c.args.found.now)
+    (flat_map (done (base_of c.args.ground.now) c.args.task) ns))
+    (sym (c.in-Items.ensures.children (link_steps c.args.path.now)))) c.each_item.ensures.found
 
 pub each_child-returns-in-Members-clause-found : goal.each_child-returns-in-Members-clause-found
 each_child-returns-in-Members-clause-found g t c =
-    on_ok_weaker c.each_member.result (λ e. e ∙ ap (λ ns. plus (put_found g.V.Visit.put) (kept g.V.Visit.kept c.args.found.now) (flat_map (done (base_of c.args.ground.now) c.args.task) ns)) (sym (c.in-Members.ensures.children (link_steps c.args.path.now)))) c.each_member.ensures.found
+    on_ok_weaker c.each_member.result (λ e. e
+    ∙ ap (λ ns. plus (put_found g.V.Visit.put) (kept g.V.Visit.kept c.args.found.now)
+    (flat_map (done (base_of c.args.ground.now) c.args.task) ns))
+    (sym (c.in-Members.ensures.children (link_steps c.args.path.now)))) c.each_member.ensures.found
 
 pub each_child-returns-in-Nothing-clause-found : goal.each_child-returns-in-Nothing-clause-found
 each_child-returns-in-Nothing-clause-found g t c =
-    nothing_found (put_found g.V.Visit.put) _ _ (ap (flat_map (done (base_of c.args.ground.now) c.args.task)) (c.in-Nothing.ensures.children (link_steps c.args.path.now)))
+    nothing_found (put_found g.V.Visit.put) _ _
+    (ap (flat_map (done (base_of c.args.ground.now) c.args.task))
+    (c.in-Nothing.ensures.children (link_steps c.args.path.now)))
 
 pub apply-returns-then-is_full-clause-found : goal.apply-returns-then-is_full-clause-found
 apply-returns-then-is_full-clause-found g t c =
-    full_enough (put_found g.V.Visit.put) _ _ _ _ (c.is_full.ensures c.if-is_full.true) c.loop-selector.invariant.1
+    full_enough (put_found g.V.Visit.put) _ _ _ _ (c.is_full.ensures c.if-is_full.true)
+    c.loop-selector.invariant.1
 
 pub each_member-returns-then-is_full-clause-found : goal.each_member-returns-then-is_full-clause-found
 each_member-returns-then-is_full-clause-found g t c =
-    full_enough (put_found g.V.Visit.put) _ _ _ _ (c.is_full.ensures c.if-is_full.true) c.loop-name.invariant.3
+    full_enough (put_found g.V.Visit.put) _ _ _ _ (c.is_full.ensures c.if-is_full.true)
+    c.loop-name.invariant.3
 
 pub each_place-returns-then-is_full-clause-found : goal.each_place-returns-then-is_full-clause-found
 each_place-returns-then-is_full-clause-found g t c =
-    full_enough (put_found g.V.Visit.put) _ _ _ _ (c.is_full.ensures c.if-is_full.true) c.loop-next.invariant.2
+    full_enough (put_found g.V.Visit.put) _ _ _ _ (c.is_full.ensures c.if-is_full.true)
+    c.loop-next.invariant.2
 
-pub each_place-place_after-next-requires-clause-bounds : goal.each_place-place_after-next-requires-clause-bounds
-each_place-place_after-next-requires-clause-bounds g t c = within_more _ _ _ (part_is_short c.args.value) c.requires
+pub each_place-place_after-next-requires-clause-bounds
+    : goal.each_place-place_after-next-requires-clause-bounds
+each_place-place_after-next-requires-clause-bounds g t c = within_more _ _ _ (part_is_short c.args.value)
+    c.requires
 
 pub first-returns-in_ok-run-in-Here-clause-value : goal.first-returns-in_ok-run-in-Here-clause-value
 first-returns-in_ok-run-in-Here-clause-value g t c =
     c.into_first.ensures ∙ ap kept_first c.in_ok-run-in-Here.ensures.found ∙ first_kept g.V.Visit.put _
-    ∙ ap first_value (nodes_here (base_of c.args.ground.now) (here c.args.path.now c.args.value) c.in-Here.segments c.as_slice.result.now want.First c.as_slice.ensures.value ∙ sym (ap (λ q. nodes_given (base_of c.args.ground.now) q want.First (here c.args.path.now c.args.value)) c.in-Here.is))
+    ∙ ap first_value (nodes_here (base_of c.args.ground.now) (here c.args.path.now c.args.value)
+    c.in-Here.segments c.as_slice.result.now want.First c.as_slice.ensures.value
+    ∙ sym (ap (λ q. nodes_given (base_of c.args.ground.now) q want.First
+    (here c.args.path.now c.args.value)) c.in-Here.is))
 
-pub holds-returns-in_ok-pattern-in-Match-clause-truth : goal.holds-returns-in_ok-pattern-in-Match-clause-truth
+pub holds-returns-in_ok-pattern-in-Match-clause-truth
+    : goal.holds-returns-in_ok-pattern-in-Match-clause-truth
 holds-returns-in_ok-pattern-in-Match-clause-truth g t c =
     let second = rw c.in_ok-text-in-Match.ensures.path at c.in_ok-pattern-in-Match.ensures.value in
-    IfOk-weaker c.matches.result _ _ (λ b e. e ∙ ap₂ (tested tests.is_match) c.in_ok-text-in-Match.ensures.value second ∙ sym (ap (λ l. is_true (base_of c.args.ground.now) l (here c.args.path.now c.args.value)) c.in-Match.is ∙ true_match (base_of c.args.ground.now) (here c.args.path.now c.args.value) c.in-Match.text c.in-Match.pattern)) c.matches.ensures
+    IfOk-weaker c.matches.result _ _ (λ b e. e
+    ∙ ap₂ (tested tests.is_match) c.in_ok-text-in-Match.ensures.value second
+    ∙ sym (ap (λ l. is_true (base_of c.args.ground.now) l (here c.args.path.now c.args.value))
+    c.in-Match.is ∙ true_match (base_of c.args.ground.now) (here c.args.path.now c.args.value)
+    c.in-Match.text c.in-Match.pattern)) c.matches.ensures
 
-pub holds-returns-in_ok-pattern-in-Search-clause-truth : goal.holds-returns-in_ok-pattern-in-Search-clause-truth
+pub holds-returns-in_ok-pattern-in-Search-clause-truth
+    : goal.holds-returns-in_ok-pattern-in-Search-clause-truth
 holds-returns-in_ok-pattern-in-Search-clause-truth g t c =
     let second = rw c.in_ok-text-in-Search.ensures.path at c.in_ok-pattern-in-Search.ensures.value in
-    IfOk-weaker c.searches.result _ _ (λ b e. e ∙ ap₂ (tested tests.is_found) c.in_ok-text-in-Search.ensures.value second ∙ sym (ap (λ l. is_true (base_of c.args.ground.now) l (here c.args.path.now c.args.value)) c.in-Search.is ∙ true_search (base_of c.args.ground.now) (here c.args.path.now c.args.value) c.in-Search.text c.in-Search.pattern)) c.searches.ensures
+    IfOk-weaker c.searches.result _ _ (λ b e. e
+    ∙ ap₂ (tested tests.is_found) c.in_ok-text-in-Search.ensures.value second
+    ∙ sym (ap (λ l. is_true (base_of c.args.ground.now) l (here c.args.path.now c.args.value))
+    c.in-Search.is ∙ true_search (base_of c.args.ground.now) (here c.args.path.now c.args.value)
+    c.in-Search.text c.in-Search.pattern)) c.searches.ensures
 
-pub holds-returns-in_ok-right-in-Compare-clause-truth : goal.holds-returns-in_ok-right-in-Compare-clause-truth
+pub holds-returns-in_ok-right-in-Compare-clause-truth
+    : goal.holds-returns-in_ok-right-in-Compare-clause-truth
 holds-returns-in_ok-right-in-Compare-clause-truth g t c =
     let second = rw c.in_ok-left-in-Compare.ensures.path at c.in_ok-right-in-Compare.ensures.value in
-    c.compare.ensures ∙ ap₂ (compared c.in-Compare.operator) c.in_ok-left-in-Compare.ensures.value second ∙ sym (ap (λ l. is_true (base_of c.args.ground.now) l (here c.args.path.now c.args.value)) c.in-Compare.is ∙ true_compare (base_of c.args.ground.now) (here c.args.path.now c.args.value) c.in-Compare.left c.in-Compare.operator c.in-Compare.right)
+    c.compare.ensures ∙ ap₂ (compared c.in-Compare.operator) c.in_ok-left-in-Compare.ensures.value second
+    ∙ sym (ap (λ l. is_true (base_of c.args.ground.now) l (here c.args.path.now c.args.value))
+    c.in-Compare.is ∙ true_compare (base_of c.args.ground.now) (here c.args.path.now c.args.value)
+    c.in-Compare.left c.in-Compare.operator c.in-Compare.right)
 
-pub holds-returns-in_ok-text-in-MatchRead-clause-truth : goal.holds-returns-in_ok-text-in-MatchRead-clause-truth
+pub holds-returns-in_ok-text-in-MatchRead-clause-truth
+    : goal.holds-returns-in_ok-text-in-MatchRead-clause-truth
 holds-returns-in_ok-text-in-MatchRead-clause-truth g t c =
-    IfOk-weaker c.matches_known.result _ _ (λ b e. e ∙ ap (λ o. tested tests.is_match o (Some (text (text_of c.in-MatchRead.known.text)))) c.in_ok-text-in-MatchRead.ensures.value ∙ sym (ap (λ l. is_true (base_of c.args.ground.now) l (here c.args.path.now c.args.value)) c.in-MatchRead.is ∙ true_match_known (base_of c.args.ground.now) (here c.args.path.now c.args.value) c.in-MatchRead.text c.in-MatchRead.known)) c.matches_known.ensures
+    IfOk-weaker c.matches_known.result _ _ (λ b e. e
+    ∙ ap (λ o. tested tests.is_match o (Some (text (text_of c.in-MatchRead.known.text))))
+    c.in_ok-text-in-MatchRead.ensures.value
+    ∙ sym (ap (λ l. is_true (base_of c.args.ground.now) l (here c.args.path.now c.args.value))
+    c.in-MatchRead.is ∙ true_match_known (base_of c.args.ground.now) (here c.args.path.now c.args.value)
+    c.in-MatchRead.text c.in-MatchRead.known)) c.matches_known.ensures
 
-pub holds-returns-in_ok-text-in-SearchRead-clause-truth : goal.holds-returns-in_ok-text-in-SearchRead-clause-truth
+pub holds-returns-in_ok-text-in-SearchRead-clause-truth
+    : goal.holds-returns-in_ok-text-in-SearchRead-clause-truth
 holds-returns-in_ok-text-in-SearchRead-clause-truth g t c =
-    IfOk-weaker c.searches_known.result _ _ (λ b e. e ∙ ap (λ o. tested tests.is_found o (Some (text (text_of c.in-SearchRead.known.text)))) c.in_ok-text-in-SearchRead.ensures.value ∙ sym (ap (λ l. is_true (base_of c.args.ground.now) l (here c.args.path.now c.args.value)) c.in-SearchRead.is ∙ true_search_known (base_of c.args.ground.now) (here c.args.path.now c.args.value) c.in-SearchRead.text c.in-SearchRead.known)) c.searches_known.ensures
+    IfOk-weaker c.searches_known.result _ _ (λ b e. e
+    ∙ ap (λ o. tested tests.is_found o (Some (text (text_of c.in-SearchRead.known.text))))
+    c.in_ok-text-in-SearchRead.ensures.value
+    ∙ sym (ap (λ l. is_true (base_of c.args.ground.now) l (here c.args.path.now c.args.value))
+    c.in-SearchRead.is ∙ true_search_known (base_of c.args.ground.now)
+    (here c.args.path.now c.args.value) c.in-SearchRead.text c.in-SearchRead.known))
+    c.searches_known.ensures
 
 pub give-returns-in-Constant-clause-value : goal.give-returns-in-Constant-clause-value
-give-returns-in-Constant-clause-value g t c = c.literal.ensures.value ∙ sym (ap (λ v. value_given (base_of c.args.ground.now) v (here c.args.path.now c.args.value)) c.in-Constant.is ∙ given_constant (base_of c.args.ground.now) (here c.args.path.now c.args.value) c.in-Constant.constant)
+give-returns-in-Constant-clause-value g t c = c.literal.ensures.value
+    ∙ sym (ap (λ v. value_given (base_of c.args.ground.now) v (here c.args.path.now c.args.value))
+    c.in-Constant.is ∙ given_constant (base_of c.args.ground.now) (here c.args.path.now c.args.value)
+    c.in-Constant.constant)
 
 pub give-returns-in_ok-count-in-Count-clause-value : goal.give-returns-in_ok-count-in-Count-clause-value
-give-returns-in_ok-count-in-Count-clause-value g t c = c.count_operand.ensures.value ∙ ap (λ k. Some (number_value k)) c.in_ok-count-in-Count.ensures.value ∙ sym (ap (λ v. value_given (base_of c.args.ground.now) v (here c.args.path.now c.args.value)) c.in-Count.is ∙ given_count (base_of c.args.ground.now) (here c.args.path.now c.args.value) c.in-Count.nodes)
+give-returns-in_ok-count-in-Count-clause-value g t c = c.count_operand.ensures.value
+    ∙ ap (λ k. Some (number_value k)) c.in_ok-count-in-Count.ensures.value
+    ∙ sym (ap (λ v. value_given (base_of c.args.ground.now) v (here c.args.path.now c.args.value))
+    c.in-Count.is ∙ given_count (base_of c.args.ground.now) (here c.args.path.now c.args.value)
+    c.in-Count.nodes)
 
 pub give-returns-in_ok-first-in-Single-clause-value : goal.give-returns-in_ok-first-in-Single-clause-value
-give-returns-in_ok-first-in-Single-clause-value g t c = c.operand.ensures.value ∙ c.in_ok-first-in-Single.ensures.value ∙ sym (ap (λ v. value_given (base_of c.args.ground.now) v (here c.args.path.now c.args.value)) c.in-Single.is ∙ given_single (base_of c.args.ground.now) (here c.args.path.now c.args.value) c.in-Single.nodes)
+give-returns-in_ok-first-in-Single-clause-value g t c = c.operand.ensures.value
+    ∙ c.in_ok-first-in-Single.ensures.value
+    ∙ sym (ap (λ v. value_given (base_of c.args.ground.now) v (here c.args.path.now c.args.value))
+    c.in-Single.is ∙ given_single (base_of c.args.ground.now) (here c.args.path.now c.args.value)
+    c.in-Single.nodes)
 
 pub give-returns-in_ok-give-in-Length-clause-value : goal.give-returns-in_ok-give-in-Length-clause-value
-give-returns-in_ok-give-in-Length-clause-value g t c = c.length.ensures.value ∙ ap length_value (c.in_ok-give-in-Length.ensures.value ∙ ap (λ v. value_given (base_of c.args.ground.now) v (here c.args.path.now c.args.value)) c.deref.ensures) ∙ sym (ap (λ v. value_given (base_of c.args.ground.now) v (here c.args.path.now c.args.value)) c.in-Length.is ∙ given_length (base_of c.args.ground.now) (here c.args.path.now c.args.value) c.in-Length.of)
+give-returns-in_ok-give-in-Length-clause-value g t c = c.length.ensures.value
+    ∙ ap length_value (c.in_ok-give-in-Length.ensures.value
+    ∙ ap (λ v. value_given (base_of c.args.ground.now) v (here c.args.path.now c.args.value))
+    c.deref.ensures) ∙ sym
+    (ap (λ v. value_given (base_of c.args.ground.now) v (here c.args.path.now c.args.value))
+    c.in-Length.is ∙ given_length (base_of c.args.ground.now) (here c.args.path.now c.args.value)
+    c.in-Length.of)
 
 pub give-returns-in_ok-only-in-Only-clause-value : goal.give-returns-in_ok-only-in-Only-clause-value
-give-returns-in_ok-only-in-Only-clause-value g t c = c.only_operand.ensures.value ∙ c.in_ok-only-in-Only.ensures.value ∙ sym (ap (λ v. value_given (base_of c.args.ground.now) v (here c.args.path.now c.args.value)) c.in-Only.is ∙ given_only (base_of c.args.ground.now) (here c.args.path.now c.args.value) c.in-Only.nodes)
+give-returns-in_ok-only-in-Only-clause-value g t c = c.only_operand.ensures.value
+    ∙ c.in_ok-only-in-Only.ensures.value
+    ∙ sym (ap (λ v. value_given (base_of c.args.ground.now) v (here c.args.path.now c.args.value))
+    c.in-Only.is ∙ given_only (base_of c.args.ground.now) (here c.args.path.now c.args.value)
+    c.in-Only.nodes)
 
 pub first-returns-in-Root-clause-value : goal.first-returns-in-Root-clause-value
 first-returns-in-Root-clause-value g t c =
-    c.first.ensures (here c.args.path.now c.args.value) ∙ ap first_value (nodes_root (base_of c.args.ground.now) (here c.args.path.now c.args.value) c.in-Root.slot want.First ∙ sym (ap (λ q. nodes_given (base_of c.args.ground.now) q want.First (here c.args.path.now c.args.value)) c.in-Root.is))
+    c.first.ensures (here c.args.path.now c.args.value)
+    ∙ ap first_value (nodes_root (base_of c.args.ground.now) (here c.args.path.now c.args.value)
+    c.in-Root.slot want.First
+    ∙ sym (ap (λ q. nodes_given (base_of c.args.ground.now) q want.First
+    (here c.args.path.now c.args.value)) c.in-Root.is))
 
 pub count-returns-in-Root-clause-value : goal.count-returns-in-Root-clause-value
 count-returns-in-Root-clause-value g t c =
-    c.count.ensures (here c.args.path.now c.args.value) ∙ ap length (nodes_root (base_of c.args.ground.now) (here c.args.path.now c.args.value) c.in-Root.slot want.Count ∙ sym (ap (λ q. nodes_given (base_of c.args.ground.now) q want.Count (here c.args.path.now c.args.value)) c.in-Root.is))
+    c.count.ensures (here c.args.path.now c.args.value)
+    ∙ ap length (nodes_root (base_of c.args.ground.now) (here c.args.path.now c.args.value)
+    c.in-Root.slot want.Count
+    ∙ sym (ap (λ q. nodes_given (base_of c.args.ground.now) q want.Count
+    (here c.args.path.now c.args.value)) c.in-Root.is))
 
 pub count-returns-in_ok-run-in-Here-clause-value : goal.count-returns-in_ok-run-in-Here-clause-value
 count-returns-in_ok-run-in-Here-clause-value g t c =
     c.count_of.ensures ∙ ap kept_count c.in_ok-run-in-Here.ensures.found ∙ counted g.V.Visit.put _
-    ∙ ap length (nodes_here (base_of c.args.ground.now) (here c.args.path.now c.args.value) c.in-Here.segments c.as_slice.result.now want.Count c.as_slice.ensures.value ∙ sym (ap (λ q. nodes_given (base_of c.args.ground.now) q want.Count (here c.args.path.now c.args.value)) c.in-Here.is))
+    ∙ ap length (nodes_here (base_of c.args.ground.now) (here c.args.path.now c.args.value)
+    c.in-Here.segments c.as_slice.result.now want.Count c.as_slice.ensures.value
+    ∙ sym (ap (λ q. nodes_given (base_of c.args.ground.now) q want.Count
+    (here c.args.path.now c.args.value)) c.in-Here.is))
 
 pub only-returns-in-Root-clause-value : goal.only-returns-in-Root-clause-value
 only-returns-in-Root-clause-value g t c =
-    c.only.ensures (here c.args.path.now c.args.value) ∙ ap only_value (nodes_root (base_of c.args.ground.now) (here c.args.path.now c.args.value) c.in-Root.slot want.Only ∙ sym (ap (λ q. nodes_given (base_of c.args.ground.now) q want.Only (here c.args.path.now c.args.value)) c.in-Root.is))
+    c.only.ensures (here c.args.path.now c.args.value)
+    ∙ ap only_value (nodes_root (base_of c.args.ground.now) (here c.args.path.now c.args.value)
+    c.in-Root.slot want.Only
+    ∙ sym (ap (λ q. nodes_given (base_of c.args.ground.now) q want.Only
+    (here c.args.path.now c.args.value)) c.in-Root.is))
 
 pub only-returns-in_ok-run-in-Here-clause-value : goal.only-returns-in_ok-run-in-Here-clause-value
 only-returns-in_ok-run-in-Here-clause-value g t c =
     c.into_alone.ensures ∙ ap kept_only c.in_ok-run-in-Here.ensures.found ∙ only_kept g.V.Visit.put _
-    ∙ ap only_value (nodes_here (base_of c.args.ground.now) (here c.args.path.now c.args.value) c.in-Here.segments c.as_slice.result.now want.Only c.as_slice.ensures.value ∙ sym (ap (λ q. nodes_given (base_of c.args.ground.now) q want.Only (here c.args.path.now c.args.value)) c.in-Here.is))
+    ∙ ap only_value (nodes_here (base_of c.args.ground.now) (here c.args.path.now c.args.value)
+    c.in-Here.segments c.as_slice.result.now want.Only c.as_slice.ensures.value
+    ∙ sym (ap (λ q. nodes_given (base_of c.args.ground.now) q want.Only
+    (here c.args.path.now c.args.value)) c.in-Here.is))

@@ -42,13 +42,16 @@ abbrev pub decreases-run : goal.decreases-run
 decreases-run g l = weight (most size-Segment l.segments.now) l.value 7
 
 abbrev pub decreases-descend : goal.decreases-descend
-decreases-descend g l = weight (max (most size-Selector l.selectors.now) (most size-Segment l.rest.now)) l.value 6
+decreases-descend g l = weight (max (most size-Selector l.selectors.now) (most size-Segment l.rest.now))
+    l.value 6
 
 abbrev pub decreases-apply : goal.decreases-apply
-decreases-apply g l = weight (max (most size-Selector l.selectors.now) (most size-Segment l.rest.now)) l.value 5
+decreases-apply g l = weight (max (most size-Selector l.selectors.now) (most size-Segment l.rest.now))
+    l.value 5
 
 abbrev pub decreases-select : goal.decreases-select
-decreases-select g l = weight (max (size-Selector l.selector.now) (most size-Segment l.rest.now)) l.value 4
+decreases-select g l = weight (max (size-Selector l.selector.now) (most size-Segment l.rest.now)) l.value
+    4
 
 abbrev pub decreases-at_place : goal.decreases-at_place
 decreases-at_place g l = weight (most size-Segment l.rest.now) l.value 2
@@ -63,7 +66,8 @@ abbrev pub decreases-each_item : goal.decreases-each_item
 decreases-each_item g l = 2000 * task_size l.task + 8 * items_depth (items_view l.items.now.items) + 9
 
 abbrev pub decreases-each_member : goal.decreases-each_member
-decreases-each_member g l = 2000 * task_size l.task + 8 * members_depth (members_view l.members.now.entries) + 9
+decreases-each_member g l = 2000 * task_size l.task + 8 * members_depth
+    (members_view l.members.now.entries) + 9
 
 abbrev pub decreases-first : goal.decreases-first
 decreases-first g l = weight (size-Nodes l.nodes.now) l.value 7
@@ -90,8 +94,10 @@ abbrev pub invariant-apply-loop-selector : goal.invariant-apply-loop-selector
 invariant-apply-loop-selector g l =
     let root = base_of l.ground in
     (l.path ≡ l.initial.path)
-    × (plus (put_found g.V.Visit.put) (kept g.V.Visit.kept l.found) (reached root l.rest (picked_by root (drop l.selector-index l.selectors) (here l.path l.value)))
-    ≡ plus (put_found g.V.Visit.put) (kept g.V.Visit.kept l.initial.found) (reached root l.rest (picked_by root l.selectors (here l.initial.path l.value))))
+    × (plus (put_found g.V.Visit.put) (kept g.V.Visit.kept l.found)
+    (reached root l.rest (picked_by root (drop l.selector-index l.selectors) (here l.path l.value)))
+    ≡ plus (put_found g.V.Visit.put) (kept g.V.Visit.kept l.initial.found)
+    (reached root l.rest (picked_by root l.selectors (here l.initial.path l.value))))
 
 abbrev pub invariant-each_place-loop-next : goal.invariant-each_place-loop-next
 invariant-each_place-loop-next g l =
@@ -100,11 +106,14 @@ invariant-each_place-loop-next g l =
     let len = item_count (part_value l.value) in
     (l.path ≡ l.initial.path)
     × IfPlace bounds l.next
-    × (plus (put_found g.V.Visit.put) (kept g.V.Visit.kept l.found) (reached root l.rest (items_at (here l.path l.value) (from_place bounds len l.next)))
-    ≡ plus (put_found g.V.Visit.put) (kept g.V.Visit.kept l.initial.found) (reached root l.rest (items_at (here l.initial.path l.value) (slice_indexes bounds len))))
+    × (plus (put_found g.V.Visit.put) (kept g.V.Visit.kept l.found)
+    (reached root l.rest (items_at (here l.path l.value) (from_place bounds len l.next)))
+    ≡ plus (put_found g.V.Visit.put) (kept g.V.Visit.kept l.initial.found)
+    (reached root l.rest (items_at (here l.initial.path l.value) (slice_indexes bounds len))))
 
 abbrev pub decreases-each_place-loop-next : goal.decreases-each_place-loop-next
-decreases-each_place-loop-next g l = length (from_place (bounds_value l.bounds) (item_count (part_value l.value)) l.next)
+decreases-each_place-loop-next g l =
+    length (from_place (bounds_value l.bounds) (item_count (part_value l.value)) l.next)
 
 abbrev pub invariant-each_item-loop-index : goal.invariant-each_item-loop-index
 invariant-each_item-loop-index g l =
@@ -112,8 +121,12 @@ invariant-each_item-loop-index g l =
     (l.path ≡ l.initial.path)
     × All IsDocumentValue (drop l.index l.items.items)
     × (items_depth (items_view (drop l.index l.items.items)) ≤ items_depth (items_view l.items.items))
-    × (plus (put_found g.V.Visit.put) (kept g.V.Visit.kept l.found) (flat_map (done root l.task) (item_nodes (link_steps l.path) l.index (items_of (items_view (drop l.index l.items.items)))))
-    ≡ plus (put_found g.V.Visit.put) (kept g.V.Visit.kept l.initial.found) (flat_map (done root l.task) (item_nodes (link_steps l.initial.path) 0 (items_of (items_view l.items.items)))))
+    × (plus (put_found g.V.Visit.put) (kept g.V.Visit.kept l.found)
+    (flat_map (done root l.task)
+    (item_nodes (link_steps l.path) l.index (items_of (items_view (drop l.index l.items.items)))))
+    ≡ plus (put_found g.V.Visit.put) (kept g.V.Visit.kept l.initial.found)
+    (flat_map (done root l.task) (item_nodes (link_steps l.initial.path) 0
+    (items_of (items_view l.items.items)))))
 
 abbrev pub invariant-each_member-loop-name : goal.invariant-each_member-loop-name
 invariant-each_member-loop-name g l =
@@ -121,17 +134,23 @@ invariant-each_member-loop-name g l =
     (l.path ≡ l.initial.path)
     × All (λ m. IsDocumentValue m.1) l.name-iterator
     × (members_depth (members_view l.name-iterator) ≤ members_depth (members_view l.members.entries))
-    × (plus (put_found g.V.Visit.put) (kept g.V.Visit.kept l.found) (flat_map (done root l.task) (member_nodes (link_steps l.path) (members_of (members_view l.name-iterator))))
-    ≡ plus (put_found g.V.Visit.put) (kept g.V.Visit.kept l.initial.found) (flat_map (done root l.task) (member_nodes (link_steps l.initial.path) (members_of (members_view l.members.entries)))))
+    × (plus (put_found g.V.Visit.put) (kept g.V.Visit.kept l.found)
+    (flat_map (done root l.task)
+    (member_nodes (link_steps l.path) (members_of (members_view l.name-iterator))))
+    ≡ plus (put_found g.V.Visit.put) (kept g.V.Visit.kept l.initial.found)
+    (flat_map (done root l.task) (member_nodes (link_steps l.initial.path)
+    (members_of (members_view l.members.entries)))))
 
 abbrev pub invariant-any-loop-part : goal.invariant-any-loop-part
 invariant-any-loop-part g l =
     (l.path ≡ l.initial.path)
-    × (list_any (λ p. is_true (base_of l.ground) p (here l.initial.path l.value)) (drop l.part-index l.parts)
+    × (list_any (λ p. is_true (base_of l.ground) p (here l.initial.path l.value))
+    (drop l.part-index l.parts)
     ≡ list_any (λ p. is_true (base_of l.ground) p (here l.initial.path l.value)) l.parts)
 
 abbrev pub invariant-all-loop-part : goal.invariant-all-loop-part
 invariant-all-loop-part g l =
     (l.path ≡ l.initial.path)
-    × (list_all (λ p. is_true (base_of l.ground) p (here l.initial.path l.value)) (drop l.part-index l.parts)
+    × (list_all (λ p. is_true (base_of l.ground) p (here l.initial.path l.value))
+    (drop l.part-index l.parts)
     ≡ list_all (λ p. is_true (base_of l.ground) p (here l.initial.path l.value)) l.parts)

@@ -12,21 +12,34 @@ pub returns-in-Some : goal.returns-in-Some
 returns-in-Some c =
     let compared = c.eq.ensures ∙ ap (λ bs. bytes_eq bs c.args.text.now) c.as_str.ensures.value in
     rw (← c.args.self.now.known, ← c.deref-known-items.ensures.value) (
-      known_contains c.deref-known-items.result.now c.loop-known.known-index c.known-item.result c.args.text.now c.eq.result c.loop-known-test.true c.known-item.is compared c.if-eq.true,
-      subst (IsRead (chars c.args.text.now)) c.in-Some.is (known_read c.known-item.result c.args.text.now c.eq.result compared c.if-eq.true),
+      known_contains c.deref-known-items.result.now c.loop-known.known-index c.known-item.result
+          c.args.text.now c.eq.result c.loop-known-test.true c.known-item.is compared c.if-eq.true,
+      subst (IsRead (chars c.args.text.now)) c.in-Some.is (known_read c.known-item.result c.args.text.now
+          c.eq.result compared c.if-eq.true),
     )
 
 pub returns-in-None : goal.returns-in-None
 returns-in-None c =
     let compared = c.eq.ensures ∙ ap (λ bs. bytes_eq bs c.args.text.now) c.as_str.ensures.value in
     rw (← c.args.self.now.known, ← c.deref-known-items.ensures.value) (
-      known_contains c.deref-known-items.result.now c.loop-known.known-index c.known-item.result c.args.text.now c.eq.result c.loop-known-test.true c.known-item.is compared c.if-eq.true,
-      subst (IsRead (chars c.args.text.now)) c.in-None.is (known_read c.known-item.result c.args.text.now c.eq.result compared c.if-eq.true),
+      known_contains c.deref-known-items.result.now c.loop-known.known-index c.known-item.result
+          c.args.text.now c.eq.result c.loop-known-test.true c.known-item.is compared c.if-eq.true,
+      subst (IsRead (chars c.args.text.now)) c.in-None.is (known_read c.known-item.result c.args.text.now
+          c.eq.result compared c.if-eq.true),
     )
 
 pub loop-known-preserved : goal.loop-known-preserved
 loop-known-preserved c =
-    below_more _ _ c.loop-known.invariant (known_is_other c.deref-known-items.result.now c.loop-known.known-index c.known-item.result c.args.text.now c.eq.result c.utf8.text c.loop-known-test.true c.known-item.is (c.eq.ensures ∙ ap (λ bs. bytes_eq bs c.args.text.now) c.as_str.ensures.value) c.if-eq.false)
+    below_more _ _ c.loop-known.invariant (known_is_other c.deref-known-items.result.now
+    c.loop-known.known-index c.known-item.result c.args.text.now c.eq.result c.utf8.text
+    c.loop-known-test.true c.known-item.is (c.eq.ensures
+    ∙ ap (λ bs. bytes_eq bs c.args.text.now) c.as_str.ensures.value) c.if-eq.false)
 
 pub returns : goal.returns
-returns c = rw (← c.args.self.now.known, ← c.deref-known-items.ensures.value) (λ found. c.loop-known.invariant found.0 (omega (arith, length-map c.deref-known-items.result.now (λ (k : KnownPattern). text_of k.text), found.1)) found.2)
+returns c = rw (← c.args.self.now.known, ← c.deref-known-items.ensures.value)
+    (λ found. c.loop-known.invariant found.0
+    (omega (
+      arith,
+      length-map c.deref-known-items.result.now (λ (k : KnownPattern). text_of k.text),
+      found.1,
+    )) found.2)

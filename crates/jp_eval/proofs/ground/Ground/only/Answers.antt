@@ -12,21 +12,24 @@ returns-in-Some-First c = λ n.
     let root = part_value c.args.self.now.root in
     let none = wanted want.Only no_segments in
     let query = get_or (roots_of c.args.self.now.roots.now) c.args.slot none in
-    only_root root query (onlys_of_first root query c.in-Some-First.field-0-0 (ap (is_answer root query) (sym c.in-Some-First.field-0-is) ∙ c.in-Some-First.ensures none))
+    only_root root query (onlys_of_first root query c.in-Some-First.field-0-0
+    (ap (is_answer root query) (sym c.in-Some-First.field-0-is) ∙ c.in-Some-First.ensures none))
 
 pub returns-in-Some-Count : goal.returns-in-Some-Count
 returns-in-Some-Count c = λ n.
     let root = part_value c.args.self.now.root in
     let none = wanted want.Only no_segments in
     let query = get_or (roots_of c.args.self.now.roots.now) c.args.slot none in
-    only_root root query (onlys_of_count root query c.in-Some-Count.field-0-0 (ap (is_answer root query) (sym c.in-Some-Count.field-0-is) ∙ c.in-Some-Count.ensures none))
+    only_root root query (onlys_of_count root query c.in-Some-Count.field-0-0
+    (ap (is_answer root query) (sym c.in-Some-Count.field-0-is) ∙ c.in-Some-Count.ensures none))
 
 pub returns-in-Some-Only : goal.returns-in-Some-Only
 returns-in-Some-Only c = λ n.
     let root = part_value c.args.self.now.root in
     let none = wanted want.Only no_segments in
     let query = get_or (roots_of c.args.self.now.roots.now) c.args.slot none in
-    onlys root query c.in-Some-Only.alone (ap (is_answer root query) (sym c.in-Some-Only.field-0-is) ∙ c.in-Some-Only.ensures none)
+    onlys root query c.in-Some-Only.alone (ap (is_answer root query) (sym c.in-Some-Only.field-0-is)
+    ∙ c.in-Some-Only.ensures none)
 
 pub returns-in-None : goal.returns-in-None
 returns-in-None c = λ n.

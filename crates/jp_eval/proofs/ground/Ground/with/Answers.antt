@@ -11,6 +11,8 @@ invariant_of-result c =
     let before = c.args.self.roots.now in
     let query = c.args.query.now in
     record {
-      answered = ap₂ (are_answers (part_value c.args.self.root)) (ap roots_of c.requires.roots ∙ listed_more [] before query) c.in_ok-push.ensures.items
-          ∙ one_more (part_value c.args.self.root) (roots_of before) c.args.self.answers.items (wanted_in (roots_of before) query) c.args.answer c.args.self.answered c.requires.answer;
+      answered = ap₂ (are_answers (part_value c.args.self.root)) (ap roots_of c.requires.roots
+          ∙ listed_more [] before query) c.in_ok-push.ensures.items
+          ∙ one_more (part_value c.args.self.root) (roots_of before) c.args.self.answers.items
+          (wanted_in (roots_of before) query) c.args.answer c.args.self.answered c.requires.answer;
     }

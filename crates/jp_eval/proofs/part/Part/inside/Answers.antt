@@ -1,30 +1,40 @@
 use Rattle.std.proofs.Common.{ap, arith}
 use Rattle.jp_eval.specs.Nodes.{children_at}
-use Rattle.jp_eval.proofs.Inside.{array_depth, array_is_short, array_parts, array_value, object_depth, object_parts, object_value, null_value, bool_value, number_value, string_value}
+use Rattle.jp_eval.proofs.Inside.{array_depth, array_is_short, array_parts, array_value, object_depth}
+use Rattle.jp_eval.proofs.Inside.{object_parts, object_value, null_value, bool_value, number_value}
+use Rattle.jp_eval.proofs.Inside.{string_value}
 use Rattle.jp_eval.proofs.part.Part.inside.Goals as goal
 
 pub returns-in-Array : goal.returns-in-Array
 returns-in-Array c = record {
   children = λ at. ap (children_at at) (array_value c.args.self.value.now c.in-Array.items c.in-Array.is);
-  parts = (array_parts c.args.self.value.now c.in-Array.items c.in-Array.is c.args.self.kept, array_is_short c.args.self.value.now c.in-Array.items c.in-Array.is c.args.self.kept);
+  parts = (
+    array_parts c.args.self.value.now c.in-Array.items c.in-Array.is c.args.self.kept,
+    array_is_short c.args.self.value.now c.in-Array.items c.in-Array.is c.args.self.kept,
+  );
   below = omega (arith, array_depth c.args.self.value.now c.in-Array.items c.in-Array.is);
 }
 
 pub returns-in-Object : goal.returns-in-Object
 returns-in-Object c = record {
-  children = λ at. ap (children_at at) (object_value c.args.self.value.now c.in-Object.members c.in-Object.is);
+  children = λ at. ap (children_at at) (object_value c.args.self.value.now c.in-Object.members
+      c.in-Object.is);
   parts = object_parts c.args.self.value.now c.in-Object.members c.in-Object.is c.args.self.kept;
   below = omega (arith, object_depth c.args.self.value.now c.in-Object.members c.in-Object.is);
 }
 
 pub returns-in-Null-clause-children : goal.returns-in-Null-clause-children
-returns-in-Null-clause-children c = λ at. ap (children_at at) (null_value c.args.self.value.now c.in-Null.is)
+returns-in-Null-clause-children c =
+    λ at. ap (children_at at) (null_value c.args.self.value.now c.in-Null.is)
 
 pub returns-in-Bool-clause-children : goal.returns-in-Bool-clause-children
-returns-in-Bool-clause-children c = λ at. ap (children_at at) (bool_value c.args.self.value.now _ c.in-Bool.is)
+returns-in-Bool-clause-children c =
+    λ at. ap (children_at at) (bool_value c.args.self.value.now _ c.in-Bool.is)
 
 pub returns-in-Number-clause-children : goal.returns-in-Number-clause-children
-returns-in-Number-clause-children c = λ at. ap (children_at at) (number_value c.args.self.value.now _ c.in-Number.is)
+returns-in-Number-clause-children c =
+    λ at. ap (children_at at) (number_value c.args.self.value.now _ c.in-Number.is)
 
 pub returns-in-String-clause-children : goal.returns-in-String-clause-children
-returns-in-String-clause-children c = λ at. ap (children_at at) (string_value c.args.self.value.now _ c.in-String.is)
+returns-in-String-clause-children c =
+    λ at. ap (children_at at) (string_value c.args.self.value.now _ c.in-String.is)

@@ -11,17 +11,23 @@ use Rattle.jp_eval.proofs.part.Part.item.Goals as goal
 pub returns-in_err-value-clause-value : goal.returns-in_err-value-clause-value
 returns-in_err-value-clause-value c =
     let v = c.args.self.value.now in
-    ap (option_map part_value) c.from_residual.ensures ∙ sym (ap (option_map (λ w. value_of w.now)) c.in_err-value.was) ∙ index_leads c.get.result v c.args.place c.get.ensures
+    ap (option_map part_value) c.from_residual.ensures
+    ∙ sym (ap (option_map (λ w. value_of w.now)) c.in_err-value.was)
+    ∙ index_leads c.get.result v c.args.place c.get.ensures
 
 pub invariant_of-result : goal.invariant_of-result
 invariant_of-result c = record {
-  kept = of_found IsDocumentValue c.get.result c.in_ok-value.value c.in_ok-value.was (index_keeps c.get.result c.args.self.value.now c.args.place c.get.ensures c.args.self.kept);
+  kept = of_found IsDocumentValue c.get.result c.in_ok-value.value c.in_ok-value.was
+      (index_keeps c.get.result c.args.self.value.now c.args.place c.get.ensures c.args.self.kept);
 }
 
 pub returns-clause-value : goal.returns-clause-value
 returns-clause-value c =
     let v = c.args.self.value.now in
-    sym (ap (option_map (λ w. value_of w.now)) c.in_ok-value.was) ∙ index_leads c.get.result v c.args.place c.get.ensures
+    sym (ap (option_map (λ w. value_of w.now)) c.in_ok-value.was)
+    ∙ index_leads c.get.result v c.args.place c.get.ensures
 
 pub returns-clause-below : goal.returns-clause-below
-returns-clause-below c = of_found (λ w. depth (view w) < depth (view c.args.self.value.now)) c.get.result c.in_ok-value.value c.in_ok-value.was (item_is_below c.get.result c.args.self.value.now c.args.place c.get.ensures)
+returns-clause-below c = of_found (λ w. depth (view w) < depth (view c.args.self.value.now)) c.get.result
+    c.in_ok-value.value c.in_ok-value.was (item_is_below c.get.result c.args.self.value.now c.args.place
+    c.get.ensures)

@@ -5,14 +5,18 @@ use Rattle.jp_eval.proofs.part.Part.item_count.Goals as goal
 
 pub overflow_cast-result : goal.overflow_cast-result
 overflow_cast-result c =
-    let short : length c.in-Array.items.items ≤ 16777216 = array_is_short c.args.self.value.now c.in-Array.items c.in-Array.is c.args.self.kept in
+    let short : length c.in-Array.items.items ≤ 16777216 = array_is_short c.args.self.value.now
+    c.in-Array.items c.in-Array.is c.args.self.kept in
     omega (arith, c.in-Array.items.ok.0)
 
 pub returns-in-Array-clause-count : goal.returns-in-Array-clause-count
 returns-in-Array-clause-count c =
-    c.len.ensures ∙ c.in-Array.items.ok.0 ∙ sym (ap item_count (array_value c.args.self.value.now c.in-Array.items c.in-Array.is) ∙ item_list_length c.in-Array.items.items)
+    c.len.ensures ∙ c.in-Array.items.ok.0
+    ∙ sym (ap item_count (array_value c.args.self.value.now c.in-Array.items c.in-Array.is)
+    ∙ item_list_length c.in-Array.items.items)
 
 pub returns-in-Array-clause-short : goal.returns-in-Array-clause-short
 returns-in-Array-clause-short c =
-    let short : length c.in-Array.items.items ≤ 16777216 = array_is_short c.args.self.value.now c.in-Array.items c.in-Array.is c.args.self.kept in
+    let short : length c.in-Array.items.items ≤ 16777216 = array_is_short c.args.self.value.now
+    c.in-Array.items c.in-Array.is c.args.self.kept in
     omega (arith, c.in-Array.items.ok.0)
