@@ -1,4 +1,5 @@
--- Objects whose names rise are the same exactly where each name has equal values in both, or no value in either.
+-- Objects whose names rise are the same exactly where each name has equal values in both, or no value in
+-- either.
 use Rattle.std.proofs.Common.{◌≡◌, ◌⊎◌, inl, inr, Bool, true, false, cond, Option, Some, None, refl, sym}
 use Rattle.std.proofs.Common.{subst, Less, ◌∙◌, ap}
 use Rattle.std.proofs.lemmas.Cmp.{nat_list_cmp_total}

@@ -1,5 +1,6 @@
 -- A counted repetition, copy by copy.
-use Rattle.std.proofs.Common.{◌≡◌, ℕ, zero, suc, ◌+◌, ◌-◌, ◌*◌, ◌≤◌, ◌<◌, Bool, true, false, ◌++◌, ◌&&◌, ◌||◌, nat_le, refl, ap, ap₂, ◌∙◌, subst, arith, add-mul}
+use Rattle.std.proofs.Common.{◌≡◌, ℕ, zero, suc, ◌+◌, ◌-◌, ◌*◌, ◌≤◌, ◌<◌, Bool, true, false, ◌++◌, ◌&&◌, ◌||◌}
+use Rattle.std.proofs.Common.{nat_le, refl, ap, ap₂, ◌∙◌, subst, arith, add-mul}
 use Rattle.std.proofs.lemmas.Bool.{le-leb, lt-leb}
 use Rattle.jp_regexp.specs.Unrolled.{Unrolled, counted, counted_on, letters}
 use Rattle.jp_regexp.specs.Walk.{leaves, advance, Dead}
@@ -7,26 +8,32 @@ use Rattle.jp_regexp.proofs.SkipLemmas.{dead_leaves, dead_advance}
 use Rattle.jp_regexp.proofs.UnrolledLemmas.{letters-counted, letters-counted_on}
 
 module _ (a : Unrolled) (least i : ℕ) where
-  size_at : (l m k : ℕ) → l ≡ least - i → k ≡ least - (i + 1) → letters (counted l (suc m) a) ≡ letters a + letters (counted k m a)
+  size_at : (l m k : ℕ) → l ≡ least - i → k ≡ least - (i + 1) → letters (counted l (suc m) a)
+      ≡ letters a + letters (counted k m a)
   size_at zero m k e f = let g : k ≡ 0 = omega arith in rw g refl
   size_at (suc l) m k e f = let g : k ≡ l = omega arith in rw g refl
 
   pub counted-letters : (most : ℕ) → i < most →
-      letters (counted (least - i) (most - i) a) ≡ letters a + letters (counted (least - (i + 1)) (most - (i + 1)) a)
+      letters (counted (least - i) (most - i) a)
+      ≡ letters a + letters (counted (least - (i + 1)) (most - (i + 1)) a)
   counted-letters most lt =
       let e : most - i ≡ suc (most - (i + 1)) = omega arith in
       rw e (size_at (least - i) (most - (i + 1)) (least - (i + 1)) refl refl)
 
-  open_size_at : (l k : ℕ) → l ≡ least - i → k ≡ least - (i + 1) → i < least → letters (counted_on l a) ≡ letters a + letters (counted_on k a)
+  open_size_at : (l k : ℕ) → l ≡ least - i → k ≡ least - (i + 1) → i < least → letters (counted_on l a)
+      ≡ letters a + letters (counted_on k a)
   open_size_at zero k e f lt = absurd (omega arith)
   open_size_at (suc l) k e f lt = let g : k ≡ l = omega arith in rw g refl
 
-  pub open-letters : i < least → letters (counted_on (least - i) a) ≡ letters a + letters (counted_on (least - (i + 1)) a)
+  pub open-letters : i < least → letters (counted_on (least - i) a)
+      ≡ letters a + letters (counted_on (least - (i + 1)) a)
   open-letters lt = open_size_at (least - i) (least - (i + 1)) refl refl lt
 
   module _ (live : ℕ → Bool) (off : ℕ) (entered : Bool) where
-    leaves_at : (l m k : ℕ) → l ≡ least - i → k ≡ least - (i + 1) → leaves live (counted l (suc m) a) off entered
-        ≡ ((nat_le least i && entered) || leaves live (counted k m a) (off + letters a) (leaves live a off entered))
+    leaves_at : (l m k : ℕ) → l ≡ least - i → k ≡ least - (i + 1)
+        → leaves live (counted l (suc m) a) off entered
+        ≡ ((nat_le least i && entered) || leaves live (counted k m a) (off + letters a)
+        (leaves live a off entered))
     leaves_at zero m k e f =
         let g : k ≡ 0 = omega arith in
         let h : nat_le least i ≡ true = le-leb least i (omega arith) in
@@ -37,39 +44,48 @@ module _ (a : Unrolled) (least i : ℕ) where
         rw (g, h) refl
 
     pub counted-leaves : (most : ℕ) → i < most → leaves live (counted (least - i) (most - i) a) off entered
-        ≡ ((nat_le least i && entered) || leaves live (counted (least - (i + 1)) (most - (i + 1)) a) (off + letters a) (leaves live a off entered))
+        ≡ ((nat_le least i && entered) || leaves live (counted (least - (i + 1)) (most - (i + 1)) a)
+        (off + letters a) (leaves live a off entered))
     counted-leaves most lt =
         let e : most - i ≡ suc (most - (i + 1)) = omega arith in
         rw e (leaves_at (least - i) (most - (i + 1)) (least - (i + 1)) refl refl)
 
     open_leaves_at : (l k : ℕ) → l ≡ least - i → k ≡ least - (i + 1) → i < least →
-        leaves live (counted_on l a) off entered ≡ leaves live (counted_on k a) (off + letters a) (leaves live a off entered)
+        leaves live (counted_on l a) off entered ≡ leaves live (counted_on k a) (off + letters a)
+        (leaves live a off entered)
     open_leaves_at zero k e f lt = absurd (omega arith)
     open_leaves_at (suc l) k e f lt = let g : k ≡ l = omega arith in rw g refl
 
     pub open-leaves : i < least →
-        leaves live (counted_on (least - i) a) off entered ≡ leaves live (counted_on (least - (i + 1)) a) (off + letters a) (leaves live a off entered)
+        leaves live (counted_on (least - i) a) off entered ≡ leaves live (counted_on (least - (i + 1)) a)
+        (off + letters a) (leaves live a off entered)
     open-leaves lt = open_leaves_at (least - i) (least - (i + 1)) refl refl lt
 
 module _ (a : Unrolled) (least i : ℕ) (live : ℕ → Bool) (c off : ℕ) (entered : Bool) where
-  advance_at : (l m k : ℕ) → l ≡ least - i → k ≡ least - (i + 1) → advance live c (counted l (suc m) a) off entered
-      ≡ advance live c a off entered ++ advance live c (counted k m a) (off + letters a) (leaves live a off entered)
+  advance_at : (l m k : ℕ) → l ≡ least - i → k ≡ least - (i + 1)
+      → advance live c (counted l (suc m) a) off entered
+      ≡ advance live c a off entered ++ advance live c (counted k m a) (off + letters a)
+      (leaves live a off entered)
   advance_at zero m k e f = let g : k ≡ 0 = omega arith in rw g refl
   advance_at (suc l) m k e f = let g : k ≡ l = omega arith in rw g refl
 
   pub counted-advance : (most : ℕ) → i < most → advance live c (counted (least - i) (most - i) a) off entered
-      ≡ advance live c a off entered ++ advance live c (counted (least - (i + 1)) (most - (i + 1)) a) (off + letters a) (leaves live a off entered)
+      ≡ advance live c a off entered ++ advance live c (counted (least - (i + 1)) (most - (i + 1)) a)
+      (off + letters a) (leaves live a off entered)
   counted-advance most lt =
       let e : most - i ≡ suc (most - (i + 1)) = omega arith in
       rw e (advance_at (least - i) (most - (i + 1)) (least - (i + 1)) refl refl)
 
-  open_advance_at : (l k : ℕ) → l ≡ least - i → k ≡ least - (i + 1) → i < least → advance live c (counted_on l a) off entered
-      ≡ advance live c a off entered ++ advance live c (counted_on k a) (off + letters a) (leaves live a off entered)
+  open_advance_at : (l k : ℕ) → l ≡ least - i → k ≡ least - (i + 1) → i < least
+      → advance live c (counted_on l a) off entered
+      ≡ advance live c a off entered ++ advance live c (counted_on k a) (off + letters a)
+      (leaves live a off entered)
   open_advance_at zero k e f lt = absurd (omega arith)
   open_advance_at (suc l) k e f lt = let g : k ≡ l = omega arith in rw g refl
 
   pub open-advance : i < least → advance live c (counted_on (least - i) a) off entered
-      ≡ advance live c a off entered ++ advance live c (counted_on (least - (i + 1)) a) (off + letters a) (leaves live a off entered)
+      ≡ advance live c a off entered ++ advance live c (counted_on (least - (i + 1)) a) (off + letters a)
+      (leaves live a off entered)
   open-advance lt = open_advance_at (least - i) (least - (i + 1)) refl refl lt
 
 -- ---- copies that are neither entered nor live
@@ -89,14 +105,17 @@ module _ (live : ℕ → Bool) (a : Unrolled) where
 
   one_skipped : (l m off : ℕ) → Dead live off (letters a) →
       leaves live (counted l (suc m) a) off false ≡ leaves live (counted (l - 1) m a) (off + letters a) false
-  one_skipped zero m off h = ap (λ e. leaves live (counted zero m a) (off + letters a) e) (dead_leaves live a off h)
+  one_skipped zero m off h = ap (λ e. leaves live (counted zero m a) (off + letters a) e)
+      (dead_leaves live a off h)
   one_skipped (suc l) m off h =
       let less : l ≡ suc l - 1 = omega arith in
-      subst (λ n. leaves live (counted (suc l) (suc m) a) off false ≡ leaves live (counted n m a) (off + letters a) false) less
+      subst (λ n. leaves live (counted (suc l) (suc m) a) off false ≡ leaves live (counted n m a)
+      (off + letters a) false) less
       (ap (λ e. leaves live (counted l m a) (off + letters a) e) (dead_leaves live a off h))
 
   pub skipped : (n l m off : ℕ) → n ≤ m → Dead live off (n * letters a) →
-      leaves live (counted l m a) off false ≡ leaves live (counted (l - n) (m - n) a) (off + n * letters a) false
+      leaves live (counted l m a) off false ≡ leaves live (counted (l - n) (m - n) a) (off + n * letters a)
+      false
   skipped zero l m off le h =
       let e : off + 0 * letters a ≡ off = omega arith in
       let f : l - 0 ≡ l = omega arith in
@@ -126,16 +145,21 @@ module _ (live : ℕ → Bool) (a : Unrolled) where
 
   module _ (c : ℕ) where
     one_unread : (l m off : ℕ) → Dead live off (letters a) →
-        advance live c (counted l (suc m) a) off false ≡ advance live c (counted (l - 1) m a) (off + letters a) false
+        advance live c (counted l (suc m) a) off false ≡ advance live c (counted (l - 1) m a)
+        (off + letters a) false
     one_unread zero m off h =
-        ap₂ (λ x y. x ++ y) (dead_advance live c a off h) (ap (λ e. advance live c (counted zero m a) (off + letters a) e) (dead_leaves live a off h))
+        ap₂ (λ x y. x ++ y) (dead_advance live c a off h)
+        (ap (λ e. advance live c (counted zero m a) (off + letters a) e) (dead_leaves live a off h))
     one_unread (suc l) m off h =
         let less : l ≡ suc l - 1 = omega arith in
-        subst (λ n. advance live c (counted (suc l) (suc m) a) off false ≡ advance live c (counted n m a) (off + letters a) false) less
-        (ap₂ (λ x y. x ++ y) (dead_advance live c a off h) (ap (λ e. advance live c (counted l m a) (off + letters a) e) (dead_leaves live a off h)))
+        subst (λ n. advance live c (counted (suc l) (suc m) a) off false ≡ advance live c (counted n m a)
+        (off + letters a) false) less
+        (ap₂ (λ x y. x ++ y) (dead_advance live c a off h)
+        (ap (λ e. advance live c (counted l m a) (off + letters a) e) (dead_leaves live a off h)))
 
     pub unread : (n l m off : ℕ) → n ≤ m → Dead live off (n * letters a) →
-        advance live c (counted l m a) off false ≡ advance live c (counted (l - n) (m - n) a) (off + n * letters a) false
+        advance live c (counted l m a) off false ≡ advance live c (counted (l - n) (m - n) a)
+        (off + n * letters a) false
     unread zero l m off le h =
         let e : off + 0 * letters a ≡ off = omega arith in
         let f : l - 0 ≡ l = omega arith in
@@ -151,7 +175,8 @@ module _ (live : ℕ → Bool) (a : Unrolled) where
         ∙ ap (λ x. advance live c (counted (l - suc n) (suc m - suc n) a) x false) (further n off)
 
     pub unread_on : (n l off : ℕ) → n ≤ l → Dead live off (n * letters a) →
-        advance live c (counted_on l a) off false ≡ advance live c (counted_on (l - n) a) (off + n * letters a) false
+        advance live c (counted_on l a) off false ≡ advance live c (counted_on (l - n) a)
+        (off + n * letters a) false
     unread_on zero l off le h =
         let e : off + 0 * letters a ≡ off = omega arith in
         let f : l - 0 ≡ l = omega arith in
@@ -160,7 +185,8 @@ module _ (live : ℕ → Bool) (a : Unrolled) where
     unread_on (suc n) (suc l) off le h =
         let f : l - n ≡ suc l - suc n = omega arith in
         ap₂ (λ x y. x ++ y) (dead_advance live c a off (front n off h))
-        (ap (λ e. advance live c (counted_on l a) (off + letters a) e) (dead_leaves live a off (front n off h)))
+        (ap (λ e. advance live c (counted_on l a) (off + letters a) e)
+        (dead_leaves live a off (front n off h)))
         ∙ unread_on n l (off + letters a) (omega arith) (back n off h)
         ∙ ap₂ (λ x y. advance live c (counted_on x a) y false) f (further n off)
 
@@ -171,8 +197,10 @@ pub letters-skipped : (a : Unrolled) (n l m past : ℕ) → n ≤ m →
 letters-skipped a n l m past le =
     let e : m ≡ n + (m - n) = omega arith in
     let all : letters (counted l m a) ≡ m * letters a = letters-counted a l m in
-    let rest : letters (counted (l - n) (m - n) a) ≡ (m - n) * letters a = letters-counted a (l - n) (m - n) in
-    let sum : m * letters a ≡ n * letters a + (m - n) * letters a = ap (λ x. x * letters a) e ∙ add-mul n (m - n) (letters a) in
+    let rest : letters (counted (l - n) (m - n) a) ≡ (m - n) * letters a =
+    letters-counted a (l - n) (m - n) in
+    let sum : m * letters a ≡ n * letters a + (m - n) * letters a = ap (λ x. x * letters a) e
+    ∙ add-mul n (m - n) (letters a) in
     omega (arith, all, rest, sum)
 
 pub letters-skipped_on : (a : Unrolled) (n l past : ℕ) → n ≤ l →
@@ -181,5 +209,6 @@ letters-skipped_on a n l past le =
     let e : l + 1 ≡ n + (l - n + 1) = omega arith in
     let all : letters (counted_on l a) ≡ (l + 1) * letters a = letters-counted_on a l in
     let rest : letters (counted_on (l - n) a) ≡ (l - n + 1) * letters a = letters-counted_on a (l - n) in
-    let sum : (l + 1) * letters a ≡ n * letters a + (l - n + 1) * letters a = ap (λ x. x * letters a) e ∙ add-mul n (l - n + 1) (letters a) in
+    let sum : (l + 1) * letters a ≡ n * letters a + (l - n + 1) * letters a = ap (λ x. x * letters a) e
+    ∙ add-mul n (l - n + 1) (letters a) in
     omega (arith, all, rest, sum)

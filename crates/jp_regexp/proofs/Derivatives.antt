@@ -1,11 +1,16 @@
--- Membership is decided by derivatives: what is left of a language once a character is read is the language of a pattern.
-use Rattle.std.proofs.Common.{◌≡◌, ℕ, zero, suc, ◌-◌, ◌≤◌, ◌⊎◌, ◌↔◌, Bool, true, false, ◌&&◌, ◌||◌, nat_le, nat_eq, IsTrue, List, [], ◌∷◌, length, Option, Some, None, refl, sym, ap, subst, inl, inr, ⊎_elim, arith, true≢false}
+-- Membership is decided by derivatives: what is left of a language once a character is read is the language
+-- of a pattern.
+use Rattle.std.proofs.Common.{◌≡◌, ℕ, zero, suc, ◌-◌, ◌≤◌, ◌⊎◌, ◌↔◌, Bool, true, false, ◌&&◌, ◌||◌, nat_le}
+use Rattle.std.proofs.Common.{nat_eq, IsTrue, List, [], ◌∷◌, length, Option, Some, None, refl, sym, ap, subst}
+use Rattle.std.proofs.Common.{inl, inr, ⊎_elim, arith, true≢false}
 use Rattle.std.specs.List.{concat, AllByRecursion}
-use Rattle.std.proofs.lemmas.Bool.{and_parts, and_from, or_cases, or_left, or_right, leb-true, le-leb, eqb-true, eq-eqb}
+use Rattle.std.proofs.lemmas.Bool.{and_parts, and_from, or_cases, or_left, or_right, leb-true, le-leb}
+use Rattle.std.proofs.lemmas.Bool.{eqb-true, eq-eqb}
 use Rattle.jp_regexp.specs.Pattern.{Text, CharSet, Pattern, empty, letter, group, seq, either, repeat, plus}
 use Rattle.jp_regexp.specs.CharSets.{is_scalar, in_set}
 use Rattle.jp_regexp.specs.Language.{AtMost, Then, Member}
-use Rattle.jp_regexp.proofs.PartLemmas.{then_read, read_then, empty_then, then_empty, repeated_read, read_repeated, repeated_read_on, read_repeated_on, repeated_none}
+use Rattle.jp_regexp.proofs.PartLemmas.{then_read, read_then, empty_then, then_empty, repeated_read}
+use Rattle.jp_regexp.proofs.PartLemmas.{read_repeated, repeated_read_on, read_repeated_on, repeated_none}
 
 abbrev at_most : Option ℕ → ℕ → Bool
 at_most None n = true
@@ -60,7 +65,8 @@ none_in_never t (c, e, h) = true≢false (sym (and_parts (is_scalar c) false h).
 
 -- ---- the empty text
 
-empties : (X : Text → Type 0) → X [] → (n : ℕ) → (parts : List Text) × AllByRecursion X parts × (length parts ≡ n) × ([] ≡ concat parts)
+empties : (X : Text → Type 0) → X [] → (n : ℕ) → (parts : List Text) × AllByRecursion X parts
+    × (length parts ≡ n) × ([] ≡ concat parts)
 empties X x zero = ([], tt, refl, refl)
 empties X x (suc n) = let r = empties X x n in ([] ∷ r.0, (x, r.1), ap suc r.2, r.3)
 
@@ -84,7 +90,8 @@ nullable_sound (seq p q) e =
     let both = and_parts (nullable p) (nullable q) e in
     ([], [], refl, nullable_sound p both.0, nullable_sound q both.1)
 nullable_sound (either p q) e =
-    ⊎_elim (λ h. inl (nullable_sound p h)) (λ h. inr (nullable_sound q h)) (or_cases (nullable p) (nullable q) e)
+    ⊎_elim (λ h. inl (nullable_sound p h)) (λ h. inr (nullable_sound q h))
+    (or_cases (nullable p) (nullable q) e)
 nullable_sound (repeat least most p) e =
     let both = and_parts _ _ e in
     let high : AtMost most least = at_most_is most least both.0 in
@@ -95,7 +102,8 @@ nullable_sound (repeat least most p) e =
     (or_cases _ (nullable p) both.1)
 nullable_sound (plus p) e = ([] ∷ [], (nullable_sound p e, tt), omega arith, tt, refl)
 
-first_empty : (X : Text → Type 0) (least : ℕ) (parts : List Text) → AllByRecursion X parts → least ≤ length parts → [] ≡ concat parts →
+first_empty : (X : Text → Type 0) (least : ℕ) (parts : List Text) → AllByRecursion X parts
+    → least ≤ length parts → [] ≡ concat parts →
     (least ≡ 0) ⊎ X []
 first_empty X least [] all low e = inl (omega arith)
 first_empty X least ([] ∷ parts) all low e = inr all.0
@@ -127,11 +135,13 @@ empty_if_whole : (b : Bool) (v : Text) → IsTrue b → v ≡ [] → Member (emp
 empty_if_whole true v h e = e
 empty_if_whole false v h e = absurd (true≢false (sym h))
 
-either_if_sound : (b : Bool) (q p : Pattern) (v : Text) → Member (either_if b q p) v → Member p v ⊎ (IsTrue b × Member q v)
+either_if_sound : (b : Bool) (q p : Pattern) (v : Text) → Member (either_if b q p) v → Member p v
+    ⊎ (IsTrue b × Member q v)
 either_if_sound true q p v m = ⊎_elim (λ h. inl h) (λ h. inr (refl, h)) m
 either_if_sound false q p v m = inl m
 
-either_if_whole : (b : Bool) (q p : Pattern) (v : Text) → Member p v ⊎ (IsTrue b × Member q v) → Member (either_if b q p) v
+either_if_whole : (b : Bool) (q p : Pattern) (v : Text) → Member p v ⊎ (IsTrue b × Member q v)
+    → Member (either_if b q p) v
 either_if_whole true q p v m = ⊎_elim (λ h. inl h) (λ h. inr h.1) m
 either_if_whole false q p v m = ⊎_elim (λ h. h) (λ h. absurd (true≢false (sym h.0))) m
 
@@ -145,13 +155,15 @@ derivative_sound (seq p q) c v m =
     (λ h. read_then (Member p) (Member q) c v (then_map _ _ _ v (λ u. derivative_sound p c u) h))
     (λ h. empty_then (Member p) (Member q) (c ∷ v) (nullable_sound p h.0) (derivative_sound q c v h.1))
     (either_if_sound (nullable p) (derivative q c) (seq (derivative p c) q) v m)
-derivative_sound (either p q) c v m = ⊎_elim (λ h. inl (derivative_sound p c v h)) (λ h. inr (derivative_sound q c v h)) m
+derivative_sound (either p q) c v m = ⊎_elim (λ h. inl (derivative_sound p c v h))
+    (λ h. inr (derivative_sound q c v h)) m
 derivative_sound (repeat least None p) c v m =
     read_repeated_on (Member p) c v least (then_map _ _ _ v (λ u. derivative_sound p c u) m)
 derivative_sound (repeat least (Some zero) p) c v m = absurd (none_in_never v m)
 derivative_sound (repeat least (Some (suc most)) p) c v m =
     read_repeated (Member p) c v least most (then_map _ _ _ v (λ u. derivative_sound p c u) m)
-derivative_sound (plus p) c v m = read_repeated_on (Member p) c v 1 (then_map _ _ _ v (λ u. derivative_sound p c u) m)
+derivative_sound (plus p) c v m =
+    read_repeated_on (Member p) c v 1 (then_map _ _ _ v (λ u. derivative_sound p c u) m)
 
 derivative_whole : (p : Pattern) (c : ℕ) (v : Text) → Member p (c ∷ v) → Member (derivative p c) v
 derivative_whole empty c v m = absurd cc
@@ -166,13 +178,15 @@ derivative_whole (seq p q) c v m =
     (λ h. inl (then_map _ _ _ v (λ u. derivative_whole p c u) h))
     (λ h. inr (nullable_whole p h.0, derivative_whole q c v h.1))
     (then_read (Member p) (Member q) c v m))
-derivative_whole (either p q) c v m = ⊎_elim (λ h. inl (derivative_whole p c v h)) (λ h. inr (derivative_whole q c v h)) m
+derivative_whole (either p q) c v m = ⊎_elim (λ h. inl (derivative_whole p c v h))
+    (λ h. inr (derivative_whole q c v h)) m
 derivative_whole (repeat least None p) c v m =
     then_map _ _ _ v (λ u. derivative_whole p c u) (repeated_read_on (Member p) c v least m)
 derivative_whole (repeat least (Some zero) p) c v m = absurd (repeated_none (Member p) c v least m)
 derivative_whole (repeat least (Some (suc most)) p) c v m =
     then_map _ _ _ v (λ u. derivative_whole p c u) (repeated_read (Member p) c v least most m)
-derivative_whole (plus p) c v m = then_map _ _ _ v (λ u. derivative_whole p c u) (repeated_read_on (Member p) c v 1 m)
+derivative_whole (plus p) c v m = then_map _ _ _ v (λ u. derivative_whole p c u)
+    (repeated_read_on (Member p) c v 1 m)
 
 -- ---- membership
 

@@ -1,5 +1,6 @@
 -- Patterns of size 0.
-use Rattle.std.proofs.Common.{◌≡◌, ℕ, zero, suc, ◌+◌, ◌*◌, ◌≤◌, ◌⊎◌, List, [], ◌∷◌, length, Some, None, ◌↔◌, refl, sym, ap, subst, inl, inr, arith}
+use Rattle.std.proofs.Common.{◌≡◌, ℕ, zero, suc, ◌+◌, ◌*◌, ◌≤◌, ◌⊎◌, List, [], ◌∷◌, length, Some, None, ◌↔◌}
+use Rattle.std.proofs.Common.{refl, sym, ap, subst, inl, inr, arith}
 use Rattle.std.specs.List.{concat, AllByRecursion}
 use Rattle.jp_regexp.specs.Pattern.{Text, Pattern, empty, letter, group, seq, either, repeat, plus}
 use Rattle.jp_regexp.specs.Profile.{size, HasCounts, IsPatternOf}
@@ -10,13 +11,15 @@ product_zero zero b e = inl refl
 product_zero (suc a) b e = inr (omega arith)
 
 -- a list of so many empty parts
-empty_parts : (Part : Text → Type 0) (n : ℕ) → Part [] → (parts : List Text) × AllByRecursion Part parts × (length parts ≡ n) × ([] ≡ concat parts)
+empty_parts : (Part : Text → Type 0) (n : ℕ) → Part [] → (parts : List Text) × AllByRecursion Part parts
+    × (length parts ≡ n) × ([] ≡ concat parts)
 empty_parts Part zero h = ([], tt, refl, refl)
 empty_parts Part (suc n) h =
     let r = empty_parts Part n h in ([] ∷ r.0, (h, r.1), ap suc r.2, r.3)
 
 -- parts that are all empty join to the empty text
-joined_empty : (Part : Text → Type 0) (parts : List Text) → ((t : Text) → Part t → t ≡ []) → AllByRecursion Part parts → concat parts ≡ []
+joined_empty : (Part : Text → Type 0) (parts : List Text) → ((t : Text) → Part t → t ≡ [])
+    → AllByRecursion Part parts → concat parts ≡ []
 joined_empty Part [] only all = refl
 joined_empty Part (t ∷ parts) only all =
     let first = only t all.0 in
@@ -54,7 +57,8 @@ pub has_empty : (p : Pattern) → HasCounts p → size p ≡ 0 → Member p []
 has_empty empty counts e = refl
 has_empty (letter set) counts e = absurd (omega arith)
 has_empty (group p) counts e = has_empty p counts e
-has_empty (seq p q) counts e = ([], [], refl, has_empty p counts.0 (omega arith), has_empty q counts.1 (omega arith))
+has_empty (seq p q) counts e =
+    ([], [], refl, has_empty p counts.0 (omega arith), has_empty q counts.1 (omega arith))
 has_empty (either p q) counts e = inl (has_empty p counts.0 (omega arith))
 has_empty (repeat least None p) counts e =
     elim (product_zero (least + 1) (size p) e) [
@@ -73,5 +77,10 @@ has_empty (repeat least (Some most) p) counts e =
 has_empty (plus p) counts e = ([] ∷ [], (has_empty p counts e, tt), omega arith, tt, refl)
 
 -- an I-Regexp of size 0 has the empty text alone
-pub language : {text : Text} (p : Pattern) → IsPatternOf text p → size p ≡ 0 → (t : Text) → Member p t ↔ (t ≡ [])
-language p of e t = (only_empty p t of.in_profile.counts e, λ h. subst (Member p) (sym h) (has_empty p of.in_profile.counts e))
+pub language : {text : Text} (p : Pattern) → IsPatternOf text p → size p ≡ 0 → (t : Text) → Member p t
+    ↔ (t ≡ [])
+language p of e t = (
+  only_empty p t of.in_profile.counts e,
+  λ h. subst (Member p) (sym h)
+      (has_empty p of.in_profile.counts e),
+)

@@ -1,5 +1,7 @@
 -- Reading a text character by character.
-use Rattle.std.proofs.Common.{◌≡◌, ℕ, ◌<◌, ◌⊎◌, ◌↔◌, true, false, IsTrue, List, [], ◌∷◌, ◌++◌, Some, None, refl, sym, ap, ◌∙◌, subst, inl, inr, ⊎_elim, arith, true≢false, append_assoc, append-nil, slice_index_or}
+use Rattle.std.proofs.Common.{◌≡◌, ℕ, ◌<◌, ◌⊎◌, ◌↔◌, true, false, IsTrue, List, [], ◌∷◌, ◌++◌, Some, None}
+use Rattle.std.proofs.Common.{refl, sym, ap, ◌∙◌, subst, inl, inr, ⊎_elim, arith, true≢false, append_assoc}
+use Rattle.std.proofs.Common.{append-nil, slice_index_or}
 use Rattle.std.specs.Iterator.{AlwaysYields}
 use Rattle.std.specs.Str.{chars, IsUtf8}
 use Rattle.std.specs.Str.Iter.{chars_rest}
@@ -22,13 +24,20 @@ pub record IsReading (text read : Text) (it : Chars) : Type 0 where
   pub splits : text ≡ read ++ rest
   pub yields : AlwaysYields spells (λ c. c) it rest
 
-pub reading_first : (bytes : List ℕ) (it : Chars) → IsUtf8 bytes → chars_rest it ≡ bytes → IsReading (chars bytes) [] it
-reading_first bytes it utf8 e = record { rest = chars bytes; splits = refl; yields = (YieldsList-from_chars bytes utf8 e).runs }
+pub reading_first : (bytes : List ℕ) (it : Chars) → IsUtf8 bytes → chars_rest it ≡ bytes
+    → IsReading (chars bytes) [] it
+reading_first bytes it utf8 e = record {
+  rest = chars bytes;
+  splits = refl;
+  yields =
+      (YieldsList-from_chars bytes utf8 e).runs;
+}
 
 module _ (text read : Text) (it next : Chars) (reading : IsReading text read it) where
   pub reading_more : (c : ℕ) → spells it (Some c) next → IsReading text (read ++ c ∷ []) next
   reading_more c step = by reading.rest reading.splits reading.yields where
-    by : (rest : Text) → text ≡ read ++ rest → AlwaysYields spells (λ d. d) it rest → IsReading text (read ++ c ∷ []) next
+    by : (rest : Text) → text ≡ read ++ rest → AlwaysYields spells (λ d. d) it rest
+        → IsReading text (read ++ c ∷ []) next
     by [] e y = absurd (y c next step)
     by (d ∷ rest) e y =
         let g = y.1 c next step in
@@ -59,11 +68,13 @@ none_left p u (k, (i, lt, e), m) = omega arith
 
 module _ (p : Pattern) (L N Q : Text → Type 0) (read : Text) (c : ℕ) where
   -- one character more of the whole text
-  pub match_more : ((u : Text) → L u ↔ Member p (read ++ u)) → ((t : Text) → N t ↔ (L (c ∷ t) ⊎ (IsTrue false × Q t))) →
+  pub match_more : ((u : Text) → L u ↔ Member p (read ++ u))
+      → ((t : Text) → N t ↔ (L (c ∷ t) ⊎ (IsTrue false × Q t))) →
       (u : Text) → N u ↔ Member p ((read ++ c ∷ []) ++ u)
   match_more kept step u =
       let e : (read ++ c ∷ []) ++ u ≡ read ++ (c ∷ u) = append_assoc read (c ∷ []) u in (
-        λ h. subst (Member p) (sym e) (⊎_elim (λ g. (kept (c ∷ u)).0 g) (λ g. absurd (true≢false (sym g.0))) ((step u).0 h)),
+        λ h. subst (Member p) (sym e) (⊎_elim (λ g. (kept (c ∷ u)).0 g) (λ g. absurd (true≢false (sym g.0)))
+            ((step u).0 h)),
         λ m. (step u).1 (inl ((kept (c ∷ u)).1 (subst (Member p) e m))),
       )
 
@@ -125,7 +136,8 @@ module _ (p : Pattern) where
         (last_cut c before read part e)
 
     pub find_more : (L N : Text → Type 0) → ((u : Text) → L u ↔ BeganIn p read u) →
-        ((t : Text) → N t ↔ (L (c ∷ t) ⊎ (IsTrue true × Member p t))) → (u : Text) → N u ↔ BeganIn p (read ++ c ∷ []) u
+        ((t : Text) → N t ↔ (L (c ∷ t) ⊎ (IsTrue true × Member p t))) → (u : Text)
+        → N u ↔ BeganIn p (read ++ c ∷ []) u
     find_more L N kept step u = (
       λ h. began_more u (⊎_elim (λ g. inl ((kept (c ∷ u)).0 g)) (λ g. inr g.1) ((step u).0 h)),
       λ h. (step u).1 (⊎_elim (λ g. inl ((kept (c ∷ u)).1 g)) (λ g. inr (refl, g)) (more_began u h)),
@@ -143,21 +155,34 @@ module _ (p : Pattern) where
         by (k ∷ q) g = kept front k q g h
 
   pub began_found : (text read rest : Text) → text ≡ read ++ rest → BeganIn p read [] → HasPart p text
-  began_found text read rest e (before, part, f, m) =
-      (before, part, rest, e ∙ ap (λ r. r ++ rest) f ∙ append_assoc before part rest, subst (Member p) (append-nil part) m)
+  began_found text read rest e (before, part, f, m) = (
+    before,
+    part,
+    rest,
+    e ∙ ap (λ r. r ++ rest) f ∙ append_assoc before part rest,
+    subst (Member p)
+        (append-nil part) m,
+  )
 
   pub found_began : (text read : Text) → text ≡ read → NoPartIn p read → HasPart p text → BeganIn p read []
-  found_began text read e none (before, part, [], f, m) =
-      (before, part, sym e ∙ f ∙ ap (λ r. before ++ r) (append-nil part), subst (Member p) (sym (append-nil part)) m)
+  found_began text read e none (before, part, [], f, m) = (
+    before,
+    part,
+    sym e ∙ f ∙ ap (λ r. before ++ r) (append-nil part),
+    subst (Member p)
+        (sym (append-nil part)) m,
+  )
   found_began text read e none (before, part, c ∷ after, f, m) =
       absurd (none (before ++ part) c after (sym e ∙ f ∙ sym (append_assoc before part (c ∷ after)))
       (before, part, refl, subst (Member p) (sym (append-nil part)) m))
 
 -- ---- characters with which nothing begins, while nothing but the start is live
 
-pub first_left : (p q : Pattern) (places : List ℕ) → q ≡ p → places ≡ 0 ∷ [] → Member p [] → SomePlaceHas q places []
+pub first_left : (p q : Pattern) (places : List ℕ) → q ≡ p → places ≡ 0 ∷ [] → Member p []
+    → SomePlaceHas q places []
 first_left p q places same at m =
-    subst (λ r. SomePlaceHas r places []) (sym same) (subst (λ ps. SomePlaceHas p ps []) (sym at) ((all_left p []).1 m))
+    subst (λ r. SomePlaceHas r places []) (sym same) (subst (λ ps. SomePlaceHas p ps []) (sym at)
+    ((all_left p []).1 m))
 
 module _ (p q : Pattern) (places : List ℕ) (read : Text) (same : q ≡ p) (at : places ≡ 0 ∷ [])
     (kept : (u : Text) → SomePlaceHas q places u ↔ BeganIn p read u) where
@@ -169,8 +194,10 @@ module _ (p q : Pattern) (places : List ℕ) (read : Text) (same : q ≡ p) (at 
   pub not_at_first : (Member p [] → ⊥) → BeganIn p read [] → ⊥
   not_at_first none h = none ((all_left p []).0 ((at_first []).1 h))
 
-pub skip_left : (p : Pattern) (counts : HasCounts p) (read : Text) (c : ℕ) (q : Pattern) (places : List ℕ) → q ≡ p → places ≡ 0 ∷ [] →
-    advance (is_elem []) c (unrolled p) 0 true ≡ [] → ((u : Text) → SomePlaceHas q places u ↔ BeganIn p read u) →
+pub skip_left : (p : Pattern) (counts : HasCounts p) (read : Text) (c : ℕ) (q : Pattern) (places : List ℕ)
+    → q ≡ p → places ≡ 0 ∷ [] →
+    advance (is_elem []) c (unrolled p) 0 true ≡ []
+    → ((u : Text) → SomePlaceHas q places u ↔ BeganIn p read u) →
     (u : Text) → SomePlaceHas q places u ↔ BeganIn p (read ++ c ∷ []) u
 skip_left p counts read c q places same at none kept =
     let first = subst (λ ps. (u : Text) → SomePlaceHas p ps u ↔ BeganIn p read u) at

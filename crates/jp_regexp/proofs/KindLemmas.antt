@@ -1,10 +1,12 @@
 -- What is known of a part of each kind, where its sizes are right and it is not too large.
-use Rattle.std.proofs.Common.{◌≡◌, ℕ, zero, suc, ◌+◌, ◌*◌, ◌<◌, ◌≤◌, ◌&&◌, IsTrue, List, [], ◌∷◌, map, min, Option, Vec, Box, Global, refl, sym, ap, ap₂, ◌∙◌, subst, arith}
+use Rattle.std.proofs.Common.{◌≡◌, ℕ, zero, suc, ◌+◌, ◌*◌, ◌<◌, ◌≤◌, ◌&&◌, IsTrue, List, [], ◌∷◌, map, min}
+use Rattle.std.proofs.Common.{Option, Vec, Box, Global, refl, sym, ap, ap₂, ◌∙◌, subst, arith}
 use Rattle.std.proofs.lemmas.Bool.{and_parts}
 use Rattle.jp_regexp.specs.Pattern.{Pattern}
 use Rattle.jp_regexp.specs.Profile.{copies, size}
 use Rattle.jp_regexp.specs.Tree.{set_of}
-use Rattle.jp_regexp.specs.Parts.{Meaning, meaning, pattern_in, in_turn_of, before_last_of, all_sized, sized_as, unrolled_in, unrolled_in_turn, branches_before}
+use Rattle.jp_regexp.specs.Parts.{Meaning, meaning, pattern_in, in_turn_of, before_last_of, all_sized}
+use Rattle.jp_regexp.specs.Parts.{sized_as, unrolled_in, unrolled_in_turn, branches_before}
 use Rattle.jp_regexp.specs.Unrolled.{Unrolled, unrolled, nothing, either, letter, letters}
 use Rattle.jp_regexp.specs.declared.tree.CharSet.{CharSet}
 use Rattle.jp_regexp.specs.declared.parts.Part.{Part}
@@ -14,7 +16,8 @@ use Rattle.jp_regexp.proofs.SizedLemmas.{size_from, inside_from}
 use Rattle.jp_regexp.proofs.UnrolledLemmas.{letters-unrolled}
 
 -- a size that was kept is exact
-pub exact : (n : ℕ) (p : Pattern) → n ≡ min (size p) 4_294_967_295 → letters (unrolled p) ≤ 10_000 → n ≡ letters (unrolled p)
+pub exact : (n : ℕ) (p : Pattern) → n ≡ min (size p) 4_294_967_295 → letters (unrolled p) ≤ 10_000
+    → n ≡ letters (unrolled p)
 exact n p e le = omega (arith, letters-unrolled p)
 
 sized_at : (part : Part) (m : Meaning) → meaning part ≡ m → IsTrue (meaning part).is_sized → IsTrue m.is_sized
@@ -28,7 +31,8 @@ pub record KnownPieces (part : Part) (n : ℕ) (xs : List Part) : Type 0 where
   pub size : n ≡ letters (unrolled_in_turn xs)
   pub same : unrolled_in_turn xs ≡ unrolled_in part
 
-pub known_pieces : (part : Part) (n : ℕ) (pieces : Vec Part Global) (xs : List Part) → part ≡ Pieces n pieces → xs ≡ pieces.items →
+pub known_pieces : (part : Part) (n : ℕ) (pieces : Vec Part Global) (xs : List Part) → part ≡ Pieces n pieces
+    → xs ≡ pieces.items →
     IsTrue (meaning part).is_sized → letters (unrolled_in part) ≤ 10_000 → KnownPieces part n xs
 known_pieces part n pieces xs is items h le =
     let m = sized_as n (in_turn_of (map meaning pieces.items)) (all_sized (map meaning pieces.items)) in
@@ -40,7 +44,8 @@ known_pieces part n pieces xs is items h le =
     exact n (in_turn_of (map meaning pieces.items)) (size_from n (in_turn_of (map meaning pieces.items)) _ k)
     (subst (λ p. letters p ≤ 10_000) (sym same ∙ ap unrolled_in_turn items) le) in
     record {
-      sized = subst (λ ys. IsTrue (all_sized (map meaning ys))) (sym items) (inside_from n (in_turn_of (map meaning pieces.items)) _ k);
+      sized = subst (λ ys. IsTrue (all_sized (map meaning ys))) (sym items)
+          (inside_from n (in_turn_of (map meaning pieces.items)) _ k);
       size = f ∙ ap (λ ys. letters (unrolled_in_turn ys)) (sym items);
       same = same;
     }
@@ -51,7 +56,8 @@ unrolled-branches [] x = refl
 unrolled-branches (y ∷ xs) x = ap (either (unrolled_in y)) (unrolled-branches xs x)
 
 -- how many letters branches have with others behind them
-pub letters-branches : (xs : List Part) (q : Unrolled) → letters (branches_before xs q) ≡ letters (branches_before xs nothing) + letters q
+pub letters-branches : (xs : List Part) (q : Unrolled) → letters (branches_before xs q)
+    ≡ letters (branches_before xs nothing) + letters q
 letters-branches [] q = omega arith
 letters-branches (y ∷ xs) q = let h = letters-branches xs q in omega (arith, h)
 
@@ -61,14 +67,17 @@ pub record KnownBranches (part : Part) (xs : List Part) (x : Part) : Type 0 wher
   pub same : branches_before xs (unrolled_in x) ≡ unrolled_in part
   pub size : letters (branches_before xs nothing) + letters (unrolled_in x) ≡ letters (unrolled_in part)
 
-pub known_branches : (part : Part) (n : ℕ) (before : Vec Part Global) (last : Box Part Global) (xs : List Part) (x : Part) →
-    part ≡ Branches n before last → xs ≡ before.items → x ≡ last.value → IsTrue (meaning part).is_sized → KnownBranches part xs x
+pub known_branches : (part : Part) (n : ℕ) (before : Vec Part Global) (last : Box Part Global)
+    (xs : List Part) (x : Part) →
+    part ≡ Branches n before last → xs ≡ before.items → x ≡ last.value → IsTrue (meaning part).is_sized
+    → KnownBranches part xs x
 known_branches part n before last xs x is items value h =
     let p = before_last_of (map meaning before.items) (pattern_in last.value) in
     let m = sized_as n p (all_sized (map meaning before.items) && (meaning last.value).is_sized) in
     let e : meaning part ≡ m = ap meaning is ∙ part_branches n before last in
     let k = sized_at part m e h in
-    let both = and_parts (all_sized (map meaning before.items)) (meaning last.value).is_sized (inside_from n p _ k) in
+    let both = and_parts (all_sized (map meaning before.items)) (meaning last.value).is_sized
+    (inside_from n p _ k) in
     let here : branches_before xs (unrolled_in x) ≡ branches_before before.items (unrolled_in last.value) =
     ap₂ (λ ys y. branches_before ys (unrolled_in y)) items value in
     let same : branches_before xs (unrolled_in x) ≡ unrolled_in part =
@@ -95,12 +104,16 @@ pub known_repeat : (part : Part) (n least : ℕ) (most : Option ℕ) (atom : Box
 known_repeat part n least most atom x k is value h f lt =
     let m = sized_as n (Pattern.repeat least most (pattern_in atom.value)) (meaning atom.value).is_sized in
     let e : meaning part ≡ m = ap meaning is ∙ part_repeat n least most atom in
-    let g : size (pattern_in part) ≡ copies least most * size (pattern_in atom.value) = ap (λ y. size y.pattern) e in
-    let some : 0 < size (pattern_in atom.value) = factor (copies least most) (size (pattern_in atom.value)) (omega arith) in
+    let g : size (pattern_in part) ≡ copies least most * size (pattern_in atom.value) =
+    ap (λ y. size y.pattern) e in
+    let some : 0 < size (pattern_in atom.value) = factor (copies least most) (size (pattern_in atom.value))
+    (omega arith) in
     let here : letters (unrolled_in x) ≡ size (pattern_in atom.value) =
     letters-unrolled (pattern_in x) ∙ ap (λ y. size (pattern_in y)) value in
     record {
-      sized = subst (λ y. IsTrue (meaning y).is_sized) (sym value) (inside_from n (Pattern.repeat least most (pattern_in atom.value)) _ (sized_at part m e h));
+      sized = subst (λ y. IsTrue (meaning y).is_sized) (sym value)
+          (inside_from n (Pattern.repeat least most (pattern_in atom.value)) _ (sized_at part m e h));
       some = omega arith;
-      same = ap (λ y. unrolled (Pattern.repeat least most (pattern_in y))) value ∙ sym (ap (λ y. unrolled y.pattern) e);
+      same = ap (λ y. unrolled (Pattern.repeat least most (pattern_in y))) value
+          ∙ sym (ap (λ y. unrolled y.pattern) e);
     }

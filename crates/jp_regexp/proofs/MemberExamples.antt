@@ -1,14 +1,17 @@
 -- Some texts that patterns have, and some that they do not.
-use Rattle.std.proofs.Common.{Bool, ◌&&◌, ◌==◌, ◌≡◌, ◌≤◌, true, false, [], ◌∷◌, ◌++◌, length, Some, None, refl, sym, inl, inr, ap, subst, arith}
+use Rattle.std.proofs.Common.{Bool, ◌&&◌, ◌==◌, ◌≡◌, ◌≤◌, true, false, [], ◌∷◌, ◌++◌, length, Some, None}
+use Rattle.std.proofs.Common.{refl, sym, inl, inr, ap, subst, arith}
 use Rattle.std.specs.Prelude.{codes}
 use Rattle.unicode.specs.GeneralCategory.{general_category}
-use Rattle.unicode.specs.declared.properties.GeneralCategory.TheVariants.{UppercaseLetter, LowercaseLetter, DecimalNumber}
+use Rattle.unicode.specs.declared.properties.GeneralCategory.TheVariants.{UppercaseLetter, LowercaseLetter}
+use Rattle.unicode.specs.declared.properties.GeneralCategory.TheVariants.{DecimalNumber}
 use Rattle.unicode.proofs.CategoryComputing.{ucd_category}
 use Rattle.jp_regexp.specs.Pattern.{Text, Pattern, only, category, group, repeat, plus}
 use Rattle.jp_regexp.specs.CharSets.{is_scalar, in_set}
 use Rattle.jp_regexp.specs.Language.{Member, Found}
 use Rattle.jp_regexp.specs.Samples.{sign, letter_a, letter_b, branch}
-use Rattle.jp_regexp.proofs.MemberLemmas.{EachIn, from_lone, to_lone, from_letters, to_letters, each_of_plus, each_joined, each_split}
+use Rattle.jp_regexp.proofs.MemberLemmas.{EachIn, from_lone, to_lone, from_letters, to_letters, each_of_plus}
+use Rattle.jp_regexp.proofs.MemberLemmas.{each_joined, each_split}
 use Rattle.std.proofs.lemmas.Bool.{eqb-true}
 use Rattle.jp_regexp.proofs.PatternsRead.{matched}
 use Rattle.jp_regexp.proofs.TextExamples as text
@@ -65,7 +68,19 @@ pub nested_empty : Member text.nested_tree []
 nested_empty = ([], [], refl, ([], tt, omega arith, tt, refl), b_few [] tt (omega arith))
 
 pub nested_letters : Member text.nested_tree (codes "aab")
-nested_letters = (codes "aa", codes "b", refl, (codes "aa" ∷ [], (a_many (codes "aa") (refl, (refl, tt)), tt), omega arith, tt, refl), b_few (codes "b") (refl, tt) (omega arith))
+nested_letters = (
+  codes "aa",
+  codes "b",
+  refl,
+  (
+    codes "aa" ∷ [],
+    (a_many (codes "aa") (refl, (refl, tt)), tt),
+    omega arith,
+    tt,
+    refl,
+  ),
+  b_few (codes "b") (refl, tt) (omega arith),
+)
 
 no_a_first : (u v : Text) → codes "bbb" ≡ u ++ v → EachIn (only 97) u → length v ≤ 2 → ⊥
 no_a_first [] v e each short = let long : 3 ≡ length v = ap length e in omega arith
@@ -76,7 +91,8 @@ no_a_first (c ∷ u) v e each short =
 
 pub three_of_at_most_two : Member text.nested_tree (codes "bbb") → ⊥
 three_of_at_most_two (u, v, e, (parts, all, low, high, joins), m) =
-    let each : EachIn (only 97) u = subst (EachIn (only 97)) (sym joins) (each_joined (Member inner) (only 97) a_only parts all) in
+    let each : EachIn (only 97) u = subst (EachIn (only 97)) (sym joins)
+    (each_joined (Member inner) (only 97) a_only parts all) in
     let short = (from_letters (only 98) 0 (Some 2) v (from_lone (repeat 0 (Some 2) letter_b) v m)).2 in
     no_a_first u v e each short
 
@@ -94,7 +110,20 @@ pub other_letter : Member text.letters_and_hyphens_tree (codes "b") → ⊥
 other_letter m = let each = each_of_plus text.letter_or_hyphen (codes "b") m in absurd (cc (each.0))
 
 pub signs : Member text.signs_tree (codes "^a$")
-signs = (codes "^", codes "a$", refl, (94, refl, refl), (codes "a", codes "$", refl, (97, refl, refl), to_lone (sign 36) (codes "$") (36, refl, refl)))
+signs = (
+  codes "^",
+  codes "a$",
+  refl,
+  (94, refl, refl),
+  (
+    codes "a",
+    codes "$",
+    refl,
+    (97, refl, refl),
+    to_lone
+        (sign 36) (codes "$") (36, refl, refl),
+  ),
+)
 
 pub letter_without_signs : Member text.signs_tree (codes "a") → ⊥
 letter_without_signs (u, v, e, (c, f, h), m) =
@@ -104,7 +133,19 @@ letter_without_signs (u, v, e, (c, f, h), m) =
     absurd (cc wrong)
 
 pub any_between : Member text.any_between_tree (codes "abc")
-any_between = (codes "a", codes "bc", refl, (97, refl, refl), (codes "b", codes "c", refl, (98, refl, refl), to_lone (sign 99) (codes "c") (99, refl, refl)))
+any_between = (
+  codes "a",
+  codes "bc",
+  refl,
+  (97, refl, refl),
+  (
+    codes "b",
+    codes "c",
+    refl,
+    (98, refl, refl),
+    to_lone (sign 99) (codes "c") (99, refl, refl),
+  ),
+)
 
 -- ---- where nothing is found
 
@@ -121,6 +162,10 @@ no_a_of_b (c ∷ t) long each other =
 
 pub nowhere : Found (codes "bb") (codes "a+") → ⊥
 nowhere (before, part, after, e, m) =
-    let letters = from_letters (only 97) 1 None part (from_lone (plus letter_a) part (matched part (codes "a+") text.some_letters_tree text.some_letters.shapes m)) in
-    let others : EachIn (only 98) (before ++ (part ++ after)) = subst (EachIn (only 98)) e (refl, (refl, tt)) in
-    no_a_of_b part letters.1 letters.0 (each_split (only 98) part after (each_split (only 98) before (part ++ after) others).1).0
+    let letters = from_letters (only 97) 1 None part
+    (from_lone (plus letter_a) part (matched part (codes "a+") text.some_letters_tree
+    text.some_letters.shapes m)) in
+    let others : EachIn (only 98) (before ++ (part ++ after)) =
+    subst (EachIn (only 98)) e (refl, (refl, tt)) in
+    no_a_of_b part letters.1 letters.0
+    (each_split (only 98) part after (each_split (only 98) before (part ++ after) others).1).0

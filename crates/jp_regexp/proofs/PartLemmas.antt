@@ -1,5 +1,6 @@
 -- What is left of a set of texts once a character is read.
-use Rattle.std.proofs.Common.{◌≡◌, ℕ, suc, ◌-◌, ◌⊎◌, List, [], ◌∷◌, ◌++◌, length, Some, None, refl, ap, sym, subst, inl, inr, arith}
+use Rattle.std.proofs.Common.{◌≡◌, ℕ, suc, ◌-◌, ◌⊎◌, List, [], ◌∷◌, ◌++◌, length, Some, None, refl, ap, sym}
+use Rattle.std.proofs.Common.{subst, inl, inr, arith}
 use Rattle.std.specs.List.{concat, AllByRecursion}
 use Rattle.jp_regexp.specs.Pattern.{Text}
 use Rattle.jp_regexp.specs.Language.{Then, Repeated}
@@ -25,7 +26,8 @@ module _ (X Y : Text → Type 0) where
 module _ (X : Text → Type 0) where
   -- the first part that is not empty has the character; the empty ones before it count as parts of the rest
   parts_read : (c : ℕ) (v : Text) (parts : List Text) → AllByRecursion X parts → c ∷ v ≡ concat parts →
-      (u : Text) × (rest : List Text) × X (c ∷ u) × AllByRecursion X rest × (length parts ≡ suc (length rest)) × (v ≡ u ++ concat rest)
+      (u : Text) × (rest : List Text) × X (c ∷ u) × AllByRecursion X rest × (length parts ≡ suc (length rest))
+      × (v ≡ u ++ concat rest)
   parts_read c v [] all e = absurd cc
   parts_read c v ([] ∷ parts) all e =
       let r = parts_read c v parts all.1 e in
@@ -43,7 +45,8 @@ module _ (X : Text → Type 0) where
       (r.0, concat r.1, r.5, r.2, (r.1, r.3, omega (arith, r.4), omega (arith, r.4), refl))
 
   pub read_repeated : (c : ℕ) (v : Text) (least most : ℕ) →
-      Then (λ u. X (c ∷ u)) (Repeated X (least - 1) (Some most)) v → Repeated X least (Some (suc most)) (c ∷ v)
+      Then (λ u. X (c ∷ u)) (Repeated X (least - 1) (Some most)) v
+      → Repeated X least (Some (suc most)) (c ∷ v)
   read_repeated c v least most (u, w, e, x, (parts, all, low, high, joins)) =
       ((c ∷ u) ∷ parts, (x, all), omega arith, omega arith, cc)
 

@@ -1,18 +1,23 @@
 -- The places of a set that lie behind a point.
-use Rattle.std.proofs.Common.{◌≡◌, ℕ, zero, suc, ◌+◌, ◌*◌, ◌<◌, ◌≤◌, ◌-◌, ◌/◌, ◌⊎◌, true, false, ◌||◌, nat_le, nat_lt, inl, inr, slice_index_or, List, [], ◌∷◌, length, drop, drop-cons, refl, sym, ap, ap₂, ◌∙◌, subst, arith, mul-le-mul_right}
+use Rattle.std.proofs.Common.{◌≡◌, ℕ, zero, suc, ◌+◌, ◌*◌, ◌<◌, ◌≤◌, ◌-◌, ◌/◌, ◌⊎◌, true, false, ◌||◌, nat_le}
+use Rattle.std.proofs.Common.{nat_lt, inl, inr, slice_index_or, List, [], ◌∷◌, length, drop, drop-cons, refl}
+use Rattle.std.proofs.Common.{sym, ap, ap₂, ◌∙◌, subst, arith, mul-le-mul_right}
 use Rattle.std.proofs.Math.Nat.{div-mul-le_self}
-use Rattle.std.proofs.lemmas.Bool.{eq-eqb, ne_eqb, cases_Bool, and_parts, leb-true, leb-false, ltb-true, ltb-false}
+use Rattle.std.proofs.lemmas.Bool.{eq-eqb, ne_eqb, cases_Bool, and_parts, leb-true, leb-false, ltb-true}
+use Rattle.std.proofs.lemmas.Bool.{ltb-false}
 use Rattle.jp_regexp.specs.declared.reach.Reach.{Reach}
 use Rattle.jp_regexp.specs.Pattern.{CharSet}
 use Rattle.jp_regexp.specs.Unrolled.{letter}
-use Rattle.jp_regexp.specs.Walk.{leaves, advance, is_elem, Rises, IsRest, IsAt, Dead, IsWalk, IsPassed, is_live_up_to}
+use Rattle.jp_regexp.specs.Walk.{leaves, advance, is_elem, Rises, IsRest, IsAt, Dead, IsWalk, IsPassed}
+use Rattle.jp_regexp.specs.Walk.{is_live_up_to}
 use Rattle.jp_regexp.proofs.SkipLemmas.{dead_leaves, dead_advance, none_leaves}
 use Rattle.jp_regexp.proofs.StepLemmas.{advance_none}
 
 -- what rises from above low on has nothing up to low
 later : (low k : ℕ) (xs : List ℕ) → Rises low xs → k ≤ low → is_elem xs k ≡ false
 later low k [] h le = refl
-later low k (x ∷ xs) h le = ap₂ (λ a b. a || b) (ne_eqb k x (λ e. omega arith)) (later x k xs h.1 (omega arith))
+later low k (x ∷ xs) h le = ap₂ (λ a b. a || b) (ne_eqb k x (λ e. omega arith))
+    (later x k xs h.1 (omega arith))
 
 module _ (places : List ℕ) (past : ℕ) where
   pub none_dead : IsRest places past [] → (n : ℕ) → Dead (is_elem places) past n
@@ -25,13 +30,15 @@ module _ (places : List ℕ) (past : ℕ) where
     pub front_dead : (n : ℕ) → past + n < q → Dead (is_elem places) past n
     front_dead n lt k low high =
         h.same (past + k) (omega arith)
-        ∙ ap₂ (λ a b. a || b) (ne_eqb (past + k) q (λ e. omega arith)) (later q (past + k) rest h.rises.1 (omega arith))
+        ∙ ap₂ (λ a b. a || b) (ne_eqb (past + k) q (λ e. omega arith))
+        (later q (past + k) rest h.rises.1 (omega arith))
 
     pub front_rest : (n : ℕ) → past + n < q → IsRest places (past + n) (q ∷ rest)
     front_rest n lt = record { rises = (lt, h.rises.1); same = λ k le. h.same k (omega arith) }
 
     pub front_live : q ≡ past + 1 → is_elem places (past + 1) ≡ true
-    front_live e = h.same (past + 1) (omega arith) ∙ ap (λ b. b || is_elem rest (past + 1)) (eq-eqb (past + 1) q (sym e))
+    front_live e = h.same (past + 1) (omega arith)
+        ∙ ap (λ b. b || is_elem rest (past + 1)) (eq-eqb (past + 1) q (sym e))
 
     pub front_gone : q ≡ past + 1 → IsRest places (past + 1) rest
     front_gone e = record {
@@ -52,12 +59,14 @@ rest_none (x ∷ xs) (suc i) le = rest_none xs i (omega arith)
 
 module _ (places : List ℕ) (past index : ℕ) (at : IsAt places past index) where
   abbrev Front : Type 0
-  Front = (length places ≤ index) ⊎ ((index < length places) × IsRest places past (slice_index_or places index 0 ∷ drop (index + 1) places))
+  Front = (length places ≤ index)
+      ⊎ ((index < length places) × IsRest places past (slice_index_or places index 0 ∷ drop (index + 1) places))
 
   front : Front
   front =
       elim (cases_Bool (nat_lt index (length places))) [
-        | inl e ↦ let lt = ltb-true index (length places) e in inr (lt, subst (IsRest places past) (rest_at places index lt) at)
+        | inl e ↦ let lt = ltb-true index (length places) e in inr
+            (lt, subst (IsRest places past) (rest_at places index lt) at)
         | inr e ↦ inl (ltb-false index (length places) e)
       ]
 
@@ -69,15 +78,21 @@ module _ (places : List ℕ) (past index : ℕ) (at : IsAt places past index) wh
 
   pub passes_end : length places ≤ index → (n : ℕ) → Passes n
   passes_end le n =
-      let h = subst (IsRest places past) (rest_none places index le) at in
-      (none_dead places past h n, subst (IsRest places (past + n)) (sym (rest_none places index le)) (none_rest places past h n))
+      let h = subst (IsRest places past) (rest_none places index le) at in (
+        none_dead places past h n,
+        subst (IsRest places (past + n)) (sym (rest_none places index le))
+            (none_rest places past h n),
+      )
 
   pub passes_front : index < length places → (n : ℕ) → past + n < slice_index_or places index 0 → Passes n
   passes_front lt n far =
       let q = slice_index_or places index 0 in
       let rest = drop (index + 1) places in
-      let h = subst (IsRest places past) (rest_at places index lt) at in
-      (front_dead places past q rest h n far, subst (IsRest places (past + n)) (sym (rest_at places index lt)) (front_rest places past q rest h n far))
+      let h = subst (IsRest places past) (rest_at places index lt) at in (
+        front_dead places past q rest h n far,
+        subst (IsRest places (past + n)) (sym (rest_at places index lt))
+            (front_rest places past q rest h n far),
+      )
 
   pub passes : (n : ℕ) → is_live_up_to places index (past + n) ≡ false → Passes n
   passes n e =

@@ -1,5 +1,7 @@
--- What the code reads is what the grammar spells within the limits, and it reads nothing only where there is nothing.
-use Rattle.std.proofs.Common.{◌≡◌, ℕ, ◌<◌, ◌≤◌, true, nat_le, min, Option, Some, None, refl, sym, ap, ◌∙◌, subst, inl, inr, arith}
+-- What the code reads is what the grammar spells within the limits, and it reads nothing only where there
+-- is nothing.
+use Rattle.std.proofs.Common.{◌≡◌, ℕ, ◌<◌, ◌≤◌, true, nat_le, min, Option, Some, None, refl, sym, ap, ◌∙◌}
+use Rattle.std.proofs.Common.{subst, inl, inr, arith}
 use Rattle.std.proofs.lemmas.Bool.{cases_Bool, and_parts, and_from, leb-true, le-leb}
 use Rattle.jp_regexp.specs.Pattern.{Text, Pattern}
 use Rattle.jp_regexp.specs.Profile.{depth, size, InProfile, IsPatternOf}
@@ -14,7 +16,8 @@ unfolding kept_whole
 some_kept None p e = absurd cc
 some_kept (Some q) p e =
     elim (cases_Bool (fits 64 q)) [
-      | inl h ↦ let f = rw h at e in let same : q ≡ p = cc f in (ap (λ r. Some r) same, subst (λ r. fits 64 r ≡ true) same h)
+      | inl h ↦ let f = rw h at e in let same : q ≡ p =
+          cc f in (ap (λ r. Some r) same, subst (λ r. fits 64 r ≡ true) same h)
       | inr h ↦ let f = rw h at e in absurd (cc f)
     ]
 
@@ -42,7 +45,8 @@ reads t p of = read_kept t ∙ rw (read_whole t p of.shapes, fits_in p of.in_pro
 pub no_pattern : (t : Text) → read_within t ≡ None → (p : Pattern) → IsPatternOf t p → ⊥
 no_pattern t e p of = let f = reads t p of in absurd (cc (e, f))
 
-pub too_large : (t : Text) (q : Pattern) → read_within t ≡ Some q → 10_000 < size q → (p : Pattern) → IsPatternOf t p → ⊥
+pub too_large : (t : Text) (q : Pattern) → read_within t ≡ Some q → 10_000 < size q → (p : Pattern)
+    → IsPatternOf t p → ⊥
 too_large t q e lt p of =
     let f = reads t p of in
     let same : q ≡ p = cc (e, f) in

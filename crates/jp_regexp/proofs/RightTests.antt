@@ -1,8 +1,10 @@
 -- Tests that are right: the reader reads the pattern, and derivatives decide membership.
-use Rattle.std.proofs.Common.{◌≡◌, ℕ, Bool, true, false, ◌&&◌, ◌||◌, nat_le, [], ◌∷◌, ◌++◌, Option, Some, None, refl, sym, ap, subst, ⊎_elim, true≢false, append_assoc, append-nil}
+use Rattle.std.proofs.Common.{◌≡◌, ℕ, Bool, true, false, ◌&&◌, ◌||◌, nat_le, [], ◌∷◌, ◌++◌, Option, Some}
+use Rattle.std.proofs.Common.{None, refl, sym, ap, subst, ⊎_elim, true≢false, append_assoc, append-nil}
 use Rattle.std.proofs.lemmas.Bool.{and_parts, and_from, or_cases, or_left, or_right, leb-true, le-leb}
 use Rattle.jp_regexp.specs.Pattern.{Text, Pattern, empty, letter, group, seq, either, repeat, plus}
-use Rattle.jp_regexp.specs.Profile.{max_count, max_depth, max_size, depth, size, AreCounts, HasCounts, InProfile}
+use Rattle.jp_regexp.specs.Profile.{max_count, max_depth, max_size, depth, size, AreCounts, HasCounts}
+use Rattle.jp_regexp.specs.Profile.{InProfile}
 use Rattle.jp_regexp.specs.Language.{Matches, Found}
 use Rattle.jp_regexp.specs.Tests.{Tests, AreRight}
 use Rattle.jp_regexp.specs.Reading.{read}
@@ -40,11 +42,20 @@ has_counts_sound empty e = tt
 has_counts_sound (letter set) e = tt
 has_counts_sound (group p) e = has_counts_sound p e
 has_counts_sound (seq p q) e =
-    let both = and_parts (has_counts p) (has_counts q) e in (has_counts_sound p both.0, has_counts_sound q both.1)
+    let both = and_parts (has_counts p) (has_counts q) e in (
+      has_counts_sound p both.0,
+      has_counts_sound q
+          both.1,
+    )
 has_counts_sound (either p q) e =
-    let both = and_parts (has_counts p) (has_counts q) e in (has_counts_sound p both.0, has_counts_sound q both.1)
+    let both = and_parts (has_counts p) (has_counts q) e in (
+      has_counts_sound p both.0,
+      has_counts_sound q
+          both.1,
+    )
 has_counts_sound (repeat least most p) e =
-    let both = and_parts (are_counts least most) (has_counts p) e in (are_counts_sound least most both.0, has_counts_sound p both.1)
+    let both = and_parts (are_counts least most) (has_counts p) e in
+    (are_counts_sound least most both.0, has_counts_sound p both.1)
 has_counts_sound (plus p) e = has_counts_sound p e
 
 pub has_counts_whole : (p : Pattern) → HasCounts p → has_counts p ≡ true
@@ -53,7 +64,8 @@ has_counts_whole (letter set) h = refl
 has_counts_whole (group p) h = has_counts_whole p h
 has_counts_whole (seq p q) h = and_from _ _ (has_counts_whole p h.0) (has_counts_whole q h.1)
 has_counts_whole (either p q) h = and_from _ _ (has_counts_whole p h.0) (has_counts_whole q h.1)
-has_counts_whole (repeat least most p) h = and_from _ _ (are_counts_whole least most h.0) (has_counts_whole p h.1)
+has_counts_whole (repeat least most p) h = and_from _ _ (are_counts_whole least most h.0)
+    (has_counts_whole p h.1)
 has_counts_whole (plus p) h = has_counts_whole p h
 
 abbrev in_profile : Pattern → Bool
@@ -63,11 +75,17 @@ in_profile_sound : (p : Pattern) → in_profile p ≡ true → InProfile p
 in_profile_sound p e =
     let all = and_parts (has_counts p) _ e in
     let both = and_parts (nat_le (depth p) max_depth) (nat_le (size p) max_size) all.1 in
-    record { counts = has_counts_sound p all.0; depth_fits = leb-true (depth p) max_depth both.0; size_fits = leb-true (size p) max_size both.1 }
+    record {
+      counts = has_counts_sound p all.0;
+      depth_fits = leb-true (depth p) max_depth both.0;
+      size_fits =
+          leb-true (size p) max_size both.1;
+    }
 
 in_profile_whole : (p : Pattern) → InProfile p → in_profile p ≡ true
 in_profile_whole p h =
-    and_from _ _ (has_counts_whole p h.counts) (and_from _ _ (le-leb (depth p) max_depth h.depth_fits) (le-leb (size p) max_size h.size_fits))
+    and_from _ _ (has_counts_whole p h.counts) (and_from _ _ (le-leb (depth p) max_depth h.depth_fits)
+    (le-leb (size p) max_size h.size_fits))
 
 -- ---- the whole text
 
@@ -108,18 +126,32 @@ GoesOn t done s = (part : Text) × (after : Text) × (s ≡ part ++ after) × Ma
 
 front_sound : (t done s : Text) → front_matches t done s ≡ true → GoesOn t done s
 unfolding GoesOn
-front_sound t done [] h = ([], [], refl, let P : Text → Type 0 = λ u. Matches u t in subst P (sym (append-nil done)) (match_is done t h))
+front_sound t done [] h = (
+  [],
+  [],
+  refl,
+  let P : Text
+      → Type 0 = λ u. Matches u t in subst P (sym (append-nil done)) (match_is done t h),
+)
 front_sound t done (c ∷ s) h =
     ⊎_elim
-    (λ k. ([], c ∷ s, refl, let P : Text → Type 0 = λ u. Matches u t in subst P (sym (append-nil done)) (match_is done t k)))
+    (λ k. (
+      [],
+      c ∷ s,
+      refl,
+      let P : Text → Type 0 = λ u. Matches u t in subst P (sym (append-nil done))
+          (match_is done t k),
+    ))
     (λ k.
     let r = front_sound t (done ++ (c ∷ [])) s k in
     let P : Text → Type 0 = λ u. Matches u t in
     (c ∷ r.0, r.1, ap (λ u. c ∷ u) r.2, subst P (append_assoc done (c ∷ []) r.0) r.3))
     (or_cases (is_match done t) _ h)
 
-front_whole : (t done s part after : Text) → s ≡ part ++ after → Matches (done ++ part) t → front_matches t done s ≡ true
-front_whole t done [] [] after e m = match_whole done t (let P : Text → Type 0 = λ u. Matches u t in subst P (append-nil done) m)
+front_whole : (t done s part after : Text) → s ≡ part ++ after → Matches (done ++ part) t
+    → front_matches t done s ≡ true
+front_whole t done [] [] after e m = match_whole done t (let P : Text
+    → Type 0 = λ u. Matches u t in subst P (append-nil done) m)
 front_whole t done [] (d ∷ part) after e m = absurd cc
 front_whole t done (c ∷ s) [] after e m =
     or_left _ _ (match_whole done t (let P : Text → Type 0 = λ u. Matches u t in subst P (append-nil done) m))
@@ -128,7 +160,8 @@ front_whole t done (c ∷ s) (d ∷ part) after e m =
     let tail : s ≡ part ++ after = cc in
     let P : Text → Type 0 = λ u. Matches u t in
     let Q : ℕ → Type 0 = λ k. Matches (done ++ (k ∷ part)) t in
-    or_right _ _ (front_whole t (done ++ (c ∷ [])) s part after tail (subst P (sym (append_assoc done (c ∷ []) part)) (subst Q head m)))
+    or_right _ _ (front_whole t (done ++ (c ∷ [])) s part after tail
+    (subst P (sym (append_assoc done (c ∷ []) part)) (subst Q head m)))
 
 found_sound : (s t : Text) → is_found s t ≡ true → Found s t
 unfolding GoesOn
@@ -139,7 +172,8 @@ found_sound (c ∷ s) t h =
     (λ k. let r = found_sound s t k in (c ∷ r.0, r.1, r.2, ap (λ u. c ∷ u) r.3, r.4))
     (or_cases (front_matches t [] (c ∷ s)) (is_found s t) h)
 
-found_whole : (s t before part after : Text) → s ≡ before ++ (part ++ after) → Matches part t → is_found s t ≡ true
+found_whole : (s t before part after : Text) → s ≡ before ++ (part ++ after) → Matches part t
+    → is_found s t ≡ true
 found_whole [] t [] part after e m = front_whole t [] [] part after e m
 found_whole [] t (d ∷ before) part after e m = absurd cc
 found_whole (c ∷ s) t [] part after e m = or_left _ _ (front_whole t [] (c ∷ s) part after e m)

@@ -1,19 +1,24 @@
--- One step on a set of places: what is left of it, that it rises, and how many places it has. The flag says whether place 0 is in
+-- One step on a set of places: what is left of it, that it rises, and how many places it has. The flag says
+-- whether place 0 is in
 -- the set, and the list has the others.
-use Rattle.std.proofs.Common.{◌≡◌, ℕ, zero, suc, ◌+◌, ◌≤◌, ◌⊎◌, Bool, true, false, ◌&&◌, if◌then◌else◌, IsTrue, List, [], ◌∷◌, ◌++◌, length, refl, sym, subst, inl, inr, ⊎_elim, arith, true≢false}
+use Rattle.std.proofs.Common.{◌≡◌, ℕ, zero, suc, ◌+◌, ◌≤◌, ◌⊎◌, Bool, true, false, ◌&&◌, if◌then◌else◌}
+use Rattle.std.proofs.Common.{IsTrue, List, [], ◌∷◌, ◌++◌, length, refl, sym, subst, inl, inr, ⊎_elim, arith}
+use Rattle.std.proofs.Common.{true≢false}
 use Rattle.std.specs.Prelude.{Contains}
 use Rattle.std.proofs.lemmas.Bool.{or_cases, or_left, or_right, eqb-true, eq-eqb}
 use Rattle.jp_regexp.specs.Pattern.{Text, Pattern}
 use Rattle.jp_regexp.specs.Profile.{HasCounts}
 use Rattle.jp_regexp.specs.CharSets.{in_set}
-use Rattle.jp_regexp.specs.Unrolled.{Unrolled, nothing, letter, seq, either, maybe, plus, unrolled, Has, letters, After, PlaceHas, SomePlaceHas, all_places}
+use Rattle.jp_regexp.specs.Unrolled.{Unrolled, nothing, letter, seq, either, maybe, plus, unrolled, Has}
+use Rattle.jp_regexp.specs.Unrolled.{letters, After, PlaceHas, SomePlaceHas, all_places}
 use Rattle.jp_regexp.specs.Walk.{advance, Elem, is_elem, Rises}
 use Rattle.jp_regexp.proofs.StepLemmas.{After-within, Held, advance_within, advance_sound, advance_whole}
 use Rattle.jp_regexp.proofs.UnrolledLemmas.{unrolled_whole, unrolled_sound}
 
 is_elem-Elem : (xs : List ℕ) (x : ℕ) → is_elem xs x ≡ true → Elem x xs
 is_elem-Elem [] x e = absurd (true≢false (sym e))
-is_elem-Elem (y ∷ ys) x e = ⊎_elim (λ h. inl (eqb-true x y h)) (λ h. inr (is_elem-Elem ys x h)) (or_cases _ _ e)
+is_elem-Elem (y ∷ ys) x e = ⊎_elim (λ h. inl (eqb-true x y h)) (λ h. inr (is_elem-Elem ys x h))
+    (or_cases _ _ e)
 
 Elem-is_elem : (xs : List ℕ) (x : ℕ) → Elem x xs → is_elem xs x ≡ true
 Elem-is_elem [] x h = absurd h
@@ -51,8 +56,11 @@ module _ (p : Pattern) (start : Bool) (xs : List ℕ) (t : Text) where
   pub left_has : HasCounts p → Left → SomePlaceHas p (all_places start xs) t
   left_has o (inl (f, m)) = (0, Elem-Contains _ 0 (first start f), unrolled_sound p t o m)
   left_has o (inr (k, l, m)) =
-      let same : 0 + k ≡ k = omega arith in
-      (k, Elem-Contains _ k (other start k (is_elem-Elem xs k (subst (λ n. IsTrue (is_elem xs n)) same l))), place k m)
+      let same : 0 + k ≡ k = omega arith in (
+        k,
+        Elem-Contains _ k (other start k (is_elem-Elem xs k (subst (λ n. IsTrue (is_elem xs n)) same l))),
+        place k m,
+      )
 
   by_flag : (b : Bool) (k : ℕ) → Elem k (all_places b xs) → (IsTrue b × (k ≡ 0)) ⊎ Elem k xs
   by_flag true k (inl e) = inl (refl, e)
@@ -92,7 +100,8 @@ module _ (p : Unrolled) (start : Bool) (xs : List ℕ) (c : ℕ) (anew : Bool) (
 
 -- ---- no place twice
 
-Rises-append : (low mid : ℕ) (xs ys : List ℕ) → low ≤ mid → ((x : ℕ) → Elem x xs → x ≤ mid) → Rises low xs → Rises mid ys → Rises low (xs ++ ys)
+Rises-append : (low mid : ℕ) (xs ys : List ℕ) → low ≤ mid → ((x : ℕ) → Elem x xs → x ≤ mid) → Rises low xs
+    → Rises mid ys → Rises low (xs ++ ys)
 Rises-append low mid [] [] le f h k = tt
 Rises-append low mid [] (y ∷ ys) le f h k = (omega arith, k.1)
 Rises-append low mid (x ∷ xs) ys le f h k =
@@ -107,21 +116,25 @@ module _ (live : ℕ → Bool) (c : ℕ) where
   advance_rises nothing off entered = tt
   advance_rises (letter set) off entered = one_rises off (entered && in_set set c)
   advance_rises (seq a b) off entered =
-      Rises-append off (off + letters a) _ _ (omega arith) (λ x l. (advance_within live c a off entered x l).1)
+      Rises-append off (off + letters a) _ _ (omega arith)
+      (λ x l. (advance_within live c a off entered x l).1)
       (advance_rises a off entered) (advance_rises b (off + letters a) _)
   advance_rises (either a b) off entered =
-      Rises-append off (off + letters a) _ _ (omega arith) (λ x l. (advance_within live c a off entered x l).1)
+      Rises-append off (off + letters a) _ _ (omega arith)
+      (λ x l. (advance_within live c a off entered x l).1)
       (advance_rises a off entered) (advance_rises b (off + letters a) _)
   advance_rises (maybe a) off entered = advance_rises a off entered
   advance_rises (plus a) off entered = advance_rises a off _
 
-rises_short : (xs : List ℕ) (low high : ℕ) → Rises low xs → ((x : ℕ) → Elem x xs → x ≤ high) → low ≤ high → low + length xs ≤ high
+rises_short : (xs : List ℕ) (low high : ℕ) → Rises low xs → ((x : ℕ) → Elem x xs → x ≤ high) → low ≤ high
+    → low + length xs ≤ high
 rises_short [] low high h f le = omega arith
 rises_short (x ∷ xs) low high h f le =
     omega (arith, rises_short xs x high h.1 (λ z l. f z (inr l)) (f x (inl refl)), h.0)
 
 -- there are no more places than atoms of one character
-pub advance_few : (live : ℕ → Bool) (c : ℕ) (p : Unrolled) (start : Bool) → length (advance live c p 0 start) ≤ letters p
+pub advance_few : (live : ℕ → Bool) (c : ℕ) (p : Unrolled) (start : Bool)
+    → length (advance live c p 0 start) ≤ letters p
 advance_few live c p start =
     omega (
       arith,

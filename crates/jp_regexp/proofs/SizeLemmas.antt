@@ -14,7 +14,8 @@ capped_product (suc a) b m = by_order (either_order b m)
     either_order : (b m : ℕ) → (b ≤ m) ⊎ (m ≤ b)
     either_order zero m = inl (omega arith)
     either_order (suc b) zero = inr (omega arith)
-    either_order (suc b) (suc m) = elim (either_order b m) [ inl h ↦ inl (omega arith) | inr h ↦ inr (omega arith) ]
+    either_order (suc b) (suc m) =
+        elim (either_order b m) [ inl h ↦ inl (omega arith) | inr h ↦ inr (omega arith) ]
 
     by_order : (b ≤ m) ⊎ (m ≤ b) → min (suc a * min b m) m ≡ min (suc a * b) m
     by_order (inl h) = let e : min b m ≡ b = omega arith in ap (λ k. min (suc a * k) m) e

@@ -1,5 +1,7 @@
 -- One step on a set of places.
-use Rattle.std.proofs.Common.{◌≡◌, ℕ, ◌+◌, ◌≤◌, ◌<◌, ◌⊎◌, Bool, true, false, ◌&&◌, ◌||◌, if◌then◌else◌, IsTrue, List, [], ◌∷◌, ◌++◌, length, None, refl, sym, ap, ap₂, ◌∙◌, subst, inl, inr, ⊎_elim, arith, true≢false, add_assoc}
+use Rattle.std.proofs.Common.{◌≡◌, ℕ, ◌+◌, ◌≤◌, ◌<◌, ◌⊎◌, Bool, true, false, ◌&&◌, ◌||◌, if◌then◌else◌}
+use Rattle.std.proofs.Common.{IsTrue, List, [], ◌∷◌, ◌++◌, length, None, refl, sym, ap, ap₂, ◌∙◌, subst, inl}
+use Rattle.std.proofs.Common.{inr, ⊎_elim, arith, true≢false, add_assoc}
 use Rattle.std.specs.List.{concat, AllByRecursion}
 use Rattle.std.proofs.lemmas.Bool.{and_parts, and_from, or_cases, or_left, or_right}
 use Rattle.jp_regexp.specs.Language.{Repeated}
@@ -7,7 +9,8 @@ use Rattle.jp_regexp.specs.CharSets.{in_set}
 use Rattle.jp_regexp.specs.Pattern.{Text}
 use Rattle.jp_regexp.specs.Unrolled.{Unrolled, nothing, letter, seq, either, maybe, plus, Has, letters, After}
 use Rattle.jp_regexp.specs.Walk.{leaves, advance, Elem}
-use Rattle.jp_regexp.proofs.PartLemmas.{then_read, read_then, empty_then, then_empty, repeated_read_on, read_repeated_on}
+use Rattle.jp_regexp.proofs.PartLemmas.{then_read, read_then, empty_then, then_empty, repeated_read_on}
+use Rattle.jp_regexp.proofs.PartLemmas.{read_repeated_on}
 
 -- ---- numbers of places
 
@@ -44,7 +47,8 @@ one-Elem : (x y : ℕ) (b : Bool) → IsTrue b → x ≡ y → Elem x (if b then
 one-Elem x y true h e = inl e
 one-Elem x y false h e = absurd (true≢false (sym h))
 
-first_empty : (X : Text → Type 0) (parts : List Text) → AllByRecursion X parts → 1 ≤ length parts → [] ≡ concat parts → X []
+first_empty : (X : Text → Type 0) (parts : List Text) → AllByRecursion X parts → 1 ≤ length parts
+    → [] ≡ concat parts → X []
 first_empty X [] all low e = absurd (omega arith)
 first_empty X ([] ∷ parts) all low e = all.0
 first_empty X ((d ∷ u) ∷ parts) all low e = absurd (cc)
@@ -66,7 +70,8 @@ module _ (live : ℕ → Bool) where
   abbrev pub Held : Unrolled → ℕ → Bool → Text → Type 0
   Held p off entered t = (IsTrue entered × Has p t) ⊎ Live p off t
 
-  pub leaves_sound : (p : Unrolled) (off : ℕ) (entered : Bool) → leaves live p off entered ≡ true → Held p off entered []
+  pub leaves_sound : (p : Unrolled) (off : ℕ) (entered : Bool) → leaves live p off entered ≡ true
+      → Held p off entered []
   leaves_sound nothing off entered e = inl (e, refl)
   leaves_sound (letter set) off entered e = inr (1, e, (refl, refl))
   leaves_sound (seq a b) off entered e =
@@ -94,7 +99,8 @@ module _ (live : ℕ → Bool) where
       (λ r. inr (r.0, r.1, ([], [], refl, r.2, ([], tt, omega arith, tt, refl))))
       (leaves_sound a off entered e)
 
-  pub leaves_whole : (p : Unrolled) (off : ℕ) (entered : Bool) → Held p off entered [] → leaves live p off entered ≡ true
+  pub leaves_whole : (p : Unrolled) (off : ℕ) (entered : Bool) → Held p off entered []
+      → leaves live p off entered ≡ true
   leaves_whole nothing off entered (inl (f, m)) = f
   leaves_whole nothing off entered (inr (k, l, m)) = absurd m
   leaves_whole (letter set) off entered (inl (f, (c, e, m))) = absurd (cc)
@@ -107,9 +113,12 @@ module _ (live : ℕ → Bool) where
       leaves_whole b _ _ (inl (leaves_whole a off entered (inr (k, l, r.0)), r.1))
   leaves_whole (seq a b) off entered (inr (k, l, inr (j, e, m))) =
       leaves_whole b _ _ (inr (j, nearer off (letters a) j k e l, m))
-  leaves_whole (either a b) off entered (inl (f, inl m)) = or_left _ _ (leaves_whole a off entered (inl (f, m)))
-  leaves_whole (either a b) off entered (inl (f, inr m)) = or_right _ _ (leaves_whole b _ entered (inl (f, m)))
-  leaves_whole (either a b) off entered (inr (k, l, inl m)) = or_left _ _ (leaves_whole a off entered (inr (k, l, m)))
+  leaves_whole (either a b) off entered (inl (f, inl m)) =
+      or_left _ _ (leaves_whole a off entered (inl (f, m)))
+  leaves_whole (either a b) off entered (inl (f, inr m)) =
+      or_right _ _ (leaves_whole b _ entered (inl (f, m)))
+  leaves_whole (either a b) off entered (inr (k, l, inl m)) =
+      or_left _ _ (leaves_whole a off entered (inr (k, l, m)))
   leaves_whole (either a b) off entered (inr (k, l, inr (j, e, m))) =
       or_right _ _ (leaves_whole b _ entered (inr (j, nearer off (letters a) j k e l, m)))
   leaves_whole (maybe a) off entered (inl (f, m)) = or_left _ _ f
@@ -124,7 +133,8 @@ module _ (live : ℕ → Bool) where
   live_end p off e = ⊎_elim (λ f. absurd (true≢false (sym f.0))) (λ r. r) (leaves_sound p off false e)
 
   -- to reach the end again changes nothing there
-  pub leaves_again : (p : Unrolled) (off : ℕ) (entered : Bool) → leaves live p off (entered || leaves live p off false) ≡ leaves live p off entered
+  pub leaves_again : (p : Unrolled) (off : ℕ) (entered : Bool)
+      → leaves live p off (entered || leaves live p off false) ≡ leaves live p off entered
   leaves_again p off true = refl
   leaves_again p off false = at_end (leaves live p off false) refl where
     at_end : (b : Bool) → leaves live p off false ≡ b → leaves live p off b ≡ leaves live p off false
@@ -140,10 +150,12 @@ module _ (live : ℕ → Bool) where
     abbrev pub Before : Unrolled → ℕ → Bool → Text → Type 0
     Before p off entered t = Held p off entered (c ∷ t)
 
-    pub advance_within : (p : Unrolled) (off : ℕ) (entered : Bool) (x : ℕ) → Elem x (advance live c p off entered) →
+    pub advance_within : (p : Unrolled) (off : ℕ) (entered : Bool) (x : ℕ)
+        → Elem x (advance live c p off entered) →
         (off < x) × (x ≤ off + letters p)
     advance_within nothing off entered x h = absurd h
-    advance_within (letter set) off entered x h = let r = Elem-one x (off + 1) (entered && in_set set c) h in omega arith
+    advance_within (letter set) off entered x h = let r = Elem-one x (off + 1) (entered && in_set set c) h in
+        omega arith
     advance_within (seq a b) off entered x h =
         ⊎_elim
         (λ l. let r = advance_within a off entered x l in omega arith)
@@ -157,7 +169,8 @@ module _ (live : ℕ → Bool) where
     advance_within (maybe a) off entered x h = advance_within a off entered x h
     advance_within (plus a) off entered x h = advance_within a off (entered || leaves live a off false) x h
 
-    pub advance_none : (p : Unrolled) (off : ℕ) (entered : Bool) → letters p ≡ 0 → advance live c p off entered ≡ []
+    pub advance_none : (p : Unrolled) (off : ℕ) (entered : Bool) → letters p ≡ 0
+        → advance live c p off entered ≡ []
     advance_none nothing off entered e = refl
     advance_none (letter set) off entered e = absurd (omega arith)
     advance_none (seq a b) off entered e =
@@ -168,10 +181,13 @@ module _ (live : ℕ → Bool) where
     advance_none (plus a) off entered e = advance_none a off _ e
 
     -- a place of the second part is none of the first
-    on_left : (a : Unrolled) (off k : ℕ) (entered : Bool) (t : Text) (ys : List ℕ) → ((x : ℕ) → Elem x ys → off + letters a < x) →
-        After a k t → Elem (off + k) (advance live c a off entered ++ ys) → Elem (off + k) (advance live c a off entered)
+    on_left : (a : Unrolled) (off k : ℕ) (entered : Bool) (t : Text) (ys : List ℕ)
+        → ((x : ℕ) → Elem x ys → off + letters a < x) →
+        After a k t → Elem (off + k) (advance live c a off entered ++ ys)
+        → Elem (off + k) (advance live c a off entered)
     on_left a off k entered t ys far m h =
-        ⊎_elim (λ l. l) (λ l. let r = After-within a k t m in let f = far (off + k) l in absurd (omega arith)) (Elem-parts _ _ ys h)
+        ⊎_elim (λ l. l) (λ l. let r = After-within a k t m in let f = far (off + k) l in absurd (omega arith))
+        (Elem-parts _ _ ys h)
 
     on_right : (a : Unrolled) (off j : ℕ) (entered : Bool) (ys : List ℕ) → 0 < j →
         Elem (off + (letters a + j)) (advance live c a off entered ++ ys) → Elem ((off + letters a) + j) ys
@@ -211,7 +227,8 @@ module _ (live : ℕ → Bool) where
     advance_sound (either a b) off entered k t h (inl m) =
         let here = on_left a off k entered t (advance live c b (off + letters a) entered)
         (λ n l. (advance_within b (off + letters a) entered n l).0) m h in
-        ⊎_elim (λ l. inl (l.0, inl l.1)) (λ l. inr (l.0, l.1, inl l.2)) (advance_sound a off entered k t here m)
+        ⊎_elim (λ l. inl (l.0, inl l.1)) (λ l. inr (l.0, l.1, inl l.2))
+        (advance_sound a off entered k t here m)
     advance_sound (either a b) off entered k t h (inr (j, e, m)) =
         let some = (After-within b j t m).0 in
         let here = on_right a off j entered (advance live c b (off + letters a) entered) some
@@ -236,20 +253,27 @@ module _ (live : ℕ → Bool) where
         (λ l. inr (l.0, l.1, read_then (After a l.0) (Repeated (Has a) 0 None) c t (u, w, e, l.2, y)))
         (advance_sound a off (entered || leaves live a off false) k u h x)
 
-    to_right : (a b : Unrolled) (off : ℕ) (entered next : Bool) (t : Text) → Reached b (off + letters a) next t →
+    to_right : (a b : Unrolled) (off : ℕ) (entered next : Bool) (t : Text)
+        → Reached b (off + letters a) next t →
         (k : ℕ) × Elem (off + k) (advance live c a off entered ++ advance live c b (off + letters a) next)
         × ((j : ℕ) × (k ≡ letters a + j) × After b j t)
     to_right a b off entered next t (j, h, m) =
-        let moved = subst (λ n. Elem n (advance live c b (off + letters a) next)) (add_assoc off (letters a) j) h in
+        let moved = subst (λ n. Elem n (advance live c b (off + letters a) next))
+        (add_assoc off (letters a) j) h in
         (letters a + j, Elem-right _ (advance live c a off entered) _ moved, (j, refl, m))
 
-    pub advance_whole : (p : Unrolled) (off : ℕ) (entered : Bool) (t : Text) → Before p off entered t → Reached p off entered t
+    pub advance_whole : (p : Unrolled) (off : ℕ) (entered : Bool) (t : Text) → Before p off entered t
+        → Reached p off entered t
     advance_whole nothing off entered t (inl (f, m)) = absurd (cc)
     advance_whole nothing off entered t (inr (k, l, m)) = absurd m
     advance_whole (letter set) off entered t (inl (f, (d, e, m))) =
         let same : d ≡ c = cc in
-        let rest : t ≡ [] = cc in
-        (1, one-Elem (off + 1) (off + 1) (entered && in_set set c) (and_from _ _ f (subst (λ n. IsTrue (in_set set n)) same m)) refl, (refl, rest))
+        let rest : t ≡ [] = cc in (
+          1,
+          one-Elem (off + 1) (off + 1) (entered && in_set set c)
+              (and_from _ _ f (subst (λ n. IsTrue (in_set set n)) same m)) refl,
+          (refl, rest),
+        )
     advance_whole (letter set) off entered t (inr (k, l, (e, m))) = absurd (cc)
     advance_whole (seq a b) off entered t (inl (f, m)) =
         let next = leaves live a off entered in
@@ -277,7 +301,8 @@ module _ (live : ℕ → Bool) where
     advance_whole (either a b) off entered t (inl (f, inl m)) =
         let r = advance_whole a off entered t (inl (f, m)) in (r.0, Elem-left _ _ _ r.1, inl r.2)
     advance_whole (either a b) off entered t (inl (f, inr m)) =
-        let r = to_right a b off entered entered t (advance_whole b (off + letters a) entered t (inl (f, m))) in
+        let r = to_right a b off entered entered t (advance_whole b (off + letters a) entered t
+        (inl (f, m))) in
         (r.0, r.1, inr r.2)
     advance_whole (either a b) off entered t (inr (k, l, inl m)) =
         let r = advance_whole a off entered t (inr (k, l, m)) in (r.0, Elem-left _ _ _ r.1, inl r.2)
@@ -297,6 +322,7 @@ module _ (live : ℕ → Bool) where
         (λ h. let r = advance_whole a off (entered || leaves live a off false) h.0 (inr (k, l, h.3)) in
         (r.0, r.1, (h.0, h.1, h.2, r.2, h.4)))
         (λ g. let h = repeated_read_on (Has a) c t 0 g.1 in
-        let r = advance_whole a off (entered || leaves live a off false) h.0 (inl (or_right _ _ (leaves_whole a off false (inr (k, l, g.0))), h.3)) in
+        let r = advance_whole a off (entered || leaves live a off false) h.0
+        (inl (or_right _ _ (leaves_whole a off false (inr (k, l, g.0))), h.3)) in
         (r.0, r.1, (h.0, h.1, h.2, r.2, h.4)))
         (then_read (After a k) (Repeated (Has a) 0 None) c t m)

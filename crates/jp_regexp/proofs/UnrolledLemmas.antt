@@ -1,5 +1,7 @@
--- The pattern that is written out has the same texts, and as many atoms of one character as the unrolled size says.
-use Rattle.std.proofs.Common.{◌≡◌, ℕ, zero, suc, ◌+◌, ◌*◌, ◌≤◌, List, [], ◌∷◌, ◌++◌, length, Some, None, refl, ap, ap₂, ◌∙◌, inl, inr, arith}
+-- The pattern that is written out has the same texts, and as many atoms of one character as the unrolled
+-- size says.
+use Rattle.std.proofs.Common.{◌≡◌, ℕ, zero, suc, ◌+◌, ◌*◌, ◌≤◌, List, [], ◌∷◌, ◌++◌, length, Some, None, refl}
+use Rattle.std.proofs.Common.{ap, ap₂, ◌∙◌, inl, inr, arith}
 use Rattle.std.specs.List.{concat, AllByRecursion}
 use Rattle.jp_regexp.specs.Pattern.{Text, Pattern}
 use Rattle.jp_regexp.specs.Language.{Repeated, Member}
@@ -7,18 +9,33 @@ use Rattle.jp_regexp.specs.Profile.{HasCounts, size}
 use Rattle.jp_regexp.specs.Unrolled.{Unrolled, counted, counted_on, unrolled, Has, letters}
 
 module _ (a : Unrolled) where
-  counted_whole : (least most : ℕ) (parts : List Text) (t : Text) → AllByRecursion (Has a) parts → least ≤ length parts →
+  counted_whole : (least most : ℕ) (parts : List Text) (t : Text) → AllByRecursion (Has a) parts
+      → least ≤ length parts →
       length parts ≤ most → t ≡ concat parts → Has (counted least most a) t
   counted_whole least zero [] t all low high e = e
   counted_whole least zero (x ∷ parts) t all low high e = absurd (omega arith)
   counted_whole zero (suc most) [] t all low high e = inl e
   counted_whole zero (suc most) (x ∷ parts) t all low high e =
-      inr (x, concat parts, e, all.0, counted_whole zero most parts (concat parts) all.1 (omega arith) (omega arith) refl)
+      inr (
+        x,
+        concat parts,
+        e,
+        all.0,
+        counted_whole zero most parts (concat parts) all.1 (omega arith)
+            (omega arith) refl,
+      )
   counted_whole (suc least) (suc most) [] t all low high e = absurd (omega arith)
-  counted_whole (suc least) (suc most) (x ∷ parts) t all low high e =
-      (x, concat parts, e, all.0, counted_whole least most parts (concat parts) all.1 (omega arith) (omega arith) refl)
+  counted_whole (suc least) (suc most) (x ∷ parts) t all low high e = (
+    x,
+    concat parts,
+    e,
+    all.0,
+    counted_whole least most parts (concat parts) all.1 (omega arith)
+        (omega arith) refl,
+  )
 
-  counted_sound : (least most : ℕ) (t : Text) → least ≤ most → Has (counted least most a) t → Repeated (Has a) least (Some most) t
+  counted_sound : (least most : ℕ) (t : Text) → least ≤ most → Has (counted least most a) t
+      → Repeated (Has a) least (Some most) t
   counted_sound least zero t le e = ([], tt, omega arith, omega arith, e)
   counted_sound zero (suc most) t le (inl e) = ([], tt, omega arith, omega arith, e)
   counted_sound zero (suc most) t le (inr (u, v, e, x, y)) =
@@ -28,7 +45,8 @@ module _ (a : Unrolled) where
       let r = counted_sound least most v (omega arith) y in
       (u ∷ r.0, (x, r.1), omega (arith, r.2), omega (arith, r.3), e ∙ ap (λ w. u ++ w) r.4)
 
-  counted_on_whole : (least : ℕ) (parts : List Text) (t : Text) → AllByRecursion (Has a) parts → least ≤ length parts →
+  counted_on_whole : (least : ℕ) (parts : List Text) (t : Text) → AllByRecursion (Has a) parts
+      → least ≤ length parts →
       t ≡ concat parts → Has (counted_on least a) t
   counted_on_whole zero [] t all low e = inl e
   counted_on_whole zero (x ∷ parts) t all low e = inr (x ∷ parts, all, omega arith, tt, e)
@@ -58,11 +76,14 @@ letters-unrolled (Pattern.letter set) = refl
 letters-unrolled (Pattern.group p) = letters-unrolled p
 letters-unrolled (Pattern.seq p q) = ap₂ (λ m n. m + n) (letters-unrolled p) (letters-unrolled q)
 letters-unrolled (Pattern.either p q) = ap₂ (λ m n. m + n) (letters-unrolled p) (letters-unrolled q)
-letters-unrolled (Pattern.repeat least None p) = letters-counted_on (unrolled p) least ∙ ap (λ n. (least + 1) * n) (letters-unrolled p)
-letters-unrolled (Pattern.repeat least (Some most) p) = letters-counted (unrolled p) least most ∙ ap (λ n. most * n) (letters-unrolled p)
+letters-unrolled (Pattern.repeat least None p) = letters-counted_on (unrolled p) least
+    ∙ ap (λ n. (least + 1) * n) (letters-unrolled p)
+letters-unrolled (Pattern.repeat least (Some most) p) = letters-counted (unrolled p) least most
+    ∙ ap (λ n. most * n) (letters-unrolled p)
 letters-unrolled (Pattern.plus p) = letters-unrolled p
 
-All-map : (X Y : Text → Type 0) → ((u : Text) → X u → Y u) → (parts : List Text) → AllByRecursion X parts → AllByRecursion Y parts
+All-map : (X Y : Text → Type 0) → ((u : Text) → X u → Y u) → (parts : List Text) → AllByRecursion X parts
+    → AllByRecursion Y parts
 All-map X Y f [] all = tt
 All-map X Y f (x ∷ parts) all = (f x all.0, All-map X Y f parts all.1)
 
@@ -84,7 +105,8 @@ pub unrolled_sound : (p : Pattern) (t : Text) → HasCounts p → Has (unrolled 
 unrolled_sound Pattern.empty t o m = m
 unrolled_sound (Pattern.letter set) t o m = m
 unrolled_sound (Pattern.group p) t o m = unrolled_sound p t o m
-unrolled_sound (Pattern.seq p q) t o (u, v, e, x, y) = (u, v, e, unrolled_sound p u o.0 x, unrolled_sound q v o.1 y)
+unrolled_sound (Pattern.seq p q) t o (u, v, e, x, y) =
+    (u, v, e, unrolled_sound p u o.0 x, unrolled_sound q v o.1 y)
 unrolled_sound (Pattern.either p q) t o (inl x) = inl (unrolled_sound p t o.0 x)
 unrolled_sound (Pattern.either p q) t o (inr y) = inr (unrolled_sound q t o.1 y)
 unrolled_sound (Pattern.repeat least None p) t o m =

@@ -1,12 +1,16 @@
 -- A walk over a part, from the walks over its parts.
-use Rattle.std.proofs.Common.{◌≡◌, ℕ, zero, suc, ◌+◌, ◌-◌, ◌*◌, ◌≤◌, ◌<◌, Bool, true, false, ◌&&◌, ◌||◌, nat_le, List, [], ◌∷◌, map, drop, get_or, length, drop-cons, refl, sym, ap, ap₂, ◌∙◌, subst, arith, IsTrue, mul-le-mul_right}
+use Rattle.std.proofs.Common.{◌≡◌, ℕ, zero, suc, ◌+◌, ◌-◌, ◌*◌, ◌≤◌, ◌<◌, Bool, true, false, ◌&&◌, ◌||◌}
+use Rattle.std.proofs.Common.{nat_le, List, [], ◌∷◌, map, drop, get_or, length, drop-cons, refl, sym, ap, ap₂}
+use Rattle.std.proofs.Common.{◌∙◌, subst, arith, IsTrue, mul-le-mul_right}
 use Rattle.jp_regexp.specs.declared.reach.Reach.{Reach}
 use Rattle.jp_regexp.specs.declared.parts.Part.{Part}
 use Rattle.jp_regexp.specs.Parts.{meaning, in_turn_of, unrolled_in, unrolled_in_turn, branches_before}
-use Rattle.jp_regexp.specs.Unrolled.{Unrolled, unrolled, nothing, seq, either, plus, counted, counted_on, letters}
+use Rattle.jp_regexp.specs.Unrolled.{Unrolled, unrolled, nothing, seq, either, plus, counted, counted_on}
+use Rattle.jp_regexp.specs.Unrolled.{letters}
 use Rattle.jp_regexp.specs.Walk.{leaves, is_elem, Dead, IsAt, IsWalk, or_entered, entered_as}
 use Rattle.jp_regexp.proofs.UnrolledLemmas.{letters-counted, letters-counted_on}
-use Rattle.jp_regexp.proofs.CopyLemmas.{counted-letters, counted-leaves, open-letters, open-leaves, skipped, skipped_on, letters-skipped, letters-skipped_on}
+use Rattle.jp_regexp.proofs.CopyLemmas.{counted-letters, counted-leaves, open-letters, open-leaves, skipped}
+use Rattle.jp_regexp.proofs.CopyLemmas.{skipped_on, letters-skipped, letters-skipped_on}
 
 or_assoc : (x y z : Bool) → ((x || y) || z) ≡ (x || (y || z))
 or_assoc true y z = refl
@@ -23,39 +27,51 @@ one_more : (parts : List Part) (i : ℕ) (part : Part) → i < length parts → 
     map meaning (drop i parts) ≡ meaning part ∷ map meaning (drop (i + 1) parts)
 one_more parts i part lt e =
     let back : suc i ≡ i + 1 = omega arith in
-    ap (map meaning) (drop-cons parts i part lt ∙ ap (λ x. x ∷ drop (suc i) parts) (sym e) ∙ ap (λ n. part ∷ drop n parts) back)
+    ap (map meaning) (drop-cons parts i part lt ∙ ap (λ x. x ∷ drop (suc i) parts) (sym e)
+    ∙ ap (λ n. part ∷ drop n parts) back)
 
 pub piece_next : (parts : List Part) (i : ℕ) (part : Part) → i < length parts → part ≡ get_or parts i part →
     unrolled_in_turn (drop i parts) ≡ seq (unrolled_in part) (unrolled_in_turn (drop (i + 1) parts))
 piece_next parts i part lt e = ap (λ ms. unrolled (in_turn_of ms)) (one_more parts i part lt e)
 
-pub branch_next : (parts : List Part) (q : Unrolled) (i : ℕ) (part : Part) → i < length parts → part ≡ get_or parts i part →
+pub branch_next : (parts : List Part) (q : Unrolled) (i : ℕ) (part : Part) → i < length parts
+    → part ≡ get_or parts i part →
     branches_before (drop i parts) q ≡ either (unrolled_in part) (branches_before (drop (i + 1) parts) q)
 branch_next parts q i part lt e =
     let back : suc i ≡ i + 1 = omega arith in
-    ap (λ ps. branches_before ps q) (drop-cons parts i part lt ∙ ap (λ x. x ∷ drop (suc i) parts) (sym e) ∙ ap (λ n. part ∷ drop n parts) back)
+    ap (λ ps. branches_before ps q) (drop-cons parts i part lt ∙ ap (λ x. x ∷ drop (suc i) parts) (sym e)
+    ∙ ap (λ n. part ∷ drop n parts) back)
 
 module _ (places : List ℕ) where
   pub nothing_walk : (x : Reach) → IsAt places x.past x.index → IsWalk places nothing x x
   nothing_walk x at = record { past = omega arith; entered = refl; stands = at }
 
-  pub seq_walk : (a b : Unrolled) (x y z : Reach) → IsWalk places a x y → IsWalk places b y z → IsWalk places (seq a b) x z
+  pub seq_walk : (a b : Unrolled) (x y z : Reach) → IsWalk places a x y → IsWalk places b y z
+      → IsWalk places (seq a b) x z
   seq_walk a b x y z f g = record {
     past = omega (arith, f.past, g.past);
     entered = g.entered ∙ ap₂ (λ n e. leaves (is_elem places) b n e) f.past f.entered;
     stands = g.stands;
   }
 
-  pub either_walk : (a b : Unrolled) (x y z : Reach) → IsWalk places a x y → IsWalk places b (entered_as x.entered y) z →
+  pub either_walk : (a b : Unrolled) (x y z : Reach) → IsWalk places a x y
+      → IsWalk places b (entered_as x.entered y) z →
       IsWalk places (either a b) x (or_entered y.entered z)
   either_walk a b x y z f g = record {
     past = omega (arith, f.past, g.past);
-    entered = ap₂ (λ d e. d || e) f.entered (g.entered ∙ ap (λ n. leaves (is_elem places) b n x.entered) f.past);
+    entered = ap₂ (λ d e. d || e) f.entered (g.entered ∙ ap (λ n. leaves (is_elem places) b n x.entered)
+        f.past);
     stands = g.stands;
   }
 
-  pub or_walk : (p : Unrolled) (b d : Bool) (x z : Reach) → IsWalk places p x (or_entered b (or_entered d z)) → IsWalk places p x (or_entered (b || d) z)
-  or_walk p b d x z f = record { past = f.past; entered = or_assoc b d z.entered ∙ f.entered; stands = f.stands }
+  pub or_walk : (p : Unrolled) (b d : Bool) (x z : Reach) → IsWalk places p x (or_entered b (or_entered d z))
+      → IsWalk places p x (or_entered (b || d) z)
+  or_walk p b d x z f = record {
+    past = f.past;
+    entered = or_assoc b d z.entered ∙ f.entered;
+    stands =
+        f.stands;
+  }
 
   module _ (a : Unrolled) (least i : ℕ) (x y z : Reach) (f : IsWalk places a x y) where
     pub copy_walk : (most : ℕ) → i < most → IsWalk places (counted (least - (i + 1)) (most - (i + 1)) a) y z →
@@ -63,43 +79,57 @@ module _ (places : List ℕ) where
     copy_walk most lt g = record {
       past = omega (arith, f.past, g.past, counted-letters a least i most lt);
       entered = ap (λ e. (nat_le least i && x.entered) || e)
-          (g.entered ∙ ap₂ (λ n e. leaves (is_elem places) (counted (least - (i + 1)) (most - (i + 1)) a) n e) f.past f.entered)
+          (g.entered ∙ ap₂ (λ n e. leaves (is_elem places) (counted (least - (i + 1)) (most - (i + 1)) a) n e)
+          f.past f.entered)
           ∙ sym (counted-leaves a least i (is_elem places) x.past x.entered most lt);
       stands = g.stands;
     }
 
-    pub copy_on_walk : i < least → IsWalk places (counted_on (least - (i + 1)) a) y z → IsWalk places (counted_on (least - i) a) x z
+    pub copy_on_walk : i < least → IsWalk places (counted_on (least - (i + 1)) a) y z
+        → IsWalk places (counted_on (least - i) a) x z
     copy_on_walk lt g = record {
       past = omega (arith, f.past, g.past, open-letters a least i lt);
-      entered = g.entered ∙ ap₂ (λ n e. leaves (is_elem places) (counted_on (least - (i + 1)) a) n e) f.past f.entered
+      entered = g.entered ∙ ap₂ (λ n e. leaves (is_elem places) (counted_on (least - (i + 1)) a) n e) f.past
+          f.entered
           ∙ sym (open-leaves a least i (is_elem places) x.past x.entered lt);
       stands = g.stands;
     }
 
-  module _ (a : Unrolled) (n least : ℕ) (x z : Reach) (none : x.entered ≡ false) (dead : Dead (is_elem places) x.past (n * letters a)) where
-    pub skip_walk : (most : ℕ) → n ≤ most → IsWalk places (counted (least - n) (most - n) a) (record x { past = x.past + n * letters a }) z →
+  module _ (a : Unrolled) (n least : ℕ) (x z : Reach) (none : x.entered ≡ false)
+      (dead : Dead (is_elem places) x.past (n * letters a)) where
+    pub skip_walk : (most : ℕ) → n ≤ most
+        → IsWalk places (counted (least - n) (most - n) a) (record x { past = x.past + n * letters a }) z →
         IsWalk places (counted least most a) x z
     skip_walk most le g = record {
       past = g.past ∙ letters-skipped a n least most x.past le;
-      entered = g.entered ∙ ap (λ e. leaves (is_elem places) (counted (least - n) (most - n) a) (x.past + n * letters a) e) none
+      entered = g.entered ∙ ap (λ e. leaves (is_elem places) (counted (least - n) (most - n) a)
+          (x.past + n * letters a) e) none
           ∙ sym (skipped (is_elem places) a n least most x.past le dead)
           ∙ ap (λ e. leaves (is_elem places) (counted least most a) x.past e) (sym none);
       stands = g.stands;
     }
 
-    pub skip_on_walk : n ≤ least → IsWalk places (counted_on (least - n) a) (record x { past = x.past + n * letters a }) z →
+    pub skip_on_walk : n ≤ least
+        → IsWalk places (counted_on (least - n) a) (record x { past = x.past + n * letters a }) z →
         IsWalk places (counted_on least a) x z
     skip_on_walk le g = record {
       past = g.past ∙ letters-skipped_on a n least x.past le;
-      entered = g.entered ∙ ap (λ e. leaves (is_elem places) (counted_on (least - n) a) (x.past + n * letters a) e) none
+      entered = g.entered ∙ ap (λ e. leaves (is_elem places) (counted_on (least - n) a)
+          (x.past + n * letters a) e) none
           ∙ sym (skipped_on (is_elem places) a n least x.past le dead)
           ∙ ap (λ e. leaves (is_elem places) (counted_on least a) x.past e) (sym none);
       stands = g.stands;
     }
 
   -- the last copy of `{n,}`
-  pub last_walk : (a : Unrolled) (x y : Reach) → IsWalk places a x y → IsWalk places (counted_on 0 a) x (or_entered x.entered y)
-  last_walk a x y f = record { past = f.past; entered = ap (λ e. x.entered || e) f.entered; stands = f.stands }
+  pub last_walk : (a : Unrolled) (x y : Reach) → IsWalk places a x y
+      → IsWalk places (counted_on 0 a) x (or_entered x.entered y)
+  last_walk a x y f = record {
+    past = f.past;
+    entered = ap (λ e. x.entered || e) f.entered;
+    stands =
+        f.stands;
+  }
 
   -- a copy that may be repeated ends where one does
   pub plus_walk : (a : Unrolled) (x y : Reach) → IsWalk places (plus a) x y → IsWalk places a x y
@@ -121,7 +151,8 @@ module _ (a : Unrolled) (least i here past : ℕ) (lt : i < least)
     (fits : past + letters (counted_on least a) ≤ 10_000) where
   pub copies_on_fit : here + (least - i) * letters a ≤ 10_000
   copies_on_fit =
-      let more : (least - i) * letters a ≤ (least - i + 1) * letters a = mul-le-mul_right (letters a) (omega arith) in
+      let more : (least - i) * letters a ≤ (least - i + 1) * letters a =
+      mul-le-mul_right (letters a) (omega arith) in
       omega (arith, total, fits, letters-counted_on a (least - i), more)
 
   pub copy_on_fits : here + letters a ≤ 10_000
@@ -142,7 +173,8 @@ pub not_entered : (b : Bool) (n : ℕ) → (IsTrue b → n ≡ 0) → 0 < n → 
 not_entered true n h lt = absurd (let e = h refl in omega arith)
 not_entered false n h lt = refl
 
-module _ (places : List ℕ) (a : Unrolled) (i n size least : ℕ) (x z : Reach) (e : size ≡ letters a) (none : x.entered ≡ false)
+module _ (places : List ℕ) (a : Unrolled) (i n size least : ℕ) (x z : Reach) (e : size ≡ letters a)
+    (none : x.entered ≡ false)
     (dead : Dead (is_elem places) x.past (n * size)) where
   behind : ℕ → Reach
   behind s = record { past = x.past + n * s; index = x.index; entered = x.entered }
@@ -151,7 +183,8 @@ module _ (places : List ℕ) (a : Unrolled) (i n size least : ℕ) (x z : Reach)
   dead_letters = subst (λ s. Dead (is_elem places) x.past (n * s)) e dead
 
   pub skip_copies : (most : ℕ) → n ≤ most - i →
-      IsWalk places (counted (least - (i + n)) (most - (i + n)) a) (record { past = x.past + n * size; index = x.index; entered = x.entered }) z →
+      IsWalk places (counted (least - (i + n)) (most - (i + n)) a)
+      (record { past = x.past + n * size; index = x.index; entered = x.entered }) z →
       IsWalk places (counted (least - i) (most - i) a) x z
   unfolding behind
   skip_copies most le w =
@@ -163,7 +196,8 @@ module _ (places : List ℕ) (a : Unrolled) (i n size least : ℕ) (x z : Reach)
       (subst (λ k. IsWalk places (counted (least - i - n) k a) (behind (letters a)) z) g u)
 
   pub skip_copies_on : n ≤ least - i →
-      IsWalk places (counted_on (least - (i + n)) a) (record { past = x.past + n * size; index = x.index; entered = x.entered }) z →
+      IsWalk places (counted_on (least - (i + n)) a)
+      (record { past = x.past + n * size; index = x.index; entered = x.entered }) z →
       IsWalk places (counted_on (least - i) a) x z
   unfolding behind
   skip_copies_on le w =
@@ -183,7 +217,8 @@ total_skipped a least most i n size here total e le kept =
     ∙ letters-skipped a n (least - i) (most - i) here le ∙ kept
 
 pub total_skipped_on : (a : Unrolled) (least i n size here total : ℕ) → size ≡ letters a → n ≤ least - i →
-    here + letters (counted_on (least - i) a) ≡ total → (here + n * size) + letters (counted_on (least - (i + n)) a) ≡ total
+    here + letters (counted_on (least - i) a) ≡ total
+    → (here + n * size) + letters (counted_on (least - (i + n)) a) ≡ total
 total_skipped_on a least i n size here total e le kept =
     let f : least - (i + n) ≡ least - i - n = omega arith in
     ap (λ k. (here + n * size) + letters (counted_on k a)) f

@@ -40,7 +40,7 @@ pub one_answer : (text : Text) (input : List ℕ) (a b : Answer) → IsAnswerTo 
 one_answer text input a b h g =
     let q = same_ok h.0 g.0 (one_verdict text (Ok h.0) (Ok g.0) h.1 g.1) in
     sym (h.2 right_tests.0 right_tests.1) ∙ ap (λ q. stream_answer right_tests.0 q input) q
-      ∙ g.2 right_tests.0 right_tests.1
+    ∙ g.2 right_tests.0 right_tests.1
 
 pub not_both : {P : Type 0} (text : Text) (q : tree.Query) (f : QueryFault) → IsAccepted text q
     → IsVerdict text (Err f) → P
@@ -59,20 +59,24 @@ whole_input P (Some xs) (Some ys) input h e p =
 pub answer_known : (text : Text) (q : tree.Query) (ls : List Line) (a : Answer) (old new : Option (List ℕ))
     (input : List ℕ)
     → Consumes old new input → ls ≡ lines input → IsAtEnd new → IsAccepted text q
-      → ((t : Tests) → AreRight t → answer t q ls ≡ a)
+    → ((t : Tests) → AreRight t → answer t q ls ≡ a)
     → IfSome old (λ input. IsAnswerTo text input a)
 answer_known text q ls a old new input h same e accepted is =
-    whole_input (λ input. IsAnswerTo text input a) old new input h e (q, accepted, λ t right. ap (answer t q)
-      (sym same) ∙ is t right)
+    whole_input (λ input. IsAnswerTo text input a) old new input h e (
+      q,
+      accepted,
+      λ t right. ap (answer t q)
+          (sym same) ∙ is t right,
+    )
 
 -- how many lines such a source gave, and how many of them hold documents
 pub counts_known : (ls : List line.Line) (all documents : ℕ) (old new : Option (List ℕ)) (input : List ℕ)
     → Consumes old new input → map line_of ls ≡ lines input → all ≡ line_count input
     → IsAtEnd new → documents ≡ length ls
-      → IfSome old (λ input. (all ≡ line_count input) × (documents ≡ length (lines input)))
+    → IfSome old (λ input. (all ≡ line_count input) × (documents ≡ length (lines input)))
 counts_known ls all documents old new input h same count e is =
     whole_input (λ input. (all ≡ line_count input) × (documents ≡ length (lines input))) old new input h e
-      (count, is ∙ sym (length-map ls line_of) ∙ ap length same)
+    (count, is ∙ sym (length-map ls line_of) ∙ ap length same)
 
 -- where nothing was written, a front of the answer was
 pub nothing_known : (text : Text) (known old : Option (List ℕ))
@@ -82,8 +86,12 @@ nothing_known text (Some input) old = λ b h. (0, omega arith, Appends-nil old)
 
 front_of_all : (old new : Option (List ℕ)) (bytes : List ℕ) → Appends old new bytes
     → AppendsFront old new bytes
-front_of_all old new bytes h = (length bytes, omega arith, subst (Appends old new) (sym (take-length bytes))
-    h)
+front_of_all old new bytes h = (
+  length bytes,
+  omega arith,
+  subst (Appends old new) (sym (take-length bytes))
+      h,
+)
 
 -- the bytes of this answer, or a front of them, are those of the one answer
 front_of_answer : (text : Text) (input : List ℕ) (a : Answer) (old new : Option (List ℕ))
@@ -110,7 +118,7 @@ pub written_known : (text : Text) (a : Answer) (known old new : Option (List ℕ
     (stop : Option (ℕ × DocFault)) → IfSome known (λ input. IsAnswerTo text input a)
     → a.stopped ≡ stop → bytes ≡ a.bytes → Appends old new bytes
     → IfSome known (λ input. (b : Answer) × IsAnswerTo text input b × (b.stopped ≡ stop)
-      × Appends old new b.bytes)
+    × Appends old new b.bytes)
 written_known text a None old new bytes stop h s e g = tt
 written_known text a (Some input) old new bytes stop h s e g = (a, h, s, subst (Appends old new) e g)
 
@@ -126,7 +134,7 @@ pub refused_so : {T : Type 0} (text : Text) (f : QueryFault) (fault : RunFault) 
 refused_so text f fault r h (inl e) v = inr (err_of r fault h ∙ ap Err e)
 refused_so text f fault r h (inr (g, e, w)) v =
     let same : ◌≡◌ {A = Result tree.Query QueryFault} (Err g) (Err f) = one_verdict text (Err g) (Err f) w
-          v in
+    v in
     inl (err_of r fault h ∙ ap Err (e ∙ ap Query (same_err g f same)))
 
 abbrev stop_of : Option code.DocStop → Option (ℕ × DocFault)
@@ -136,7 +144,7 @@ stop_of stopped = option_map (λ s. (s.line, s.fault)) stopped
 pub stopped_at : {T : Type 0} (stopped : Option code.DocStop) (stop : code.DocStop) (line : ℕ)
     (fault : DocFault) → stopped ≡ Some stop
     → ◌≡◌ {A = Result T RunFault} (Err (Document stop.line stop.fault)) (Err (Document line fault))
-      → stop_of stopped ≡ Some (line, fault)
+    → stop_of stopped ≡ Some (line, fault)
 stopped_at stopped stop line fault e told =
     let l : stop.line ≡ line = cc in
     let f : stop.fault ≡ fault = cc in

@@ -71,7 +71,8 @@ pub trait Sink {
     /// Whether any call so far has failed.
     ghost failed: { Self → Bool };
 
-    /// Whether what it has taken was passed on: an Ok `write` of some bytes makes it false, an Ok `flush` true.
+    /// Whether what it has taken was passed on: an Ok `write` of some bytes makes it false, an Ok `flush`
+    /// true.
     ghost flushed: { Self → Bool };
 
     /// Takes bytes from the front, and says how many.

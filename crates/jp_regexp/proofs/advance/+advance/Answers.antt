@@ -1,4 +1,5 @@
-use Rattle.std.proofs.Common.{rules, ◌≡◌, ◌+◌, ◌-◌, ◌*◌, ◌≤◌, false, ◌||◌, ◌++◌, append-nil, drop, refl, sym, ap, ◌∙◌, subst, arith}
+use Rattle.std.proofs.Common.{rules, ◌≡◌, ◌+◌, ◌-◌, ◌*◌, ◌≤◌, false, ◌||◌, ◌++◌, append-nil, drop, refl, sym}
+use Rattle.std.proofs.Common.{ap, ◌∙◌, subst, arith}
 use Rattle.jp_regexp.specs.declared.parts.Part.{the_lemmas}
 use Rattle.jp_regexp.proofs.UnrolledLemmas.{letters-counted}
 use Rattle.jp_regexp.specs.Parts.{pattern_in, branches_before, unrolled_in, unrolled_in_turn, unrolled_repeat}
@@ -6,61 +7,82 @@ use Rattle.jp_regexp.specs.Unrolled.{Unrolled, counted, counted_on, letters, not
 use Rattle.jp_regexp.specs.Walk.{advance, is_elem, leaves, IsAt, IsStep, IsWalk, or_entered, entered_as}
 use Rattle.jp_regexp.proofs.KindLemmas.{exact, set_same, known_pieces, known_branches, known_repeat}
 use Rattle.jp_regexp.proofs.SizedLemmas.{all_sized-at}
-use Rattle.jp_regexp.proofs.WalkLemmas.{piece_next, branch_next, drop_none, nothing_walk, seq_walk, either_walk, or_walk, copy_walk, copy_on_walk, last_walk, plus_walk, copies_fit, copy_fits, copies_on_fit, copy_on_fits, last_fits, some_idle, not_entered, skip_copies, skip_copies_on, total_skipped, total_skipped_on}
+use Rattle.jp_regexp.proofs.WalkLemmas.{piece_next, branch_next, drop_none, nothing_walk, seq_walk}
+use Rattle.jp_regexp.proofs.WalkLemmas.{either_walk, or_walk, copy_walk, copy_on_walk, last_walk, plus_walk}
+use Rattle.jp_regexp.proofs.WalkLemmas.{copies_fit, copy_fits, copies_on_fit, copy_on_fits, last_fits}
+use Rattle.jp_regexp.proofs.WalkLemmas.{some_idle, not_entered, skip_copies, skip_copies_on, total_skipped}
+use Rattle.jp_regexp.proofs.WalkLemmas.{total_skipped_on}
 use Rattle.jp_regexp.proofs.CopyLemmas.{counted-letters, open-letters}
 use Rattle.jp_regexp.proofs.advance.+advance.Goals as goal
-use Rattle.jp_regexp.proofs.ReadsLemmas.{end_reads, passed_reads, seq_reads, either_reads, copy_reads, copy_on_reads, skip_reads, skip_on_reads}
+use Rattle.jp_regexp.proofs.ReadsLemmas.{end_reads, passed_reads, seq_reads, either_reads, copy_reads}
+use Rattle.jp_regexp.proofs.ReadsLemmas.{copy_on_reads, skip_reads, skip_on_reads}
 use Rattle.jp_regexp.proofs.StepLemmas.{leaves_again}
 
 -- ---- a part
 
 pub advance-passed-requires-clause-fits : goal.advance-passed-requires-clause-fits
 advance-passed-requires-clause-fits t c =
-    let e = exact c.size.result (pattern_in c.args.part.now) c.size.ensures (omega (arith, c.requires.fits)) in
+    let e = exact c.size.result (pattern_in c.args.part.now) c.size.ensures
+    (omega (arith, c.requires.fits)) in
     omega (arith, e, c.requires.fits)
 
 pub advance-returns-in-Some : goal.advance-returns-in-Some
 advance-returns-in-Some t c =
-    let e = exact c.size.result (pattern_in c.args.part.now) c.size.ensures (omega (arith, c.requires.fits)) in
+    let e = exact c.size.result (pattern_in c.args.part.now) c.size.ensures
+    (omega (arith, c.requires.fits)) in
     record {
       walk = c.in-Some.ensures.passed.walk (unrolled_in c.args.part.now) (sym e);
       reads = sym (append-nil c.args.out.now.items)
-          ∙ ap (λ xs. c.args.out.now.items ++ xs) (sym (c.in-Some.ensures.passed.reads (unrolled_in c.args.part.now) c.args.c (sym e)));
+          ∙ ap (λ xs. c.args.out.now.items ++ xs)
+          (sym (c.in-Some.ensures.passed.reads (unrolled_in c.args.part.now) c.args.c (sym e)));
     }
 
 pub advance-returns-in_ok-advance_letter-in-Set : goal.advance-returns-in_ok-advance_letter-in-Set
 advance-returns-in_ok-advance_letter-in-Set t c =
-    subst (λ p. IsStep c.args.live.now c.args.c p c.args.at c.in_ok-advance_letter-in-Set.field-0 c.args.out.now.items c.advance_letter.new.out.items)
+    subst (λ p. IsStep c.args.live.now c.args.c p c.args.at c.in_ok-advance_letter-in-Set.field-0
+    c.args.out.now.items c.advance_letter.new.out.items)
     (set_same c.args.part.now c.in-Set.set c.in-Set.is) c.in_ok-advance_letter-in-Set.ensures
 
 pub advance-overflow_add-end : goal.advance-overflow_add-end
 advance-overflow_add-end t c =
-    let k = known_pieces c.args.part.now c.in-Pieces.size c.in-Pieces.pieces c.in-Pieces.pieces.items c.in-Pieces.is refl c.requires.sized (omega (arith, c.requires.fits)) in
+    let k = known_pieces c.args.part.now c.in-Pieces.size c.in-Pieces.pieces c.in-Pieces.pieces.items
+    c.in-Pieces.is refl c.requires.sized (omega (arith, c.requires.fits)) in
     omega (arith, k.size, ap letters k.same, c.requires.fits)
 
 pub advance-advance_in_turn-requires : goal.advance-advance_in_turn-requires
 advance-advance_in_turn-requires t c = (
   search (rules, the_lemmas),
-  let k = known_pieces c.args.part.now c.in-Pieces.size c.in-Pieces.pieces c.deref-in-Pieces.result.now c.in-Pieces.is c.deref-in-Pieces.ensures.value c.requires.sized (omega (arith, c.requires.fits)) in
-      (k.sized, (ap (λ n. c.args.at.past + n) k.size, (omega (arith, k.size, ap letters k.same, c.requires.fits), c.requires.stands))),
+  let k = known_pieces c.args.part.now c.in-Pieces.size c.in-Pieces.pieces c.deref-in-Pieces.result.now
+      c.in-Pieces.is c.deref-in-Pieces.ensures.value c.requires.sized (omega (arith, c.requires.fits)) in (
+        k.sized,
+        (
+          ap (λ n. c.args.at.past + n) k.size,
+          (omega (arith, k.size, ap letters k.same, c.requires.fits), c.requires.stands),
+        ),
+      ),
 )
 
 pub advance-advance_before-requires : goal.advance-advance_before-requires
 advance-advance_before-requires t c = (
   search (rules, the_lemmas),
-  let k = known_branches c.args.part.now c.in-Branches.size c.in-Branches.before c.in-Branches.last c.deref-in-Branches.result.now c.in-Branches.last.value c.in-Branches.is c.deref-in-Branches.ensures.value refl c.requires.sized in
+  let k = known_branches c.args.part.now c.in-Branches.size c.in-Branches.before c.in-Branches.last
+      c.deref-in-Branches.result.now c.in-Branches.last.value c.in-Branches.is
+      c.deref-in-Branches.ensures.value refl c.requires.sized in
       (k.all_sized, (omega (arith, k.size, c.requires.fits), c.requires.stands)),
 )
 
 pub advance-advance-requires-in-Branches : goal.advance-advance-requires-in-Branches
 advance-advance-requires-in-Branches t c = (
   search (rules, the_lemmas),
-  let k = known_branches c.args.part.now c.in-Branches.size c.in-Branches.before c.in-Branches.last c.deref-in-Branches.result.now c.deref-in-Branches-2.result.now c.in-Branches.is c.deref-in-Branches.ensures.value c.deref-in-Branches-2.ensures c.requires.sized in
+  let k = known_branches c.args.part.now c.in-Branches.size c.in-Branches.before c.in-Branches.last
+      c.deref-in-Branches.result.now c.deref-in-Branches-2.result.now c.in-Branches.is
+      c.deref-in-Branches.ensures.value c.deref-in-Branches-2.ensures c.requires.sized in
       let e = ap (λ r. r.past) c.with_entered.ensures in (
         k.sized,
         (
           omega (arith, k.size, c.requires.fits, c.in_ok-others-in-Branches.ensures.walk.past, e),
-          subst (λ r. IsAt c.args.live.now r.past r.index) (sym c.with_entered.ensures) c.in_ok-others-in-Branches.ensures.walk.stands,
+          subst (λ r. IsAt c.args.live.now r.past r.index) (sym c.with_entered.ensures)
+              c.in_ok-others-in-Branches.ensures.walk.stands,
         ),
       ),
 )
@@ -68,18 +90,22 @@ advance-advance-requires-in-Branches t c = (
 pub advance-returns-in_ok-behind-in-Branches : goal.advance-returns-in_ok-behind-in-Branches
 advance-returns-in_ok-behind-in-Branches t c =
     let live = c.args.live.now in
-    let k = known_branches c.args.part.now c.in-Branches.size c.in-Branches.before c.in-Branches.last c.deref-in-Branches.result.now c.deref-in-Branches-2.result.now c.in-Branches.is c.deref-in-Branches.ensures.value c.deref-in-Branches-2.ensures c.requires.sized in
+    let k = known_branches c.args.part.now c.in-Branches.size c.in-Branches.before c.in-Branches.last
+    c.deref-in-Branches.result.now c.deref-in-Branches-2.result.now c.in-Branches.is
+    c.deref-in-Branches.ensures.value c.deref-in-Branches-2.ensures c.requires.sized in
     let last = unrolled_in c.deref-in-Branches-2.result.now in
     let others = c.in_ok-others-in-Branches in
     let y = c.in_ok-behind-in-Branches.behind in
     let mid = c.advance_before.new.out.items in
     let fin = c.advance-in-Branches.new.out.items in
     let s : IsStep live c.args.c last (entered_as c.args.at.entered others.others) y mid fin =
-    subst (λ r. IsStep live c.args.c last r y mid fin) c.with_entered.ensures c.in_ok-behind-in-Branches.ensures in
+    subst (λ r. IsStep live c.args.c last r y mid fin) c.with_entered.ensures
+    c.in_ok-behind-in-Branches.ensures in
     let is : c.with_entered-in-Branches.result ≡ or_entered others.others.entered y =
     c.with_entered-in-Branches.ensures ∙ ap (λ b. entered_as b y) c.either.ensures in
     let all = branches_before c.deref-in-Branches.result.now last in
-    subst (λ p. IsStep live c.args.c p c.args.at c.with_entered-in-Branches.result c.args.out.now.items fin) k.same (record {
+    subst (λ p. IsStep live c.args.c p c.args.at c.with_entered-in-Branches.result c.args.out.now.items fin)
+    k.same (record {
       walk = subst (λ r. IsWalk live all c.args.at r) (sym is) (others.ensures.walk.leads last y s.walk);
       reads = s.reads ∙ others.ensures.reads last;
     })
@@ -87,7 +113,9 @@ advance-returns-in_ok-behind-in-Branches t c =
 pub advance-advance_repeated-requires : goal.advance-advance_repeated-requires
 advance-advance_repeated-requires t c = (
   search (rules, the_lemmas),
-  let k = known_repeat c.args.part.now c.in-Repeat.size c.in-Repeat.least c.in-Repeat.most c.in-Repeat.atom c.deref-in-Repeat.result.now c.size.result c.in-Repeat.is c.deref-in-Repeat.ensures c.requires.sized c.size.ensures c.in_default.ensures.entered in
+  let k = known_repeat c.args.part.now c.in-Repeat.size c.in-Repeat.least c.in-Repeat.most c.in-Repeat.atom
+      c.deref-in-Repeat.result.now c.size.result c.in-Repeat.is c.deref-in-Repeat.ensures c.requires.sized
+      c.size.ensures c.in_default.ensures.entered in
       (k.sized, (k.some, (omega (arith, ap letters k.same, c.requires.fits), c.requires.stands))),
 )
 
@@ -97,8 +125,10 @@ pub advance_in_turn-advance-requires : goal.advance_in_turn-advance-requires
 advance_in_turn-advance-requires t c = (
   search (rules, the_lemmas),
   let kept = c.loop-piece.invariant in
-      let next = ap letters (piece_next c.args.pieces.now c.loop-piece.piece-index c.piece-item.result c.loop-piece-test.true c.piece-item.is) in (
-        all_sized-at c.args.pieces.now c.loop-piece.piece-index c.piece-item.result c.loop-piece-test.true c.piece-item.is c.requires.sized,
+      let next = ap letters (piece_next c.args.pieces.now c.loop-piece.piece-index c.piece-item.result
+      c.loop-piece-test.true c.piece-item.is) in (
+        all_sized-at c.args.pieces.now c.loop-piece.piece-index c.piece-item.result c.loop-piece-test.true
+            c.piece-item.is c.requires.sized,
         (omega (arith, next, kept.1, c.requires.fits), kept.2),
       ),
 )
@@ -107,7 +137,8 @@ pub advance_in_turn-loop-piece-preserved : goal.advance_in_turn-loop-piece-prese
 advance_in_turn-loop-piece-preserved t c =
     let live = c.args.live.now in
     let kept = c.loop-piece.invariant in
-    let next = piece_next c.args.pieces.now c.loop-piece.piece-index c.piece-item.result c.loop-piece-test.true c.piece-item.is in
+    let next = piece_next c.args.pieces.now c.loop-piece.piece-index c.piece-item.result
+    c.loop-piece-test.true c.piece-item.is in
     let a = unrolled_in c.piece-item.result in
     let rest = unrolled_in_turn (drop (c.loop-piece.piece-index + 1) c.args.pieces.now) in
     let x = c.loop-piece.here in
@@ -127,11 +158,13 @@ advance_in_turn-returns t c =
     let kept = c.loop-piece.invariant in
     let here = c.loop-piece.here in
     let none = drop_none c.args.pieces.now c.loop-piece.piece-index c.loop-piece-test.false in
-    let w = subst (λ xs. IsWalk live (unrolled_in_turn xs) here here) (sym none) (nothing_walk live here kept.2) in
+    let w = subst (λ xs. IsWalk live (unrolled_in_turn xs) here here) (sym none)
+    (nothing_walk live here kept.2) in
     record {
       walk = kept.0 here w;
       reads = end_reads live c.args.c _ c.loop-piece.out.items
-          (ap (λ xs. c.loop-piece.out.items ++ advance (is_elem live) c.args.c (unrolled_in_turn xs) here.past here.entered) (sym none) ∙ kept.3);
+          (ap (λ xs. c.loop-piece.out.items ++ advance (is_elem live) c.args.c (unrolled_in_turn xs) here.past
+          here.entered) (sym none) ∙ kept.3);
     }
 
 pub advance_in_turn-returns-in-Some : goal.advance_in_turn-returns-in-Some
@@ -141,7 +174,8 @@ advance_in_turn-returns-in-Some t c =
     let size : letters rest ≡ c.args.end - c.loop-piece.here.past = omega (arith, kept.1) in
     record {
       walk = kept.0 c.in-Some.behind (c.in-Some.ensures.passed.walk rest size);
-      reads = passed_reads c.args.live.now c.args.c _ c.loop-piece.out.items _ kept.3 (c.in-Some.ensures.passed.reads rest c.args.c size);
+      reads = passed_reads c.args.live.now c.args.c _ c.loop-piece.out.items _ kept.3
+          (c.in-Some.ensures.passed.reads rest c.args.c size);
     }
 
 -- ---- branches
@@ -150,9 +184,11 @@ pub advance_before-advance-requires : goal.advance_before-advance-requires
 advance_before-advance-requires t c = (
   search (rules, the_lemmas),
   let kept = c.loop-branch.invariant in
-      let next = ap letters (branch_next c.args.branches.now nothing c.loop-branch.branch-index c.branch-item.result c.loop-branch-test.true c.branch-item.is) in
+      let next = ap letters (branch_next c.args.branches.now nothing c.loop-branch.branch-index
+      c.branch-item.result c.loop-branch-test.true c.branch-item.is) in
       let e = ap (λ r. r.past) c.with_entered.ensures in (
-        all_sized-at c.args.branches.now c.loop-branch.branch-index c.branch-item.result c.loop-branch-test.true c.branch-item.is c.requires.sized,
+        all_sized-at c.args.branches.now c.loop-branch.branch-index c.branch-item.result
+            c.loop-branch-test.true c.branch-item.is c.requires.sized,
         (
           omega (arith, next, kept.1, c.requires.fits, e),
           subst (λ r. IsAt c.args.live.now r.past r.index) (sym c.with_entered.ensures) kept.2,
@@ -165,30 +201,36 @@ advance_before-loop-branch-preserved t c =
     let live = c.args.live.now in
     let kept = c.loop-branch.invariant in
     let i = c.loop-branch.branch-index in
-    let next = λ (q : Unrolled). branch_next c.args.branches.now q i c.branch-item.result c.loop-branch-test.true c.branch-item.is in
+    let next = λ (q : Unrolled). branch_next c.args.branches.now q i c.branch-item.result
+    c.loop-branch-test.true c.branch-item.is in
     let a = unrolled_in c.branch-item.result in
     let others = c.loop-branch.others in
     let y = c.in_ok-behind.behind in
     let o = c.loop-branch.out.items in
     let n = c.advance.new.out.items in
     let from = entered_as c.args.at.entered others in
-    let step : IsStep live c.args.c a from y o n = subst (λ r. IsStep live c.args.c a r y o n) c.with_entered.ensures c.in_ok-behind.ensures in
+    let step : IsStep live c.args.c a from y o n = subst (λ r. IsStep live c.args.c a r y o n)
+    c.with_entered.ensures c.in_ok-behind.ensures in
     let w = step.walk in
     let is : c.with_entered-others-in-loop-branch.result ≡ entered_as (others.entered || y.entered) y =
     c.with_entered-others-in-loop-branch.ensures ∙ ap (λ b. entered_as b y) c.either.ensures in (
       λ q r v.
-          let v2 = subst (λ x. IsWalk live (branches_before (drop (i + 1) c.args.branches.now) q) (entered_as c.args.at.entered x) r) is v in
+          let v2 = subst (λ x. IsWalk live (branches_before (drop (i + 1) c.args.branches.now) q)
+          (entered_as c.args.at.entered x) r) is v in
           let both = subst (λ p. IsWalk live p from (or_entered y.entered r)) (sym (next q))
           (either_walk live a (branches_before (drop (i + 1) c.args.branches.now) q) from y r w v2) in
-          subst (λ x. IsWalk live (branches_before c.args.branches.now q) c.args.at (or_entered x.entered r)) (sym is)
-          (or_walk live (branches_before c.args.branches.now q) others.entered y.entered c.args.at r (kept.0 q (or_entered y.entered r) both)),
+          subst (λ x. IsWalk live (branches_before c.args.branches.now q) c.args.at (or_entered x.entered r))
+          (sym is)
+          (or_walk live (branches_before c.args.branches.now q) others.entered y.entered c.args.at r
+          (kept.0 q (or_entered y.entered r) both)),
       omega (arith, ap letters (next nothing), kept.1, w.past, ap (λ r. r.past) is),
       subst (λ r. IsAt live r.past r.index) (sym is) w.stands,
       λ q.
           let rest = branches_before (drop (i + 1) c.args.branches.now) q in
           ap (λ r. n ++ advance (is_elem live) c.args.c rest r.past c.args.at.entered) is
           ∙ either_reads live c.args.c _ a from y o n step rest
-          (ap (λ p. o ++ advance (is_elem live) c.args.c p others.past c.args.at.entered) (sym (next q)) ∙ kept.3 q),
+          (ap (λ p. o ++ advance (is_elem live) c.args.c p others.past c.args.at.entered) (sym (next q))
+          ∙ kept.3 q),
     )
 
 pub advance_before-returns : goal.advance_before-returns
@@ -199,50 +241,64 @@ advance_before-returns t c =
       walk = record {
         past = omega (arith, kept.1, ap (λ xs. letters (branches_before xs nothing)) none);
         stands = kept.2;
-        leads = λ q r w. kept.0 q r (subst (λ xs. IsWalk c.args.live.now (branches_before xs q) (entered_as c.args.at.entered c.loop-branch.others) r) (sym none) w);
+        leads = λ q r w. kept.0 q r
+            (subst (λ xs. IsWalk c.args.live.now (branches_before xs q)
+            (entered_as c.args.at.entered c.loop-branch.others) r) (sym none) w);
       };
-      reads = λ q. ap (λ xs. c.loop-branch.out.items ++ advance (is_elem c.args.live.now) c.args.c (branches_before xs q) c.loop-branch.others.past c.args.at.entered) (sym none) ∙ kept.3 q;
+      reads = λ q. ap (λ xs. c.loop-branch.out.items ++ advance (is_elem c.args.live.now) c.args.c
+          (branches_before xs q) c.loop-branch.others.past c.args.at.entered) (sym none) ∙ kept.3 q;
     }
 
 -- ---- copies
 
-pub advance_counted-idle_copies-idle-requires-clause-some : goal.advance_counted-idle_copies-idle-requires-clause-some
+pub advance_counted-idle_copies-idle-requires-clause-some
+    : goal.advance_counted-idle_copies-idle-requires-clause-some
 advance_counted-idle_copies-idle-requires-clause-some t c =
     let kept = c.loop-i.invariant in
     let a = unrolled_in c.args.atom.now in
-    let fits = copy_fits a c.args.least c.args.most c.loop-i.i c.loop-i.here.past c.args.at.past c.loop-i-test.true kept.1 c.requires.fits in
+    let fits = copy_fits a c.args.least c.args.most c.loop-i.i c.loop-i.here.past c.args.at.past
+    c.loop-i-test.true kept.1 c.requires.fits in
     let e = exact c.size-size.result (pattern_in c.args.atom.now) c.size-size.ensures (omega (arith, fits)) in
     omega (arith, e, c.requires.some)
 
-pub advance_counted-idle_copies-idle-requires-clause-fits : goal.advance_counted-idle_copies-idle-requires-clause-fits
+pub advance_counted-idle_copies-idle-requires-clause-fits
+    : goal.advance_counted-idle_copies-idle-requires-clause-fits
 advance_counted-idle_copies-idle-requires-clause-fits t c =
     let kept = c.loop-i.invariant in
     let a = unrolled_in c.args.atom.now in
-    let fits = copy_fits a c.args.least c.args.most c.loop-i.i c.loop-i.here.past c.args.at.past c.loop-i-test.true kept.1 c.requires.fits in
+    let fits = copy_fits a c.args.least c.args.most c.loop-i.i c.loop-i.here.past c.args.at.past
+    c.loop-i-test.true kept.1 c.requires.fits in
     let e = exact c.size-size.result (pattern_in c.args.atom.now) c.size-size.ensures (omega (arith, fits)) in
     subst (λ s. c.loop-i.here.past + (c.args.most - c.loop-i.i) * s ≤ 10_000) (sym e)
-    (copies_fit a c.args.least c.args.most c.loop-i.i c.loop-i.here.past c.args.at.past c.loop-i-test.true kept.1 c.requires.fits)
+    (copies_fit a c.args.least c.args.most c.loop-i.i c.loop-i.here.past c.args.at.past c.loop-i-test.true
+    kept.1 c.requires.fits)
 
 pub advance_counted-overflow_mul-here : goal.advance_counted-overflow_mul-here
 advance_counted-overflow_mul-here t c =
     let kept = c.loop-i.invariant in
     let a = unrolled_in c.args.atom.now in
-    let fits = copy_fits a c.args.least c.args.most c.loop-i.i c.loop-i.here.past c.args.at.past c.loop-i-test.true kept.1 c.requires.fits in
+    let fits = copy_fits a c.args.least c.args.most c.loop-i.i c.loop-i.here.past c.args.at.past
+    c.loop-i-test.true kept.1 c.requires.fits in
     let e = exact c.size-size.result (pattern_in c.args.atom.now) c.size-size.ensures (omega (arith, fits)) in
     let all = subst (λ s. c.loop-i.here.past + (c.args.most - c.loop-i.i) * s ≤ 10_000) (sym e)
-    (copies_fit a c.args.least c.args.most c.loop-i.i c.loop-i.here.past c.args.at.past c.loop-i-test.true kept.1 c.requires.fits) in
-    let h = some_idle c.loop-i.here.past c.idle_copies-idle.result (c.args.most - c.loop-i.i) c.size-size.result c.idle_copies-idle.ensures.few all in
+    (copies_fit a c.args.least c.args.most c.loop-i.i c.loop-i.here.past c.args.at.past c.loop-i-test.true
+    kept.1 c.requires.fits) in
+    let h = some_idle c.loop-i.here.past c.idle_copies-idle.result (c.args.most - c.loop-i.i)
+    c.size-size.result c.idle_copies-idle.ensures.few all in
     omega (arith, h)
 
 pub advance_counted-overflow_add-here : goal.advance_counted-overflow_add-here
 advance_counted-overflow_add-here t c =
     let kept = c.loop-i.invariant in
     let a = unrolled_in c.args.atom.now in
-    let fits = copy_fits a c.args.least c.args.most c.loop-i.i c.loop-i.here.past c.args.at.past c.loop-i-test.true kept.1 c.requires.fits in
+    let fits = copy_fits a c.args.least c.args.most c.loop-i.i c.loop-i.here.past c.args.at.past
+    c.loop-i-test.true kept.1 c.requires.fits in
     let e = exact c.size-size.result (pattern_in c.args.atom.now) c.size-size.ensures (omega (arith, fits)) in
     let all = subst (λ s. c.loop-i.here.past + (c.args.most - c.loop-i.i) * s ≤ 10_000) (sym e)
-    (copies_fit a c.args.least c.args.most c.loop-i.i c.loop-i.here.past c.args.at.past c.loop-i-test.true kept.1 c.requires.fits) in
-    let h = some_idle c.loop-i.here.past c.idle_copies-idle.result (c.args.most - c.loop-i.i) c.size-size.result c.idle_copies-idle.ensures.few all in
+    (copies_fit a c.args.least c.args.most c.loop-i.i c.loop-i.here.past c.args.at.past c.loop-i-test.true
+    kept.1 c.requires.fits) in
+    let h = some_idle c.loop-i.here.past c.idle_copies-idle.result (c.args.most - c.loop-i.i)
+    c.size-size.result c.idle_copies-idle.ensures.few all in
     omega (arith, h)
 
 pub advance_counted-loop-i-preserved-then-idle-gt0 : goal.advance_counted-loop-i-preserved-then-idle-gt0
@@ -250,22 +306,34 @@ advance_counted-loop-i-preserved-then-idle-gt0 t c =
     let live = c.args.live.now in
     let kept = c.loop-i.invariant in
     let a = unrolled_in c.args.atom.now in
-    let fits = copy_fits a c.args.least c.args.most c.loop-i.i c.loop-i.here.past c.args.at.past c.loop-i-test.true kept.1 c.requires.fits in
+    let fits = copy_fits a c.args.least c.args.most c.loop-i.i c.loop-i.here.past c.args.at.past
+    c.loop-i-test.true kept.1 c.requires.fits in
     let e = exact c.size-size.result (pattern_in c.args.atom.now) c.size-size.ensures (omega (arith, fits)) in
     let n = c.idle_copies-idle.result in
-    let none = not_entered c.loop-i.here.entered n c.idle_copies-idle.ensures.not_entered c.if-idle-gt0.true in (
-      λ r w. kept.0 r (skip_copies live a c.loop-i.i n c.size-size.result c.args.least c.loop-i.here r e none c.idle_copies-idle.ensures.dead c.args.most c.idle_copies-idle.ensures.few w),
-      total_skipped a c.args.least c.args.most c.loop-i.i n c.size-size.result c.loop-i.here.past _ e c.idle_copies-idle.ensures.few kept.1,
+    let none = not_entered c.loop-i.here.entered n c.idle_copies-idle.ensures.not_entered c.if-idle-gt0.true
+    in (
+      λ r w. kept.0 r (skip_copies live a c.loop-i.i n c.size-size.result c.args.least c.loop-i.here r e none
+          c.idle_copies-idle.ensures.dead c.args.most c.idle_copies-idle.ensures.few w),
+      total_skipped a c.args.least c.args.most c.loop-i.i n c.size-size.result c.loop-i.here.past _ e
+          c.idle_copies-idle.ensures.few kept.1,
       c.idle_copies-idle.ensures.stands,
       omega (arith, c.idle_copies-idle.ensures.few, c.loop-i-test.true),
-      skip_reads live c.args.c _ a c.loop-i.i n c.size-size.result c.args.least c.loop-i.here c.loop-i.out.items e none c.idle_copies-idle.ensures.dead c.args.most c.idle_copies-idle.ensures.few kept.4,
+      skip_reads live c.args.c _ a c.loop-i.i n c.size-size.result c.args.least c.loop-i.here
+          c.loop-i.out.items e none c.idle_copies-idle.ensures.dead c.args.most c.idle_copies-idle.ensures.few
+          kept.4,
     )
 
 pub advance_counted-advance-requires : goal.advance_counted-advance-requires
 advance_counted-advance-requires t c = (
   search (rules, the_lemmas),
-  let kept = c.loop-i.invariant in
-      (c.requires.sized, (copy_fits (unrolled_in c.args.atom.now) c.args.least c.args.most c.loop-i.i c.loop-i.here.past c.args.at.past c.loop-i-test.true kept.1 c.requires.fits, kept.2)),
+  let kept = c.loop-i.invariant in (
+    c.requires.sized,
+    (
+      copy_fits (unrolled_in c.args.atom.now) c.args.least c.args.most c.loop-i.i
+          c.loop-i.here.past c.args.at.past c.loop-i-test.true kept.1 c.requires.fits,
+      kept.2,
+    ),
+  ),
 )
 
 pub advance_counted-loop-i-preserved : goal.advance_counted-loop-i-preserved
@@ -278,11 +346,18 @@ advance_counted-loop-i-preserved t c =
     let more = sym (c.either-left.ensures ∙ ap (λ s. c.loop-i.left || s) c.may_stop-stop.ensures) in (
       λ r w. subst (λ b. IsWalk live all c.args.at (or_entered b r)) more
           (or_walk live all c.loop-i.left _ c.args.at r
-          (kept.0 (or_entered _ r) (copy_walk live a c.args.least c.loop-i.i c.loop-i.here y r c.in_ok-here.ensures.walk c.args.most c.loop-i-test.true w))),
-      omega (arith, kept.1, counted-letters a c.args.least c.loop-i.i c.args.most c.loop-i-test.true, c.in_ok-here.ensures.walk.past),
+          (kept.0 (or_entered _ r) (copy_walk live a c.args.least c.loop-i.i c.loop-i.here y r
+          c.in_ok-here.ensures.walk c.args.most c.loop-i-test.true w))),
+      omega (
+        arith,
+        kept.1,
+        counted-letters a c.args.least c.loop-i.i c.args.most c.loop-i-test.true,
+        c.in_ok-here.ensures.walk.past,
+      ),
       c.in_ok-here.ensures.walk.stands,
       omega (arith, c.loop-i-test.true),
-      copy_reads live c.args.c _ a c.loop-i.here y c.loop-i.out.items c.advance.new.out.items c.in_ok-here.ensures c.args.least c.loop-i.i c.args.most c.loop-i-test.true kept.4,
+      copy_reads live c.args.c _ a c.loop-i.here y c.loop-i.out.items c.advance.new.out.items
+          c.in_ok-here.ensures c.args.least c.loop-i.i c.args.most c.loop-i-test.true kept.4,
     )
 
 pub advance_counted-returns : goal.advance_counted-returns
@@ -291,52 +366,69 @@ advance_counted-returns t c =
     let kept = c.loop-i.invariant in
     let here = c.loop-i.here in
     let none : c.args.most - c.loop-i.i ≡ 0 = omega (arith, c.loop-i-test.false) in
-    let w : IsWalk live (counted (c.args.least - c.loop-i.i) (c.args.most - c.loop-i.i) (unrolled_in c.args.atom.now)) here here =
-    subst (λ n. IsWalk live (counted (c.args.least - c.loop-i.i) n (unrolled_in c.args.atom.now)) here here) (sym none) (nothing_walk live here kept.2) in
-    let is : c.with_entered.result ≡ or_entered c.loop-i.left here = c.with_entered.ensures ∙ ap (λ b. entered_as b here) c.either.ensures in
+    let w : IsWalk live (counted (c.args.least - c.loop-i.i) (c.args.most - c.loop-i.i)
+    (unrolled_in c.args.atom.now)) here here =
+    subst (λ n. IsWalk live (counted (c.args.least - c.loop-i.i) n (unrolled_in c.args.atom.now)) here here)
+    (sym none) (nothing_walk live here kept.2) in
+    let is : c.with_entered.result ≡ or_entered c.loop-i.left here = c.with_entered.ensures
+    ∙ ap (λ b. entered_as b here) c.either.ensures in
     record {
-      walk = subst (λ r. IsWalk live (counted c.args.least c.args.most (unrolled_in c.args.atom.now)) c.args.at r) (sym is) (kept.0 here w);
+      walk = subst (λ r. IsWalk live (counted c.args.least c.args.most (unrolled_in c.args.atom.now))
+          c.args.at r) (sym is) (kept.0 here w);
       reads = end_reads live c.args.c _ c.loop-i.out.items
-          (ap (λ n. c.loop-i.out.items ++ advance (is_elem live) c.args.c (counted (c.args.least - c.loop-i.i) n (unrolled_in c.args.atom.now)) here.past here.entered) (sym none) ∙ kept.4);
+          (ap (λ n. c.loop-i.out.items ++ advance (is_elem live) c.args.c
+          (counted (c.args.least - c.loop-i.i) n (unrolled_in c.args.atom.now)) here.past here.entered)
+          (sym none) ∙ kept.4);
     }
 
-pub advance_counted_on-idle_copies-idle-requires-clause-some : goal.advance_counted_on-idle_copies-idle-requires-clause-some
+pub advance_counted_on-idle_copies-idle-requires-clause-some
+    : goal.advance_counted_on-idle_copies-idle-requires-clause-some
 advance_counted_on-idle_copies-idle-requires-clause-some t c =
     let kept = c.loop-i.invariant in
     let a = unrolled_in c.args.atom.now in
-    let fits = copy_on_fits a c.args.least c.loop-i.i c.loop-i.here.past c.args.at.past c.loop-i-test.true kept.1 c.requires.fits in
+    let fits = copy_on_fits a c.args.least c.loop-i.i c.loop-i.here.past c.args.at.past c.loop-i-test.true
+    kept.1 c.requires.fits in
     let e = exact c.size-size.result (pattern_in c.args.atom.now) c.size-size.ensures (omega (arith, fits)) in
     omega (arith, e, c.requires.some)
 
-pub advance_counted_on-idle_copies-idle-requires-clause-fits : goal.advance_counted_on-idle_copies-idle-requires-clause-fits
+pub advance_counted_on-idle_copies-idle-requires-clause-fits
+    : goal.advance_counted_on-idle_copies-idle-requires-clause-fits
 advance_counted_on-idle_copies-idle-requires-clause-fits t c =
     let kept = c.loop-i.invariant in
     let a = unrolled_in c.args.atom.now in
-    let fits = copy_on_fits a c.args.least c.loop-i.i c.loop-i.here.past c.args.at.past c.loop-i-test.true kept.1 c.requires.fits in
+    let fits = copy_on_fits a c.args.least c.loop-i.i c.loop-i.here.past c.args.at.past c.loop-i-test.true
+    kept.1 c.requires.fits in
     let e = exact c.size-size.result (pattern_in c.args.atom.now) c.size-size.ensures (omega (arith, fits)) in
     subst (λ s. c.loop-i.here.past + (c.args.least - c.loop-i.i) * s ≤ 10_000) (sym e)
-    (copies_on_fit a c.args.least c.loop-i.i c.loop-i.here.past c.args.at.past c.loop-i-test.true kept.1 c.requires.fits)
+    (copies_on_fit a c.args.least c.loop-i.i c.loop-i.here.past c.args.at.past c.loop-i-test.true kept.1
+    c.requires.fits)
 
 pub advance_counted_on-overflow_mul-here : goal.advance_counted_on-overflow_mul-here
 advance_counted_on-overflow_mul-here t c =
     let kept = c.loop-i.invariant in
     let a = unrolled_in c.args.atom.now in
-    let fits = copy_on_fits a c.args.least c.loop-i.i c.loop-i.here.past c.args.at.past c.loop-i-test.true kept.1 c.requires.fits in
+    let fits = copy_on_fits a c.args.least c.loop-i.i c.loop-i.here.past c.args.at.past c.loop-i-test.true
+    kept.1 c.requires.fits in
     let e = exact c.size-size.result (pattern_in c.args.atom.now) c.size-size.ensures (omega (arith, fits)) in
     let all = subst (λ s. c.loop-i.here.past + (c.args.least - c.loop-i.i) * s ≤ 10_000) (sym e)
-    (copies_on_fit a c.args.least c.loop-i.i c.loop-i.here.past c.args.at.past c.loop-i-test.true kept.1 c.requires.fits) in
-    let h = some_idle c.loop-i.here.past c.idle_copies-idle.result (c.args.least - c.loop-i.i) c.size-size.result c.idle_copies-idle.ensures.few all in
+    (copies_on_fit a c.args.least c.loop-i.i c.loop-i.here.past c.args.at.past c.loop-i-test.true kept.1
+    c.requires.fits) in
+    let h = some_idle c.loop-i.here.past c.idle_copies-idle.result (c.args.least - c.loop-i.i)
+    c.size-size.result c.idle_copies-idle.ensures.few all in
     omega (arith, h)
 
 pub advance_counted_on-overflow_add-here : goal.advance_counted_on-overflow_add-here
 advance_counted_on-overflow_add-here t c =
     let kept = c.loop-i.invariant in
     let a = unrolled_in c.args.atom.now in
-    let fits = copy_on_fits a c.args.least c.loop-i.i c.loop-i.here.past c.args.at.past c.loop-i-test.true kept.1 c.requires.fits in
+    let fits = copy_on_fits a c.args.least c.loop-i.i c.loop-i.here.past c.args.at.past c.loop-i-test.true
+    kept.1 c.requires.fits in
     let e = exact c.size-size.result (pattern_in c.args.atom.now) c.size-size.ensures (omega (arith, fits)) in
     let all = subst (λ s. c.loop-i.here.past + (c.args.least - c.loop-i.i) * s ≤ 10_000) (sym e)
-    (copies_on_fit a c.args.least c.loop-i.i c.loop-i.here.past c.args.at.past c.loop-i-test.true kept.1 c.requires.fits) in
-    let h = some_idle c.loop-i.here.past c.idle_copies-idle.result (c.args.least - c.loop-i.i) c.size-size.result c.idle_copies-idle.ensures.few all in
+    (copies_on_fit a c.args.least c.loop-i.i c.loop-i.here.past c.args.at.past c.loop-i-test.true kept.1
+    c.requires.fits) in
+    let h = some_idle c.loop-i.here.past c.idle_copies-idle.result (c.args.least - c.loop-i.i)
+    c.size-size.result c.idle_copies-idle.ensures.few all in
     omega (arith, h)
 
 pub advance_counted_on-loop-i-preserved-then-idle-gt0 : goal.advance_counted_on-loop-i-preserved-then-idle-gt0
@@ -344,22 +436,33 @@ advance_counted_on-loop-i-preserved-then-idle-gt0 t c =
     let live = c.args.live.now in
     let kept = c.loop-i.invariant in
     let a = unrolled_in c.args.atom.now in
-    let fits = copy_on_fits a c.args.least c.loop-i.i c.loop-i.here.past c.args.at.past c.loop-i-test.true kept.1 c.requires.fits in
+    let fits = copy_on_fits a c.args.least c.loop-i.i c.loop-i.here.past c.args.at.past c.loop-i-test.true
+    kept.1 c.requires.fits in
     let e = exact c.size-size.result (pattern_in c.args.atom.now) c.size-size.ensures (omega (arith, fits)) in
     let n = c.idle_copies-idle.result in
-    let none = not_entered c.loop-i.here.entered n c.idle_copies-idle.ensures.not_entered c.if-idle-gt0.true in (
-      λ r w. kept.0 r (skip_copies_on live a c.loop-i.i n c.size-size.result c.args.least c.loop-i.here r e none c.idle_copies-idle.ensures.dead c.idle_copies-idle.ensures.few w),
-      total_skipped_on a c.args.least c.loop-i.i n c.size-size.result c.loop-i.here.past _ e c.idle_copies-idle.ensures.few kept.1,
+    let none = not_entered c.loop-i.here.entered n c.idle_copies-idle.ensures.not_entered c.if-idle-gt0.true
+    in (
+      λ r w. kept.0 r (skip_copies_on live a c.loop-i.i n c.size-size.result c.args.least c.loop-i.here r e
+          none c.idle_copies-idle.ensures.dead c.idle_copies-idle.ensures.few w),
+      total_skipped_on a c.args.least c.loop-i.i n c.size-size.result c.loop-i.here.past _ e
+          c.idle_copies-idle.ensures.few kept.1,
       c.idle_copies-idle.ensures.stands,
       omega (arith, c.idle_copies-idle.ensures.few, c.loop-i-test.true),
-      skip_on_reads live c.args.c _ a c.loop-i.i n c.size-size.result c.args.least c.loop-i.here c.loop-i.out.items e none c.idle_copies-idle.ensures.dead c.idle_copies-idle.ensures.few kept.4,
+      skip_on_reads live c.args.c _ a c.loop-i.i n c.size-size.result c.args.least c.loop-i.here
+          c.loop-i.out.items e none c.idle_copies-idle.ensures.dead c.idle_copies-idle.ensures.few kept.4,
     )
 
 pub advance_counted_on-advance-requires : goal.advance_counted_on-advance-requires
 advance_counted_on-advance-requires t c = (
   search (rules, the_lemmas),
-  let kept = c.loop-i.invariant in
-      (c.requires.sized, (copy_on_fits (unrolled_in c.args.atom.now) c.args.least c.loop-i.i c.loop-i.here.past c.args.at.past c.loop-i-test.true kept.1 c.requires.fits, kept.2)),
+  let kept = c.loop-i.invariant in (
+    c.requires.sized,
+    (
+      copy_on_fits (unrolled_in c.args.atom.now) c.args.least c.loop-i.i
+          c.loop-i.here.past c.args.at.past c.loop-i-test.true kept.1 c.requires.fits,
+      kept.2,
+    ),
+  ),
 )
 
 pub advance_counted_on-loop-i-preserved : goal.advance_counted_on-loop-i-preserved
@@ -367,18 +470,31 @@ advance_counted_on-loop-i-preserved t c =
     let live = c.args.live.now in
     let kept = c.loop-i.invariant in
     let a = unrolled_in c.args.atom.now in (
-      λ r w. kept.0 r (copy_on_walk live a c.args.least c.loop-i.i c.loop-i.here c.in_ok-here.here r c.in_ok-here.ensures.walk c.loop-i-test.true w),
-      omega (arith, kept.1, open-letters a c.args.least c.loop-i.i c.loop-i-test.true, c.in_ok-here.ensures.walk.past),
+      λ r w. kept.0 r (copy_on_walk live a c.args.least c.loop-i.i c.loop-i.here c.in_ok-here.here r
+          c.in_ok-here.ensures.walk c.loop-i-test.true w),
+      omega (
+        arith,
+        kept.1,
+        open-letters a c.args.least c.loop-i.i c.loop-i-test.true,
+        c.in_ok-here.ensures.walk.past,
+      ),
       c.in_ok-here.ensures.walk.stands,
       omega (arith, c.loop-i-test.true),
-      copy_on_reads live c.args.c _ a c.loop-i.here c.in_ok-here.here c.loop-i.out.items c.advance.new.out.items c.in_ok-here.ensures c.args.least c.loop-i.i c.loop-i-test.true kept.4,
+      copy_on_reads live c.args.c _ a c.loop-i.here c.in_ok-here.here c.loop-i.out.items
+          c.advance.new.out.items c.in_ok-here.ensures c.args.least c.loop-i.i c.loop-i-test.true kept.4,
     )
 
 pub advance_counted_on-advance_plus-requires : goal.advance_counted_on-advance_plus-requires
 advance_counted_on-advance_plus-requires t c = (
   search (rules, the_lemmas),
-  let kept = c.loop-i.invariant in
-      (c.requires.sized, (last_fits (unrolled_in c.args.atom.now) c.args.least c.loop-i.i c.loop-i.here.past c.args.at.past (omega (arith, c.loop-i-test.false)) kept.1 c.requires.fits, kept.2)),
+  let kept = c.loop-i.invariant in (
+    c.requires.sized,
+    (
+      last_fits (unrolled_in c.args.atom.now) c.args.least c.loop-i.i c.loop-i.here.past
+          c.args.at.past (omega (arith, c.loop-i-test.false)) kept.1 c.requires.fits,
+      kept.2,
+    ),
+  ),
 )
 
 pub advance_counted_on-returns : goal.advance_counted_on-returns
@@ -389,12 +505,16 @@ advance_counted_on-returns t c =
     let y = c.in_ok-behind.behind in
     let a = unrolled_in c.args.atom.now in
     let none : c.args.least - c.loop-i.i ≡ 0 = omega (arith, c.loop-i-test.false) in
-    let w = subst (λ n. IsWalk live (counted_on n a) here (or_entered here.entered y)) (sym none) (last_walk live a here y (plus_walk live a here y c.in_ok-behind.ensures.walk)) in
-    let is : c.with_entered.result ≡ or_entered here.entered y = c.with_entered.ensures ∙ ap (λ b. entered_as b y) c.either.ensures in
+    let w = subst (λ n. IsWalk live (counted_on n a) here (or_entered here.entered y)) (sym none)
+    (last_walk live a here y (plus_walk live a here y c.in_ok-behind.ensures.walk)) in
+    let is : c.with_entered.result ≡ or_entered here.entered y = c.with_entered.ensures
+    ∙ ap (λ b. entered_as b y) c.either.ensures in
     record {
-      walk = subst (λ r. IsWalk live (counted_on c.args.least a) c.args.at r) (sym is) (kept.0 (or_entered here.entered y) w);
+      walk = subst (λ r. IsWalk live (counted_on c.args.least a) c.args.at r) (sym is)
+          (kept.0 (or_entered here.entered y) w);
       reads = c.in_ok-behind.ensures.reads
-          ∙ ap (λ n. c.loop-i.out.items ++ advance (is_elem live) c.args.c (counted_on n a) here.past here.entered) (sym none) ∙ kept.4;
+          ∙ ap (λ n. c.loop-i.out.items ++ advance (is_elem live) c.args.c (counted_on n a) here.past
+          here.entered) (sym none) ∙ kept.4;
     }
 
 pub advance_plus-advance-requires : goal.advance_plus-advance-requires
@@ -414,9 +534,11 @@ advance_plus-returns t c =
     let live = c.args.live.now in
     let a = unrolled_in c.args.atom.now in
     let y = c.in_ok-advance.field-0 in
-    let is : c.with_entered-from.result ≡ entered_as (c.args.at.entered || leaves (is_elem live) a c.args.at.past false) c.args.at =
+    let is : c.with_entered-from.result
+    ≡ entered_as (c.args.at.entered || leaves (is_elem live) a c.args.at.past false) c.args.at =
     c.with_entered-from.ensures ∙ ap (λ b. entered_as b c.args.at) c.is_entered_again.ensures in
-    let s = subst (λ r. IsStep live c.args.c a r y c.args.out.now.items c.advance.new.out.items) is c.in_ok-advance.ensures in
+    let s = subst (λ r. IsStep live c.args.c a r y c.args.out.now.items c.advance.new.out.items) is
+    c.in_ok-advance.ensures in
     record {
       walk = record {
         past = s.walk.past;
@@ -426,12 +548,15 @@ advance_plus-returns t c =
       reads = s.reads;
     }
 
-pub advance_repeated-advance_letters-requires-clause-fits : goal.advance_repeated-advance_letters-requires-clause-fits
+pub advance_repeated-advance_letters-requires-clause-fits
+    : goal.advance_repeated-advance_letters-requires-clause-fits
 advance_repeated-advance_letters-requires-clause-fits t c =
     let a = unrolled_in c.args.atom.now in
     let m = c.in-Some.most in
-    let e : letters (unrolled_repeat c.args.least c.args.most c.args.atom.now) ≡ letters (counted c.args.least m a) =
+    let e : letters (unrolled_repeat c.args.least c.args.most c.args.atom.now)
+    ≡ letters (counted c.args.least m a) =
     ap (λ o. letters (unrolled_repeat c.args.least o c.args.atom.now)) c.in-Some.is in
     let one : letters a ≡ 1 = ap letters (sym (set_same c.args.atom.now c.in-Set.set c.in-Set.is)) in
-    let f : letters (counted c.args.least m a) ≡ m * 1 = letters-counted a c.args.least m ∙ ap (λ n. m * n) one in
+    let f : letters (counted c.args.least m a) ≡ m * 1 = letters-counted a c.args.least m
+    ∙ ap (λ n. m * n) one in
     omega (arith, e, f, c.requires.fits)

@@ -16,18 +16,22 @@ invariant-advance_in_turn-loop-piece l =
 
 abbrev pub invariant-advance_before-loop-branch : goal.invariant-advance_before-loop-branch
 invariant-advance_before-loop-branch l =
-    ((q : Unrolled) (r : Reach) → IsWalk l.live (branches_before (drop l.branch-index l.branches) q) (entered_as l.at.entered l.others) r →
+    ((q : Unrolled) (r : Reach) → IsWalk l.live (branches_before (drop l.branch-index l.branches) q)
+    (entered_as l.at.entered l.others) r →
     IsWalk l.live (branches_before l.branches q) l.at (or_entered l.others.entered r))
-    × (l.others.past + letters (branches_before (drop l.branch-index l.branches) nothing) ≡ l.at.past + letters (branches_before l.branches nothing))
+    × (l.others.past + letters (branches_before (drop l.branch-index l.branches) nothing)
+    ≡ l.at.past + letters (branches_before l.branches nothing))
     × IsAt l.live l.others.past l.others.index
-    × ((q : Unrolled) → l.out.items ++ advance (is_elem l.live) l.c (branches_before (drop l.branch-index l.branches) q) l.others.past l.at.entered
+    × ((q : Unrolled) → l.out.items ++ advance (is_elem l.live) l.c
+    (branches_before (drop l.branch-index l.branches) q) l.others.past l.at.entered
     ≡ l.fn.out.items ++ advance (is_elem l.live) l.c (branches_before l.branches q) l.at.past l.at.entered)
 
 abbrev pub invariant-advance_counted-loop-i : goal.invariant-advance_counted-loop-i
 invariant-advance_counted-loop-i l =
     let a = unrolled_in l.atom in
     let rest = counted (l.least - l.i) (l.most - l.i) a in
-    ((r : Reach) → IsWalk l.live rest l.here r → IsWalk l.live (counted l.least l.most a) l.fn.at (or_entered l.left r))
+    ((r : Reach) → IsWalk l.live rest l.here r
+    → IsWalk l.live (counted l.least l.most a) l.fn.at (or_entered l.left r))
     × (l.here.past + letters rest ≡ l.fn.at.past + letters (counted l.least l.most a))
     × IsAt l.live l.here.past l.here.index × (l.i ≤ l.most)
     × (l.out.items ++ advance (is_elem l.live) l.c rest l.here.past l.here.entered

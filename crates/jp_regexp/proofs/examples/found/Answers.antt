@@ -11,6 +11,17 @@ use Rattle.jp_regexp.proofs.examples.found.Goals as goal
 pub returns : goal.returns
 returns c = record {
   empty_everywhere = λ t. ([], [], t, refl, (text.nothing_tree, text.nothing, refl));
-  a_part = ([], codes "A", codes "b", refl, (text.capitals_tree, text.capitals, lone_plus (category false (UppercaseLetter ∷ [])) (codes "A") (rw capital_A refl, tt) (omega arith)));
+  a_part = (
+    [],
+    codes "A",
+    codes "b",
+    refl,
+    (
+      text.capitals_tree,
+      text.capitals,
+      lone_plus
+          (category false (UppercaseLetter ∷ [])) (codes "A") (rw capital_A refl, tt) (omega arith),
+    ),
+  );
   nowhere = members.nowhere;
 }

@@ -14,7 +14,8 @@ no_cut (x ∷ y ∷ before) after e = let h : [] ≡ before ++ (97 ∷ 98 ∷ af
   none [] f = absurd (cc f)
   none (z ∷ before) f = absurd (cc f)
 
-whole : (before part after u v : Text) (c d : ℕ) → codes "ba" ≡ before ++ (part ++ after) → part ≡ u ++ v → u ≡ c ∷ [] → v ≡ d ∷ [] →
+whole : (before part after u v : Text) (c d : ℕ) → codes "ba" ≡ before ++ (part ++ after) → part ≡ u ++ v
+    → u ≡ c ∷ [] → v ≡ d ∷ [] →
     in_set (only 97) c ≡ true → in_set (only 98) d ≡ true → codes "ba" ≡ before ++ (97 ∷ 98 ∷ after)
 whole before part after u v c d e f g k h l =
     let is : part ≡ c ∷ d ∷ [] = f ∙ ap₂ (λ x y. x ++ y) g k in

@@ -30,14 +30,28 @@ pub returns : goal.returns
 returns c = record {
   start = inr (codes "a", codes "b", refl, (97, refl, refl), (codes "b", [], refl, (98, refl, refl), refl));
   behind_first = inl (inl ([], [], refl, (refl, refl), refl));
-  nothing_behind_first = λ m. (advance_whole (is_elem (1 ∷ [])) 98 (unrolled a_or_ab) 0 false [] (inr (1, refl, m))).1;
+  nothing_behind_first =
+      λ m. (advance_whole (is_elem (1 ∷ [])) 98 (unrolled a_or_ab) 0 false [] (inr (1, refl, m))).1;
   behind_second = inr (1, refl, behind_a);
-  not_complete = λ m. true≢false (sym (leaves_whole (is_elem (2 ∷ [])) (unrolled a_or_ab) 0 false (inr (2, refl, m))));
+  not_complete = λ m. true≢false
+      (sym (leaves_whole (is_elem (2 ∷ [])) (unrolled a_or_ab) 0 false (inr (2, refl, m))));
   behind_third = inr (2, refl, behind_b);
   no_fourth = λ t m. let r = After-within (unrolled a_or_ab) 4 t m in omega arith;
-  repeated = inl (codes "ab", [], refl, ([], codes "ab", refl, behind_b, (codes "ab" ∷ [], (has_ab, tt), omega arith, tt, refl)), refl);
+  repeated = inl (
+    codes "ab",
+    [],
+    refl,
+    ([], codes "ab", refl, behind_b, (codes "ab" ∷ [], (has_ab, tt), omega arith, tt, refl)),
+    refl,
+  );
   complete = inl ([], [], refl, ([], [], refl, behind_b, ([], tt, omega arith, tt, refl)), refl);
-  begun = inl (codes "bab", [], refl, (codes "b", codes "ab", refl, behind_a, (codes "ab" ∷ [], (has_ab, tt), omega arith, tt, refl)), refl);
+  begun = inl (
+    codes "bab",
+    [],
+    refl,
+    (codes "b", codes "ab", refl, behind_a, (codes "ab" ∷ [], (has_ab, tt), omega arith, tt, refl)),
+    refl,
+  );
   left = (2, (1, omega arith, refl), inr (1, refl, behind_a));
   not_left = λ h. (advance_whole (is_elem (1 ∷ 3 ∷ [])) 98 (unrolled a_or_ab) 0 false []
       (has_left a_or_ab false (1 ∷ 3 ∷ []) (codes "b") (omega arith, (omega arith, tt)) h)).1;

@@ -13,5 +13,32 @@ returns c = record {
   leading_zeros = read_sound _ _ refl;
   digits = read_sound _ _ refl;
   no_end = read_sound _ _ refl;
-  refused = (unread _ refl, (unread _ refl, (unread _ refl, (unread _ refl, (unread _ refl, (unread _ refl, (unread _ refl, (unread _ refl, (unread _ refl, (unread _ refl, (unread _ refl, (unread _ refl, (unread _ refl, tt)))))))))))));
+  refused = (
+    unread _ refl,
+    (
+      unread _ refl,
+      (
+        unread _ refl,
+        (
+          unread _ refl,
+          (
+            unread _ refl,
+            (
+              unread _ refl,
+              (
+                unread _ refl,
+                (
+                  unread _ refl,
+                  (
+                    unread _ refl,
+                    (unread _ refl, (unread _ refl, (unread _ refl, (unread _ refl, tt)))),
+                  ),
+                ),
+              ),
+            ),
+          ),
+        ),
+      ),
+    ),
+  );
 }

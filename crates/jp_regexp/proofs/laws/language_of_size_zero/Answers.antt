@@ -4,4 +4,8 @@ use Rattle.jp_regexp.proofs.EmptyLemmas.{only_empty, has_empty}
 use Rattle.jp_regexp.proofs.laws.language_of_size_zero.Goals as goal
 
 pub returns : goal.returns
-returns c = λ p t fits e. (only_empty p t fits.counts e, λ h. subst (Member p) (sym h) (has_empty p fits.counts e))
+returns c = λ p t fits e. (
+  only_empty p t fits.counts e,
+  λ h. subst (Member p) (sym h)
+      (has_empty p fits.counts e),
+)

@@ -14,16 +14,19 @@ invariant-leave_in_turn-loop-piece l =
 
 abbrev pub invariant-leave_before-loop-branch : goal.invariant-leave_before-loop-branch
 invariant-leave_before-loop-branch l =
-    ((q : Unrolled) (r : Reach) → IsWalk l.live (branches_before (drop l.branch-index l.branches) q) (entered_as l.at.entered l.others) r →
+    ((q : Unrolled) (r : Reach) → IsWalk l.live (branches_before (drop l.branch-index l.branches) q)
+    (entered_as l.at.entered l.others) r →
     IsWalk l.live (branches_before l.branches q) l.at (or_entered l.others.entered r))
-    × (l.others.past + letters (branches_before (drop l.branch-index l.branches) nothing) ≡ l.at.past + letters (branches_before l.branches nothing))
+    × (l.others.past + letters (branches_before (drop l.branch-index l.branches) nothing)
+    ≡ l.at.past + letters (branches_before l.branches nothing))
     × IsAt l.live l.others.past l.others.index
 
 abbrev pub invariant-leave_counted-loop-i : goal.invariant-leave_counted-loop-i
 invariant-leave_counted-loop-i l =
     let a = unrolled_in l.atom in
     let rest = counted (l.least - l.i) (l.most - l.i) a in
-    ((r : Reach) → IsWalk l.live rest l.here r → IsWalk l.live (counted l.least l.most a) l.fn.at (or_entered l.left r))
+    ((r : Reach) → IsWalk l.live rest l.here r
+    → IsWalk l.live (counted l.least l.most a) l.fn.at (or_entered l.left r))
     × (l.here.past + letters rest ≡ l.fn.at.past + letters (counted l.least l.most a))
     × IsAt l.live l.here.past l.here.index × (l.i ≤ l.most)
 

@@ -4,7 +4,8 @@ use Rattle.jp_regexp.specs.Reading.{digits_within}
 use Rattle.jp_regexp.proofs.read_counts.digits_from.Given as goal
 
 abbrev pub invariant-loop-rest : goal.invariant-loop-rest
-invariant-loop-rest l = (l.number ≤ max_count) × (digits_within l.fn.number l.text ≡ digits_within l.number l.rest)
+invariant-loop-rest l = (l.number ≤ max_count)
+    × (digits_within l.fn.number l.text ≡ digits_within l.number l.rest)
 
 abbrev pub decreases-loop-rest : goal.decreases-loop-rest
 decreases-loop-rest l = length l.rest

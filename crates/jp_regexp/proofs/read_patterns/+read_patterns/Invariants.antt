@@ -19,4 +19,6 @@ abbrev pub decreases-pattern_at : goal.decreases-pattern_at
 decreases-pattern_at l = 5 * l.left + 4
 
 abbrev pub invariant-pattern_at-loop-turn : goal.invariant-pattern_at-loop-turn
-invariant-pattern_at-loop-turn l = pattern_within l.left l.turns l.fn.text ≡ pattern_behind (map node_of l.before.items) (map node_of l.pieces.items) (pattern_within l.left (l.turns - l.turn) l.rest)
+invariant-pattern_at-loop-turn l = pattern_within l.left l.turns l.fn.text
+    ≡ pattern_behind (map node_of l.before.items) (map node_of l.pieces.items)
+    (pattern_within l.left (l.turns - l.turn) l.rest)

@@ -10,7 +10,8 @@ pub returns-in_err-elements : goal.returns-in_err-elements
 returns-in_err-elements c =
     let p = err_from_is_err_and c.from_residual.result c.from_residual.ensures.1 in
     let fails = rw (add-one (length c.args.text.now)) at c.in_err-elements.ensures in
-    rw (p.1, p.2) (fails_map (λ (q : List Element × Text). (CharSet.class c.args.negated q.0, q.1)) c.in_err-elements.field-0.0 (listing_at (suc (length c.args.text.now)) c.args.text.now) fails)
+    rw (p.1, p.2) (fails_map (λ (q : List Element × Text). (CharSet.class c.args.negated q.0, q.1))
+    c.in_err-elements.field-0.0 (listing_at (suc (length c.args.text.now)) c.args.text.now) fails)
 
 pub returns : goal.returns
 returns c =

@@ -11,7 +11,7 @@ use Rattle.jp_run.proofs.running.run.Goals as goal
 pub answer-requires-clause-lines : goal.answer-requires-clause-lines
 answer-requires-clause-lines g c =
     let few = few_documents c.in_ok-gathered.gathered.lines.items c.in_ok-gathered.gathered.count max_lines
-          c.in_ok-gathered.ensures.lines.0
+    c.in_ok-gathered.ensures.lines.0
     c.in_ok-gathered.ensures.lines.2 c.in_ok-gathered.ensures.lines.3 c.in_ok-gathered.ensures.few_lines in
     rw c.as_slice-lines.ensures.value (λ κs outlives. few)
 
@@ -35,7 +35,7 @@ pub returns-clause-counts : goal.returns-clause-counts
 returns-clause-counts g c = counts_known c.in_ok-gathered.gathered.lines.items _ _ _ _ _
     c.in_ok-gathered.ensures.lines.1 c.in_ok-gathered.ensures.lines.2
     c.in_ok-gathered.ensures.lines.3 c.in_ok-gathered.ensures.end (c.len.ensures
-      ∙ c.in_ok-gathered.gathered.lines.ok.0)
+    ∙ c.in_ok-gathered.gathered.lines.ok.0)
 
 pub returns-in_err-deliver-clause-refused : goal.returns-in_err-deliver-clause-refused
 returns-in_err-deliver-clause-refused g c = λ f v. not_both _ _ f c.in_ok-plan.ensures.ok v
@@ -44,28 +44,28 @@ pub returns-in_err-deliver-clause-document : goal.returns-in_err-deliver-clause-
 returns-in_err-deliver-clause-document g c = λ line fault e.
     let told = c.in_err-deliver.ensures.document line fault
     (told_at c.from_residual-in_err-deliver.result c.in_err-deliver.field-0.0 (Document line fault)
-      c.from_residual-in_err-deliver.ensures.1 e) in
+    c.from_residual-in_err-deliver.ensures.1 e) in
     written_known _ (answer_of c.in_ok-answer.answer) _ _ _ _ _
-      (answer_known _ (planned_query c.in_ok-plan.plan) (map line_of c.as_slice-lines.result.now)
-      (answer_of c.in_ok-answer.answer) _ _ _
+    (answer_known _ (planned_query c.in_ok-plan.plan) (map line_of c.as_slice-lines.result.now)
+    (answer_of c.in_ok-answer.answer) _ _ _
     c.in_ok-gathered.ensures.lines.1 (ap (map line_of) c.as_slice-lines.ensures.value
-      ∙ c.in_ok-gathered.ensures.lines.2)
+    ∙ c.in_ok-gathered.ensures.lines.2)
     c.in_ok-gathered.ensures.end c.in_ok-plan.ensures.ok c.in_ok-answer.ensures.answer) told.0 refl told.1
 
 pub returns-in_err-deliver-clause-front : goal.returns-in_err-deliver-clause-front
 returns-in_err-deliver-clause-front g c = at_an_err c.from_residual-in_err-deliver.result
     (front_known _ (answer_of c.in_ok-answer.answer) _ _ _ _ (answer_known _ (planned_query c.in_ok-plan.plan)
-      (map line_of c.as_slice-lines.result.now) (answer_of c.in_ok-answer.answer) _ _ _
+    (map line_of c.as_slice-lines.result.now) (answer_of c.in_ok-answer.answer) _ _ _
     c.in_ok-gathered.ensures.lines.1 (ap (map line_of) c.as_slice-lines.ensures.value
-      ∙ c.in_ok-gathered.ensures.lines.2)
+    ∙ c.in_ok-gathered.ensures.lines.2)
     c.in_ok-gathered.ensures.end c.in_ok-plan.ensures.ok c.in_ok-answer.ensures.answer) refl
-      c.in_err-deliver.ensures.front)
+    c.in_err-deliver.ensures.front)
 
 pub returns-clause-answer : goal.returns-clause-answer
 returns-clause-answer g c = written_known _ (answer_of c.in_ok-answer.answer) _ _ _ _ _
     (answer_known _ (planned_query c.in_ok-plan.plan) (map line_of c.as_slice-lines.result.now)
     (answer_of c.in_ok-answer.answer) _ _ _
     c.in_ok-gathered.ensures.lines.1 (ap (map line_of) c.as_slice-lines.ensures.value
-      ∙ c.in_ok-gathered.ensures.lines.2)
+    ∙ c.in_ok-gathered.ensures.lines.2)
     c.in_ok-gathered.ensures.end c.in_ok-plan.ensures.ok c.in_ok-answer.ensures.answer)
     c.in_ok-deliver.ensures.whole refl c.in_ok-deliver.ensures.ok

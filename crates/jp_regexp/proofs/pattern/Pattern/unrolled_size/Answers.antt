@@ -4,7 +4,15 @@ use Rattle.jp_regexp.proofs.ProfileLemmas.{kept_size}
 use Rattle.jp_regexp.proofs.pattern.Pattern.unrolled_size.Goals as goal
 
 pub returns-clause-exact : goal.returns-clause-exact
-returns-clause-exact c = omega (arith, kept_size (pattern_of c.args.self.now) c.args.self.now.in_profile, c.size.ensures)
+returns-clause-exact c = omega (
+  arith,
+  kept_size (pattern_of c.args.self.now) c.args.self.now.in_profile,
+  c.size.ensures,
+)
 
 pub returns-clause-within : goal.returns-clause-within
-returns-clause-within c = omega (arith, kept_size (pattern_of c.args.self.now) c.args.self.now.in_profile, c.size.ensures)
+returns-clause-within c = omega (
+  arith,
+  kept_size (pattern_of c.args.self.now) c.args.self.now.in_profile,
+  c.size.ensures,
+)

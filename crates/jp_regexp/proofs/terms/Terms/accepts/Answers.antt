@@ -20,5 +20,6 @@ returns c =
     c.leave.ensures.entered
     ∙ ap (λ r. leaves (is_elem c.deref.result.now) (unrolled p) r.past r.entered) c.start-at.ensures
     ∙ ap (λ xs. leaves (is_elem xs) (unrolled p) 0 c.args.self.now.at_start) c.deref.ensures.value in
-    accepted p (kept_profile p c.args.self.now.pattern.now.in_profile).counts c.args.self.now.at_start live c.args.self.now.rising
+    accepted p (kept_profile p c.args.self.now.pattern.now.in_profile).counts c.args.self.now.at_start live
+    c.args.self.now.rising
     c.leave.result.entered e

@@ -10,8 +10,10 @@ pub invariant_of-self-2 : goal.invariant_of-self-2
 invariant_of-self-2 c =
     let self = c.args.self.now in
     let p = pattern_of self.pattern.now in
-    let e = read_next p c.args.c self.at_start self.live.items c.deref.result.now c.clear.new.self.items c.read_into.new.next.items c.swap.new.x.items
-    c.deref.ensures.value c.clear.ensures.items c.in_ok-accepted.ensures.next (ap (λ v. v.items) c.swap.ensures.x_after) in
+    let e = read_next p c.args.c self.at_start self.live.items c.deref.result.now c.clear.new.self.items
+    c.read_into.new.next.items c.swap.new.x.items
+    c.deref.ensures.value c.clear.ensures.items c.in_ok-accepted.ensures.next
+    (ap (λ v. v.items) c.swap.ensures.x_after) in
     record {
       rising = next_rises p c.args.c self.at_start self.live.items c.swap.new.x.items e;
       few = next_few p c.args.c self.at_start self.live.items c.swap.new.x.items e;
@@ -21,13 +23,18 @@ pub returns-clause-ok : goal.returns-clause-ok
 returns-clause-ok c =
     let self = c.args.self.now in
     let p = pattern_of self.pattern.now in
-    let e = read_next p c.args.c self.at_start self.live.items c.deref.result.now c.clear.new.self.items c.read_into.new.next.items c.swap.new.x.items
-    c.deref.ensures.value c.clear.ensures.items c.in_ok-accepted.ensures.next (ap (λ v. v.items) c.swap.ensures.x_after) in
-    takes_step p (kept_profile p self.pattern.now.in_profile).counts self.at_start self.live.items self.rising c.args.c c.args.anew c.swap.new.x.items e
+    let e = read_next p c.args.c self.at_start self.live.items c.deref.result.now c.clear.new.self.items
+    c.read_into.new.next.items c.swap.new.x.items
+    c.deref.ensures.value c.clear.ensures.items c.in_ok-accepted.ensures.next
+    (ap (λ v. v.items) c.swap.ensures.x_after) in
+    takes_step p (kept_profile p self.pattern.now.in_profile).counts self.at_start self.live.items self.rising
+    c.args.c c.args.anew c.swap.new.x.items e
 
 pub returns-clause-accepted : goal.returns-clause-accepted
 returns-clause-accepted c =
     let self = c.args.self.now in
     let p = pattern_of self.pattern.now in
-    accepted p (kept_profile p self.pattern.now.in_profile).counts self.at_start self.live.items self.rising c.in_ok-accepted.accepted
-    (c.in_ok-accepted.ensures.accepted ∙ ap (λ xs. leaves (is_elem xs) (unrolled p) 0 self.at_start) c.deref.ensures.value)
+    accepted p (kept_profile p self.pattern.now.in_profile).counts self.at_start self.live.items self.rising
+    c.in_ok-accepted.accepted
+    (c.in_ok-accepted.ensures.accepted ∙ ap (λ xs. leaves (is_elem xs) (unrolled p) 0 self.at_start)
+    c.deref.ensures.value)
