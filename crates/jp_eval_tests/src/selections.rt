@@ -60,6 +60,15 @@ $..* on {"b":[1,{"c":2}],"a":null} gives $['a'] $['b'] $['b'][0] $['b'][1] $['b'
 $..[0,0] on [[1],[2]] gives $[0] $[0] $[0][0] $[0][0] $[1][0] $[1][0]
 $ on [1] gives $
 $.a[?@==$.b] on {"a":[1,2],"b":2} gives $['a'][1]
+$[?count($[*])>1] on [7,8] gives $[0] $[1]
+$[?count($[*])>2] on [7,8] gives nothing
+$[?count($[?@>$[0]])==2] on [1,2,3] gives $[0] $[1] $[2]
+$.a[?$.b[?@==$.c]] on {"a":[7],"b":[1,2],"c":2} gives $['a'][0]
+$.a[?$.b[?@==$.c]] on {"a":[7],"b":[1,3],"c":2} gives nothing
+$.a[?value($..q)==@] on {"a":[1,2],"b":{"q":2}} gives $['a'][1]
+$.a[?value($..q)==@] on {"a":[1,2],"b":{"q":2},"q":2} gives nothing
+$.a[?@==$.x||$.y&&@>$.y] on {"a":[1,2,3],"y":2} gives $['a'][2]
+$[?match(@,$[1])] on ["ab","a."] gives $[0] $[1]
 $["\uD83D\uDE00"] on {"😀":1} gives $['😀']"#;
 
 /// The paths of the nodes that the query selects, or that there is none.
