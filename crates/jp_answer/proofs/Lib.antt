@@ -3,3 +3,4 @@ pub mod OnLiterals
 pub mod Placing
 pub mod Settling
 pub mod Tending
+mod PlanCrosses

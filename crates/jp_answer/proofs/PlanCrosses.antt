@@ -1,0 +1,49 @@
+-- That a plan may be shared among threads.
+use denote.Param.Send.{IsSync, sendable}
+use Rattle.std.proofs.Crossing.{crosses}
+use Rattle.jp_check.specs.contracts.accepted.Plan as Plan
+use Rattle.jp_answer.specs.contracts.pieces.Pieces as Pieces
+use Rattle.jp_doc.proofs.line.Line.TheSendSync as lines
+use denote.Ref.{NamedLft}
+use Rattle.jp_check.specs.contracts.ready.Query as Ready
+use Rattle.jp_check.specs.contracts.known.KnownPattern as Known
+use Rattle.jp_syntax.specs.contracts.tree.Query as Query
+use Rattle.jp_regexp.proofs.tree.CharSet.TheSendSync as sets
+use Rattle.jp_regexp.proofs.table.Table.TheSendSync as tables
+use Rattle.jp_check.proofs.ready.Constant.TheSendSync as constants
+use Rattle.jp_check.proofs.ready.Position.TheSendSync as positions
+use Rattle.jp_check.proofs.ready.Slice.TheSendSync as slices
+use Rattle.jp_check.proofs.ready.Want.TheSendSync as wants
+use Rattle.jp_check.proofs.ready.Logical.TheLaws.TheKnot.{crosses as ready_crosses}
+use Rattle.jp_regexp.proofs.parts.Part.TheLaws.TheKnot.{crosses as pattern_crosses}
+use Rattle.jp_syntax.proofs.tree.Argument.TheLaws.TheKnot.{crosses as tree_crosses}
+
+pub known_sync : IsSync Known.the_row
+known_sync = search (tables.the_field_sync, sets.the_field_sync, crosses, pattern_crosses, sendable)
+    depth 60 fits 20000
+
+pub ready_field : IsSync (Ready.the_field).row
+ready_field = search (
+  tables.the_field_sync,
+  sets.the_field_sync,
+  constants.the_field_sync,
+  positions.the_field_sync,
+  slices.the_field_sync,
+  wants.the_field_sync,
+  crosses,
+  pattern_crosses,
+  ready_crosses,
+  sendable,
+) depth 60 fits 20000
+
+pub query_field : IsSync (Query.the_field).row
+query_field = search (crosses, tree_crosses, sendable) depth 60 fits 20000
+
+pub plan_field : IsSync (Plan.the_field).row
+plan_field = search (query_field, known_sync, ready_field, crosses, sendable) depth 60 fits 20000
+
+pub plan_sync : IsSync Plan.the_row
+plan_sync = search (plan_field, sendable) depth 60 fits 20000
+
+pub pieces_sync : (a : NamedLft) → IsSync (Pieces.the_row a)
+pieces_sync a = search (plan_sync, lines.the_sync, crosses, sendable) depth 60 fits 20000
