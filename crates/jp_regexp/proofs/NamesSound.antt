@@ -184,7 +184,8 @@ symbols_sound (d ∷ e ∷ t) cs h = absurd cc
 symbols_sound (c ∷ []) cs e0 =
     elim (cases_Bool (c == 99)) [
       | inl h ↦ let e1 = rw h at e0 in let same : is.CurrencySymbol ∷ [] ≡ cs =
-          cc in rw (eqb-true c 99 h) (subst (IsCategoryName (83 ∷ 99 ∷ [])) same IsCategoryName.currency_symbol)
+          cc in rw (eqb-true c 99 h) (subst (IsCategoryName (83 ∷ 99 ∷ [])) same
+          IsCategoryName.currency_symbol)
       | inr h ↦ let e1 = rw h at e0 in
           elim (cases_Bool (c == 107)) [
             | inl h ↦ let e2 = rw h at e1 in let same : is.ModifierSymbol ∷ [] ≡ cs =
@@ -218,7 +219,8 @@ others_sound (c ∷ []) cs e0 =
       | inr h ↦ let e1 = rw h at e0 in
           elim (cases_Bool (c == 102)) [
             | inl h ↦ let e2 = rw h at e1 in let same : is.Format ∷ [] ≡ cs =
-                cc in rw (eqb-true c 102 h) (subst (IsCategoryName (67 ∷ 102 ∷ [])) same IsCategoryName.format)
+                cc in rw (eqb-true c 102 h) (subst (IsCategoryName (67 ∷ 102 ∷ [])) same
+                IsCategoryName.format)
             | inr h ↦ let e2 = rw h at e1 in
                 elim (cases_Bool (c == 110)) [
                   | inl h ↦ let e3 = rw h at e2 in let same : is.Unassigned ∷ [] ≡ cs =

@@ -122,7 +122,8 @@ module _ (a : Text) (p : Pattern) (atom : IsAtom a p) where
   quantity_sound (c ∷ t) q e =
       elim (cases_Bool (c == 42)) [
         | inl h ↦ let f = rw h at e in let same : (repeat 0 None, t) ≡ q =
-            cc f in changed a p (c ∷ t) (42 ∷ []) t (repeat 0 None) q (head c 42 t h) (repeated atom star) same
+            cc f in changed a p (c ∷ t) (42 ∷ []) t (repeat 0 None) q (head c 42 t h)
+            (repeated atom star) same
         | inr h ↦ let f = rw h at e in elim (cases_Bool (c == 63)) [
           | inl i ↦ let g = rw i at f in let same : (repeat 0 (Some 1), t) ≡ q =
               cc g in changed a p (c ∷ t) (63 ∷ []) t (repeat 0 (Some 1)) q (head c 63 t i)

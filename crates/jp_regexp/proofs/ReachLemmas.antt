@@ -60,7 +60,8 @@ rest_none (x ∷ xs) (suc i) le = rest_none xs i (omega arith)
 module _ (places : List ℕ) (past index : ℕ) (at : IsAt places past index) where
   abbrev Front : Type 0
   Front = (length places ≤ index)
-      ⊎ ((index < length places) × IsRest places past (slice_index_or places index 0 ∷ drop (index + 1) places))
+      ⊎ ((index < length places)
+      × IsRest places past (slice_index_or places index 0 ∷ drop (index + 1) places))
 
   front : Front
   front =

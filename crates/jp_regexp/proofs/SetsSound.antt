@@ -184,7 +184,8 @@ range_sound s (d ∷ c ∷ t) low r h e =
                 s ++ (45 ∷ u),
                 cut ∙ ap (λ (q : Element × Text). (s ++ (45 ∷ u)) ++ q.1) same,
                 subst
-                    (λ (q : Element × Text). IsElement (s ++ (45 ∷ u)) q.0) same (span h l (leb-true low a.0 m)),
+                    (λ (q : Element × Text). IsElement (s ++ (45 ∷ u)) q.0) same
+                    (span h l (leb-true low a.0 m)),
               )
           | inr m ↦ let n = rw m at g in absurd (cc n)
         ]
@@ -216,7 +217,8 @@ element_sound (c ∷ t) r e =
               using (category_sound t a f) (λ (s, k, l). (
                 92 ∷ 112 ∷ 123 ∷ (s ++ (125 ∷ [])),
                 ap (λ u. 92 ∷ u) (head d 112 t h
-                    ∙ ap (λ u. 112 ∷ u) (k ∙ ap (λ (q : Element × Text). 123 ∷ ((s ++ (125 ∷ [])) ++ q.1)) g)),
+                    ∙ ap (λ u. 112 ∷ u) (k
+                    ∙ ap (λ (q : Element × Text). 123 ∷ ((s ++ (125 ∷ [])) ++ q.1)) g)),
                 subst (λ (q : Element × Text). IsElement (92 ∷ 112 ∷ 123 ∷ (s ++ (125 ∷ []))) q.0) g
                     (categorical (inside l)),
               )))
@@ -236,7 +238,8 @@ element_sound (c ∷ t) r e =
                   using (category_sound t a f) (λ (s, k, l). (
                     92 ∷ 80 ∷ 123 ∷ (s ++ (125 ∷ [])),
                     ap (λ u. 92 ∷ u) (head d 80 t h
-                        ∙ ap (λ u. 80 ∷ u) (k ∙ ap (λ (q : Element × Text). 123 ∷ ((s ++ (125 ∷ [])) ++ q.1)) g)),
+                        ∙ ap (λ u. 80 ∷ u) (k
+                        ∙ ap (λ (q : Element × Text). 123 ∷ ((s ++ (125 ∷ [])) ++ q.1)) g)),
                     subst (λ (q : Element × Text). IsElement (92 ∷ 80 ∷ 123 ∷ (s ++ (125 ∷ []))) q.0) g
                         (categorical (outside l)),
                   )))
@@ -295,7 +298,8 @@ elements_sound (suc n) (c ∷ t) r e =
         ]
 
     later : ((u : Text) (q : List Element × Text) → elements_at n u ≡ Some q → Closed AreElements u q)
-        → (if c == 45 then close_at t else option_and_then (with_element (elements_at n)) (element_at (c ∷ t)))
+        → (if c == 45 then close_at t else option_and_then (with_element (elements_at n))
+        (element_at (c ∷ t)))
         ≡ Some r → Closed AreElements (c ∷ t) r
     later rest e =
         elim (cases_Bool (c == 45)) [
@@ -396,7 +400,8 @@ escape_set_sound (d ∷ t) r e =
     ]
   where
     other : (if d == 80 then option_map
-        (λ (q : List GeneralCategory × Text). (CharSet.category true q.0, q.1)) (category_at t) else option_map
+        (λ (q : List GeneralCategory × Text). (CharSet.category true q.0, q.1)) (category_at t)
+        else option_map
         (λ (q : ℕ × Text). (CharSet.only q.0, q.1)) (single_at (d ∷ t))) ≡ Some r
         → Front IsCharSet (92 ∷ d ∷ t) r
     other e =

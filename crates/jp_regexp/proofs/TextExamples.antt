@@ -66,7 +66,8 @@ letters_and_hyphens =
     record {
       shapes = last_branch
           (first_piece (once_or_more
-          (character (brackets (listed (λ e. omega arith) (first_element (single (bare 97 refl)) last_hyphen)))))
+          (character (brackets (listed (λ e. omega arith)
+          (first_element (single (bare 97 refl)) last_hyphen)))))
           no_piece);
       in_profile = record { counts = (tt, tt); depth_fits = omega arith; size_fits = omega arith };
     }
@@ -149,7 +150,8 @@ pub nested : IsPatternOf (codes "(a*)*b{0,2}") nested_tree
 nested = record {
   shapes =
       last_branch (first_piece
-      (repeated (parentheses (last_branch (first_piece (repeated (character (normal 97 refl)) star) no_piece)))
+      (repeated (parentheses
+      (last_branch (first_piece (repeated (character (normal 97 refl)) star) no_piece)))
       star) (first_piece (repeated (character (normal 98 refl))
       (between (count 48 [] (refl, tt)) (count 50 [] (refl, tt)))) no_piece));
   in_profile =
@@ -358,7 +360,10 @@ nothing_in_depth = record {
           (
             (omega arith, omega arith),
             (
-              ((omega arith, omega arith), (((omega arith, omega arith), (((omega arith, omega arith), tt), tt)), tt)),
+              (
+                (omega arith, omega arith),
+                (((omega arith, omega arith), (((omega arith, omega arith), tt), tt)), tt),
+              ),
               tt,
             ),
           ),
@@ -397,7 +402,10 @@ never = record {
           (
             (omega arith, omega arith),
             (
-              ((omega arith, omega arith), (((omega arith, omega arith), (((omega arith, omega arith), tt), tt)), tt)),
+              (
+                (omega arith, omega arith),
+                (((omega arith, omega arith), (((omega arith, omega arith), tt), tt)), tt),
+              ),
               tt,
             ),
           ),

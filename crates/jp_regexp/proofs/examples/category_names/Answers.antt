@@ -73,7 +73,10 @@ returns c = record {
                                                                     IsCategoryName.control,
                                                                     (
                                                                       IsCategoryName.format,
-                                                                      (IsCategoryName.unassigned, (IsCategoryName.private_use, tt)),
+                                                                      (
+                                                                        IsCategoryName.unassigned,
+                                                                        (IsCategoryName.private_use, tt),
+                                                                      ),
                                                                     ),
                                                                   ),
                                                                 ),

@@ -25,7 +25,13 @@ returns c = record {
                     read_sound _ _ refl,
                     (
                       read_sound _ _ refl,
-                      (read_sound _ _ refl, (read_sound _ _ refl, (read_sound _ _ refl, (read_sound _ _ refl, tt)))),
+                      (
+                        read_sound _ _ refl,
+                        (
+                          read_sound _ _ refl,
+                          (read_sound _ _ refl, (read_sound _ _ refl, tt)),
+                        ),
+                      ),
                     ),
                   ),
                 ),
@@ -129,7 +135,13 @@ returns c = record {
                     read_sound _ _ refl,
                     (
                       read_sound _ _ refl,
-                      (read_sound _ _ refl, (read_sound _ _ refl, (read_sound _ _ refl, (read_sound _ _ refl, tt)))),
+                      (
+                        read_sound _ _ refl,
+                        (
+                          read_sound _ _ refl,
+                          (read_sound _ _ refl, (read_sound _ _ refl, tt)),
+                        ),
+                      ),
                     ),
                   ),
                 ),
@@ -176,7 +188,10 @@ returns c = record {
                   read_sound _ _ refl,
                   (
                     read_sound _ _ refl,
-                    (read_sound _ _ refl, (read_sound _ _ refl, (read_sound _ _ refl, (read_sound _ _ refl, tt)))),
+                    (
+                      read_sound _ _ refl,
+                      (read_sound _ _ refl, (read_sound _ _ refl, (read_sound _ _ refl, tt))),
+                    ),
                   ),
                 ),
               ),

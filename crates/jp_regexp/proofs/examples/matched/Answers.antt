@@ -74,7 +74,8 @@ returns c = record {
     text.no_letter_tree,
     text.no_letter,
     lone_one
-        (category true (LowercaseLetter ∷ ModifierLetter ∷ OtherLetter ∷ TitlecaseLetter ∷ UppercaseLetter ∷ []))
+        (category true (LowercaseLetter ∷ ModifierLetter ∷ OtherLetter ∷ TitlecaseLetter
+        ∷ UppercaseLetter ∷ []))
         49 (rw digit_1 refl),
   );
 }

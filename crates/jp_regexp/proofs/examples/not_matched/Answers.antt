@@ -47,7 +47,8 @@ returns c = record {
   small_letter_of_neither = unmatched _ _ text.neither_tree text.neither.shapes
       (not_one (class true (range 97 122 ∷ of_category false (DecimalNumber ∷ []) ∷ [])) 97 refl);
   digit_of_neither = unmatched _ _ text.neither_tree text.neither.shapes
-      (not_one (class true (range 97 122 ∷ of_category false (DecimalNumber ∷ []) ∷ [])) 53 (rw digit_5 refl));
+      (not_one (class true (range 97 122 ∷ of_category false (DecimalNumber ∷ []) ∷ [])) 53
+      (rw digit_5 refl));
   letter_for_no_letter = unmatched _ _ text.no_letter_tree text.no_letter.shapes
       (not_one (category true (LowercaseLetter ∷ ModifierLetter ∷ OtherLetter ∷ TitlecaseLetter
       ∷ UppercaseLetter ∷ [])) 97 (rw small_a refl));
