@@ -2,11 +2,8 @@
 //! and prints a line for each node that it selects.
 #![tactic(auto)]
 
-mod command_line;
-mod program;
-
+use jp_program::{program, tell};
 use jp_run::{FromReader, FromWriter, RunFault, Sink};
-use program::{program, tell};
 use std::alloc::AllocGlobal;
 use std::env;
 use std::io::{self, BufWriter, ErrorKind, Input, Print};

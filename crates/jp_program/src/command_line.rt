@@ -1,5 +1,7 @@
 //! What the command line asks for.
 
+ghost use Rattle.std.specs.Prelude.{◌≡◌, ◌⊎◌, OnErr, IsErrOf};
+
 use clap::error::ErrorKind;
 use clap::{Arg, ArgAction, ArgMatches, Command, Error, value_parser};
 use jp_run::{RunFault, Settings};
@@ -45,7 +47,9 @@ pub(crate) struct Wanted<'a> {
 ///
 /// [`RunFault::Settings`] where they ask for nothing that there is, [`RunFault::Memory`] where a growth of
 /// memory was refused.
-pub(crate) fn read_words<'a>(alloc: Global, words: &'a [&'a str]) -> Result<Asked<'a>, RunFault> {
+pub(crate) fn read_words<'a>(alloc: Global, words: &'a [&'a str]) -> Result<Asked<'a>, RunFault>
+    ensures { OnErr result (IsErrOf result RunFault.Settings ⊎ IsErrOf result RunFault.Memory) }
+{
     match matches(alloc, words) {
         Ok(matches) => Ok(Asked::Query(wanted_by(&matches)?)),
         Err(error) => match error.kind() {
@@ -90,7 +94,7 @@ fn matches<'a>(alloc: Global, words: &'a [&'a str]) -> Result<ArgMatches<'a>, Er
         .after_help(MORE)
         .arg(workers)?
         .arg(piece)?
-        .arg(batch.hide(true))?
+        .arg(batch)?
         .arg(check)?
         .arg(query)?
         .try_get_matches_from(words)
@@ -107,7 +111,9 @@ fn number<'a>(alloc: Global, name: &'a str, default: &'a str, help: &'a str) -> 
 }
 
 /// The query, and what is to be done with it.
-fn wanted_by<'a>(matches: &ArgMatches<'a>) -> Result<Wanted<'a>, RunFault> {
+fn wanted_by<'a>(matches: &ArgMatches<'a>) -> Result<Wanted<'a>, RunFault>
+    ensures { OnErr result (IsErrOf result RunFault.Settings) }
+{
     let workers = matches.get_one::<u64>("workers");
     let piece = matches.get_one::<u64>("piece");
     let batch = matches.get_one::<u64>("batch");

@@ -1,0 +1,7 @@
+//! What the command `jp` does, over any source, any sink and any place for notes.
+#![tactic(auto)]
+
+mod command;
+mod command_line;
+
+pub use command::{program, tell};

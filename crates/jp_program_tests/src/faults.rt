@@ -1,0 +1,70 @@
+//! Faulty lines, and ends that fail.
+
+use crate::running::left;
+use jp_program::program;
+use jp_run::{FromReader, FromWriter};
+use std::io::{self, ErrorKind, Read};
+use std::test::Fail;
+
+/// A reader that fails.
+#[derive(Drop)]
+struct NoReader;
+
+impl Read for NoReader {
+    fn read(&mut self, _buf: &mut [u8]) -> io::Result<usize> {
+        Err(ErrorKind::ConnectionReset.into())
+    }
+}
+
+#[test]
+fn a_faulty_line_is_told(rt: HostRuntime) -> Result<(), Fail> {
+    let left = left(&rt, &["jp", "$.a"], b"{\"a\":1}\n{\n");
+    assert_eq!(rt; left.status, 3);
+    assert_eq!(rt; left.output.as_slice(), b"1\t$['a']\t1\n");
+    assert_eq!(rt; left.notes.as_slice(), b"jp: line 2: unreadable\n");
+    Ok(())
+}
+
+#[test]
+fn a_source_that_fails_is_told(rt: HostRuntime) -> Result<(), Fail> {
+    let mut output = Vec::new(rt.alloc());
+    let mut notes = Vec::new(rt.alloc());
+    let mut source = FromReader::new(NoReader);
+    let mut sink = FromWriter::new(&mut output);
+    let mut told = FromWriter::new(&mut notes);
+    let status = program(&rt, &["jp", "$.a"], &mut source, &mut sink, &mut told);
+    assert_eq!(rt; status, 4);
+    assert_eq!(rt; output.as_slice(), b"");
+    assert_eq!(rt; notes.as_slice(), b"jp: read\n");
+    Ok(())
+}
+
+#[test]
+fn a_sink_that_fails_is_told(rt: HostRuntime) -> Result<(), Fail> {
+    let mut room = [0u8; 5];
+    let mut notes = Vec::new(rt.alloc());
+    let input: &[u8] = b"{\"a\":1}";
+    let mut source = FromReader::new(input);
+    let mut sink = FromWriter::new(room.as_mut_slice());
+    let mut told = FromWriter::new(&mut notes);
+    let status = program(&rt, &["jp", "$.a"], &mut source, &mut sink, &mut told);
+    assert_eq!(rt; status, 4);
+    assert_eq!(rt; room.as_slice(), b"1\t$['");
+    assert_eq!(rt; notes.as_slice(), b"jp: write\n");
+    Ok(())
+}
+
+/// Neither the help nor a note needs to find room.
+#[test]
+fn unwritten_notes_are_passed_over(rt: HostRuntime) -> Result<(), Fail> {
+    let input: &[u8] = b"";
+    for (words, status) in &[(["jp", "--help"], 0), (["jp", "$["], 2), (["jp", "-x"], 64)] {
+        let mut none = [0u8; 0];
+        let mut no_notes = [0u8; 3];
+        let mut source = FromReader::new(input);
+        let mut sink = FromWriter::new(none.as_mut_slice());
+        let mut told = FromWriter::new(no_notes.as_mut_slice());
+        assert_eq!(rt; program(&rt, words, &mut source, &mut sink, &mut told), *status);
+    }
+    Ok(())
+}

@@ -1,0 +1,75 @@
+//! Runs that finish, the help, and checks.
+
+use crate::running::left;
+use std::str;
+use std::test::Fail;
+
+/// A document, a blank line, a document.
+const INPUT: &[u8] = b"{\"a\":1}\n\n{\"a\":null}\n";
+
+/// What `$.a` selects in it.
+const OUTPUT: &[u8] = b"1\t$['a']\t1\n3\t$['a']\tnull\n";
+
+#[test]
+fn a_query_alone_runs(rt: HostRuntime) -> Result<(), Fail> {
+    let left = left(&rt, &["jp", "$.a"], INPUT);
+    assert_eq!(rt; left.status, 0);
+    assert_eq!(rt; left.output.as_slice(), OUTPUT);
+    assert_eq!(rt; left.notes.as_slice(), b"");
+    Ok(())
+}
+
+#[test]
+fn options_stand_before_or_behind(rt: HostRuntime) -> Result<(), Fail> {
+    let all: [&[&str]; 4] = [
+        &["jp", "--workers", "64", "--piece", "1", "--batch", "1", "$.a"],
+        &["jp", "$.a", "--workers=1", "--piece=1000000", "--batch=1000000"],
+        &["jp", "--batch", "2", "--", "$.a"],
+        &["jp", "--workers", "2", "$['a']"],
+    ];
+    for words in &all {
+        let left = left(&rt, words, INPUT);
+        assert_eq!(rt; left.status, 0);
+        assert_eq!(rt; left.output.as_slice(), OUTPUT);
+    }
+    Ok(())
+}
+
+/// What the help has to name.
+const TAUGHT: &str = "\
+--workers
+--piece
+--batch
+--check
+QUERY
+[default: 4]
+[default: 64]
+[default: 4096]
+1 to 64
+1 to 1000000
+Status:
+standard input
+Examples:";
+
+#[test]
+fn help_teaches(rt: HostRuntime) -> Result<(), Fail> {
+    let left = left(&rt, &["jp", "--help"], b"{");
+    assert_eq!(rt; left.status, 0);
+    assert_eq!(rt; left.notes.as_slice(), b"");
+    let Ok(text) = str::from_utf8(&left.output) else {
+        return Err(Fail);
+    };
+    for word in TAUGHT.lines() {
+        assert!(rt; text.contains(word));
+    }
+    Ok(())
+}
+
+#[test]
+fn a_check_reads_nothing(rt: HostRuntime) -> Result<(), Fail> {
+    let left = left(&rt, &["jp", "--check", "$.a"], b"{");
+    assert_eq!(rt; left.status, 0);
+    assert_eq!(rt; left.output.as_slice(), b"");
+    assert_eq!(rt; left.notes.as_slice(), b"");
+    Ok(())
+}

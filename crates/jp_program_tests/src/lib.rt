@@ -1,0 +1,11 @@
+//! Tests of `program`, over ends in memory: each status but that of want of memory.
+#![tactic(auto)]
+
+#[cfg(test)]
+mod faults;
+#[cfg(test)]
+mod finished;
+#[cfg(test)]
+mod refused;
+#[cfg(test)]
+mod running;

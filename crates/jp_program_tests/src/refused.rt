@@ -1,0 +1,56 @@
+//! Queries and command lines that are refused.
+
+use crate::running::left;
+use std::test::Fail;
+
+/// Queries, each with what is told of it.
+const QUERIES: [(&str, &[u8]); 5] = [
+    ("-q", b"jp: query: syntax\n"),
+    ("$[?nope(@)]", b"jp: query: type\n"),
+    ("$[9007199254740992]", b"jp: query: range\n"),
+    ("$[?@==1.5]", b"jp: query: fraction\n"),
+    ("", b"jp: query: syntax\n"),
+];
+
+#[test]
+fn queries_are_refused(rt: HostRuntime) -> Result<(), Fail> {
+    for (query, told) in &QUERIES {
+        for words in &[["jp", "--workers=2", "--", *query], ["jp", "--check", "--", *query]] {
+            let left = left(&rt, words, b"{");
+            assert_eq!(rt; left.status, 2);
+            assert_eq!(rt; left.output.as_slice(), b"");
+            assert_eq!(rt; left.notes.as_slice(), *told);
+        }
+    }
+    Ok(())
+}
+
+#[test]
+fn command_lines_are_refused(rt: HostRuntime) -> Result<(), Fail> {
+    let all: [&[&str]; 16] = [
+        &["jp"],
+        &["jp", "$", "$"],
+        &["jp", "-q"],
+        &["jp", "--nope", "$"],
+        &["jp", "$", "--workers"],
+        &["jp", "--workers", "0", "$"],
+        &["jp", "--workers", "65", "$"],
+        &["jp", "--workers", "x", "$"],
+        &["jp", "--workers", "-1", "$"],
+        &["jp", "--workers", "18446744073709551616", "$"],
+        &["jp", "--piece", "0", "$"],
+        &["jp", "--piece", "1000001", "$"],
+        &["jp", "--batch", "0", "$"],
+        &["jp", "--batch", "1000001", "$"],
+        &["jp", "--check"],
+        // The command line is tested before the query.
+        &["jp", "--batch", "0", "$["],
+    ];
+    for words in &all {
+        let left = left(&rt, words, b"[]\n");
+        assert_eq!(rt; left.status, 64);
+        assert_eq!(rt; left.output.as_slice(), b"");
+        assert_eq!(rt; left.notes.as_slice(), b"jp: command line\n");
+    }
+    Ok(())
+}
