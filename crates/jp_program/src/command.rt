@@ -7,7 +7,7 @@ ghost use Rattle.jp_syntax.specs.declared.fault.QueryFault.{QueryFault as Refusa
 ghost use Rattle.jp_program.specs.Outcome.{IsStatus, IsAnswered, AreAllReads, AreTooManyLines};
 
 use crate::command_line::{Asked, Wanted, read_words};
-use jp_run::{OpenGate, RunFault, Sink, Source, plan_of, run, write_all};
+use jp_run::{OpenGate, RunFault, Sink, Source, check_query, run, write_all};
 use std::alloc::{AllocGlobal, Global};
 use std::thread::Threads;
 
@@ -87,10 +87,7 @@ fn done<R: Threads + AllocGlobal + Sync, S: Source, K: Sink>(
             show(sink, text.as_str());
             Ok(())
         }
-        Asked::Query(wanted) if wanted.check => {
-            plan_of(rt.alloc(), wanted.query)?;
-            Ok(())
-        }
+        Asked::Query(wanted) if wanted.check => check_query(rt.alloc(), wanted.query),
         Asked::Query(wanted) => answer_all(rt, source, sink, wanted),
     }
 }

@@ -5,7 +5,7 @@ ghost use Rattle.std.specs.Prelude.{◌≡◌, ◌⊎◌, OnErr, IsErrOf};
 use clap::error::ErrorKind;
 use clap::{Arg, ArgAction, ArgMatches, Command, Error, value_parser};
 use jp_run::{RunFault, Settings};
-use std::alloc::Global;
+use std::alloc::{AllocError, Global};
 
 /// What the help says behind the options.
 const MORE: &str = "\
@@ -62,24 +62,26 @@ pub(crate) fn read_words<'a>(alloc: Global, words: &'a [&'a str]) -> Result<Aske
 
 /// What the words say of each option.
 fn matches<'a>(alloc: Global, words: &'a [&'a str]) -> Result<ArgMatches<'a>, Error> {
-    let workers = number(
-        alloc,
-        "workers",
-        "4",
-        "How many threads work at once, 1 to 64",
-    );
-    let piece = number(
-        alloc,
-        "piece",
-        "64",
-        "How many documents a thread takes at a time, 1 to 1000000",
-    );
-    let batch = number(
-        alloc,
-        "batch",
-        "4096",
-        "How many documents are answered together, 1 to 1000000",
-    );
+    let command = Command::new(alloc, "jp")
+        .bin_name("jp")?
+        .about("Prints what a JSONPath query selects in each of many JSON documents.")
+        .after_help(MORE);
+    let command = with_query(alloc, with_numbers(alloc, command)?)?;
+    command.try_get_matches_from(words)
+}
+
+/// The command, with the options that take a number.
+fn with_numbers<'a>(alloc: Global, command: Command<'a>) -> Result<Command<'a>, AllocError> {
+    let workers = "How many threads work at once, 1 to 64";
+    let piece = "How many documents a thread takes at a time, 1 to 1000000";
+    let batch = "How many documents are answered and written together, 1 to 1000000";
+    let command = command.arg(number(alloc, "workers", "4", workers))?;
+    let command = command.arg(number(alloc, "piece", "64", piece))?;
+    command.arg(number(alloc, "batch", "4096", batch))
+}
+
+/// The command, with the query and whether it is only checked.
+fn with_query<'a>(alloc: Global, command: Command<'a>) -> Result<Command<'a>, AllocError> {
     let check = Arg::new(alloc, "check")
         .long("check")
         .action(ArgAction::SetTrue)
@@ -88,16 +90,7 @@ fn matches<'a>(alloc: Global, words: &'a [&'a str]) -> Result<ArgMatches<'a>, Er
         .value_name("QUERY")
         .required(true)
         .help("A JSONPath query (RFC 9535)");
-    Command::new(alloc, "jp")
-        .bin_name("jp")?
-        .about("Prints what a JSONPath query selects in each of many JSON documents.")
-        .after_help(MORE)
-        .arg(workers)?
-        .arg(piece)?
-        .arg(batch)?
-        .arg(check)?
-        .arg(query)?
-        .try_get_matches_from(words)
+    command.arg(check)?.arg(query)
 }
 
 /// An option that takes a number.

@@ -1,6 +1,6 @@
 //! Faulty lines, and ends that fail.
 
-use crate::running::left;
+use crate::running::run_words;
 use jp_program::program;
 use jp_run::{FromReader, FromWriter};
 use std::io::{self, ErrorKind, Read};
@@ -18,10 +18,13 @@ impl Read for NoReader {
 
 #[test]
 fn a_faulty_line_is_told(rt: HostRuntime) -> Result<(), Fail> {
-    let left = left(&rt, &["jp", "$.a"], b"{\"a\":1}\n{\n");
+    let left = run_words(&rt, &["jp", "$.a"], b"{\"a\":1}\n{\n");
     assert_eq!(rt; left.status, 3);
-    assert_eq!(rt; left.output.as_slice(), b"1\t$['a']\t1\n");
-    assert_eq!(rt; left.notes.as_slice(), b"jp: line 2: unreadable\n");
+    assert_eq!(rt; left.output.as_slice(), "1\t$['a']\t1\n".as_bytes());
+    assert_eq!(rt;
+        left.notes.as_slice(),
+        "jp: line 2: unreadable\n".as_bytes()
+    );
     Ok(())
 }
 
@@ -34,8 +37,8 @@ fn a_source_that_fails_is_told(rt: HostRuntime) -> Result<(), Fail> {
     let mut told = FromWriter::new(&mut notes);
     let status = program(&rt, &["jp", "$.a"], &mut source, &mut sink, &mut told);
     assert_eq!(rt; status, 4);
-    assert_eq!(rt; output.as_slice(), b"");
-    assert_eq!(rt; notes.as_slice(), b"jp: read\n");
+    assert_eq!(rt; output.as_slice(), "".as_bytes());
+    assert_eq!(rt; notes.as_slice(), "jp: read\n".as_bytes());
     Ok(())
 }
 
@@ -49,8 +52,8 @@ fn a_sink_that_fails_is_told(rt: HostRuntime) -> Result<(), Fail> {
     let mut told = FromWriter::new(&mut notes);
     let status = program(&rt, &["jp", "$.a"], &mut source, &mut sink, &mut told);
     assert_eq!(rt; status, 4);
-    assert_eq!(rt; room.as_slice(), b"1\t$['");
-    assert_eq!(rt; notes.as_slice(), b"jp: write\n");
+    assert_eq!(rt; room.as_slice(), "1\t$['".as_bytes());
+    assert_eq!(rt; notes.as_slice(), "jp: write\n".as_bytes());
     Ok(())
 }
 
@@ -64,7 +67,10 @@ fn unwritten_notes_are_passed_over(rt: HostRuntime) -> Result<(), Fail> {
         let mut source = FromReader::new(input);
         let mut sink = FromWriter::new(none.as_mut_slice());
         let mut told = FromWriter::new(no_notes.as_mut_slice());
-        assert_eq!(rt; program(&rt, words, &mut source, &mut sink, &mut told), *status);
+        assert_eq!(rt;
+            program(&rt, words, &mut source, &mut sink, &mut told),
+            *status
+        );
     }
     Ok(())
 }

@@ -1,6 +1,6 @@
 //! Runs that finish, the help, and checks.
 
-use crate::running::left;
+use crate::running::run_words;
 use std::str;
 use std::test::Fail;
 
@@ -12,23 +12,38 @@ const OUTPUT: &[u8] = b"1\t$['a']\t1\n3\t$['a']\tnull\n";
 
 #[test]
 fn a_query_alone_runs(rt: HostRuntime) -> Result<(), Fail> {
-    let left = left(&rt, &["jp", "$.a"], INPUT);
+    let left = run_words(&rt, &["jp", "$.a"], INPUT);
     assert_eq!(rt; left.status, 0);
     assert_eq!(rt; left.output.as_slice(), OUTPUT);
-    assert_eq!(rt; left.notes.as_slice(), b"");
+    assert_eq!(rt; left.notes.as_slice(), "".as_bytes());
     Ok(())
 }
 
 #[test]
 fn options_stand_before_or_behind(rt: HostRuntime) -> Result<(), Fail> {
     let all: [&[&str]; 4] = [
-        &["jp", "--workers", "64", "--piece", "1", "--batch", "1", "$.a"],
-        &["jp", "$.a", "--workers=1", "--piece=1000000", "--batch=1000000"],
+        &[
+            "jp",
+            "--workers",
+            "64",
+            "--piece",
+            "1",
+            "--batch",
+            "1",
+            "$.a",
+        ],
+        &[
+            "jp",
+            "$.a",
+            "--workers=1",
+            "--piece=1000000",
+            "--batch=1000000",
+        ],
         &["jp", "--batch", "2", "--", "$.a"],
         &["jp", "--workers", "2", "$['a']"],
     ];
     for words in &all {
-        let left = left(&rt, words, INPUT);
+        let left = run_words(&rt, words, INPUT);
         assert_eq!(rt; left.status, 0);
         assert_eq!(rt; left.output.as_slice(), OUTPUT);
     }
@@ -53,12 +68,10 @@ Examples:";
 
 #[test]
 fn help_teaches(rt: HostRuntime) -> Result<(), Fail> {
-    let left = left(&rt, &["jp", "--help"], b"{");
+    let left = run_words(&rt, &["jp", "--help"], b"{");
     assert_eq!(rt; left.status, 0);
-    assert_eq!(rt; left.notes.as_slice(), b"");
-    let Ok(text) = str::from_utf8(&left.output) else {
-        return Err(Fail);
-    };
+    assert_eq!(rt; left.notes.as_slice(), "".as_bytes());
+    let text = str::from_utf8(&left.output)?;
     for word in TAUGHT.lines() {
         assert!(rt; text.contains(word));
     }
@@ -67,9 +80,9 @@ fn help_teaches(rt: HostRuntime) -> Result<(), Fail> {
 
 #[test]
 fn a_check_reads_nothing(rt: HostRuntime) -> Result<(), Fail> {
-    let left = left(&rt, &["jp", "--check", "$.a"], b"{");
+    let left = run_words(&rt, &["jp", "--check", "$.a"], b"{");
     assert_eq!(rt; left.status, 0);
-    assert_eq!(rt; left.output.as_slice(), b"");
-    assert_eq!(rt; left.notes.as_slice(), b"");
+    assert_eq!(rt; left.output.as_slice(), "".as_bytes());
+    assert_eq!(rt; left.notes.as_slice(), "".as_bytes());
     Ok(())
 }

@@ -1,6 +1,6 @@
 //! Queries and command lines that are refused.
 
-use crate::running::left;
+use crate::running::run_words;
 use std::test::Fail;
 
 /// Queries, each with what is told of it.
@@ -15,10 +15,13 @@ const QUERIES: [(&str, &[u8]); 5] = [
 #[test]
 fn queries_are_refused(rt: HostRuntime) -> Result<(), Fail> {
     for (query, told) in &QUERIES {
-        for words in &[["jp", "--workers=2", "--", *query], ["jp", "--check", "--", *query]] {
-            let left = left(&rt, words, b"{");
+        for words in &[
+            ["jp", "--workers=2", "--", *query],
+            ["jp", "--check", "--", *query],
+        ] {
+            let left = run_words(&rt, words, b"{");
             assert_eq!(rt; left.status, 2);
-            assert_eq!(rt; left.output.as_slice(), b"");
+            assert_eq!(rt; left.output.as_slice(), "".as_bytes());
             assert_eq!(rt; left.notes.as_slice(), *told);
         }
     }
@@ -47,10 +50,10 @@ fn command_lines_are_refused(rt: HostRuntime) -> Result<(), Fail> {
         &["jp", "--batch", "0", "$["],
     ];
     for words in &all {
-        let left = left(&rt, words, b"[]\n");
+        let left = run_words(&rt, words, b"[]\n");
         assert_eq!(rt; left.status, 64);
-        assert_eq!(rt; left.output.as_slice(), b"");
-        assert_eq!(rt; left.notes.as_slice(), b"jp: command line\n");
+        assert_eq!(rt; left.output.as_slice(), "".as_bytes());
+        assert_eq!(rt; left.notes.as_slice(), "jp: command line\n".as_bytes());
     }
     Ok(())
 }

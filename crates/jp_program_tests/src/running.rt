@@ -7,21 +7,25 @@ use std::thread::Threads;
 
 /// What the program leaves.
 #[derive(Drop)]
-pub(crate) struct Left {
+pub(crate) struct Outcome {
     pub(crate) status: u8,
     pub(crate) output: Vec<u8>,
     pub(crate) notes: Vec<u8>,
 }
 
 /// What the program leaves for these words and this input.
-pub(crate) fn left<R: Threads + AllocGlobal + Sync>(rt: &R, words: &[&str], input: &[u8]) -> Left {
+pub(crate) fn run_words<R: Threads + AllocGlobal + Sync>(
+    rt: &R,
+    words: &[&str],
+    input: &[u8],
+) -> Outcome {
     let mut output = Vec::new(rt.alloc());
     let mut notes = Vec::new(rt.alloc());
     let mut source = FromReader::new(input);
     let mut sink = FromWriter::new(&mut output);
     let mut told = FromWriter::new(&mut notes);
     let status = program(rt, words, &mut source, &mut sink, &mut told);
-    Left {
+    Outcome {
         status,
         output,
         notes,

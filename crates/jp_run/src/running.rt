@@ -127,7 +127,7 @@ pub fn run<R: Threads + Sync, S: Source, K: Sink, G: Gate + Sync>(
 ///
 /// [`RunFault::Query`] where the query is refused, and [`RunFault::Memory`] where a growth of memory was
 /// refused.
-pub fn plan_of(alloc: Global, query: &str) -> Result<Plan, RunFault>
+pub(crate) fn plan_of(alloc: Global, query: &str) -> Result<Plan, RunFault>
     ensures ok { IfOk result (λ p. IsAccepted (chars query.now) (planned_query p)) }
     ensures fault { IfErr result (λ fault. (fault ≡ RunFault.Memory)
         ⊎ ((f : Refusal) × (fault ≡ RunFault.Query f) × IsVerdict (chars query.now) (Err f))) }

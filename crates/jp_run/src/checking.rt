@@ -1,0 +1,26 @@
+//! Whether a query is accepted.
+
+ghost use Rattle.std.specs.Prelude.{◌≡◌, ◌⊎◌, Err, IfErr, OnOk};
+ghost use Rattle.std.specs.Str.{chars};
+ghost use Rattle.jp_syntax.specs.Tree.{Query};
+ghost use Rattle.jp_syntax.specs.declared.fault.QueryFault.{QueryFault as Refusal};
+ghost use Rattle.jp_check.specs.Verdict.{IsAccepted, IsVerdict};
+
+use crate::running::plan_of;
+use jp_answer::RunFault;
+use std::alloc::Global;
+
+/// Whether a query is accepted: an Ok says so.
+///
+/// # Errors
+///
+/// [`RunFault::Query`] where the query is refused, and [`RunFault::Memory`] where a growth of memory was
+/// refused.
+pub fn check_query(alloc: Global, query: &str) -> Result<(), RunFault>
+    ensures ok { OnOk result ((q : Query) × IsAccepted (chars query.now) q) }
+    ensures fault { IfErr result (λ fault. (fault ≡ RunFault.Memory)
+        ⊎ ((f : Refusal) × (fault ≡ RunFault.Query f) × IsVerdict (chars query.now) (Err f))) }
+{
+    plan_of(alloc, query)?;
+    Ok(())
+}
