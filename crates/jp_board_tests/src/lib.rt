@@ -5,4 +5,6 @@
 #[cfg(test)]
 mod one_thread;
 #[cfg(test)]
+mod refusals;
+#[cfg(test)]
 mod threads;

@@ -14,3 +14,5 @@ mod limits;
 mod lines;
 #[cfg(test)]
 mod locations;
+#[cfg(test)]
+mod refusals;

@@ -4,4 +4,6 @@
 #[cfg(test)]
 mod queries;
 #[cfg(test)]
+mod refusals;
+#[cfg(test)]
 mod texts;

@@ -9,3 +9,5 @@ mod matching;
 mod places;
 #[cfg(test)]
 mod reading;
+#[cfg(test)]
+mod refusals;

@@ -6,4 +6,6 @@ mod grammar;
 #[cfg(test)]
 mod limits;
 #[cfg(test)]
+mod refusals;
+#[cfg(test)]
 mod trees;

@@ -1,0 +1,38 @@
+//! Calls whose growths of memory a sweep refuses, one after another, each in a run of its own.
+//!
+//! A turn says whether the answer was right, or nothing where it was want of memory. Each is made twice: one
+//! growth is refused at most, so one of the two answers.
+
+use jp_check::plan;
+use jp_syntax::QueryFault;
+use std::alloc::Global;
+
+/// A query with literal patterns, and with a `$` query in a filter.
+const QUERY: &str = "$..a[1:2][?match(@.b,'x*')&&count($.c[?search(@,'y')])>-0]";
+
+fn accepted(alloc: Global) -> Option<bool> {
+    match plan(alloc, QUERY) {
+        Ok(plan) => Some(plan.query().segments.len() == 3),
+        Err(QueryFault::Memory) => None,
+        Err(_) => Some(false),
+    }
+}
+
+fn ill_typed(alloc: Global) -> Option<bool> {
+    match plan(alloc, "$[?match(@.b,'x')&&length(@.*)==1]").err() {
+        Some(QueryFault::Memory) => None,
+        fault => Some(fault == Some(QueryFault::IllTyped)),
+    }
+}
+
+#[test]
+fn an_accepted_query(rt: HostRuntime) {
+    let turns = (accepted(rt.alloc()), accepted(rt.alloc()));
+    assert!(rt; matches!(turns, (Some(true), Some(true) | None) | (None, Some(true))));
+}
+
+#[test]
+fn an_ill_typed_query(rt: HostRuntime) {
+    let turns = (ill_typed(rt.alloc()), ill_typed(rt.alloc()));
+    assert!(rt; matches!(turns, (Some(true), Some(true) | None) | (None, Some(true))));
+}

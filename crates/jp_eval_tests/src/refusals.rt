@@ -1,0 +1,35 @@
+//! Calls whose growths of memory a sweep refuses, one after another, each in a run of its own.
+//!
+//! A turn says whether the answer was right, or nothing where it was want of memory. Each is made twice: one
+//! growth is refused at most, so one of the two answers.
+
+use jp_check::plan;
+use jp_doc::{Document, Step};
+use jp_eval::evaluate;
+use jp_syntax::QueryFault;
+use std::alloc::Global;
+
+const QUERY: &str = "$..[?@.a==$.c[0]&&value(@.b[?search(@,'[x-z]')])!='p'&&count($.c[*])==2]";
+
+const DOCUMENT: &[u8] = b"{\"c\":[1,2],\"d\":[{\"a\":1,\"b\":[\"py\"]},{\"a\":1},{\"a\":2}]}";
+
+/// The nodes are those at `$['d'][0]` and `$['d'][1]`.
+fn evaluated(alloc: Global) -> Option<bool> {
+    let plan = match plan(alloc, QUERY) {
+        Ok(plan) => plan,
+        Err(QueryFault::Memory) => return None,
+        Err(_) => return Some(false),
+    };
+    let document = Document::read(alloc, DOCUMENT).ok()?;
+    let found = evaluate(alloc, &plan, &document).ok()?;
+    let ends = found
+        .iter()
+        .map(|location| location.steps.last() == Some(&Step::Index(0)));
+    Some(ends.eq([true, false]))
+}
+
+#[test]
+fn an_evaluation(rt: HostRuntime) {
+    let turns = (evaluated(rt.alloc()), evaluated(rt.alloc()));
+    assert!(rt; matches!(turns, (Some(true), Some(true) | None) | (None, Some(true))));
+}

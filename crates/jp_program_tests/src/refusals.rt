@@ -1,0 +1,68 @@
+//! The program, where a sweep refuses its growths of memory, one after another, each in a process of its own.
+//!
+//! A turn says whether the answer was right, or nothing where it was want of memory. Each is made twice: one
+//! growth is refused at most, so one of the two answers.
+
+use jp_program::program;
+use jp_run::{FromReader, FromWriter};
+use std::alloc::AllocGlobal;
+use std::thread::Threads;
+
+/// What the program writes and notes has room in these arrays, so no growth is its sink's.
+const ROOM: usize = 40;
+
+/// A run with each option.
+fn ran<R: Threads + AllocGlobal + Sync>(rt: &R) -> Option<bool> {
+    let words = [
+        "jp",
+        "--workers",
+        "2",
+        "--piece=1",
+        "--batch",
+        "1",
+        "--",
+        "$.a",
+    ];
+    let input: &[u8] = b"{\"a\":1}\n\n{\"a\":null}\n";
+    let (mut output, mut notes) = ([0u8; ROOM], [0u8; ROOM]);
+    let mut source = FromReader::new(input);
+    let mut sink = FromWriter::new(output.as_mut_slice());
+    let mut told = FromWriter::new(notes.as_mut_slice());
+    match program(rt, &words, &mut source, &mut sink, &mut told) {
+        0 => Some(output.starts_with(b"1\t$['a']\t1\n3\t$['a']\tnull\n\0")),
+        5 if notes.starts_with(b"jp: memory\n\0") => None,
+        _ => Some(false),
+    }
+}
+
+#[test]
+fn a_run(rt: HostRuntime) {
+    let turns = (ran(&rt), ran(&rt));
+    assert!(rt; matches!(turns, (Some(true), Some(true) | None) | (None, Some(true))));
+}
+
+/// A command line that is refused.
+fn refused<R: Threads + AllocGlobal + Sync>(rt: &R) -> Option<bool> {
+    let input: &[u8] = b"";
+    let (mut output, mut notes) = ([0u8; ROOM], [0u8; ROOM]);
+    let mut source = FromReader::new(input);
+    let mut sink = FromWriter::new(output.as_mut_slice());
+    let mut told = FromWriter::new(notes.as_mut_slice());
+    match program(
+        rt,
+        &["jp", "--nope", "$"],
+        &mut source,
+        &mut sink,
+        &mut told,
+    ) {
+        64 => Some(output == [0u8; ROOM]),
+        5 if notes.starts_with(b"jp: memory\n\0") => None,
+        _ => Some(false),
+    }
+}
+
+#[test]
+fn a_refused_command_line(rt: HostRuntime) {
+    let turns = (refused(&rt), refused(&rt));
+    assert!(rt; matches!(turns, (Some(true), Some(true) | None) | (None, Some(true))));
+}

@@ -1,0 +1,68 @@
+//! Calls whose growths of memory a sweep refuses, one after another, each in a run of its own.
+//!
+//! A turn says whether the answer was right, or nothing where it was want of memory. Each is made twice: one
+//! growth is refused at most, so one of the two answers.
+
+use jp_regexp::Pattern;
+use std::alloc::{AllocError, Global};
+
+const PATTERN: &str = "(a|b)*c[^d-f\\n]{2,3}|\\p{Lu}+";
+
+/// What a pattern that is read, and one that is made ready, say of two texts.
+fn matched(alloc: Global) -> Result<bool, AllocError> {
+    for pattern in [
+        Pattern::read(alloc, PATTERN)?,
+        Pattern::ready(alloc, PATTERN)?,
+    ] {
+        let Some(pattern) = pattern else {
+            return Ok(false);
+        };
+        let whole = pattern.matches(alloc, "abacgh")? && !pattern.matches(alloc, "abacdh")?;
+        let part = pattern.found_in(alloc, "dAd")? && !pattern.found_in(alloc, "dad")?;
+        if !whole || !part {
+            return Ok(false);
+        }
+    }
+    Ok(true)
+}
+
+fn match_or_none(alloc: Global) -> Option<bool> {
+    matched(alloc).ok()
+}
+
+/// Three steps; where one is refused it is made again, from where the terms were.
+fn stepped(alloc: Global) -> Result<bool, AllocError> {
+    let Some(pattern) = Pattern::read(alloc, "a(b|c){1,2}")? else {
+        return Ok(false);
+    };
+    let mut terms = pattern.start(alloc)?;
+    for (c, accepts) in [('a', false), ('b', true), ('c', true)] {
+        let before = (terms.len(), terms.accepts());
+        if terms.step(c, true).is_err() {
+            if before != (terms.len(), terms.accepts()) {
+                return Ok(false);
+            }
+            terms.step(c, true)?;
+        }
+        if terms.accepts() != accepts {
+            return Ok(false);
+        }
+    }
+    Ok(true)
+}
+
+fn step_or_none(alloc: Global) -> Option<bool> {
+    stepped(alloc).ok()
+}
+
+#[test]
+fn matches_and_searches(rt: HostRuntime) {
+    let turns = (match_or_none(rt.alloc()), match_or_none(rt.alloc()));
+    assert!(rt; matches!(turns, (Some(true), Some(true) | None) | (None, Some(true))));
+}
+
+#[test]
+fn steps(rt: HostRuntime) {
+    let turns = (step_or_none(rt.alloc()), step_or_none(rt.alloc()));
+    assert!(rt; matches!(turns, (Some(true), Some(true) | None) | (None, Some(true))));
+}

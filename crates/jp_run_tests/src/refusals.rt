@@ -1,0 +1,81 @@
+//! Runs whose growths of memory a sweep refuses, one after another, each in a process of its own.
+//!
+//! A turn says whether the answer was right, or nothing where it was want of memory. Each is made twice: one
+//! growth is refused at most, so one of the two answers.
+
+use crate::fakes::Holds;
+use jp_doc::DocFault;
+use jp_run::{FromReader, OpenGate, RunFault, Settings};
+use std::alloc::Global;
+use std::thread::Threads;
+
+/// More bytes than any of these runs writes.
+const ROOM: usize = 1_000;
+
+const INPUT: &[u8] =
+    b"{\"x\":{\"a\":1}}\n\n[{\"a\":0},{\"a\":2}]\n{\"y\":{\"a\":\"z\"}}\n[[],{\"a\":3}]\n";
+
+/// What `$[?@.a>0]` selects there.
+const OUTPUT: &[u8] = b"1\t$['x']\t{\"a\":1}\n3\t$[1]\t{\"a\":2}\n5\t$[1]\t{\"a\":3}\n";
+
+/// Four workers, pieces of one document and batches of two.
+fn finished<R: Threads + Sync>(rt: &R, alloc: Global) -> Option<bool> {
+    let settings = Settings::new(4, 1, 2).ok()?;
+    let mut source = FromReader::new(INPUT);
+    let mut sink = Holds::new(Vec::with_capacity(alloc, ROOM).ok()?, ROOM, ROOM);
+    match jp_run::run(
+        rt,
+        alloc,
+        &mut source,
+        &mut sink,
+        "$[?@.a>0]",
+        &settings,
+        &OpenGate,
+    ) {
+        Ok(totals) => Some(
+            (totals.lines, totals.documents) == (5, 4) && sink.bytes.as_slice() == OUTPUT,
+        ),
+        Err(RunFault::Memory) if OUTPUT.starts_with(&sink.bytes) => None,
+        Err(_) => Some(false),
+    }
+}
+
+#[test]
+fn a_run_by_four_workers(rt: HostRuntime) {
+    let turns = (finished(&rt, rt.alloc()), finished(&rt, rt.alloc()));
+    assert!(rt; matches!(turns, (Some(true), Some(true) | None) | (None, Some(true))));
+}
+
+/// A faulty line in a batch of its own: where memory is wanted too, nothing of that batch is written.
+fn stopped<R: Threads + Sync>(rt: &R, alloc: Global) -> Option<bool> {
+    let settings = Settings::new(2, 1, 1).ok()?;
+    let input: &[u8] = b"[1]\n[2.5]\n[3]\n";
+    let mut source = FromReader::new(input);
+    let mut sink = Holds::new(Vec::with_capacity(alloc, ROOM).ok()?, ROOM, ROOM);
+    let end = jp_run::run(
+        rt,
+        alloc,
+        &mut source,
+        &mut sink,
+        "$[0]",
+        &settings,
+        &OpenGate,
+    );
+    let first: &[u8] = b"1\t$[0]\t1\n";
+    match end {
+        Err(
+            RunFault::Document {
+                line: 2,
+                fault: DocFault::NotWhole,
+            },
+        ) => Some(sink.bytes.as_slice() == first),
+        Err(RunFault::Memory) if first.starts_with(&sink.bytes) => None,
+        _ => Some(false),
+    }
+}
+
+#[test]
+fn a_faulty_line(rt: HostRuntime) {
+    let turns = (stopped(&rt, rt.alloc()), stopped(&rt, rt.alloc()));
+    assert!(rt; matches!(turns, (Some(true), Some(true) | None) | (None, Some(true))));
+}
