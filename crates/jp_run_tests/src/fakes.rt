@@ -91,6 +91,8 @@ pub(crate) struct Holds {
     flushes: bool,
     flushed: bool,
     failed: bool,
+    /// Whether a write followed one that failed.
+    pub(crate) called_again: bool,
     ghost some: { 0 < most },
 }
 
@@ -106,6 +108,7 @@ impl Holds {
             flushes: true,
             flushed: true,
             failed: false,
+            called_again: false,
         }
     }
 
@@ -120,6 +123,7 @@ impl Holds {
             flushes: false,
             flushed: self.flushed,
             failed: self.failed,
+            called_again: self.called_again,
         }
     }
 }
@@ -132,6 +136,7 @@ impl Sink for Holds {
     ghost flushed = { λ s. s.flushed };
 
     fn write(&mut self, bytes: &[u8]) -> Result<usize, Broken> {
+        self.called_again |= self.failed;
         let n = bytes.len().min(self.most).min(self.room);
         if n == 0 && !bytes.is_empty() {
             self.failed = true;

@@ -4,6 +4,8 @@
 #[cfg(test)]
 mod answers;
 #[cfg(test)]
+mod ends_that_fail;
+#[cfg(test)]
 mod fakes;
 #[cfg(test)]
 mod gates;
