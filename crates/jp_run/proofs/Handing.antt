@@ -31,6 +31,15 @@ pub told_so : {T : Type 0} (r : Result T RunFault) (P R : RunFault → Type 0) �
 told_so (Ok x) P R h p = tt
 told_so (Err f) P R h p = h f p
 
+-- a fact that holds anyway
+pub at_ok : {T E P : Type 0} (r : Result T E) → P → OnOk r P
+at_ok (Ok x) p = p
+at_ok (Err f) p = tt
+
+pub also_ok : {T E P : Type 0} (R : Type 0) (r : Result T E) → P → OnOk r R → OnOk r (P × R)
+also_ok R (Ok x) p h = (p, h)
+also_ok R (Err f) p h = tt
+
 pub front_of_all : (old new : Option (List ℕ)) (bytes : List ℕ) → Appends old new bytes
     → AppendsFront old new bytes
 front_of_all old new bytes h = (

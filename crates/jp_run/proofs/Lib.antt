@@ -4,3 +4,4 @@ pub mod Handing
 pub mod Numbering
 pub mod Runs
 pub mod Standing
+pub mod Streaming

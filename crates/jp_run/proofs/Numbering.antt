@@ -2,6 +2,7 @@
 use Rattle.std.proofs.Common.{◌≡◌, ℕ, ◌+◌, ◌<◌, ◌≤◌, Bool, true, false, not, cond, List, [], ◌∷◌, ◌++◌}
 use Rattle.std.proofs.Common.{length, refl, sym, ◌∙◌, ap, arith, nat_lt, Option, Some, None, Result, Ok, Err}
 use Rattle.std.proofs.Common.{append_assoc, lt-ltb, subst, length-append}
+use Rattle.std.specs.List.{filter}
 use Rattle.jp_doc.specs.Json.{Json}
 use Rattle.jp_doc.specs.Lines.{Line, is_blank}
 use Rattle.jp_doc.specs.Feeding.{numbered}
@@ -39,7 +40,8 @@ before_all n [] l zs r = omega arith
 before_all n (x ∷ xs) l zs r =
     let lower : x.0 < l.0 = omega (arith, at_least (x.0 + 1) xs l zs r.1) in
     let test : nat_lt x.0 l.0 ≡ true = lt-ltb x.0 l.0 lower in
-    subst (λ b. length (x ∷ xs) ≤ cond b 1 0 + documents_before l.0 (xs ++ l ∷ zs)) (sym test)
+    let later : List Line = filter (λ m. nat_lt m.0 l.0) (xs ++ l ∷ zs) in
+    subst (λ b. length (x ∷ xs) ≤ length (cond b (x ∷ later) later)) (sym test)
     (omega (arith, before_all (x.0 + 1) xs l zs r.1))
 
 -- a line with this number stands there

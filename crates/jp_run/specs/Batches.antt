@@ -1,5 +1,6 @@
 -- The documents of a stream, in batches.
-use Rattle.std.specs.Prelude.{◌≡◌, ℕ, ◌+◌, ◌-◌, ◌*◌, ◌/◌, ◌<◌, List, length, take, drop, nat_lt, count_by}
+use Rattle.std.specs.Prelude.{◌≡◌, ℕ, ◌+◌, ◌-◌, ◌*◌, ◌/◌, ◌<◌, List, length, take, drop, nat_lt}
+use Rattle.std.specs.List.{filter}
 use Rattle.jp_doc.specs.Lines.{Line, lines}
 use Rattle.jp_doc.specs.Feeding.{cut, numbered}
 
@@ -21,7 +22,7 @@ left_over batch xs = drop (in_batches batch xs) xs
 
 -- how many of the lines have a lower number
 abbrev pub documents_before : ℕ → List Line → ℕ
-documents_before number ls = count_by (λ l. nat_lt l.0 number) ls
+documents_before number ls = length (filter (λ l. nat_lt l.0 number) ls)
 
 -- the number of the batch, from 1, in which the line with this number is
 abbrev pub batch_of : ℕ → ℕ → List Line → ℕ
