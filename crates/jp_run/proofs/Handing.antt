@@ -1,5 +1,5 @@
 -- Answers that are handed out one after another.
-use Rattle.std.proofs.Common.{◌≡◌, ℕ, ◌+◌, ◌≤◌, Bool, true, List, [], ◌∷◌, ◌++◌, length, take, Option, Some}
+use Rattle.std.proofs.Common.{◌≡◌, ℕ, ◌+◌, Bool, true, List, [], ◌++◌, length, take, Option, Some}
 use Rattle.std.proofs.Common.{None, Result, Ok, Err, IfErr, OnOk, IsErrAnd, refl, sym, ◌∙◌, ap, subst, arith}
 use Rattle.std.proofs.Common.{append-nil, length-append}
 use Rattle.std.proofs.Math.Seq.{take-length, take-append-add}
@@ -156,9 +156,11 @@ module _ (q : tree.Query) where
   pub ended_kept : (ls same : List Line) (count : ℕ) (failed : Bool) (a b c : Option (List ℕ)) (f : RunFault)
       → (f ≡ Write) × (failed ≡ true) → Handed q ls None a b → Keeps b c → ls ≡ same
       → RestEnded q same count failed a c f
-  ended_kept ls same count failed a b c f h g k e = subst (RestEnded q same count failed a c) (sym h.0)
-      (h.1, subst (λ (l : List Line). HandedFront q l a c) e (handed_front ls None a c
-      (handed_kept ls None a b c g k)))
+  ended_kept ls same count failed a b c f h g k e = subst (RestEnded q same count failed a c) (sym h.0) (
+    h.1,
+    subst (λ (l : List Line). HandedFront q l a c) e (handed_front ls None a c
+        (handed_kept ls None a b c g k)),
+  )
 
   module _ (ls : List Line) (whole : Answer) (is : (t : Tests) → AreRight t → answer t q ls ≡ whole)
       (a b : Option (List ℕ)) where

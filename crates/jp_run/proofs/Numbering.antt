@@ -1,6 +1,6 @@
 -- Lines that are numbered: their numbers rise, so those before a line are those with a lower number.
 use Rattle.std.proofs.Common.{◌≡◌, ℕ, ◌+◌, ◌<◌, ◌≤◌, Bool, true, false, not, cond, List, [], ◌∷◌, ◌++◌}
-use Rattle.std.proofs.Common.{length, refl, sym, ◌∙◌, ap, arith, nat_lt, Option, Some, None, Result, Ok, Err}
+use Rattle.std.proofs.Common.{length, refl, sym, ◌∙◌, ap, arith, nat_lt, Some, Result, Ok, Err}
 use Rattle.std.proofs.Common.{append_assoc, lt-ltb, subst, length-append}
 use Rattle.std.specs.List.{filter}
 use Rattle.jp_doc.specs.Json.{Json}
@@ -84,7 +84,7 @@ before_fault all front back more number fault e is =
     ∙ ap (λ l. front ++ l) (append_assoc p.before (p.line ∷ p.after) more)
     ∙ sym (append_assoc front p.before (p.line ∷ (p.after ++ more))) in
     let low : length (front ++ p.before) ≤ documents_before p.line.0
-        ((front ++ p.before) ++ p.line ∷ (p.after ++ more)) =
+    ((front ++ p.before) ++ p.line ∷ (p.after ++ more)) =
     before_all 1 (front ++ p.before) p.line (p.after ++ more) (subst (Rise 1) cut (numbered_rise 1 all)) in
     subst (λ k. length front ≤ documents_before k (numbered 1 all)) p.numbered_so
     (subst (λ l. length front ≤ documents_before p.line.0 l) (sym cut)

@@ -1,10 +1,8 @@
 -- Where lines stand that are answered batch by batch.
-use Rattle.std.proofs.Common.{◌≡◌, ℕ, ◌+◌, ◌*◌, ◌<◌, ◌≤◌, Bool, List, [], ◌++◌, length, take, drop, map, Option}
-use Rattle.std.proofs.Common.{None, Result, IfErr, refl, sym, ◌∙◌, ap, subst, arith, take-append-drop}
-use Rattle.std.proofs.Common.{length-drop, zero-mul, add-mul, one-mul, take-add, drop-drop}
-use Rattle.std.proofs.lemmas.List.{drop-map, take-map}
-use Rattle.jp_doc.specs.Lines.{Line, line_of}
-use Rattle.jp_doc.specs.declared.line.Line as code
+use Rattle.std.proofs.Common.{◌≡◌, ℕ, ◌+◌, ◌*◌, ◌<◌, ◌≤◌, Bool, List, ◌++◌, length, take, drop, Option}
+use Rattle.std.proofs.Common.{None, sym, ◌∙◌, ap, subst, arith, take-append-drop}
+use Rattle.std.proofs.Common.{length-drop, zero-mul, take-add, drop-drop}
+use Rattle.jp_doc.specs.Lines.{Line}
 use Rattle.jp_syntax.specs.Tree.{Query}
 use Rattle.jp_answer.specs.declared.fault.RunFault.{RunFault}
 use Rattle.jp_run.specs.Batches.{in_batches, whole_batches}

@@ -1,15 +1,15 @@
 -- Where a run stands: what was read of its input, and what was answered of it.
-use Rattle.std.proofs.Common.{◌≡◌, ℕ, ◌+◌, ◌-◌, ◌*◌, ◌/◌, ◌<◌, ◌≤◌, Bool, true, not, List, [], ◌∷◌, ◌++◌, length, take}
-use Rattle.std.proofs.Common.{Option, Some, None, IfSome, ◌⊎◌, inl, inr, refl, sym, ◌∙◌, ap, subst, arith}
+use Rattle.std.proofs.Common.{◌≡◌, ℕ, ◌+◌, ◌-◌, ◌*◌, ◌/◌, ◌<◌, ◌≤◌, not, List, [], ◌++◌, length, take}
+use Rattle.std.proofs.Common.{Option, Some, None, IfSome, inr, sym, ◌∙◌, ap, subst, arith}
 use Rattle.std.proofs.Common.{append_assoc, append-nil, length-append, length-drop, take-append-drop}
 use Rattle.std.proofs.Common.{length-take-le, Result, Ok, Err, IfOk, OnOk}
 use Rattle.std.proofs.Math.Nat.{mul-le-mul_right}
 use Rattle.std.proofs.lemmas.Nat.{le-div}
 use Rattle.std.proofs.Math.Seq.{take-append_seam, take-length, take-nil, drop-nil}
-use Rattle.std.specs.List.{filter, enumerate_from}
+use Rattle.std.specs.List.{enumerate_from}
 use Rattle.std.proofs.lemmas.List.Sums.{length-filter, count_by-le-length}
 use Rattle.std.proofs.lemmas.List.FromFn.{length-enumerate_from}
-use Rattle.std.specs.Io.KnownBytes.{Consumes, Keeps, IsAtEnd}
+use Rattle.std.specs.Io.KnownBytes.{Consumes, IsAtEnd}
 use Rattle.std.proofs.KnownBytes.{Consumes-nil, Consumes-trans, Consumes-kept}
 use Rattle.jp_doc.specs.Lines.{Line, lines, line_count, is_blank, all_lines}
 use Rattle.jp_doc.specs.Feeding.{Cut, cut, numbered, last_line, Progress, nothing_fed, fed, fed_lines, finished}
@@ -29,10 +29,8 @@ use Rattle.jp_run.specs.Batches.{documents_in, in_batches, whole_batches, left_o
 use Rattle.jp_run.specs.Batches.{WasNotWhole}
 use Rattle.jp_run.specs.Ended.{Ends, InputFront, ReadEnded, AnswerEnded, RestEnded, StreamEnded}
 use Rattle.jp_run.specs.Handed.{Handed, HandedFront}
-use Rattle.jp_run.specs.Limits.{max_reads, max_lines}
 use Rattle.jp_run.proofs.Batching.{batches_fit, few_left, in_both, whole_both, left_both}
 use Rattle.jp_run.proofs.Handing.{handed_none, handed_both, handed_stopped, handed_front, front_more, front_after}
-use Rattle.jp_run.proofs.Handing.{no_front}
 use Rattle.jp_run.proofs.Numbering.{before_fault}
 
 -- what bytes that begin with these say
@@ -41,10 +39,6 @@ known : (P : List ℕ → Type 0) (old now : Option (List ℕ)) (bytes : List �
 known P None now bytes h k = tt
 known P (Some xs) None bytes h k = absurd h
 known P (Some xs) (Some ys) bytes h k = subst P (sym h) (k ys)
-
-known_any : {P : List ℕ → Type 0} (old : Option (List ℕ)) → ((bytes : List ℕ) → P bytes) → IfSome old P
-known_any None k = tt
-known_any (Some xs) k = k xs
 
 -- what bytes that are all say
 known_all : (P : List ℕ → Type 0) (old now : Option (List ℕ)) (bytes : List ℕ) → Consumes old now bytes
@@ -65,7 +59,7 @@ fed_both : (bytes piece : List ℕ) → fed nothing_fed (bytes ++ piece) ≡ fed
 fed_both bytes piece =
     let later : Cut = cut ((cut bytes).open_line ++ piece) in
     let counts : 0 + length ((cut bytes).ended ++ later.ended) ≡ 0 + length (cut bytes).ended
-        + length later.ended = omega (arith, length-append (cut bytes).ended later.ended) in
+    + length later.ended = omega (arith, length-append (cut bytes).ended later.ended) in
     ap (λ (c : Cut). record { count = 0 + length c.ended; open_line = c.open_line }) (cut_both bytes piece)
     ∙ ap (λ k. record { count = k; open_line = later.open_line }) counts
 
@@ -246,6 +240,12 @@ module _ (q : tree.Query) (batch : ℕ) (some : 0 < batch) where
       (λ rest. let more = lines_more bytes rest in subst (λ (l : List Line). HandedFront q l s u) (sym more.1)
       (front_more q (documents_in bytes) more.0 s u front))
 
+  stopped_front : (a s u : Option (List ℕ)) (stop : ℕ × DocFault)
+      → IfSome a (λ input. Handed q (lines input) (Some stop) s u)
+      → IfSome a (λ input. HandedFront q (lines input) s u)
+  stopped_front None s u stop h = tt
+  stopped_front (Some input) s u stop h = handed_front q (lines input) (Some stop) s u h
+
   pub stands_front : (a b s u : Option (List ℕ)) (p : Progress) (kept : List Line) (answered : ℕ)
       → Stands q batch a b s u p kept answered → IfSome a (λ input. HandedFront q (lines input) s u)
   stands_front a b s u p kept answered st =
@@ -253,6 +253,22 @@ module _ (q : tree.Query) (batch : ℕ) (some : 0 < batch) where
       input_front a b s u st.bytes st.consumed (subst (λ (l : List Line). HandedFront q l s u)
       (take-append-drop (in_batches batch all) all) (front_more q (whole_batches batch all)
       (left_over batch all) s u (handed_front q (whole_batches batch all) None s u st.handed)))
+
+  -- the same of each fault
+  pub ended_front : (e : Ends) (f : RunFault) → StreamEnded q batch e f → InputFront q e
+  ended_front e (Document line fault) h = stopped_front e.source_old e.sink_old e.sink_new (line, fault) h.0
+  ended_front e Read h =
+      let all : List Line = documents_in h.1 in
+      input_front e.source_old e.source_new e.sink_old e.sink_new h.1 h.2
+      (subst (λ (l : List Line). HandedFront q l e.sink_old e.sink_new)
+      (take-append-drop (in_batches batch all) all) (front_more q (whole_batches batch all)
+      (left_over batch all) e.sink_old e.sink_new (handed_front q (whole_batches batch all) None e.sink_old
+      e.sink_new h.3)))
+  ended_front e Write h = h.1
+  ended_front e Limit h = h.1
+  ended_front e Memory h = h
+  ended_front e (Query fault) h = absurd h
+  ended_front e Settings h = absurd h
 
   -- a read that failed, or that came to a limit
   pub read_ended : (e : Ends) (mid : Option (List ℕ)) (p : Progress) (kept : List Line) (answered : ℕ)
@@ -280,10 +296,6 @@ module _ (q : tree.Query) (batch : ℕ) (some : 0 < batch) where
   read_ended e mid p kept answered (Document line fault) st h = absurd h
   read_ended e mid p kept answered Write st h = absurd h
   read_ended e mid p kept answered Settings st h = absurd h
-
-  pub nothing_ended : (e : Ends) → e.sink_new ≡ e.sink_old → StreamEnded q batch e Memory
-  nothing_ended e same = known_any e.source_old (λ input. subst (λ u. HandedFront q (lines input) e.sink_old u)
-      (sym same) (no_front q (lines input) e.sink_old))
 
   -- the first faulty line of those that were read last
   not_whole : (before bytes : List ℕ) (last number : ℕ) (fault : DocFault) (back more : List Line)

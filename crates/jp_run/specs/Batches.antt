@@ -1,5 +1,5 @@
 -- The documents of a stream, in batches.
-use Rattle.std.specs.Prelude.{◌≡◌, ℕ, ◌+◌, ◌-◌, ◌*◌, ◌/◌, ◌<◌, List, length, take, drop, nat_lt}
+use Rattle.std.specs.Prelude.{ℕ, ◌+◌, ◌-◌, ◌*◌, ◌/◌, ◌<◌, List, length, take, drop, nat_lt}
 use Rattle.std.specs.List.{filter}
 use Rattle.jp_doc.specs.Lines.{Line, lines}
 use Rattle.jp_doc.specs.Feeding.{cut, numbered}

@@ -147,15 +147,15 @@ fn stream<R: Threads + Sync, S: Source, K: Sink, G: Gate + Sync>(
     ensures flushed { OnOk result (K.flushed sink.new ≡ true) }
     ensures still_working { OnOk result ((S.failed source.new ≡ false) × (K.failed sink.new ≡ false)) }
     ensures fault { IfErr result (StreamEnded (planned_query plan.now) settings.batch (record {
-        source_old = S.remaining source.old;
-        source_new = S.remaining source.new;
-        reads_old = S.reads source.old;
-        reads_new = S.reads source.new;
-        last = S.last source.new;
-        source_failed = S.failed source.new;
-        sink_old = K.contents sink.old;
-        sink_new = K.contents sink.new;
-        sink_failed = K.failed sink.new;
+      source_old = S.remaining source.old;
+      source_new = S.remaining source.new;
+      reads_old = S.reads source.old;
+      reads_new = S.reads source.new;
+      last = S.last source.new;
+      source_failed = S.failed source.new;
+      sink_old = K.contents sink.old;
+      sink_new = K.contents sink.new;
+      sink_failed = K.failed sink.new;
     })) }
     ensures few { S.reads source.new ≤ S.reads source.old + max_reads }
 {

@@ -1,8 +1,7 @@
-use Rattle.std.proofs.Common.{ℕ, List, ◌≡◌, ◌∙◌, sym, ap, map, take, rules, arith}
+use Rattle.std.proofs.Common.{◌∙◌, sym, ap, map, rules, arith}
 use Rattle.std.proofs.lemmas.Grind.{common_steps}
 use Rattle.std.proofs.lemmas.List.{take-map, drop-map, length-map}
 use Rattle.jp_doc.specs.Lines.{line_of}
-use Rattle.jp_doc.specs.declared.line.Line as code
 use Rattle.jp_run.proofs.Handing.{told}
 use Rattle.jp_run.proofs.Standing.{partly_start, partly_more, partly_ended, partly_count, partly_handed}
 use Rattle.jp_run.proofs.batches.answer_whole.Goals as goal

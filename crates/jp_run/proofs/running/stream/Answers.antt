@@ -1,5 +1,4 @@
-use Rattle.std.proofs.Common.{rules, arith, refl, inl, map, sym, ◌∙◌, ap}
-use Rattle.std.proofs.lemmas.Grind.{common_steps}
+use Rattle.std.proofs.Common.{arith, refl, inl, map, ◌∙◌, ap}
 use Rattle.std.proofs.lemmas.List.{length-map}
 use Rattle.jp_doc.specs.Lines.{line_of}
 use Rattle.jp_run.specs.Limits.{max_lines}
@@ -109,7 +108,10 @@ loop-turn-preserved g c = record {
       c.in_ok-n.ensures.progress c.in_ok-n.ensures.lines c.in_ok-n.ensures.answered
       c.in_ok-answer_batches.ensures.handed c.in_ok-answer_batches.ensures.left
       c.in_ok-answer_batches.ensures.answered c.in_ok-answer_batches.ensures.progress;
-  few_lines = omega (arith, ap (λ p. p.count) c.in_ok-answer_batches.ensures.progress,
-      c.in_ok-n.ensures.few_lines);
+  few_lines = omega (
+    arith,
+    ap (λ p. p.count) c.in_ok-answer_batches.ensures.progress,
+    c.in_ok-n.ensures.few_lines,
+  );
   reads = omega (arith, c.read_lines.ensures.reads, c.loop-turn.invariant.reads, c.requires.few);
 }

@@ -1,0 +1,25 @@
+use Rattle.std.proofs.Common.{refl}
+use Rattle.jp_answer.specs.declared.fault.RunFault.TheVariants.{Document}
+use Rattle.jp_run.proofs.Runs.{not_both, refused_so, at_fault, accepted_ok, answer_known, answer_ok, front_err}
+use Rattle.jp_run.proofs.running.run.Goals as goal
+
+pub returns-in_err-plan-clause-refused : goal.returns-in_err-plan-clause-refused
+returns-in_err-plan-clause-refused g c =
+    λ f v. (refused_so _ f _ _ c.from_residual.ensures.1 c.in_err-plan.ensures.fault v, refl, refl)
+
+pub returns-clause-accepted : goal.returns-clause-accepted
+returns-clause-accepted g c = accepted_ok _ _ c.in_ok-plan.ensures.ok _
+
+pub returns-clause-refused : goal.returns-clause-refused
+returns-clause-refused g c = λ f v. not_both _ _ f c.in_ok-plan.ensures.ok v
+
+pub returns-clause-answer : goal.returns-clause-answer
+returns-clause-answer g c = answer_ok _ _ c.in_ok-plan.ensures.ok _ _ _ _ c.stream.ensures.handed
+
+pub returns-clause-document : goal.returns-clause-document
+returns-clause-document g c = λ line fault e. answer_known _ _ c.in_ok-plan.ensures.ok _ _ _ _
+    (at_fault _ (Document line fault) _ e c.stream.ensures.fault).0
+
+pub returns-clause-front : goal.returns-clause-front
+returns-clause-front g c = front_err _ _ c.in_ok-plan.ensures.ok c.stream.result _ c.args.settings.now.in_range.2.0 _
+    c.stream.ensures.fault
