@@ -121,7 +121,8 @@ module _ (q : tree.Query) where
       let first : List ℕ = f.whole.bytes in
       let later : List ℕ = (answer t q ys).bytes in
       let whole : (answer t q (xs ++ ys)).bytes ≡ first ++ later =
-      ap (λ (h : Answer). h.bytes) (pieces_joined t q xs ys ∙ ap (λ h. joined h (answer t q ys)) (f.is t right)
+      ap (λ (h : Answer). h.bytes) (pieces_joined t q xs ys
+      ∙ ap (λ h. joined h (answer t q ys)) (f.is t right)
       ∙ ap (λ s. unless_stopped s f.whole (answer t q ys)) f.stopped) in
       let front : AppendsFront b c later = h t right in (
         length first + front.0,

@@ -40,7 +40,8 @@ module _ (q : Query) (batch : ℕ) (all : List Line) where
             ∙ ap (λ k. drop k all) (sym (more_batches p.batches));
         fit = omega (arith, p.fit, enough, ap length p.left, length-drop n all, more_batches p.batches);
         handed = subst (λ (l : List Line). Handed q l None a c) (ap (λ l. take n all ++ l) begins
-            ∙ ap (λ l. take n all ++ take batch l) p.left ∙ sym (take-add n batch all) ∙ ap (λ k. take k all) (sym (more_batches p.batches)))
+            ∙ ap (λ l. take n all ++ take batch l) p.left ∙ sym (take-add n batch all)
+            ∙ ap (λ k. take k all) (sym (more_batches p.batches)))
             (handed_both q (take n all) front None a b c p.handed h);
       }
 

@@ -12,8 +12,8 @@ use Rattle.std.proofs.lemmas.List.FromFn.{length-enumerate_from}
 use Rattle.std.specs.Io.KnownBytes.{Consumes, IsAtEnd}
 use Rattle.std.proofs.KnownBytes.{Consumes-nil, Consumes-trans, Consumes-kept}
 use Rattle.jp_doc.specs.Lines.{Line, lines, line_count, is_blank, all_lines}
-use Rattle.jp_doc.specs.Feeding.{Cut, cut, numbered, last_line, Progress, nothing_fed, fed, fed_lines, finished}
-use Rattle.jp_doc.specs.Feeding.{finished_lines}
+use Rattle.jp_doc.specs.Feeding.{Cut, cut, numbered, last_line, Progress, nothing_fed, fed, fed_lines}
+use Rattle.jp_doc.specs.Feeding.{finished, finished_lines}
 use Rattle.jp_doc.specs.declared.fault.DocFault.{DocFault}
 use Rattle.jp_doc.proofs.CutLaws.{cut_both, lines_cut, lines_both, numbered_both}
 use Rattle.jp_syntax.specs.Tree as tree
@@ -25,12 +25,13 @@ use Rattle.jp_answer.specs.declared.fault.RunFault.{RunFault}
 use Rattle.jp_answer.specs.declared.fault.RunFault.TheVariants.{Query, Document, Read, Write, Limit}
 use Rattle.jp_answer.specs.declared.fault.RunFault.TheVariants.{Memory, Settings}
 use Rattle.jp_run.specs.declared.running.Totals.{Totals}
-use Rattle.jp_run.specs.Batches.{documents_in, in_batches, whole_batches, left_over, documents_before, batch_of}
-use Rattle.jp_run.specs.Batches.{WasNotWhole}
+use Rattle.jp_run.specs.Batches.{documents_in, in_batches, whole_batches, left_over}
+use Rattle.jp_run.specs.Batches.{documents_before, batch_of, WasNotWhole}
 use Rattle.jp_run.specs.Ended.{Ends, InputFront, ReadEnded, AnswerEnded, RestEnded, StreamEnded}
 use Rattle.jp_run.specs.Handed.{Handed, HandedFront}
 use Rattle.jp_run.proofs.Batching.{batches_fit, few_left, in_both, whole_both, left_both}
-use Rattle.jp_run.proofs.Handing.{handed_none, handed_both, handed_stopped, handed_front, front_more, front_after}
+use Rattle.jp_run.proofs.Handing.{handed_none, handed_both, handed_stopped, handed_front, front_more}
+use Rattle.jp_run.proofs.Handing.{front_after}
 use Rattle.jp_run.proofs.Numbering.{before_fault}
 
 -- what bytes that begin with these say
@@ -45,7 +46,8 @@ known_all : (P : List ℕ → Type 0) (old now : Option (List ℕ)) (bytes : Lis
     → IsAtEnd now → P bytes → IfSome old P
 known_all P None now bytes h e p = tt
 known_all P (Some xs) None bytes h e p = absurd h
-known_all P (Some xs) (Some ys) bytes h e p = subst P (sym (h ∙ ap (λ bs. bytes ++ bs) e ∙ append-nil bytes)) p
+known_all P (Some xs) (Some ys) bytes h e p = subst P
+    (sym (h ∙ ap (λ bs. bytes ++ bs) e ∙ append-nil bytes)) p
 
 -- lines of bytes that come in two parts
 
@@ -123,7 +125,10 @@ module _ (q : tree.Query) (batch : ℕ) (some : 0 < batch) where
   pub stands_start : (a s : Option (List ℕ)) (p : Progress) (kept : List Line) (answered : ℕ)
       → p ≡ nothing_fed → kept ≡ [] → answered ≡ 0 → Stands q batch a a s s p kept answered
   stands_start a s p kept answered e f h =
-      let none : in_batches batch (documents_in []) ≡ 0 = omega (arith, batches_fit batch (documents_in [])) in
+      let none : in_batches batch (documents_in []) ≡ 0 = omega (
+        arith,
+        batches_fit batch (documents_in []),
+      ) in
       record {
         bytes = [];
         consumed = Consumes-nil a;
@@ -158,7 +163,8 @@ module _ (q : tree.Query) (batch : ℕ) (some : 0 < batch) where
       ++ (left_over batch (documents_in bytes) ++ fed_lines (fed nothing_fed bytes) piece)
   grown_documents bytes piece =
       let all : List Line = documents_in bytes in
-      ap (λ l. l ++ fed_lines (fed nothing_fed bytes) piece) (sym (take-append-drop (in_batches batch all) all))
+      ap (λ l. l ++ fed_lines (fed nothing_fed bytes) piece)
+      (sym (take-append-drop (in_batches batch all) all))
       ∙ append_assoc (whole_batches batch all) (left_over batch all) (fed_lines (fed nothing_fed bytes) piece)
 
   pub grown_few : (a c s u : Option (List ℕ)) (p : Progress) (all : List Line) (answered n most : ℕ)
@@ -215,7 +221,8 @@ module _ (q : tree.Query) (batch : ℕ) (some : 0 < batch) where
       → Handed q (whole_batches batch all) None u v → rest ≡ left_over batch all
       → more ≡ same + in_batches batch all → last ≡ next
       → Stands q batch a c s v last rest more
-  stands_then a b c s u v p next last kept all rest answered same more size n buffer st h sizes e f k g i j l =
+  stands_then a b c s u v p next last kept all rest answered same more size n buffer st h sizes e f k g i j
+      l =
       stands_next a c s u v next last all rest same more size
       (grown a b c s u p next kept all answered same size n buffer st h sizes e f k) g i j l
 
@@ -344,7 +351,8 @@ module _ (q : tree.Query) (batch : ℕ) (some : 0 < batch) where
 
     batch_front : HandedFront q all u e.sink_new → InputFront q e
     unfolding first_lines
-    batch_front h = input_front e.source_old e.source_new e.sink_old e.sink_new (g.bytes ++ g.piece) g.consumed
+    batch_front h = input_front e.source_old e.source_new e.sink_old e.sink_new (g.bytes ++ g.piece)
+        g.consumed
         (subst (λ (l : List Line). HandedFront q l e.sink_old e.sink_new) (sym all_documents)
         (front_after q first_lines all e.sink_old u e.sink_new g.handed h))
 
@@ -366,7 +374,8 @@ module _ (q : tree.Query) (batch : ℕ) (some : 0 < batch) where
           (first_fault_of all line fault u e.sink_new h),
     )
 
-    pub batch_ended : (f : RunFault) → AnswerEnded q all e.sink_failed u e.sink_new f → StreamEnded q batch e f
+    pub batch_ended : (f : RunFault) → AnswerEnded q all e.sink_failed u e.sink_new f
+        → StreamEnded q batch e f
     batch_ended (Document line fault) h = batch_stopped line fault h
     batch_ended Write h = (h.0, batch_front h.1)
     batch_ended Memory h = batch_front h
@@ -391,7 +400,8 @@ module _ (q : tree.Query) (batch : ℕ) (some : 0 < batch) where
         ∙ sym (ap (λ l. whole_batches batch all ++ (l ++ fin)) st.left)
         ∙ sym (ap (λ (p : Progress). whole_batches batch all ++ (kept ++ finished_lines p)) st.progress)
 
-    rest_front : HandedFront q (kept ++ finished_lines p) u v → IfSome a (λ input. HandedFront q (lines input) s v)
+    rest_front : HandedFront q (kept ++ finished_lines p) u v
+        → IfSome a (λ input. HandedFront q (lines input) s v)
     unfolding first_batches
     rest_front h = known_all (λ input. HandedFront q (lines input) s v) a c st.bytes st.consumed end
         (subst (λ (l : List Line). HandedFront q l s v) (sym lines_are)
@@ -409,7 +419,8 @@ module _ (q : tree.Query) (batch : ℕ) (some : 0 < batch) where
         → IfSome a (λ input. (all ≡ line_count input) × (documents ≡ length (lines input)))
     unfolding first_batches
     rest_counts all documents e f = known_all
-        (λ input. (all ≡ line_count input) × (documents ≡ length (lines input))) a c st.bytes st.consumed end (
+        (λ input. (all ≡ line_count input) × (documents ≡ length (lines input))) a c st.bytes st.consumed
+        end (
           e ∙ ap (λ (p : Progress). (finished p).count) st.progress ∙ count_whole st.bytes,
           omega (
             arith,
@@ -430,11 +441,13 @@ module _ (q : tree.Query) (batch : ℕ) (some : 0 < batch) where
     pub totals_ok : {E : Type 0} (r : Result Totals E)
         → IfOk r (λ t. t.lines ≡ (finished p).count)
         → IfOk r (λ t. t.documents ≡ answered + length (kept ++ finished_lines p))
-        → IfOk r (λ t. IfSome a (λ input. (t.lines ≡ line_count input) × (t.documents ≡ length (lines input))))
+        → IfOk r (λ t. IfSome a (λ input. (t.lines ≡ line_count input)
+        × (t.documents ≡ length (lines input))))
     totals_ok (Ok t) h k = rest_counts t.lines t.documents h k
     totals_ok (Err f) h k = tt
 
-    rest_stopped : (line : ℕ) (fault : DocFault) → Handed q (kept ++ finished_lines p) (Some (line, fault)) u v
+    rest_stopped : (line : ℕ) (fault : DocFault)
+        → Handed q (kept ++ finished_lines p) (Some (line, fault)) u v
         → WasNotWhole batch line st.bytes 0
     unfolding first_batches
     rest_stopped line fault h = not_whole st.bytes st.bytes 0 line fault (kept ++ finished_lines p) []
@@ -449,7 +462,8 @@ module _ (q : tree.Query) (batch : ℕ) (some : 0 < batch) where
       → RestEnded q (kept ++ finished_lines p) (finished p).count e.sink_failed u e.sink_new f
       → StreamEnded q batch e f
   rest_ended e u p kept answered (Document line fault) st end none h = (
-    rest_handed e.source_old e.source_new e.sink_old u e.sink_new p kept answered st end (Some (line, fault)) h,
+    rest_handed e.source_old e.source_new e.sink_old u e.sink_new p kept answered st end
+        (Some (line, fault)) h,
     st.bytes,
     st.consumed,
     subst (WasNotWhole batch line st.bytes) (sym none) (rest_stopped e.source_old e.source_new e.sink_old u

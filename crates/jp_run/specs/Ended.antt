@@ -56,7 +56,8 @@ AnswerEnded q ls failed old new Limit = ⊥
 AnswerEnded q ls failed old new Settings = ⊥
 
 -- the same, where there were so many lines in all
-abbrev pub RestEnded : tree.Query → List Line → ℕ → Bool → Option (List ℕ) → Option (List ℕ) → RunFault → Type 0
+abbrev pub RestEnded : tree.Query → List Line → ℕ → Bool → Option (List ℕ) → Option (List ℕ) → RunFault
+    → Type 0
 RestEnded q ls count failed old new Limit = (max_lines < count) × HandedFront q ls old new
 RestEnded q ls count failed old new fault = AnswerEnded q ls failed old new fault
 

@@ -1,7 +1,7 @@
 //! Lines that are answered in batches, each handed to the sink before the next begins.
 
-ghost use Rattle.std.specs.Prelude.{◌≡◌, ◌+◌, ◌≤◌, false, true, None, map, length, vec_len, IfOk, OnOk, IfErr};
-ghost use Rattle.std.specs.Prelude.{◌++◌};
+ghost use Rattle.std.specs.Prelude.{◌≡◌, ◌+◌, ◌≤◌, ◌++◌, false, true, None, map, length, vec_len, IfOk, OnOk};
+ghost use Rattle.std.specs.Prelude.{IfErr};
 ghost use Rattle.jp_doc.specs.Feeding.{finished, finished_lines};
 ghost use Rattle.jp_doc.specs.Lines.{line_of};
 ghost use Rattle.jp_check.specs.Plan.{planned_query};

@@ -4,8 +4,12 @@
 #[cfg(test)]
 mod answers;
 #[cfg(test)]
+mod batches;
+#[cfg(test)]
 mod fakes;
 #[cfg(test)]
 mod gates;
 #[cfg(test)]
 mod runs;
+#[cfg(test)]
+mod thousand;

@@ -1,6 +1,7 @@
 use Rattle.std.proofs.Common.{refl}
 use Rattle.jp_answer.specs.declared.fault.RunFault.TheVariants.{Document}
-use Rattle.jp_run.proofs.Runs.{not_both, refused_so, at_fault, accepted_ok, answer_known, answer_ok, front_err}
+use Rattle.jp_run.proofs.Runs.{not_both, refused_so, at_fault, accepted_ok, answer_known, answer_ok}
+use Rattle.jp_run.proofs.Runs.{front_err}
 use Rattle.jp_run.proofs.running.run.Goals as goal
 
 pub returns-in_err-plan-clause-refused : goal.returns-in_err-plan-clause-refused
@@ -21,5 +22,5 @@ returns-clause-document g c = λ line fault e. answer_known _ _ c.in_ok-plan.ens
     (at_fault _ (Document line fault) _ e c.stream.ensures.fault).0
 
 pub returns-clause-front : goal.returns-clause-front
-returns-clause-front g c = front_err _ _ c.in_ok-plan.ensures.ok c.stream.result _ c.args.settings.now.in_range.2.0 _
-    c.stream.ensures.fault
+returns-clause-front g c = front_err _ _ c.in_ok-plan.ensures.ok c.stream.result _
+    c.args.settings.now.in_range.2.0 _ c.stream.ensures.fault

@@ -86,7 +86,8 @@ pub returns-then-n-eq0-clause-end : goal.returns-then-n-eq0-clause-end
 returns-then-n-eq0-clause-end g c = at_ok _ (c.in_ok-n.ensures.end c.if-n-eq0.true)
 
 pub returns-then-n-eq0-clause-still_working : goal.returns-then-n-eq0-clause-still_working
-returns-then-n-eq0-clause-still_working g c = also_ok _ _ c.in_ok-n.ensures.working c.answer_rest.ensures.working
+returns-then-n-eq0-clause-still_working g c = also_ok _ _ c.in_ok-n.ensures.working
+    c.answer_rest.ensures.working
 
 pub returns-then-n-eq0-clause-fault : goal.returns-then-n-eq0-clause-fault
 returns-then-n-eq0-clause-fault g c = told_so c.answer_rest.result _ _ (λ f h.
