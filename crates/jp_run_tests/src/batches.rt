@@ -23,6 +23,7 @@ const TWO_LINES: &[u8] = b"1\t$['a']\t1\n3\t$['a']\tnull\n";
 /// A run with so many workers, pieces of that size, and batches of that size.
 fn run<R: Threads + Sync, S: Source, K: Sink, G: Gate + Sync>(
     rt: &R,
+    alloc: Global,
     source: &mut S,
     sink: &mut K,
     query: &str,
@@ -33,28 +34,37 @@ fn run<R: Threads + Sync, S: Source, K: Sink, G: Gate + Sync>(
     requires few { (S.reads source.old ≤ 2 ^ 62) × (S.given source.old ≤ 2 ^ 62) }
 {
     let settings = Settings::new(cut.0, cut.1, cut.2)?;
-    jp_run::run(rt, Global, source, sink, query, &settings, gate)
+    jp_run::run(rt, alloc, source, sink, query, &settings, gate)
 }
 
 /// A run over bytes that come one by one, of which one call fails. Gives its end, what it wrote, and how
 /// often it read.
 fn byte_by_byte<R: Threads + Sync>(
     rt: &R,
+    alloc: Global,
     query: &str,
     input: &[u8],
     batch: u64,
     fails_at: u64,
 ) -> (Result<Totals, RunFault>, Vec<u8>, u64) {
     let mut source = OneByte::new(input, fails_at);
-    let mut sink = Holds::new(Vec::new(Global), 3, ROOM);
-    let end = run(rt, &mut source, &mut sink, query, (2, 1, batch), &OpenGate);
+    let mut sink = Holds::new(Vec::new(alloc), 3, ROOM);
+    let end = run(
+        rt,
+        alloc,
+        &mut source,
+        &mut sink,
+        query,
+        (2, 1, batch),
+        &OpenGate,
+    );
     (end, sink.bytes, source.reads())
 }
 
 #[test]
 fn the_same_for_all_batches(rt: HostRuntime) {
     for batch in [1u64, 2, 10, 1_000, 4_096] {
-        let (end, bytes, reads) = byte_by_byte(&rt, "$.a", TWO, batch, 0);
+        let (end, bytes, reads) = byte_by_byte(&rt, rt.alloc(), "$.a", TWO, batch, 0);
         let totals = Totals {
             lines: 3,
             documents: 2,
@@ -73,12 +83,12 @@ fn a_failing_read_leaves_whole_batches(rt: HostRuntime) {
             9..=20 => 11,
             _ => 25,
         };
-        let (end, bytes, reads) = byte_by_byte(&rt, "$.a", TWO, 1, call);
+        let (end, bytes, reads) = byte_by_byte(&rt, rt.alloc(), "$.a", TWO, 1, call);
         assert!(rt; matches!(end, Err(RunFault::Read)));
         let (front, _) = TWO_LINES.split_at(written);
         assert_eq!(rt; bytes.as_slice(), front);
         assert_eq!(rt; reads, call);
-        let (end, bytes, reads) = byte_by_byte(&rt, "$.a", TWO, 10, call);
+        let (end, bytes, reads) = byte_by_byte(&rt, rt.alloc(), "$.a", TWO, 10, call);
         assert!(rt; matches!(end, Err(RunFault::Read)));
         assert!(rt; bytes.is_empty());
         assert_eq!(rt; reads, call);
@@ -88,7 +98,7 @@ fn a_failing_read_leaves_whole_batches(rt: HostRuntime) {
 #[test]
 fn no_read_follows_the_faulty_batch(rt: HostRuntime) {
     for (batch, wanted) in [(1u64, 2u64), (2, 5), (3, 6)] {
-        let (end, bytes, reads) = byte_by_byte(&rt, "$", b"{\n[]\n", batch, 0);
+        let (end, bytes, reads) = byte_by_byte(&rt, rt.alloc(), "$", b"{\n[]\n", batch, 0);
         assert!(rt;
             matches!(
                 end,
@@ -108,7 +118,15 @@ fn a_full_sink_keeps_a_front(rt: HostRuntime) {
     for batch in [1u64, 10] {
         let mut source = FromReader::new(TWO);
         let mut sink = Holds::new(Vec::new(rt.alloc()), ROOM, 5);
-        let end = run(&rt, &mut source, &mut sink, "$.a", (1, 1, batch), &OpenGate);
+        let end = run(
+            &rt,
+            rt.alloc(),
+            &mut source,
+            &mut sink,
+            "$.a",
+            (1, 1, batch),
+            &OpenGate,
+        );
         assert!(rt; matches!(end, Err(RunFault::Write)));
         assert_eq!(rt; sink.bytes.as_slice(), b"1\t$['".as_slice());
     }
@@ -119,7 +137,15 @@ fn two_workers_at_once_in_a_batch(rt: HostRuntime) {
     let gate = Pair(Entered::new());
     let mut source = FromReader::new(b"[]\n{}\n".as_slice());
     let mut sink = Holds::new(Vec::new(rt.alloc()), ROOM, ROOM);
-    let end = run(&rt, &mut source, &mut sink, "$", (2, 1, 2), &gate);
+    let end = run(
+        &rt,
+        rt.alloc(),
+        &mut source,
+        &mut sink,
+        "$",
+        (2, 1, 2),
+        &gate,
+    );
     assert!(rt; end.is_ok());
     assert_eq!(rt; sink.bytes.as_slice(), b"1\t$\t[]\n2\t$\t{}\n".as_slice());
     assert_eq!(rt; gate.0.failures(), 0);
@@ -136,7 +162,15 @@ fn a_thousand_lines_however_cut(rt: HostRuntime) -> Result<(), Fail> {
                 let mut source = FromReader::new(text.as_bytes());
                 let mut sink = Holds::new(Vec::new(rt.alloc()), ROOM, ROOM);
                 let cut = (workers, piece, batch);
-                let end = run(&rt, &mut source, &mut sink, "$[*]", cut, &OpenGate);
+                let end = run(
+                    &rt,
+                    rt.alloc(),
+                    &mut source,
+                    &mut sink,
+                    "$[*]",
+                    cut,
+                    &OpenGate,
+                );
                 assert!(rt; end.is_ok());
                 assert!(rt; sink.bytes.as_slice() == lines.as_bytes());
             }
