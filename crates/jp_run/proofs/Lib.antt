@@ -1,3 +1,7 @@
+pub mod Batching
 pub mod Handed
-pub mod Taken
+pub mod Handing
+pub mod Numbering
 pub mod Runs
+pub mod Standing
+pub mod Streaming

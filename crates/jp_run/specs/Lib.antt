@@ -1,3 +1,6 @@
+pub mod Batches
 pub mod Counts
+pub mod Ended
+pub mod Handed
 pub mod Limits
 pub mod Written

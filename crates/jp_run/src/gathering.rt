@@ -1,70 +1,80 @@
-//! The lines of a source.
+//! The lines of a source, as its bytes come in.
 
-ghost use Rattle.std.specs.Prelude.{◌≡◌, ◌+◌, ◌^◌, ◌<◌, ◌≤◌, ℕ, List, false, true, map, IfOk, OnOk, OnErr};
-ghost use Rattle.std.specs.Prelude.{IsErrOf, ◌⊎◌};
+ghost use Rattle.std.specs.Prelude.{◌≡◌, ◌+◌, ◌<◌, ◌≤◌, ◌++◌, ℕ, false, map, take, length, vec_len, IfOk};
+ghost use Rattle.std.specs.Prelude.{OnOk, OnErr, IfErr, IsErrOf};
 ghost use Rattle.std.specs.Io.KnownBytes.{Consumes, IsAtEnd};
-ghost use Rattle.jp_doc.specs.Feeding.{fed, fed_lines};
-ghost use Rattle.jp_doc.specs.Lines.{line_of, lines as all_lines, line_count};
-ghost use Rattle.jp_run.specs.Limits.{max_reads, max_lines};
+ghost use Rattle.jp_doc.specs.Feeding.{fed, fed_lines, finished, finished_lines};
+ghost use Rattle.jp_doc.specs.Lines.{line_of};
+ghost use Rattle.jp_run.specs.Counts.{counted};
+ghost use Rattle.jp_run.specs.Ended.{ReadEnded, LastEnded};
+ghost use Rattle.jp_run.specs.Limits.{max_lines};
 
 use crate::ends::Source;
 use jp_answer::RunFault;
 use jp_doc::{Line, Lines};
-use std::alloc::Global;
-
-/// The number of bytes that one call of `read` is asked for.
-const READ_SIZE: usize = 65_536;
-
-/// The greatest number of calls of `read`.
-const MAX_READS: u64 = 1 << 40;
 
 /// The greatest number of lines.
 const MAX_LINES: u64 = 4_294_967_295;
 
-/// The lines of an input.
+/// The lines that have come, and how far the input has.
 #[derive(Drop)]
-pub(crate) struct Gathered {
-    /// Those that aren't blank.
+pub(crate) struct Pending {
+    pub(crate) progress: Lines,
+    /// The lines that aren't blank and are not answered yet.
     pub(crate) lines: Vec<Line>,
-    /// How many there are, blank ones too.
-    pub(crate) count: u64,
+    /// How many are answered.
+    pub(crate) answered: u64,
 }
 
-/// The lines of all bytes up to the end of the input.
-pub(crate) fn gather<S: Source>(alloc: Global, source: &mut S) -> Result<Gathered, RunFault>
+/// Reads once, and adds the lines that are complete then. Gives the number of bytes: 0 is the end of the
+/// input.
+///
+/// `Limit` past 4,294,967,295 lines.
+pub(crate) fn read_lines<S: Source>(
+    source: &mut S,
+    chunk: &mut [u8],
+    pending: &mut Pending,
+) -> Result<usize, RunFault>
     requires working { S.failed source.old ≡ false }
-    requires few { S.reads source.old ≤ 2 ^ 62 }
-    ensures lines { IfOk result (λ g. (input : List ℕ)
-        × Consumes (S.remaining source.old) (S.remaining source.new) input
-        × (map line_of g.lines.items ≡ all_lines input) × (g.count ≡ line_count input)) }
-    ensures few_lines { IfOk result (λ g. g.count ≤ max_lines) }
-    ensures end { OnOk result (IsAtEnd (S.remaining source.new)) }
-    ensures ok { OnOk result (S.failed source.new ≡ false) }
-    ensures read { IsErrOf result RunFault.Read → S.failed source.new ≡ true }
-    ensures limit { IsErrOf result RunFault.Limit → (S.reads source.new ≡ S.reads source.old + max_reads)
-        ⊎ ((input : List ℕ) × Consumes (S.remaining source.old) (S.remaining source.new) input
-        × (max_lines < line_count input)) }
-    ensures faults { OnErr result (IsErrOf result RunFault.Read ⊎ IsErrOf result RunFault.Limit
-        ⊎ IsErrOf result RunFault.Memory) }
-    ensures few { S.reads source.new ≤ S.reads source.old + max_reads }
+    requires few_lines { pending.old.progress.count ≤ max_lines }
+    requires room { 0 < length chunk.old }
+    ensures read { IfOk result (λ n. Consumes (S.remaining source.old) (S.remaining source.new)
+        (take n chunk.new)) }
+    ensures last { IfOk result (λ n. (n ≤ length chunk.new) × (S.last source.new ≡ n)) }
+    ensures end { IfOk result (λ n. n ≡ 0 → IsAtEnd (S.remaining source.new)) }
+    ensures working { OnOk result (S.failed source.new ≡ false) }
+    ensures progress { IfOk result (λ n. pending.new.progress ≡ fed pending.old.progress (take n chunk.new)) }
+    ensures lines { IfOk result (λ n. map line_of pending.new.lines.items
+        ≡ map line_of pending.old.lines.items ++ fed_lines pending.old.progress (take n chunk.new)) }
+    ensures answered { OnOk result (pending.new.answered ≡ pending.old.answered) }
+    ensures few_lines { OnOk result (pending.new.progress.count ≤ max_lines) }
+    ensures fault { IfErr result (ReadEnded pending.old.progress (S.failed source.new)
+        (S.remaining source.old) (S.remaining source.new)) }
+    ensures reads { S.reads source.new ≡ counted (S.reads source.old) 1 }
 {
-    let mut buffer = vec![in alloc; 0u8; READ_SIZE]?;
-    let chunk = buffer.as_mut_slice();
-    let mut progress = Lines::new(alloc);
-    let mut lines = Vec::new(alloc);
-    for _turn in 0..MAX_READS {
-        let Ok(n) = source.read(chunk) else {
-            return Err(RunFault::Read);
-        };
-        if n == 0 {
-            progress.finish(&mut lines)?;
-            let count = within_limit(&progress)?;
-            return Ok(Gathered { lines, count });
-        }
-        progress.feed(&chunk[..n], &mut lines)?;
-        within_limit(&progress)?;
-    }
-    Err(RunFault::Limit)
+    let Ok(n) = source.read(chunk) else {
+        return Err(RunFault::Read);
+    };
+    let (piece, _) = chunk.split_at(n);
+    pending.progress.feed(piece, &mut pending.lines)?;
+    within_limit(&pending.progress)?;
+    Ok(n)
+}
+
+/// Adds the last line, if there is one. Gives how many lines there are in all, blank ones too.
+///
+/// `Limit` if they are more than 4,294,967,295.
+pub(crate) fn take_last(pending: &mut Pending) -> Result<u64, RunFault>
+    requires few_lines { pending.old.progress.count ≤ max_lines }
+    ensures lines { OnOk result (map line_of pending.new.lines.items
+        ≡ map line_of pending.old.lines.items ++ finished_lines pending.old.progress) }
+    ensures count { IfOk result (λ count. count ≡ (finished pending.old.progress).count) }
+    ensures few_lines { IfOk result (λ count. count ≤ max_lines) }
+    ensures answered { OnOk result (pending.new.answered ≡ pending.old.answered) }
+    ensures fault { IfErr result (LastEnded (finished pending.old.progress).count) }
+{
+    pending.progress.finish(&mut pending.lines)?;
+    within_limit(&pending.progress)
 }
 
 /// The number of lines that have ended.

@@ -1,6 +1,7 @@
 //! The answer to a collection of documents, one on a line: from the bytes that come in to those that go out.
 #![tactic(auto)]
 
+mod batches;
 mod checking;
 mod ends;
 mod gathering;

@@ -1,8 +1,7 @@
 //! A run over a collection.
 
 ghost use Rattle.std.specs.Prelude.{◌≡◌, ◌+◌, ◌^◌, ◌<◌, ◌≤◌, ◌⊎◌, ◌↔◌, ℕ, List, length, false, true, Some};
-ghost use Rattle.std.specs.Prelude.{None};
-ghost use Rattle.std.specs.Prelude.{Err, IfOk, IfErr, OnOk, OnErr, IfSome, IsErrOf};
+ghost use Rattle.std.specs.Prelude.{None, Err, IfOk, IfErr, OnOk, OnErr, IfSome, IsErrOf};
 ghost use Rattle.std.specs.Io.KnownBytes.{Appends, Consumes, IsAtEnd};
 ghost use Rattle.std.specs.Str.{chars};
 ghost use Rattle.jp_doc.specs.Lines.{lines, line_count};
@@ -14,17 +13,27 @@ ghost use Rattle.jp_check.specs.Plan.{planned_query};
 ghost use Rattle.jp_check.specs.Verdict.{IsAccepted, IsVerdict};
 ghost use Rattle.jp_answer.specs.Answer.{Answer};
 ghost use Rattle.jp_answer.specs.Answered.{IsAnswerTo};
+ghost use Rattle.jp_run.specs.Batches.{documents_in, whole_batches, WasNotWhole};
+ghost use Rattle.jp_run.specs.Ended.{StreamEnded};
+ghost use Rattle.jp_run.specs.Handed.{Handed, IsHanded};
 ghost use Rattle.jp_run.specs.Limits.{max_reads, max_lines};
 ghost use Rattle.jp_run.specs.Written.{AppendsFront};
 
+use crate::batches::{answer_batches, answer_rest};
 use crate::ends::{Sink, Source};
-use crate::gathering::gather;
-use crate::writing::deliver;
-use jp_answer::{Gate, RunFault, Settings, answer};
+use crate::gathering::{Pending, read_lines};
+use jp_answer::{Gate, RunFault, Settings};
 use jp_check::{Plan, plan};
+use jp_doc::Lines;
 use jp_syntax::QueryFault;
 use std::alloc::Global;
 use std::thread::Threads;
+
+/// The number of bytes that one call of `read` is asked for.
+const READ_SIZE: usize = 65_536;
+
+/// The greatest number of calls of `read`.
+const MAX_READS: u64 = 1 << 40;
 
 /// What a finished run has seen.
 #[derive(Clone, Copy, Debug, PartialEq, Eq)]
@@ -38,19 +47,22 @@ pub struct Totals {
 /// Runs a query over all documents of the source, one on a line, and writes the lines of the nodes that it
 /// selects.
 ///
-/// The query is read first. Then the source is read to its end, and its lines are answered by the workers,
-/// up to the first faulty one.
+/// The query is read first. Then the source is read to its end, at most 65,536 bytes a call. As soon as
+/// `batch` documents have come they are answered by the workers and written, before the next read; the rest
+/// is at the end. The run stops at the first faulty line.
 /// Neither end has failed before, and the counts of the source are at most 2^62.
 ///
 /// # Errors
 ///
 /// - [`RunFault::Query`] where the query is refused: nothing was read and nothing was written.
 /// - [`RunFault::Document`] with the first faulty line: exactly the lines of the documents before it were
-/// written.
-/// - [`RunFault::Read`] only where the source failed: nothing was written.
+/// written, and there was no read after the one that completed its batch.
+/// - [`RunFault::Read`] only where the source failed: exactly the lines of the whole batches among the
+/// documents whose line's end was read were written.
 /// - [`RunFault::Write`] only where the sink failed: a front of the answer was written.
-/// - [`RunFault::Limit`] only after 2^40 calls of `read`, or past 4,294,967,295 lines.
-/// - [`RunFault::Memory`] where a growth of memory was refused.
+/// - [`RunFault::Limit`] only after 2^40 calls of `read`, or past 4,294,967,295 lines: a front of the answer
+/// was written.
+/// - [`RunFault::Memory`] where a growth of memory was refused: a front of the answer was written.
 pub fn run<R: Threads + Sync, S: Source, K: Sink, G: Gate + Sync>(
     rt: &R,
     alloc: Global,
@@ -88,7 +100,15 @@ pub fn run<R: Threads + Sync, S: Source, K: Sink, G: Gate + Sync>(
     ensures document { (line : ℕ) (fault : Fault) → IsErrOf result (RunFault.Document line fault)
         → IfSome (S.remaining source.old) (λ input. (a : Answer) × IsAnswerTo (chars query.now) input a
         × (a.stopped ≡ Some (line, fault)) × Appends (K.contents sink.old) (K.contents sink.new) a.bytes) }
-    ensures read { IsErrOf result RunFault.Read → (S.failed source.new ≡ true) × (sink.new ≡ sink.old) }
+    // What was read before the last call of `read` had too few documents for the faulty line's batch.
+    ensures no_later_read { (line : ℕ) (fault : Fault) → IsErrOf result (RunFault.Document line fault)
+        → (bytes : List ℕ) × Consumes (S.remaining source.old) (S.remaining source.new) bytes
+        × WasNotWhole settings.now.batch line bytes (S.last source.new) }
+    // The lines of the whole batches among the documents whose line's end was read are written, and no more.
+    ensures read { IsErrOf result RunFault.Read → (S.failed source.new ≡ true) × (bytes : List ℕ)
+        × Consumes (S.remaining source.old) (S.remaining source.new) bytes
+        × IsHanded (chars query.now) (whole_batches settings.now.batch (documents_in bytes)) None
+        (K.contents sink.old) (K.contents sink.new) }
     ensures write { IsErrOf result RunFault.Write → K.failed sink.new ≡ true }
     ensures limit { IsErrOf result RunFault.Limit → (S.reads source.new ≡ S.reads source.old + max_reads)
         ⊎ ((input : List ℕ) × Consumes (S.remaining source.old) (S.remaining source.new) input
@@ -101,24 +121,58 @@ pub fn run<R: Threads + Sync, S: Source, K: Sink, G: Gate + Sync>(
         → AppendsFront (K.contents sink.old) (K.contents sink.new) a.bytes)) }
     ensures few { S.reads source.new ≤ S.reads source.old + max_reads }
 {
-    let settings = *settings;
     let plan = plan_of(alloc, query)?;
-    let gathered = gather(alloc, source)?;
-    let lines = gathered.lines.as_slice();
-    let answer = answer(
-        rt,
-        alloc,
-        &plan,
-        lines,
-        settings.workers,
-        settings.piece,
-        gate,
-    )?;
-    deliver(sink, &answer)?;
-    Ok(Totals {
-        lines: gathered.count,
-        documents: gathered.lines.len() as u64,
-    })
+    stream(rt, alloc, &plan, *settings, gate, source, sink)
+}
+
+/// Reads a source to its end, and answers each batch as soon as it has come.
+fn stream<R: Threads + Sync, S: Source, K: Sink, G: Gate + Sync>(
+    rt: &R,
+    alloc: Global,
+    plan: &Plan,
+    settings: Settings,
+    gate: &G,
+    source: &mut S,
+    sink: &mut K,
+) -> Result<Totals, RunFault>
+    requires working { (S.failed source.old ≡ false) × (K.failed sink.old ≡ false) }
+    requires few { S.reads source.old ≤ 2 ^ 62 }
+    ensures handed { OnOk result (IfSome (S.remaining source.old) (λ input.
+        Handed (planned_query plan.now) (lines input) None (K.contents sink.old) (K.contents sink.new))) }
+    ensures counts { IfOk result (λ totals. IfSome (S.remaining source.old)
+        (λ input. (totals.lines ≡ line_count input) × (totals.documents ≡ length (lines input)))) }
+    ensures few_lines { IfOk result (λ totals. totals.lines ≤ max_lines) }
+    ensures end { OnOk result (IsAtEnd (S.remaining source.new)) }
+    ensures flushed { OnOk result (K.flushed sink.new ≡ true) }
+    ensures still_working { OnOk result ((S.failed source.new ≡ false) × (K.failed sink.new ≡ false)) }
+    ensures fault { IfErr result (StreamEnded (planned_query plan.now) settings.batch (record {
+      source_old = S.remaining source.old;
+      source_new = S.remaining source.new;
+      reads_old = S.reads source.old;
+      reads_new = S.reads source.new;
+      last = S.last source.new;
+      source_failed = S.failed source.new;
+      sink_old = K.contents sink.old;
+      sink_new = K.contents sink.new;
+      sink_failed = K.failed sink.new;
+    })) }
+    ensures few { S.reads source.new ≤ S.reads source.old + max_reads }
+{
+    let mut buffer = vec![in alloc; 0u8; READ_SIZE]?;
+    let chunk = buffer.as_mut_slice();
+    let mut pending = Pending {
+        progress: Lines::new(alloc),
+        lines: Vec::new(alloc),
+        answered: 0,
+    };
+    for _turn in 0..MAX_READS {
+        let n = read_lines(source, chunk, &mut pending)?;
+        answer_batches(rt, alloc, plan, settings, gate, &mut pending, sink)?;
+        if n == 0 {
+            return answer_rest(rt, alloc, plan, settings, gate, &mut pending, sink);
+        }
+    }
+    Err(RunFault::Limit)
 }
 
 /// The plan of a query's text. A run begins so.

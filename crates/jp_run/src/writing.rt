@@ -1,10 +1,10 @@
 //! An answer to a sink.
 
-ghost use Rattle.std.specs.Prelude.{◌≡◌, ℕ, false, true, Some, None, OnOk, OnErr, IfErr, IsErrOf};
-ghost use Rattle.std.specs.Io.KnownBytes.{Appends};
-ghost use Rattle.jp_doc.specs.declared.fault.DocFault.{DocFault as Fault};
+ghost use Rattle.std.specs.Prelude.{◌≡◌, false, true, None, OnOk, OnErr, IfErr};
+ghost use Rattle.std.specs.Io.KnownBytes.{Appends, Keeps};
 ghost use Rattle.jp_answer.specs.Answered.{answer_of};
-ghost use Rattle.jp_run.specs.Written.{AppendsFront, IsOfDelivery};
+ghost use Rattle.jp_run.specs.Ended.{HandingEnded};
+ghost use Rattle.jp_run.specs.Written.{AppendsFront};
 
 use crate::ends::{Broken, Sink};
 use jp_answer::{Answer, RunFault};
@@ -32,20 +32,14 @@ pub fn write_all<K: Sink>(sink: &mut K, bytes: &[u8]) -> Result<(), Broken>
     Ok(())
 }
 
-/// Hands over the bytes of an answer, and then tells its faulty line, or passes all on where there is none.
-pub(crate) fn deliver<K: Sink>(sink: &mut K, answer: &Answer) -> Result<(), RunFault>
+/// Hands over the bytes of an answer, and then tells its faulty line, if there is one.
+pub(crate) fn hand_out<K: Sink>(sink: &mut K, answer: &Answer) -> Result<(), RunFault>
     requires { K.failed sink.old ≡ false }
     ensures whole { OnOk result ((answer_of answer.now).stopped ≡ None) }
     ensures ok { OnOk result (Appends (K.contents sink.old) (K.contents sink.new) answer.now.bytes.items) }
     ensures working { OnOk result (K.failed sink.new ≡ false) }
-    ensures flushed { OnOk result (K.flushed sink.new ≡ true) }
-    ensures document { (line : ℕ) (fault : Fault) → IsErrOf result (RunFault.Document line fault)
-        → ((answer_of answer.now).stopped ≡ Some (line, fault))
-        × Appends (K.contents sink.old) (K.contents sink.new) answer.now.bytes.items }
-    ensures write { IsErrOf result RunFault.Write → K.failed sink.new ≡ true }
-    ensures faults { IfErr result IsOfDelivery }
-    ensures front { OnErr result (AppendsFront (K.contents sink.old) (K.contents sink.new)
-        answer.now.bytes.items) }
+    ensures fault { IfErr result (HandingEnded (answer_of answer.now) (K.failed sink.new)
+        (K.contents sink.old) (K.contents sink.new)) }
 {
     if write_all(sink, &answer.bytes).is_err() {
         return Err(RunFault::Write);
@@ -56,6 +50,17 @@ pub(crate) fn deliver<K: Sink>(sink: &mut K, answer: &Answer) -> Result<(), RunF
             fault: stop.fault,
         });
     }
+    Ok(())
+}
+
+/// Passes on all that was handed over.
+pub(crate) fn pass_on<K: Sink>(sink: &mut K) -> Result<(), RunFault>
+    requires { K.failed sink.old ≡ false }
+    ensures bytes { Keeps (K.contents sink.old) (K.contents sink.new) }
+    ensures flushed { OnOk result (K.flushed sink.new ≡ true) }
+    ensures working { OnOk result (K.failed sink.new ≡ false) }
+    ensures fault { IfErr result (λ fault. (fault ≡ RunFault.Write) × (K.failed sink.new ≡ true)) }
+{
     if sink.flush().is_err() {
         return Err(RunFault::Write);
     }

@@ -1,6 +1,7 @@
 //! Answers by several workers, in pieces of several sizes.
 
 use crate::gates::{Entered, FirstWaits, Pair, Recorder};
+use crate::thousand::{items_of_thousand, thousand};
 use jp_check::plan;
 use jp_doc::{DocFault, Line, Lines};
 use jp_run::{Answer, DocStop, Gate, OpenGate, RunFault, Settings, answer};
@@ -75,35 +76,6 @@ fn the_first_faulty_line_stops_the_answer(rt: HostRuntime) -> Result<(), Fail> {
         }
     }
     Ok(())
-}
-
-/// Line n of a thousand is an array of n mod 11 items, each the number n.
-fn thousand(alloc: Global) -> Result<String, AllocError> {
-    let mut text = String::new(alloc);
-    for n in 1..=1_000u64 {
-        let number = format!(in alloc; "{n}")?;
-        text.push('[')?;
-        for item in 0..n % 11 {
-            if item > 0 {
-                text.push(',')?;
-            }
-            text.push_str(&number)?;
-        }
-        text.push_str("]\n")?;
-    }
-    Ok(text)
-}
-
-/// The lines of all their items.
-fn items_of_thousand(alloc: Global) -> Result<String, AllocError> {
-    let mut lines = String::new(alloc);
-    for n in 1..=1_000u64 {
-        for item in 0..n % 11 {
-            let line = format!(in alloc; "{n}\t$[{item}]\t{n}\n")?;
-            lines.push_str(&line)?;
-        }
-    }
-    Ok(lines)
 }
 
 #[test]

@@ -4,6 +4,8 @@
 #[cfg(test)]
 mod answers;
 #[cfg(test)]
+mod batches;
+#[cfg(test)]
 mod ends_that_fail;
 #[cfg(test)]
 mod fakes;
@@ -15,3 +17,5 @@ mod hostile;
 mod refusals;
 #[cfg(test)]
 mod runs;
+#[cfg(test)]
+mod thousand;

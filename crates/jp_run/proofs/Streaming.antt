@@ -1,0 +1,486 @@
+-- Where a run stands: what was read of its input, and what was answered of it.
+use Rattle.std.proofs.Common.{◌≡◌, ℕ, ◌+◌, ◌-◌, ◌*◌, ◌/◌, ◌<◌, ◌≤◌, not, List, [], ◌++◌, length, take}
+use Rattle.std.proofs.Common.{Option, Some, None, IfSome, inr, sym, ◌∙◌, ap, subst, arith}
+use Rattle.std.proofs.Common.{append_assoc, append-nil, length-append, length-drop, take-append-drop}
+use Rattle.std.proofs.Common.{length-take-le, Result, Ok, Err, IfOk, OnOk}
+use Rattle.std.proofs.Math.Nat.{mul-le-mul_right}
+use Rattle.std.proofs.lemmas.Nat.{le-div}
+use Rattle.std.proofs.Math.Seq.{take-append_seam, take-length, take-nil, drop-nil}
+use Rattle.std.specs.List.{enumerate_from}
+use Rattle.std.proofs.lemmas.List.Sums.{length-filter, count_by-le-length}
+use Rattle.std.proofs.lemmas.List.FromFn.{length-enumerate_from}
+use Rattle.std.specs.Io.KnownBytes.{Consumes, IsAtEnd}
+use Rattle.std.proofs.KnownBytes.{Consumes-nil, Consumes-trans, Consumes-kept}
+use Rattle.jp_doc.specs.Lines.{Line, lines, line_count, is_blank, all_lines}
+use Rattle.jp_doc.specs.Feeding.{Cut, cut, numbered, last_line, Progress, nothing_fed, fed, fed_lines}
+use Rattle.jp_doc.specs.Feeding.{finished, finished_lines}
+use Rattle.jp_doc.specs.declared.fault.DocFault.{DocFault}
+use Rattle.jp_doc.proofs.CutLaws.{cut_both, lines_cut, lines_both, numbered_both}
+use Rattle.jp_syntax.specs.Tree as tree
+use Rattle.jp_regexp.proofs.RightTests.{right_tests}
+use Rattle.jp_answer.specs.Answer.{Answer}
+use Rattle.jp_answer.specs.Faults.{first_fault}
+use Rattle.jp_answer.proofs.Joining.{stops_so}
+use Rattle.jp_answer.specs.declared.fault.RunFault.{RunFault}
+use Rattle.jp_answer.specs.declared.fault.RunFault.TheVariants.{Query, Document, Read, Write, Limit}
+use Rattle.jp_answer.specs.declared.fault.RunFault.TheVariants.{Memory, Settings}
+use Rattle.jp_run.specs.declared.running.Totals.{Totals}
+use Rattle.jp_run.specs.Batches.{documents_in, in_batches, whole_batches, left_over}
+use Rattle.jp_run.specs.Batches.{documents_before, batch_of, WasNotWhole}
+use Rattle.jp_run.specs.Ended.{Ends, InputFront, ReadEnded, AnswerEnded, RestEnded, StreamEnded}
+use Rattle.jp_run.specs.Handed.{Handed, HandedFront}
+use Rattle.jp_run.proofs.Batching.{batches_fit, few_left, in_both, whole_both, left_both}
+use Rattle.jp_run.proofs.Handing.{handed_none, handed_both, handed_stopped, handed_front, front_more}
+use Rattle.jp_run.proofs.Handing.{front_after}
+use Rattle.jp_run.proofs.Numbering.{before_fault}
+
+-- what bytes that begin with these say
+known : (P : List ℕ → Type 0) (old now : Option (List ℕ)) (bytes : List ℕ) → Consumes old now bytes
+    → ((rest : List ℕ) → P (bytes ++ rest)) → IfSome old P
+known P None now bytes h k = tt
+known P (Some xs) None bytes h k = absurd h
+known P (Some xs) (Some ys) bytes h k = subst P (sym h) (k ys)
+
+-- what bytes that are all say
+known_all : (P : List ℕ → Type 0) (old now : Option (List ℕ)) (bytes : List ℕ) → Consumes old now bytes
+    → IsAtEnd now → P bytes → IfSome old P
+known_all P None now bytes h e p = tt
+known_all P (Some xs) None bytes h e p = absurd h
+known_all P (Some xs) (Some ys) bytes h e p = subst P
+    (sym (h ∙ ap (λ bs. bytes ++ bs) e ∙ append-nil bytes)) p
+
+-- lines of bytes that come in two parts
+
+documents_both : (bytes piece : List ℕ) → documents_in (bytes ++ piece)
+    ≡ documents_in bytes ++ fed_lines (fed nothing_fed bytes) piece
+documents_both bytes piece = ap (λ (c : Cut). numbered 1 c.ended) (cut_both bytes piece)
+    ∙ numbered_both 1 ((fed nothing_fed bytes).count + 1) (cut bytes).ended
+    (cut ((cut bytes).open_line ++ piece)).ended (omega arith)
+
+fed_both : (bytes piece : List ℕ) → fed nothing_fed (bytes ++ piece) ≡ fed (fed nothing_fed bytes) piece
+fed_both bytes piece =
+    let later : Cut = cut ((cut bytes).open_line ++ piece) in
+    let counts : 0 + length ((cut bytes).ended ++ later.ended) ≡ 0 + length (cut bytes).ended
+    + length later.ended = omega (arith, length-append (cut bytes).ended later.ended) in
+    ap (λ (c : Cut). record { count = 0 + length c.ended; open_line = c.open_line }) (cut_both bytes piece)
+    ∙ ap (λ k. record { count = k; open_line = later.open_line }) counts
+
+-- the lines of more bytes go on from the documents that had come
+lines_more : (bytes rest : List ℕ) → (more : List Line) × (lines (bytes ++ rest) ≡ documents_in bytes ++ more)
+lines_more bytes rest = (
+  numbered (length (cut bytes).ended + 1) (all_lines ((cut bytes).open_line ++ rest)),
+  ap (numbered 1) (lines_both bytes rest) ∙ numbered_both 1 (length (cut bytes).ended + 1) (cut bytes).ended
+      (all_lines ((cut bytes).open_line ++ rest)) (omega arith),
+)
+
+lines_whole : (bytes : List ℕ) → lines bytes ≡ documents_in bytes ++ finished_lines (fed nothing_fed bytes)
+lines_whole bytes = ap (numbered 1) (lines_cut bytes)
+    ∙ numbered_both 1 ((fed nothing_fed bytes).count + 1) (cut bytes).ended (last_line (cut bytes).open_line)
+    (omega arith)
+
+count_whole : (bytes : List ℕ) → (finished (fed nothing_fed bytes)).count ≡ line_count bytes
+count_whole bytes = omega (
+  arith,
+  ap length (lines_cut bytes),
+  length-append (cut bytes).ended (last_line (cut bytes).open_line),
+)
+
+count_below : (bytes : List ℕ) → (fed nothing_fed bytes).count ≤ line_count bytes
+count_below bytes = omega (
+  arith,
+  ap length (lines_cut bytes),
+  length-append (cut bytes).ended (last_line (cut bytes).open_line),
+)
+
+-- no more documents than lines
+few_documents : (bytes : List ℕ) → length (documents_in bytes) ≤ (fed nothing_fed bytes).count
+few_documents bytes =
+    let all : List Line = enumerate_from 1 (cut bytes).ended in
+    let p = λ (l : Line). not (is_blank l.1) in
+    omega (arith, length-filter p all, count_by-le-length p all, length-enumerate_from 1 (cut bytes).ended)
+
+-- so much was read, whose whole batches are answered and handed out; the rest of its lines are kept
+pub record Stands (q : tree.Query) (batch : ℕ) (old now sink_old sink_now : Option (List ℕ)) (p : Progress)
+    (kept : List Line) (answered : ℕ) : Type 0 where
+  pub bytes : List ℕ
+  pub consumed : Consumes old now bytes
+  pub progress : p ≡ fed nothing_fed bytes
+  pub left : kept ≡ left_over batch (documents_in bytes)
+  pub counted : answered ≡ in_batches batch (documents_in bytes)
+  pub handed : Handed q (whole_batches batch (documents_in bytes)) None sink_old sink_now
+
+-- one piece more was read, and nothing of it is answered yet
+pub record Grown (q : tree.Query) (batch : ℕ) (old now sink_old sink_now : Option (List ℕ)) (p : Progress)
+    (kept : List Line) (answered last : ℕ) : Type 0 where
+  pub bytes : List ℕ
+  pub piece : List ℕ
+  pub consumed : Consumes old now (bytes ++ piece)
+  pub is_last : last ≡ length piece
+  pub progress : p ≡ fed nothing_fed (bytes ++ piece)
+  pub lines : kept ≡ left_over batch (documents_in bytes) ++ fed_lines (fed nothing_fed bytes) piece
+  pub counted : answered ≡ in_batches batch (documents_in bytes)
+  pub handed : Handed q (whole_batches batch (documents_in bytes)) None sink_old sink_now
+
+module _ (q : tree.Query) (batch : ℕ) (some : 0 < batch) where
+  pub stands_start : (a s : Option (List ℕ)) (p : Progress) (kept : List Line) (answered : ℕ)
+      → p ≡ nothing_fed → kept ≡ [] → answered ≡ 0 → Stands q batch a a s s p kept answered
+  stands_start a s p kept answered e f h =
+      let none : in_batches batch (documents_in []) ≡ 0 = omega (
+        arith,
+        batches_fit batch (documents_in []),
+      ) in
+      record {
+        bytes = [];
+        consumed = Consumes-nil a;
+        progress = e;
+        left = f ∙ sym (drop-nil (in_batches batch (documents_in [])));
+        counted = h ∙ sym none;
+        handed = subst (λ (l : List Line). Handed q l None s s)
+            (sym (take-nil (in_batches batch (documents_in [])))) (handed_none q s);
+      }
+
+  pub grown : (a b c s u : Option (List ℕ)) (p next : Progress) (kept all : List Line)
+      (answered same last n : ℕ) (buffer : List ℕ)
+      → Stands q batch a b s u p kept answered → Consumes b c (take n buffer)
+      → (n ≤ length buffer) × (last ≡ n)
+      → next ≡ fed p (take n buffer) → all ≡ kept ++ fed_lines p (take n buffer) → same ≡ answered
+      → Grown q batch a c s u next all same last
+  grown a b c s u p next kept all answered same last n buffer st h sizes e f k =
+      let piece : List ℕ = take n buffer in record {
+        bytes = st.bytes;
+        piece = piece;
+        consumed = Consumes-trans a b c st.bytes piece st.consumed h;
+        is_last = sizes.1 ∙ sym (length-take-le n buffer sizes.0);
+        progress = e ∙ ap (λ p. fed p piece) st.progress ∙ sym (fed_both st.bytes piece);
+        lines = f ∙ ap (λ l. l ++ fed_lines p piece) st.left
+            ∙ ap (λ p. left_over batch (documents_in st.bytes) ++ fed_lines p piece) st.progress;
+        counted = k ∙ st.counted;
+        handed = st.handed;
+      }
+
+  grown_documents : (bytes piece : List ℕ) → documents_in bytes ++ fed_lines (fed nothing_fed bytes) piece
+      ≡ whole_batches batch (documents_in bytes)
+      ++ (left_over batch (documents_in bytes) ++ fed_lines (fed nothing_fed bytes) piece)
+  grown_documents bytes piece =
+      let all : List Line = documents_in bytes in
+      ap (λ l. l ++ fed_lines (fed nothing_fed bytes) piece)
+      (sym (take-append-drop (in_batches batch all) all))
+      ∙ append_assoc (whole_batches batch all) (left_over batch all) (fed_lines (fed nothing_fed bytes) piece)
+
+  pub grown_few : (a c s u : Option (List ℕ)) (p : Progress) (all : List Line) (answered n most : ℕ)
+      → Grown q batch a c s u p all answered n → p.count ≤ most → answered + length all ≤ most
+  grown_few a c s u p all answered n most g few =
+      let first : List Line = documents_in g.bytes in omega (
+        arith,
+        few,
+        ap (λ (p : Progress). p.count) g.progress,
+        few_documents (g.bytes ++ g.piece),
+        ap length (documents_both g.bytes g.piece ∙ grown_documents g.bytes g.piece),
+        length-append (whole_batches batch first) (left_over batch first
+            ++ fed_lines (fed nothing_fed g.bytes) g.piece),
+        length-take-le (in_batches batch first) first (batches_fit batch first),
+        ap length g.lines,
+        g.counted,
+      )
+
+  pub stands_next : (a c s u v : Option (List ℕ)) (p next : Progress) (all kept : List Line)
+      (answered more n : ℕ) → Grown q batch a c s u p all answered n
+      → Handed q (whole_batches batch all) None u v → kept ≡ left_over batch all
+      → more ≡ answered + in_batches batch all → next ≡ p
+      → Stands q batch a c s v next kept more
+  stands_next a c s u v p next all kept answered more n g h e f k =
+      let first : List Line = documents_in g.bytes in
+      let later : List Line = fed_lines (fed nothing_fed g.bytes) g.piece in
+      let both : documents_in (g.bytes ++ g.piece) ≡ first ++ later = documents_both g.bytes g.piece in
+      record {
+        bytes = g.bytes ++ g.piece;
+        consumed = g.consumed;
+        progress = k ∙ g.progress;
+        left = e ∙ ap (left_over batch) g.lines ∙ sym (left_both batch first later some)
+            ∙ sym (ap (left_over batch) both);
+        counted = omega (
+          arith,
+          f,
+          g.counted,
+          ap (in_batches batch) g.lines,
+          in_both batch first later some,
+          ap (in_batches batch) both,
+        );
+        handed = subst (λ (l : List Line). Handed q l None s v)
+            (ap (λ l. whole_batches batch first ++ whole_batches batch l) g.lines
+            ∙ sym (whole_both batch first later some) ∙ sym (ap (whole_batches batch) both))
+            (handed_both q (whole_batches batch first) (whole_batches batch all) None s u v g.handed h);
+      }
+
+  -- where it stands after a read whose batches are answered
+  pub stands_then : (a b c s u v : Option (List ℕ)) (p next last : Progress) (kept all rest : List Line)
+      (answered same more size n : ℕ) (buffer : List ℕ)
+      → Stands q batch a b s u p kept answered → Consumes b c (take n buffer)
+      → (n ≤ length buffer) × (size ≡ n)
+      → next ≡ fed p (take n buffer) → all ≡ kept ++ fed_lines p (take n buffer) → same ≡ answered
+      → Handed q (whole_batches batch all) None u v → rest ≡ left_over batch all
+      → more ≡ same + in_batches batch all → last ≡ next
+      → Stands q batch a c s v last rest more
+  stands_then a b c s u v p next last kept all rest answered same more size n buffer st h sizes e f k g i j
+      l =
+      stands_next a c s u v next last all rest same more size
+      (grown a b c s u p next kept all answered same size n buffer st h sizes e f k) g i j l
+
+  pub stands_few : (a b s u : Option (List ℕ)) (p : Progress) (kept : List Line) (answered most : ℕ)
+      → Stands q batch a b s u p kept answered → p.count ≤ most → answered + length kept ≤ most
+  stands_few a b s u p kept answered most st few =
+      let all : List Line = documents_in st.bytes in omega (
+        arith,
+        few,
+        ap (λ (p : Progress). p.count) st.progress,
+        few_documents st.bytes,
+        batches_fit batch all,
+        length-drop (in_batches batch all) all,
+        ap length st.left,
+        st.counted,
+      )
+
+  -- what was handed out of the first lines is a front of the whole
+  input_front : (a c s u : Option (List ℕ)) (bytes : List ℕ) → Consumes a c bytes
+      → HandedFront q (documents_in bytes) s u → IfSome a (λ input. HandedFront q (lines input) s u)
+  input_front a c s u bytes h front = known (λ input. HandedFront q (lines input) s u) a c bytes h
+      (λ rest. let more = lines_more bytes rest in subst (λ (l : List Line). HandedFront q l s u) (sym more.1)
+      (front_more q (documents_in bytes) more.0 s u front))
+
+  stopped_front : (a s u : Option (List ℕ)) (stop : ℕ × DocFault)
+      → IfSome a (λ input. Handed q (lines input) (Some stop) s u)
+      → IfSome a (λ input. HandedFront q (lines input) s u)
+  stopped_front None s u stop h = tt
+  stopped_front (Some input) s u stop h = handed_front q (lines input) (Some stop) s u h
+
+  pub stands_front : (a b s u : Option (List ℕ)) (p : Progress) (kept : List Line) (answered : ℕ)
+      → Stands q batch a b s u p kept answered → IfSome a (λ input. HandedFront q (lines input) s u)
+  stands_front a b s u p kept answered st =
+      let all : List Line = documents_in st.bytes in
+      input_front a b s u st.bytes st.consumed (subst (λ (l : List Line). HandedFront q l s u)
+      (take-append-drop (in_batches batch all) all) (front_more q (whole_batches batch all)
+      (left_over batch all) s u (handed_front q (whole_batches batch all) None s u st.handed)))
+
+  -- the same of each fault
+  pub ended_front : (e : Ends) (f : RunFault) → StreamEnded q batch e f → InputFront q e
+  ended_front e (Document line fault) h = stopped_front e.source_old e.sink_old e.sink_new (line, fault) h.0
+  ended_front e Read h =
+      let all : List Line = documents_in h.1 in
+      input_front e.source_old e.source_new e.sink_old e.sink_new h.1 h.2
+      (subst (λ (l : List Line). HandedFront q l e.sink_old e.sink_new)
+      (take-append-drop (in_batches batch all) all) (front_more q (whole_batches batch all)
+      (left_over batch all) e.sink_old e.sink_new (handed_front q (whole_batches batch all) None e.sink_old
+      e.sink_new h.3)))
+  ended_front e Write h = h.1
+  ended_front e Limit h = h.1
+  ended_front e Memory h = h
+  ended_front e (Query fault) h = absurd h
+  ended_front e Settings h = absurd h
+
+  -- a read that failed, or that came to a limit
+  pub read_ended : (e : Ends) (mid : Option (List ℕ)) (p : Progress) (kept : List Line) (answered : ℕ)
+      (f : RunFault) → Stands q batch e.source_old mid e.sink_old e.sink_new p kept answered
+      → ReadEnded p e.source_failed mid e.source_new f → StreamEnded q batch e f
+  read_ended e mid p kept answered Read st h =
+      (h.0, st.bytes, Consumes-kept e.source_old mid e.source_new st.bytes st.consumed h.1, st.handed)
+  read_ended e mid p kept answered Limit st h = (
+    inr (
+      st.bytes ++ h.0,
+      Consumes-trans e.source_old mid e.source_new st.bytes h.0 st.consumed h.1,
+      omega (
+        arith,
+        h.2,
+        ap (λ (p : Progress). (fed p h.0).count) st.progress,
+        ap (λ (p : Progress). p.count) (fed_both st.bytes h.0),
+        count_below (st.bytes ++ h.0),
+      ),
+    ),
+    stands_front e.source_old mid e.sink_old e.sink_new p kept answered st,
+  )
+  read_ended e mid p kept answered Memory st h = stands_front e.source_old mid e.sink_old e.sink_new p kept
+      answered st
+  read_ended e mid p kept answered (Query fault) st h = absurd h
+  read_ended e mid p kept answered (Document line fault) st h = absurd h
+  read_ended e mid p kept answered Write st h = absurd h
+  read_ended e mid p kept answered Settings st h = absurd h
+
+  -- the first faulty line of those that were read last
+  not_whole : (before bytes : List ℕ) (last number : ℕ) (fault : DocFault) (back more : List Line)
+      → take (length bytes - last) bytes ≡ before
+      → lines bytes ≡ whole_batches batch (documents_in before) ++ (back ++ more)
+      → first_fault back ≡ Some (number, fault) → WasNotWhole batch number bytes last
+  not_whole before bytes last number fault back more e is found =
+      let first : List Line = documents_in before in
+      let k : ℕ = length first / batch in
+      let m : ℕ = documents_before number (lines bytes) in
+      let low : k * batch ≤ m = omega (
+        arith,
+        before_fault (all_lines bytes) (whole_batches batch first) back more number fault found is,
+        length-take-le (in_batches batch first) first (batches_fit batch first),
+      ) in
+      let below : k + 1 ≤ m / batch + 1 = omega (arith, le-div k m batch some low) in
+      subst (λ l. length (documents_in l) < batch_of batch number (lines bytes) * batch) (sym e)
+      (omega (arith, few_left batch first some, mul-le-mul_right {m = k + 1} {n = m / batch + 1} batch below))
+
+  first_fault_of : (ls : List Line) (number : ℕ) (fault : DocFault) (a b : Option (List ℕ))
+      → Handed q ls (Some (number, fault)) a b → first_fault ls ≡ Some (number, fault)
+  first_fault_of ls number fault a b h = sym (stops_so right_tests.0 q ls)
+      ∙ ap (λ (r : Answer). r.stopped) (h.is right_tests.0 right_tests.1) ∙ h.stopped
+
+  -- a batch that was not answered to its end
+  module _ (e : Ends) (u : Option (List ℕ)) (p : Progress) (all : List Line) (answered : ℕ)
+      (g : Grown q batch e.source_old e.source_new e.sink_old u p all answered e.last) where
+    first_lines : List Line
+    first_lines = whole_batches batch (documents_in g.bytes)
+
+    all_documents : documents_in (g.bytes ++ g.piece) ≡ first_lines ++ all
+    unfolding first_lines
+    all_documents = documents_both g.bytes g.piece ∙ grown_documents g.bytes g.piece
+        ∙ sym (ap (λ l. first_lines ++ l) g.lines)
+
+    last_cut : take (length (g.bytes ++ g.piece) - e.last) (g.bytes ++ g.piece) ≡ g.bytes
+    last_cut = ap (λ n. take n (g.bytes ++ g.piece)) {x = length (g.bytes ++ g.piece) - e.last}
+        {y = length g.bytes} (omega (arith, length-append g.bytes g.piece, g.is_last))
+        ∙ take-append_seam g.bytes g.piece
+
+    all_lines_are : lines (g.bytes ++ g.piece) ≡ first_lines
+        ++ (all ++ finished_lines (fed nothing_fed (g.bytes ++ g.piece)))
+    all_lines_are = lines_whole (g.bytes ++ g.piece)
+        ∙ ap (λ l. l ++ finished_lines (fed nothing_fed (g.bytes ++ g.piece))) all_documents
+        ∙ append_assoc first_lines all (finished_lines (fed nothing_fed (g.bytes ++ g.piece)))
+
+    batch_front : HandedFront q all u e.sink_new → InputFront q e
+    unfolding first_lines
+    batch_front h = input_front e.source_old e.source_new e.sink_old e.sink_new (g.bytes ++ g.piece)
+        g.consumed
+        (subst (λ (l : List Line). HandedFront q l e.sink_old e.sink_new) (sym all_documents)
+        (front_after q first_lines all e.sink_old u e.sink_new g.handed h))
+
+    batch_stopped : (line : ℕ) (fault : DocFault) → Handed q all (Some (line, fault)) u e.sink_new
+        → StreamEnded q batch e (Document line fault)
+    unfolding first_lines
+    batch_stopped line fault h = (
+      known (λ input. Handed q (lines input) (Some (line, fault)) e.sink_old e.sink_new) e.source_old
+          e.source_new (g.bytes ++ g.piece) g.consumed
+          (λ rest. let more = lines_more (g.bytes ++ g.piece) rest in
+          subst (λ (l : List Line). Handed q l (Some (line, fault)) e.sink_old e.sink_new)
+          (ap (λ l. l ++ more.0) (sym all_documents) ∙ sym more.1)
+          (handed_stopped q (first_lines ++ all) more.0 (line, fault) e.sink_old e.sink_new
+          (handed_both q first_lines all (Some (line, fault)) e.sink_old u e.sink_new g.handed h))),
+      g.bytes ++ g.piece,
+      g.consumed,
+      not_whole g.bytes (g.bytes ++ g.piece) e.last line fault all
+          (finished_lines (fed nothing_fed (g.bytes ++ g.piece))) last_cut all_lines_are
+          (first_fault_of all line fault u e.sink_new h),
+    )
+
+    pub batch_ended : (f : RunFault) → AnswerEnded q all e.sink_failed u e.sink_new f
+        → StreamEnded q batch e f
+    batch_ended (Document line fault) h = batch_stopped line fault h
+    batch_ended Write h = (h.0, batch_front h.1)
+    batch_ended Memory h = batch_front h
+    batch_ended (Query fault) h = absurd h
+    batch_ended Read h = absurd h
+    batch_ended Limit h = absurd h
+    batch_ended Settings h = absurd h
+
+  -- the rest of an input that was read to its end
+  module _ (a c s u v : Option (List ℕ)) (p : Progress) (kept : List Line) (answered : ℕ)
+      (st : Stands q batch a c s u p kept answered) (end : IsAtEnd c) where
+    first_batches : List Line
+    first_batches = whole_batches batch (documents_in st.bytes)
+
+    lines_are : lines st.bytes ≡ first_batches ++ (kept ++ finished_lines p)
+    unfolding first_batches
+    lines_are =
+        let all : List Line = documents_in st.bytes in
+        let fin : List Line = finished_lines (fed nothing_fed st.bytes) in
+        lines_whole st.bytes ∙ ap (λ l. l ++ fin) (sym (take-append-drop (in_batches batch all) all))
+        ∙ append_assoc (whole_batches batch all) (left_over batch all) fin
+        ∙ sym (ap (λ l. whole_batches batch all ++ (l ++ fin)) st.left)
+        ∙ sym (ap (λ (p : Progress). whole_batches batch all ++ (kept ++ finished_lines p)) st.progress)
+
+    rest_front : HandedFront q (kept ++ finished_lines p) u v
+        → IfSome a (λ input. HandedFront q (lines input) s v)
+    unfolding first_batches
+    rest_front h = known_all (λ input. HandedFront q (lines input) s v) a c st.bytes st.consumed end
+        (subst (λ (l : List Line). HandedFront q l s v) (sym lines_are)
+        (front_after q first_batches (kept ++ finished_lines p) s u v st.handed h))
+
+    pub rest_handed : (stop : Option (ℕ × DocFault)) → Handed q (kept ++ finished_lines p) stop u v
+        → IfSome a (λ input. Handed q (lines input) stop s v)
+    unfolding first_batches
+    rest_handed stop h = known_all (λ input. Handed q (lines input) stop s v) a c st.bytes st.consumed end
+        (subst (λ (l : List Line). Handed q l stop s v) (sym lines_are)
+        (handed_both q first_batches (kept ++ finished_lines p) stop s u v st.handed h))
+
+    pub rest_counts : (all documents : ℕ) → all ≡ (finished p).count
+        → documents ≡ answered + length (kept ++ finished_lines p)
+        → IfSome a (λ input. (all ≡ line_count input) × (documents ≡ length (lines input)))
+    unfolding first_batches
+    rest_counts all documents e f = known_all
+        (λ input. (all ≡ line_count input) × (documents ≡ length (lines input))) a c st.bytes st.consumed
+        end (
+          e ∙ ap (λ (p : Progress). (finished p).count) st.progress ∙ count_whole st.bytes,
+          omega (
+            arith,
+            f,
+            st.counted,
+            ap length lines_are,
+            length-append first_batches (kept ++ finished_lines p),
+            length-take-le (in_batches batch (documents_in st.bytes)) (documents_in st.bytes)
+                (batches_fit batch (documents_in st.bytes)),
+          ),
+        )
+
+    pub rest_ok : {T E : Type 0} (r : Result T E) → OnOk r (Handed q (kept ++ finished_lines p) None u v)
+        → OnOk r (IfSome a (λ input. Handed q (lines input) None s v))
+    rest_ok (Ok x) h = rest_handed None h
+    rest_ok (Err f) h = tt
+
+    pub totals_ok : {E : Type 0} (r : Result Totals E)
+        → IfOk r (λ t. t.lines ≡ (finished p).count)
+        → IfOk r (λ t. t.documents ≡ answered + length (kept ++ finished_lines p))
+        → IfOk r (λ t. IfSome a (λ input. (t.lines ≡ line_count input)
+        × (t.documents ≡ length (lines input))))
+    totals_ok (Ok t) h k = rest_counts t.lines t.documents h k
+    totals_ok (Err f) h k = tt
+
+    rest_stopped : (line : ℕ) (fault : DocFault)
+        → Handed q (kept ++ finished_lines p) (Some (line, fault)) u v
+        → WasNotWhole batch line st.bytes 0
+    unfolding first_batches
+    rest_stopped line fault h = not_whole st.bytes st.bytes 0 line fault (kept ++ finished_lines p) []
+        (ap (λ n. take n st.bytes) {x = length st.bytes - 0} {y = length st.bytes} (omega arith)
+        ∙ take-length st.bytes)
+        (lines_are ∙ sym (ap (λ l. first_batches ++ l) (append-nil (kept ++ finished_lines p))))
+        (first_fault_of (kept ++ finished_lines p) line fault u v h)
+
+  pub rest_ended : (e : Ends) (u : Option (List ℕ)) (p : Progress) (kept : List Line) (answered : ℕ)
+      (f : RunFault) → Stands q batch e.source_old e.source_new e.sink_old u p kept answered
+      → IsAtEnd e.source_new → e.last ≡ 0
+      → RestEnded q (kept ++ finished_lines p) (finished p).count e.sink_failed u e.sink_new f
+      → StreamEnded q batch e f
+  rest_ended e u p kept answered (Document line fault) st end none h = (
+    rest_handed e.source_old e.source_new e.sink_old u e.sink_new p kept answered st end
+        (Some (line, fault)) h,
+    st.bytes,
+    st.consumed,
+    subst (WasNotWhole batch line st.bytes) (sym none) (rest_stopped e.source_old e.source_new e.sink_old u
+        e.sink_new p kept answered st end line fault h),
+  )
+  rest_ended e u p kept answered Write st end none h =
+      (h.0, rest_front e.source_old e.source_new e.sink_old u e.sink_new p kept answered st end h.1)
+  rest_ended e u p kept answered Limit st end none h = (
+    inr (
+      st.bytes,
+      st.consumed,
+      omega (arith, h.0, ap (λ (p : Progress). (finished p).count) st.progress, count_whole st.bytes),
+    ),
+    rest_front e.source_old e.source_new e.sink_old u e.sink_new p kept answered st end h.1,
+  )
+  rest_ended e u p kept answered Memory st end none h = rest_front e.source_old e.source_new e.sink_old u
+      e.sink_new p kept answered st end h
+  rest_ended e u p kept answered (Query fault) st end none h = absurd h
+  rest_ended e u p kept answered Read st end none h = absurd h
+  rest_ended e u p kept answered Settings st end none h = absurd h

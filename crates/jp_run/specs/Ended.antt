@@ -1,0 +1,93 @@
+-- What stands after each fault, of the parts of a run.
+use Rattle.std.specs.Prelude.{◌≡◌, ℕ, ◌+◌, ◌<◌, ◌⊎◌, Bool, true, List, Option, Some, None, IfSome}
+use Rattle.std.specs.Io.KnownBytes.{Appends, Consumes, Keeps}
+use Rattle.jp_doc.specs.Lines.{Line, lines, line_count}
+use Rattle.jp_doc.specs.Feeding.{Progress, fed}
+use Rattle.jp_syntax.specs.Tree as tree
+use Rattle.jp_answer.specs.Answer.{Answer}
+use Rattle.jp_answer.specs.declared.fault.RunFault.{RunFault}
+use Rattle.jp_answer.specs.declared.fault.RunFault.TheVariants.{Query, Document, Read, Write, Limit}
+use Rattle.jp_answer.specs.declared.fault.RunFault.TheVariants.{Memory, Settings}
+use Rattle.jp_run.specs.Batches.{documents_in, whole_batches, WasNotWhole}
+use Rattle.jp_run.specs.Handed.{Handed, HandedFront}
+use Rattle.jp_run.specs.Limits.{max_reads, max_lines}
+use Rattle.jp_run.specs.Written.{AppendsFront}
+
+-- a read from a source that handed its bytes on to lines that had come so far
+abbrev pub ReadEnded : Progress → Bool → Option (List ℕ) → Option (List ℕ) → RunFault → Type 0
+ReadEnded p failed old new Read = (failed ≡ true) × Keeps old new
+ReadEnded p failed old new Limit = (piece : List ℕ) × Consumes old new piece
+    × (max_lines < (fed p piece).count)
+ReadEnded p failed old new Memory = Unit {0}
+ReadEnded p failed old new (Query fault) = ⊥
+ReadEnded p failed old new (Document line fault) = ⊥
+ReadEnded p failed old new Write = ⊥
+ReadEnded p failed old new Settings = ⊥
+
+-- the last line, where there were so many in all
+abbrev pub LastEnded : ℕ → RunFault → Type 0
+LastEnded count Limit = max_lines < count
+LastEnded count Memory = Unit {0}
+LastEnded count Read = ⊥
+LastEnded count (Query fault) = ⊥
+LastEnded count (Document line fault) = ⊥
+LastEnded count Write = ⊥
+LastEnded count Settings = ⊥
+
+-- an answer that was handed to a sink
+abbrev pub HandingEnded : Answer → Bool → Option (List ℕ) → Option (List ℕ) → RunFault → Type 0
+HandingEnded a failed old new (Document line fault) = (a.stopped ≡ Some (line, fault))
+    × Appends old new a.bytes
+HandingEnded a failed old new Write = (failed ≡ true) × AppendsFront old new a.bytes
+HandingEnded a failed old new (Query fault) = ⊥
+HandingEnded a failed old new Read = ⊥
+HandingEnded a failed old new Limit = ⊥
+HandingEnded a failed old new Memory = ⊥
+HandingEnded a failed old new Settings = ⊥
+
+-- the answer to lines, handed to a sink
+abbrev pub AnswerEnded : tree.Query → List Line → Bool → Option (List ℕ) → Option (List ℕ) → RunFault → Type 0
+AnswerEnded q ls failed old new (Document line fault) = Handed q ls (Some (line, fault)) old new
+AnswerEnded q ls failed old new Write = (failed ≡ true) × HandedFront q ls old new
+AnswerEnded q ls failed old new Memory = HandedFront q ls old new
+AnswerEnded q ls failed old new (Query fault) = ⊥
+AnswerEnded q ls failed old new Read = ⊥
+AnswerEnded q ls failed old new Limit = ⊥
+AnswerEnded q ls failed old new Settings = ⊥
+
+-- the same, where there were so many lines in all
+abbrev pub RestEnded : tree.Query → List Line → ℕ → Bool → Option (List ℕ) → Option (List ℕ) → RunFault
+    → Type 0
+RestEnded q ls count failed old new Limit = (max_lines < count) × HandedFront q ls old new
+RestEnded q ls count failed old new fault = AnswerEnded q ls failed old new fault
+
+-- where a source and a sink stood before a run and after it
+pub record Ends : Type 0 where
+  pub source_old : Option (List ℕ)
+  pub source_new : Option (List ℕ)
+  pub reads_old : ℕ
+  pub reads_new : ℕ
+  pub last : ℕ
+  pub source_failed : Bool
+  pub sink_old : Option (List ℕ)
+  pub sink_new : Option (List ℕ)
+  pub sink_failed : Bool
+
+-- a front of the answer to the whole input was appended
+abbrev pub InputFront : tree.Query → Ends → Type 0
+InputFront q e = IfSome e.source_old (λ input. HandedFront q (lines input) e.sink_old e.sink_new)
+
+-- a run with batches of this size
+abbrev pub StreamEnded : tree.Query → ℕ → Ends → RunFault → Type 0
+StreamEnded q batch e (Document line fault) =
+    IfSome e.source_old (λ input. Handed q (lines input) (Some (line, fault)) e.sink_old e.sink_new)
+    × (bytes : List ℕ) × Consumes e.source_old e.source_new bytes × WasNotWhole batch line bytes e.last
+StreamEnded q batch e Read = (e.source_failed ≡ true) × (bytes : List ℕ)
+    × Consumes e.source_old e.source_new bytes
+    × Handed q (whole_batches batch (documents_in bytes)) None e.sink_old e.sink_new
+StreamEnded q batch e Write = (e.sink_failed ≡ true) × InputFront q e
+StreamEnded q batch e Limit = ((e.reads_new ≡ e.reads_old + max_reads) ⊎ ((bytes : List ℕ)
+    × Consumes e.source_old e.source_new bytes × (max_lines < line_count bytes))) × InputFront q e
+StreamEnded q batch e Memory = InputFront q e
+StreamEnded q batch e (Query fault) = ⊥
+StreamEnded q batch e Settings = ⊥

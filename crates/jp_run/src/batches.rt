@@ -1,0 +1,147 @@
+//! Lines that are answered in batches, each handed to the sink before the next begins.
+
+ghost use Rattle.std.specs.Prelude.{◌≡◌, ◌+◌, ◌≤◌, ◌++◌, false, true, None, map, length, vec_len, IfOk, OnOk};
+ghost use Rattle.std.specs.Prelude.{IfErr};
+ghost use Rattle.jp_doc.specs.Feeding.{finished, finished_lines};
+ghost use Rattle.jp_doc.specs.Lines.{line_of};
+ghost use Rattle.jp_check.specs.Plan.{planned_query};
+ghost use Rattle.jp_run.specs.Batches.{in_batches, whole_batches, left_over};
+ghost use Rattle.jp_run.specs.Ended.{AnswerEnded, RestEnded};
+ghost use Rattle.jp_run.specs.Handed.{Handed};
+ghost use Rattle.jp_run.specs.Limits.{max_lines};
+
+use crate::ends::Sink;
+use crate::gathering::{Pending, take_last};
+use crate::running::Totals;
+use crate::writing::{hand_out, pass_on};
+use jp_answer::{Gate, RunFault, Settings, answer};
+use jp_check::Plan;
+use jp_doc::Line;
+use std::alloc::Global;
+use std::thread::Threads;
+
+/// Answers the lines of the whole batches that have come, and takes them away.
+pub(crate) fn answer_batches<R: Threads + Sync, K: Sink, G: Gate + Sync>(
+    rt: &R,
+    alloc: Global,
+    plan: &Plan,
+    settings: Settings,
+    gate: &G,
+    pending: &mut Pending,
+    sink: &mut K,
+) -> Result<(), RunFault>
+    requires working { K.failed sink.old ≡ false }
+    requires few { pending.old.answered + vec_len pending.old.lines ≤ 4294967296 }
+    ensures handed { OnOk result (Handed (planned_query plan.now)
+        (whole_batches settings.batch (map line_of pending.old.lines.items)) None
+        (K.contents sink.old) (K.contents sink.new)) }
+    ensures left { OnOk result (map line_of pending.new.lines.items
+        ≡ left_over settings.batch (map line_of pending.old.lines.items)) }
+    ensures answered { OnOk result (pending.new.answered
+        ≡ pending.old.answered + in_batches settings.batch (map line_of pending.old.lines.items)) }
+    ensures progress { OnOk result (pending.new.progress ≡ pending.old.progress) }
+    ensures working { OnOk result (K.failed sink.new ≡ false) }
+    ensures fault { IfErr result (AnswerEnded (planned_query plan.now) (map line_of pending.old.lines.items)
+        (K.failed sink.new) (K.contents sink.old) (K.contents sink.new)) }
+{
+    let count = answer_whole(rt, alloc, plan, settings, gate, &pending.lines, sink)?;
+    pending.answered += count as u64;
+    pending.lines.drain(..count);
+    Ok(())
+}
+
+/// Answers the last line too, and what is left, and passes all on.
+pub(crate) fn answer_rest<R: Threads + Sync, K: Sink, G: Gate + Sync>(
+    rt: &R,
+    alloc: Global,
+    plan: &Plan,
+    settings: Settings,
+    gate: &G,
+    pending: &mut Pending,
+    sink: &mut K,
+) -> Result<Totals, RunFault>
+    requires working { K.failed sink.old ≡ false }
+    requires few_lines { pending.old.progress.count ≤ max_lines }
+    requires few { pending.old.answered + vec_len pending.old.lines ≤ 4294967295 }
+    ensures handed { OnOk result (Handed (planned_query plan.now)
+        (map line_of pending.old.lines.items ++ finished_lines pending.old.progress) None
+        (K.contents sink.old) (K.contents sink.new)) }
+    ensures lines { IfOk result (λ totals. totals.lines ≡ (finished pending.old.progress).count) }
+    ensures documents { IfOk result (λ totals. totals.documents ≡ pending.old.answered
+        + length (map line_of pending.old.lines.items ++ finished_lines pending.old.progress)) }
+    ensures few_lines { IfOk result (λ totals. totals.lines ≤ max_lines) }
+    ensures flushed { OnOk result (K.flushed sink.new ≡ true) }
+    ensures working { OnOk result (K.failed sink.new ≡ false) }
+    ensures fault { IfErr result (RestEnded (planned_query plan.now)
+        (map line_of pending.old.lines.items ++ finished_lines pending.old.progress)
+        (finished pending.old.progress).count
+        (K.failed sink.new) (K.contents sink.old) (K.contents sink.new)) }
+{
+    let lines = take_last(pending)?;
+    answer_lines(rt, alloc, plan, settings, gate, &pending.lines, sink)?;
+    pass_on(sink)?;
+    Ok(Totals {
+        lines,
+        documents: pending.answered + pending.lines.len() as u64,
+    })
+}
+
+/// Answers one batch after another, up to the last whole one, and gives how many lines these were.
+fn answer_whole<R: Threads + Sync, K: Sink, G: Gate + Sync>(
+    rt: &R,
+    alloc: Global,
+    plan: &Plan,
+    settings: Settings,
+    gate: &G,
+    lines: &[Line],
+    sink: &mut K,
+) -> Result<usize, RunFault>
+    requires working { K.failed sink.old ≡ false }
+    ensures count { IfOk result (λ n. n ≡ in_batches settings.batch (map line_of lines.now)) }
+    ensures bound { IfOk result (λ n. n ≤ length lines.now) }
+    ensures handed { OnOk result (Handed (planned_query plan.now)
+        (whole_batches settings.batch (map line_of lines.now)) None
+        (K.contents sink.old) (K.contents sink.new)) }
+    ensures working { OnOk result (K.failed sink.new ≡ false) }
+    ensures fault { IfErr result (AnswerEnded (planned_query plan.now) (map line_of lines.now)
+        (K.failed sink.new) (K.contents sink.old) (K.contents sink.new)) }
+{
+    let batch = settings.batch as usize;
+    let mut rest = lines;
+    while rest.len() >= batch {
+        let (front, left) = rest.split_at(batch);
+        answer_lines(rt, alloc, plan, settings, gate, front, sink)?;
+        rest = left;
+    }
+    Ok(lines.len() - rest.len())
+}
+
+/// Answers some lines, and hands the answer to the sink.
+fn answer_lines<R: Threads + Sync, K: Sink, G: Gate + Sync>(
+    rt: &R,
+    alloc: Global,
+    plan: &Plan,
+    settings: Settings,
+    gate: &G,
+    lines: &[Line],
+    sink: &mut K,
+) -> Result<(), RunFault>
+    requires working { K.failed sink.old ≡ false }
+    requires few { length lines.now ≤ 4294967296 }
+    ensures handed { OnOk result (Handed (planned_query plan.now) (map line_of lines.now) None
+        (K.contents sink.old) (K.contents sink.new)) }
+    ensures working { OnOk result (K.failed sink.new ≡ false) }
+    ensures fault { IfErr result (AnswerEnded (planned_query plan.now) (map line_of lines.now)
+        (K.failed sink.new) (K.contents sink.old) (K.contents sink.new)) }
+{
+    let answer = answer(
+        rt,
+        alloc,
+        plan,
+        lines,
+        settings.workers,
+        settings.piece,
+        gate,
+    )?;
+    hand_out(sink, &answer)
+}

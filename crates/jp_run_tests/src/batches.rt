@@ -1,0 +1,180 @@
+//! Runs in batches of several sizes: the same bytes, when they are written, and when the reads stop.
+
+ghost use Rattle.std.specs.Prelude.{◌≡◌, ◌^◌, ◌≤◌, false};
+
+use crate::fakes::{Holds, OneByte};
+use crate::gates::{Entered, Pair};
+use crate::thousand::{items_of_thousand, thousand};
+use jp_doc::DocFault;
+use jp_run::{FromReader, Gate, OpenGate, RunFault, Settings, Sink, Source, Totals};
+use std::alloc::Global;
+use std::test::Fail;
+use std::thread::Threads;
+
+/// More bytes than any of these runs writes.
+const ROOM: usize = 1_000_000;
+
+/// Two documents, with a blank line between them.
+const TWO: &[u8] = b"{\"a\":1}\n\n{\"a\":null}\n";
+
+/// Their members with the name `a`.
+const TWO_LINES: &[u8] = b"1\t$['a']\t1\n3\t$['a']\tnull\n";
+
+/// A run with so many workers, pieces of that size, and batches of that size.
+fn run<R: Threads + Sync, S: Source, K: Sink, G: Gate + Sync>(
+    rt: &R,
+    alloc: Global,
+    source: &mut S,
+    sink: &mut K,
+    query: &str,
+    cut: (u64, u64, u64),
+    gate: &G,
+) -> Result<Totals, RunFault>
+    requires working { (S.failed source.old ≡ false) × (K.failed sink.old ≡ false) }
+    requires few { (S.reads source.old ≤ 2 ^ 62) × (S.given source.old ≤ 2 ^ 62) }
+{
+    let settings = Settings::new(cut.0, cut.1, cut.2)?;
+    jp_run::run(rt, alloc, source, sink, query, &settings, gate)
+}
+
+/// A run over bytes that come one by one, of which one call fails. Gives its end, what it wrote, and how
+/// often it read.
+fn byte_by_byte<R: Threads + Sync>(
+    rt: &R,
+    alloc: Global,
+    query: &str,
+    input: &[u8],
+    batch: u64,
+    fails_at: u64,
+) -> (Result<Totals, RunFault>, Vec<u8>, u64) {
+    let mut source = OneByte::new(input, fails_at);
+    let mut sink = Holds::new(Vec::new(alloc), 3, ROOM);
+    let end = run(
+        rt,
+        alloc,
+        &mut source,
+        &mut sink,
+        query,
+        (2, 1, batch),
+        &OpenGate,
+    );
+    (end, sink.bytes, source.reads())
+}
+
+#[test]
+fn the_same_for_all_batches(rt: HostRuntime) {
+    for batch in [1u64, 2, 10, 1_000, 4_096] {
+        let (end, bytes, reads) = byte_by_byte(&rt, rt.alloc(), "$.a", TWO, batch, 0);
+        let totals = Totals {
+            lines: 3,
+            documents: 2,
+        };
+        assert!(rt; matches!(end, Ok(found) if found == totals));
+        assert_eq!(rt; bytes.as_slice(), TWO_LINES);
+        assert_eq!(rt; reads, 21);
+    }
+}
+
+#[test]
+fn a_failing_read_leaves_whole_batches(rt: HostRuntime) {
+    for call in 1..=21u64 {
+        let written = match call {
+            ..=8 => 0,
+            9..=20 => 11,
+            _ => 25,
+        };
+        let (end, bytes, reads) = byte_by_byte(&rt, rt.alloc(), "$.a", TWO, 1, call);
+        assert!(rt; matches!(end, Err(RunFault::Read)));
+        let (front, _) = TWO_LINES.split_at(written);
+        assert_eq!(rt; bytes.as_slice(), front);
+        assert_eq!(rt; reads, call);
+        let (end, bytes, reads) = byte_by_byte(&rt, rt.alloc(), "$.a", TWO, 10, call);
+        assert!(rt; matches!(end, Err(RunFault::Read)));
+        assert!(rt; bytes.is_empty());
+        assert_eq!(rt; reads, call);
+    }
+}
+
+#[test]
+fn no_read_follows_the_faulty_batch(rt: HostRuntime) {
+    for (batch, wanted) in [(1u64, 2u64), (2, 5), (3, 6)] {
+        let (end, bytes, reads) = byte_by_byte(&rt, rt.alloc(), "$", b"{\n[]\n", batch, 0);
+        assert!(rt;
+            matches!(
+                end,
+                Err(RunFault::Document {
+                    line: 1,
+                    fault: DocFault::Unreadable
+                })
+            )
+        );
+        assert!(rt; bytes.is_empty());
+        assert_eq!(rt; reads, wanted);
+    }
+}
+
+#[test]
+fn a_full_sink_keeps_a_front(rt: HostRuntime) {
+    for batch in [1u64, 10] {
+        let mut source = FromReader::new(TWO);
+        let mut sink = Holds::new(Vec::new(rt.alloc()), ROOM, 5);
+        let end = run(
+            &rt,
+            rt.alloc(),
+            &mut source,
+            &mut sink,
+            "$.a",
+            (1, 1, batch),
+            &OpenGate,
+        );
+        assert!(rt; matches!(end, Err(RunFault::Write)));
+        assert_eq!(rt; sink.bytes.as_slice(), b"1\t$['".as_slice());
+    }
+}
+
+#[test]
+fn two_workers_at_once_in_a_batch(rt: HostRuntime) {
+    let gate = Pair(Entered::new());
+    let mut source = FromReader::new(b"[]\n{}\n".as_slice());
+    let mut sink = Holds::new(Vec::new(rt.alloc()), ROOM, ROOM);
+    let end = run(
+        &rt,
+        rt.alloc(),
+        &mut source,
+        &mut sink,
+        "$",
+        (2, 1, 2),
+        &gate,
+    );
+    assert!(rt; end.is_ok());
+    assert_eq!(rt; sink.bytes.as_slice(), b"1\t$\t[]\n2\t$\t{}\n".as_slice());
+    assert_eq!(rt; gate.0.failures(), 0);
+    assert_eq!(rt; gate.0.seen(), [true, true, false]);
+}
+
+#[test]
+fn a_thousand_lines_however_cut(rt: HostRuntime) -> Result<(), Fail> {
+    let text = thousand(rt.alloc())?;
+    let lines = items_of_thousand(rt.alloc())?;
+    for workers in [1u64, 2, 64] {
+        for piece in [1u64, 7] {
+            for batch in [10u64, 1_000] {
+                let mut source = FromReader::new(text.as_bytes());
+                let mut sink = Holds::new(Vec::new(rt.alloc()), ROOM, ROOM);
+                let cut = (workers, piece, batch);
+                let end = run(
+                    &rt,
+                    rt.alloc(),
+                    &mut source,
+                    &mut sink,
+                    "$[*]",
+                    cut,
+                    &OpenGate,
+                );
+                assert!(rt; end.is_ok());
+                assert!(rt; sink.bytes.as_slice() == lines.as_bytes());
+            }
+        }
+    }
+    Ok(())
+}
