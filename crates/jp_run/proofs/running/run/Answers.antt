@@ -1,5 +1,6 @@
 use Rattle.std.proofs.Common.{refl}
-use Rattle.jp_answer.specs.declared.fault.RunFault.TheVariants.{Document}
+use Rattle.jp_check.specs.Plan.{planned_query}
+use Rattle.jp_answer.specs.declared.fault.RunFault.TheVariants.{Document, Read, Limit}
 use Rattle.jp_run.proofs.Runs.{not_both, refused_so, at_fault, accepted_ok, answer_known, answer_ok}
 use Rattle.jp_run.proofs.Runs.{front_err}
 use Rattle.jp_run.proofs.running.run.Goals as goal
@@ -7,6 +8,12 @@ use Rattle.jp_run.proofs.running.run.Goals as goal
 pub returns-in_err-plan-clause-refused : goal.returns-in_err-plan-clause-refused
 returns-in_err-plan-clause-refused g c =
     λ f v. (refused_so _ f _ _ c.from_residual.ensures.1 c.in_err-plan.ensures.fault v, refl, refl)
+
+pub stream-requires-clause-working : goal.stream-requires-clause-working
+stream-requires-clause-working g c = λ κs outlives. c.requires.working
+
+pub stream-requires-clause-few : goal.stream-requires-clause-few
+stream-requires-clause-few g c = λ κs outlives. c.requires.few.0
 
 pub returns-clause-accepted : goal.returns-clause-accepted
 returns-clause-accepted g c = accepted_ok _ _ c.in_ok-plan.ensures.ok _
@@ -17,10 +24,28 @@ returns-clause-refused g c = λ f v. not_both _ _ f c.in_ok-plan.ensures.ok v
 pub returns-clause-answer : goal.returns-clause-answer
 returns-clause-answer g c = answer_ok _ _ c.in_ok-plan.ensures.ok _ _ _ _ c.stream.ensures.handed
 
+pub returns-clause-counts : goal.returns-clause-counts
+returns-clause-counts g c = c.stream.ensures.counts
+
 pub returns-clause-document : goal.returns-clause-document
 returns-clause-document g c = λ line fault e. answer_known _ _ c.in_ok-plan.ensures.ok _ _ _ _
     (at_fault _ (Document line fault) _ e c.stream.ensures.fault).0
 
+pub returns-clause-no_later_read : goal.returns-clause-no_later_read
+returns-clause-no_later_read g c = λ line fault e.
+    let h = at_fault c.stream.result (Document line fault) _ e c.stream.ensures.fault in (h.1, h.2, h.3)
+
+pub returns-clause-read : goal.returns-clause-read
+returns-clause-read g c = λ e.
+    let h = at_fault c.stream.result Read _ e c.stream.ensures.fault in
+    (h.0, h.1, h.2, (planned_query c.in_ok-plan.plan, c.in_ok-plan.ensures.ok, h.3))
+
+pub returns-clause-limit : goal.returns-clause-limit
+returns-clause-limit g c = λ e. (at_fault c.stream.result Limit _ e c.stream.ensures.fault).0
+
 pub returns-clause-front : goal.returns-clause-front
 returns-clause-front g c = front_err _ _ c.in_ok-plan.ensures.ok c.stream.result _
     c.args.settings.now.in_range.2.0 _ c.stream.ensures.fault
+
+pub returns-clause-few : goal.returns-clause-few
+returns-clause-few g c = c.stream.ensures.few
