@@ -50,11 +50,7 @@ impl<'p> Evaluator<'p> {
     /// # Errors
     ///
     /// [`EvalFault::Memory`] where a growth of memory was refused. Further documents may be visited then.
-    pub fn visit<V: Visit + Drop>(
-        &mut self,
-        document: &Document,
-        taker: V,
-    ) -> Result<V, EvalFault>
+    pub fn visit<V: Visit + Drop>(&mut self, document: &Document, taker: V) -> Result<V, EvalFault>
         ensures nodes { IfOk result (λ t. (tests : Tests) → AreRight tests →
             V.kept t ≡ fold V.put (V.kept taker)
             (document_nodes tests (evaluated_query self.old) (document_value document.now))) }
