@@ -17,8 +17,8 @@ use serde_json::{Map, Number, Value};
 use std::alloc::{AllocError, Global};
 use std::mem;
 
-/// Appends the compact text of a value whose numbers are whole, with no allocation but the growth of `out` and
-/// of the room.
+/// Appends the compact text of a value whose numbers are whole, with no allocation but the growth of `out`
+/// and of the room.
 ///
 /// Texts, arrays and objects are made in the room: the JSON crate's writer, which they go through, clears as
 /// many bytes as it is given, so it is not given `out`.

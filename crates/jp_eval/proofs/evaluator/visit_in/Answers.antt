@@ -21,7 +21,8 @@ returns-in-Some g c =
     let at_root = c.in_ok-ground.ensures.root ∙ c.root_of-root.ensures in
     let nodes =
     from_root (base_of ground) ready.segments c.as_slice-2.result.now c.root_of-root.result
-    c.with_room-path.result c.as_slice-2.ensures.value c.with_room-path.ensures (sym c.in_ok-ground.ensures.root)
+    c.with_room-path.result c.as_slice-2.ensures.value c.with_room-path.ensures
+    (sym c.in_ok-ground.ensures.root)
     ∙ ap₂ (λ v rs. root_nodes v (segments_in (roots_of rs) ready.segments.items)) at_root
     (c.in_ok-ground.ensures.roots ∙ c.as_slice.ensures.value)
     ∙ started ready.start (segments_in (roots_of ready.roots.items) ready.segments.items) value
