@@ -4,6 +4,7 @@ ghost use Rattle.std.specs.Prelude.{◌≡◌, ◌++◌, IfOk, map};
 ghost use Rattle.jp_doc.specs.Document.{document_value};
 ghost use Rattle.jp_doc.specs.Lines.{line_of};
 ghost use Rattle.jp_check.specs.Plan.{planned_query};
+ghost use Rattle.jp_eval.specs.Evaluated.{evaluated_query};
 ghost use Rattle.jp_regexp.specs.Tests.{Tests, AreRight};
 ghost use Rattle.jp_answer.specs.Answer.{answer, document_lines};
 ghost use Rattle.jp_answer.specs.Answered.{answer_of};
@@ -12,7 +13,7 @@ ghost use Rattle.jp_answer.specs.Faults.{first_fault};
 use crate::outcome::{Answer, DocStop};
 use jp_check::Plan;
 use jp_doc::{DocFault, Document, Line};
-use jp_eval::visit_nodes;
+use jp_eval::Evaluator;
 use jp_path::NodeLines;
 use std::alloc::{AllocError, Global};
 
@@ -24,10 +25,11 @@ pub(crate) fn answer_lines(alloc: Global, plan: &Plan, lines: &[Line]) -> Result
         answer t (planned_query plan.now) (map line_of lines.now) ≡ answer_of a) }
     ensures stopped { IfOk result (λ a. first_fault (map line_of lines.now) ≡ (answer_of a).stopped) }
 {
+    let mut evaluator = Evaluator::new(alloc, plan);
     let mut written = NodeLines::new(alloc);
     for line in lines {
         match Document::read(alloc, &line.bytes) {
-            Ok(document) => written = with_nodes(alloc, plan, line.number, &document, written)?,
+            Ok(document) => written = with_nodes(&mut evaluator, line.number, &document, written)?,
             Err(DocFault::Memory) => return Err(AllocError),
             Err(fault) => {
                 let stop = DocStop {
@@ -49,18 +51,18 @@ pub(crate) fn answer_lines(alloc: Global, plan: &Plan, lines: &[Line]) -> Result
 
 /// The lines so far, and those of the nodes that the query selects in a document.
 fn with_nodes(
-    alloc: Global,
-    plan: &Plan,
+    evaluator: &mut Evaluator<'_>,
     number: u64,
     document: &Document,
     written: NodeLines,
 ) -> Result<NodeLines, AllocError>
-    ensures { IfOk result (λ w. (t : Tests) → AreRight t →
-        w.1 ≡ written.1 ++ document_lines t (planned_query plan.now) number (document_value document.now)) }
+    ensures lines { IfOk result (λ w. (t : Tests) → AreRight t → w.1 ≡ written.1
+        ++ document_lines t (evaluated_query evaluator.old) number (document_value document.now)) }
+    ensures query { evaluated_query evaluator.new ≡ evaluated_query evaluator.old }
 {
     let mut taker = written;
     taker.begin(number);
-    let Ok(written) = visit_nodes(alloc, plan, document, taker) else {
+    let Ok(written) = evaluator.visit(document, taker) else {
         return Err(AllocError);
     };
     Ok(written)

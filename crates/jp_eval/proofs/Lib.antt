@@ -12,6 +12,7 @@ pub mod Keeping
 pub mod Chains
 pub mod SlicePlaces
 pub mod Answering
+pub mod Idle
 pub mod WalkSteps
 pub mod Lengths
 pub mod Parts

@@ -4,7 +4,7 @@ use Rattle.std.specs.List.{All}
 use Rattle.serde_json.specs.Data.{items_depth, members_depth}
 use Rattle.serde_json.specs.View.{items_view, members_view}
 use Rattle.jp_doc.specs.DocumentValue.{IsDocumentValue}
-use Rattle.jp_doc.specs.Json.{items_of, members_of}
+use Rattle.jp_doc.specs.Json.{Json, array, object, items_of, members_of}
 use Rattle.jp_doc.specs.Location.{Location, Node}
 use Rattle.jp_eval.specs.Nodes.{item_nodes, member_nodes}
 use Rattle.jp_eval.specs.declared.part.Inside.{Inside}
@@ -26,3 +26,9 @@ abbrev pub IsLessDeep : ℕ → Inside → Type 0
 IsLessDeep n (Items v) = items_depth (items_view v.now.items) < n
 IsLessDeep n (Members m) = members_depth (members_view m.now.entries) < n
 IsLessDeep n Nothing = Unit {0}
+
+-- a value that has nothing inside by its kind
+abbrev pub IsScalar : Json → Type 0
+IsScalar (array vs) = ⊥
+IsScalar (object ms) = ⊥
+IsScalar _ = Unit {0}

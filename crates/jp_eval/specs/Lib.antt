@@ -17,3 +17,4 @@ pub mod Texts
 pub mod Answers
 pub mod Base
 pub mod Walk
+pub mod Evaluated

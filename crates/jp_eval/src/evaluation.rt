@@ -9,15 +9,11 @@ ghost use Rattle.jp_check.specs.Plan.{planned_query};
 ghost use Rattle.jp_eval.specs.Nodelist.{document_nodes};
 ghost use Rattle.jp_eval.specs.declared.evaluation.EvalFault.TheVariants.{Memory};
 
-use crate::found::{Found, into_taker};
+use crate::evaluator::Evaluator;
 use crate::locations::Locations;
-use crate::part::Part;
-use crate::roots::answer_all;
 use crate::visit::Visit;
-use crate::walk::run;
 use jp_check::Plan;
 use jp_doc::{Document, Location};
-use jp_trail::Trail;
 use std::alloc::{AllocError, Global};
 use thiserror::Error;
 
@@ -54,22 +50,7 @@ pub fn visit_nodes<V: Visit + Drop>(
         V.kept t ≡ fold V.put (V.kept taker)
         (document_nodes tests (planned_query plan.now) (document_value document.now))) }
 {
-    let root = Part::root_of(document);
-    let ready = plan.ready();
-    let ground = answer_all::<V>(alloc, root, ready.roots.as_slice())?;
-    let mut path = Trail::new(alloc);
-    let mut found = Found::Taker(taker);
-    run(
-        &ground,
-        ready.segments.as_slice(),
-        root,
-        &mut path,
-        &mut found,
-    )?;
-    match into_taker(found) {
-        Some(taker) => Ok(taker),
-        None => Err(EvalFault::Memory),
-    }
+    Evaluator::new(alloc, plan).visit(document, taker)
 }
 
 /// The locations of the nodes that a query selects in a document, in the order of its nodelist (RFC 9535,

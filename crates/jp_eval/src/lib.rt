@@ -3,6 +3,7 @@
 
 mod compare;
 mod evaluation;
+mod evaluator;
 mod examples;
 mod found;
 mod functions;
@@ -18,5 +19,6 @@ mod walk;
 
 pub use compare::{Operand, equal, less};
 pub use evaluation::{EvalFault, evaluate, visit_nodes};
+pub use evaluator::Evaluator;
 pub use slice::{Bounds, slice_bounds};
 pub use visit::Visit;

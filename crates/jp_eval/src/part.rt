@@ -1,6 +1,6 @@
 //! Values inside a document.
 
-ghost use Rattle.std.specs.Prelude.{◌≡◌, ◌≤◌, ◌<◌, option_map, IfSome};
+ghost use Rattle.std.specs.Prelude.{◌≡◌, ◌≤◌, ◌<◌, option_map, IfSome, IsTrue};
 ghost use Rattle.serde_json.specs.Data.{depth};
 ghost use Rattle.serde_json.specs.View.{view};
 ghost use Rattle.jp_doc.specs.DocumentValue.{IsDocumentValue};
@@ -33,7 +33,7 @@ impl<'v> Part<'v> {
     ghost use Rattle.std.specs.Str.{chars};
     ghost use Rattle.jp_doc.specs.Document.{document_value};
     ghost use Rattle.jp_doc.specs.Location.{Location, member_of, item_of};
-    ghost use Rattle.jp_eval.specs.Inside.{nodes_inside, AreParts, IsLessDeep};
+    ghost use Rattle.jp_eval.specs.Inside.{nodes_inside, AreParts, IsLessDeep, IsScalar};
     ghost use Rattle.jp_eval.specs.Nodes.{children_at};
     ghost use Rattle.jp_eval.specs.Part.{part_value};
     ghost use Rattle.jp_eval.specs.Places.{item_count};
@@ -72,6 +72,20 @@ impl<'v> Part<'v> {
         match self.value {
             Value::Array(items) => items.len() as u32,
             _ => 0,
+        }
+    }
+
+    /// Whether the value is of a kind that has nothing inside.
+    pub fn is_scalar(self) -> bool
+        ensures { IsTrue result → IsScalar (part_value self.entry) }
+    {
+        match self.value {
+            Value::Array(_) => false,
+            Value::Object(_) => false,
+            Value::Null => true,
+            Value::Bool(_) => true,
+            Value::Number(_) => true,
+            Value::String(_) => true,
         }
     }
 

@@ -1,12 +1,14 @@
 //! The walk of a query through a document, depth first, on one path.
 
 ghost use Rattle.std.specs.Prelude.{◌≡◌, ◌≤◌, [], ◌∷◌, length, option_map, option_to_list, IfOk, OnOk};
+ghost use Rattle.std.specs.Prelude.{IsTrue};
 ghost use Rattle.std.specs.List.{All, flat_map, list_any, list_all};
 ghost use Rattle.serde_json.specs.View.{items_view, members_view};
 ghost use Rattle.jp_check.specs.declared.ready.Want.TheVariants.{First, Count, Only};
 ghost use Rattle.jp_doc.specs.DocumentValue.{IsDocumentValue};
 ghost use Rattle.jp_doc.specs.Json.{items_of, members_of};
-ghost use Rattle.jp_eval.specs.Base.{base_of};
+ghost use Rattle.jp_doc.specs.Location.{Location, node};
+ghost use Rattle.jp_eval.specs.Base.{Base, base_of};
 ghost use Rattle.jp_eval.specs.BoundsView.{bounds_value};
 ghost use Rattle.jp_eval.specs.Functions.{first_value, only_value};
 ghost use Rattle.jp_eval.specs.Kept.{kept, put_found, plus, alone_of, alone_value};
@@ -46,6 +48,18 @@ pub(crate) enum Task<'v> {
     Descend(&'v [Selector], &'v [Segment]),
     /// The segments, where the expression is true of the value.
     Test(&'v Logical, &'v [Segment]),
+}
+
+/// Whether the task finds nothing at the value, since it goes down, and nothing is inside.
+fn is_idle(task: Task<'_>, value: Part<'_>) -> bool
+    ensures { IsTrue result → (base : Base) (at : Location)
+        → done base task.entry (node at (part_value value.entry)) ≡ [] }
+{
+    match task {
+        Task::Descend(_, _) => value.is_scalar(),
+        Task::Run(_) => false,
+        Task::Test(_, _) => false,
+    }
 }
 
 #[cycle(walk)]
@@ -278,8 +292,12 @@ fn each_item<'v, V: Visit + Drop>(
         if is_full(found) {
             return Ok(());
         }
+        let child = Part { value };
+        if is_idle(task, child) {
+            continue;
+        }
         path.push(Link::Index(index as u32))?;
-        go(ground, task, Part { value }, path, found)?;
+        go(ground, task, child, path, found)?;
         path.pop();
     }
     Ok(())
@@ -304,8 +322,12 @@ fn each_member<'v, V: Visit + Drop>(
         if is_full(found) {
             return Ok(());
         }
+        let child = Part { value };
+        if is_idle(task, child) {
+            continue;
+        }
         path.push(Link::Name(name.as_str()))?;
-        go(ground, task, Part { value }, path, found)?;
+        go(ground, task, child, path, found)?;
         path.pop();
     }
     Ok(())

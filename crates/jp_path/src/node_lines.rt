@@ -4,6 +4,7 @@ ghost use Rattle.std.specs.Prelude.{◌≡◌, ◌++◌, ◌∷◌, [], false, d
 ghost use Rattle.serde_json.specs.View.{view};
 ghost use Rattle.serde_json.specs.Written.{has_float, compact_text};
 ghost use Rattle.jp_doc.specs.Json.{value_of};
+ghost use Rattle.jp_trail.specs.Appended.{Extends};
 ghost use Rattle.jp_trail.specs.Links.{link_steps};
 ghost use Rattle.jp_trail.specs.Path.{path_text};
 ghost use Rattle.jp_path.specs.OutputLine.{line_text};
@@ -18,12 +19,12 @@ use std::marker::Model;
 
 /// Takes nodes as the output lines of a document with a number, behind those of the documents before it.
 ///
-/// Its meaning is that number and the bytes of all lines so far. Lines are made in a buffer that is used
-/// again, so that a node takes no allocation but the growth of what is written.
+/// Its meaning is that number and the bytes of all lines so far. A node takes no allocation but the growth of
+/// what is written, since the room that its value's text is made in is used again.
 #[derive(Drop)]
 pub struct NodeLines {
     number: u64,
-    line: Vec<u8>,
+    room: Vec<u8>,
     out: Vec<u8>,
 }
 
@@ -42,7 +43,7 @@ impl NodeLines {
     {
         NodeLines {
             number: 0,
-            line: Vec::new(alloc),
+            room: Vec::new(alloc),
             out: Vec::new(alloc),
         }
     }
@@ -83,7 +84,7 @@ impl Visit for NodeLines {
             self.number,
             trail,
             value,
-            &mut self.line,
+            &mut self.room,
             &mut self.out,
         )
     }
@@ -93,8 +94,7 @@ impl Visit for NodeLines {
     }
 }
 
-/// Appends the output line of the node at the trail. The line is made in `line`, whose room serves the next
-/// one.
+/// Appends the output line of the node at the trail, with room for its value's text.
 ///
 /// After an `AllocError`, which says that a growth was refused, `out` is as before.
 fn write_node(
@@ -102,7 +102,7 @@ fn write_node(
     number: u64,
     trail: &mut Trail<'_>,
     value: &Value,
-    line: &mut Vec<u8>,
+    room: &mut Vec<u8>,
     out: &mut Vec<u8>,
 ) -> Result<(), AllocError>
     requires { has_float (view value.now) ≡ false }
@@ -111,10 +111,14 @@ fn write_node(
         ≡ out.old.items ++ line_text number (link_steps trail.old) (value_of value.now)) }
     ensures err { OnErr result (out.new.items ≡ out.old.items) }
 {
-    line.clear();
-    append_parts(alloc, number, trail, value, line)?;
-    out.extend_from_slice(line.as_slice())?;
-    Ok(())
+    let before = out.len();
+    match append_parts(alloc, number, trail, value, room, out) {
+        Ok(()) => Ok(()),
+        Err(error) => {
+            out.truncate(before);
+            Err(error)
+        }
+    }
 }
 
 /// Appends the parts of a line, and on an error some of them.
@@ -123,20 +127,22 @@ fn append_parts(
     number: u64,
     trail: &mut Trail<'_>,
     value: &Value,
-    line: &mut Vec<u8>,
+    room: &mut Vec<u8>,
+    out: &mut Vec<u8>,
 ) -> Result<(), AllocError>
     requires { has_float (view value.now) ≡ false }
     ensures same { trail.new ≡ trail.old }
-    ensures ok { OnOk result (line.new.items ≡ line.old.items ++ (decimal number
+    ensures ok { OnOk result (out.new.items ≡ out.old.items ++ (decimal number
         ++ (9 ∷ encode_utf8_all (path_text (link_steps trail.old)) ++
         (9 ∷ compact_text (view value.now) ++ 10 ∷ [])))) }
+    ensures kept { Extends out.old.items out.new.items }
 {
     let mut buffer = Buffer::new();
-    line.extend_from_slice(buffer.format(number).as_bytes())?;
-    line.push(b'\t')?;
-    trail.append_path(line)?;
-    line.push(b'\t')?;
-    append_text(alloc, value, line)?;
-    line.push(b'\n')?;
+    out.extend_from_slice(buffer.format(number).as_bytes())?;
+    out.push(b'\t')?;
+    trail.append_path(out)?;
+    out.push(b'\t')?;
+    append_text(alloc, value, room, out)?;
+    out.push(b'\n')?;
     Ok(())
 }

@@ -5,6 +5,7 @@ ghost use Rattle.json.specs.Print.{token_text};
 ghost use Rattle.json.specs.Token as spec;
 ghost use Rattle.json.specs.Token.{number};
 ghost use Rattle.json.specs.Tree.{json_tokens, items_tokens, members_tokens};
+ghost use Rattle.jp_trail.specs.Appended.{Extends};
 ghost use Rattle.serde_json.specs.Find.{is_float};
 ghost use Rattle.serde_json.specs.View.{view, number_view, items_view, members_view};
 ghost use Rattle.serde_json.specs.Written.{has_float, items_have_float, members_have_float, compact_text};
@@ -16,31 +17,42 @@ use serde_json::{Map, Number, Value};
 use std::alloc::{AllocError, Global};
 use std::mem;
 
-/// Appends the compact text of a value whose numbers are whole, with no allocation but the growth of `out`.
+/// Appends the compact text of a value whose numbers are whole, with no allocation but the growth of `out`
+/// and of the room.
 ///
-/// It is meant for an `out` that is short: the JSON crate's writer, which texts, arrays and objects go
-/// through, clears as
-/// many bytes as `out` holds.
-pub(crate) fn append_text(alloc: Global, value: &Value, out: &mut Vec<u8>) -> Result<(), AllocError>
+/// Texts, arrays and objects are made in the room: the JSON crate's writer, which they go through, clears as
+/// many bytes as it is given, so it is not given `out`.
+pub(crate) fn append_text(
+    alloc: Global,
+    value: &Value,
+    room: &mut Vec<u8>,
+    out: &mut Vec<u8>,
+) -> Result<(), AllocError>
     requires { has_float (view value.now) ≡ false }
-    ensures { OnOk result (out.new.items ≡ out.old.items ++ compact_text (view value.now)) }
+    ensures ok { OnOk result (out.new.items ≡ out.old.items ++ compact_text (view value.now)) }
+    ensures kept { Extends out.old.items out.new.items }
 {
     match value {
         Value::Null => append_null(out),
         Value::Bool(truth) => append_truth(*truth, out),
         Value::Number(number) => append_number(number, out),
-        _ => append_tokens(alloc, value, out),
+        _ => {
+            make_text(alloc, value, room)?;
+            out.extend_from_slice(room.as_slice())
+        }
     }
 }
 
 fn append_null(out: &mut Vec<u8>) -> Result<(), AllocError>
-    ensures { OnOk result (out.new.items ≡ out.old.items ++ token_text spec.null) }
+    ensures ok { OnOk result (out.new.items ≡ out.old.items ++ token_text spec.null) }
+    ensures kept { Extends out.old.items out.new.items }
 {
     out.extend_from_slice(b"null")
 }
 
 fn append_truth(truth: bool, out: &mut Vec<u8>) -> Result<(), AllocError>
-    ensures { OnOk result (out.new.items ≡ out.old.items ++ token_text (spec.boolean truth)) }
+    ensures ok { OnOk result (out.new.items ≡ out.old.items ++ token_text (spec.boolean truth)) }
+    ensures kept { Extends out.old.items out.new.items }
 {
     if truth {
         out.extend_from_slice(b"true")
@@ -52,7 +64,8 @@ fn append_truth(truth: bool, out: &mut Vec<u8>) -> Result<(), AllocError>
 /// Appends a whole number.
 fn append_number(whole: &Number, out: &mut Vec<u8>) -> Result<(), AllocError>
     requires { is_float (number_view whole.now) ≡ false }
-    ensures { OnOk result (out.new.items ≡ out.old.items ++ number_text (number_view whole.now)) }
+    ensures ok { OnOk result (out.new.items ≡ out.old.items ++ number_text (number_view whole.now)) }
+    ensures kept { Extends out.old.items out.new.items }
 {
     let mut buffer = Buffer::new();
     match (whole.as_u64(), whole.as_i64()) {
@@ -62,14 +75,15 @@ fn append_number(whole: &Number, out: &mut Vec<u8>) -> Result<(), AllocError>
     }
 }
 
-/// Appends the compact text by way of the JSON crate's writer.
-fn append_tokens(alloc: Global, value: &Value, out: &mut Vec<u8>) -> Result<(), AllocError>
+/// Makes the compact text in the room, by way of the JSON crate's writer.
+fn make_text(alloc: Global, value: &Value, room: &mut Vec<u8>) -> Result<(), AllocError>
     requires { has_float (view value.now) ≡ false }
-    ensures { OnOk result (out.new.items ≡ out.old.items ++ compact_text (view value.now)) }
+    ensures { OnOk result (room.new.items ≡ compact_text (view value.now)) }
 {
-    let mut writer = Writer::new(mem::replace(out, Vec::new(alloc)));
+    room.clear();
+    let mut writer = Writer::new(mem::replace(room, Vec::new(alloc)));
     let written = write(value, &mut writer);
-    *out = writer.into_inner();
+    *room = writer.into_inner();
     written
 }
 

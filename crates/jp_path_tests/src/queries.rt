@@ -2,7 +2,7 @@
 
 use jp_check::{Plan, plan};
 use jp_doc::{Document, Location, Step};
-use jp_eval::{evaluate, visit_nodes};
+use jp_eval::{Evaluator, evaluate, visit_nodes};
 use jp_path::{NodeLines, path_plan, query_of, write_path};
 use jp_syntax::{bracket_depth, read_query};
 use std::alloc::{AllocError, Global};
@@ -103,6 +103,23 @@ fn a_name_of_escapes(rt: HostRuntime) -> Result<(), Fail> {
     assert_eq!(rt; printed.as_slice(), want.as_bytes());
     let again = lines(alloc, &plan(alloc, "$['it\\'s\\u0000\\t']")?, &document)?;
     assert_eq!(rt; again.as_slice(), printed.as_slice());
+    Ok(())
+}
+
+/// The query's `$` is the document at hand.
+#[test]
+fn one_evaluator_for_two_documents(rt: HostRuntime) -> Result<(), Fail> {
+    let alloc = rt.alloc();
+    let plan = plan(alloc, "$.a[?@==$.b]")?;
+    let mut evaluator = Evaluator::new(alloc, &plan);
+    let mut lines = NodeLines::new(alloc);
+    for (number, text) in [(1, "{\"a\":[1,2,1],\"b\":1}"), (2, "{\"a\":[1,2],\"b\":2}")] {
+        let document = Document::read(alloc, text.as_bytes())?;
+        lines.begin(number);
+        lines = evaluator.visit(&document, lines)?;
+    }
+    let want = "1\t$['a'][0]\t1\n1\t$['a'][2]\t1\n2\t$['a'][1]\t2\n";
+    assert_eq!(rt; lines.into_bytes().as_slice(), want.as_bytes());
     Ok(())
 }
 

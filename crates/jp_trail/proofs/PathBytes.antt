@@ -1,5 +1,5 @@
 -- The bytes of a path.
-use Rattle.std.proofs.Common.{◌≡◌, ℕ, suc, add-one, drop, length, get_or, map, ◌+◌, ◌/◌, ◌%◌, ◌<◌, ◌≤◌, ◌^◌}
+use Rattle.std.proofs.Common.{◌≡◌, ℕ, ◌/◌, ◌%◌, ◌<◌, ◌≤◌, ◌^◌}
 use Rattle.std.proofs.Common.{◌==◌, Bool, true, false, cond, List, [], ◌∷◌, ◌++◌, refl, ap, sym, ◌∙◌, arith}
 use Rattle.std.proofs.Common.{append_assoc, decimal, codes, inl, inr, ◌⊎◌}
 use Rattle.std.specs.Prelude.{nat_lt, encode_utf8_all}
@@ -14,9 +14,8 @@ use Rattle.std.proofs.lemmas.Bool.{and_parts, and_from}
 use Rattle.std.proofs.lemmas.Bool.Decides.{nat_tests}
 use borrow.Author.Tests.{ltb-true, ltb-false}
 use lib.Utf8.{encode, next, scalar, scalars, low_scalar}
-use Rattle.std.proofs.Math.Seq.{drop-cons}
 use Rattle.jp_doc.specs.Location.{name, index}
-use Rattle.jp_trail.specs.Path.{escaped, hex_digit, step_text, path_text}
+use Rattle.jp_trail.specs.Path.{escaped, hex_digit, step_text}
 
 -- a text of ASCII alone is its own bytes
 abbrev IsOwn : List ℕ → Type 0

@@ -9,4 +9,4 @@ mod trail;
 
 pub use link::Link;
 pub use step::append_link;
-pub use trail::Trail;
+pub use trail::{Room, Trail};

@@ -1,14 +1,14 @@
 use Rattle.std.proofs.Common.{ap, ◌∙◌}
 use Rattle.std.specs.List.{fold}
 use Rattle.jp_doc.specs.Document.{document_value}
-use Rattle.jp_check.specs.Plan.{planned_query}
+use Rattle.jp_eval.specs.Evaluated.{evaluated_query}
 use Rattle.jp_eval.specs.Nodelist.{document_nodes}
 use Rattle.jp_path.specs.OutputLine.{put_line}
 use Rattle.jp_path.proofs.Taken.{lines_fold}
 use Rattle.jp_answer.proofs.answering.with_nodes.Goals as goal
 
-pub returns : goal.returns
-returns c = λ t right.
-    let ns = document_nodes t (planned_query c.args.plan.now) (document_value c.args.document.now) in
-    ap (λ w. w.1) (c.in-Ok.ensures t right ∙ ap (λ k. fold put_line k ns) c.begin.ensures
+pub returns-clause-lines : goal.returns-clause-lines
+returns-clause-lines c = λ t right.
+    let ns = document_nodes t (evaluated_query c.args.evaluator.now) (document_value c.args.document.now) in
+    ap (λ w. w.1) (c.in-Ok.ensures.nodes t right ∙ ap (λ k. fold put_line k ns) c.begin.ensures
     ∙ lines_fold c.args.number c.args.written.1 ns)

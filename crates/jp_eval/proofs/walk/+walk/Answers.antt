@@ -99,8 +99,8 @@ each_item-returns-then-is_full-clause-found g t c =
     full_enough (put_found g.V.Visit.put) _ _ _ _ (c.is_full.ensures c.if-is_full.true)
     c.loop-index.invariant.3
 
-pub each_item-invariant_of-go : goal.each_item-invariant_of-go
-each_item-invariant_of-go g t c =
+pub each_item-invariant_of-child : goal.each_item-invariant_of-child
+each_item-invariant_of-child g t c =
     let h : c.loop-index.index < length c.args.items.now.items = search rules in
     record {
       kept = first_left IsDocumentValue c.args.items.now.items c.loop-index.index
@@ -130,6 +130,23 @@ each_item-loop-index-preserved g t c =
           c.loop-index.invariant.3,
     )
 
+pub each_item-loop-index-preserved-then-is_idle : goal.each_item-loop-index-preserved-then-is_idle
+each_item-loop-index-preserved-then-is_idle g t c =
+    let xs = c.args.items.now.items in
+    let i = c.loop-index.index in
+    let h : i < length xs = search rules in
+    let d = no_deeper xs i in (
+      c.loop-index.invariant.0,
+      others_left IsDocumentValue xs i c.loop-index.invariant.1,
+      omega (arith, c.loop-index.invariant.2),
+      item_done (put_found g.V.Visit.put) (done (base_of c.args.ground.now) c.args.task)
+          (link_steps c.loop-index.path) xs i c.value-item.result _ _ _ _ h (c.value-item.is
+          ∙ ap (λ l. get_or l i c.value-item.result) c.deref-value-items.ensures.value)
+          (nothing_found (put_found g.V.Visit.put) _ _
+          (c.is_idle.ensures c.if-is_idle.true (base_of c.args.ground.now) _))
+          c.loop-index.invariant.3,
+    )
+
 pub each_item-returns-clause-found : goal.each_item-returns-clause-found
 each_item-returns-clause-found g t c =
     let h : length c.args.items.now.items ≤ c.loop-index.index = search rules in
@@ -137,8 +154,8 @@ each_item-returns-clause-found g t c =
     (item_nodes (link_steps c.loop-index.path) c.loop-index.index (items_of (items_view xs))))
     c.args.items.now.items c.loop-index.index _ _ _ h refl c.loop-index.invariant.3
 
-pub each_member-invariant_of-go : goal.each_member-invariant_of-go
-each_member-invariant_of-go g t c =
+pub each_member-invariant_of-child : goal.each_member-invariant_of-child
+each_member-invariant_of-child g t c =
     let e : c.loop-name.name-iterator ≡ (c.in-Some.name.now, c.in-Some.value.now) ∷ c.next.new.self =
     search rules in
     record {
@@ -167,6 +184,24 @@ each_member-loop-name-preserved g t c =
           (done (base_of c.args.ground.now) c.args.task (node s (value_of c.in-Some.value.now))))
           (link_further c.loop-name.path c.push.new.self _ c.in_ok-push.ensures.ok
           ∙ ap (λ k. link_steps c.loop-name.path ++ name (chars k) ∷ []) c.as_str.ensures.value))
+          c.loop-name.invariant.3,
+    )
+
+pub each_member-loop-name-preserved-then-is_idle : goal.each_member-loop-name-preserved-then-is_idle
+each_member-loop-name-preserved-then-is_idle g t c =
+    let e : c.loop-name.name-iterator ≡ (c.in-Some.name.now, c.in-Some.value.now) ∷ c.next.new.self =
+    search rules in
+    let d = members_no_deeper c.loop-name.name-iterator c.next.new.self
+    (c.in-Some.name.now, c.in-Some.value.now) e in (
+      c.loop-name.invariant.0,
+      other_members_left IsDocumentValue c.loop-name.name-iterator c.next.new.self
+          (c.in-Some.name.now, c.in-Some.value.now) e c.loop-name.invariant.1,
+      omega (arith, c.loop-name.invariant.2),
+      member_done (put_found g.V.Visit.put) (done (base_of c.args.ground.now) c.args.task)
+          (link_steps c.loop-name.path) c.loop-name.name-iterator c.next.new.self
+          (c.in-Some.name.now, c.in-Some.value.now) _ _ _ _ e
+          (nothing_found (put_found g.V.Visit.put) _ _
+          (c.is_idle.ensures c.if-is_idle.true (base_of c.args.ground.now) _))
           c.loop-name.invariant.3,
     )
 

@@ -10,7 +10,7 @@ use Rattle.jp_eval.specs.RightTests.{tests}
 use Rattle.jp_eval.proofs.Answering.{same_nodes}
 use Rattle.jp_eval.proofs.Keeping.{taken_out}
 use Rattle.jp_eval.proofs.ReadyParts.{from_root, started}
-use Rattle.jp_eval.proofs.evaluation.visit_nodes.Goals as goal
+use Rattle.jp_eval.proofs.evaluator.visit_in.Goals as goal
 
 pub returns-in-Some : goal.returns-in-Some
 returns-in-Some g c =
@@ -21,7 +21,8 @@ returns-in-Some g c =
     let at_root = c.in_ok-ground.ensures.root ∙ c.root_of-root.ensures in
     let nodes =
     from_root (base_of ground) ready.segments c.as_slice-2.result.now c.root_of-root.result
-    c.new-path.result c.as_slice-2.ensures.value c.new-path.ensures (sym c.in_ok-ground.ensures.root)
+    c.with_room-path.result c.as_slice-2.ensures.value c.with_room-path.ensures
+    (sym c.in_ok-ground.ensures.root)
     ∙ ap₂ (λ v rs. root_nodes v (segments_in (roots_of rs) ready.segments.items)) at_root
     (c.in_ok-ground.ensures.roots ∙ c.as_slice.ensures.value)
     ∙ started ready.start (segments_in (roots_of ready.roots.items) ready.segments.items) value
