@@ -1,4 +1,5 @@
 pub mod AlikeLemmas
+pub mod BytesLemmas
 pub mod CharacterLemmas
 pub mod CopyLemmas
 pub mod Derivatives
@@ -18,6 +19,7 @@ pub mod ReachLemmas
 pub mod ReadLemmas
 pub mod ReadsLemmas
 pub mod RightTests
+pub mod RunLemmas
 pub mod SetsRead
 pub mod SetsSound
 pub mod SetLemmas

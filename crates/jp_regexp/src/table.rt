@@ -1,6 +1,6 @@
 //! The steps of a pattern, looked up by numbers of states.
 
-ghost use Rattle.std.specs.Prelude.{◌≡◌, ◌+◌, ◌<◌, ◌≤◌, [], false, IfOk, IfSome, IsTrue};
+ghost use Rattle.std.specs.Prelude.{◌≡◌, ◌+◌, ◌*◌, ◌<◌, ◌≤◌, [], true, false, IfOk, IfSome, IsTrue, length};
 ghost use Rattle.jp_regexp.specs.Parts.{meaning, unrolled_in};
 ghost use Rattle.jp_regexp.specs.Profile.{max_size};
 ghost use Rattle.jp_regexp.specs.Unrolled.{letters};
@@ -12,15 +12,21 @@ use crate::parts::Part;
 use crate::reach::Reach;
 use std::alloc::{AllocError, Global};
 
-/// How many cells a state has: one for each character of ASCII, by its code, one for the others, and as
-/// many more as make it a power of two.
+/// How many cells a state has: one for each byte of a text.
 pub const WIDTH: usize = 256;
 
 /// The cell of a step that is not in the table.
 pub const NONE: u8 = 255;
 
-/// The cell of the characters that are not of ASCII.
-pub const PAST_ASCII: usize = 128;
+/// The cell of a step behind which the answer is known: where a part is looked for, that one was found, and
+/// where a whole text is read, that none is left.
+pub const SETTLED: u8 = 254;
+
+/// The first byte that goes on with a character; those below it are the characters of ASCII.
+pub const CONTINUED: usize = 128;
+
+/// The first byte that a character that is not of ASCII begins with.
+pub const PAST_ASCII: usize = 192;
 
 /// Places of a pattern.
 #[derive(Drop)]
@@ -38,25 +44,29 @@ pub struct State {
 pub struct Table {
     /// State 0 is the start. There are none where the table was not made.
     pub states: Vec<State>,
-    /// For each state, and then for each character of ASCII and for all others, the number of the next state,
-    /// or `NONE`.
+    /// For each state, and then for each byte, the number of the next state, `SETTLED` or `NONE`. A character
+    /// is read where its first byte is, and the state stays for those that go on with it.
     pub cells: Vec<u8>,
 }
 
 impl State {
-    ghost use Rattle.jp_regexp.specs.Steps.{HasPlaces};
-
-    /// Whether no text is left.
-    pub fn is_dead(&self) -> bool
-        ensures { IsTrue result → HasPlaces self.now [] false }
+    /// Whether the answer is known behind a step that leads here.
+    pub fn is_settled(&self) -> bool
+        ensures found { IsTrue result → self.now.at_start ≡ true → self.now.accepts ≡ true }
+        ensures dead { IsTrue result → self.now.at_start ≡ false → self.now.live.items ≡ [] }
+        ensures unsettled { result ≡ false → self.now.at_start ≡ true → self.now.accepts ≡ false }
     {
-        !self.at_start && self.live.is_empty()
+        if self.at_start {
+            self.accepts
+        } else {
+            self.live.is_empty()
+        }
     }
 }
 
 impl Table {
     ghost use Rattle.jp_regexp.specs.CharSets.{is_scalar};
-    ghost use Rattle.jp_regexp.specs.Steps.{cell_at, column_of};
+    ghost use Rattle.jp_regexp.specs.Steps.{cell_at, column_of, state_behind};
 
     /// A table without states.
     pub fn new(alloc: Global) -> Table
@@ -69,18 +79,35 @@ impl Table {
         }
     }
 
-    /// The number of the state behind a character, or `NONE` where the table does not have it.
+    /// The number of the state behind a character, `SETTLED`, or `NONE` where the table does not have it.
     pub fn next(&self, state: usize, c: char) -> u8
         requires { state < 256 }
         ensures scalar { IsTrue (is_scalar c) }
         ensures cell { result < 255 → cell_at self.now.cells.items state (column_of c) ≡ result }
     {
-        let index = state * WIDTH + (c as usize).min(PAST_ASCII);
+        let column = if c < '\u{80}' { c as usize } else { PAST_ASCII };
+        let index = state * WIDTH + column;
         if index < self.cells.len() {
             self.cells[index]
         } else {
             NONE
         }
+    }
+
+    /// The number of the state that these bytes lead to from the start.
+    pub fn behind(&self, bytes: &[u8]) -> u8
+        requires full { length self.now.cells.items ≡ length self.now.states.items * 256 }
+        ensures { result ≡ state_behind self.now.cells.items 0 bytes.now }
+    {
+        let mut state = 0u8;
+        for byte in bytes {
+            let index = usize::from(state) * WIDTH + usize::from(*byte);
+            if index >= self.cells.len() {
+                return state;
+            }
+            state = self.cells[index];
+        }
+        state
     }
 }
 

@@ -6,7 +6,7 @@ ghost use Rattle.jp_regexp.specs.Held.{HasPart, pattern_of};
 ghost use Rattle.jp_regexp.specs.Language.{Member};
 
 use crate::pattern::Pattern;
-use crate::table::NONE;
+use crate::table::{NONE, SETTLED};
 
 impl Pattern {
     /// Whether the whole text is in the pattern's language, where the table tells (RFC 9485, 4).
@@ -17,18 +17,11 @@ impl Pattern {
         if table.states.is_empty() {
             return None;
         }
-        let mut state = 0;
-        for c in text.chars() {
-            let behind = table.next(state, c);
-            if behind == NONE {
-                return None;
-            }
-            state = usize::from(behind);
-            if table.states[state].is_dead() {
-                return Some(false);
-            }
+        match table.behind(text.as_bytes()) {
+            NONE => None,
+            SETTLED => Some(false),
+            state => Some(table.states[usize::from(state)].accepts),
         }
-        Some(table.states[state].accepts)
     }
 
     /// Whether some part of the text is in the pattern's language, where the table tells.
@@ -39,17 +32,13 @@ impl Pattern {
         if table.states.is_empty() {
             return None;
         }
-        let mut state = 0;
-        for c in text.chars() {
-            if table.states[state].accepts {
-                return Some(true);
-            }
-            let behind = table.next(state, c);
-            if behind == NONE {
-                return None;
-            }
-            state = usize::from(behind);
+        if table.states[0].accepts {
+            return Some(true);
         }
-        Some(table.states[state].accepts)
+        match table.behind(text.as_bytes()) {
+            NONE => None,
+            SETTLED => Some(true),
+            _ => Some(false),
+        }
     }
 }

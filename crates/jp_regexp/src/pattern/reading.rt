@@ -11,7 +11,7 @@ use crate::pattern::Pattern;
 use crate::pattern::matching::characters;
 use crate::read_patterns;
 use crate::source::Source;
-use crate::states::make_table;
+use crate::states::{MOST_STATES, make_table};
 use crate::table::Table;
 use std::alloc::{AllocError, Global};
 
@@ -93,7 +93,7 @@ impl Pattern {
 
 /// How many states a table of a pattern of this size has at most.
 fn most_states(size: u32) -> usize
-    ensures { result ≤ 255 }
+    ensures { result ≤ 254 }
 {
-    (STATES_BY_SIZE / size.max(1)).min(255) as usize
+    (STATES_BY_SIZE / size.max(1)).min(MOST_STATES as u32) as usize
 }

@@ -45,6 +45,8 @@ invariant_of-result c =
       sized = c.in_ok-root-in-Ok.ensures.sized;
       in_profile = ∣ subst InProfile (sym c.in_ok-root-in-Ok.ensures.same)
           (is_pattern (chars c.args.text.now) p read (subst (λ n. n ≤ 10_000) same fits)).in_profile ∣₁;
-      whole_steps = ∣ no_table (pattern_in root) false c.new-whole.result c.new-whole.ensures.states ∣₁;
-      part_steps = ∣ no_table (pattern_in root) true c.new-part.result c.new-part.ensures.states ∣₁;
+      whole_steps = ∣ no_table (pattern_in root) false c.new-whole.result c.new-whole.ensures.states
+          c.new-whole.ensures.cells ∣₁;
+      part_steps = ∣ no_table (pattern_in root) true c.new-part.result c.new-part.ensures.states
+          c.new-part.ensures.cells ∣₁;
     }
