@@ -26,6 +26,7 @@ pub mod SetLemmas
 pub mod SizeLemmas
 pub mod SizedLemmas
 pub mod SkipLemmas
+pub mod StartLemmas
 pub mod StateLemmas
 pub mod StepLemmas
 pub mod TableLemmas

@@ -18,6 +18,7 @@ mod read_patterns;
 mod read_sets;
 mod sets;
 mod source;
+mod starts;
 mod states;
 mod table;
 mod terms;

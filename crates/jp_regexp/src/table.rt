@@ -1,6 +1,7 @@
 //! The steps of a pattern, looked up by numbers of states.
 
-ghost use Rattle.std.specs.Prelude.{◌≡◌, ◌+◌, ◌*◌, ◌<◌, ◌≤◌, [], true, false, IfOk, IfSome, IsTrue, length};
+ghost use Rattle.std.specs.Prelude.{◌≡◌, ◌+◌, ◌*◌, ◌<◌, ◌≤◌, [], true, false, drop, IfOk, IfSome, IsTrue};
+ghost use Rattle.std.specs.Prelude.{length};
 ghost use Rattle.jp_regexp.specs.Parts.{meaning, unrolled_in};
 ghost use Rattle.jp_regexp.specs.Profile.{max_size};
 ghost use Rattle.jp_regexp.specs.Unrolled.{letters};
@@ -10,6 +11,7 @@ use crate::advance::advance;
 use crate::leave::leave;
 use crate::parts::Part;
 use crate::reach::Reach;
+use crate::starts::Starts;
 use std::alloc::{AllocError, Global};
 
 /// How many cells a state has: one for each byte of a text.
@@ -49,6 +51,14 @@ pub struct Table {
     pub cells: Vec<u8>,
 }
 
+/// Where a walk from the start leads.
+#[derive(Clone, Copy)]
+pub struct Walk {
+    pub state: u8,
+    /// How many bytes were read, where it leads back to the start.
+    pub read: usize,
+}
+
 impl State {
     /// Whether the answer is known behind a step that leads here.
     pub fn is_settled(&self) -> bool
@@ -66,7 +76,8 @@ impl State {
 
 impl Table {
     ghost use Rattle.jp_regexp.specs.CharSets.{is_scalar};
-    ghost use Rattle.jp_regexp.specs.Steps.{cell_at, column_of, state_behind};
+    ghost use Rattle.jp_regexp.specs.Steps.{cell_at, column_of, state_after, state_behind};
+    ghost use Rattle.jp_regexp.specs.Starts.{AreStarts};
 
     /// A table without states.
     pub fn new(alloc: Global) -> Table
@@ -94,6 +105,18 @@ impl Table {
         }
     }
 
+    /// The number of the state behind a byte; where a state has no cells, it stays.
+    pub fn after(&self, state: u8, byte: u8) -> u8
+        ensures { result ≡ state_after self.now.cells.items state byte }
+    {
+        let index = usize::from(state) * WIDTH + usize::from(byte);
+        if index < self.cells.len() {
+            self.cells[index]
+        } else {
+            state
+        }
+    }
+
     /// The number of the state that these bytes lead to from the start.
     pub fn behind(&self, bytes: &[u8]) -> u8
         requires full { length self.now.cells.items ≡ length self.now.states.items * 256 }
@@ -108,6 +131,53 @@ impl Table {
             state = self.cells[index];
         }
         state
+    }
+
+    /// The same, where the marks tell which bytes may be passed.
+    pub fn behind_starts(&self, starts: &Starts, bytes: &[u8]) -> u8
+        requires full { length self.now.cells.items ≡ length self.now.states.items * 256 }
+        requires some { 0 < length self.now.states.items }
+        requires all { length starts.now.marks.items ≡ 256 }
+        requires right { AreStarts self.now.cells.items starts.now.marks.items }
+        ensures { result ≡ state_behind self.now.cells.items 0 bytes.now }
+    {
+        let mut rest = bytes;
+        while !rest.is_empty() {
+            let from = &rest[starts.find(rest)..];
+            let walk = self.walk(from);
+            if walk.state != 0 {
+                return walk.state;
+            }
+            rest = &from[walk.read..];
+        }
+        0
+    }
+
+    /// Reads on until the start is reached again, or the answer is known.
+    fn walk(&self, bytes: &[u8]) -> Walk
+        requires full { length self.now.cells.items ≡ length self.now.states.items * 256 }
+        requires some { 0 < length self.now.states.items }
+        ensures within { result.read ≤ length bytes.now }
+        ensures moves { 0 < length bytes.now → result.state ≡ 0 → 0 < result.read }
+        ensures back { result.state ≡ 0 → state_behind self.now.cells.items 0 bytes.now
+            ≡ state_behind self.now.cells.items 0 (drop result.read bytes.now) }
+        ensures stays { 0 < result.state → state_behind self.now.cells.items 0 bytes.now ≡ result.state }
+    {
+        let mut state = 0u8;
+        for (i, byte) in bytes.iter().enumerate() {
+            let index = usize::from(state) * WIDTH + usize::from(*byte);
+            if index >= self.cells.len() {
+                return Walk { state, read: i };
+            }
+            state = self.cells[index];
+            if state == 0 {
+                return Walk { state, read: i + 1 };
+            }
+        }
+        Walk {
+            state,
+            read: bytes.len(),
+        }
     }
 }
 

@@ -11,6 +11,7 @@ use crate::pattern::Pattern;
 use crate::pattern::matching::characters;
 use crate::read_patterns;
 use crate::source::Source;
+use crate::starts::{Starts, make_starts};
 use crate::states::{MOST_STATES, make_table};
 use crate::table::Table;
 use std::alloc::{AllocError, Global};
@@ -42,7 +43,13 @@ impl Pattern {
                 }
                 let whole = Table::new(alloc);
                 let part = Table::new(alloc);
-                Ok(Some(Pattern { root, whole, part }))
+                let starts = Starts::new(alloc);
+                Ok(Some(Pattern {
+                    root,
+                    whole,
+                    part,
+                    starts,
+                }))
             }
         }
     }
@@ -82,12 +89,19 @@ impl Pattern {
             most,
         };
         let part = make_table(alloc, source)?;
+        let starts = make_starts(alloc, &part)?;
         let Pattern {
             root,
             whole: _,
             part: _,
+            starts: _,
         } = self;
-        Ok(Pattern { root, whole, part })
+        Ok(Pattern {
+            root,
+            whole,
+            part,
+            starts,
+        })
     }
 }
 

@@ -18,9 +18,6 @@ returns-then-index c =
       λ h. refl,
     )
 
-pub behind-requires : goal.behind-requires
-behind-requires c = record { full = (kept_table _ true c.args.self.now.part c.args.self.now.part_steps).full }
-
 pub returns-in-254 : goal.returns-in-254
 returns-in-254 c =
     let self = c.args.self.now in
@@ -28,9 +25,9 @@ returns-in-254 c =
     let some : 0 < length self.part.states.items = omega
     (arith, is_some _ c.is_empty.result c.is_empty.ensures c.if-is_empty.false) in
     let of = kept_table _ true self.part self.part_steps in
-    let same = c.behind.ensures ∙ ap (state_behind self.part.cells.items 0) c.as_bytes.ensures.value in
+    let same = c.part_state.ensures ∙ ap (state_behind self.part.cells.items 0) c.as_bytes.ensures.value in
     let tells = found_by p (kept_profile p self.in_profile).counts self.part.states.items
-    self.part.cells.items of.full some c.args.text.now c.utf8.text c.behind.result same
+    self.part.cells.items of.full some c.args.text.now c.utf8.text c.part_state.result same
     of.steps c.index.result.now c.index.ensures c.if-index.false in (
       λ h. tells.found c.in-254.is,
       λ h. refl,
@@ -43,11 +40,11 @@ returns-in_default c =
     let some : 0 < length self.part.states.items = omega
     (arith, is_some _ c.is_empty.result c.is_empty.ensures c.if-is_empty.false) in
     let of = kept_table _ true self.part self.part_steps in
-    let same = c.behind.ensures ∙ ap (state_behind self.part.cells.items 0) c.as_bytes.ensures.value in
+    let same = c.part_state.ensures ∙ ap (state_behind self.part.cells.items 0) c.as_bytes.ensures.value in
     let tells = found_by p (kept_profile p self.in_profile).counts self.part.states.items
-    self.part.cells.items of.full some c.args.text.now c.utf8.text c.behind.result same
+    self.part.cells.items of.full some c.args.text.now c.utf8.text c.part_state.result same
     of.steps c.index.result.now c.index.ensures c.if-index.false in
-    let small : c.behind.result < 254 = omega arith in (
+    let small : c.part_state.result < 254 = omega arith in (
       λ h. absurd cc,
       λ h. absurd (tells.none small h),
     )

@@ -3,6 +3,7 @@ use Rattle.std.specs.Str.{chars}
 use Rattle.jp_regexp.specs.Profile.{size, InProfile, IsPatternOf}
 use Rattle.jp_regexp.specs.Tree.{node_of}
 use Rattle.jp_regexp.specs.Parts.{pattern_in}
+use Rattle.jp_regexp.proofs.StartLemmas.{no_starts}
 use Rattle.jp_regexp.proofs.TableLemmas.{no_table}
 use Rattle.jp_regexp.proofs.ReadLemmas.{is_pattern, no_pattern, too_large, size_is, size_over}
 use Rattle.jp_regexp.proofs.pattern.Pattern.read.Goals as goal
@@ -49,4 +50,6 @@ invariant_of-result c =
           c.new-whole.ensures.cells ∣₁;
       part_steps = ∣ no_table (pattern_in root) true c.new-part.result c.new-part.ensures.states
           c.new-part.ensures.cells ∣₁;
+      right_starts = ∣ no_starts c.new-part.result.cells.items c.new-starts.result.marks.items
+          c.new-starts.ensures ∣₁;
     }
