@@ -5,7 +5,7 @@ use Rattle.std.proofs.Common.{ℕ, ◌≤◌, Some, None, Bool, List}
 use Rattle.jp_regexp.specs.Unrolled.{Unrolled}
 use Rattle.jp_regexp.specs.Alike.{AreClasses}
 use Rattle.jp_regexp.specs.declared.classes.Classes.{Classes}
-use Rattle.jp_regexp.specs.declared.starts.Marks.{Marks}
+use Rattle.jp_regexp.specs.declared.marks.Marks.{Marks}
 use Rattle.jp_regexp.specs.Starts.{AreStarts}
 use Rattle.jp_regexp.specs.Steps.{IsTable}
 use Rattle.jp_regexp.specs.Walk.{Rises-prop}

@@ -1,10 +1,12 @@
 -- Which bytes may be passed from the start of a table.
-use Rattle.std.proofs.Common.{◌≡◌, ℕ, ◌+◌, ◌-◌, ◌<◌, ◌≤◌, ◌⊎◌, Bool, true, false, ◌&&◌, List, [], ◌∷◌, length}
-use Rattle.std.proofs.Common.{drop, slice_index_or, inl, inr, refl, sym, ap, ◌∙◌, subst, true≢false, arith}
+use Rattle.std.proofs.Common.{◌≡◌, ◌≢◌, ℕ, zero, suc, ◌+◌, ◌-◌, ◌<◌, ◌≤◌, ◌⊎◌, List, [], ◌∷◌, length}
+use Rattle.std.proofs.Common.{drop, slice_index_or, inl, inr, refl, sym, ap, ◌∙◌, subst, arith}
 use Rattle.std.proofs.Common.{add-one, drop-cons}
 use Rattle.std.specs.List.{Contains}
+use Rattle.std.specs.Int.Bits.{bit_and}
+use Rattle.std.proofs.lemmas.Nat.{and_le_l}
 use Rattle.std.proofs.lemmas.List.{get_or_default}
-use Rattle.jp_regexp.specs.declared.starts.Marks.{Marks}
+use Rattle.jp_regexp.specs.declared.marks.Marks.{Marks}
 use Rattle.jp_regexp.specs.declared.starts.Pair.{Pair}
 use Rattle.jp_regexp.specs.Starts.{AreMarksOf, AreOnes, AreStarts, AreTwos, HasPair, LeadsTogether}
 use Rattle.jp_regexp.specs.Steps.{state_after, state_behind}
@@ -62,35 +64,53 @@ behind_rest cells bytes k = state_behind cells 0 (drop k bytes)
 
 -- what was found in the bytes before i: two tells of the place two bytes before, and one of that one byte
 -- before, whether something may begin there
-pub record IsPassing (cells bytes : List ℕ) (i : ℕ) (one two : Bool) : Type 0 where
-  pub from_two : two ≡ true → behind_rest cells bytes 0 ≡ behind_rest cells bytes (i - 2)
-  pub past_two : two ≡ false → behind_rest cells bytes 0 ≡ behind_rest cells bytes (i - 1)
-  pub past_one : one ≡ false → behind_rest cells bytes (i - 1) ≡ behind_rest cells bytes i
+pub record IsPassing (cells bytes : List ℕ) (i one two : ℕ) : Type 0 where
+  pub from_two : two ≢ 0 → behind_rest cells bytes 0 ≡ behind_rest cells bytes (i - 2)
+  pub past_two : two ≡ 0 → behind_rest cells bytes 0 ≡ behind_rest cells bytes (i - 1)
+  pub past_one : one ≡ 0 → behind_rest cells bytes (i - 1) ≡ behind_rest cells bytes i
 
 -- what holds of the flags at the first bytes
-pub record AreFlags (i : ℕ) (one two : Bool) : Type 0 where
-  pub two_read : two ≡ true → 2 ≤ i
-  pub one_read : one ≡ true → 1 ≤ i
+pub record AreFlags (i one two : ℕ) : Type 0 where
+  pub two_read : two ≢ 0 → 2 ≤ i
+  pub one_read : one ≢ 0 → 1 ≤ i
+  pub two_bit : two ≤ 1
+  pub one_bit : one ≤ 1
 
-pub passing_first : (cells bytes : List ℕ) → IsPassing cells bytes 0 false false
+pub passing_first : (cells bytes : List ℕ) → IsPassing cells bytes 0 0 0
 passing_first cells bytes = record { from_two = λ e. refl; past_two = λ e. refl; past_one = λ e. refl }
 
-pub flags_first : AreFlags 0 false false
+pub flags_first : AreFlags 0 0 0
 flags_first = record {
-  two_read = λ e. absurd (true≢false (sym e));
-  one_read = λ e. absurd (true≢false (sym e));
+  two_read = λ e. absurd (e refl);
+  one_read = λ e. absurd (e refl);
+  two_bit = omega arith;
+  one_bit = omega arith;
 }
 
-and_first : (a b : Bool) → (a && b) ≡ true → a ≡ true
-and_first true b e = refl
-and_first false b e = e
-
-pub flags_more : (i : ℕ) (one two : Bool) (m : Marks) → AreFlags i one two →
-    AreFlags (i + 1) m.first (one && m.second)
+pub flags_more : (i one two : ℕ) (m : Marks) → AreFlags i one two →
+    AreFlags (i + 1) m.first (bit_and one m.second)
 flags_more i one two m of = record {
-  two_read = λ e. omega (arith, of.one_read (and_first one m.second e));
+  two_read = λ e. omega (arith, of.one_read (λ z. e (omega (arith, and_le_l one m.second))));
   one_read = λ e. omega arith;
+  two_bit = omega (arith, and_le_l one m.second, of.one_bit);
+  one_bit = m.first_bit;
 }
+
+is_zero_or : (n : ℕ) → (n ≡ 0) ⊎ (n ≢ 0)
+is_zero_or zero = inl refl
+is_zero_or (suc n) = inr (λ e. omega arith)
+
+-- of two bits, of which not both are set, the second is not where the first is
+other_bit : (a b : ℕ) → a ≤ 1 → b ≤ 1 → bit_and a b ≡ 0 → a ≢ 0 → b ≡ 0
+other_bit zero b le few e some = absurd (some refl)
+other_bit (suc zero) zero le few e some = refl
+other_bit (suc zero) (suc zero) le few e some = e
+other_bit (suc zero) (suc (suc b)) le few e some = absurd (omega arith)
+other_bit (suc (suc a)) b le few e some = absurd (omega arith)
+
+-- what is left after a byte where both flags are set
+pub both_set : (a b : ℕ) → bit_and a b ≢ 0 → a ≢ 0
+both_set a b some z = some (omega (arith, and_le_l a b))
 
 module _ (cells bytes : List ℕ) (marks : List Marks) (of : AreStarts cells marks) (all : length marks ≡ 256)
     (small : (k : ℕ) → slice_index_or bytes k 0 < 256) where
@@ -98,14 +118,14 @@ module _ (cells bytes : List ℕ) (marks : List Marks) (of : AreStarts cells mar
   rest_at k lt = rw (add-one, drop-cons bytes k 0)
 
   pass_first : (k : ℕ) (m : Marks) → k < length bytes → m ≡ slice_index_or marks (slice_index_or bytes k 0) m
-      → m.first ≡ false → behind_rest cells bytes k ≡ behind_rest cells bytes (k + 1)
+      → m.first ≡ 0 → behind_rest cells bytes k ≡ behind_rest cells bytes (k + 1)
   pass_first k m lt at e =
       ap (state_behind cells 0) (rest_at k lt)
       ∙ ap (λ s. state_behind cells s (drop (k + 1) bytes))
       (of.first (slice_index_or bytes k 0) m (omega (arith, small k)) (ap (λ x. x.first) (sym at) ∙ e))
 
   pass_second : (k : ℕ) (m : Marks) → k + 1 < length bytes →
-      m ≡ slice_index_or marks (slice_index_or bytes (k + 1) 0) m → m.second ≡ false →
+      m ≡ slice_index_or marks (slice_index_or bytes (k + 1) 0) m → m.second ≡ 0 →
       behind_rest cells bytes k ≡ behind_rest cells bytes (k + 1)
   pass_second k m lt at e =
       let x = slice_index_or bytes k 0 in
@@ -118,7 +138,7 @@ module _ (cells bytes : List ℕ) (marks : List Marks) (of : AreStarts cells mar
       ∙ sym (ap (state_behind cells 0) (rest_at (k + 1) lt))
 
   pass_third : (k : ℕ) (m : Marks) → k + 1 + 1 < length bytes →
-      m ≡ slice_index_or marks (slice_index_or bytes (k + 1 + 1) 0) m → m.third ≡ false →
+      m ≡ slice_index_or marks (slice_index_or bytes (k + 1 + 1) 0) m → m.third ≡ 0 →
       behind_rest cells bytes k ≡ behind_rest cells bytes (k + 1)
   pass_third k m lt at e =
       let x = slice_index_or bytes k 0 in
@@ -134,36 +154,41 @@ module _ (cells bytes : List ℕ) (marks : List Marks) (of : AreStarts cells mar
 
   module _ (i : ℕ) (m : Marks) (lt : i < length bytes)
       (at : m ≡ slice_index_or marks (slice_index_or bytes i 0) m) where
-    past_two_more : (one two : Bool) → AreFlags i one two → IsPassing cells bytes i one two →
-        (two && m.third) ≡ false → behind_rest cells bytes 0 ≡ behind_rest cells bytes (i - 1)
-    past_two_more one false flags kept e = kept.past_two refl
-    past_two_more one true flags kept e =
-        let read = flags.two_read refl in
+    past_two_more : (one two : ℕ) → AreFlags i one two → IsPassing cells bytes i one two →
+        bit_and two m.third ≡ 0 → (two ≡ 0) ⊎ (two ≢ 0) →
+        behind_rest cells bytes 0 ≡ behind_rest cells bytes (i - 1)
+    past_two_more one two flags kept e (inl none) = kept.past_two none
+    past_two_more one two flags kept e (inr some) =
+        let read = flags.two_read some in
         let here : i ≡ i - 2 + 1 + 1 = omega arith in
         let next : i - 2 + 1 ≡ i - 1 = omega arith in
-        kept.from_two refl
+        kept.from_two some
         ∙ pass_third (i - 2) m (omega arith)
-        (subst (λ n. m ≡ slice_index_or marks (slice_index_or bytes n 0) m) here at) e
+        (subst (λ n. m ≡ slice_index_or marks (slice_index_or bytes n 0) m) here at)
+        (other_bit two m.third flags.two_bit m.third_bit e some)
         ∙ ap (behind_rest cells bytes) next
 
-    past_one_more : (one two : Bool) → AreFlags i one two → IsPassing cells bytes i one two →
-        (one && m.second) ≡ false → behind_rest cells bytes (i - 1) ≡ behind_rest cells bytes i
-    past_one_more false two flags kept e = kept.past_one refl
-    past_one_more true two flags kept e =
-        let read = flags.one_read refl in
+    past_one_more : (one two : ℕ) → AreFlags i one two → IsPassing cells bytes i one two →
+        bit_and one m.second ≡ 0 → (one ≡ 0) ⊎ (one ≢ 0) →
+        behind_rest cells bytes (i - 1) ≡ behind_rest cells bytes i
+    past_one_more one two flags kept e (inl none) = kept.past_one none
+    past_one_more one two flags kept e (inr some) =
+        let read = flags.one_read some in
         let here : i ≡ i - 1 + 1 = omega arith in
         pass_second (i - 1) m (omega arith)
-        (subst (λ n. m ≡ slice_index_or marks (slice_index_or bytes n 0) m) here at) e
+        (subst (λ n. m ≡ slice_index_or marks (slice_index_or bytes n 0) m) here at)
+        (other_bit one m.second flags.one_bit m.second_bit e some)
         ∙ ap (behind_rest cells bytes) (sym here)
 
-    pub passing_more : (one two : Bool) → AreFlags i one two → IsPassing cells bytes i one two →
-        (two && m.third) ≡ false → IsPassing cells bytes (i + 1) m.first (one && m.second)
+    pub passing_more : (one two : ℕ) → AreFlags i one two → IsPassing cells bytes i one two →
+        bit_and two m.third ≡ 0 → IsPassing cells bytes (i + 1) m.first (bit_and one m.second)
     passing_more one two flags kept e =
         let back : i + 1 - 1 ≡ i = omega arith in
         let two_back : i - 1 ≡ i + 1 - 2 = omega arith in
-        let past = past_two_more one two flags kept e in
+        let past = past_two_more one two flags kept e (is_zero_or two) in
         record {
           from_two = λ f. past ∙ ap (behind_rest cells bytes) two_back;
-          past_two = λ f. past ∙ past_one_more one two flags kept f ∙ ap (behind_rest cells bytes) (sym back);
+          past_two = λ f. past ∙ past_one_more one two flags kept f (is_zero_or one)
+              ∙ ap (behind_rest cells bytes) (sym back);
           past_one = λ f. ap (behind_rest cells bytes) back ∙ pass_first i m lt at f;
         }

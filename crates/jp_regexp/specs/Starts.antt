@@ -1,7 +1,7 @@
 -- A working file, which nobody has to believe: which bytes may be passed from the start of a table. No public
 -- contract names it.
-use Rattle.std.specs.Prelude.{◌≡◌, ℕ, ◌<◌, ◌⊎◌, false, List, [], ◌∷◌, length, slice_index_or, Contains}
-use Rattle.jp_regexp.specs.declared.starts.Marks.{Marks}
+use Rattle.std.specs.Prelude.{◌≡◌, ℕ, ◌<◌, ◌⊎◌, List, [], ◌∷◌, length, slice_index_or, Contains}
+use Rattle.jp_regexp.specs.declared.marks.Marks.{Marks}
 use Rattle.jp_regexp.specs.declared.starts.Pair.{Pair}
 use Rattle.jp_regexp.specs.Steps.{state_after, state_behind}
 
@@ -9,13 +9,13 @@ use Rattle.jp_regexp.specs.Steps.{state_after, state_behind}
 -- it is not marked as the second or the third, the byte that stands first before it changes nothing.
 pub record AreStarts (cells : List ℕ) (marks : List Marks) : Type 0 where
   pub all : 0 < length marks → length marks ≡ 256
-  pub first : (a : ℕ) (m : Marks) → a < length marks → (slice_index_or marks a m).first ≡ false →
+  pub first : (a : ℕ) (m : Marks) → a < length marks → (slice_index_or marks a m).first ≡ 0 →
       state_after cells 0 a ≡ 0
   pub second : (a b : ℕ) (m : Marks) → a < length marks → b < length marks →
-      (slice_index_or marks b m).second ≡ false →
+      (slice_index_or marks b m).second ≡ 0 →
       state_behind cells 0 (a ∷ b ∷ []) ≡ state_behind cells 0 (b ∷ [])
   pub third : (a b c : ℕ) (m : Marks) → a < length marks → b < length marks → c < length marks →
-      (slice_index_or marks c m).third ≡ false →
+      (slice_index_or marks c m).third ≡ 0 →
       state_behind cells 0 (a ∷ b ∷ c ∷ []) ≡ state_behind cells 0 (b ∷ c ∷ [])
 
 -- the two states are one, or are among the pairs
@@ -46,6 +46,6 @@ pub record LeadsTogether (cells : List ℕ) (pairs : List Pair) (b : ℕ) : Type
 
 -- the marks of a byte, by the pairs
 pub record AreMarksOf (cells : List ℕ) (ones twos : List Pair) (b : ℕ) (marks : Marks) : Type 0 where
-  pub first : marks.first ≡ false → state_after cells 0 b ≡ 0
-  pub second : marks.second ≡ false → LeadsTogether cells ones b
-  pub third : marks.third ≡ false → LeadsTogether cells twos b
+  pub first : marks.first ≡ 0 → state_after cells 0 b ≡ 0
+  pub second : marks.second ≡ 0 → LeadsTogether cells ones b
+  pub third : marks.third ≡ 0 → LeadsTogether cells twos b

@@ -10,6 +10,7 @@ mod fault;
 pub mod laws;
 mod leave;
 mod letters;
+mod marks;
 mod parts;
 mod pattern;
 mod reach;

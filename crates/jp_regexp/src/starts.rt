@@ -4,6 +4,7 @@ ghost use Rattle.std.specs.Prelude.{◌≡◌, ◌<◌, ◌≤◌, [], false, dr
 ghost use Rattle.jp_regexp.specs.Starts.{AreMarksOf, AreOnes, AreStarts, AreTwos, HasPair, HaveBehind};
 ghost use Rattle.jp_regexp.specs.Starts.{KeepsPairs, LeadsTogether};
 
+use crate::marks::Marks;
 use crate::table::{Table, WIDTH};
 use std::alloc::{AllocError, Global};
 
@@ -12,16 +13,6 @@ const MOST_PAIRS: usize = 256;
 
 /// How many characters of ASCII may be marked at the place where the fewest are.
 const MOST_MARKED: usize = 16;
-
-/// What a byte may change behind the start. Where it is not marked as the first, it leads back to the start;
-/// where not as the second, it leads behind any byte to where it leads from the start; and where not as the
-/// third, it leads behind any two bytes to where it leads behind the latter of them alone.
-#[derive(Clone, Copy)]
-pub struct Marks {
-    pub first: bool,
-    pub second: bool,
-    pub third: bool,
-}
 
 /// The marks of each byte, or none where they would tell too little.
 #[derive(Drop)]
@@ -55,19 +46,19 @@ impl Starts {
         ensures same { (cells : List ℕ) → AreStarts cells self.now.marks.items →
             state_behind cells 0 bytes.now ≡ state_behind cells 0 (drop result bytes.now) }
     {
-        let mut one = false;
-        let mut two = false;
+        let mut one = 0u8;
+        let mut two = 0u8;
         for (i, byte) in bytes.iter().enumerate() {
             let marks = self.marks[usize::from(*byte)];
-            if two & marks.third {
+            if two & marks.third != 0 {
                 return i - 2;
             }
             two = one & marks.second;
             one = marks.first;
         }
-        if two {
+        if two != 0 {
             bytes.len() - 2
-        } else if one {
+        } else if one != 0 {
             bytes.len() - 1
         } else {
             bytes.len()
@@ -168,10 +159,17 @@ fn marks_of(table: &Table, ones: &[Pair], twos: &[Pair], byte: u8) -> Marks
     ensures { AreMarksOf table.now.cells.items ones.now twos.now byte result }
 {
     Marks {
-        first: table.after(0, byte) != 0,
-        second: tells_apart(table, ones, byte),
-        third: tells_apart(table, twos, byte),
+        first: mark_if(table.after(0, byte) != 0),
+        second: mark_if(tells_apart(table, ones, byte)),
+        third: mark_if(tells_apart(table, twos, byte)),
     }
+}
+
+fn mark_if(marked: bool) -> u8
+    ensures bit { result ≤ 1 }
+    ensures none { result ≡ 0 → marked ≡ false }
+{
+    if marked { 1 } else { 0 }
 }
 
 /// Whether the byte leads from the two states of some pair to different ones.
@@ -191,8 +189,8 @@ fn tell_enough(marks: &[Marks]) -> bool
     requires { 128 ≤ length marks.now }
 {
     let ascii = &marks[..128];
-    let first = ascii.iter().filter(|one| one.first).count();
-    let second = ascii.iter().filter(|one| one.second).count();
-    let third = ascii.iter().filter(|one| one.third).count();
+    let first = ascii.iter().filter(|one| one.first != 0).count();
+    let second = ascii.iter().filter(|one| one.second != 0).count();
+    let third = ascii.iter().filter(|one| one.third != 0).count();
     first.min(second).min(third) <= MOST_MARKED
 }

@@ -1,5 +1,5 @@
 use Rattle.std.proofs.Common.{◌≡◌, ℕ, ◌<◌, length, slice_index_or}
-use Rattle.jp_regexp.specs.declared.starts.Marks.{Marks}
+use Rattle.jp_regexp.specs.declared.marks.Marks.{Marks}
 use Rattle.jp_regexp.specs.Starts.{AreMarksOf}
 use Rattle.jp_regexp.proofs.starts.make_starts.Given as goal
 

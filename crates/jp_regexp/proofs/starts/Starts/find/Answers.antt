@@ -16,5 +16,5 @@ loop-i-preserved c =
       flags = flags_more i c.loop-i.one c.loop-i.two m kept.flags;
       passing = λ cells of. passing_more cells bytes marks of c.requires small i m
           c.loop-i-test.true at c.loop-i.one c.loop-i.two kept.flags (kept.passing cells of)
-          c.if-two-marks.false;
+          c.if-two-marks-ne0.false;
     }
