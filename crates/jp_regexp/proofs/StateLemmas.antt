@@ -3,7 +3,6 @@ use Rattle.std.proofs.Common.{◌≡◌, ℕ, zero, suc, ◌+◌, ◌*◌, ◌<�
 use Rattle.std.proofs.Common.{List, [], ◌∷◌, ◌++◌, length, slice_index_or, inl, inr, refl, sym, ap, ◌∙◌, subst}
 use Rattle.std.proofs.Common.{arith, length-append}
 use Rattle.std.proofs.lemmas.Grind.{get_or_default_zero}
-use Rattle.std.proofs.lemmas.List.{get_or_default}
 use Rattle.std.proofs.lemmas.Bool.{cases_lt, lt-ltb, or_left}
 use Rattle.std.proofs.Math.ListN.{get_or-append, get_or-eq_default}
 use Rattle.std.proofs.Math.Seq.{get_or-append_seam}
@@ -126,42 +125,6 @@ module _ (p : Unrolled) where
       stays = λ i column lt low high. absurd (omega arith);
     }
 
-    -- the cell of a step behind which the answer is known
-    pub settled_cell : (states : List State) (i c v : ℕ) (from s : State) → v ≡ 254 → i < length states →
-        from ≡ slice_index_or states i from → s.live.items ≡ next_places p from c → s.at_start ≡ anew →
-        s.accepts ≡ leaves (is_elem s.live.items) p 0 s.at_start → (s.at_start ≡ true → s.accepts ≡ true) →
-        (s.at_start ≡ false → s.live.items ≡ []) → IsCell p anew states i c v
-    settled_cell states i c v from s e lt at live start accepts found dead =
-        let same : (d : State) → from ≡ slice_index_or states i d =
-        λ d. at ∙ get_or_default states i from d lt in
-        record {
-          within = λ h. absurd (omega arith);
-          follows = λ d t h. absurd (omega arith);
-          found = λ d h a.
-              subst (λ x. leaves (is_elem (next_places p x c)) p 0 true ≡ true) (same d)
-              (ap (λ xs. leaves (is_elem xs) p 0 true) (sym live)
-              ∙ ap (leaves (is_elem s.live.items) p 0) (sym (start ∙ a)) ∙ sym accepts ∙ found (start ∙ a));
-          dead = λ d h a.
-              subst (λ x. next_places p x c ≡ []) (same d) (sym live ∙ dead (start ∙ a));
-        }
-
-    -- the cell of a step to a state
-    pub next_cell : (states : List State) (i c v : ℕ) (from s : State) → v < length states →
-        length states ≤ 254 → i < length states → from ≡ slice_index_or states i from →
-        ((d : State) → s ≡ slice_index_or states v d) → s.live.items ≡ next_places p from c →
-        s.at_start ≡ anew → IsCell p anew states i c v
-    next_cell states i c v from s within few lt at to live start =
-        let same : (d : State) → from ≡ slice_index_or states i d =
-        λ d. at ∙ get_or_default states i from d lt in
-        record {
-          within = λ h. within;
-          follows = λ d t h.
-              subst (λ x. Follows p anew x c (slice_index_or states v t)) (same d)
-              (subst (Follows p anew from c) (to t) (record { places = live; start = start }));
-          found = λ d h a. absurd (omega arith);
-          dead = λ d h a. absurd (omega arith);
-        }
-
     -- the cell of a character is that of each that is like it
     pub cell_alike : (states : List State) (i v : ℕ) (those : Those) → Alike p those → (c d : ℕ) → AreOf
         those c d →
@@ -178,12 +141,6 @@ module _ (p : Unrolled) where
           found = λ s e a. ap (λ live. leaves (is_elem live) p 0 true) (sym (same s)) ∙ of.found s e a;
           dead = λ s e a. sym (same s) ∙ of.dead s e a;
         }
-
-    -- no character has a column between those of ASCII and those of the others
-    pub cell_none : (states : List State) (i v column : ℕ) → 128 ≤ column → column < 192 →
-        IsCellOf p anew states i column v
-    cell_none states i v column low high c scalar (inl h) = absurd (omega arith)
-    cell_none states i v column low high c scalar (inr h) = absurd (omega arith)
 
     -- the column of a character of ASCII is its own
     pub cell_ascii : (states : List State) (i v code column : ℕ) → code ≡ column → column < 128 → IsCell p
