@@ -82,7 +82,8 @@ module _ (p : Pattern) (counts : HasCounts p) (states : List State) (cells : Lis
         (slice_index_or states n first).accepts ≡ false
     is_unsettled i n c small cell = by (cases_lt 0 n) where
       by : (0 < n) ⊎ (n ≤ 0) → (slice_index_or states n first).accepts ≡ false
-      by (inl some) = of.known.unsettled n first some (cell.within small) (cell.follows first first small).start
+      by (inl some) =
+          of.known.unsettled n first some (cell.within small) (cell.follows first first small).start
       by (inr none) =
           let zero : 0 ≡ n = omega arith in
           subst (λ k. (slice_index_or states k first).accepts ≡ false) zero closed
@@ -216,7 +217,8 @@ module _ (p : Pattern) (counts : HasCounts p) (states : List State) (cells : Lis
   pub member_by : IsTableOf (unrolled p) false states cells → TellsMember n states (Member p (chars bytes))
   member_by of =
       subst (λ k. TellsMember k states (Member p (chars bytes))) spelled
-      (tells_member p counts states cells (some_state states some) full of [] (chars bytes) 0 (scalars-chars bytes utf8) some
+      (tells_member p counts states cells (some_state states some) full of [] (chars bytes) 0
+      (scalars-chars bytes utf8) some
       (λ d u. start_left p states of.known some d u))
 
 -- where the start accepts, every text has a part

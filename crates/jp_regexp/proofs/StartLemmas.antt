@@ -13,7 +13,8 @@ use Rattle.jp_regexp.specs.Steps.{state_after, state_behind}
 
 module _ (cells : List ℕ) (ones twos : List Pair) (marks : List Marks) (first : AreOnes cells ones)
     (second : AreTwos cells ones twos (length ones)) (all : length marks ≡ 256)
-    (each : (b : ℕ) (m : Marks) → b < length marks → AreMarksOf cells ones twos b (slice_index_or marks b m)) where
+    (each : (b : ℕ) (m : Marks) → b < length marks →
+    AreMarksOf cells ones twos b (slice_index_or marks b m)) where
   -- where each pair leads to one state, these two do
   together : (pairs : List Pair) (x y b : ℕ) → HasPair pairs x y → LeadsTogether cells pairs b →
       state_after cells x b ≡ state_after cells y b

@@ -5,8 +5,8 @@ use Rattle.jp_regexp.specs.declared.marks.Marks.{Marks}
 use Rattle.jp_regexp.specs.declared.starts.Pair.{Pair}
 use Rattle.jp_regexp.specs.Steps.{state_after, state_behind}
 
--- The marks of the bytes. Where a byte is not marked as the first, it leads from the start to the start; where
--- it is not marked as the second or the third, the byte that stands first before it changes nothing.
+-- The marks of the bytes. Where a byte is not marked as the first, it leads from the start to the start;
+-- where it is not marked as the second or the third, the byte that stands first before it changes nothing.
 pub record AreStarts (cells : List ℕ) (marks : List Marks) : Type 0 where
   pub all : 0 < length marks → length marks ≡ 256
   pub first : (a : ℕ) (m : Marks) → a < length marks → (slice_index_or marks a m).first ≡ 0 →
@@ -42,7 +42,8 @@ pub record KeepsPairs (old new : List Pair) : Type 0 where
 -- the byte leads from both states of each pair to one
 pub record LeadsTogether (cells : List ℕ) (pairs : List Pair) (b : ℕ) : Type 0 where
   pub each : (k : ℕ) (d : Pair) → k < length pairs →
-      state_after cells (slice_index_or pairs k d).all b ≡ state_after cells (slice_index_or pairs k d).later b
+      state_after cells (slice_index_or pairs k d).all b
+      ≡ state_after cells (slice_index_or pairs k d).later b
 
 -- the marks of a byte, by the pairs
 pub record AreMarksOf (cells : List ℕ) (ones twos : List Pair) (b : ℕ) (marks : Marks) : Type 0 where

@@ -48,7 +48,8 @@ pub record IsCell (p : Unrolled) (anew : Bool) (states : List State) (i c cell :
       leaves (is_elem (next_places p (slice_index_or states i s) c)) p 0 true ≡ true
   pub dead : (s : State) → cell ≡ 254 → anew ≡ false → next_places p (slice_index_or states i s) c ≡ []
 
--- a character of ASCII has a column, by its code, and each other one those of the bytes that it may begin with
+-- a character of ASCII has a column, by its code, and each other one those of the bytes that it may begin
+-- with
 abbrev pub IsColumnOf : ℕ → ℕ → Type 0
 IsColumnOf c column = ((c < 128) × (column ≡ c)) ⊎ ((128 ≤ c) × (192 ≤ column))
 
