@@ -1,4 +1,5 @@
 pub mod AlikeLemmas
+pub mod BytesLemmas
 pub mod CharacterLemmas
 pub mod CopyLemmas
 pub mod Derivatives
@@ -18,12 +19,14 @@ pub mod ReachLemmas
 pub mod ReadLemmas
 pub mod ReadsLemmas
 pub mod RightTests
+pub mod RunLemmas
 pub mod SetsRead
 pub mod SetsSound
 pub mod SetLemmas
 pub mod SizeLemmas
 pub mod SizedLemmas
 pub mod SkipLemmas
+pub mod StartLemmas
 pub mod StateLemmas
 pub mod StepLemmas
 pub mod TableLemmas

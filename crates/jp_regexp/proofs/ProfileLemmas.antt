@@ -1,10 +1,12 @@
 -- That a pattern is within the limits has one proof, so a value that keeps it quietly keeps it.
 use Rattle.std.proofs.Math.Logic.{∥∥₁_elim}
 use Rattle.std.proofs.Props.{props}
-use Rattle.std.proofs.Common.{◌≤◌, Some, None, Bool}
+use Rattle.std.proofs.Common.{ℕ, ◌≤◌, Some, None, Bool, List}
 use Rattle.jp_regexp.specs.Unrolled.{Unrolled}
 use Rattle.jp_regexp.specs.Alike.{AreClasses}
 use Rattle.jp_regexp.specs.declared.classes.Classes.{Classes}
+use Rattle.jp_regexp.specs.declared.marks.Marks.{Marks}
+use Rattle.jp_regexp.specs.Starts.{AreStarts}
 use Rattle.jp_regexp.specs.Steps.{IsTable}
 use Rattle.jp_regexp.specs.Walk.{Rises-prop}
 use Rattle.jp_regexp.specs.declared.table.Table.{Table}
@@ -33,6 +35,9 @@ kept_size p h = (kept_profile p h).size_fits
 pub kept_table : (p : Unrolled) (anew : Bool) (table : Table) → ∥ IsTable p anew table ∥₁ → IsTable p anew
     table
 kept_table p anew table h = ∥∥₁_elim h (hlevel (props, Rises-prop)) (λ of. of)
+
+pub kept_starts : (cells : List ℕ) (marks : List Marks) → ∥ AreStarts cells marks ∥₁ → AreStarts cells marks
+kept_starts cells marks h = ∥∥₁_elim h (hlevel props) (λ of. of)
 
 pub kept_classes : (p : Unrolled) (classes : Classes) → ∥ AreClasses p classes ∥₁ → AreClasses p classes
 kept_classes p classes h = ∥∥₁_elim h (hlevel props) (λ of. of)

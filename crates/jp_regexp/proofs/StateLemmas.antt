@@ -1,6 +1,7 @@
 -- The states of a table, and its cells.
-use Rattle.std.proofs.Common.{◌≡◌, ℕ, zero, suc, ◌+◌, ◌*◌, ◌<◌, ◌≤◌, ◌⊎◌, Bool, true, nat_lt, IsTrue, List}
-use Rattle.std.proofs.Common.{[], ◌∷◌, ◌++◌, length, slice_index_or, inl, inr, refl, sym, ap, ◌∙◌, subst}
+use Rattle.std.proofs.Common.{◌≡◌, ℕ, zero, suc, ◌+◌, ◌*◌, ◌<◌, ◌≤◌, ◌⊎◌, Bool, true, false, nat_lt, IsTrue}
+use Rattle.std.proofs.Common.{List, [], ◌∷◌, ◌++◌, length, slice_index_or, inl, inr, refl, sym, ap, ◌∙◌}
+use Rattle.std.proofs.Common.{subst}
 use Rattle.std.proofs.Common.{arith, length-append}
 use Rattle.std.proofs.lemmas.Grind.{get_or_default_zero}
 use Rattle.std.proofs.lemmas.Bool.{cases_lt, lt-ltb, or_left}
@@ -12,7 +13,7 @@ use Rattle.jp_regexp.specs.declared.those.Those.TheVariants as those
 use Rattle.jp_regexp.specs.Alike.{Alike, AreOf}
 use Rattle.jp_regexp.specs.CharSets.{is_scalar}
 use Rattle.jp_regexp.specs.Steps.{AreStates, Follows, Grows, HasPlaces, IsCell, IsCellOf, IsState, IsTableOf}
-use Rattle.jp_regexp.specs.Steps.{cell_at}
+use Rattle.jp_regexp.specs.Steps.{cell_at, next_places}
 use Rattle.jp_regexp.specs.Unrolled.{Unrolled}
 use Rattle.jp_regexp.specs.Walk.{advance, is_elem, leaves, Rises}
 use Rattle.jp_regexp.specs.declared.reach.Reach.{Reach}
@@ -40,7 +41,11 @@ module _ (p : Unrolled) where
   pub only_start : (states : List State) (s : State) → states ≡ s ∷ [] → IsState p s → HasPlaces s [] true →
       AreStates p states
   only_start states s e of start =
-      subst (AreStates p) (sym e) (record { each = each; first = λ d lt. start }) where
+      subst (AreStates p) (sym e) (record {
+        each = each;
+        unsettled = λ i d some lt. absurd (omega arith);
+        first = λ d lt. start;
+      }) where
         each : (i : ℕ) (d : State) → i < 1 → IsState p (slice_index_or (s ∷ []) i d)
         each zero d lt = of
         each (suc i) d lt = absurd (omega arith)
@@ -49,9 +54,9 @@ module _ (p : Unrolled) where
   grows_same states of = record { states = of; longer = omega arith; same = λ i d lt. refl }
 
   pub grows_more : (states new : List State) (s : State) → 0 < length states → AreStates p states → IsState p
-      s →
+      s → (s.at_start ≡ true → s.accepts ≡ false) →
       new ≡ states ++ s ∷ [] → Grows p states new
-  grows_more states new s some of one e = subst (Grows p states) (sym e) more where
+  grows_more states new s some of one unsettled e = subst (Grows p states) (sym e) more where
     here : (i : ℕ) (d : State) → i < length states + 1 → (i < length states) ⊎ (length states ≤ i) →
         IsState p (slice_index_or (states ++ s ∷ []) i d)
     here i d h (inl lt) = subst (IsState p) (sym (get_or-append states (s ∷ []) d i lt)) (of.each i d lt)
@@ -60,10 +65,24 @@ module _ (p : Unrolled) where
         subst (λ n. IsState p (slice_index_or (states ++ s ∷ []) n d)) at
         (subst (IsState p) (sym (get_or-append_seam states s [] d)) one)
 
+    IsUnsettled : State → Type 0
+    IsUnsettled d = d.at_start ≡ true → d.accepts ≡ false
+
+    unsettled_here : (i : ℕ) (d : State) → 0 < i → i < length states + 1 →
+        (i < length states) ⊎ (length states ≤ i) → IsUnsettled (slice_index_or (states ++ s ∷ []) i d)
+    unsettled_here i d past h (inl lt) =
+        subst IsUnsettled (sym (get_or-append states (s ∷ []) d i lt)) (of.unsettled i d past lt)
+    unsettled_here i d past h (inr ge) =
+        let at : length states ≡ i = omega arith in
+        subst (λ n. IsUnsettled (slice_index_or (states ++ s ∷ []) n d)) at
+        (subst IsUnsettled (sym (get_or-append_seam states s [] d)) unsettled)
+
     more : Grows p states (states ++ s ∷ [])
     more = record {
       states = record {
         each = λ i d lt. here i d (omega (arith, length-append states (s ∷ []))) (cases_lt i (length states));
+        unsettled = λ i d past lt. unsettled_here i d past (omega (arith, length-append states (s ∷ [])))
+            (cases_lt i (length states));
         first = λ d lt. subst (λ t. HasPlaces t [] true) (sym (get_or-append states (s ∷ []) d 0 some))
             (of.first d some);
       };
@@ -83,11 +102,20 @@ module _ (p : Unrolled) where
               (subst (λ to. Follows p anew (slice_index_or states i s) c to)
               (sym (grows.same v t (old.within e)))
               (old.follows s t e));
+          found = λ s e a. subst (λ from. leaves (is_elem (next_places p from c)) p 0 true ≡ true)
+              (sym (grows.same i s lt)) (old.found s e a);
+          dead = λ s e a. subst (λ from. next_places p from c ≡ []) (sym (grows.same i s lt))
+              (old.dead s e a);
         }
 
     pub empty_cell : (states : List State) (i column v : ℕ) → v ≡ 255 → IsCellOf p anew states i column v
     empty_cell states i column v z c scalar is =
-        record { within = λ e. absurd (omega arith); follows = λ s t e. absurd (omega arith) }
+        record {
+          within = λ e. absurd (omega arith);
+          follows = λ s t e. absurd (omega arith);
+          found = λ s e a. absurd (omega arith);
+          dead = λ s e a. absurd (omega arith);
+        }
 
     pub first_table : (states : List State) → length states ≡ 1 → AreStates p states → IsTableOf p anew
         states []
@@ -95,54 +123,63 @@ module _ (p : Unrolled) where
       known = of;
       few = omega arith;
       cell = λ i column lt in_row. empty_cell states i column 255 refl;
+      stays = λ i column lt low high. absurd (omega arith);
     }
 
     -- the cell of a character is that of each that is like it
     pub cell_alike : (states : List State) (i v : ℕ) (those : Those) → Alike p those → (c d : ℕ) → AreOf
         those c d →
         IsCell p anew states i c v → IsCell p anew states i d v
-    cell_alike states i v those alike c d are of = record {
-      within = of.within;
-      follows = λ s t e.
-          let from = slice_index_or states i s in
-          subst (λ live. HasPlaces (slice_index_or states v t) live anew)
-          (alike.reads c d are (is_elem from.live.items) 0 from.at_start) (of.follows s t e);
-    }
-
-    -- no character has a column behind the others'
-    pub cell_none : (states : List State) (i v column : ℕ) → 128 < column → IsCellOf p anew states i column v
-    cell_none states i v column lt c scalar is = absurd (omega arith)
+    cell_alike states i v those alike c d are of =
+        let same : (s : State) → next_places p (slice_index_or states i s) c
+        ≡ next_places p (slice_index_or states i s) d =
+        λ s. alike.reads c d are (is_elem (slice_index_or states i s).live.items) 0
+        (slice_index_or states i s).at_start in
+        record {
+          within = of.within;
+          follows = λ s t e.
+              subst (λ live. HasPlaces (slice_index_or states v t) live anew) (same s) (of.follows s t e);
+          found = λ s e a. ap (λ live. leaves (is_elem live) p 0 true) (sym (same s)) ∙ of.found s e a;
+          dead = λ s e a. sym (same s) ∙ of.dead s e a;
+        }
 
     -- the column of a character of ASCII is its own
     pub cell_ascii : (states : List State) (i v code column : ℕ) → code ≡ column → column < 128 → IsCell p
         anew states i code v →
         IsCellOf p anew states i column v
-    cell_ascii states i v code column e lt of c scalar is =
-        let same : code ≡ c = omega arith in
-        subst (λ n. IsCell p anew states i n v) same of
+    cell_ascii states i v code column e lt of c scalar (inl h) =
+        subst (λ n. IsCell p anew states i n v) (e ∙ h.1) of
+    cell_ascii states i v code column e lt of c scalar (inr h) = absurd (omega arith)
 
     -- the column of a character that is like another of ASCII
     pub cell_first : (states : List State) (i v first column : ℕ) → column < 128 → first < column →
         Alike p (those.Both first column) → IsCellOf p anew states i first v → IsCellOf p anew states i
         column v
-    cell_first states i v first column lt below alike of c scalar is =
-        let same : column ≡ c = omega arith in
-        let one : IsCell p anew states i first v = of first (ascii_scalar first (omega arith)) (omega arith)
-        in
-        subst (λ n. IsCell p anew states i n v) same
+    cell_first states i v first column lt below alike of =
+        let low : first < 128 = omega arith in
+        let one : IsCell p anew states i first v = of first (ascii_scalar first low) (inl (low, refl)) in
+        cell_ascii states i v column column refl lt
         (cell_alike states i v (those.Both first column) alike first column (refl, refl) one)
 
-    -- the column of all others
-    pub cell_past : (states : List State) (i v column : ℕ) → column ≡ 128 → Alike p those.PastAscii →
+    -- the columns of all others
+    pub cell_past : (states : List State) (i v column : ℕ) → 192 ≤ column → Alike p those.PastAscii →
         IsCell p anew states i 128 v → IsCellOf p anew states i column v
-    cell_past states i v column e alike of c scalar is =
-        cell_alike states i v those.PastAscii alike 128 c (refl, omega arith, scalar) of
+    cell_past states i v column e alike of c scalar (inl h) = absurd (omega arith)
+    cell_past states i v column e alike of c scalar (inr h) =
+        cell_alike states i v those.PastAscii alike 128 c (refl, h.0, scalar) of
+
+    -- each of them has the cell of the first
+    pub cell_later : (states : List State) (i v column : ℕ) → 192 ≤ column →
+        IsCellOf p anew states i 192 v → IsCellOf p anew states i column v
+    cell_later states i v column e of c scalar (inl h) = absurd (omega arith)
+    cell_later states i v column e of c scalar (inr h) = of c scalar (inr (h.0, omega arith))
 
     module _ (states new : List State) (cells after : List ℕ) (from column v : ℕ)
         (known : from < length states)
         (next : length cells ≡ from * 256 + column) (grows : Grows p states new)
         (table : IsTableOf p anew states cells)
-        (one : IsCellOf p anew new from column v) (in_row : column < 256) where
+        (one : IsCellOf p anew new from column v)
+        (stay : 128 ≤ column → column < 192 → v ≡ from) (in_row : column < 256) where
       cell_here : (i k : ℕ) → i < length new → k < 256 →
           (i * 256 + k < length cells) ⊎ (length cells ≤ i * 256 + k) → IsCellOf p anew new i k
           (cell_at (cells ++ v ∷ []) i k)
@@ -164,11 +201,24 @@ module _ (p : Unrolled) where
             (subst (IsCellOf p anew new i k) (sym (get_or-append_seam cells v [] 255))
             (subst (λ n. IsCellOf p anew new n k v) row (subst (λ n. IsCellOf p anew new from n v) same one)))
 
-      pub table_more : length new ≤ 255 → after ≡ cells ++ v ∷ [] → IsTableOf p anew new after
+      stay_here : (i k : ℕ) → i * 256 + k < length cells + 1 → 128 ≤ k → k < 192 →
+          (i * 256 + k < length cells) ⊎ (length cells ≤ i * 256 + k) → cell_at (cells ++ v ∷ []) i k ≡ i
+      stay_here i k lt low high (inl h) =
+          get_or-append cells (v ∷ []) 255 (i * 256 + k) h ∙ table.stays i k h low high
+      stay_here i k lt low high (inr h) =
+          let row : from ≡ i = omega arith in
+          let same : column ≡ k = omega arith in
+          let at : length cells ≡ i * 256 + k = omega arith in
+          subst (λ n. slice_index_or (cells ++ v ∷ []) n 255 ≡ i) at
+          (get_or-append_seam cells v [] 255 ∙ stay (omega arith) (omega arith) ∙ row)
+
+      pub table_more : length new ≤ 254 → after ≡ cells ++ v ∷ [] → IsTableOf p anew new after
       table_more few e = subst (IsTableOf p anew new) (sym e) (record {
         known = grows.states;
         few = few;
         cell = λ i k lt lo. cell_here i k lt lo (cases_lt (i * 256 + k) (length cells));
+        stays = λ i k lt low high. stay_here i k (omega (arith, length-append cells (v ∷ []))) low high
+            (cases_lt (i * 256 + k) (length cells));
       })
 
 -- the places behind a character rise

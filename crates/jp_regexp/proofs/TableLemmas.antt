@@ -1,14 +1,16 @@
 -- What the steps of a table lead to.
 use Rattle.std.proofs.Common.{◌≡◌, ℕ, zero, suc, ◌<◌, ◌⊎◌, ◌↔◌, Bool, true, false, IsTrue, List, [], ◌∷◌}
 use Rattle.std.proofs.Common.{length, slice_index_or, refl, sym, ap, ◌∙◌, subst, arith, nat_eq, not}
-use Rattle.std.proofs.Common.{true≢false}
+use Rattle.std.proofs.Common.{true≢false, nat_lt, inl, inr, if◌then◌else◌}
+use Rattle.std.proofs.lemmas.Bool.{ltb-true, ltb-false}
 use Rattle.jp_regexp.specs.declared.table.State.{State}
 use Rattle.jp_regexp.specs.declared.table.Table.{Table}
 use Rattle.jp_regexp.specs.CharSets.{is_scalar}
 use Rattle.jp_regexp.specs.Language.{Member}
 use Rattle.jp_regexp.specs.Pattern.{Text, Pattern}
 use Rattle.jp_regexp.specs.Profile.{HasCounts}
-use Rattle.jp_regexp.specs.Steps.{AreStates, HasPlaces, IsCell, IsState, IsTableOf, cell_at, column_of}
+use Rattle.jp_regexp.specs.Steps.{AreStates, HasPlaces, IsCell, IsColumnOf, IsState, IsTable, IsTableOf}
+use Rattle.jp_regexp.specs.Steps.{cell_at, column_of}
 use Rattle.jp_regexp.specs.Unrolled.{unrolled, SomePlaceHas, all_places}
 use Rattle.jp_regexp.specs.Walk.{advance, is_elem}
 use Rattle.std.proofs.lemmas.Bool.Decides.{nat_tests}
@@ -16,14 +18,23 @@ use Rattle.jp_regexp.proofs.FindLemmas.{all_left}
 use Rattle.jp_regexp.proofs.TermLemmas.{takes_step, accepted}
 
 -- a table without states
-pub no_table : (p : Pattern) (anew : Bool) (table : Table) → table.states.items ≡ [] → IsTableOf (unrolled p)
-    anew table.states.items table.cells.items
-no_table p anew table none =
+pub no_table : (p : Pattern) (anew : Bool) (table : Table) → table.states.items ≡ [] → table.cells.items ≡ []
+    → IsTable (unrolled p) anew table
+no_table p anew table none no_cells =
     let empty : length table.states.items ≡ 0 = ap length none in
+    let no_cell : length table.cells.items ≡ 0 = ap length no_cells in
     record {
-      known = record { each = λ i s lt. absurd (omega arith); first = λ s lt. absurd (omega arith) };
-      few = omega arith;
-      cell = λ i column lt in_row. absurd (omega arith);
+      steps = record {
+        known = record {
+          each = λ i s lt. absurd (omega arith);
+          unsettled = λ i s past lt. absurd (omega arith);
+          first = λ s lt. absurd (omega arith);
+        };
+        few = omega arith;
+        cell = λ i column lt in_row. absurd (omega arith);
+        stays = λ i column lt low high. absurd (omega arith);
+      };
+      full = omega arith;
     }
 
 -- a list that is not empty, by the test of the code
@@ -51,16 +62,8 @@ module _ (p : Pattern) where
         let here : IsState (unrolled p) s = subst (IsState (unrolled p)) (sym e) (of.known.each i t lt) in
         accepted p counts s.at_start s.live.items here.rises s.accepts here.accepts
 
-    module _ (i c n : ℕ) (lt : i < length states) (scalar : IsTrue (is_scalar c)) (small : n < 255)
-        (e : cell_at cells i (column_of c) ≡ n) where
-      cell : IsCell (unrolled p) anew states i c n
-      cell =
-          subst (IsCell (unrolled p) anew states i c) e (of.cell i (column_of c) lt (omega arith) c scalar
-          refl)
-
-      pub next_within : n < length states
-      next_within = cell.within small
-
+    module _ (i c n : ℕ) (lt : i < length states) (small : n < 254)
+        (cell : IsCell (unrolled p) anew states i c n) where
       pub next_takes : (s t : State) (u : Text) → SomePlaceHas p (places_at (slice_index_or states n t)) u
           ↔ (SomePlaceHas p (places_at (slice_index_or states i s)) (c ∷ u) ⊎ (IsTrue anew × Member p u))
       next_takes s t u =
@@ -95,6 +98,14 @@ start_left p states of some s u =
     subst (λ places. SomePlaceHas p places u ↔ Member p u) (sym (has_places p _ [] true (of.first s some)))
     (all_left p u)
 
+-- the first column of a character
+first_column : (c : ℕ) → IsColumnOf c (column_of c) × (column_of c < 256)
+first_column c = by (nat_lt c 128) refl where
+  by : (b : Bool) → nat_lt c 128 ≡ b →
+      IsColumnOf c (if b then c else 192) × ((if b then c else 192) < 256)
+  by true e = let lt = ltb-true c 128 e in (inl (lt, refl), omega arith)
+  by false e = (inr (ltb-false c 128 e, omega arith), omega arith)
+
 -- a step from the start back to the start
 pub nothing_begins : (p : Pattern) (states : List State) (cells : List ℕ) →
     IsTableOf (unrolled p) true states cells → (c : ℕ) → 0 < length states → IsTrue (is_scalar c) →
@@ -102,7 +113,7 @@ pub nothing_begins : (p : Pattern) (states : List State) (cells : List ℕ) →
 nothing_begins p [] cells of c some scalar e = absurd (omega arith)
 nothing_begins p (s ∷ states) cells of c some scalar e =
     let first = of.known.first s some in
-    let here = of.cell 0 (column_of c) some (omega arith) c scalar refl in
+    let here = of.cell 0 (column_of c) some (first_column c).1 c scalar (first_column c).0 in
     let one = subst (IsCell (unrolled p) true (s ∷ states) 0 c) e here in
     let next = one.follows s s (omega arith) in
     ap (λ live. advance (is_elem live) c (unrolled p) 0 true) (sym first.places)

@@ -12,6 +12,7 @@ pub mod Quantity
 pub mod Reading
 pub mod Samples
 pub mod Shape
+pub mod Starts
 pub mod Steps
 pub mod Terms
 pub mod Tests

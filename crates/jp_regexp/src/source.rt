@@ -21,5 +21,5 @@ pub struct Source<'a> {
     ghost sized: { IsTrue (meaning root.now).is_sized },
     ghost fits: { letters (unrolled_in root.now) ≤ max_size },
     ghost alike: { ∥ AreClasses (unrolled_in root.now) classes.now ∥₁ },
-    ghost room: { most ≤ 255 },
+    ghost room: { most ≤ 254 },
 }

@@ -1,12 +1,13 @@
 //! What a pattern matches, where its tables have each step that is taken.
 
-ghost use Rattle.std.specs.Prelude.{◌≡◌, ◌↔◌, IfSome, IsTrue};
+ghost use Rattle.std.specs.Prelude.{◌≡◌, ◌<◌, ◌↔◌, IfSome, IsTrue, length};
 ghost use Rattle.std.specs.Str.{chars};
 ghost use Rattle.jp_regexp.specs.Held.{HasPart, pattern_of};
 ghost use Rattle.jp_regexp.specs.Language.{Member};
+ghost use Rattle.jp_regexp.specs.Steps.{state_behind};
 
 use crate::pattern::Pattern;
-use crate::table::NONE;
+use crate::table::{NONE, SETTLED};
 
 impl Pattern {
     /// Whether the whole text is in the pattern's language, where the table tells (RFC 9485, 4).
@@ -17,18 +18,11 @@ impl Pattern {
         if table.states.is_empty() {
             return None;
         }
-        let mut state = 0;
-        for c in text.chars() {
-            let behind = table.next(state, c);
-            if behind == NONE {
-                return None;
-            }
-            state = usize::from(behind);
-            if table.states[state].is_dead() {
-                return Some(false);
-            }
+        match table.behind(text.as_bytes()) {
+            NONE => None,
+            SETTLED => Some(false),
+            state => Some(table.states[usize::from(state)].accepts),
         }
-        Some(table.states[state].accepts)
     }
 
     /// Whether some part of the text is in the pattern's language, where the table tells.
@@ -39,17 +33,25 @@ impl Pattern {
         if table.states.is_empty() {
             return None;
         }
-        let mut state = 0;
-        for c in text.chars() {
-            if table.states[state].accepts {
-                return Some(true);
-            }
-            let behind = table.next(state, c);
-            if behind == NONE {
-                return None;
-            }
-            state = usize::from(behind);
+        if table.states[0].accepts {
+            return Some(true);
         }
-        Some(table.states[state].accepts)
+        match self.part_state(text.as_bytes()) {
+            NONE => None,
+            SETTLED => Some(true),
+            _ => Some(false),
+        }
+    }
+
+    /// The number of the state that these bytes lead to where a part is looked for.
+    fn part_state(&self, bytes: &[u8]) -> u8
+        requires { 0 < length self.now.part.states.items }
+        ensures { result ≡ state_behind self.now.part.cells.items 0 bytes.now }
+    {
+        if self.starts.marks.is_empty() {
+            self.part.behind(bytes)
+        } else {
+            self.part.behind_starts(&self.starts, bytes)
+        }
     }
 }

@@ -11,7 +11,8 @@ use crate::pattern::Pattern;
 use crate::pattern::matching::characters;
 use crate::read_patterns;
 use crate::source::Source;
-use crate::states::make_table;
+use crate::starts::{Starts, make_starts};
+use crate::states::{MOST_STATES, make_table};
 use crate::table::Table;
 use std::alloc::{AllocError, Global};
 
@@ -42,7 +43,13 @@ impl Pattern {
                 }
                 let whole = Table::new(alloc);
                 let part = Table::new(alloc);
-                Ok(Some(Pattern { root, whole, part }))
+                let starts = Starts::new(alloc);
+                Ok(Some(Pattern {
+                    root,
+                    whole,
+                    part,
+                    starts,
+                }))
             }
         }
     }
@@ -82,18 +89,25 @@ impl Pattern {
             most,
         };
         let part = make_table(alloc, source)?;
+        let starts = make_starts(alloc, &part)?;
         let Pattern {
             root,
             whole: _,
             part: _,
+            starts: _,
         } = self;
-        Ok(Pattern { root, whole, part })
+        Ok(Pattern {
+            root,
+            whole,
+            part,
+            starts,
+        })
     }
 }
 
 /// How many states a table of a pattern of this size has at most.
 fn most_states(size: u32) -> usize
-    ensures { result ≤ 255 }
+    ensures { result ≤ 254 }
 {
-    (STATES_BY_SIZE / size.max(1)).min(255) as usize
+    (STATES_BY_SIZE / size.max(1)).min(MOST_STATES as u32) as usize
 }

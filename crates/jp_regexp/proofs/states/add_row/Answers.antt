@@ -11,10 +11,11 @@ loop-column-preserved c =
     let made = c.in_ok-cell.ensures in
     record {
       known = omega (arith, old.invariant.known, made.grows.longer);
+      longer = omega (arith, old.invariant.longer, made.grows.longer);
       next = omega (arith, old.invariant.next, c.in_ok-push.ensures.len);
       table = table_more (unrolled_in source.root.now) source.anew old.states.items states old.cells.items
           c.push.new.self.items c.args.from
           old.column c.in_ok-cell.cell old.invariant.known old.invariant.next made.grows old.invariant.table
-          made.cell (omega arith)
+          made.cell made.stays (omega arith)
           made.few c.in_ok-push.ensures.items;
     }

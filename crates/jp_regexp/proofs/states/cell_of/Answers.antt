@@ -7,10 +7,10 @@ use Rattle.jp_regexp.proofs.states.cell_of.Goals as goal
 pub returns-clause-grows : goal.returns-clause-grows
 returns-clause-grows c =
     let p = unrolled_in c.args.source.root.now in
-    let made = c.state_of.ensures in
+    let made = c.state_of-state.ensures in
     let live = c.in_ok-next.next.items in
-    grows_more p c.args.states.now.items c.push.new.self.items c.state_of.result (omega arith)
+    grows_more p c.args.states.now.items c.push.new.self.items c.state_of-state.result (omega arith)
     c.requires.states
-    (state_with p c.state_of.result live c.in_ok-next.ensures.rises made.live
+    (state_with p c.state_of-state.result live c.in_ok-next.ensures.rises made.live
     (made.accepts ∙ ap (λ b. leaves (is_elem live) p 0 b) (sym made.at_start)))
-    c.in_ok-push.ensures.items
+    (c.is_settled.ensures.unsettled c.if-is_settled.false) c.in_ok-push.ensures.items

@@ -5,17 +5,25 @@ use Rattle.jp_regexp.specs.Steps.{IsCellOf}
 use Rattle.jp_regexp.specs.Alike.{Alike}
 use Rattle.jp_regexp.specs.declared.those.Those.TheVariants as those
 use Rattle.jp_regexp.proofs.ProfileLemmas.{kept_classes}
-use Rattle.jp_regexp.proofs.StateLemmas.{cell_ascii, cell_first, cell_past, first_is}
+use Rattle.jp_regexp.proofs.StateLemmas.{cell_ascii, cell_first, cell_later, first_is}
 use Rattle.jp_regexp.proofs.states.column_cell.Goals as goal
+
+pub returns-then-column-gt-PAST_ASCII-clause-cell : goal.returns-then-column-gt-PAST_ASCII-clause-cell
+returns-then-column-gt-PAST_ASCII-clause-cell c =
+    let source = c.args.source in
+    let p = unrolled_in source.root.now in
+    let from = c.args.from in
+    let inside : from * 256 + 192 < length c.args.cells.now = omega (arith, c.requires.next) in
+    cell_later p source.anew c.args.states.now.items from _ c.args.column (omega arith)
+    (subst (IsCellOf p source.anew c.args.states.now.items from 192)
+    (get_or_default_zero c.args.cells.now (from * 256 + 192) 255 inside)
+    (c.requires.table.cell from 192 c.requires.known (omega arith)))
 
 pub returns-then-column-eq-PAST_ASCII-clause-cell : goal.returns-then-column-eq-PAST_ASCII-clause-cell
 returns-then-column-eq-PAST_ASCII-clause-cell c =
     let source = c.args.source in
-    let p = unrolled_in source.root.now in
-    cell_past p source.anew c.cell_of.new.states.items c.args.from c.in_ok-cell_of.field-0 c.args.column
-    c.if-column-eq-PAST_ASCII.true
-    ((kept_classes p source.classes.now source.alike).others c.if-not-source.false)
-    c.in_ok-cell_of.ensures.cell
+    cell_later (unrolled_in source.root.now) source.anew c.cell_past_ascii.new.states.items c.args.from
+    c.in_ok-cell_past_ascii.field-0 c.args.column (omega arith) c.in_ok-cell_past_ascii.ensures.cell
 
 pub index-first-requires : goal.index-first-requires
 index-first-requires c =
@@ -23,7 +31,7 @@ index-first-requires c =
     omega (
       arith,
       (kept_classes (unrolled_in source.root.now) source.classes.now source.alike).all,
-      c.if-column-eq-PAST_ASCII.false,
+      c.if-column-ge-CONTINUED.false,
     )
 
 pub returns-then-known-column-clause-cell : goal.returns-then-known-column-clause-cell
@@ -33,7 +41,7 @@ returns-then-known-column-clause-cell c =
     let classes = kept_classes p source.classes.now source.alike in
     let column = c.args.column in
     let inside : column < length source.classes.now.first.items = omega
-    (arith, classes.all, c.if-column-eq-PAST_ASCII.false, c.requires.column) in
+    (arith, classes.all, c.if-column-ge-CONTINUED.false, c.requires.column) in
     let e = first_is source.classes.now.first.items column c.index-first.result.now c.from-known.result
     inside c.index-first.ensures c.from-known.ensures in
     let alike : Alike p (those.Both c.from-known.result column) =
@@ -42,7 +50,7 @@ returns-then-known-column-clause-cell c =
     let cell = c.requires.table.cell c.args.from known c.requires.known (omega (arith, c.requires.column)) in
     let inside : c.args.from * 256 + known < length c.args.cells.now = omega (arith, c.requires.next) in
     cell_first p source.anew c.args.states.now.items c.args.from _ known column
-    (omega (arith, c.requires.column, c.if-column-eq-PAST_ASCII.false, c.if-column-gt-PAST_ASCII.false))
+    (omega (arith, c.requires.column, c.if-column-ge-CONTINUED.false, c.if-column-ge-CONTINUED.false))
     c.if-known-column.true alike
     (subst (IsCellOf p source.anew c.args.states.now.items c.args.from known)
     (get_or_default_zero c.args.cells.now (c.args.from * 256 + known) 255 inside) cell)
@@ -54,10 +62,10 @@ returns-clause-cell c =
     let classes = kept_classes p source.classes.now source.alike in
     let column = c.args.column in
     let inside : column < length source.classes.now.first.items = omega
-    (arith, classes.all, c.if-column-eq-PAST_ASCII.false, c.requires.column) in
+    (arith, classes.all, c.if-column-ge-CONTINUED.false, c.requires.column) in
     let e = first_is source.classes.now.first.items column c.index-first.result.now c.from-known.result
     inside c.index-first.ensures c.from-known.ensures in
-    cell_ascii p source.anew c.cell_of-2.new.states.items c.args.from c.in_ok-cell_of-2.field-0 c.from.result
+    cell_ascii p source.anew c.cell_of.new.states.items c.args.from c.in_ok-cell_of.field-0 c.from.result
     column
     (omega (
       arith,
@@ -67,4 +75,4 @@ returns-clause-cell c =
       c.from.ensures,
       c.from-known.ensures,
     ))
-    (omega (arith, c.requires.column, c.if-column-eq-PAST_ASCII.false)) c.in_ok-cell_of-2.ensures.cell
+    (omega (arith, c.requires.column, c.if-column-ge-CONTINUED.false)) c.in_ok-cell_of.ensures.cell

@@ -9,6 +9,6 @@ returns c = λ h.
     let self = c.args.self.now in
     let zero = is_zero c.next.result h in
     nothing_begins (pattern_of self) self.part.states.items self.part.cells.items
-    (kept_table _ true self.part self.part_steps) c.args.c
+    (kept_table _ true self.part self.part_steps).steps c.args.c
     (omega (arith, is_some _ c.is_empty.result c.is_empty.ensures c.if-is_empty.false))
     c.next.ensures.scalar (c.next.ensures.cell (omega arith) ∙ zero)

@@ -1,0 +1,13 @@
+use Rattle.std.proofs.Common.{◌≤◌, length, drop, sym, ◌∙◌, arith}
+use Rattle.jp_regexp.proofs.BytesLemmas.{stuck}
+use Rattle.jp_regexp.proofs.table.Table.behind.Goals as goal
+
+pub returns-then-index-len : goal.returns-then-index-len
+returns-then-index-len c =
+    let table = c.args.self.now in
+    let count = length table.states.items in
+    let past : count ≤ c.loop-byte.state =
+    omega (arith, c.requires.full, c.type_inv.bytes c.loop-byte.byte-index) in
+    sym (c.loop-byte.invariant.leads
+    ∙ stuck table.cells.items count c.requires.full c.loop-byte.state past
+    (drop c.loop-byte.byte-index c.args.bytes.now))
