@@ -3,6 +3,7 @@
 
 mod batches;
 mod ends;
+mod examples;
 mod gathering;
 mod running;
 mod std_ends;
