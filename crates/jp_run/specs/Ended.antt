@@ -1,4 +1,4 @@
--- A working file, which nobody has to believe: what stands after each fault of the parts of a run, for private
+-- A working file, which nobody has to believe: what stands after each fault of a run's parts, for private
 -- clauses alone.
 use Rattle.std.specs.Prelude.{◌≡◌, ℕ, ◌+◌, ◌<◌, ◌⊎◌, Bool, true, List, Option, Some, None, IfSome}
 use Rattle.std.specs.Io.KnownBytes.{Appends, Consumes, Keeps}
