@@ -1,4 +1,5 @@
--- What stands after each fault, of the parts of a run.
+-- A working file, which nobody has to believe: what stands after each fault of a run's parts, for private
+-- clauses alone.
 use Rattle.std.specs.Prelude.{◌≡◌, ℕ, ◌+◌, ◌<◌, ◌⊎◌, Bool, true, List, Option, Some, None, IfSome}
 use Rattle.std.specs.Io.KnownBytes.{Appends, Consumes, Keeps}
 use Rattle.jp_doc.specs.Lines.{Line, lines, line_count}

@@ -4,6 +4,7 @@
 mod batches;
 mod checking;
 mod ends;
+mod examples;
 mod gathering;
 mod running;
 mod std_ends;
