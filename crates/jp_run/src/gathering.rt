@@ -1,7 +1,7 @@
 //! The lines of a source, as its bytes come in.
 
-ghost use Rattle.std.specs.Prelude.{◌≡◌, ◌+◌, ◌<◌, ◌≤◌, ◌++◌, ℕ, false, map, take, length, vec_len, IfOk};
-ghost use Rattle.std.specs.Prelude.{OnOk, OnErr, IfErr, IsErrOf};
+ghost use Rattle.std.specs.Prelude.{◌≡◌, ◌<◌, ◌≤◌, ◌++◌, false, map, take, length, IfOk, OnOk, OnErr, IfErr};
+ghost use Rattle.std.specs.Prelude.{IsErrOf};
 ghost use Rattle.std.specs.Io.KnownBytes.{Consumes, IsAtEnd};
 ghost use Rattle.jp_doc.specs.Feeding.{fed, fed_lines, finished, finished_lines};
 ghost use Rattle.jp_doc.specs.Lines.{line_of};
