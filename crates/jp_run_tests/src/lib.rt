@@ -6,8 +6,6 @@ mod answers;
 #[cfg(test)]
 mod batches;
 #[cfg(test)]
-mod ends_that_fail;
-#[cfg(test)]
 mod fakes;
 #[cfg(test)]
 mod gates;
@@ -19,3 +17,5 @@ mod refusals;
 mod runs;
 #[cfg(test)]
 mod thousand;
+#[cfg(test)]
+mod writes_that_fail;
