@@ -12,7 +12,8 @@ use Rattle.jp_answer.specs.declared.fault.RunFault.TheVariants.{Memory, Settings
 use Rattle.jp_program.specs.Outcome.{IsAnswered}
 
 -- the answer of this query's text to the input, which stopped there, was appended
-abbrev pub IsTold : Text → Option (ℕ × DocFault) → Option (List ℕ) → Option (List ℕ) → Option (List ℕ) → Type 0
+abbrev pub IsTold : Text → Option (ℕ × DocFault) → Option (List ℕ) → Option (List ℕ) → Option (List ℕ)
+    → Type 0
 IsTold text stopped input old new = IfSome input (λ bytes. (a : Answer) × IsAnswerTo text bytes a
     × (a.stopped ≡ stopped) × Appends old new a.bytes)
 
@@ -30,7 +31,8 @@ told text stopped (Some bytes) old new after t k =
     (text, t.0, t.1, t.2, kept old new after t.0.bytes t.3 k)
 
 -- the status of a document's fault is no other fault's
-pub document_of : (f : RunFault) → status_of f ≡ 3 → (line : ℕ) × (fault : DocFault) × (f ≡ Document line fault)
+pub document_of : (f : RunFault) → status_of f ≡ 3
+    → (line : ℕ) × (fault : DocFault) × (f ≡ Document line fault)
 document_of (Query fault) e = absurd (omega arith)
 document_of (Document line fault) e = (line, fault, refl)
 document_of Read e = absurd (omega arith)

@@ -16,9 +16,9 @@ use std::thread::Threads;
 /// Neither end has failed before, and the counts of the source are at most 2^62. A fault is told on `notes`,
 /// in one line; a failure to write it, or the help, is passed over.
 ///
-/// The status is 0 where the run finished, or the help or a check was asked for; 2 where the query is refused;
-/// 3 where a line holds no document; 4 where reading or writing failed, or a limit was passed; 5 where a growth
-/// of memory was refused; 64 where the command line is refused.
+/// The status is 0 where the run finished, or the help or a check was asked for; 2 where the query is
+/// refused; 3 where a line holds no document; 4 where reading or writing failed, or a limit was passed; 5
+/// where a growth of memory was refused; 64 where the command line is refused.
 pub fn program<R: Threads + AllocGlobal + Sync, S: Source, K: Sink, N: Sink>(
     rt: &R,
     words: &[&str],
@@ -76,7 +76,8 @@ fn done<R: Threads + AllocGlobal + Sync, S: Source, K: Sink>(
     ensures settings { IsErrOf result RunFault.Settings
         → (source.new ≡ source.old) × (sink.new ≡ sink.old) }
     ensures document { (line : ℕ) (fault : Fault) → IsErrOf result (RunFault.Document line fault)
-        → IsAnswered (Some (line, fault)) (S.remaining source.old) (K.contents sink.old) (K.contents sink.new) }
+        → IsAnswered (Some (line, fault)) (S.remaining source.old) (K.contents sink.old)
+        (K.contents sink.new) }
     ensures read { IsErrOf result RunFault.Read → S.failed source.new ≡ true }
     ensures write { IsErrOf result RunFault.Write → K.failed sink.new ≡ true }
     ensures limit { IsErrOf result RunFault.Limit → AreAllReads (S.reads source.old) (S.reads source.new)
@@ -120,7 +121,8 @@ fn answer_all<R: Threads + AllocGlobal + Sync, S: Source, K: Sink>(
         → (source.new ≡ source.old) × (sink.new ≡ sink.old) }
     ensures settings { IsErrOf result RunFault.Settings → ⊥ }
     ensures document { (line : ℕ) (fault : Fault) → IsErrOf result (RunFault.Document line fault)
-        → IsAnswered (Some (line, fault)) (S.remaining source.old) (K.contents sink.old) (K.contents sink.new) }
+        → IsAnswered (Some (line, fault)) (S.remaining source.old) (K.contents sink.old)
+        (K.contents sink.new) }
     ensures read { IsErrOf result RunFault.Read → S.failed source.new ≡ true }
     ensures write { IsErrOf result RunFault.Write → K.failed sink.new ≡ true }
     ensures limit { IsErrOf result RunFault.Limit → AreAllReads (S.reads source.old) (S.reads source.new)
