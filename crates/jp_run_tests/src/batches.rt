@@ -114,25 +114,6 @@ fn no_read_follows_the_faulty_batch(rt: HostRuntime) {
 }
 
 #[test]
-fn a_full_sink_keeps_a_front(rt: HostRuntime) {
-    for batch in [1u64, 10] {
-        let mut source = FromReader::new(TWO);
-        let mut sink = Holds::new(Vec::new(rt.alloc()), ROOM, 5);
-        let end = run(
-            &rt,
-            rt.alloc(),
-            &mut source,
-            &mut sink,
-            "$.a",
-            (1, 1, batch),
-            &OpenGate,
-        );
-        assert!(rt; matches!(end, Err(RunFault::Write)));
-        assert_eq!(rt; sink.bytes.as_slice(), b"1\t$['".as_slice());
-    }
-}
-
-#[test]
 fn two_workers_at_once_in_a_batch(rt: HostRuntime) {
     let gate = Pair(Entered::new());
     let mut source = FromReader::new(b"[]\n{}\n".as_slice());

@@ -328,37 +328,6 @@ fn read_and_written_byte_by_byte(rt: HostRuntime) -> Result<(), Fail> {
 }
 
 #[test]
-fn a_failing_read_writes_nothing(rt: HostRuntime) -> Result<(), Fail> {
-    for call in [1u64, 2, 9] {
-        let mut source = OneByte::new(b"{\"a\":1}\n", call);
-        let mut sink = Holds::new(Vec::new(rt.alloc()), 1, ROOM);
-        let end = run(&rt, rt.alloc(), &mut source, &mut sink, "$.a");
-        assert!(rt; matches!(end, Err(RunFault::Read)));
-        assert_eq!(rt; source.reads(), call);
-        assert!(rt; source.failed());
-        assert!(rt; sink.bytes.is_empty());
-    }
-    Ok(())
-}
-
-#[test]
-fn a_sink_that_fails_keeps_a_front(rt: HostRuntime) -> Result<(), Fail> {
-    let answer = b"1\t$['a']\t1\n3\t$['a']\tnull\n";
-    for room in 0..answer.len() {
-        for most in [1usize, 3, ROOM] {
-            let mut source = FromReader::new(b"{\"a\":1}\n\n{\"a\":null}\n".as_slice());
-            let mut sink = Holds::new(Vec::new(rt.alloc()), most, room);
-            let end = run(&rt, rt.alloc(), &mut source, &mut sink, "$.a");
-            assert!(rt; matches!(end, Err(RunFault::Write)));
-            let (front, _) = answer.split_at(room);
-            assert_eq!(rt; sink.bytes.as_slice(), front);
-            assert!(rt; sink.failed());
-        }
-    }
-    Ok(())
-}
-
-#[test]
 fn a_writer_takes_all(rt: HostRuntime) -> Result<(), Fail> {
     let mut source = FromReader::new(b"[]\n".as_slice());
     let mut sink = FromWriter::new(Vec::new(rt.alloc()));
