@@ -1,13 +1,15 @@
 //! Whether a query is accepted.
 
-ghost use Rattle.std.specs.Prelude.{◌≡◌, ◌⊎◌, Err, IfErr, OnOk};
+ghost use Rattle.std.specs.Prelude.{◌≡◌, ◌<◌, ◌⊎◌, ◌↔◌, Err, IfErr, OnOk, IsErrOf};
 ghost use Rattle.std.specs.Str.{chars};
 ghost use Rattle.jp_syntax.specs.Tree.{Query};
+ghost use Rattle.jp_syntax.specs.Depth.{bracket_depth, max_depth};
 ghost use Rattle.jp_syntax.specs.declared.fault.QueryFault.{QueryFault as Refusal};
 ghost use Rattle.jp_check.specs.Verdict.{IsAccepted, IsVerdict};
 
 use crate::running::plan_of;
 use jp_answer::RunFault;
+use jp_syntax::QueryFault;
 use std::alloc::Global;
 
 /// Whether a query is accepted: an Ok says so.
@@ -20,6 +22,8 @@ pub fn check_query(alloc: Global, query: &str) -> Result<(), RunFault>
     ensures ok { OnOk result ((q : Query) × IsAccepted (chars query.now) q) }
     ensures fault { IfErr result (λ fault. (fault ≡ RunFault.Memory)
         ⊎ ((f : Refusal) × (fault ≡ RunFault.Query f) × IsVerdict (chars query.now) (Err f))) }
+    ensures too_deep { IsErrOf result (RunFault.Query QueryFault.TooDeep)
+        ↔ (max_depth < bracket_depth (chars query.now)) }
 {
     plan_of(alloc, query)?;
     Ok(())
