@@ -38,21 +38,6 @@ module _ (p : Unrolled) where
             (λ xs. leaves (is_elem xs) p 0 s.at_start) (sym e);
       }
 
-  pub only_start : (states : List State) (s : State) → states ≡ s ∷ [] → IsState p s → HasPlaces s [] true →
-      AreStates p states
-  only_start states s e of start =
-      subst (AreStates p) (sym e) (record {
-        each = each;
-        unsettled = λ i d some lt. absurd (omega arith);
-        first = λ d lt. start;
-      }) where
-        each : (i : ℕ) (d : State) → i < 1 → IsState p (slice_index_or (s ∷ []) i d)
-        each zero d lt = of
-        each (suc i) d lt = absurd (omega arith)
-
-  pub grows_same : (states : List State) → AreStates p states → Grows p states states
-  grows_same states of = record { states = of; longer = omega arith; same = λ i d lt. refl }
-
   pub grows_more : (states new : List State) (s : State) → 0 < length states → AreStates p states → IsState p
       s → (s.at_start ≡ true → s.accepts ≡ false) →
       new ≡ states ++ s ∷ [] → Grows p states new
@@ -116,15 +101,6 @@ module _ (p : Unrolled) where
           found = λ s e a. absurd (omega arith);
           dead = λ s e a. absurd (omega arith);
         }
-
-    pub first_table : (states : List State) → length states ≡ 1 → AreStates p states → IsTableOf p anew
-        states []
-    first_table states one of = record {
-      known = of;
-      few = omega arith;
-      cell = λ i column lt in_row. empty_cell states i column 255 refl;
-      stays = λ i column lt low high. absurd (omega arith);
-    }
 
     -- the cell of a character is that of each that is like it
     pub cell_alike : (states : List State) (i v : ℕ) (those : Those) → Alike p those → (c d : ℕ) → AreOf

@@ -1,12 +1,16 @@
 //! Which texts are patterns.
 
-ghost use Rattle.std.specs.Prelude.{◌≡◌, ◌≤◌, IfOk};
+ghost use Rattle.std.specs.Prelude.{◌≡◌, ◌≤◌, IfOk, IsTrue, false, true};
 ghost use Rattle.std.specs.Str.{chars};
 ghost use Rattle.jp_regexp.specs.Held.{IsRead, pattern_of};
+ghost use Rattle.jp_regexp.specs.Parts.{meaning, unrolled_in};
+ghost use Rattle.jp_regexp.specs.Profile.{max_size};
+ghost use Rattle.jp_regexp.specs.Steps.{IsTable};
+ghost use Rattle.jp_regexp.specs.Unrolled.{letters};
 
 use crate::classes::make_classes;
 use crate::fault::Fault;
-use crate::parts::part_of;
+use crate::parts::{Part, part_of};
 use crate::pattern::Pattern;
 use crate::pattern::matching::characters;
 use crate::read_patterns;
@@ -73,22 +77,7 @@ impl Pattern {
     fn with_tables(self, alloc: Global) -> Result<Pattern, AllocError>
         ensures { IfOk result (λ made. pattern_of made ≡ pattern_of self) }
     {
-        let most = most_states(self.root.size());
-        let classes = make_classes(alloc, &self.root)?;
-        let source = Source {
-            root: &self.root,
-            classes: &classes,
-            anew: false,
-            most,
-        };
-        let whole = make_table(alloc, source)?;
-        let source = Source {
-            root: &self.root,
-            classes: &classes,
-            anew: true,
-            most,
-        };
-        let part = make_table(alloc, source)?;
+        let (whole, part) = tables_of(alloc, &self.root)?;
         let starts = make_starts(alloc, &part)?;
         let Pattern {
             root,
@@ -103,6 +92,31 @@ impl Pattern {
             starts,
         })
     }
+}
+
+/// The tables of a pattern: of whole texts, and of parts that are looked for.
+fn tables_of(alloc: Global, root: &Part) -> Result<(Table, Table), AllocError>
+    requires sized { IsTrue (meaning root.now).is_sized }
+    requires fits { letters (unrolled_in root.now) ≤ max_size }
+    ensures whole { IfOk result (λ made. IsTable (unrolled_in root.now) false made.0) }
+    ensures part { IfOk result (λ made. IsTable (unrolled_in root.now) true made.1) }
+{
+    let most = most_states(root.size());
+    let classes = make_classes(alloc, root)?;
+    let source = Source {
+        root,
+        classes: &classes,
+        anew: false,
+        most,
+    };
+    let whole = make_table(alloc, source)?;
+    let source = Source {
+        root,
+        classes: &classes,
+        anew: true,
+        most,
+    };
+    Ok((whole, make_table(alloc, source)?))
 }
 
 /// How many states a table of a pattern of this size has at most.
