@@ -1,12 +1,13 @@
 -- Calls with one argument, and with two.
-use Rattle.std.proofs.Common.{◌≡◌, ℕ, ◌<◌, ◌≤◌, List, [], ◌∷◌, length, get_or, sym, ap, ap₂, ◌∙◌, arith}
+use Rattle.std.proofs.Common.{◌≡◌, ℕ, ◌<◌, ◌≤◌, List, [], ◌∷◌, length, get_or, refl, sym, ap, ap₂, ◌∙◌}
+use Rattle.std.proofs.Common.{arith}
 use Rattle.std.specs.Prelude.{string_bytes}
 use Rattle.std.specs.Str.{chars}
 use Rattle.jp_syntax.specs.Tree as tree
 use Rattle.jp_syntax.specs.PartViews.{argument_of, arguments_of, call_of}
 use Rattle.jp_syntax.specs.declared.tree.Argument.{Argument}
 use Rattle.jp_syntax.specs.declared.tree.Call.{Call, out-Call}
-use Rattle.jp_check.specs.Ready.{call_of_one, call_of_two, text_argument}
+use Rattle.jp_check.specs.Ready.{call_of_one, call_of_two, text_argument, form_of, truth_argument}
 use Rattle.jp_check.specs.LiteralPatterns.{literal_text}
 use Rattle.jp_check.proofs.Levels.{call_level}
 
@@ -38,12 +39,30 @@ pub called_one : (x : Call) (bytes : List ℕ) (name : tree.Text) (xs : List Arg
 called_one x bytes name xs a same is same_items low high first = call_made_of x bytes name xs (a ∷ [])
     same is same_items (one_is xs a low high first)
 
-pub called_two : (x : Call) (bytes : List ℕ) (name : tree.Text) (xs : List Argument) (a b : Argument)
+-- a call whose arguments are these
+pub called : (x : Call) (bytes : List ℕ) (name : tree.Text) (xs : List Argument)
     → bytes ≡ string_bytes (out-Call x).name → chars bytes ≡ name → xs ≡ (out-Call x).arguments.items
-    → 2 ≤ length xs → length xs < 3 → a ≡ get_or xs 0 a → b ≡ get_or xs 1 b
-    → call_of x ≡ call_of_two name (argument_of a) (argument_of b)
-called_two x bytes name xs a b same is same_items low high first second =
-    call_made_of x bytes name xs (a ∷ b ∷ []) same is same_items (two_are xs a b low high first second)
+    → call_of x ≡ tree.call name (tree.arguments (arguments_of xs))
+called x bytes name xs same is same_items = call_made_of x bytes name xs xs same is same_items refl
+
+pub given_two : (name : tree.Text) (xs : List Argument) (a b : Argument) → 2 ≤ length xs
+    → length xs < 3 → a ≡ get_or xs 0 a → b ≡ get_or xs 1 b
+    → tree.call name (tree.arguments (arguments_of xs)) ≡ call_of_two name (argument_of a) (argument_of b)
+given_two name xs a b low high first second =
+    ap (λ ys. tree.call name (tree.arguments (arguments_of ys))) (two_are xs a b low high first second)
+
+-- an argument as it is written, where it is a query, a call or a logical expression
+pub query_written : (a : tree.Argument) (q : tree.Query) → a ≡ tree.query_argument q
+    → truth_argument (form_of a) (tree.test q) ≡ a
+query_written a q e = ap (λ x. truth_argument (form_of x) (tree.test q)) e ∙ sym e
+
+pub call_written : (a : tree.Argument) (x : tree.Call) → a ≡ tree.call_argument x
+    → truth_argument (form_of a) (tree.test_call x) ≡ a
+call_written a x e = ap (λ y. truth_argument (form_of y) (tree.test_call x)) e ∙ sym e
+
+pub logical_written : (a : tree.Argument) (l : tree.Logical) → a ≡ tree.logical_argument l
+    → truth_argument (form_of a) l ≡ a
+logical_written a l e = ap (λ x. truth_argument (form_of x) l) e ∙ sym e
 
 -- an argument that is this text as a literal
 pub text_is : (a : tree.Argument) (t : tree.Text) → t ∷ [] ≡ literal_text a → a ≡ text_argument t

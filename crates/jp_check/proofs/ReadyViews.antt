@@ -7,10 +7,12 @@ use Rattle.jp_syntax.specs.View.{text_of}
 use Rattle.jp_syntax.specs.declared.tree.Operator.{Operator}
 use Rattle.jp_syntax.specs.declared.tree.Start.TheVariants as start
 use Rattle.jp_check.specs.Ready.{Wanted, root_at, position_text, slice_of, constant_of, as_argument}
-use Rattle.jp_check.specs.Ready.{text_argument, call_of_one, call_of_two, nodes_level, logical_level}
+use Rattle.jp_check.specs.Ready.{text_argument, truth_argument, call_of_one, call_of_two}
+use Rattle.jp_check.specs.Ready.{nodes_level, logical_level}
 use Rattle.jp_check.specs.Ready.{selector_level, value_level, segment_level, segment_in, selector_in}
 use Rattle.jp_check.specs.Ready.{logical_in, value_in, nodes_in, segments_in}
 use Rattle.jp_check.specs.declared.known.KnownPattern.{KnownPattern}
+use Rattle.jp_check.specs.declared.ready.Form.{Form}
 use Rattle.jp_check.specs.declared.ready.Want.{Want}
 use Rattle.jp_check.specs.declared.ready.Want.TheVariants as want
 use Rattle.jp_check.specs.declared.ready.Position.{Position}
@@ -106,6 +108,14 @@ module _ (roots : List Wanted) where
       ≡ tree.test_call (call_of_two (codes "search") (as_argument (value_in roots v))
       (text_argument (text_of k.text)))
   search_known v k = ap (logical_in roots) (sym (log.rolls-SearchRead v k))
+      ∙ fold-roll-Logical tree.Logical (Want → tree.Query) tree.Selector tree.Comparable tree.Segment
+      logical_level (nodes_level roots) selector_level value_level segment_level _
+
+  pub xor_read : (f : Form) (l : Box Logical Global) (g : Form) (m : Box Logical Global)
+      → logical_in roots (log.Xor f l g m)
+      ≡ tree.test_call (call_of_two (codes "xor") (truth_argument f (logical_in roots l.value))
+      (truth_argument g (logical_in roots m.value)))
+  xor_read f l g m = ap (logical_in roots) (sym (log.rolls-Xor f l g m))
       ∙ fold-roll-Logical tree.Logical (Want → tree.Query) tree.Selector tree.Comparable tree.Segment
       logical_level (nodes_level roots) selector_level value_level segment_level _
 

@@ -1,4 +1,4 @@
--- The functions and their types (RFC 9535, 2.4.1 to 2.4.8).
+-- The functions and their types: those of RFC 9535 (2.4.1 to 2.4.8), and `xor`, which is this project's own.
 use Rattle.std.specs.Prelude.{List, [], ◌∷◌, Option, Some, None, codes, if◌then◌else◌}
 use Rattle.std.specs.Str.{bytes_eq}
 use Rattle.jp_syntax.specs.Tree.{Text}
@@ -15,6 +15,7 @@ pub data Function : Type 0 where
   match_function : Function
   search_function : Function
   value_function : Function
+  xor_function : Function
 
 -- the function of this name
 abbrev pub function_named : Text → Option Function
@@ -24,6 +25,7 @@ function_named t =
     else if bytes_eq t (codes "match") then Some match_function
     else if bytes_eq t (codes "search") then Some search_function
     else if bytes_eq t (codes "value") then Some value_function
+    else if bytes_eq t (codes "xor") then Some xor_function
     else None
 
 -- the types of a function's parameters, in order
@@ -33,6 +35,7 @@ parameters count_function = nodes_type ∷ []
 parameters match_function = value_type ∷ value_type ∷ []
 parameters search_function = value_type ∷ value_type ∷ []
 parameters value_function = nodes_type ∷ []
+parameters xor_function = logical_type ∷ logical_type ∷ []
 
 -- the type of its result
 abbrev pub result_type : Function → Kind
@@ -41,3 +44,4 @@ result_type count_function = value_type
 result_type match_function = logical_type
 result_type search_function = logical_type
 result_type value_function = value_type
+result_type xor_function = logical_type

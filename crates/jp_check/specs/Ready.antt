@@ -5,6 +5,8 @@ use Rattle.jp_syntax.specs.View.{text_of}
 use Rattle.jp_syntax.specs.declared.tree.Start.TheVariants as start
 use Rattle.jp_check.specs.declared.ready.Want.{Want}
 use Rattle.jp_check.specs.declared.ready.Want.TheVariants.{First, Count, Only}
+use Rattle.jp_check.specs.declared.ready.Form.{Form}
+use Rattle.jp_check.specs.declared.ready.Form.TheVariants.{Bare, Expression}
 use Rattle.jp_check.specs.declared.ready.Position.{Position}
 use Rattle.jp_check.specs.declared.ready.Slice.{Slice}
 use Rattle.jp_check.specs.declared.ready.Constant.{Constant}
@@ -61,6 +63,16 @@ as_argument (tree.literal x) = tree.literal_argument x
 as_argument (tree.single q) = tree.query_argument q
 as_argument (tree.value_call c) = tree.call_argument c
 
+-- how an argument that is true or false is written, and what it is as it is written so
+abbrev pub form_of : tree.Argument → Form
+form_of (tree.logical_argument l) = Expression
+form_of _ = Bare
+
+abbrev pub truth_argument : Form → tree.Logical → tree.Argument
+truth_argument Bare (tree.test q) = tree.query_argument q
+truth_argument Bare (tree.test_call c) = tree.call_argument c
+truth_argument _ l = tree.logical_argument l
+
 -- calls with one argument, and with two
 abbrev pub call_of_one : tree.Text → tree.Argument → tree.Call
 call_of_one function a = tree.call function (tree.arguments (a ∷ []))
@@ -96,6 +108,8 @@ logical_level (Logical-F.Search s p) = tree.test_call
     (call_of_two (codes "search") (as_argument s) (as_argument p))
 logical_level (Logical-F.SearchRead s p) = tree.test_call
     (call_of_two (codes "search") (as_argument s) (text_argument (text_of p.text)))
+logical_level (Logical-F.Xor f l g m) = tree.test_call
+    (call_of_two (codes "xor") (truth_argument f l.value) (truth_argument g m.value))
 
 abbrev pub selector_level : Selector-F tree.Logical (Want → tree.Query) tree.Selector tree.Comparable
     tree.Segment

@@ -114,7 +114,7 @@ fn ill_typed()
         IllTyped }
     ensures unknown_function { IsRefused (tested (codes "nope") (it ∷ [])) IllTyped }
     ensures function_true { IsRefused (tested (codes "true") []) IllTyped }
-    ensures no_function_of_the_standard { IsRefused (tested (codes "xor") (its_a ∷ it ∷ [])) IllTyped }
+    ensures no_such_function { IsRefused (tested (codes "min") (its_a ∷ it ∷ [])) IllTyped }
     ensures comparison_of_logical { IsRefused (filtered (equals (tree.value_call (match_call (codes "a")))
         (tree.literal (tree.truth true)))) IllTyped }
     ensures logical_for_nodes { IsRefused (equals_number (codes "count") (has_a ∷ []) (codes "1")) IllTyped }
@@ -127,6 +127,11 @@ fn ill_typed()
     ensures too_many_arguments { IsRefused (equals_number (codes "length") (it ∷ it ∷ []) (codes "1"))
         IllTyped }
     ensures many_for_a_pattern { IsRefused (tested (codes "match") (it ∷ each ∷ [])) IllTyped }
+    ensures literal_for_logical { IsRefused (tested (codes "xor")
+        (tree.literal_argument (tree.truth true) ∷ its_a ∷ [])) IllTyped }
+    ensures one_for_two { IsRefused (tested (codes "xor") (its_a ∷ [])) IllTyped }
+    ensures value_for_logical { IsRefused (tested (codes "xor")
+        (its_a ∷ a_call (codes "length") (it ∷ []) ∷ [])) IllTyped }
     ensures search_over_nodes { IsRefused (tested (codes "search") (each ∷ a_text (codes "a") ∷ []))
         IllTyped }
 {}
@@ -144,6 +149,11 @@ fn well_typed()
     ensures match_with_value { IsValid (tested (codes "match") (it ∷ a_call (codes "value")
         (tree.query_argument (selecting (tree.name (codes "p"))) ∷ []) ∷ [])) }
     ensures match_as_test { IsValid (filtered (matching (codes "a"))) }
+    ensures one_of_two_queries { IsValid (tested (codes "xor") (its_a ∷ each ∷ [])) }
+    ensures one_of_two_expressions { IsValid (tested (codes "xor") (has_a
+        ∷ tree.logical_argument (equals (tree.single member_a) (num (codes "1"))) ∷ [])) }
+    ensures one_of_two_calls { IsValid (tested (codes "xor") (tree.call_argument (match_call (codes "a"))
+        ∷ a_call (codes "xor") (its_a ∷ each ∷ []) ∷ [])) }
     ensures search_as_test { IsValid (tested (codes "search") (it ∷ a_text (codes "a") ∷ [])) }
 {}
 
@@ -170,7 +180,7 @@ fn uses()
     ensures unknown { serves_as logical_type None ≡ false }
 {}
 
-/// The table of the functions (RFC 9535, 2.4.4 to 2.4.8).
+/// The table of the functions: those of RFC 9535 (2.4.4 to 2.4.8), and this project's own.
 fn table_of_functions()
     ensures length { (function_named (codes "length") ≡ Some functions.length_function)
         × (parameters functions.length_function ≡ value_type ∷ [])
@@ -187,6 +197,9 @@ fn table_of_functions()
     ensures value { (function_named (codes "value") ≡ Some functions.value_function)
         × (parameters functions.value_function ≡ nodes_type ∷ [])
         × (result_type functions.value_function ≡ value_type) }
+    ensures xor { (function_named (codes "xor") ≡ Some functions.xor_function)
+        × (parameters functions.xor_function ≡ logical_type ∷ logical_type ∷ [])
+        × (result_type functions.xor_function ≡ logical_type) }
     ensures no_other { (function_named (codes "lengt") ≡ None) × (function_named (codes "Count") ≡ None)
         × (function_named [] ≡ None) }
 {}

@@ -1,4 +1,4 @@
-//! The functions and their types (RFC 9535, 2.4.1 to 2.4.8).
+//! The functions and their types: those of RFC 9535 (2.4.1 to 2.4.8), and `xor`, which is this project's own.
 
 ghost use Rattle.std.specs.Prelude.{◌≡◌, map, option_map};
 ghost use Rattle.std.specs.Str.{chars};
@@ -16,7 +16,7 @@ pub(crate) enum Kind {
     Nodes,
 }
 
-/// A function of RFC 9535 (2.4.4 to 2.4.8).
+/// A function of RFC 9535 (2.4.4 to 2.4.8), or of this project's own.
 #[derive(Clone, Copy, Debug, PartialEq, Eq)]
 pub enum Function {
     /// How long a text, an array or an object is.
@@ -29,6 +29,8 @@ pub enum Function {
     Search,
     /// The value of the only node.
     Value,
+    /// Whether exactly one of two is true. It is this project's own.
+    Xor,
 }
 
 /// The function of this name, if it is one. It takes no memory.
@@ -41,6 +43,7 @@ pub fn function_named(name: &str) -> Option<Function>
         "match" => Some(Function::Match),
         "search" => Some(Function::Search),
         "value" => Some(Function::Value),
+        "xor" => Some(Function::Xor),
         _ => None,
     }
 }
@@ -53,6 +56,7 @@ pub(crate) fn parameters(function: Function) -> &'static [Kind]
         Function::Length => &[Kind::Value],
         Function::Count | Function::Value => &[Kind::Nodes],
         Function::Match | Function::Search => &[Kind::Value, Kind::Value],
+        Function::Xor => &[Kind::Logical, Kind::Logical],
     }
 }
 
@@ -62,6 +66,6 @@ pub(crate) fn result_type(function: Function) -> Kind
 {
     match function {
         Function::Length | Function::Count | Function::Value => Kind::Value,
-        Function::Match | Function::Search => Kind::Logical,
+        Function::Match | Function::Search | Function::Xor => Kind::Logical,
     }
 }

@@ -1,6 +1,6 @@
 //! A query made ready, in one walk over its tree.
 
-ghost use Rattle.std.specs.Prelude.{◌≡◌, List, map, option_map, IfOk, OnOk};
+ghost use Rattle.std.specs.Prelude.{◌≡◌, List, map, option_map, codes, IfOk, OnOk};
 ghost use Rattle.jp_syntax.specs.Tree as tree;
 ghost use Rattle.jp_syntax.specs.Tree.{Text};
 ghost use Rattle.jp_syntax.specs.View.{query_of, text_of};
@@ -15,7 +15,7 @@ use crate::functions::{Function, function_named};
 use crate::known::KnownPattern;
 use crate::leaves::{make_constant, make_position, make_slice, read_pattern};
 use crate::patterns::literal_text;
-use crate::ready::{Logical, Nodes, Query, RootQuery, Segment, Selector, Value, Want};
+use crate::ready::{Form, Logical, Nodes, Query, RootQuery, Segment, Selector, Value, Want};
 use jp_syntax::{Argument, Call, Comparable, Comparison, Start};
 use std::alloc::{AllocError, Global};
 
@@ -292,6 +292,7 @@ fn make_value_call(
         }
         Some(Function::Match) => Err(AllocError),
         Some(Function::Search) => Err(AllocError),
+        Some(Function::Xor) => Err(AllocError),
         None => Err(AllocError),
     }
 }
@@ -308,10 +309,90 @@ fn make_test_call(
         (λ all. ready.logical_in all l) (tree.test_call (view.call_of call.now))) }
     ensures roots { OnOk result (Begins (ready.roots_of roots.old.items) (ready.roots_of roots.new.items)) }
 {
-    let [text, pattern] = call.arguments.as_slice() else {
+    let arguments = call.arguments.as_slice();
+    let function = function_named(call.name.as_str());
+    match function {
+        Some(Function::Xor) => make_xor(alloc, arguments, roots),
+        _ => make_text_test(alloc, function, arguments, roots),
+    }
+}
+
+/// `xor` of two arguments.
+#[cycle(making)]
+#[inline(never)]
+fn make_xor(
+    alloc: Global,
+    arguments: &[Argument],
+    roots: &mut Vec<RootQuery>,
+) -> Result<Logical, AllocError>
+    ensures made { IfOk result (λ l. Reads (ready.roots_of roots.new.items)
+        (λ all. ready.logical_in all l) (tree.test_call (tree.call (codes "xor")
+        (tree.arguments (view.arguments_of arguments.now))))) }
+    ensures roots { OnOk result (Begins (ready.roots_of roots.old.items) (ready.roots_of roots.new.items)) }
+{
+    let [left, right] = arguments else {
         return Err(AllocError);
     };
-    let function = function_named(call.name.as_str());
+    let first = make_truth(alloc, left, roots)?;
+    let second = make_truth(alloc, right, roots)?;
+    Ok(Logical::Xor(
+        form_of(left),
+        Box::new(alloc, first)?,
+        form_of(right),
+        Box::new(alloc, second)?,
+    ))
+}
+
+/// How an argument that is true or false is written.
+fn form_of(argument: &Argument) -> Form
+    ensures { result ≡ ready.form_of (view.argument_of argument.now) }
+{
+    match argument {
+        Argument::Logical(_) => Form::Expression,
+        Argument::Query(_) | Argument::Call(_) | Argument::Literal(_) => Form::Bare,
+    }
+}
+
+/// An argument that is true or false. Any other, which no accepted query has, is refused.
+#[cycle(making)]
+fn make_truth(
+    alloc: Global,
+    argument: &Argument,
+    roots: &mut Vec<RootQuery>,
+) -> Result<Logical, AllocError>
+    ensures made { IfOk result (λ l. Reads (ready.roots_of roots.new.items)
+        (λ all. ready.truth_argument (ready.form_of (view.argument_of argument.now))
+        (ready.logical_in all l)) (view.argument_of argument.now)) }
+    ensures roots { OnOk result (Begins (ready.roots_of roots.old.items) (ready.roots_of roots.new.items)) }
+{
+    match argument {
+        Argument::Query(query) => {
+            Ok(Logical::Test(make_nodes(alloc, Want::First, query, roots)?))
+        }
+        Argument::Logical(logical) => make_logical(alloc, logical, roots),
+        Argument::Call(call) => make_test_call(alloc, call, roots),
+        Argument::Literal(_) => Err(AllocError),
+    }
+}
+
+/// `match` or `search` of a text and a pattern. Any other call, which no accepted query has, is refused.
+#[cycle(making)]
+#[inline(never)]
+fn make_text_test(
+    alloc: Global,
+    function: Option<Function>,
+    arguments: &[Argument],
+    roots: &mut Vec<RootQuery>,
+) -> Result<Logical, AllocError>
+    ensures made { IfOk result (λ l. (name : Text)
+        → option_map function_of function ≡ functions.function_named name
+        → Reads (ready.roots_of roots.new.items) (λ all. ready.logical_in all l)
+        (tree.test_call (tree.call name (tree.arguments (view.arguments_of arguments.now))))) }
+    ensures roots { OnOk result (Begins (ready.roots_of roots.old.items) (ready.roots_of roots.new.items)) }
+{
+    let [text, pattern] = arguments else {
+        return Err(AllocError);
+    };
     let text = make_value(alloc, text, roots)?;
     if let Some(pattern) = literal_text(pattern) {
         let pattern = read_pattern(alloc, pattern)?;

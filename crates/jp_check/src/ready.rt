@@ -113,6 +113,17 @@ pub enum Logical {
     Search(Value, Value),
     /// `search` of a text and a literal pattern.
     SearchRead(Value, KnownPattern),
+    /// `xor` of two arguments, each with how it is written.
+    Xor(Form, Box<Logical>, Form, Box<Logical>),
+}
+
+/// How an argument that is true or false is written.
+#[derive(Clone, Copy, Debug, PartialEq, Eq)]
+pub enum Form {
+    /// As a query or a call by itself.
+    Bare,
+    /// As a logical expression, which may be a query or a call in parentheses.
+    Expression,
 }
 
 /// What gives a value, or nothing: a side of a comparison, or an argument.

@@ -12,13 +12,17 @@ use Rattle.jp_syntax.specs.declared.tree.Operator.{Operator}
 use Rattle.jp_syntax.specs.declared.tree.Start.{Start}
 use Rattle.jp_syntax.specs.declared.tree.Start.TheVariants as start
 use Rattle.jp_check.specs.Numbers.{whole_number}
-use Rattle.jp_check.specs.Ready.{Wanted, root_at, position_text, constant_of, as_argument, segment_in}
+use Rattle.jp_check.specs.Ready.{Wanted, root_at, position_text, constant_of, as_argument}
+use Rattle.jp_check.specs.Ready.{truth_argument, segment_in}
 use Rattle.jp_check.specs.Ready.{selector_in, logical_in, value_in, nodes_in, segments_in}
 use Rattle.jp_check.proofs.ReadyViews.{name_read, wild_read, index_read, slice_read, filter_read}
 use Rattle.jp_check.proofs.ReadyViews.{any_read, all_read, not_read, compare_read, test_read, match_read}
 use Rattle.jp_check.proofs.ReadyViews.{match_known, search_read, search_known, constant_read, single_read}
 use Rattle.jp_check.proofs.ReadyViews.{length_read, count_read, only_read, here_read, root_read}
+use Rattle.jp_check.proofs.ReadyViews.{xor_read}
 use Rattle.jp_check.specs.declared.known.KnownPattern.{KnownPattern}
+use Rattle.jp_check.specs.declared.ready.Form.{Form}
+use Rattle.jp_check.specs.declared.ready.Form.TheVariants.{Bare, Expression}
 use Rattle.jp_check.specs.declared.ready.Want.{Want}
 use Rattle.jp_check.specs.declared.ready.Want.TheVariants.{First, Count, Only}
 use Rattle.jp_check.specs.declared.ready.Position.{Position}
@@ -41,7 +45,7 @@ use Rattle.jp_eval.specs.Part.{part_value}
 use Rattle.jp_eval.specs.declared.part.Part.{Part}
 use Rattle.jp_eval.specs.Comparison.{compared}
 use Rattle.jp_eval.specs.Functions.{first_value, only_value, is_empty, as_value, tested, length_value}
-use Rattle.jp_eval.specs.Functions.{number_value}
+use Rattle.jp_eval.specs.Functions.{number_value, as_truth, exactly_one}
 use Rattle.jp_eval.specs.Nodelist as spec
 use Rattle.jp_eval.specs.Nodes.{child, children}
 use Rattle.jp_eval.specs.RightTests.{tests}
@@ -160,6 +164,25 @@ module _ (base : Base) (n : Node) where
       ap (λ y. spec.holds tests base.root y n) (search_known base.roots v k)
       ∙ ap (λ o. tested tests.is_found o (Some (json.text (text_of k.text))))
       (handed_value_of (value_in base.roots v))
+
+  -- what an argument hands over as true or false
+  handed_truth_of : (f : Form) (l : tree.Logical)
+      → as_truth (spec.handed tests base.root (truth_argument f l) n) ≡ spec.holds tests base.root l n
+  handed_truth_of Expression l = refl
+  handed_truth_of Bare (tree.any ls) = refl
+  handed_truth_of Bare (tree.all ls) = refl
+  handed_truth_of Bare (tree.negation l) = refl
+  handed_truth_of Bare (tree.comparing c) = refl
+  handed_truth_of Bare (tree.test q) = refl
+  handed_truth_of Bare (tree.test_call c) = refl
+
+  pub true_xor : (f : Form) (l : Box Logical Global) (g : Form) (m : Box Logical Global)
+      → is_true base (log.Xor f l g m) n ≡ exactly_one (is_true base l.value n) (is_true base m.value n)
+  unfolding is_true
+  true_xor f l g m =
+      ap (λ y. spec.holds tests base.root y n) (xor_read base.roots f l g m)
+      ∙ ap₂ exactly_one (handed_truth_of f (logical_in base.roots l.value))
+      (handed_truth_of g (logical_in base.roots m.value))
 
   -- ---- values
 

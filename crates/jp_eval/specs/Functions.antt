@@ -1,11 +1,11 @@
--- What the functions give (RFC 9535, 2.4.4 to 2.4.8).
-use Rattle.std.specs.Prelude.{ℕ, suc, Bool, true, false, not, pos, List, [], ◌∷◌, length, Option, Some, None}
+-- What the functions give: those of RFC 9535 (2.4.4 to 2.4.8), and `xor`, which is this project's own.
+use Rattle.std.specs.Prelude.{ℕ, suc, Bool, true, false, not, ◌&&◌, ◌||◌, pos, List, [], ◌∷◌, length, Option, Some, None}
 use Rattle.std.specs.Prelude.{option_map, option_and_then}
 use Rattle.jp_doc.specs.Json.{Text, Json, whole, text, array, object, Members, no_members, add_member}
 use Rattle.jp_doc.specs.Json.{item_list}
 use Rattle.jp_doc.specs.Location.{Node}
 use Rattle.jp_check.specs.Functions.{Function, length_function, count_function, match_function}
-use Rattle.jp_check.specs.Functions.{search_function, value_function}
+use Rattle.jp_check.specs.Functions.{search_function, value_function, xor_function}
 use Rattle.jp_regexp.specs.Tests.{Tests}
 
 -- what an argument hands over and a call gives: a value or nothing, true or false, or a list of nodes
@@ -68,6 +68,10 @@ abbrev pub tested : (Text → Text → Bool) → Option Json → Option Json →
 tested test (Some (text s)) (Some (text pattern)) = test s pattern
 tested test _ _ = false
 
+-- whether one of two is true and the other is not
+abbrev pub exactly_one : Bool → Bool → Bool
+exactly_one a b = (a && not b) || (not a && b)
+
 -- What a call gives. The tests say whether a text, or some part of it, is in the language of a pattern.
 abbrev pub called : Tests → Function → List Handed → Handed
 called tests length_function (a ∷ []) = handed_value (length_value (as_value a))
@@ -75,6 +79,7 @@ called tests count_function (a ∷ []) = handed_value (Some (number_value (lengt
 called tests match_function (a ∷ b ∷ []) = handed_truth (tested tests.is_match (as_value a) (as_value b))
 called tests search_function (a ∷ b ∷ []) = handed_truth (tested tests.is_found (as_value a) (as_value b))
 called tests value_function (a ∷ []) = handed_value (only_value (as_nodes a))
+called tests xor_function (a ∷ b ∷ []) = handed_truth (exactly_one (as_truth a) (as_truth b))
 called tests _ _ = handed_value None
 
 -- the same by name; an unknown function gives nothing

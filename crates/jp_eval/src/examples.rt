@@ -9,7 +9,7 @@ ghost use Rattle.jp_syntax.specs.declared.tree.Start.TheVariants.{Current};
 ghost use Rattle.jp_regexp.specs.Tests.{Tests};
 ghost use Rattle.jp_eval.specs.Nodelist.{document_nodes};
 ghost use Rattle.jp_check.specs.Functions.{length_function, count_function, match_function, search_function};
-ghost use Rattle.jp_check.specs.Functions.{value_function};
+ghost use Rattle.jp_check.specs.Functions.{value_function, xor_function};
 ghost use Rattle.jp_eval.specs.Comparison.{compared};
 ghost use Rattle.jp_eval.specs.Functions.{called, handed_value, handed_truth, handed_nodes, as_value};
 ghost use Rattle.jp_eval.specs.Functions.{as_truth, as_nodes};
@@ -330,6 +330,25 @@ fn handed_over()
     ensures truth_of_a_value { as_truth (handed_value (Some (truth true))) ≡ false }
     ensures nodes_as_they_are { as_nodes (handed_nodes (node [] null ∷ [])) ≡ node [] null ∷ [] }
     ensures nodes_of_a_value { as_nodes (handed_value (Some null)) ≡ [] }
+{}
+
+/// `xor`: exactly one of two is true, whether a list of nodes or a truth is handed over.
+fn one_of_two()
+    ensures neither { (t : Tests) → called t xor_function (handed_nodes [] ∷ handed_truth false ∷ [])
+        ≡ handed_truth false }
+    ensures first { (t : Tests) → called t xor_function
+        (handed_nodes (node [] null ∷ []) ∷ handed_truth false ∷ []) ≡ handed_truth true }
+    ensures second { (t : Tests) → called t xor_function (handed_nodes [] ∷ handed_truth true ∷ [])
+        ≡ handed_truth true }
+    ensures both { (t : Tests) → called t xor_function
+        (handed_nodes (node [] null ∷ []) ∷ handed_truth true ∷ []) ≡ handed_truth false }
+    ensures items { (t : Tests) →
+        map (λ n. n.location) (document_nodes t (filtered (tree.test_call (tree.call (codes "xor")
+        (tree.arguments (tree.query_argument (member_of_current (codes "a"))
+        ∷ tree.query_argument (member_of_current (codes "b")) ∷ [])))))
+        (arr (object no_members ∷ obj (codes "a") (num 1) ∷ obj2 (codes "a") (num 1) (codes "b") (num 1)
+        ∷ obj (codes "b") null ∷ [])))
+        ≡ (item 1 ∷ []) ∷ (item 3 ∷ []) ∷ [] }
 {}
 
 /// What the functions give: lengths, the one value of a list of nodes, and a match as the tests answer it.

@@ -1,4 +1,4 @@
-//! What the functions give (RFC 9535, 2.4.4 to 2.4.8).
+//! What the functions give: those of RFC 9535 (2.4.4 to 2.4.8), and `xor`, which is this project's own.
 
 ghost use Rattle.std.specs.Prelude.{◌≡◌, Some, length, option_map, IfOk};
 ghost use Rattle.std.specs.Str.{chars};
@@ -72,6 +72,13 @@ fn text_of(operand: Operand<'_>) -> Option<&str>
         Operand::Text(text) => Some(text),
         _ => None,
     }
+}
+
+/// Whether exactly one of the two is true.
+pub(crate) fn exactly_one(left: bool, right: bool) -> bool
+    ensures { result ≡ spec.exactly_one left right }
+{
+    left != right
 }
 
 /// Whether the whole text matches the pattern. Of anything but two texts it is false.

@@ -27,7 +27,7 @@ use crate::found::{
     Alone, Found, add, count_of, count_operand, into_alone, into_first, is_full, only_operand,
 };
 use crate::functions::{
-    length, literal, matches, matches_known, operand, searches, searches_known,
+    exactly_one, length, literal, matches, matches_known, operand, searches, searches_known,
 };
 use crate::ground::Ground;
 use crate::numbers::place;
@@ -372,6 +372,11 @@ fn holds<'v, V: Visit + Drop>(
         Logical::SearchRead(text, known) => {
             let text = give::<V>(ground, text, value, path)?;
             searches_known(ground.alloc, text, known)
+        }
+        Logical::Xor(_, left, _, right) => {
+            let left = holds::<V>(ground, left, value, path)?;
+            let right = holds::<V>(ground, right, value, path)?;
+            Ok(exactly_one(left, right))
         }
     }
 }

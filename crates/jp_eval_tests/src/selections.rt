@@ -69,6 +69,9 @@ $.a[?value($..q)==@] on {"a":[1,2],"b":{"q":2}} gives $['a'][1]
 $.a[?value($..q)==@] on {"a":[1,2],"b":{"q":2},"q":2} gives nothing
 $.a[?@==$.x||$.y&&@>$.y] on {"a":[1,2,3],"y":2} gives $['a'][2]
 $[?match(@,$[1])] on ["ab","a."] gives $[0] $[1]
+$[?xor(@.a,@.b)] on [{},{"a":1},{"a":1,"b":1},{"b":null}] gives $[1] $[3]
+$[?xor((@.a),@.b==1)] on [{},{"a":1},{"a":1,"b":1},{"b":1}] gives $[1] $[3]
+$[?xor(match(@.t,'a'),(xor(@.*,$[0])))] on [{"t":"a"},{},{"t":"b"}] gives $[0] $[1]
 $["\uD83D\uDE00"] on {"😀":1} gives $['😀']"#;
 
 /// The paths of the nodes that the query selects, or that there is none.

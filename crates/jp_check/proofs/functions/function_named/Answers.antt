@@ -23,6 +23,10 @@ pub returns-in-value : goal.returns-in-value
 unfolding chars
 returns-in-value c = rw c.in-value.is refl
 
+pub returns-in-xor : goal.returns-in-xor
+unfolding chars
+returns-in-xor c = rw c.in-xor.is refl
+
 pub returns-in_default : goal.returns-in_default
 returns-in_default c =
     let name = c.args.name.now in
@@ -34,4 +38,5 @@ returns-in_default c =
           c.in_default.not-match,
       is_not name (codes "search") c.utf8.name refl c.in_default.not-search,
       is_not name (codes "value") c.utf8.name refl c.in_default.not-value,
+      is_not name (codes "xor") c.utf8.name refl c.in_default.not-xor,
     ) refl

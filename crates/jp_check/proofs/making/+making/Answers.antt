@@ -4,23 +4,25 @@ use Rattle.jp_syntax.specs.Tree as tree
 use Rattle.jp_syntax.specs.PartViews.{argument_of, comparable_of, logical_of, selector_of, segment_of}
 use Rattle.jp_syntax.proofs.Views.{filter_made, any_made, all_made, not_made, compare_made, test_made}
 use Rattle.jp_syntax.proofs.Views.{test_call_made, single_made, value_call_made, query_argument_made}
-use Rattle.jp_syntax.proofs.Views.{call_argument_made}
+use Rattle.jp_syntax.proofs.Views.{call_argument_made, logical_argument_made}
 use Rattle.jp_syntax.specs.declared.tree.Start.TheVariants as start
 use Rattle.jp_syntax.specs.declared.tree.Query.{out-Query}
 use Rattle.jp_check.specs.declared.ready.RootQuery.{RootQuery}
 use Rattle.std.specs.Str.{chars}
 use Rattle.jp_check.specs.Functions.{function_named, length_function, count_function, value_function}
+use Rattle.jp_check.specs.Functions.{xor_function}
 use Rattle.jp_check.specs.Kinds.{function_of}
 use Rattle.jp_check.specs.Ready.{segment_in, selector_in, logical_in, value_in, as_argument}
-use Rattle.jp_check.specs.Ready.{text_argument, call_of_one, call_of_two}
+use Rattle.jp_check.specs.Ready.{text_argument, form_of, truth_argument, call_of_one, call_of_two}
 use Rattle.jp_check.proofs.Levels.{query_level, segment_level, comparison_level}
-use Rattle.jp_check.proofs.CallsMade.{called_one, called_two, text_is}
-use Rattle.jp_check.proofs.Naming.{named_length, named_count, named_value}
+use Rattle.jp_check.proofs.CallsMade.{called_one, called, given_two, text_is, query_written}
+use Rattle.jp_check.proofs.CallsMade.{call_written, logical_written}
+use Rattle.jp_check.proofs.Naming.{named}
 use Rattle.jp_check.proofs.MakingSteps.{begins_itself, begins_on, made_more, made_all, listed_begins}
 use Rattle.jp_check.proofs.MakingSteps.{root_found}
 use Rattle.jp_check.proofs.ReadyViews.{filter_read, any_read, all_read, not_read, compare_read, test_read}
 use Rattle.jp_check.proofs.ReadyViews.{single_read, length_read, count_read, only_read, here_read}
-use Rattle.jp_check.proofs.ReadyViews.{root_read, segment_read}
+use Rattle.jp_check.proofs.ReadyViews.{root_read, segment_read, xor_read}
 use Rattle.jp_check.proofs.making.+making.Goals as goal
 
 pub make_segments-loop-segment-preserved : goal.make_segments-loop-segment-preserved
@@ -205,7 +207,7 @@ make_value_call-returns-in_ok-new-in-Some-Length-clause-made t c = λ all h.
     (ap (λ v. as_argument (value_in all v)) c.in_ok-new-in-Some-Length.ensures.ok
     ∙ c.in_ok-value-in-Some-Length.ensures.made all h)
     ∙ sym (ap tree.value_call (called_one c.args.call.now c.as_str.result.now (codes "length")
-    c.as_slice.result.now c.argument-item.result c.as_str.ensures.value (named_length _ known)
+    c.as_slice.result.now c.argument-item.result c.as_str.ensures.value (named _ length_function known)
     c.as_slice.ensures.value c.in-len1.len_at_least c.in-len1.len_below c.argument-item.is))
 
 pub make_value_call-returns-in_ok-make_argument_nodes-in-Some-Count-clause-made
@@ -218,7 +220,7 @@ make_value_call-returns-in_ok-make_argument_nodes-in-Some-Count-clause-made t c 
     ∙ ap (λ a. tree.value_call (call_of_one (codes "count") a))
     (c.in_ok-make_argument_nodes-in-Some-Count.ensures.made all h)
     ∙ sym (ap tree.value_call (called_one c.args.call.now c.as_str.result.now (codes "count")
-    c.as_slice.result.now c.argument-item.result c.as_str.ensures.value (named_count _ known)
+    c.as_slice.result.now c.argument-item.result c.as_str.ensures.value (named _ count_function known)
     c.as_slice.ensures.value c.in-len1.len_at_least c.in-len1.len_below c.argument-item.is))
 
 pub make_value_call-returns-in_ok-make_argument_nodes-in-Some-Value-clause-made
@@ -231,28 +233,77 @@ make_value_call-returns-in_ok-make_argument_nodes-in-Some-Value-clause-made t c 
     ∙ ap (λ a. tree.value_call (call_of_one (codes "value") a))
     (c.in_ok-make_argument_nodes-in-Some-Value.ensures.made all h)
     ∙ sym (ap tree.value_call (called_one c.args.call.now c.as_str.result.now (codes "value")
-    c.as_slice.result.now c.argument-item.result c.as_str.ensures.value (named_value _ known)
+    c.as_slice.result.now c.argument-item.result c.as_str.ensures.value (named _ value_function known)
     c.as_slice.ensures.value c.in-len1.len_at_least c.in-len1.len_below c.argument-item.is))
 
-pub make_test_call-returns-clause-made : goal.make_test_call-returns-clause-made
-make_test_call-returns-clause-made t c = λ all h.
+pub make_test_call-returns-in-Some-Xor-clause-made : goal.make_test_call-returns-in-Some-Xor-clause-made
+make_test_call-returns-in-Some-Xor-clause-made t c =
+    let told = c.in-Some-Xor.field-0-is in
+    let known : function_named (chars c.as_str.result.now) ≡ Some xor_function =
+    sym c.function_named-function.ensures ∙ ap (option_map function_of) c.in-Some-Xor.is
+    ∙ ap (λ f. Some (function_of f)) (rw c.in-Some-Xor.is at told) in
+    IfOk-weaker c.make_xor.result _ _ (λ l r all h. r all h
+    ∙ sym (ap tree.test_call (called c.args.call.now c.as_str.result.now (codes "xor")
+    c.as_slice-arguments.result.now c.as_str.ensures.value (named _ xor_function known)
+    c.as_slice-arguments.ensures.value))) c.make_xor.ensures.made
+
+pub make_test_call-returns-in_default-clause-made
+    : goal.make_test_call-returns-in_default-clause-made
+make_test_call-returns-in_default-clause-made t c =
     let name = chars c.as_str.result.now in
-    c.in_ok-test-2.ensures all name c.function_named-function.ensures
+    IfOk-weaker c.make_text_test.result _ _ (λ l r all h. r name c.function_named-function.ensures all h
+    ∙ sym (ap tree.test_call (called c.args.call.now c.as_str.result.now name
+    c.as_slice-arguments.result.now c.as_str.ensures.value refl c.as_slice-arguments.ensures.value)))
+    c.make_text_test.ensures.made
+
+pub make_xor-returns-clause-made : goal.make_xor-returns-clause-made
+make_xor-returns-clause-made t c = λ all h.
+    xor_read all c.form_of.result c.in_ok-new.field-0 c.form_of-2.result c.in_ok-new-2.field-0
+    ∙ ap₂ (λ a b. tree.test_call (call_of_two (codes "xor") a b))
+    (ap₂ truth_argument c.form_of.ensures (ap (logical_in all) c.in_ok-new.ensures.ok)
+    ∙ c.in_ok-first.ensures.made all (begins_on _ _ _ c.in_ok-second.ensures.roots h))
+    (ap₂ truth_argument c.form_of-2.ensures (ap (logical_in all) c.in_ok-new-2.ensures.ok)
+    ∙ c.in_ok-second.ensures.made all h)
+    ∙ sym (ap tree.test_call (given_two (codes "xor") c.args.arguments.now c.left-item.result
+    c.right-item.result c.in-len2.len_at_least c.in-len2.len_below c.left-item.is c.right-item.is))
+
+pub make_truth-returns-in_ok-make_nodes-in-Query-clause-made
+    : goal.make_truth-returns-in_ok-make_nodes-in-Query-clause-made
+make_truth-returns-in_ok-make_nodes-in-Query-clause-made t c = λ all h.
+    let a = argument_of c.args.argument.now in
+    ap (truth_argument (form_of a)) (test_read all c.in_ok-make_nodes-in-Query.field-0
+    ∙ ap tree.test (c.in_ok-make_nodes-in-Query.ensures.made all h))
+    ∙ query_written a _ (ap argument_of c.in-Query.is ∙ query_argument_made c.in-Query.query)
+
+pub make_truth-returns-in-Logical-clause-made : goal.make_truth-returns-in-Logical-clause-made
+make_truth-returns-in-Logical-clause-made t c =
+    let a = argument_of c.args.argument.now in
+    IfOk-weaker c.make_logical.result _ _ (λ l r all h. ap (truth_argument (form_of a)) (r all h)
+    ∙ logical_written a _ (ap argument_of c.in-Logical.is ∙ logical_argument_made c.in-Logical.logical))
+    c.make_logical.ensures.made
+
+pub make_truth-returns-in-Call-clause-made : goal.make_truth-returns-in-Call-clause-made
+make_truth-returns-in-Call-clause-made t c =
+    let a = argument_of c.args.argument.now in
+    IfOk-weaker c.make_test_call.result _ _ (λ l r all h. ap (truth_argument (form_of a)) (r all h)
+    ∙ call_written a _ (ap argument_of c.in-Call.is ∙ call_argument_made c.in-Call.call))
+    c.make_test_call.ensures.made
+
+pub make_text_test-returns-clause-made : goal.make_text_test-returns-clause-made
+make_text_test-returns-clause-made t c = λ name known all h.
+    c.in_ok-test-2.ensures all name known
     ∙ ap₂ (λ s p. tree.test_call (call_of_two name s p))
     (c.in_ok-text.ensures.made all (begins_on _ _ _ c.in_ok-pattern-2.ensures.roots h))
     (c.in_ok-pattern-2.ensures.made all h)
-    ∙ sym (ap tree.test_call (called_two c.args.call.now c.as_str.result.now name c.as_slice.result.now
-    c.text-item.result c.pattern-item.result c.as_str.ensures.value refl c.as_slice.ensures.value
-    c.in-len2.len_at_least c.in-len2.len_below c.text-item.is c.pattern-item.is))
+    ∙ sym (ap tree.test_call (given_two name c.args.arguments.now c.text-item.result
+    c.pattern-item.result c.in-len2.len_at_least c.in-len2.len_below c.text-item.is c.pattern-item.is))
 
-pub make_test_call-returns-in-Some-clause-made : goal.make_test_call-returns-in-Some-clause-made
-make_test_call-returns-in-Some-clause-made t c = λ all h.
-    let name = chars c.as_str.result.now in
+pub make_text_test-returns-in-Some-clause-made : goal.make_text_test-returns-in-Some-clause-made
+make_text_test-returns-in-Some-clause-made t c = λ name known all h.
     let literal : argument_of c.pattern-item.result ≡ text_argument (chars c.in-Some.pattern.now) =
     text_is (argument_of c.pattern-item.result) (chars c.in-Some.pattern.now) c.in-Some.ensures in
-    c.in_ok-test.ensures all name c.function_named-function.ensures
+    c.in_ok-test.ensures all name known
     ∙ ap₂ (λ s p. tree.test_call (call_of_two name s p)) (c.in_ok-text.ensures.made all h)
     (ap text_argument c.in_ok-pattern.ensures ∙ sym literal)
-    ∙ sym (ap tree.test_call (called_two c.args.call.now c.as_str.result.now name c.as_slice.result.now
-    c.text-item.result c.pattern-item.result c.as_str.ensures.value refl c.as_slice.ensures.value
-    c.in-len2.len_at_least c.in-len2.len_below c.text-item.is c.pattern-item.is))
+    ∙ sym (ap tree.test_call (given_two name c.args.arguments.now c.text-item.result
+    c.pattern-item.result c.in-len2.len_at_least c.in-len2.len_below c.text-item.is c.pattern-item.is))

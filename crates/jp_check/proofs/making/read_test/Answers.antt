@@ -4,7 +4,7 @@ use Rattle.jp_syntax.specs.View.{text_of}
 use Rattle.jp_check.specs.Functions.{function_named, match_function, search_function}
 use Rattle.jp_check.specs.Kinds.{function_of}
 use Rattle.jp_check.specs.Ready.{call_of_two, as_argument, text_argument, value_in}
-use Rattle.jp_check.proofs.Naming.{named_match, named_search}
+use Rattle.jp_check.proofs.Naming.{named}
 use Rattle.jp_check.proofs.ReadyViews.{match_known, search_known}
 use Rattle.jp_check.proofs.making.read_test.Goals as goal
 
@@ -16,7 +16,7 @@ returns-in-Some-Match c = λ all name e.
     ∙ ap (λ f. Some (function_of f)) (rw c.in-Some-Match.is at told) in
     match_known all c.args.text c.args.pattern
     ∙ ap (λ n. tree.test_call (call_of_two n (as_argument (value_in all c.args.text))
-    (text_argument (text_of c.args.pattern.text)))) (sym (named_match name known))
+    (text_argument (text_of c.args.pattern.text)))) (sym (named name match_function known))
 
 pub returns-in-Some-Search : goal.returns-in-Some-Search
 returns-in-Some-Search c = λ all name e.
@@ -26,4 +26,4 @@ returns-in-Some-Search c = λ all name e.
     ∙ ap (λ f. Some (function_of f)) (rw c.in-Some-Search.is at told) in
     search_known all c.args.text c.args.pattern
     ∙ ap (λ n. tree.test_call (call_of_two n (as_argument (value_in all c.args.text))
-    (text_argument (text_of c.args.pattern.text)))) (sym (named_search name known))
+    (text_argument (text_of c.args.pattern.text)))) (sym (named name search_function known))

@@ -20,6 +20,7 @@ use Rattle.jp_eval.specs.Base.{base_of}
 use Rattle.jp_eval.specs.BoundsView.{bounds_value}
 use Rattle.jp_eval.specs.Comparison.{compared}
 use Rattle.jp_eval.specs.Functions.{tested, number_value, first_value, only_value, length_value}
+use Rattle.jp_eval.specs.Functions.{exactly_one}
 use Rattle.jp_eval.specs.Nodelist.{items_at, written_value}
 use Rattle.jp_eval.specs.Kept.{kept, put_found, plus, kept_first, kept_count, kept_only}
 use Rattle.jp_eval.specs.Links.{here}
@@ -38,7 +39,7 @@ use Rattle.jp_eval.proofs.ReadyParts.{picked_name, picked_wild, picked_index, pi
 use Rattle.jp_eval.proofs.ReadyParts.{true_any, true_all, true_not, true_compare, true_test, true_match}
 use Rattle.jp_eval.proofs.ReadyParts.{true_search, true_match_known, true_search_known, given_constant}
 use Rattle.jp_eval.proofs.ReadyParts.{given_single, given_length, given_count, given_only, nodes_here}
-use Rattle.jp_eval.proofs.ReadyParts.{nodes_root}
+use Rattle.jp_eval.proofs.ReadyParts.{nodes_root, true_xor}
 use Rattle.jp_eval.proofs.Places.{within_more, index_found, slice_found}
 use Rattle.jp_eval.proofs.WalkSteps.{back_up, here_further, link_further, over, applied, descended}
 use Rattle.jp_eval.proofs.WalkSteps.{first_left, others_left, no_deeper, item_done, first_member_left}
@@ -568,6 +569,18 @@ holds-returns-in_ok-text-in-SearchRead-clause-truth g t c =
     c.in-SearchRead.is ∙ true_search_known (base_of c.args.ground.now)
     (here c.args.path.now c.args.value) c.in-SearchRead.text c.in-SearchRead.known))
     c.searches_known.ensures
+
+pub holds-returns-in_ok-right-in-Xor-clause-truth : goal.holds-returns-in_ok-right-in-Xor-clause-truth
+holds-returns-in_ok-right-in-Xor-clause-truth g t c =
+    let n = here c.args.path.now c.args.value in
+    let second = rw c.in_ok-left-in-Xor.ensures.path at c.in_ok-right-in-Xor.ensures.truth in
+    c.exactly_one.ensures
+    ∙ ap₂ exactly_one (c.in_ok-left-in-Xor.ensures.truth
+    ∙ ap (λ l. is_true (base_of c.args.ground.now) l n) c.deref-in-Xor.ensures)
+    (second ∙ ap (λ l. is_true (base_of c.args.ground.now) l n) c.deref-in-Xor-2.ensures)
+    ∙ sym (ap (λ l. is_true (base_of c.args.ground.now) l n) c.in-Xor.is
+    ∙ true_xor (base_of c.args.ground.now) n c.in-Xor.field-0 c.in-Xor.left c.in-Xor.field-2
+    c.in-Xor.right)
 
 pub give-returns-in-Constant-clause-value : goal.give-returns-in-Constant-clause-value
 give-returns-in-Constant-clause-value g t c = c.literal.ensures.value
