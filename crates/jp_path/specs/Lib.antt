@@ -1,2 +1,3 @@
+pub mod FaultLine
 pub mod OutputLine
 pub mod PathQuery

@@ -7,6 +7,8 @@ ghost use Rattle.jp_syntax.specs.Tree as tree;
 ghost use Rattle.jp_syntax.specs.declared.tree.Start.TheVariants.{Root};
 ghost use Rattle.jp_syntax.specs.View as view;
 ghost use Rattle.jp_check.specs.Plan.{planned_query};
+ghost use Rattle.jp_doc.specs.declared.fault.DocFault.TheVariants.{LongLine, Unreadable, NotWhole, LongArray};
+ghost use Rattle.jp_path.specs.FaultLine.{fault_line};
 ghost use Rattle.jp_path.specs.OutputLine.{line_text};
 ghost use Rattle.jp_path.specs.PathQuery.{path_query};
 
@@ -41,6 +43,19 @@ fn output_lines()
         ≡ codes "10" ++ 9 ∷ codes "$[0]" ++ 9 ∷ codes "[-5,\"a\\\"b\",true,{\"c\":2}]" ++ 10 ∷ [] }
     ensures path_in_utf8 { line_text 1 (name (128512 ∷ []) ∷ []) (whole (pos 1))
         ≡ codes "1" ++ 9 ∷ codes "$['" ++ 240 ∷ 159 ∷ 152 ∷ 128 ∷ codes "']" ++ 9 ∷ codes "1" ++ 10 ∷ [] }
+{}
+
+#[tactic(auto, unfolding(crate::proofs::OnLiterals::lines_on_literals))]
+/// Fault lines: the line's number, `!` and the kind of the fault, with tabs between.
+fn fault_lines()
+    ensures unreadable { fault_line 2 Unreadable ≡ codes "2" ++ 9 ∷ codes "!" ++ 9 ∷ codes "unreadable"
+        ++ 10 ∷ [] }
+    ensures not_whole { fault_line 4 NotWhole ≡ codes "4" ++ 9 ∷ codes "!" ++ 9 ∷ codes "not whole"
+        ++ 10 ∷ [] }
+    ensures long_array { fault_line 7 LongArray ≡ codes "7" ++ 9 ∷ codes "!" ++ 9 ∷ codes "long array"
+        ++ 10 ∷ [] }
+    ensures long_line { fault_line 7 LongLine ≡ codes "7" ++ 9 ∷ codes "!" ++ 9 ∷ codes "long line"
+        ++ 10 ∷ [] }
 {}
 
 #[tactic(auto, unfolding(crate::proofs::OnLiterals::lines_on_literals))]

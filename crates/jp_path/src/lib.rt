@@ -1,7 +1,8 @@
-//! Normalized paths (RFC 9535, 2.7) and output lines.
+//! Normalized paths (RFC 9535, 2.7), output lines and fault lines.
 #![tactic(auto)]
 
 mod examples;
+mod fault_line;
 pub mod laws;
 mod node_lines;
 mod output_line;
@@ -9,6 +10,7 @@ mod path;
 mod query;
 mod value_text;
 
+pub use fault_line::write_fault;
 pub use node_lines::NodeLines;
 pub use output_line::write_line;
 pub use path::write_path;

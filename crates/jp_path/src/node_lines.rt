@@ -9,8 +9,10 @@ ghost use Rattle.jp_trail.specs.Links.{link_steps};
 ghost use Rattle.jp_trail.specs.Path.{path_text};
 ghost use Rattle.jp_path.specs.OutputLine.{line_text};
 
+use crate::fault_line::write_fault;
+use crate::output_line::append_number;
 use crate::value_text::append_text;
-use itoa::Buffer;
+use jp_doc::DocFault;
 use jp_eval::Visit;
 use jp_trail::Trail;
 use serde_json::Value;
@@ -37,6 +39,10 @@ impl Model for NodeLines {
 }
 
 impl NodeLines {
+    ghost use Rattle.std.specs.Prelude.{◌≢◌};
+    ghost use Rattle.jp_doc.specs.declared.fault.DocFault.TheVariants.{Memory};
+    ghost use Rattle.jp_path.specs.FaultLine.{fault_line};
+
     /// No lines, of a document with the number 0. It takes no memory.
     pub fn new(alloc: Global) -> NodeLines
         ensures { result ≡ (0, []) }
@@ -53,6 +59,17 @@ impl NodeLines {
         ensures { self.new ≡ (number, self.old.1) }
     {
         self.number = number;
+    }
+
+    /// Appends the fault line of the line with this number. Condition: the fault is not `Memory`.
+    ///
+    /// After an `AllocError`, which says that a growth was refused, the lines are as before.
+    pub fn push_fault(&mut self, alloc: Global, fault: &DocFault) -> Result<(), AllocError>
+        requires { fault.now ≢ Memory }
+        ensures ok { OnOk result (self.new ≡ (self.old.0, self.old.1 ++ fault_line self.old.0 fault.now)) }
+        ensures err { OnErr result (self.new ≡ self.old) }
+    {
+        write_fault(alloc, self.number, fault, &mut self.out)
     }
 
     /// The bytes of all lines.
@@ -137,9 +154,7 @@ fn append_parts(
         (9 ∷ compact_text (view value.now) ++ 10 ∷ [])))) }
     ensures kept { Extends out.old.items out.new.items }
 {
-    let mut buffer = Buffer::new();
-    out.extend_from_slice(buffer.format(number).as_bytes())?;
-    out.push(b'\t')?;
+    append_number(number, out)?;
     trail.append_path(out)?;
     out.push(b'\t')?;
     append_text(alloc, value, room, out)?;

@@ -55,12 +55,21 @@ fn append_line(
         (9 ∷ text.now ++ 10 ∷ [])))) }
     ensures kept { Extends out.old.items out.new.items }
 {
-    let mut buffer = Buffer::new();
-    out.extend_from_slice(buffer.format(number).as_bytes())?;
-    out.push(b'\t')?;
+    append_number(number, out)?;
     append_path(location, out)?;
     out.push(b'\t')?;
     out.extend_from_slice(text.as_bytes())?;
     out.push(b'\n')?;
+    Ok(())
+}
+
+/// Appends a document's number and a tab, and on an error perhaps the number alone.
+pub(crate) fn append_number(number: u64, out: &mut Vec<u8>) -> Result<(), AllocError>
+    ensures ok { OnOk result (out.new.items ≡ out.old.items ++ (decimal number ++ 9 ∷ [])) }
+    ensures kept { Extends out.old.items out.new.items }
+{
+    let mut buffer = Buffer::new();
+    out.extend_from_slice(buffer.format(number).as_bytes())?;
+    out.push(b'\t')?;
     Ok(())
 }

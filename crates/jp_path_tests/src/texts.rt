@@ -1,7 +1,7 @@
 //! The calls with ample memory. The expected texts come from RFC 9535, 2.7.
 
-use jp_doc::{Document, Location, Step};
-use jp_path::{write_line, write_path};
+use jp_doc::{DocFault, Document, Location, Step};
+use jp_path::{write_fault, write_line, write_path};
 use serde_json::Value;
 use std::alloc::{AllocError, Global};
 use std::test::Fail;
@@ -67,5 +67,25 @@ fn lines(rt: HostRuntime) -> Result<(), Fail> {
     let want =
         "18446744073709551615\t$['a']\t{\"a\":\"ü\\n\",\"b\":[1,-2,null]}\n3\t$['a']\tnull\n";
     assert_eq!(rt; out.as_slice(), want.as_bytes());
+    Ok(())
+}
+
+#[test]
+fn faults(rt: HostRuntime) -> Result<(), Fail> {
+    let rows = [
+        (2, DocFault::Unreadable, "2\t!\tunreadable\n"),
+        (4, DocFault::NotWhole, "4\t!\tnot whole\n"),
+        (7, DocFault::LongArray, "7\t!\tlong array\n"),
+        (7, DocFault::LongLine, "7\t!\tlong line\n"),
+    ];
+    let mut out = Vec::new(rt.alloc());
+    for (number, fault, line) in rows {
+        out.clear();
+        out.extend_from_slice(b"front")?;
+        write_fault(rt.alloc(), number, &fault, &mut out)?;
+        let (front, appended) = out.as_slice().split_at(5);
+        assert_eq!(rt; front, b"front".as_slice());
+        assert_eq!(rt; appended, line.as_bytes());
+    }
     Ok(())
 }
