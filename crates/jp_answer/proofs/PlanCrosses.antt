@@ -14,6 +14,7 @@ use Rattle.jp_check.proofs.ready.Constant.TheSendSync as constants
 use Rattle.jp_check.proofs.ready.Position.TheSendSync as positions
 use Rattle.jp_check.proofs.ready.Slice.TheSendSync as slices
 use Rattle.jp_check.proofs.ready.Want.TheSendSync as wants
+use Rattle.jp_check.proofs.ready.Form.TheSendSync as forms
 use Rattle.jp_check.proofs.ready.Logical.TheLaws.TheKnot.{crosses as ready_crosses}
 use Rattle.jp_regexp.proofs.parts.Part.TheLaws.TheKnot.{crosses as pattern_crosses}
 use Rattle.jp_syntax.proofs.tree.Argument.TheLaws.TheKnot.{crosses as tree_crosses}
@@ -30,6 +31,7 @@ ready_field = search (
   positions.the_field_sync,
   slices.the_field_sync,
   wants.the_field_sync,
+  forms.the_field_sync,
   crosses,
   pattern_crosses,
   ready_crosses,
