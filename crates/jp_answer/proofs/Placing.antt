@@ -10,10 +10,10 @@ use Rattle.std.proofs.lemmas.List.Elements.{Contains-push, Contains-append_left}
 use Rattle.std.proofs.lemmas.Option.{slice_get_within, get_or_from_slice_get}
 use Rattle.jp_answer.specs.Answer as answers
 use Rattle.jp_answer.specs.Answer.{after, joined, unless_stopped}
-use Rattle.jp_answer.specs.Answered.{answer_of}
+use Rattle.jp_answer.specs.Answered.{outcome_of}
 use Rattle.jp_answer.specs.Placed.{StandsAt, IsPlaced, ComeFrom}
 use Rattle.jp_answer.specs.Worked.{pieces_of}
-use Rattle.jp_answer.specs.declared.outcome.Answer.{Answer}
+use Rattle.jp_answer.specs.declared.outcome.Outcome.{Outcome}
 use Rattle.jp_answer.specs.declared.outcome.DocStop.{DocStop}
 use Rattle.jp_answer.specs.declared.worker.Part.{Part}
 use Rattle.jp_answer.proofs.Tending.{has_cases}
@@ -33,10 +33,10 @@ get_other (x ∷ xs) (suc i) (suc j) v apart = get_other xs i j v (λ e. apart (
 -- nothing stands anywhere at first
 pub from_none : (n : ℕ) → ComeFrom [] (replicate n None)
 from_none n x a at =
-    let none : List (Option Answer) = replicate n None in
+    let none : List (Option Outcome) = replicate n None in
     let w = slice_get_within none x (Some a) at in
-    let short : x < n = omega (arith, w, length-replicate {A = Option Answer} n None) in
-    let e : ◌≡◌ {A = Option Answer} None (Some a) = sym (get_or-replicate n x None None short)
+    let short : x < n = omega (arith, w, length-replicate {A = Option Outcome} n None) in
+    let e : ◌≡◌ {A = Option Outcome} None (Some a) = sym (get_or-replicate n x None None short)
     ∙ get_or_from_slice_get none x (Some a) None at in
     absurd (cc)
 
@@ -46,8 +46,8 @@ set_past [] i v h = refl
 set_past (x ∷ xs) zero v h = absurd (omega arith)
 set_past (x ∷ xs) (suc i) v h = ap (λ ys. x ∷ ys) (set_past xs i v (omega arith))
 
-module _ (parts : List Part) (new : Part) (placed : List (Option Answer)) where
-  abbrev put : List (Option Answer)
+module _ (parts : List Part) (new : Part) (placed : List (Option Outcome)) where
+  abbrev put : List (Option Outcome)
   put = set placed new.piece (Some new.answer)
 
   -- one more part is put
@@ -65,10 +65,10 @@ module _ (parts : List Part) (new : Part) (placed : List (Option Answer)) where
       (λ (e : new.piece ≡ x). absurd (apart (sym e)))
       (has_cases parts new x has))
 
-  same_part : (x : ℕ) (a : Answer) → new.piece ≡ x → new.answer ≡ a
+  same_part : (x : ℕ) (a : Outcome) → new.piece ≡ x → new.answer ≡ a
       → ◌≡◌ {A = Part} new (record { piece = x; answer = a })
   same_part x a e f = ap (λ (y : ℕ). record { piece = y; answer = new.answer }) e
-      ∙ ap (λ (b : Answer). record { piece = x; answer = b }) f
+      ∙ ap (λ (b : Outcome). record { piece = x; answer = b }) f
 
   pub from_more : ComeFrom parts placed → ComeFrom (parts ++ new ∷ []) put
   from_more old x a at = dite (ℕ_discrete x new.piece)
@@ -78,7 +78,7 @@ module _ (parts : List Part) (new : Part) (placed : List (Option Answer)) where
       let room : new.piece < length placed = omega (
         arith,
         w,
-        length-set {A = Option Answer} placed
+        length-set {A = Option Outcome} placed
             new.piece (Some new.answer),
       ) in
       let same : Some (Some new.answer) ≡ Some (Some a) = sym (get_same placed new.piece
@@ -88,17 +88,17 @@ module _ (parts : List Part) (new : Part) (placed : List (Option Answer)) where
       (λ apart. Contains-append_left parts (new ∷ []) (record { piece = x; answer = a }) (old x a (sym
       (get_other placed new.piece x (Some new.answer) apart) ∙ at)))
 
-goes_on : (a : Answer) (rest : answers.Answer) → false ≡ is_some a.stopped
-    → joined (answer_of a) rest ≡ after a.bytes.items rest
+goes_on : (a : Outcome) (rest : answers.Answer) → false ≡ is_some a.stopped
+    → joined (outcome_of a) rest ≡ after a.bytes.items rest
 goes_on a rest plain = by_stop a.stopped plain where
   by_stop : (s : Option DocStop) → false ≡ is_some s
-      → unless_stopped (option_map (λ s. (s.line, s.fault)) s) (answer_of a) rest ≡ after a.bytes.items rest
+      → unless_stopped (option_map (λ s. (s.line, s.fault)) s) (outcome_of a) rest ≡ after a.bytes.items rest
   by_stop None e = refl
   by_stop (Some s) e = absurd (cc)
 
 -- one more answer is joined, and has not stopped
-pub joined_more : (all rest : answers.Answer) (a : Answer) (bytes new : List ℕ)
-    → all ≡ after bytes (joined (answer_of a) rest) → false ≡ is_some a.stopped → new ≡ bytes ++ a.bytes.items
+pub joined_more : (all rest : answers.Answer) (a : Outcome) (bytes new : List ℕ)
+    → all ≡ after bytes (joined (outcome_of a) rest) → false ≡ is_some a.stopped → new ≡ bytes ++ a.bytes.items
     → all ≡ after new rest
 joined_more all rest a bytes new so plain is =
     so ∙ ap (after bytes) (goes_on a rest plain) ∙ ap

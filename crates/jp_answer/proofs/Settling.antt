@@ -1,12 +1,13 @@
 -- What the workers did together, and the answer that their parts give.
-use Rattle.std.proofs.Common.{◌≡◌, refl, ℕ, zero, suc, ◌+◌, ◌*◌, ◌<◌, ◌≤◌, ◌⊎◌, inl, inr, List, [], ◌∷◌, ◌++◌}
-use Rattle.std.proofs.Common.{length, take, drop, map, flat_map, Option, Some, None, Result, Ok, Err, false}
+use Rattle.std.proofs.Common.{◌≡◌, refl, ℕ, zero, suc, ◌+◌, ◌*◌, ◌<◌, ◌≤◌, ◌⊎◌, inl, inr, Bool, List, [], ◌∷◌, ◌++◌}
+use Rattle.std.proofs.Common.{length, take, drop, map, flat_map, Option, Some, None, Result, Ok, Err, true, false}
 use Rattle.std.proofs.Common.{All, Contains, sym, ap, subst, ⊎_elim, ◌∙◌, arith, add-zero, zero-add}
 use Rattle.std.proofs.Common.{append-nil}
-use Rattle.std.specs.Prelude.{IsSome, IfOk, min}
+use Rattle.std.specs.Prelude.{IsSome, IfOk, min, vec_len}
+use Rattle.std.proofs.Common.{Vec, Global}
 use Rattle.std.proofs.Math.ListN.{drop_of_length-le}
 use Rattle.std.proofs.Math.Nat.{add-mul, one-mul, zero-mul}
-use Rattle.std.proofs.lemmas.List.{map-append, drop-drop, take-append-drop}
+use Rattle.std.proofs.lemmas.List.{map-append, drop-drop, take-append-drop, length-map}
 use Rattle.std.proofs.lemmas.List.Elements.{All-nil, All-append, All-head, All-tail, All-contains}
 use Rattle.std.proofs.lemmas.List.Elements.{Contains-append_left, Contains-append_right}
 use Rattle.std.proofs.lemmas.List.Elements.{Contains-append_cases}
@@ -16,6 +17,7 @@ use Rattle.jp_doc.specs.Lines.{Line, line_of}
 use Rattle.jp_doc.specs.declared.fault.DocFault.{DocFault}
 use Rattle.jp_doc.specs.declared.line.Line as code
 use Rattle.jp_check.specs.Plan.{planned_query}
+use Rattle.jp_syntax.specs.Tree.{Query}
 use Rattle.jp_regexp.specs.Tests.{Tests, AreRight}
 use Rattle.jp_board.specs.declared.seat.Seat.{Seat}
 use Rattle.jp_board.specs.declared.view.View.{View}
@@ -23,17 +25,21 @@ use Rattle.jp_board.specs.Seats.{view_of}
 use Rattle.jp_board.specs.Tally.{Tallies}
 use Rattle.jp_board.specs.Together.{all_claims, all_reports, all_looks, times_told}
 use Rattle.jp_answer.specs.Answer as answers
-use Rattle.jp_answer.specs.Answer.{after, answer, joined, unless_stopped}
-use Rattle.jp_answer.specs.Answered.{answer_of}
+use Rattle.jp_answer.specs.Answer.{after, joined, unless_stopped}
+use Rattle.jp_answer.specs.Answered.{answer_of, outcome_of}
+use Rattle.jp_answer.specs.Form.{answer_in, stop_in, passed_in}
 use Rattle.jp_answer.specs.Pieces.{piece_lines, AreAllPieces, IsFaulty, IsPieceAnswer}
-use Rattle.jp_answer.specs.Placed.{StandsAt, IsPlaced, ComeFrom, nothing, joined_all}
+use Rattle.jp_answer.specs.Placed.{StandsAt, IsPlaced, ComeFrom, nothing, joined_all, passed_all, ArePlaced}
+use Rattle.jp_answer.specs.Whole.{whole}
 use Rattle.jp_answer.specs.Worked.{pieces_of, AreTended, IsTended, IsWorked}
 use Rattle.jp_answer.specs.declared.outcome.Answer.{Answer}
+use Rattle.jp_answer.specs.declared.outcome.Outcome.{Outcome}
 use Rattle.jp_answer.specs.declared.pieces.Pieces.{Pieces}
 use Rattle.jp_answer.specs.declared.worker.Part.{Part}
 use Rattle.jp_answer.specs.declared.worker.Worker.{Worker}
 use Rattle.jp_board.proofs.Tallying.{claims_below, claims_all}
-use Rattle.jp_answer.proofs.Joining.{after_joined_by, pieces_joined}
+use Rattle.jp_answer.proofs.Forms.{formed_joined, nothing_in, passed_joined, passed_none, passed_few}
+use Rattle.jp_answer.proofs.Joining.{after_joined_by}
 
 -- an answer is joined to others
 
@@ -56,16 +62,16 @@ second_stops None a b e h = h
 second_stops (Some s) a b e h = subst IsSome (sym e) refl
 
 -- where one that stands there has stopped, so have all together
-all_stop : (placed : List (Option Answer)) (x : ℕ) (a : Answer) → StandsAt placed x a
-    → IsSome (answer_of a).stopped → IsSome (joined_all placed).stopped
+all_stop : (placed : List (Option Outcome)) (x : ℕ) (a : Outcome) → StandsAt placed x a
+    → IsSome (outcome_of a).stopped → IsSome (joined_all placed).stopped
 all_stop [] x a at h = absurd (cc)
 all_stop (None ∷ os) zero a at h = absurd (cc)
 all_stop (Some b ∷ os) zero a at h =
     let e : b ≡ a = cc in
-    first_stops (answer_of b).stopped (answer_of b) (joined_all os) refl (subst (λ (c : Answer). IsSome
-    (answer_of c).stopped) (sym e) h)
+    first_stops (outcome_of b).stopped (outcome_of b) (joined_all os) refl (subst (λ (c : Outcome). IsSome
+    (outcome_of c).stopped) (sym e) h)
 all_stop (None ∷ os) (suc x) a at h = all_stop os x a at h
-all_stop (Some b ∷ os) (suc x) a at h = second_stops (answer_of b).stopped (answer_of b)
+all_stop (Some b ∷ os) (suc x) a at h = second_stops (outcome_of b).stopped (outcome_of b)
     (joined_all os) refl (all_stop os x a at h)
 
 stopped_alone : (stop : Option (ℕ × DocFault)) (a b : answers.Answer) → IsSome stop
@@ -80,6 +86,10 @@ with_nothing None a e = ap (λ bs. record { bytes = bs; stopped = None }) (appen
 with_nothing (Some s) a e = refl
 
 module _ (p : Pieces) where
+  -- the answer to lines, in the form that is asked for
+  abbrev to_lines : Tests → List Line → answers.Answer
+  to_lines t ls = answer_in p.keeps_going t (planned_query p.plan.now) ls
+
   -- the lines from a piece on
   abbrev lines_from : ℕ → List Line
   lines_from x = map line_of (drop (x * p.size) p.lines.now)
@@ -97,69 +107,130 @@ module _ (p : Pieces) where
       ap (map line_of) cut ∙ map-append line_of (take p.size rest) (drop ((x + 1) * p.size) p.lines.now)
 
   -- the answer to the piece with this number stands at each place, counted from a piece on
-  abbrev StandFrom : Tests → ℕ → List (Option Answer) → Type 0
+  abbrev StandFrom : Tests → ℕ → List (Option Outcome) → Type 0
   StandFrom t x placed = (k : ℕ) → k < length placed
-      → (a : Answer) × StandsAt placed k a × (answer t (planned_query p.plan.now) (piece_lines p (x + k))
-      ≡ answer_of a)
+      → (a : Outcome) × StandsAt placed k a × (to_lines t (piece_lines p (x + k))
+      ≡ outcome_of a)
 
-  one_later : (t : Tests) (x : ℕ) (o : Option Answer) (os : List (Option Answer))
+  one_later : (t : Tests) (x : ℕ) (o : Option Outcome) (os : List (Option Outcome))
       → StandFrom t x (o ∷ os) → StandFrom t (x + 1) os
   one_later t x o os each k h =
       let (a, at, is) = each (suc k) (omega arith) in
       let e : x + suc k ≡ x + 1 + k = omega arith in
-      (a, at, subst (λ n. answer t (planned_query p.plan.now) (piece_lines p n) ≡ answer_of a) e is)
+      (a, at, subst (λ n. to_lines t (piece_lines p n) ≡ outcome_of a) e is)
 
   -- what stands there, and then the answer to the other lines
-  joined_pieces : (t : Tests) (placed : List (Option Answer)) (x : ℕ) → StandFrom t x placed
-      → joined (joined_all placed) (answer t (planned_query p.plan.now) (lines_from (x + length placed)))
-      ≡ answer t (planned_query p.plan.now) (lines_from x)
-  joined_pieces t [] x each = ap (λ n. answer t (planned_query p.plan.now) (lines_from n)) (add-zero x)
+  joined_pieces : (t : Tests) (placed : List (Option Outcome)) (x : ℕ) → StandFrom t x placed
+      → joined (joined_all placed) (to_lines t (lines_from (x + length placed)))
+      ≡ to_lines t (lines_from x)
+  joined_pieces t [] x each = ap (λ n. to_lines t (lines_from n)) (add-zero x)
   joined_pieces t (None ∷ os) x each = let (a, at, is) = each 0 (omega arith) in absurd (cc)
   joined_pieces t (Some b ∷ os) x each =
-      let q = planned_query p.plan.now in
       let (a, at, is) = each 0 (omega arith) in
       let same : b ≡ a = cc in
-      let here : answer_of b ≡ answer t q (piece_lines p x) = ap answer_of same ∙ sym is
-      ∙ ap (λ n. answer t q (piece_lines p n)) (add-zero x) in
+      let here : outcome_of b ≡ to_lines t (piece_lines p x) = ap outcome_of same ∙ sym is
+      ∙ ap (λ n. to_lines t (piece_lines p n)) (add-zero x) in
       let e : x + suc (length os) ≡ x + 1 + length os = omega arith in
-      ap (λ n. joined (joined (answer_of b) (joined_all os)) (answer t q (lines_from n))) e
-      ∙ joined_assoc (answer_of b) (joined_all os) (answer t q (lines_from (x + 1 + length os)))
-      ∙ ap (joined (answer_of b)) (joined_pieces t os (x + 1) (one_later t x (Some b) os each))
-      ∙ ap (λ (c : answers.Answer). joined c (answer t q (lines_from (x + 1)))) here
-      ∙ sym (pieces_joined t q (piece_lines p x) (lines_from (x + 1))) ∙ ap (answer t q) (sym (cut_piece x))
-
-  -- what stands there are the answers to the first pieces, and these are all or have a faulty one
-  pub record ArePlaced (placed : List (Option Answer)) : Type 0 where
-    pub each : (x : ℕ) → x < length placed → (a : Answer) × StandsAt placed x a × IsPieceAnswer p x a
-    pub enough : (length p.lines.now ≤ length placed * p.size) ⊎ ((x : ℕ) × (x < length placed)
-        × IsFaulty p x)
+      ap (λ n. joined (joined (outcome_of b) (joined_all os)) (to_lines t (lines_from n))) e
+      ∙ joined_assoc (outcome_of b) (joined_all os) (to_lines t (lines_from (x + 1 + length os)))
+      ∙ ap (joined (outcome_of b)) (joined_pieces t os (x + 1) (one_later t x (Some b) os each))
+      ∙ ap (λ (c : answers.Answer). joined c (to_lines t (lines_from (x + 1)))) here
+      ∙ sym (formed_joined t (planned_query p.plan.now) p.keeps_going (piece_lines p x) (lines_from (x + 1))) ∙ ap (to_lines t) (sym (cut_piece x))
 
   from_start : lines_from 0 ≡ map line_of p.lines.now
   from_start = ap (λ n. map line_of (drop n p.lines.now)) (zero-mul p.size)
 
   -- the answer to all lines is that of what stands there
-  pub placed_answer : (placed : List (Option Answer)) → ArePlaced placed → (t : Tests) → AreRight t
-      → answer t (planned_query p.plan.now) (map line_of p.lines.now) ≡ joined_all placed
+  pub placed_answer : (placed : List (Option Outcome)) → ArePlaced p placed → (t : Tests) → AreRight t
+      → to_lines t (map line_of p.lines.now) ≡ joined_all placed
   placed_answer placed h t right =
-      let q = planned_query p.plan.now in
       let all = joined_all placed in
-      let rest = answer t q (lines_from (0 + length placed)) in
-      let whole : joined all rest ≡ answer t q (map line_of p.lines.now) =
+      let rest = to_lines t (lines_from (0 + length placed)) in
+      let whole : joined all rest ≡ to_lines t (map line_of p.lines.now) =
       joined_pieces t placed 0 (λ k lt. let (a, at, is) = h.each k lt in (
         a,
         at,
-        subst (λ n. answer t q (piece_lines p n) ≡ answer_of a) (sym (zero-add k))
+        subst (λ n. to_lines t (piece_lines p n) ≡ outcome_of a) (sym (zero-add k))
             (is.answer t right),
-      )) ∙ ap (answer t q) from_start in
+      )) ∙ ap (to_lines t) from_start in
       sym whole ∙ ⊎_elim
       (λ (long : length p.lines.now ≤ length placed * p.size).
       let none : lines_from (0 + length placed) ≡ [] = ap (λ n. lines_from n) (zero-add (length placed))
       ∙ ap (map line_of) (drop_of_length-le p.lines.now long) in
-      ap (λ ls. joined all (answer t q ls)) none ∙ with_nothing all.stopped all refl)
+      ap (λ ls. joined all (to_lines t ls)) none
+      ∙ ap (joined all) (nothing_in t (planned_query p.plan.now) p.keeps_going)
+      ∙ with_nothing all.stopped all refl)
       (λ (f : (x : ℕ) × (x < length placed) × IsFaulty p x).
       let (a, at, is) = h.each f.0 f.1 in
       stopped_alone all.stopped all rest (all_stop placed f.0 a at (subst IsSome is.stopped f.2)))
       h.enough
+
+  -- the same of the faulty lines that are passed
+  abbrev PassedFrom : ℕ → List (Option Outcome) → Type 0
+  PassedFrom x placed = (k : ℕ) → k < length placed → (a : Outcome) × StandsAt placed k a
+      × (passed_in p.keeps_going (piece_lines p (x + k)) ≡ a.faulty)
+
+  passed_later : (x : ℕ) (o : Option Outcome) (os : List (Option Outcome)) → PassedFrom x (o ∷ os)
+      → PassedFrom (x + 1) os
+  passed_later x o os each k h =
+      let (a, at, is) = each (suc k) (omega arith) in
+      let e : x + suc k ≡ x + 1 + k = omega arith in
+      (a, at, subst (λ n. passed_in p.keeps_going (piece_lines p n) ≡ a.faulty) e is)
+
+  passed_pieces : (placed : List (Option Outcome)) (x : ℕ) → PassedFrom x placed
+      → passed_all placed + passed_in p.keeps_going (lines_from (x + length placed))
+      ≡ passed_in p.keeps_going (lines_from x)
+  passed_pieces [] x each = zero-add (passed_in p.keeps_going (lines_from (x + 0)))
+      ∙ ap (λ n. passed_in p.keeps_going (lines_from n)) (add-zero x)
+  passed_pieces (None ∷ os) x each = let (a, at, is) = each 0 (omega arith) in absurd (cc)
+  passed_pieces (Some b ∷ os) x each =
+      let (a, at, is) = each 0 (omega arith) in
+      let same : b ≡ a = cc in
+      let e : x + suc (length os) ≡ x + 1 + length os = omega arith in
+      omega (
+        arith,
+        ap (λ (o : Outcome). o.faulty) same,
+        is,
+        ap (λ n. passed_in p.keeps_going (piece_lines p n)) (add-zero x),
+        ap (λ n. passed_in p.keeps_going (lines_from n)) e,
+        passed_pieces os (x + 1) (passed_later x (Some b) os each),
+        passed_joined p.keeps_going (piece_lines p x) (lines_from (x + 1)),
+        ap (passed_in p.keeps_going) (cut_piece x),
+      )
+
+  -- an answer that passes faulty lines ends at no piece
+  none_passed : (k : Bool) (some rest : List Line) → IsSome (stop_in k some) → passed_in k rest ≡ 0
+  none_passed false some rest h = refl
+  none_passed true some rest h = absurd (cc)
+
+  pub placed_passed : (placed : List (Option Outcome)) → ArePlaced p placed
+      → passed_in p.keeps_going (map line_of p.lines.now) ≡ passed_all placed
+  placed_passed placed h =
+      let rest = passed_in p.keeps_going (lines_from (0 + length placed)) in
+      let whole : passed_all placed + rest ≡ passed_in p.keeps_going (map line_of p.lines.now) =
+      passed_pieces placed 0 (λ k lt. let (a, at, is) = h.each k lt in (
+        a,
+        at,
+        subst (λ n. passed_in p.keeps_going (piece_lines p n) ≡ a.faulty) (sym (zero-add k)) is.passed,
+      )) ∙ ap (passed_in p.keeps_going) from_start in
+      let none : rest ≡ 0 = ⊎_elim
+      (λ (long : length p.lines.now ≤ length placed * p.size).
+      ap (λ n. passed_in p.keeps_going (lines_from n)) (zero-add (length placed))
+      ∙ ap (λ ls. passed_in p.keeps_going (map line_of ls)) (drop_of_length-le p.lines.now long)
+      ∙ passed_none p.keeps_going)
+      (λ (f : (x : ℕ) × (x < length placed) × IsFaulty p x).
+      none_passed p.keeps_going (piece_lines p f.0) (lines_from (0 + length placed)) f.2)
+      h.enough in
+      omega (arith, whole, none)
+
+  pub placed_few : (placed : List (Option Outcome)) → ArePlaced p placed
+      → passed_all placed ≤ length p.lines.now
+  placed_few placed h = omega (
+    arith,
+    placed_passed placed h,
+    passed_few p.keeps_going (map line_of p.lines.now),
+    length-map p.lines.now line_of,
+  )
 
 -- what several workers did together
 
@@ -249,7 +320,7 @@ each_has p pieces claimed least views parts t told s x within under =
     (s.tended x (claims_all pieces claimed least x views t told within))
 
 pub placed_so : (p : Pieces) (pieces claimed least : ℕ) (views : List View) (parts : List Part)
-    (placed : List (Option Answer)) (n : ℕ) → AreAllPieces p pieces
+    (placed : List (Option Outcome)) (n : ℕ) → AreAllPieces p pieces
     → Tallies pieces claimed least views → 0 < times_told views
     → AllAreSound p (all_claims views) (all_reports views) (all_looks views) parts
     → n ≡ min (least + 1) pieces → length placed ≡ n → ((x : ℕ) → x < n → Contains (pieces_of parts) x
@@ -275,15 +346,15 @@ placed_so p pieces claimed least views parts placed n cut t told s e len filled 
 }
 
 -- an answer stands at each place
-pub each_some : (p : Pieces) (placed : List (Option Answer)) → ArePlaced p placed
-    → All (λ (o : Option Answer). IsSome o) placed
+pub each_some : (p : Pieces) (placed : List (Option Outcome)) → ArePlaced p placed
+    → All (λ (o : Option Outcome). IsSome o) placed
 each_some p placed h k d below =
     let (a, at, is) = h.each k below in
     subst IsSome (sym (get_or_from_slice_get placed k (Some a) d at)) refl
 
 -- the same of the workers, their seats and their parts
 pub all_placed : (p : Pieces) (pieces claimed least : ℕ) (ws : List Worker) (seats : List Seat)
-    (parts : List Part) (placed : List (Option Answer)) (n : ℕ)
+    (parts : List Part) (placed : List (Option Outcome)) (n : ℕ)
     → 0 < length ws → All (IsWorked p) ws → All (λ (w : Worker). w.wanted ≡ false) ws
     → seats ≡ map (λ w. w.seat) ws → parts ≡ parts_of ws
     → AreAllPieces p pieces → Tallies pieces claimed least (map view_of seats)
@@ -300,9 +371,37 @@ all_placed p pieces claimed least ws seats parts placed n some worked fine of_se
     → IsPlaced placed x) of_parts filled)
     (subst (λ (ps : List Part). ComeFrom ps placed) of_parts from)
 
-pub ok_joined : {E : Type 0} (p : Pieces) (placed : List (Option Answer)) (r : Result Answer E)
+pub placed_ok : {E : Type 0} (p : Pieces) (pieces claimed least : ℕ) (ws : List Worker) (seats : List Seat)
+    (parts : List Part) (n : ℕ) (r : Result (Vec (Option Outcome) Global) E)
+    → 0 < length ws → All (IsWorked p) ws → All (λ (w : Worker). w.wanted ≡ false) ws
+    → seats ≡ map (λ w. w.seat) ws → parts ≡ parts_of ws
+    → AreAllPieces p pieces → Tallies pieces claimed least (map view_of seats)
+    → n ≡ min (least + 1) pieces → IfOk r (λ v. vec_len v ≡ n)
+    → IfOk r (λ v. (x : ℕ) → x < n → Contains (pieces_of parts) x → IsPlaced v.items x)
+    → IfOk r (λ v. ComeFrom parts v.items)
+    → IfOk r (λ v. ArePlaced p v.items)
+placed_ok p pieces claimed least ws seats parts n (Ok v) some worked fine of_seats of_parts cut tally e len
+    filled from =
+    all_placed p pieces claimed least ws seats parts v.items n some worked fine of_seats of_parts cut tally e
+    (sym v.ok.0 ∙ len) filled from
+placed_ok p pieces claimed least ws seats parts n (Err e) some worked fine of_seats of_parts cut tally k len
+    filled from = tt
+
+pub ok_joined : {E : Type 0} (p : Pieces) (placed : List (Option Outcome)) (r : Result Answer E)
     → ArePlaced p placed → IfOk r (λ a. answer_of a ≡ joined_all placed)
-    → IfOk r (λ a. (t : Tests) → AreRight t → answer t (planned_query p.plan.now)
-    (map line_of p.lines.now) ≡ answer_of a)
+    → IfOk r (λ a. (t : Tests) → AreRight t → to_lines p t (map line_of p.lines.now) ≡ answer_of a)
 ok_joined p placed (Ok a) h e = λ t right. placed_answer p placed h t right ∙ sym e
 ok_joined p placed (Err e) h k = tt
+
+-- the same of the answer with its count, and of the two that are told from it
+pub first_told : (t : Tests) (q : Query) (ls : List Line) (a : Outcome) (k : Bool) → k ≡ false
+    → answer_in k t q ls ≡ outcome_of a → answers.answer t q ls ≡ outcome_of a
+first_told t q ls a false e h = h
+first_told t q ls a true e h = absurd (cc)
+
+pub second_told : (t : Tests) (q : Query) (ls : List Line) (a : Outcome) (k : Bool) → k ≡ true
+    → answer_in k t q ls ≡ outcome_of a → passed_in k ls ≡ a.faulty
+    → whole t q ls ≡ record { bytes = a.bytes.items; faulty = a.faulty }
+second_told t q ls a false e h g = absurd (cc)
+second_told t q ls a true e h g = ap (λ n. record { bytes = (whole t q ls).bytes; faulty = n }) g
+    ∙ ap (λ (r : answers.Answer). record { bytes = r.bytes; faulty = a.faulty }) h

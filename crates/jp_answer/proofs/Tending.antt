@@ -10,12 +10,12 @@ use Rattle.std.proofs.lemmas.List.Elements.{All-nil, All-push, Contains-push, Co
 use Rattle.std.proofs.lemmas.List.Elements.{Contains-append_left}
 use Rattle.jp_answer.specs.Pieces.{IsFaulty, IsPieceAnswer}
 use Rattle.jp_answer.specs.Worked.{pieces_of, AreSound, IsTended, AreTended, OthersAreTended}
-use Rattle.jp_answer.specs.declared.outcome.Answer.{Answer}
+use Rattle.jp_answer.specs.declared.outcome.Outcome.{Outcome}
 use Rattle.jp_answer.specs.declared.outcome.DocStop.{DocStop}
 use Rattle.jp_answer.specs.declared.pieces.Pieces.{Pieces}
 use Rattle.jp_answer.specs.declared.worker.Part.{Part}
 
-abbrev part : ℕ → Answer → Part
+abbrev part : ℕ → Outcome → Part
 part x a = record { piece = x; answer = a }
 
 still_has : (parts : List Part) (new : Part) (x : ℕ) → Contains (pieces_of parts) x
@@ -43,11 +43,11 @@ none_mapped f None e h = cc
 none_mapped f (Some x) e h = cc
 
 module _ (p : Pieces) where
-  pub is_faulty : (x : ℕ) (a : Answer) → IsPieceAnswer p x a → true ≡ is_some a.stopped → IsFaulty p x
+  pub is_faulty : (x : ℕ) (a : Outcome) → IsPieceAnswer p x a → true ≡ is_some a.stopped → IsFaulty p x
   is_faulty x a r e = subst IsSome (sym r.stopped) (some_mapped (λ (s : DocStop).
       (s.line, s.fault)) a.stopped e)
 
-  pub not_faulty : (x : ℕ) (a : Answer) → IsPieceAnswer p x a → false ≡ is_some a.stopped → IsFaulty p x → ⊥
+  pub not_faulty : (x : ℕ) (a : Outcome) → IsPieceAnswer p x a → false ≡ is_some a.stopped → IsFaulty p x → ⊥
   not_faulty x a r e f = none_mapped (λ (s : DocStop). (s.line, s.fault)) a.stopped e
       (subst IsSome r.stopped f)
 
@@ -70,7 +70,7 @@ module _ (p : Pieces) where
   }
 
   -- one more piece is answered, and has not stopped
-  pub sound_part : (claims reports : List ℕ) (parts : List Part) (x : ℕ) (a : Answer)
+  pub sound_part : (claims reports : List ℕ) (parts : List Part) (x : ℕ) (a : Outcome)
       → AreSound p claims reports parts → Contains claims x
       → IsPieceAnswer p x a → (IsFaulty p x → ⊥) → AreSound p claims reports (parts ++ part x a ∷ [])
   sound_part claims reports parts x a s mine right plain = record {
@@ -83,7 +83,7 @@ module _ (p : Pieces) where
   }
 
   -- one more piece is answered, has stopped, and is reported
-  pub sound_stop : (claims reports : List ℕ) (parts : List Part) (x : ℕ) (a : Answer)
+  pub sound_stop : (claims reports : List ℕ) (parts : List Part) (x : ℕ) (a : Outcome)
       → AreSound p claims reports parts → Contains claims x
       → IsPieceAnswer p x a → IsFaulty p x → AreSound p claims (reports ++ x ∷ []) (parts ++ part x a ∷ [])
   sound_stop claims reports parts x a s mine right faulty = record {
@@ -130,15 +130,19 @@ pub tended_left : (claims looks : List ℕ) (parts : List Part) (x mark : ℕ)
 tended_left claims looks parts x mark t above = λ y h. by_case (looks ++ mark ∷ []) parts x y
     (λ apart. still_tended looks parts mark y (t y h apart)) (inr (mark, Contains-push looks mark, above))
 
--- the mark was seen, and then the piece was answered
-pub tended_part : (claims looks : List ℕ) (parts : List Part) (x mark : ℕ) (a : Answer)
-    → OthersAreTended x claims looks parts
-    → AreTended claims (looks ++ mark ∷ []) (parts ++ part x a ∷ [])
-tended_part claims looks parts x mark a t = λ y h. by_case (looks ++ mark ∷ []) (parts ++ part x a ∷ []) x y
+-- a mark was seen, and the piece is still to be answered
+pub others_looked : (claims looks : List ℕ) (parts : List Part) (x mark : ℕ)
+    → OthersAreTended x claims looks parts → OthersAreTended x claims (looks ++ mark ∷ []) parts
+others_looked claims looks parts x mark t = λ y h apart. still_tended looks parts mark y (t y h apart)
+
+-- the piece was answered
+pub tended_part : (claims looks : List ℕ) (parts : List Part) (x : ℕ) (a : Outcome)
+    → OthersAreTended x claims looks parts → AreTended claims looks (parts ++ part x a ∷ [])
+tended_part claims looks parts x a t = λ y h. by_case looks (parts ++ part x a ∷ []) x y
     (λ apart. ⊎_elim
     (λ has. inl (still_has parts (part x a) y has))
-    (λ (k : (n : ℕ) × Contains (looks ++ mark ∷ []) n × (n < y)). inr k)
-    (still_tended looks parts mark y (t y h apart)))
+    (λ (k : (n : ℕ) × Contains looks n × (n < y)). inr k)
+    (t y h apart))
     (inl (now_has parts (part x a)))
 
 -- what holds at an Ok of a result that was tested

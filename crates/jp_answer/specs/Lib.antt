@@ -1,8 +1,10 @@
 pub mod Answer
 pub mod Answered
 pub mod Faults
+pub mod Form
 pub mod Pieces
 pub mod Placed
 pub mod Ranges
 pub mod Status
+pub mod Whole
 pub mod Worked

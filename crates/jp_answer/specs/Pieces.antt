@@ -3,10 +3,9 @@ use Rattle.std.specs.Prelude.{◌≡◌, ℕ, ◌*◌, ◌<◌, ◌≤◌, List,
 use Rattle.jp_doc.specs.Lines.{Line, line_of}
 use Rattle.jp_check.specs.Plan.{planned_query}
 use Rattle.jp_regexp.specs.Tests.{Tests, AreRight}
-use Rattle.jp_answer.specs.Answer.{answer}
-use Rattle.jp_answer.specs.Answered.{answer_of}
-use Rattle.jp_answer.specs.Faults.{first_fault}
-use Rattle.jp_answer.specs.declared.outcome.Answer as code
+use Rattle.jp_answer.specs.Answered.{outcome_of}
+use Rattle.jp_answer.specs.Form.{answer_in, stop_in, passed_in}
+use Rattle.jp_answer.specs.declared.outcome.Outcome.{Outcome}
 use Rattle.jp_answer.specs.declared.pieces.Pieces.{Pieces}
 
 -- the lines of the piece with this number, from 0
@@ -18,11 +17,13 @@ pub record AreAllPieces (p : Pieces) (n : ℕ) : Type 0 where
   pub each : (x : ℕ) → x < n → x * p.size < length p.lines.now
   pub all : length p.lines.now ≤ n * p.size
 
--- the piece has a faulty line
+-- the answer to the piece ends at a faulty line
 abbrev pub IsFaulty : Pieces → ℕ → Type 0
-IsFaulty p x = IsSome (first_fault (piece_lines p x))
+IsFaulty p x = IsSome (stop_in p.keeps_going (piece_lines p x))
 
 -- this is the answer to the piece
-pub record IsPieceAnswer (p : Pieces) (x : ℕ) (a : code.Answer) : Type 0 where
-  pub answer : (t : Tests) → AreRight t → answer t (planned_query p.plan.now) (piece_lines p x) ≡ answer_of a
-  pub stopped : first_fault (piece_lines p x) ≡ (answer_of a).stopped
+pub record IsPieceAnswer (p : Pieces) (x : ℕ) (a : Outcome) : Type 0 where
+  pub answer : (t : Tests) → AreRight t → answer_in p.keeps_going t (planned_query p.plan.now)
+      (piece_lines p x) ≡ outcome_of a
+  pub stopped : stop_in p.keeps_going (piece_lines p x) ≡ (outcome_of a).stopped
+  pub passed : passed_in p.keeps_going (piece_lines p x) ≡ a.faulty

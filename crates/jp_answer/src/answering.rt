@@ -1,52 +1,99 @@
 //! The answer to numbered lines, on one thread.
 
-ghost use Rattle.std.specs.Prelude.{◌≡◌, ◌++◌, IfOk, map};
+ghost use Rattle.std.specs.Prelude.{◌≡◌, ◌≢◌, ◌≤◌, ◌++◌, IfOk, length, map};
 ghost use Rattle.jp_doc.specs.Document.{document_value};
 ghost use Rattle.jp_doc.specs.Lines.{line_of};
+ghost use Rattle.jp_doc.specs.Reading.{reading};
 ghost use Rattle.jp_check.specs.Plan.{planned_query};
 ghost use Rattle.jp_eval.specs.Evaluated.{evaluated_query};
 ghost use Rattle.jp_regexp.specs.Tests.{Tests, AreRight};
-ghost use Rattle.jp_answer.specs.Answer.{answer, document_lines};
-ghost use Rattle.jp_answer.specs.Answered.{answer_of};
-ghost use Rattle.jp_answer.specs.Faults.{first_fault};
+ghost use Rattle.jp_path.specs.FaultLine.{fault_line};
+ghost use Rattle.jp_answer.specs.Answer.{document_lines};
+ghost use Rattle.jp_answer.specs.Answered.{outcome_of};
+ghost use Rattle.jp_answer.specs.Form.{answer_in, stop_in, passed_in, given, fault_in};
 
-use crate::outcome::{Answer, DocStop};
+use crate::outcome::{DocStop, Outcome};
 use jp_check::Plan;
 use jp_doc::{DocFault, Document, Line};
 use jp_eval::Evaluator;
 use jp_path::NodeLines;
 use std::alloc::{AllocError, Global};
 
-/// The answer to lines, each read and evaluated in turn.
+/// The answer to lines, each read and evaluated in turn. A faulty line ends it, or gives its fault line where the
+/// answer keeps going.
 ///
 /// `AllocError` if a growth was refused.
-pub(crate) fn answer_lines(alloc: Global, plan: &Plan, lines: &[Line]) -> Result<Answer, AllocError>
+pub(crate) fn answer_lines(
+    alloc: Global,
+    plan: &Plan,
+    lines: &[Line],
+    keeps_going: bool,
+) -> Result<Outcome, AllocError>
+    requires { length lines.now ≤ 4294967296 }
     ensures answer { IfOk result (λ a. (t : Tests) → AreRight t →
-        answer t (planned_query plan.now) (map line_of lines.now) ≡ answer_of a) }
-    ensures stopped { IfOk result (λ a. first_fault (map line_of lines.now) ≡ (answer_of a).stopped) }
+        answer_in keeps_going t (planned_query plan.now) (map line_of lines.now) ≡ outcome_of a) }
+    ensures stopped { IfOk result (λ a. stop_in keeps_going (map line_of lines.now)
+        ≡ (outcome_of a).stopped) }
+    ensures passed { IfOk result (λ a. passed_in keeps_going (map line_of lines.now) ≡ a.faulty) }
 {
     let mut evaluator = Evaluator::new(alloc, plan);
     let mut written = NodeLines::new(alloc);
+    let mut faulty = 0;
     for line in lines {
-        match Document::read(alloc, &line.bytes) {
-            Ok(document) => written = with_nodes(&mut evaluator, line.number, &document, written)?,
-            Err(DocFault::Memory) => return Err(AllocError),
-            Err(fault) => {
-                let stop = DocStop {
-                    line: line.number,
-                    fault,
-                };
-                return Ok(Answer {
-                    bytes: written.into_bytes(),
-                    stopped: Some(stop),
-                });
-            }
+        let (more, fault) = add_line(alloc, &mut evaluator, line, keeps_going, written)?;
+        written = more;
+        let Some(fault) = fault else {
+            continue;
+        };
+        if !keeps_going {
+            let stop = DocStop {
+                line: line.number,
+                fault,
+            };
+            return Ok(Outcome {
+                bytes: written.into_bytes(),
+                faulty,
+                stopped: Some(stop),
+            });
         }
+        faulty += 1;
     }
-    Ok(Answer {
-        bytes: written.into_bytes(),
+    let bytes = written.into_bytes();
+    Ok(Outcome {
+        bytes,
+        faulty,
         stopped: None,
     })
+}
+
+/// The lines so far and what a line gives, and what is wrong with it, if anything.
+fn add_line(
+    alloc: Global,
+    evaluator: &mut Evaluator<'_>,
+    line: &Line,
+    keeps_going: bool,
+    written: NodeLines,
+) -> Result<(NodeLines, Option<DocFault>), AllocError>
+    ensures lines { IfOk result (λ r. (t : Tests) → AreRight t → r.0.1 ≡ written.1
+        ++ given keeps_going t (evaluated_query evaluator.old) line.now.number
+        (reading line.now.bytes.items)) }
+    ensures fault { IfOk result (λ r. r.1 ≡ fault_in (reading line.now.bytes.items)) }
+    ensures query { evaluated_query evaluator.new ≡ evaluated_query evaluator.old }
+{
+    match Document::read(alloc, &line.bytes) {
+        Ok(document) => {
+            let lines = with_nodes(evaluator, line.number, &document, written)?;
+            Ok((lines, None))
+        }
+        Err(DocFault::Memory) => Err(AllocError),
+        Err(fault) => {
+            if !keeps_going {
+                return Ok((written, Some(fault)));
+            }
+            let lines = with_fault(alloc, line.number, &fault, written)?;
+            Ok((lines, Some(fault)))
+        }
+    }
 }
 
 /// The lines so far, and those of the nodes that the query selects in a document.
@@ -66,4 +113,20 @@ fn with_nodes(
         return Err(AllocError);
     };
     Ok(written)
+}
+
+/// The lines so far, and the fault line of a faulty line.
+fn with_fault(
+    alloc: Global,
+    number: u64,
+    fault: &DocFault,
+    written: NodeLines,
+) -> Result<NodeLines, AllocError>
+    requires { fault.now ≢ DocFault.Memory }
+    ensures { IfOk result (λ w. w.1 ≡ written.1 ++ fault_line number fault.now) }
+{
+    let mut lines = written;
+    lines.begin(number);
+    lines.push_fault(alloc, fault)?;
+    Ok(lines)
 }

@@ -7,6 +7,7 @@ ghost use Rattle.jp_syntax.specs.declared.tree.Start.TheVariants.{Root};
 ghost use Rattle.jp_regexp.specs.Tests.{Tests};
 ghost use Rattle.jp_answer.specs.Answer.{stream_answer};
 ghost use Rattle.jp_answer.specs.Faults.{first_fault};
+ghost use Rattle.jp_answer.specs.Whole.{stream_whole};
 
 /// `$.a` on the lines `{"a":1}`, an empty one and `{"a":null}`.
 #[tactic(auto, unfolding(crate::proofs::OnLiterals::runs_on_literals))]
@@ -75,4 +76,25 @@ fn first_faults()
         ≡ Some (3, Unreadable) }
     ensures last { first_fault ((1, codes "[]") ∷ (4, codes "1.5") ∷ []) ≡ Some (4, NotWhole) }
     ensures none { first_fault ((1, codes "[]") ∷ []) ≡ None }
+{}
+
+/// `$.a` on the lines `{"a":1}`, `{`, `{"a":2}`, `{"a":1.5}`, and on `{` alone, where the answer keeps going.
+#[tactic(auto, unfolding(crate::proofs::OnLiterals::runs_on_literals))]
+fn faulty_lines_passed()
+    ensures four_lines { (t : Tests) →
+        stream_whole t (tree.query_from Root (tree.child (tree.name (codes "a") ∷ []) ∷ []))
+        (codes "{\"a\":1}" ++ 10 ∷ codes "{" ++ 10 ∷ codes "{\"a\":2}" ++ 10 ∷ codes "{\"a\":1.5}" ++ 10 ∷ [])
+        ≡ record {
+          bytes = codes "1" ++ 9 ∷ codes "$['a']" ++ 9 ∷ codes "1" ++ 10 ∷ codes "2" ++ 9 ∷ codes "!" ++ 9 ∷ codes
+              "unreadable" ++ 10 ∷ codes "3" ++ 9 ∷ codes "$['a']" ++ 9 ∷ codes "2" ++ 10 ∷ codes "4"
+              ++ 9 ∷ codes "!" ++ 9 ∷ codes "not whole" ++ 10 ∷ [];
+          faulty = 2;
+        } }
+    ensures one_line { (t : Tests) →
+        stream_whole t (tree.query_from Root (tree.child (tree.name (codes "a") ∷ []) ∷ []))
+        (codes "{")
+        ≡ record {
+          bytes = codes "1" ++ 9 ∷ codes "!" ++ 9 ∷ codes "unreadable" ++ 10 ∷ [];
+          faulty = 1;
+        } }
 {}

@@ -6,6 +6,7 @@ ghost use Rattle.jp_syntax.specs.Tree.{Query};
 ghost use Rattle.jp_regexp.specs.Tests.{Tests};
 ghost use Rattle.jp_answer.specs.Answer.{answer, joined};
 ghost use Rattle.jp_answer.specs.Faults.{first_fault};
+ghost use Rattle.jp_answer.specs.Whole.{both, whole};
 
 /// The answer to lines and further lines is the answer to the first where that has stopped, and else its
 /// bytes and then the answer to the further lines. So it is the same in whatever pieces the lines are taken.
@@ -17,4 +18,11 @@ pub fn pieces()
 /// An answer stops at the first faulty line, whatever is asked.
 pub fn first_fault_stops()
     ensures { (t : Tests) (q : Query) (ls : List Line) → (answer t q ls).stopped ≡ first_fault ls }
+{}
+
+/// The answer that keeps going, of lines and further lines, is that of the first and then that of the further
+/// ones: their bytes one after another, and their counts added.
+pub fn whole_pieces()
+    ensures { (t : Tests) (q : Query) (a b : List Line) → whole t q (a ++ b)
+        ≡ both (whole t q a) (whole t q b) }
 {}

@@ -15,6 +15,6 @@ mod workers;
 
 pub use fault::RunFault;
 pub use gate::{Gate, OpenGate};
-pub use outcome::{Answer, DocStop};
+pub use outcome::{Answer, DocStop, Whole};
 pub use settings::Settings;
-pub use workers::answer;
+pub use workers::{answer, answer_all};

@@ -11,6 +11,26 @@ pub struct Answer {
     pub stopped: Option<DocStop>,
 }
 
+/// The output lines of all documents and the fault lines of all faulty lines, in order.
+#[derive(Drop)]
+pub struct Whole {
+    /// The lines, one after another.
+    pub bytes: Vec<u8>,
+    /// The number of faulty lines.
+    pub faulty: u64,
+}
+
+/// What lines are answered with in either form: where the answer keeps going it never stops.
+#[derive(Drop)]
+pub(crate) struct Outcome {
+    /// The output lines and the fault lines, one after another.
+    pub(crate) bytes: Vec<u8>,
+    /// How many faulty lines the answer passes.
+    pub(crate) faulty: u64,
+    /// The faulty line that ends the answer, if there is one.
+    pub(crate) stopped: Option<DocStop>,
+}
+
 /// A faulty line, and what is wrong with it.
 #[derive(Clone, Copy, Debug, PartialEq, Eq, Drop)]
 pub struct DocStop {

@@ -1,12 +1,12 @@
 //! The parts of all workers, put in order and joined.
 
-ghost use Rattle.std.specs.Prelude.{◌≡◌, ◌<◌, ◌++◌, ℕ, None, false, map, flat_map, replicate, All, Contains};
+ghost use Rattle.std.specs.Prelude.{◌≡◌, ◌<◌, ◌≤◌, ◌++◌, ℕ, None, false, map, flat_map, replicate, All, Contains};
 ghost use Rattle.std.specs.Prelude.{IfOk, OnOk, IsSome, Some, slice_set, vec_len};
 ghost use Rattle.jp_answer.specs.Answered.{answer_of};
-ghost use Rattle.jp_answer.specs.Placed.{IsPlaced, ComeFrom, joined_all};
+ghost use Rattle.jp_answer.specs.Placed.{IsPlaced, ComeFrom, joined_all, passed_all};
 ghost use Rattle.jp_answer.specs.Worked.{pieces_of};
 
-use crate::outcome::Answer;
+use crate::outcome::{Answer, Outcome};
 use crate::worker::{Part, Worker};
 use jp_board::Seat;
 use std::alloc::{AllocError, Global};
@@ -44,7 +44,7 @@ pub(crate) fn place(
     alloc: Global,
     parts: Vec<Part>,
     count: usize,
-) -> Result<Vec<Option<Answer>>, AllocError>
+) -> Result<Vec<Option<Outcome>>, AllocError>
     ensures len { IfOk result (λ v. vec_len v ≡ count) }
     ensures placed { IfOk result (λ v. (x : ℕ) → x < count → Contains (pieces_of parts.items) x
         → IsPlaced v.items x) }
@@ -58,7 +58,7 @@ pub(crate) fn place(
 }
 
 /// Puts a part's answer at its piece's number, if there is such a place.
-fn put(placed: &mut Vec<Option<Answer>>, part: Part)
+fn put(placed: &mut Vec<Option<Outcome>>, part: Part)
     ensures { placed.new.items ≡ slice_set placed.old.items part.piece (Some part.answer) }
 {
     let at = part.piece as usize;
@@ -68,7 +68,7 @@ fn put(placed: &mut Vec<Option<Answer>>, part: Part)
 }
 
 /// So many places without an answer.
-fn no_answers(alloc: Global, count: usize) -> Result<Vec<Option<Answer>>, AllocError>
+fn no_answers(alloc: Global, count: usize) -> Result<Vec<Option<Outcome>>, AllocError>
     ensures { IfOk result (λ v. v.items ≡ replicate count None) }
 {
     let mut places = Vec::with_capacity(alloc, count)?;
@@ -78,8 +78,22 @@ fn no_answers(alloc: Global, count: usize) -> Result<Vec<Option<Answer>>, AllocE
     Ok(places)
 }
 
+/// How many faulty lines the answers pass.
+pub(crate) fn passed(placed: &[Option<Outcome>]) -> u64
+    requires { passed_all placed.now ≤ 4294967296 }
+    ensures { result ≡ passed_all placed.now }
+{
+    let mut faulty = 0;
+    for place in placed {
+        if let Some(answer) = place {
+            faulty += answer.faulty;
+        }
+    }
+    faulty
+}
+
 /// The answers one after another, up to the first that has stopped.
-pub(crate) fn join(alloc: Global, placed: Vec<Option<Answer>>) -> Result<Answer, AllocError>
+pub(crate) fn join(alloc: Global, placed: Vec<Option<Outcome>>) -> Result<Answer, AllocError>
     requires { All (λ a. IsSome a) placed.items }
     ensures { IfOk result (λ a. answer_of a ≡ joined_all placed.items) }
 {

@@ -4,17 +4,19 @@ ghost use Rattle.std.specs.Prelude.{◌≡◌, ◌*◌, ◌<◌, ◌≤◌, leng
 ghost use Rattle.jp_answer.specs.Ranges.{AreDocuments};
 
 use crate::answering::answer_lines;
-use crate::outcome::Answer;
+use crate::outcome::Outcome;
 use jp_check::Plan;
 use jp_doc::Line;
 use std::alloc::{AllocError, Global};
 
-/// Lines that are cut into pieces, the last perhaps shorter, and the plan that answers them.
+/// Lines that are cut into pieces, the last perhaps shorter, the plan that answers them, and whether the answer
+/// keeps going after a faulty line.
 #[derive(Clone, Copy, Drop)]
 pub(crate) struct Pieces<'a> {
     pub(crate) plan: &'a Plan,
     pub(crate) lines: &'a [Line],
     pub(crate) size: usize,
+    pub(crate) keeps_going: bool,
     ghost in_range: { AreDocuments size × (length lines.now ≤ 4294967296) },
 }
 
@@ -22,13 +24,23 @@ impl Pieces<'_> {
     ghost use Rattle.jp_answer.specs.Pieces.{AreAllPieces, IsPieceAnswer};
 
     /// The lines, cut into pieces of that size.
-    pub(crate) fn new<'a>(plan: &'a Plan, lines: &'a [Line], size: usize) -> Pieces<'a>
+    pub(crate) fn new<'a>(
+        plan: &'a Plan,
+        lines: &'a [Line],
+        size: usize,
+        keeps_going: bool,
+    ) -> Pieces<'a>
         requires size { AreDocuments size }
         requires lines { length lines.now ≤ 4294967296 }
         ensures pieces { (result.plan.now ≡ plan.now) × (result.lines.now ≡ lines.now)
-            × (result.size ≡ size) }
+            × (result.size ≡ size) × (result.keeps_going ≡ keeps_going) }
     {
-        Pieces { plan, lines, size }
+        Pieces {
+            plan,
+            lines,
+            size,
+            keeps_going,
+        }
     }
 
     /// The number of pieces.
@@ -40,12 +52,12 @@ impl Pieces<'_> {
     }
 
     /// The answer to a piece.
-    pub(crate) fn answer(&self, alloc: Global, piece: u64) -> Result<Answer, AllocError>
+    pub(crate) fn answer(&self, alloc: Global, piece: u64) -> Result<Outcome, AllocError>
         requires { piece * self.now.size < length self.now.lines.now }
         ensures { IfOk result (IsPieceAnswer self.now piece) }
     {
         let (_, rest) = self.lines.split_at(piece as usize * self.size);
         let (lines, _) = rest.split_at(self.size.min(rest.len()));
-        answer_lines(alloc, self.plan, lines)
+        answer_lines(alloc, self.plan, lines, self.keeps_going)
     }
 }

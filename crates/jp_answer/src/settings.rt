@@ -1,11 +1,11 @@
 //! How a run is cut up.
 
-ghost use Rattle.std.specs.Prelude.{◌≡◌, ◌↔◌, IsOk, IfOk, OnErr, IsErrOf};
+ghost use Rattle.std.specs.Prelude.{◌≡◌, ◌↔◌, false, true, IsOk, IfOk, OnErr, IsErrOf};
 ghost use Rattle.jp_answer.specs.Ranges.{AreSettings};
 
 use crate::fault::RunFault;
 
-/// How many workers answer, how many documents are a piece, and how many a batch.
+/// How many workers answer, how many documents are a piece, how many a batch, and which form the answer has.
 #[derive(Clone, Copy, Debug, PartialEq, Eq, Drop)]
 pub struct Settings {
     /// The number of workers, 1 to 64.
@@ -14,11 +14,13 @@ pub struct Settings {
     pub piece: u64,
     /// The number of documents of a batch, 1 to 1,000,000; the last may have fewer.
     pub batch: u64,
+    /// Whether the answer keeps going after a faulty line.
+    pub keeps_going: bool,
     pub ghost in_range: { AreSettings workers piece batch },
 }
 
 impl Settings {
-    /// The settings, which take no memory.
+    /// The settings, which take no memory. The answer ends at the first faulty line.
     ///
     /// # Errors
     ///
@@ -26,6 +28,7 @@ impl Settings {
     /// 1,000,000.
     pub fn new(workers: u64, piece: u64, batch: u64) -> Result<Settings, RunFault>
         ensures settings { IfOk result (λ s. (s.workers ≡ workers) × (s.piece ≡ piece) × (s.batch ≡ batch)) }
+        ensures ends { IfOk result (λ s. s.keeps_going ≡ false) }
         ensures in_range { IsOk result ↔ AreSettings workers piece batch }
         ensures fault { OnErr result (IsErrOf result RunFault.Settings) }
     {
@@ -39,6 +42,21 @@ impl Settings {
             workers,
             piece,
             batch,
+            keeps_going: false,
         })
+    }
+
+    /// The same settings, but for an answer that keeps going after a faulty line. It takes no memory.
+    pub fn keep_going(self) -> Settings
+        ensures same { (result.workers ≡ self.workers) × (result.piece ≡ self.piece)
+            × (result.batch ≡ self.batch) }
+        ensures going { result.keeps_going ≡ true }
+    {
+        Settings {
+            workers: self.workers,
+            piece: self.piece,
+            batch: self.batch,
+            keeps_going: true,
+        }
     }
 }

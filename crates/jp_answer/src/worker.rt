@@ -6,7 +6,7 @@ ghost use Rattle.jp_answer.specs.Pieces.{AreAllPieces};
 ghost use Rattle.jp_answer.specs.Worked.{AreSound, AreTended, OthersAreTended, IsWorked};
 
 use crate::gate::Gate;
-use crate::outcome::Answer;
+use crate::outcome::Outcome;
 use crate::pieces::Pieces;
 use jp_board::{Board, Seat};
 use std::alloc::{AllocError, Global};
@@ -15,7 +15,7 @@ use std::alloc::{AllocError, Global};
 #[derive(Drop)]
 pub(crate) struct Part {
     pub(crate) piece: u64,
-    pub(crate) answer: Answer,
+    pub(crate) answer: Outcome,
 }
 
 /// What a worker hands back.
@@ -58,8 +58,8 @@ pub(crate) fn work<G: Gate>(
     }
 }
 
-/// Looks at the mark, and unless it is lower, answers the piece, and reports it where its answer has
-/// stopped.
+/// Looks at the mark, and unless it is lower, takes the piece. Where the answer keeps going there is no mark to
+/// look at.
 fn tend<G: Gate>(
     alloc: Global,
     pieces: &Pieces,
@@ -80,10 +80,37 @@ fn tend<G: Gate>(
     ensures tended { OnOk result (AreTended (view_of seat.new).claims (view_of seat.new).looks
         parts.new.items) }
 {
+    if pieces.keeps_going {
+        return take(alloc, pieces, board, gate, seat, piece, parts);
+    }
     let mark = board.look(seat);
     if mark < piece {
         return Ok(());
     }
+    take(alloc, pieces, board, gate, seat, piece, parts)
+}
+
+/// Answers the piece, and reports it where its answer has stopped.
+fn take<G: Gate>(
+    alloc: Global,
+    pieces: &Pieces,
+    board: &Board,
+    gate: &G,
+    seat: &mut Seat,
+    piece: u64,
+    parts: &mut Vec<Part>,
+) -> Result<(), AllocError>
+    requires seat { IsSeatOf board.now seat.old × Contains (view_of seat.old).claims piece }
+    requires piece { piece * pieces.now.size < length pieces.now.lines.now }
+    requires sound { AreSound pieces.now (view_of seat.old).claims (view_of seat.old).reports
+        parts.old.items }
+    requires tended { OthersAreTended piece (view_of seat.old).claims (view_of seat.old).looks
+        parts.old.items }
+    ensures seat { IsSeatOf board.now seat.new × ((view_of seat.new).claims ≡ (view_of seat.old).claims) }
+    ensures sound { AreSound pieces.now (view_of seat.new).claims (view_of seat.new).reports parts.new.items }
+    ensures tended { OnOk result (AreTended (view_of seat.new).claims (view_of seat.new).looks
+        parts.new.items) }
+{
     gate.pass(piece);
     let answer = pieces.answer(alloc, piece)?;
     let stopped = answer.stopped.is_some();

@@ -7,15 +7,18 @@ ghost use Rattle.jp_regexp.specs.Tests.{Tests, AreRight};
 ghost use Rattle.jp_board.specs.Seats.{IsSeatOf, IsFresh, view_of, pieces_of as pieces_of_board, made_of};
 ghost use Rattle.jp_board.specs.Tally.{Tallies};
 ghost use Rattle.jp_answer.specs.Answer.{answer as answer_to};
-ghost use Rattle.jp_answer.specs.Answered.{answer_of};
+ghost use Rattle.jp_answer.specs.Answered.{answer_of, outcome_of};
+ghost use Rattle.jp_answer.specs.Form.{answer_in, passed_in};
 ghost use Rattle.jp_answer.specs.Pieces.{AreAllPieces};
+ghost use Rattle.jp_answer.specs.Placed.{ArePlaced};
 ghost use Rattle.jp_answer.specs.Ranges.{AreWorkers, AreDocuments};
+ghost use Rattle.jp_answer.specs.Whole.{whole, whole_of};
 ghost use Rattle.jp_answer.specs.Worked.{IsWorked};
 
 use crate::fault::RunFault;
 use crate::gate::Gate;
-use crate::outcome::Answer;
-use crate::parts::{gather, join, place};
+use crate::outcome::{Answer, Outcome, Whole};
+use crate::parts::{gather, join, passed, place};
 use crate::pieces::Pieces;
 use crate::worker::{Worker, work};
 use jp_board::{Board, BoardFault, Seat};
@@ -50,32 +53,94 @@ pub fn answer<R: Threads + Sync, G: Gate + Sync>(
         answer_to t (planned_query plan.now) (map line_of lines.now) ≡ answer_of a) }
     ensures fault { OnErr result (IsErrOf result RunFault.Memory) }
 {
-    let pieces = Pieces::new(plan, lines, piece as usize);
+    let pieces = Pieces::new(plan, lines, piece as usize, false);
     match answer_pieces(rt, alloc, &pieces, workers, gate) {
-        Ok(answer) => Ok(answer),
+        Ok(answer) => Ok(Answer {
+            bytes: answer.bytes,
+            stopped: answer.stopped,
+        }),
         Err(AllocError) => Err(RunFault::Memory),
     }
 }
 
-/// The answer to all pieces.
+/// The answer that keeps going, by that many workers, each of which claims `piece` lines at a time: a faulty line
+/// gives its fault line.
+///
+/// It is the same for every number of workers, every size of a piece, every gate, and in whatever order the
+/// workers take their steps. There are 1 to 64 workers, a piece has 1 to 1,000,000 lines, and there are at
+/// most 4,294,967,296 lines. The calling thread may be one of the workers.
+///
+/// # Errors
+///
+/// [`RunFault::Memory`] where a growth of memory was refused to any worker.
+pub fn answer_all<R: Threads + Sync, G: Gate + Sync>(
+    rt: &R,
+    alloc: Global,
+    plan: &Plan,
+    lines: &[Line],
+    workers: u64,
+    piece: u64,
+    gate: &G,
+) -> Result<Whole, RunFault>
+    requires workers { AreWorkers workers }
+    requires piece { AreDocuments piece }
+    requires lines { length lines.now ≤ 4294967296 }
+    ensures whole { IfOk result (λ w. (t : Tests) → AreRight t →
+        whole t (planned_query plan.now) (map line_of lines.now) ≡ whole_of w) }
+    ensures fault { OnErr result (IsErrOf result RunFault.Memory) }
+{
+    let pieces = Pieces::new(plan, lines, piece as usize, true);
+    match answer_pieces(rt, alloc, &pieces, workers, gate) {
+        Ok(answer) => Ok(Whole {
+            bytes: answer.bytes,
+            faulty: answer.faulty,
+        }),
+        Err(AllocError) => Err(RunFault::Memory),
+    }
+}
+
+/// The answer to all pieces, in the form that they ask for.
 fn answer_pieces<R: Threads + Sync, G: Gate + Sync>(
     rt: &R,
     alloc: Global,
     pieces: &Pieces,
     workers: u64,
     gate: &G,
-) -> Result<Answer, AllocError>
+) -> Result<Outcome, AllocError>
     requires { AreWorkers workers }
-    ensures { IfOk result (λ a. (t : Tests) → AreRight t →
-        answer_to t (planned_query pieces.now.plan.now) (map line_of pieces.now.lines.now) ≡ answer_of a) }
+    ensures answer { IfOk result (λ a. (t : Tests) → AreRight t →
+        answer_in pieces.now.keeps_going t (planned_query pieces.now.plan.now)
+        (map line_of pieces.now.lines.now) ≡ outcome_of a) }
+    ensures passed { IfOk result (λ a. passed_in pieces.now.keeps_going
+        (map line_of pieces.now.lines.now) ≡ a.faulty) }
+{
+    let placed = place_pieces(rt, alloc, pieces, workers, gate)?;
+    let faulty = passed(&placed);
+    let Answer { bytes, stopped } = join(alloc, placed)?;
+    Ok(Outcome {
+        bytes,
+        faulty,
+        stopped,
+    })
+}
+
+/// The answers to the pieces that the answer is made of, each at its number.
+fn place_pieces<R: Threads + Sync, G: Gate + Sync>(
+    rt: &R,
+    alloc: Global,
+    pieces: &Pieces,
+    workers: u64,
+    gate: &G,
+) -> Result<Vec<Option<Outcome>>, AllocError>
+    requires { AreWorkers workers }
+    ensures { IfOk result (λ v. ArePlaced pieces.now v.items) }
 {
     let count = pieces.count();
     let (board, seats) = open(alloc, count, workers)?;
     let done = work_all(rt, alloc, pieces, &board, gate, seats)?;
     let (seats, parts) = gather(alloc, done)?;
     let mark = close(board, seats);
-    let placed = place(alloc, parts, (mark + 1).min(count) as usize)?;
-    join(alloc, placed)
+    place(alloc, parts, (mark + 1).min(count) as usize)
 }
 
 /// A board of so many pieces, and a seat for each worker.

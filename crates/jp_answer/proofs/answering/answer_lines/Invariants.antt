@@ -1,16 +1,20 @@
-use Rattle.std.proofs.Common.{◌≡◌, drop, map}
+use Rattle.std.proofs.Common.{◌≡◌, ◌+◌, drop, map}
 use Rattle.jp_doc.specs.Lines.{line_of}
 use Rattle.jp_check.specs.Plan.{planned_query}
 use Rattle.jp_eval.specs.Evaluated.{evaluated_query}
 use Rattle.jp_regexp.specs.Tests.{Tests, AreRight}
-use Rattle.jp_answer.specs.Answer.{after, answer}
-use Rattle.jp_answer.specs.Faults.{first_fault}
+use Rattle.jp_answer.specs.Answer.{after}
+use Rattle.jp_answer.specs.Form.{answer_in, stop_in, passed_in}
 use Rattle.jp_answer.proofs.answering.answer_lines.Given as goal
 
 abbrev pub invariant-loop-line : goal.invariant-loop-line
 invariant-loop-line l = record {
   query : evaluated_query l.evaluator ≡ planned_query l.plan;
-  answer : (t : Tests) → AreRight t → answer t (planned_query l.plan) (map line_of l.lines)
-      ≡ after l.written.1 (answer t (planned_query l.plan) (map line_of (drop l.line-index l.lines)));
-  stopped : first_fault (map line_of l.lines) ≡ first_fault (map line_of (drop l.line-index l.lines));
+  answer : (t : Tests) → AreRight t → answer_in l.keeps_going t (planned_query l.plan) (map line_of l.lines)
+      ≡ after l.written.1 (answer_in l.keeps_going t (planned_query l.plan)
+      (map line_of (drop l.line-index l.lines)));
+  stopped : stop_in l.keeps_going (map line_of l.lines)
+      ≡ stop_in l.keeps_going (map line_of (drop l.line-index l.lines));
+  passed : passed_in l.keeps_going (map line_of l.lines)
+      ≡ l.faulty + passed_in l.keeps_going (map line_of (drop l.line-index l.lines));
 }

@@ -1,40 +1,23 @@
-use Rattle.std.proofs.Common.{ℕ, arith, sym, subst, ◌∙◌, All, map}
-use Rattle.std.proofs.lemmas.List.Elements.{All-map}
-use Rattle.jp_board.specs.Seats.{IsSeatOf, view_of}
-use Rattle.jp_board.specs.Tally.{Tallies}
-use Rattle.jp_answer.specs.declared.worker.Worker.{Worker}
-use Rattle.jp_answer.proofs.Settling.{all_placed, each_some, ok_joined}
+use Rattle.std.proofs.Common.{arith, ◌∙◌, sym, ap}
+use Rattle.jp_answer.specs.Placed.{passed_all}
+use Rattle.jp_answer.proofs.Settling.{each_some, placed_answer, placed_few, placed_passed}
 use Rattle.jp_answer.proofs.workers.answer_pieces.Goals as goal
 
-pub close-mark-requires-clause-seats : goal.close-mark-requires-clause-seats
-close-mark-requires-clause-seats g c =
-    subst (All (IsSeatOf c.in_ok-board.board)) (sym c.in_ok-seats.ensures.seats) (All-map
-    (IsSeatOf c.in_ok-board.board) (λ (w : Worker). w.seat) c.in_ok-done.done.items
-    c.in_ok-done.ensures.seats)
-
 pub join-requires : goal.join-requires
-join-requires g c = each_some c.args.pieces.now c.in_ok-placed.placed.items
-    (all_placed c.args.pieces.now c.count-count.result c.close-mark.ensures.0 c.close-mark.result
-    c.in_ok-done.done.items c.in_ok-seats.seats.items
-    c.in_ok-seats.parts.items c.in_ok-placed.placed.items c.min.result (omega
-    (arith, c.in_ok-done.ensures.len, c.in_ok-board.ensures.len, c.requires.0))
-    c.in_ok-done.ensures.worked c.in_ok-seats.ensures.wanted c.in_ok-seats.ensures.seats
-    c.in_ok-seats.ensures.parts c.count-count.ensures.pieces (subst (λ
-    (n : ℕ). Tallies n c.close-mark.ensures.0 c.close-mark.result
-    (map view_of c.in_ok-seats.seats.items)) c.in_ok-board.ensures.board.0 c.close-mark.ensures.1)
-    c.min.ensures (sym c.in_ok-placed.placed.ok.0 ∙ c.in_ok-placed.ensures.len)
-    c.in_ok-placed.ensures.placed c.in_ok-placed.ensures.parts)
+join-requires g c = each_some c.args.pieces.now c.in_ok-placed.placed.items c.in_ok-placed.ensures
 
-pub returns : goal.returns
-returns g c = ok_joined c.args.pieces.now c.in_ok-placed.placed.items c.join.result
-    (all_placed c.args.pieces.now c.count-count.result c.close-mark.ensures.0 c.close-mark.result
-    c.in_ok-done.done.items c.in_ok-seats.seats.items
-    c.in_ok-seats.parts.items c.in_ok-placed.placed.items c.min.result (omega
-    (arith, c.in_ok-done.ensures.len, c.in_ok-board.ensures.len, c.requires.0))
-    c.in_ok-done.ensures.worked c.in_ok-seats.ensures.wanted c.in_ok-seats.ensures.seats
-    c.in_ok-seats.ensures.parts c.count-count.ensures.pieces (subst (λ
-    (n : ℕ). Tallies n c.close-mark.ensures.0 c.close-mark.result
-    (map view_of c.in_ok-seats.seats.items)) c.in_ok-board.ensures.board.0 c.close-mark.ensures.1)
-    c.min.ensures (sym c.in_ok-placed.placed.ok.0 ∙ c.in_ok-placed.ensures.len)
-    c.in_ok-placed.ensures.placed c.in_ok-placed.ensures.parts)
-    c.join.ensures
+pub returns-clause-answer : goal.returns-clause-answer
+returns-clause-answer g c = λ t right. placed_answer c.args.pieces.now c.in_ok-placed.placed.items
+    c.in_ok-placed.ensures t right ∙ sym c.in_ok-bytes.ensures
+
+pub returns-clause-passed : goal.returns-clause-passed
+returns-clause-passed g c = placed_passed c.args.pieces.now c.in_ok-placed.placed.items
+    c.in_ok-placed.ensures ∙ ap passed_all (sym c.deref.ensures.value) ∙ sym c.passed-faulty.ensures
+
+pub passed-faulty-requires : goal.passed-faulty-requires
+passed-faulty-requires g c = omega (
+  arith,
+  ap passed_all c.deref.ensures.value,
+  placed_few c.args.pieces.now c.in_ok-placed.placed.items c.in_ok-placed.ensures,
+  c.args.pieces.now.in_range.1,
+)

@@ -1,0 +1,231 @@
+-- The answer in either form: of lines that come in two parts, and of one line more.
+use Rattle.std.proofs.Common.{◌≡◌, ℕ, suc, ◌+◌, ◌≤◌, Bool, true, false, List, [], ◌∷◌, ◌++◌, length, Option}
+use Rattle.std.proofs.Common.{Some, None, Result, Ok, Err, refl, ap, sym, ◌∙◌, arith, length-append}
+use Rattle.std.proofs.Common.{append_assoc, cond, ◌<◌, ◌⊎◌, inl, inr, add-one, drop, get_or, map}
+use Rattle.std.proofs.Math.Seq.{drop-cons}
+use Rattle.std.specs.Prelude.{is_err}
+use Rattle.std.specs.List.{filter}
+use Rattle.std.proofs.lemmas.List.{length-map}
+use Rattle.std.proofs.lemmas.List.Concat.{flat_map-append}
+use Rattle.std.proofs.lemmas.List.Elements.{filter-append}
+use Rattle.std.proofs.lemmas.List.Sums.{length-filter, count_by-le-length}
+use Rattle.jp_doc.specs.Json.{Json}
+use Rattle.jp_doc.specs.Lines.{Line, line_of}
+use Rattle.jp_doc.specs.Reading.{reading}
+use Rattle.jp_doc.specs.declared.fault.DocFault.{DocFault}
+use Rattle.jp_doc.specs.declared.line.Line as code
+use Rattle.jp_syntax.specs.Tree.{Query}
+use Rattle.jp_regexp.specs.Tests.{Tests}
+use Rattle.jp_path.specs.FaultLine.{fault_line}
+use Rattle.jp_answer.specs.Answer.{Answer, after, line_answer, document_lines, answer, joined}
+use Rattle.jp_answer.specs.Faults.{fault_or, first_fault}
+use Rattle.jp_answer.specs.Form.{answer_in, stop_in, passed_in, given, fault_in}
+use Rattle.jp_answer.specs.Placed.{nothing}
+use Rattle.jp_answer.specs.Whole.{whole, both, line_bytes, lines_or_fault, is_faulty, faulty_lines}
+use Rattle.jp_answer.proofs.Joining.{pieces_joined, stops_so}
+
+faulty_joined : (a b : List Line) → faulty_lines (a ++ b) ≡ faulty_lines a + faulty_lines b
+faulty_joined a b = ap length (filter-append is_faulty a b)
+    ∙ length-append (filter is_faulty a) (filter is_faulty b)
+
+pub passed_joined : (k : Bool) (a b : List Line) → passed_in k (a ++ b) ≡ passed_in k a + passed_in k b
+passed_joined false a b = refl
+passed_joined true a b = faulty_joined a b
+
+pub passed_few : (k : Bool) (ls : List Line) → passed_in k ls ≤ length ls
+passed_few false ls = omega arith
+passed_few true ls = omega (arith, length-filter is_faulty ls, count_by-le-length is_faulty ls)
+
+pub passed_none : (k : Bool) → passed_in k [] ≡ 0
+passed_none false = refl
+passed_none true = refl
+
+pub stop_none : (k : Bool) → stop_in k [] ≡ None
+stop_none false = refl
+stop_none true = refl
+
+module _ (t : Tests) (q : Query) where
+  bytes_joined : (a b : List Line) → (whole t q (a ++ b)).bytes ≡ (whole t q a).bytes ++ (whole t q b).bytes
+  bytes_joined a b = flat_map-append (line_bytes t q) a b
+
+  pub whole_joined : (a b : List Line) → whole t q (a ++ b) ≡ both (whole t q a) (whole t q b)
+  whole_joined a b = ap (λ n. record { bytes = (whole t q (a ++ b)).bytes; faulty = n }) (faulty_joined a b)
+      ∙ ap (λ bs. record { bytes = bs; faulty = faulty_lines a + faulty_lines b }) (bytes_joined a b)
+
+  pub formed_joined : (k : Bool) (a b : List Line) → answer_in k t q (a ++ b)
+      ≡ joined (answer_in k t q a) (answer_in k t q b)
+  formed_joined false a b = pieces_joined t q a b
+  formed_joined true a b = ap (λ bs. record { bytes = bs; stopped = None }) (bytes_joined a b)
+
+  pub nothing_in : (k : Bool) → answer_in k t q [] ≡ nothing
+  nothing_in false = refl
+  nothing_in true = refl
+
+  pub stop_so : (k : Bool) (ls : List Line) → (answer_in k t q ls).stopped ≡ stop_in k ls
+  stop_so false ls = stops_so t q ls
+  stop_so true ls = refl
+
+  abbrev line_in : (k : Bool) → ℕ → Result Json DocFault → Answer → Answer
+  line_in k number (Ok root) others = after (document_lines t q number root) others
+  line_in false number (Err fault) others = record { bytes = []; stopped = Some (number, fault) }
+  line_in true number (Err fault) others = after (fault_line number fault) others
+
+  line_first : (number : ℕ) (r : Result Json DocFault) (a : Answer) → line_answer t q number r a
+      ≡ line_in false number r a
+  line_first number (Ok root) a = refl
+  line_first number (Err fault) a = refl
+
+  line_second : (number : ℕ) (r : Result Json DocFault) (bytes : List ℕ)
+      → ◌≡◌ {A = Answer} (record { bytes = lines_or_fault t q number r ++ bytes; stopped = None })
+      (line_in true number r (record { bytes = bytes; stopped = None }))
+  line_second number (Ok root) bytes = refl
+  line_second number (Err fault) bytes = refl
+
+  cons_in : (k : Bool) (l : Line) (ls : List Line)
+      → answer_in k t q (l ∷ ls) ≡ line_in k l.0 (reading l.1) (answer_in k t q ls)
+  cons_in false l ls = line_first l.0 (reading l.1) (answer t q ls)
+  cons_in true l ls = line_second l.0 (reading l.1) (whole t q ls).bytes
+
+  line_goes : (k : Bool) (number : ℕ) (r : Result Json DocFault) (a : Answer)
+      → (k ≡ true) ⊎ (fault_in r ≡ None) → line_in k number r a ≡ after (given k t q number r) a
+  line_goes false number (Ok root) a h = refl
+  line_goes true number (Ok root) a h = refl
+  line_goes true number (Err fault) a h = refl
+  line_goes false number (Err fault) a (inl e) = absurd (cc)
+  line_goes false number (Err fault) a (inr e) = absurd (cc)
+
+  -- one line more, in front, with which the answer goes on
+  goes_on : (k : Bool) (l : Line) (ls : List Line) → (k ≡ true) ⊎ (fault_in (reading l.1) ≡ None)
+      → answer_in k t q (l ∷ ls) ≡ after (given k t q l.0 (reading l.1)) (answer_in k t q ls)
+  goes_on k l ls h = cons_in k l ls ∙ line_goes k l.0 (reading l.1) (answer_in k t q ls) h
+
+  line_ends : (number : ℕ) (r : Result Json DocFault) (a : Answer) (fault : DocFault)
+      → fault_in r ≡ Some fault → line_in false number r a
+      ≡ record { bytes = given false t q number r; stopped = Some (number, fault) }
+  line_ends number (Ok root) a fault e = absurd (cc)
+  line_ends number (Err f) a fault e = let same : f ≡ fault = cc in
+      ap (λ f. record { bytes = []; stopped = Some (number, f) }) same
+
+  -- one at which it ends
+  ends_at : (k : Bool) (l : Line) (ls : List Line) (fault : DocFault) → k ≡ false
+      → fault_in (reading l.1) ≡ Some fault → answer_in k t q (l ∷ ls)
+      ≡ record { bytes = given k t q l.0 (reading l.1); stopped = Some (l.0, fault) }
+  ends_at true l ls fault ends e = absurd (cc)
+  ends_at false l ls fault ends e = cons_in false l ls
+      ∙ line_ends l.0 (reading l.1) (answer_in false t q ls) fault e
+
+-- the same of how many faulty lines are passed, and of where the answer ends
+
+passed_by : (l : Line) (ls : List Line) (r : Result Json DocFault) → fault_in r ≡ None
+    → length (cond (is_err r) (l ∷ filter is_faulty ls) (filter is_faulty ls)) ≡ faulty_lines ls
+passed_by l ls (Ok root) e = refl
+passed_by l ls (Err f) e = absurd (cc)
+
+passed_document : (k : Bool) (l : Line) (ls : List Line) → fault_in (reading l.1) ≡ None
+    → passed_in k (l ∷ ls) ≡ passed_in k ls
+passed_document false l ls e = refl
+passed_document true l ls e = passed_by l ls (reading l.1) e
+
+faulty_by : (l : Line) (ls : List Line) (r : Result Json DocFault) (fault : DocFault)
+    → fault_in r ≡ Some fault
+    → length (cond (is_err r) (l ∷ filter is_faulty ls) (filter is_faulty ls)) ≡ faulty_lines ls + 1
+faulty_by l ls (Ok root) fault e = absurd (cc)
+faulty_by l ls (Err f) fault e = omega arith
+
+passed_fault : (k : Bool) (l : Line) (ls : List Line) (fault : DocFault) → k ≡ true
+    → fault_in (reading l.1) ≡ Some fault → passed_in k (l ∷ ls) ≡ passed_in k ls + 1
+passed_fault false l ls fault going e = absurd (cc)
+passed_fault true l ls fault going e = faulty_by l ls (reading l.1) fault e
+
+stop_by : (number : ℕ) (r : Result Json DocFault) (others : Option (ℕ × DocFault)) → fault_in r ≡ None
+    → fault_or number r others ≡ others
+stop_by number (Ok root) others e = refl
+stop_by number (Err f) others e = absurd (cc)
+
+stop_later : (k : Bool) (l : Line) (ls : List Line) → (k ≡ true) ⊎ (fault_in (reading l.1) ≡ None)
+    → stop_in k (l ∷ ls) ≡ stop_in k ls
+stop_later true l ls h = refl
+stop_later false l ls (inl e) = absurd (cc)
+stop_later false l ls (inr e) = stop_by l.0 (reading l.1) (first_fault ls) e
+
+stop_now : (number : ℕ) (r : Result Json DocFault) (others : Option (ℕ × DocFault)) (fault : DocFault)
+    → fault_in r ≡ Some fault → fault_or number r others ≡ Some (number, fault)
+stop_now number (Ok root) others fault e = absurd (cc)
+stop_now number (Err f) others fault e = let same : f ≡ fault = cc in ap (λ f. Some (number, f)) same
+
+stop_here : (k : Bool) (l : Line) (ls : List Line) (fault : DocFault) → k ≡ false
+    → fault_in (reading l.1) ≡ Some fault → stop_in k (l ∷ ls) ≡ Some (l.0, fault)
+stop_here true l ls fault ends e = absurd (cc)
+stop_here false l ls fault ends e = stop_now l.0 (reading l.1) (first_fault ls) fault e
+
+-- the lines of `src/` from a place on
+next_line : (lines : List code.Line) (i : ℕ) (l : code.Line) → i < length lines
+    → l ≡ get_or lines i l → map line_of (drop i lines) ≡ line_of l ∷ map line_of (drop (i + 1) lines)
+next_line lines i l h is =
+    let cut : drop i lines ≡ get_or lines i l ∷ drop (suc i) lines = drop-cons lines i l h in
+    rw (add-one i) (ap (map line_of) cut
+    ∙ ap (λ (x : code.Line). line_of x ∷ map line_of (drop (suc i) lines)) (sym is))
+
+-- a line of those of `src/` is taken
+module _ (k : Bool) (lines : List code.Line) (i : ℕ) (l : code.Line) (h : i < length lines)
+    (is : l ≡ get_or lines i l) where
+  abbrev all : List Line
+  all = map line_of lines
+
+  abbrev now : List Line
+  now = map line_of (drop i lines)
+
+  abbrev later : List Line
+  later = map line_of (drop (i + 1) lines)
+
+  abbrev fault_here : Option DocFault
+  fault_here = fault_in (reading l.bytes.items)
+
+  here : now ≡ line_of l ∷ later
+  here = next_line lines i l h is
+
+  pub answer_more : (t : Tests) (q p : Query) (old new : List ℕ) → p ≡ q
+      → answer_in k t q all ≡ after old (answer_in k t q now)
+      → new ≡ old ++ given k t p l.number (reading l.bytes.items) → (k ≡ true) ⊎ (fault_here ≡ None)
+      → answer_in k t q all ≡ after new (answer_in k t q later)
+  answer_more t q p old new same e f g =
+      let gives : List ℕ = given k t q l.number (reading l.bytes.items) in
+      let a : Answer = answer_in k t q later in
+      e ∙ ap (λ (ls : List Line). after old (answer_in k t q ls)) here
+      ∙ ap (after old) (goes_on t q k (line_of l) later g)
+      ∙ ap (λ bs. record { bytes = bs; stopped = a.stopped }) (sym (append_assoc old gives a.bytes))
+      ∙ ap (λ bs. after bs a) (sym (f ∙ ap (λ q. old ++ given k t q l.number (reading l.bytes.items)) same))
+
+  pub answer_last : (t : Tests) (q p : Query) (old new : List ℕ) (fault : DocFault) → p ≡ q
+      → answer_in k t q all ≡ after old (answer_in k t q now)
+      → new ≡ old ++ given k t p l.number (reading l.bytes.items) → k ≡ false → fault_here ≡ Some fault
+      → answer_in k t q all ≡ record { bytes = new; stopped = Some (l.number, fault) }
+  answer_last t q p old new fault same e f ends found =
+      e ∙ ap (λ (ls : List Line). after old (answer_in k t q ls)) here
+      ∙ ap (after old) (ends_at t q k (line_of l) later fault ends found)
+      ∙ ap (λ bs. record { bytes = bs; stopped = Some (l.number, fault) })
+      (sym (f ∙ ap (λ q. old ++ given k t q l.number (reading l.bytes.items)) same))
+
+  pub stop_more : stop_in k all ≡ stop_in k now → (k ≡ true) ⊎ (fault_here ≡ None)
+      → stop_in k all ≡ stop_in k later
+  stop_more e g = e ∙ ap (stop_in k) here ∙ stop_later k (line_of l) later g
+
+  pub stop_last : (fault : DocFault) → stop_in k all ≡ stop_in k now → k ≡ false → fault_here ≡ Some fault
+      → stop_in k all ≡ Some (l.number, fault)
+  stop_last fault e ends found = e ∙ ap (stop_in k) here ∙ stop_here k (line_of l) later fault ends found
+
+  pub passed_more : (n : ℕ) → passed_in k all ≡ n + passed_in k now → fault_here ≡ None
+      → passed_in k all ≡ n + passed_in k later
+  passed_more n e none = e ∙ ap (λ m. n + m) (ap (passed_in k) here ∙ passed_document k (line_of l) later none)
+
+  pub passed_one : (n : ℕ) (fault : DocFault) → passed_in k all ≡ n + passed_in k now → k ≡ true
+      → fault_here ≡ Some fault → passed_in k all ≡ n + 1 + passed_in k later
+  passed_one n fault e going found = omega (
+    arith,
+    e,
+    ap (passed_in k) here,
+    passed_fault k (line_of l) later fault going found,
+  )
+
+  pub passed_fits : (n : ℕ) → passed_in k all ≡ n + 1 + passed_in k later → n + 1 ≤ length lines
+  passed_fits n e = omega (arith, e, passed_few k all, length-map lines line_of)

@@ -1,0 +1,48 @@
+-- The answer that keeps going after a faulty line.
+use Rattle.std.specs.Prelude.{ℕ, ◌+◌, Bool, List, ◌++◌, length, Result, Ok, Err, is_err}
+use Rattle.std.specs.List.{flat_map, filter}
+use Rattle.jp_doc.specs.Json.{Json}
+use Rattle.jp_doc.specs.Lines.{Line, lines}
+use Rattle.jp_doc.specs.Reading.{reading}
+use Rattle.jp_doc.specs.declared.fault.DocFault.{DocFault}
+use Rattle.jp_syntax.specs.Tree.{Query}
+use Rattle.jp_regexp.specs.Tests.{Tests}
+use Rattle.jp_path.specs.FaultLine.{fault_line}
+use Rattle.jp_answer.specs.Answer.{document_lines}
+use Rattle.jp_answer.specs.declared.outcome.Whole as code
+
+-- the bytes, and the number of faulty lines
+pub record Whole : Type 0 where
+  pub bytes : List ℕ
+  pub faulty : ℕ
+
+-- the output lines of a line's document, or the fault line of a faulty one
+abbrev pub lines_or_fault : Tests → Query → ℕ → Result Json DocFault → List ℕ
+lines_or_fault tests q number (Ok root) = document_lines tests q number root
+lines_or_fault tests q number (Err fault) = fault_line number fault
+
+abbrev pub line_bytes : Tests → Query → Line → List ℕ
+line_bytes tests q l = lines_or_fault tests q l.0 (reading l.1)
+
+-- the line holds no document
+abbrev pub is_faulty : Line → Bool
+is_faulty l = is_err (reading l.1)
+
+abbrev pub faulty_lines : List Line → ℕ
+faulty_lines ls = length (filter is_faulty ls)
+
+-- the answer to numbered lines: over all of them in order, and how many are faulty
+abbrev pub whole : Tests → Query → List Line → Whole
+whole tests q ls = record { bytes = flat_map (line_bytes tests q) ls; faulty = faulty_lines ls }
+
+-- the answer to a byte stream
+abbrev pub stream_whole : Tests → Query → List ℕ → Whole
+stream_whole tests q bytes = whole tests q (lines bytes)
+
+-- one answer after another
+abbrev pub both : Whole → Whole → Whole
+both a b = record { bytes = a.bytes ++ b.bytes; faulty = a.faulty + b.faulty }
+
+-- what a `Whole` of `src/` stands for
+abbrev pub whole_of : code.Whole → Whole
+whole_of w = record { bytes = w.bytes.items; faulty = w.faulty }
