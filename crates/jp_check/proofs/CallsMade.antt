@@ -1,13 +1,14 @@
 -- Calls with one argument, and with two.
 use Rattle.std.proofs.Common.{◌≡◌, ℕ, ◌<◌, ◌≤◌, List, [], ◌∷◌, length, get_or, refl, sym, ap, ap₂, ◌∙◌}
 use Rattle.std.proofs.Common.{arith}
-use Rattle.std.specs.Prelude.{string_bytes}
+use Rattle.std.specs.Prelude.{string_bytes, codes}
 use Rattle.std.specs.Str.{chars}
 use Rattle.jp_syntax.specs.Tree as tree
 use Rattle.jp_syntax.specs.PartViews.{argument_of, arguments_of, call_of}
 use Rattle.jp_syntax.specs.declared.tree.Argument.{Argument}
 use Rattle.jp_syntax.specs.declared.tree.Call.{Call, out-Call}
 use Rattle.jp_check.specs.Ready.{call_of_one, call_of_two, text_argument, form_of, truth_argument}
+use Rattle.jp_check.specs.Ready.{Source, queried, different, source_argument, source_test}
 use Rattle.jp_check.specs.LiteralPatterns.{literal_text}
 use Rattle.jp_check.proofs.Levels.{call_level}
 
@@ -63,6 +64,16 @@ call_written a x e = ap (λ y. truth_argument (form_of y) (tree.test_call x)) e 
 pub logical_written : (a : tree.Argument) (l : tree.Logical) → a ≡ tree.logical_argument l
     → truth_argument (form_of a) l ≡ a
 logical_written a l e = ap (λ x. truth_argument (form_of x) l) e ∙ sym e
+
+-- a source that is a call as an argument is the same call as a test
+same_call : (x y : tree.Call) → tree.call_argument x ≡ tree.call_argument y → x ≡ y
+same_call x y e = cc
+
+pub called_test : (s : Source) (x : tree.Call) → source_argument s ≡ tree.call_argument x
+    → source_test s ≡ tree.test_call x
+called_test (queried q) x e = absurd cc
+called_test (different s) x e =
+    ap tree.test_call (same_call (call_of_one (codes "distinct") (source_argument s)) x e)
 
 -- an argument that is this text as a literal
 pub text_is : (a : tree.Argument) (t : tree.Text) → t ∷ [] ≡ literal_text a → a ≡ text_argument t

@@ -85,6 +85,7 @@ pub where_found : (w : Want) (ss : tree.Segments) → where_wanted w (wanted w s
 where_found want.First ss = refl
 where_found want.Count ss = refl
 where_found want.Only ss = refl
+where_found want.Distinct ss = refl
 
 pub root_found : (rs more : List RootQuery) (r : RootQuery) (slot : ℕ) (all : List Wanted)
     → slot ≡ length rs → more ≡ rs ++ r ∷ [] → Begins (roots_of more) all

@@ -1,4 +1,5 @@
--- The functions and their types: those of RFC 9535 (2.4.1 to 2.4.8), and `xor`, which is this project's own.
+-- The functions and their types: those of RFC 9535 (2.4.1 to 2.4.8), and `xor` and `distinct`, which are this
+-- project's own.
 use Rattle.std.specs.Prelude.{List, [], ◌∷◌, Option, Some, None, codes, if◌then◌else◌}
 use Rattle.std.specs.Str.{bytes_eq}
 use Rattle.jp_syntax.specs.Tree.{Text}
@@ -16,6 +17,7 @@ pub data Function : Type 0 where
   search_function : Function
   value_function : Function
   xor_function : Function
+  distinct_function : Function
 
 -- the function of this name
 abbrev pub function_named : Text → Option Function
@@ -26,6 +28,7 @@ function_named t =
     else if bytes_eq t (codes "search") then Some search_function
     else if bytes_eq t (codes "value") then Some value_function
     else if bytes_eq t (codes "xor") then Some xor_function
+    else if bytes_eq t (codes "distinct") then Some distinct_function
     else None
 
 -- the types of a function's parameters, in order
@@ -36,6 +39,7 @@ parameters match_function = value_type ∷ value_type ∷ []
 parameters search_function = value_type ∷ value_type ∷ []
 parameters value_function = nodes_type ∷ []
 parameters xor_function = logical_type ∷ logical_type ∷ []
+parameters distinct_function = nodes_type ∷ []
 
 -- the type of its result
 abbrev pub result_type : Function → Kind
@@ -45,3 +49,4 @@ result_type match_function = logical_type
 result_type search_function = logical_type
 result_type value_function = value_type
 result_type xor_function = logical_type
+result_type distinct_function = nodes_type

@@ -17,3 +17,4 @@ function_of function.Match = functions.match_function
 function_of function.Search = functions.search_function
 function_of function.Value = functions.value_function
 function_of function.Xor = functions.xor_function
+function_of function.Distinct = functions.distinct_function

@@ -4,7 +4,7 @@ use Rattle.jp_syntax.specs.Tree as tree
 use Rattle.jp_syntax.specs.View.{text_of}
 use Rattle.jp_syntax.specs.declared.tree.Start.TheVariants as start
 use Rattle.jp_check.specs.declared.ready.Want.{Want}
-use Rattle.jp_check.specs.declared.ready.Want.TheVariants.{First, Count, Only}
+use Rattle.jp_check.specs.declared.ready.Want.TheVariants.{First, Count, Only, Distinct}
 use Rattle.jp_check.specs.declared.ready.Form.{Form}
 use Rattle.jp_check.specs.declared.ready.Form.TheVariants.{Bare, Expression}
 use Rattle.jp_check.specs.declared.ready.Position.{Position}
@@ -26,17 +26,20 @@ pub data Wanted : Type 0 where
   first_of : tree.Segments → Wanted
   count_of : tree.Segments → Wanted
   only_of : tree.Segments → Wanted
+  distinct_of : tree.Segments → Wanted
 
 abbrev pub wanted : Want → tree.Segments → Wanted
 wanted First ss = first_of ss
 wanted Count ss = count_of ss
 wanted Only ss = only_of ss
+wanted Distinct ss = distinct_of ss
 
 -- the segments, where this is what is wanted of them, and else none
 abbrev pub where_wanted : Want → Wanted → tree.Segments
 where_wanted First (first_of ss) = ss
 where_wanted Count (count_of ss) = ss
 where_wanted Only (only_of ss) = ss
+where_wanted Distinct (distinct_of ss) = ss
 where_wanted _ _ = tree.no_segments
 
 -- the `$` query of a slot, of which this is wanted, and `$` where there is none
@@ -80,26 +83,50 @@ call_of_one function a = tree.call function (tree.arguments (a ∷ []))
 abbrev pub call_of_two : tree.Text → tree.Argument → tree.Argument → tree.Call
 call_of_two function a b = tree.call function (tree.arguments (a ∷ b ∷ []))
 
+-- where the nodes inside a filter come from: a query, or `distinct` of such
+pub data Source : Type 0 where
+  queried : tree.Query → Source
+  different : Source → Source
+
+-- a source as an argument, as a test, and as a side of a comparison
+abbrev pub source_argument : Source → tree.Argument
+source_argument (queried q) = tree.query_argument q
+source_argument (different s) = tree.call_argument (call_of_one (codes "distinct") (source_argument s))
+
+abbrev pub source_test : Source → tree.Logical
+source_test (queried q) = tree.test q
+source_test (different s) = tree.test_call (call_of_one (codes "distinct") (source_argument s))
+
+abbrev pub source_side : Source → tree.Comparable
+source_side (queried q) = tree.single q
+source_side (different s) = tree.value_call (call_of_one (codes "distinct") (source_argument s))
+
+-- what is wanted of the nodes that `distinct` is given, where this is wanted of it
+abbrev pub wanted_inside : Want → Want
+wanted_inside First = First
+wanted_inside _ = Distinct
+
 -- an argument that is a text
 abbrev pub text_argument : tree.Text → tree.Argument
 text_argument t = tree.literal_argument (tree.text t)
 
 -- One level of the tree, where each part is already seen as what it stands for. `$` queries are these.
 module _ (roots : List Wanted) where
-  abbrev pub nodes_level : Nodes-F tree.Logical (Want → tree.Query) tree.Selector tree.Comparable
+  abbrev pub nodes_level : Nodes-F tree.Logical (Want → Source) tree.Selector tree.Comparable
       tree.Segment
-      → Want → tree.Query
-  nodes_level (Nodes-F.Here ss) want = tree.query start.Current (tree.segments ss.items)
-  nodes_level (Nodes-F.Root slot) want = root_at roots slot want
+      → Want → Source
+  nodes_level (Nodes-F.Here ss) want = queried (tree.query start.Current (tree.segments ss.items))
+  nodes_level (Nodes-F.Root slot) want = queried (root_at roots slot want)
+  nodes_level (Nodes-F.Distinct q) want = different (q.value (wanted_inside want))
 
-abbrev pub logical_level : Logical-F tree.Logical (Want → tree.Query) tree.Selector tree.Comparable
+abbrev pub logical_level : Logical-F tree.Logical (Want → Source) tree.Selector tree.Comparable
     tree.Segment
     → tree.Logical
 logical_level (Logical-F.Any ls) = tree.any (tree.logicals ls.items)
 logical_level (Logical-F.All ls) = tree.all (tree.logicals ls.items)
 logical_level (Logical-F.Not l) = tree.negation l.value
 logical_level (Logical-F.Compare left o right) = tree.comparing (tree.comparison left o right)
-logical_level (Logical-F.Test q) = tree.test (q First)
+logical_level (Logical-F.Test q) = source_test (q First)
 logical_level (Logical-F.Match s p) =
     tree.test_call (call_of_two (codes "match") (as_argument s) (as_argument p))
 logical_level (Logical-F.MatchRead s p) = tree.test_call
@@ -111,7 +138,7 @@ logical_level (Logical-F.SearchRead s p) = tree.test_call
 logical_level (Logical-F.Xor f l g m) = tree.test_call
     (call_of_two (codes "xor") (truth_argument f l.value) (truth_argument g m.value))
 
-abbrev pub selector_level : Selector-F tree.Logical (Want → tree.Query) tree.Selector tree.Comparable
+abbrev pub selector_level : Selector-F tree.Logical (Want → Source) tree.Selector tree.Comparable
     tree.Segment
     → tree.Selector
 selector_level (Selector-F.Name s) = tree.name (text_of s)
@@ -120,18 +147,18 @@ selector_level (Selector-F.Index p) = tree.index (position_text p)
 selector_level (Selector-F.Slice s) = slice_of s
 selector_level (Selector-F.Filter l) = tree.filter l
 
-abbrev pub value_level : Value-F tree.Logical (Want → tree.Query) tree.Selector tree.Comparable
+abbrev pub value_level : Value-F tree.Logical (Want → Source) tree.Selector tree.Comparable
     tree.Segment
     → tree.Comparable
 value_level (Value-F.Constant x) = tree.literal (constant_of x)
-value_level (Value-F.Single q) = tree.single (q First)
+value_level (Value-F.Single q) = source_side (q First)
 value_level (Value-F.Length v) = tree.value_call (call_of_one (codes "length") (as_argument v.value))
 value_level (Value-F.Count q) = tree.value_call
-    (call_of_one (codes "count") (tree.query_argument (q Count)))
+    (call_of_one (codes "count") (source_argument (q Count)))
 value_level (Value-F.Only q) = tree.value_call
-    (call_of_one (codes "value") (tree.query_argument (q Only)))
+    (call_of_one (codes "value") (source_argument (q Only)))
 
-abbrev pub segment_level : Segment-F tree.Logical (Want → tree.Query) tree.Selector tree.Comparable
+abbrev pub segment_level : Segment-F tree.Logical (Want → Source) tree.Selector tree.Comparable
     tree.Segment
     → tree.Segment
 segment_level s = tree.segment s.deep (tree.selectors s.selectors.items)
@@ -139,23 +166,23 @@ segment_level s = tree.segment s.deep (tree.selectors s.selectors.items)
 -- what the parts of a ready tree stand for, where its `$` queries are these
 module _ (roots : List Wanted) where
   abbrev pub segment_in : Segment → tree.Segment
-  segment_in = fold-Segment tree.Logical (Want → tree.Query) tree.Selector tree.Comparable tree.Segment
+  segment_in = fold-Segment tree.Logical (Want → Source) tree.Selector tree.Comparable tree.Segment
       logical_level (nodes_level roots) selector_level value_level segment_level
 
   abbrev pub selector_in : Selector → tree.Selector
-  selector_in = fold-Selector tree.Logical (Want → tree.Query) tree.Selector tree.Comparable tree.Segment
+  selector_in = fold-Selector tree.Logical (Want → Source) tree.Selector tree.Comparable tree.Segment
       logical_level (nodes_level roots) selector_level value_level segment_level
 
   abbrev pub logical_in : Logical → tree.Logical
-  logical_in = fold-Logical tree.Logical (Want → tree.Query) tree.Selector tree.Comparable tree.Segment
+  logical_in = fold-Logical tree.Logical (Want → Source) tree.Selector tree.Comparable tree.Segment
       logical_level (nodes_level roots) selector_level value_level segment_level
 
   abbrev pub value_in : Value → tree.Comparable
-  value_in = fold-Value tree.Logical (Want → tree.Query) tree.Selector tree.Comparable tree.Segment
+  value_in = fold-Value tree.Logical (Want → Source) tree.Selector tree.Comparable tree.Segment
       logical_level (nodes_level roots) selector_level value_level segment_level
 
-  abbrev pub nodes_in : Nodes → Want → tree.Query
-  nodes_in = fold-Nodes tree.Logical (Want → tree.Query) tree.Selector tree.Comparable tree.Segment
+  abbrev pub nodes_in : Nodes → Want → Source
+  nodes_in = fold-Nodes tree.Logical (Want → Source) tree.Selector tree.Comparable tree.Segment
       logical_level (nodes_level roots) selector_level value_level segment_level
 
   abbrev pub segments_in : List Segment → tree.Segments

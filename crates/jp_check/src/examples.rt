@@ -132,6 +132,11 @@ fn ill_typed()
     ensures one_for_two { IsRefused (tested (codes "xor") (its_a ∷ [])) IllTyped }
     ensures value_for_logical { IsRefused (tested (codes "xor")
         (its_a ∷ a_call (codes "length") (it ∷ []) ∷ [])) IllTyped }
+    ensures nodes_compared { IsRefused (equals_number (codes "distinct") (its_a ∷ []) (codes "1")) IllTyped }
+    ensures nodes_for_value { IsRefused (equals_number (codes "length")
+        (a_call (codes "distinct") (its_a ∷ []) ∷ []) (codes "1")) IllTyped }
+    ensures literal_for_distinct { IsRefused (equals_number (codes "count")
+        (a_call (codes "distinct") (a_number (codes "1") ∷ []) ∷ []) (codes "1")) IllTyped }
     ensures search_over_nodes { IsRefused (tested (codes "search") (each ∷ a_text (codes "a") ∷ []))
         IllTyped }
 {}
@@ -154,6 +159,9 @@ fn well_typed()
         ∷ tree.logical_argument (equals (tree.single member_a) (num (codes "1"))) ∷ [])) }
     ensures one_of_two_calls { IsValid (tested (codes "xor") (tree.call_argument (match_call (codes "a"))
         ∷ a_call (codes "xor") (its_a ∷ each ∷ []) ∷ [])) }
+    ensures distinct_as_test { IsValid (tested (codes "distinct") (each ∷ [])) }
+    ensures distinct_of_distinct { IsValid (equals_number (codes "count") (a_call (codes "distinct")
+        (a_call (codes "distinct") (each ∷ []) ∷ []) ∷ []) (codes "2")) }
     ensures search_as_test { IsValid (tested (codes "search") (it ∷ a_text (codes "a") ∷ [])) }
 {}
 
@@ -200,6 +208,9 @@ fn table_of_functions()
     ensures xor { (function_named (codes "xor") ≡ Some functions.xor_function)
         × (parameters functions.xor_function ≡ logical_type ∷ logical_type ∷ [])
         × (result_type functions.xor_function ≡ logical_type) }
+    ensures distinct { (function_named (codes "distinct") ≡ Some functions.distinct_function)
+        × (parameters functions.distinct_function ≡ nodes_type ∷ [])
+        × (result_type functions.distinct_function ≡ nodes_type) }
     ensures no_other { (function_named (codes "lengt") ≡ None) × (function_named (codes "Count") ≡ None)
         × (function_named [] ≡ None) }
 {}

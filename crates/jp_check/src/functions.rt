@@ -1,4 +1,5 @@
-//! The functions and their types: those of RFC 9535 (2.4.1 to 2.4.8), and `xor`, which is this project's own.
+//! The functions and their types: those of RFC 9535 (2.4.1 to 2.4.8), and `xor` and `distinct`, which are this
+//! project's own.
 
 ghost use Rattle.std.specs.Prelude.{◌≡◌, map, option_map};
 ghost use Rattle.std.specs.Str.{chars};
@@ -31,6 +32,8 @@ pub enum Function {
     Value,
     /// Whether exactly one of two is true. It is this project's own.
     Xor,
+    /// The nodes, each location once. It is this project's own.
+    Distinct,
 }
 
 /// The function of this name, if it is one. It takes no memory.
@@ -44,6 +47,7 @@ pub fn function_named(name: &str) -> Option<Function>
         "search" => Some(Function::Search),
         "value" => Some(Function::Value),
         "xor" => Some(Function::Xor),
+        "distinct" => Some(Function::Distinct),
         _ => None,
     }
 }
@@ -54,7 +58,7 @@ pub(crate) fn parameters(function: Function) -> &'static [Kind]
 {
     match function {
         Function::Length => &[Kind::Value],
-        Function::Count | Function::Value => &[Kind::Nodes],
+        Function::Count | Function::Value | Function::Distinct => &[Kind::Nodes],
         Function::Match | Function::Search => &[Kind::Value, Kind::Value],
         Function::Xor => &[Kind::Logical, Kind::Logical],
     }
@@ -67,5 +71,6 @@ pub(crate) fn result_type(function: Function) -> Kind
     match function {
         Function::Length | Function::Count | Function::Value => Kind::Value,
         Function::Match | Function::Search | Function::Xor => Kind::Logical,
+        Function::Distinct => Kind::Nodes,
     }
 }

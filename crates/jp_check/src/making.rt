@@ -190,7 +190,7 @@ fn make_nodes(
     roots: &mut Vec<RootQuery>,
 ) -> Result<Nodes, AllocError>
     ensures made { IfOk result (λ q. Reads (ready.roots_of roots.new.items)
-        (λ all. ready.nodes_in all q want) (query_of query.now)) }
+        (λ all. ready.nodes_in all q want) (ready.queried (query_of query.now))) }
     ensures roots { OnOk result (Begins (ready.roots_of roots.old.items) (ready.roots_of roots.new.items)) }
 {
     let segments = make_segments(alloc, query.segments.as_slice(), roots)?;
@@ -254,15 +254,48 @@ fn make_argument_nodes(
     roots: &mut Vec<RootQuery>,
 ) -> Result<Nodes, AllocError>
     ensures made { IfOk result (λ q. Reads (ready.roots_of roots.new.items)
-        (λ all. tree.query_argument (ready.nodes_in all q want)) (view.argument_of argument.now)) }
+        (λ all. ready.source_argument (ready.nodes_in all q want)) (view.argument_of argument.now)) }
     ensures roots { OnOk result (Begins (ready.roots_of roots.old.items) (ready.roots_of roots.new.items)) }
 {
     match argument {
         Argument::Query(query) => make_nodes(alloc, want, query, roots),
+        Argument::Call(call) => make_distinct(alloc, want, call, roots),
         Argument::Literal(_) => Err(AllocError),
         Argument::Logical(_) => Err(AllocError),
-        Argument::Call(_) => Err(AllocError),
     }
+}
+
+/// What is wanted of the nodes that `distinct` is given, where this is wanted of it.
+fn wanted_inside(want: Want) -> Want
+    ensures { result ≡ ready.wanted_inside want }
+{
+    match want {
+        Want::First => Want::First,
+        Want::Count | Want::Only | Want::Distinct => Want::Distinct,
+    }
+}
+
+/// A call that gives nodes. Any other, which no accepted query has, is refused.
+#[cycle(making)]
+#[inline(never)]
+fn make_distinct(
+    alloc: Global,
+    want: Want,
+    call: &Call,
+    roots: &mut Vec<RootQuery>,
+) -> Result<Nodes, AllocError>
+    ensures made { IfOk result (λ q. Reads (ready.roots_of roots.new.items)
+        (λ all. ready.source_argument (ready.nodes_in all q want)) (tree.call_argument (view.call_of call.now))) }
+    ensures roots { OnOk result (Begins (ready.roots_of roots.old.items) (ready.roots_of roots.new.items)) }
+{
+    let [argument] = call.arguments.as_slice() else {
+        return Err(AllocError);
+    };
+    let Some(Function::Distinct) = function_named(call.name.as_str()) else {
+        return Err(AllocError);
+    };
+    let nodes = make_argument_nodes(alloc, wanted_inside(want), argument, roots)?;
+    Ok(Nodes::Distinct(Box::new(alloc, nodes)?))
 }
 
 /// A call that gives a value. Any other, which no accepted query has, is refused.
@@ -293,6 +326,7 @@ fn make_value_call(
         Some(Function::Match) => Err(AllocError),
         Some(Function::Search) => Err(AllocError),
         Some(Function::Xor) => Err(AllocError),
+        Some(Function::Distinct) => Err(AllocError),
         None => Err(AllocError),
     }
 }
@@ -313,6 +347,9 @@ fn make_test_call(
     let function = function_named(call.name.as_str());
     match function {
         Some(Function::Xor) => make_xor(alloc, arguments, roots),
+        Some(Function::Distinct) => {
+            Ok(Logical::Test(make_distinct(alloc, Want::First, call, roots)?))
+        }
         _ => make_text_test(alloc, function, arguments, roots),
     }
 }

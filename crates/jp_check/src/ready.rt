@@ -40,6 +40,8 @@ pub enum Want {
     Count,
     /// The value of the only one, if there is exactly one.
     Only,
+    /// How many locations they have, and the value of the first, if they have one alone.
+    Distinct,
 }
 
 /// A segment (RFC 9535, 2.5).
@@ -150,6 +152,8 @@ pub enum Nodes {
     Here(Vec<Segment>),
     /// The `$` query at this place of the list.
     Root(usize),
+    /// `distinct` of the nodes of a query.
+    Distinct(Box<Nodes>),
 }
 
 /// A literal.

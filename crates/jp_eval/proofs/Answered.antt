@@ -1,18 +1,21 @@
 -- What the answers of `$` queries say.
 use Rattle.std.proofs.Common.{◌≡◌, ℕ, zero, suc, ◌<◌, ◌≤◌, ◌==◌, Bool, true, false, ◌&&◌, List, [], ◌∷◌}
-use Rattle.std.proofs.Common.{◌++◌, length, get_or, Option, Some, None, option_map, refl, sym, ap, ◌∙◌}
+use Rattle.std.proofs.Common.{◌++◌, length, get_or, Option, Some, None, option_map, refl, sym, ap, ap₂, ◌∙◌}
 use Rattle.std.proofs.Common.{arith}
 use borrow.Author.Tests.{eqb-true}
 use Rattle.std.proofs.lemmas.Bool.Decides.{nat_tests}
 use Rattle.jp_doc.specs.Json.{Json}
 use Rattle.jp_syntax.specs.Tree as tree
-use Rattle.jp_check.specs.Ready.{Wanted, first_of, count_of, only_of, where_wanted}
+use Rattle.jp_check.specs.Ready.{Wanted, first_of, count_of, only_of, distinct_of, where_wanted}
 use Rattle.jp_check.specs.declared.ready.Want.TheVariants as want
 use Rattle.jp_eval.specs.Answers.{is_answer, are_answers, root_nodes}
 use Rattle.jp_eval.specs.Comparison.{eq}
-use Rattle.jp_eval.specs.Functions.{first_value, only_value}
+use Rattle.jp_eval.specs.Different.{IsDifferent, is_different}
+use Rattle.jp_eval.specs.Functions.{first_value, only_value, distinct}
 use Rattle.jp_eval.specs.Kept.{alone_of, alone_value}
 use Rattle.jp_eval.specs.Part.{part_value}
+use Rattle.jp_doc.specs.Location.{Node}
+use Rattle.jp_eval.specs.declared.different.Different.{Different}
 use Rattle.jp_eval.specs.declared.found.Alone.{Alone}
 use Rattle.jp_eval.specs.declared.found.Answer.{Answer}
 use Rattle.jp_eval.specs.declared.found.Answer.TheVariants as answer
@@ -73,18 +76,21 @@ module _ (root : Json) where
   firsts (first_of ss) o h = eq_is _ _ h
   firsts (count_of ss) o h = absurd cc
   firsts (only_of ss) o h = absurd cc
+  firsts (distinct_of ss) o h = absurd cc
 
   pub counts : (w : Wanted) (n : ℕ) → is_answer root w (answer.Count n) ≡ true
       → n ≡ length (root_nodes root (where_wanted want.Count w))
   counts (first_of ss) n h = absurd cc
   counts (count_of ss) n h = eqb-true n (length (root_nodes root ss)) h
   counts (only_of ss) n h = absurd cc
+  counts (distinct_of ss) n h = absurd cc
 
   pub onlys : (w : Wanted) (a : Alone) → is_answer root w (answer.Only a) ≡ true
       → alone_value (alone_of a) ≡ only_value (root_nodes root (where_wanted want.Only w))
   onlys (first_of ss) a h = absurd cc
   onlys (count_of ss) a h = absurd cc
   onlys (only_of ss) a h = eq_is _ _ h
+  onlys (distinct_of ss) a h = absurd cc
 
   -- a query of which something else is wanted stands for `$`
   pub firsts_of_count : (w : Wanted) (n : ℕ) → is_answer root w (answer.Count n) ≡ true
@@ -92,36 +98,94 @@ module _ (root : Json) where
   firsts_of_count (first_of ss) n h = absurd cc
   firsts_of_count (count_of ss) n h = refl
   firsts_of_count (only_of ss) n h = absurd cc
+  firsts_of_count (distinct_of ss) n h = absurd cc
 
   pub firsts_of_only : (w : Wanted) (a : Alone) → is_answer root w (answer.Only a) ≡ true
       → where_wanted want.First w ≡ tree.no_segments
   firsts_of_only (first_of ss) a h = absurd cc
   firsts_of_only (count_of ss) a h = absurd cc
   firsts_of_only (only_of ss) a h = refl
+  firsts_of_only (distinct_of ss) a h = absurd cc
 
   pub counts_of_first : (w : Wanted) (o : Option Part) → is_answer root w (answer.First o) ≡ true
       → where_wanted want.Count w ≡ tree.no_segments
   counts_of_first (first_of ss) o h = refl
   counts_of_first (count_of ss) o h = absurd cc
   counts_of_first (only_of ss) o h = absurd cc
+  counts_of_first (distinct_of ss) o h = absurd cc
 
   pub counts_of_only : (w : Wanted) (a : Alone) → is_answer root w (answer.Only a) ≡ true
       → where_wanted want.Count w ≡ tree.no_segments
   counts_of_only (first_of ss) a h = absurd cc
   counts_of_only (count_of ss) a h = absurd cc
   counts_of_only (only_of ss) a h = refl
+  counts_of_only (distinct_of ss) a h = absurd cc
 
   pub onlys_of_first : (w : Wanted) (o : Option Part) → is_answer root w (answer.First o) ≡ true
       → where_wanted want.Only w ≡ tree.no_segments
   onlys_of_first (first_of ss) o h = refl
   onlys_of_first (count_of ss) o h = absurd cc
   onlys_of_first (only_of ss) o h = absurd cc
+  onlys_of_first (distinct_of ss) o h = absurd cc
 
   pub onlys_of_count : (w : Wanted) (n : ℕ) → is_answer root w (answer.Count n) ≡ true
       → where_wanted want.Only w ≡ tree.no_segments
   onlys_of_count (first_of ss) n h = absurd cc
   onlys_of_count (count_of ss) n h = refl
   onlys_of_count (only_of ss) n h = absurd cc
+  onlys_of_count (distinct_of ss) n h = absurd cc
+
+  pub differents : (w : Wanted) (d : Different) → is_answer root w (answer.Distinct d) ≡ true
+      → IsDifferent d (root_nodes root (where_wanted want.Distinct w))
+  differents (first_of ss) d h = absurd cc
+  differents (count_of ss) d h = absurd cc
+  differents (only_of ss) d h = absurd cc
+  differents (distinct_of ss) d h =
+      let ns = distinct (root_nodes root ss) in
+      let parts = both (d.count == length ns) (eq (alone_value (alone_of d.alone)) (only_value ns)) h in
+      (eqb-true d.count (length ns) parts.0, eq_is _ _ parts.1)
+
+  pub firsts_of_distinct : (w : Wanted) (d : Different) → is_answer root w (answer.Distinct d) ≡ true
+      → where_wanted want.First w ≡ tree.no_segments
+  firsts_of_distinct (first_of ss) d h = absurd cc
+  firsts_of_distinct (count_of ss) d h = absurd cc
+  firsts_of_distinct (only_of ss) d h = absurd cc
+  firsts_of_distinct (distinct_of ss) d h = refl
+
+  pub counts_of_distinct : (w : Wanted) (d : Different) → is_answer root w (answer.Distinct d) ≡ true
+      → where_wanted want.Count w ≡ tree.no_segments
+  counts_of_distinct (first_of ss) d h = absurd cc
+  counts_of_distinct (count_of ss) d h = absurd cc
+  counts_of_distinct (only_of ss) d h = absurd cc
+  counts_of_distinct (distinct_of ss) d h = refl
+
+  pub onlys_of_distinct : (w : Wanted) (d : Different) → is_answer root w (answer.Distinct d) ≡ true
+      → where_wanted want.Only w ≡ tree.no_segments
+  onlys_of_distinct (first_of ss) d h = absurd cc
+  onlys_of_distinct (count_of ss) d h = absurd cc
+  onlys_of_distinct (only_of ss) d h = absurd cc
+  onlys_of_distinct (distinct_of ss) d h = refl
+
+  pub differents_of_first : (w : Wanted) (o : Option Part) → is_answer root w (answer.First o) ≡ true
+      → where_wanted want.Distinct w ≡ tree.no_segments
+  differents_of_first (first_of ss) o h = refl
+  differents_of_first (count_of ss) o h = absurd cc
+  differents_of_first (only_of ss) o h = absurd cc
+  differents_of_first (distinct_of ss) o h = absurd cc
+
+  pub differents_of_count : (w : Wanted) (n : ℕ) → is_answer root w (answer.Count n) ≡ true
+      → where_wanted want.Distinct w ≡ tree.no_segments
+  differents_of_count (first_of ss) n h = absurd cc
+  differents_of_count (count_of ss) n h = refl
+  differents_of_count (only_of ss) n h = absurd cc
+  differents_of_count (distinct_of ss) n h = absurd cc
+
+  pub differents_of_only : (w : Wanted) (a : Alone) → is_answer root w (answer.Only a) ≡ true
+      → where_wanted want.Distinct w ≡ tree.no_segments
+  differents_of_only (first_of ss) a h = absurd cc
+  differents_of_only (count_of ss) a h = absurd cc
+  differents_of_only (only_of ss) a h = refl
+  differents_of_only (distinct_of ss) a h = absurd cc
 
   pub first_root : (w : Wanted) → where_wanted want.First w ≡ tree.no_segments
       → Some root ≡ first_value (root_nodes root (where_wanted want.First w))
@@ -135,5 +199,18 @@ module _ (root : Json) where
       → Some root ≡ only_value (root_nodes root (where_wanted want.Only w))
   only_root w e = ap (λ ss. only_value (root_nodes root ss)) (sym e)
 
+  pub different_root : (w : Wanted) → where_wanted want.Distinct w ≡ tree.no_segments
+      → (1 ≡ length (distinct (root_nodes root (where_wanted want.Distinct w))))
+      × (Some root ≡ only_value (distinct (root_nodes root (where_wanted want.Distinct w))))
+  different_root w e = (
+    ap (λ ss. length (distinct (root_nodes root ss))) (sym e),
+    ap (λ ss. only_value (distinct (root_nodes root ss))) (sym e),
+  )
+
 pub same_count : (n m : ℕ) → n ≡ m → (n == m) ≡ true
 same_count n m e = grind (arith, nat_tests)
+
+pub is_differing : (d : Different) (ns : List Node) → IsDifferent d ns → is_different d ns ≡ true
+is_differing d ns h =
+    ap₂ (λ a b. a && b) (same_count d.count (length (distinct ns)) h.0)
+    (is_eq (alone_value (alone_of d.alone)) (only_value (distinct ns)) h.1)

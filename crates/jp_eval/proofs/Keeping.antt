@@ -3,7 +3,7 @@ use Rattle.std.proofs.Common.{◌≡◌, List, [], ◌∷◌, ◌++◌, refl, ap
 use Rattle.std.proofs.lemmas.Grind.{fold-append}
 use Rattle.std.specs.List.{fold}
 use Rattle.jp_doc.specs.Location.{Node}
-use Rattle.jp_eval.specs.Kept.{Kept, taken, first, count, only, put_found, plus}
+use Rattle.jp_eval.specs.Kept.{Kept, taken, first, count, only, located, put_found, plus}
 
 module _ {K : Type 0} (put : K → Node → K) where
   pub plus-none : (k : K) → plus put k [] ≡ k
@@ -48,6 +48,7 @@ out_of (taken k) d = k
 out_of (first o) d = d
 out_of (count n) d = d
 out_of (only a) d = d
+out_of (located o ls) d = d
 
 taken_fold : {K : Type 0} (put : K → Node → K) (k : K) (ns : List Node)
     → fold (put_found put) (taken k) ns ≡ taken (fold put k ns)

@@ -22,3 +22,6 @@ pub mod Taking
 pub mod Within
 pub mod ReadyParts
 pub mod Answered
+pub mod FirstOnes
+pub mod Differing
+pub mod SameLocations

@@ -13,13 +13,14 @@ use Rattle.jp_syntax.specs.declared.tree.Start.{Start}
 use Rattle.jp_syntax.specs.declared.tree.Start.TheVariants as start
 use Rattle.jp_check.specs.Numbers.{whole_number}
 use Rattle.jp_check.specs.Ready.{Wanted, root_at, position_text, constant_of, as_argument}
-use Rattle.jp_check.specs.Ready.{truth_argument, segment_in}
+use Rattle.jp_check.specs.Ready.{truth_argument, segment_in, Source, queried, different, source_argument}
+use Rattle.jp_check.specs.Ready.{source_test, source_side, wanted_inside}
 use Rattle.jp_check.specs.Ready.{selector_in, logical_in, value_in, nodes_in, segments_in}
 use Rattle.jp_check.proofs.ReadyViews.{name_read, wild_read, index_read, slice_read, filter_read}
 use Rattle.jp_check.proofs.ReadyViews.{any_read, all_read, not_read, compare_read, test_read, match_read}
 use Rattle.jp_check.proofs.ReadyViews.{match_known, search_read, search_known, constant_read, single_read}
 use Rattle.jp_check.proofs.ReadyViews.{length_read, count_read, only_read, here_read, root_read}
-use Rattle.jp_check.proofs.ReadyViews.{xor_read}
+use Rattle.jp_check.proofs.ReadyViews.{xor_read, distinct_read}
 use Rattle.jp_check.specs.declared.known.KnownPattern.{KnownPattern}
 use Rattle.jp_check.specs.declared.ready.Form.{Form}
 use Rattle.jp_check.specs.declared.ready.Form.TheVariants.{Bare, Expression}
@@ -45,7 +46,7 @@ use Rattle.jp_eval.specs.Part.{part_value}
 use Rattle.jp_eval.specs.declared.part.Part.{Part}
 use Rattle.jp_eval.specs.Comparison.{compared}
 use Rattle.jp_eval.specs.Functions.{first_value, only_value, is_empty, as_value, tested, length_value}
-use Rattle.jp_eval.specs.Functions.{number_value, as_truth, exactly_one}
+use Rattle.jp_eval.specs.Functions.{number_value, as_truth, as_nodes, exactly_one, distinct}
 use Rattle.jp_eval.specs.Nodelist as spec
 use Rattle.jp_eval.specs.Nodes.{child, children}
 use Rattle.jp_eval.specs.RightTests.{tests}
@@ -120,11 +121,25 @@ module _ (base : Base) (n : Node) where
   some_first [] = refl
   some_first (m ∷ ns) = refl
 
+  -- the nodes of a source
+  abbrev source_nodes : Source → List Node
+  source_nodes s = as_nodes (spec.handed tests base.root (source_argument s) n)
+
+  source_holds : (s : Source) → spec.holds tests base.root (source_test s) n
+      ≡ is_some (first_value (source_nodes s))
+  source_holds (queried q) = sym (some_first (spec.nodelist tests base.root q n))
+  source_holds (different s) = sym (some_first (distinct (source_nodes s)))
+
+  source_value : (s : Source) → spec.value_of tests base.root (source_side s) n
+      ≡ first_value (source_nodes s)
+  source_value (queried q) = refl
+  source_value (different s) = refl
+
   pub true_test : (q : Nodes) → is_true base (log.Test q) n
       ≡ is_some (first_value (nodes_given base q First n))
   unfolding is_true nodes_given
   true_test q = ap (λ y. spec.holds tests base.root y n) (test_read base.roots q)
-      ∙ sym (some_first (spec.nodelist tests base.root (nodes_in base.roots q First) n))
+      ∙ source_holds (nodes_in base.roots q First)
 
   -- what an argument hands over as a value
   handed_value_of : (c : tree.Comparable) → as_value (spec.handed tests base.root (as_argument c) n)
@@ -195,6 +210,7 @@ module _ (base : Base) (n : Node) where
       ≡ first_value (nodes_given base q First n)
   unfolding value_given nodes_given
   given_single q = ap (λ y. spec.value_of tests base.root y n) (single_read base.roots q)
+      ∙ source_value (nodes_in base.roots q First)
 
   pub given_length : (b : Box Value Global) → value_given base (val.Length b) n
       ≡ length_value (value_given base b.value n)
@@ -219,12 +235,17 @@ module _ (base : Base) (n : Node) where
   unfolding reached nodes_given
   nodes_here v ss w same =
       ap (λ xs. spec.through tests base.root (segments_in base.roots xs) (n ∷ [])) same
-      ∙ sym (ap (λ q. spec.nodelist tests base.root q n) (here_read base.roots v w))
+      ∙ sym (ap source_nodes (here_read base.roots v w))
 
   pub nodes_root : (slot : _) (w : Want) → spec.nodelist tests base.root (root_at base.roots slot w) n
       ≡ nodes_given base (nod.Root slot) w n
   unfolding nodes_given
-  nodes_root slot w = sym (ap (λ q. spec.nodelist tests base.root q n) (root_read base.roots slot w))
+  nodes_root slot w = sym (ap source_nodes (root_read base.roots slot w))
+
+  pub nodes_distinct : (b : Box Nodes Global) (w : Want) → distinct
+      (nodes_given base b.value (wanted_inside w) n) ≡ nodes_given base (nod.Distinct b) w n
+  unfolding nodes_given
+  nodes_distinct b w = sym (ap source_nodes (distinct_read base.roots b w))
 
 pub from_root : (base : Base) (v : Vec Segment Global) (ss : List Segment) (p : Part) (path : List Link)
     → ss ≡ v.items → path ≡ [] → part_value p ≡ base.root

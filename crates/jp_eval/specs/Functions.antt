@@ -1,11 +1,14 @@
--- What the functions give: those of RFC 9535 (2.4.4 to 2.4.8), and `xor`, which is this project's own.
+-- What the functions give: those of RFC 9535 (2.4.4 to 2.4.8), and `xor` and `distinct`, which are this project's
+-- own.
 use Rattle.std.specs.Prelude.{ℕ, suc, Bool, true, false, not, ◌&&◌, ◌||◌, pos, List, [], ◌∷◌, length, Option, Some, None}
-use Rattle.std.specs.Prelude.{option_map, option_and_then}
-use Rattle.jp_doc.specs.Json.{Text, Json, whole, text, array, object, Members, no_members, add_member}
+use Rattle.std.specs.Prelude.{option_map, option_and_then, ◌==◌}
+use Rattle.std.specs.List.{filter}
+use Rattle.jp_doc.specs.Json.{Text, Json, whole, text, text_eq, array, object, Members, no_members}
+use Rattle.jp_doc.specs.Json.{add_member}
 use Rattle.jp_doc.specs.Json.{item_list}
-use Rattle.jp_doc.specs.Location.{Node}
+use Rattle.jp_doc.specs.Location.{Step, name, index, Location, Node}
 use Rattle.jp_check.specs.Functions.{Function, length_function, count_function, match_function}
-use Rattle.jp_check.specs.Functions.{search_function, value_function, xor_function}
+use Rattle.jp_check.specs.Functions.{search_function, value_function, xor_function, distinct_function}
 use Rattle.jp_regexp.specs.Tests.{Tests}
 
 -- what an argument hands over and a call gives: a value or nothing, true or false, or a list of nodes
@@ -72,6 +75,29 @@ tested test _ _ = false
 abbrev pub exactly_one : Bool → Bool → Bool
 exactly_one a b = (a && not b) || (not a && b)
 
+-- whether two locations are the same, step by step
+abbrev pub same_step : Step → Step → Bool
+same_step (name k) (name l) = text_eq k l
+same_step (index i) (index j) = i == j
+same_step _ _ = false
+
+abbrev pub same_location : Location → Location → Bool
+same_location [] [] = true
+same_location (s ∷ ss) (t ∷ ts) = same_step s t && same_location ss ts
+same_location _ _ = false
+
+abbrev pub same_place : Node → Node → Bool
+same_place m n = same_location m.location n.location
+
+-- the list without each element that stands earlier in it, where these are the same
+abbrev pub first_ones : {X : Type 0} → (X → X → Bool) → List X → List X
+first_ones same [] = []
+first_ones same (x ∷ xs) = x ∷ filter (λ y. not (same x y)) (first_ones same xs)
+
+-- the list without each node whose location stands earlier in it
+abbrev pub distinct : List Node → List Node
+distinct ns = first_ones same_place ns
+
 -- What a call gives. The tests say whether a text, or some part of it, is in the language of a pattern.
 abbrev pub called : Tests → Function → List Handed → Handed
 called tests length_function (a ∷ []) = handed_value (length_value (as_value a))
@@ -80,6 +106,7 @@ called tests match_function (a ∷ b ∷ []) = handed_truth (tested tests.is_mat
 called tests search_function (a ∷ b ∷ []) = handed_truth (tested tests.is_found (as_value a) (as_value b))
 called tests value_function (a ∷ []) = handed_value (only_value (as_nodes a))
 called tests xor_function (a ∷ b ∷ []) = handed_truth (exactly_one (as_truth a) (as_truth b))
+called tests distinct_function (a ∷ []) = handed_nodes (distinct (as_nodes a))
 called tests _ _ = handed_value None
 
 -- the same by name; an unknown function gives nothing

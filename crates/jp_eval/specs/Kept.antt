@@ -1,11 +1,11 @@
 -- A step of a proof, which nobody has to believe: what is kept of nodes that are found.
-use Rattle.std.specs.Prelude.{ℕ, ◌+◌, List, Option, Some, None, option_map}
+use Rattle.std.specs.Prelude.{ℕ, ◌+◌, List, [], ◌∷◌, ◌++◌, map, Option, Some, None, option_map}
 use Rattle.std.specs.List.{fold}
 use Rattle.jp_doc.specs.Json.{Json}
-use Rattle.jp_doc.specs.Location.{Node}
+use Rattle.jp_doc.specs.Location.{Node, Location, location_of}
 use Rattle.jp_eval.specs.Part.{part_value}
 use Rattle.jp_eval.specs.declared.found.Found.{Found}
-use Rattle.jp_eval.specs.declared.found.Found.TheVariants.{Taker, First, Count, Only}
+use Rattle.jp_eval.specs.declared.found.Found.TheVariants.{Taker, First, Count, Only, Distinct}
 use Rattle.jp_eval.specs.declared.found.Alone as code
 use Rattle.jp_eval.specs.declared.found.Alone.TheVariants as code_alone
 
@@ -30,18 +30,21 @@ alone_value none = None
 alone_value (one v) = Some v
 alone_value several = None
 
--- what the caller's taker keeps, the value of the first, how many, or the value of the only one
+-- what the caller's taker keeps, the value of the first, how many, the value of the only one, or the value of the
+-- first and where they are
 pub data Kept (K : Type 0) : Type 0 where
   taken : K → Kept K
   first : Option Json → Kept K
   count : ℕ → Kept K
   only : Alone → Kept K
+  located : Option Json → List Location → Kept K
 
 abbrev pub kept : {V K : Type 0} → (V → K) → Found V → Kept K
 kept keeps (Taker t) = taken (keeps t)
 kept keeps (First o) = first (option_map part_value o)
 kept keeps (Count n) = count n
 kept keeps (Only a) = only (alone_of a)
+kept keeps (Distinct l) = located (option_map part_value l.first) (map location_of l.locations.items)
 
 -- the first that there is
 abbrev pub put_first : Option Json → Json → Option Json
@@ -54,6 +57,7 @@ put_found put (taken k) n = taken (put k n)
 put_found put (first o) n = first (put_first o n.value)
 put_found put (count m) n = count (m + 1)
 put_found put (only a) n = only (put_alone a n.value)
+put_found put (located o ls) n = located (put_first o n.value) (ls ++ n.location ∷ [])
 
 -- what is kept once these nodes are found too
 unfoldable pub plus : {K : Type 0} → (K → Node → K) → K → List Node → K
@@ -65,15 +69,18 @@ kept_first (taken k) = None
 kept_first (first o) = o
 kept_first (count n) = None
 kept_first (only a) = None
+kept_first (located o ls) = None
 
 abbrev pub kept_count : {K : Type 0} → Kept K → ℕ
 kept_count (taken k) = 0
 kept_count (first o) = 0
 kept_count (count n) = n
 kept_count (only a) = 0
+kept_count (located o ls) = 0
 
 abbrev pub kept_only : {K : Type 0} → Kept K → Option Json
 kept_only (taken k) = None
 kept_only (first o) = None
 kept_only (count n) = None
 kept_only (only a) = alone_value a
+kept_only (located o ls) = None

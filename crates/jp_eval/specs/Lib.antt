@@ -12,6 +12,7 @@ pub mod Part
 pub mod Inside
 pub mod Links
 pub mod Kept
+pub mod Different
 pub mod Taken
 pub mod Texts
 pub mod Answers

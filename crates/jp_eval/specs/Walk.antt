@@ -3,7 +3,7 @@ use Rattle.std.specs.Prelude.{List, [], ◌∷◌, Bool, Option}
 use Rattle.std.specs.List.{filter, flat_map}
 use Rattle.jp_doc.specs.Json.{Json}
 use Rattle.jp_doc.specs.Location.{Node}
-use Rattle.jp_check.specs.Ready.{logical_in, selector_in, segments_in, value_in, nodes_in}
+use Rattle.jp_check.specs.Ready.{logical_in, selector_in, segments_in, value_in, nodes_in, source_argument}
 use Rattle.jp_check.specs.declared.ready.Want.{Want}
 use Rattle.jp_check.specs.declared.ready.Segment.{Segment}
 use Rattle.jp_check.specs.declared.ready.Selector.{Selector}
@@ -11,6 +11,7 @@ use Rattle.jp_check.specs.declared.ready.Logical.{Logical}
 use Rattle.jp_check.specs.declared.ready.Value.{Value}
 use Rattle.jp_check.specs.declared.ready.Nodes.{Nodes}
 use Rattle.jp_eval.specs.Base.{Base}
+use Rattle.jp_eval.specs.Functions.{as_nodes}
 use Rattle.jp_eval.specs.Nodes.{descendants}
 use Rattle.jp_eval.specs.Nodelist as spec
 use Rattle.jp_eval.specs.RightTests.{tests}
@@ -38,7 +39,8 @@ value_given base v n = spec.value_of tests base.root (value_in base.roots v) n
 
 -- the nodes of a query inside a filter, of which this is wanted
 unfoldable pub nodes_given : Base → Nodes → Want → Node → List Node
-nodes_given base q want n = spec.nodelist tests base.root (nodes_in base.roots q want) n
+nodes_given base q want n = as_nodes (spec.handed tests base.root
+    (source_argument (nodes_in base.roots q want)) n)
 
 -- what a task finds at a node
 abbrev pub done : Base → Task → Node → List Node

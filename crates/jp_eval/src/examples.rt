@@ -9,7 +9,7 @@ ghost use Rattle.jp_syntax.specs.declared.tree.Start.TheVariants.{Current};
 ghost use Rattle.jp_regexp.specs.Tests.{Tests};
 ghost use Rattle.jp_eval.specs.Nodelist.{document_nodes};
 ghost use Rattle.jp_check.specs.Functions.{length_function, count_function, match_function, search_function};
-ghost use Rattle.jp_check.specs.Functions.{value_function, xor_function};
+ghost use Rattle.jp_check.specs.Functions.{value_function, xor_function, distinct_function};
 ghost use Rattle.jp_eval.specs.Comparison.{compared};
 ghost use Rattle.jp_eval.specs.Functions.{called, handed_value, handed_truth, handed_nodes, as_value};
 ghost use Rattle.jp_eval.specs.Functions.{as_truth, as_nodes};
@@ -349,6 +349,24 @@ fn one_of_two()
         (arr (object no_members ∷ obj (codes "a") (num 1) ∷ obj2 (codes "a") (num 1) (codes "b") (num 1)
         ∷ obj (codes "b") null ∷ [])))
         ≡ (item 1 ∷ []) ∷ (item 3 ∷ []) ∷ [] }
+{}
+
+/// `distinct`: the first node of each location, whatever the values are, and however far apart they stand.
+fn each_location_once()
+    ensures none { (t : Tests) → called t distinct_function (handed_nodes [] ∷ []) ≡ handed_nodes [] }
+    ensures first_of_each { (t : Tests) → called t distinct_function
+        (handed_nodes (node (item 1 ∷ []) null ∷ node (item 0 ∷ []) null ∷ node (item 1 ∷ []) null ∷ []) ∷ [])
+        ≡ handed_nodes (node (item 1 ∷ []) null ∷ node (item 0 ∷ []) null ∷ []) }
+    ensures names { (t : Tests) → called t distinct_function (handed_nodes (node (to (codes "a") ∷ []) null
+        ∷ node (to (codes "a") ∷ item 0 ∷ []) null ∷ node (to (codes "a") ∷ []) null ∷ []) ∷ [])
+        ≡ handed_nodes (node (to (codes "a") ∷ []) null ∷ node (to (codes "a") ∷ item 0 ∷ []) null ∷ []) }
+    ensures counted { (t : Tests) →
+        map (λ n. n.location) (document_nodes t (filtered (compares (tree.value_call (tree.call (codes "count")
+        (tree.arguments (tree.call_argument (tree.call (codes "distinct") (tree.arguments
+        (tree.query_argument (tree.query_from Current (tree.child (tree.name (codes "b")
+        ∷ tree.name (codes "a") ∷ tree.name (codes "b") ∷ []) ∷ [])) ∷ []))) ∷ []))))
+        Eq (number (codes "2")))) (arr (obj2 (codes "a") (num 1) (codes "b") (num 1) ∷ [])))
+        ≡ (item 0 ∷ []) ∷ [] }
 {}
 
 /// What the functions give: lengths, the one value of a list of nodes, and a match as the tests answer it.

@@ -1,15 +1,17 @@
 //! What is kept of the nodes that a walk finds: by the caller's taker, or by what a filter wants of them.
 
-ghost use Rattle.std.specs.Prelude.{◌≡◌, ◌+◌, IsTrue, IfSome, IfOk, OnOk, Some, option_map};
+ghost use Rattle.std.specs.Prelude.{◌≡◌, ◌+◌, IsTrue, IfSome, IfOk, OnOk, Some, List, map, option_map};
 ghost use Rattle.jp_doc.specs.Location.{Node};
 ghost use Rattle.jp_eval.specs.Kept.{kept, put_found, taken, kept_first, kept_count, kept_only, alone_of};
-ghost use Rattle.jp_eval.specs.Kept.{put_alone, alone_value};
-ghost use Rattle.jp_eval.specs.Functions.{number_value};
+ghost use Rattle.jp_eval.specs.Kept.{put_alone, alone_value, located as located_at};
+ghost use Rattle.jp_eval.specs.Different.{IsDifferent};
+ghost use Rattle.jp_eval.specs.Functions.{number_value, first_value};
 ghost use Rattle.jp_eval.specs.Links.{here};
 ghost use Rattle.jp_eval.specs.Operands.{operand_value, HasWholeNumbers};
 ghost use Rattle.jp_eval.specs.Part.{part_value};
 
 use crate::compare::Operand;
+use crate::different::{Different, Located, each_once, locate};
 use crate::part::Part;
 use crate::visit::Visit;
 use jp_trail::Trail;
@@ -26,6 +28,8 @@ pub(crate) enum Found<'v, V: Drop> {
     Count(u64),
     /// The value, as long as there is one alone.
     Only(Alone<'v>),
+    /// Where they are, and the value of the first.
+    Distinct(Located<'v>),
 }
 
 /// The values of nodes, as far as it matters whether there is exactly one.
@@ -48,6 +52,8 @@ pub(crate) enum Answer<'v> {
     Count(u64),
     /// The value, if there is one alone.
     Only(Alone<'v>),
+    /// The same two, once each location stands there once.
+    Distinct(Different<'v>),
 }
 
 /// Whether a further node would change nothing.
@@ -60,6 +66,7 @@ pub(crate) fn is_full<V: Visit + Drop>(found: &Found<'_, V>) -> bool
         Found::Count(_) => false,
         Found::Only(Alone::Several) => true,
         Found::Only(Alone::None | Alone::One(_)) => false,
+        Found::Distinct(_) => false,
     }
 }
 
@@ -90,6 +97,7 @@ pub(crate) fn add<'v, V: Visit + Drop>(
             *alone = with_another(*alone, value);
             Ok(())
         }
+        Found::Distinct(located) => locate(alloc, path, value, located),
     }
 }
 
@@ -120,6 +128,7 @@ pub(crate) fn into_taker<'v, V: Visit + Drop>(found: Found<'v, V>) -> Option<V>
         Found::First(_) => None,
         Found::Count(_) => None,
         Found::Only(_) => None,
+        Found::Distinct(_) => None,
     }
 }
 
@@ -132,6 +141,7 @@ pub(crate) fn into_first<'v, V: Visit + Drop>(found: Found<'v, V>) -> Option<Par
         Found::Taker(_) => None,
         Found::Count(_) => None,
         Found::Only(_) => None,
+        Found::Distinct(_) => None,
     }
 }
 
@@ -144,6 +154,7 @@ pub(crate) fn count_of<V: Visit + Drop>(found: &Found<'_, V>) -> u64
         Found::Taker(_) => 0,
         Found::First(_) => 0,
         Found::Only(_) => 0,
+        Found::Distinct(_) => 0,
     }
 }
 
@@ -156,6 +167,23 @@ pub(crate) fn into_alone<'v, V: Visit + Drop>(found: Found<'v, V>) -> Alone<'v>
         Found::Taker(_) => Alone::None,
         Found::First(_) => Alone::None,
         Found::Count(_) => Alone::None,
+        Found::Distinct(_) => Alone::None,
+    }
+}
+
+/// What there is of the nodes once each location stands there once. Where that is not kept, it is refused.
+pub(crate) fn into_different<'v, V: Visit + Drop>(
+    found: Found<'v, V>,
+) -> Result<Different<'v>, AllocError>
+    ensures { IfOk result (λ d. (ns : List Node) → kept V.kept found.entry
+        ≡ located_at (first_value ns) (map (λ n. n.location) ns) → IsDifferent d ns) }
+{
+    match found {
+        Found::Distinct(located) => Ok(each_once(located)),
+        Found::Taker(_) => Err(AllocError),
+        Found::First(_) => Err(AllocError),
+        Found::Count(_) => Err(AllocError),
+        Found::Only(_) => Err(AllocError),
     }
 }
 

@@ -5,6 +5,7 @@ ghost use Rattle.jp_check.specs.Ready.{roots_of};
 ghost use Rattle.jp_eval.specs.Answers.{are_answers};
 ghost use Rattle.jp_eval.specs.Part.{part_value};
 
+use crate::different::Different;
 use crate::found::{Alone, Answer};
 use crate::part::Part;
 use jp_check::ready::RootQuery;
@@ -24,10 +25,11 @@ pub(crate) struct Ground<'v> {
 
 impl<'v> Ground<'v> {
     ghost use Rattle.std.specs.Prelude.{◌++◌, ◌∷◌, [], length, get_or, option_map, IfOk, MatchOption};
-    ghost use Rattle.jp_check.specs.declared.ready.Want.TheVariants.{First, Count, Only};
+    ghost use Rattle.jp_check.specs.declared.ready.Want.TheVariants.{First, Count, Only, Distinct};
     ghost use Rattle.jp_check.specs.Ready.{Wanted, root_at, wanted_in};
     ghost use Rattle.jp_doc.specs.Location.{Node};
     ghost use Rattle.jp_eval.specs.Answers.{is_answer};
+    ghost use Rattle.jp_eval.specs.Different.{IsDifferent};
     ghost use Rattle.jp_eval.specs.Functions.{first_value, only_value};
     ghost use Rattle.jp_eval.specs.Kept.{alone_of, alone_value};
     ghost use Rattle.jp_eval.specs.Nodelist.{nodelist};
@@ -95,6 +97,7 @@ impl<'v> Ground<'v> {
             Some(Answer::First(first)) => first,
             Some(Answer::Count(_)) => Some(self.root),
             Some(Answer::Only(_)) => Some(self.root),
+            Some(Answer::Distinct(_)) => Some(self.root),
             None => Some(self.root),
         }
     }
@@ -108,6 +111,7 @@ impl<'v> Ground<'v> {
             Some(Answer::Count(count)) => count,
             Some(Answer::First(_)) => 1,
             Some(Answer::Only(_)) => 1,
+            Some(Answer::Distinct(_)) => 1,
             None => 1,
         }
     }
@@ -121,7 +125,27 @@ impl<'v> Ground<'v> {
             Some(Answer::Only(alone)) => alone,
             Some(Answer::First(_)) => Alone::One(self.root),
             Some(Answer::Count(_)) => Alone::One(self.root),
+            Some(Answer::Distinct(_)) => Alone::One(self.root),
             None => Alone::One(self.root),
+        }
+    }
+
+    /// What there is of the nodes of the `$` query of a slot, or of `$` where there is none, once each location
+    /// stands there once.
+    pub(crate) fn different(&self, slot: usize) -> Different<'v>
+        ensures { (n : Node) → IsDifferent result
+            (nodelist tests (part_value self.now.root) (root_at (roots_of self.now.roots.now) slot Distinct) n) }
+    {
+        let root = Different {
+            count: 1,
+            alone: Alone::One(self.root),
+        };
+        match self.answer(slot) {
+            Some(Answer::Distinct(different)) => different,
+            Some(Answer::First(_)) => root,
+            Some(Answer::Count(_)) => root,
+            Some(Answer::Only(_)) => root,
+            None => root,
         }
     }
 }

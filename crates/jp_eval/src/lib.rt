@@ -2,6 +2,7 @@
 #![tactic(auto)]
 
 mod compare;
+mod different;
 mod evaluation;
 mod evaluator;
 mod examples;

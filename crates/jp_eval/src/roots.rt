@@ -5,7 +5,8 @@ ghost use Rattle.jp_check.specs.Ready.{roots_of, wanted_in};
 ghost use Rattle.jp_eval.specs.Answers.{is_answer};
 ghost use Rattle.jp_eval.specs.Part.{part_value};
 
-use crate::found::{Alone, Answer, Found, count_of, into_alone, into_first};
+use crate::different::none_located;
+use crate::found::{Alone, Answer, Found, count_of, into_alone, into_different, into_first};
 use crate::ground::Ground;
 use crate::part::Part;
 use crate::visit::Visit;
@@ -56,6 +57,11 @@ fn answer<'v, V: Visit + Drop>(
             let mut found = Found::<'v, V>::Only(Alone::None);
             run(ground, segments, ground.root, &mut path, &mut found)?;
             Ok(Answer::Only(into_alone(found)))
+        }
+        Want::Distinct => {
+            let mut found = Found::<'v, V>::Distinct(none_located(ground.alloc));
+            run(ground, segments, ground.root, &mut path, &mut found)?;
+            Ok(Answer::Distinct(into_different(found)?))
         }
     }
 }

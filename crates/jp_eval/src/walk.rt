@@ -4,12 +4,13 @@ ghost use Rattle.std.specs.Prelude.{◌≡◌, ◌≤◌, [], ◌∷◌, length,
 ghost use Rattle.std.specs.Prelude.{IsTrue};
 ghost use Rattle.std.specs.List.{All, flat_map, list_any, list_all};
 ghost use Rattle.serde_json.specs.View.{items_view, members_view};
-ghost use Rattle.jp_check.specs.declared.ready.Want.TheVariants.{First, Count, Only};
+ghost use Rattle.jp_check.specs.declared.ready.Want.TheVariants.{First, Count, Only, Distinct};
 ghost use Rattle.jp_doc.specs.DocumentValue.{IsDocumentValue};
 ghost use Rattle.jp_doc.specs.Json.{items_of, members_of};
 ghost use Rattle.jp_doc.specs.Location.{Location, node};
 ghost use Rattle.jp_eval.specs.Base.{Base, base_of};
 ghost use Rattle.jp_eval.specs.BoundsView.{bounds_value};
+ghost use Rattle.jp_eval.specs.Different.{IsDifferent};
 ghost use Rattle.jp_eval.specs.Functions.{first_value, only_value};
 ghost use Rattle.jp_eval.specs.Kept.{kept, put_found, plus, alone_of, alone_value};
 ghost use Rattle.jp_eval.specs.Links.{here};
@@ -23,8 +24,10 @@ ghost use Rattle.jp_eval.specs.Slice.{slice_indexes};
 ghost use Rattle.jp_eval.specs.Walk.{picked, picked_by, reached, is_true, value_given, nodes_given, done};
 
 use crate::compare::{Operand, compare};
+use crate::different::{Different, none_located};
 use crate::found::{
-    Alone, Found, add, count_of, count_operand, into_alone, into_first, is_full, only_operand,
+    Alone, Found, add, count_of, count_operand, into_alone, into_different, into_first, is_full,
+    only_operand,
 };
 use crate::functions::{
     exactly_one, length, literal, matches, matches_known, operand, searches, searches_known,
@@ -460,6 +463,7 @@ fn first<'v, V: Visit + Drop>(
             Ok(into_first(found))
         }
         Nodes::Root(slot) => Ok(ground.first(*slot)),
+        Nodes::Distinct(nodes) => first::<V>(ground, nodes, value, path),
     }
 }
 
@@ -482,6 +486,7 @@ fn count<'v, V: Visit + Drop>(
             Ok(count_of(&found))
         }
         Nodes::Root(slot) => Ok(ground.count(*slot)),
+        Nodes::Distinct(nodes) => Ok(different::<V>(ground, nodes, value, path)?.count),
     }
 }
 
@@ -504,5 +509,29 @@ fn only<'v, V: Visit + Drop>(
             Ok(into_alone(found))
         }
         Nodes::Root(slot) => Ok(ground.only(*slot)),
+        Nodes::Distinct(nodes) => Ok(different::<V>(ground, nodes, value, path)?.alone),
+    }
+}
+
+/// What there is of the nodes of a query once each location stands there once.
+#[cycle(walk)]
+fn different<'v, V: Visit + Drop>(
+    ground: &Ground<'v>,
+    nodes: &'v Nodes,
+    value: Part<'v>,
+    path: &mut Trail<'v>,
+) -> Result<Different<'v>, AllocError>
+    ensures value { IfOk result (λ d. IsDifferent d
+        (nodes_given (base_of ground.now) nodes.now Distinct (here path.old value.entry))) }
+    ensures path { OnOk result (path.new ≡ path.old) }
+{
+    match nodes {
+        Nodes::Here(segments) => {
+            let mut found = Found::<'v, V>::Distinct(none_located(ground.alloc));
+            run(ground, segments.as_slice(), value, path, &mut found)?;
+            into_different(found)
+        }
+        Nodes::Root(slot) => Ok(ground.different(*slot)),
+        Nodes::Distinct(nodes) => different::<V>(ground, nodes, value, path),
     }
 }

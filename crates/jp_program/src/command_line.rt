@@ -13,8 +13,8 @@ INPUT is read from standard input, a JSON document on each line; blank lines are
 OUTPUT is a line for each node that the query selects, in order: the number of the document's line, a tab,
 the node's normalized path, a tab, the node's value.
 
-A QUERY that begins with - is given behind --. Beside the functions of RFC 9535 it may call one of our own,
-xor(A, B): exactly one of the two is true.
+A QUERY that begins with - is given behind --. Beside the functions of RFC 9535 it may call two of our own:
+xor(A, B), exactly one of the two is true, and distinct(NODES), the nodes with each location once.
 
 Status: 0 finished; 2 the query is refused; 3 a line holds no document; 4 reading or writing failed, or a
 limit was passed; 5 out of memory; 64 the command line is refused.

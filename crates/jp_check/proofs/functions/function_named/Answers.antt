@@ -27,6 +27,10 @@ pub returns-in-xor : goal.returns-in-xor
 unfolding chars
 returns-in-xor c = rw c.in-xor.is refl
 
+pub returns-in-distinct : goal.returns-in-distinct
+unfolding chars
+returns-in-distinct c = rw c.in-distinct.is refl
+
 pub returns-in_default : goal.returns-in_default
 returns-in_default c =
     let name = c.args.name.now in
@@ -39,4 +43,5 @@ returns-in_default c =
       is_not name (codes "search") c.utf8.name refl c.in_default.not-search,
       is_not name (codes "value") c.utf8.name refl c.in_default.not-value,
       is_not name (codes "xor") c.utf8.name refl c.in_default.not-xor,
+      is_not name (codes "distinct") c.utf8.name refl c.in_default.not-distinct,
     ) refl

@@ -10,19 +10,20 @@ use Rattle.jp_syntax.specs.declared.tree.Query.{out-Query}
 use Rattle.jp_check.specs.declared.ready.RootQuery.{RootQuery}
 use Rattle.std.specs.Str.{chars}
 use Rattle.jp_check.specs.Functions.{function_named, length_function, count_function, value_function}
-use Rattle.jp_check.specs.Functions.{xor_function}
+use Rattle.jp_check.specs.Functions.{xor_function, distinct_function}
 use Rattle.jp_check.specs.Kinds.{function_of}
 use Rattle.jp_check.specs.Ready.{segment_in, selector_in, logical_in, value_in, as_argument}
 use Rattle.jp_check.specs.Ready.{text_argument, form_of, truth_argument, call_of_one, call_of_two}
+use Rattle.jp_check.specs.Ready.{nodes_in, queried, source_argument, source_test, source_side}
 use Rattle.jp_check.proofs.Levels.{query_level, segment_level, comparison_level}
 use Rattle.jp_check.proofs.CallsMade.{called_one, called, given_two, text_is, query_written}
-use Rattle.jp_check.proofs.CallsMade.{call_written, logical_written}
+use Rattle.jp_check.proofs.CallsMade.{call_written, logical_written, called_test}
 use Rattle.jp_check.proofs.Naming.{named}
 use Rattle.jp_check.proofs.MakingSteps.{begins_itself, begins_on, made_more, made_all, listed_begins}
 use Rattle.jp_check.proofs.MakingSteps.{root_found}
 use Rattle.jp_check.proofs.ReadyViews.{filter_read, any_read, all_read, not_read, compare_read, test_read}
 use Rattle.jp_check.proofs.ReadyViews.{single_read, length_read, count_read, only_read, here_read}
-use Rattle.jp_check.proofs.ReadyViews.{root_read, segment_read, xor_read}
+use Rattle.jp_check.proofs.ReadyViews.{root_read, segment_read, xor_read, distinct_read}
 use Rattle.jp_check.proofs.making.+making.Goals as goal
 
 pub make_segments-loop-segment-preserved : goal.make_segments-loop-segment-preserved
@@ -69,7 +70,7 @@ make_parts-returns-clause-made t c =
 pub make_argument_nodes-returns-in-Query-clause-made
     : goal.make_argument_nodes-returns-in-Query-clause-made
 make_argument_nodes-returns-in-Query-clause-made t c =
-    IfOk-weaker c.make_nodes.result _ _ (λ q r all h. ap tree.query_argument (r all h)
+    IfOk-weaker c.make_nodes.result _ _ (λ q r all h. ap source_argument (r all h)
     ∙ sym (ap argument_of c.in-Query.is ∙ query_argument_made c.in-Query.query))
     c.make_nodes.ensures.made
 
@@ -120,7 +121,7 @@ pub make_logical-returns-in_ok-make_nodes-in-Test-clause-made
     : goal.make_logical-returns-in_ok-make_nodes-in-Test-clause-made
 make_logical-returns-in_ok-make_nodes-in-Test-clause-made t c = λ all h.
     test_read all c.in_ok-make_nodes-in-Test.field-0
-    ∙ ap tree.test (c.in_ok-make_nodes-in-Test.ensures.made all h)
+    ∙ ap source_test (c.in_ok-make_nodes-in-Test.ensures.made all h)
     ∙ sym (ap logical_of c.in-Test.is ∙ test_made c.in-Test.query)
 
 pub make_logical-returns-in-Call-clause-made : goal.make_logical-returns-in-Call-clause-made
@@ -131,24 +132,24 @@ make_logical-returns-in-Call-clause-made t c =
 pub make_nodes-returns-in-Current-clause-made : goal.make_nodes-returns-in-Current-clause-made
 make_nodes-returns-in-Current-clause-made t c = λ all h.
     here_read all c.in_ok-segments.segments c.args.want
-    ∙ ap (λ ss. tree.query start.Current (tree.segments ss)) (c.in_ok-segments.ensures.made all h
+    ∙ ap (λ ss. queried (tree.query start.Current (tree.segments ss))) (c.in_ok-segments.ensures.made all h
     ∙ ap (map segment_of) c.as_slice.ensures.value)
-    ∙ sym (query_level c.args.query.now
+    ∙ sym (ap queried (query_level c.args.query.now
     ∙ ap (λ s. tree.query s
-    (tree.segments (map segment_of (out-Query c.args.query.now).segments.items))) c.in-Current.is)
+    (tree.segments (map segment_of (out-Query c.args.query.now).segments.items))) c.in-Current.is))
 
 pub make_nodes-returns-in_ok-push-in-Root-clause-made
     : goal.make_nodes-returns-in_ok-push-in-Root-clause-made
 make_nodes-returns-in_ok-push-in-Root-clause-made t c = λ all h.
     let r : RootQuery = record { want = c.args.want; segments = c.in_ok-segments.segments } in
     root_read all c.len-slot.result c.args.want
-    ∙ root_found c.make_segments.new.roots.items _ r c.len-slot.result all (c.len-slot.ensures
+    ∙ ap queried (root_found c.make_segments.new.roots.items _ r c.len-slot.result all (c.len-slot.ensures
     ∙ c.make_segments.new.roots.ok.0) c.in_ok-push-in-Root.ensures.items h
     ∙ ap (λ ss. tree.query start.Root (tree.segments ss))
     (c.in_ok-segments.ensures.made _ (begins_itself _) ∙ ap (map segment_of) c.as_slice.ensures.value)
     ∙ sym (query_level c.args.query.now
     ∙ ap (λ s. tree.query s
-    (tree.segments (map segment_of (out-Query c.args.query.now).segments.items))) c.in-Root.is)
+    (tree.segments (map segment_of (out-Query c.args.query.now).segments.items))) c.in-Root.is))
 
 pub make_nodes-returns-in_ok-push-in-Root-clause-roots
     : goal.make_nodes-returns-in_ok-push-in-Root-clause-roots
@@ -174,7 +175,7 @@ pub make_side-returns-in_ok-make_nodes-in-Single-clause-made
     : goal.make_side-returns-in_ok-make_nodes-in-Single-clause-made
 make_side-returns-in_ok-make_nodes-in-Single-clause-made t c = λ all h.
     single_read all c.in_ok-make_nodes-in-Single.field-0
-    ∙ ap tree.single (c.in_ok-make_nodes-in-Single.ensures.made all h)
+    ∙ ap source_side (c.in_ok-make_nodes-in-Single.ensures.made all h)
     ∙ sym (ap comparable_of c.in-Single.is ∙ single_made c.in-Single.query)
 
 pub make_side-returns-in-Call-clause-made : goal.make_side-returns-in-Call-clause-made
@@ -187,7 +188,7 @@ pub make_value-returns-in_ok-make_nodes-in-Query-clause-made
     : goal.make_value-returns-in_ok-make_nodes-in-Query-clause-made
 make_value-returns-in_ok-make_nodes-in-Query-clause-made t c = λ all h.
     ap as_argument (single_read all c.in_ok-make_nodes-in-Query.field-0)
-    ∙ ap tree.query_argument (c.in_ok-make_nodes-in-Query.ensures.made all h)
+    ∙ ap (λ s. as_argument (source_side s)) (c.in_ok-make_nodes-in-Query.ensures.made all h)
     ∙ sym (ap argument_of c.in-Query.is ∙ query_argument_made c.in-Query.query)
 
 pub make_value-returns-in-Call-clause-made : goal.make_value-returns-in-Call-clause-made
@@ -256,6 +257,30 @@ make_test_call-returns-in_default-clause-made t c =
     c.as_slice-arguments.result.now c.as_str.ensures.value refl c.as_slice-arguments.ensures.value)))
     c.make_text_test.ensures.made
 
+pub make_test_call-returns-in_ok-make_distinct-in-Some-Distinct-clause-made
+    : goal.make_test_call-returns-in_ok-make_distinct-in-Some-Distinct-clause-made
+make_test_call-returns-in_ok-make_distinct-in-Some-Distinct-clause-made t c = λ all h.
+    test_read all c.in_ok-make_distinct-in-Some-Distinct.field-0
+    ∙ called_test _ _ (c.in_ok-make_distinct-in-Some-Distinct.ensures.made all h)
+
+pub make_argument_nodes-returns-in-Call-clause-made : goal.make_argument_nodes-returns-in-Call-clause-made
+make_argument_nodes-returns-in-Call-clause-made t c =
+    IfOk-weaker c.make_distinct.result _ _ (λ q r all h. r all h
+    ∙ sym (ap argument_of c.in-Call.is ∙ call_argument_made c.in-Call.call)) c.make_distinct.ensures.made
+
+pub make_distinct-returns-clause-made : goal.make_distinct-returns-clause-made
+make_distinct-returns-clause-made t c = λ all h.
+    let known : function_named (chars c.as_str.result.now) ≡ Some distinct_function =
+    sym (ap (option_map function_of) (sym c.in-Some-Distinct.is) ∙ c.function_named.ensures)
+    ∙ ap (λ f. Some (function_of f)) c.in-Some-Distinct.field-0-is in
+    ap source_argument (distinct_read all c.in_ok-new.field-0 c.args.want)
+    ∙ ap (λ a. tree.call_argument (call_of_one (codes "distinct") a))
+    (ap₂ (λ q w. source_argument (nodes_in all q w)) c.in_ok-new.ensures.ok (sym c.wanted_inside.ensures)
+    ∙ c.in_ok-nodes.ensures.made all h)
+    ∙ sym (ap tree.call_argument (called_one c.args.call.now c.as_str.result.now (codes "distinct")
+    c.as_slice.result.now c.argument-item.result c.as_str.ensures.value (named _ distinct_function known)
+    c.as_slice.ensures.value c.in-len1.len_at_least c.in-len1.len_below c.argument-item.is))
+
 pub make_xor-returns-clause-made : goal.make_xor-returns-clause-made
 make_xor-returns-clause-made t c = λ all h.
     xor_read all c.form_of.result c.in_ok-new.field-0 c.form_of-2.result c.in_ok-new-2.field-0
@@ -272,7 +297,7 @@ pub make_truth-returns-in_ok-make_nodes-in-Query-clause-made
 make_truth-returns-in_ok-make_nodes-in-Query-clause-made t c = λ all h.
     let a = argument_of c.args.argument.now in
     ap (truth_argument (form_of a)) (test_read all c.in_ok-make_nodes-in-Query.field-0
-    ∙ ap tree.test (c.in_ok-make_nodes-in-Query.ensures.made all h))
+    ∙ ap source_test (c.in_ok-make_nodes-in-Query.ensures.made all h))
     ∙ query_written a _ (ap argument_of c.in-Query.is ∙ query_argument_made c.in-Query.query)
 
 pub make_truth-returns-in-Logical-clause-made : goal.make_truth-returns-in-Logical-clause-made

@@ -1,5 +1,6 @@
 use Rattle.std.proofs.Common.{◌≡◌, ◌<◌, ◌≤◌, [], ◌∷◌, ◌++◌, length, get_or, not, true, false, is_some}
 use Rattle.std.proofs.Common.{w64, Some, None, option_map, option_to_list, refl, sym, ap, ap₂, ◌∙◌, arith}
+use Rattle.std.proofs.Common.{map, subst}
 use Rattle.std.proofs.Common.{rules}
 use mir.Val.{SFits}
 use Rattle.std.proofs.lemmas.Int.{to_z-of_z}
@@ -20,9 +21,10 @@ use Rattle.jp_eval.specs.Base.{base_of}
 use Rattle.jp_eval.specs.BoundsView.{bounds_value}
 use Rattle.jp_eval.specs.Comparison.{compared}
 use Rattle.jp_eval.specs.Functions.{tested, number_value, first_value, only_value, length_value}
-use Rattle.jp_eval.specs.Functions.{exactly_one}
+use Rattle.jp_eval.specs.Different.{IsDifferent}
+use Rattle.jp_eval.specs.Functions.{exactly_one, distinct}
 use Rattle.jp_eval.specs.Nodelist.{items_at, written_value}
-use Rattle.jp_eval.specs.Kept.{kept, put_found, plus, kept_first, kept_count, kept_only}
+use Rattle.jp_eval.specs.Kept.{kept, put_found, plus, kept_first, kept_count, kept_only, located}
 use Rattle.jp_eval.specs.Links.{here}
 use Rattle.jp_trail.specs.Links.{link_steps}
 use Rattle.jp_eval.specs.Nodes.{children, descendants, item_nodes, node_if_some}
@@ -34,12 +36,13 @@ use Rattle.jp_eval.proofs.Chains.{reached-none, reached-end, reached-each, reach
 use Rattle.jp_eval.proofs.Chains.{reached-deep}
 use Rattle.jp_eval.proofs.Inside.{part_is_short}
 use Rattle.jp_eval.proofs.Keeping.{plus-one, nothing_found, full_enough}
-use Rattle.jp_eval.proofs.Parts.{first_kept, counted, only_kept, some_mapped}
+use Rattle.jp_eval.proofs.Differing.{first_of_distinct, differs_again}
+use Rattle.jp_eval.proofs.Parts.{first_kept, counted, only_kept, some_mapped, located_kept}
 use Rattle.jp_eval.proofs.ReadyParts.{picked_name, picked_wild, picked_index, picked_slice, picked_filter}
 use Rattle.jp_eval.proofs.ReadyParts.{true_any, true_all, true_not, true_compare, true_test, true_match}
 use Rattle.jp_eval.proofs.ReadyParts.{true_search, true_match_known, true_search_known, given_constant}
 use Rattle.jp_eval.proofs.ReadyParts.{given_single, given_length, given_count, given_only, nodes_here}
-use Rattle.jp_eval.proofs.ReadyParts.{nodes_root, true_xor}
+use Rattle.jp_eval.proofs.ReadyParts.{nodes_root, nodes_distinct, true_xor}
 use Rattle.jp_eval.proofs.Places.{within_more, index_found, slice_found}
 use Rattle.jp_eval.proofs.WalkSteps.{back_up, here_further, link_further, over, applied, descended}
 use Rattle.jp_eval.proofs.WalkSteps.{first_left, others_left, no_deeper, item_done, first_member_left}
@@ -657,3 +660,62 @@ only-returns-in_ok-run-in-Here-clause-value g t c =
     c.in-Here.segments c.as_slice.result.now want.Only c.as_slice.ensures.value
     ∙ sym (ap (λ q. nodes_given (base_of c.args.ground.now) q want.Only
     (here c.args.path.now c.args.value)) c.in-Here.is))
+
+pub different-returns-in_ok-run-in-Here-clause-value
+    : goal.different-returns-in_ok-run-in-Here-clause-value
+different-returns-in_ok-run-in-Here-clause-value g t c =
+    let n = here c.args.path.now c.args.value in
+    let nodes = nodes_here (base_of c.args.ground.now) n c.in-Here.segments c.as_slice.result.now
+    want.Distinct c.as_slice.ensures.value
+    ∙ sym (ap (λ q. nodes_given (base_of c.args.ground.now) q want.Distinct n) c.in-Here.is) in
+    IfOk-weaker c.into_different.result _ _ (λ d h. h _ (c.in_ok-run-in-Here.ensures.found
+    ∙ located_kept g.V.Visit.put _ _ _ c.none_located.ensures.first c.none_located.ensures.locations
+    ∙ ap (λ ns. located (first_value ns) (map (λ m. m.location) ns)) nodes)) c.into_different.ensures
+
+pub different-returns-in-Root-clause-value : goal.different-returns-in-Root-clause-value
+different-returns-in-Root-clause-value g t c =
+    let n = here c.args.path.now c.args.value in
+    subst (IsDifferent c.different.result) (nodes_root (base_of c.args.ground.now) n c.in-Root.slot
+    want.Distinct ∙ sym (ap (λ q. nodes_given (base_of c.args.ground.now) q want.Distinct n)
+    c.in-Root.is)) (c.different.ensures n)
+
+pub different-returns-in-Distinct-clause-value : goal.different-returns-in-Distinct-clause-value
+different-returns-in-Distinct-clause-value g t c =
+    let base = base_of c.args.ground.now in
+    let n = here c.args.path.now c.args.value in
+    IfOk-weaker c.different-in-Distinct.result _ _ (λ d h. differs_again d _ _ h
+    (ap (λ q. distinct (nodes_given base q want.Distinct n)) c.deref.ensures
+    ∙ nodes_distinct base n c.in-Distinct.nodes want.Distinct
+    ∙ sym (ap (λ q. nodes_given base q want.Distinct n) c.in-Distinct.is)))
+    c.different-in-Distinct.ensures.value
+
+pub first-returns-in-Distinct-clause-value : goal.first-returns-in-Distinct-clause-value
+first-returns-in-Distinct-clause-value g t c =
+    let base = base_of c.args.ground.now in
+    let n = here c.args.path.now c.args.value in
+    IfOk-weaker c.first-in-Distinct.result _ _ (λ o h. h
+    ∙ first_of_distinct (nodes_given base _ want.First n)
+    ∙ ap first_value (ap (λ q. distinct (nodes_given base q want.First n)) c.deref.ensures
+    ∙ nodes_distinct base n c.in-Distinct.nodes want.First
+    ∙ sym (ap (λ q. nodes_given base q want.First n) c.in-Distinct.is)))
+    c.first-in-Distinct.ensures.value
+
+pub count-returns-in_ok-different-in-Distinct-clause-value
+    : goal.count-returns-in_ok-different-in-Distinct-clause-value
+count-returns-in_ok-different-in-Distinct-clause-value g t c =
+    let base = base_of c.args.ground.now in
+    let n = here c.args.path.now c.args.value in
+    c.in_ok-different-in-Distinct.ensures.value.0
+    ∙ ap length (ap (λ q. distinct (nodes_given base q want.Distinct n)) c.deref.ensures
+    ∙ nodes_distinct base n c.in-Distinct.nodes want.Count
+    ∙ sym (ap (λ q. nodes_given base q want.Count n) c.in-Distinct.is))
+
+pub only-returns-in_ok-different-in-Distinct-clause-value
+    : goal.only-returns-in_ok-different-in-Distinct-clause-value
+only-returns-in_ok-different-in-Distinct-clause-value g t c =
+    let base = base_of c.args.ground.now in
+    let n = here c.args.path.now c.args.value in
+    c.in_ok-different-in-Distinct.ensures.value.1
+    ∙ ap only_value (ap (λ q. distinct (nodes_given base q want.Distinct n)) c.deref.ensures
+    ∙ nodes_distinct base n c.in-Distinct.nodes want.Only
+    ∙ sym (ap (λ q. nodes_given base q want.Only n) c.in-Distinct.is))

@@ -78,6 +78,9 @@ decreases-count g l = weight (size-Nodes l.nodes.now) l.value 7
 abbrev pub decreases-only : goal.decreases-only
 decreases-only g l = weight (size-Nodes l.nodes.now) l.value 7
 
+abbrev pub decreases-different : goal.decreases-different
+decreases-different g l = weight (size-Nodes l.nodes.now) l.value 7
+
 abbrev pub decreases-give : goal.decreases-give
 decreases-give g l = weight (size-Value l.giver.now) l.value 7
 

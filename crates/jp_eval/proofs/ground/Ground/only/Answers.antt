@@ -5,6 +5,7 @@ use Rattle.jp_check.specs.declared.ready.Want.TheVariants as want
 use Rattle.jp_eval.specs.Answers.{is_answer}
 use Rattle.jp_eval.specs.Part.{part_value}
 use Rattle.jp_eval.proofs.Answered.{onlys, only_root, onlys_of_first, onlys_of_count}
+use Rattle.jp_eval.proofs.Answered.{onlys_of_distinct}
 use Rattle.jp_eval.proofs.ground.Ground.only.Goals as goal
 
 pub returns-in-Some-First : goal.returns-in-Some-First
@@ -37,3 +38,11 @@ returns-in-None c = λ n.
     let none = wanted want.Only no_segments in
     let query = get_or (roots_of c.args.self.now.roots.now) c.args.slot none in
     only_root root query (ap (where_wanted want.Only) (c.in-None.ensures none))
+
+pub returns-in-Some-Distinct : goal.returns-in-Some-Distinct
+returns-in-Some-Distinct c = λ n.
+    let root = part_value c.args.self.now.root in
+    let none = wanted want.Only no_segments in
+    let query = get_or (roots_of c.args.self.now.roots.now) c.args.slot none in
+    only_root root query (onlys_of_distinct root query c.in-Some-Distinct.field-0-0
+    (ap (is_answer root query) (sym c.in-Some-Distinct.field-0-is) ∙ c.in-Some-Distinct.ensures none))

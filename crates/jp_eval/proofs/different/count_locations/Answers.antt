@@ -1,0 +1,7 @@
+use Rattle.std.proofs.Common.{length, map, sym, ap, ◌∙◌}
+use Rattle.jp_doc.specs.Location.{location_of}
+use Rattle.jp_eval.proofs.SameLocations.{count_same}
+use Rattle.jp_eval.proofs.different.count_locations.Goals as goal
+
+pub returns : goal.returns
+returns c = c.count_different.ensures ∙ count_same c.args.locations.items
