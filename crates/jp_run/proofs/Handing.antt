@@ -1,5 +1,5 @@
 -- Answers that are handed out one after another.
-use Rattle.std.proofs.Common.{◌≡◌, ℕ, ◌+◌, Bool, true, List, [], ◌++◌, length, take, Option, Some}
+use Rattle.std.proofs.Common.{◌≡◌, ℕ, ◌+◌, Bool, true, false, not, List, [], ◌++◌, length, take, Option, Some}
 use Rattle.std.proofs.Common.{None, Result, Ok, Err, IfErr, OnOk, IsErrAnd, refl, sym, ◌∙◌, ap, subst, arith}
 use Rattle.std.proofs.Common.{append-nil, length-append}
 use Rattle.std.proofs.Math.Seq.{take-length, take-append-add}
@@ -10,8 +10,11 @@ use Rattle.jp_doc.specs.Lines.{Line}
 use Rattle.jp_doc.specs.declared.fault.DocFault.{DocFault}
 use Rattle.jp_syntax.specs.Tree as tree
 use Rattle.jp_regexp.specs.Tests.{Tests, AreRight}
-use Rattle.jp_answer.specs.Answer.{Answer, answer, after, joined, unless_stopped}
-use Rattle.jp_answer.proofs.Joining.{pieces_joined}
+use Rattle.jp_regexp.proofs.RightTests.{right_tests}
+use Rattle.jp_answer.specs.Answer.{Answer, after, joined, unless_stopped}
+use Rattle.jp_answer.specs.Form.{answer_in, passed_in}
+use Rattle.jp_answer.specs.Whole.{Whole, whole}
+use Rattle.jp_answer.proofs.Forms.{formed_joined, nothing_in}
 use Rattle.jp_answer.specs.declared.fault.RunFault.{RunFault}
 use Rattle.jp_answer.specs.declared.fault.RunFault.TheVariants.{Query, Document, Read, Write, Limit}
 use Rattle.jp_answer.specs.declared.fault.RunFault.TheVariants.{Memory, Settings}
@@ -62,37 +65,37 @@ bytes_by : (stop : Option (ℕ × DocFault)) (a b : Answer) → (more : List ℕ
 bytes_by None a b = (b.bytes, refl)
 bytes_by (Some s) a b = ([], sym (append-nil a.bytes))
 
-module _ (q : tree.Query) where
-  pub handed_none : (a : Option (List ℕ)) → Handed q [] None a a
+module _ (going : Bool) (q : tree.Query) where
+  pub handed_none : (a : Option (List ℕ)) → Handed going q [] None a a
   handed_none a = record {
     whole = record { bytes = []; stopped = None };
-    is = λ t right. refl;
+    is = λ t right. nothing_in t q going;
     stopped = refl;
     appended = Appends-nil a;
   }
 
   pub handed_both : (xs ys : List Line) (stop : Option (ℕ × DocFault)) (a b c : Option (List ℕ))
-      → Handed q xs None a b → Handed q ys stop b c → Handed q (xs ++ ys) stop a c
+      → Handed going q xs None a b → Handed going q ys stop b c → Handed going q (xs ++ ys) stop a c
   handed_both xs ys stop a b c f g = record {
     whole = after f.whole.bytes g.whole;
-    is = λ t right. pieces_joined t q xs ys ∙ ap (λ h. joined h (answer t q ys)) (f.is t right)
+    is = λ t right. formed_joined t q going xs ys ∙ ap (λ h. joined h (answer_in going t q ys)) (f.is t right)
         ∙ ap (joined f.whole) (g.is t right) ∙ ap (λ s. unless_stopped s f.whole g.whole) f.stopped;
     stopped = g.stopped;
     appended = Appends-trans a b c f.whole.bytes g.whole.bytes f.appended g.appended;
   }
 
   pub handed_stopped : (xs ys : List Line) (s : ℕ × DocFault) (a b : Option (List ℕ))
-      → Handed q xs (Some s) a b → Handed q (xs ++ ys) (Some s) a b
+      → Handed going q xs (Some s) a b → Handed going q (xs ++ ys) (Some s) a b
   handed_stopped xs ys s a b f = record {
     whole = f.whole;
-    is = λ t right. pieces_joined t q xs ys ∙ ap (λ h. joined h (answer t q ys)) (f.is t right)
-        ∙ ap (λ s. unless_stopped s f.whole (answer t q ys)) f.stopped;
+    is = λ t right. formed_joined t q going xs ys ∙ ap (λ h. joined h (answer_in going t q ys)) (f.is t right)
+        ∙ ap (λ s. unless_stopped s f.whole (answer_in going t q ys)) f.stopped;
     stopped = f.stopped;
     appended = f.appended;
   }
 
   pub handed_kept : (ls : List Line) (stop : Option (ℕ × DocFault)) (a b c : Option (List ℕ))
-      → Handed q ls stop a b → Keeps b c → Handed q ls stop a c
+      → Handed going q ls stop a b → Keeps b c → Handed going q ls stop a c
   handed_kept ls stop a b c f k = record {
     whole = f.whole;
     is = f.is;
@@ -100,30 +103,30 @@ module _ (q : tree.Query) where
     appended = Appends-kept a b c f.whole.bytes f.appended k;
   }
 
-  pub no_front : (ls : List Line) (a : Option (List ℕ)) → HandedFront q ls a a
+  pub no_front : (ls : List Line) (a : Option (List ℕ)) → HandedFront going q ls a a
   no_front ls a = λ t right. (0, omega arith, Appends-nil a)
 
   pub handed_front : (ls : List Line) (stop : Option (ℕ × DocFault)) (a b : Option (List ℕ))
-      → Handed q ls stop a b → HandedFront q ls a b
-  handed_front ls stop a b f = λ t right. front_of_all a b (answer t q ls).bytes
+      → Handed going q ls stop a b → HandedFront going q ls a b
+  handed_front ls stop a b f = λ t right. front_of_all a b (answer_in going t q ls).bytes
       (subst (Appends a b) (sym (ap (λ (h : Answer). h.bytes) (f.is t right))) f.appended)
 
-  pub front_more : (xs ys : List Line) (a b : Option (List ℕ)) → HandedFront q xs a b
-      → HandedFront q (xs ++ ys) a b
+  pub front_more : (xs ys : List Line) (a b : Option (List ℕ)) → HandedFront going q xs a b
+      → HandedFront going q (xs ++ ys) a b
   front_more xs ys a b h = λ t right.
-      let parts = bytes_by (answer t q xs).stopped (answer t q xs) (answer t q ys) in
-      front_longer a b (answer t q xs).bytes parts.0 (answer t q (xs ++ ys)).bytes
-      (ap (λ (h : Answer). h.bytes) (pieces_joined t q xs ys) ∙ parts.1) (h t right)
+      let parts = bytes_by (answer_in going t q xs).stopped (answer_in going t q xs) (answer_in going t q ys) in
+      front_longer a b (answer_in going t q xs).bytes parts.0 (answer_in going t q (xs ++ ys)).bytes
+      (ap (λ (h : Answer). h.bytes) (formed_joined t q going xs ys) ∙ parts.1) (h t right)
 
-  pub front_after : (xs ys : List Line) (a b c : Option (List ℕ)) → Handed q xs None a b
-      → HandedFront q ys b c → HandedFront q (xs ++ ys) a c
+  pub front_after : (xs ys : List Line) (a b c : Option (List ℕ)) → Handed going q xs None a b
+      → HandedFront going q ys b c → HandedFront going q (xs ++ ys) a c
   front_after xs ys a b c f h = λ t right.
       let first : List ℕ = f.whole.bytes in
-      let later : List ℕ = (answer t q ys).bytes in
-      let whole : (answer t q (xs ++ ys)).bytes ≡ first ++ later =
-      ap (λ (h : Answer). h.bytes) (pieces_joined t q xs ys
-      ∙ ap (λ h. joined h (answer t q ys)) (f.is t right)
-      ∙ ap (λ s. unless_stopped s f.whole (answer t q ys)) f.stopped) in
+      let later : List ℕ = (answer_in going t q ys).bytes in
+      let whole : (answer_in going t q (xs ++ ys)).bytes ≡ first ++ later =
+      ap (λ (h : Answer). h.bytes) (formed_joined t q going xs ys
+      ∙ ap (λ h. joined h (answer_in going t q ys)) (f.is t right)
+      ∙ ap (λ s. unless_stopped s f.whole (answer_in going t q ys)) f.stopped) in
       let front : AppendsFront b c later = h t right in (
         length first + front.0,
         omega (arith, ap length whole, length-append first later, front.1),
@@ -134,7 +137,7 @@ module _ (q : tree.Query) where
 
   -- the same of what stands after a fault
   pub ended_more : (xs ys : List Line) (failed : Bool) (a b : Option (List ℕ)) (f : RunFault)
-      → AnswerEnded q xs failed a b f → AnswerEnded q (xs ++ ys) failed a b f
+      → AnswerEnded going q xs failed a b f → AnswerEnded going q (xs ++ ys) failed a b f
   ended_more xs ys failed a b (Document line fault) h = handed_stopped xs ys (line, fault) a b h
   ended_more xs ys failed a b Write h = (h.0, front_more xs ys a b h.1)
   ended_more xs ys failed a b Memory h = front_more xs ys a b h
@@ -144,7 +147,7 @@ module _ (q : tree.Query) where
   ended_more xs ys failed a b Settings h = absurd h
 
   pub ended_after : (xs ys : List Line) (failed : Bool) (a b c : Option (List ℕ)) (f : RunFault)
-      → Handed q xs None a b → AnswerEnded q ys failed b c f → AnswerEnded q (xs ++ ys) failed a c f
+      → Handed going q xs None a b → AnswerEnded going q ys failed b c f → AnswerEnded going q (xs ++ ys) failed a c f
   ended_after xs ys failed a b c (Document line fault) g h = handed_both xs ys (Some (line, fault)) a b c g h
   ended_after xs ys failed a b c Write g h = (h.0, front_after xs ys a b c g h.1)
   ended_after xs ys failed a b c Memory g h = front_after xs ys a b c g h
@@ -155,18 +158,18 @@ module _ (q : tree.Query) where
 
   -- all was handed out, but not passed on
   pub ended_kept : (ls same : List Line) (count : ℕ) (failed : Bool) (a b c : Option (List ℕ)) (f : RunFault)
-      → (f ≡ Write) × (failed ≡ true) → Handed q ls None a b → Keeps b c → ls ≡ same
-      → RestEnded q same count failed a c f
-  ended_kept ls same count failed a b c f h g k e = subst (RestEnded q same count failed a c) (sym h.0) (
+      → (f ≡ Write) × (failed ≡ true) → Handed going q ls None a b → Keeps b c → ls ≡ same
+      → RestEnded going q same count failed a c f
+  ended_kept ls same count failed a b c f h g k e = subst (RestEnded going q same count failed a c) (sym h.0) (
     h.1,
-    subst (λ (l : List Line). HandedFront q l a c) e (handed_front ls None a c
+    subst (λ (l : List Line). HandedFront going q l a c) e (handed_front ls None a c
         (handed_kept ls None a b c g k)),
   )
 
-  module _ (ls : List Line) (whole : Answer) (is : (t : Tests) → AreRight t → answer t q ls ≡ whole)
+  module _ (ls : List Line) (whole : Answer) (is : (t : Tests) → AreRight t → answer_in going t q ls ≡ whole)
       (a b : Option (List ℕ)) where
-    ended_handing : (failed : Bool) (f : RunFault) → HandingEnded whole failed a b f
-        → AnswerEnded q ls failed a b f
+    pub ended_handing : (failed : Bool) (f : RunFault) → HandingEnded whole failed a b f
+        → AnswerEnded going q ls failed a b f
     ended_handing failed (Document line fault) h = record {
       whole = whole;
       is = is;
@@ -183,12 +186,16 @@ module _ (q : tree.Query) where
     ended_handing failed Memory h = absurd h
     ended_handing failed Settings h = absurd h
 
-    pub handing_told : {T : Type 0} (r : Result T RunFault) (failed : Bool)
-        → IfErr r (HandingEnded whole failed a b) → IfErr r (AnswerEnded q ls failed a b)
-    handing_told r failed h = told_so r (HandingEnded whole failed a b) (AnswerEnded q ls failed a b)
-        (ended_handing failed) h
+    pub handing_done : whole.stopped ≡ None → Appends a b whole.bytes → Handed going q ls None a b
+    handing_done h k = record { whole = whole; is = is; stopped = h; appended = k }
 
-    pub handing_done : {T E : Type 0} (r : Result T E) → OnOk r (whole.stopped ≡ None)
-        → OnOk r (Appends a b whole.bytes) → OnOk r (Handed q ls None a b)
-    handing_done (Ok x) h k = record { whole = whole; is = is; stopped = h; appended = k }
-    handing_done (Err e) h k = tt
+-- how many faulty lines an answer that keeps going passes
+
+module _ (going : Bool) (q : tree.Query) (ls : List Line) where
+  pub passed_second : (bytes : List ℕ) (faulty : ℕ) → not going ≡ false
+      → ((t : Tests) → AreRight t → whole t q ls ≡ record { bytes = bytes; faulty = faulty })
+      → faulty ≡ passed_in going ls
+  passed_second bytes faulty on h = by_form going on where
+    by_form : (k : Bool) → not k ≡ false → faulty ≡ passed_in k ls
+    by_form false e = absurd (cc)
+    by_form true e = sym (ap (λ (w : Whole). w.faulty) (h right_tests.0 right_tests.1))

@@ -1,5 +1,5 @@
 -- What a run has done, in terms of its query's text.
-use Rattle.std.proofs.Common.{◌≡◌, ℕ, ◌<◌, List, Option, Some, None, IfSome, ◌⊎◌, inl, inr, Result, Ok, Err}
+use Rattle.std.proofs.Common.{◌≡◌, ℕ, ◌<◌, List, Option, Some, None, Bool, IfSome, ◌⊎◌, inl, inr, Result, Ok, Err}
 use Rattle.std.proofs.Common.{IfErr, OnOk, OnErr, IsErrAnd, ◌∙◌, ap, subst}
 use Rattle.std.specs.Io.KnownBytes.{Appends}
 use Rattle.jp_doc.specs.Lines.{lines}
@@ -10,8 +10,9 @@ use Rattle.jp_syntax.specs.declared.fault.QueryFault.{QueryFault}
 use Rattle.jp_regexp.proofs.RightTests.{right_tests}
 use Rattle.jp_check.specs.Verdict.{IsAccepted, IsVerdict}
 use Rattle.jp_check.proofs.OneVerdict.{one_verdict}
-use Rattle.jp_answer.specs.Answer.{Answer, answer}
-use Rattle.jp_answer.specs.Answered.{IsAnswerTo}
+use Rattle.jp_answer.specs.Answer.{Answer}
+use Rattle.jp_answer.specs.Answered.{IsAnswerIn}
+use Rattle.jp_answer.specs.Form.{answer_in}
 use Rattle.jp_answer.specs.declared.fault.RunFault.{RunFault}
 use Rattle.jp_answer.specs.declared.fault.RunFault.TheVariants.{Query, Memory}
 use Rattle.jp_run.specs.Ended.{Ends, StreamEnded}
@@ -51,42 +52,43 @@ pub at_fault : {T : Type 0} (r : Result T RunFault) (f : RunFault) (P : RunFault
 at_fault (Ok x) f P e h = absurd (cc)
 at_fault (Err g) f P e h = let same : g ≡ f = cc in subst P same h
 
-module _ (text : Text) (q : tree.Query) (accepted : IsAccepted text q) where
-  pub accepted_ok : {T : Type 0} (r : Result T RunFault) → OnOk r ((q : tree.Query) × IsAccepted text q)
-  accepted_ok (Ok x) = (q, accepted)
-  accepted_ok (Err f) = tt
+pub accepted_ok : {T : Type 0} (text : Text) (q : tree.Query) → IsAccepted text q → (r : Result T RunFault)
+    → OnOk r ((q : tree.Query) × IsAccepted text q)
+accepted_ok text q accepted (Ok x) = (q, accepted)
+accepted_ok text q accepted (Err f) = tt
 
+module _ (going : Bool) (text : Text) (q : tree.Query) (accepted : IsAccepted text q) where
   -- the answer that was handed out is that to the text
   pub answer_known : (stop : Option (ℕ × DocFault)) (known s u : Option (List ℕ))
-      → IfSome known (λ input. Handed q (lines input) stop s u)
-      → IfSome known (λ input. (a : Answer) × IsAnswerTo text input a × (a.stopped ≡ stop)
+      → IfSome known (λ input. Handed going q (lines input) stop s u)
+      → IfSome known (λ input. (a : Answer) × IsAnswerIn going text input a × (a.stopped ≡ stop)
       × Appends s u a.bytes)
   answer_known stop None s u h = tt
   answer_known stop (Some input) s u h = (h.whole, (q, accepted, h.is), h.stopped, h.appended)
 
   pub answer_ok : {T : Type 0} (r : Result T RunFault) (known s u : Option (List ℕ))
-      → OnOk r (IfSome known (λ input. Handed q (lines input) None s u))
-      → OnOk r (IfSome known (λ input. (a : Answer) × IsAnswerTo text input a × (a.stopped ≡ None)
+      → OnOk r (IfSome known (λ input. Handed going q (lines input) None s u))
+      → OnOk r (IfSome known (λ input. (a : Answer) × IsAnswerIn going text input a × (a.stopped ≡ None)
       × Appends s u a.bytes))
   answer_ok (Ok x) known s u h = answer_known None known s u h
   answer_ok (Err f) known s u h = tt
 
-  answer_is : (input : List ℕ) (b : Answer) → IsAnswerTo text input b
-      → answer right_tests.0 q (lines input) ≡ b
+  answer_is : (input : List ℕ) (b : Answer) → IsAnswerIn going text input b
+      → answer_in going right_tests.0 q (lines input) ≡ b
   answer_is input b h =
       let same : q ≡ h.0 = same_ok q h.0 (one_verdict text (Ok q) (Ok h.0) accepted h.1) in
-      ap (λ q. answer right_tests.0 q (lines input)) same ∙ h.2 right_tests.0 right_tests.1
+      ap (λ q. answer_in going right_tests.0 q (lines input)) same ∙ h.2 right_tests.0 right_tests.1
 
-  front_known : (known s u : Option (List ℕ)) → IfSome known (λ input. HandedFront q (lines input) s u)
-      → IfSome known (λ input. (b : Answer) → IsAnswerTo text input b → AppendsFront s u b.bytes)
+  front_known : (known s u : Option (List ℕ)) → IfSome known (λ input. HandedFront going q (lines input) s u)
+      → IfSome known (λ input. (b : Answer) → IsAnswerIn going text input b → AppendsFront s u b.bytes)
   front_known None s u h = tt
   front_known (Some input) s u h = λ b is. subst (λ (b : Answer). AppendsFront s u b.bytes)
       (answer_is input b is) (h right_tests.0 right_tests.1)
 
   pub front_err : {T : Type 0} (r : Result T RunFault) (batch : ℕ) (some : 0 < batch) (e : Ends)
-      → IfErr r (StreamEnded q batch e)
-      → OnErr r (IfSome e.source_old (λ input. (b : Answer) → IsAnswerTo text input b
+      → IfErr r (StreamEnded going q batch e)
+      → OnErr r (IfSome e.source_old (λ input. (b : Answer) → IsAnswerIn going text input b
       → AppendsFront e.sink_old e.sink_new b.bytes))
   front_err (Ok x) batch some e h = tt
   front_err (Err f) batch some e h = front_known e.source_old e.sink_old e.sink_new
-      (ended_front q batch some e f h)
+      (ended_front going q batch some e f h)

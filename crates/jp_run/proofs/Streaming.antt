@@ -1,6 +1,6 @@
 -- Where a run stands: what was read of its input, and what was answered of it.
-use Rattle.std.proofs.Common.{◌≡◌, ℕ, ◌+◌, ◌-◌, ◌*◌, ◌/◌, ◌<◌, ◌≤◌, not, List, [], ◌++◌, length, take}
-use Rattle.std.proofs.Common.{Option, Some, None, IfSome, inr, sym, ◌∙◌, ap, subst, arith}
+use Rattle.std.proofs.Common.{◌≡◌, ℕ, ◌+◌, ◌-◌, ◌*◌, ◌/◌, ◌<◌, ◌≤◌, not, Bool, true, false, List, [], ◌++◌, length, take}
+use Rattle.std.proofs.Common.{Option, Some, None, IfSome, inr, refl, sym, ◌∙◌, ap, subst, arith}
 use Rattle.std.proofs.Common.{append_assoc, append-nil, length-append, length-drop, take-append-drop}
 use Rattle.std.proofs.Common.{length-take-le, Result, Ok, Err, IfOk, OnOk}
 use Rattle.std.proofs.Math.Nat.{mul-le-mul_right}
@@ -20,10 +20,12 @@ use Rattle.jp_syntax.specs.Tree as tree
 use Rattle.jp_regexp.proofs.RightTests.{right_tests}
 use Rattle.jp_answer.specs.Answer.{Answer}
 use Rattle.jp_answer.specs.Faults.{first_fault}
-use Rattle.jp_answer.proofs.Joining.{stops_so}
+use Rattle.jp_answer.specs.Form.{stop_in, passed_in}
+use Rattle.jp_answer.proofs.Forms.{stop_so, passed_joined, passed_few, passed_none}
 use Rattle.jp_answer.specs.declared.fault.RunFault.{RunFault}
 use Rattle.jp_answer.specs.declared.fault.RunFault.TheVariants.{Query, Document, Read, Write, Limit}
 use Rattle.jp_answer.specs.declared.fault.RunFault.TheVariants.{Memory, Settings}
+use Rattle.jp_run.specs.declared.gathering.Answered.{Answered}
 use Rattle.jp_run.specs.declared.running.Totals.{Totals}
 use Rattle.jp_run.specs.Batches.{documents_in, in_batches, whole_batches, left_over}
 use Rattle.jp_run.specs.Batches.{documents_before, batch_of, WasNotWhole}
@@ -48,6 +50,17 @@ known_all P None now bytes h e p = tt
 known_all P (Some xs) None bytes h e p = absurd h
 known_all P (Some xs) (Some ys) bytes h e p = subst P
     (sym (h ∙ ap (λ bs. bytes ++ bs) e ∙ append-nil bytes)) p
+
+-- an answer that stops does not keep going, and stops at the first faulty line
+
+stop_first : (going : Bool) (ls : List Line) (s : ℕ × DocFault) → stop_in going ls ≡ Some s
+    → first_fault ls ≡ Some s
+stop_first false ls s e = e
+stop_first true ls s e = absurd (cc)
+
+no_stop : (going : Bool) (ls : List Line) (s : ℕ × DocFault) → stop_in going ls ≡ Some s → going ≡ false
+no_stop false ls s e = refl
+no_stop true ls s e = absurd (cc)
 
 -- lines of bytes that come in two parts
 
@@ -100,30 +113,32 @@ few_documents bytes =
     omega (arith, length-filter p all, count_by-le-length p all, length-enumerate_from 1 (cut bytes).ended)
 
 -- so much was read, whose whole batches are answered and handed out; the rest of its lines are kept
-pub record Stands (q : tree.Query) (batch : ℕ) (old now sink_old sink_now : Option (List ℕ)) (p : Progress)
-    (kept : List Line) (answered : ℕ) : Type 0 where
+pub record Stands (going : Bool) (q : tree.Query) (batch : ℕ) (old now sink_old sink_now : Option (List ℕ)) (p : Progress)
+    (kept : List Line) (answered : Answered) : Type 0 where
   pub bytes : List ℕ
   pub consumed : Consumes old now bytes
   pub progress : p ≡ fed nothing_fed bytes
   pub left : kept ≡ left_over batch (documents_in bytes)
-  pub counted : answered ≡ in_batches batch (documents_in bytes)
-  pub handed : Handed q (whole_batches batch (documents_in bytes)) None sink_old sink_now
+  pub counted : answered.lines ≡ in_batches batch (documents_in bytes)
+  pub passed : answered.faulty ≡ passed_in going (whole_batches batch (documents_in bytes))
+  pub handed : Handed going q (whole_batches batch (documents_in bytes)) None sink_old sink_now
 
 -- one piece more was read, and nothing of it is answered yet
-pub record Grown (q : tree.Query) (batch : ℕ) (old now sink_old sink_now : Option (List ℕ)) (p : Progress)
-    (kept : List Line) (answered last : ℕ) : Type 0 where
+pub record Grown (going : Bool) (q : tree.Query) (batch : ℕ) (old now sink_old sink_now : Option (List ℕ)) (p : Progress)
+    (kept : List Line) (answered : Answered) (last : ℕ) : Type 0 where
   pub bytes : List ℕ
   pub piece : List ℕ
   pub consumed : Consumes old now (bytes ++ piece)
   pub is_last : last ≡ length piece
   pub progress : p ≡ fed nothing_fed (bytes ++ piece)
   pub lines : kept ≡ left_over batch (documents_in bytes) ++ fed_lines (fed nothing_fed bytes) piece
-  pub counted : answered ≡ in_batches batch (documents_in bytes)
-  pub handed : Handed q (whole_batches batch (documents_in bytes)) None sink_old sink_now
+  pub counted : answered.lines ≡ in_batches batch (documents_in bytes)
+  pub passed : answered.faulty ≡ passed_in going (whole_batches batch (documents_in bytes))
+  pub handed : Handed going q (whole_batches batch (documents_in bytes)) None sink_old sink_now
 
-module _ (q : tree.Query) (batch : ℕ) (some : 0 < batch) where
-  pub stands_start : (a s : Option (List ℕ)) (p : Progress) (kept : List Line) (answered : ℕ)
-      → p ≡ nothing_fed → kept ≡ [] → answered ≡ 0 → Stands q batch a a s s p kept answered
+module _ (going : Bool) (q : tree.Query) (batch : ℕ) (some : 0 < batch) where
+  pub stands_start : (a s : Option (List ℕ)) (p : Progress) (kept : List Line) (answered : Answered)
+      → p ≡ nothing_fed → kept ≡ [] → answered ≡ record { lines = 0; faulty = 0 } → Stands going q batch a a s s p kept answered
   stands_start a s p kept answered e f h =
       let none : in_batches batch (documents_in []) ≡ 0 = omega (
         arith,
@@ -134,17 +149,19 @@ module _ (q : tree.Query) (batch : ℕ) (some : 0 < batch) where
         consumed = Consumes-nil a;
         progress = e;
         left = f ∙ sym (drop-nil (in_batches batch (documents_in [])));
-        counted = h ∙ sym none;
-        handed = subst (λ (l : List Line). Handed q l None s s)
-            (sym (take-nil (in_batches batch (documents_in [])))) (handed_none q s);
+        counted = ap (λ (n : Answered). n.lines) h ∙ sym none;
+        passed = ap (λ (n : Answered). n.faulty) h ∙ sym (passed_none going)
+            ∙ ap (passed_in going) (sym (take-nil (in_batches batch (documents_in []))));
+        handed = subst (λ (l : List Line). Handed going q l None s s)
+            (sym (take-nil (in_batches batch (documents_in [])))) (handed_none going q s);
       }
 
   pub grown : (a b c s u : Option (List ℕ)) (p next : Progress) (kept all : List Line)
-      (answered same last n : ℕ) (buffer : List ℕ)
-      → Stands q batch a b s u p kept answered → Consumes b c (take n buffer)
+      (answered same : Answered) (last n : ℕ) (buffer : List ℕ)
+      → Stands going q batch a b s u p kept answered → Consumes b c (take n buffer)
       → (n ≤ length buffer) × (last ≡ n)
       → next ≡ fed p (take n buffer) → all ≡ kept ++ fed_lines p (take n buffer) → same ≡ answered
-      → Grown q batch a c s u next all same last
+      → Grown going q batch a c s u next all same last
   grown a b c s u p next kept all answered same last n buffer st h sizes e f k =
       let piece : List ℕ = take n buffer in record {
         bytes = st.bytes;
@@ -154,7 +171,8 @@ module _ (q : tree.Query) (batch : ℕ) (some : 0 < batch) where
         progress = e ∙ ap (λ p. fed p piece) st.progress ∙ sym (fed_both st.bytes piece);
         lines = f ∙ ap (λ l. l ++ fed_lines p piece) st.left
             ∙ ap (λ p. left_over batch (documents_in st.bytes) ++ fed_lines p piece) st.progress;
-        counted = k ∙ st.counted;
+        counted = ap (λ (n : Answered). n.lines) k ∙ st.counted;
+        passed = ap (λ (n : Answered). n.faulty) k ∙ st.passed;
         handed = st.handed;
       }
 
@@ -167,8 +185,8 @@ module _ (q : tree.Query) (batch : ℕ) (some : 0 < batch) where
       (sym (take-append-drop (in_batches batch all) all))
       ∙ append_assoc (whole_batches batch all) (left_over batch all) (fed_lines (fed nothing_fed bytes) piece)
 
-  pub grown_few : (a c s u : Option (List ℕ)) (p : Progress) (all : List Line) (answered n most : ℕ)
-      → Grown q batch a c s u p all answered n → p.count ≤ most → answered + length all ≤ most
+  pub grown_few : (a c s u : Option (List ℕ)) (p : Progress) (all : List Line) (answered : Answered) (n most : ℕ)
+      → Grown going q batch a c s u p all answered n → p.count ≤ most → answered.lines + length all ≤ most
   grown_few a c s u p all answered n most g few =
       let first : List Line = documents_in g.bytes in omega (
         arith,
@@ -184,11 +202,12 @@ module _ (q : tree.Query) (batch : ℕ) (some : 0 < batch) where
       )
 
   pub stands_next : (a c s u v : Option (List ℕ)) (p next : Progress) (all kept : List Line)
-      (answered more n : ℕ) → Grown q batch a c s u p all answered n
-      → Handed q (whole_batches batch all) None u v → kept ≡ left_over batch all
-      → more ≡ answered + in_batches batch all → next ≡ p
-      → Stands q batch a c s v next kept more
-  stands_next a c s u v p next all kept answered more n g h e f k =
+      (answered more : Answered) (n : ℕ) → Grown going q batch a c s u p all answered n
+      → Handed going q (whole_batches batch all) None u v → kept ≡ left_over batch all
+      → more.lines ≡ answered.lines + in_batches batch all
+      → more.faulty ≡ answered.faulty + passed_in going (whole_batches batch all) → next ≡ p
+      → Stands going q batch a c s v next kept more
+  stands_next a c s u v p next all kept answered more n g h e f m k =
       let first : List Line = documents_in g.bytes in
       let later : List Line = fed_lines (fed nothing_fed g.bytes) g.piece in
       let both : documents_in (g.bytes ++ g.piece) ≡ first ++ later = documents_both g.bytes g.piece in
@@ -206,28 +225,39 @@ module _ (q : tree.Query) (batch : ℕ) (some : 0 < batch) where
           in_both batch first later some,
           ap (in_batches batch) both,
         );
-        handed = subst (λ (l : List Line). Handed q l None s v)
+        passed = omega (
+          arith,
+          m,
+          g.passed,
+          ap (λ l. passed_in going (whole_batches batch l)) g.lines,
+          ap (passed_in going) (whole_both batch first later some),
+          passed_joined going (whole_batches batch first)
+              (whole_batches batch (left_over batch first ++ later)),
+          ap (λ l. passed_in going (whole_batches batch l)) both,
+        );
+        handed = subst (λ (l : List Line). Handed going q l None s v)
             (ap (λ l. whole_batches batch first ++ whole_batches batch l) g.lines
             ∙ sym (whole_both batch first later some) ∙ sym (ap (whole_batches batch) both))
-            (handed_both q (whole_batches batch first) (whole_batches batch all) None s u v g.handed h);
+            (handed_both going q (whole_batches batch first) (whole_batches batch all) None s u v g.handed h);
       }
 
   -- where it stands after a read whose batches are answered
   pub stands_then : (a b c s u v : Option (List ℕ)) (p next last : Progress) (kept all rest : List Line)
-      (answered same more size n : ℕ) (buffer : List ℕ)
-      → Stands q batch a b s u p kept answered → Consumes b c (take n buffer)
+      (answered same more : Answered) (size n : ℕ) (buffer : List ℕ)
+      → Stands going q batch a b s u p kept answered → Consumes b c (take n buffer)
       → (n ≤ length buffer) × (size ≡ n)
       → next ≡ fed p (take n buffer) → all ≡ kept ++ fed_lines p (take n buffer) → same ≡ answered
-      → Handed q (whole_batches batch all) None u v → rest ≡ left_over batch all
-      → more ≡ same + in_batches batch all → last ≡ next
-      → Stands q batch a c s v last rest more
+      → Handed going q (whole_batches batch all) None u v → rest ≡ left_over batch all
+      → more.lines ≡ same.lines + in_batches batch all
+      → more.faulty ≡ same.faulty + passed_in going (whole_batches batch all) → last ≡ next
+      → Stands going q batch a c s v last rest more
   stands_then a b c s u v p next last kept all rest answered same more size n buffer st h sizes e f k g i j
-      l =
+      m l =
       stands_next a c s u v next last all rest same more size
-      (grown a b c s u p next kept all answered same size n buffer st h sizes e f k) g i j l
+      (grown a b c s u p next kept all answered same size n buffer st h sizes e f k) g i j m l
 
-  pub stands_few : (a b s u : Option (List ℕ)) (p : Progress) (kept : List Line) (answered most : ℕ)
-      → Stands q batch a b s u p kept answered → p.count ≤ most → answered + length kept ≤ most
+  pub stands_few : (a b s u : Option (List ℕ)) (p : Progress) (kept : List Line) (answered : Answered) (most : ℕ)
+      → Stands going q batch a b s u p kept answered → p.count ≤ most → answered.lines + length kept ≤ most
   stands_few a b s u p kept answered most st few =
       let all : List Line = documents_in st.bytes in omega (
         arith,
@@ -240,36 +270,59 @@ module _ (q : tree.Query) (batch : ℕ) (some : 0 < batch) where
         st.counted,
       )
 
+  -- no more of the answered lines are faulty than there are
+  pub grown_passed : (a c s u : Option (List ℕ)) (p : Progress) (all : List Line) (answered : Answered)
+      (n : ℕ) → Grown going q batch a c s u p all answered n → answered.faulty ≤ answered.lines
+  grown_passed a c s u p all answered n g =
+      let first : List Line = documents_in g.bytes in omega (
+        arith,
+        g.passed,
+        g.counted,
+        passed_few going (whole_batches batch first),
+        length-take-le (in_batches batch first) first (batches_fit batch first),
+      )
+
+  pub stands_passed : (a b s u : Option (List ℕ)) (p : Progress) (kept : List Line) (answered : Answered)
+      → Stands going q batch a b s u p kept answered → answered.faulty ≤ answered.lines
+  stands_passed a b s u p kept answered st =
+      let all : List Line = documents_in st.bytes in omega (
+        arith,
+        st.passed,
+        st.counted,
+        passed_few going (whole_batches batch all),
+        length-take-le (in_batches batch all) all (batches_fit batch all),
+      )
+
   -- what was handed out of the first lines is a front of the whole
   input_front : (a c s u : Option (List ℕ)) (bytes : List ℕ) → Consumes a c bytes
-      → HandedFront q (documents_in bytes) s u → IfSome a (λ input. HandedFront q (lines input) s u)
-  input_front a c s u bytes h front = known (λ input. HandedFront q (lines input) s u) a c bytes h
-      (λ rest. let more = lines_more bytes rest in subst (λ (l : List Line). HandedFront q l s u) (sym more.1)
-      (front_more q (documents_in bytes) more.0 s u front))
+      → HandedFront going q (documents_in bytes) s u → IfSome a (λ input. HandedFront going q (lines input) s u)
+  input_front a c s u bytes h front = known (λ input. HandedFront going q (lines input) s u) a c bytes h
+      (λ rest. let more = lines_more bytes rest in subst (λ (l : List Line). HandedFront going q l s u) (sym more.1)
+      (front_more going q (documents_in bytes) more.0 s u front))
 
   stopped_front : (a s u : Option (List ℕ)) (stop : ℕ × DocFault)
-      → IfSome a (λ input. Handed q (lines input) (Some stop) s u)
-      → IfSome a (λ input. HandedFront q (lines input) s u)
+      → IfSome a (λ input. Handed going q (lines input) (Some stop) s u)
+      → IfSome a (λ input. HandedFront going q (lines input) s u)
   stopped_front None s u stop h = tt
-  stopped_front (Some input) s u stop h = handed_front q (lines input) (Some stop) s u h
+  stopped_front (Some input) s u stop h = handed_front going q (lines input) (Some stop) s u h
 
-  pub stands_front : (a b s u : Option (List ℕ)) (p : Progress) (kept : List Line) (answered : ℕ)
-      → Stands q batch a b s u p kept answered → IfSome a (λ input. HandedFront q (lines input) s u)
+  pub stands_front : (a b s u : Option (List ℕ)) (p : Progress) (kept : List Line) (answered : Answered)
+      → Stands going q batch a b s u p kept answered → IfSome a (λ input. HandedFront going q (lines input) s u)
   stands_front a b s u p kept answered st =
       let all : List Line = documents_in st.bytes in
-      input_front a b s u st.bytes st.consumed (subst (λ (l : List Line). HandedFront q l s u)
-      (take-append-drop (in_batches batch all) all) (front_more q (whole_batches batch all)
-      (left_over batch all) s u (handed_front q (whole_batches batch all) None s u st.handed)))
+      input_front a b s u st.bytes st.consumed (subst (λ (l : List Line). HandedFront going q l s u)
+      (take-append-drop (in_batches batch all) all) (front_more going q (whole_batches batch all)
+      (left_over batch all) s u (handed_front going q (whole_batches batch all) None s u st.handed)))
 
   -- the same of each fault
-  pub ended_front : (e : Ends) (f : RunFault) → StreamEnded q batch e f → InputFront q e
+  pub ended_front : (e : Ends) (f : RunFault) → StreamEnded going q batch e f → InputFront going q e
   ended_front e (Document line fault) h = stopped_front e.source_old e.sink_old e.sink_new (line, fault) h.0
   ended_front e Read h =
       let all : List Line = documents_in h.1 in
       input_front e.source_old e.source_new e.sink_old e.sink_new h.1 h.2
-      (subst (λ (l : List Line). HandedFront q l e.sink_old e.sink_new)
-      (take-append-drop (in_batches batch all) all) (front_more q (whole_batches batch all)
-      (left_over batch all) e.sink_old e.sink_new (handed_front q (whole_batches batch all) None e.sink_old
+      (subst (λ (l : List Line). HandedFront going q l e.sink_old e.sink_new)
+      (take-append-drop (in_batches batch all) all) (front_more going q (whole_batches batch all)
+      (left_over batch all) e.sink_old e.sink_new (handed_front going q (whole_batches batch all) None e.sink_old
       e.sink_new h.3)))
   ended_front e Write h = h.1
   ended_front e Limit h = h.1
@@ -278,9 +331,9 @@ module _ (q : tree.Query) (batch : ℕ) (some : 0 < batch) where
   ended_front e Settings h = absurd h
 
   -- a read that failed, or that came to a limit
-  pub read_ended : (e : Ends) (mid : Option (List ℕ)) (p : Progress) (kept : List Line) (answered : ℕ)
-      (f : RunFault) → Stands q batch e.source_old mid e.sink_old e.sink_new p kept answered
-      → ReadEnded p e.source_failed mid e.source_new f → StreamEnded q batch e f
+  pub read_ended : (e : Ends) (mid : Option (List ℕ)) (p : Progress) (kept : List Line) (answered : Answered)
+      (f : RunFault) → Stands going q batch e.source_old mid e.sink_old e.sink_new p kept answered
+      → ReadEnded p e.source_failed mid e.source_new f → StreamEnded going q batch e f
   read_ended e mid p kept answered Read st h =
       (h.0, st.bytes, Consumes-kept e.source_old mid e.source_new st.bytes st.consumed h.1, st.handed)
   read_ended e mid p kept answered Limit st h = (
@@ -322,14 +375,23 @@ module _ (q : tree.Query) (batch : ℕ) (some : 0 < batch) where
       subst (λ l. length (documents_in l) < batch_of batch number (lines bytes) * batch) (sym e)
       (omega (arith, few_left batch first some, mul-le-mul_right {m = k + 1} {n = m / batch + 1} batch below))
 
-  first_fault_of : (ls : List Line) (number : ℕ) (fault : DocFault) (a b : Option (List ℕ))
-      → Handed q ls (Some (number, fault)) a b → first_fault ls ≡ Some (number, fault)
-  first_fault_of ls number fault a b h = sym (stops_so right_tests.0 q ls)
+  handed_stop : (ls : List Line) (s : ℕ × DocFault) (a b : Option (List ℕ))
+      → Handed going q ls (Some s) a b → stop_in going ls ≡ Some s
+  handed_stop ls s a b h = sym (stop_so right_tests.0 q going ls)
       ∙ ap (λ (r : Answer). r.stopped) (h.is right_tests.0 right_tests.1) ∙ h.stopped
 
+  first_fault_of : (ls : List Line) (number : ℕ) (fault : DocFault) (a b : Option (List ℕ))
+      → Handed going q ls (Some (number, fault)) a b → first_fault ls ≡ Some (number, fault)
+  first_fault_of ls number fault a b h = stop_first going ls (number, fault)
+      (handed_stop ls (number, fault) a b h)
+
+  never_going : (ls : List Line) (s : ℕ × DocFault) (a b : Option (List ℕ))
+      → Handed going q ls (Some s) a b → going ≡ false
+  never_going ls s a b h = no_stop going ls s (handed_stop ls s a b h)
+
   -- a batch that was not answered to its end
-  module _ (e : Ends) (u : Option (List ℕ)) (p : Progress) (all : List Line) (answered : ℕ)
-      (g : Grown q batch e.source_old e.source_new e.sink_old u p all answered e.last) where
+  module _ (e : Ends) (u : Option (List ℕ)) (p : Progress) (all : List Line) (answered : Answered)
+      (g : Grown going q batch e.source_old e.source_new e.sink_old u p all answered e.last) where
     first_lines : List Line
     first_lines = whole_batches batch (documents_in g.bytes)
 
@@ -349,33 +411,36 @@ module _ (q : tree.Query) (batch : ℕ) (some : 0 < batch) where
         ∙ ap (λ l. l ++ finished_lines (fed nothing_fed (g.bytes ++ g.piece))) all_documents
         ∙ append_assoc first_lines all (finished_lines (fed nothing_fed (g.bytes ++ g.piece)))
 
-    batch_front : HandedFront q all u e.sink_new → InputFront q e
+    batch_front : HandedFront going q all u e.sink_new → InputFront going q e
     unfolding first_lines
     batch_front h = input_front e.source_old e.source_new e.sink_old e.sink_new (g.bytes ++ g.piece)
         g.consumed
-        (subst (λ (l : List Line). HandedFront q l e.sink_old e.sink_new) (sym all_documents)
-        (front_after q first_lines all e.sink_old u e.sink_new g.handed h))
+        (subst (λ (l : List Line). HandedFront going q l e.sink_old e.sink_new) (sym all_documents)
+        (front_after going q first_lines all e.sink_old u e.sink_new g.handed h))
 
-    batch_stopped : (line : ℕ) (fault : DocFault) → Handed q all (Some (line, fault)) u e.sink_new
-        → StreamEnded q batch e (Document line fault)
+    batch_stopped : (line : ℕ) (fault : DocFault) → Handed going q all (Some (line, fault)) u e.sink_new
+        → StreamEnded going q batch e (Document line fault)
     unfolding first_lines
     batch_stopped line fault h = (
-      known (λ input. Handed q (lines input) (Some (line, fault)) e.sink_old e.sink_new) e.source_old
+      known (λ input. Handed going q (lines input) (Some (line, fault)) e.sink_old e.sink_new) e.source_old
           e.source_new (g.bytes ++ g.piece) g.consumed
           (λ rest. let more = lines_more (g.bytes ++ g.piece) rest in
-          subst (λ (l : List Line). Handed q l (Some (line, fault)) e.sink_old e.sink_new)
+          subst (λ (l : List Line). Handed going q l (Some (line, fault)) e.sink_old e.sink_new)
           (ap (λ l. l ++ more.0) (sym all_documents) ∙ sym more.1)
-          (handed_stopped q (first_lines ++ all) more.0 (line, fault) e.sink_old e.sink_new
-          (handed_both q first_lines all (Some (line, fault)) e.sink_old u e.sink_new g.handed h))),
-      g.bytes ++ g.piece,
-      g.consumed,
-      not_whole g.bytes (g.bytes ++ g.piece) e.last line fault all
-          (finished_lines (fed nothing_fed (g.bytes ++ g.piece))) last_cut all_lines_are
-          (first_fault_of all line fault u e.sink_new h),
+          (handed_stopped going q (first_lines ++ all) more.0 (line, fault) e.sink_old e.sink_new
+          (handed_both going q first_lines all (Some (line, fault)) e.sink_old u e.sink_new g.handed h))),
+      (
+        g.bytes ++ g.piece,
+        g.consumed,
+        not_whole g.bytes (g.bytes ++ g.piece) e.last line fault all
+            (finished_lines (fed nothing_fed (g.bytes ++ g.piece))) last_cut all_lines_are
+            (first_fault_of all line fault u e.sink_new h),
+      ),
+      never_going all (line, fault) u e.sink_new h,
     )
 
-    pub batch_ended : (f : RunFault) → AnswerEnded q all e.sink_failed u e.sink_new f
-        → StreamEnded q batch e f
+    pub batch_ended : (f : RunFault) → AnswerEnded going q all e.sink_failed u e.sink_new f
+        → StreamEnded going q batch e f
     batch_ended (Document line fault) h = batch_stopped line fault h
     batch_ended Write h = (h.0, batch_front h.1)
     batch_ended Memory h = batch_front h
@@ -385,8 +450,8 @@ module _ (q : tree.Query) (batch : ℕ) (some : 0 < batch) where
     batch_ended Settings h = absurd h
 
   -- the rest of an input that was read to its end
-  module _ (a c s u v : Option (List ℕ)) (p : Progress) (kept : List Line) (answered : ℕ)
-      (st : Stands q batch a c s u p kept answered) (end : IsAtEnd c) where
+  module _ (a c s u v : Option (List ℕ)) (p : Progress) (kept : List Line) (answered : Answered)
+      (st : Stands going q batch a c s u p kept answered) (end : IsAtEnd c) where
     first_batches : List Line
     first_batches = whole_batches batch (documents_in st.bytes)
 
@@ -400,22 +465,22 @@ module _ (q : tree.Query) (batch : ℕ) (some : 0 < batch) where
         ∙ sym (ap (λ l. whole_batches batch all ++ (l ++ fin)) st.left)
         ∙ sym (ap (λ (p : Progress). whole_batches batch all ++ (kept ++ finished_lines p)) st.progress)
 
-    rest_front : HandedFront q (kept ++ finished_lines p) u v
-        → IfSome a (λ input. HandedFront q (lines input) s v)
+    rest_front : HandedFront going q (kept ++ finished_lines p) u v
+        → IfSome a (λ input. HandedFront going q (lines input) s v)
     unfolding first_batches
-    rest_front h = known_all (λ input. HandedFront q (lines input) s v) a c st.bytes st.consumed end
-        (subst (λ (l : List Line). HandedFront q l s v) (sym lines_are)
-        (front_after q first_batches (kept ++ finished_lines p) s u v st.handed h))
+    rest_front h = known_all (λ input. HandedFront going q (lines input) s v) a c st.bytes st.consumed end
+        (subst (λ (l : List Line). HandedFront going q l s v) (sym lines_are)
+        (front_after going q first_batches (kept ++ finished_lines p) s u v st.handed h))
 
-    pub rest_handed : (stop : Option (ℕ × DocFault)) → Handed q (kept ++ finished_lines p) stop u v
-        → IfSome a (λ input. Handed q (lines input) stop s v)
+    pub rest_handed : (stop : Option (ℕ × DocFault)) → Handed going q (kept ++ finished_lines p) stop u v
+        → IfSome a (λ input. Handed going q (lines input) stop s v)
     unfolding first_batches
-    rest_handed stop h = known_all (λ input. Handed q (lines input) stop s v) a c st.bytes st.consumed end
-        (subst (λ (l : List Line). Handed q l stop s v) (sym lines_are)
-        (handed_both q first_batches (kept ++ finished_lines p) stop s u v st.handed h))
+    rest_handed stop h = known_all (λ input. Handed going q (lines input) stop s v) a c st.bytes st.consumed end
+        (subst (λ (l : List Line). Handed going q l stop s v) (sym lines_are)
+        (handed_both going q first_batches (kept ++ finished_lines p) stop s u v st.handed h))
 
     pub rest_counts : (all documents : ℕ) → all ≡ (finished p).count
-        → documents ≡ answered + length (kept ++ finished_lines p)
+        → documents ≡ answered.lines + length (kept ++ finished_lines p)
         → IfSome a (λ input. (all ≡ line_count input) × (documents ≡ length (lines input)))
     unfolding first_batches
     rest_counts all documents e f = known_all
@@ -433,21 +498,39 @@ module _ (q : tree.Query) (batch : ℕ) (some : 0 < batch) where
           ),
         )
 
-    pub rest_ok : {T E : Type 0} (r : Result T E) → OnOk r (Handed q (kept ++ finished_lines p) None u v)
-        → OnOk r (IfSome a (λ input. Handed q (lines input) None s v))
+    rest_passed : (faulty : ℕ) → faulty ≡ answered.faulty + passed_in going (kept ++ finished_lines p)
+        → IfSome a (λ input. faulty ≡ passed_in going (lines input))
+    unfolding first_batches
+    rest_passed faulty e = known_all (λ input. faulty ≡ passed_in going (lines input)) a c st.bytes
+        st.consumed end (omega (
+          arith,
+          e,
+          st.passed,
+          ap (passed_in going) lines_are,
+          passed_joined going first_batches (kept ++ finished_lines p),
+        ))
+
+    pub faulty_ok : {E : Type 0} (r : Result Totals E)
+        → IfOk r (λ t. t.faulty ≡ answered.faulty + passed_in going (kept ++ finished_lines p))
+        → IfOk r (λ t. IfSome a (λ input. t.faulty ≡ passed_in going (lines input)))
+    faulty_ok (Ok t) h = rest_passed t.faulty h
+    faulty_ok (Err f) h = tt
+
+    pub rest_ok : {T E : Type 0} (r : Result T E) → OnOk r (Handed going q (kept ++ finished_lines p) None u v)
+        → OnOk r (IfSome a (λ input. Handed going q (lines input) None s v))
     rest_ok (Ok x) h = rest_handed None h
     rest_ok (Err f) h = tt
 
     pub totals_ok : {E : Type 0} (r : Result Totals E)
         → IfOk r (λ t. t.lines ≡ (finished p).count)
-        → IfOk r (λ t. t.documents ≡ answered + length (kept ++ finished_lines p))
+        → IfOk r (λ t. t.documents ≡ answered.lines + length (kept ++ finished_lines p))
         → IfOk r (λ t. IfSome a (λ input. (t.lines ≡ line_count input)
         × (t.documents ≡ length (lines input))))
     totals_ok (Ok t) h k = rest_counts t.lines t.documents h k
     totals_ok (Err f) h k = tt
 
     rest_stopped : (line : ℕ) (fault : DocFault)
-        → Handed q (kept ++ finished_lines p) (Some (line, fault)) u v
+        → Handed going q (kept ++ finished_lines p) (Some (line, fault)) u v
         → WasNotWhole batch line st.bytes 0
     unfolding first_batches
     rest_stopped line fault h = not_whole st.bytes st.bytes 0 line fault (kept ++ finished_lines p) []
@@ -456,18 +539,21 @@ module _ (q : tree.Query) (batch : ℕ) (some : 0 < batch) where
         (lines_are ∙ sym (ap (λ l. first_batches ++ l) (append-nil (kept ++ finished_lines p))))
         (first_fault_of (kept ++ finished_lines p) line fault u v h)
 
-  pub rest_ended : (e : Ends) (u : Option (List ℕ)) (p : Progress) (kept : List Line) (answered : ℕ)
-      (f : RunFault) → Stands q batch e.source_old e.source_new e.sink_old u p kept answered
+  pub rest_ended : (e : Ends) (u : Option (List ℕ)) (p : Progress) (kept : List Line) (answered : Answered)
+      (f : RunFault) → Stands going q batch e.source_old e.source_new e.sink_old u p kept answered
       → IsAtEnd e.source_new → e.last ≡ 0
-      → RestEnded q (kept ++ finished_lines p) (finished p).count e.sink_failed u e.sink_new f
-      → StreamEnded q batch e f
+      → RestEnded going q (kept ++ finished_lines p) (finished p).count e.sink_failed u e.sink_new f
+      → StreamEnded going q batch e f
   rest_ended e u p kept answered (Document line fault) st end none h = (
     rest_handed e.source_old e.source_new e.sink_old u e.sink_new p kept answered st end
         (Some (line, fault)) h,
-    st.bytes,
-    st.consumed,
-    subst (WasNotWhole batch line st.bytes) (sym none) (rest_stopped e.source_old e.source_new e.sink_old u
-        e.sink_new p kept answered st end line fault h),
+    (
+      st.bytes,
+      st.consumed,
+      subst (WasNotWhole batch line st.bytes) (sym none) (rest_stopped e.source_old e.source_new e.sink_old u
+          e.sink_new p kept answered st end line fault h),
+    ),
+    never_going (kept ++ finished_lines p) (line, fault) u e.sink_new h,
   )
   rest_ended e u p kept answered Write st end none h =
       (h.0, rest_front e.source_old e.source_new e.sink_old u e.sink_new p kept answered st end h.1)

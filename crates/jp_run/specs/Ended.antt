@@ -1,6 +1,6 @@
 -- A working file, which nobody has to believe: what stands after each fault of a run's parts, for private
 -- clauses alone.
-use Rattle.std.specs.Prelude.{◌≡◌, ℕ, ◌+◌, ◌<◌, ◌⊎◌, Bool, true, List, Option, Some, None, IfSome}
+use Rattle.std.specs.Prelude.{◌≡◌, ℕ, ◌+◌, ◌<◌, ◌⊎◌, Bool, true, List, Option, Some, None, IfSome, false}
 use Rattle.std.specs.Io.KnownBytes.{Appends, Consumes, Keeps}
 use Rattle.jp_doc.specs.Lines.{Line, lines, line_count}
 use Rattle.jp_doc.specs.Feeding.{Progress, fed}
@@ -46,21 +46,22 @@ HandingEnded a failed old new Limit = ⊥
 HandingEnded a failed old new Memory = ⊥
 HandingEnded a failed old new Settings = ⊥
 
--- the answer to lines, handed to a sink
-abbrev pub AnswerEnded : tree.Query → List Line → Bool → Option (List ℕ) → Option (List ℕ) → RunFault → Type 0
-AnswerEnded q ls failed old new (Document line fault) = Handed q ls (Some (line, fault)) old new
-AnswerEnded q ls failed old new Write = (failed ≡ true) × HandedFront q ls old new
-AnswerEnded q ls failed old new Memory = HandedFront q ls old new
-AnswerEnded q ls failed old new (Query fault) = ⊥
-AnswerEnded q ls failed old new Read = ⊥
-AnswerEnded q ls failed old new Limit = ⊥
-AnswerEnded q ls failed old new Settings = ⊥
+-- the answer to lines in a form, handed to a sink
+abbrev pub AnswerEnded : Bool → tree.Query → List Line → Bool → Option (List ℕ) → Option (List ℕ) → RunFault
+    → Type 0
+AnswerEnded going q ls failed old new (Document line fault) = Handed going q ls (Some (line, fault)) old new
+AnswerEnded going q ls failed old new Write = (failed ≡ true) × HandedFront going q ls old new
+AnswerEnded going q ls failed old new Memory = HandedFront going q ls old new
+AnswerEnded going q ls failed old new (Query fault) = ⊥
+AnswerEnded going q ls failed old new Read = ⊥
+AnswerEnded going q ls failed old new Limit = ⊥
+AnswerEnded going q ls failed old new Settings = ⊥
 
 -- the same, where there were so many lines in all
-abbrev pub RestEnded : tree.Query → List Line → ℕ → Bool → Option (List ℕ) → Option (List ℕ) → RunFault
+abbrev pub RestEnded : Bool → tree.Query → List Line → ℕ → Bool → Option (List ℕ) → Option (List ℕ) → RunFault
     → Type 0
-RestEnded q ls count failed old new Limit = (max_lines < count) × HandedFront q ls old new
-RestEnded q ls count failed old new fault = AnswerEnded q ls failed old new fault
+RestEnded going q ls count failed old new Limit = (max_lines < count) × HandedFront going q ls old new
+RestEnded going q ls count failed old new fault = AnswerEnded going q ls failed old new fault
 
 -- where a source and a sink stood before a run and after it
 pub record Ends : Type 0 where
@@ -75,20 +76,21 @@ pub record Ends : Type 0 where
   pub sink_failed : Bool
 
 -- a front of the answer to the whole input was appended
-abbrev pub InputFront : tree.Query → Ends → Type 0
-InputFront q e = IfSome e.source_old (λ input. HandedFront q (lines input) e.sink_old e.sink_new)
+abbrev pub InputFront : Bool → tree.Query → Ends → Type 0
+InputFront going q e = IfSome e.source_old (λ input. HandedFront going q (lines input) e.sink_old e.sink_new)
 
 -- a run with batches of this size
-abbrev pub StreamEnded : tree.Query → ℕ → Ends → RunFault → Type 0
-StreamEnded q batch e (Document line fault) =
-    IfSome e.source_old (λ input. Handed q (lines input) (Some (line, fault)) e.sink_old e.sink_new)
-    × (bytes : List ℕ) × Consumes e.source_old e.source_new bytes × WasNotWhole batch line bytes e.last
-StreamEnded q batch e Read = (e.source_failed ≡ true) × (bytes : List ℕ)
+abbrev pub StreamEnded : Bool → tree.Query → ℕ → Ends → RunFault → Type 0
+StreamEnded going q batch e (Document line fault) =
+    IfSome e.source_old (λ input. Handed going q (lines input) (Some (line, fault)) e.sink_old e.sink_new)
+    × ((bytes : List ℕ) × Consumes e.source_old e.source_new bytes × WasNotWhole batch line bytes e.last)
+    × (going ≡ false)
+StreamEnded going q batch e Read = (e.source_failed ≡ true) × (bytes : List ℕ)
     × Consumes e.source_old e.source_new bytes
-    × Handed q (whole_batches batch (documents_in bytes)) None e.sink_old e.sink_new
-StreamEnded q batch e Write = (e.sink_failed ≡ true) × InputFront q e
-StreamEnded q batch e Limit = ((e.reads_new ≡ e.reads_old + max_reads) ⊎ ((bytes : List ℕ)
-    × Consumes e.source_old e.source_new bytes × (max_lines < line_count bytes))) × InputFront q e
-StreamEnded q batch e Memory = InputFront q e
-StreamEnded q batch e (Query fault) = ⊥
-StreamEnded q batch e Settings = ⊥
+    × Handed going q (whole_batches batch (documents_in bytes)) None e.sink_old e.sink_new
+StreamEnded going q batch e Write = (e.sink_failed ≡ true) × InputFront going q e
+StreamEnded going q batch e Limit = ((e.reads_new ≡ e.reads_old + max_reads) ⊎ ((bytes : List ℕ)
+    × Consumes e.source_old e.source_new bytes × (max_lines < line_count bytes))) × InputFront going q e
+StreamEnded going q batch e Memory = InputFront going q e
+StreamEnded going q batch e (Query fault) = ⊥
+StreamEnded going q batch e Settings = ⊥

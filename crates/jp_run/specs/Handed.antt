@@ -1,26 +1,30 @@
--- The answer to lines, handed to a sink.
-use Rattle.std.specs.Prelude.{◌≡◌, ℕ, List, Option}
+-- The answer to lines, in either form, handed to a sink.
+use Rattle.std.specs.Prelude.{◌≡◌, ℕ, Bool, List, Option}
 use Rattle.std.specs.Io.KnownBytes.{Appends}
 use Rattle.jp_doc.specs.Lines.{Line}
 use Rattle.jp_doc.specs.declared.fault.DocFault.{DocFault}
 use Rattle.jp_syntax.specs.Tree.{Text, Query}
 use Rattle.jp_regexp.specs.Tests.{Tests, AreRight}
 use Rattle.jp_check.specs.Verdict.{IsAccepted}
-use Rattle.jp_answer.specs.Answer.{Answer, answer}
+use Rattle.jp_answer.specs.Answer.{Answer}
+use Rattle.jp_answer.specs.Form.{answer_in}
 use Rattle.jp_run.specs.Written.{AppendsFront}
 
 -- the answer to the lines stops so, and its bytes were appended
-pub record Handed (q : Query) (ls : List Line) (stop : Option (ℕ × DocFault)) (old new : Option (List ℕ))
-    : Type 0 where
+pub record Handed (keeps_going : Bool) (q : Query) (ls : List Line) (stop : Option (ℕ × DocFault))
+    (old new : Option (List ℕ)) : Type 0 where
   pub whole : Answer
-  pub is : (t : Tests) → AreRight t → answer t q ls ≡ whole
+  pub is : (t : Tests) → AreRight t → answer_in keeps_going t q ls ≡ whole
   pub stopped : whole.stopped ≡ stop
   pub appended : Appends old new whole.bytes
 
 -- a front of the bytes of the answer to the lines was appended
-abbrev pub HandedFront : Query → List Line → Option (List ℕ) → Option (List ℕ) → Type 0
-HandedFront q ls old new = (t : Tests) → AreRight t → AppendsFront old new (answer t q ls).bytes
+abbrev pub HandedFront : Bool → Query → List Line → Option (List ℕ) → Option (List ℕ) → Type 0
+HandedFront keeps_going q ls old new = (t : Tests) → AreRight t
+    → AppendsFront old new (answer_in keeps_going t q ls).bytes
 
 -- the text is accepted, and the answer to the lines of the query that it spells was handed out
-abbrev pub IsHanded : Text → List Line → Option (ℕ × DocFault) → Option (List ℕ) → Option (List ℕ) → Type 0
-IsHanded text ls stop old new = (q : Query) × IsAccepted text q × Handed q ls stop old new
+abbrev pub IsHanded : Bool → Text → List Line → Option (ℕ × DocFault) → Option (List ℕ) → Option (List ℕ)
+    → Type 0
+IsHanded keeps_going text ls stop old new = (q : Query) × IsAccepted text q
+    × Handed keeps_going q ls stop old new

@@ -1,10 +1,13 @@
 //! Lines that are answered in batches, each handed to the sink before the next begins.
 
 ghost use Rattle.std.specs.Prelude.{◌≡◌, ◌+◌, ◌≤◌, ◌++◌, false, true, None, map, length, vec_len, IfOk, OnOk};
-ghost use Rattle.std.specs.Prelude.{IfErr};
+ghost use Rattle.std.specs.Prelude.{IfErr, OnErr, IsErrOf};
 ghost use Rattle.jp_doc.specs.Feeding.{finished, finished_lines};
 ghost use Rattle.jp_doc.specs.Lines.{line_of};
 ghost use Rattle.jp_check.specs.Plan.{planned_query};
+ghost use Rattle.jp_regexp.specs.Tests.{Tests, AreRight};
+ghost use Rattle.jp_answer.specs.Answered.{answer_of};
+ghost use Rattle.jp_answer.specs.Form.{answer_in, passed_in};
 ghost use Rattle.jp_run.specs.Batches.{in_batches, whole_batches, left_over};
 ghost use Rattle.jp_run.specs.Ended.{AnswerEnded, RestEnded};
 ghost use Rattle.jp_run.specs.Handed.{Handed};
@@ -14,7 +17,7 @@ use crate::ends::Sink;
 use crate::gathering::{Pending, take_last};
 use crate::running::Totals;
 use crate::writing::{hand_out, pass_on};
-use jp_answer::{Gate, RunFault, Settings, answer};
+use jp_answer::{Answer, Gate, RunFault, Settings, answer, answer_all};
 use jp_check::Plan;
 use jp_doc::Line;
 use std::alloc::Global;
@@ -31,21 +34,26 @@ pub(crate) fn answer_batches<R: Threads + Sync, K: Sink, G: Gate + Sync>(
     sink: &mut K,
 ) -> Result<(), RunFault>
     requires working { K.failed sink.old ≡ false }
-    requires few { pending.old.answered + vec_len pending.old.lines ≤ 4294967296 }
-    ensures handed { OnOk result (Handed (planned_query plan.now)
+    requires few { pending.old.answered.lines + vec_len pending.old.lines ≤ 4294967296 }
+    requires few_faulty { pending.old.answered.faulty ≤ pending.old.answered.lines }
+    ensures handed { OnOk result (Handed settings.keeps_going (planned_query plan.now)
         (whole_batches settings.batch (map line_of pending.old.lines.items)) None
         (K.contents sink.old) (K.contents sink.new)) }
     ensures left { OnOk result (map line_of pending.new.lines.items
         ≡ left_over settings.batch (map line_of pending.old.lines.items)) }
-    ensures answered { OnOk result (pending.new.answered
-        ≡ pending.old.answered + in_batches settings.batch (map line_of pending.old.lines.items)) }
+    ensures answered { OnOk result (pending.new.answered.lines
+        ≡ pending.old.answered.lines + in_batches settings.batch (map line_of pending.old.lines.items)) }
+    ensures passed { OnOk result (pending.new.answered.faulty ≡ pending.old.answered.faulty
+        + passed_in settings.keeps_going
+        (whole_batches settings.batch (map line_of pending.old.lines.items))) }
     ensures progress { OnOk result (pending.new.progress ≡ pending.old.progress) }
     ensures working { OnOk result (K.failed sink.new ≡ false) }
-    ensures fault { IfErr result (AnswerEnded (planned_query plan.now) (map line_of pending.old.lines.items)
+    ensures fault { IfErr result (AnswerEnded settings.keeps_going (planned_query plan.now) (map line_of pending.old.lines.items)
         (K.failed sink.new) (K.contents sink.old) (K.contents sink.new)) }
 {
-    let count = answer_whole(rt, alloc, plan, settings, gate, &pending.lines, sink)?;
-    pending.answered += count as u64;
+    let (count, faulty) = answer_whole(rt, alloc, plan, settings, gate, &pending.lines, sink)?;
+    pending.answered.lines += count as u64;
+    pending.answered.faulty += faulty;
     pending.lines.drain(..count);
     Ok(())
 }
@@ -62,31 +70,37 @@ pub(crate) fn answer_rest<R: Threads + Sync, K: Sink, G: Gate + Sync>(
 ) -> Result<Totals, RunFault>
     requires working { K.failed sink.old ≡ false }
     requires few_lines { pending.old.progress.count ≤ max_lines }
-    requires few { pending.old.answered + vec_len pending.old.lines ≤ 4294967295 }
-    ensures handed { OnOk result (Handed (planned_query plan.now)
+    requires few { pending.old.answered.lines + vec_len pending.old.lines ≤ 4294967295 }
+    requires few_faulty { pending.old.answered.faulty ≤ pending.old.answered.lines }
+    ensures handed { OnOk result (Handed settings.keeps_going (planned_query plan.now)
         (map line_of pending.old.lines.items ++ finished_lines pending.old.progress) None
         (K.contents sink.old) (K.contents sink.new)) }
     ensures lines { IfOk result (λ totals. totals.lines ≡ (finished pending.old.progress).count) }
-    ensures documents { IfOk result (λ totals. totals.documents ≡ pending.old.answered
+    ensures documents { IfOk result (λ totals. totals.documents ≡ pending.old.answered.lines
         + length (map line_of pending.old.lines.items ++ finished_lines pending.old.progress)) }
+    ensures passed { IfOk result (λ totals. totals.faulty ≡ pending.old.answered.faulty
+        + passed_in settings.keeps_going
+        (map line_of pending.old.lines.items ++ finished_lines pending.old.progress)) }
     ensures few_lines { IfOk result (λ totals. totals.lines ≤ max_lines) }
     ensures flushed { OnOk result (K.flushed sink.new ≡ true) }
     ensures working { OnOk result (K.failed sink.new ≡ false) }
-    ensures fault { IfErr result (RestEnded (planned_query plan.now)
+    ensures fault { IfErr result (RestEnded settings.keeps_going (planned_query plan.now)
         (map line_of pending.old.lines.items ++ finished_lines pending.old.progress)
         (finished pending.old.progress).count
         (K.failed sink.new) (K.contents sink.old) (K.contents sink.new)) }
 {
     let lines = take_last(pending)?;
-    answer_lines(rt, alloc, plan, settings, gate, &pending.lines, sink)?;
+    let faulty = answer_lines(rt, alloc, plan, settings, gate, &pending.lines, sink)?;
     pass_on(sink)?;
     Ok(Totals {
         lines,
-        documents: pending.answered + pending.lines.len() as u64,
+        documents: pending.answered.lines + pending.lines.len() as u64,
+        faulty: pending.answered.faulty + faulty,
     })
 }
 
-/// Answers one batch after another, up to the last whole one, and gives how many lines these were.
+/// Answers one batch after another, up to the last whole one. Gives how many lines these were, and how many
+/// faulty ones were passed.
 fn answer_whole<R: Threads + Sync, K: Sink, G: Gate + Sync>(
     rt: &R,
     alloc: Global,
@@ -95,28 +109,33 @@ fn answer_whole<R: Threads + Sync, K: Sink, G: Gate + Sync>(
     gate: &G,
     lines: &[Line],
     sink: &mut K,
-) -> Result<usize, RunFault>
+) -> Result<(usize, u64), RunFault>
     requires working { K.failed sink.old ≡ false }
-    ensures count { IfOk result (λ n. n ≡ in_batches settings.batch (map line_of lines.now)) }
-    ensures bound { IfOk result (λ n. n ≤ length lines.now) }
-    ensures handed { OnOk result (Handed (planned_query plan.now)
+    requires few { length lines.now ≤ 4294967296 }
+    ensures count { IfOk result (λ r. r.0 ≡ in_batches settings.batch (map line_of lines.now)) }
+    ensures bound { IfOk result (λ r. r.0 ≤ length lines.now) }
+    ensures passed { IfOk result (λ r. r.1 ≡ passed_in settings.keeps_going
+        (whole_batches settings.batch (map line_of lines.now))) }
+    ensures few { IfOk result (λ r. r.1 ≤ r.0) }
+    ensures handed { OnOk result (Handed settings.keeps_going (planned_query plan.now)
         (whole_batches settings.batch (map line_of lines.now)) None
         (K.contents sink.old) (K.contents sink.new)) }
     ensures working { OnOk result (K.failed sink.new ≡ false) }
-    ensures fault { IfErr result (AnswerEnded (planned_query plan.now) (map line_of lines.now)
+    ensures fault { IfErr result (AnswerEnded settings.keeps_going (planned_query plan.now) (map line_of lines.now)
         (K.failed sink.new) (K.contents sink.old) (K.contents sink.new)) }
 {
     let batch = settings.batch as usize;
     let mut rest = lines;
+    let mut faulty = 0;
     while rest.len() >= batch {
         let (front, left) = rest.split_at(batch);
-        answer_lines(rt, alloc, plan, settings, gate, front, sink)?;
+        faulty += answer_lines(rt, alloc, plan, settings, gate, front, sink)?;
         rest = left;
     }
-    Ok(lines.len() - rest.len())
+    Ok((lines.len() - rest.len(), faulty))
 }
 
-/// Answers some lines, and hands the answer to the sink.
+/// Answers some lines, and hands the answer to the sink. Gives how many faulty lines it passes.
 fn answer_lines<R: Threads + Sync, K: Sink, G: Gate + Sync>(
     rt: &R,
     alloc: Global,
@@ -125,23 +144,46 @@ fn answer_lines<R: Threads + Sync, K: Sink, G: Gate + Sync>(
     gate: &G,
     lines: &[Line],
     sink: &mut K,
-) -> Result<(), RunFault>
+) -> Result<u64, RunFault>
     requires working { K.failed sink.old ≡ false }
     requires few { length lines.now ≤ 4294967296 }
-    ensures handed { OnOk result (Handed (planned_query plan.now) (map line_of lines.now) None
+    ensures handed { OnOk result (Handed settings.keeps_going (planned_query plan.now) (map line_of lines.now) None
         (K.contents sink.old) (K.contents sink.new)) }
+    ensures passed { IfOk result (λ n. n ≡ passed_in settings.keeps_going (map line_of lines.now)) }
+    ensures few_faulty { IfOk result (λ n. n ≤ length lines.now) }
     ensures working { OnOk result (K.failed sink.new ≡ false) }
-    ensures fault { IfErr result (AnswerEnded (planned_query plan.now) (map line_of lines.now)
+    ensures fault { IfErr result (AnswerEnded settings.keeps_going (planned_query plan.now) (map line_of lines.now)
         (K.failed sink.new) (K.contents sink.old) (K.contents sink.new)) }
 {
-    let answer = answer(
-        rt,
-        alloc,
-        plan,
-        lines,
-        settings.workers,
-        settings.piece,
-        gate,
-    )?;
-    hand_out(sink, &answer)
+    let (answer, faulty) = answer_form(rt, alloc, plan, settings, gate, lines)?;
+    hand_out(sink, &answer)?;
+    Ok(faulty)
+}
+
+/// The answer to some lines in the form that is set, and how many faulty lines it passes.
+fn answer_form<R: Threads + Sync, G: Gate + Sync>(
+    rt: &R,
+    alloc: Global,
+    plan: &Plan,
+    settings: Settings,
+    gate: &G,
+    lines: &[Line],
+) -> Result<(Answer, u64), RunFault>
+    requires { length lines.now ≤ 4294967296 }
+    ensures answer { IfOk result (λ r. (t : Tests) → AreRight t → answer_in settings.keeps_going t
+        (planned_query plan.now) (map line_of lines.now) ≡ answer_of r.0) }
+    ensures passed { IfOk result (λ r. r.1 ≡ passed_in settings.keeps_going (map line_of lines.now)) }
+    ensures fault { OnErr result (IsErrOf result RunFault.Memory) }
+{
+    let Settings { workers, piece, .. } = settings;
+    if !settings.keeps_going {
+        let answer = answer(rt, alloc, plan, lines, workers, piece, gate)?;
+        return Ok((answer, 0));
+    }
+    let whole = answer_all(rt, alloc, plan, lines, workers, piece, gate)?;
+    let answer = Answer {
+        bytes: whole.bytes,
+        stopped: None,
+    };
+    Ok((answer, whole.faulty))
 }

@@ -22,8 +22,16 @@ pub(crate) struct Pending {
     pub(crate) progress: Lines,
     /// The lines that aren't blank and are not answered yet.
     pub(crate) lines: Vec<Line>,
-    /// How many are answered.
-    pub(crate) answered: u64,
+    pub(crate) answered: Answered,
+}
+
+/// What has been answered.
+#[derive(Clone, Copy, Drop)]
+pub(crate) struct Answered {
+    /// How many lines, but for blank ones.
+    pub(crate) lines: u64,
+    /// How many faulty lines the answer has passed.
+    pub(crate) faulty: u64,
 }
 
 /// Reads once, and adds the lines that are complete then. Gives the number of bytes: 0 is the end of the

@@ -12,7 +12,9 @@ mod writing;
 
 pub use checking::check_query;
 pub use ends::{Broken, Sink, Source};
-pub use jp_answer::{Answer, DocStop, Gate, OpenGate, RunFault, Settings, answer, laws};
+pub use jp_answer::{
+    Answer, DocStop, Gate, OpenGate, RunFault, Settings, Whole, answer, answer_all, laws,
+};
 pub use running::{Totals, run};
 pub use std_ends::{FromReader, FromWriter};
 pub use writing::write_all;

@@ -12,7 +12,8 @@ ghost use Rattle.jp_syntax.specs.Depth.{bracket_depth, max_depth};
 ghost use Rattle.jp_check.specs.Plan.{planned_query};
 ghost use Rattle.jp_check.specs.Verdict.{IsAccepted, IsVerdict};
 ghost use Rattle.jp_answer.specs.Answer.{Answer};
-ghost use Rattle.jp_answer.specs.Answered.{IsAnswerTo};
+ghost use Rattle.jp_answer.specs.Answered.{IsAnswerIn};
+ghost use Rattle.jp_answer.specs.Form.{passed_in};
 ghost use Rattle.jp_run.specs.Batches.{documents_in, whole_batches, WasNotWhole};
 ghost use Rattle.jp_run.specs.Ended.{StreamEnded};
 ghost use Rattle.jp_run.specs.Handed.{Handed, IsHanded};
@@ -21,7 +22,7 @@ ghost use Rattle.jp_run.specs.Written.{AppendsFront};
 
 use crate::batches::{answer_batches, answer_rest};
 use crate::ends::{Sink, Source};
-use crate::gathering::{Pending, read_lines};
+use crate::gathering::{Answered, Pending, read_lines};
 use jp_answer::{Gate, RunFault, Settings};
 use jp_check::{Plan, plan};
 use jp_doc::Lines;
@@ -40,8 +41,20 @@ const MAX_READS: u64 = 1 << 40;
 pub struct Totals {
     /// The number of lines, blank ones too.
     pub lines: u64,
-    /// The number of lines that aren't blank, each of which held a document.
+    /// The number of lines that aren't blank, each of which held a document or is a faulty one.
     pub documents: u64,
+    /// The number of faulty lines: 0 where the answer doesn't keep going.
+    pub faulty: u64,
+}
+
+impl Totals {
+    /// The status that a program ends with: 3 where lines are faulty, else 0.
+    pub fn status(&self) -> u8
+        ensures faulty { 0 < self.now.faulty → result ≡ 3 }
+        ensures fine { self.now.faulty ≡ 0 → result ≡ 0 }
+    {
+        if self.faulty > 0 { 3 } else { 0 }
+    }
 }
 
 /// Runs a query over all documents of the source, one on a line, and writes the lines of the nodes that it
@@ -49,7 +62,8 @@ pub struct Totals {
 ///
 /// The query is read first. Then the source is read to its end, at most 65,536 bytes a call. As soon as
 /// `batch` documents have come they are answered by the workers and written, before the next read; the rest
-/// is at the end. The run stops at the first faulty line.
+/// is at the end. The run stops at the first faulty line, unless the settings are to keep going: then a faulty line
+/// gives its fault line, and the totals count it.
 /// Neither end has failed before, and the counts of the source are at most 2^62.
 ///
 /// # Errors
@@ -78,10 +92,13 @@ pub fn run<R: Threads + Sync, S: Source, K: Sink, G: Gate + Sync>(
     // end has failed.
     ensures accepted { OnOk result ((q : Query) × IsAccepted (chars query.now) q) }
     ensures answer { OnOk result (IfSome (S.remaining source.old) (λ input. (a : Answer)
-        × IsAnswerTo (chars query.now) input a
+        × IsAnswerIn settings.now.keeps_going (chars query.now) input a
         × (a.stopped ≡ None) × Appends (K.contents sink.old) (K.contents sink.new) a.bytes)) }
     ensures counts { IfOk result (λ totals. IfSome (S.remaining source.old)
         (λ input. (totals.lines ≡ line_count input) × (totals.documents ≡ length (lines input)))) }
+    // The faulty lines that the answer passed: none where it doesn't keep going.
+    ensures faulty { IfOk result (λ totals. IfSome (S.remaining source.old)
+        (λ input. totals.faulty ≡ passed_in settings.now.keeps_going (lines input))) }
     ensures few_lines { IfOk result (λ totals. totals.lines ≤ max_lines) }
     ensures end { OnOk result (IsAtEnd (S.remaining source.new)) }
     ensures flushed { OnOk result (K.flushed sink.new ≡ true) }
@@ -98,8 +115,11 @@ pub fn run<R: Threads + Sync, S: Source, K: Sink, G: Gate + Sync>(
         × (source.new ≡ source.old) × (sink.new ≡ sink.old) }
     // The first faulty line and its fault are told, and all before it was written.
     ensures document { (line : ℕ) (fault : Fault) → IsErrOf result (RunFault.Document line fault)
-        → IfSome (S.remaining source.old) (λ input. (a : Answer) × IsAnswerTo (chars query.now) input a
+        → IfSome (S.remaining source.old) (λ input. (a : Answer) × IsAnswerIn settings.now.keeps_going (chars query.now) input a
         × (a.stopped ≡ Some (line, fault)) × Appends (K.contents sink.old) (K.contents sink.new) a.bytes) }
+    // An answer that keeps going tells no faulty line so.
+    ensures goes_on { settings.now.keeps_going ≡ true → (line : ℕ) (fault : Fault)
+        → IsErrOf result (RunFault.Document line fault) → ⊥ }
     // What was read before the last call of `read` had too few documents for the faulty line's batch.
     ensures no_later_read { (line : ℕ) (fault : Fault) → IsErrOf result (RunFault.Document line fault)
         → (bytes : List ℕ) × Consumes (S.remaining source.old) (S.remaining source.new) bytes
@@ -107,7 +127,7 @@ pub fn run<R: Threads + Sync, S: Source, K: Sink, G: Gate + Sync>(
     // The lines of the whole batches among the documents whose line's end was read are written, and no more.
     ensures read { IsErrOf result RunFault.Read → (S.failed source.new ≡ true) × (bytes : List ℕ)
         × Consumes (S.remaining source.old) (S.remaining source.new) bytes
-        × IsHanded (chars query.now) (whole_batches settings.now.batch (documents_in bytes)) None
+        × IsHanded settings.now.keeps_going (chars query.now) (whole_batches settings.now.batch (documents_in bytes)) None
         (K.contents sink.old) (K.contents sink.new) }
     ensures write { IsErrOf result RunFault.Write → K.failed sink.new ≡ true }
     ensures limit { IsErrOf result RunFault.Limit → (S.reads source.new ≡ S.reads source.old + max_reads)
@@ -117,7 +137,7 @@ pub fn run<R: Threads + Sync, S: Source, K: Sink, G: Gate + Sync>(
     ensures settings { IsErrOf result RunFault.Settings → ⊥ }
     // Whatever the fault, a front of the answer was written.
     ensures front { OnErr result (IfSome (S.remaining source.old) (λ input. (a : Answer)
-        → IsAnswerTo (chars query.now) input a
+        → IsAnswerIn settings.now.keeps_going (chars query.now) input a
         → AppendsFront (K.contents sink.old) (K.contents sink.new) a.bytes)) }
     ensures few { S.reads source.new ≤ S.reads source.old + max_reads }
 {
@@ -138,14 +158,16 @@ fn stream<R: Threads + Sync, S: Source, K: Sink, G: Gate + Sync>(
     requires working { (S.failed source.old ≡ false) × (K.failed sink.old ≡ false) }
     requires few { S.reads source.old ≤ 2 ^ 62 }
     ensures handed { OnOk result (IfSome (S.remaining source.old) (λ input.
-        Handed (planned_query plan.now) (lines input) None (K.contents sink.old) (K.contents sink.new))) }
+        Handed settings.keeps_going (planned_query plan.now) (lines input) None (K.contents sink.old) (K.contents sink.new))) }
     ensures counts { IfOk result (λ totals. IfSome (S.remaining source.old)
         (λ input. (totals.lines ≡ line_count input) × (totals.documents ≡ length (lines input)))) }
+    ensures passed { IfOk result (λ totals. IfSome (S.remaining source.old)
+        (λ input. totals.faulty ≡ passed_in settings.keeps_going (lines input))) }
     ensures few_lines { IfOk result (λ totals. totals.lines ≤ max_lines) }
     ensures end { OnOk result (IsAtEnd (S.remaining source.new)) }
     ensures flushed { OnOk result (K.flushed sink.new ≡ true) }
     ensures still_working { OnOk result ((S.failed source.new ≡ false) × (K.failed sink.new ≡ false)) }
-    ensures fault { IfErr result (StreamEnded (planned_query plan.now) settings.batch (record {
+    ensures fault { IfErr result (StreamEnded settings.keeps_going (planned_query plan.now) settings.batch (record {
       source_old = S.remaining source.old;
       source_new = S.remaining source.new;
       reads_old = S.reads source.old;
@@ -163,7 +185,10 @@ fn stream<R: Threads + Sync, S: Source, K: Sink, G: Gate + Sync>(
     let mut pending = Pending {
         progress: Lines::new(alloc),
         lines: Vec::new(alloc),
-        answered: 0,
+        answered: Answered {
+            lines: 0,
+            faulty: 0,
+        },
     };
     for _turn in 0..MAX_READS {
         let n = read_lines(source, chunk, &mut pending)?;

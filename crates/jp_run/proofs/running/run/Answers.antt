@@ -22,18 +22,26 @@ pub returns-clause-refused : goal.returns-clause-refused
 returns-clause-refused g c = λ f v. not_both _ _ f c.in_ok-plan.ensures.ok v
 
 pub returns-clause-answer : goal.returns-clause-answer
-returns-clause-answer g c = answer_ok _ _ c.in_ok-plan.ensures.ok _ _ _ _ c.stream.ensures.handed
+returns-clause-answer g c = answer_ok _ _ _ c.in_ok-plan.ensures.ok _ _ _ _ c.stream.ensures.handed
 
 pub returns-clause-counts : goal.returns-clause-counts
 returns-clause-counts g c = c.stream.ensures.counts
 
 pub returns-clause-document : goal.returns-clause-document
-returns-clause-document g c = λ line fault e. answer_known _ _ c.in_ok-plan.ensures.ok _ _ _ _
+returns-clause-document g c = λ line fault e. answer_known _ _ _ c.in_ok-plan.ensures.ok _ _ _ _
     (at_fault _ (Document line fault) _ e c.stream.ensures.fault).0
 
 pub returns-clause-no_later_read : goal.returns-clause-no_later_read
 returns-clause-no_later_read g c = λ line fault e.
-    let h = at_fault c.stream.result (Document line fault) _ e c.stream.ensures.fault in (h.1, h.2, h.3)
+    let h = at_fault c.stream.result (Document line fault) _ e c.stream.ensures.fault in (h.1.0, h.1.1, h.1.2)
+
+pub returns-clause-goes_on : goal.returns-clause-goes_on
+returns-clause-goes_on g c = λ on line fault e.
+    let h = at_fault c.stream.result (Document line fault) _ e c.stream.ensures.fault in
+    let off = h.2 in absurd (cc)
+
+pub returns-clause-faulty : goal.returns-clause-faulty
+returns-clause-faulty g c = c.stream.ensures.passed
 
 pub returns-clause-read : goal.returns-clause-read
 returns-clause-read g c = λ e.
@@ -44,7 +52,7 @@ pub returns-clause-limit : goal.returns-clause-limit
 returns-clause-limit g c = λ e. (at_fault c.stream.result Limit _ e c.stream.ensures.fault).0
 
 pub returns-clause-front : goal.returns-clause-front
-returns-clause-front g c = front_err _ _ c.in_ok-plan.ensures.ok c.stream.result _
+returns-clause-front g c = front_err _ _ _ c.in_ok-plan.ensures.ok c.stream.result _
     c.args.settings.now.in_range.2.0 _ c.stream.ensures.fault
 
 pub returns-clause-few : goal.returns-clause-few
