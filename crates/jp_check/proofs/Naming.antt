@@ -1,5 +1,5 @@
 -- The names of the functions.
-use Rattle.std.proofs.Common.{◌≡◌, Bool, true, false, codes, Option, Some, None, refl, sym, ap}
+use Rattle.std.proofs.Common.{◌≡◌, Bool, true, false, codes, Option, Some, None, sym, ap}
 use Rattle.std.specs.Prelude.{if◌then◌else◌}
 use Rattle.std.specs.Str.{bytes_eq}
 use Rattle.std.proofs.lemmas.Slice.Eq.{bytes_eq-Decides}
@@ -41,7 +41,8 @@ truth_of l c m s v x d distinct_function = d
 same : (g f : Function) → Some g ≡ Some f → g ≡ f
 same g f e = cc
 
-is_told : (l c m s v x d : Bool) (f : Function) → told l c m s v x d ≡ Some f → truth_of l c m s v x d f ≡ true
+is_told : (l c m s v x d : Bool) (f : Function) → told l c m s v x d ≡ Some f
+    → truth_of l c m s v x d f ≡ true
 is_told true c m s v x d f e =
     sym (ap (truth_of true c m s v x d) (same length_function f e))
 is_told false true m s v x d f e =

@@ -31,20 +31,24 @@ use Rattle.jp_check.specs.declared.ready.Nodes.TheVariants as nod
 
 module _ (roots : List Wanted) where
   pub name_read : (s : String Global) → selector_in roots (sel.Name s) ≡ tree.name (text_of s)
-  name_read s = ap (selector_in roots) (sym (sel.rolls-Name s)) ∙ fold-roll-Selector tree.Logical (Want → Source) tree.Selector tree.Comparable tree.Segment logical_level (nodes_level roots)
-      selector_level value_level segment_level _
+  name_read s = ap (selector_in roots) (sym (sel.rolls-Name s))
+      ∙ fold-roll-Selector tree.Logical (Want → Source) tree.Selector tree.Comparable tree.Segment
+      logical_level (nodes_level roots) selector_level value_level segment_level _
 
   pub wild_read : selector_in roots sel.Wild ≡ tree.wildcard
-  wild_read = ap (selector_in roots) (sym sel.rolls-Wild) ∙ fold-roll-Selector tree.Logical (Want → Source) tree.Selector tree.Comparable tree.Segment logical_level (nodes_level roots)
-      selector_level value_level segment_level _
+  wild_read = ap (selector_in roots) (sym sel.rolls-Wild)
+      ∙ fold-roll-Selector tree.Logical (Want → Source) tree.Selector tree.Comparable tree.Segment
+      logical_level (nodes_level roots) selector_level value_level segment_level _
 
   pub index_read : (p : Position) → selector_in roots (sel.Index p) ≡ tree.index (position_text p)
-  index_read p = ap (selector_in roots) (sym (sel.rolls-Index p)) ∙ fold-roll-Selector tree.Logical (Want → Source) tree.Selector tree.Comparable tree.Segment logical_level (nodes_level roots)
-      selector_level value_level segment_level _
+  index_read p = ap (selector_in roots) (sym (sel.rolls-Index p))
+      ∙ fold-roll-Selector tree.Logical (Want → Source) tree.Selector tree.Comparable tree.Segment
+      logical_level (nodes_level roots) selector_level value_level segment_level _
 
   pub slice_read : (s : Slice) → selector_in roots (sel.Slice s) ≡ slice_of s
-  slice_read s = ap (selector_in roots) (sym (sel.rolls-Slice s)) ∙ fold-roll-Selector tree.Logical (Want → Source) tree.Selector tree.Comparable tree.Segment logical_level (nodes_level roots)
-      selector_level value_level segment_level _
+  slice_read s = ap (selector_in roots) (sym (sel.rolls-Slice s))
+      ∙ fold-roll-Selector tree.Logical (Want → Source) tree.Selector tree.Comparable tree.Segment
+      logical_level (nodes_level roots) selector_level value_level segment_level _
 
   pub filter_read : (l : Logical) → selector_in roots (sel.Filter l) ≡ tree.filter (logical_in roots l)
   filter_read l = ap (selector_in roots) (sym (sel.rolls-Filter l))
@@ -53,18 +57,21 @@ module _ (roots : List Wanted) where
 
   pub any_read : (v : Vec Logical Global) → logical_in roots (log.Any v)
       ≡ tree.any (tree.logicals (map (logical_in roots) v.items))
-  any_read v = ap (logical_in roots) (sym (log.rolls-Any v)) ∙ fold-roll-Logical tree.Logical (Want → Source) tree.Selector tree.Comparable tree.Segment logical_level (nodes_level roots)
-      selector_level value_level segment_level _
+  any_read v = ap (logical_in roots) (sym (log.rolls-Any v))
+      ∙ fold-roll-Logical tree.Logical (Want → Source) tree.Selector tree.Comparable tree.Segment
+      logical_level (nodes_level roots) selector_level value_level segment_level _
 
   pub all_read : (v : Vec Logical Global) → logical_in roots (log.All v)
       ≡ tree.all (tree.logicals (map (logical_in roots) v.items))
-  all_read v = ap (logical_in roots) (sym (log.rolls-All v)) ∙ fold-roll-Logical tree.Logical (Want → Source) tree.Selector tree.Comparable tree.Segment logical_level (nodes_level roots)
-      selector_level value_level segment_level _
+  all_read v = ap (logical_in roots) (sym (log.rolls-All v))
+      ∙ fold-roll-Logical tree.Logical (Want → Source) tree.Selector tree.Comparable tree.Segment
+      logical_level (nodes_level roots) selector_level value_level segment_level _
 
   pub not_read : (b : Box Logical Global) → logical_in roots (log.Not b)
       ≡ tree.negation (logical_in roots b.value)
-  not_read b = ap (logical_in roots) (sym (log.rolls-Not b)) ∙ fold-roll-Logical tree.Logical (Want → Source) tree.Selector tree.Comparable tree.Segment logical_level (nodes_level roots)
-      selector_level value_level segment_level _
+  not_read b = ap (logical_in roots) (sym (log.rolls-Not b))
+      ∙ fold-roll-Logical tree.Logical (Want → Source) tree.Selector tree.Comparable tree.Segment
+      logical_level (nodes_level roots) selector_level value_level segment_level _
 
   pub compare_read : (v : Value) (o : Operator) (w : Value) → logical_in roots (log.Compare v o w)
       ≡ tree.comparing (tree.comparison (value_in roots v) o (value_in roots w))
@@ -73,8 +80,9 @@ module _ (roots : List Wanted) where
       logical_level (nodes_level roots) selector_level value_level segment_level _
 
   pub test_read : (q : Nodes) → logical_in roots (log.Test q) ≡ source_test (nodes_in roots q want.First)
-  test_read q = ap (logical_in roots) (sym (log.rolls-Test q)) ∙ fold-roll-Logical tree.Logical (Want → Source) tree.Selector tree.Comparable tree.Segment logical_level (nodes_level roots)
-      selector_level value_level segment_level _
+  test_read q = ap (logical_in roots) (sym (log.rolls-Test q))
+      ∙ fold-roll-Logical tree.Logical (Want → Source) tree.Selector tree.Comparable tree.Segment
+      logical_level (nodes_level roots) selector_level value_level segment_level _
 
   pub match_read : (v : Value) (w : Value) → logical_in roots (log.Match v w)
       ≡ tree.test_call (call_of_two (codes "match") (as_argument (value_in roots v))
@@ -113,28 +121,33 @@ module _ (roots : List Wanted) where
       logical_level (nodes_level roots) selector_level value_level segment_level _
 
   pub constant_read : (x : Constant) → value_in roots (val.Constant x) ≡ tree.literal (constant_of x)
-  constant_read x = ap (value_in roots) (sym (val.rolls-Constant x)) ∙ fold-roll-Value tree.Logical (Want → Source) tree.Selector tree.Comparable tree.Segment logical_level (nodes_level roots)
-      selector_level value_level segment_level _
+  constant_read x = ap (value_in roots) (sym (val.rolls-Constant x))
+      ∙ fold-roll-Value tree.Logical (Want → Source) tree.Selector tree.Comparable tree.Segment
+      logical_level (nodes_level roots) selector_level value_level segment_level _
 
   pub single_read : (q : Nodes) → value_in roots (val.Single q)
       ≡ source_side (nodes_in roots q want.First)
-  single_read q = ap (value_in roots) (sym (val.rolls-Single q)) ∙ fold-roll-Value tree.Logical (Want → Source) tree.Selector tree.Comparable tree.Segment logical_level (nodes_level roots)
-      selector_level value_level segment_level _
+  single_read q = ap (value_in roots) (sym (val.rolls-Single q))
+      ∙ fold-roll-Value tree.Logical (Want → Source) tree.Selector tree.Comparable tree.Segment
+      logical_level (nodes_level roots) selector_level value_level segment_level _
 
   pub length_read : (b : Box Value Global) → value_in roots (val.Length b)
       ≡ tree.value_call (call_of_one (codes "length") (as_argument (value_in roots b.value)))
-  length_read b = ap (value_in roots) (sym (val.rolls-Length b)) ∙ fold-roll-Value tree.Logical (Want → Source) tree.Selector tree.Comparable tree.Segment logical_level (nodes_level roots)
-      selector_level value_level segment_level _
+  length_read b = ap (value_in roots) (sym (val.rolls-Length b))
+      ∙ fold-roll-Value tree.Logical (Want → Source) tree.Selector tree.Comparable tree.Segment
+      logical_level (nodes_level roots) selector_level value_level segment_level _
 
   pub count_read : (q : Nodes) → value_in roots (val.Count q)
       ≡ tree.value_call (call_of_one (codes "count") (source_argument (nodes_in roots q want.Count)))
-  count_read q = ap (value_in roots) (sym (val.rolls-Count q)) ∙ fold-roll-Value tree.Logical (Want → Source) tree.Selector tree.Comparable tree.Segment logical_level (nodes_level roots)
-      selector_level value_level segment_level _
+  count_read q = ap (value_in roots) (sym (val.rolls-Count q))
+      ∙ fold-roll-Value tree.Logical (Want → Source) tree.Selector tree.Comparable tree.Segment
+      logical_level (nodes_level roots) selector_level value_level segment_level _
 
   pub only_read : (q : Nodes) → value_in roots (val.Only q)
       ≡ tree.value_call (call_of_one (codes "value") (source_argument (nodes_in roots q want.Only)))
-  only_read q = ap (value_in roots) (sym (val.rolls-Only q)) ∙ fold-roll-Value tree.Logical (Want → Source) tree.Selector tree.Comparable tree.Segment logical_level (nodes_level roots)
-      selector_level value_level segment_level _
+  only_read q = ap (value_in roots) (sym (val.rolls-Only q))
+      ∙ fold-roll-Value tree.Logical (Want → Source) tree.Selector tree.Comparable tree.Segment
+      logical_level (nodes_level roots) selector_level value_level segment_level _
 
   pub here_read : (v : Vec Segment Global) (w : Want) → nodes_in roots (nod.Here v) w
       ≡ queried (tree.query start.Current (segments_in roots v.items))

@@ -1,5 +1,5 @@
-//! The functions and their types: those of RFC 9535 (2.4.1 to 2.4.8), and `xor` and `distinct`, which are this
-//! project's own.
+//! The functions and their types: those of RFC 9535 (2.4.1 to 2.4.8), and this project's own, `xor` and
+//! `distinct`.
 
 ghost use Rattle.std.specs.Prelude.{◌≡◌, map, option_map};
 ghost use Rattle.std.specs.Str.{chars};

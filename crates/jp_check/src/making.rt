@@ -285,7 +285,8 @@ fn make_distinct(
     roots: &mut Vec<RootQuery>,
 ) -> Result<Nodes, AllocError>
     ensures made { IfOk result (λ q. Reads (ready.roots_of roots.new.items)
-        (λ all. ready.source_argument (ready.nodes_in all q want)) (tree.call_argument (view.call_of call.now))) }
+        (λ all. ready.source_argument (ready.nodes_in all q want))
+        (tree.call_argument (view.call_of call.now))) }
     ensures roots { OnOk result (Begins (ready.roots_of roots.old.items) (ready.roots_of roots.new.items)) }
 {
     let [argument] = call.arguments.as_slice() else {

@@ -6,7 +6,7 @@ use Rattle.jp_doc.specs.Json.{Json}
 use Rattle.jp_doc.specs.Location.{Node, Location}
 use Rattle.jp_eval.specs.Functions.{first_value, only_value}
 use Rattle.jp_eval.specs.Kept.{kept_first, kept_count, kept_only, put_found, plus, first, count, only}
-use Rattle.jp_eval.specs.Kept.{none as no_value, several, located, put_first}
+use Rattle.jp_eval.specs.Kept.{none as no_value, several, located}
 
 first_stays : {K : Type 0} (put : K → Node → K) (v : Json) (ns : List Node)
     → kept_first (fold (put_found put) (first (Some v)) ns) ≡ Some v

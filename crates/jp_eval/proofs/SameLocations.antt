@@ -1,5 +1,5 @@
 -- Locations of `src/` are equal exactly where the locations that they stand for are the same.
-use Rattle.std.proofs.Common.{◌≡◌, Bool, ◌&&◌, List, [], ◌∷◌, length, map, suc, refl, sym, ap, ap₂, ◌∙◌}
+use Rattle.std.proofs.Common.{◌≡◌, ◌&&◌, List, [], ◌∷◌, length, map, suc, refl, sym, ap, ap₂, ◌∙◌}
 use Rattle.std.specs.Prelude.{string_bytes}
 use lib.Pointwise.{pointwise}
 use Rattle.std.proofs.lemmas.Str.{IsUtf8-string_bytes}

@@ -1,7 +1,6 @@
--- What the functions give: those of RFC 9535 (2.4.4 to 2.4.8), and `xor` and `distinct`, which are this project's
--- own.
-use Rattle.std.specs.Prelude.{ℕ, suc, Bool, true, false, not, ◌&&◌, ◌||◌, pos, List, [], ◌∷◌, length, Option, Some, None}
-use Rattle.std.specs.Prelude.{option_map, option_and_then, ◌==◌}
+-- What the functions give: those of RFC 9535 (2.4.4 to 2.4.8), and this project's own, `xor` and `distinct`.
+use Rattle.std.specs.Prelude.{ℕ, suc, Bool, true, false, not, ◌&&◌, ◌||◌, ◌==◌, pos, List, [], ◌∷◌}
+use Rattle.std.specs.Prelude.{length, Option, Some, None, option_map, option_and_then}
 use Rattle.std.specs.List.{filter}
 use Rattle.jp_doc.specs.Json.{Text, Json, whole, text, text_eq, array, object, Members, no_members}
 use Rattle.jp_doc.specs.Json.{add_member}

@@ -30,8 +30,8 @@ alone_value none = None
 alone_value (one v) = Some v
 alone_value several = None
 
--- what the caller's taker keeps, the value of the first, how many, the value of the only one, or the value of the
--- first and where they are
+-- what the caller's taker keeps, the value of the first, how many, the value of the only one, or the value
+-- of the first and where they are
 pub data Kept (K : Type 0) : Type 0 where
   taken : K → Kept K
   first : Option Json → Kept K

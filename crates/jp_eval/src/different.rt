@@ -1,5 +1,4 @@
-//! Nodes without those whose location stands earlier in the list, as `distinct` leaves them: how many there are,
-//! and the value of the only one.
+//! What a filter wants of the nodes that `distinct` leaves: how many there are, and the value of the only one.
 
 ghost use Rattle.std.specs.Prelude.{◌≡◌, ◌++◌, ◌∷◌, [], List, None, length, map, option_map, OnOk};
 ghost use Rattle.jp_doc.specs.Location.{Node, location_of};

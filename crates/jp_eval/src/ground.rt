@@ -130,11 +130,12 @@ impl<'v> Ground<'v> {
         }
     }
 
-    /// What there is of the nodes of the `$` query of a slot, or of `$` where there is none, once each location
-    /// stands there once.
+    /// What there is of the nodes of the `$` query of a slot, or of `$` where there is none, once each
+    /// location stands there once.
     pub(crate) fn different(&self, slot: usize) -> Different<'v>
         ensures { (n : Node) → IsDifferent result
-            (nodelist tests (part_value self.now.root) (root_at (roots_of self.now.roots.now) slot Distinct) n) }
+            (nodelist tests (part_value self.now.root)
+            (root_at (roots_of self.now.roots.now) slot Distinct) n) }
     {
         let root = Different {
             count: 1,

@@ -1,5 +1,4 @@
-use Rattle.std.proofs.Common.{length, map, sym, ap, ◌∙◌}
-use Rattle.jp_doc.specs.Location.{location_of}
+use Rattle.std.proofs.Common.{◌∙◌}
 use Rattle.jp_eval.proofs.SameLocations.{count_same}
 use Rattle.jp_eval.proofs.different.count_locations.Goals as goal
 
