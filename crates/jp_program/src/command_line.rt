@@ -16,13 +16,17 @@ the node's normalized path, a tab, the node's value.
 A QUERY that begins with - is given behind --. Beside the functions of RFC 9535 it may call two of our own:
 xor(A, B), exactly one of the two is true, and distinct(NODES), the nodes with each location once.
 
+The first line that holds no document ends the run. With --keep-going it gives a line of its own instead: its
+number, a tab, !, a tab, what is wrong with it.
+
 Status: 0 finished; 2 the query is refused; 3 a line holds no document; 4 reading or writing failed, or a
 limit was passed; 5 out of memory; 64 the command line is refused.
 
 Examples:
   jp '$..name' < people.jsonl
   jp --workers 8 '$.items[?@.price > 10]' < orders.jsonl
-  jp --check '$[?count(@.*) > 1]'";
+  jp --check '$[?count(@.*) > 1]'
+  jp --keep-going '$.id' < log.jsonl | awk -F'\\t' '{ print > ($2 == \"!\" ? \"bad\" : \"good\") }'";
 
 /// What the command line asks for.
 #[derive(Drop)]
@@ -81,17 +85,21 @@ fn with_numbers<'a>(alloc: Global, command: Command<'a>) -> Result<Command<'a>, 
     command.arg(number(alloc, "batch", "4096", batch))
 }
 
-/// The command, with the query and whether it is only checked.
+/// The command, with the query, whether it is only checked, and whether faulty lines are passed.
 fn with_query<'a>(alloc: Global, command: Command<'a>) -> Result<Command<'a>, AllocError> {
     let check = Arg::new(alloc, "check")
         .long("check")
         .action(ArgAction::SetTrue)
         .help("Read nothing, and say only whether QUERY is accepted");
+    let keep_going = Arg::new(alloc, "keep-going")
+        .long("keep-going")
+        .action(ArgAction::SetTrue)
+        .help("Write a line for each faulty line too, and go on");
     let query = Arg::new(alloc, "query")
         .value_name("QUERY")
         .required(true)
         .help("A JSONPath query (RFC 9535)");
-    command.arg(check)?.arg(query)
+    command.arg(check)?.arg(keep_going)?.arg(query)
 }
 
 /// An option that takes a number.
@@ -117,9 +125,14 @@ fn wanted_by<'a>(matches: &ArgMatches<'a>) -> Result<Wanted<'a>, RunFault>
     let Some(query) = matches.get_str("query") else {
         return Err(RunFault::Settings);
     };
+    let settings = Settings::new(workers, piece, batch)?;
     Ok(Wanted {
         query,
         check: matches.get_flag("check"),
-        settings: Settings::new(workers, piece, batch)?,
+        settings: if matches.get_flag("keep-going") {
+            settings.keep_going()
+        } else {
+            settings
+        },
     })
 }

@@ -56,6 +56,7 @@ const TAUGHT: &str = "\
 --piece
 --batch
 --check
+--keep-going
 QUERY
 [default: 4]
 [default: 64]
@@ -80,6 +81,10 @@ fn help_teaches(rt: HostRuntime) -> Result<(), Fail> {
 
 #[test]
 fn a_check_reads_nothing(rt: HostRuntime) -> Result<(), Fail> {
+    let left = run_words(&rt, &["jp", "--check", "--keep-going", "$.a"], b"{");
+    assert_eq!(rt; left.status, 0);
+    assert_eq!(rt; left.output.as_slice(), "".as_bytes());
+    assert_eq!(rt; left.notes.as_slice(), "".as_bytes());
     let left = run_words(&rt, &["jp", "--check", "$.a"], b"{");
     assert_eq!(rt; left.status, 0);
     assert_eq!(rt; left.output.as_slice(), "".as_bytes());

@@ -68,6 +68,7 @@ fn the_same_for_all_batches(rt: HostRuntime) {
         let totals = Totals {
             lines: 3,
             documents: 2,
+            faulty: 0,
         };
         assert!(rt; matches!(end, Ok(found) if found == totals));
         assert_eq!(rt; bytes.as_slice(), TWO_LINES);

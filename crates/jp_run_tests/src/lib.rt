@@ -12,6 +12,8 @@ mod gates;
 #[cfg(test)]
 mod hostile;
 #[cfg(test)]
+mod keep_going;
+#[cfg(test)]
 mod refusals;
 #[cfg(test)]
 mod runs;

@@ -240,12 +240,14 @@ fn lines_and_documents_are_counted(rt: HostRuntime) -> Result<(), Fail> {
     let totals = Totals {
         lines: 3,
         documents: 2,
+        faulty: 0,
     };
     assert!(rt; matches!(end, Ok(found) if found == totals));
     let (end, _) = ran(&rt, rt.alloc(), "$", b"");
     let none = Totals {
         lines: 0,
         documents: 0,
+        faulty: 0,
     };
     assert!(rt; matches!(end, Ok(found) if found == none));
     Ok(())

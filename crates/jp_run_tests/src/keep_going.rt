@@ -1,0 +1,169 @@
+//! Runs and answers that keep going after a faulty line.
+
+
+
+use crate::fakes::{Holds, OneByte};
+use crate::gates::{Entered, Pair};
+use jp_check::plan;
+use jp_doc::{Line, Lines};
+use jp_run::{FromReader, Gate, OpenGate, RunFault, Settings, Totals, Whole, answer_all};
+use std::alloc::{AllocError, Global};
+use std::test::Fail;
+use std::thread::Threads;
+
+/// More bytes than any of these runs writes.
+const ROOM: usize = 1_000_000;
+
+/// A document, a line that is no JSON text, a document, and a number that is not whole.
+const FOUR: &[u8] = b"{\"a\":1}\n{\n{\"a\":2}\n{\"a\":1.5}\n";
+
+/// What `$.a` gives there.
+const FOUR_LINES: &[u8] = b"1\t$['a']\t1\n2\t!\tunreadable\n3\t$['a']\t2\n4\t!\tnot whole\n";
+
+/// Two documents, with a blank line between them.
+const TWO: &[u8] = b"{\"a\":1}\n\n{\"a\":null}\n";
+
+/// What `$.a` gives there.
+const TWO_LINES: &[u8] = b"1\t$['a']\t1\n3\t$['a']\tnull\n";
+
+/// What a run of `$.a` ends with, and what it writes, with so many workers, pieces of one, and such batches.
+/// One read of all fails, and the sink takes so many bytes.
+fn ran<R: Threads + Sync>(
+    rt: &R,
+    alloc: Global,
+    input: &[u8],
+    cut: (u64, u64),
+    fails_at: u64,
+    room: usize,
+) -> Result<(Result<Totals, RunFault>, Vec<u8>), RunFault> {
+    let settings = Settings::new(cut.0, 1, cut.1)?.keep_going();
+    let mut source = OneByte::new(input, fails_at);
+    let mut sink = Holds::new(Vec::new(alloc), 3, room);
+    let end = jp_run::run(
+        rt,
+        alloc,
+        &mut source,
+        &mut sink,
+        "$.a",
+        &settings,
+        &OpenGate,
+    );
+    Ok((end, sink.bytes))
+}
+
+#[test]
+fn faulty_lines_have_lines_of_their_own(rt: HostRuntime) -> Result<(), Fail> {
+    let rows = [
+        (FOUR, FOUR_LINES, 4, 4, 2, 3),
+        (TWO, TWO_LINES, 3, 2, 0, 0),
+        (b"{".as_slice(), b"1\t!\tunreadable\n".as_slice(), 1, 1, 1, 3),
+        (b"".as_slice(), b"".as_slice(), 0, 0, 0, 0),
+    ];
+    for (input, wanted, lines, documents, faulty, status) in rows {
+        for cut in [(1, 1), (1, 10), (4, 1), (4, 10)] {
+            let (end, bytes) = ran(&rt, rt.alloc(), input, cut, 0, ROOM)?;
+            let totals = end?;
+            assert_eq!(rt; bytes.as_slice(), wanted);
+            assert_eq!(rt; totals.lines, lines);
+            assert_eq!(rt; totals.documents, documents);
+            assert_eq!(rt; totals.faulty, faulty);
+            assert_eq!(rt; totals.status(), status);
+        }
+    }
+    Ok(())
+}
+
+/// The bytes `{"a":1}`, a line feed, `{`, a line feed: ten, each read alone.
+#[test]
+fn each_read_failing(rt: HostRuntime) -> Result<(), Fail> {
+    for call in 1..=11u64 {
+        let written = match call {
+            ..=8 => 0,
+            9..=10 => 11,
+            _ => 26,
+        };
+        let (front, _) = FOUR_LINES.split_at(written);
+        let (end, bytes) = ran(&rt, rt.alloc(), b"{\"a\":1}\n{\n", (2, 1), call, ROOM)?;
+        assert!(rt; matches!(end, Err(RunFault::Read)));
+        assert_eq!(rt; bytes.as_slice(), front);
+        let (end, bytes) = ran(&rt, rt.alloc(), b"{\"a\":1}\n{\n", (2, 10), call, ROOM)?;
+        assert!(rt; matches!(end, Err(RunFault::Read)));
+        assert!(rt; bytes.is_empty());
+    }
+    Ok(())
+}
+
+#[test]
+fn each_write_failing(rt: HostRuntime) -> Result<(), Fail> {
+    for room in 0..FOUR_LINES.len() {
+        for cut in [(2, 1), (2, 10)] {
+            let (end, bytes) = ran(&rt, rt.alloc(), FOUR, cut, 0, room)?;
+            assert!(rt; matches!(end, Err(RunFault::Write)));
+            let (front, _) = FOUR_LINES.split_at(room.min(FOUR_LINES.len()));
+            assert_eq!(rt; bytes.as_slice(), front);
+        }
+    }
+    Ok(())
+}
+
+/// The lines of a text.
+fn lines_of(alloc: Global, text: &[u8]) -> Result<Vec<Line>, AllocError> {
+    let mut lines = Vec::new(alloc);
+    Lines::new(alloc).feed(text, &mut lines)?;
+    Ok(lines)
+}
+
+/// What `$.a` gives, by so many workers, in pieces of that size.
+fn answered<R: Threads + Sync, G: Gate + Sync>(
+    rt: &R,
+    alloc: Global,
+    text: &[u8],
+    cut: (u64, u64),
+    gate: &G,
+) -> Option<Whole> {
+    let settings = Settings::new(cut.0, cut.1, 1).ok()?;
+    let plan = plan(alloc, "$.a").ok()?;
+    let lines = lines_of(alloc, text).ok()?;
+    if lines.len() > 4_294_967_296 {
+        return None;
+    }
+    let Settings { workers, piece, .. } = settings;
+    answer_all(rt, alloc, &plan, &lines, workers, piece, gate).ok()
+}
+
+#[test]
+fn the_answer_to_all_lines(rt: HostRuntime) {
+    for cut in [(1, 1), (4, 1), (4, 2), (2, 100)] {
+        let found = answered(&rt, rt.alloc(), FOUR, cut, &OpenGate);
+        assert!(rt; matches!(found, Some(w) if w.bytes.as_slice() == FOUR_LINES && w.faulty == 2));
+    }
+}
+
+#[test]
+fn two_workers_at_once(rt: HostRuntime) {
+    let gate = Pair(Entered::new());
+    let found = answered(&rt, rt.alloc(), FOUR, (2, 1), &gate);
+    assert!(rt; matches!(found, Some(w) if w.bytes.as_slice() == FOUR_LINES && w.faulty == 2));
+    assert_eq!(rt; gate.0.failures(), 0);
+    assert_eq!(rt; gate.0.seen(), [true, true, true]);
+}
+
+/// Without the option, the first faulty line ends the run.
+#[test]
+fn the_option_is_off_at_first(rt: HostRuntime) -> Result<(), Fail> {
+    let settings = Settings::new(4, 1, 10)?;
+    let mut source = FromReader::new(FOUR);
+    let mut sink = Holds::new(Vec::new(rt.alloc()), ROOM, ROOM);
+    let end = jp_run::run(
+        &rt,
+        rt.alloc(),
+        &mut source,
+        &mut sink,
+        "$.a",
+        &settings,
+        &OpenGate,
+    );
+    assert!(rt; matches!(end, Err(RunFault::Document { line: 2, .. })));
+    assert_eq!(rt; sink.bytes.as_slice(), "1\t$['a']\t1\n".as_bytes());
+    Ok(())
+}
