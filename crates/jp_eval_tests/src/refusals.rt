@@ -9,7 +9,8 @@ use jp_eval::evaluate;
 use jp_syntax::QueryFault;
 use std::alloc::Global;
 
-const QUERY: &str = "$..[?@.a==$.c[0]&&value(@.b[?search(@,'[x-z]')])!='p'&&count($.c[*])==2]";
+const QUERY: &str = "$..[?@.a==$.c[0]&&value(@.b[?search(@,'[x-z]')])!='p'&&count($.c[*])==2\
+    &&count(distinct($.c[0,1,0]))==2]";
 
 const DOCUMENT: &[u8] = b"{\"c\":[1,2],\"d\":[{\"a\":1,\"b\":[\"py\"]},{\"a\":1},{\"a\":2}]}";
 

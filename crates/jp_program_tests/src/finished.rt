@@ -63,6 +63,9 @@ QUERY
 [default: 4096]
 1 to 64
 1 to 1000000
+RFC 9535
+xor(A, B)
+distinct(NODES)
 Status:
 standard input
 Examples:";
