@@ -216,7 +216,8 @@ module _ (k : Bool) (lines : List code.Line) (i : ℕ) (l : code.Line) (h : i < 
 
   pub passed_more : (n : ℕ) → passed_in k all ≡ n + passed_in k now → fault_here ≡ None
       → passed_in k all ≡ n + passed_in k later
-  passed_more n e none = e ∙ ap (λ m. n + m) (ap (passed_in k) here ∙ passed_document k (line_of l) later none)
+  passed_more n e none = e
+      ∙ ap (λ m. n + m) (ap (passed_in k) here ∙ passed_document k (line_of l) later none)
 
   pub passed_one : (n : ℕ) (fault : DocFault) → passed_in k all ≡ n + passed_in k now → k ≡ true
       → fault_here ≡ Some fault → passed_in k all ≡ n + 1 + passed_in k later

@@ -98,7 +98,8 @@ goes_on a rest plain = by_stop a.stopped plain where
 
 -- one more answer is joined, and has not stopped
 pub joined_more : (all rest : answers.Answer) (a : Outcome) (bytes new : List ℕ)
-    → all ≡ after bytes (joined (outcome_of a) rest) → false ≡ is_some a.stopped → new ≡ bytes ++ a.bytes.items
+    → all ≡ after bytes (joined (outcome_of a) rest) → false ≡ is_some a.stopped
+    → new ≡ bytes ++ a.bytes.items
     → all ≡ after new rest
 joined_more all rest a bytes new so plain is =
     so ∙ ap (after bytes) (goes_on a rest plain) ∙ ap

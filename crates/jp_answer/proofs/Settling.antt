@@ -1,6 +1,7 @@
 -- What the workers did together, and the answer that their parts give.
-use Rattle.std.proofs.Common.{◌≡◌, refl, ℕ, zero, suc, ◌+◌, ◌*◌, ◌<◌, ◌≤◌, ◌⊎◌, inl, inr, Bool, List, [], ◌∷◌, ◌++◌}
-use Rattle.std.proofs.Common.{length, take, drop, map, flat_map, Option, Some, None, Result, Ok, Err, true, false}
+use Rattle.std.proofs.Common.{◌≡◌, refl, ℕ, zero, suc, ◌+◌, ◌*◌, ◌<◌, ◌≤◌, ◌⊎◌, inl, inr, Bool, List, [], ◌∷◌}
+use Rattle.std.proofs.Common.{◌++◌, length, take, drop, map, flat_map, Option, Some, None, Result, Ok, Err}
+use Rattle.std.proofs.Common.{true, false}
 use Rattle.std.proofs.Common.{All, Contains, sym, ap, subst, ⊎_elim, ◌∙◌, arith, add-zero, zero-add}
 use Rattle.std.proofs.Common.{append-nil}
 use Rattle.std.specs.Prelude.{IsSome, IfOk, min, vec_len}
@@ -135,7 +136,8 @@ module _ (p : Pieces) where
       ∙ joined_assoc (outcome_of b) (joined_all os) (to_lines t (lines_from (x + 1 + length os)))
       ∙ ap (joined (outcome_of b)) (joined_pieces t os (x + 1) (one_later t x (Some b) os each))
       ∙ ap (λ (c : answers.Answer). joined c (to_lines t (lines_from (x + 1)))) here
-      ∙ sym (formed_joined t (planned_query p.plan.now) p.keeps_going (piece_lines p x) (lines_from (x + 1))) ∙ ap (to_lines t) (sym (cut_piece x))
+      ∙ sym (formed_joined t (planned_query p.plan.now) p.keeps_going (piece_lines p x) (lines_from (x + 1)))
+      ∙ ap (to_lines t) (sym (cut_piece x))
 
   from_start : lines_from 0 ≡ map line_of p.lines.now
   from_start = ap (λ n. map line_of (drop n p.lines.now)) (zero-mul p.size)

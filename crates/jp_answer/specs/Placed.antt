@@ -37,7 +37,8 @@ passed_all [] = 0
 passed_all (None ∷ placed) = passed_all placed
 passed_all (Some a ∷ placed) = a.faulty + passed_all placed
 
--- what stands there are the answers to the first pieces, and these are all or one of them ends at a faulty line
+-- what stands there are the answers to the first pieces, and these are all or one of them ends at a faulty
+-- line
 pub record ArePlaced (p : Pieces) (placed : List (Option Outcome)) : Type 0 where
   pub each : (x : ℕ) → x < length placed → (a : Outcome) × StandsAt placed x a × IsPieceAnswer p x a
   pub enough : (length p.lines.now ≤ length placed * p.size) ⊎ ((x : ℕ) × (x < length placed)

@@ -19,8 +19,8 @@ use jp_eval::Evaluator;
 use jp_path::NodeLines;
 use std::alloc::{AllocError, Global};
 
-/// The answer to lines, each read and evaluated in turn. A faulty line ends it, or gives its fault line where the
-/// answer keeps going.
+/// The answer to lines, each read and evaluated in turn. A faulty line ends it, or gives its fault line
+/// where the answer keeps going.
 ///
 /// `AllocError` if a growth was refused.
 pub(crate) fn answer_lines(

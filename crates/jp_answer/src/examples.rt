@@ -85,8 +85,9 @@ fn faulty_lines_passed()
         stream_whole t (tree.query_from Root (tree.child (tree.name (codes "a") ∷ []) ∷ []))
         (codes "{\"a\":1}" ++ 10 ∷ codes "{" ++ 10 ∷ codes "{\"a\":2}" ++ 10 ∷ codes "{\"a\":1.5}" ++ 10 ∷ [])
         ≡ record {
-          bytes = codes "1" ++ 9 ∷ codes "$['a']" ++ 9 ∷ codes "1" ++ 10 ∷ codes "2" ++ 9 ∷ codes "!" ++ 9 ∷ codes
-              "unreadable" ++ 10 ∷ codes "3" ++ 9 ∷ codes "$['a']" ++ 9 ∷ codes "2" ++ 10 ∷ codes "4"
+          bytes = codes "1" ++ 9 ∷ codes "$['a']" ++ 9 ∷ codes "1" ++ 10 ∷ codes "2"
+              ++ 9 ∷ codes "!" ++ 9 ∷ codes "unreadable" ++ 10 ∷ codes "3"
+              ++ 9 ∷ codes "$['a']" ++ 9 ∷ codes "2" ++ 10 ∷ codes "4"
               ++ 9 ∷ codes "!" ++ 9 ∷ codes "not whole" ++ 10 ∷ [];
           faulty = 2;
         } }

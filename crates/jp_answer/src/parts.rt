@@ -1,7 +1,7 @@
 //! The parts of all workers, put in order and joined.
 
-ghost use Rattle.std.specs.Prelude.{◌≡◌, ◌<◌, ◌≤◌, ◌++◌, ℕ, None, false, map, flat_map, replicate, All, Contains};
-ghost use Rattle.std.specs.Prelude.{IfOk, OnOk, IsSome, Some, slice_set, vec_len};
+ghost use Rattle.std.specs.Prelude.{◌≡◌, ◌<◌, ◌≤◌, ◌++◌, ℕ, None, false, map, flat_map, replicate, All};
+ghost use Rattle.std.specs.Prelude.{Contains, IfOk, OnOk, IsSome, Some, slice_set, vec_len};
 ghost use Rattle.jp_answer.specs.Answered.{answer_of};
 ghost use Rattle.jp_answer.specs.Placed.{IsPlaced, ComeFrom, joined_all, passed_all};
 ghost use Rattle.jp_answer.specs.Worked.{pieces_of};

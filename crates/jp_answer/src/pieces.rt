@@ -9,8 +9,8 @@ use jp_check::Plan;
 use jp_doc::Line;
 use std::alloc::{AllocError, Global};
 
-/// Lines that are cut into pieces, the last perhaps shorter, the plan that answers them, and whether the answer
-/// keeps going after a faulty line.
+/// Lines that are cut into pieces, the last perhaps shorter, the plan that answers them, and whether the
+/// answer keeps going after a faulty line.
 #[derive(Clone, Copy, Drop)]
 pub(crate) struct Pieces<'a> {
     pub(crate) plan: &'a Plan,

@@ -58,8 +58,8 @@ pub(crate) fn work<G: Gate>(
     }
 }
 
-/// Looks at the mark, and unless it is lower, takes the piece. Where the answer keeps going there is no mark to
-/// look at.
+/// Looks at the mark, and unless it is lower, takes the piece. Where the answer keeps going there is no mark
+/// to look at.
 fn tend<G: Gate>(
     alloc: Global,
     pieces: &Pieces,

@@ -20,8 +20,8 @@ abbrev pub IsAnswered : Option (ℕ × DocFault) → Option (List ℕ) → Optio
 IsAnswered stopped input old new = IfSome input (λ bytes. (text : Text) × (a : Answer)
     × IsAnswerTo text bytes a × (a.stopped ≡ stopped) × Appends old new a.bytes)
 
--- what was written is the answer of some accepted query that keeps going, to the whole input, and it has passed
--- faulty lines
+-- what was written is the answer of some accepted query that keeps going, to the whole input, and it has
+-- passed faulty lines
 abbrev pub IsPast : Option (List ℕ) → Option (List ℕ) → Option (List ℕ) → Type 0
 IsPast input old new = IfSome input (λ bytes. (text : Text) × (q : Query) × IsAccepted text q × (w : Whole)
     × ((t : Tests) → AreRight t → stream_whole t q bytes ≡ w) × (0 < w.faulty) × Appends old new w.bytes)

@@ -17,8 +17,9 @@ use std::thread::Threads;
 /// in one line; a failure to write it, or the help, is passed over.
 ///
 /// The status is 0 where the run finished, or the help or a check was asked for; 2 where the query is
-/// refused; 3 where a line holds no document, also where the answer has gone on past it; 4 where reading or writing failed, or a limit was passed; 5
-/// where a growth of memory was refused; 64 where the command line is refused.
+/// refused; 3 where a line holds no document, also where the answer has gone on past it; 4 where reading or
+/// writing failed, or a limit was passed; 5 where a growth of memory was refused; 64 where the command line
+/// is refused.
 pub fn program<R: Threads + AllocGlobal + Sync, S: Source, K: Sink, N: Sink>(
     rt: &R,
     words: &[&str],
@@ -40,8 +41,8 @@ pub fn program<R: Threads + AllocGlobal + Sync, S: Source, K: Sink, N: Sink>(
     // A refused query and a refused command line read nothing and write nothing.
     ensures query { result ≡ 2 → (source.new ≡ source.old) × (sink.new ≡ sink.old) }
     ensures command_line { result ≡ 64 → (source.new ≡ source.old) × (sink.new ≡ sink.old) }
-    // The lines of the documents before the first faulty line were written; or the answer that keeps going was,
-    // and it has passed faulty lines.
+    // The lines of the documents before the first faulty line were written; or the answer that keeps going
+    // was, and it has passed faulty lines.
     ensures document { result ≡ 3 → ((line : ℕ) × (fault : Fault) × IsAnswered (Some (line, fault))
         (S.remaining source.old) (K.contents sink.old) (K.contents sink.new))
         ⊎ IsPast (S.remaining source.old) (K.contents sink.old) (K.contents sink.new) }
@@ -113,8 +114,8 @@ fn show<K: Sink>(sink: &mut K, text: &str)
     }
 }
 
-/// Runs the query over the source, and gives how many faulty lines were passed. After a fault what stands before it goes out; where it can't, the fault
-/// still tells.
+/// Runs the query over the source, and gives how many faulty lines were passed. After a fault what stands
+/// before it goes out; where it can't, the fault still tells.
 fn answer_all<R: Threads + AllocGlobal + Sync, S: Source, K: Sink>(
     rt: &R,
     source: &mut S,

@@ -33,15 +33,30 @@ fn faulty_lines_are_passed(rt: HostRuntime) -> Result<(), Fail> {
     let input: &[u8] = b"{\"a\":1}\n{\n{\"a\":2}\n{\"a\":1.5}\n";
     let lines = "1\t$['a']\t1\n2\t!\tunreadable\n3\t$['a']\t2\n4\t!\tnot whole\n";
     for workers in ["1", "4"] {
-        let words = ["jp", "--keep-going", "--workers", workers, "--piece", "1", "$.a"];
+        let words = [
+            "jp",
+            "--keep-going",
+            "--workers",
+            workers,
+            "--piece",
+            "1",
+            "$.a",
+        ];
         let left = run_words(&rt, &words, input);
         assert_eq!(rt; left.status, 3);
         assert_eq!(rt; left.output.as_slice(), lines.as_bytes());
         assert_eq!(rt; left.notes.as_slice(), "jp: faulty lines: 2\n".as_bytes());
     }
-    let left = run_words(&rt, &["jp", "--keep-going", "$.a"], b"{\"a\":1}\n\n{\"a\":null}\n");
+    let left = run_words(
+        &rt,
+        &["jp", "--keep-going", "$.a"],
+        b"{\"a\":1}\n\n{\"a\":null}\n",
+    );
     assert_eq!(rt; left.status, 0);
-    assert_eq!(rt; left.output.as_slice(), "1\t$['a']\t1\n3\t$['a']\tnull\n".as_bytes());
+    assert_eq!(rt;
+        left.output.as_slice(),
+        "1\t$['a']\t1\n3\t$['a']\tnull\n".as_bytes()
+    );
     assert_eq!(rt; left.notes.as_slice(), "".as_bytes());
     Ok(())
 }

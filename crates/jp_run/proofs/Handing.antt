@@ -114,7 +114,8 @@ module _ (going : Bool) (q : tree.Query) where
   pub front_more : (xs ys : List Line) (a b : Option (List ℕ)) → HandedFront going q xs a b
       → HandedFront going q (xs ++ ys) a b
   front_more xs ys a b h = λ t right.
-      let parts = bytes_by (answer_in going t q xs).stopped (answer_in going t q xs) (answer_in going t q ys) in
+      let parts = bytes_by (answer_in going t q xs).stopped (answer_in going t q xs)
+      (answer_in going t q ys) in
       front_longer a b (answer_in going t q xs).bytes parts.0 (answer_in going t q (xs ++ ys)).bytes
       (ap (λ (h : Answer). h.bytes) (formed_joined t q going xs ys) ∙ parts.1) (h t right)
 
@@ -147,7 +148,8 @@ module _ (going : Bool) (q : tree.Query) where
   ended_more xs ys failed a b Settings h = absurd h
 
   pub ended_after : (xs ys : List Line) (failed : Bool) (a b c : Option (List ℕ)) (f : RunFault)
-      → Handed going q xs None a b → AnswerEnded going q ys failed b c f → AnswerEnded going q (xs ++ ys) failed a c f
+      → Handed going q xs None a b → AnswerEnded going q ys failed b c f
+      → AnswerEnded going q (xs ++ ys) failed a c f
   ended_after xs ys failed a b c (Document line fault) g h = handed_both xs ys (Some (line, fault)) a b c g h
   ended_after xs ys failed a b c Write g h = (h.0, front_after xs ys a b c g h.1)
   ended_after xs ys failed a b c Memory g h = front_after xs ys a b c g h
@@ -160,11 +162,12 @@ module _ (going : Bool) (q : tree.Query) where
   pub ended_kept : (ls same : List Line) (count : ℕ) (failed : Bool) (a b c : Option (List ℕ)) (f : RunFault)
       → (f ≡ Write) × (failed ≡ true) → Handed going q ls None a b → Keeps b c → ls ≡ same
       → RestEnded going q same count failed a c f
-  ended_kept ls same count failed a b c f h g k e = subst (RestEnded going q same count failed a c) (sym h.0) (
-    h.1,
-    subst (λ (l : List Line). HandedFront going q l a c) e (handed_front ls None a c
-        (handed_kept ls None a b c g k)),
-  )
+  ended_kept ls same count failed a b c f h g k e =
+      subst (RestEnded going q same count failed a c) (sym h.0) (
+        h.1,
+        subst (λ (l : List Line). HandedFront going q l a c) e (handed_front ls None a c
+            (handed_kept ls None a b c g k)),
+      )
 
   module _ (ls : List Line) (whole : Answer) (is : (t : Tests) → AreRight t → answer_in going t q ls ≡ whole)
       (a b : Option (List ℕ)) where

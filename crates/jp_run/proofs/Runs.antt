@@ -1,6 +1,6 @@
 -- What a run has done, in terms of its query's text.
-use Rattle.std.proofs.Common.{◌≡◌, ℕ, ◌<◌, List, Option, Some, None, Bool, IfSome, ◌⊎◌, inl, inr, Result, Ok, Err}
-use Rattle.std.proofs.Common.{IfErr, OnOk, OnErr, IsErrAnd, ◌∙◌, ap, subst}
+use Rattle.std.proofs.Common.{◌≡◌, ℕ, ◌<◌, List, Option, Some, None, Bool, IfSome, ◌⊎◌, inl, inr, Result, Ok}
+use Rattle.std.proofs.Common.{Err, IfErr, OnOk, OnErr, IsErrAnd, ◌∙◌, ap, subst}
 use Rattle.std.specs.Io.KnownBytes.{Appends}
 use Rattle.jp_doc.specs.Lines.{lines}
 use Rattle.jp_doc.specs.declared.fault.DocFault.{DocFault}

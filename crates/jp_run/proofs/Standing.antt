@@ -14,7 +14,8 @@ use Rattle.jp_run.proofs.Batching.{in_batches_is}
 use Rattle.jp_run.proofs.Handing.{handed_none, handed_both, ended_after, ended_more}
 
 -- so many batches are answered, and these lines are left
-pub record Partly (going : Bool) (q : Query) (batch : ℕ) (all rest : List Line) (old now : Option (List ℕ)) : Type 0 where
+pub record Partly (going : Bool) (q : Query) (batch : ℕ) (all rest : List Line)
+    (old now : Option (List ℕ)) : Type 0 where
   pub batches : ℕ
   pub left : rest ≡ drop (batches * batch) all
   pub fit : batches * batch ≤ length all
@@ -32,7 +33,8 @@ module _ (going : Bool) (q : Query) (batch : ℕ) (all : List Line) where
   more_batches : (n : ℕ) → (n + 1) * batch ≡ n * batch + batch
   more_batches n = omega arith
 
-  pub partly_more : (rest front left : List Line) (a b c : Option (List ℕ)) → Partly going q batch all rest a b
+  pub partly_more : (rest front left : List Line) (a b c : Option (List ℕ))
+      → Partly going q batch all rest a b
       → batch ≤ length rest → front ≡ take batch rest → left ≡ drop batch rest → Handed going q front None b c
       → Partly going q batch all left a c
   partly_more rest front left a b c p enough begins is h =

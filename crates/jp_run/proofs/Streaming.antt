@@ -1,6 +1,7 @@
 -- Where a run stands: what was read of its input, and what was answered of it.
-use Rattle.std.proofs.Common.{◌≡◌, ℕ, ◌+◌, ◌-◌, ◌*◌, ◌/◌, ◌<◌, ◌≤◌, not, Bool, true, false, List, [], ◌++◌, length, take}
-use Rattle.std.proofs.Common.{Option, Some, None, IfSome, inr, refl, sym, ◌∙◌, ap, subst, arith}
+use Rattle.std.proofs.Common.{◌≡◌, ℕ, ◌+◌, ◌-◌, ◌*◌, ◌/◌, ◌<◌, ◌≤◌, not, Bool, true, false, List, []}
+use Rattle.std.proofs.Common.{◌++◌, length, take, Option, Some, None, IfSome, inr, refl, sym, ◌∙◌, ap}
+use Rattle.std.proofs.Common.{subst, arith}
 use Rattle.std.proofs.Common.{append_assoc, append-nil, length-append, length-drop, take-append-drop}
 use Rattle.std.proofs.Common.{length-take-le, Result, Ok, Err, IfOk, OnOk}
 use Rattle.std.proofs.Math.Nat.{mul-le-mul_right}
@@ -113,8 +114,8 @@ few_documents bytes =
     omega (arith, length-filter p all, count_by-le-length p all, length-enumerate_from 1 (cut bytes).ended)
 
 -- so much was read, whose whole batches are answered and handed out; the rest of its lines are kept
-pub record Stands (going : Bool) (q : tree.Query) (batch : ℕ) (old now sink_old sink_now : Option (List ℕ)) (p : Progress)
-    (kept : List Line) (answered : Answered) : Type 0 where
+pub record Stands (going : Bool) (q : tree.Query) (batch : ℕ) (old now sink_old sink_now : Option (List ℕ))
+    (p : Progress) (kept : List Line) (answered : Answered) : Type 0 where
   pub bytes : List ℕ
   pub consumed : Consumes old now bytes
   pub progress : p ≡ fed nothing_fed bytes
@@ -124,8 +125,8 @@ pub record Stands (going : Bool) (q : tree.Query) (batch : ℕ) (old now sink_ol
   pub handed : Handed going q (whole_batches batch (documents_in bytes)) None sink_old sink_now
 
 -- one piece more was read, and nothing of it is answered yet
-pub record Grown (going : Bool) (q : tree.Query) (batch : ℕ) (old now sink_old sink_now : Option (List ℕ)) (p : Progress)
-    (kept : List Line) (answered : Answered) (last : ℕ) : Type 0 where
+pub record Grown (going : Bool) (q : tree.Query) (batch : ℕ) (old now sink_old sink_now : Option (List ℕ))
+    (p : Progress) (kept : List Line) (answered : Answered) (last : ℕ) : Type 0 where
   pub bytes : List ℕ
   pub piece : List ℕ
   pub consumed : Consumes old now (bytes ++ piece)
@@ -138,7 +139,8 @@ pub record Grown (going : Bool) (q : tree.Query) (batch : ℕ) (old now sink_old
 
 module _ (going : Bool) (q : tree.Query) (batch : ℕ) (some : 0 < batch) where
   pub stands_start : (a s : Option (List ℕ)) (p : Progress) (kept : List Line) (answered : Answered)
-      → p ≡ nothing_fed → kept ≡ [] → answered ≡ record { lines = 0; faulty = 0 } → Stands going q batch a a s s p kept answered
+      → p ≡ nothing_fed → kept ≡ [] → answered ≡ record { lines = 0; faulty = 0 }
+      → Stands going q batch a a s s p kept answered
   stands_start a s p kept answered e f h =
       let none : in_batches batch (documents_in []) ≡ 0 = omega (
         arith,
@@ -185,7 +187,8 @@ module _ (going : Bool) (q : tree.Query) (batch : ℕ) (some : 0 < batch) where
       (sym (take-append-drop (in_batches batch all) all))
       ∙ append_assoc (whole_batches batch all) (left_over batch all) (fed_lines (fed nothing_fed bytes) piece)
 
-  pub grown_few : (a c s u : Option (List ℕ)) (p : Progress) (all : List Line) (answered : Answered) (n most : ℕ)
+  pub grown_few : (a c s u : Option (List ℕ)) (p : Progress) (all : List Line) (answered : Answered)
+      (n most : ℕ)
       → Grown going q batch a c s u p all answered n → p.count ≤ most → answered.lines + length all ≤ most
   grown_few a c s u p all answered n most g few =
       let first : List Line = documents_in g.bytes in omega (
@@ -256,7 +259,8 @@ module _ (going : Bool) (q : tree.Query) (batch : ℕ) (some : 0 < batch) where
       stands_next a c s u v next last all rest same more size
       (grown a b c s u p next kept all answered same size n buffer st h sizes e f k) g i j m l
 
-  pub stands_few : (a b s u : Option (List ℕ)) (p : Progress) (kept : List Line) (answered : Answered) (most : ℕ)
+  pub stands_few : (a b s u : Option (List ℕ)) (p : Progress) (kept : List Line) (answered : Answered)
+      (most : ℕ)
       → Stands going q batch a b s u p kept answered → p.count ≤ most → answered.lines + length kept ≤ most
   stands_few a b s u p kept answered most st few =
       let all : List Line = documents_in st.bytes in omega (
@@ -295,9 +299,11 @@ module _ (going : Bool) (q : tree.Query) (batch : ℕ) (some : 0 < batch) where
 
   -- what was handed out of the first lines is a front of the whole
   input_front : (a c s u : Option (List ℕ)) (bytes : List ℕ) → Consumes a c bytes
-      → HandedFront going q (documents_in bytes) s u → IfSome a (λ input. HandedFront going q (lines input) s u)
+      → HandedFront going q (documents_in bytes) s u
+      → IfSome a (λ input. HandedFront going q (lines input) s u)
   input_front a c s u bytes h front = known (λ input. HandedFront going q (lines input) s u) a c bytes h
-      (λ rest. let more = lines_more bytes rest in subst (λ (l : List Line). HandedFront going q l s u) (sym more.1)
+      (λ rest. let more = lines_more bytes rest in
+      subst (λ (l : List Line). HandedFront going q l s u) (sym more.1)
       (front_more going q (documents_in bytes) more.0 s u front))
 
   stopped_front : (a s u : Option (List ℕ)) (stop : ℕ × DocFault)
@@ -307,7 +313,8 @@ module _ (going : Bool) (q : tree.Query) (batch : ℕ) (some : 0 < batch) where
   stopped_front (Some input) s u stop h = handed_front going q (lines input) (Some stop) s u h
 
   pub stands_front : (a b s u : Option (List ℕ)) (p : Progress) (kept : List Line) (answered : Answered)
-      → Stands going q batch a b s u p kept answered → IfSome a (λ input. HandedFront going q (lines input) s u)
+      → Stands going q batch a b s u p kept answered
+      → IfSome a (λ input. HandedFront going q (lines input) s u)
   stands_front a b s u p kept answered st =
       let all : List Line = documents_in st.bytes in
       input_front a b s u st.bytes st.consumed (subst (λ (l : List Line). HandedFront going q l s u)
@@ -322,8 +329,8 @@ module _ (going : Bool) (q : tree.Query) (batch : ℕ) (some : 0 < batch) where
       input_front e.source_old e.source_new e.sink_old e.sink_new h.1 h.2
       (subst (λ (l : List Line). HandedFront going q l e.sink_old e.sink_new)
       (take-append-drop (in_batches batch all) all) (front_more going q (whole_batches batch all)
-      (left_over batch all) e.sink_old e.sink_new (handed_front going q (whole_batches batch all) None e.sink_old
-      e.sink_new h.3)))
+      (left_over batch all) e.sink_old e.sink_new
+      (handed_front going q (whole_batches batch all) None e.sink_old e.sink_new h.3)))
   ended_front e Write h = h.1
   ended_front e Limit h = h.1
   ended_front e Memory h = h
@@ -475,7 +482,8 @@ module _ (going : Bool) (q : tree.Query) (batch : ℕ) (some : 0 < batch) where
     pub rest_handed : (stop : Option (ℕ × DocFault)) → Handed going q (kept ++ finished_lines p) stop u v
         → IfSome a (λ input. Handed going q (lines input) stop s v)
     unfolding first_batches
-    rest_handed stop h = known_all (λ input. Handed going q (lines input) stop s v) a c st.bytes st.consumed end
+    rest_handed stop h = known_all (λ input. Handed going q (lines input) stop s v) a c st.bytes st.consumed
+        end
         (subst (λ (l : List Line). Handed going q l stop s v) (sym lines_are)
         (handed_both going q first_batches (kept ++ finished_lines p) stop s u v st.handed h))
 
@@ -516,7 +524,8 @@ module _ (going : Bool) (q : tree.Query) (batch : ℕ) (some : 0 < batch) where
     faulty_ok (Ok t) h = rest_passed t.faulty h
     faulty_ok (Err f) h = tt
 
-    pub rest_ok : {T E : Type 0} (r : Result T E) → OnOk r (Handed going q (kept ++ finished_lines p) None u v)
+    pub rest_ok : {T E : Type 0} (r : Result T E)
+        → OnOk r (Handed going q (kept ++ finished_lines p) None u v)
         → OnOk r (IfSome a (λ input. Handed going q (lines input) None s v))
     rest_ok (Ok x) h = rest_handed None h
     rest_ok (Err f) h = tt

@@ -48,7 +48,8 @@ pub(crate) fn answer_batches<R: Threads + Sync, K: Sink, G: Gate + Sync>(
         (whole_batches settings.batch (map line_of pending.old.lines.items))) }
     ensures progress { OnOk result (pending.new.progress ≡ pending.old.progress) }
     ensures working { OnOk result (K.failed sink.new ≡ false) }
-    ensures fault { IfErr result (AnswerEnded settings.keeps_going (planned_query plan.now) (map line_of pending.old.lines.items)
+    ensures fault { IfErr result (AnswerEnded settings.keeps_going (planned_query plan.now)
+        (map line_of pending.old.lines.items)
         (K.failed sink.new) (K.contents sink.old) (K.contents sink.new)) }
 {
     let (count, faulty) = answer_whole(rt, alloc, plan, settings, gate, &pending.lines, sink)?;
@@ -121,7 +122,8 @@ fn answer_whole<R: Threads + Sync, K: Sink, G: Gate + Sync>(
         (whole_batches settings.batch (map line_of lines.now)) None
         (K.contents sink.old) (K.contents sink.new)) }
     ensures working { OnOk result (K.failed sink.new ≡ false) }
-    ensures fault { IfErr result (AnswerEnded settings.keeps_going (planned_query plan.now) (map line_of lines.now)
+    ensures fault { IfErr result (AnswerEnded settings.keeps_going (planned_query plan.now)
+        (map line_of lines.now)
         (K.failed sink.new) (K.contents sink.old) (K.contents sink.new)) }
 {
     let batch = settings.batch as usize;
@@ -147,12 +149,14 @@ fn answer_lines<R: Threads + Sync, K: Sink, G: Gate + Sync>(
 ) -> Result<u64, RunFault>
     requires working { K.failed sink.old ≡ false }
     requires few { length lines.now ≤ 4294967296 }
-    ensures handed { OnOk result (Handed settings.keeps_going (planned_query plan.now) (map line_of lines.now) None
+    ensures handed { OnOk result (Handed settings.keeps_going (planned_query plan.now)
+        (map line_of lines.now) None
         (K.contents sink.old) (K.contents sink.new)) }
     ensures passed { IfOk result (λ n. n ≡ passed_in settings.keeps_going (map line_of lines.now)) }
     ensures few_faulty { IfOk result (λ n. n ≤ length lines.now) }
     ensures working { OnOk result (K.failed sink.new ≡ false) }
-    ensures fault { IfErr result (AnswerEnded settings.keeps_going (planned_query plan.now) (map line_of lines.now)
+    ensures fault { IfErr result (AnswerEnded settings.keeps_going (planned_query plan.now)
+        (map line_of lines.now)
         (K.failed sink.new) (K.contents sink.old) (K.contents sink.new)) }
 {
     let (answer, faulty) = answer_form(rt, alloc, plan, settings, gate, lines)?;

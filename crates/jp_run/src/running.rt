@@ -62,8 +62,8 @@ impl Totals {
 ///
 /// The query is read first. Then the source is read to its end, at most 65,536 bytes a call. As soon as
 /// `batch` documents have come they are answered by the workers and written, before the next read; the rest
-/// is at the end. The run stops at the first faulty line, unless the settings are to keep going: then a faulty line
-/// gives its fault line, and the totals count it.
+/// is at the end. The run stops at the first faulty line, unless the settings are to keep going: then a
+/// faulty line gives its fault line, and the totals count it.
 /// Neither end has failed before, and the counts of the source are at most 2^62.
 ///
 /// # Errors
@@ -115,7 +115,8 @@ pub fn run<R: Threads + Sync, S: Source, K: Sink, G: Gate + Sync>(
         × (source.new ≡ source.old) × (sink.new ≡ sink.old) }
     // The first faulty line and its fault are told, and all before it was written.
     ensures document { (line : ℕ) (fault : Fault) → IsErrOf result (RunFault.Document line fault)
-        → IfSome (S.remaining source.old) (λ input. (a : Answer) × IsAnswerIn settings.now.keeps_going (chars query.now) input a
+        → IfSome (S.remaining source.old) (λ input. (a : Answer)
+        × IsAnswerIn settings.now.keeps_going (chars query.now) input a
         × (a.stopped ≡ Some (line, fault)) × Appends (K.contents sink.old) (K.contents sink.new) a.bytes) }
     // An answer that keeps going tells no faulty line so.
     ensures goes_on { settings.now.keeps_going ≡ true → (line : ℕ) (fault : Fault)
@@ -127,7 +128,8 @@ pub fn run<R: Threads + Sync, S: Source, K: Sink, G: Gate + Sync>(
     // The lines of the whole batches among the documents whose line's end was read are written, and no more.
     ensures read { IsErrOf result RunFault.Read → (S.failed source.new ≡ true) × (bytes : List ℕ)
         × Consumes (S.remaining source.old) (S.remaining source.new) bytes
-        × IsHanded settings.now.keeps_going (chars query.now) (whole_batches settings.now.batch (documents_in bytes)) None
+        × IsHanded settings.now.keeps_going (chars query.now)
+        (whole_batches settings.now.batch (documents_in bytes)) None
         (K.contents sink.old) (K.contents sink.new) }
     ensures write { IsErrOf result RunFault.Write → K.failed sink.new ≡ true }
     ensures limit { IsErrOf result RunFault.Limit → (S.reads source.new ≡ S.reads source.old + max_reads)
@@ -158,7 +160,8 @@ fn stream<R: Threads + Sync, S: Source, K: Sink, G: Gate + Sync>(
     requires working { (S.failed source.old ≡ false) × (K.failed sink.old ≡ false) }
     requires few { S.reads source.old ≤ 2 ^ 62 }
     ensures handed { OnOk result (IfSome (S.remaining source.old) (λ input.
-        Handed settings.keeps_going (planned_query plan.now) (lines input) None (K.contents sink.old) (K.contents sink.new))) }
+        Handed settings.keeps_going (planned_query plan.now) (lines input) None
+        (K.contents sink.old) (K.contents sink.new))) }
     ensures counts { IfOk result (λ totals. IfSome (S.remaining source.old)
         (λ input. (totals.lines ≡ line_count input) × (totals.documents ≡ length (lines input)))) }
     ensures passed { IfOk result (λ totals. IfSome (S.remaining source.old)
@@ -167,17 +170,18 @@ fn stream<R: Threads + Sync, S: Source, K: Sink, G: Gate + Sync>(
     ensures end { OnOk result (IsAtEnd (S.remaining source.new)) }
     ensures flushed { OnOk result (K.flushed sink.new ≡ true) }
     ensures still_working { OnOk result ((S.failed source.new ≡ false) × (K.failed sink.new ≡ false)) }
-    ensures fault { IfErr result (StreamEnded settings.keeps_going (planned_query plan.now) settings.batch (record {
-      source_old = S.remaining source.old;
-      source_new = S.remaining source.new;
-      reads_old = S.reads source.old;
-      reads_new = S.reads source.new;
-      last = S.last source.new;
-      source_failed = S.failed source.new;
-      sink_old = K.contents sink.old;
-      sink_new = K.contents sink.new;
-      sink_failed = K.failed sink.new;
-    })) }
+    ensures fault { IfErr result (StreamEnded settings.keeps_going (planned_query plan.now)
+        settings.batch (record {
+          source_old = S.remaining source.old;
+          source_new = S.remaining source.new;
+          reads_old = S.reads source.old;
+          reads_new = S.reads source.new;
+          last = S.last source.new;
+          source_failed = S.failed source.new;
+          sink_old = K.contents sink.old;
+          sink_new = K.contents sink.new;
+          sink_failed = K.failed sink.new;
+        })) }
     ensures few { S.reads source.new ≤ S.reads source.old + max_reads }
 {
     let mut buffer = vec![in alloc; 0u8; READ_SIZE]?;

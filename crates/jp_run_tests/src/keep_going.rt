@@ -1,7 +1,5 @@
 //! Runs and answers that keep going after a faulty line.
 
-
-
 use crate::fakes::{Holds, OneByte};
 use crate::gates::{Entered, Pair};
 use jp_check::plan;
@@ -56,7 +54,14 @@ fn faulty_lines_have_lines_of_their_own(rt: HostRuntime) -> Result<(), Fail> {
     let rows = [
         (FOUR, FOUR_LINES, 4, 4, 2, 3),
         (TWO, TWO_LINES, 3, 2, 0, 0),
-        (b"{".as_slice(), b"1\t!\tunreadable\n".as_slice(), 1, 1, 1, 3),
+        (
+            b"{".as_slice(),
+            b"1\t!\tunreadable\n".as_slice(),
+            1,
+            1,
+            1,
+            3,
+        ),
         (b"".as_slice(), b"".as_slice(), 0, 0, 0, 0),
     ];
     for (input, wanted, lines, documents, faulty, status) in rows {

@@ -8,7 +8,11 @@ use Rattle.jp_run.proofs.Standing.{partly_passed, partly_few, passed_next, passe
 use Rattle.jp_run.proofs.batches.answer_whole.Goals as goal
 
 pub loop-rest-init : goal.loop-rest-init
-loop-rest-init g c = record { working = search rules; partly = partly_start _ _ _ _ _; passed = sym (zero-add _) }
+loop-rest-init g c = record {
+  working = search rules;
+  partly = partly_start _ _ _ _ _;
+  passed = sym (zero-add _);
+}
 
 pub returns-in_err-faulty-clause-fault : goal.returns-in_err-faulty-clause-fault
 returns-in_err-faulty-clause-fault g c = told _ _ _ c.from_residual.ensures.1

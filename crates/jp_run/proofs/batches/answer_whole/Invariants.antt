@@ -8,7 +8,8 @@ use Rattle.jp_run.proofs.batches.answer_whole.Given as goal
 abbrev pub invariant-loop-rest : goal.invariant-loop-rest
 invariant-loop-rest g l = record {
   working : g.K.Sink.failed l.sink ≡ false;
-  partly : Partly l.settings.keeps_going (planned_query l.plan) l.settings.batch (map line_of l.lines) (map line_of l.rest)
+  partly : Partly l.settings.keeps_going (planned_query l.plan) l.settings.batch
+      (map line_of l.lines) (map line_of l.rest)
       (g.K.Sink.contents l.fn.sink) (g.K.Sink.contents l.sink);
   passed : passed_in l.settings.keeps_going (map line_of l.lines)
       ≡ l.faulty + passed_in l.settings.keeps_going (map line_of l.rest);

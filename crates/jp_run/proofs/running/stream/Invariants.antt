@@ -9,7 +9,8 @@ abbrev pub invariant-loop-turn : goal.invariant-loop-turn
 invariant-loop-turn g l = record {
   source_working : g.S.Source.failed l.source ≡ false;
   sink_working : g.K.Sink.failed l.sink ≡ false;
-  stands : Stands l.settings.keeps_going (planned_query l.plan) l.settings.batch (g.S.Source.remaining l.fn.source)
+  stands : Stands l.settings.keeps_going (planned_query l.plan) l.settings.batch
+      (g.S.Source.remaining l.fn.source)
       (g.S.Source.remaining l.source) (g.K.Sink.contents l.fn.sink) (g.K.Sink.contents l.sink)
       l.pending.progress (map line_of l.pending.lines.items) l.pending.answered;
   few_lines : l.pending.progress.count ≤ max_lines;
