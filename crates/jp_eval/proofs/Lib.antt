@@ -22,3 +22,5 @@ pub mod Taking
 pub mod Within
 pub mod ReadyParts
 pub mod Answered
+pub mod Gathered
+pub mod Stretches

@@ -18,3 +18,4 @@ pub mod Answers
 pub mod Base
 pub mod Walk
 pub mod Evaluated
+pub mod Kids
