@@ -24,3 +24,4 @@ pub mod ReadyParts
 pub mod Answered
 pub mod Gathered
 pub mod Stretches
+mod Crossing

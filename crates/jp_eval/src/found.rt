@@ -113,7 +113,11 @@ fn with_another<'v>(alone: Alone<'v>, value: Part<'v>) -> Alone<'v>
 
 /// An empty taker of the caller's kind, where the caller's is what is kept.
 pub(crate) fn fresh<V: Visit + Drop>(found: &Found<'_, V>, alloc: Global) -> Result<V, AllocError>
-    ensures { IfOk result (λ t. taken (V.kept t) ≡ emptied_found V.emptied (kept V.kept found.now)) }
+    ensures empty { IfOk result (λ t. taken (V.kept t)
+        ≡ emptied_found V.emptied (kept V.kept found.now)) }
+    ensures later { (ns : List Node)
+        → emptied_found V.emptied (plus (put_found V.put) (kept V.kept found.now) ns)
+        ≡ emptied_found V.emptied (kept V.kept found.now) }
 {
     match found {
         Found::Taker(taker) => Ok(taker.fresh(alloc)),

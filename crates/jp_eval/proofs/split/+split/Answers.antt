@@ -1,18 +1,25 @@
 use Rattle.std.proofs.Common.{◌≡◌, ◌<◌, ◌≤◌, suc, drop, length, refl, sym, ap, ◌∙◌, arith, rules}
+use Rattle.std.proofs.lemmas.Result.{on_ok_weaker}
 use Rattle.std.specs.List.{flat_map}
 use Rattle.serde_json.specs.Data.{depth}
 use Rattle.serde_json.specs.View.{view}
 use Rattle.jp_doc.specs.Location.{node}
 use Rattle.jp_trail.specs.Links.{link_steps}
 use Rattle.jp_eval.specs.Base.{base_of}
-use Rattle.jp_eval.specs.Kept.{kept, put_found, plus, taken}
+use Rattle.jp_eval.specs.Kept.{kept, put_found, plus, taken, emptied_found}
 use Rattle.jp_eval.specs.Kids.{kids, kids_height, done_along_all, highest}
 use Rattle.jp_eval.specs.Part.{part_value}
 use Rattle.jp_eval.specs.Walk.{done}
-use Rattle.jp_eval.proofs.Gathered.{others_height, first_height, kid_done}
-use Rattle.jp_eval.proofs.Keeping.{full_enough}
+use denote.Param.{param}
+use denote.Param.Send.{IsSend, IsSync, param_send}
+use denote.Struct.Tuple.{tuple_name}
+use mir.Syntax.{named}
+use Rattle.jp_eval.proofs.Crossing.{captured_send}
+use Rattle.jp_eval.proofs.Gathered.{others_height, first_height, kid_done, front_height, back_height, halves_joined}
+use Rattle.jp_eval.proofs.Keeping.{full_enough, nothing_found}
 use Rattle.jp_eval.proofs.Stretches.{others_no_higher, first_no_higher, stretch_done}
 use Rattle.jp_eval.proofs.WalkSteps.{back_up, link_further, over}
+use Rattle.jp_eval.proofs.split.+split.Lts-each_of as lts
 use Rattle.jp_eval.proofs.split.+split.Goals as goal
 
 pub each_stretch-loop-stretch-preserved : goal.each_stretch-loop-stretch-preserved
@@ -76,3 +83,65 @@ half-returns-in-Some g t c =
     ∙ ap (λ ls. plus (put_found g.V.Visit.put) (taken (g.V.Visit.kept c.args.taker))
     (flat_map (done (base_of c.args.ground.now) c.args.task) (kids (link_steps ls) c.args.children.now)))
     c.in_ok-path.ensures
+
+pub go_split-returns-in_default-clause-found : goal.go_split-returns-in_default-clause-found
+go_split-returns-in_default-clause-found g t c =
+    nothing_found (put_found g.V.Visit.put) _ _ (rw c.in_default.is at c.in_ok-further.ensures.task)
+
+pub each_of-join-first-requires-after_bounds : goal.each_of-join-first-requires-after_bounds
+each_of-join-first-requires-after_bounds g t c κs within =
+    let front : kids_height c.split_at.result.0.now ≤ kids_height c.args.children.now =
+    rw c.split_at.ensures.front (front_height _ c.args.children.now) in
+    let back : kids_height c.split_at.result.1.now ≤ kids_height c.args.children.now =
+    rw c.split_at.ensures.back (back_height _ c.args.children.now) in
+    ((search rules, search rules), (search rules, search rules))
+
+pub each_of-returns-clause-found : goal.each_of-returns-clause-found
+each_of-returns-clause-found g t c =
+    let put = put_found g.V.Visit.put in
+    let f = done (base_of c.args.ground.now) c.args.task in
+    let left = c.split_at.result.0.now in
+    let right = c.split_at.result.1.now in
+    let one = flat_map f (kids (link_steps c.args.path.now) left) in
+    let two = flat_map f (kids (link_steps c.args.path.now) right) in
+    let before = kept g.V.Visit.kept c.args.found.now in
+    let first : taken (g.V.Visit.kept c.in_ok-first.field-0)
+    ≡ plus put (taken (g.V.Visit.kept c.in_ok-mine.mine))
+    (flat_map f (kids (link_steps c.links-at.result.now) left)) = search rules in
+    let second : taken (g.V.Visit.kept c.in_ok-second.field-0)
+    ≡ plus put (taken (g.V.Visit.kept c.in_ok-other.other))
+    (flat_map f (kids (link_steps c.links-at.result.now) right)) = search rules in
+    let appended : kept g.V.Visit.kept c.append.new.found ≡ plus put before one = c.in_ok-append.ensures one
+    (first ∙ ap (λ ls. plus put (taken (g.V.Visit.kept c.in_ok-mine.mine))
+    (flat_map f (kids (link_steps ls) left))) c.links-at.ensures ∙ ap (λ k. plus put k one)
+    c.in_ok-mine.ensures.empty) in
+    on_ok_weaker c.append-2.result (λ e. halves_joined put f (link_steps c.args.path.now) _
+    c.args.children.now left right before _ _ c.split_at.ensures.front c.split_at.ensures.back appended e)
+    (c.append-2.ensures two (second ∙ ap (λ ls. plus put (taken (g.V.Visit.kept c.in_ok-other.other))
+    (flat_map f (kids (link_steps ls) right))) c.links-at.ensures ∙ ap (λ k. plus put k two)
+    (c.in_ok-other.ensures.empty ∙ sym (ap (emptied_found g.V.Visit.emptied) appended
+    ∙ c.in_ok-other.ensures.later one))))
+
+pub each_of-join-first-requires-send-F : goal.each_of-join-first-requires-send-F
+each_of-join-first-requires-send-F g t c κs within =
+    let r : IsSync (param 0 g.row.R) = search rules in
+    let f : IsSync (param 1 g.row.F) = search rules in
+    let v : IsSend (param 2 g.row.V) = search rules in
+    let sent = captured_send (tuple_name 8) (param 1 g.row.F) (param 0 g.row.R) (param 2 g.row.V)
+    (record { mir = named 6; lft = κs.1.1.1.1.1.1.0 })
+    (record { mir = named 7; lft = κs.1.1.1.1.1.1.1.0 })
+    (record { mir = named 8; lft = κs.1.1.1.1.1.1.1.1.0 })
+    (record { mir = named 9; lft = κs.1.1.1.1.1.1.1.1.1.0 })
+    (record { mir = named 10; lft = κs.1.1.1.1.1.1.1.1.1.1.0 })
+    (record { mir = named 11; lft = κs.1.1.1.1.1.1.1.1.1.1.1.0 })
+    (record { mir = named 12; lft = κs.1.1.1.1.1.1.1.1.1.1.1.1.0 })
+    (record { mir = named 13; lft = κs.1.1.1.1.1.1.1.1.1.1.1.1.1.0 })
+    (record { mir = named 14; lft = κs.1.1.1.1.1.1.1.1.1.1.1.1.1.1.0 })
+    (record { mir = named 15; lft = κs.1.1.1.1.1.1.1.1.1.1.1.1.1.1.1.0 })
+    (record { mir = named 16; lft = κs.1.1.1.1.1.1.1.1.1.1.1.1.1.1.1.1.0 }) f r v in
+    param_send 1 (lts.arg-8-1 g.row.R g.row.F g.row.V g.R.laws g.F.laws g.V.laws g.R.Threads-dict
+    g.F.Fork-dict g.V.Visit-dict g.V.Destruct-dict κs)
+    (record {
+      owned = sent.owned;
+      leaving = λ k x w. (tt, (tt, (tt, (tt, (tt, (tt, (tt, (tt, tt))))))));
+    })
