@@ -9,7 +9,8 @@ use std::alloc::Global;
 use std::test::Fail;
 
 /// A query, a document and the paths of the nodes that it selects there, in each line.
-const ROWS: &str = r#"$..* on {"b":[1,{"c":2}],"a":null} gives $['a'] $['b'] $['b'][0] $['b'][1] $['b'][1]['c']
+const ROWS: &str =
+    r#"$..* on {"b":[1,{"c":2}],"a":null} gives $['a'] $['b'] $['b'][0] $['b'][1] $['b'][1]['c']
 $..[0,0] on [[1],[2]] gives $[0] $[0] $[0][0] $[0][0] $[1][0] $[1][0]
 $[*] on [1,2] gives $[0] $[1]
 $['b',*] on {"b":2,"a":1} gives $['b'] $['a'] $['b']
