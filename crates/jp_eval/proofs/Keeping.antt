@@ -3,7 +3,7 @@ use Rattle.std.proofs.Common.{◌≡◌, List, [], ◌∷◌, ◌++◌, refl, ap
 use Rattle.std.proofs.lemmas.Grind.{fold-append}
 use Rattle.std.specs.List.{fold}
 use Rattle.jp_doc.specs.Location.{Node}
-use Rattle.jp_eval.specs.Kept.{Kept, taken, first, count, only, located, put_found, plus}
+use Rattle.jp_eval.specs.Kept.{Kept, taken, first, count, only, located, put_found, plus, emptied_found}
 
 module _ {K : Type 0} (put : K → Node → K) where
   pub plus-none : (k : K) → plus put k [] ≡ k
@@ -49,6 +49,7 @@ out_of (first o) d = d
 out_of (count n) d = d
 out_of (only a) d = d
 out_of (located o ls) d = d
+out_of (located o ls) d = d
 
 taken_fold : {K : Type 0} (put : K → Node → K) (k : K) (ns : List Node)
     → fold (put_found put) (taken k) ns ≡ taken (fold put k ns)
@@ -60,3 +61,27 @@ pub taken_out : {K : Type 0} (put : K → Node → K) (k start : K) (ns : List N
     → taken k ≡ plus (put_found put) (taken start) ns → k ≡ fold put start ns
 unfolding out_of plus
 taken_out put k start ns h = ap (λ x. out_of x k) (h ∙ taken_fold put start ns)
+
+-- the same of a taker
+pub taken_plus : {K : Type 0} (put : K → Node → K) (k : K) (ns : List Node)
+    → taken (fold put k ns) ≡ plus (put_found put) (taken k) ns
+unfolding plus
+taken_plus put k ns = sym (taken_fold put k ns)
+
+emptied_once : {K : Type 0} (put : K → Node → K) (emptied : K → K)
+    → ((k : K) (n : Node) → emptied (put k n) ≡ emptied k) → (k : Kept K) (n : Node)
+    → emptied_found emptied (put_found put k n) ≡ emptied_found emptied k
+emptied_once put emptied law (taken k) n = ap taken (law k n)
+emptied_once put emptied law (first o) n = refl
+emptied_once put emptied law (count m) n = refl
+emptied_once put emptied law (only a) n = refl
+emptied_once put emptied law (located o ls) n = refl
+
+-- an empty taker of the same kind is the same later
+pub emptied_stays : {K : Type 0} (put : K → Node → K) (emptied : K → K)
+    → ((k : K) (n : Node) → emptied (put k n) ≡ emptied k) → (k : Kept K) (ns : List Node)
+    → emptied_found emptied (plus (put_found put) k ns) ≡ emptied_found emptied k
+unfolding plus
+emptied_stays put emptied law k [] = refl
+emptied_stays put emptied law k (n ∷ ns) = emptied_stays put emptied law (put_found put k n) ns
+    ∙ emptied_once put emptied law k n

@@ -25,3 +25,6 @@ pub mod Answered
 pub mod FirstOnes
 pub mod Differing
 pub mod SameLocations
+pub mod Gathered
+pub mod Stretches
+mod Crossing

@@ -63,6 +63,14 @@ put_found put (located o ls) n = located (put_first o n.value) (ls ++ n.location
 unfoldable pub plus : {K : Type 0} → (K → Node → K) → K → List Node → K
 plus put k ns = fold put k ns
 
+-- what an empty taker of the same kind keeps
+abbrev pub emptied_found : {K : Type 0} → (K → K) → Kept K → Kept K
+emptied_found emptied (taken k) = taken (emptied k)
+emptied_found emptied (first o) = first None
+emptied_found emptied (count n) = count 0
+emptied_found emptied (only a) = only none
+emptied_found emptied (located o ls) = located None []
+
 -- what was kept, if it is that
 abbrev pub kept_first : {K : Type 0} → Kept K → Option Json
 kept_first (taken k) = None

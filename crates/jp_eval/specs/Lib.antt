@@ -19,3 +19,4 @@ pub mod Answers
 pub mod Base
 pub mod Walk
 pub mod Evaluated
+pub mod Kids

@@ -10,11 +10,13 @@ ghost use Rattle.jp_eval.specs.Nodelist.{document_nodes};
 ghost use Rattle.jp_eval.specs.declared.evaluation.EvalFault.TheVariants.{Memory};
 
 use crate::evaluator::Evaluator;
+use crate::fork::Fork;
 use crate::locations::Locations;
 use crate::visit::Visit;
 use jp_check::Plan;
 use jp_doc::{Document, Location};
 use std::alloc::{AllocError, Global};
+use std::thread::Threads;
 use thiserror::Error;
 
 /// Why a query was not evaluated.
@@ -69,5 +71,34 @@ pub fn evaluate(alloc: Global, plan: &Plan, document: &Document) -> Result<Vec<L
         locations: Vec::new(alloc),
     };
     let taker = visit_nodes(alloc, plan, document, none)?;
+    Ok(taker.locations)
+}
+
+/// The same as `evaluate`, where a list of children that the query's own segments walk, and that has at least
+/// `floor` members, is cut into halves that are walked at once, and so is a half. A floor under 2 counts as 2.
+/// What lies within six cuts is walked whole, so that there are at most 64 walks at once.
+///
+/// The fork is told of each half by the thread that walks it. A half whose thread can't be started is walked
+/// on the other's.
+///
+/// # Errors
+///
+/// [`EvalFault::Memory`] where a growth of memory was refused.
+pub fn evaluate_split<R: Threads + Sync, F: Fork + Sync>(
+    rt: &R,
+    alloc: Global,
+    plan: &Plan,
+    document: &Document,
+    floor: u64,
+    fork: &F,
+) -> Result<Vec<Location>, EvalFault>
+    ensures nodes { IfOk result (λ found. (t : Tests) → AreRight t →
+        map location_of found.items ≡ map (λ n. n.location)
+        (document_nodes t (planned_query plan.now) (document_value document.now))) }
+{
+    let none = Locations {
+        locations: Vec::new(alloc),
+    };
+    let taker = Evaluator::new(alloc, plan).visit_split(rt, document, floor, fork, none)?;
     Ok(taker.locations)
 }

@@ -8,16 +8,19 @@ ghost use Rattle.jp_eval.specs.Nodelist.{document_nodes};
 ghost use Rattle.jp_regexp.specs.Tests.{Tests, AreRight};
 
 use crate::evaluation::EvalFault;
+use crate::fork::{Cuts, Fork};
 use crate::found::{Found, into_taker};
 use crate::part::Part;
 use crate::roots::answer_all;
+use crate::split::go_split;
 use crate::visit::Visit;
-use crate::walk::run;
+use crate::walk::{Task, run};
 use jp_check::Plan;
 use jp_doc::Document;
 use jp_trail::{Room, Trail};
 use std::alloc::Global;
 use std::mem;
+use std::thread::Threads;
 
 /// Evaluates a plan on one document after another.
 ///
@@ -58,6 +61,42 @@ impl<'p> Evaluator<'p> {
     {
         visit_in(self.alloc, self.plan, document, &mut self.room, taker)
     }
+
+    /// The same as `visit`, where a list of children that the query's own segments walk, and that has at
+    /// least `floor` members, is cut into halves that are walked at once, and so is a half. A floor under 2
+    /// counts as 2. What lies within six cuts is walked whole, so that there are at most 64 walks at once.
+    ///
+    /// The fork is told of each half by the thread that walks it. A half whose thread can't be started is
+    /// walked on the other's.
+    ///
+    /// # Errors
+    ///
+    /// [`EvalFault::Memory`] where a growth of memory was refused. Further documents may be visited then.
+    pub fn visit_split<R: Threads + Sync, F: Fork + Sync, V: Visit + Drop + Send>(
+        &mut self,
+        rt: &R,
+        document: &Document,
+        floor: u64,
+        fork: &F,
+        taker: V,
+    ) -> Result<V, EvalFault>
+        ensures nodes { IfOk result (λ t. (tests : Tests) → AreRight tests →
+            V.kept t ≡ fold V.put (V.kept taker)
+            (document_nodes tests (evaluated_query self.old) (document_value document.now))) }
+        ensures query { evaluated_query self.new ≡ evaluated_query self.old }
+    {
+        let cuts = Cuts::from_floor(floor);
+        split_in(
+            rt,
+            fork,
+            cuts,
+            self.alloc,
+            self.plan,
+            document,
+            &mut self.room,
+            taker,
+        )
+    }
 }
 
 /// Hands the nodes to the taker, with this room for the text of the path.
@@ -84,6 +123,35 @@ fn visit_in<V: Visit + Drop>(
         &mut path,
         &mut found,
     )?;
+    *room = path.into_room();
+    match into_taker(found) {
+        Some(taker) => Ok(taker),
+        None => Err(EvalFault::Memory),
+    }
+}
+
+/// The same, where long lists are cut.
+fn split_in<R: Threads + Sync, F: Fork + Sync, V: Visit + Drop + Send>(
+    rt: &R,
+    fork: &F,
+    cuts: Cuts,
+    alloc: Global,
+    plan: &Plan,
+    document: &Document,
+    room: &mut Room,
+    taker: V,
+) -> Result<V, EvalFault>
+    ensures { IfOk result (λ t. (tests : Tests) → AreRight tests →
+        V.kept t ≡ fold V.put (V.kept taker)
+        (document_nodes tests (planned_query plan.now) (document_value document.now))) }
+{
+    let root = Part::root_of(document);
+    let ready = plan.ready();
+    let ground = answer_all::<V>(alloc, root, ready.roots.as_slice())?;
+    let mut path = Trail::with_room(alloc, mem::replace(room, Room::new(alloc)));
+    let mut found = Found::Taker(taker);
+    let task = Task::Run(ready.segments.as_slice());
+    go_split(rt, fork, cuts, &ground, task, root, &mut path, &mut found)?;
     *room = path.into_room();
     match into_taker(found) {
         Some(taker) => Ok(taker),

@@ -3,7 +3,7 @@
 ghost use Rattle.std.specs.Prelude.{◌≡◌, ◌+◌, IsTrue, IfSome, IfOk, OnOk, Some, List, map, option_map};
 ghost use Rattle.jp_doc.specs.Location.{Node};
 ghost use Rattle.jp_eval.specs.Kept.{kept, put_found, taken, kept_first, kept_count, kept_only, alone_of};
-ghost use Rattle.jp_eval.specs.Kept.{put_alone, alone_value, located as located_at};
+ghost use Rattle.jp_eval.specs.Kept.{put_alone, alone_value, located as located_at, plus, emptied_found};
 ghost use Rattle.jp_eval.specs.Different.{IsDifferent};
 ghost use Rattle.jp_eval.specs.Functions.{number_value, first_value};
 ghost use Rattle.jp_eval.specs.Links.{here};
@@ -116,6 +116,41 @@ fn with_another<'v>(alone: Alone<'v>, value: Part<'v>) -> Alone<'v>
         Alone::None => Alone::One(value),
         Alone::One(_) => Alone::Several,
         Alone::Several => Alone::Several,
+    }
+}
+
+/// An empty taker of the caller's kind, where the caller's is what is kept.
+pub(crate) fn fresh<V: Visit + Drop>(found: &Found<'_, V>, alloc: Global) -> Result<V, AllocError>
+    ensures empty { IfOk result (λ t. taken (V.kept t)
+        ≡ emptied_found V.emptied (kept V.kept found.now)) }
+    ensures later { (ns : List Node)
+        → emptied_found V.emptied (plus (put_found V.put) (kept V.kept found.now) ns)
+        ≡ emptied_found V.emptied (kept V.kept found.now) }
+{
+    match found {
+        Found::Taker(taker) => Ok(taker.fresh(alloc)),
+        Found::First(_) => Err(AllocError),
+        Found::Count(_) => Err(AllocError),
+        Found::Only(_) => Err(AllocError),
+        Found::Distinct(_) => Err(AllocError),
+    }
+}
+
+/// Takes the nodes that another taker took, which began as an empty one.
+pub(crate) fn append<'v, V: Visit + Drop>(
+    found: &mut Found<'v, V>,
+    other: V,
+) -> Result<(), AllocError>
+    ensures { (ns : List Node) → taken (V.kept other)
+        ≡ plus (put_found V.put) (emptied_found V.emptied (kept V.kept found.old)) ns
+        → OnOk result (kept V.kept found.new ≡ plus (put_found V.put) (kept V.kept found.old) ns) }
+{
+    match found {
+        Found::Taker(taker) => taker.append(other),
+        Found::First(_) => Err(AllocError),
+        Found::Count(_) => Err(AllocError),
+        Found::Only(_) => Err(AllocError),
+        Found::Distinct(_) => Err(AllocError),
     }
 }
 

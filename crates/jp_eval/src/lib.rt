@@ -1,11 +1,13 @@
 //! What a query selects in a document (RFC 9535): nodes, selection, comparison, functions.
 #![tactic(auto)]
 
+mod children;
 mod compare;
 mod different;
 mod evaluation;
 mod evaluator;
 mod examples;
+mod fork;
 mod found;
 mod functions;
 mod ground;
@@ -15,11 +17,15 @@ mod numbers;
 mod part;
 mod roots;
 mod slice;
+mod split;
+mod stretch;
 mod visit;
 mod walk;
+mod wide;
 
 pub use compare::{Operand, equal, less};
-pub use evaluation::{EvalFault, evaluate, visit_nodes};
+pub use evaluation::{EvalFault, evaluate, evaluate_split, visit_nodes};
 pub use evaluator::Evaluator;
+pub use fork::{Fork, OpenFork};
 pub use slice::{Bounds, slice_bounds};
 pub use visit::Visit;

@@ -18,7 +18,7 @@ pub(crate) struct Locations {
 }
 
 impl Visit for Locations {
-    ghost use Rattle.std.specs.Prelude.{List};
+    ghost use Rattle.std.specs.Prelude.{List, [], refl};
     ghost use Rattle.jp_doc.specs.Location.{Location};
 
     ghost Kept = { List Location };
@@ -26,6 +26,10 @@ impl Visit for Locations {
     ghost kept = { λ t. map location_of t.locations.items };
 
     ghost put = { put_location };
+
+    ghost emptied = { λ _. [] };
+
+    ghost emptied_stays = { λ _ _. refl };
 
     fn node(
         &mut self,
@@ -39,6 +43,17 @@ impl Visit for Locations {
 
     fn is_full(&self) -> bool {
         false
+    }
+
+    fn fresh(&self, alloc: Global) -> Self {
+        Locations {
+            locations: Vec::new(alloc),
+        }
+    }
+
+    fn append(&mut self, mut other: Self) -> Result<(), AllocError> {
+        self.locations.append(&mut other.locations)?;
+        Ok(())
     }
 }
 

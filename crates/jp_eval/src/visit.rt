@@ -1,6 +1,7 @@
 //! What a walk hands its nodes to.
 
-ghost use Rattle.std.specs.Prelude.{◌≡◌, IsTrue, OnOk, false};
+ghost use Rattle.std.specs.Prelude.{◌≡◌, List, IsTrue, OnOk, false};
+ghost use Rattle.std.specs.List.{fold};
 ghost use Rattle.serde_json.specs.View.{view};
 ghost use Rattle.serde_json.specs.Written.{has_float};
 ghost use Rattle.jp_doc.specs.Json.{value_of};
@@ -24,6 +25,9 @@ pub trait Visit {
     /// What is kept once this node is taken too.
     ghost put: { Kept → Node → Kept };
 
+    /// What an empty taker of the same kind keeps.
+    ghost emptied: { Kept → Kept };
+
     /// Takes the node at the trail, whose value is this one. All numbers of the value are whole.
     ///
     /// `AllocError` if a growth was refused. The trail is as before, whatever the answer.
@@ -41,4 +45,18 @@ pub trait Visit {
     /// Whether a further node would change nothing.
     fn is_full(&self) -> bool
         ensures { IsTrue result → (n : Node) → put (kept self.now) n ≡ kept self.now };
+
+    /// An empty taker of the same kind.
+    fn fresh(&self, alloc: Global) -> Self
+        ensures { kept result ≡ emptied (kept self.now) };
+
+    /// Takes the nodes that another taker took, one that began as an empty one of the same kind.
+    ///
+    /// `AllocError` if a growth was refused.
+    fn append(&mut self, other: Self) -> Result<(), AllocError>
+        ensures { (ns : List Node) → kept other ≡ fold put (emptied (kept self.old)) ns
+            → OnOk result (kept self.new ≡ fold put (kept self.old) ns) };
+
+    /// A further node does not change the kind.
+    ghost emptied_stays: { (k : Kept) (n : Node) → emptied (put k n) ≡ emptied k };
 }

@@ -66,7 +66,7 @@ fn is_idle(task: Task<'_>, value: Part<'_>) -> bool
 }
 
 #[cycle(walk)]
-fn go<'v, V: Visit + Drop>(
+pub(crate) fn go<'v, V: Visit + Drop>(
     ground: &Ground<'v>,
     task: Task<'v>,
     value: Part<'v>,
@@ -338,7 +338,7 @@ fn each_member<'v, V: Visit + Drop>(
 
 /// Whether the expression is true, where `@` is the value at the path.
 #[cycle(walk)]
-fn holds<'v, V: Visit + Drop>(
+pub(crate) fn holds<'v, V: Visit + Drop>(
     ground: &Ground<'v>,
     test: &'v Logical,
     value: Part<'v>,

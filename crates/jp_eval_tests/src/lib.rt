@@ -2,6 +2,10 @@
 #![tactic(auto)]
 
 #[cfg(test)]
+mod forks;
+#[cfg(test)]
 mod refusals;
 #[cfg(test)]
 mod selections;
+#[cfg(test)]
+mod splits;

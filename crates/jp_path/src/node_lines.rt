@@ -81,7 +81,7 @@ impl NodeLines {
 }
 
 impl Visit for NodeLines {
-    ghost use Rattle.std.specs.Prelude.{ℕ, List};
+    ghost use Rattle.std.specs.Prelude.{ℕ, List, [], refl};
     ghost use Rattle.jp_path.specs.OutputLine.{put_line};
 
     ghost Kept = { ℕ × List ℕ };
@@ -89,6 +89,10 @@ impl Visit for NodeLines {
     ghost kept = { λ t. t };
 
     ghost put = { put_line };
+
+    ghost emptied = { λ lines. (lines.0, []) };
+
+    ghost emptied_stays = { λ _ _. refl };
 
     fn node(
         &mut self,
@@ -108,6 +112,18 @@ impl Visit for NodeLines {
 
     fn is_full(&self) -> bool {
         false
+    }
+
+    fn fresh(&self, alloc: Global) -> Self {
+        NodeLines {
+            number: self.number,
+            room: Vec::new(alloc),
+            out: Vec::new(alloc),
+        }
+    }
+
+    fn append(&mut self, other: Self) -> Result<(), AllocError> {
+        self.out.extend_from_slice(other.out.as_slice())
     }
 }
 

@@ -1,0 +1,159 @@
+-- What may be shared among threads: what a walk is given, and a task at some children.
+use denote.Param.Send.{IsSend, IsSync, recorded_send, struct_send, shr_send, shr_slice_send, sendable}
+use denote.RattleType.{RattleType}
+use denote.Ref.{NamedLft, ShrRef}
+use denote.Slice.{ShrSlice}
+use denote.Struct.Declared.{shape}
+use denote.Struct.Tuple.{TupleAt, field_at, type_at}
+use mathlib.Core.List.{List, [], ◌∷◌}
+use mir.Syntax.{Sym}
+use Rattle.std.proofs.Crossing.{crosses}
+use Rattle.jp_check.specs.contracts.ready.Segment as Segment
+use Rattle.jp_check.specs.contracts.ready.Selector as Selector
+use Rattle.jp_check.specs.contracts.ready.Logical as Logical
+use Rattle.jp_check.specs.contracts.ready.RootQuery as RootQuery
+use Rattle.jp_regexp.proofs.tree.CharSet.TheSendSync as sets
+use Rattle.jp_regexp.proofs.table.Table.TheSendSync as tables
+use Rattle.jp_check.proofs.ready.Constant.TheSendSync as constants
+use Rattle.jp_check.proofs.ready.Position.TheSendSync as positions
+use Rattle.jp_check.proofs.ready.Slice.TheSendSync as slices
+use Rattle.jp_check.proofs.ready.Want.TheSendSync as wants
+use Rattle.jp_check.proofs.ready.Form.TheSendSync as forms
+use Rattle.jp_check.proofs.ready.Logical.TheLaws.TheKnot.{crosses as ready_crosses}
+use Rattle.jp_regexp.proofs.parts.Part.TheLaws.TheKnot.{crosses as pattern_crosses}
+use Rattle.jp_trail.proofs.link.Link.TheSendSync as links
+use Rattle.std.proofs.MapsCrossing.{crosses as map_crosses}
+use Rattle.serde_json.proofs.number.Number.TheSendSync as numbers
+use Rattle.serde_json.proofs.value.Value.TheLaws.TheKnot.{crosses as value_crosses}
+use Rattle.serde_json.specs.contracts.value.Value as Value
+use Rattle.jp_trail.specs.contracts.link.Link as Link
+use Rattle.jp_eval.proofs.fork.Cuts.TheSendSync as cuts
+use Rattle.jp_eval.specs.contracts.fork.Cuts as Cuts
+use Rattle.jp_eval.specs.contracts.part.Part as Part
+use Rattle.jp_eval.specs.contracts.children.Child as Child
+use Rattle.jp_eval.specs.contracts.walk.Task as Task
+use Rattle.jp_eval.specs.contracts.ground.Ground as Ground
+use Rattle.jp_eval.specs.contracts.different.Different as Different
+use Rattle.jp_eval.specs.contracts.found.Alone as Alone
+use Rattle.jp_eval.specs.contracts.found.Answer as Answer
+
+pub segment_sync : IsSync Segment.the_row
+segment_sync = search (
+  tables.the_field_sync,
+  sets.the_field_sync,
+  constants.the_field_sync,
+  positions.the_field_sync,
+  slices.the_field_sync,
+  wants.the_field_sync,
+  forms.the_field_sync,
+  crosses,
+  pattern_crosses,
+  ready_crosses,
+  sendable,
+) depth 60 fits 20000
+
+pub selector_sync : IsSync Selector.the_row
+selector_sync = search (
+  tables.the_field_sync,
+  sets.the_field_sync,
+  constants.the_field_sync,
+  positions.the_field_sync,
+  slices.the_field_sync,
+  wants.the_field_sync,
+  forms.the_field_sync,
+  crosses,
+  pattern_crosses,
+  ready_crosses,
+  sendable,
+) depth 60 fits 20000
+
+pub logical_sync : IsSync Logical.the_row
+logical_sync = search (
+  tables.the_field_sync,
+  sets.the_field_sync,
+  constants.the_field_sync,
+  positions.the_field_sync,
+  slices.the_field_sync,
+  wants.the_field_sync,
+  forms.the_field_sync,
+  crosses,
+  pattern_crosses,
+  ready_crosses,
+  sendable,
+) depth 60 fits 20000
+
+pub root_sync : IsSync RootQuery.the_row
+root_sync = search (
+  tables.the_field_sync,
+  sets.the_field_sync,
+  constants.the_field_sync,
+  positions.the_field_sync,
+  slices.the_field_sync,
+  wants.the_field_sync,
+  forms.the_field_sync,
+  crosses,
+  pattern_crosses,
+  ready_crosses,
+  sendable,
+) depth 60 fits 20000
+
+pub value_sync : IsSync Value.the_row
+value_sync = search (numbers.the_field_sync, value_crosses, map_crosses, crosses, sendable) depth 60 fits 20000
+
+pub part_sync : (a : NamedLft) → IsSync (Part.the_row a)
+part_sync a = search (value_sync, crosses, sendable) depth 60 fits 20000
+
+part_field : (a : NamedLft) → IsSync (Part.the_field a).row
+part_field a = search (value_sync, crosses, sendable) depth 60 fits 20000
+
+pub child_sync : (a : NamedLft) → IsSync (Child.the_row a)
+child_sync a = search (part_field, links.the_field_sync, crosses, sendable) depth 60 fits 20000
+
+pub task_sync : (a : NamedLft) → IsSync (Task.the_row a)
+task_sync a = search (segment_sync, selector_sync, logical_sync, crosses, sendable) depth 60 fits 20000
+
+alone_field : (a : NamedLft) → IsSync (Alone.the_field a).row
+alone_field a = search (part_field, crosses, sendable) depth 60 fits 20000
+
+different_field : (a : NamedLft) → IsSync (Different.the_field a).row
+different_field a = search (alone_field, crosses, sendable) depth 60 fits 20000
+
+answer_sync : (a : NamedLft) → IsSync (Answer.the_row a)
+answer_sync a = search (part_field, part_sync, alone_field, different_field, crosses, sendable) depth 60 fits
+    20000
+
+pub ground_sync : (a : NamedLft) → IsSync (Ground.the_row a)
+ground_sync a = search (part_field, root_sync, answer_sync, crosses, sendable) depth 60 fits 20000
+
+-- what a half is given: the fork, the runtime, the cuts, the ground, the task, the children, the links, a taker
+abbrev pub captured : (F R V : RattleType) (f r c : NamedLft) (g gv t tv s sv l lv : NamedLft) → List RattleType
+captured F R V f r c g gv t tv s sv l lv =
+    ShrRef f.mir f.lft F ∷ ShrRef r.mir r.lft R ∷ ShrRef c.mir c.lft Cuts.the_row
+    ∷ ShrRef g.mir g.lft (Ground.the_row gv) ∷ ShrRef t.mir t.lft (Task.the_row tv)
+    ∷ ShrSlice s.mir s.lft (Child.the_row sv) ∷ ShrSlice l.mir l.lft (Link.the_row lv) ∷ V ∷ []
+
+pub captured_send : (name : Sym) (F R V : RattleType) (f r c : NamedLft)
+    (g gv t tv s sv l lv : NamedLft) → IsSync F → IsSync R → IsSend V
+    → IsSend (TupleAt name (captured F R V f r c g gv t tv s sv l lv))
+captured_send name F R V f r c g gv t tv s sv l lv fs rs vs =
+    let rows = captured F R V f r c g gv t tv s sv l lv in
+    recorded_send (field_at name rows).row _ _ (type_at name rows).to_one
+    (struct_send (shape (type_at name rows)) (
+      shr_send f.mir f.lft F fs,
+      (
+        shr_send r.mir r.lft R rs,
+        (
+          shr_send c.mir c.lft _ cuts.the_sync,
+          (
+            shr_send g.mir g.lft _ (ground_sync gv),
+            (
+              shr_send t.mir t.lft _ (task_sync tv),
+              (
+                shr_slice_send s.mir s.lft _ (child_sync sv),
+                (shr_slice_send l.mir l.lft _ (links.the_sync lv), (vs, tt)),
+              ),
+            ),
+          ),
+        ),
+      ),
+    ))

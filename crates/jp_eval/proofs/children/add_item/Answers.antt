@@ -1,0 +1,9 @@
+use Rattle.std.proofs.Common.{◌≡◌, ◌≤◌, ◌<◌, ◌++◌, ◌∷◌, [], ap, arith}
+use Rattle.jp_eval.proofs.Gathered.{gathered_height}
+use Rattle.jp_eval.proofs.children.add_item.Goals as goal
+
+pub returns-in_ok-push-clause-height : goal.returns-in_ok-push-clause-height
+returns-in_ok-push-clause-height c =
+    let below = c.in-Some.ensures.below in
+    gathered_height c.args.children.now.items c.push.new.self.items _ _ c.in_ok-push.ensures.items
+    (omega arith) (omega (arith, below))

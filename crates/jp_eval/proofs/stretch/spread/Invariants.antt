@@ -1,0 +1,16 @@
+use Rattle.std.proofs.Common.{◌≡◌, ◌≤◌, ◌++◌, drop}
+use Rattle.serde_json.specs.Data.{depth}
+use Rattle.serde_json.specs.View.{view}
+use Rattle.jp_doc.specs.Location.{Location, node}
+use Rattle.jp_eval.specs.Base.{Base}
+use Rattle.jp_eval.specs.Kids.{done_along_all, highest}
+use Rattle.jp_eval.specs.Part.{part_value}
+use Rattle.jp_eval.specs.Walk.{picked_by, reached}
+use Rattle.jp_eval.proofs.stretch.spread.Given as goal
+
+abbrev pub invariant-loop-selector : goal.invariant-loop-selector
+invariant-loop-selector l =
+    ((base : Base) (at : Location) → done_along_all base at l.stretches.items
+    ++ reached base l.rest (picked_by base (drop l.selector-index l.selectors) (node at (part_value l.value)))
+    ≡ reached base l.rest (picked_by base l.selectors (node at (part_value l.value))))
+    × (highest l.stretches.items ≤ depth (view l.value.value.now))

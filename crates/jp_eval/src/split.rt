@@ -1,0 +1,223 @@
+//! The walk where long lists are cut into halves that are walked at once.
+
+ghost use Rattle.std.specs.Prelude.{◌≡◌, [], IfOk, OnOk, MatchOption};
+ghost use Rattle.std.specs.List.{All, flat_map};
+ghost use Rattle.std.specs.Thread.{IsSync};
+ghost use Rattle.jp_eval.specs.Base.{base_of};
+ghost use Rattle.jp_eval.specs.Kept.{kept, put_found, plus, taken};
+ghost use Rattle.jp_eval.specs.Kids.{kids, done_along_all};
+ghost use Rattle.jp_eval.specs.Links.{here};
+ghost use Rattle.jp_eval.specs.Walk.{done};
+ghost use Rattle.jp_trail.specs.Links.{link_steps};
+
+use crate::children::Child;
+use crate::fork::{Cuts, Fork};
+use crate::found::{Found, append, fresh, into_taker, is_full};
+use crate::ground::Ground;
+use crate::part::Part;
+use crate::stretch::{Stretch, stretches};
+use crate::visit::Visit;
+use crate::walk::{Task, go, holds};
+use crate::wide::is_wide;
+use jp_trail::{Link, Trail};
+use std::alloc::{AllocError, Global};
+use std::thread::{Threads, join};
+
+/// The task at the value, where a list inside of it may be cut.
+#[cycle(split)]
+pub(crate) fn go_split<'v, R: Threads + Sync, F: Fork + Sync, V: Visit + Drop + Send>(
+    rt: &R,
+    fork: &F,
+    cuts: Cuts,
+    ground: &Ground<'v>,
+    task: Task<'v>,
+    value: Part<'v>,
+    path: &mut Trail<'v>,
+    found: &mut Found<'v, V>,
+) -> Result<(), AllocError>
+    ensures found { OnOk result (kept V.kept found.new
+        ≡ plus (put_found V.put) (kept V.kept found.old)
+        (done (base_of ground.now) task.entry (here path.old value.entry))) }
+    ensures path { OnOk result (path.new ≡ path.old) }
+{
+    if cuts.left == 0 || !is_wide(value.value, cuts.floor) {
+        return go(ground, task, value, path, found);
+    }
+    let Some(further) = settled::<V>(ground, task, value, path)? else {
+        return Ok(());
+    };
+    match stretches(ground.alloc, further, value)? {
+        Some(stretches) => each_stretch(rt, fork, cuts, ground, stretches.as_slice(), path, found),
+        None => go(ground, further, value, path, found),
+    }
+}
+
+/// Each of these tasks along its children.
+#[cycle(split)]
+fn each_stretch<'v, R: Threads + Sync, F: Fork + Sync, V: Visit + Drop + Send>(
+    rt: &R,
+    fork: &F,
+    cuts: Cuts,
+    ground: &Ground<'v>,
+    stretches: &[Stretch<'v>],
+    path: &mut Trail<'v>,
+    found: &mut Found<'v, V>,
+) -> Result<(), AllocError>
+    ensures found { OnOk result (kept V.kept found.new
+        ≡ plus (put_found V.put) (kept V.kept found.old)
+        (done_along_all (base_of ground.now) (link_steps path.old) stretches.now)) }
+    ensures path { OnOk result (path.new ≡ path.old) }
+{
+    for stretch in stretches {
+        let children = stretch.children.as_slice();
+        each_of(rt, fork, cuts, ground, stretch.task, children, path, found)?;
+    }
+    Ok(())
+}
+
+/// The task at each of these children, of which halves are walked at once where they are many.
+#[cycle(split)]
+fn each_of<'v, R: Threads + Sync, F: Fork + Sync, V: Visit + Drop + Send>(
+    rt: &R,
+    fork: &F,
+    cuts: Cuts,
+    ground: &Ground<'v>,
+    task: Task<'v>,
+    children: &[Child<'v>],
+    path: &mut Trail<'v>,
+    found: &mut Found<'v, V>,
+) -> Result<(), AllocError>
+    ensures found { OnOk result (kept V.kept found.new
+        ≡ plus (put_found V.put) (kept V.kept found.old)
+        (flat_map (done (base_of ground.now) task.entry) (kids (link_steps path.old) children.now))) }
+    ensures path { OnOk result (path.new ≡ path.old) }
+{
+    if cuts.left == 0 || (children.len() as u64) < cuts.floor.max(2) {
+        return one_by_one(rt, fork, cuts, ground, task, children, path, found);
+    }
+    let further = Cuts {
+        floor: cuts.floor,
+        left: cuts.left - 1,
+    };
+    let (left, right) = children.split_at(children.len() / 2);
+    let mine = fresh(found, ground.alloc)?;
+    let other = fresh(found, ground.alloc)?;
+    let at = path.links();
+    let (first, second) = join(
+        rt,
+        || -> Result<V, AllocError>
+            requires { IsSync R.row × IsSync F.row }
+            ensures { IfOk result (λ t. taken (V.kept t)
+                ≡ plus (put_found V.put) (taken (V.kept mine))
+                (flat_map (done (base_of ground.entry.now) task.entry)
+                (kids (link_steps at.entry.now) left.entry.now))) }
+        {
+            fork.half(0);
+            half(rt, fork, further, ground, task, left, at, mine)
+        },
+        || -> Result<V, AllocError>
+            requires { IsSync R.row × IsSync F.row }
+            ensures { IfOk result (λ t. taken (V.kept t)
+                ≡ plus (put_found V.put) (taken (V.kept other))
+                (flat_map (done (base_of ground.entry.now) task.entry)
+                (kids (link_steps at.entry.now) right.entry.now))) }
+        {
+            fork.half(1);
+            half(rt, fork, further, ground, task, right, at, other)
+        },
+    );
+    append(found, first?)?;
+    append(found, second?)
+}
+
+/// The task at each of the children of a half, for a taker of its own.
+#[cycle(split)]
+fn half<'v, R: Threads + Sync, F: Fork + Sync, V: Visit + Drop + Send>(
+    rt: &R,
+    fork: &F,
+    cuts: Cuts,
+    ground: &Ground<'v>,
+    task: Task<'v>,
+    children: &[Child<'v>],
+    at: &[Link<'v>],
+    taker: V,
+) -> Result<V, AllocError>
+    ensures { IfOk result (λ t. taken (V.kept t) ≡ plus (put_found V.put) (taken (V.kept taker))
+        (flat_map (done (base_of ground.now) task.entry) (kids (link_steps at.now) children.now))) }
+{
+    let mut path = trail_of(ground.alloc, at)?;
+    let mut found = Found::Taker(taker);
+    each_of(
+        rt, fork, cuts, ground, task, children, &mut path, &mut found,
+    )?;
+    match into_taker(found) {
+        Some(taker) => Ok(taker),
+        None => Err(AllocError),
+    }
+}
+
+/// The task at each of these children, one after another.
+#[cycle(split)]
+fn one_by_one<'v, R: Threads + Sync, F: Fork + Sync, V: Visit + Drop + Send>(
+    rt: &R,
+    fork: &F,
+    cuts: Cuts,
+    ground: &Ground<'v>,
+    task: Task<'v>,
+    children: &[Child<'v>],
+    path: &mut Trail<'v>,
+    found: &mut Found<'v, V>,
+) -> Result<(), AllocError>
+    ensures found { OnOk result (kept V.kept found.new
+        ≡ plus (put_found V.put) (kept V.kept found.old)
+        (flat_map (done (base_of ground.now) task.entry) (kids (link_steps path.old) children.now))) }
+    ensures path { OnOk result (path.new ≡ path.old) }
+{
+    for child in children {
+        if is_full(found) {
+            return Ok(());
+        }
+        path.push(child.link)?;
+        go_split(rt, fork, cuts, ground, task, child.part, path, found)?;
+        path.pop();
+    }
+    Ok(())
+}
+
+/// The task where its test is decided, or nothing where it is false of the value.
+fn settled<'v, V: Visit + Drop>(
+    ground: &Ground<'v>,
+    task: Task<'v>,
+    value: Part<'v>,
+    path: &mut Trail<'v>,
+) -> Result<Option<Task<'v>>, AllocError>
+    ensures task { IfOk result (λ o. MatchOption o
+        (done (base_of ground.now) task.entry (here path.old value.entry) ≡ [])
+        (λ t. done (base_of ground.now) t (here path.old value.entry)
+        ≡ done (base_of ground.now) task.entry (here path.old value.entry))) }
+    ensures path { OnOk result (path.new ≡ path.old) }
+{
+    match task {
+        Task::Test(test, rest) => {
+            let holds = holds::<V>(ground, test, value, path)?;
+            if holds {
+                Ok(Some(Task::Run(rest)))
+            } else {
+                Ok(None)
+            }
+        }
+        Task::Run(_) => Ok(Some(task)),
+        Task::Descend(_, _) => Ok(Some(task)),
+    }
+}
+
+/// A trail of its own, of these links.
+fn trail_of<'v>(alloc: Global, links: &[Link<'v>]) -> Result<Trail<'v>, AllocError>
+    ensures { IfOk result (λ t. t ≡ links.now) }
+{
+    let mut trail = Trail::new(alloc);
+    for link in links {
+        trail.push(*link)?;
+    }
+    Ok(trail)
+}

@@ -1,0 +1,142 @@
+//! What a task at a value leads to: further tasks, each along a list of its children.
+
+ghost use Rattle.std.specs.Prelude.{◌≡◌, ◌≤◌, IfOk, IfSome};
+ghost use Rattle.std.specs.List.{flat_map};
+ghost use Rattle.serde_json.specs.Data.{depth};
+ghost use Rattle.serde_json.specs.View.{view};
+ghost use Rattle.jp_doc.specs.Location.{Location, node};
+ghost use Rattle.jp_eval.specs.Base.{Base};
+ghost use Rattle.jp_eval.specs.Kids.{done_along, done_along_all, highest, kids_height};
+ghost use Rattle.jp_eval.specs.Nodes.{descendants};
+ghost use Rattle.jp_eval.specs.Part.{part_value};
+ghost use Rattle.jp_eval.specs.Walk.{picked, picked_by, reached, done};
+
+use crate::children::{Child, children_of, named, placed, sliced};
+use crate::numbers::place;
+use crate::part::Part;
+use crate::slice::bounds_of;
+use crate::walk::Task;
+use jp_check::ready::{Segment, Selector};
+use std::alloc::{AllocError, Global};
+
+/// A task at each of some children of a value.
+#[derive(Drop)]
+pub(crate) struct Stretch<'v> {
+    pub(crate) task: Task<'v>,
+    pub(crate) children: Vec<Child<'v>>,
+}
+
+/// What a task comes to at the value, or nothing where it goes no further down, or where a test decides.
+pub(crate) fn stretches<'v>(
+    alloc: Global,
+    task: Task<'v>,
+    value: Part<'v>,
+) -> Result<Option<Vec<Stretch<'v>>>, AllocError>
+    ensures nodes { IfOk result (λ o. IfSome o (λ v. (base : Base) (at : Location) →
+        done_along_all base at v.items ≡ done base task.entry (node at (part_value value.entry)))) }
+    ensures height { IfOk result (λ o. IfSome o (λ v. highest v.items ≤ depth (view value.entry.value.now))) }
+{
+    match task {
+        Task::Run(segments) => match segments.split_first() {
+            None => Ok(None),
+            Some((segment, rest)) => {
+                let selectors = segment.selectors.as_slice();
+                if segment.deep {
+                    Ok(Some(spread_deep(alloc, selectors, rest, value)?))
+                } else {
+                    Ok(Some(spread(alloc, selectors, rest, value)?))
+                }
+            }
+        },
+        Task::Descend(selectors, rest) => Ok(Some(spread_deep(alloc, selectors, rest, value)?)),
+        Task::Test(_, _) => Ok(None),
+    }
+}
+
+/// The selectors at the value and at each descendant, and then the segments.
+fn spread_deep<'v>(
+    alloc: Global,
+    selectors: &'v [Selector],
+    rest: &'v [Segment],
+    value: Part<'v>,
+) -> Result<Vec<Stretch<'v>>, AllocError>
+    ensures nodes { IfOk result (λ v. (base : Base) (at : Location) → done_along_all base at v.items
+        ≡ reached base rest.now (flat_map (picked_by base selectors.now)
+        (descendants (node at (part_value value.entry))))) }
+    ensures height { IfOk result (λ v. highest v.items ≤ depth (view value.entry.value.now)) }
+{
+    let mut stretches = spread(alloc, selectors, rest, value)?;
+    stretches.push(Stretch {
+        task: Task::Descend(selectors, rest),
+        children: children_of(alloc, value)?,
+    })?;
+    Ok(stretches)
+}
+
+/// Each selector at the value, and then the segments.
+fn spread<'v>(
+    alloc: Global,
+    selectors: &'v [Selector],
+    rest: &'v [Segment],
+    value: Part<'v>,
+) -> Result<Vec<Stretch<'v>>, AllocError>
+    ensures nodes { IfOk result (λ v. (base : Base) (at : Location) → done_along_all base at v.items
+        ≡ reached base rest.now (picked_by base selectors.now (node at (part_value value.entry)))) }
+    ensures height { IfOk result (λ v. highest v.items ≤ depth (view value.entry.value.now)) }
+{
+    let mut stretches = Vec::new(alloc);
+    for selector in selectors {
+        stretches.push(stretch_of(alloc, selector, rest, value)?)?;
+    }
+    Ok(stretches)
+}
+
+/// One selector at the value, and then the segments.
+fn stretch_of<'v>(
+    alloc: Global,
+    selector: &'v Selector,
+    rest: &'v [Segment],
+    value: Part<'v>,
+) -> Result<Stretch<'v>, AllocError>
+    ensures nodes { IfOk result (λ s. (base : Base) (at : Location) → done_along base at s
+        ≡ reached base rest.now (picked base selector.now (node at (part_value value.entry)))) }
+    ensures height { IfOk result (λ s. kids_height s.children.items ≤ depth (view value.entry.value.now)) }
+{
+    match selector {
+        Selector::Name(name) => {
+            let children = named(alloc, value, name.as_str())?;
+            Ok(Stretch {
+                task: Task::Run(rest),
+                children,
+            })
+        }
+        Selector::Wild => {
+            let children = children_of(alloc, value)?;
+            Ok(Stretch {
+                task: Task::Run(rest),
+                children,
+            })
+        }
+        Selector::Index(index) => {
+            let children = placed(alloc, value, place(index.value, value.item_count()))?;
+            Ok(Stretch {
+                task: Task::Run(rest),
+                children,
+            })
+        }
+        Selector::Slice(slice) => {
+            let children = sliced(alloc, value, bounds_of(slice, value.item_count()))?;
+            Ok(Stretch {
+                task: Task::Run(rest),
+                children,
+            })
+        }
+        Selector::Filter(test) => {
+            let children = children_of(alloc, value)?;
+            Ok(Stretch {
+                task: Task::Test(test, rest),
+                children,
+            })
+        }
+    }
+}
