@@ -1,6 +1,6 @@
 -- Children that are gathered, and that are walked in halves.
 use Rattle.std.proofs.Common.{◌≡◌, ℕ, zero, suc, ◌+◌, ◌<◌, ◌≤◌, List, [], ◌∷◌, ◌++◌, length, get_or, take}
-use Rattle.std.proofs.Common.{take-append-drop, drop, max, refl, sym, ap, ◌∙◌, subst, append_assoc, arith}
+use Rattle.std.proofs.Common.{take-append-drop, drop, refl, sym, ap, ◌∙◌, subst, append_assoc, arith}
 use Rattle.std.proofs.lemmas.List.{at_drop_more, map-append}
 use Rattle.std.proofs.lemmas.List.Concat.{flat_map-append}
 use Rattle.std.specs.List.{flat_map}
@@ -9,7 +9,6 @@ use Rattle.serde_json.specs.View.{view, items_view}
 use Rattle.serde_json.specs.declared.value.Value.{Value}
 use Rattle.jp_doc.specs.Json.{items_of, value_of}
 use Rattle.jp_doc.specs.Location.{Location, Node, node, index}
-use Rattle.jp_trail.specs.declared.link.Link.{Link}
 use Rattle.jp_eval.specs.Kept.{plus}
 use Rattle.jp_eval.specs.Kids.{kid, kids, kids_height}
 use Rattle.jp_eval.specs.Nodes.{item_nodes}

@@ -1,4 +1,4 @@
-use Rattle.std.proofs.Common.{◌≡◌, ◌≤◌, ◌<◌, ◌++◌, ◌∷◌, [], ap, arith}
+use Rattle.std.proofs.Common.{arith}
 use Rattle.jp_eval.proofs.Gathered.{gathered_height}
 use Rattle.jp_eval.proofs.children.add_item.Goals as goal
 

@@ -1,9 +1,9 @@
-use Rattle.std.proofs.Common.{◌≡◌, ◌<◌, ◌≤◌, ◌++◌, ◌∷◌, [], length, get_or, refl, sym, ap, ◌∙◌, rules, arith}
+use Rattle.std.proofs.Common.{◌<◌, ◌++◌, ◌∷◌, [], length, get_or, refl, ap, ◌∙◌, rules, arith}
 use Rattle.jp_doc.specs.DocumentValue.{IsDocumentValue}
 use Rattle.jp_doc.specs.Json.{value_of}
 use Rattle.jp_doc.specs.Location.{node, index}
 use Rattle.jp_eval.proofs.Gathered.{gathered, gathered_height, first_item}
-use Rattle.jp_eval.proofs.WalkSteps.{first_left, others_left, no_deeper, first_no_deeper}
+use Rattle.jp_eval.proofs.WalkSteps.{others_left, no_deeper, first_no_deeper}
 use Rattle.jp_eval.proofs.children.gather_items.Goals as goal
 
 pub loop-index-preserved : goal.loop-index-preserved

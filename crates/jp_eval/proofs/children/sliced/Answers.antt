@@ -1,4 +1,3 @@
-use Rattle.std.proofs.Common.{arith}
 use Rattle.jp_eval.proofs.Inside.{part_is_short}
 use Rattle.jp_eval.proofs.Places.{within_more}
 use Rattle.jp_eval.proofs.children.sliced.Goals as goal

@@ -1,4 +1,4 @@
-use Rattle.std.proofs.Common.{◌≡◌, ap, sym, ◌∙◌}
+use Rattle.std.proofs.Common.{ap, sym, ◌∙◌}
 use Rattle.std.proofs.lemmas.Result.{on_ok_weaker}
 use Rattle.jp_eval.specs.Kept.{kept, put_found, taken, plus, emptied_found}
 use Rattle.jp_eval.proofs.Keeping.{taken_out, taken_plus}

@@ -1,13 +1,11 @@
-use Rattle.std.proofs.Common.{◌≡◌, ◌<◌, ◌≤◌, suc, drop, length, refl, sym, ap, ◌∙◌, arith, rules}
+use Rattle.std.proofs.Common.{◌≡◌, ◌<◌, ◌≤◌, length, refl, sym, ap, ◌∙◌, arith, rules}
 use Rattle.std.proofs.lemmas.Result.{on_ok_weaker}
 use Rattle.std.specs.List.{flat_map}
-use Rattle.serde_json.specs.Data.{depth}
-use Rattle.serde_json.specs.View.{view}
 use Rattle.jp_doc.specs.Location.{node}
 use Rattle.jp_trail.specs.Links.{link_steps}
 use Rattle.jp_eval.specs.Base.{base_of}
 use Rattle.jp_eval.specs.Kept.{kept, put_found, plus, taken, emptied_found}
-use Rattle.jp_eval.specs.Kids.{kids, kids_height, done_along_all, highest}
+use Rattle.jp_eval.specs.Kids.{kids, kids_height, done_along_all}
 use Rattle.jp_eval.specs.Part.{part_value}
 use Rattle.jp_eval.specs.Walk.{done}
 use denote.Param.{param}
@@ -15,9 +13,9 @@ use denote.Param.Send.{IsSend, IsSync, param_send}
 use denote.Struct.Tuple.{tuple_name}
 use mir.Syntax.{named}
 use Rattle.jp_eval.proofs.Crossing.{captured_send}
-use Rattle.jp_eval.proofs.Gathered.{others_height, first_height, kid_done, front_height, back_height, halves_joined}
+use Rattle.jp_eval.proofs.Gathered.{others_height, kid_done, front_height, back_height, halves_joined}
 use Rattle.jp_eval.proofs.Keeping.{full_enough, nothing_found}
-use Rattle.jp_eval.proofs.Stretches.{others_no_higher, first_no_higher, stretch_done}
+use Rattle.jp_eval.proofs.Stretches.{others_no_higher, stretch_done}
 use Rattle.jp_eval.proofs.WalkSteps.{back_up, link_further, over}
 use Rattle.jp_eval.proofs.split.+split.Lts-each_of as lts
 use Rattle.jp_eval.proofs.split.+split.Goals as goal

@@ -1,4 +1,4 @@
-use Rattle.std.proofs.Common.{◌≡◌, ap}
+use Rattle.std.proofs.Common.{ap}
 use Rattle.std.specs.List.{flat_map}
 use Rattle.jp_doc.specs.Location.{node}
 use Rattle.jp_eval.specs.Part.{part_value}

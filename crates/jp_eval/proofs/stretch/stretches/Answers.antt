@@ -1,4 +1,4 @@
-use Rattle.std.proofs.Common.{◌≡◌, ◌∷◌, [], ap, sym, ◌∙◌}
+use Rattle.std.proofs.Common.{◌∷◌, [], ap, sym, ◌∙◌}
 use Rattle.std.specs.List.{flat_map}
 use Rattle.jp_doc.specs.Location.{node}
 use Rattle.jp_eval.specs.Nodes.{descendants}
