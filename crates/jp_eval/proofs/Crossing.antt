@@ -125,8 +125,10 @@ answer_sync a = search (part_field, part_sync, alone_field, different_field, cro
 pub ground_sync : (a : NamedLft) → IsSync (Ground.the_row a)
 ground_sync a = search (part_field, root_sync, answer_sync, crosses, sendable) depth 60 fits 20000
 
--- what a half is given: the fork, the runtime, the cuts, the ground, the task, the children, the links, a taker
-abbrev pub captured : (F R V : RattleType) (f r c : NamedLft) (g gv t tv s sv l lv : NamedLft) → List RattleType
+-- what a half is given: the fork, the runtime, the cuts, the ground, the task, the children, the links, a
+-- taker
+abbrev pub captured : (F R V : RattleType) (f r c : NamedLft) (g gv t tv s sv l lv : NamedLft)
+    → List RattleType
 captured F R V f r c g gv t tv s sv l lv =
     ShrRef f.mir f.lft F ∷ ShrRef r.mir r.lft R ∷ ShrRef c.mir c.lft Cuts.the_row
     ∷ ShrRef g.mir g.lft (Ground.the_row gv) ∷ ShrRef t.mir t.lft (Task.the_row tv)
