@@ -98,7 +98,8 @@ root_sync = search (
 ) depth 60 fits 20000
 
 pub value_sync : IsSync Value.the_row
-value_sync = search (numbers.the_field_sync, value_crosses, map_crosses, crosses, sendable) depth 60 fits 20000
+value_sync = search (numbers.the_field_sync, value_crosses, map_crosses, crosses, sendable) depth 60
+    fits 20000
 
 pub part_sync : (a : NamedLft) → IsSync (Part.the_row a)
 part_sync a = search (value_sync, crosses, sendable) depth 60 fits 20000
