@@ -6,6 +6,9 @@ ghost use Rattle.jp_doc.specs.Lines.{line_of};
 ghost use Rattle.jp_doc.specs.Reading.{reading};
 ghost use Rattle.jp_check.specs.Plan.{planned_query};
 ghost use Rattle.jp_eval.specs.Evaluated.{evaluated_query};
+ghost use Rattle.jp_eval.specs.Nodelist.{document_nodes};
+ghost use Rattle.jp_path.specs.OutputLine.{put_line};
+ghost use Rattle.std.specs.List.{fold};
 ghost use Rattle.jp_regexp.specs.Tests.{Tests, AreRight};
 ghost use Rattle.jp_path.specs.FaultLine.{fault_line};
 ghost use Rattle.jp_answer.specs.Answer.{document_lines};
@@ -15,19 +18,25 @@ ghost use Rattle.jp_answer.specs.Form.{answer_in, stop_in, passed_in, given, fau
 use crate::outcome::{DocStop, Outcome};
 use jp_check::Plan;
 use jp_doc::{DocFault, Document, Line};
-use jp_eval::Evaluator;
+use jp_eval::{EvalFault, Evaluator, OpenFork};
 use jp_path::NodeLines;
 use std::alloc::{AllocError, Global};
+use std::thread::Threads;
+
+/// How many members a list has at least whose halves are walked at once.
+const SPLIT_FLOOR: u64 = 4096;
 
 /// The answer to lines, each read and evaluated in turn. A faulty line ends it, or gives its fault line
 /// where the answer keeps going.
 ///
 /// `AllocError` if a growth was refused.
-pub(crate) fn answer_lines(
+pub(crate) fn answer_lines<R: Threads + Sync>(
+    rt: &R,
     alloc: Global,
     plan: &Plan,
     lines: &[Line],
     keeps_going: bool,
+    splits: bool,
 ) -> Result<Outcome, AllocError>
     requires { length lines.now ≤ 4294967296 }
     ensures answer { IfOk result (λ a. (t : Tests) → AreRight t →
@@ -40,7 +49,15 @@ pub(crate) fn answer_lines(
     let mut written = NodeLines::new(alloc);
     let mut faulty = 0;
     for line in lines {
-        let (more, fault) = add_line(alloc, &mut evaluator, line, keeps_going, written)?;
+        let (more, fault) = add_line(
+            rt,
+            alloc,
+            &mut evaluator,
+            line,
+            keeps_going,
+            splits,
+            written,
+        )?;
         written = more;
         let Some(fault) = fault else {
             continue;
@@ -67,11 +84,13 @@ pub(crate) fn answer_lines(
 }
 
 /// The lines so far and what a line gives, and what is wrong with it, if anything.
-fn add_line(
+fn add_line<R: Threads + Sync>(
+    rt: &R,
     alloc: Global,
     evaluator: &mut Evaluator<'_>,
     line: &Line,
     keeps_going: bool,
+    splits: bool,
     written: NodeLines,
 ) -> Result<(NodeLines, Option<DocFault>), AllocError>
     ensures lines { IfOk result (λ r. (t : Tests) → AreRight t → r.0.1 ≡ written.1
@@ -82,7 +101,7 @@ fn add_line(
 {
     match Document::read(alloc, &line.bytes) {
         Ok(document) => {
-            let lines = with_nodes(evaluator, line.number, &document, written)?;
+            let lines = with_nodes(rt, evaluator, line.number, &document, splits, written)?;
             Ok((lines, None))
         }
         Err(DocFault::Memory) => Err(AllocError),
@@ -97,10 +116,12 @@ fn add_line(
 }
 
 /// The lines so far, and those of the nodes that the query selects in a document.
-fn with_nodes(
+fn with_nodes<R: Threads + Sync>(
+    rt: &R,
     evaluator: &mut Evaluator<'_>,
     number: u64,
     document: &Document,
+    splits: bool,
     written: NodeLines,
 ) -> Result<NodeLines, AllocError>
     ensures lines { IfOk result (λ w. (t : Tests) → AreRight t → w.1 ≡ written.1
@@ -109,10 +130,29 @@ fn with_nodes(
 {
     let mut taker = written;
     taker.begin(number);
-    let Ok(written) = evaluator.visit(document, taker) else {
+    let Ok(written) = visited(rt, evaluator, document, splits, taker) else {
         return Err(AllocError);
     };
     Ok(written)
+}
+
+/// The taker once it has taken the nodes, of which long lists are walked by halves at once where this is set.
+fn visited<R: Threads + Sync>(
+    rt: &R,
+    evaluator: &mut Evaluator<'_>,
+    document: &Document,
+    splits: bool,
+    taker: NodeLines,
+) -> Result<NodeLines, EvalFault>
+    ensures lines { IfOk result (λ w. (t : Tests) → AreRight t → w ≡ fold put_line taker
+        (document_nodes t (evaluated_query evaluator.old) (document_value document.now))) }
+    ensures query { evaluated_query evaluator.new ≡ evaluated_query evaluator.old }
+{
+    if splits {
+        evaluator.visit_split(rt, document, SPLIT_FLOOR, &OpenFork, taker)
+    } else {
+        evaluator.visit(document, taker)
+    }
 }
 
 /// The lines so far, and the fault line of a faulty line.

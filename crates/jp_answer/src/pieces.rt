@@ -8,6 +8,7 @@ use crate::outcome::Outcome;
 use jp_check::Plan;
 use jp_doc::Line;
 use std::alloc::{AllocError, Global};
+use std::thread::Threads;
 
 /// Lines that are cut into pieces, the last perhaps shorter, the plan that answers them, and whether the
 /// answer keeps going after a faulty line.
@@ -17,6 +18,8 @@ pub(crate) struct Pieces<'a> {
     pub(crate) lines: &'a [Line],
     pub(crate) size: usize,
     pub(crate) keeps_going: bool,
+    /// Whether a long list in a document is cut into halves that are walked at once.
+    pub(crate) splits: bool,
     ghost in_range: { AreDocuments size × (length lines.now ≤ 4294967296) },
 }
 
@@ -29,6 +32,7 @@ impl Pieces<'_> {
         lines: &'a [Line],
         size: usize,
         keeps_going: bool,
+        splits: bool,
     ) -> Pieces<'a>
         requires size { AreDocuments size }
         requires lines { length lines.now ≤ 4294967296 }
@@ -40,6 +44,7 @@ impl Pieces<'_> {
             lines,
             size,
             keeps_going,
+            splits,
         }
     }
 
@@ -52,12 +57,17 @@ impl Pieces<'_> {
     }
 
     /// The answer to a piece.
-    pub(crate) fn answer(&self, alloc: Global, piece: u64) -> Result<Outcome, AllocError>
+    pub(crate) fn answer<R: Threads + Sync>(
+        &self,
+        rt: &R,
+        alloc: Global,
+        piece: u64,
+    ) -> Result<Outcome, AllocError>
         requires { piece * self.now.size < length self.now.lines.now }
         ensures { IfOk result (IsPieceAnswer self.now piece) }
     {
         let (_, rest) = self.lines.split_at(piece as usize * self.size);
         let (lines, _) = rest.split_at(self.size.min(rest.len()));
-        answer_lines(alloc, self.plan, lines, self.keeps_going)
+        answer_lines(rt, alloc, self.plan, lines, self.keeps_going, self.splits)
     }
 }

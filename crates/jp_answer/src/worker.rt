@@ -10,6 +10,7 @@ use crate::outcome::Outcome;
 use crate::pieces::Pieces;
 use jp_board::{Board, Seat};
 use std::alloc::{AllocError, Global};
+use std::thread::Threads;
 
 /// The answer to one piece.
 #[derive(Drop)]
@@ -29,7 +30,8 @@ pub(crate) struct Worker {
 }
 
 /// Claims pieces until none is left, and tends each.
-pub(crate) fn work<G: Gate>(
+pub(crate) fn work<R: Threads + Sync, G: Gate>(
+    rt: &R,
     alloc: Global,
     pieces: &Pieces,
     board: &Board,
@@ -48,7 +50,7 @@ pub(crate) fn work<G: Gate>(
     while let Some(piece) = board.claim(&mut seat) {
         floor = piece + 1;
         if !wanted {
-            wanted = tend(alloc, pieces, board, gate, &mut seat, piece, &mut parts).is_err();
+            wanted = tend(rt, alloc, pieces, board, gate, &mut seat, piece, &mut parts).is_err();
         }
     }
     Worker {
@@ -60,7 +62,8 @@ pub(crate) fn work<G: Gate>(
 
 /// Looks at the mark, and unless it is lower, takes the piece. Where the answer keeps going there is no mark
 /// to look at.
-fn tend<G: Gate>(
+fn tend<R: Threads + Sync, G: Gate>(
+    rt: &R,
     alloc: Global,
     pieces: &Pieces,
     board: &Board,
@@ -81,17 +84,18 @@ fn tend<G: Gate>(
         parts.new.items) }
 {
     if pieces.keeps_going {
-        return take(alloc, pieces, board, gate, seat, piece, parts);
+        return take(rt, alloc, pieces, board, gate, seat, piece, parts);
     }
     let mark = board.look(seat);
     if mark < piece {
         return Ok(());
     }
-    take(alloc, pieces, board, gate, seat, piece, parts)
+    take(rt, alloc, pieces, board, gate, seat, piece, parts)
 }
 
 /// Answers the piece, and reports it where its answer has stopped.
-fn take<G: Gate>(
+fn take<R: Threads + Sync, G: Gate>(
+    rt: &R,
     alloc: Global,
     pieces: &Pieces,
     board: &Board,
@@ -112,7 +116,7 @@ fn take<G: Gate>(
         parts.new.items) }
 {
     gate.pass(piece);
-    let answer = pieces.answer(alloc, piece)?;
+    let answer = pieces.answer(rt, alloc, piece)?;
     let stopped = answer.stopped.is_some();
     parts.push(Part { piece, answer })?;
     if stopped {

@@ -1,6 +1,7 @@
 //! The answer to lines, by workers that share a board.
 
 ghost use Rattle.std.specs.Prelude.{◌≡◌, ◌≤◌, ◌<◌, ℕ, length, map, All, IfOk, OnErr, IsErrOf, vec_len};
+ghost use Rattle.std.specs.Thread.{IsSync};
 ghost use Rattle.jp_doc.specs.Lines.{line_of};
 ghost use Rattle.jp_check.specs.Plan.{planned_query};
 ghost use Rattle.jp_regexp.specs.Tests.{Tests, AreRight};
@@ -53,7 +54,7 @@ pub fn answer<R: Threads + Sync, G: Gate + Sync>(
         answer_to t (planned_query plan.now) (map line_of lines.now) ≡ answer_of a) }
     ensures fault { OnErr result (IsErrOf result RunFault.Memory) }
 {
-    let pieces = Pieces::new(plan, lines, piece as usize, false);
+    let pieces = Pieces::new(plan, lines, piece as usize, false, workers > 1);
     match answer_pieces(rt, alloc, &pieces, workers, gate) {
         Ok(answer) => Ok(Answer {
             bytes: answer.bytes,
@@ -89,7 +90,7 @@ pub fn answer_all<R: Threads + Sync, G: Gate + Sync>(
         whole t (planned_query plan.now) (map line_of lines.now) ≡ whole_of w) }
     ensures fault { OnErr result (IsErrOf result RunFault.Memory) }
 {
-    let pieces = Pieces::new(plan, lines, piece as usize, true);
+    let pieces = Pieces::new(plan, lines, piece as usize, true, workers > 1);
     match answer_pieces(rt, alloc, &pieces, workers, gate) {
         Ok(answer) => Ok(Whole {
             bytes: answer.bytes,
@@ -178,11 +179,11 @@ fn work_all<R: Threads + Sync, G: Gate + Sync>(
         rt,
         seats,
         &|seat: Seat| -> Worker
-            requires { IsSeatOf board.now seat
+            requires { IsSync R.row × IsSeatOf board.now seat
                 × IsFresh (pieces_of_board board.now) (made_of board.now) seat
                 × AreAllPieces pieces.now (pieces_of_board board.now) }
             ensures { IsSeatOf board.entry.now result.seat × IsWorked pieces.entry.now result }
-        { work(alloc, pieces, board, gate, seat) },
+        { work(rt, alloc, pieces, board, gate, seat) },
     )
 }
 

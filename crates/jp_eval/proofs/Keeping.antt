@@ -49,7 +49,6 @@ out_of (first o) d = d
 out_of (count n) d = d
 out_of (only a) d = d
 out_of (located o ls) d = d
-out_of (located o ls) d = d
 
 taken_fold : {K : Type 0} (put : K → Node → K) (k : K) (ns : List Node)
     → fold (put_found put) (taken k) ns ≡ taken (fold put k ns)
