@@ -1,4 +1,4 @@
-//! What a filter wants of the nodes that `distinct` leaves: how many there are, and the value of the only one.
+//! What a filter wants of the nodes that `distinct` leaves: how many there are, the value of the only one.
 
 ghost use Rattle.std.specs.Prelude.{◌≡◌, ◌++◌, ◌∷◌, [], List, None, length, map, option_map, OnOk};
 ghost use Rattle.jp_doc.specs.Location.{Node, location_of};

@@ -362,7 +362,8 @@ fn each_location_once()
         ≡ handed_nodes (node (to (codes "a") ∷ []) null ∷ node (to (codes "a") ∷ item 0 ∷ []) null ∷ []) }
     ensures counted { (t : Tests) →
         map (λ n. n.location) (document_nodes t (filtered (compares (tree.value_call
-        (tree.call (codes "count") (tree.arguments (tree.call_argument (tree.call (codes "distinct") (tree.arguments
+        (tree.call (codes "count") (tree.arguments (tree.call_argument (tree.call (codes "distinct")
+        (tree.arguments
         (tree.query_argument (tree.query_from Current (tree.child (tree.name (codes "b")
         ∷ tree.name (codes "a") ∷ tree.name (codes "b") ∷ []) ∷ [])) ∷ []))) ∷ []))))
         Eq (number (codes "2")))) (arr (obj2 (codes "a") (num 1) (codes "b") (num 1) ∷ [])))

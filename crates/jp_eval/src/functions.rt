@@ -1,5 +1,5 @@
-//! What the functions give: those of RFC 9535 (2.4.4 to 2.4.8), and `xor`, this project's own. The other one of
-//! its own, `distinct`, stands in `different.rt`.
+//! What the functions give: those of RFC 9535 (2.4.4 to 2.4.8), and `xor`, this project's own. The other one
+//! of its own, `distinct`, stands in `different.rt`.
 
 ghost use Rattle.std.specs.Prelude.{◌≡◌, Some, length, option_map, IfOk};
 ghost use Rattle.std.specs.Str.{chars};
