@@ -140,7 +140,7 @@ fn answered<R: Threads + Sync, G: Gate + Sync>(
 fn the_answer_to_all_lines(rt: HostRuntime) {
     for cut in [(1, 1), (4, 1), (4, 2), (2, 100)] {
         let found = answered(&rt, rt.alloc(), FOUR, cut, &OpenGate);
-        assert!(rt; matches!(found, Some(w) if w.bytes.as_slice() == FOUR_LINES && w.faulty == 2));
+        assert!(rt; matches!(&found, Some(w) if w.bytes.as_slice() == FOUR_LINES && w.faulty == 2));
     }
 }
 
@@ -148,7 +148,7 @@ fn the_answer_to_all_lines(rt: HostRuntime) {
 fn two_workers_at_once(rt: HostRuntime) {
     let gate = Pair(Entered::new());
     let found = answered(&rt, rt.alloc(), FOUR, (2, 1), &gate);
-    assert!(rt; matches!(found, Some(w) if w.bytes.as_slice() == FOUR_LINES && w.faulty == 2));
+    assert!(rt; matches!(&found, Some(w) if w.bytes.as_slice() == FOUR_LINES && w.faulty == 2));
     assert_eq!(rt; gate.0.failures(), 0);
     assert_eq!(rt; gate.0.seen(), [true, true, true]);
 }
