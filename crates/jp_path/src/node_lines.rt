@@ -123,7 +123,8 @@ impl Visit for NodeLines {
     }
 
     fn append(&mut self, other: Self) -> Result<(), AllocError> {
-        self.out.extend_from_slice(other.out.as_slice())
+        self.out.extend_from_slice(other.out.as_slice())?;
+        Ok(())
     }
 }
 
