@@ -75,7 +75,8 @@ pub fn evaluate(alloc: Global, plan: &Plan, document: &Document) -> Result<Vec<L
 }
 
 /// The same as `evaluate`, where a list of children that the query's own segments walk, and that has at least
-/// `floor` members, is cut into halves that are walked at once, and so is a half. A floor under 2 counts as 2.
+/// `floor` members, is cut into halves that are walked at once, and so is a half. A floor under 2
+/// counts as 2.
 /// What lies within six cuts is walked whole, so that there are at most 64 walks at once.
 ///
 /// The fork is told of each half by the thread that walks it. A half whose thread can't be started is walked
