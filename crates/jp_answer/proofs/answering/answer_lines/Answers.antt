@@ -6,7 +6,7 @@ use Rattle.jp_answer.proofs.Forms.{passed_fits}
 use Rattle.jp_answer.proofs.answering.answer_lines.Goals as goal
 
 pub loop-line-preserved-in_default : goal.loop-line-preserved-in_default
-loop-line-preserved-in_default c =
+loop-line-preserved-in_default g c =
     let k = c.args.keeps_going in
     let lines = c.args.lines.now in
     let kept = c.loop-line.invariant in
@@ -24,7 +24,7 @@ loop-line-preserved-in_default c =
     }
 
 pub returns-then-not-keeps_going-clause-answer : goal.returns-then-not-keeps_going-clause-answer
-returns-then-not-keeps_going-clause-answer c = λ t right. answer_last c.args.keeps_going c.args.lines.now
+returns-then-not-keeps_going-clause-answer g c = λ t right. answer_last c.args.keeps_going c.args.lines.now
     c.loop-line.line-index c.line-item.result c.loop-line-test.true c.line-item.is t
     (planned_query c.args.plan.now) (evaluated_query c.loop-line.evaluator) c.loop-line.written.1
     c.into_bytes.result.items c.in-Some.fault c.loop-line.invariant.query
@@ -33,12 +33,12 @@ returns-then-not-keeps_going-clause-answer c = λ t right. answer_last c.args.ke
     (sym c.in_ok-more.ensures.fault ∙ c.in-Some.is)
 
 pub returns-then-not-keeps_going-clause-stopped : goal.returns-then-not-keeps_going-clause-stopped
-returns-then-not-keeps_going-clause-stopped c = stop_last c.args.keeps_going c.args.lines.now
+returns-then-not-keeps_going-clause-stopped g c = stop_last c.args.keeps_going c.args.lines.now
     c.loop-line.line-index c.line-item.result c.loop-line-test.true c.line-item.is c.in-Some.fault
     c.loop-line.invariant.stopped c.if-not-keeps_going.true (sym c.in_ok-more.ensures.fault ∙ c.in-Some.is)
 
 pub overflow_add-faulty : goal.overflow_add-faulty
-overflow_add-faulty c = omega (
+overflow_add-faulty g c = omega (
   arith,
   passed_fits c.args.keeps_going c.args.lines.now c.loop-line.line-index c.line-item.result
       c.loop-line-test.true c.line-item.is c.loop-line.faulty
@@ -49,7 +49,7 @@ overflow_add-faulty c = omega (
 )
 
 pub loop-line-preserved : goal.loop-line-preserved
-loop-line-preserved c =
+loop-line-preserved g c =
     let k = c.args.keeps_going in
     let lines = c.args.lines.now in
     let kept = c.loop-line.invariant in

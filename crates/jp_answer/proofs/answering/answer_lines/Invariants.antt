@@ -8,7 +8,7 @@ use Rattle.jp_answer.specs.Form.{answer_in, stop_in, passed_in}
 use Rattle.jp_answer.proofs.answering.answer_lines.Given as goal
 
 abbrev pub invariant-loop-line : goal.invariant-loop-line
-invariant-loop-line l = record {
+invariant-loop-line g l = record {
   query : evaluated_query l.evaluator ≡ planned_query l.plan;
   answer : (t : Tests) → AreRight t → answer_in l.keeps_going t (planned_query l.plan) (map line_of l.lines)
       ≡ after l.written.1 (answer_in l.keeps_going t (planned_query l.plan)

@@ -8,7 +8,7 @@ use Rattle.jp_path.proofs.Taken.{lines_fold}
 use Rattle.jp_answer.proofs.answering.with_nodes.Goals as goal
 
 pub returns-clause-lines : goal.returns-clause-lines
-returns-clause-lines c = λ t right.
+returns-clause-lines g c = λ t right.
     let ns = document_nodes t (evaluated_query c.args.evaluator.now) (document_value c.args.document.now) in
     ap (λ w. w.1) (c.in-Ok.ensures.lines t right ∙ ap (λ k. fold put_line k ns) c.begin.ensures
     ∙ lines_fold c.args.number c.args.written.1 ns)

@@ -14,7 +14,7 @@ returns-then-mark-piece-clause-tended g c =
     c.if-mark-piece.true)
 
 pub take-requires-2-clause-tended : goal.take-requires-2-clause-tended
-take-requires-2-clause-tended g c =
+take-requires-2-clause-tended g c κs within =
     let v = view_of c.args.seat.now in
     subst (λ (w : View). OthersAreTended c.args.piece w.claims w.looks c.args.parts.now.items)
     (sym {A = View} c.look-mark.ensures.look)

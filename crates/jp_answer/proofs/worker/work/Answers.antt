@@ -6,7 +6,7 @@ use Rattle.jp_answer.proofs.Tending.{sound_claim, tended_claim, at_ok, floor_abo
 use Rattle.jp_answer.proofs.worker.work.Goals as goal
 
 pub tend-requires-clause-sound : goal.tend-requires-clause-sound
-tend-requires-clause-sound g c =
+tend-requires-clause-sound g c κs within =
     let v = view_of c.loop-piece.seat in
     let parts = c.loop-piece.parts.items in
     subst (λ (w : View). AreSound c.args.pieces.now w.claims w.reports parts)
@@ -14,7 +14,7 @@ tend-requires-clause-sound g c =
     (sound_claim c.args.pieces.now v.claims v.reports parts c.in-Some.piece c.loop-piece.invariant.sound)
 
 pub tend-requires-clause-tended : goal.tend-requires-clause-tended
-tend-requires-clause-tended g c =
+tend-requires-clause-tended g c κs within =
     let v = view_of c.loop-piece.seat in
     let parts = c.loop-piece.parts.items in
     subst (λ (w : View). OthersAreTended c.in-Some.piece w.claims w.looks parts)
