@@ -4,10 +4,11 @@
 //! growth is refused at most, so one of the two answers.
 
 use jp_check::plan;
-use jp_doc::{Document, Step};
-use jp_eval::evaluate;
+use jp_doc::{Document, Location, Step};
+use jp_eval::{OpenFork, evaluate, evaluate_split};
 use jp_syntax::QueryFault;
 use std::alloc::Global;
+use std::thread::Threads;
 
 const QUERY: &str = "$..[?@.a==$.c[0]&&value(@.b[?search(@,'[x-z]')])!='p'&&count($.c[*])==2\
     &&count(distinct($.c[0,1,0]))==2]";
@@ -23,14 +24,39 @@ fn evaluated(alloc: Global) -> Option<bool> {
     };
     let document = Document::read(alloc, DOCUMENT).ok()?;
     let found = evaluate(alloc, &plan, &document).ok()?;
+    Some(are_those(&found))
+}
+
+/// The same, where each list of two is cut.
+fn evaluated_by_halves<R: Threads + Sync>(rt: &R, alloc: Global) -> Option<bool> {
+    let plan = match plan(alloc, QUERY) {
+        Ok(plan) => plan,
+        Err(QueryFault::Memory) => return None,
+        Err(_) => return Some(false),
+    };
+    let document = Document::read(alloc, DOCUMENT).ok()?;
+    let found = evaluate_split(rt, alloc, &plan, &document, 2, &OpenFork).ok()?;
+    Some(are_those(&found))
+}
+
+fn are_those(found: &[Location]) -> bool {
     let ends = found
         .iter()
         .map(|location| location.steps.last() == Some(&Step::Index(0)));
-    Some(ends.eq([true, false]))
+    ends.eq([true, false])
 }
 
 #[test]
 fn an_evaluation(rt: HostRuntime) {
     let turns = (evaluated(rt.alloc()), evaluated(rt.alloc()));
+    assert!(rt; matches!(turns, (Some(true), Some(true) | None) | (None, Some(true))));
+}
+
+#[test]
+fn an_evaluation_by_halves(rt: HostRuntime) {
+    let turns = (
+        evaluated_by_halves(&rt, rt.alloc()),
+        evaluated_by_halves(&rt, rt.alloc()),
+    );
     assert!(rt; matches!(turns, (Some(true), Some(true) | None) | (None, Some(true))));
 }

@@ -79,3 +79,32 @@ fn a_faulty_line(rt: HostRuntime) {
     let turns = (stopped(&rt, rt.alloc()), stopped(&rt, rt.alloc()));
     assert!(rt; matches!(turns, (Some(true), Some(true) | None) | (None, Some(true))));
 }
+
+/// The same lines, where the run keeps going.
+fn kept_going<R: Threads + Sync>(rt: &R, alloc: Global) -> Option<bool> {
+    let settings = Settings::new(2, 1, 1).ok()?.keep_going();
+    let input: &[u8] = b"[1]\n[2.5]\n[3]\n";
+    let mut source = FromReader::new(input);
+    let mut sink = Holds::new(Vec::with_capacity(alloc, ROOM).ok()?, ROOM, ROOM);
+    let end = jp_run::run(
+        rt,
+        alloc,
+        &mut source,
+        &mut sink,
+        "$[0]",
+        &settings,
+        &OpenGate,
+    );
+    let all: &[u8] = b"1\t$[0]\t1\n2\t!\tnot whole\n3\t$[0]\t3\n";
+    match end {
+        Ok(totals) => Some(totals.faulty == 1 && sink.bytes.as_slice() == all),
+        Err(RunFault::Memory) if all.starts_with(&sink.bytes) => None,
+        Err(_) => Some(false),
+    }
+}
+
+#[test]
+fn a_faulty_line_that_is_passed(rt: HostRuntime) {
+    let turns = (kept_going(&rt, rt.alloc()), kept_going(&rt, rt.alloc()));
+    assert!(rt; matches!(turns, (Some(true), Some(true) | None) | (None, Some(true))));
+}
