@@ -26,6 +26,9 @@ use std::thread::Threads;
 /// How many members a list has at least whose halves are walked at once.
 const SPLIT_FLOOR: u64 = 4096;
 
+/// How long a line is at least that may hold such a list: each member takes two bytes or more.
+const SPLIT_BYTES: usize = 8192;
+
 /// The answer to lines, each read and evaluated in turn. A faulty line ends it, or gives its fault line
 /// where the answer keeps going.
 ///
@@ -101,6 +104,7 @@ fn add_line<R: Threads + Sync>(
 {
     match Document::read(alloc, &line.bytes) {
         Ok(document) => {
+            let splits = splits && line.bytes.len() >= SPLIT_BYTES;
             let lines = with_nodes(rt, evaluator, line.number, &document, splits, written)?;
             Ok((lines, None))
         }

@@ -122,3 +122,33 @@ fn ten_thousand_numbers(rt: HostRuntime) -> Result<(), Fail> {
     }
     Ok(())
 }
+
+/// An object of that many members, whose values are the numbers from 0 on.
+fn members(alloc: Global, count: u32) -> Result<String, Fail> {
+    let mut text = String::new(alloc);
+    text.push('{')?;
+    for number in 0..count {
+        if number > 0 {
+            text.push(',')?;
+        }
+        text.push_str(format!(in alloc; "\"m{number}\":{number}")?.as_str())?;
+    }
+    text.push('}')?;
+    Ok(text)
+}
+
+#[test]
+fn a_thousand_members(rt: HostRuntime) -> Result<(), Fail> {
+    let alloc = rt.alloc();
+    let plan = plan(alloc, "$[?@>499&&$.m0==0]")?;
+    let document = Document::read(alloc, members(alloc, 1000)?.as_bytes())?;
+    let whole = evaluate(alloc, &plan, &document)?;
+    assert_eq!(rt; whole.len(), 500);
+    for floor in [2, 300, 1000] {
+        let fork = Counting::new();
+        let found = evaluate_split(&rt, alloc, &plan, &document, floor, &fork)?;
+        assert!(rt; found.as_slice() == whole.as_slice());
+        assert!(rt; fork.begun().0 > 0);
+    }
+    Ok(())
+}

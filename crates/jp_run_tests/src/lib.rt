@@ -20,4 +20,6 @@ mod runs;
 #[cfg(test)]
 mod thousand;
 #[cfg(test)]
+mod wide;
+#[cfg(test)]
 mod writes_that_fail;
