@@ -137,11 +137,19 @@ fn place_pieces<R: Threads + Sync, G: Gate + Sync>(
     ensures { IfOk result (λ v. ArePlaced pieces.now v.items) }
 {
     let count = pieces.count();
-    let (board, seats) = open(alloc, count, workers)?;
+    let (board, seats) = open(alloc, count, at_work(workers, count))?;
     let done = work_all(rt, alloc, pieces, &board, gate, seats)?;
     let (seats, parts) = gather(alloc, done)?;
     let mark = close(board, seats);
     place(alloc, parts, (mark + 1).min(count) as usize)
+}
+
+/// How many of the workers have work: no more than there are pieces, but one at least.
+fn at_work(workers: u64, count: u64) -> u64
+    requires { AreWorkers workers }
+    ensures { AreWorkers result }
+{
+    workers.min(count.max(1))
 }
 
 /// A board of so many pieces, and a seat for each worker.

@@ -123,6 +123,10 @@ impl Visit for NodeLines {
     }
 
     fn append(&mut self, other: Self) -> Result<(), AllocError> {
+        if self.out.is_empty() {
+            self.out = other.out;
+            return Ok(());
+        }
         self.out.extend_from_slice(other.out.as_slice())?;
         Ok(())
     }
