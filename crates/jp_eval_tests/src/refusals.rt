@@ -40,10 +40,14 @@ fn evaluated_by_halves<R: Threads + Sync>(rt: &R, alloc: Global) -> Option<bool>
 }
 
 fn are_those(found: &[Location]) -> bool {
-    let ends = found
-        .iter()
-        .map(|location| location.steps.last() == Some(&Step::Index(0)));
-    ends.eq([true, false])
+    match found {
+        [first, second] => ends_in(first, 0) && ends_in(second, 1),
+        _ => false,
+    }
+}
+
+fn ends_in(location: &Location, index: u32) -> bool {
+    location.steps.last() == Some(&Step::Index(index))
 }
 
 #[test]

@@ -36,6 +36,7 @@ fn paths(alloc: Global, locations: &[Location]) -> Result<String, Fail> {
     Ok(paths)
 }
 
+/// Each row 200 times with each floor.
 #[test]
 fn rows(rt: HostRuntime) -> Result<(), Fail> {
     let alloc = rt.alloc();
@@ -48,7 +49,8 @@ fn rows(rt: HostRuntime) -> Result<(), Fail> {
         };
         let plan = plan(alloc, query)?;
         let document = Document::read(alloc, document.as_bytes())?;
-        for floor in FLOORS {
+        for time in 0..200 * FLOORS.len() {
+            let floor = FLOORS[time % FLOORS.len()];
             let found = evaluate_split(&rt, alloc, &plan, &document, floor, &OpenFork)?;
             let paths = paths(alloc, found.as_slice())?;
             assert_eq!(rt; paths.as_str(), wanted, "{row}");
@@ -116,7 +118,8 @@ fn ten_thousand_numbers(rt: HostRuntime) -> Result<(), Fail> {
     let document = Document::read(alloc, numbers(alloc, 10000)?.as_bytes())?;
     let whole = evaluate(alloc, &plan, &document)?;
     assert!(rt; are_upper(whole.as_slice()));
-    for floor in [2500, 4096] {
+    for time in 0..400u32 {
+        let floor = if time % 2 == 0 { 2500 } else { 4096 };
         let found = evaluate_split(&rt, alloc, &plan, &document, floor, &OpenFork)?;
         assert!(rt; are_upper(found.as_slice()));
     }
@@ -144,7 +147,8 @@ fn a_thousand_members(rt: HostRuntime) -> Result<(), Fail> {
     let document = Document::read(alloc, members(alloc, 1000)?.as_bytes())?;
     let whole = evaluate(alloc, &plan, &document)?;
     assert_eq!(rt; whole.len(), 500);
-    for floor in [2, 300, 1000] {
+    for time in 0..200usize {
+        let floor = [2, 300, 1000][time % 3];
         let fork = Counting::new();
         let found = evaluate_split(&rt, alloc, &plan, &document, floor, &fork)?;
         assert!(rt; found.as_slice() == whole.as_slice());
