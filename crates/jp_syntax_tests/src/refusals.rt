@@ -12,8 +12,10 @@ const QUERY: &str = "$..a['b',1,-2:3:4,*][?@.c==-1&&!(count($.d[*])>2||match(@,\
 fn query(alloc: Global) -> Option<bool> {
     match read_query(alloc, QUERY) {
         Ok(query) => {
-            let lengths = query.segments.iter().map(|segment| segment.selectors.len());
-            Some(lengths.eq([1, 4, 1]))
+            let [name, list, filter] = query.segments.as_slice() else {
+                return Some(false);
+            };
+            Some(name.deep && list.selectors.len() == 4 && filter.selectors.len() == 1)
         }
         Err(QueryFault::Memory) => None,
         Err(_) => Some(false),
