@@ -29,7 +29,8 @@ use std::alloc::{AllocError, Global};
 use std::thread;
 use std::thread::Threads;
 
-/// The answer to lines, by that many workers, each of which claims `piece` lines at a time.
+/// The answer to lines, by at most that many workers, each of which claims `piece` lines at a time: there are
+/// no more of them than pieces.
 ///
 /// It is the same for every number of workers, every size of a piece, every gate, and in whatever order the
 /// workers take their steps. There are 1 to 64 workers, a piece has 1 to 1,000,000 lines, and there are at
@@ -64,8 +65,8 @@ pub fn answer<R: Threads + Sync, G: Gate + Sync>(
     }
 }
 
-/// The answer that keeps going, by that many workers, each of which claims `piece` lines at a time: a faulty
-/// line gives its fault line.
+/// The answer that keeps going, by at most that many workers, as `answer` has them: a faulty line gives its
+/// fault line.
 ///
 /// It is the same for every number of workers, every size of a piece, every gate, and in whatever order the
 /// workers take their steps. There are 1 to 64 workers, a piece has 1 to 1,000,000 lines, and there are at

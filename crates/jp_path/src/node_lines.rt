@@ -123,13 +123,20 @@ impl Visit for NodeLines {
     }
 
     fn append(&mut self, other: Self) -> Result<(), AllocError> {
-        if self.out.is_empty() {
-            self.out = other.out;
-            return Ok(());
-        }
-        self.out.extend_from_slice(other.out.as_slice())?;
+        append_all(&mut self.out, other.out)?;
         Ok(())
     }
+}
+
+/// Appends all of these bytes, without a copy where there are none before them.
+fn append_all(out: &mut Vec<u8>, more: Vec<u8>) -> Result<(), AllocError>
+    ensures { OnOk result (out.new.items ≡ out.old.items ++ more.items) }
+{
+    if out.is_empty() {
+        *out = more;
+        return Ok(());
+    }
+    out.extend_from_slice(more.as_slice())
 }
 
 /// Appends the output line of the node at the trail, with room for its value's text.

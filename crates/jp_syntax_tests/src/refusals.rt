@@ -15,7 +15,12 @@ fn query(alloc: Global) -> Option<bool> {
             let [name, list, filter] = query.segments.as_slice() else {
                 return Some(false);
             };
-            Some(name.deep && list.selectors.len() == 4 && filter.selectors.len() == 1)
+            let lengths = (
+                name.selectors.len(),
+                list.selectors.len(),
+                filter.selectors.len(),
+            );
+            Some(lengths == (1, 4, 1))
         }
         Err(QueryFault::Memory) => None,
         Err(_) => Some(false),
