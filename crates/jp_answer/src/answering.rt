@@ -71,14 +71,14 @@ pub(crate) fn answer_lines<R: Threads + Sync>(
                 fault,
             };
             return Ok(Outcome {
-                bytes: written.into_bytes(),
+                bytes: written.into_bytes(alloc)?,
                 faulty,
                 stopped: Some(stop),
             });
         }
         faulty += 1;
     }
-    let bytes = written.into_bytes();
+    let bytes = written.into_bytes(alloc)?;
     Ok(Outcome {
         bytes,
         faulty,

@@ -1,6 +1,7 @@
 //! The taker that writes the output line of each node.
 
-ghost use Rattle.std.specs.Prelude.{◌≡◌, ◌++◌, ◌∷◌, [], false, decimal, encode_utf8_all, OnOk, OnErr};
+ghost use Rattle.std.specs.Prelude.{◌≡◌, ◌++◌, ◌∷◌, [], false, decimal, encode_utf8_all, flat_map};
+ghost use Rattle.std.specs.Prelude.{IfOk, OnOk, OnErr};
 ghost use Rattle.serde_json.specs.View.{view};
 ghost use Rattle.serde_json.specs.Written.{has_float, compact_text};
 ghost use Rattle.jp_doc.specs.Json.{value_of};
@@ -18,24 +19,31 @@ use jp_trail::Trail;
 use serde_json::Value;
 use std::alloc::{AllocError, Global};
 use std::marker::Model;
+use std::mem;
+
+/// How many bytes at most are copied, where they could be taken over as a part of their own.
+const COPIED: usize = 4096;
 
 /// Takes nodes as the output lines of a document with a number, behind those of the documents before it.
 ///
 /// Its meaning is that number and the bytes of all lines so far. A node takes no allocation but the growth of
-/// what is written, since the room that its value's text is made in is used again.
+/// what is written, since the room that its value's text is made in is used again. The lines of a taker that
+/// is appended stay where they are, until all are joined.
 #[derive(Drop)]
 pub struct NodeLines {
     number: u64,
     room: Vec<u8>,
+    /// The lines that stand before `out`, in parts.
+    before: Vec<Vec<u8>>,
     out: Vec<u8>,
 }
 
 impl Model for NodeLines {
-    ghost use Rattle.std.specs.Prelude.{ℕ, List};
+    ghost use Rattle.std.specs.Prelude.{ℕ, List, ◌++◌, flat_map};
 
     ghost Value = { ℕ × List ℕ };
 
-    ghost view = { λ t. (t.number, t.out.items) };
+    ghost view = { λ t. (t.number, flat_map (λ part. part.items) t.before.items ++ t.out.items) };
 }
 
 impl NodeLines {
@@ -50,6 +58,7 @@ impl NodeLines {
         NodeLines {
             number: 0,
             room: Vec::new(alloc),
+            before: Vec::new(alloc),
             out: Vec::new(alloc),
         }
     }
@@ -72,11 +81,11 @@ impl NodeLines {
         write_fault(alloc, self.number, fault, &mut self.out)
     }
 
-    /// The bytes of all lines.
-    pub fn into_bytes(self) -> Vec<u8>
-        ensures { result.items ≡ self.1 }
+    /// The bytes of all lines. `AllocError` if a growth was refused.
+    pub fn into_bytes(self, alloc: Global) -> Result<Vec<u8>, AllocError>
+        ensures { IfOk result (λ v. v.items ≡ self.1) }
     {
-        self.out
+        joined(alloc, self.before, self.out)
     }
 }
 
@@ -118,25 +127,61 @@ impl Visit for NodeLines {
         NodeLines {
             number: self.number,
             room: Vec::new(alloc),
+            before: Vec::new(alloc),
             out: Vec::new(alloc),
         }
     }
 
     fn append(&mut self, other: Self) -> Result<(), AllocError> {
-        append_all(&mut self.out, other.out)?;
+        append_all(&mut self.before, &mut self.out, other.before, other.out)?;
         Ok(())
     }
 }
 
-/// Appends all of these bytes, without a copy where there are none before them.
-fn append_all(out: &mut Vec<u8>, more: Vec<u8>) -> Result<(), AllocError>
-    ensures { OnOk result (out.new.items ≡ out.old.items ++ more.items) }
+/// Appends all parts and the last one to those before `out` and to `out`.
+fn append_all(
+    before: &mut Vec<Vec<u8>>,
+    out: &mut Vec<u8>,
+    parts: Vec<Vec<u8>>,
+    last: Vec<u8>,
+) -> Result<(), AllocError>
+    ensures { OnOk result (flat_map (λ part. part.items) before.new.items ++ out.new.items
+        ≡ (flat_map (λ part. part.items) before.old.items ++ out.old.items)
+        ++ (flat_map (λ part. part.items) parts.items ++ last.items)) }
 {
-    if out.is_empty() {
-        *out = more;
-        return Ok(());
+    if parts.is_empty() && last.len() <= COPIED {
+        return out.extend_from_slice(last.as_slice());
     }
-    out.extend_from_slice(more.as_slice())
+    let own = mem::replace(out, last);
+    if !own.is_empty() {
+        before.push(own)?;
+    }
+    let mut parts = parts;
+    before.append(&mut parts)
+}
+
+/// The bytes of all parts, and then the last one's, without a copy where it is alone.
+fn joined(alloc: Global, parts: Vec<Vec<u8>>, last: Vec<u8>) -> Result<Vec<u8>, AllocError>
+    ensures { IfOk result (λ v. v.items ≡ flat_map (λ part. part.items) parts.items ++ last.items) }
+{
+    if parts.is_empty() {
+        return Ok(last);
+    }
+    let mut bytes = Vec::with_capacity(alloc, room_for(&parts).saturating_add(last.len()))?;
+    for part in parts {
+        bytes.extend_from_slice(part.as_slice())?;
+    }
+    bytes.extend_from_slice(last.as_slice())?;
+    Ok(bytes)
+}
+
+/// How many bytes the parts have.
+fn room_for(parts: &[Vec<u8>]) -> usize {
+    let mut room: usize = 0;
+    for part in parts {
+        room = room.saturating_add(part.len());
+    }
+    room
 }
 
 /// Appends the output line of the node at the trail, with room for its value's text.

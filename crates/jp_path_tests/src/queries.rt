@@ -74,7 +74,7 @@ fn path_of_a_thousand_steps(rt: HostRuntime) -> Result<(), Fail> {
 fn lines(alloc: Global, plan: &Plan, document: &Document) -> Result<Vec<u8>, Fail> {
     let mut lines = NodeLines::new(alloc);
     lines.begin(1);
-    Ok(visit_nodes(alloc, plan, document, lines)?.into_bytes())
+    Ok(visit_nodes(alloc, plan, document, lines)?.into_bytes(alloc)?)
 }
 
 /// Whether each path that the query prints, run as a query, prints the same line, by its text and by its
@@ -119,7 +119,7 @@ fn one_evaluator_for_two_documents(rt: HostRuntime) -> Result<(), Fail> {
         lines = evaluator.visit(&document, lines)?;
     }
     let want = "1\t$['a'][0]\t1\n1\t$['a'][2]\t1\n2\t$['a'][1]\t2\n";
-    assert_eq!(rt; lines.into_bytes().as_slice(), want.as_bytes());
+    assert_eq!(rt; lines.into_bytes(alloc)?.as_slice(), want.as_bytes());
     Ok(())
 }
 

@@ -27,9 +27,9 @@ pub returns-then-not-keeps_going-clause-answer : goal.returns-then-not-keeps_goi
 returns-then-not-keeps_going-clause-answer g c = λ t right. answer_last c.args.keeps_going c.args.lines.now
     c.loop-line.line-index c.line-item.result c.loop-line-test.true c.line-item.is t
     (planned_query c.args.plan.now) (evaluated_query c.loop-line.evaluator) c.loop-line.written.1
-    c.into_bytes.result.items c.in-Some.fault c.loop-line.invariant.query
+    c.in_ok-into_bytes.field-0.items c.in-Some.fault c.loop-line.invariant.query
     (c.loop-line.invariant.answer t right)
-    (c.into_bytes.ensures ∙ c.in_ok-more.ensures.lines t right) c.if-not-keeps_going.true
+    (c.in_ok-into_bytes.ensures ∙ c.in_ok-more.ensures.lines t right) c.if-not-keeps_going.true
     (sym c.in_ok-more.ensures.fault ∙ c.in-Some.is)
 
 pub returns-then-not-keeps_going-clause-stopped : goal.returns-then-not-keeps_going-clause-stopped
