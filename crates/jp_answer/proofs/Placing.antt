@@ -8,6 +8,7 @@ use native.Mathlib.Decide.{ℕ_discrete}
 use Rattle.std.proofs.lemmas.List.{get_or-replicate, length-replicate, length-set}
 use Rattle.std.proofs.lemmas.List.Elements.{Contains-push, Contains-append_left}
 use Rattle.std.proofs.lemmas.Option.{slice_get_within, get_or_from_slice_get}
+use Rattle.jp_path.specs.Chunks.{bytes_in}
 use Rattle.jp_answer.specs.Answer as answers
 use Rattle.jp_answer.specs.Answer.{after, joined, unless_stopped}
 use Rattle.jp_answer.specs.Answered.{outcome_of}
@@ -89,20 +90,21 @@ module _ (parts : List Part) (new : Part) (placed : List (Option Outcome)) where
       (get_other placed new.piece x (Some new.answer) apart) ∙ at)))
 
 goes_on : (a : Outcome) (rest : answers.Answer) → false ≡ is_some a.stopped
-    → joined (outcome_of a) rest ≡ after a.bytes.items rest
+    → joined (outcome_of a) rest ≡ after (bytes_in a.chunks.items) rest
 goes_on a rest plain = by_stop a.stopped plain where
   by_stop : (s : Option DocStop) → false ≡ is_some s
-      → unless_stopped (option_map (λ s. (s.line, s.fault)) s) (outcome_of a) rest ≡ after a.bytes.items rest
+      → unless_stopped (option_map (λ s. (s.line, s.fault)) s) (outcome_of a) rest
+      ≡ after (bytes_in a.chunks.items) rest
   by_stop None e = refl
   by_stop (Some s) e = absurd (cc)
 
 -- one more answer is joined, and has not stopped
 pub joined_more : (all rest : answers.Answer) (a : Outcome) (bytes new : List ℕ)
     → all ≡ after bytes (joined (outcome_of a) rest) → false ≡ is_some a.stopped
-    → new ≡ bytes ++ a.bytes.items
+    → new ≡ bytes ++ bytes_in a.chunks.items
     → all ≡ after new rest
 joined_more all rest a bytes new so plain is =
     so ∙ ap (after bytes) (goes_on a rest plain) ∙ ap
     (λ bs. record { bytes = bs; stopped = rest.stopped }) (sym
-    (append_assoc bytes a.bytes.items rest.bytes))
+    (append_assoc bytes (bytes_in a.chunks.items) rest.bytes))
     ∙ ap (λ bs. after bs rest) (sym is)

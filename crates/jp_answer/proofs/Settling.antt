@@ -389,21 +389,14 @@ placed_ok p pieces claimed least ws seats parts n (Ok v) some worked fine of_sea
 placed_ok p pieces claimed least ws seats parts n (Err e) some worked fine of_seats of_parts cut tally k len
     filled from = tt
 
-pub ok_joined : {E : Type 0} (p : Pieces) (placed : List (Option Outcome)) (r : Result Answer E)
-    → ArePlaced p placed → IfOk r (λ a. answer_of a ≡ joined_all placed)
-    → IfOk r (λ a. (t : Tests) → AreRight t → to_lines p t (map line_of p.lines.now) ≡ answer_of a)
+-- what is joined is the answer, and passes as many faulty lines
+pub ok_joined : {E : Type 0} (p : Pieces) (placed : List (Option Outcome)) (r : Result Outcome E)
+    → ArePlaced p placed → IfOk r (λ a. outcome_of a ≡ joined_all placed)
+    → IfOk r (λ a. (t : Tests) → AreRight t → to_lines p t (map line_of p.lines.now) ≡ outcome_of a)
 ok_joined p placed (Ok a) h e = λ t right. placed_answer p placed h t right ∙ sym e
 ok_joined p placed (Err e) h k = tt
 
--- the same of the answer with its count, and of the two that are told from it
-pub first_told : (t : Tests) (q : Query) (ls : List Line) (a : Outcome) (k : Bool) → k ≡ false
-    → answer_in k t q ls ≡ outcome_of a → answers.answer t q ls ≡ outcome_of a
-first_told t q ls a false e h = h
-first_told t q ls a true e h = absurd (cc)
-
-pub second_told : (t : Tests) (q : Query) (ls : List Line) (a : Outcome) (k : Bool) → k ≡ true
-    → answer_in k t q ls ≡ outcome_of a → passed_in k ls ≡ a.faulty
-    → whole t q ls ≡ record { bytes = a.bytes.items; faulty = a.faulty }
-second_told t q ls a false e h g = absurd (cc)
-second_told t q ls a true e h g = ap (λ n. record { bytes = (whole t q ls).bytes; faulty = n }) g
-    ∙ ap (λ (r : answers.Answer). record { bytes = r.bytes; faulty = a.faulty }) h
+pub ok_passed : {E : Type 0} (n m : ℕ) (r : Result Outcome E) → n ≡ m → IfOk r (λ a. a.faulty ≡ m)
+    → IfOk r (λ a. n ≡ a.faulty)
+ok_passed n m (Ok a) e f = e ∙ sym f
+ok_passed n m (Err e) f k = tt

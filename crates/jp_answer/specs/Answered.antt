@@ -4,6 +4,7 @@ use Rattle.jp_doc.specs.Lines.{lines}
 use Rattle.jp_syntax.specs.Tree.{Text, Query}
 use Rattle.jp_regexp.specs.Tests.{Tests, AreRight}
 use Rattle.jp_check.specs.Verdict.{IsAccepted}
+use Rattle.jp_path.specs.Chunks.{bytes_in}
 use Rattle.jp_answer.specs.Answer.{Answer, stream_answer}
 use Rattle.jp_answer.specs.Form.{answer_in}
 use Rattle.jp_answer.specs.declared.outcome.Answer as code
@@ -25,4 +26,4 @@ answer_of a = record { bytes = a.bytes.items; stopped = option_map (λ s. (s.lin
 
 -- what an `Outcome` of `src/` stands for, but for its count
 abbrev pub outcome_of : either.Outcome → Answer
-outcome_of a = record { bytes = a.bytes.items; stopped = option_map (λ s. (s.line, s.fault)) a.stopped }
+outcome_of a = record { bytes = bytes_in a.chunks.items; stopped = option_map (λ s. (s.line, s.fault)) a.stopped }

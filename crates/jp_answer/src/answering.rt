@@ -71,16 +71,16 @@ pub(crate) fn answer_lines<R: Threads + Sync>(
                 fault,
             };
             return Ok(Outcome {
-                bytes: written.into_bytes(alloc)?,
+                chunks: written.into_chunks()?,
                 faulty,
                 stopped: Some(stop),
             });
         }
         faulty += 1;
     }
-    let bytes = written.into_bytes(alloc)?;
+    let chunks = written.into_chunks()?;
     Ok(Outcome {
-        bytes,
+        chunks,
         faulty,
         stopped: None,
     })

@@ -15,6 +15,6 @@ mod workers;
 
 pub use fault::RunFault;
 pub use gate::{Gate, OpenGate};
-pub use outcome::{Answer, DocStop, Whole};
+pub use outcome::{Answer, DocStop, Outcome, Whole};
 pub use settings::Settings;
-pub use workers::{answer, answer_all};
+pub use workers::{answer, answer_all, answer_in_chunks};

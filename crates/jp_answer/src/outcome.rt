@@ -22,13 +22,13 @@ pub struct Whole {
 
 /// What lines are answered with in either form: where the answer keeps going it never stops.
 #[derive(Drop)]
-pub(crate) struct Outcome {
-    /// The output lines and the fault lines, one after another.
-    pub(crate) bytes: Vec<u8>,
+pub struct Outcome {
+    /// The output lines and the fault lines, one after another, in chunks as they were written.
+    pub chunks: Vec<Vec<u8>>,
     /// How many faulty lines the answer passes.
-    pub(crate) faulty: u64,
+    pub faulty: u64,
     /// The faulty line that ends the answer, if there is one.
-    pub(crate) stopped: Option<DocStop>,
+    pub stopped: Option<DocStop>,
 }
 
 /// A faulty line, and what is wrong with it.

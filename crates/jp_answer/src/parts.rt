@@ -1,14 +1,15 @@
 //! The parts of all workers, put in order and joined.
 
-ghost use Rattle.std.specs.Prelude.{◌≡◌, ◌<◌, ◌≤◌, ◌++◌, ℕ, None, false, map, flat_map, replicate, All};
+ghost use Rattle.std.specs.Prelude.{◌≡◌, ◌<◌, ◌≤◌, ℕ, None, false, map, flat_map, replicate, All};
 ghost use Rattle.std.specs.Prelude.{Contains, IfOk, OnOk, IsSome, Some, slice_set, vec_len};
-ghost use Rattle.jp_answer.specs.Answered.{answer_of};
+ghost use Rattle.jp_answer.specs.Answered.{outcome_of};
 ghost use Rattle.jp_answer.specs.Placed.{IsPlaced, ComeFrom, joined_all, passed_all};
 ghost use Rattle.jp_answer.specs.Worked.{pieces_of};
 
-use crate::outcome::{Answer, Outcome};
+use crate::outcome::Outcome;
 use crate::worker::{Part, Worker};
 use jp_board::Seat;
+use jp_path::append_chunks;
 use std::alloc::{AllocError, Global};
 
 /// The seats and the parts of all workers.
@@ -92,36 +93,31 @@ pub(crate) fn passed(placed: &[Option<Outcome>]) -> u64
     faulty
 }
 
-/// The answers one after another, up to the first that has stopped.
-pub(crate) fn join(alloc: Global, placed: Vec<Option<Outcome>>) -> Result<Answer, AllocError>
+/// The answers one after another, up to the first that has stopped. They pass so many faulty lines.
+pub(crate) fn join(
+    alloc: Global,
+    placed: Vec<Option<Outcome>>,
+    faulty: u64,
+) -> Result<Outcome, AllocError>
     requires { All (λ a. IsSome a) placed.items }
-    ensures { IfOk result (λ a. answer_of a ≡ joined_all placed.items) }
+    ensures answer { IfOk result (λ a. outcome_of a ≡ joined_all placed.items) }
+    ensures faulty { IfOk result (λ a. a.faulty ≡ faulty) }
 {
-    let mut bytes = Vec::new(alloc);
+    let mut chunks = Vec::new(alloc);
     for place in placed {
         let Some(answer) = place else { unreachable!() };
-        bytes = joined_bytes(bytes, answer.bytes)?;
+        append_chunks(&mut chunks, answer.chunks)?;
         if answer.stopped.is_some() {
-            return Ok(Answer {
-                bytes,
+            return Ok(Outcome {
+                chunks,
+                faulty,
                 stopped: answer.stopped,
             });
         }
     }
-    Ok(Answer {
-        bytes,
+    Ok(Outcome {
+        chunks,
+        faulty,
         stopped: None,
     })
-}
-
-/// Some bytes, and then more, without a copy where the first are none.
-fn joined_bytes(bytes: Vec<u8>, more: Vec<u8>) -> Result<Vec<u8>, AllocError>
-    ensures { IfOk result (λ v. v.items ≡ bytes.items ++ more.items) }
-{
-    if bytes.is_empty() {
-        return Ok(more);
-    }
-    let mut all = bytes;
-    all.extend_from_slice(&more)?;
-    Ok(all)
 }

@@ -25,6 +25,7 @@ use crate::worker::{Worker, work};
 use jp_board::{Board, BoardFault, Seat};
 use jp_check::Plan;
 use jp_doc::Line;
+use jp_path::join_chunks;
 use std::alloc::{AllocError, Global};
 use std::thread;
 use std::thread::Threads;
@@ -55,14 +56,11 @@ pub fn answer<R: Threads + Sync, G: Gate + Sync>(
         answer_to t (planned_query plan.now) (map line_of lines.now) ≡ answer_of a) }
     ensures fault { OnErr result (IsErrOf result RunFault.Memory) }
 {
-    let pieces = Pieces::new(plan, lines, piece as usize, false, workers > 1);
-    match answer_pieces(rt, alloc, &pieces, workers, gate) {
-        Ok(answer) => Ok(Answer {
-            bytes: answer.bytes,
-            stopped: answer.stopped,
-        }),
-        Err(AllocError) => Err(RunFault::Memory),
-    }
+    let answer = answer_in_chunks(rt, alloc, plan, lines, workers, piece, false, gate)?;
+    Ok(Answer {
+        bytes: join_chunks(alloc, answer.chunks)?,
+        stopped: answer.stopped,
+    })
 }
 
 /// The answer that keeps going, by at most that many workers, as `answer` has them: a faulty line gives its
@@ -91,14 +89,43 @@ pub fn answer_all<R: Threads + Sync, G: Gate + Sync>(
         whole t (planned_query plan.now) (map line_of lines.now) ≡ whole_of w) }
     ensures fault { OnErr result (IsErrOf result RunFault.Memory) }
 {
-    let pieces = Pieces::new(plan, lines, piece as usize, true, workers > 1);
-    match answer_pieces(rt, alloc, &pieces, workers, gate) {
-        Ok(answer) => Ok(Whole {
-            bytes: answer.bytes,
-            faulty: answer.faulty,
-        }),
-        Err(AllocError) => Err(RunFault::Memory),
-    }
+    let answer = answer_in_chunks(rt, alloc, plan, lines, workers, piece, true, gate)?;
+    Ok(Whole {
+        bytes: join_chunks(alloc, answer.chunks)?,
+        faulty: answer.faulty,
+    })
+}
+
+/// The answer that keeps going, or the one that does not, by at most that many workers, as `answer` has them.
+/// The bytes stand in chunks as the workers wrote them, and are not joined.
+///
+/// It is the same for every number of workers, every size of a piece, every gate, and in whatever order the
+/// workers take their steps. There are 1 to 64 workers, a piece has 1 to 1,000,000 lines, and there are at
+/// most 4,294,967,296 lines. The calling thread may be one of the workers.
+///
+/// # Errors
+///
+/// [`RunFault::Memory`] where a growth of memory was refused to any worker.
+pub fn answer_in_chunks<R: Threads + Sync, G: Gate + Sync>(
+    rt: &R,
+    alloc: Global,
+    plan: &Plan,
+    lines: &[Line],
+    workers: u64,
+    piece: u64,
+    keeps_going: bool,
+    gate: &G,
+) -> Result<Outcome, RunFault>
+    requires workers { AreWorkers workers }
+    requires piece { AreDocuments piece }
+    requires lines { length lines.now ≤ 4294967296 }
+    ensures answer { IfOk result (λ a. (t : Tests) → AreRight t →
+        answer_in keeps_going t (planned_query plan.now) (map line_of lines.now) ≡ outcome_of a) }
+    ensures passed { IfOk result (λ a. passed_in keeps_going (map line_of lines.now) ≡ a.faulty) }
+    ensures fault { OnErr result (IsErrOf result RunFault.Memory) }
+{
+    let pieces = Pieces::new(plan, lines, piece as usize, keeps_going, workers > 1);
+    Ok(answer_pieces(rt, alloc, &pieces, workers, gate)?)
 }
 
 /// The answer to all pieces, in the form that they ask for.
@@ -118,12 +145,7 @@ fn answer_pieces<R: Threads + Sync, G: Gate + Sync>(
 {
     let placed = place_pieces(rt, alloc, pieces, workers, gate)?;
     let faulty = passed(&placed);
-    let Answer { bytes, stopped } = join(alloc, placed)?;
-    Ok(Outcome {
-        bytes,
-        faulty,
-        stopped,
-    })
+    join(alloc, placed, faulty)
 }
 
 /// The answers to the pieces that the answer is made of, each at its number.

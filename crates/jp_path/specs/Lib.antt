@@ -1,3 +1,4 @@
+pub mod Chunks
 pub mod FaultLine
 pub mod OutputLine
 pub mod PathQuery

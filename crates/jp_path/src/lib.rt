@@ -1,6 +1,7 @@
 //! Normalized paths (RFC 9535, 2.7), output lines and fault lines.
 #![tactic(auto)]
 
+mod chunks;
 mod examples;
 mod fault_line;
 pub mod laws;
@@ -10,6 +11,7 @@ mod path;
 mod query;
 mod value_text;
 
+pub use chunks::{append_chunks, join_chunks, push_chunk};
 pub use fault_line::write_fault;
 pub use node_lines::NodeLines;
 pub use output_line::write_line;

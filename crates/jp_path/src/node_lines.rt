@@ -1,6 +1,6 @@
 //! The taker that writes the output line of each node.
 
-ghost use Rattle.std.specs.Prelude.{◌≡◌, ◌++◌, ◌∷◌, [], false, decimal, encode_utf8_all, flat_map};
+ghost use Rattle.std.specs.Prelude.{◌≡◌, ◌++◌, ◌∷◌, [], false, decimal, encode_utf8_all};
 ghost use Rattle.std.specs.Prelude.{IfOk, OnOk, OnErr};
 ghost use Rattle.serde_json.specs.View.{view};
 ghost use Rattle.serde_json.specs.Written.{has_float, compact_text};
@@ -8,8 +8,10 @@ ghost use Rattle.jp_doc.specs.Json.{value_of};
 ghost use Rattle.jp_trail.specs.Appended.{Extends};
 ghost use Rattle.jp_trail.specs.Links.{link_steps};
 ghost use Rattle.jp_trail.specs.Path.{path_text};
+ghost use Rattle.jp_path.specs.Chunks.{bytes_in};
 ghost use Rattle.jp_path.specs.OutputLine.{line_text};
 
+use crate::chunks::{COPIED, append_chunks, join_chunks, push_chunk};
 use crate::fault_line::write_fault;
 use crate::output_line::append_number;
 use crate::value_text::append_text;
@@ -21,29 +23,27 @@ use std::alloc::{AllocError, Global};
 use std::marker::Model;
 use std::mem;
 
-/// How many bytes at most are copied, where they could be taken over as a part of their own.
-const COPIED: usize = 4096;
-
 /// Takes nodes as the output lines of a document with a number, behind those of the documents before it.
 ///
 /// Its meaning is that number and the bytes of all lines so far. A node takes no allocation but the growth of
 /// what is written, since the room that its value's text is made in is used again. The lines of a taker that
-/// is appended stay where they are, until all are joined.
+/// is appended stay where they are.
 #[derive(Drop)]
 pub struct NodeLines {
     number: u64,
     room: Vec<u8>,
-    /// The lines that stand before `out`, in parts.
+    /// The lines before those of `out`.
     before: Vec<Vec<u8>>,
     out: Vec<u8>,
 }
 
 impl Model for NodeLines {
-    ghost use Rattle.std.specs.Prelude.{ℕ, List, ◌++◌, flat_map};
+    ghost use Rattle.std.specs.Prelude.{ℕ, List, ◌++◌};
+    ghost use Rattle.jp_path.specs.Chunks.{bytes_in};
 
     ghost Value = { ℕ × List ℕ };
 
-    ghost view = { λ t. (t.number, flat_map (λ part. part.items) t.before.items ++ t.out.items) };
+    ghost view = { λ t. (t.number, bytes_in t.before.items ++ t.out.items) };
 }
 
 impl NodeLines {
@@ -81,11 +81,20 @@ impl NodeLines {
         write_fault(alloc, self.number, fault, &mut self.out)
     }
 
+    /// The bytes of all lines, in chunks as they were written. `AllocError` if a growth was refused.
+    pub fn into_chunks(self) -> Result<Vec<Vec<u8>>, AllocError>
+        ensures { IfOk result (λ chunks. bytes_in chunks.items ≡ self.1) }
+    {
+        let mut chunks = self.before;
+        push_chunk(&mut chunks, self.out)?;
+        Ok(chunks)
+    }
+
     /// The bytes of all lines. `AllocError` if a growth was refused.
     pub fn into_bytes(self, alloc: Global) -> Result<Vec<u8>, AllocError>
         ensures { IfOk result (λ v. v.items ≡ self.1) }
     {
-        joined(alloc, self.before, self.out)
+        join_chunks(alloc, self.into_chunks()?)
     }
 }
 
@@ -138,50 +147,21 @@ impl Visit for NodeLines {
     }
 }
 
-/// Appends all parts and the last one to those before `out` and to `out`.
+/// Appends chunks and a last one to those before `out` and to `out`.
 fn append_all(
     before: &mut Vec<Vec<u8>>,
     out: &mut Vec<u8>,
-    parts: Vec<Vec<u8>>,
+    chunks: Vec<Vec<u8>>,
     last: Vec<u8>,
 ) -> Result<(), AllocError>
-    ensures { OnOk result (flat_map (λ part. part.items) before.new.items ++ out.new.items
-        ≡ (flat_map (λ part. part.items) before.old.items ++ out.old.items)
-        ++ (flat_map (λ part. part.items) parts.items ++ last.items)) }
+    ensures { OnOk result (bytes_in before.new.items ++ out.new.items
+        ≡ (bytes_in before.old.items ++ out.old.items) ++ (bytes_in chunks.items ++ last.items)) }
 {
-    if parts.is_empty() && last.len() <= COPIED {
+    if chunks.is_empty() && last.len() <= COPIED {
         return out.extend_from_slice(last.as_slice());
     }
-    let own = mem::replace(out, last);
-    if !own.is_empty() {
-        before.push(own)?;
-    }
-    let mut parts = parts;
-    before.append(&mut parts)
-}
-
-/// The bytes of all parts, and then the last one's, without a copy where it is alone.
-fn joined(alloc: Global, parts: Vec<Vec<u8>>, last: Vec<u8>) -> Result<Vec<u8>, AllocError>
-    ensures { IfOk result (λ v. v.items ≡ flat_map (λ part. part.items) parts.items ++ last.items) }
-{
-    if parts.is_empty() {
-        return Ok(last);
-    }
-    let mut bytes = Vec::with_capacity(alloc, room_for(&parts).saturating_add(last.len()))?;
-    for part in parts {
-        bytes.extend_from_slice(part.as_slice())?;
-    }
-    bytes.extend_from_slice(last.as_slice())?;
-    Ok(bytes)
-}
-
-/// How many bytes the parts have.
-fn room_for(parts: &[Vec<u8>]) -> usize {
-    let mut room: usize = 0;
-    for part in parts {
-        room = room.saturating_add(part.len());
-    }
-    room
+    push_chunk(before, mem::replace(out, last))?;
+    append_chunks(before, chunks)
 }
 
 /// Appends the output line of the node at the trail, with room for its value's text.

@@ -52,7 +52,7 @@ front_of_all old new bytes h = (
       h,
 )
 
-front_longer : (old new : Option (List ℕ)) (xs more bytes : List ℕ) → bytes ≡ xs ++ more
+pub front_longer : (old new : Option (List ℕ)) (xs more bytes : List ℕ) → bytes ≡ xs ++ more
     → AppendsFront old new xs → AppendsFront old new bytes
 front_longer old new xs more bytes e h = (
   h.0,
@@ -191,14 +191,3 @@ module _ (going : Bool) (q : tree.Query) where
 
     pub handing_done : whole.stopped ≡ None → Appends a b whole.bytes → Handed going q ls None a b
     handing_done h k = record { whole = whole; is = is; stopped = h; appended = k }
-
--- how many faulty lines an answer that keeps going passes
-
-module _ (going : Bool) (q : tree.Query) (ls : List Line) where
-  pub passed_second : (bytes : List ℕ) (faulty : ℕ) → not going ≡ false
-      → ((t : Tests) → AreRight t → whole t q ls ≡ record { bytes = bytes; faulty = faulty })
-      → faulty ≡ passed_in going ls
-  passed_second bytes faulty on h = by_form going on where
-    by_form : (k : Bool) → not k ≡ false → faulty ≡ passed_in k ls
-    by_form false e = absurd (cc)
-    by_form true e = sym (ap (λ (w : Whole). w.faulty) (h right_tests.0 right_tests.1))

@@ -1,4 +1,5 @@
 pub mod Batching
+pub mod Chunks
 pub mod Handed
 pub mod Handing
 pub mod Numbering

@@ -1,13 +1,11 @@
 //! Lines that are answered in batches, each handed to the sink before the next begins.
 
 ghost use Rattle.std.specs.Prelude.{◌≡◌, ◌+◌, ◌≤◌, ◌++◌, false, true, None, map, length, vec_len, IfOk, OnOk};
-ghost use Rattle.std.specs.Prelude.{IfErr, OnErr, IsErrOf};
+ghost use Rattle.std.specs.Prelude.{IfErr};
 ghost use Rattle.jp_doc.specs.Feeding.{finished, finished_lines};
 ghost use Rattle.jp_doc.specs.Lines.{line_of};
 ghost use Rattle.jp_check.specs.Plan.{planned_query};
-ghost use Rattle.jp_regexp.specs.Tests.{Tests, AreRight};
-ghost use Rattle.jp_answer.specs.Answered.{answer_of};
-ghost use Rattle.jp_answer.specs.Form.{answer_in, passed_in};
+ghost use Rattle.jp_answer.specs.Form.{passed_in};
 ghost use Rattle.jp_run.specs.Batches.{in_batches, whole_batches, left_over};
 ghost use Rattle.jp_run.specs.Ended.{AnswerEnded, RestEnded};
 ghost use Rattle.jp_run.specs.Handed.{Handed};
@@ -17,7 +15,7 @@ use crate::ends::Sink;
 use crate::gathering::{Pending, take_last};
 use crate::running::Totals;
 use crate::writing::{hand_out, pass_on};
-use jp_answer::{Answer, Gate, RunFault, Settings, answer, answer_all};
+use jp_answer::{Gate, RunFault, Settings, answer_in_chunks};
 use jp_check::Plan;
 use jp_doc::Line;
 use std::alloc::Global;
@@ -159,35 +157,13 @@ fn answer_lines<R: Threads + Sync, K: Sink, G: Gate + Sync>(
         (map line_of lines.now)
         (K.failed sink.new) (K.contents sink.old) (K.contents sink.new)) }
 {
-    let (answer, faulty) = answer_form(rt, alloc, plan, settings, gate, lines)?;
+    let Settings {
+        workers,
+        piece,
+        keeps_going,
+        ..
+    } = settings;
+    let answer = answer_in_chunks(rt, alloc, plan, lines, workers, piece, keeps_going, gate)?;
     hand_out(sink, &answer)?;
-    Ok(faulty)
-}
-
-/// The answer to some lines in the form that is set, and how many faulty lines it passes.
-fn answer_form<R: Threads + Sync, G: Gate + Sync>(
-    rt: &R,
-    alloc: Global,
-    plan: &Plan,
-    settings: Settings,
-    gate: &G,
-    lines: &[Line],
-) -> Result<(Answer, u64), RunFault>
-    requires { length lines.now ≤ 4294967296 }
-    ensures answer { IfOk result (λ r. (t : Tests) → AreRight t → answer_in settings.keeps_going t
-        (planned_query plan.now) (map line_of lines.now) ≡ answer_of r.0) }
-    ensures passed { IfOk result (λ r. r.1 ≡ passed_in settings.keeps_going (map line_of lines.now)) }
-    ensures fault { OnErr result (IsErrOf result RunFault.Memory) }
-{
-    let Settings { workers, piece, .. } = settings;
-    if !settings.keeps_going {
-        let answer = answer(rt, alloc, plan, lines, workers, piece, gate)?;
-        return Ok((answer, 0));
-    }
-    let whole = answer_all(rt, alloc, plan, lines, workers, piece, gate)?;
-    let answer = Answer {
-        bytes: whole.bytes,
-        stopped: None,
-    };
-    Ok((answer, whole.faulty))
+    Ok(answer.faulty)
 }

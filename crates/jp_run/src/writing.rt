@@ -2,12 +2,13 @@
 
 ghost use Rattle.std.specs.Prelude.{◌≡◌, false, true, None, OnOk, OnErr, IfErr};
 ghost use Rattle.std.specs.Io.KnownBytes.{Appends, Keeps};
-ghost use Rattle.jp_answer.specs.Answered.{answer_of};
+ghost use Rattle.jp_answer.specs.Answered.{outcome_of};
+ghost use Rattle.jp_path.specs.Chunks.{bytes_in};
 ghost use Rattle.jp_run.specs.Ended.{HandingEnded};
 ghost use Rattle.jp_run.specs.Written.{AppendsFront};
 
 use crate::ends::{Broken, Sink};
-use jp_answer::{Answer, RunFault};
+use jp_answer::{Outcome, RunFault};
 
 /// Hands over all of the bytes, to a sink that has not failed.
 ///
@@ -32,16 +33,38 @@ pub fn write_all<K: Sink>(sink: &mut K, bytes: &[u8]) -> Result<(), Broken>
     Ok(())
 }
 
-/// Hands over the bytes of an answer, and then tells its faulty line, if there is one.
-pub(crate) fn hand_out<K: Sink>(sink: &mut K, answer: &Answer) -> Result<(), RunFault>
+/// Hands over the bytes of all chunks, to a sink that has not failed.
+///
+/// # Errors
+///
+/// [`Broken`] where a call of the sink failed: a front of the bytes was written.
+fn write_chunks<K: Sink>(sink: &mut K, chunks: &[Vec<u8>]) -> Result<(), Broken>
     requires { K.failed sink.old ≡ false }
-    ensures whole { OnOk result ((answer_of answer.now).stopped ≡ None) }
-    ensures ok { OnOk result (Appends (K.contents sink.old) (K.contents sink.new) answer.now.bytes.items) }
+    ensures ok { OnOk result (Appends (K.contents sink.old) (K.contents sink.new) (bytes_in chunks.now)) }
     ensures working { OnOk result (K.failed sink.new ≡ false) }
-    ensures fault { IfErr result (HandingEnded (answer_of answer.now) (K.failed sink.new)
+    ensures front { OnErr result (AppendsFront (K.contents sink.old) (K.contents sink.new)
+        (bytes_in chunks.now)) }
+    ensures broken { OnErr result (K.failed sink.new ≡ true) }
+{
+    for chunk in chunks {
+        let Ok(()) = write_all(sink, chunk.as_slice()) else {
+            return Err(Broken);
+        };
+    }
+    Ok(())
+}
+
+/// Hands over the bytes of an answer, and then tells its faulty line, if there is one.
+pub(crate) fn hand_out<K: Sink>(sink: &mut K, answer: &Outcome) -> Result<(), RunFault>
+    requires { K.failed sink.old ≡ false }
+    ensures whole { OnOk result ((outcome_of answer.now).stopped ≡ None) }
+    ensures ok { OnOk result (Appends (K.contents sink.old) (K.contents sink.new)
+        (outcome_of answer.now).bytes) }
+    ensures working { OnOk result (K.failed sink.new ≡ false) }
+    ensures fault { IfErr result (HandingEnded (outcome_of answer.now) (K.failed sink.new)
         (K.contents sink.old) (K.contents sink.new)) }
 {
-    if write_all(sink, &answer.bytes).is_err() {
+    if write_chunks(sink, &answer.chunks).is_err() {
         return Err(RunFault::Write);
     }
     if let Some(stop) = answer.stopped {

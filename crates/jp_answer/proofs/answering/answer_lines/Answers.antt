@@ -1,6 +1,7 @@
 use Rattle.std.proofs.Common.{◌∙◌, sym, inl, inr, arith}
 use Rattle.jp_check.specs.Plan.{planned_query}
 use Rattle.jp_eval.specs.Evaluated.{evaluated_query}
+use Rattle.jp_path.specs.Chunks.{bytes_in}
 use Rattle.jp_answer.proofs.Forms.{answer_more, answer_last, stop_more, stop_last, passed_more, passed_one}
 use Rattle.jp_answer.proofs.Forms.{passed_fits}
 use Rattle.jp_answer.proofs.answering.answer_lines.Goals as goal
@@ -27,9 +28,9 @@ pub returns-then-not-keeps_going-clause-answer : goal.returns-then-not-keeps_goi
 returns-then-not-keeps_going-clause-answer g c = λ t right. answer_last c.args.keeps_going c.args.lines.now
     c.loop-line.line-index c.line-item.result c.loop-line-test.true c.line-item.is t
     (planned_query c.args.plan.now) (evaluated_query c.loop-line.evaluator) c.loop-line.written.1
-    c.in_ok-into_bytes.field-0.items c.in-Some.fault c.loop-line.invariant.query
+    (bytes_in c.in_ok-into_chunks.field-0.items) c.in-Some.fault c.loop-line.invariant.query
     (c.loop-line.invariant.answer t right)
-    (c.in_ok-into_bytes.ensures ∙ c.in_ok-more.ensures.lines t right) c.if-not-keeps_going.true
+    (c.in_ok-into_chunks.ensures ∙ c.in_ok-more.ensures.lines t right) c.if-not-keeps_going.true
     (sym c.in_ok-more.ensures.fault ∙ c.in-Some.is)
 
 pub returns-then-not-keeps_going-clause-stopped : goal.returns-then-not-keeps_going-clause-stopped

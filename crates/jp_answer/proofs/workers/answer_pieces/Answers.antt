@@ -1,18 +1,20 @@
 use Rattle.std.proofs.Common.{arith, ◌∙◌, sym, ap}
 use Rattle.jp_answer.specs.Placed.{passed_all}
-use Rattle.jp_answer.proofs.Settling.{each_some, placed_answer, placed_few, placed_passed}
+use Rattle.jp_answer.proofs.Settling.{each_some, placed_few, placed_passed, ok_joined, ok_passed}
 use Rattle.jp_answer.proofs.workers.answer_pieces.Goals as goal
 
 pub join-requires : goal.join-requires
 join-requires g c = each_some c.args.pieces.now c.in_ok-placed.placed.items c.in_ok-placed.ensures
 
 pub returns-clause-answer : goal.returns-clause-answer
-returns-clause-answer g c = λ t right. placed_answer c.args.pieces.now c.in_ok-placed.placed.items
-    c.in_ok-placed.ensures t right ∙ sym c.in_ok-bytes.ensures
+returns-clause-answer g c = ok_joined c.args.pieces.now c.in_ok-placed.placed.items c.join.result
+    c.in_ok-placed.ensures c.join.ensures.answer
 
 pub returns-clause-passed : goal.returns-clause-passed
-returns-clause-passed g c = placed_passed c.args.pieces.now c.in_ok-placed.placed.items
-    c.in_ok-placed.ensures ∙ ap passed_all (sym c.deref.ensures.value) ∙ sym c.passed-faulty.ensures
+returns-clause-passed g c = ok_passed _ c.passed-faulty.result c.join.result
+    (placed_passed c.args.pieces.now c.in_ok-placed.placed.items
+    c.in_ok-placed.ensures ∙ ap passed_all (sym c.deref.ensures.value) ∙ sym c.passed-faulty.ensures)
+    c.join.ensures.faulty
 
 pub passed-faulty-requires : goal.passed-faulty-requires
 passed-faulty-requires g c = omega (

@@ -1,18 +1,18 @@
 use Rattle.std.proofs.Common.{arith, map}
 use Rattle.std.proofs.lemmas.List.{length-map}
 use Rattle.jp_doc.specs.Lines.{line_of}
-use Rattle.jp_answer.specs.Answered.{answer_of}
+use Rattle.jp_answer.specs.Answered.{outcome_of}
 use Rattle.jp_answer.proofs.Forms.{passed_few}
 use Rattle.jp_run.proofs.Handing.{told, handing_done, ended_handing}
 use Rattle.jp_run.proofs.batches.answer_lines.Goals as goal
 
 pub returns-in_err-hand_out-clause-fault : goal.returns-in_err-hand_out-clause-fault
 returns-in_err-hand_out-clause-fault g c = told _ _ _ c.from_residual-in_err-hand_out.ensures.1
-    (ended_handing _ _ _ (answer_of c.in_ok-answer.answer) c.in_ok-answer.ensures.answer _ _ _ _
+    (ended_handing _ _ _ (outcome_of c.in_ok-answer.answer) c.in_ok-answer.ensures.answer _ _ _ _
     c.in_err-hand_out.ensures.fault)
 
 pub returns-clause-handed : goal.returns-clause-handed
-returns-clause-handed g c = handing_done _ _ _ (answer_of c.in_ok-answer.answer)
+returns-clause-handed g c = handing_done _ _ _ (outcome_of c.in_ok-answer.answer)
     c.in_ok-answer.ensures.answer _ _ c.in_ok-hand_out.ensures.whole c.in_ok-hand_out.ensures.ok
 
 pub returns-clause-few_faulty : goal.returns-clause-few_faulty
