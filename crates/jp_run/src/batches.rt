@@ -6,6 +6,7 @@ ghost use Rattle.jp_doc.specs.Feeding.{finished, finished_lines};
 ghost use Rattle.jp_doc.specs.Lines.{line_of};
 ghost use Rattle.jp_check.specs.Plan.{planned_query};
 ghost use Rattle.jp_answer.specs.Form.{passed_in};
+ghost use Rattle.jp_answer.specs.Ranges.{AreDocuments};
 ghost use Rattle.jp_run.specs.Batches.{in_batches, whole_batches, left_over};
 ghost use Rattle.jp_run.specs.Ended.{AnswerEnded, RestEnded};
 ghost use Rattle.jp_run.specs.Handed.{Handed};
@@ -20,6 +21,9 @@ use jp_check::Plan;
 use jp_doc::Line;
 use std::alloc::Global;
 use std::thread::Threads;
+
+/// How many pieces there are at least for each worker, where there are as many lines.
+const PIECES_EACH: u64 = 4;
 
 /// Answers the lines of the whole batches that have come, and takes them away.
 pub(crate) fn answer_batches<R: Threads + Sync, K: Sink, G: Gate + Sync>(
@@ -157,13 +161,21 @@ fn answer_lines<R: Threads + Sync, K: Sink, G: Gate + Sync>(
         (map line_of lines.now)
         (K.failed sink.new) (K.contents sink.old) (K.contents sink.new)) }
 {
+    let piece = piece_for(settings, lines.len());
     let Settings {
         workers,
-        piece,
         keeps_going,
         ..
     } = settings;
     let answer = answer_in_chunks(rt, alloc, plan, lines, workers, piece, keeps_going, gate)?;
     hand_out(sink, &answer)?;
     Ok(answer.faulty)
+}
+
+/// How many of these lines are a piece: as many as are set, or fewer where some worker would have too little.
+fn piece_for(settings: Settings, lines: usize) -> u64
+    ensures { AreDocuments result }
+{
+    let share = lines as u64 / (settings.workers * PIECES_EACH);
+    settings.piece.min(share.max(1))
 }

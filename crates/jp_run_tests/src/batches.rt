@@ -1,12 +1,10 @@
 //! Runs in batches of several sizes: the same bytes, when they are written, and when the reads stop.
 
-ghost use Rattle.std.specs.Prelude.{◌≡◌, ◌^◌, ◌≤◌, false};
-
 use crate::fakes::{Holds, OneByte};
 use crate::gates::{Entered, Pair};
 use crate::thousand::{items_of_thousand, thousand};
 use jp_doc::DocFault;
-use jp_run::{FromReader, Gate, OpenGate, RunFault, Settings, Sink, Source, Totals};
+use jp_run::{FromReader, OpenGate, RunFault, Settings, Source, Totals, run};
 use std::alloc::Global;
 use std::test::Fail;
 use std::thread::Threads;
@@ -20,23 +18,6 @@ const TWO: &[u8] = b"{\"a\":1}\n\n{\"a\":null}\n";
 /// Their members with the name `a`.
 const TWO_LINES: &[u8] = b"1\t$['a']\t1\n3\t$['a']\tnull\n";
 
-/// A run with so many workers, pieces of that size, and batches of that size.
-fn run<R: Threads + Sync, S: Source, K: Sink, G: Gate + Sync>(
-    rt: &R,
-    alloc: Global,
-    source: &mut S,
-    sink: &mut K,
-    query: &str,
-    cut: (u64, u64, u64),
-    gate: &G,
-) -> Result<Totals, RunFault>
-    requires working { (S.failed source.old ≡ false) × (K.failed sink.old ≡ false) }
-    requires few { (S.reads source.old ≤ 2 ^ 62) × (S.given source.old ≤ 2 ^ 62) }
-{
-    let settings = Settings::new(cut.0, cut.1, cut.2)?;
-    jp_run::run(rt, alloc, source, sink, query, &settings, gate)
-}
-
 /// A run over bytes that come one by one, of which one call fails. Gives its end, what it wrote, and how
 /// often it read.
 fn byte_by_byte<R: Threads + Sync>(
@@ -49,15 +30,18 @@ fn byte_by_byte<R: Threads + Sync>(
 ) -> (Result<Totals, RunFault>, Vec<u8>, u64) {
     let mut source = OneByte::new(input, fails_at);
     let mut sink = Holds::new(Vec::new(alloc), 3, ROOM);
-    let end = run(
-        rt,
-        alloc,
-        &mut source,
-        &mut sink,
-        query,
-        (2, 1, batch),
-        &OpenGate,
-    );
+    let end = match Settings::new(2, 1, batch) {
+        Ok(settings) => run(
+            rt,
+            alloc,
+            &mut source,
+            &mut sink,
+            query,
+            &settings,
+            &OpenGate,
+        ),
+        Err(fault) => Err(fault),
+    };
     (end, sink.bytes, source.reads())
 }
 
@@ -114,24 +98,29 @@ fn no_read_follows_the_faulty_batch(rt: HostRuntime) {
     }
 }
 
+/// Two documents are two pieces, however large a piece may be.
 #[test]
-fn two_workers_at_once_in_a_batch(rt: HostRuntime) {
-    let gate = Pair(Entered::new());
-    let mut source = FromReader::new(b"[]\n{}\n".as_slice());
-    let mut sink = Holds::new(Vec::new(rt.alloc()), ROOM, ROOM);
-    let end = run(
-        &rt,
-        rt.alloc(),
-        &mut source,
-        &mut sink,
-        "$",
-        (2, 1, 2),
-        &gate,
-    );
-    assert!(rt; end.is_ok());
-    assert_eq!(rt; sink.bytes.as_slice(), b"1\t$\t[]\n2\t$\t{}\n".as_slice());
-    assert_eq!(rt; gate.0.failures(), 0);
-    assert_eq!(rt; gate.0.seen(), [true, true, false]);
+fn two_workers_at_once_in_a_batch(rt: HostRuntime) -> Result<(), Fail> {
+    for piece in [1u64, 64] {
+        let settings = Settings::new(2, piece, 2)?;
+        let gate = Pair(Entered::new());
+        let mut source = FromReader::new(b"[]\n{}\n".as_slice());
+        let mut sink = Holds::new(Vec::new(rt.alloc()), ROOM, ROOM);
+        let end = run(
+            &rt,
+            rt.alloc(),
+            &mut source,
+            &mut sink,
+            "$",
+            &settings,
+            &gate,
+        );
+        assert!(rt; end.is_ok());
+        assert_eq!(rt; sink.bytes.as_slice(), b"1\t$\t[]\n2\t$\t{}\n".as_slice());
+        assert_eq!(rt; gate.0.failures(), 0);
+        assert_eq!(rt; gate.0.seen(), [true, true, false]);
+    }
+    Ok(())
 }
 
 #[test]
@@ -143,14 +132,14 @@ fn a_thousand_lines_however_cut(rt: HostRuntime) -> Result<(), Fail> {
             for batch in [10u64, 1_000] {
                 let mut source = FromReader::new(text.as_bytes());
                 let mut sink = Holds::new(Vec::new(rt.alloc()), ROOM, ROOM);
-                let cut = (workers, piece, batch);
+                let settings = Settings::new(workers, piece, batch)?;
                 let end = run(
                     &rt,
                     rt.alloc(),
                     &mut source,
                     &mut sink,
                     "$[*]",
-                    cut,
+                    &settings,
                     &OpenGate,
                 );
                 assert!(rt; end.is_ok());

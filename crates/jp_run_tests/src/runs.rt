@@ -41,27 +41,34 @@ fn ran<R: Threads + Sync>(
     (end, sink.bytes)
 }
 
-#[test]
-fn faults_have_their_texts(rt: HostRuntime) -> Result<(), Fail> {
-    let faults = [
-        (RunFault::Query(QueryFault::IllTyped), 2, "query: type"),
-        (
-            RunFault::Document {
+/// Each fault at its place, with its status and its text.
+fn fault_at(place: u64) -> Option<(RunFault, u8, &'static str)> {
+    match place {
+        0 => Some((RunFault::Query(QueryFault::IllTyped), 2, "query: type")),
+        1 => {
+            let fault = RunFault::Document {
                 line: 12,
                 fault: DocFault::LongArray,
-            },
-            3,
-            "line 12: long array",
-        ),
-        (RunFault::Read, 4, "read"),
-        (RunFault::Write, 4, "write"),
-        (RunFault::Limit, 4, "limit"),
-        (RunFault::Memory, 5, "memory"),
-        (RunFault::Settings, 64, "command line"),
-    ];
-    for (fault, status, text) in &faults {
-        assert_eq!(rt; fault.status(), *status);
-        assert_eq!(rt; format!(in rt.alloc(); "{fault}")?.as_str(), *text);
+            };
+            Some((fault, 3, "line 12: long array"))
+        }
+        2 => Some((RunFault::Read, 4, "read")),
+        3 => Some((RunFault::Write, 4, "write")),
+        4 => Some((RunFault::Limit, 4, "limit")),
+        5 => Some((RunFault::Memory, 5, "memory")),
+        6 => Some((RunFault::Settings, 64, "command line")),
+        _ => None,
+    }
+}
+
+#[test]
+fn faults_have_their_texts(rt: HostRuntime) -> Result<(), Fail> {
+    for place in 0..7u64 {
+        let Some((fault, status, text)) = fault_at(place) else {
+            panic!(rt; "no fault at {place}");
+        };
+        assert_eq!(rt; fault.status(), status);
+        assert_eq!(rt; format!(in rt.alloc(); "{fault}")?.as_str(), text);
     }
     Ok(())
 }
