@@ -3,10 +3,10 @@
 //! A turn says whether the answer was right, or nothing where it was want of memory. Each is made twice: one
 //! growth is refused at most, so one of the two answers.
 
-use jp_check::plan;
 use jp_doc::{Document, Location, Step};
-use jp_eval::{Visit, visit_nodes};
-use jp_path::{NodeLines, path_plan, query_of, write_line, write_path};
+use jp_path::{
+    append_chunks, join_chunks, path_plan, push_chunk, query_of, write_line, write_path,
+};
 use std::alloc::{AllocError, Global};
 
 /// The location `$['it\\'s'][10]`.
@@ -48,52 +48,26 @@ fn line(alloc: Global) -> Option<bool> {
     }
 }
 
-/// The lines of a long text and of a number, each by a taker of its own.
-fn appended(alloc: Global) -> Option<bool> {
-    let text = "x".repeat(alloc, 5_000).ok()?;
-    let list = format!(in alloc; "[\"{text}\",7]").ok()?;
-    let document = Document::read(alloc, list.as_bytes()).ok()?;
-    let (first, second) = (plan(alloc, "$[0]").ok()?, plan(alloc, "$[1]").ok()?);
-    let mut lines = NodeLines::new(alloc);
-    lines.begin(3);
-    let front = lines.fresh(alloc);
-    let back = visit_nodes(alloc, &second, &document, lines.fresh(alloc)).ok()?;
-    lines
-        .append(visit_nodes(alloc, &first, &document, front).ok()?)
-        .ok()?;
-    lines.append(back).ok()?;
-    let wanted = format!(in alloc; "3\t$[0]\t\"{text}\"\n3\t$[1]\t7\n").ok()?;
-    Some(lines.into_bytes(alloc).ok()?.as_slice() == wanted.as_bytes())
+/// A long chunk, a short one and a long one: two chunks, since the short one goes to the first.
+fn joined(alloc: Global) -> Result<bool, AllocError> {
+    let mut chunks = Vec::new(alloc);
+    push_chunk(&mut chunks, vec![in alloc; 1u8; 5_000]?)?;
+    push_chunk(&mut chunks, vec![in alloc; 2u8; 3]?)?;
+    append_chunks(&mut chunks, vec![in alloc; vec![in alloc; 3u8; 5_000]?]?)?;
+    let two = chunks.len() == 2;
+    let bytes = join_chunks(alloc, chunks)?;
+    let (front, _) = bytes.as_slice().split_at(bytes.len().min(5_004));
+    let (_, edge) = front.split_at(front.len().min(4_999));
+    Ok(two && bytes.len() == 10_003 && edge == [1, 2, 2, 2, 3].as_slice())
 }
 
-/// Several takers, each with a long line, in turn behind the one before.
-fn parts(alloc: Global) -> Option<bool> {
-    let text = "x".repeat(alloc, 5_000).ok()?;
-    let document = Document::read(alloc, format!(in alloc; "\"{text}\"").ok()?.as_bytes()).ok()?;
-    let root = plan(alloc, "$").ok()?;
-    let mut lines = NodeLines::new(alloc);
-    let mut wanted = String::new(alloc);
-    for number in 1..=4u64 {
-        lines.begin(number);
-        let mut half = visit_nodes(alloc, &root, &document, lines.fresh(alloc)).ok()?;
-        half.append(visit_nodes(alloc, &root, &document, lines.fresh(alloc)).ok()?)
-            .ok()?;
-        lines.append(half).ok()?;
-        let line = format!(in alloc; "{number}\t$\t\"{text}\"\n").ok()?;
-        wanted.push_str(line.repeat(alloc, 2).ok()?.as_str()).ok()?;
-    }
-    Some(lines.into_bytes(alloc).ok()?.as_slice() == wanted.as_bytes())
+fn joined_or_none(alloc: Global) -> Option<bool> {
+    joined(alloc).ok()
 }
 
 #[test]
-fn lines_of_two_takers(rt: HostRuntime) {
-    let turns = (appended(rt.alloc()), appended(rt.alloc()));
-    assert!(rt; matches!(turns, (Some(true), Some(true) | None) | (None, Some(true))));
-}
-
-#[test]
-fn lines_in_parts(rt: HostRuntime) {
-    let turns = (parts(rt.alloc()), parts(rt.alloc()));
+fn chunks_that_are_joined(rt: HostRuntime) {
+    let turns = (joined_or_none(rt.alloc()), joined_or_none(rt.alloc()));
     assert!(rt; matches!(turns, (Some(true), Some(true) | None) | (None, Some(true))));
 }
 
