@@ -26,4 +26,7 @@ answer_of a = record { bytes = a.bytes.items; stopped = option_map (λ s. (s.lin
 
 -- what an `Outcome` of `src/` stands for, but for its count
 abbrev pub outcome_of : either.Outcome → Answer
-outcome_of a = record { bytes = bytes_in a.chunks.items; stopped = option_map (λ s. (s.line, s.fault)) a.stopped }
+outcome_of a = record {
+  bytes = bytes_in a.chunks.items;
+  stopped = option_map (λ s. (s.line, s.fault)) a.stopped;
+}
