@@ -1,5 +1,5 @@
 -- Answers that are handed out one after another.
-use Rattle.std.proofs.Common.{◌≡◌, ℕ, ◌+◌, Bool, true, false, not, List, [], ◌++◌, length, take, Option, Some}
+use Rattle.std.proofs.Common.{◌≡◌, ℕ, ◌+◌, Bool, true, List, [], ◌++◌, length, take, Option, Some}
 use Rattle.std.proofs.Common.{None, Result, Ok, Err, IfErr, OnOk, IsErrAnd, refl, sym, ◌∙◌, ap, subst, arith}
 use Rattle.std.proofs.Common.{append-nil, length-append}
 use Rattle.std.proofs.Math.Seq.{take-length, take-append-add}
@@ -10,10 +10,8 @@ use Rattle.jp_doc.specs.Lines.{Line}
 use Rattle.jp_doc.specs.declared.fault.DocFault.{DocFault}
 use Rattle.jp_syntax.specs.Tree as tree
 use Rattle.jp_regexp.specs.Tests.{Tests, AreRight}
-use Rattle.jp_regexp.proofs.RightTests.{right_tests}
 use Rattle.jp_answer.specs.Answer.{Answer, after, joined, unless_stopped}
-use Rattle.jp_answer.specs.Form.{answer_in, passed_in}
-use Rattle.jp_answer.specs.Whole.{Whole, whole}
+use Rattle.jp_answer.specs.Form.{answer_in}
 use Rattle.jp_answer.proofs.Forms.{formed_joined, nothing_in}
 use Rattle.jp_answer.specs.declared.fault.RunFault.{RunFault}
 use Rattle.jp_answer.specs.declared.fault.RunFault.TheVariants.{Query, Document, Read, Write, Limit}

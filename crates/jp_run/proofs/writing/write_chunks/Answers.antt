@@ -3,7 +3,7 @@ use Rattle.std.proofs.lemmas.Grind.{common_steps}
 use Rattle.std.specs.Io.KnownBytes.{Appends}
 use Rattle.jp_run.specs.Written.{AppendsFront}
 use Rattle.jp_run.proofs.Chunks.{chunk_more, chunk_stopped}
-use Rattle.jp_run.proofs.Handed.{written_start, written_all}
+use Rattle.jp_run.proofs.Handed.{written_start}
 use Rattle.jp_run.proofs.writing.write_chunks.Goals as goal
 
 pub loop-chunk-init : goal.loop-chunk-init
