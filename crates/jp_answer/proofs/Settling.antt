@@ -18,7 +18,6 @@ use Rattle.jp_doc.specs.Lines.{Line, line_of}
 use Rattle.jp_doc.specs.declared.fault.DocFault.{DocFault}
 use Rattle.jp_doc.specs.declared.line.Line as code
 use Rattle.jp_check.specs.Plan.{planned_query}
-use Rattle.jp_syntax.specs.Tree.{Query}
 use Rattle.jp_regexp.specs.Tests.{Tests, AreRight}
 use Rattle.jp_board.specs.declared.seat.Seat.{Seat}
 use Rattle.jp_board.specs.declared.view.View.{View}
@@ -27,13 +26,11 @@ use Rattle.jp_board.specs.Tally.{Tallies}
 use Rattle.jp_board.specs.Together.{all_claims, all_reports, all_looks, times_told}
 use Rattle.jp_answer.specs.Answer as answers
 use Rattle.jp_answer.specs.Answer.{after, joined, unless_stopped}
-use Rattle.jp_answer.specs.Answered.{answer_of, outcome_of}
+use Rattle.jp_answer.specs.Answered.{outcome_of}
 use Rattle.jp_answer.specs.Form.{answer_in, stop_in, passed_in}
 use Rattle.jp_answer.specs.Pieces.{piece_lines, AreAllPieces, IsFaulty, IsPieceAnswer}
 use Rattle.jp_answer.specs.Placed.{StandsAt, IsPlaced, ComeFrom, nothing, joined_all, passed_all, ArePlaced}
-use Rattle.jp_answer.specs.Whole.{whole}
 use Rattle.jp_answer.specs.Worked.{pieces_of, AreTended, IsTended, IsWorked}
-use Rattle.jp_answer.specs.declared.outcome.Answer.{Answer}
 use Rattle.jp_answer.specs.declared.outcome.Outcome.{Outcome}
 use Rattle.jp_answer.specs.declared.pieces.Pieces.{Pieces}
 use Rattle.jp_answer.specs.declared.worker.Part.{Part}
