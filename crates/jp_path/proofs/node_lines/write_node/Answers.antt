@@ -1,4 +1,4 @@
-use Rattle.std.proofs.Common.{◌∙◌, ap, sym}
+use Rattle.std.proofs.Common.{ap, sym}
 use Rattle.serde_json.specs.Written.{compact_text}
 use Rattle.jp_doc.proofs.BackLaws.{value_back}
 use Rattle.jp_doc.specs.Json.{value_of}
