@@ -10,7 +10,7 @@ pub(crate) const COPIED: usize = 4096;
 
 /// Appends a chunk, unless it is empty. The bytes of a short one go to the last chunk, if there is one.
 ///
-/// `AllocError` if a growth was refused.
+/// `AllocError` if a growth was refused: then the last chunk and this one may be lost.
 pub fn push_chunk(chunks: &mut Vec<Vec<u8>>, chunk: Vec<u8>) -> Result<(), AllocError>
     ensures { OnOk result (bytes_in chunks.new.items ≡ bytes_in chunks.old.items ++ chunk.items) }
 {
@@ -31,7 +31,7 @@ pub fn push_chunk(chunks: &mut Vec<Vec<u8>>, chunk: Vec<u8>) -> Result<(), Alloc
 
 /// Appends chunks, each as `push_chunk` does.
 ///
-/// `AllocError` if a growth was refused.
+/// `AllocError` if a growth was refused: then some of all chunks may be lost.
 pub fn append_chunks(chunks: &mut Vec<Vec<u8>>, more: Vec<Vec<u8>>) -> Result<(), AllocError>
     ensures { OnOk result (bytes_in chunks.new.items ≡ bytes_in chunks.old.items ++ bytes_in more.items) }
 {
