@@ -35,7 +35,7 @@ use Rattle.jp_eval.specs.contracts.walk.Task as Task
 use Rattle.jp_eval.specs.contracts.ground.Ground as Ground
 use Rattle.jp_eval.specs.contracts.different.Different as Different
 use Rattle.jp_eval.specs.contracts.found.Alone as Alone
-use Rattle.jp_eval.specs.contracts.found.Answer as Answer
+use Rattle.jp_eval.specs.contracts.answers.Answer as Answer
 
 pub segment_sync : IsSync Segment.the_row
 segment_sync = search (

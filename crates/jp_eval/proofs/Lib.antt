@@ -16,6 +16,7 @@ pub mod Idle
 pub mod WalkSteps
 pub mod Lengths
 pub mod Parts
+pub mod Telling
 pub mod Places
 pub mod OnLiterals
 pub mod Taking

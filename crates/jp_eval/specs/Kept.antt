@@ -3,6 +3,8 @@ use Rattle.std.specs.Prelude.{ℕ, ◌+◌, List, [], ◌∷◌, ◌++◌, map, 
 use Rattle.std.specs.List.{fold}
 use Rattle.jp_doc.specs.Json.{Json}
 use Rattle.jp_doc.specs.Location.{Node, Location, location_of}
+use Rattle.jp_check.specs.declared.ready.Want.{Want}
+use Rattle.jp_check.specs.declared.ready.Want.TheVariants as want
 use Rattle.jp_eval.specs.Part.{part_value}
 use Rattle.jp_eval.specs.declared.found.Found.{Found}
 use Rattle.jp_eval.specs.declared.found.Found.TheVariants.{Taker, First, Count, Only, Distinct}
@@ -71,24 +73,9 @@ emptied_found emptied (count n) = count 0
 emptied_found emptied (only a) = only none
 emptied_found emptied (located o ls) = located None []
 
--- what was kept, if it is that
-abbrev pub kept_first : {K : Type 0} → Kept K → Option Json
-kept_first (taken k) = None
-kept_first (first o) = o
-kept_first (count n) = None
-kept_first (only a) = None
-kept_first (located o ls) = None
-
-abbrev pub kept_count : {K : Type 0} → Kept K → ℕ
-kept_count (taken k) = 0
-kept_count (first o) = 0
-kept_count (count n) = n
-kept_count (only a) = 0
-kept_count (located o ls) = 0
-
-abbrev pub kept_only : {K : Type 0} → Kept K → Option Json
-kept_only (taken k) = None
-kept_only (first o) = None
-kept_only (count n) = None
-kept_only (only a) = alone_value a
-kept_only (located o ls) = None
+-- what is kept of no nodes, where this is wanted of them
+abbrev pub none_kept : {K : Type 0} → Want → Kept K
+none_kept want.First = first None
+none_kept want.Count = count 0
+none_kept want.Only = only none
+none_kept want.Distinct = located None []

@@ -1,19 +1,19 @@
 //! What is kept of the nodes that a walk finds: by the caller's taker, or by what a filter wants of them.
 
-ghost use Rattle.std.specs.Prelude.{◌≡◌, ◌+◌, IsTrue, IfSome, IfOk, OnOk, Some, List, map, option_map};
+ghost use Rattle.std.specs.Prelude.{◌≡◌, ◌+◌, IsTrue, IfSome, IfOk, OnOk, List, true};
+ghost use Rattle.jp_check.specs.declared.ready.Want.{Want};
 ghost use Rattle.jp_doc.specs.Location.{Node};
-ghost use Rattle.jp_eval.specs.Kept.{kept, put_found, taken, kept_first, kept_count, kept_only, alone_of};
-ghost use Rattle.jp_eval.specs.Kept.{put_alone, alone_value, located as located_at, plus, emptied_found};
-ghost use Rattle.jp_eval.specs.Different.{IsDifferent};
-ghost use Rattle.jp_eval.specs.Functions.{number_value, first_value};
+ghost use Rattle.jp_eval.specs.Answers.{tells};
+ghost use Rattle.jp_eval.specs.Kept.{kept, put_found, none_kept, taken, alone_of, put_alone, plus};
+ghost use Rattle.jp_eval.specs.Kept.{emptied_found};
 ghost use Rattle.jp_eval.specs.Links.{here};
-ghost use Rattle.jp_eval.specs.Operands.{operand_value, HasWholeNumbers};
 ghost use Rattle.jp_eval.specs.Part.{part_value};
 
-use crate::compare::Operand;
-use crate::different::{Different, Located, each_once, locate};
+use crate::answers::Answer;
+use crate::different::{Located, each_once, locate, none_located};
 use crate::part::Part;
 use crate::visit::Visit;
+use jp_check::ready::Want;
 use jp_trail::Trail;
 use std::alloc::{AllocError, Global};
 
@@ -41,19 +41,6 @@ pub(crate) enum Alone<'v> {
     One(Part<'v>),
     /// There are several.
     Several,
-}
-
-/// What a filter wanted of the nodes of a `$` query.
-#[derive(Clone, Copy)]
-pub(crate) enum Answer<'v> {
-    /// The value of the first.
-    First(Option<Part<'v>>),
-    /// How many there are.
-    Count(u64),
-    /// The value, if there is one alone.
-    Only(Alone<'v>),
-    /// The same two, once each location stands there once.
-    Distinct(Different<'v>),
 }
 
 /// Whether a further node would change nothing.
@@ -167,77 +154,30 @@ pub(crate) fn into_taker<'v, V: Visit + Drop>(found: Found<'v, V>) -> Option<V>
     }
 }
 
-/// The value of the first node, where that is kept.
-pub(crate) fn into_first<'v, V: Visit + Drop>(found: Found<'v, V>) -> Option<Part<'v>>
-    ensures { option_map part_value result ≡ kept_first (kept V.kept found.entry) }
+/// Nothing found yet, where this is wanted of the nodes. It takes no memory.
+pub(crate) fn none_found<'v, V: Visit + Drop>(alloc: Global, want: Want) -> Found<'v, V>
+    ensures { kept V.kept result ≡ none_kept want }
 {
-    match found {
-        Found::First(first) => first,
-        Found::Taker(_) => None,
-        Found::Count(_) => None,
-        Found::Only(_) => None,
-        Found::Distinct(_) => None,
+    match want {
+        Want::First => Found::First(None),
+        Want::Count => Found::Count(0),
+        Want::Only => Found::Only(Alone::None),
+        Want::Distinct => Found::Distinct(none_located(alloc)),
     }
 }
 
-/// How many nodes there are, where that is kept.
-pub(crate) fn count_of<V: Visit + Drop>(found: &Found<'_, V>) -> u64
-    ensures { result ≡ kept_count (kept V.kept found.now) }
-{
-    match found {
-        Found::Count(count) => *count,
-        Found::Taker(_) => 0,
-        Found::First(_) => 0,
-        Found::Only(_) => 0,
-        Found::Distinct(_) => 0,
-    }
-}
-
-/// What is kept of the values as far as it matters whether there is exactly one, where that is kept.
-pub(crate) fn into_alone<'v, V: Visit + Drop>(found: Found<'v, V>) -> Alone<'v>
-    ensures { alone_value (alone_of result) ≡ kept_only (kept V.kept found.entry) }
-{
-    match found {
-        Found::Only(alone) => alone,
-        Found::Taker(_) => Alone::None,
-        Found::First(_) => Alone::None,
-        Found::Count(_) => Alone::None,
-        Found::Distinct(_) => Alone::None,
-    }
-}
-
-/// What there is of the nodes once each location stands there once. Where that is not kept, it is refused.
-pub(crate) fn into_different<'v, V: Visit + Drop>(
+/// What is told of the nodes that were found. Where the caller's taker has them, it is refused.
+pub(crate) fn into_answer<'v, V: Visit + Drop>(
     found: Found<'v, V>,
-) -> Result<Different<'v>, AllocError>
-    ensures { IfOk result (λ d. (ns : List Node) → kept V.kept found.entry
-        ≡ located_at (first_value ns) (map (λ n. n.location) ns) → IsDifferent d ns) }
+) -> Result<Answer<'v>, AllocError>
+    ensures { IfOk result (λ a. (want : Want) (ns : List Node) → kept V.kept found.entry
+        ≡ plus (put_found V.put) (none_kept want) ns → tells want ns a ≡ true) }
 {
     match found {
-        Found::Distinct(located) => Ok(each_once(located)),
+        Found::First(first) => Ok(Answer::First(first)),
+        Found::Count(count) => Ok(Answer::Count(count)),
+        Found::Only(alone) => Ok(Answer::Only(alone)),
+        Found::Distinct(located) => Ok(Answer::Distinct(each_once(located))),
         Found::Taker(_) => Err(AllocError),
-        Found::First(_) => Err(AllocError),
-        Found::Count(_) => Err(AllocError),
-        Found::Only(_) => Err(AllocError),
-    }
-}
-
-/// The number.
-pub(crate) fn count_operand<'v>(count: u64) -> Operand<'v>
-    ensures value { operand_value result ≡ Some (number_value count) }
-    ensures whole { HasWholeNumbers result }
-{
-    Operand::Whole(count as i128)
-}
-
-/// The value that is alone, or nothing.
-pub(crate) fn only_operand(alone: Alone<'_>) -> Operand<'_>
-    ensures value { operand_value result ≡ alone_value (alone_of alone.entry) }
-    ensures whole { HasWholeNumbers result }
-{
-    match alone {
-        Alone::One(part) => Operand::Lent(part.value),
-        Alone::None => Operand::Nothing,
-        Alone::Several => Operand::Nothing,
     }
 }

@@ -10,11 +10,9 @@ ghost use Rattle.jp_eval.specs.Functions as spec;
 ghost use Rattle.jp_eval.specs.Texts.{text_in};
 ghost use Rattle.jp_eval.specs.Nodelist.{literal_value};
 ghost use Rattle.jp_eval.specs.Operands.{operand_value, HasWholeNumbers};
-ghost use Rattle.jp_eval.specs.Part.{part_value};
 ghost use Rattle.jp_eval.specs.RightTests.{tests};
 
 use crate::compare::{Operand, plain};
-use crate::part::Part;
 use jp_check::ready::{Constant, KnownPattern};
 use jp_regexp::Pattern;
 use serde_json::Value;
@@ -30,17 +28,6 @@ pub(crate) fn literal(constant: &Constant) -> Operand<'_>
         Constant::Text(text) => Operand::Text(text.as_str()),
         Constant::Truth(truth) => Operand::Truth(*truth),
         Constant::Null => Operand::Null,
-    }
-}
-
-/// The value that was found, or nothing.
-pub(crate) fn operand(found: Option<Part<'_>>) -> Operand<'_>
-    ensures value { operand_value result ≡ option_map part_value found.entry }
-    ensures whole { HasWholeNumbers result }
-{
-    match found {
-        Some(part) => Operand::Lent(part.value),
-        None => Operand::Nothing,
     }
 }
 

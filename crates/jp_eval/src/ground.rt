@@ -5,10 +5,9 @@ ghost use Rattle.jp_check.specs.Ready.{roots_of};
 ghost use Rattle.jp_eval.specs.Answers.{are_answers};
 ghost use Rattle.jp_eval.specs.Part.{part_value};
 
-use crate::different::Different;
-use crate::found::{Alone, Answer};
+use crate::answers::{Answer, is_told, of_one};
 use crate::part::Part;
-use jp_check::ready::RootQuery;
+use jp_check::ready::{RootQuery, Want};
 use std::alloc::{AllocError, Global};
 
 /// What a walk is given throughout: the document, and what the filters wanted of the `$` queries inside them,
@@ -24,14 +23,10 @@ pub(crate) struct Ground<'v> {
 }
 
 impl<'v> Ground<'v> {
-    ghost use Rattle.std.specs.Prelude.{◌++◌, ◌∷◌, [], length, get_or, option_map, IfOk, MatchOption};
-    ghost use Rattle.jp_check.specs.declared.ready.Want.TheVariants.{First, Count, Only, Distinct};
-    ghost use Rattle.jp_check.specs.Ready.{Wanted, root_at, wanted_in};
+    ghost use Rattle.std.specs.Prelude.{◌++◌, ◌∷◌, [], IfOk};
+    ghost use Rattle.jp_check.specs.Ready.{root_at, wanted_in};
     ghost use Rattle.jp_doc.specs.Location.{Node};
-    ghost use Rattle.jp_eval.specs.Answers.{is_answer};
-    ghost use Rattle.jp_eval.specs.Different.{IsDifferent};
-    ghost use Rattle.jp_eval.specs.Functions.{first_value, only_value};
-    ghost use Rattle.jp_eval.specs.Kept.{alone_of, alone_value};
+    ghost use Rattle.jp_eval.specs.Answers.{is_answer, tells};
     ghost use Rattle.jp_eval.specs.Nodelist.{nodelist};
     ghost use Rattle.jp_eval.specs.RightTests.{tests};
 
@@ -76,77 +71,18 @@ impl<'v> Ground<'v> {
         })
     }
 
-    /// What is kept of the `$` query of a slot, if there is one.
-    fn answer(&self, slot: usize) -> Option<Answer<'v>>
-        ensures { (d : Wanted) → MatchOption result (get_or (roots_of self.now.roots.now) slot d ≡ d)
-            (λ a. is_answer (part_value self.now.root) (get_or (roots_of self.now.roots.now) slot d) a
-            ≡ true) }
+    /// What is told of the `$` query of a slot, or of `$` where there is none of which this is wanted.
+    pub(crate) fn answer(&self, slot: usize, want: Want) -> Answer<'v>
+        ensures { (n : Node) → tells want (nodelist tests (part_value self.now.root)
+            (root_at (roots_of self.now.roots.now) slot want) n) result ≡ true }
     {
-        match self.answers.get(slot) {
-            Some(answer) => Some(*answer),
-            None => None,
-        }
-    }
-
-    /// The value of the first node of the `$` query of a slot, or of `$` where there is none.
-    pub(crate) fn first(&self, slot: usize) -> Option<Part<'v>>
-        ensures { (n : Node) → option_map part_value result ≡ first_value
-            (nodelist tests (part_value self.now.root) (root_at (roots_of self.now.roots.now) slot First) n) }
-    {
-        match self.answer(slot) {
-            Some(Answer::First(first)) => first,
-            Some(Answer::Count(_)) => Some(self.root),
-            Some(Answer::Only(_)) => Some(self.root),
-            Some(Answer::Distinct(_)) => Some(self.root),
-            None => Some(self.root),
-        }
-    }
-
-    /// How many nodes the `$` query of a slot has, or `$` where there is none.
-    pub(crate) fn count(&self, slot: usize) -> u64
-        ensures { (n : Node) → result ≡ length
-            (nodelist tests (part_value self.now.root) (root_at (roots_of self.now.roots.now) slot Count) n) }
-    {
-        match self.answer(slot) {
-            Some(Answer::Count(count)) => count,
-            Some(Answer::First(_)) => 1,
-            Some(Answer::Only(_)) => 1,
-            Some(Answer::Distinct(_)) => 1,
-            None => 1,
-        }
-    }
-
-    /// The value of the only node of the `$` query of a slot, or of `$` where there is none.
-    pub(crate) fn only(&self, slot: usize) -> Alone<'v>
-        ensures { (n : Node) → alone_value (alone_of result) ≡ only_value
-            (nodelist tests (part_value self.now.root) (root_at (roots_of self.now.roots.now) slot Only) n) }
-    {
-        match self.answer(slot) {
-            Some(Answer::Only(alone)) => alone,
-            Some(Answer::First(_)) => Alone::One(self.root),
-            Some(Answer::Count(_)) => Alone::One(self.root),
-            Some(Answer::Distinct(_)) => Alone::One(self.root),
-            None => Alone::One(self.root),
-        }
-    }
-
-    /// What there is of the nodes of the `$` query of a slot, or of `$` where there is none, once each
-    /// location stands there once.
-    pub(crate) fn different(&self, slot: usize) -> Different<'v>
-        ensures { (n : Node) → IsDifferent result
-            (nodelist tests (part_value self.now.root)
-            (root_at (roots_of self.now.roots.now) slot Distinct) n) }
-    {
-        let root = Different {
-            count: 1,
-            alone: Alone::One(self.root),
+        let Some(answer) = self.answers.get(slot) else {
+            return of_one(want, self.root);
         };
-        match self.answer(slot) {
-            Some(Answer::Distinct(different)) => different,
-            Some(Answer::First(_)) => root,
-            Some(Answer::Count(_)) => root,
-            Some(Answer::Only(_)) => root,
-            None => root,
+        if is_told(want, *answer) {
+            *answer
+        } else {
+            of_one(want, self.root)
         }
     }
 }

@@ -1,6 +1,7 @@
 //! What a query selects in a document (RFC 9535): nodes, selection, comparison, functions.
 #![tactic(auto)]
 
+mod answers;
 mod children;
 mod compare;
 mod different;

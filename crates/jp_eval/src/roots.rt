@@ -5,13 +5,13 @@ ghost use Rattle.jp_check.specs.Ready.{roots_of, wanted_in};
 ghost use Rattle.jp_eval.specs.Answers.{is_answer};
 ghost use Rattle.jp_eval.specs.Part.{part_value};
 
-use crate::different::none_located;
-use crate::found::{Alone, Answer, Found, count_of, into_alone, into_different, into_first};
+use crate::answers::Answer;
+use crate::found::{into_answer, none_found};
 use crate::ground::Ground;
 use crate::part::Part;
 use crate::visit::Visit;
 use crate::walk::run;
-use jp_check::ready::{RootQuery, Want};
+use jp_check::ready::RootQuery;
 use jp_trail::Trail;
 use std::alloc::{AllocError, Global};
 
@@ -40,28 +40,8 @@ fn answer<'v, V: Visit + Drop>(
     ensures { IfOk result (λ a. is_answer (part_value ground.now.root)
         (wanted_in (roots_of ground.now.roots.now) query.now) a ≡ true) }
 {
-    let segments = query.segments.as_slice();
     let mut path = Trail::new(ground.alloc);
-    match query.want {
-        Want::First => {
-            let mut found = Found::<'v, V>::First(None);
-            run(ground, segments, ground.root, &mut path, &mut found)?;
-            Ok(Answer::First(into_first(found)))
-        }
-        Want::Count => {
-            let mut found = Found::<'v, V>::Count(0);
-            run(ground, segments, ground.root, &mut path, &mut found)?;
-            Ok(Answer::Count(count_of(&found)))
-        }
-        Want::Only => {
-            let mut found = Found::<'v, V>::Only(Alone::None);
-            run(ground, segments, ground.root, &mut path, &mut found)?;
-            Ok(Answer::Only(into_alone(found)))
-        }
-        Want::Distinct => {
-            let mut found = Found::<'v, V>::Distinct(none_located(ground.alloc));
-            run(ground, segments, ground.root, &mut path, &mut found)?;
-            Ok(Answer::Distinct(into_different(found)?))
-        }
-    }
+    let mut found = none_found::<'v, V>(ground.alloc, query.want);
+    run(ground, query.segments.as_slice(), ground.root, &mut path, &mut found)?;
+    into_answer(found)
 }

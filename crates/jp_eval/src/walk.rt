@@ -1,18 +1,15 @@
 //! The walk of a query through a document, depth first, on one path.
 
-ghost use Rattle.std.specs.Prelude.{◌≡◌, ◌≤◌, [], ◌∷◌, length, option_map, option_to_list, IfOk, OnOk};
-ghost use Rattle.std.specs.Prelude.{IsTrue};
+ghost use Rattle.std.specs.Prelude.{◌≡◌, ◌≤◌, [], ◌∷◌, length, option_to_list, IfOk, OnOk, IsTrue, true};
 ghost use Rattle.std.specs.List.{All, flat_map, list_any, list_all};
 ghost use Rattle.serde_json.specs.View.{items_view, members_view};
-ghost use Rattle.jp_check.specs.declared.ready.Want.TheVariants.{First, Count, Only, Distinct};
 ghost use Rattle.jp_doc.specs.DocumentValue.{IsDocumentValue};
 ghost use Rattle.jp_doc.specs.Json.{items_of, members_of};
 ghost use Rattle.jp_doc.specs.Location.{Location, node};
+ghost use Rattle.jp_eval.specs.Answers.{tells};
 ghost use Rattle.jp_eval.specs.Base.{Base, base_of};
 ghost use Rattle.jp_eval.specs.BoundsView.{bounds_value};
-ghost use Rattle.jp_eval.specs.Different.{IsDifferent};
-ghost use Rattle.jp_eval.specs.Functions.{first_value, only_value};
-ghost use Rattle.jp_eval.specs.Kept.{kept, put_found, plus, alone_of, alone_value};
+ghost use Rattle.jp_eval.specs.Kept.{kept, put_found, plus};
 ghost use Rattle.jp_eval.specs.Links.{here};
 ghost use Rattle.jp_trail.specs.Links.{link_steps};
 ghost use Rattle.jp_eval.specs.Nodelist as spec;
@@ -23,21 +20,18 @@ ghost use Rattle.jp_eval.specs.Places.{AreWithin, item_count};
 ghost use Rattle.jp_eval.specs.Slice.{slice_indexes};
 ghost use Rattle.jp_eval.specs.Walk.{picked, picked_by, reached, is_true, value_given, nodes_given, done};
 
+use crate::answers::{Answer, has_first, inner_want, of_distinct, operand};
 use crate::compare::{Operand, compare};
-use crate::different::{Different, none_located};
-use crate::found::{
-    Alone, Found, add, count_of, count_operand, into_alone, into_different, into_first, is_full,
-    only_operand,
-};
+use crate::found::{Found, add, into_answer, is_full, none_found};
 use crate::functions::{
-    exactly_one, length, literal, matches, matches_known, operand, searches, searches_known,
+    exactly_one, length, literal, matches, matches_known, searches, searches_known,
 };
 use crate::ground::Ground;
 use crate::numbers::place;
 use crate::part::{Inside, Part};
 use crate::slice::{Bounds, bounds_of, first_place, place_after};
 use crate::visit::Visit;
-use jp_check::ready::{Logical, Nodes, Segment, Selector, Value as Giver};
+use jp_check::ready::{Logical, Nodes, Segment, Selector, Value as Giver, Want};
 use jp_trail::{Link, Trail};
 use serde_json::{Map, Value};
 use std::alloc::AllocError;
@@ -357,7 +351,10 @@ pub(crate) fn holds<'v, V: Visit + Drop>(
             let right = give::<V>(ground, right, value, path)?;
             Ok(compare(*operator, left, right))
         }
-        Logical::Test(nodes) => Ok(first::<V>(ground, nodes, value, path)?.is_some()),
+        Logical::Test(nodes) => {
+            let answer = ask::<V>(ground, Want::First, nodes, value, path)?;
+            Ok(has_first(answer))
+        }
         Logical::Match(text, pattern) => {
             let text = give::<V>(ground, text, value, path)?;
             let pattern = give::<V>(ground, pattern, value, path)?;
@@ -437,101 +434,36 @@ fn give<'v, V: Visit + Drop>(
 {
     match giver {
         Giver::Constant(constant) => Ok(literal(constant)),
-        Giver::Single(nodes) => Ok(operand(first::<V>(ground, nodes, value, path)?)),
+        Giver::Single(nodes) => Ok(operand(ask::<V>(ground, Want::First, nodes, value, path)?)),
         Giver::Length(of) => Ok(length(give::<V>(ground, of, value, path)?)),
-        Giver::Count(nodes) => Ok(count_operand(count::<V>(ground, nodes, value, path)?)),
-        Giver::Only(nodes) => Ok(only_operand(only::<V>(ground, nodes, value, path)?)),
+        Giver::Count(nodes) => Ok(operand(ask::<V>(ground, Want::Count, nodes, value, path)?)),
+        Giver::Only(nodes) => Ok(operand(ask::<V>(ground, Want::Only, nodes, value, path)?)),
     }
 }
 
-/// The value of the first node of a query.
+/// What is wanted of the nodes of a query.
 #[cycle(walk)]
-fn first<'v, V: Visit + Drop>(
+fn ask<'v, V: Visit + Drop>(
     ground: &Ground<'v>,
+    want: Want,
     nodes: &'v Nodes,
     value: Part<'v>,
     path: &mut Trail<'v>,
-) -> Result<Option<Part<'v>>, AllocError>
-    ensures value { IfOk result (λ o. option_map part_value o
-        ≡ first_value (nodes_given (base_of ground.now) nodes.now First (here path.old value.entry))) }
+) -> Result<Answer<'v>, AllocError>
+    ensures answer { IfOk result (λ a. tells want
+        (nodes_given (base_of ground.now) nodes.now want (here path.old value.entry)) a ≡ true) }
     ensures path { OnOk result (path.new ≡ path.old) }
 {
     match nodes {
         Nodes::Here(segments) => {
-            let mut found = Found::<'v, V>::First(None);
+            let mut found = none_found::<'v, V>(ground.alloc, want);
             run(ground, segments.as_slice(), value, path, &mut found)?;
-            Ok(into_first(found))
+            into_answer(found)
         }
-        Nodes::Root(slot) => Ok(ground.first(*slot)),
-        Nodes::Distinct(nodes) => first::<V>(ground, nodes, value, path),
-    }
-}
-
-/// How many nodes a query has.
-#[cycle(walk)]
-fn count<'v, V: Visit + Drop>(
-    ground: &Ground<'v>,
-    nodes: &'v Nodes,
-    value: Part<'v>,
-    path: &mut Trail<'v>,
-) -> Result<u64, AllocError>
-    ensures value { IfOk result (λ k. k
-        ≡ length (nodes_given (base_of ground.now) nodes.now Count (here path.old value.entry))) }
-    ensures path { OnOk result (path.new ≡ path.old) }
-{
-    match nodes {
-        Nodes::Here(segments) => {
-            let mut found = Found::<'v, V>::Count(0);
-            run(ground, segments.as_slice(), value, path, &mut found)?;
-            Ok(count_of(&found))
+        Nodes::Root(slot) => Ok(ground.answer(*slot, want)),
+        Nodes::Distinct(nodes) => {
+            let answer = ask::<V>(ground, inner_want(want), nodes, value, path)?;
+            Ok(of_distinct(want, answer))
         }
-        Nodes::Root(slot) => Ok(ground.count(*slot)),
-        Nodes::Distinct(nodes) => Ok(different::<V>(ground, nodes, value, path)?.count),
-    }
-}
-
-/// The value of the node of a query, as long as there is one alone.
-#[cycle(walk)]
-fn only<'v, V: Visit + Drop>(
-    ground: &Ground<'v>,
-    nodes: &'v Nodes,
-    value: Part<'v>,
-    path: &mut Trail<'v>,
-) -> Result<Alone<'v>, AllocError>
-    ensures value { IfOk result (λ a. alone_value (alone_of a)
-        ≡ only_value (nodes_given (base_of ground.now) nodes.now Only (here path.old value.entry))) }
-    ensures path { OnOk result (path.new ≡ path.old) }
-{
-    match nodes {
-        Nodes::Here(segments) => {
-            let mut found = Found::<'v, V>::Only(Alone::None);
-            run(ground, segments.as_slice(), value, path, &mut found)?;
-            Ok(into_alone(found))
-        }
-        Nodes::Root(slot) => Ok(ground.only(*slot)),
-        Nodes::Distinct(nodes) => Ok(different::<V>(ground, nodes, value, path)?.alone),
-    }
-}
-
-/// What there is of the nodes of a query once each location stands there once.
-#[cycle(walk)]
-fn different<'v, V: Visit + Drop>(
-    ground: &Ground<'v>,
-    nodes: &'v Nodes,
-    value: Part<'v>,
-    path: &mut Trail<'v>,
-) -> Result<Different<'v>, AllocError>
-    ensures value { IfOk result (λ d. IsDifferent d
-        (nodes_given (base_of ground.now) nodes.now Distinct (here path.old value.entry))) }
-    ensures path { OnOk result (path.new ≡ path.old) }
-{
-    match nodes {
-        Nodes::Here(segments) => {
-            let mut found = Found::<'v, V>::Distinct(none_located(ground.alloc));
-            run(ground, segments.as_slice(), value, path, &mut found)?;
-            into_different(found)
-        }
-        Nodes::Root(slot) => Ok(ground.different(*slot)),
-        Nodes::Distinct(nodes) => different::<V>(ground, nodes, value, path),
     }
 }

@@ -15,8 +15,9 @@ use Rattle.jp_doc.specs.Json.{items_of, value_of, text}
 use Rattle.jp_doc.specs.Location.{node, name, member_of}
 use Rattle.jp_check.specs.Numbers.{whole_number}
 use Rattle.jp_syntax.specs.View.{text_of}
-use Rattle.jp_check.specs.Ready.{position_text}
+use Rattle.jp_check.specs.Ready.{position_text, wanted_inside}
 use Rattle.jp_check.specs.declared.ready.Want.TheVariants as want
+use Rattle.jp_eval.specs.Answers.{tells}
 use Rattle.jp_eval.specs.Base.{base_of}
 use Rattle.jp_eval.specs.BoundsView.{bounds_value}
 use Rattle.jp_eval.specs.Comparison.{compared}
@@ -24,7 +25,7 @@ use Rattle.jp_eval.specs.Functions.{tested, number_value, first_value, only_valu
 use Rattle.jp_eval.specs.Different.{IsDifferent}
 use Rattle.jp_eval.specs.Functions.{exactly_one, distinct}
 use Rattle.jp_eval.specs.Nodelist.{items_at, written_value}
-use Rattle.jp_eval.specs.Kept.{kept, put_found, plus, kept_first, kept_count, kept_only, located}
+use Rattle.jp_eval.specs.Kept.{kept, put_found, plus}
 use Rattle.jp_eval.specs.Links.{here}
 use Rattle.jp_trail.specs.Links.{link_steps}
 use Rattle.jp_eval.specs.Nodes.{children, descendants, item_nodes, node_if_some}
@@ -36,8 +37,6 @@ use Rattle.jp_eval.proofs.Chains.{reached-none, reached-end, reached-each, reach
 use Rattle.jp_eval.proofs.Chains.{reached-deep}
 use Rattle.jp_eval.proofs.Inside.{part_is_short}
 use Rattle.jp_eval.proofs.Keeping.{plus-one, nothing_found, full_enough}
-use Rattle.jp_eval.proofs.Differing.{first_of_distinct, differs_again}
-use Rattle.jp_eval.proofs.Parts.{first_kept, counted, only_kept, some_mapped, located_kept}
 use Rattle.jp_eval.proofs.ReadyParts.{picked_name, picked_wild, picked_index, picked_slice, picked_filter}
 use Rattle.jp_eval.proofs.ReadyParts.{true_any, true_all, true_not, true_compare, true_test, true_match}
 use Rattle.jp_eval.proofs.ReadyParts.{true_search, true_match_known, true_search_known, given_constant}
@@ -290,14 +289,6 @@ holds-returns-in_ok-holds-in-Not-clause-truth g t c =
     (ap (λ l. is_true (base_of c.args.ground.now) l (here c.args.path.now c.args.value)) c.in-Not.is
     ∙ true_not (base_of c.args.ground.now) (here c.args.path.now c.args.value) c.in-Not.part)
 
-pub holds-returns-in_ok-first-in-Test-clause-truth : goal.holds-returns-in_ok-first-in-Test-clause-truth
-holds-returns-in_ok-first-in-Test-clause-truth g t c =
-    c.is_some.ensures ∙ sym (some_mapped part_value c.in_ok-first-in-Test.field-0)
-    ∙ ap is_some c.in_ok-first-in-Test.ensures.value
-    ∙ sym (ap (λ l. is_true (base_of c.args.ground.now) l (here c.args.path.now c.args.value))
-    c.in-Test.is ∙ true_test (base_of c.args.ground.now) (here c.args.path.now c.args.value)
-    c.in-Test.nodes)
-
 pub run-returns-in-None-clause-found : goal.run-returns-in-None-clause-found
 run-returns-in-None-clause-found g t c =
     on_ok_weaker c.add.result (λ e. e
@@ -515,14 +506,6 @@ pub each_place-place_after-next-requires-clause-bounds
 each_place-place_after-next-requires-clause-bounds g t c = within_more _ _ _ (part_is_short c.args.value)
     c.requires
 
-pub first-returns-in_ok-run-in-Here-clause-value : goal.first-returns-in_ok-run-in-Here-clause-value
-first-returns-in_ok-run-in-Here-clause-value g t c =
-    c.into_first.ensures ∙ ap kept_first c.in_ok-run-in-Here.ensures.found ∙ first_kept g.V.Visit.put _
-    ∙ ap first_value (nodes_here (base_of c.args.ground.now) (here c.args.path.now c.args.value)
-    c.in-Here.segments c.as_slice.result.now want.First c.as_slice.ensures.value
-    ∙ sym (ap (λ q. nodes_given (base_of c.args.ground.now) q want.First
-    (here c.args.path.now c.args.value)) c.in-Here.is))
-
 pub holds-returns-in_ok-pattern-in-Match-clause-truth
     : goal.holds-returns-in_ok-pattern-in-Match-clause-truth
 holds-returns-in_ok-pattern-in-Match-clause-truth g t c =
@@ -591,20 +574,6 @@ give-returns-in-Constant-clause-value g t c = c.literal.ensures.value
     c.in-Constant.is ∙ given_constant (base_of c.args.ground.now) (here c.args.path.now c.args.value)
     c.in-Constant.constant)
 
-pub give-returns-in_ok-count-in-Count-clause-value : goal.give-returns-in_ok-count-in-Count-clause-value
-give-returns-in_ok-count-in-Count-clause-value g t c = c.count_operand.ensures.value
-    ∙ ap (λ k. Some (number_value k)) c.in_ok-count-in-Count.ensures.value
-    ∙ sym (ap (λ v. value_given (base_of c.args.ground.now) v (here c.args.path.now c.args.value))
-    c.in-Count.is ∙ given_count (base_of c.args.ground.now) (here c.args.path.now c.args.value)
-    c.in-Count.nodes)
-
-pub give-returns-in_ok-first-in-Single-clause-value : goal.give-returns-in_ok-first-in-Single-clause-value
-give-returns-in_ok-first-in-Single-clause-value g t c = c.operand.ensures.value
-    ∙ c.in_ok-first-in-Single.ensures.value
-    ∙ sym (ap (λ v. value_given (base_of c.args.ground.now) v (here c.args.path.now c.args.value))
-    c.in-Single.is ∙ given_single (base_of c.args.ground.now) (here c.args.path.now c.args.value)
-    c.in-Single.nodes)
-
 pub give-returns-in_ok-give-in-Length-clause-value : goal.give-returns-in_ok-give-in-Length-clause-value
 give-returns-in_ok-give-in-Length-clause-value g t c = c.length.ensures.value
     ∙ ap length_value (c.in_ok-give-in-Length.ensures.value
@@ -614,108 +583,67 @@ give-returns-in_ok-give-in-Length-clause-value g t c = c.length.ensures.value
     c.in-Length.is ∙ given_length (base_of c.args.ground.now) (here c.args.path.now c.args.value)
     c.in-Length.of)
 
-pub give-returns-in_ok-only-in-Only-clause-value : goal.give-returns-in_ok-only-in-Only-clause-value
-give-returns-in_ok-only-in-Only-clause-value g t c = c.only_operand.ensures.value
-    ∙ c.in_ok-only-in-Only.ensures.value
-    ∙ sym (ap (λ v. value_given (base_of c.args.ground.now) v (here c.args.path.now c.args.value))
-    c.in-Only.is ∙ given_only (base_of c.args.ground.now) (here c.args.path.now c.args.value)
-    c.in-Only.nodes)
-
-pub first-returns-in-Root-clause-value : goal.first-returns-in-Root-clause-value
-first-returns-in-Root-clause-value g t c =
-    c.first.ensures (here c.args.path.now c.args.value)
-    ∙ ap first_value (nodes_root (base_of c.args.ground.now) (here c.args.path.now c.args.value)
-    c.in-Root.slot want.First
-    ∙ sym (ap (λ q. nodes_given (base_of c.args.ground.now) q want.First
-    (here c.args.path.now c.args.value)) c.in-Root.is))
-
-pub count-returns-in-Root-clause-value : goal.count-returns-in-Root-clause-value
-count-returns-in-Root-clause-value g t c =
-    c.count.ensures (here c.args.path.now c.args.value)
-    ∙ ap length (nodes_root (base_of c.args.ground.now) (here c.args.path.now c.args.value)
-    c.in-Root.slot want.Count
-    ∙ sym (ap (λ q. nodes_given (base_of c.args.ground.now) q want.Count
-    (here c.args.path.now c.args.value)) c.in-Root.is))
-
-pub count-returns-in_ok-run-in-Here-clause-value : goal.count-returns-in_ok-run-in-Here-clause-value
-count-returns-in_ok-run-in-Here-clause-value g t c =
-    c.count_of.ensures ∙ ap kept_count c.in_ok-run-in-Here.ensures.found ∙ counted g.V.Visit.put _
-    ∙ ap length (nodes_here (base_of c.args.ground.now) (here c.args.path.now c.args.value)
-    c.in-Here.segments c.as_slice.result.now want.Count c.as_slice.ensures.value
-    ∙ sym (ap (λ q. nodes_given (base_of c.args.ground.now) q want.Count
-    (here c.args.path.now c.args.value)) c.in-Here.is))
-
-pub only-returns-in-Root-clause-value : goal.only-returns-in-Root-clause-value
-only-returns-in-Root-clause-value g t c =
-    c.only.ensures (here c.args.path.now c.args.value)
-    ∙ ap only_value (nodes_root (base_of c.args.ground.now) (here c.args.path.now c.args.value)
-    c.in-Root.slot want.Only
-    ∙ sym (ap (λ q. nodes_given (base_of c.args.ground.now) q want.Only
-    (here c.args.path.now c.args.value)) c.in-Root.is))
-
-pub only-returns-in_ok-run-in-Here-clause-value : goal.only-returns-in_ok-run-in-Here-clause-value
-only-returns-in_ok-run-in-Here-clause-value g t c =
-    c.into_alone.ensures ∙ ap kept_only c.in_ok-run-in-Here.ensures.found ∙ only_kept g.V.Visit.put _
-    ∙ ap only_value (nodes_here (base_of c.args.ground.now) (here c.args.path.now c.args.value)
-    c.in-Here.segments c.as_slice.result.now want.Only c.as_slice.ensures.value
-    ∙ sym (ap (λ q. nodes_given (base_of c.args.ground.now) q want.Only
-    (here c.args.path.now c.args.value)) c.in-Here.is))
-
-pub different-returns-in_ok-run-in-Here-clause-value
-    : goal.different-returns-in_ok-run-in-Here-clause-value
-different-returns-in_ok-run-in-Here-clause-value g t c =
-    let n = here c.args.path.now c.args.value in
-    let nodes = nodes_here (base_of c.args.ground.now) n c.in-Here.segments c.as_slice.result.now
-    want.Distinct c.as_slice.ensures.value
-    ∙ sym (ap (λ q. nodes_given (base_of c.args.ground.now) q want.Distinct n) c.in-Here.is) in
-    IfOk-weaker c.into_different.result _ _ (λ d h. h _ (c.in_ok-run-in-Here.ensures.found
-    ∙ located_kept g.V.Visit.put _ _ _ c.none_located.ensures.first c.none_located.ensures.locations
-    ∙ ap (λ ns. located (first_value ns) (map (λ m. m.location) ns)) nodes)) c.into_different.ensures
-
-pub different-returns-in-Root-clause-value : goal.different-returns-in-Root-clause-value
-different-returns-in-Root-clause-value g t c =
-    let n = here c.args.path.now c.args.value in
-    subst (IsDifferent c.different.result) (nodes_root (base_of c.args.ground.now) n c.in-Root.slot
-    want.Distinct ∙ sym (ap (λ q. nodes_given (base_of c.args.ground.now) q want.Distinct n)
-    c.in-Root.is)) (c.different.ensures n)
-
-pub different-returns-in-Distinct-clause-value : goal.different-returns-in-Distinct-clause-value
-different-returns-in-Distinct-clause-value g t c =
+pub holds-returns-in_ok-answer-in-Test-clause-truth : goal.holds-returns-in_ok-answer-in-Test-clause-truth
+holds-returns-in_ok-answer-in-Test-clause-truth g t c =
     let base = base_of c.args.ground.now in
     let n = here c.args.path.now c.args.value in
-    IfOk-weaker c.different-in-Distinct.result _ _ (λ d h. differs_again d _ _ h
-    (ap (λ q. distinct (nodes_given base q want.Distinct n)) c.deref.ensures
-    ∙ nodes_distinct base n c.in-Distinct.nodes want.Distinct
-    ∙ sym (ap (λ q. nodes_given base q want.Distinct n) c.in-Distinct.is)))
-    c.different-in-Distinct.ensures.value
+    c.has_first.ensures (nodes_given base c.in-Test.nodes want.First n) c.in_ok-answer-in-Test.ensures.answer
+    ∙ sym (ap (λ l. is_true base l n) c.in-Test.is ∙ true_test base n c.in-Test.nodes)
 
-pub first-returns-in-Distinct-clause-value : goal.first-returns-in-Distinct-clause-value
-first-returns-in-Distinct-clause-value g t c =
+pub give-returns-in_ok-ask-in-Single-clause-value : goal.give-returns-in_ok-ask-in-Single-clause-value
+give-returns-in_ok-ask-in-Single-clause-value g t c =
     let base = base_of c.args.ground.now in
     let n = here c.args.path.now c.args.value in
-    IfOk-weaker c.first-in-Distinct.result _ _ (λ o h. h
-    ∙ first_of_distinct (nodes_given base _ want.First n)
-    ∙ ap first_value (ap (λ q. distinct (nodes_given base q want.First n)) c.deref.ensures
-    ∙ nodes_distinct base n c.in-Distinct.nodes want.First
-    ∙ sym (ap (λ q. nodes_given base q want.First n) c.in-Distinct.is)))
-    c.first-in-Distinct.ensures.value
+    c.operand.ensures.first (nodes_given base c.in-Single.nodes want.First n)
+    c.in_ok-ask-in-Single.ensures.answer
+    ∙ sym (ap (λ v. value_given base v n) c.in-Single.is ∙ given_single base n c.in-Single.nodes)
 
-pub count-returns-in_ok-different-in-Distinct-clause-value
-    : goal.count-returns-in_ok-different-in-Distinct-clause-value
-count-returns-in_ok-different-in-Distinct-clause-value g t c =
+pub give-returns-in_ok-ask-in-Count-clause-value : goal.give-returns-in_ok-ask-in-Count-clause-value
+give-returns-in_ok-ask-in-Count-clause-value g t c =
     let base = base_of c.args.ground.now in
     let n = here c.args.path.now c.args.value in
-    c.in_ok-different-in-Distinct.ensures.value.0
-    ∙ ap length (ap (λ q. distinct (nodes_given base q want.Distinct n)) c.deref.ensures
-    ∙ nodes_distinct base n c.in-Distinct.nodes want.Count
-    ∙ sym (ap (λ q. nodes_given base q want.Count n) c.in-Distinct.is))
+    c.operand-in-Count.ensures.count (nodes_given base c.in-Count.nodes want.Count n)
+    c.in_ok-ask-in-Count.ensures.answer
+    ∙ sym (ap (λ v. value_given base v n) c.in-Count.is ∙ given_count base n c.in-Count.nodes)
 
-pub only-returns-in_ok-different-in-Distinct-clause-value
-    : goal.only-returns-in_ok-different-in-Distinct-clause-value
-only-returns-in_ok-different-in-Distinct-clause-value g t c =
+pub give-returns-in_ok-ask-in-Only-clause-value : goal.give-returns-in_ok-ask-in-Only-clause-value
+give-returns-in_ok-ask-in-Only-clause-value g t c =
     let base = base_of c.args.ground.now in
     let n = here c.args.path.now c.args.value in
-    c.in_ok-different-in-Distinct.ensures.value.1
-    ∙ ap only_value (ap (λ q. distinct (nodes_given base q want.Distinct n)) c.deref.ensures
-    ∙ nodes_distinct base n c.in-Distinct.nodes want.Only
-    ∙ sym (ap (λ q. nodes_given base q want.Only n) c.in-Distinct.is))
+    c.operand-in-Only.ensures.only (nodes_given base c.in-Only.nodes want.Only n)
+    c.in_ok-ask-in-Only.ensures.answer
+    ∙ sym (ap (λ v. value_given base v n) c.in-Only.is ∙ given_only base n c.in-Only.nodes)
+
+pub ask-returns-in_ok-run-in-Here-clause-answer : goal.ask-returns-in_ok-run-in-Here-clause-answer
+ask-returns-in_ok-run-in-Here-clause-answer g t c =
+    let base = base_of c.args.ground.now in
+    let n = here c.args.path.now c.args.value in
+    let want = c.args.want in
+    let nodes = nodes_here base n c.in-Here.segments c.as_slice.result.now want c.as_slice.ensures.value
+    ∙ sym (ap (λ q. nodes_given base q want n) c.in-Here.is) in
+    let held = c.in_ok-run-in-Here.ensures.found
+    ∙ ap₂ (plus (put_found g.V.Visit.put)) c.none_found-found.ensures nodes in
+    IfOk-weaker c.into_answer.result _ _ (λ a h. h want (nodes_given base c.args.nodes.now want n) held)
+    c.into_answer.ensures
+
+pub ask-returns-in-Root-clause-answer : goal.ask-returns-in-Root-clause-answer
+ask-returns-in-Root-clause-answer g t c =
+    let base = base_of c.args.ground.now in
+    let n = here c.args.path.now c.args.value in
+    ap (λ ns. tells c.args.want ns c.answer.result)
+    (ap (λ q. nodes_given base q c.args.want n) c.in-Root.is
+    ∙ sym (nodes_root base n c.in-Root.slot c.args.want)) ∙ c.answer.ensures n
+
+pub ask-returns-in_ok-answer-in-Distinct-clause-answer
+    : goal.ask-returns-in_ok-answer-in-Distinct-clause-answer
+ask-returns-in_ok-answer-in-Distinct-clause-answer g t c =
+    let base = base_of c.args.ground.now in
+    let n = here c.args.path.now c.args.value in
+    let want = c.args.want in
+    let a = c.in_ok-answer-in-Distinct.answer in
+    let nodes = c.in-Distinct.nodes in
+    let inner = ap₂ (λ w q. tells w (nodes_given base q w n) a) (sym c.inner_want.ensures)
+    (sym c.deref.ensures) ∙ c.in_ok-answer-in-Distinct.ensures.answer in
+    ap (λ ns. tells want ns c.of_distinct.result)
+    (ap (λ q. nodes_given base q want n) c.in-Distinct.is ∙ sym (nodes_distinct base n nodes want))
+    ∙ c.of_distinct.ensures (nodes_given base nodes.value (wanted_inside want) n) inner

@@ -69,17 +69,8 @@ abbrev pub decreases-each_member : goal.decreases-each_member
 decreases-each_member g l = 2000 * task_size l.task + 8 * members_depth
     (members_view l.members.now.entries) + 9
 
-abbrev pub decreases-first : goal.decreases-first
-decreases-first g l = weight (size-Nodes l.nodes.now) l.value 7
-
-abbrev pub decreases-count : goal.decreases-count
-decreases-count g l = weight (size-Nodes l.nodes.now) l.value 7
-
-abbrev pub decreases-only : goal.decreases-only
-decreases-only g l = weight (size-Nodes l.nodes.now) l.value 7
-
-abbrev pub decreases-different : goal.decreases-different
-decreases-different g l = weight (size-Nodes l.nodes.now) l.value 7
+abbrev pub decreases-ask : goal.decreases-ask
+decreases-ask g l = weight (size-Nodes l.nodes.now) l.value 7
 
 abbrev pub decreases-give : goal.decreases-give
 decreases-give g l = weight (size-Value l.giver.now) l.value 7
