@@ -17,7 +17,6 @@ use Rattle.jp_regexp.proofs.table.Table.TheSendSync as tables
 use Rattle.jp_check.proofs.ready.Constant.TheSendSync as constants
 use Rattle.jp_check.proofs.ready.Position.TheSendSync as positions
 use Rattle.jp_check.proofs.ready.Slice.TheSendSync as slices
-use Rattle.jp_check.proofs.ready.Want.TheSendSync as wants
 use Rattle.jp_check.proofs.ready.Form.TheSendSync as forms
 use Rattle.jp_check.proofs.ready.Logical.TheLaws.TheKnot.{crosses as ready_crosses}
 use Rattle.jp_regexp.proofs.parts.Part.TheLaws.TheKnot.{crosses as pattern_crosses}
@@ -44,7 +43,6 @@ segment_sync = search (
   constants.the_field_sync,
   positions.the_field_sync,
   slices.the_field_sync,
-  wants.the_field_sync,
   forms.the_field_sync,
   crosses,
   pattern_crosses,
@@ -59,7 +57,6 @@ selector_sync = search (
   constants.the_field_sync,
   positions.the_field_sync,
   slices.the_field_sync,
-  wants.the_field_sync,
   forms.the_field_sync,
   crosses,
   pattern_crosses,
@@ -74,7 +71,6 @@ logical_sync = search (
   constants.the_field_sync,
   positions.the_field_sync,
   slices.the_field_sync,
-  wants.the_field_sync,
   forms.the_field_sync,
   crosses,
   pattern_crosses,
@@ -89,7 +85,6 @@ root_sync = search (
   constants.the_field_sync,
   positions.the_field_sync,
   slices.the_field_sync,
-  wants.the_field_sync,
   forms.the_field_sync,
   crosses,
   pattern_crosses,
@@ -120,7 +115,7 @@ different_field : (a : NamedLft) → IsSync (Different.the_field a).row
 different_field a = search (alone_field, crosses, sendable) depth 60 fits 20000
 
 answer_sync : (a : NamedLft) → IsSync (Answer.the_row a)
-answer_sync a = search (part_field, part_sync, alone_field, different_field, crosses, sendable) depth 60 fits
+answer_sync a = search (part_sync, alone_field, different_field, crosses, sendable) depth 60 fits
     20000
 
 pub ground_sync : (a : NamedLft) → IsSync (Ground.the_row a)

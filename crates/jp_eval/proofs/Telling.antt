@@ -1,6 +1,6 @@
 -- What answers tell of nodes.
 use Rattle.std.proofs.Common.{◌≡◌, ℕ, ◌==◌, Bool, true, false, ◌&&◌, List, [], ◌∷◌, map}
-use Rattle.std.proofs.Common.{length, Option, Some, None, option_map, is_some, refl, sym, ap, ap₂, ◌∙◌}
+use Rattle.std.proofs.Common.{length, Option, Some, None, option_map, refl, sym, ap, ap₂, ◌∙◌}
 use Rattle.std.proofs.Common.{arith}
 use borrow.Author.Tests.{eqb-true}
 use Rattle.std.proofs.lemmas.Bool.Decides.{nat_tests}
@@ -13,7 +13,7 @@ use Rattle.jp_eval.specs.Answers.{tells}
 use Rattle.jp_eval.specs.Comparison.{eq}
 use Rattle.jp_eval.specs.Different.{IsDifferent, is_different}
 use Rattle.jp_eval.specs.Functions.{first_value, only_value, distinct}
-use Rattle.jp_eval.specs.Kept.{Kept, Alone, alone_of, alone_value, put_found, plus, none_kept}
+use Rattle.jp_eval.specs.Kept.{Kept, alone_of, alone_value, put_found, plus, none_kept}
 use Rattle.jp_eval.specs.Kept.{taken, first, count, only, located}
 use Rattle.jp_eval.specs.Part.{part_value}
 use Rattle.jp_eval.specs.declared.answers.Answer.TheVariants as answer

@@ -3,7 +3,7 @@
 use jp_check::{Plan, plan};
 use jp_doc::{Document, Location, Step};
 use jp_eval::{Evaluator, evaluate, visit_nodes};
-use jp_path::{NodeLines, path_plan, query_of, write_path};
+use jp_path::{NodeLines, join_chunks, path_plan, query_of, write_path};
 use jp_syntax::{bracket_depth, read_query};
 use std::alloc::{AllocError, Global};
 use std::test::Fail;
@@ -103,6 +103,18 @@ fn a_name_of_escapes(rt: HostRuntime) -> Result<(), Fail> {
     assert_eq!(rt; printed.as_slice(), want.as_bytes());
     let again = lines(alloc, &plan(alloc, "$['it\\'s\\u0000\\t']")?, &document)?;
     assert_eq!(rt; again.as_slice(), printed.as_slice());
+    Ok(())
+}
+
+#[test]
+fn lines_in_chunks(rt: HostRuntime) -> Result<(), Fail> {
+    let alloc = rt.alloc();
+    let document = Document::read(alloc, b"[7]")?;
+    let mut lines = NodeLines::new(alloc);
+    lines.begin(3);
+    let lines = visit_nodes(alloc, &plan(alloc, "$[0,0]")?, &document, lines)?;
+    let bytes = join_chunks(alloc, lines.into_chunks()?)?;
+    assert_eq!(rt; bytes.as_slice(), "3\t$[0]\t7\n3\t$[0]\t7\n".as_bytes());
     Ok(())
 }
 

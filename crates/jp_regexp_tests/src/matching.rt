@@ -1,6 +1,7 @@
 //! Which texts match, and in which a part matches.
 
 use crate::reading::{answers, both, read, repeated};
+use std::alloc::Global;
 use std::test::*;
 
 /// In each line a pattern, whether the text matches, whether a part of it does, and the text.
@@ -194,16 +195,28 @@ fn rows(rt: HostRuntime) -> Result<(), Fail> {
 }
 
 #[test]
-fn long_texts(rt: HostRuntime) -> Result<(), Fail> {
-    let alloc = rt.alloc();
-    let empty = repeated(alloc, "()|", 100_000)?;
-    let pattern = read(alloc, &empty)?;
+fn many_empty_parts(rt: HostRuntime) -> Result<(), Fail> {
+    let pattern = read(rt.alloc(), &repeated(rt.alloc(), "()|", 100_000)?)?;
     assert_eq!(rt; pattern.unrolled_size(), 0);
-    assert!(rt; pattern.matches(alloc, "")?);
-    assert!(rt; !pattern.matches(alloc, "a")?);
-    let long = repeated(alloc, "ab", 200)?;
-    assert!(rt; read(alloc, "((a|b)*)*")?.matches(alloc, &long)?);
-    assert!(rt; read(alloc, "b(ab)+a")?.found_in(alloc, &long)?);
-    assert!(rt; !read(alloc, "b(ab)+b")?.found_in(alloc, &long)?);
+    assert!(rt; pattern.matches(rt.alloc(), "")?);
+    assert!(rt; !pattern.matches(rt.alloc(), "a")?);
+    Ok(())
+}
+
+/// Whether the whole text matches, and whether a part does.
+fn is_matched(alloc: Global, pattern: &str, text: &str) -> Result<(bool, bool), Fail> {
+    let pattern = read(alloc, pattern)?;
+    Ok((
+        pattern.matches(alloc, text)?,
+        pattern.found_in(alloc, text)?,
+    ))
+}
+
+#[test]
+fn long_texts(rt: HostRuntime) -> Result<(), Fail> {
+    let long = repeated(rt.alloc(), "ab", 200)?;
+    assert_eq!(rt; is_matched(rt.alloc(), "((a|b)*)*", &long)?, (true, true));
+    assert_eq!(rt; is_matched(rt.alloc(), "b(ab)+a", &long)?, (false, true));
+    assert_eq!(rt; is_matched(rt.alloc(), "b(ab)+b", &long)?, (false, false));
     Ok(())
 }

@@ -24,27 +24,41 @@ fn few_places(rt: HostRuntime) -> Result<(), Fail> {
     Ok(())
 }
 
+/// A character, and whether the terms accept behind it.
+const STEPS: &[(char, bool)] = &[('a', true), ('b', true), ('b', false), ('a', false)];
+
+/// The same where each place may be a beginning, and how many terms there are.
+const STEPS_ANEW: &[(char, bool, u64)] = &[
+    ('b', false, 1),
+    ('a', true, 3),
+    ('b', true, 2),
+    ('b', false, 1),
+    ('a', true, 3),
+];
+
 #[test]
 fn steps(rt: HostRuntime) -> Result<(), Fail> {
-    let alloc = rt.alloc();
-    let pattern = read(alloc, "a|ab")?;
-    let mut terms = pattern.start(alloc)?;
+    let pattern = read(rt.alloc(), "a|ab")?;
+    let mut terms = pattern.start(rt.alloc())?;
     assert!(rt; !terms.accepts());
-    for (c, accepts) in [('a', true), ('b', true), ('b', false), ('a', false)] {
-        terms.step(c, false)?;
-        assert_eq!(rt; terms.accepts(), accepts, "after {c}");
+    for (c, accepts) in STEPS {
+        terms.step(*c, false)?;
+        assert_eq!(rt; terms.accepts(), *accepts, "after {c}");
     }
-    let mut terms = pattern.start(alloc)?;
-    for (c, accepts, len) in [
-        ('b', false, 1),
-        ('a', true, 3),
-        ('b', true, 2),
-        ('b', false, 1),
-        ('a', true, 3),
-    ] {
-        terms.step(c, true)?;
-        assert_eq!(rt; terms.accepts(), accepts, "anew after {c}");
-        assert_eq!(rt; terms.len(), len, "anew after {c}");
+    Ok(())
+}
+
+#[test]
+fn steps_anew(rt: HostRuntime) -> Result<(), Fail> {
+    let pattern = read(rt.alloc(), "a|ab")?;
+    let mut terms = pattern.start(rt.alloc())?;
+    for (c, accepts, len) in STEPS_ANEW {
+        terms.step(*c, true)?;
+        assert_eq!(rt;
+            (terms.accepts(), terms.len()),
+            (*accepts, *len),
+            "after {c}"
+        );
     }
     Ok(())
 }

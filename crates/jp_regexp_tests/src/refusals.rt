@@ -3,7 +3,7 @@
 //! A turn says whether the answer was right, or nothing where it was want of memory. Each is made twice: one
 //! growth is refused at most, so one of the two answers.
 
-use jp_regexp::Pattern;
+use jp_regexp::{Pattern, Terms};
 use std::alloc::{AllocError, Global};
 
 const PATTERN: &str = "(a|b)*c[^d-f\\n]{2,3}|\\p{Lu}+";
@@ -30,25 +30,30 @@ fn match_or_none(alloc: Global) -> Option<bool> {
     matched(alloc).ok()
 }
 
-/// Three steps; where one is refused it is made again, from where the terms were.
+/// A step, and whether the terms accept behind it. Where it is refused it is made again, from where the terms
+/// were.
+fn step_again(terms: &mut Terms<'_>, c: char) -> Result<Option<bool>, AllocError> {
+    let before = (terms.len(), terms.accepts());
+    if terms.step(c, true).is_err() {
+        if before != (terms.len(), terms.accepts()) {
+            return Ok(None);
+        }
+        terms.step(c, true)?;
+    }
+    Ok(Some(terms.accepts()))
+}
+
+/// Three steps.
 fn stepped(alloc: Global) -> Result<bool, AllocError> {
     let Some(pattern) = Pattern::read(alloc, "a(b|c){1,2}")? else {
         return Ok(false);
     };
     let mut terms = pattern.start(alloc)?;
-    for (c, accepts) in [('a', false), ('b', true), ('c', true)] {
-        let before = (terms.len(), terms.accepts());
-        if terms.step(c, true).is_err() {
-            if before != (terms.len(), terms.accepts()) {
-                return Ok(false);
-            }
-            terms.step(c, true)?;
-        }
-        if terms.accepts() != accepts {
-            return Ok(false);
-        }
-    }
-    Ok(true)
+    Ok(
+        step_again(&mut terms, 'a')? == Some(false)
+            && step_again(&mut terms, 'b')? == Some(true)
+            && step_again(&mut terms, 'c')? == Some(true),
+    )
 }
 
 fn step_or_none(alloc: Global) -> Option<bool> {

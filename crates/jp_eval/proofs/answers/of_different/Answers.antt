@@ -1,4 +1,4 @@
-use Rattle.std.proofs.Common.{◌≡◌, sym, ap, ◌∙◌}
+use Rattle.std.proofs.Common.{sym, ap, ◌∙◌}
 use Rattle.jp_check.specs.Ready.{wanted_inside}
 use Rattle.jp_eval.specs.Answers.{tells}
 use Rattle.jp_eval.specs.Functions.{distinct}

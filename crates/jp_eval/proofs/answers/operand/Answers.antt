@@ -1,4 +1,4 @@
-use Rattle.std.proofs.Common.{◌≡◌, sym, ap, ◌∙◌}
+use Rattle.std.proofs.Common.{sym, ap, ◌∙◌}
 use Rattle.jp_check.specs.declared.ready.Want.TheVariants.{First, Only}
 use Rattle.jp_eval.specs.Answers.{tells}
 use Rattle.jp_eval.proofs.Telling.{first_told, only_told}

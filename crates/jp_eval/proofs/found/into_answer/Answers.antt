@@ -1,4 +1,4 @@
-use Rattle.std.proofs.Common.{◌≡◌, sym, ap, ◌∙◌, map, option_map}
+use Rattle.std.proofs.Common.{sym, ap, ◌∙◌, map, option_map}
 use Rattle.jp_doc.specs.Location.{location_of}
 use Rattle.jp_eval.specs.Kept.{kept}
 use Rattle.jp_eval.specs.Part.{part_value}

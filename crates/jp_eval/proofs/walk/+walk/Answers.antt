@@ -1,6 +1,5 @@
-use Rattle.std.proofs.Common.{◌≡◌, ◌<◌, ◌≤◌, [], ◌∷◌, ◌++◌, length, get_or, not, true, false, is_some}
+use Rattle.std.proofs.Common.{◌≡◌, ◌<◌, ◌≤◌, [], ◌∷◌, ◌++◌, length, get_or, not, true, false}
 use Rattle.std.proofs.Common.{w64, Some, None, option_map, option_to_list, refl, sym, ap, ap₂, ◌∙◌, arith}
-use Rattle.std.proofs.Common.{map, subst}
 use Rattle.std.proofs.Common.{rules}
 use mir.Val.{SFits}
 use Rattle.std.proofs.lemmas.Int.{to_z-of_z}
@@ -21,9 +20,8 @@ use Rattle.jp_eval.specs.Answers.{tells}
 use Rattle.jp_eval.specs.Base.{base_of}
 use Rattle.jp_eval.specs.BoundsView.{bounds_value}
 use Rattle.jp_eval.specs.Comparison.{compared}
-use Rattle.jp_eval.specs.Functions.{tested, number_value, first_value, only_value, length_value}
-use Rattle.jp_eval.specs.Different.{IsDifferent}
-use Rattle.jp_eval.specs.Functions.{exactly_one, distinct}
+use Rattle.jp_eval.specs.Functions.{tested, length_value}
+use Rattle.jp_eval.specs.Functions.{exactly_one}
 use Rattle.jp_eval.specs.Nodelist.{items_at, written_value}
 use Rattle.jp_eval.specs.Kept.{kept, put_found, plus}
 use Rattle.jp_eval.specs.Links.{here}
