@@ -95,16 +95,16 @@ module _ (root : Json) where
       → tells v (root_nodes root (where_wanted v w)) a ≡ true
   told_where v w a h is =
       elim (told v w a h) as (λ t. tells v (root_nodes root (where_wanted v w)) a ≡ true) [
-        inl t ↦ t.1
-      | inr n ↦ let clash = n.0 in absurd cc
+        | inl t ↦ t.1
+        | inr n ↦ let clash = n.0 in absurd cc
       ]
 
   none_where : (v : Want) (w : Wanted) (a : Answer) → is_answer root w a ≡ true → is_of v a ≡ false
       → where_wanted v w ≡ tree.no_segments
   none_where v w a h is =
       elim (told v w a h) as (λ t. where_wanted v w ≡ tree.no_segments) [
-        inl t ↦ let clash = t.0 in absurd cc
-      | inr n ↦ n.1
+        | inl t ↦ let clash = t.0 in absurd cc
+        | inr n ↦ n.1
       ]
 
   -- what is told of the root alone, where no other query stands

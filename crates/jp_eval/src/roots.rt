@@ -42,6 +42,12 @@ fn answer<'v, V: Visit + Drop>(
 {
     let mut path = Trail::new(ground.alloc);
     let mut found = none_found::<'v, V>(ground.alloc, query.want);
-    run(ground, query.segments.as_slice(), ground.root, &mut path, &mut found)?;
+    run(
+        ground,
+        query.segments.as_slice(),
+        ground.root,
+        &mut path,
+        &mut found,
+    )?;
     into_answer(found)
 }

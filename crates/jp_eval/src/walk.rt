@@ -74,7 +74,10 @@ pub(crate) fn go<'v, V: Visit + Drop>(
 {
     match task {
         Task::Run(rest) => run(ground, rest, value, path, found),
-        Task::Descend(selectors, rest) => { descend(ground, selectors, rest, value, path, found) }
+        Task::Descend(selectors, rest) => {
+            apply(ground, selectors, rest, value, path, found)?;
+            each_child(ground, task, value, path, found)
+        }
         Task::Test(test, rest) => {
             if holds::<V>(ground, test, value, path)? {
                 run(ground, rest, value, path, found)?;
@@ -103,33 +106,12 @@ pub(crate) fn run<'v, V: Visit + Drop>(
         Some((segment, rest)) => {
             let selectors = segment.selectors.as_slice();
             if segment.deep {
-                descend(ground, selectors, rest, value, path, found)
+                go(ground, Task::Descend(selectors, rest), value, path, found)
             } else {
                 apply(ground, selectors, rest, value, path, found)
             }
         }
     }
-}
-
-/// The selectors at the value and at each descendant, and then the segments.
-#[cycle(walk)]
-fn descend<'v, V: Visit + Drop>(
-    ground: &Ground<'v>,
-    selectors: &'v [Selector],
-    rest: &'v [Segment],
-    value: Part<'v>,
-    path: &mut Trail<'v>,
-    found: &mut Found<'v, V>,
-) -> Result<(), AllocError>
-    ensures found { OnOk result (kept V.kept found.new
-        ≡ plus (put_found V.put) (kept V.kept found.old) (reached (base_of ground.now) rest.now
-        (flat_map (picked_by (base_of ground.now) selectors.now)
-        (descendants (here path.old value.entry))))) }
-    ensures path { OnOk result (path.new ≡ path.old) }
-{
-    apply(ground, selectors, rest, value, path, found)?;
-    let task = Task::Descend(selectors, rest);
-    each_child(ground, task, value, path, found)
 }
 
 /// Each selector at the value, and then the segments.
@@ -347,8 +329,7 @@ pub(crate) fn holds<'v, V: Visit + Drop>(
         Logical::All(parts) => all::<V>(ground, parts.as_slice(), value, path),
         Logical::Not(part) => Ok(!holds::<V>(ground, part, value, path)?),
         Logical::Compare(left, operator, right) => {
-            let left = give::<V>(ground, left, value, path)?;
-            let right = give::<V>(ground, right, value, path)?;
+            let (left, right) = give_both::<V>(ground, left, right, value, path)?;
             Ok(compare(*operator, left, right))
         }
         Logical::Test(nodes) => {
@@ -356,8 +337,7 @@ pub(crate) fn holds<'v, V: Visit + Drop>(
             Ok(has_first(answer))
         }
         Logical::Match(text, pattern) => {
-            let text = give::<V>(ground, text, value, path)?;
-            let pattern = give::<V>(ground, pattern, value, path)?;
+            let (text, pattern) = give_both::<V>(ground, text, pattern, value, path)?;
             matches(ground.alloc, text, pattern)
         }
         Logical::MatchRead(text, known) => {
@@ -365,8 +345,7 @@ pub(crate) fn holds<'v, V: Visit + Drop>(
             matches_known(ground.alloc, text, known)
         }
         Logical::Search(text, pattern) => {
-            let text = give::<V>(ground, text, value, path)?;
-            let pattern = give::<V>(ground, pattern, value, path)?;
+            let (text, pattern) = give_both::<V>(ground, text, pattern, value, path)?;
             searches(ground.alloc, text, pattern)
         }
         Logical::SearchRead(text, known) => {
@@ -417,6 +396,28 @@ fn all<'v, V: Visit + Drop>(
         }
     }
     Ok(true)
+}
+
+/// The two values that stand there, or nothing.
+#[cycle(walk)]
+fn give_both<'v, V: Visit + Drop>(
+    ground: &Ground<'v>,
+    left: &'v Giver,
+    right: &'v Giver,
+    value: Part<'v>,
+    path: &mut Trail<'v>,
+) -> Result<(Operand<'v>, Operand<'v>), AllocError>
+    ensures left { IfOk result (λ o. operand_value o.0
+        ≡ value_given (base_of ground.now) left.now (here path.old value.entry)) }
+    ensures right { IfOk result (λ o. operand_value o.1
+        ≡ value_given (base_of ground.now) right.now (here path.old value.entry)) }
+    ensures left_whole { IfOk result (λ o. HasWholeNumbers o.0) }
+    ensures right_whole { IfOk result (λ o. HasWholeNumbers o.1) }
+    ensures path { OnOk result (path.new ≡ path.old) }
+{
+    let left = give::<V>(ground, left, value, path)?;
+    let right = give::<V>(ground, right, value, path)?;
+    Ok((left, right))
 }
 
 /// The value that stands there, or nothing.

@@ -89,12 +89,6 @@ at_place-returns-in_ok-run-clause-found g t c =
     ∙ sym (one_at (here c.args.path.now c.args.value) c.args.place c.in-Some.place _ c.in-Some.is
     c.in-Some-item.ensures.value))
 
-pub descend-returns-clause-found : goal.descend-returns-clause-found
-descend-returns-clause-found g t c =
-    on_ok_weaker c.each_child.result (λ e. descended (put_found g.V.Visit.put) (base_of c.args.ground.now)
-    c.args.selectors.now c.args.rest.now (here c.args.path.now c.args.value) _ _ _
-    c.in_ok-apply.ensures.found (rw c.in_ok-apply.ensures.path at e)) c.each_child.ensures.found
-
 pub each_item-returns-then-is_full-clause-found : goal.each_item-returns-then-is_full-clause-found
 each_item-returns-then-is_full-clause-found g t c =
     full_enough (put_found g.V.Visit.put) _ _ _ _ (c.is_full.ensures c.if-is_full.true)
@@ -243,8 +237,14 @@ each_place-returns-clause-found g t c =
 pub go-returns-in-Run-clause-found : goal.go-returns-in-Run-clause-found
 go-returns-in-Run-clause-found g t c = rw c.in-Run.is c.run.ensures.found
 
-pub go-returns-in-Descend-clause-found : goal.go-returns-in-Descend-clause-found
-go-returns-in-Descend-clause-found g t c = rw c.in-Descend.is c.descend.ensures.found
+pub go-returns-in_ok-apply-in-Descend-clause-found : goal.go-returns-in_ok-apply-in-Descend-clause-found
+go-returns-in_ok-apply-in-Descend-clause-found g t c =
+    let base = base_of c.args.ground.now in
+    let xs = c.in-Descend.selectors.now in
+    let rest = c.in-Descend.rest.now in
+    on_ok_weaker c.each_child.result (λ e. rw c.in-Descend.is (descended (put_found g.V.Visit.put) base xs
+    rest (here c.args.path.now c.args.value) _ _ _ c.in_ok-apply-in-Descend.ensures.found
+    (rw (c.in_ok-apply-in-Descend.ensures.path, c.in-Descend.is) at e))) c.each_child.ensures.found
 
 pub go-returns-in_ok-run-in-Test-clause-found : goal.go-returns-in_ok-run-in-Test-clause-found
 go-returns-in_ok-run-in-Test-clause-found g t c =
@@ -300,14 +300,14 @@ run-returns-in-None-clause-found g t c =
 
 pub run-returns-then-segment-clause-found : goal.run-returns-then-segment-clause-found
 run-returns-then-segment-clause-found g t c =
-    on_ok_weaker c.descend.result (λ e. e
+    on_ok_weaker c.go.result (λ e. e
     ∙ ap (plus (put_found g.V.Visit.put) (kept g.V.Visit.kept c.args.found.now))
     (ap (λ xs. reached (base_of c.args.ground.now) c.in-Some.rest.now
     (flat_map (picked_by (base_of c.args.ground.now) xs)
     (descendants (here c.args.path.now c.args.value)))) c.as_slice-selectors.ensures.value
     ∙ sym (ap (λ ss. reached (base_of c.args.ground.now) ss (here c.args.path.now c.args.value ∷ []))
     c.in-Some.ensures.cases.0 ∙ reached-deep (base_of c.args.ground.now) c.in-Some.segment.now
-    c.in-Some.rest.now (here c.args.path.now c.args.value) c.if-segment.true))) c.descend.ensures.found
+    c.in-Some.rest.now (here c.args.path.now c.args.value) c.if-segment.true))) c.go.ensures.found
 
 pub run-returns-else-segment-clause-found : goal.run-returns-else-segment-clause-found
 run-returns-else-segment-clause-found g t c =
@@ -504,34 +504,32 @@ pub each_place-place_after-next-requires-clause-bounds
 each_place-place_after-next-requires-clause-bounds g t c = within_more _ _ _ (part_is_short c.args.value)
     c.requires
 
-pub holds-returns-in_ok-pattern-in-Match-clause-truth
-    : goal.holds-returns-in_ok-pattern-in-Match-clause-truth
-holds-returns-in_ok-pattern-in-Match-clause-truth g t c =
-    let second = rw c.in_ok-text-in-Match.ensures.path at c.in_ok-pattern-in-Match.ensures.value in
+pub holds-returns-in_ok-text-in-Match-clause-truth : goal.holds-returns-in_ok-text-in-Match-clause-truth
+holds-returns-in_ok-text-in-Match-clause-truth g t c =
+    let base = base_of c.args.ground.now in
+    let n = here c.args.path.now c.args.value in
     IfOk-weaker c.matches.result _ _ (λ b e. e
-    ∙ ap₂ (tested tests.is_match) c.in_ok-text-in-Match.ensures.value second
-    ∙ sym (ap (λ l. is_true (base_of c.args.ground.now) l (here c.args.path.now c.args.value))
-    c.in-Match.is ∙ true_match (base_of c.args.ground.now) (here c.args.path.now c.args.value)
-    c.in-Match.text c.in-Match.pattern)) c.matches.ensures
+    ∙ ap₂ (tested tests.is_match) c.in_ok-text-in-Match.ensures.left c.in_ok-text-in-Match.ensures.right
+    ∙ sym (ap (λ l. is_true base l n) c.in-Match.is ∙ true_match base n c.in-Match.text c.in-Match.pattern))
+    c.matches.ensures
 
-pub holds-returns-in_ok-pattern-in-Search-clause-truth
-    : goal.holds-returns-in_ok-pattern-in-Search-clause-truth
-holds-returns-in_ok-pattern-in-Search-clause-truth g t c =
-    let second = rw c.in_ok-text-in-Search.ensures.path at c.in_ok-pattern-in-Search.ensures.value in
+pub holds-returns-in_ok-text-in-Search-clause-truth : goal.holds-returns-in_ok-text-in-Search-clause-truth
+holds-returns-in_ok-text-in-Search-clause-truth g t c =
+    let base = base_of c.args.ground.now in
+    let n = here c.args.path.now c.args.value in
     IfOk-weaker c.searches.result _ _ (λ b e. e
-    ∙ ap₂ (tested tests.is_found) c.in_ok-text-in-Search.ensures.value second
-    ∙ sym (ap (λ l. is_true (base_of c.args.ground.now) l (here c.args.path.now c.args.value))
-    c.in-Search.is ∙ true_search (base_of c.args.ground.now) (here c.args.path.now c.args.value)
-    c.in-Search.text c.in-Search.pattern)) c.searches.ensures
+    ∙ ap₂ (tested tests.is_found) c.in_ok-text-in-Search.ensures.left c.in_ok-text-in-Search.ensures.right
+    ∙ sym (ap (λ l. is_true base l n) c.in-Search.is ∙ true_search base n c.in-Search.text c.in-Search.pattern))
+    c.searches.ensures
 
-pub holds-returns-in_ok-right-in-Compare-clause-truth
-    : goal.holds-returns-in_ok-right-in-Compare-clause-truth
-holds-returns-in_ok-right-in-Compare-clause-truth g t c =
-    let second = rw c.in_ok-left-in-Compare.ensures.path at c.in_ok-right-in-Compare.ensures.value in
-    c.compare.ensures ∙ ap₂ (compared c.in-Compare.operator) c.in_ok-left-in-Compare.ensures.value second
-    ∙ sym (ap (λ l. is_true (base_of c.args.ground.now) l (here c.args.path.now c.args.value))
-    c.in-Compare.is ∙ true_compare (base_of c.args.ground.now) (here c.args.path.now c.args.value)
-    c.in-Compare.left c.in-Compare.operator c.in-Compare.right)
+pub holds-returns-in_ok-left-in-Compare-clause-truth : goal.holds-returns-in_ok-left-in-Compare-clause-truth
+holds-returns-in_ok-left-in-Compare-clause-truth g t c =
+    let base = base_of c.args.ground.now in
+    let n = here c.args.path.now c.args.value in
+    c.compare.ensures ∙ ap₂ (compared c.in-Compare.operator) c.in_ok-left-in-Compare.ensures.left
+    c.in_ok-left-in-Compare.ensures.right
+    ∙ sym (ap (λ l. is_true base l n) c.in-Compare.is
+    ∙ true_compare base n c.in-Compare.left c.in-Compare.operator c.in-Compare.right)
 
 pub holds-returns-in_ok-text-in-MatchRead-clause-truth
     : goal.holds-returns-in_ok-text-in-MatchRead-clause-truth

@@ -35,15 +35,17 @@ task_size (Test l rest) = max (size-Logical l.now) (most size-Segment rest.now)
 abbrev pub weight : ℕ → Part → ℕ → ℕ
 weight size p rank = 2000 * size + 8 * depth (view p.value.now) + rank
 
+-- a descent at a value does not come back to it
+abbrev pub task_rank : Task → ℕ
+task_rank (Run rest) = 8
+task_rank (Descend xs rest) = 6
+task_rank (Test l rest) = 8
+
 abbrev pub decreases-go : goal.decreases-go
-decreases-go g l = weight (task_size l.task) l.value 8
+decreases-go g l = weight (task_size l.task) l.value (task_rank l.task)
 
 abbrev pub decreases-run : goal.decreases-run
 decreases-run g l = weight (most size-Segment l.segments.now) l.value 7
-
-abbrev pub decreases-descend : goal.decreases-descend
-decreases-descend g l = weight (max (most size-Selector l.selectors.now) (most size-Segment l.rest.now))
-    l.value 6
 
 abbrev pub decreases-apply : goal.decreases-apply
 decreases-apply g l = weight (max (most size-Selector l.selectors.now) (most size-Segment l.rest.now))
@@ -71,6 +73,9 @@ decreases-each_member g l = 2000 * task_size l.task + 8 * members_depth
 
 abbrev pub decreases-ask : goal.decreases-ask
 decreases-ask g l = weight (size-Nodes l.nodes.now) l.value 7
+
+abbrev pub decreases-give_both : goal.decreases-give_both
+decreases-give_both g l = weight (max (size-Value l.left.now) (size-Value l.right.now)) l.value 8
 
 abbrev pub decreases-give : goal.decreases-give
 decreases-give g l = weight (size-Value l.giver.now) l.value 7
