@@ -179,7 +179,7 @@ fn segment_behind<'a>(
     }
 }
 
-/// The segments behind those that are found.
+/// The segments behind those that are found, with blanks before each, to the last.
 #[cycle(reader)]
 fn segments_from(
     alloc: Global,
@@ -201,15 +201,6 @@ fn segments_from(
     }
 }
 
-/// Segments with blanks before each, to the last.
-#[cycle(reader)]
-fn segments_at(alloc: Global, left: usize, text: &str) -> Result<(Vec<Segment>, &str), QueryFault>
-    ensures { GivesFront (λ xs. segments_of xs.items) result
-        (reading.segments_at (reading.logical_at left) (chars text.now)) }
-{
-    segments_from(alloc, left, Vec::new(alloc), text)
-}
-
 /// A query inside a filter (RFC 9535, 2.3.5.1).
 #[cycle(reader)]
 #[tactic(auto, unfolding(crate::specs::Reading::query_at))]
@@ -218,11 +209,11 @@ fn query_at(alloc: Global, left: usize, text: &str) -> Result<(Query, &str), Que
 {
     match first_character(text) {
         Some(('$', more)) => {
-            let (segments, rest) = segments_at(alloc, left, more)?;
+            let (segments, rest) = segments_from(alloc, left, Vec::new(alloc), more)?;
             Ok((query_from(Start::Root, segments), rest))
         }
         Some(('@', more)) => {
-            let (segments, rest) = segments_at(alloc, left, more)?;
+            let (segments, rest) = segments_from(alloc, left, Vec::new(alloc), more)?;
             Ok((query_from(Start::Current, segments), rest))
         }
         _ => Err(QueryFault::Syntax),
@@ -291,24 +282,9 @@ fn arguments_from(
     }
 }
 
-/// One argument or more.
-#[cycle(reader)]
-#[tactic(auto, unfolding(crate::specs::Reading::items_at))]
-fn argument_items(
-    alloc: Global,
-    left: usize,
-    text: &str,
-) -> Result<(Vec<Argument>, &str), QueryFault>
-    ensures { GivesFront (λ xs. arguments_of xs.items) result
-        (reading.argument_items (reading.logical_at left) (chars text.now)) }
-{
-    let (first, rest) = argument_at(alloc, left, text)?;
-    arguments_from(alloc, left, one_argument(alloc, first)?, rest)
-}
-
 /// Behind `(` and blanks.
 #[cycle(reader)]
-#[tactic(auto, unfolding(crate::specs::Reading::arguments_at))]
+#[tactic(auto, unfolding(crate::specs::Reading::arguments_at, crate::specs::Reading::items_at))]
 fn arguments_at(alloc: Global, left: usize, text: &str) -> Result<(Vec<Argument>, &str), QueryFault>
     ensures { GivesFront (λ xs. arguments_of xs.items) result
         (reading.arguments_at (reading.logical_at left) (chars text.now)) }
@@ -316,7 +292,10 @@ fn arguments_at(alloc: Global, left: usize, text: &str) -> Result<(Vec<Argument>
     match first_character(text) {
         None => Err(QueryFault::Syntax),
         Some((')', rest)) => Ok((Vec::new(alloc), rest)),
-        Some(_) => argument_items(alloc, left, text),
+        Some(_) => {
+            let (first, rest) = argument_at(alloc, left, text)?;
+            arguments_from(alloc, left, one_argument(alloc, first)?, rest)
+        }
     }
 }
 
@@ -550,26 +529,17 @@ fn or_behind(
     Ok((joined_any(parts), rest))
 }
 
-/// Such expressions with `||` between.
-#[cycle(reader)]
-#[tactic(auto, unfolding(crate::specs::Reading::or_at))]
-fn or_at(alloc: Global, left: usize, text: &str) -> Result<(Logical, &str), QueryFault>
-    ensures { GivesFront logical_of result (reading.or_at (reading.logical_at left) (chars text.now)) }
-{
-    let (first, rest) = and_at(alloc, left, text)?;
-    or_behind(alloc, left, first, rest)
-}
-
 /// A logical expression in which others stand inside each other at most `left` deep.
 #[cycle(reader)]
-#[tactic(auto, unfolding(crate::specs::Reading::logical_at))]
+#[tactic(auto, unfolding(crate::specs::Reading::logical_at, crate::specs::Reading::or_at))]
 fn logical_at(alloc: Global, left: usize, text: &str) -> Result<(Logical, &str), QueryFault>
     ensures { GivesFront logical_of result (reading.logical_at left (chars text.now)) }
 {
     if left == 0 {
         return Err(QueryFault::Syntax);
     }
-    or_at(alloc, left - 1, text)
+    let (first, rest) = and_at(alloc, left - 1, text)?;
+    or_behind(alloc, left - 1, first, rest)
 }
 
 /// A logical expression that begins with a comparison, behind its left side and its operator.
@@ -600,7 +570,7 @@ fn read(alloc: Global, text: &str) -> Result<Query, QueryFault>
 {
     match first_character(text) {
         Some(('$', more)) => {
-            let (segments, rest) = segments_at(alloc, text.len(), more)?;
+            let (segments, rest) = segments_from(alloc, text.len(), Vec::new(alloc), more)?;
             if !rest.is_empty() {
                 return Err(QueryFault::Syntax);
             }

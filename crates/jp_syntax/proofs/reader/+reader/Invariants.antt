@@ -7,9 +7,6 @@ use Rattle.jp_syntax.specs.Reading.{selector_at, argument_at, all_of}
 use Rattle.jp_syntax.specs.PartViews.{selectors_of, segments_of, arguments_of, logicals_of}
 use Rattle.jp_syntax.proofs.reader.+reader.Given as goal
 
-abbrev pub decreases-or_at : goal.decreases-or_at
-decreases-or_at l = 50 * l.left + 41
-
 abbrev pub decreases-or_behind : goal.decreases-or_behind
 decreases-or_behind l = 50 * l.left + 40
 
@@ -52,9 +49,6 @@ decreases-call_at l = 50 * l.left + 28
 abbrev pub decreases-arguments_at : goal.decreases-arguments_at
 decreases-arguments_at l = 50 * l.left + 27
 
-abbrev pub decreases-argument_items : goal.decreases-argument_items
-decreases-argument_items l = 50 * l.left + 26
-
 abbrev pub decreases-arguments_from : goal.decreases-arguments_from
 decreases-arguments_from l = 50 * l.left + 25
 
@@ -66,9 +60,6 @@ decreases-argument_at l = 50 * l.left + 23
 
 abbrev pub decreases-query_at : goal.decreases-query_at
 decreases-query_at l = 50 * l.left + 22
-
-abbrev pub decreases-segments_at : goal.decreases-segments_at
-decreases-segments_at l = 50 * l.left + 21
 
 abbrev pub decreases-segments_from : goal.decreases-segments_from
 decreases-segments_from l = 50 * l.left + 20

@@ -10,9 +10,10 @@ returns-then-not-is_empty c =
     let text : IsUtf8 c.in_ok-segments-in-Some-eq36-default.rest.now = search rules in
     let end = at_end c.in_ok-segments-in-Some-eq36-default.rest.now text ∙ sym c.is_empty.ensures
     ∙ c.if-not-is_empty.true in
+    let segments = rw c.new.ensures.items at c.in_ok-segments-in-Some-eq36-default.ensures in
     rw (
       c.in-Some-eq36-default.ensures,
-      c.in_ok-segments-in-Some-eq36-default.ensures,
+      segments,
       c.in-Some-eq36-default.field-0-0-test,
       end,
     ) refl
@@ -23,9 +24,10 @@ returns-else-not-is_empty c =
     let text : IsUtf8 c.in_ok-segments-in-Some-eq36-default.rest.now = search rules in
     let end = at_end c.in_ok-segments-in-Some-eq36-default.rest.now text ∙ sym c.is_empty.ensures
     ∙ c.if-not-is_empty.false in
+    let segments = rw c.new.ensures.items at c.in_ok-segments-in-Some-eq36-default.ensures in
     rw (
       c.in-Some-eq36-default.ensures,
-      c.in_ok-segments-in-Some-eq36-default.ensures,
+      segments,
       c.in-Some-eq36-default.field-0-0-test,
       end,
       c.query_from.ensures,
