@@ -391,11 +391,7 @@ module _ (inner : Reader tree.Logical) where
   abbrev pub arguments_behind : List tree.Argument → Reader (List tree.Argument)
   arguments_behind found t = all_of (λ u. next_argument (skip u)) found t
 
-  -- one argument or more, and `)`
-  abbrev pub argument_items : Reader (List tree.Argument)
-  argument_items t = items_at 41 argument_at t
-
-  -- behind `(` and blanks
+  -- behind `(` and blanks: arguments, and `)`
   unfoldable pub arguments_at : Reader (List tree.Argument)
   arguments_at [] = None
   arguments_at (c ∷ t) = if c == 41 then Some ([], t) else items_at 41 argument_at (c ∷ t)

@@ -519,7 +519,8 @@ holds-returns-in_ok-text-in-Search-clause-truth g t c =
     let n = here c.args.path.now c.args.value in
     IfOk-weaker c.searches.result _ _ (λ b e. e
     ∙ ap₂ (tested tests.is_found) c.in_ok-text-in-Search.ensures.left c.in_ok-text-in-Search.ensures.right
-    ∙ sym (ap (λ l. is_true base l n) c.in-Search.is ∙ true_search base n c.in-Search.text c.in-Search.pattern))
+    ∙ sym (ap (λ l. is_true base l n) c.in-Search.is
+    ∙ true_search base n c.in-Search.text c.in-Search.pattern))
     c.searches.ensures
 
 pub holds-returns-in_ok-left-in-Compare-clause-truth : goal.holds-returns-in_ok-left-in-Compare-clause-truth
