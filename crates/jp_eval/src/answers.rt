@@ -45,7 +45,7 @@ pub(crate) fn of_one(want: Want, value: Part<'_>) -> Answer<'_>
     }
 }
 
-/// Whether the answer tells what is wanted.
+/// Whether the answer is of the kind that is wanted, be it right or wrong.
 pub(crate) fn is_told(want: Want, answer: Answer<'_>) -> bool
     ensures { result ≡ is_of want answer.entry }
 {
