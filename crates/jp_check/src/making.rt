@@ -44,26 +44,11 @@ fn make_segments(
 {
     let mut made = Vec::with_capacity(alloc, segments.len())?;
     for segment in segments {
-        made.push(make_segment(alloc, segment, roots)?)?;
+        let selectors = make_selectors(alloc, segment.selectors.as_slice(), roots)?;
+        let deep = segment.deep;
+        made.push(Segment { deep, selectors })?;
     }
     Ok(made)
-}
-
-#[cycle(making)]
-fn make_segment(
-    alloc: Global,
-    segment: &jp_syntax::Segment,
-    roots: &mut Vec<RootQuery>,
-) -> Result<Segment, AllocError>
-    ensures made { IfOk result (λ s. Reads (ready.roots_of roots.new.items)
-        (λ all. ready.segment_in all s) (view.segment_of segment.now)) }
-    ensures roots { OnOk result (Begins (ready.roots_of roots.old.items) (ready.roots_of roots.new.items)) }
-{
-    let selectors = make_selectors(alloc, segment.selectors.as_slice(), roots)?;
-    Ok(Segment {
-        deep: segment.deep,
-        selectors,
-    })
 }
 
 #[cycle(making)]
@@ -265,16 +250,6 @@ fn make_argument_nodes(
     }
 }
 
-/// What is wanted of the nodes that `distinct` is given, where this is wanted of it.
-fn wanted_inside(want: Want) -> Want
-    ensures { result ≡ ready.wanted_inside want }
-{
-    match want {
-        Want::First => Want::First,
-        Want::Count | Want::Only | Want::Distinct => Want::Distinct,
-    }
-}
-
 /// A call that gives nodes. Any other, which no accepted query has, is refused.
 #[cycle(making)]
 #[inline(never)]
@@ -295,7 +270,7 @@ fn make_distinct(
     let Some(Function::Distinct) = function_named(call.name.as_str()) else {
         return Err(AllocError);
     };
-    let nodes = make_argument_nodes(alloc, wanted_inside(want), argument, roots)?;
+    let nodes = make_argument_nodes(alloc, want.inside(), argument, roots)?;
     Ok(Nodes::Distinct(Box::new(alloc, nodes)?))
 }
 
@@ -324,11 +299,7 @@ fn make_value_call(
         Some(Function::Value) => {
             Ok(Value::Only(make_argument_nodes(alloc, Want::Only, argument, roots)?))
         }
-        Some(Function::Match) => Err(AllocError),
-        Some(Function::Search) => Err(AllocError),
-        Some(Function::Xor) => Err(AllocError),
-        Some(Function::Distinct) => Err(AllocError),
-        None => Err(AllocError),
+        _ => Err(AllocError),
     }
 }
 
@@ -373,12 +344,7 @@ fn make_xor(
     };
     let first = make_truth(alloc, left, roots)?;
     let second = make_truth(alloc, right, roots)?;
-    Ok(Logical::Xor(
-        form_of(left),
-        Box::new(alloc, first)?,
-        form_of(right),
-        Box::new(alloc, second)?,
-    ))
+    Ok(Logical::Xor(form_of(left), first, form_of(right), second))
 }
 
 /// How an argument that is true or false is written.
@@ -397,18 +363,25 @@ fn make_truth(
     alloc: Global,
     argument: &Argument,
     roots: &mut Vec<RootQuery>,
-) -> Result<Logical, AllocError>
+) -> Result<Box<Logical>, AllocError>
     ensures made { IfOk result (λ l. Reads (ready.roots_of roots.new.items)
         (λ all. ready.truth_argument (ready.form_of (view.argument_of argument.now))
-        (ready.logical_in all l)) (view.argument_of argument.now)) }
+        (ready.logical_in all l.value)) (view.argument_of argument.now)) }
     ensures roots { OnOk result (Begins (ready.roots_of roots.old.items) (ready.roots_of roots.new.items)) }
 {
     match argument {
         Argument::Query(query) => {
-            Ok(Logical::Test(make_nodes(alloc, Want::First, query, roots)?))
+            let nodes = make_nodes(alloc, Want::First, query, roots)?;
+            Ok(Box::new(alloc, Logical::Test(nodes))?)
         }
-        Argument::Logical(logical) => make_logical(alloc, logical, roots),
-        Argument::Call(call) => make_test_call(alloc, call, roots),
+        Argument::Logical(logical) => {
+            let made = make_logical(alloc, logical, roots)?;
+            Ok(Box::new(alloc, made)?)
+        }
+        Argument::Call(call) => {
+            let made = make_test_call(alloc, call, roots)?;
+            Ok(Box::new(alloc, made)?)
+        }
         Argument::Literal(_) => Err(AllocError),
     }
 }
@@ -434,12 +407,10 @@ fn make_text_test(
     let text = make_value(alloc, text, roots)?;
     if let Some(pattern) = literal_text(pattern) {
         let pattern = read_pattern(alloc, pattern)?;
-        let test = read_test(function, text, pattern)?;
-        return Ok(test);
+        return read_test(function, text, pattern);
     }
     let pattern = make_value(alloc, pattern, roots)?;
-    let test = given_test(function, text, pattern)?;
-    Ok(test)
+    given_test(function, text, pattern)
 }
 
 /// A call with a literal pattern.

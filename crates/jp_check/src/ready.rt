@@ -44,6 +44,20 @@ pub enum Want {
     Distinct,
 }
 
+impl Want {
+    ghost use Rattle.jp_check.specs.Ready.{wanted_inside};
+
+    /// What is wanted of the nodes that `distinct` is given, where this is wanted of those that it leaves.
+    pub fn inside(self) -> Want
+        ensures { result ≡ wanted_inside self }
+    {
+        match self {
+            Want::First => Want::First,
+            Want::Count | Want::Only | Want::Distinct => Want::Distinct,
+        }
+    }
+}
+
 /// A segment (RFC 9535, 2.5).
 #[cycle(ready)]
 #[derive(Drop)]

@@ -58,18 +58,6 @@ pub(crate) fn is_told(want: Want, answer: Answer<'_>) -> bool
     }
 }
 
-/// What is wanted of the nodes that `distinct` is given, where this is wanted of those that it leaves.
-pub(crate) fn inner_want(want: Want) -> Want
-    ensures { result ≡ wanted_inside want }
-{
-    match want {
-        Want::First => Want::First,
-        Want::Count => Want::Distinct,
-        Want::Only => Want::Distinct,
-        Want::Distinct => Want::Distinct,
-    }
-}
-
 /// What is told of the nodes that `distinct` leaves, by what is told of those that it is given.
 pub(crate) fn of_distinct<'v>(want: Want, answer: Answer<'v>) -> Answer<'v>
     ensures { (ns : List Node) → tells (wanted_inside want) ns answer.entry ≡ true

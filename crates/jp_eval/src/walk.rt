@@ -20,7 +20,7 @@ ghost use Rattle.jp_eval.specs.Places.{AreWithin, item_count};
 ghost use Rattle.jp_eval.specs.Slice.{slice_indexes};
 ghost use Rattle.jp_eval.specs.Walk.{picked, picked_by, reached, is_true, value_given, nodes_given, done};
 
-use crate::answers::{Answer, has_first, inner_want, of_distinct, operand};
+use crate::answers::{Answer, has_first, of_distinct, operand};
 use crate::compare::{Operand, compare};
 use crate::found::{Found, add, into_answer, is_full, none_found};
 use crate::functions::{
@@ -463,7 +463,7 @@ fn ask<'v, V: Visit + Drop>(
         }
         Nodes::Root(slot) => Ok(ground.answer(*slot, want)),
         Nodes::Distinct(nodes) => {
-            let answer = ask::<V>(ground, inner_want(want), nodes, value, path)?;
+            let answer = ask::<V>(ground, want.inside(), nodes, value, path)?;
             Ok(of_distinct(want, answer))
         }
     }

@@ -77,43 +77,68 @@ fn lines(alloc: Global, plan: &Plan, document: &Document) -> Result<Vec<u8>, Fai
     Ok(visit_nodes(alloc, plan, document, lines)?.into_bytes(alloc)?)
 }
 
+/// The output lines of a query's nodes in a document.
+fn printed(alloc: Global, query: &str, document: &Document) -> Result<Vec<u8>, Fail> {
+    let plan = plan(alloc, query)?;
+    lines(alloc, &plan, document)
+}
+
+/// The output lines of a location's path, read as a query.
+fn by_text(alloc: Global, location: &Location, document: &Document) -> Result<Vec<u8>, Fail> {
+    let text = write_path(alloc, location)?;
+    printed(alloc, text.as_str(), document)
+}
+
+/// The output lines of a location's plan.
+fn by_location(alloc: Global, location: &Location, document: &Document) -> Result<Vec<u8>, Fail> {
+    let plan = path_plan(alloc, location)?;
+    lines(alloc, &plan, document)
+}
+
 /// Whether each path that the query prints, run as a query, prints the same line, by its text and by its
 /// location.
 fn paths_print_their_lines(alloc: Global, query: &str, document: &Document) -> Result<bool, Fail> {
     let whole = plan(alloc, query)?;
-    let mut by_text = Vec::new(alloc);
-    let mut by_location = Vec::new(alloc);
+    let mut of_texts = Vec::new(alloc);
+    let mut of_locations = Vec::new(alloc);
     for location in &evaluate(alloc, &whole, document)? {
-        let text = write_path(alloc, location)?;
-        let of_text = lines(alloc, &plan(alloc, text.as_str())?, document)?;
-        by_text.extend_from_slice(of_text.as_slice())?;
-        let of_location = lines(alloc, &path_plan(alloc, location)?, document)?;
-        by_location.extend_from_slice(of_location.as_slice())?;
+        of_texts.extend_from_slice(&by_text(alloc, location, document)?)?;
+        of_locations.extend_from_slice(&by_location(alloc, location, document)?)?;
     }
     let printed = lines(alloc, &whole, document)?;
-    Ok(printed == by_text && printed == by_location && !printed.is_empty())
+    Ok(printed == of_texts && printed == of_locations && !printed.is_empty())
 }
 
 #[test]
 fn a_name_of_escapes(rt: HostRuntime) -> Result<(), Fail> {
     let alloc = rt.alloc();
     let document = Document::read(alloc, b"{\"it's\\u0000\\t\":1}")?;
-    let printed = lines(alloc, &plan(alloc, "$.*")?, &document)?;
     let want = "1\t$['it\\'s\\u0000\\t']\t1\n";
-    assert_eq!(rt; printed.as_slice(), want.as_bytes());
-    let again = lines(alloc, &plan(alloc, "$['it\\'s\\u0000\\t']")?, &document)?;
-    assert_eq!(rt; again.as_slice(), printed.as_slice());
+    assert_eq!(rt;
+        printed(alloc, "$.*", &document)?.as_slice(),
+        want.as_bytes()
+    );
+    let path = "$['it\\'s\\u0000\\t']";
+    assert_eq!(rt;
+        printed(alloc, path, &document)?.as_slice(),
+        want.as_bytes()
+    );
     Ok(())
+}
+
+/// The same by chunks, which are joined.
+fn joined(alloc: Global, number: u64, plan: &Plan, document: &Document) -> Result<Vec<u8>, Fail> {
+    let mut lines = NodeLines::new(alloc);
+    lines.begin(number);
+    let lines = visit_nodes(alloc, plan, document, lines)?;
+    Ok(join_chunks(alloc, lines.into_chunks()?)?)
 }
 
 #[test]
 fn lines_in_chunks(rt: HostRuntime) -> Result<(), Fail> {
     let alloc = rt.alloc();
     let document = Document::read(alloc, b"[7]")?;
-    let mut lines = NodeLines::new(alloc);
-    lines.begin(3);
-    let lines = visit_nodes(alloc, &plan(alloc, "$[0,0]")?, &document, lines)?;
-    let bytes = join_chunks(alloc, lines.into_chunks()?)?;
+    let bytes = joined(alloc, 3, &plan(alloc, "$[0,0]")?, &document)?;
     assert_eq!(rt; bytes.as_slice(), "3\t$[0]\t7\n3\t$[0]\t7\n".as_bytes());
     Ok(())
 }

@@ -27,10 +27,17 @@ fn names_in_paths(rt: HostRuntime) -> Result<(), Fail> {
         ("ü😀", "$['ü😀']"),
     ];
     for (name, path) in paths {
-        let text = write_path(rt.alloc(), &named(rt.alloc(), name)?)?;
-        assert_eq!(rt; text.as_str(), path);
+        assert!(rt;
+            is_path(rt.alloc(), &named(rt.alloc(), name)?, path)?,
+            "{path}"
+        );
     }
     Ok(())
+}
+
+/// Whether this is the location's path.
+fn is_path(alloc: Global, location: &Location, path: &str) -> Result<bool, AllocError> {
+    Ok(write_path(alloc, location)?.as_str() == path)
 }
 
 #[test]
@@ -39,7 +46,7 @@ fn other_paths(rt: HostRuntime) -> Result<(), Fail> {
     let root = Location {
         steps: Vec::new(alloc),
     };
-    assert_eq!(rt; write_path(alloc, &root)?.as_str(), "$");
+    assert!(rt; is_path(alloc, &root, "$")?);
     let deep = Location {
         steps: vec![in alloc;
             Step::Index(4_294_967_295),
@@ -47,7 +54,7 @@ fn other_paths(rt: HostRuntime) -> Result<(), Fail> {
             Step::Index(0),
         ]?,
     };
-    assert_eq!(rt; write_path(alloc, &deep)?.as_str(), "$[4294967295]['b'][0]");
+    assert!(rt; is_path(alloc, &deep, "$[4294967295]['b'][0]")?);
     Ok(())
 }
 
@@ -70,6 +77,20 @@ fn lines(rt: HostRuntime) -> Result<(), Fail> {
     Ok(())
 }
 
+/// Whether the fault's line, and no more, is appended.
+fn is_appended(
+    alloc: Global,
+    number: u64,
+    fault: DocFault,
+    line: &str,
+) -> Result<bool, AllocError> {
+    let mut out = Vec::new(alloc);
+    out.extend_from_slice(b"front")?;
+    write_fault(alloc, number, &fault, &mut out)?;
+    let (front, appended) = out.as_slice().split_at(5.min(out.len()));
+    Ok(front == b"front".as_slice() && appended == line.as_bytes())
+}
+
 #[test]
 fn faults(rt: HostRuntime) -> Result<(), Fail> {
     let rows = [
@@ -78,14 +99,8 @@ fn faults(rt: HostRuntime) -> Result<(), Fail> {
         (7, DocFault::LongArray, "7\t!\tlong array\n"),
         (7, DocFault::LongLine, "7\t!\tlong line\n"),
     ];
-    let mut out = Vec::new(rt.alloc());
     for (number, fault, line) in rows {
-        out.clear();
-        out.extend_from_slice(b"front")?;
-        write_fault(rt.alloc(), number, &fault, &mut out)?;
-        let (front, appended) = out.as_slice().split_at(5);
-        assert_eq!(rt; front, b"front".as_slice());
-        assert_eq!(rt; appended, line.as_bytes());
+        assert!(rt; is_appended(rt.alloc(), number, fault, line)?, "{line}");
     }
     Ok(())
 }

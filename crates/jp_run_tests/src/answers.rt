@@ -48,6 +48,14 @@ fn answered<R: Threads + Sync, G: Gate + Sync>(
     .ok()
 }
 
+/// Whether there is an answer with these bytes, stopped there.
+fn is_answer(found: &Option<Answer>, wanted: &[u8], stop: Option<DocStop>) -> bool {
+    match found {
+        Some(answer) => answer.bytes.as_slice() == wanted && answer.stopped == stop,
+        None => false,
+    }
+}
+
 #[test]
 fn the_first_faulty_line_stops_the_answer(rt: HostRuntime) -> Result<(), Fail> {
     let rows: [(&[u8], &[u8], u64, DocFault); 3] = [
@@ -68,11 +76,11 @@ fn the_first_faulty_line_stops_the_answer(rt: HostRuntime) -> Result<(), Fail> {
     ];
     for (text, bytes, line, fault) in rows {
         for workers in [1u64, 4] {
-            let Some(found) = answered(&rt, rt.alloc(), "$.a", text, (workers, 1), &OpenGate) else {
-                panic!(&rt; "no answer")
-            };
-            assert_eq!(rt; found.bytes.as_slice(), bytes);
-            assert!(rt; found.stopped == Some(DocStop { line, fault }));
+            let found = answered(&rt, rt.alloc(), "$.a", text, (workers, 1), &OpenGate);
+            assert!(rt;
+                is_answer(&found, bytes, Some(DocStop { line, fault })),
+                "{line}"
+            );
         }
     }
     Ok(())
@@ -82,81 +90,59 @@ fn the_first_faulty_line_stops_the_answer(rt: HostRuntime) -> Result<(), Fail> {
 fn the_same_for_all_workers_and_pieces(rt: HostRuntime) -> Result<(), Fail> {
     let text = thousand(rt.alloc())?;
     let lines = items_of_thousand(rt.alloc())?;
-    for workers in [1u64, 2, 64] {
-        for piece in [1u64, 7] {
-            let found = answered(
-                &rt,
-                rt.alloc(),
-                "$[*]",
-                text.as_bytes(),
-                (workers, piece),
-                &OpenGate,
-            );
-            let Some(Answer { bytes, stopped }) = found else {
-                panic!(&rt; "no answer")
-            };
-            assert!(rt; bytes.as_slice() == lines.as_bytes());
-            let ends = bytes.iter().filter(|byte| **byte == b'\n').count();
-            assert!(rt; stopped.is_none());
-            assert_eq!(rt; ends, 5_005);
-        }
+    let ends = lines
+        .as_bytes()
+        .iter()
+        .filter(|byte| **byte == b'\n')
+        .count();
+    let mut agree = ends == 5_005;
+    for cut in [(1, 1), (1, 7), (2, 1), (2, 7), (64, 1), (64, 7)] {
+        let found = answered(&rt, rt.alloc(), "$[*]", text.as_bytes(), cut, &OpenGate);
+        agree = agree && is_answer(&found, lines.as_bytes(), None);
     }
+    assert!(rt; agree);
     Ok(())
 }
 
 #[test]
-fn fewer_lines_than_workers(rt: HostRuntime) -> Result<(), Fail> {
-    let rows: [(&[u8], &[u8]); 2] = [
-        (b"[1]\n[2]\n[3]\n", b"1\t$[0]\t1\n2\t$[0]\t2\n3\t$[0]\t3\n"),
-        (b"", b""),
-    ];
-    for (text, bytes) in rows {
-        let Some(found) = answered(&rt, rt.alloc(), "$[0]", text, (64, 1_000_000), &OpenGate) else {
-            panic!(&rt; "no answer")
-        };
-        assert_eq!(rt; found.bytes.as_slice(), bytes);
-        assert!(rt; found.stopped.is_none());
-    }
-    Ok(())
+fn fewer_lines_than_workers(rt: HostRuntime) {
+    let text = b"[1]\n[2]\n[3]\n";
+    let found = answered(&rt, rt.alloc(), "$[0]", text, (64, 1_000_000), &OpenGate);
+    let bytes = b"1\t$[0]\t1\n2\t$[0]\t2\n3\t$[0]\t3\n";
+    assert!(rt; is_answer(&found, bytes, None));
+    let found = answered(&rt, rt.alloc(), "$[0]", b"", (64, 1_000_000), &OpenGate);
+    assert!(rt; is_answer(&found, b"", None));
 }
 
 #[test]
-fn two_pieces_at_once(rt: HostRuntime) -> Result<(), Fail> {
+fn two_pieces_at_once(rt: HostRuntime) {
     let gate = Pair(Entered::new());
-    let Some(found) = answered(&rt, rt.alloc(), "$", b"[]\n{}\n", (2, 1), &gate) else {
-        panic!(&rt; "no answer")
-    };
-    assert_eq!(rt; found.bytes.as_slice(), b"1\t$\t[]\n2\t$\t{}\n".as_slice());
+    let found = answered(&rt, rt.alloc(), "$", b"[]\n{}\n", (2, 1), &gate);
+    assert!(rt; is_answer(&found, b"1\t$\t[]\n2\t$\t{}\n", None));
     assert_eq!(rt; gate.0.failures(), 0);
     assert_eq!(rt; gate.0.seen(), [true, true, false]);
-    Ok(())
 }
 
 #[test]
-fn the_first_piece_waits_for_the_third(rt: HostRuntime) -> Result<(), Fail> {
+fn the_first_piece_waits_for_the_third(rt: HostRuntime) {
     let gate = FirstWaits(Entered::new());
-    let Some(found) = answered(&rt, rt.alloc(), "$", b"[]\n{}\n1\n", (2, 1), &gate) else {
-        panic!(&rt; "no answer")
-    };
-    assert_eq!(rt;
-        found.bytes.as_slice(),
-        b"1\t$\t[]\n2\t$\t{}\n3\t$\t1\n".as_slice()
-    );
+    let found = answered(&rt, rt.alloc(), "$", b"[]\n{}\n1\n", (2, 1), &gate);
+    assert!(rt; is_answer(&found, b"1\t$\t[]\n2\t$\t{}\n3\t$\t1\n", None));
     assert_eq!(rt; gate.0.failures(), 0);
     assert_eq!(rt; gate.0.seen(), [true, true, true]);
-    Ok(())
 }
 
 #[test]
-fn pieces_above_a_mark_are_left(rt: HostRuntime) -> Result<(), Fail> {
+fn pieces_above_a_mark_are_left(rt: HostRuntime) {
     let gate = Recorder(AtomicU64::new(0));
     let text = b"1\n2\n{\n4\n5\n6\n7\n8\n9\n10\n";
-    let Some(found) = answered(&rt, rt.alloc(), "$", text, (1, 1), &gate) else {
-        panic!(&rt; "no answer")
+    let found = answered(&rt, rt.alloc(), "$", text, (1, 1), &gate);
+    let stop = DocStop {
+        line: 3,
+        fault: DocFault::Unreadable,
     };
-    assert_eq!(rt; found.bytes.as_slice(), b"1\t$\t1\n2\t$\t2\n".as_slice());
+    assert!(rt; is_answer(&found, b"1\t$\t1\n2\t$\t2\n", Some(stop)));
     assert_eq!(rt; gate.0.load(Ordering::SeqCst), 111);
-    Ok(())
 }
 
 #[test]

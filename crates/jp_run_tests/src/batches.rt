@@ -69,14 +69,12 @@ fn a_failing_read_leaves_whole_batches(rt: HostRuntime) {
             _ => 25,
         };
         let (end, bytes, reads) = byte_by_byte(&rt, rt.alloc(), "$.a", TWO, 1, call);
-        assert!(rt; matches!(end, Err(RunFault::Read)));
         let (front, _) = TWO_LINES.split_at(written);
-        assert_eq!(rt; bytes.as_slice(), front);
-        assert_eq!(rt; reads, call);
+        let is_read = matches!(end, Err(RunFault::Read)) && reads == call;
+        assert!(rt; is_read && bytes.as_slice() == front, "{call}");
         let (end, bytes, reads) = byte_by_byte(&rt, rt.alloc(), "$.a", TWO, 10, call);
-        assert!(rt; matches!(end, Err(RunFault::Read)));
-        assert!(rt; bytes.is_empty());
-        assert_eq!(rt; reads, call);
+        let is_read = matches!(end, Err(RunFault::Read)) && reads == call;
+        assert!(rt; is_read && bytes.is_empty(), "{call}");
     }
 }
 
@@ -115,8 +113,7 @@ fn two_workers_at_once_in_a_batch(rt: HostRuntime) -> Result<(), Fail> {
             &settings,
             &gate,
         );
-        assert!(rt; end.is_ok());
-        assert_eq!(rt; sink.bytes.as_slice(), b"1\t$\t[]\n2\t$\t{}\n".as_slice());
+        assert!(rt; end.is_ok() && sink.bytes.as_slice() == b"1\t$\t[]\n2\t$\t{}\n".as_slice());
         assert_eq!(rt; gate.0.failures(), 0);
         assert_eq!(rt; gate.0.seen(), [true, true, false]);
     }
@@ -142,8 +139,7 @@ fn a_thousand_lines_however_cut(rt: HostRuntime) -> Result<(), Fail> {
                     &settings,
                     &OpenGate,
                 );
-                assert!(rt; end.is_ok());
-                assert!(rt; sink.bytes.as_slice() == lines.as_bytes());
+                assert!(rt; end.is_ok() && sink.bytes.as_slice() == lines.as_bytes());
             }
         }
     }

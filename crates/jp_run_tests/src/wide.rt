@@ -44,8 +44,10 @@ fn a_long_list_by_any_number_of_workers(rt: HostRuntime) -> Result<(), Fail> {
             &Settings::new(workers, 1, 1)?,
             &OpenGate,
         );
-        assert!(rt; end.is_ok());
-        assert!(rt; sink.bytes.as_slice() == lines.as_bytes());
+        assert!(rt;
+            end.is_ok() && sink.bytes.as_slice() == lines.as_bytes(),
+            "{workers}"
+        );
     }
     Ok(())
 }

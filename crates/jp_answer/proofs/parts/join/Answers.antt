@@ -1,3 +1,4 @@
+use Rattle.std.proofs.Common.{rules}
 use Rattle.std.proofs.Common.{List, ◌∷◌, Option, ◌∙◌, ap}
 use Rattle.std.specs.Prelude.{IsSome}
 use Rattle.std.proofs.lemmas.List.Elements.{All-rest}
@@ -24,3 +25,6 @@ loop-place-preserved c =
       some = All-rest (λ (o : Option Outcome). IsSome o) c.in-Some.place rest
           (into_iter_items c.loop-place.place-iterator) c.in-Some.ensures.steps.0 c.loop-place.invariant.some;
     }
+
+pub returns-then-is_some-clause-answer : goal.returns-then-is_some-clause-answer
+returns-then-is_some-clause-answer c = search rules

@@ -29,10 +29,14 @@ use Rattle.jp_check.proofs.making.+making.Goals as goal
 pub make_segments-loop-segment-preserved : goal.make_segments-loop-segment-preserved
 make_segments-loop-segment-preserved t c = (
   made_more segment_in segment_of c.args.segments.now c.loop-segment.segment-index c.segment-item.result
-      c.in_ok-make_segment.field-0 _ _ _ _ c.loop-segment-test.true c.segment-item.is
-      c.in_ok-push.ensures.items c.in_ok-make_segment.ensures.roots c.in_ok-make_segment.ensures.made
+      (record { deep = c.segment-item.result.deep; selectors = c.in_ok-selectors.selectors }) _ _ _ _
+      c.loop-segment-test.true c.segment-item.is c.in_ok-push.ensures.items c.in_ok-selectors.ensures.roots
+      (λ all h. segment_read all c.segment-item.result.deep c.in_ok-selectors.selectors
+      ∙ ap (λ xs. tree.segment c.segment-item.result.deep (tree.selectors xs))
+      (c.in_ok-selectors.ensures.made all h ∙ ap (map selector_of) c.as_slice.ensures.value)
+      ∙ sym (segment_level c.segment-item.result))
       c.loop-segment.invariant.0,
-  begins_on _ _ _ c.loop-segment.invariant.1 c.in_ok-make_segment.ensures.roots,
+  begins_on _ _ _ c.loop-segment.invariant.1 c.in_ok-selectors.ensures.roots,
 )
 
 pub make_segments-returns-clause-made : goal.make_segments-returns-clause-made
@@ -157,13 +161,6 @@ make_nodes-returns-in_ok-push-in-Root-clause-roots t c =
     begins_on _ _ _ c.in_ok-segments.ensures.roots (listed_begins c.make_segments.new.roots.items _ _
     c.in_ok-push-in-Root.ensures.items)
 
-pub make_segment-returns-clause-made : goal.make_segment-returns-clause-made
-make_segment-returns-clause-made t c = λ all h.
-    segment_read all c.args.segment.now.deep c.in_ok-selectors.selectors
-    ∙ ap (λ xs. tree.segment c.args.segment.now.deep (tree.selectors xs))
-    (c.in_ok-selectors.ensures.made all h ∙ ap (map selector_of) c.as_slice.ensures.value)
-    ∙ sym (segment_level c.args.segment.now)
-
 pub make_selector-returns-in_ok-make_logical-in-Filter-clause-made
     : goal.make_selector-returns-in_ok-make_logical-in-Filter-clause-made
 make_selector-returns-in_ok-make_logical-in-Filter-clause-made t c = λ all h.
@@ -275,7 +272,7 @@ make_distinct-returns-clause-made t c = λ all h.
     ∙ ap (λ f. Some (function_of f)) c.in-Some-Distinct.field-0-is in
     ap source_argument (distinct_read all c.in_ok-new.field-0 c.args.want)
     ∙ ap (λ a. tree.call_argument (call_of_one (codes "distinct") a))
-    (ap₂ (λ q w. source_argument (nodes_in all q w)) c.in_ok-new.ensures.ok (sym c.wanted_inside.ensures)
+    (ap₂ (λ q w. source_argument (nodes_in all q w)) c.in_ok-new.ensures.ok (sym c.inside.ensures)
     ∙ c.in_ok-nodes.ensures.made all h)
     ∙ sym (ap tree.call_argument (called_one c.args.call.now c.as_str.result.now (codes "distinct")
     c.as_slice.result.now c.argument-item.result c.as_str.ensures.value (named _ distinct_function known)
@@ -283,52 +280,56 @@ make_distinct-returns-clause-made t c = λ all h.
 
 pub make_xor-returns-clause-made : goal.make_xor-returns-clause-made
 make_xor-returns-clause-made t c = λ all h.
-    xor_read all c.form_of.result c.in_ok-new.field-0 c.form_of-2.result c.in_ok-new-2.field-0
+    xor_read all c.form_of.result c.in_ok-first.first c.form_of-2.result c.in_ok-second.second
     ∙ ap₂ (λ a b. tree.test_call (call_of_two (codes "xor") a b))
-    (ap₂ truth_argument c.form_of.ensures (ap (logical_in all) c.in_ok-new.ensures.ok)
+    (ap (λ f. truth_argument f (logical_in all c.in_ok-first.first.value)) c.form_of.ensures
     ∙ c.in_ok-first.ensures.made all (begins_on _ _ _ c.in_ok-second.ensures.roots h))
-    (ap₂ truth_argument c.form_of-2.ensures (ap (logical_in all) c.in_ok-new-2.ensures.ok)
+    (ap (λ f. truth_argument f (logical_in all c.in_ok-second.second.value)) c.form_of-2.ensures
     ∙ c.in_ok-second.ensures.made all h)
     ∙ sym (ap tree.test_call (given_two (codes "xor") c.args.arguments.now c.left-item.result
     c.right-item.result c.in-len2.len_at_least c.in-len2.len_below c.left-item.is c.right-item.is))
 
-pub make_truth-returns-in_ok-make_nodes-in-Query-clause-made
-    : goal.make_truth-returns-in_ok-make_nodes-in-Query-clause-made
-make_truth-returns-in_ok-make_nodes-in-Query-clause-made t c = λ all h.
-    let a = argument_of c.args.argument.now in
-    ap (truth_argument (form_of a)) (test_read all c.in_ok-make_nodes-in-Query.field-0
-    ∙ ap source_test (c.in_ok-make_nodes-in-Query.ensures.made all h))
-    ∙ query_written a _ (ap argument_of c.in-Query.is ∙ query_argument_made c.in-Query.query)
-
-pub make_truth-returns-in-Logical-clause-made : goal.make_truth-returns-in-Logical-clause-made
-make_truth-returns-in-Logical-clause-made t c =
-    let a = argument_of c.args.argument.now in
-    IfOk-weaker c.make_logical.result _ _ (λ l r all h. ap (truth_argument (form_of a)) (r all h)
-    ∙ logical_written a _ (ap argument_of c.in-Logical.is ∙ logical_argument_made c.in-Logical.logical))
-    c.make_logical.ensures.made
-
-pub make_truth-returns-in-Call-clause-made : goal.make_truth-returns-in-Call-clause-made
-make_truth-returns-in-Call-clause-made t c =
-    let a = argument_of c.args.argument.now in
-    IfOk-weaker c.make_test_call.result _ _ (λ l r all h. ap (truth_argument (form_of a)) (r all h)
-    ∙ call_written a _ (ap argument_of c.in-Call.is ∙ call_argument_made c.in-Call.call))
-    c.make_test_call.ensures.made
-
 pub make_text_test-returns-clause-made : goal.make_text_test-returns-clause-made
-make_text_test-returns-clause-made t c = λ name known all h.
-    c.in_ok-test-2.ensures all name known
+make_text_test-returns-clause-made t c =
+    IfOk-weaker c.given_test.result _ _ (λ l r name known all h. r all name known
     ∙ ap₂ (λ s p. tree.test_call (call_of_two name s p))
     (c.in_ok-text.ensures.made all (begins_on _ _ _ c.in_ok-pattern-2.ensures.roots h))
     (c.in_ok-pattern-2.ensures.made all h)
     ∙ sym (ap tree.test_call (given_two name c.args.arguments.now c.text-item.result
-    c.pattern-item.result c.in-len2.len_at_least c.in-len2.len_below c.text-item.is c.pattern-item.is))
+    c.pattern-item.result c.in-len2.len_at_least c.in-len2.len_below c.text-item.is c.pattern-item.is)))
+    c.given_test.ensures
 
 pub make_text_test-returns-in-Some-clause-made : goal.make_text_test-returns-in-Some-clause-made
-make_text_test-returns-in-Some-clause-made t c = λ name known all h.
+make_text_test-returns-in-Some-clause-made t c =
     let literal : argument_of c.pattern-item.result ≡ text_argument (chars c.in-Some.pattern.now) =
     text_is (argument_of c.pattern-item.result) (chars c.in-Some.pattern.now) c.in-Some.ensures in
-    c.in_ok-test.ensures all name known
+    IfOk-weaker c.read_test.result _ _ (λ l r name known all h. r all name known
     ∙ ap₂ (λ s p. tree.test_call (call_of_two name s p)) (c.in_ok-text.ensures.made all h)
     (ap text_argument c.in_ok-pattern.ensures ∙ sym literal)
     ∙ sym (ap tree.test_call (given_two name c.args.arguments.now c.text-item.result
-    c.pattern-item.result c.in-len2.len_at_least c.in-len2.len_below c.text-item.is c.pattern-item.is))
+    c.pattern-item.result c.in-len2.len_at_least c.in-len2.len_below c.text-item.is c.pattern-item.is)))
+    c.read_test.ensures
+
+pub make_truth-returns-in_ok-new-in-Query-clause-made
+    : goal.make_truth-returns-in_ok-new-in-Query-clause-made
+make_truth-returns-in_ok-new-in-Query-clause-made t c = λ all h.
+    let a = argument_of c.args.argument.now in
+    ap (truth_argument (form_of a)) (ap (logical_in all) c.in_ok-new-in-Query.ensures.ok
+    ∙ test_read all c.in_ok-nodes-in-Query.nodes ∙ ap source_test (c.in_ok-nodes-in-Query.ensures.made all h))
+    ∙ query_written a _ (ap argument_of c.in-Query.is ∙ query_argument_made c.in-Query.query)
+
+pub make_truth-returns-in_ok-new-in-Logical-clause-made
+    : goal.make_truth-returns-in_ok-new-in-Logical-clause-made
+make_truth-returns-in_ok-new-in-Logical-clause-made t c = λ all h.
+    let a = argument_of c.args.argument.now in
+    ap (truth_argument (form_of a)) (ap (logical_in all) c.in_ok-new-in-Logical.ensures.ok
+    ∙ c.in_ok-made-in-Logical.ensures.made all h)
+    ∙ logical_written a _ (ap argument_of c.in-Logical.is ∙ logical_argument_made c.in-Logical.logical)
+
+pub make_truth-returns-in_ok-new-in-Call-clause-made
+    : goal.make_truth-returns-in_ok-new-in-Call-clause-made
+make_truth-returns-in_ok-new-in-Call-clause-made t c = λ all h.
+    let a = argument_of c.args.argument.now in
+    ap (truth_argument (form_of a)) (ap (logical_in all) c.in_ok-new-in-Call.ensures.ok
+    ∙ c.in_ok-made-in-Call.ensures.made all h)
+    ∙ call_written a _ (ap argument_of c.in-Call.is ∙ call_argument_made c.in-Call.call)

@@ -1,3 +1,4 @@
+use Rattle.std.proofs.lemmas.Grind.{common_steps}
 use Rattle.std.proofs.Common.{◌≡◌, ◌<◌, length, List, [], ◌∷◌, refl, arith}
 use Rattle.jp_syntax.specs.Tree.{arguments}
 use Rattle.jp_syntax.specs.PartViews.{arguments_of}
@@ -12,3 +13,6 @@ fewer (x ∷ y ∷ xs) h = absurd (omega arith)
 
 pub returns-in_default : goal.returns-in_default
 returns-in_default c = fewer c.args.arguments.now c.in_default.len_below
+
+pub returns-in-len2-up : goal.returns-in-len2-up
+returns-in-len2-up c = grind (arith, common_steps)

@@ -639,7 +639,7 @@ ask-returns-in_ok-answer-in-Distinct-clause-answer g t c =
     let want = c.args.want in
     let a = c.in_ok-answer-in-Distinct.answer in
     let nodes = c.in-Distinct.nodes in
-    let inner = ap₂ (λ w q. tells w (nodes_given base q w n) a) (sym c.inner_want.ensures)
+    let inner = ap₂ (λ w q. tells w (nodes_given base q w n) a) (sym c.inside.ensures)
     (sym c.deref.ensures) ∙ c.in_ok-answer-in-Distinct.ensures.answer in
     ap (λ ns. tells want ns c.of_distinct.result)
     (ap (λ q. nodes_given base q want n) c.in-Distinct.is ∙ sym (nodes_distinct base n nodes want))

@@ -1,3 +1,5 @@
+use Rattle.std.proofs.Common.{arith}
+use Rattle.std.proofs.lemmas.Grind.{common_steps}
 use Rattle.std.proofs.Common.{◌∙◌, ap, sym}
 use Rattle.serde_json.specs.Written.{compact_text}
 use Rattle.jp_doc.proofs.BackLaws.{value_back}
@@ -13,3 +15,6 @@ returns-in-Ok-clause-ok c =
     (c.as_str.ensures.value ∙ c.in_ok-text.ensures.text c.requires
     ∙ ap compact_text (sym (value_back c.args.value.now c.requires)))
     c.in-Ok.ensures.ok
+
+pub returns-clause-err : goal.returns-clause-err
+returns-clause-err c = grind (arith, common_steps)

@@ -1,3 +1,5 @@
+use Rattle.std.proofs.Common.{arith}
+use Rattle.std.proofs.lemmas.Grind.{common_steps}
 use Rattle.std.proofs.Common.{◌∙◌, ap}
 use Rattle.jp_syntax.specs.Tree as tree
 use Rattle.jp_path.proofs.SourceSteps.{next_segment, next_steps}
@@ -15,3 +17,6 @@ loop-step-preserved c = record {
       c.step-item.is
       _ c.loop-step.invariant.steps c.in_ok-one_selector.ensures.step;
 }
+
+pub returns-clause-segments : goal.returns-clause-segments
+returns-clause-segments c = grind (arith, common_steps)

@@ -560,3 +560,6 @@ advance_repeated-advance_letters-requires-clause-fits t c =
     let f : letters (counted c.args.least m a) ≡ m * 1 = letters-counted a c.args.least m
     ∙ ap (λ n. m * n) one in
     omega (arith, e, f, c.requires.fits)
+
+pub advance_repeated-advance_counted-requires : goal.advance_repeated-advance_counted-requires
+advance_repeated-advance_counted-requires t c = search rules

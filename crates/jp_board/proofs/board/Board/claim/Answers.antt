@@ -9,3 +9,9 @@ fetch_add-found-requires c = (
   claims _ _ _ _ c.args.seat.now.one (c.args.seat.now.told_once
       ∙ ap (λ b. if b then 1 else 0) c.if-seat.false),
 )
+
+pub invariant_of-seat-2 : goal.invariant_of-seat-2
+invariant_of-seat-2 c = search rules
+
+pub returns-then-found-self-clause-rises : goal.returns-then-found-self-clause-rises
+returns-then-found-self-clause-rises c = search rules

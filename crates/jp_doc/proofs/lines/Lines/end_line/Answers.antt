@@ -1,3 +1,4 @@
+use Rattle.std.proofs.Common.{rules}
 use Rattle.std.proofs.Common.{◌≡◌, ℕ, ◌+◌, ◌∷◌, Vec, Global, true≢false, ap, sym, ◌∙◌, subst}
 use Rattle.std.proofs.Math.ListN.{set}
 use Rattle.jp_doc.specs.Added.{Adds}
@@ -40,3 +41,6 @@ returns-clause-lines c =
             (sym tests ∙ v.if-not-is_blank.false)
       ]
     ])
+
+pub returns-clause-progress : goal.returns-clause-progress
+returns-clause-progress c = search rules

@@ -1,3 +1,4 @@
+use Rattle.std.proofs.Common.{rules}
 use Rattle.std.proofs.Common.{◌≡◌, ℕ, ◌<◌, slice_index_or, subst, arith}
 use Rattle.jp_regexp.proofs.StartLemmas.{flags_more, passing_more}
 use Rattle.jp_regexp.proofs.starts.Starts.find.Goals as goal
@@ -18,3 +19,6 @@ loop-i-preserved c =
           c.loop-i-test.true at c.loop-i.one c.loop-i.two kept.flags (kept.passing cells of)
           c.if-two-marks-ne0.false;
     }
+
+pub returns-then-two-marks-ne0-clause-same : goal.returns-then-two-marks-ne0-clause-same
+returns-then-two-marks-ne0-clause-same c = search rules
