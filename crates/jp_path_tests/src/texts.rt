@@ -1,5 +1,7 @@
 //! The calls with ample memory. The expected texts come from RFC 9535, 2.7.
 
+ghost use Rattle.std.specs.Prelude.{◌≢◌};
+
 use jp_doc::{DocFault, Document, Location, Step};
 use jp_path::{write_fault, write_line, write_path};
 use serde_json::Value;
@@ -78,12 +80,9 @@ fn lines(rt: HostRuntime) -> Result<(), Fail> {
 }
 
 /// Whether the fault's line, and no more, is appended.
-fn is_appended(
-    alloc: Global,
-    number: u64,
-    fault: DocFault,
-    line: &str,
-) -> Result<bool, AllocError> {
+fn is_appended(alloc: Global, number: u64, fault: DocFault, line: &str) -> Result<bool, AllocError>
+    requires { fault ≢ DocFault.Memory }
+{
     let mut out = Vec::new(alloc);
     out.extend_from_slice(b"front")?;
     write_fault(alloc, number, &fault, &mut out)?;
