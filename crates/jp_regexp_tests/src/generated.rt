@@ -245,6 +245,29 @@ fn counted(count: (u64, u64), i: u64) -> (u64, u64) {
     (count.0.wrapping_add(1), check % 9_973)
 }
 
+/// How many of the texts match the pattern, and in how many a part does, each with its check number.
+fn counts(
+    alloc: Global,
+    pattern: &str,
+    texts: &[String],
+) -> Result<((u64, u64), (u64, u64)), Fail> {
+    let patterns = both(alloc, pattern)?;
+    let mut whole = (0u64, 0u64);
+    let mut part = (0u64, 0u64);
+    let mut i = 0u64;
+    for text in texts {
+        i = i.wrapping_add(1);
+        let (is_whole, is_part) = answers(alloc, &patterns, text)?;
+        if is_whole {
+            whole = counted(whole, i);
+        }
+        if is_part {
+            part = counted(part, i);
+        }
+    }
+    Ok((whole, part))
+}
+
 #[test]
 fn generated(rt: HostRuntime) -> Result<(), Fail> {
     let alloc = rt.alloc();
@@ -252,29 +275,14 @@ fn generated(rt: HostRuntime) -> Result<(), Fail> {
     assert_eq!(rt; texts.len(), 364);
     for row in ROWS.lines() {
         let mut words = row.split_whitespace();
-        let wanted = (
-            number(&mut words)?,
-            number(&mut words)?,
-            number(&mut words)?,
-            number(&mut words)?,
-        );
+        let whole = (number(&mut words)?, number(&mut words)?);
+        let part = (number(&mut words)?, number(&mut words)?);
         let text = words.next().unwrap_or("");
-        let patterns = both(alloc, text)?;
-        let mut whole = (0u64, 0u64);
-        let mut part = (0u64, 0u64);
-        let mut i = 0u64;
-        for text in &texts {
-            i = i.wrapping_add(1);
-            let (is_whole, is_part) = answers(alloc, &patterns, text)?;
-            if is_whole {
-                whole = counted(whole, i);
-            }
-            if is_part {
-                part = counted(part, i);
-            }
-        }
-        let given = (whole.0, whole.1, part.0, part.1);
-        assert_eq!(rt; given, wanted, "at {text}");
+        assert_eq!(rt;
+            counts(alloc, text, texts.as_slice())?,
+            (whole, part),
+            "at {text}"
+        );
     }
     Ok(())
 }

@@ -1,26 +1,31 @@
 //! What is left to read of a pattern, step by step, and how many places there are.
 
-use crate::reading::{read, repeated};
+use crate::reading::{is_empty_alone, read, repeated, said};
 use jp_regexp::Pattern;
+use std::alloc::{AllocError, Global};
 use std::test::*;
+
+/// Whether ten thousand letters lead to at most ten places each, the last of them to one that accepts, and
+/// another character to none, or to the beginning alone.
+fn stays_small(alloc: Global, pattern: &Pattern, anew: bool) -> Result<bool, AllocError> {
+    let mut terms = pattern.start(alloc)?;
+    let mut is_small = terms.len() == 1;
+    for _ in 0..10_000 {
+        terms.step('a', anew)?;
+        is_small = is_small && terms.len() <= 10;
+    }
+    is_small = is_small && terms.accepts();
+    terms.step('x', anew)?;
+    Ok(is_small && terms.len() == u64::from(anew) && terms.is_empty() != anew)
+}
 
 #[test]
 fn few_places(rt: HostRuntime) -> Result<(), Fail> {
     let alloc = rt.alloc();
     let pattern = read(alloc, "(a|b)*a(a|b){3}")?;
     assert_eq!(rt; pattern.unrolled_size(), 9);
-    for anew in [false, true] {
-        let mut terms = pattern.start(alloc)?;
-        assert_eq!(rt; terms.len(), 1);
-        for _ in 0..10_000 {
-            terms.step('a', anew)?;
-            assert!(rt; terms.len() <= 10);
-        }
-        assert!(rt; terms.accepts());
-        terms.step('x', anew)?;
-        assert_eq!(rt; terms.len(), u64::from(anew));
-        assert_eq!(rt; terms.is_empty(), !anew);
-    }
+    assert!(rt; stays_small(alloc, &pattern, false)?);
+    assert!(rt; stays_small(alloc, &pattern, true)?);
     Ok(())
 }
 
@@ -70,10 +75,9 @@ fn many_copies(rt: HostRuntime) -> Result<(), Fail> {
     assert_eq!(rt; pattern.unrolled_size(), 2_000);
     for (count, wanted) in [(999, false), (1_000, true), (2_000, true), (2_001, false)] {
         let text = repeated(alloc, "a", count)?;
-        assert_eq!(rt; pattern.matches(alloc, &text)?, wanted, "at {count}");
         assert_eq!(rt;
-            pattern.found_in(alloc, &text)?,
-            count >= 1_000,
+            said(alloc, &pattern, &text)?,
+            (wanted, count >= 1_000),
             "at {count}"
         );
     }
@@ -85,13 +89,20 @@ fn at_once(rt: HostRuntime) -> Result<(), Fail> {
     let alloc = rt.alloc();
     let mut stars = repeated(alloc, "(", 64)?;
     stars.push_str(&repeated(alloc, ")*", 64)?)?;
-    for text in ["((((){1000}){1000}){1000}){1000}", stars.as_str()] {
-        let pattern: Pattern = read(alloc, text)?;
-        assert_eq!(rt; pattern.unrolled_size(), 0);
-        assert!(rt; pattern.matches(alloc, "")?);
-        assert!(rt; !pattern.matches(alloc, "a")?);
-        assert!(rt; pattern.found_in(alloc, "a")?);
-    }
+    assert!(rt; is_empty_alone(alloc, "((((){1000}){1000}){1000}){1000}")?);
+    assert!(rt; is_empty_alone(alloc, &stars)?);
+    Ok(())
+}
+
+/// Whether the pattern is found nowhere in the text.
+fn is_found_nowhere(alloc: Global, pattern: &str, text: &str) -> Result<bool, Fail> {
+    let pattern = read(alloc, pattern)?;
+    Ok(said(alloc, &pattern, text)? == (false, false))
+}
+
+#[test]
+fn nowhere(rt: HostRuntime) -> Result<(), Fail> {
+    let alloc = rt.alloc();
     let letters = repeated(alloc, "a", 100_000)?;
     for text in [
         "(a|aa)*b",
@@ -100,9 +111,7 @@ fn at_once(rt: HostRuntime) -> Result<(), Fail> {
         ".*x.*y.*z",
         "[b-z]{1000}",
     ] {
-        let pattern = read(alloc, text)?;
-        assert!(rt; !pattern.matches(alloc, &letters)?, "at {text}");
-        assert!(rt; !pattern.found_in(alloc, &letters)?, "at {text}");
+        assert!(rt; is_found_nowhere(alloc, text, &letters)?, "at {text}");
     }
     Ok(())
 }

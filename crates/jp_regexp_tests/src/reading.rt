@@ -1,7 +1,7 @@
 //! Which texts are patterns, and how large they are once repetitions are written out.
 
 use jp_regexp::Pattern;
-use std::alloc::Global;
+use std::alloc::{AllocError, Global};
 use std::test::*;
 
 /// A size and a pattern in each line.
@@ -73,6 +73,30 @@ pub fn answers(alloc: Global, both: &[Pattern; 2], text: &str) -> Result<(bool, 
     Ok((whole, part))
 }
 
+/// Whether the whole text matches, and whether a part does.
+pub fn said(alloc: Global, pattern: &Pattern, text: &str) -> Result<(bool, bool), AllocError> {
+    let whole = pattern.matches(alloc, text)?;
+    Ok((whole, pattern.found_in(alloc, text)?))
+}
+
+/// Whether the pattern has no atoms at all, and so matches the empty text alone.
+pub fn is_empty_alone(alloc: Global, text: &str) -> Result<bool, Fail> {
+    let pattern = read(alloc, text)?;
+    let whole = pattern.unrolled_size() == 0 && pattern.matches(alloc, "")?;
+    Ok(whole && said(alloc, &pattern, "a")? == (false, true))
+}
+
+/// Whether neither call takes the text for a pattern.
+fn is_refused(alloc: Global, text: &str) -> Result<bool, AllocError> {
+    let is_read = Pattern::read(alloc, text)?.is_some();
+    Ok(!is_read && Pattern::ready(alloc, text)?.is_none())
+}
+
+/// The unrolled size of a pattern.
+fn size_of(alloc: Global, text: &str) -> Result<u64, Fail> {
+    Ok(read(alloc, text)?.unrolled_size())
+}
+
 /// The part so many times over.
 pub fn repeated(alloc: Global, part: &str, count: usize) -> Result<String, Fail> {
     let mut text = String::new(alloc);
@@ -96,18 +120,26 @@ fn sizes(rt: HostRuntime) -> Result<(), Fail> {
         let Some((size, text)) = row.split_once(' ') else {
             return Err("no size")?;
         };
-        let pattern = read(rt.alloc(), text)?;
         assert_eq!(rt;
-            Ok(pattern.unrolled_size()),
+            Ok(size_of(rt.alloc(), text)?),
             size.parse::<u64>(),
             "at {text}"
         );
     }
+    Ok(())
+}
+
+/// Whether a category's name between these makes a pattern of one atom.
+fn is_one_atom(alloc: Global, before: &str, name: &str, after: &str) -> Result<bool, Fail> {
+    let text = between(alloc, before, name, after)?;
+    Ok(size_of(alloc, &text)? == 1)
+}
+
+#[test]
+fn categories(rt: HostRuntime) -> Result<(), Fail> {
     for name in CATEGORIES.split(' ') {
-        let inside = between(rt.alloc(), "\\p{", name, "}")?;
-        assert_eq!(rt; read(rt.alloc(), &inside)?.unrolled_size(), 1, "at {name}");
-        let outside = between(rt.alloc(), "[^\\P{", name, "}]")?;
-        assert_eq!(rt; read(rt.alloc(), &outside)?.unrolled_size(), 1, "at {name}");
+        assert!(rt; is_one_atom(rt.alloc(), "\\p{", name, "}")?, "at {name}");
+        assert!(rt; is_one_atom(rt.alloc(), "[^\\P{", name, "}]")?, "at {name}");
     }
     Ok(())
 }
@@ -116,30 +148,39 @@ fn sizes(rt: HostRuntime) -> Result<(), Fail> {
 fn no_patterns(rt: HostRuntime) -> Result<(), Fail> {
     let alloc = rt.alloc();
     for text in REFUSED.lines() {
-        assert!(rt; Pattern::read(alloc, text)?.is_none(), "at {text}");
-        assert!(rt; Pattern::ready(alloc, text)?.is_none(), "at {text}");
+        assert!(rt; is_refused(alloc, text)?, "at {text}");
     }
     for part in ["(", "[", "a", "[a", "()(", "{", "\\p{", "a{1"] {
         let text = repeated(alloc, part, 300_000)?;
-        assert!(rt; Pattern::read(alloc, &text)?.is_none(), "at {part}");
+        assert!(rt; is_refused(alloc, &text)?, "at {part}");
     }
     Ok(())
+}
+
+/// A letter in 64 pairs of parentheses, with this behind each.
+fn nested(alloc: Global, quantity: &str) -> Result<String, Fail> {
+    let mut text = repeated(alloc, "(", 64)?;
+    text.push_str("a")?;
+    let close = between(alloc, ")", quantity, "")?;
+    text.push_str(&repeated(alloc, &close, 64)?)?;
+    Ok(text)
+}
+
+/// Whether the pattern has one atom and matches `a`, and not `ab`.
+fn is_a_letter(alloc: Global, text: &str) -> Result<bool, Fail> {
+    let pattern = read(alloc, text)?;
+    let is_matched = pattern.unrolled_size() == 1 && pattern.matches(alloc, "a")?;
+    Ok(is_matched && !pattern.matches(alloc, "ab")?)
 }
 
 #[test]
 fn depth(rt: HostRuntime) -> Result<(), Fail> {
     let alloc = rt.alloc();
     for quantity in ["", "+", "*", "?", "{1}"] {
-        let close = between(alloc, ")", quantity, "")?;
-        let mut most = repeated(alloc, "(", 64)?;
-        most.push_str("a")?;
-        most.push_str(&repeated(alloc, &close, 64)?)?;
-        let pattern = read(alloc, &most)?;
-        assert_eq!(rt; pattern.unrolled_size(), 1, "at {quantity}");
-        assert!(rt; pattern.matches(alloc, "a")?, "at {quantity}");
-        assert!(rt; !pattern.matches(alloc, "ab")?, "at {quantity}");
+        let most = nested(alloc, quantity)?;
+        assert!(rt; is_a_letter(alloc, &most)?, "at {quantity}");
         let over = between(alloc, "(", &most, ")")?;
-        assert!(rt; Pattern::read(alloc, &over)?.is_none(), "at {quantity}");
+        assert!(rt; is_refused(alloc, &over)?, "at {quantity}");
     }
     Ok(())
 }

@@ -8,22 +8,23 @@ use std::alloc::{AllocError, Global};
 
 const PATTERN: &str = "(a|b)*c[^d-f\\n]{2,3}|\\p{Lu}+";
 
-/// What a pattern that is read, and one that is made ready, say of two texts.
+/// Whether the pattern says of these texts what it should.
+fn is_right(alloc: Global, pattern: &Pattern) -> Result<bool, AllocError> {
+    let whole = pattern.matches(alloc, "abacgh")? && !pattern.matches(alloc, "abacdh")?;
+    let part = pattern.found_in(alloc, "dAd")? && !pattern.found_in(alloc, "dad")?;
+    Ok(whole && part)
+}
+
+/// Whether the pattern is right, as it is read and made ready.
 fn matched(alloc: Global) -> Result<bool, AllocError> {
-    for pattern in [
-        Pattern::read(alloc, PATTERN)?,
-        Pattern::ready(alloc, PATTERN)?,
-    ] {
-        let Some(pattern) = pattern else {
-            return Ok(false);
-        };
-        let whole = pattern.matches(alloc, "abacgh")? && !pattern.matches(alloc, "abacdh")?;
-        let part = pattern.found_in(alloc, "dAd")? && !pattern.found_in(alloc, "dad")?;
-        if !whole || !part {
-            return Ok(false);
-        }
-    }
-    Ok(true)
+    let Some(read) = Pattern::read(alloc, PATTERN)? else {
+        return Ok(false);
+    };
+    let is_read_right = is_right(alloc, &read)?;
+    let Some(ready) = Pattern::ready(alloc, PATTERN)? else {
+        return Ok(false);
+    };
+    Ok(is_read_right && is_right(alloc, &ready)?)
 }
 
 fn match_or_none(alloc: Global) -> Option<bool> {
