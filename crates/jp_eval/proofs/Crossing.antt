@@ -29,7 +29,8 @@ use Rattle.jp_trail.specs.contracts.link.Link as Link
 use Rattle.jp_eval.proofs.fork.Cuts.TheSendSync as cuts
 use Rattle.jp_eval.specs.contracts.fork.Cuts as Cuts
 use Rattle.jp_eval.specs.contracts.part.Part as Part
-use Rattle.jp_eval.specs.contracts.children.Child as Child
+use Rattle.jp_eval.specs.contracts.row.Child as Child
+use Rattle.jp_eval.specs.contracts.row.Row as Row
 use Rattle.jp_eval.specs.contracts.walk.Task as Task
 use Rattle.jp_eval.specs.contracts.ground.Ground as Ground
 use Rattle.jp_eval.specs.contracts.different.Different as Different
@@ -102,8 +103,11 @@ part_sync a = search (value_sync, crosses, sendable) depth 60 fits 20000
 part_field : (a : NamedLft) → IsSync (Part.the_field a).row
 part_field a = search (value_sync, crosses, sendable) depth 60 fits 20000
 
-pub child_sync : (a : NamedLft) → IsSync (Child.the_row a)
+child_sync : (a : NamedLft) → IsSync (Child.the_row a)
 child_sync a = search (part_field, links.the_field_sync, crosses, sendable) depth 60 fits 20000
+
+pub row_sync : (a b : NamedLft) → IsSync (Row.the_row a b)
+row_sync a b = search (part_field, child_sync, crosses, sendable) depth 60 fits 20000
 
 pub task_sync : (a : NamedLft) → IsSync (Task.the_row a)
 task_sync a = search (segment_sync, selector_sync, logical_sync, crosses, sendable) depth 60 fits 20000
@@ -121,20 +125,19 @@ answer_sync a = search (part_sync, alone_field, different_field, crosses, sendab
 pub ground_sync : (a : NamedLft) → IsSync (Ground.the_row a)
 ground_sync a = search (part_field, root_sync, answer_sync, crosses, sendable) depth 60 fits 20000
 
--- what a half is given: the fork, the runtime, the cuts, the ground, the task, the children, the links, a
--- taker
-abbrev pub captured : (F R V : RattleType) (f r c : NamedLft) (g gv t tv s sv l lv : NamedLft)
+-- what a half is given: the fork, the runtime, the cuts, the ground, the task, the row, the links, a taker
+abbrev pub captured : (F R V : RattleType) (f r c : NamedLft) (g gv t tv s sc sv l lv : NamedLft)
     → List RattleType
-captured F R V f r c g gv t tv s sv l lv =
+captured F R V f r c g gv t tv s sc sv l lv =
     ShrRef f.mir f.lft F ∷ ShrRef r.mir r.lft R ∷ ShrRef c.mir c.lft Cuts.the_row
     ∷ ShrRef g.mir g.lft (Ground.the_row gv) ∷ ShrRef t.mir t.lft (Task.the_row tv)
-    ∷ ShrSlice s.mir s.lft (Child.the_row sv) ∷ ShrSlice l.mir l.lft (Link.the_row lv) ∷ V ∷ []
+    ∷ ShrRef s.mir s.lft (Row.the_row sc sv) ∷ ShrSlice l.mir l.lft (Link.the_row lv) ∷ V ∷ []
 
 pub captured_send : (name : Sym) (F R V : RattleType) (f r c : NamedLft)
-    (g gv t tv s sv l lv : NamedLft) → IsSync F → IsSync R → IsSend V
-    → IsSend (TupleAt name (captured F R V f r c g gv t tv s sv l lv))
-captured_send name F R V f r c g gv t tv s sv l lv fs rs vs =
-    let rows = captured F R V f r c g gv t tv s sv l lv in
+    (g gv t tv s sc sv l lv : NamedLft) → IsSync F → IsSync R → IsSend V
+    → IsSend (TupleAt name (captured F R V f r c g gv t tv s sc sv l lv))
+captured_send name F R V f r c g gv t tv s sc sv l lv fs rs vs =
+    let rows = captured F R V f r c g gv t tv s sc sv l lv in
     recorded_send (field_at name rows).row _ _ (type_at name rows).to_one
     (struct_send (shape (type_at name rows)) (
       shr_send f.mir f.lft F fs,
@@ -147,7 +150,7 @@ captured_send name F R V f r c g gv t tv s sv l lv fs rs vs =
             (
               shr_send t.mir t.lft _ (task_sync tv),
               (
-                shr_slice_send s.mir s.lft _ (child_sync sv),
+                shr_send s.mir s.lft _ (row_sync sc sv),
                 (shr_slice_send l.mir l.lft _ (links.the_sync lv), (vs, tt)),
               ),
             ),

@@ -1,18 +1,15 @@
 -- Children that are gathered, and that are walked in halves.
 use Rattle.std.proofs.Common.{◌≡◌, ℕ, zero, suc, ◌+◌, ◌<◌, ◌≤◌, List, [], ◌∷◌, ◌++◌, length, get_or, take}
-use Rattle.std.proofs.Common.{take-append-drop, drop, refl, sym, ap, ◌∙◌, subst, append_assoc, arith}
+use Rattle.std.proofs.Common.{take-append-drop, drop, sym, ap, ◌∙◌, subst, append_assoc, arith}
 use Rattle.std.proofs.lemmas.List.{at_drop_more, map-append}
 use Rattle.std.proofs.lemmas.List.Concat.{flat_map-append}
 use Rattle.std.specs.List.{flat_map}
 use Rattle.serde_json.specs.Data.{depth}
-use Rattle.serde_json.specs.View.{view, items_view}
-use Rattle.serde_json.specs.declared.value.Value.{Value}
-use Rattle.jp_doc.specs.Json.{items_of, value_of}
-use Rattle.jp_doc.specs.Location.{Location, Node, node, index}
+use Rattle.serde_json.specs.View.{view}
+use Rattle.jp_doc.specs.Location.{Location, Node}
 use Rattle.jp_eval.specs.Kept.{plus}
 use Rattle.jp_eval.specs.Kids.{kid, kids, kids_height}
-use Rattle.jp_eval.specs.Nodes.{item_nodes}
-use Rattle.jp_eval.specs.declared.children.Child.{Child}
+use Rattle.jp_eval.specs.declared.row.Child.{Child}
 use Rattle.jp_eval.proofs.Keeping.{plus-append, stepped}
 
 height-push : (cs : List Child) (c : Child) (m : ℕ) → kids_height cs ≤ m
@@ -39,14 +36,6 @@ gathered at cs more c n others rest all e is first inv =
     ap (λ l. l ++ rest) (one_more at cs more c n e is)
     ∙ append_assoc (kids at cs) (n ∷ []) rest ∙ ap (λ l. kids at cs ++ l) (sym first) ∙ inv
 
-pub first_item : (at : Location) (i : ℕ) (xs : List Value) (x : Value) → i < length xs → x ≡ get_or xs i x
-    → item_nodes at i (items_of (items_view (drop i xs))) ≡ node (at ++ index i ∷ []) (value_of x)
-    ∷ item_nodes at (i + 1) (items_of (items_view (drop (i + 1) xs)))
-first_item at i xs x h is =
-    at_drop_more (λ ys. item_nodes at i (items_of (items_view ys))) xs i x h
-    ∙ ap (λ y. node (at ++ index i ∷ []) (value_of y)
-    ∷ item_nodes at (i + 1) (items_of (items_view (drop (i + 1) xs)))) (sym is)
-
 -- ---- halves
 
 pub front_height : (m : ℕ) (cs : List Child) → kids_height (take m cs) ≤ kids_height cs
@@ -59,18 +48,19 @@ back_height zero cs = omega arith
 back_height (suc m) [] = omega arith
 back_height (suc m) (c ∷ cs) = let h = back_height m cs in omega arith
 
+pub kids_of_halves : (at : Location) (m : ℕ) (cs front back : List Child) → front ≡ take m cs
+    → back ≡ drop m cs → kids at front ++ kids at back ≡ kids at cs
+kids_of_halves at m cs front back fe be = sym (map-append (kid at) front back) ∙ ap (kids at)
+    (ap (λ l. l ++ back) fe ∙ ap (λ l. take m cs ++ l) be ∙ take-append-drop m cs)
+
 -- one half and then the other
-pub halves_joined : {K : Type 0} (put : K → Node → K) (f : Node → List Node) (at : Location) (m : ℕ)
-    (cs front back : List Child) (k mid last : K) → front ≡ take m cs → back ≡ drop m cs
-    → mid ≡ plus put k (flat_map f (kids at front)) → last ≡ plus put mid (flat_map f (kids at back))
-    → last ≡ plus put k (flat_map f (kids at cs))
-halves_joined put f at m cs front back k mid last fe be first second =
-    let one = flat_map f (kids at front) in
-    let two = flat_map f (kids at back) in
-    second ∙ ap (λ j. plus put j two) first ∙ sym (plus-append put k one two)
-    ∙ ap (plus put k) (sym (flat_map-append f (kids at front) (kids at back))
-    ∙ ap (flat_map f) (sym (map-append (kid at) front back) ∙ ap (kids at)
-    (ap (λ l. l ++ back) fe ∙ ap (λ l. take m cs ++ l) be ∙ take-append-drop m cs)))
+pub halves_joined : {K : Type 0} (put : K → Node → K) (f : Node → List Node) (left right all : List Node)
+    (k mid last : K) → left ++ right ≡ all → mid ≡ plus put k (flat_map f left)
+    → last ≡ plus put mid (flat_map f right) → last ≡ plus put k (flat_map f all)
+halves_joined put f left right all k mid last e first second =
+    second ∙ ap (λ j. plus put j (flat_map f right)) first
+    ∙ sym (plus-append put k (flat_map f left) (flat_map f right))
+    ∙ ap (plus put k) (sym (flat_map-append f left right) ∙ ap (flat_map f) e)
 
 -- ---- a list that is gone over
 
@@ -85,31 +75,10 @@ before_and_behind done more xs i x h is e inv =
 
 -- ---- children, one by one
 
-next : (i : ℕ) → suc i + 1 ≡ suc (i + 1)
-next i = omega arith
-
-drop_none : (i : ℕ) → drop {A = Child} i [] ≡ []
-drop_none zero = refl
-drop_none (suc i) = refl
-
-pub others_height : (cs : List Child) (i : ℕ) → kids_height (drop (i + 1) cs) ≤ kids_height (drop i cs)
-others_height [] i = rw (drop_none (i + 1), drop_none i) (omega arith)
-others_height (c ∷ cs) zero = omega arith
-others_height (c ∷ cs) (suc i) = rw (next i) (others_height cs i)
-
-pub first_height : (cs : List Child) (i : ℕ) (c : Child) → i < length cs → c ≡ get_or cs i c
-    → suc (depth (view c.part.value.now)) ≤ kids_height (drop i cs)
-first_height [] i c h is = absurd (omega arith)
-first_height (d ∷ cs) zero c h is =
-    subst (λ u. suc (depth (view u.part.value.now)) ≤ kids_height (d ∷ cs)) (sym is) (omega arith)
-first_height (d ∷ cs) (suc i) c h is = first_height cs i c (omega arith) is
-
-pub kid_done : {K : Type 0} (put : K → Node → K) (f : Node → List Node) (at : Location) (cs : List Child)
-    (i : ℕ) (c : Child) (k mid start : K) (all : List Node) → i < length cs → c ≡ get_or cs i c
-    → mid ≡ plus put k (f (kid at c)) → plus put k (flat_map f (kids at (drop i cs))) ≡ plus put start all
-    → plus put mid (flat_map f (kids at (drop (i + 1) cs))) ≡ plus put start all
-kid_done put f at cs i c k mid start all h is e inv =
-    let others = flat_map f (kids at (drop (i + 1) cs)) in
-    let first : flat_map f (kids at (drop i cs)) ≡ f (kid at c) ++ others =
-    at_drop_more (λ ys. flat_map f (kids at ys)) cs i c h ∙ ap (λ y. f (kid at y) ++ others) (sym is) in
-    stepped put k mid (f (kid at c)) others all start e (sym (ap (plus put k) first) ∙ inv)
+pub kid_done : {K : Type 0} (put : K → Node → K) (f : Node → List Node) (n : Node)
+    (left others : List Node) (k mid start : K) (all : List Node) → left ≡ n ∷ others
+    → mid ≡ plus put k (f n) → plus put k (flat_map f left) ≡ plus put start all
+    → plus put mid (flat_map f others) ≡ plus put start all
+kid_done put f n left others k mid start all first e inv =
+    stepped put k mid (f n) (flat_map f others) all start e
+    (sym (ap (λ ns. plus put k (flat_map f ns)) first) ∙ inv)

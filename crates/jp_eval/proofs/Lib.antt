@@ -27,5 +27,6 @@ pub mod FirstOnes
 pub mod Differing
 pub mod SameLocations
 pub mod Gathered
+pub mod Rows
 pub mod Stretches
 mod Crossing

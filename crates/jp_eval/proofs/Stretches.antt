@@ -8,7 +8,7 @@ use Rattle.jp_doc.specs.Location.{Location, Node}
 use Rattle.jp_check.specs.declared.ready.Segment.{Segment}
 use Rattle.jp_check.specs.declared.ready.Selector.{Selector}
 use Rattle.jp_eval.specs.Base.{Base}
-use Rattle.jp_eval.specs.Kids.{done_along, done_along_all, highest, kids_height}
+use Rattle.jp_eval.specs.Kids.{done_along, done_along_all, highest, all_height}
 use Rattle.jp_eval.specs.Kept.{plus}
 use Rattle.jp_eval.specs.Walk.{picked, picked_by, reached}
 use Rattle.jp_eval.specs.declared.stretch.Stretch.{Stretch}
@@ -67,14 +67,14 @@ deep_spread base at done more s found below all e first second is =
     ∙ ap (λ l. done_along_all base at done ++ l) (append-nil (done_along base at s) ∙ second)
     ∙ ap (λ l. l ++ below) first ∙ sym is
 
-height-push : (ss : List Stretch) (s : Stretch) (m : ℕ) → highest ss ≤ m → kids_height s.children.items ≤ m
+height-push : (ss : List Stretch) (s : Stretch) (m : ℕ) → highest ss ≤ m → all_height s.children ≤ m
     → highest (ss ++ s ∷ []) ≤ m
 height-push [] s m h d = omega arith
 height-push (x ∷ ss) s m h d = let p = height-push ss s m (omega arith) d in omega arith
 
 -- one more stretch is no higher
 pub highest_more : (ss more : List Stretch) (s : Stretch) (m : ℕ) → more ≡ ss ++ s ∷ [] → highest ss ≤ m
-    → kids_height s.children.items ≤ m → highest more ≤ m
+    → all_height s.children ≤ m → highest more ≤ m
 highest_more ss more s m e h d = subst (λ l. highest l ≤ m) (sym e) (height-push ss s m h d)
 
 next : (i : ℕ) → suc i + 1 ≡ suc (i + 1)
@@ -91,9 +91,9 @@ others_no_higher (s ∷ ss) zero = omega arith
 others_no_higher (s ∷ ss) (suc i) = rw (next i) (others_no_higher ss i)
 
 pub first_no_higher : (ss : List Stretch) (i : ℕ) (s : Stretch) → i < length ss → s ≡ get_or ss i s
-    → kids_height s.children.items ≤ highest (drop i ss)
+    → all_height s.children ≤ highest (drop i ss)
 first_no_higher [] i s h is = absurd (omega arith)
-first_no_higher (t ∷ ss) zero s h is = subst (λ u. kids_height u.children.items ≤ highest (t ∷ ss)) (sym is)
+first_no_higher (t ∷ ss) zero s h is = subst (λ u. all_height u.children ≤ highest (t ∷ ss)) (sym is)
     (omega arith)
 first_no_higher (t ∷ ss) (suc i) s h is = first_no_higher ss i s (omega arith) is
 

@@ -32,3 +32,12 @@ abbrev pub IsScalar : Json → Type 0
 IsScalar (array vs) = ⊥
 IsScalar (object ms) = ⊥
 IsScalar _ = Unit {0}
+
+-- a value that is no object, where what is inside of it are no members
+abbrev pub IsNoObject : Json → Type 0
+IsNoObject (object ms) = ⊥
+IsNoObject _ = Unit {0}
+
+abbrev pub IsOfKind : Inside → Json → Type 0
+IsOfKind (Members m) v = Unit {0}
+IsOfKind _ v = IsNoObject v

@@ -1,63 +1,40 @@
-//! Children of a value that are gathered, so that a list of them can be cut.
+//! Children of a value, so that a list of them can be cut. Those that are items are not gathered.
 
-ghost use Rattle.std.specs.Prelude.{◌≡◌, ◌≤◌, ◌++◌, ◌+◌, IfOk, OnOk, length, max};
+ghost use Rattle.std.specs.Prelude.{◌≡◌, ◌≤◌, ◌++◌, ◌+◌, IfOk, OnOk, max};
 ghost use Rattle.std.specs.Prelude.{option_to_list};
 ghost use Rattle.std.specs.List.{All};
 ghost use Rattle.std.specs.Str.{chars};
-ghost use Rattle.serde_json.specs.Data.{depth, items_depth, members_depth};
-ghost use Rattle.serde_json.specs.View.{view, items_view, members_view};
+ghost use Rattle.serde_json.specs.Data.{depth, members_depth};
+ghost use Rattle.serde_json.specs.View.{view, members_view};
 ghost use Rattle.jp_doc.specs.DocumentValue.{IsDocumentValue};
-ghost use Rattle.jp_doc.specs.Json.{items_of, members_of};
+ghost use Rattle.jp_doc.specs.Json.{members_of};
 ghost use Rattle.jp_doc.specs.Location.{Location, node, name, index};
 ghost use Rattle.jp_eval.specs.BoundsView.{bounds_value};
-ghost use Rattle.jp_eval.specs.Kids.{kids, kids_height};
+ghost use Rattle.jp_eval.specs.Kids.{kids, kids_height, all_kids, all_height};
 ghost use Rattle.jp_eval.specs.Nodelist.{items_at};
-ghost use Rattle.jp_eval.specs.Nodes.{child, children_at, item_nodes, member_nodes};
+ghost use Rattle.jp_eval.specs.Nodes.{child, children_at, member_nodes};
 ghost use Rattle.jp_eval.specs.Part.{part_value};
 ghost use Rattle.jp_eval.specs.Places.{AreWithin, item_count};
 ghost use Rattle.jp_eval.specs.Slice.{slice_indexes};
 
 use crate::part::{Inside, Part};
+use crate::row::{Child, Children};
 use crate::slice::{Bounds, first_place, place_after};
 use jp_trail::Link;
 use serde_json::{Map, Value};
 use std::alloc::{AllocError, Global};
 
-/// A child, and the link to it.
-#[derive(Clone, Copy)]
-pub(crate) struct Child<'v> {
-    pub(crate) link: Link<'v>,
-    pub(crate) part: Part<'v>,
-}
-
 /// The children of the value.
-pub(crate) fn children_of<'v>(alloc: Global, value: Part<'v>) -> Result<Vec<Child<'v>>, AllocError>
-    ensures nodes { IfOk result (λ v. (at : Location)
-        → kids at v.items ≡ children_at at (part_value value.entry)) }
-    ensures height { IfOk result (λ v. kids_height v.items ≤ depth (view value.entry.value.now)) }
+pub(crate) fn children_of<'v>(alloc: Global, value: Part<'v>) -> Result<Children<'v>, AllocError>
+    ensures nodes { IfOk result (λ c. (at : Location)
+        → all_kids at c ≡ children_at at (part_value value.entry)) }
+    ensures height { IfOk result (λ c. all_height c ≤ depth (view value.entry.value.now)) }
 {
     match value.inside() {
-        Inside::Items(items) => gather_items(alloc, items),
-        Inside::Members(members) => gather_members(alloc, members),
-        Inside::Nothing => Ok(Vec::new(alloc)),
+        Inside::Items(_) => Ok(Children::Items(value)),
+        Inside::Members(members) => Ok(Children::Listed(gather_members(alloc, members)?)),
+        Inside::Nothing => Ok(Children::Items(value)),
     }
-}
-
-fn gather_items<'v>(alloc: Global, items: &'v Vec<Value>) -> Result<Vec<Child<'v>>, AllocError>
-    requires inside { All IsDocumentValue items.now.items }
-    requires short { length items.now.items ≤ 16777216 }
-    ensures nodes { IfOk result (λ v. (at : Location)
-        → kids at v.items ≡ item_nodes at 0 (items_of (items_view items.now.items))) }
-    ensures height { IfOk result (λ v. kids_height v.items ≤ items_depth (items_view items.now.items) + 1) }
-{
-    let mut children = Vec::with_capacity(alloc, items.len())?;
-    for (index, value) in items.iter().enumerate() {
-        children.push(Child {
-            link: Link::Index(index as u32),
-            part: Part { value },
-        })?;
-    }
-    Ok(children)
 }
 
 fn gather_members<'v>(

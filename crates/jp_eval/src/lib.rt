@@ -17,6 +17,7 @@ mod locations;
 mod numbers;
 mod part;
 mod roots;
+mod row;
 mod slice;
 mod split;
 mod stretch;

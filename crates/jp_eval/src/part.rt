@@ -33,7 +33,7 @@ impl<'v> Part<'v> {
     ghost use Rattle.std.specs.Str.{chars};
     ghost use Rattle.jp_doc.specs.Document.{document_value};
     ghost use Rattle.jp_doc.specs.Location.{Location, member_of, item_of};
-    ghost use Rattle.jp_eval.specs.Inside.{nodes_inside, AreParts, IsLessDeep, IsScalar};
+    ghost use Rattle.jp_eval.specs.Inside.{nodes_inside, AreParts, IsLessDeep, IsOfKind, IsScalar};
     ghost use Rattle.jp_eval.specs.Nodes.{children_at};
     ghost use Rattle.jp_eval.specs.Part.{part_value};
     ghost use Rattle.jp_eval.specs.Places.{item_count};
@@ -94,6 +94,7 @@ impl<'v> Part<'v> {
         ensures children { (at : Location) → children_at at (part_value self.entry) ≡ nodes_inside at result }
         ensures parts { AreParts result }
         ensures below { IsLessDeep (depth (view self.entry.value.now)) result }
+        ensures kind { IsOfKind result (part_value self.entry) }
     {
         match self.value {
             Value::Array(items) => Inside::Items(items),

@@ -5,16 +5,16 @@ ghost use Rattle.std.specs.List.{All, flat_map};
 ghost use Rattle.std.specs.Thread.{IsSync};
 ghost use Rattle.jp_eval.specs.Base.{base_of};
 ghost use Rattle.jp_eval.specs.Kept.{kept, put_found, plus, taken};
-ghost use Rattle.jp_eval.specs.Kids.{kids, done_along_all};
+ghost use Rattle.jp_eval.specs.Kids.{row_kids, done_along_all};
 ghost use Rattle.jp_eval.specs.Links.{here};
 ghost use Rattle.jp_eval.specs.Walk.{done};
 ghost use Rattle.jp_trail.specs.Links.{link_steps};
 
-use crate::children::Child;
 use crate::fork::{Cuts, Fork};
 use crate::found::{Found, append, fresh, into_taker, is_full};
 use crate::ground::Ground;
 use crate::part::Part;
+use crate::row::Row;
 use crate::stretch::{Stretch, stretches};
 use crate::visit::Visit;
 use crate::walk::{Task, go, holds};
@@ -69,7 +69,7 @@ fn each_stretch<'v, R: Threads + Sync, F: Fork + Sync, V: Visit + Drop + Send>(
     ensures path { OnOk result (path.new ≡ path.old) }
 {
     for stretch in stretches {
-        let children = stretch.children.as_slice();
+        let children = stretch.children.row();
         each_of(rt, fork, cuts, ground, stretch.task, children, path, found)?;
     }
     Ok(())
@@ -83,23 +83,23 @@ fn each_of<'v, R: Threads + Sync, F: Fork + Sync, V: Visit + Drop + Send>(
     cuts: Cuts,
     ground: &Ground<'v>,
     task: Task<'v>,
-    children: &[Child<'v>],
+    children: Row<'_, 'v>,
     path: &mut Trail<'v>,
     found: &mut Found<'v, V>,
 ) -> Result<(), AllocError>
     ensures found { OnOk result (kept V.kept found.new
         ≡ plus (put_found V.put) (kept V.kept found.old)
-        (flat_map (done (base_of ground.now) task.entry) (kids (link_steps path.old) children.now))) }
+        (flat_map (done (base_of ground.now) task.entry) (row_kids (link_steps path.old) children.entry))) }
     ensures path { OnOk result (path.new ≡ path.old) }
 {
-    if cuts.left == 0 || (children.len() as u64) < cuts.floor.max(2) {
+    if cuts.left == 0 || !children.has(cuts.floor.max(2)) {
         return one_by_one(rt, fork, cuts, ground, task, children, path, found);
     }
     let further = Cuts {
         floor: cuts.floor,
         left: cuts.left - 1,
     };
-    let (left, right) = children.split_at(children.len() / 2);
+    let (left, right) = children.halves();
     let mine = fresh(found, ground.alloc)?;
     let other = fresh(found, ground.alloc)?;
     let at = path.links();
@@ -110,7 +110,7 @@ fn each_of<'v, R: Threads + Sync, F: Fork + Sync, V: Visit + Drop + Send>(
             ensures { IfOk result (λ t. taken (V.kept t)
                 ≡ plus (put_found V.put) (taken (V.kept mine))
                 (flat_map (done (base_of ground.entry.now) task.entry)
-                (kids (link_steps at.entry.now) left.entry.now))) }
+                (row_kids (link_steps at.entry.now) left.entry))) }
         {
             fork.half(0);
             half(rt, fork, further, ground, task, left, at, mine)
@@ -120,7 +120,7 @@ fn each_of<'v, R: Threads + Sync, F: Fork + Sync, V: Visit + Drop + Send>(
             ensures { IfOk result (λ t. taken (V.kept t)
                 ≡ plus (put_found V.put) (taken (V.kept other))
                 (flat_map (done (base_of ground.entry.now) task.entry)
-                (kids (link_steps at.entry.now) right.entry.now))) }
+                (row_kids (link_steps at.entry.now) right.entry))) }
         {
             fork.half(1);
             half(rt, fork, further, ground, task, right, at, other)
@@ -138,12 +138,12 @@ fn half<'v, R: Threads + Sync, F: Fork + Sync, V: Visit + Drop + Send>(
     cuts: Cuts,
     ground: &Ground<'v>,
     task: Task<'v>,
-    children: &[Child<'v>],
+    children: Row<'_, 'v>,
     at: &[Link<'v>],
     taker: V,
 ) -> Result<V, AllocError>
     ensures { IfOk result (λ t. taken (V.kept t) ≡ plus (put_found V.put) (taken (V.kept taker))
-        (flat_map (done (base_of ground.now) task.entry) (kids (link_steps at.now) children.now))) }
+        (flat_map (done (base_of ground.now) task.entry) (row_kids (link_steps at.now) children.entry))) }
 {
     let mut path = trail_of(ground.alloc, at)?;
     let mut found = Found::Taker(taker);
@@ -164,22 +164,24 @@ fn one_by_one<'v, R: Threads + Sync, F: Fork + Sync, V: Visit + Drop + Send>(
     cuts: Cuts,
     ground: &Ground<'v>,
     task: Task<'v>,
-    children: &[Child<'v>],
+    children: Row<'_, 'v>,
     path: &mut Trail<'v>,
     found: &mut Found<'v, V>,
 ) -> Result<(), AllocError>
     ensures found { OnOk result (kept V.kept found.new
         ≡ plus (put_found V.put) (kept V.kept found.old)
-        (flat_map (done (base_of ground.now) task.entry) (kids (link_steps path.old) children.now))) }
+        (flat_map (done (base_of ground.now) task.entry) (row_kids (link_steps path.old) children.entry))) }
     ensures path { OnOk result (path.new ≡ path.old) }
 {
-    for child in children {
+    let mut rest = children;
+    while let Some((child, others)) = rest.split_first() {
         if is_full(found) {
             return Ok(());
         }
         path.push(child.link)?;
         go_split(rt, fork, cuts, ground, task, child.part, path, found)?;
         path.pop();
+        rest = others;
     }
     Ok(())
 }

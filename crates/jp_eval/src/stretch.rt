@@ -6,14 +6,15 @@ ghost use Rattle.serde_json.specs.Data.{depth};
 ghost use Rattle.serde_json.specs.View.{view};
 ghost use Rattle.jp_doc.specs.Location.{Location, node};
 ghost use Rattle.jp_eval.specs.Base.{Base};
-ghost use Rattle.jp_eval.specs.Kids.{done_along, done_along_all, highest, kids_height};
+ghost use Rattle.jp_eval.specs.Kids.{done_along, done_along_all, all_height, highest};
 ghost use Rattle.jp_eval.specs.Nodes.{descendants};
 ghost use Rattle.jp_eval.specs.Part.{part_value};
 ghost use Rattle.jp_eval.specs.Walk.{picked, picked_by, reached, done};
 
-use crate::children::{Child, children_of, named, placed, sliced};
+use crate::children::{children_of, named, placed, sliced};
 use crate::numbers::place;
 use crate::part::Part;
+use crate::row::Children;
 use crate::slice::bounds_of;
 use crate::walk::Task;
 use jp_check::ready::{Segment, Selector};
@@ -23,7 +24,7 @@ use std::alloc::{AllocError, Global};
 #[derive(Drop)]
 pub(crate) struct Stretch<'v> {
     pub(crate) task: Task<'v>,
-    pub(crate) children: Vec<Child<'v>>,
+    pub(crate) children: Children<'v>,
 }
 
 /// What a task comes to at the value, or nothing where it goes no further down, or where a test decides.
@@ -100,11 +101,11 @@ fn stretch_of<'v>(
 ) -> Result<Stretch<'v>, AllocError>
     ensures nodes { IfOk result (λ s. (base : Base) (at : Location) → done_along base at s
         ≡ reached base rest.now (picked base selector.now (node at (part_value value.entry)))) }
-    ensures height { IfOk result (λ s. kids_height s.children.items ≤ depth (view value.entry.value.now)) }
+    ensures height { IfOk result (λ s. all_height s.children ≤ depth (view value.entry.value.now)) }
 {
     match selector {
         Selector::Name(name) => {
-            let children = named(alloc, value, name.as_str())?;
+            let children = Children::Listed(named(alloc, value, name.as_str())?);
             Ok(Stretch {
                 task: Task::Run(rest),
                 children,
@@ -118,14 +119,22 @@ fn stretch_of<'v>(
             })
         }
         Selector::Index(index) => {
-            let children = placed(alloc, value, place(index.value, value.item_count()))?;
+            let children = Children::Listed(placed(
+                alloc,
+                value,
+                place(index.value, value.item_count()),
+            )?);
             Ok(Stretch {
                 task: Task::Run(rest),
                 children,
             })
         }
         Selector::Slice(slice) => {
-            let children = sliced(alloc, value, bounds_of(slice, value.item_count()))?;
+            let children = Children::Listed(sliced(
+                alloc,
+                value,
+                bounds_of(slice, value.item_count()),
+            )?);
             Ok(Stretch {
                 task: Task::Run(rest),
                 children,

@@ -1,11 +1,11 @@
-use Rattle.std.proofs.Common.{◌≡◌, ◌<◌, ◌≤◌, length, refl, sym, ap, ◌∙◌, arith, rules}
+use Rattle.std.proofs.Common.{◌≡◌, ◌<◌, ◌≤◌, List, length, refl, sym, ap, ◌∙◌, arith, rules}
 use Rattle.std.proofs.lemmas.Result.{on_ok_weaker}
 use Rattle.std.specs.List.{flat_map}
-use Rattle.jp_doc.specs.Location.{node}
+use Rattle.jp_doc.specs.Location.{Location, Node, node}
 use Rattle.jp_trail.specs.Links.{link_steps}
 use Rattle.jp_eval.specs.Base.{base_of}
 use Rattle.jp_eval.specs.Kept.{kept, put_found, plus, taken, emptied_found}
-use Rattle.jp_eval.specs.Kids.{kids, kids_height, done_along_all}
+use Rattle.jp_eval.specs.Kids.{row_kids, row_height, done_along_all}
 use Rattle.jp_eval.specs.Part.{part_value}
 use Rattle.jp_eval.specs.Walk.{done}
 use denote.Param.{param}
@@ -13,8 +13,8 @@ use denote.Param.Send.{IsSend, IsSync, param_send}
 use denote.Struct.Tuple.{tuple_name}
 use mir.Syntax.{named}
 use Rattle.jp_eval.proofs.Crossing.{captured_send}
-use Rattle.jp_eval.proofs.Gathered.{others_height, kid_done, front_height, back_height, halves_joined}
-use Rattle.jp_eval.proofs.Keeping.{full_enough, nothing_found}
+use Rattle.jp_eval.proofs.Gathered.{kid_done, halves_joined}
+use Rattle.jp_eval.proofs.Keeping.{ended, full_enough, nothing_found}
 use Rattle.jp_eval.proofs.Stretches.{others_no_higher, stretch_done}
 use Rattle.jp_eval.proofs.WalkSteps.{back_up, link_further, over}
 use Rattle.jp_eval.proofs.split.+split.Lts-each_of as lts
@@ -32,9 +32,9 @@ each_stretch-loop-stretch-preserved g t c =
       stretch_done (put_found g.V.Visit.put) (base_of c.args.ground.now) (link_steps c.loop-stretch.path) ss
           i c.stretch-item.result _ _ _ _ h c.stretch-item.is
           (c.in_ok-each_of.ensures.found
-          ∙ ap (λ cs. plus (put_found g.V.Visit.put) (kept g.V.Visit.kept c.loop-stretch.found)
-          (flat_map (done (base_of c.args.ground.now) c.stretch-item.result.task)
-          (kids (link_steps c.loop-stretch.path) cs))) c.as_slice-children.ensures.value)
+          ∙ ap (λ ns. plus (put_found g.V.Visit.put) (kept g.V.Visit.kept c.loop-stretch.found)
+          (flat_map (done (base_of c.args.ground.now) c.stretch-item.result.task) ns))
+          (c.row-children.ensures.nodes (link_steps c.loop-stretch.path)))
           c.loop-stretch.invariant.2,
     )
 
@@ -46,20 +46,16 @@ each_stretch-returns-clause-found g t c =
 
 pub one_by_one-loop-child-preserved : goal.one_by_one-loop-child-preserved
 one_by_one-loop-child-preserved g t c =
-    let cs = c.args.children.now in
-    let i = c.loop-child.child-index in
-    let h : i < length cs = omega arith in
-    let d = others_height cs i in
     let p : c.pop.new.self ≡ c.loop-child.path = back_up _ _ _ _ _ c.in_ok-push.ensures.ok
     c.in_ok-go_split.ensures.path c.pop.ensures in
     rw p (
       c.loop-child.invariant.0,
-      omega (arith, d, c.loop-child.invariant.1),
-      kid_done (put_found g.V.Visit.put) (done (base_of c.args.ground.now) c.args.task)
-          (link_steps c.loop-child.path) cs i c.child-item.result _ _ _ _ h c.child-item.is
+      omega (arith, c.in-Some.ensures.height, c.loop-child.invariant.1),
+      kid_done (put_found g.V.Visit.put) (done (base_of c.args.ground.now) c.args.task) _ _ _ _ _ _ _
+          (c.in-Some.ensures.nodes (link_steps c.loop-child.path))
           (c.in_ok-go_split.ensures.found
           ∙ ap (λ s. plus (put_found g.V.Visit.put) (kept g.V.Visit.kept c.loop-child.found)
-          (done (base_of c.args.ground.now) c.args.task (node s (part_value c.child-item.result.part))))
+          (done (base_of c.args.ground.now) c.args.task (node s (part_value c.in-Some.child.part))))
           (link_further c.loop-child.path c.push.new.self _ c.in_ok-push.ensures.ok))
           c.loop-child.invariant.2,
     )
@@ -71,15 +67,16 @@ one_by_one-returns-then-is_full-clause-found g t c =
 
 pub one_by_one-returns-clause-found : goal.one_by_one-returns-clause-found
 one_by_one-returns-clause-found g t c =
-    over (put_found g.V.Visit.put) (λ xs. flat_map (done (base_of c.args.ground.now) c.args.task)
-    (kids (link_steps c.loop-child.path) xs)) c.args.children.now c.loop-child.child-index _ _ _ (omega arith)
-    refl c.loop-child.invariant.2
+    ended (put_found g.V.Visit.put) _ _ _
+    (ap (λ ns. plus (put_found g.V.Visit.put) (kept g.V.Visit.kept c.loop-child.found)
+    (flat_map (done (base_of c.args.ground.now) c.args.task) ns))
+    (sym (c.in_default.ensures.nodes (link_steps c.loop-child.path))) ∙ c.loop-child.invariant.2)
 
 pub half-returns-in-Some : goal.half-returns-in-Some
 half-returns-in-Some g t c =
     c.in-Some.ensures ∙ c.in_ok-each_of.ensures.found
     ∙ ap (λ ls. plus (put_found g.V.Visit.put) (taken (g.V.Visit.kept c.args.taker))
-    (flat_map (done (base_of c.args.ground.now) c.args.task) (kids (link_steps ls) c.args.children.now)))
+    (flat_map (done (base_of c.args.ground.now) c.args.task) (row_kids (link_steps ls) c.args.children)))
     c.in_ok-path.ensures
 
 pub go_split-returns-in_default-clause-found : goal.go_split-returns-in_default-clause-found
@@ -88,37 +85,36 @@ go_split-returns-in_default-clause-found g t c =
 
 pub each_of-join-first-requires-after_bounds : goal.each_of-join-first-requires-after_bounds
 each_of-join-first-requires-after_bounds g t c κs within =
-    let front : kids_height c.split_at.result.0.now ≤ kids_height c.args.children.now =
-    rw c.split_at.ensures.front (front_height _ c.args.children.now) in
-    let back : kids_height c.split_at.result.1.now ≤ kids_height c.args.children.now =
-    rw c.split_at.ensures.back (back_height _ c.args.children.now) in
+    let front : row_height c.halves.result.0 ≤ row_height c.args.children = c.halves.ensures.left in
+    let back : row_height c.halves.result.1 ≤ row_height c.args.children = c.halves.ensures.right in
     ((search rules, search rules), (search rules, search rules))
 
 pub each_of-returns-clause-found : goal.each_of-returns-clause-found
 each_of-returns-clause-found g t c =
     let put = put_found g.V.Visit.put in
     let f = done (base_of c.args.ground.now) c.args.task in
-    let left = c.split_at.result.0.now in
-    let right = c.split_at.result.1.now in
-    let one = flat_map f (kids (link_steps c.args.path.now) left) in
-    let two = flat_map f (kids (link_steps c.args.path.now) right) in
+    let left : Location → List Node = λ at. row_kids at c.halves.result.0 in
+    let right : Location → List Node = λ at. row_kids at c.halves.result.1 in
+    let at = link_steps c.args.path.now in
     let before = kept g.V.Visit.kept c.args.found.now in
     let first : taken (g.V.Visit.kept c.in_ok-first.field-0)
     ≡ plus put (taken (g.V.Visit.kept c.in_ok-mine.mine))
-    (flat_map f (kids (link_steps c.links-at.result.now) left)) = search rules in
+    (flat_map f (left (link_steps c.links-at.result.now))) = search rules in
     let second : taken (g.V.Visit.kept c.in_ok-second.field-0)
     ≡ plus put (taken (g.V.Visit.kept c.in_ok-other.other))
-    (flat_map f (kids (link_steps c.links-at.result.now) right)) = search rules in
-    let appended : kept g.V.Visit.kept c.append.new.found ≡ plus put before one = c.in_ok-append.ensures one
+    (flat_map f (right (link_steps c.links-at.result.now))) = search rules in
+    let appended : kept g.V.Visit.kept c.append.new.found ≡ plus put before (flat_map f (left at)) =
+    c.in_ok-append.ensures (flat_map f (left at))
     (first ∙ ap (λ ls. plus put (taken (g.V.Visit.kept c.in_ok-mine.mine))
-    (flat_map f (kids (link_steps ls) left))) c.links-at.ensures ∙ ap (λ k. plus put k one)
+    (flat_map f (left (link_steps ls)))) c.links-at.ensures ∙ ap (λ k. plus put k (flat_map f (left at)))
     c.in_ok-mine.ensures.empty) in
-    on_ok_weaker c.append-2.result (λ e. halves_joined put f (link_steps c.args.path.now) _
-    c.args.children.now left right before _ _ c.split_at.ensures.front c.split_at.ensures.back appended e)
-    (c.append-2.ensures two (second ∙ ap (λ ls. plus put (taken (g.V.Visit.kept c.in_ok-other.other))
-    (flat_map f (kids (link_steps ls) right))) c.links-at.ensures ∙ ap (λ k. plus put k two)
+    on_ok_weaker c.append-2.result (λ e. halves_joined put f (left at) (right at) _ before _ _
+    (c.halves.ensures.nodes at) appended e)
+    (c.append-2.ensures (flat_map f (right at))
+    (second ∙ ap (λ ls. plus put (taken (g.V.Visit.kept c.in_ok-other.other))
+    (flat_map f (right (link_steps ls)))) c.links-at.ensures ∙ ap (λ k. plus put k (flat_map f (right at)))
     (c.in_ok-other.ensures.empty ∙ sym (ap (emptied_found g.V.Visit.emptied) appended
-    ∙ c.in_ok-other.ensures.later one))))
+    ∙ c.in_ok-other.ensures.later (flat_map f (left at))))))
 
 pub each_of-join-first-requires-send-F : goal.each_of-join-first-requires-send-F
 each_of-join-first-requires-send-F g t c κs within =
@@ -136,8 +132,9 @@ each_of-join-first-requires-send-F g t c κs within =
     (record { mir = named 13; lft = κs.1.1.1.1.1.1.1.1.1.1.1.1.1.0 })
     (record { mir = named 14; lft = κs.1.1.1.1.1.1.1.1.1.1.1.1.1.1.0 })
     (record { mir = named 15; lft = κs.1.1.1.1.1.1.1.1.1.1.1.1.1.1.1.0 })
-    (record { mir = named 16; lft = κs.1.1.1.1.1.1.1.1.1.1.1.1.1.1.1.1.0 }) f r v in
-    param_send 1 (lts.arg-8-1 g.row.R g.row.F g.row.V g.R.laws g.F.laws g.V.laws g.R.Threads-dict
+    (record { mir = named 16; lft = κs.1.1.1.1.1.1.1.1.1.1.1.1.1.1.1.1.0 })
+    (record { mir = named 17; lft = κs.1.1.1.1.1.1.1.1.1.1.1.1.1.1.1.1.1.0 }) f r v in
+    param_send 1 (lts.arg-9-1 g.row.R g.row.F g.row.V g.R.laws g.F.laws g.V.laws g.R.Threads-dict
     g.F.Fork-dict g.V.Visit-dict g.V.Destruct-dict κs)
     (record {
       owned = sent.owned;

@@ -4,7 +4,7 @@ use Rattle.serde_json.specs.Data.{depth}
 use Rattle.serde_json.specs.View.{view}
 use Rattle.jp_eval.specs.Base.{base_of}
 use Rattle.jp_eval.specs.Kept.{kept, put_found, plus}
-use Rattle.jp_eval.specs.Kids.{kids, kids_height, done_along_all, highest}
+use Rattle.jp_eval.specs.Kids.{row_kids, row_height, row_length, done_along_all, highest}
 use Rattle.jp_eval.specs.Walk.{done}
 use Rattle.jp_trail.specs.Links.{link_steps}
 use Rattle.jp_eval.proofs.split.+split.Given as goal
@@ -20,19 +20,19 @@ abbrev pub decreases-each_stretch : goal.decreases-each_stretch
 decreases-each_stretch g l = weight (highest l.stretches.now) l.cuts.left 14
 
 abbrev pub decreases-each_of : goal.decreases-each_of
-decreases-each_of g l = weight (kids_height l.children.now) l.cuts.left 10
+decreases-each_of g l = weight (row_height l.children) l.cuts.left 10
 
 abbrev pub decreases-each_of-join+arg2 : goal.decreases-each_of-join+arg2
-decreases-each_of-join+arg2 g l = weight (kids_height l.left.now) l.further.left 13
+decreases-each_of-join+arg2 g l = weight (row_height l.left) l.further.left 13
 
 abbrev pub decreases-each_of-join+arg3 : goal.decreases-each_of-join+arg3
-decreases-each_of-join+arg3 g l = weight (kids_height l.right.now) l.further.left 13
+decreases-each_of-join+arg3 g l = weight (row_height l.right) l.further.left 13
 
 abbrev pub decreases-half : goal.decreases-half
-decreases-half g l = weight (kids_height l.children.now) l.cuts.left 12
+decreases-half g l = weight (row_height l.children) l.cuts.left 12
 
 abbrev pub decreases-one_by_one : goal.decreases-one_by_one
-decreases-one_by_one g l = weight (kids_height l.children.now) l.cuts.left 7
+decreases-one_by_one g l = weight (row_height l.children) l.cuts.left 7
 
 abbrev pub invariant-each_stretch-loop-stretch : goal.invariant-each_stretch-loop-stretch
 invariant-each_stretch-loop-stretch g l =
@@ -46,8 +46,11 @@ invariant-each_stretch-loop-stretch g l =
 abbrev pub invariant-one_by_one-loop-child : goal.invariant-one_by_one-loop-child
 invariant-one_by_one-loop-child g l =
     (l.path ≡ l.initial.path)
-    × (kids_height (drop l.child-index l.children) ≤ kids_height l.children)
+    × (row_height l.rest ≤ row_height l.children)
     × (plus (put_found g.V.Visit.put) (kept g.V.Visit.kept l.found)
-    (flat_map (done (base_of l.ground) l.task) (kids (link_steps l.path) (drop l.child-index l.children)))
+    (flat_map (done (base_of l.ground) l.task) (row_kids (link_steps l.path) l.rest))
     ≡ plus (put_found g.V.Visit.put) (kept g.V.Visit.kept l.initial.found)
-    (flat_map (done (base_of l.ground) l.task) (kids (link_steps l.initial.path) l.children)))
+    (flat_map (done (base_of l.ground) l.task) (row_kids (link_steps l.initial.path) l.children)))
+
+abbrev pub decreases-one_by_one-loop-child : goal.decreases-one_by_one-loop-child
+decreases-one_by_one-loop-child g l = row_length l.rest

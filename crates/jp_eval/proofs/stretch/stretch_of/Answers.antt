@@ -15,11 +15,11 @@ use Rattle.jp_eval.proofs.ReadyParts.{picked_name, picked_wild, picked_index, pi
 use Rattle.jp_eval.proofs.Stretches.{run_along, test_along}
 use Rattle.jp_eval.proofs.stretch.stretch_of.Goals as goal
 
-pub returns-in_ok-children-in-Name-clause-nodes : goal.returns-in_ok-children-in-Name-clause-nodes
-returns-in_ok-children-in-Name-clause-nodes c = λ base at.
+pub returns-in_ok-named-in-Name-clause-nodes : goal.returns-in_ok-named-in-Name-clause-nodes
+returns-in_ok-named-in-Name-clause-nodes c = λ base at.
     let n = node at (part_value c.args.value) in
     run_along base c.args.rest.now c.args.selector.now n _ _
-    (c.in_ok-children-in-Name.ensures.nodes at ∙ ap (λ k. child (name (chars k)) n) c.as_str.ensures.value)
+    (c.in_ok-named-in-Name.ensures.nodes at ∙ ap (λ k. child (name (chars k)) n) c.as_str.ensures.value)
     (ap (λ x. picked base x n) c.in-Name.is ∙ picked_name base n c.in-Name.name)
 
 pub returns-in_ok-children-in-Wild-clause-nodes : goal.returns-in_ok-children-in-Wild-clause-nodes
@@ -28,22 +28,22 @@ returns-in_ok-children-in-Wild-clause-nodes c = λ base at.
     run_along base c.args.rest.now c.args.selector.now n _ _ (c.in_ok-children-in-Wild.ensures.nodes at)
     (ap (λ x. picked base x n) c.in-Wild.is ∙ picked_wild base n)
 
-pub returns-in_ok-children-in-Index-clause-nodes : goal.returns-in_ok-children-in-Index-clause-nodes
-returns-in_ok-children-in-Index-clause-nodes c = λ base at.
+pub returns-in_ok-placed-in-Index-clause-nodes : goal.returns-in_ok-placed-in-Index-clause-nodes
+returns-in_ok-placed-in-Index-clause-nodes c = λ base at.
     let n = node at (part_value c.args.value) in
     let f : SFits w64 c.in-Index.index.value = search rules in
     let placed = simp to_z-of_z at c.place.ensures in
     run_along base c.args.rest.now c.args.selector.now n _ _
-    (c.in_ok-children-in-Index.ensures.nodes at ∙ ap (items_at n) (placed
+    (c.in_ok-placed-in-Index.ensures.nodes at ∙ ap (items_at n) (placed
     ∙ index_found (part_value c.args.value) (whole_number (position_text c.in-Index.index))
     c.in-Index.index.value c.item_count.result c.in-Index.index.read c.item_count.ensures.count))
     (ap (λ x. picked base x n) c.in-Index.is ∙ picked_index base n c.in-Index.index)
 
-pub returns-in_ok-children-in-Slice-clause-nodes : goal.returns-in_ok-children-in-Slice-clause-nodes
-returns-in_ok-children-in-Slice-clause-nodes c = λ base at.
+pub returns-in_ok-sliced-in-Slice-clause-nodes : goal.returns-in_ok-sliced-in-Slice-clause-nodes
+returns-in_ok-sliced-in-Slice-clause-nodes c = λ base at.
     let n = node at (part_value c.args.value) in
     run_along base c.args.rest.now c.args.selector.now n _ _
-    (c.in_ok-children-in-Slice.ensures.nodes at ∙ ap (items_at n)
+    (c.in_ok-sliced-in-Slice.ensures.nodes at ∙ ap (items_at n)
     (slice_found (part_value c.args.value)
     (written_value (option_map position_text c.in-Slice.slice.first))
     (written_value (option_map position_text c.in-Slice.slice.past))

@@ -1,4 +1,5 @@
-use Rattle.std.proofs.Common.{ap, arith}
+use Rattle.std.proofs.Common.{ap, sym, subst, arith}
+use Rattle.jp_eval.specs.Inside.{IsNoObject}
 use Rattle.jp_eval.specs.Nodes.{children_at}
 use Rattle.jp_eval.proofs.Inside.{array_depth, array_is_short, array_parts, array_value, object_depth}
 use Rattle.jp_eval.proofs.Inside.{object_parts, object_value, null_value, bool_value, number_value}
@@ -13,6 +14,7 @@ returns-in-Array c = record {
     array_is_short c.args.self.value.now c.in-Array.items c.in-Array.is c.args.self.kept,
   );
   below = omega (arith, array_depth c.args.self.value.now c.in-Array.items c.in-Array.is);
+  kind = subst IsNoObject (sym (array_value c.args.self.value.now c.in-Array.items c.in-Array.is)) tt;
 }
 
 pub returns-in-Object : goal.returns-in-Object
@@ -21,6 +23,7 @@ returns-in-Object c = record {
       c.in-Object.is);
   parts = object_parts c.args.self.value.now c.in-Object.members c.in-Object.is c.args.self.kept;
   below = omega (arith, object_depth c.args.self.value.now c.in-Object.members c.in-Object.is);
+  kind = tt;
 }
 
 pub returns-in-Null-clause-children : goal.returns-in-Null-clause-children
@@ -38,3 +41,19 @@ returns-in-Number-clause-children c =
 pub returns-in-String-clause-children : goal.returns-in-String-clause-children
 returns-in-String-clause-children c =
     λ at. ap (children_at at) (string_value c.args.self.value.now _ c.in-String.is)
+
+pub returns-in-Null-clause-kind : goal.returns-in-Null-clause-kind
+returns-in-Null-clause-kind c =
+    subst IsNoObject (sym (null_value c.args.self.value.now c.in-Null.is)) tt
+
+pub returns-in-Bool-clause-kind : goal.returns-in-Bool-clause-kind
+returns-in-Bool-clause-kind c =
+    subst IsNoObject (sym (bool_value c.args.self.value.now _ c.in-Bool.is)) tt
+
+pub returns-in-Number-clause-kind : goal.returns-in-Number-clause-kind
+returns-in-Number-clause-kind c =
+    subst IsNoObject (sym (number_value c.args.self.value.now _ c.in-Number.is)) tt
+
+pub returns-in-String-clause-kind : goal.returns-in-String-clause-kind
+returns-in-String-clause-kind c =
+    subst IsNoObject (sym (string_value c.args.self.value.now _ c.in-String.is)) tt
