@@ -19,69 +19,75 @@ fn step_to(alloc: Global, to: To) -> Result<Step, AllocError> {
     }
 }
 
-/// The number where the steps lead, if they lead to one.
-fn number_at(alloc: Global, document: &Document, path: &[To]) -> Result<Option<i128>, AllocError> {
+/// The number where the steps lead in the line's document, if they lead to one.
+fn number_at(alloc: Global, line: &str, path: &[To]) -> Result<Option<i128>, Fail> {
     let mut steps = Vec::new(alloc);
     for to in path {
         steps.push(step_to(alloc, *to)?)?;
     }
+    let document = Document::read(alloc, line.as_bytes())?;
     Ok(document.at(&steps).and_then(|value| whole_number(value)))
 }
 
 const LINE: &str = "{\"a\":[7,{\"b\":-8}],\"\":\"9\",\"é\":10,\"0\":11}";
 
+const PATHS: [(&[To], Option<i128>); 13] = [
+    (&[To::Name("a"), To::Index(0)], Some(7)),
+    (&[To::Name("a"), To::Index(1), To::Name("b")], Some(-8)),
+    (&[To::Name("é")], Some(10)),
+    (&[To::Name("0")], Some(11)),
+    (&[], None),
+    (&[To::Name("")], None),
+    (&[To::Name("a")], None),
+    (&[To::Name("A"), To::Index(0)], None),
+    (&[To::Name("a"), To::Index(2)], None),
+    (&[To::Name("a"), To::Name("0")], None),
+    (&[To::Index(0)], None),
+    (&[To::Name("é"), To::Index(0)], None),
+    (&[To::Name("c"), To::Index(0)], None),
+];
+
 #[test]
 fn values_at_locations(rt: HostRuntime) -> Result<(), Fail> {
-    let alloc = rt.alloc();
-    let document = Document::read(alloc, LINE.as_bytes())?;
-    let rows: [(&[To], Option<i128>); 13] = [
-        (&[To::Name("a"), To::Index(0)], Some(7)),
-        (&[To::Name("a"), To::Index(1), To::Name("b")], Some(-8)),
-        (&[To::Name("é")], Some(10)),
-        (&[To::Name("0")], Some(11)),
-        (&[], None),
-        (&[To::Name("")], None),
-        (&[To::Name("a")], None),
-        (&[To::Name("A"), To::Index(0)], None),
-        (&[To::Name("a"), To::Index(2)], None),
-        (&[To::Name("a"), To::Name("0")], None),
-        (&[To::Index(0)], None),
-        (&[To::Name("é"), To::Index(0)], None),
-        (&[To::Name("c"), To::Index(0)], None),
-    ];
-    for (path, number) in rows {
-        assert_eq!(rt; number_at(alloc, &document, path)?, number);
+    for (path, number) in &PATHS {
+        assert_eq!(rt; number_at(rt.alloc(), LINE, path)?, *number);
     }
     Ok(())
 }
 
-#[test]
-fn the_empty_location_and_the_empty_name(rt: HostRuntime) -> Result<(), Fail> {
-    let alloc = rt.alloc();
-    let document = Document::read(alloc, LINE.as_bytes())?;
-    assert!(rt; document.at(&[]).is_some());
+/// Whether the empty location leads to a value, and the empty name to the text.
+fn leads_to_text(alloc: Global, line: &str, text: &str) -> Result<bool, Fail> {
+    let document = Document::read(alloc, line.as_bytes())?;
     let steps = [Step::Name(String::new(alloc))];
-    let text = document.at(&steps).ok_or("a text")?;
-    assert_eq!(rt; text.as_str(), Some("9"));
-    Ok(())
+    Ok(
+        document.at(&[]).is_some()
+            && document.at(&steps).and_then(|value| value.as_str()) == Some(text),
+    )
 }
 
 #[test]
+fn the_empty_location_and_the_empty_name(rt: HostRuntime) -> Result<(), Fail> {
+    assert!(rt; leads_to_text(rt.alloc(), LINE, "9")?);
+    Ok(())
+}
+
+const NUMBERS: [(&str, Option<i128>); 10] = [
+    ("0", Some(0)),
+    ("-9223372036854775808", Some(-9_223_372_036_854_775_808)),
+    ("9223372036854775807", Some(9_223_372_036_854_775_807)),
+    ("9223372036854775808", Some(9_223_372_036_854_775_808)),
+    ("18446744073709551615", Some(18_446_744_073_709_551_615)),
+    ("\"3\"", None),
+    ("[3]", None),
+    ("{\"a\":3}", None),
+    ("true", None),
+    ("null", None),
+];
+
+#[test]
 fn whole_numbers(rt: HostRuntime) -> Result<(), Fail> {
-    for (line, number) in [
-        ("0", Some(0)),
-        ("-9223372036854775808", Some(-9_223_372_036_854_775_808)),
-        ("9223372036854775807", Some(9_223_372_036_854_775_807)),
-        ("9223372036854775808", Some(9_223_372_036_854_775_808)),
-        ("18446744073709551615", Some(18_446_744_073_709_551_615)),
-        ("\"3\"", None),
-        ("[3]", None),
-        ("{\"a\":3}", None),
-        ("true", None),
-        ("null", None),
-    ] {
-        let document = Document::read(rt.alloc(), line.as_bytes())?;
-        assert_eq!(rt; whole_number(document.root()), number, "{line}");
+    for (line, number) in &NUMBERS {
+        assert_eq!(rt; number_at(rt.alloc(), line, &[])?, *number, "{line}");
     }
     Ok(())
 }
