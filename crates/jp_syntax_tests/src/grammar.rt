@@ -1,7 +1,7 @@
 //! Texts of each case of the grammar (RFC 9535, 2.1 to 2.5), and texts beside them that spell nothing.
 
 use jp_syntax::{QueryFault, read_query};
-use std::test::*;
+use std::alloc::Global;
 
 /// A text that spells a query in each line.
 const ACCEPTED: &str = r#"$
@@ -307,11 +307,16 @@ $['a' 'b']
 $[?@.a &&]
 $['\uD83D']"#;
 
+/// The fault of the text, if it is refused.
+fn fault_of(alloc: Global, text: &str) -> Option<QueryFault> {
+    read_query(alloc, text).err()
+}
+
 #[test]
 fn accepted_lines(rt: HostRuntime) {
     assert_eq!(rt; ACCEPTED.split('\n').count(), 108);
     for text in ACCEPTED.split('\n') {
-        assert!(rt; read_query(rt.alloc(), text).is_ok(), "at {text}");
+        assert_eq!(rt; fault_of(rt.alloc(), text), None, "at {text}");
     }
 }
 
@@ -320,60 +325,64 @@ fn refused_lines(rt: HostRuntime) {
     assert_eq!(rt; REFUSED.split('\n').count(), 192);
     for text in REFUSED.split('\n') {
         assert_eq!(rt;
-            read_query(rt.alloc(), text),
-            Err(QueryFault::Syntax),
+            fault_of(rt.alloc(), text),
+            Some(QueryFault::Syntax),
             "at {text}"
         );
     }
 }
 
+const ACCEPTED_TEXTS: [&str; 14] = [
+    "$\u{a}.a",
+    "$\u{9}[\u{d}0\u{a}]",
+    "$[?f(\u{a}1\u{a},\u{a}2\u{a})]",
+    "$[?@.a\u{a0}==1]",
+    "$.\u{80}",
+    "$.\u{d7ff}",
+    "$.\u{e000}",
+    "$.\u{10ffff}",
+    "$['\u{7f}']",
+    "$['\u{80}\u{10ffff}']",
+    "$[?\u{a}@.a\u{a}]",
+    "$[?@.a\u{a}==\u{a}1]",
+    "$[?!\u{a}(\u{a}@.a\u{a})\u{a}]",
+    "$[?@.a\u{9}&&\u{d}@.b]",
+];
+
 #[test]
 fn accepted_texts(rt: HostRuntime) {
-    for text in [
-        "$\u{a}.a",
-        "$\u{9}[\u{d}0\u{a}]",
-        "$[?f(\u{a}1\u{a},\u{a}2\u{a})]",
-        "$[?@.a\u{a0}==1]",
-        "$.\u{80}",
-        "$.\u{d7ff}",
-        "$.\u{e000}",
-        "$.\u{10ffff}",
-        "$['\u{7f}']",
-        "$['\u{80}\u{10ffff}']",
-        "$[?\u{a}@.a\u{a}]",
-        "$[?@.a\u{a}==\u{a}1]",
-        "$[?!\u{a}(\u{a}@.a\u{a})\u{a}]",
-        "$[?@.a\u{9}&&\u{d}@.b]",
-    ] {
-        assert!(rt; read_query(rt.alloc(), text).is_ok(), "at {text}");
+    for text in &ACCEPTED_TEXTS {
+        assert_eq!(rt; fault_of(rt.alloc(), text), None, "at {text}");
     }
 }
 
+const REFUSED_TEXTS: [&str; 18] = [
+    "",
+    " ",
+    "$ ",
+    " $",
+    "$\u{a}",
+    "$.\u{7f}",
+    "$.a\u{b}",
+    "$\u{a0}.a",
+    "$\u{c}.a",
+    "$['\u{1f}']",
+    "$['\u{0}']",
+    "$['\u{a}']",
+    "$['\u{9}']",
+    "$[\"\u{d}\"]",
+    "\u{feff}$",
+    "$[?@.a==\u{a0}1]",
+    "$.a\u{2028} ",
+    "$[?@.a]\u{a}",
+];
+
 #[test]
 fn refused_texts(rt: HostRuntime) {
-    for text in [
-        "",
-        " ",
-        "$ ",
-        " $",
-        "$\u{a}",
-        "$.\u{7f}",
-        "$.a\u{b}",
-        "$\u{a0}.a",
-        "$\u{c}.a",
-        "$['\u{1f}']",
-        "$['\u{0}']",
-        "$['\u{a}']",
-        "$['\u{9}']",
-        "$[\"\u{d}\"]",
-        "\u{feff}$",
-        "$[?@.a==\u{a0}1]",
-        "$.a\u{2028} ",
-        "$[?@.a]\u{a}",
-    ] {
+    for text in &REFUSED_TEXTS {
         assert_eq!(rt;
-            read_query(rt.alloc(), text),
-            Err(QueryFault::Syntax),
+            fault_of(rt.alloc(), text),
+            Some(QueryFault::Syntax),
             "at {text}"
         );
     }
