@@ -1,23 +1,22 @@
 //! Texts that end too soon, and brackets inside a string.
 
-use jp_check::plan;
+use crate::plans::fault_of;
 use jp_syntax::QueryFault;
 use std::test::Fail;
 
 #[test]
-fn fronts_of_a_query(rt: HostRuntime) -> Result<(), Fail> {
+fn fronts_of_a_query(rt: HostRuntime) {
     let text = "$['a'][?match(@.b,'x')]";
     for (at, _) in text.char_indices() {
         let (front, _) = text.split_at(at);
-        let fault = plan(rt.alloc(), front).err();
-        if matches!(front, "$" | "$['a']") {
-            assert_eq!(rt; fault, None, "{front}");
+        let wanted = if matches!(front, "$" | "$['a']") {
+            None
         } else {
-            assert_eq!(rt; fault, Some(QueryFault::Syntax), "{front}");
-        }
+            Some(QueryFault::Syntax)
+        };
+        assert_eq!(rt; fault_of(rt.alloc(), front), wanted, "{front}");
     }
-    assert!(rt; plan(rt.alloc(), text).is_ok());
-    Ok(())
+    assert_eq!(rt; fault_of(rt.alloc(), text), None);
 }
 
 #[test]
@@ -27,7 +26,7 @@ fn brackets_behind_a_quote(rt: HostRuntime) -> Result<(), Fail> {
         text.push('[')?;
     }
     assert_eq!(rt;
-        plan(rt.alloc(), text.as_str()).err(),
+        fault_of(rt.alloc(), text.as_str()),
         Some(QueryFault::Syntax)
     );
     Ok(())

@@ -94,87 +94,134 @@ fn around(
     Ok(text)
 }
 
+/// The fault of the text, if it is refused.
+pub(crate) fn fault_of(alloc: Global, text: &str) -> Option<QueryFault> {
+    plan(alloc, text).err()
+}
+
+/// Whether the plan of the text holds its query, or nothing where the text is refused.
+fn keeps(alloc: Global, text: &str) -> Option<bool> {
+    let query = read_query(alloc, text).ok()?;
+    let plan = plan(alloc, text).ok()?;
+    Some(*plan.query() == query)
+}
+
 #[test]
-fn accepted_texts(rt: HostRuntime) -> Result<(), Fail> {
+fn accepted_texts(rt: HostRuntime) {
     for text in ACCEPTED.lines() {
-        let query = read_query(rt.alloc(), text)?;
-        let plan = plan(rt.alloc(), text)?;
-        assert!(rt; *plan.query() == query, "at {text}");
+        assert_eq!(rt; keeps(rt.alloc(), text), Some(true), "at {text}");
     }
-    Ok(())
+}
+
+/// The fault of such a long text, if it is refused.
+fn fault_of_long(
+    alloc: Global,
+    start: &str,
+    c: char,
+    times: usize,
+    end: &str,
+) -> Result<Option<QueryFault>, AllocError> {
+    let text = around(alloc, start, c, times, end)?;
+    Ok(fault_of(alloc, text.as_str()))
 }
 
 #[test]
-fn accepted_long_texts(rt: HostRuntime) -> Result<(), Fail> {
+fn literals_of_1_to_38_digits(rt: HostRuntime) -> Result<(), Fail> {
     for digits in 1..39usize {
-        let literal = around(rt.alloc(), "$[?@.a==", '9', digits, "]")?;
-        assert!(rt;
-            plan(rt.alloc(), literal.as_str()).is_ok(),
-            "{digits} digits"
-        );
+        let fault = fault_of_long(rt.alloc(), "$[?@.a==", '9', digits, "]")?;
+        assert_eq!(rt; fault, None, "{digits} digits");
     }
-    let mut long = String::from_str(rt.alloc(), "$")?;
-    for _turn in 0..100u8 {
-        long.push_str("[?match(@.a,'b')]")?;
+    Ok(())
+}
+
+/// Whether the plan of so many of the same segment has as many, and knows the pattern.
+fn knows_of_many(alloc: Global, part: &str, times: usize, pattern: &str) -> Option<bool> {
+    let mut text = String::from_str(alloc, "$").ok()?;
+    for _turn in 0..times {
+        text.push_str(part).ok()?;
     }
-    let plan = plan(rt.alloc(), long.as_str())?;
-    assert_eq!(rt; plan.query().segments.len(), 100);
-    assert!(rt; matches!(plan.pattern("b"), Known::Read(_)));
-    Ok(())
+    let plan = plan(alloc, text.as_str()).ok()?;
+    let is_read = matches!(plan.pattern(pattern), Known::Read(_));
+    Some(is_read && plan.query().segments.len() == times)
 }
 
 #[test]
-fn checked_trees(rt: HostRuntime) -> Result<(), Fail> {
-    let accepted = check(rt.alloc(), read_query(rt.alloc(), "$[?@.a==1]")?)?;
-    assert!(rt; *accepted.query() == read_query(rt.alloc(), "$[?@.a==1]")?);
-    let Err(fault) = check(rt.alloc(), read_query(rt.alloc(), "$[?@.a==1.5]")?) else {
-        panic!(rt; "accepted a fraction");
-    };
-    assert_eq!(rt; fault, QueryFault::Fraction);
-    Ok(())
+fn a_hundred_segments(rt: HostRuntime) {
+    let known = knows_of_many(rt.alloc(), "[?match(@.a,'b')]", 100, "b");
+    assert_eq!(rt; known, Some(true));
+}
+
+/// Whether what is checked holds the query that the text spells.
+fn checked(alloc: Global, text: &str) -> Result<bool, QueryFault> {
+    let plan = check(alloc, read_query(alloc, text)?)?;
+    Ok(*plan.query() == read_query(alloc, text)?)
 }
 
 #[test]
-fn known_patterns(rt: HostRuntime) -> Result<(), Fail> {
-    let plan = plan(rt.alloc(), "$[?match(@,'a')||search(@,'[')]")?;
-    assert!(rt; matches!(plan.pattern("a"), Known::Read(_)));
-    assert!(rt; matches!(plan.pattern("["), Known::NoPattern));
-    assert!(rt; matches!(plan.pattern("b"), Known::Unknown));
-    Ok(())
+fn checked_trees(rt: HostRuntime) {
+    assert_eq!(rt; checked(rt.alloc(), "$[?@.a==1]"), Ok(true));
+    assert_eq!(rt;
+        checked(rt.alloc(), "$[?@.a==1.5]"),
+        Err(QueryFault::Fraction)
+    );
+}
+
+/// What the query's plan knows of the text as a pattern.
+fn known(alloc: Global, query: &str, text: &str) -> Option<&'static str> {
+    let plan = plan(alloc, query).ok()?;
+    match plan.pattern(text) {
+        Known::Read(_) => Some("a pattern"),
+        Known::NoPattern => Some("no pattern"),
+        Known::Unknown => Some("unknown"),
+    }
 }
 
 #[test]
-fn ready_queries(rt: HostRuntime) -> Result<(), Fail> {
-    let plan = plan(
-        rt.alloc(),
-        "$[-7,?count($[?@.a==$.b])>value($..c)&&search(@,'a')]",
-    )?;
+fn known_patterns(rt: HostRuntime) {
+    let query = "$[?match(@,'a')||search(@,'[')]";
+    assert_eq!(rt; known(rt.alloc(), query, "a"), Some("a pattern"));
+    assert_eq!(rt; known(rt.alloc(), query, "["), Some("no pattern"));
+    assert_eq!(rt; known(rt.alloc(), query, "b"), Some("unknown"));
+}
+
+#[test]
+fn known_patterns_deep_inside(rt: HostRuntime) {
+    let query = "$[?count(@[?search(@.a,'\\u0061+')])>0&&!(length('b')==1)]";
+    assert_eq!(rt; known(rt.alloc(), query, "a+"), Some("a pattern"));
+    assert_eq!(rt; known(rt.alloc(), query, "b"), Some("unknown"));
+}
+
+/// The index that stands first in the one segment, before a filter, and what is wanted of three `$` queries.
+fn parts_of_ready(alloc: Global, text: &str) -> Option<(i64, Want, Want, Want)> {
+    let plan = plan(alloc, text).ok()?;
     let ready = plan.ready();
     let [segment] = ready.segments.as_slice() else {
-        panic!(rt; "not one segment");
+        return None;
     };
     let [Selector::Index(index), Selector::Filter(_)] = segment.selectors.as_slice() else {
-        panic!(rt; "not an index and a filter");
+        return None;
     };
-    assert_eq!(rt; index.value, -7);
-    let [first, count, only] = ready.roots.as_slice() else {
-        panic!(rt; "not three queries");
+    let [first, second, third] = ready.roots.as_slice() else {
+        return None;
     };
-    assert_eq!(rt; first.want, Want::First);
-    assert_eq!(rt; count.want, Want::Count);
-    assert_eq!(rt; only.want, Want::Only);
-    Ok(())
+    Some((index.value, first.want, second.want, third.want))
 }
 
 #[test]
-fn known_patterns_deep_inside(rt: HostRuntime) -> Result<(), Fail> {
-    let plan = plan(
+fn ready_queries(rt: HostRuntime) {
+    let parts = parts_of_ready(
         rt.alloc(),
-        "$[?count(@[?search(@.a,'\\u0061+')])>0&&!(length('b')==1)]",
-    )?;
-    assert!(rt; matches!(plan.pattern("a+"), Known::Read(_)));
-    assert!(rt; matches!(plan.pattern("b"), Known::Unknown));
-    Ok(())
+        "$[-7,?count($[?@.a==$.b])>value($..c)&&search(@,'a')]",
+    );
+    assert_eq!(rt; parts, Some((-7, Want::First, Want::Count, Want::Only)));
+}
+
+/// Whether the text is refused, and this is told of it.
+fn is_told(alloc: Global, text: &str, wanted: &str) -> Result<bool, AllocError> {
+    match fault_of(alloc, text) {
+        Some(fault) => Ok(format!(in alloc; "{fault}")?.as_str() == wanted),
+        None => Ok(false),
+    }
 }
 
 #[test]
@@ -183,33 +230,20 @@ fn refused_texts(rt: HostRuntime) -> Result<(), Fail> {
         let Some((wanted, text)) = line.split_once(" of ") else {
             panic!(rt; "{line}");
         };
-        let Err(found) = plan(rt.alloc(), text) else {
-            panic!(rt; "accepted {text}");
-        };
-        let told = format!(in rt.alloc(); "{found}")?;
-        assert_eq!(rt; told.as_str(), wanted, "at {text}");
+        assert!(rt; is_told(rt.alloc(), text, wanted)?, "at {line}");
     }
-    for text in ["", "$ "] {
-        assert!(rt;
-            matches!(plan(rt.alloc(), text), Err(QueryFault::Syntax)),
-            "at {text}"
-        );
-    }
+    assert_eq!(rt; fault_of(rt.alloc(), ""), Some(QueryFault::Syntax));
+    assert_eq!(rt; fault_of(rt.alloc(), "$ "), Some(QueryFault::Syntax));
     Ok(())
 }
 
 #[test]
 fn refused_long_texts(rt: HostRuntime) -> Result<(), Fail> {
-    for (start, c, times, end, fault) in [
-        ("$[?@.a==", '9', 39, "]", QueryFault::Range),
-        ("$", '[', 65, "", QueryFault::TooDeep),
-        ("$", '[', 64, "", QueryFault::Syntax),
-    ] {
-        let text = around(rt.alloc(), start, c, times, end)?;
-        let Err(found) = plan(rt.alloc(), text.as_str()) else {
-            panic!(rt; "accepted {text}");
-        };
-        assert_eq!(rt; found, fault, "at {text}");
-    }
+    let number = fault_of_long(rt.alloc(), "$[?@.a==", '9', 39, "]")?;
+    assert_eq!(rt; number, Some(QueryFault::Range));
+    let deep = fault_of_long(rt.alloc(), "$", '[', 65, "")?;
+    assert_eq!(rt; deep, Some(QueryFault::TooDeep));
+    let open = fault_of_long(rt.alloc(), "$", '[', 64, "")?;
+    assert_eq!(rt; open, Some(QueryFault::Syntax));
     Ok(())
 }
