@@ -1,6 +1,6 @@
 //! Lists of children that can be cut in two.
 
-ghost use Rattle.std.specs.Prelude.{◌≡◌, ◌≤◌, ◌<◌, [], ◌∷◌, ◌++◌, suc, IfSome, MatchOption};
+ghost use Rattle.std.specs.Prelude.{◌≡◌, ◌≤◌, ◌<◌, [], ◌∷◌, ◌++◌, suc, nat_le, IfSome, MatchOption};
 ghost use Rattle.serde_json.specs.Data.{depth};
 ghost use Rattle.serde_json.specs.View.{view};
 ghost use Rattle.jp_doc.specs.Location.{Location};
@@ -49,7 +49,9 @@ impl<'v> Children<'v> {
 
 impl<'c, 'v> Row<'c, 'v> {
     /// Whether there are so many.
-    pub fn has(self, floor: u64) -> bool {
+    pub fn has(self, floor: u64) -> bool
+        ensures { result ≡ nat_le floor (row_length self.entry) }
+    {
         match self {
             Row::Listed(children) => children.len() as u64 >= floor,
             Row::Items(_, first, past) => past.saturating_sub(first) as u64 >= floor,
