@@ -1,7 +1,7 @@
 -- Children that are gathered, and that are walked in halves.
-use Rattle.std.proofs.Common.{◌≡◌, ℕ, zero, suc, ◌+◌, ◌<◌, ◌≤◌, List, [], ◌∷◌, ◌++◌, length, get_or, take}
+use Rattle.std.proofs.Common.{◌≡◌, ℕ, zero, suc, ◌≤◌, List, [], ◌∷◌, ◌++◌, take}
 use Rattle.std.proofs.Common.{take-append-drop, drop, sym, ap, ◌∙◌, subst, append_assoc, arith}
-use Rattle.std.proofs.lemmas.List.{at_drop_more, map-append}
+use Rattle.std.proofs.lemmas.List.{map-append}
 use Rattle.std.proofs.lemmas.List.Concat.{flat_map-append}
 use Rattle.std.specs.List.{flat_map}
 use Rattle.serde_json.specs.Data.{depth}
@@ -61,17 +61,6 @@ halves_joined put f left right all k mid last e first second =
     second ∙ ap (λ j. plus put j (flat_map f right)) first
     ∙ sym (plus-append put k (flat_map f left) (flat_map f right))
     ∙ ap (plus put k) (sym (flat_map-append f left right) ∙ ap (flat_map f) e)
-
--- ---- a list that is gone over
-
--- what stands before an item, that item, and what is behind it
-pub before_and_behind : {X : Type 0} (done more xs : List X) (i : ℕ) (x : X) → i < length xs
-    → x ≡ get_or xs i x → more ≡ done ++ x ∷ [] → done ++ drop i xs ≡ xs
-    → more ++ drop (i + 1) xs ≡ xs
-before_and_behind done more xs i x h is e inv =
-    ap (λ l. l ++ drop (i + 1) xs) e ∙ append_assoc done (x ∷ []) (drop (i + 1) xs)
-    ∙ ap (λ l. done ++ l) (sym (at_drop_more (λ ys. ys) xs i x h ∙ ap (λ y. y ∷ drop (i + 1) xs) (sym is)))
-    ∙ inv
 
 -- ---- children, one by one
 
