@@ -40,10 +40,6 @@ pub passed_none : (k : Bool) → passed_in k [] ≡ 0
 passed_none false = refl
 passed_none true = refl
 
-pub stop_none : (k : Bool) → stop_in k [] ≡ None
-stop_none false = refl
-stop_none true = refl
-
 module _ (t : Tests) (q : Query) where
   bytes_joined : (a b : List Line) → (whole t q (a ++ b)).bytes ≡ (whole t q a).bytes ++ (whole t q b).bytes
   bytes_joined a b = flat_map-append (line_bytes t q) a b

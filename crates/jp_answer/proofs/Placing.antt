@@ -1,13 +1,13 @@
 -- What placing a part, and joining what stands at a place, do.
-use Rattle.std.proofs.Common.{◌≡◌, ◌≢◌, refl, ℕ, zero, suc, ◌<◌, ◌≤◌, List, [], ◌∷◌, ◌++◌, length, set}
-use Rattle.std.proofs.Common.{replicate, Option, Some, None, option_map, false, Contains, sym, ap, subst}
+use Rattle.std.proofs.Common.{◌≡◌, ◌≢◌, refl, ℕ, zero, suc, ◌<◌, List, [], ◌∷◌, ◌++◌, length, set}
+use Rattle.std.proofs.Common.{Option, Some, None, option_map, false, Contains, sym, ap, subst}
 use Rattle.std.proofs.Common.{⊎_elim, ◌∙◌, arith, append_assoc}
 use Rattle.std.specs.Prelude.{is_some, slice_get}
 use mathlib.Core.Logic.{dite}
 use native.Mathlib.Decide.{ℕ_discrete}
-use Rattle.std.proofs.lemmas.List.{get_or-replicate, length-replicate, length-set}
+use Rattle.std.proofs.lemmas.List.{length-set}
 use Rattle.std.proofs.lemmas.List.Elements.{Contains-push, Contains-append_left}
-use Rattle.std.proofs.lemmas.Option.{slice_get_within, get_or_from_slice_get}
+use Rattle.std.proofs.lemmas.Option.{slice_get_within}
 use Rattle.jp_path.specs.Chunks.{bytes_in}
 use Rattle.jp_answer.specs.Answer as answers
 use Rattle.jp_answer.specs.Answer.{after, joined, unless_stopped}
@@ -30,22 +30,6 @@ get_other (x ∷ xs) zero zero v apart = absurd (apart refl)
 get_other (x ∷ xs) zero (suc j) v apart = refl
 get_other (x ∷ xs) (suc i) zero v apart = refl
 get_other (x ∷ xs) (suc i) (suc j) v apart = get_other xs i j v (λ e. apart (ap suc e))
-
--- nothing stands anywhere at first
-pub from_none : (n : ℕ) → ComeFrom [] (replicate n None)
-from_none n x a at =
-    let none : List (Option Outcome) = replicate n None in
-    let w = slice_get_within none x (Some a) at in
-    let short : x < n = omega (arith, w, length-replicate {A = Option Outcome} n None) in
-    let e : ◌≡◌ {A = Option Outcome} None (Some a) = sym (get_or-replicate n x None None short)
-    ∙ get_or_from_slice_get none x (Some a) None at in
-    absurd (cc)
-
--- a place past the end
-pub set_past : {X : Type 0} (xs : List X) (i : ℕ) (v : X) → length xs ≤ i → xs ≡ set xs i v
-set_past [] i v h = refl
-set_past (x ∷ xs) zero v h = absurd (omega arith)
-set_past (x ∷ xs) (suc i) v h = ap (λ ys. x ∷ ys) (set_past xs i v (omega arith))
 
 module _ (parts : List Part) (new : Part) (placed : List (Option Outcome)) where
   abbrev put : List (Option Outcome)

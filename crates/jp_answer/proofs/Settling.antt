@@ -25,7 +25,7 @@ use Rattle.jp_board.specs.Seats.{view_of}
 use Rattle.jp_board.specs.Tally.{Tallies}
 use Rattle.jp_board.specs.Together.{all_claims, all_reports, all_looks, times_told}
 use Rattle.jp_answer.specs.Answer as answers
-use Rattle.jp_answer.specs.Answer.{after, joined, unless_stopped}
+use Rattle.jp_answer.specs.Answer.{joined, unless_stopped}
 use Rattle.jp_answer.specs.Answered.{outcome_of}
 use Rattle.jp_answer.specs.Form.{answer_in, stop_in, passed_in}
 use Rattle.jp_answer.specs.Pieces.{piece_lines, AreAllPieces, IsFaulty, IsPieceAnswer}
@@ -246,11 +246,6 @@ has_left xs ys x h = subst (λ l. Contains l x) (sym (map-append (λ (q : Part).
 has_right : (xs ys : List Part) (x : ℕ) → Contains (pieces_of ys) x → Contains (pieces_of (xs ++ ys)) x
 has_right xs ys x h = subst (λ l. Contains l x) (sym (map-append (λ (q : Part). q.piece) xs ys))
     (Contains-append_right (pieces_of xs) (pieces_of ys) x h)
-
-has_either : (xs ys : List Part) (x : ℕ) → Contains (pieces_of (xs ++ ys)) x
-    → Contains (pieces_of xs) x ⊎ Contains (pieces_of ys) x
-has_either xs ys x h = Contains-append_cases (pieces_of xs) (pieces_of ys) x (subst (λ l. Contains l x)
-    (map-append (λ (q : Part). q.piece) xs ys) h)
 
 tended_left : (looks more : List ℕ) (xs ys : List Part) (x : ℕ) → IsTended looks xs x
     → IsTended (looks ++ more) (xs ++ ys) x

@@ -104,9 +104,6 @@ module _ (p : Pieces) where
         (has_cases parts (part x a) y h);
   }
 
-pub tended_none : (looks : List ℕ) (parts : List Part) → AreTended [] looks parts
-tended_none looks parts = λ x h. let lt = h.1 in absurd (omega arith)
-
 -- one more piece is claimed
 pub tended_claim : (claims looks : List ℕ) (parts : List Part) (x : ℕ) → AreTended claims looks parts
     → OthersAreTended x (claims ++ x ∷ []) looks parts

@@ -6,7 +6,7 @@ use mathlib.Core.Option.{some, some-ne-none, some-injective}
 use lib.ListN.{get_elem?}
 use Rattle.std.proofs.lemmas.List.{map-append}
 use Rattle.std.proofs.lemmas.List.Elements.{All-weaker, All-cons, All-nil, All-contains}
-use Rattle.std.proofs.lemmas.List.Sorted.{IsPermutation-refl, IsPermutation-trans, IsPermutation-sym}
+use Rattle.std.proofs.lemmas.List.Sorted.{IsPermutation-trans, IsPermutation-sym}
 use Rattle.std.proofs.lemmas.List.Sorted.{Contains-permutation, length_permutation}
 use Rattle.std.proofs.lemmas.List.FromFn.{length-range_with_len}
 use Rattle.std.proofs.lemmas.List.Sums.{sum_by-cons, sum_by_push}
@@ -46,14 +46,6 @@ one_fresh old new pieces made e f =
     let p = ap (λ (x : Place). x.0.pieces) e in
     let m = ap (λ (x : Place). x.0.made) e in
     f ∙ (λ i. (fresh (p i) (m i) 1, []))
-
-pub same_refl : (vs ws : List View) → vs ≡ ws → SameAccount vs ws
-same_refl vs ws e = subst (SameAccount vs) e record {
-  claims = IsPermutation-refl (all_claims vs);
-  reports = IsPermutation-refl (all_reports vs);
-  looks = IsPermutation-refl (all_looks vs);
-  told = refl;
-}
 
 pub same_trans : (us vs ws : List View) → SameAccount us vs → SameAccount vs ws → SameAccount us ws
 same_trans us vs ws a b = record {

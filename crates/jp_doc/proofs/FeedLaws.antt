@@ -23,17 +23,6 @@ pub record Goes (all out : List code.Line) (before count : ℕ) (bytes rest : Li
   pub counts : count + length (cut rest).ended ≡ before + length (cut bytes).ended
   pub long : count + length rest ≤ before + length bytes
 
-pub goes_start : (all : List code.Line) (before : ℕ) (bytes : List ℕ) → Goes all all before before bytes bytes
-goes_start all before bytes = record {
-  added = [];
-  is = sym (append-nil all);
-  lines = refl;
-  left =
-      refl;
-  counts = refl;
-  long = omega arith;
-}
-
 pub goes_on : (all out new : List code.Line) (before count : ℕ) (bytes rest line after : List ℕ)
     → Goes all out before count bytes rest
     → rest ≡ line ++ 10 ∷ after → has_line_feed line ≡ false → Adds out new (numbered (count + 1) (line ∷ []))

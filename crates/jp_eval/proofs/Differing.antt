@@ -3,13 +3,9 @@ use Rattle.std.proofs.Common.{◌≡◌, suc, List, [], ◌∷◌, length, map}
 use Rattle.std.proofs.Common.{refl, sym, ap, ◌∙◌}
 use Rattle.jp_doc.specs.Location.{Node}
 use Rattle.jp_eval.specs.Different.{IsDifferent}
-use Rattle.jp_eval.specs.Functions.{first_value, only_value, distinct, first_ones, same_location, same_place}
+use Rattle.jp_eval.specs.Functions.{only_value, distinct, first_ones, same_location, same_place}
 use Rattle.jp_eval.specs.declared.different.Different.{Different}
 use Rattle.jp_eval.proofs.FirstOnes.{ones_mapped, ones_again}
-
-pub first_of_distinct : (ns : List Node) → first_value ns ≡ first_value (distinct ns)
-first_of_distinct [] = refl
-first_of_distinct (n ∷ ns) = refl
 
 pub distinct_again : (ns : List Node) → distinct (distinct ns) ≡ distinct ns
 distinct_again ns = ones_again same_place ns

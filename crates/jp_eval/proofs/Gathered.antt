@@ -1,6 +1,6 @@
 -- Children that are gathered, and that are walked in halves.
 use Rattle.std.proofs.Common.{◌≡◌, ℕ, zero, suc, ◌≤◌, List, [], ◌∷◌, ◌++◌, take}
-use Rattle.std.proofs.Common.{take-append-drop, drop, sym, ap, ◌∙◌, subst, append_assoc, arith}
+use Rattle.std.proofs.Common.{drop, sym, ap, ◌∙◌, subst, append_assoc, arith}
 use Rattle.std.proofs.lemmas.List.{map-append}
 use Rattle.std.proofs.lemmas.List.Concat.{flat_map-append}
 use Rattle.std.specs.List.{flat_map}
@@ -47,11 +47,6 @@ pub back_height : (m : ℕ) (cs : List Child) → kids_height (drop m cs) ≤ ki
 back_height zero cs = omega arith
 back_height (suc m) [] = omega arith
 back_height (suc m) (c ∷ cs) = let h = back_height m cs in omega arith
-
-pub kids_of_halves : (at : Location) (m : ℕ) (cs front back : List Child) → front ≡ take m cs
-    → back ≡ drop m cs → kids at front ++ kids at back ≡ kids at cs
-kids_of_halves at m cs front back fe be = sym (map-append (kid at) front back) ∙ ap (kids at)
-    (ap (λ l. l ++ back) fe ∙ ap (λ l. take m cs ++ l) be ∙ take-append-drop m cs)
 
 -- one half and then the other
 pub halves_joined : {K : Type 0} (put : K → Node → K) (f : Node → List Node) (left right all : List Node)

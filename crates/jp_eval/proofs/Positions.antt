@@ -1,5 +1,5 @@
 -- Numbers that an index or a part of a slice may be.
-use Rattle.std.proofs.Common.{◌≡◌, ℕ, ◌<◌, ◌^◌, Option, Some, None, true, false, refl, arith, ℤ, pos}
+use Rattle.std.proofs.Common.{◌≡◌, ℕ, Option, Some, None, true, false, refl, arith, ℤ, pos}
 use Rattle.std.proofs.Common.{negsuc, ◌-ℤ◌}
 use Rattle.std.specs.Prelude.{unwrap_or, neg_ℤ, int_lt}
 use Rattle.std.specs.Option.{ForSome}
@@ -11,9 +11,6 @@ pub position_or : (o : Option ℤ) (d : ℤ) → ForSome o IsPosition → IsPosi
     → IsPosition (unwrap_or o d)
 position_or None d h k = k
 position_or (Some z) d h k = h z refl
-
-pub last_is_position : (len : ℕ) (last : ℤ) → len < 2 ^ 32 → last ≡ pos len → IsPosition (last -ℤ pos 1)
-last_is_position len last h e = record { least = omega (arith, ints); greatest = omega (arith, ints) }
 
 minus : (len : ℕ) → pos 0 -ℤ pos len ≡ neg_ℤ (pos len)
 minus len = omega (arith, ints)

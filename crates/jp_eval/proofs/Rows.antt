@@ -1,6 +1,6 @@
 -- Items of an array that stand one behind another.
-use Rattle.std.proofs.Common.{◌≡◌, ℕ, zero, suc, ◌+◌, ◌-◌, ◌<◌, ◌≤◌, [], ◌∷◌, ◌++◌, length, Option}
-use Rattle.std.proofs.Common.{Some, None, option_map, refl, sym, ap, ◌∙◌, arith, zero-add, add-zero}
+use Rattle.std.proofs.Common.{◌≡◌, ℕ, zero, suc, ◌+◌, ◌-◌, ◌≤◌, [], ◌∷◌, ◌++◌, length, Option}
+use Rattle.std.proofs.Common.{None, option_map, refl, sym, ap, ◌∙◌, arith, zero-add, add-zero}
 use Rattle.std.proofs.lemmas.List.Concat.{flat_map-append}
 use Rattle.std.specs.List.{range_with_len}
 use Rattle.jp_doc.specs.Json.{Json, null, truth, whole, text, array, object, Items, no_items, add_item}
@@ -87,17 +87,3 @@ pub no_first : (at : Location) (p : Part) (o : Option Part) (first past : ℕ)
     → items_at (node at (part_value p)) (range_with_len first (past - first)) ≡ []
 no_first at p o first past is none =
     none_from (node at (part_value p)) first (past - first) (sym is ∙ ap (option_map part_value) none)
-
--- the item at the first place, and those behind it
-pub first_and_others : (at : Location) (p q : Part) (o : Option Part) (first past : ℕ) → first < past
-    → option_map part_value o ≡ item_of first (part_value p) → o ≡ Some q
-    → items_at (node at (part_value p)) (range_with_len first (past - first))
-    ≡ node (at ++ index first ∷ []) (part_value q)
-    ∷ items_at (node at (part_value p)) (range_with_len (first + 1) (past - (first + 1)))
-first_and_others at p q o first past less is some =
-    let n = node at (part_value p) in
-    let others = items_at n (range_with_len (first + 1) (past - (first + 1))) in
-    let e : past - first ≡ suc (past - (first + 1)) = omega arith in
-    ap (λ m. items_at n (range_with_len first m)) e
-    ∙ ap (λ o. node_if_some (at ++ index first ∷ []) o ++ others)
-    (sym is ∙ ap (option_map part_value) some)

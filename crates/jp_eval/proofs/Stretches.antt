@@ -90,13 +90,6 @@ others_no_higher [] i = rw (drop_none (i + 1), drop_none i) (omega arith)
 others_no_higher (s ∷ ss) zero = omega arith
 others_no_higher (s ∷ ss) (suc i) = rw (next i) (others_no_higher ss i)
 
-pub first_no_higher : (ss : List Stretch) (i : ℕ) (s : Stretch) → i < length ss → s ≡ get_or ss i s
-    → all_height s.children ≤ highest (drop i ss)
-first_no_higher [] i s h is = absurd (omega arith)
-first_no_higher (t ∷ ss) zero s h is = subst (λ u. all_height u.children ≤ highest (t ∷ ss)) (sym is)
-    (omega arith)
-first_no_higher (t ∷ ss) (suc i) s h is = first_no_higher ss i s (omega arith) is
-
 pub stretch_done : {K : Type 0} (put : K → Node → K) (base : Base) (at : Location) (ss : List Stretch)
     (i : ℕ) (s : Stretch) (k mid start : K) (all : List Node) → i < length ss → s ≡ get_or ss i s
     → mid ≡ plus put k (done_along base at s)

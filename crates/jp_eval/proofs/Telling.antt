@@ -6,7 +6,6 @@ use borrow.Author.Tests.{eqb-true}
 use Rattle.std.proofs.lemmas.Bool.Decides.{nat_tests}
 use Rattle.jp_doc.specs.Json.{Json}
 use Rattle.jp_doc.specs.Location.{Location, Node, node}
-use Rattle.jp_check.specs.Ready.{wanted_inside}
 use Rattle.jp_check.specs.declared.ready.Want.{Want}
 use Rattle.jp_check.specs.declared.ready.Want.TheVariants as want
 use Rattle.jp_eval.specs.Answers.{tells}
@@ -21,7 +20,7 @@ use Rattle.jp_eval.specs.declared.different.Different.{Different}
 use Rattle.jp_eval.specs.declared.found.Alone as code
 use Rattle.jp_eval.specs.declared.found.Alone.TheVariants.{One as one}
 use Rattle.jp_eval.specs.declared.part.Part.{Part}
-use Rattle.jp_eval.proofs.Differing.{first_of_distinct, differs_again}
+use Rattle.jp_eval.proofs.Differing.{differs_again}
 use Rattle.jp_eval.proofs.Parts.{alone_in, kept_all}
 use Rattle.jp_eval.proofs.Sameness.{same_is_equal, self_same}
 
@@ -63,9 +62,6 @@ pub first_told : (o : Option Part) (ns : List Node) → tells want.First ns (ans
     → option_map part_value o ≡ first_value ns
 first_told o ns h = eq_is _ _ h
 
-pub count_told : (n : ℕ) (ns : List Node) → tells want.Count ns (answer.Count n) ≡ true → n ≡ length ns
-count_told n ns h = eqb-true n (length ns) h
-
 pub only_told : (a : code.Alone) (ns : List Node) → tells want.Only ns (answer.Only a) ≡ true
     → alone_value (alone_of a) ≡ only_value ns
 only_told a ns h = eq_is _ _ h
@@ -92,35 +88,6 @@ one_different w p is at = ap (λ v. tells v (node at (part_value p) ∷ []) (ans
     ∙ self_same (part_value p)
 
 -- what is told once each location stands there once, by what is told of all
-
-pub first_of_ones : (w : Want) (o : Option Part) (ns : List Node)
-    → tells (wanted_inside w) ns (answer.First o) ≡ true → tells w (distinct ns) (answer.First o) ≡ true
-first_of_ones want.First o ns h = ap (eq (option_map part_value o)) (sym (first_of_distinct ns)) ∙ h
-first_of_ones want.Count o ns h = absurd cc
-first_of_ones want.Only o ns h = absurd cc
-first_of_ones want.Distinct o ns h = absurd cc
-
-pub none_of_count : (w : Want) (n : ℕ) (ns : List Node)
-    → tells (wanted_inside w) ns (answer.Count n) ≡ true → tells w (distinct ns) (answer.Count n) ≡ true
-none_of_count want.First n ns h = absurd cc
-none_of_count want.Count n ns h = absurd cc
-none_of_count want.Only n ns h = absurd cc
-none_of_count want.Distinct n ns h = absurd cc
-
-pub none_of_only : (w : Want) (a : code.Alone) (ns : List Node)
-    → tells (wanted_inside w) ns (answer.Only a) ≡ true → tells w (distinct ns) (answer.Only a) ≡ true
-none_of_only want.First a ns h = absurd cc
-none_of_only want.Count a ns h = absurd cc
-none_of_only want.Only a ns h = absurd cc
-none_of_only want.Distinct a ns h = absurd cc
-
-pub count_of_ones : (d : Different) (ns : List Node) → tells want.Distinct ns (answer.Distinct d) ≡ true
-    → tells want.Count (distinct ns) (answer.Count d.count) ≡ true
-count_of_ones d ns h = is_count _ _ (differs d ns h).0
-
-pub only_of_ones : (d : Different) (ns : List Node) → tells want.Distinct ns (answer.Distinct d) ≡ true
-    → tells want.Only (distinct ns) (answer.Only d.alone) ≡ true
-only_of_ones d ns h = is_eq _ _ (differs d ns h).1
 
 pub different_of_ones : (d : Different) (ns : List Node)
     → tells want.Distinct ns (answer.Distinct d) ≡ true

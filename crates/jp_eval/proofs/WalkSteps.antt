@@ -6,8 +6,8 @@ use Rattle.std.proofs.Math.Seq.{take-append_seam}
 use Rattle.std.proofs.lemmas.List.{at_drop_more, at_drop_all, map-append}
 use Rattle.std.specs.List.{All, flat_map, list_any, list_all}
 use Rattle.serde_json.proofs.Views.{Entry}
-use Rattle.serde_json.specs.Data.{depth, items_depth, members_depth}
-use Rattle.serde_json.specs.View.{view, items_view, members_view}
+use Rattle.serde_json.specs.Data.{items_depth, members_depth}
+use Rattle.serde_json.specs.View.{items_view, members_view}
 use Rattle.serde_json.specs.declared.value.Value.{Value}
 use Rattle.std.specs.Prelude.{string_bytes}
 use Rattle.std.specs.Str.{chars}
@@ -114,13 +114,6 @@ pub no_deeper : (xs : List Value) (i : ℕ) → items_depth (items_view (drop (i
 no_deeper [] i = rw (drop_none (i + 1), drop_none i) (omega arith)
 no_deeper (x ∷ xs) zero = omega arith
 no_deeper (x ∷ xs) (suc i) = rw (next i) (no_deeper xs i)
-
-pub first_no_deeper : (xs : List Value) (i : ℕ) (x : Value) → i < length xs → x ≡ get_or xs i x
-    → depth (view x) ≤ items_depth (items_view (drop i xs))
-first_no_deeper [] i x h is = absurd (omega arith)
-first_no_deeper (y ∷ xs) zero x h is = subst (λ z. depth (view z) ≤ items_depth (items_view (y ∷ xs)))
-    (sym is) (omega arith)
-first_no_deeper (y ∷ xs) (suc i) x h is = first_no_deeper xs i x (omega arith) is
 
 pub item_done : {K : Type 0} (put : K → Node → K) (f : Node → List Node) (at : Location) (xs : List Value)
     (i : ℕ) (x : Value) (k mid start : K) (all : List Node) → i < length xs → x ≡ get_or xs i x

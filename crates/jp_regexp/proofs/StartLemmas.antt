@@ -75,17 +75,6 @@ pub record AreFlags (i one two : ℕ) : Type 0 where
   pub two_bit : two ≤ 1
   pub one_bit : one ≤ 1
 
-pub passing_first : (cells bytes : List ℕ) → IsPassing cells bytes 0 0 0
-passing_first cells bytes = record { from_two = λ e. refl; past_two = λ e. refl; past_one = λ e. refl }
-
-pub flags_first : AreFlags 0 0 0
-flags_first = record {
-  two_read = λ e. absurd (e refl);
-  one_read = λ e. absurd (e refl);
-  two_bit = omega arith;
-  one_bit = omega arith;
-}
-
 pub flags_more : (i one two : ℕ) (m : Marks) → AreFlags i one two →
     AreFlags (i + 1) m.first (bit_and one m.second)
 flags_more i one two m of = record {
@@ -106,10 +95,6 @@ other_bit (suc zero) zero le few e some = refl
 other_bit (suc zero) (suc zero) le few e some = e
 other_bit (suc zero) (suc (suc b)) le few e some = absurd (omega arith)
 other_bit (suc (suc a)) b le few e some = absurd (omega arith)
-
--- what is left after a byte where both flags are set
-pub both_set : (a b : ℕ) → bit_and a b ≢ 0 → a ≢ 0
-both_set a b some z = some (omega (arith, and_le_l a b))
 
 module _ (cells bytes : List ℕ) (marks : List Marks) (of : AreStarts cells marks) (all : length marks ≡ 256)
     (small : (k : ℕ) → slice_index_or bytes k 0 < 256) where

@@ -80,12 +80,6 @@ module _ (p : Pattern) where
 abbrev pub LeftAt : Pattern → List State → ℕ → State → Text → Type 0
 LeftAt p states i s u = SomePlaceHas p (places_at (slice_index_or states i s)) u
 
--- the same at the state that was looked up
-pub state_left : (p : Pattern) (states : List State) (i : ℕ) (s t : State) → s ≡ slice_index_or states i t →
-    (u : Text) →
-    LeftAt p states i t u → SomePlaceHas p (places_at s) u
-state_left p states i s t e u h = subst (λ x. SomePlaceHas p (places_at x) u) (sym e) h
-
 pub left_state : (p : Pattern) (states : List State) (i : ℕ) (s t : State) → s ≡ slice_index_or states i t →
     (u : Text) →
     SomePlaceHas p (places_at s) u → LeftAt p states i t u

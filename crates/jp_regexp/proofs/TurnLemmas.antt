@@ -13,11 +13,6 @@ use Rattle.jp_regexp.specs.Reading.{Parse, close_at, element_at, with_element, e
 use Rattle.jp_regexp.specs.Reading.{next_element_at, prepend, Turn, end, bar, piece, next_turn, after_turn}
 use Rattle.jp_regexp.specs.Reading.{pattern_within, behind_pieces, pattern_behind}
 
-map_then : {A B C : Type 0} (f : B → Option C) (g : A → B) (o : Option A) → option_and_then f (option_map g o)
-    ≡ option_and_then (λ a. f (g a)) o
-map_then f g None = refl
-map_then f g (Some a) = refl
-
 pub fails_map : {A B : Type 0} (f : A → B) (e : Fault) (o : Option A) → Fails e o → Fails e (option_map f o)
 fails_map f faults.Memory o h = tt
 fails_map f faults.NoPattern o h = ap (option_map f) h

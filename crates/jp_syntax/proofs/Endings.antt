@@ -7,10 +7,8 @@ use Rattle.std.proofs.lemmas.List.{append-nil}
 use Rattle.jp_syntax.specs.Tree.{Text}
 use Rattle.jp_syntax.specs.Tree as tree
 use Rattle.jp_syntax.specs.Characters.{is_blank, is_digit, is_positive_digit, is_name_character}
-use Rattle.jp_syntax.specs.Parts.{Each, Star, none, more, Behind, behind, IsOptional, absent, present}
-use Rattle.jp_syntax.specs.Numbers.{IsInt, zero_int, positive_int, negative_int, IsDigits, digits, IsWhole}
-use Rattle.jp_syntax.specs.Numbers.{whole_int, minus_zero, IsFraction, fraction, IsExponent, exponent}
-use Rattle.jp_syntax.specs.Numbers.{IsNumber, number}
+use Rattle.jp_syntax.specs.Parts.{Each, Star, none, more, Behind, behind}
+use Rattle.jp_syntax.specs.Numbers.{IsDigits, digits}
 use Rattle.jp_syntax.specs.Spelling as sp
 
 -- whether there is a last character and it is of this class
@@ -78,40 +76,6 @@ pub ends_before : (p : ℕ → Bool) (s t : Text) → IsTrue (ends_in p s) → (
     → IsTrue (ends_in p (s ++ t))
 ends_before p s t h (inl e) = rw (e, append-nil s) h
 ends_before p s t h (inr k) = ends_in_append p s t k
-
-pub both_end : (p : ℕ → Bool) (s t : Text) → (s ≡ []) ⊎ IsTrue (ends_in p s) → (t ≡ []) ⊎ IsTrue (ends_in p t)
-    → (s ++ t ≡ []) ⊎ IsTrue (ends_in p (s ++ t))
-both_end p s t (inl e) (inl k) = inl (rw (e, k) refl)
-both_end p s t (inl e) (inr k) = inr (ends_in_append p s t k)
-both_end p s t (inr h) k = inr (ends_before p s t h k)
-
-pub optional_ends : (IsPart : Text → Type 0) (p : ℕ → Bool) → ((t : Text) → IsPart t → IsTrue (ends_in p t))
-    → (t : Text) → IsOptional IsPart t → (t ≡ []) ⊎ IsTrue (ends_in p t)
-optional_ends IsPart p ends t absent = inl refl
-optional_ends IsPart p ends t (present u h) = inr (ends t h)
-
--- a number ends in a digit
-pub int_ends : (t : Text) → IsInt t → IsTrue (ends_in is_digit t)
-int_ends t zero_int = refl
-int_ends t (positive_int c u h k) = ends_in_each is_digit c u (positive_is_digit c h) k
-int_ends t (negative_int c u h k) = ends_in_append is_digit (45 ∷ []) (c ∷ u)
-    (ends_in_each is_digit c u (positive_is_digit c h) k)
-
-pub whole_ends : (t : Text) → IsWhole t → IsTrue (ends_in is_digit t)
-whole_ends t (whole_int u h) = int_ends t h
-whole_ends t minus_zero = refl
-
-pub fraction_ends : (t : Text) → IsFraction t → IsTrue (ends_in is_digit t)
-fraction_ends t (fraction u h) = ends_in_append is_digit (46 ∷ []) u (digits_end u h)
-
-pub exponent_ends : (t : Text) → IsExponent t → IsTrue (ends_in is_digit t)
-exponent_ends t (exponent mark s u m g h) = ends_in_append is_digit (mark ∷ s) u (digits_end u h)
-
-pub number_ends : (t : Text) → IsNumber t → IsTrue (ends_in is_digit t)
-number_ends t (number r s u w f e) =
-    ends_before is_digit r (s ++ u) (whole_ends r w)
-    (both_end is_digit s u (optional_ends IsFraction is_digit fraction_ends s f)
-    (optional_ends IsExponent is_digit exponent_ends u e))
 
 -- no name ends in a blank
 pub shorthand_ends : (t : Text) → sp.IsShorthand t → IsTrue (ends_in not_blank t)

@@ -1,10 +1,10 @@
 -- A loop whose each round is one turn.
 use Rattle.std.proofs.Common.{◌≡◌, ℕ, zero, suc, ◌+◌, ◌<◌, List, [], ◌∷◌, ◌++◌, length, Option, Some, None}
-use Rattle.std.proofs.Common.{Result, Ok, Err, refl, ap, ◌∙◌, arith, add-one, length-append}
+use Rattle.std.proofs.Common.{refl, ap, ◌∙◌, arith, add-one, length-append}
 use Rattle.jp_syntax.specs.declared.fault.QueryFault.{QueryFault}
 use Rattle.jp_syntax.specs.declared.fault.QueryFault.TheVariants as faults
 use Rattle.jp_syntax.specs.Tree.{Text}
-use Rattle.jp_syntax.specs.Gives.{Fails, Refuses, Gives, Reads}
+use Rattle.jp_syntax.specs.Gives.{Fails, Refuses}
 use Rattle.jp_syntax.specs.Reading.{Outcome, Turn, ◌>>=◌, goes_on, many, all_of}
 use Rattle.jp_syntax.proofs.Fronts.{Front, IsTurn}
 
@@ -26,11 +26,6 @@ refusal_fails faults.TooDeep part h = h
 refusal_fails faults.Fraction part h = h
 refusal_fails faults.Range part h = h
 refusal_fails faults.IllTyped part h = h
-
-pub reads_gives : {X Y : Type 0} (view : X → Y) (r : Result X QueryFault) (part : Option Y)
-    → Reads view r part → Gives view r part
-reads_gives view (Ok x) part h = h
-reads_gives view (Err e) part h = refusal_fails e part h
 
 -- behind another item less is left to read
 pub record GetsOn {A : Type 0} (turn : Text → Turn A) : Type 0 where
