@@ -10,7 +10,7 @@ use Rattle.jp_syntax.specs.declared.tree.Call.{Call, out-Call}
 use Rattle.jp_check.specs.Ready.{call_of_one, call_of_two, text_argument, form_of, truth_argument}
 use Rattle.jp_check.specs.Ready.{Source, queried, different, source_argument, source_test}
 use Rattle.jp_check.specs.LiteralPatterns.{literal_text}
-use Rattle.jp_check.proofs.Levels.{call_level}
+use Rattle.jp_types.proofs.Levels.{call_level}
 
 one_is : (xs : List Argument) (a : Argument) → 1 ≤ length xs → length xs < 2 → a ≡ get_or xs 0 a
     → xs ≡ a ∷ []

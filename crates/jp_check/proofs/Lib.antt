@@ -1,14 +1,8 @@
-pub mod FaultLaws
-pub mod Fitting
 pub mod KnownLemmas
-pub mod Levels
-pub mod Names
-pub mod NumberTexts
 pub mod PatternSets
 pub mod TextLists
 pub mod Verdicts
 pub mod OneVerdict
-pub mod WrittenNumbers
 pub mod ReadyViews
 pub mod MakingSteps
 pub mod Naming

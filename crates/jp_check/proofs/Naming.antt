@@ -4,9 +4,9 @@ use Rattle.std.specs.Prelude.{if◌then◌else◌}
 use Rattle.std.specs.Str.{bytes_eq}
 use Rattle.std.proofs.lemmas.Slice.Eq.{bytes_eq-Decides}
 use Rattle.jp_syntax.specs.Tree.{Text}
-use Rattle.jp_check.specs.Functions.{Function, length_function, count_function, match_function}
-use Rattle.jp_check.specs.Functions.{search_function, value_function, xor_function, distinct_function}
-use Rattle.jp_check.specs.Functions.{function_named}
+use Rattle.jp_types.specs.Functions.{Function, length_function, count_function, match_function}
+use Rattle.jp_types.specs.Functions.{search_function, value_function, xor_function, distinct_function}
+use Rattle.jp_types.specs.Functions.{function_named}
 
 abbrev pub name_of : Function → Text
 name_of length_function = codes "length"

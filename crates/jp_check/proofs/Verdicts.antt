@@ -8,8 +8,8 @@ use Rattle.jp_syntax.specs.Depth.{bracket_depth, max_depth}
 use Rattle.jp_syntax.specs.declared.fault.QueryFault.{QueryFault}
 use Rattle.jp_syntax.specs.declared.fault.QueryFault.TheVariants.{TooDeep, Syntax, Fraction, Range}
 use Rattle.jp_syntax.specs.declared.fault.QueryFault.TheVariants.{IllTyped, Memory}
-use Rattle.jp_check.specs.Numbers.{has_fraction, in_range}
-use Rattle.jp_check.specs.Typing.{query_typed}
+use Rattle.jp_types.specs.Numbers.{has_fraction, in_range}
+use Rattle.jp_types.specs.Typing.{query_typed}
 use Rattle.jp_check.specs.Verdict.{verdict_of, IsAccepted}
 
 -- the verdict by the three tests

@@ -1,9 +1,4 @@
-pub mod Numbers
-pub mod Functions
-pub mod Typing
 pub mod Verdict
-pub mod Faults
-pub mod Kinds
 pub mod Plan
 pub mod LiteralPatterns
 pub mod Known
@@ -11,3 +6,7 @@ pub mod Samples
 pub mod Ready
 pub mod Making
 pub mod QuerySets
+pub use Rattle.jp_types.specs.Numbers
+pub use Rattle.jp_types.specs.Functions
+pub use Rattle.jp_types.specs.Kinds
+pub use Rattle.jp_types.specs.Typing

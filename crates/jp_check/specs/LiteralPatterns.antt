@@ -7,7 +7,7 @@ use Rattle.jp_syntax.specs.Tree.{Comparable, literal, single, value_call, Call, 
 use Rattle.jp_syntax.specs.Tree.{literal_argument, query_argument, logical_argument, call_argument, Segments}
 use Rattle.jp_syntax.specs.Tree.{no_segments, add_segment, Selectors, no_selectors, add_selector, Logicals}
 use Rattle.jp_syntax.specs.Tree.{no_logicals, add_logical, Arguments, no_arguments, add_argument}
-use Rattle.jp_check.specs.Functions.{Function, match_function, search_function, function_named}
+use Rattle.jp_types.specs.Functions.{Function, match_function, search_function, function_named}
 
 -- the text that an argument is as a literal
 abbrev pub literal_text : Argument → List Text

@@ -5,8 +5,8 @@ use Rattle.jp_syntax.specs.Spelling.{Spells}
 use Rattle.jp_syntax.specs.Depth.{bracket_depth, max_depth}
 use Rattle.jp_syntax.specs.declared.fault.QueryFault.{QueryFault}
 use Rattle.jp_syntax.specs.declared.fault.QueryFault.TheVariants.{TooDeep, Syntax, Fraction, Range, IllTyped}
-use Rattle.jp_check.specs.Numbers.{has_fraction, in_range}
-use Rattle.jp_check.specs.Typing.{query_typed}
+use Rattle.jp_types.specs.Numbers.{has_fraction, in_range}
+use Rattle.jp_types.specs.Typing.{query_typed}
 
 -- the verdict of a tree: the first fault that applies, or else the tree itself
 abbrev pub verdict_of : Query → Result Query QueryFault

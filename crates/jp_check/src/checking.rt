@@ -12,8 +12,8 @@ ghost use Rattle.jp_check.specs.Plan.{planned_query};
 use crate::accepted::Plan;
 use crate::making::make_query;
 use crate::patterns::query_patterns;
-use crate::walk::query_faults;
 use jp_syntax::{Query, QueryFault, read_query};
+use jp_types::query_faults;
 use std::alloc::Global;
 
 /// Whether the query is accepted, and else the first fault that applies.

@@ -7,8 +7,8 @@ ghost use Rattle.jp_syntax.specs.Depth.{bracket_depth, max_depth};
 ghost use Rattle.jp_syntax.specs.declared.fault.QueryFault.{QueryFault};
 ghost use Rattle.jp_syntax.specs.declared.fault.QueryFault.TheVariants.{TooDeep, Syntax, Fraction, Range};
 ghost use Rattle.jp_syntax.specs.declared.fault.QueryFault.TheVariants.{IllTyped, Memory};
-ghost use Rattle.jp_check.specs.Numbers.{has_fraction, in_range};
-ghost use Rattle.jp_check.specs.Typing.{query_typed};
+ghost use Rattle.jp_types.specs.Numbers.{has_fraction, in_range};
+ghost use Rattle.jp_types.specs.Typing.{query_typed};
 ghost use Rattle.jp_check.specs.Verdict.{verdict_of, IsAccepted, IsVerdict};
 
 /// A tree is accepted where it has no fraction, its numbers are in range and it is well-typed, and then as it

@@ -7,9 +7,9 @@ ghost use Rattle.jp_check.specs.Ready as ready;
 
 use crate::known::KnownPattern;
 use crate::ready::{Constant, Number, Position, Slice};
-use crate::written::{position, whole_number};
 use jp_regexp::Pattern;
 use jp_syntax::Literal;
+use jp_types::{position, whole_number};
 use std::alloc::{AllocError, Global};
 
 /// The text, and the pattern that it is, if it is one, made ready for many texts.

@@ -5,18 +5,18 @@ ghost use Rattle.jp_syntax.specs.Tree as tree;
 ghost use Rattle.jp_syntax.specs.Tree.{Text};
 ghost use Rattle.jp_syntax.specs.View.{query_of, text_of};
 ghost use Rattle.jp_syntax.specs.PartViews as view;
-ghost use Rattle.jp_check.specs.Functions as functions;
-ghost use Rattle.jp_check.specs.Kinds.{function_of};
+ghost use Rattle.jp_types.specs.Functions as functions;
+ghost use Rattle.jp_types.specs.Kinds.{function_of};
 ghost use Rattle.jp_check.specs.Ready as ready;
 ghost use Rattle.jp_check.specs.Ready.{Wanted};
 ghost use Rattle.jp_check.specs.Making.{Begins, Reads};
 
-use crate::functions::{Function, function_named};
 use crate::known::KnownPattern;
 use crate::leaves::{make_constant, make_position, make_slice, read_pattern};
 use crate::patterns::literal_text;
 use crate::ready::{Form, Logical, Nodes, Query, RootQuery, Segment, Selector, Value, Want};
 use jp_syntax::{Argument, Call, Comparable, Comparison, Start};
+use jp_types::{Function, function_named};
 use std::alloc::{AllocError, Global};
 
 /// A query made ready.

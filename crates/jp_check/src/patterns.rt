@@ -5,16 +5,16 @@ ghost use Rattle.std.specs.Str.{chars};
 ghost use Rattle.jp_syntax.specs.Tree as tree;
 ghost use Rattle.jp_syntax.specs.View.{query_of};
 ghost use Rattle.jp_syntax.specs.PartViews as view;
-ghost use Rattle.jp_check.specs.Kinds.{function_of};
+ghost use Rattle.jp_types.specs.Kinds.{function_of};
 ghost use Rattle.jp_check.specs.Known.{known_texts};
 ghost use Rattle.jp_check.specs.LiteralPatterns as literal;
 
-use crate::functions::{Function, function_named};
 use crate::known::KnownPattern;
 use jp_regexp::Pattern;
 use jp_syntax::{
     Argument, Call, Comparable, Comparison, Literal, Logical, Query, Segment, Selector,
 };
+use jp_types::{Function, function_named};
 use std::alloc::{AllocError, Global};
 
 /// The text that an argument is as a literal.

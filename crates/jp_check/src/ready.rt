@@ -6,7 +6,7 @@
 ghost use Rattle.std.specs.Prelude.{◌≡◌, ◌≤ℤ◌, neg_ℤ, pos};
 ghost use Rattle.std.proofs.Props.{props};
 ghost use Rattle.jp_syntax.specs.View.{text_of};
-ghost use Rattle.jp_check.specs.Numbers.{whole_number, max_index};
+ghost use Rattle.jp_types.specs.Numbers.{whole_number, max_index};
 
 pub use crate::known::KnownPattern;
 use jp_syntax::{Operator, Start};

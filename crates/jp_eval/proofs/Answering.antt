@@ -1,78 +1,11 @@
--- Patterns that are read answer as right tests do.
-use Rattle.std.proofs.Common.{◌≡◌, Bool, true, false, refl, sym, ap, ◌∙◌, subst}
-use mathlib.Core.Path.{fun_ext}
-use Rattle.std.specs.Prelude.{IsTrue, ◌↔◌}
-use Rattle.std.proofs.lemmas.Bool.Decides.{same_from_decides}
+-- Any two right tests give the same nodelists.
+use Rattle.std.proofs.Common.{◌≡◌, ap}
 use Rattle.jp_doc.specs.Json.{Json}
 use Rattle.jp_syntax.specs.Tree.{Query}
-use Rattle.jp_regexp.proofs.PatternsRead.{one_tree}
-use Rattle.jp_regexp.specs.Pattern.{Text, Pattern}
-use Rattle.jp_regexp.specs.Held.{HasPart}
-use Rattle.jp_regexp.specs.Language.{Member, Matches, Found}
-use Rattle.jp_regexp.specs.Profile.{IsPatternOf}
 use Rattle.jp_regexp.specs.Tests.{Tests, AreRight}
+use Rattle.jp_value.specs.RightTests.{tests}
+use Rattle.jp_value.proofs.Answering.{same_tests}
 use Rattle.jp_eval.specs.Nodelist.{document_nodes}
-use Rattle.jp_eval.specs.RightTests.{tests, are_right}
-
--- the pattern that was read is the one that the text is
-matches_held : (text pattern_text : Text) (p : Pattern) → IsPatternOf pattern_text p
-    → Matches text pattern_text → Member p text
-matches_held text pattern_text p is (q, of, member) =
-    subst (λ r. Member r text) (one_tree pattern_text q p of.shapes is.shapes) member
-
-found_held : (text pattern_text : Text) (p : Pattern) → IsPatternOf pattern_text p
-    → Found text pattern_text → HasPart p text
-found_held text pattern_text p is (before, part, after, e, matches) =
-    (before, part, after, e, matches_held part pattern_text p is matches)
-
-pub matching : (text pattern_text : Text) (p : Pattern) (b : Bool) → IsPatternOf pattern_text p
-    → (IsTrue b ↔ Member p text) → b ≡ tests.is_match text pattern_text
-matching text pattern_text p b is h =
-    same_from_decides b (tests.is_match text pattern_text) h (
-      λ t. matches_held text pattern_text p is ((are_right.matching text pattern_text).0 t),
-      λ m.
-          (are_right.matching text pattern_text).1 (p, is, m),
-    )
-
-pub finding : (text pattern_text : Text) (p : Pattern) (b : Bool) → IsPatternOf pattern_text p
-    → (IsTrue b ↔ HasPart p text) → b ≡ tests.is_found text pattern_text
-finding text pattern_text p b is h =
-    same_from_decides b (tests.is_found text pattern_text) h (
-      λ t. found_held text pattern_text p is ((are_right.finding text pattern_text).0 t),
-      λ m.
-          (are_right.finding text pattern_text).1 (m.0, m.1, m.2, m.3, (p, is, m.4)),
-    )
-
-not_true : (b : Bool) → (b ≡ true → ⊥) → false ≡ b
-not_true true h = absurd (h refl)
-not_true false h = refl
-
-pub matching_none : (text pattern_text : Text) → ((p : Pattern) → IsPatternOf pattern_text p → ⊥)
-    → false ≡ tests.is_match text pattern_text
-matching_none text pattern_text none =
-    not_true (tests.is_match text pattern_text) (λ t. let m = (are_right.matching text pattern_text).0 t
-    in none m.0 m.1)
-
-pub finding_none : (text pattern_text : Text) → ((p : Pattern) → IsPatternOf pattern_text p → ⊥)
-    → false ≡ tests.is_found text pattern_text
-finding_none text pattern_text none =
-    not_true (tests.is_found text pattern_text) (λ t. let m =
-    ((are_right.finding text pattern_text).0 t).4 in none m.0 m.1)
-
--- any right tests answer as these do
-same_matching : (t : Tests) → AreRight t → (s p : Text) → t.is_match s p ≡ tests.is_match s p
-same_matching t right s p = same_from_decides _ _ (right.matching s p) (are_right.matching s p)
-
-same_finding : (t : Tests) → AreRight t → (s p : Text) → t.is_found s p ≡ tests.is_found s p
-same_finding t right s p = same_from_decides _ _ (right.finding s p) (are_right.finding s p)
-
-abbrev tests_of : (Text → Text → Bool) → (Text → Text → Bool) → Tests
-tests_of f g = record { is_match = f; is_found = g }
-
-same_tests : (t : Tests) → AreRight t → tests ≡ t
-same_tests t right =
-    sym (ap (λ f. tests_of f t.is_found) (fun_ext (λ s. fun_ext (λ p. same_matching t right s p)))
-    ∙ ap (λ g. tests_of tests.is_match g) (fun_ext (λ s. fun_ext (λ p. same_finding t right s p))))
 
 pub same_nodes : (t : Tests) (q : Query) (root : Json) → AreRight t → document_nodes tests q root
     ≡ document_nodes t q root

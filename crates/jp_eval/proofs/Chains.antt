@@ -11,7 +11,7 @@ use Rattle.jp_check.specs.declared.ready.Selector.{Selector}
 use Rattle.jp_eval.specs.Base.{Base}
 use Rattle.jp_eval.specs.Nodes.{children, descendants}
 use Rattle.jp_eval.specs.Nodelist as spec
-use Rattle.jp_eval.specs.RightTests.{tests}
+use Rattle.jp_value.specs.RightTests.{tests}
 use Rattle.jp_eval.specs.Walk.{picked, picked_by, reached}
 use Rattle.jp_eval.proofs.Descent.{descend}
 use Rattle.jp_eval.proofs.ReadyParts.{segment_is}

@@ -3,7 +3,7 @@ use Rattle.std.proofs.Common.{◌≡◌, suc, List, [], ◌∷◌, length, map}
 use Rattle.std.proofs.Common.{refl, sym, ap, ◌∙◌}
 use Rattle.jp_doc.specs.Location.{Node}
 use Rattle.jp_eval.specs.Different.{IsDifferent}
-use Rattle.jp_eval.specs.Functions.{only_value, distinct, first_ones, same_location, same_place}
+use Rattle.jp_value.specs.Functions.{only_value, distinct, first_ones, same_location, same_place}
 use Rattle.jp_eval.specs.declared.different.Different.{Different}
 use Rattle.jp_eval.proofs.FirstOnes.{ones_mapped, ones_again}
 

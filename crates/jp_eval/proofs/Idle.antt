@@ -9,6 +9,7 @@ use Rattle.jp_check.specs.declared.ready.Segment.{Segment}
 use Rattle.jp_check.specs.declared.ready.Selector.{Selector}
 use Rattle.jp_check.specs.declared.ready.Selector.TheVariants as sel
 use Rattle.jp_check.specs.declared.ready.Slice.{Slice}
+use Rattle.jp_value.specs.Literals.{written_value}
 use Rattle.jp_eval.specs.Base.{Base}
 use Rattle.jp_eval.specs.Inside.{IsScalar}
 use Rattle.jp_eval.specs.Nodelist as spec
@@ -51,9 +52,9 @@ no_index z p (array vs) is = absurd is
 no_index z p (object ms) is = absurd is
 
 abbrev sliced : Slice → Json → List ℕ
-sliced s v = spec.slice_places (spec.written_value (option_map position_text s.first))
-    (spec.written_value (option_map position_text s.past))
-    (spec.written_value (option_map position_text s.step)) v
+sliced s v = spec.slice_places (written_value (option_map position_text s.first))
+    (written_value (option_map position_text s.past))
+    (written_value (option_map position_text s.step)) v
 
 no_slice : (s : Slice) (p : Location) (v : Json) → IsScalar v → spec.items_at (node p v) (sliced s v) ≡ []
 no_slice s p null is = refl

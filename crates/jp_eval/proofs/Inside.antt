@@ -1,7 +1,7 @@
 -- Values inside a value of a document.
-use Rattle.std.proofs.Common.{◌≡◌, ℕ, zero, suc, ◌<◌, ◌≤◌, List, [], ◌∷◌, length, Option, Some, None}
+use Rattle.std.proofs.Common.{◌≡◌, ℕ, zero, suc, ◌<◌, ◌≤◌, List, length, Option, Some, None}
 use Rattle.std.proofs.Common.{IfSome, option_map, Bool, false, nat_lt, Ordering, Less, Equal, Greater}
-use Rattle.std.proofs.Common.{nat_cmp, Bor, Vec, Global, BTreeMap, String, refl, sym, ap, ◌∙◌, subst}
+use Rattle.std.proofs.Common.{nat_cmp, Bor, Vec, Global, BTreeMap, String, sym, ap, ◌∙◌, subst}
 use Rattle.std.proofs.Common.{arith, rules}
 use Rattle.std.proofs.lemmas.Bool.Decides.{nat_tests}
 use Rattle.std.specs.Cmp.Lexicographic.{slice_cmp}
@@ -23,10 +23,11 @@ use Rattle.jp_doc.proofs.Found.{array_kept, object_kept, first_false}
 use Rattle.jp_doc.specs.DocumentValue.{IsDocumentValue}
 use Rattle.jp_doc.specs.Reading.{max_items, has_long_array}
 use Rattle.jp_eval.specs.Part.{part_value}
-use Rattle.jp_eval.specs.Places.{item_count}
+use Rattle.jp_value.proofs.Views.{array_value, item_list_length}
+use Rattle.jp_value.specs.Places.{item_count}
 use Rattle.jp_eval.specs.declared.part.Part.{Part}
 use Rattle.jp_doc.specs.Json as json
-use Rattle.jp_doc.specs.Json.{Json, value_of, json_of, items_of, members_of, item_list, whole_of}
+use Rattle.jp_doc.specs.Json.{Json, value_of, items_of, item_list, whole_of}
 
 -- ---- depth
 
@@ -92,14 +93,6 @@ pub object_parts : (value : Value) (m : BTreeMap (String Global) Value) → valu
     → IsDocumentValue value → All (λ (e : Entry). IsDocumentValue e.1) m.entries
 object_parts value m is p = object_kept m (subst IsDocumentValue is p)
 
-pub array_value : (value : Value) (v : Vec Value Global) → value ≡ Array v
-    → value_of value ≡ json.array (items_of (items_view v.items))
-array_value value v is = ap value_of is ∙ ap json_of (view-Array v)
-
-pub object_value : (value : Value) (m : BTreeMap (String Global) Value) → value ≡ Object m
-    → value_of value ≡ json.object (members_of (members_view m.entries))
-object_value value m is = ap value_of is ∙ ap json_of (view-Object m)
-
 pub array_depth : (value : Value) (v : Vec Value Global) → value ≡ Array v
     → depth (view value) ≡ suc (items_depth (items_view v.items))
 array_depth value v is = ap (λ w. depth (view w)) is ∙ ap depth (view-Array v)
@@ -107,10 +100,6 @@ array_depth value v is = ap (λ w. depth (view w)) is ∙ ap depth (view-Array v
 pub object_depth : (value : Value) (m : BTreeMap (String Global) Value) → value ≡ Object m
     → depth (view value) ≡ suc (members_depth (members_view m.entries))
 object_depth value m is = ap (λ w. depth (view w)) is ∙ ap depth (view-Object m)
-
-pub item_list_length : (vs : List Value) → length (item_list (items_of (items_view vs))) ≡ length vs
-item_list_length [] = refl
-item_list_length (v ∷ vs) = ap (λ n. suc n) (item_list_length vs)
 
 within : (n : ℕ) → nat_lt max_items n ≡ false → n ≤ 16777216
 within n h = grind (arith, nat_tests)

@@ -5,9 +5,10 @@ use Rattle.std.specs.Prelude.{nat_lt}
 use Rattle.std.proofs.lemmas.Bool.Decides.{nat_tests}
 use Rattle.std.proofs.lemmas.Int.{ints}
 use Rattle.jp_doc.specs.Json.{Json, null, truth, whole, text, array, object}
-use Rattle.jp_eval.specs.Nodelist.{place_of, index_places, slice_places}
-use Rattle.jp_eval.specs.Places.{AreWithin, item_count}
-use Rattle.jp_eval.specs.Slice.{Bounds, slice_bounds, slice_indexes}
+use Rattle.jp_eval.specs.Nodelist.{index_places, slice_places}
+use Rattle.jp_value.specs.Index.{place_of}
+use Rattle.jp_value.specs.Places.{AreWithin, item_count}
+use Rattle.jp_value.specs.Slice.{Bounds, slice_bounds, slice_indexes}
 
 pub within_more : (b : Bounds) (n m : ℕ) → n ≤ m → AreWithin b n → AreWithin b m
 within_more b n m h w = record {

@@ -39,17 +39,18 @@ use Rattle.jp_check.specs.declared.ready.Nodes.{Nodes}
 use Rattle.jp_check.specs.declared.ready.Nodes.TheVariants as nod
 use Rattle.jp_trail.specs.Links.{link_steps}
 use Rattle.jp_trail.specs.declared.link.Link.{Link}
+use Rattle.jp_value.specs.Literals.{literal_value, written_value}
 use Rattle.jp_eval.specs.Answers.{root_nodes}
 use Rattle.jp_eval.specs.Base.{Base}
 use Rattle.jp_eval.specs.Links.{here}
 use Rattle.jp_eval.specs.Part.{part_value}
 use Rattle.jp_eval.specs.declared.part.Part.{Part}
-use Rattle.jp_eval.specs.Comparison.{compared}
-use Rattle.jp_eval.specs.Functions.{first_value, only_value, is_empty, as_value, tested, length_value}
-use Rattle.jp_eval.specs.Functions.{number_value, as_truth, as_nodes, exactly_one, distinct}
+use Rattle.jp_value.specs.Comparison.{compared}
+use Rattle.jp_value.specs.Functions.{first_value, only_value, is_empty, as_value, tested, length_value}
+use Rattle.jp_value.specs.Functions.{number_value, as_truth, as_nodes, exactly_one, distinct}
 use Rattle.jp_eval.specs.Nodelist as spec
 use Rattle.jp_eval.specs.Nodes.{child, children}
-use Rattle.jp_eval.specs.RightTests.{tests}
+use Rattle.jp_value.specs.RightTests.{tests}
 use Rattle.jp_eval.specs.Walk.{picked, reached, is_true, value_given, nodes_given}
 
 pub segment_is : (roots : List Wanted) (s : Segment)
@@ -72,9 +73,9 @@ module _ (base : Base) (n : Node) where
   picked_index p = ap (λ x. spec.select tests base.root x n) (index_read base.roots p)
 
   pub picked_slice : (s : Slice) → picked base (sel.Slice s) n
-      ≡ spec.items_at n (spec.slice_places (spec.written_value (option_map position_text s.first))
-      (spec.written_value (option_map position_text s.past))
-      (spec.written_value (option_map position_text s.step)) n.value)
+      ≡ spec.items_at n (spec.slice_places (written_value (option_map position_text s.first))
+      (written_value (option_map position_text s.past))
+      (written_value (option_map position_text s.step)) n.value)
   unfolding picked
   picked_slice s = ap (λ x. spec.select tests base.root x n) (slice_read base.roots s)
 
@@ -202,7 +203,7 @@ module _ (base : Base) (n : Node) where
   -- ---- values
 
   pub given_constant : (x : Constant) → value_given base (val.Constant x) n
-      ≡ Some (spec.literal_value (constant_of x))
+      ≡ Some (literal_value (constant_of x))
   unfolding value_given
   given_constant x = ap (λ y. spec.value_of tests base.root y n) (constant_read base.roots x)
 

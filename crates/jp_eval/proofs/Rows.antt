@@ -10,7 +10,7 @@ use Rattle.jp_eval.specs.Inside.{IsNoObject}
 use Rattle.jp_eval.specs.Nodelist.{items_at}
 use Rattle.jp_eval.specs.Nodes.{child, children_at, item_nodes, node_if_some}
 use Rattle.jp_eval.specs.Part.{part_value}
-use Rattle.jp_eval.specs.Places.{item_count}
+use Rattle.jp_value.specs.Places.{item_count}
 use Rattle.jp_eval.specs.declared.part.Part.{Part}
 
 -- ---- all items

@@ -9,9 +9,9 @@ use Rattle.jp_doc.specs.Location.{Location, Node, node}
 use Rattle.jp_check.specs.declared.ready.Want.{Want}
 use Rattle.jp_check.specs.declared.ready.Want.TheVariants as want
 use Rattle.jp_eval.specs.Answers.{tells}
-use Rattle.jp_eval.specs.Comparison.{eq}
+use Rattle.jp_value.specs.Comparison.{eq}
 use Rattle.jp_eval.specs.Different.{IsDifferent, is_different}
-use Rattle.jp_eval.specs.Functions.{first_value, only_value, distinct}
+use Rattle.jp_value.specs.Functions.{first_value, only_value, distinct}
 use Rattle.jp_eval.specs.Kept.{Kept, alone_of, alone_value, put_found, plus, none_kept}
 use Rattle.jp_eval.specs.Kept.{taken, first, count, only, located}
 use Rattle.jp_eval.specs.Part.{part_value}
@@ -22,7 +22,7 @@ use Rattle.jp_eval.specs.declared.found.Alone.TheVariants.{One as one}
 use Rattle.jp_eval.specs.declared.part.Part.{Part}
 use Rattle.jp_eval.proofs.Differing.{differs_again}
 use Rattle.jp_eval.proofs.Parts.{alone_in, kept_all}
-use Rattle.jp_eval.proofs.Sameness.{same_is_equal, self_same}
+use Rattle.jp_value.proofs.Sameness.{same_is_equal, self_same}
 
 eq_is : (a b : Option Json) → eq a b ≡ true → a ≡ b
 eq_is None None h = refl

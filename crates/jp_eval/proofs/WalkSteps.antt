@@ -19,8 +19,8 @@ use Rattle.jp_eval.specs.Links.{here}
 use Rattle.jp_eval.specs.Nodelist.{items_at}
 use Rattle.jp_eval.specs.Nodes.{child, children, descendants, item_nodes, member_nodes, node_if_some}
 use Rattle.jp_eval.specs.Part.{part_value}
-use Rattle.jp_eval.specs.Places.{later, from_place}
-use Rattle.jp_eval.specs.Slice.{Bounds}
+use Rattle.jp_value.specs.Places.{later, from_place}
+use Rattle.jp_value.specs.Slice.{Bounds}
 use Rattle.jp_eval.specs.Walk.{picked, picked_by, reached}
 use Rattle.jp_eval.specs.declared.part.Part.{Part}
 use Rattle.jp_trail.specs.declared.link.Link.{Link}

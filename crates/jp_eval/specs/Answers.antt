@@ -6,13 +6,13 @@ use Rattle.jp_syntax.specs.Tree.{Segments}
 use Rattle.jp_check.specs.Ready.{Wanted, first_of, count_of, only_of, distinct_of}
 use Rattle.jp_check.specs.declared.ready.Want.{Want}
 use Rattle.jp_check.specs.declared.ready.Want.TheVariants as want
-use Rattle.jp_eval.specs.Comparison.{eq}
+use Rattle.jp_value.specs.Comparison.{eq}
 use Rattle.jp_eval.specs.Different.{is_different}
-use Rattle.jp_eval.specs.Functions.{first_value, only_value}
+use Rattle.jp_value.specs.Functions.{first_value, only_value}
 use Rattle.jp_eval.specs.Kept.{alone_of, alone_value}
 use Rattle.jp_eval.specs.Nodelist.{through}
 use Rattle.jp_eval.specs.Part.{part_value}
-use Rattle.jp_eval.specs.RightTests.{tests}
+use Rattle.jp_value.specs.RightTests.{tests}
 use Rattle.jp_eval.specs.declared.answers.Answer.{Answer}
 use Rattle.jp_eval.specs.declared.answers.Answer.TheVariants.{First, Count, Only, Distinct}
 

@@ -1,8 +1,8 @@
 -- A step of a proof, which nobody has to believe: what is told of nodes, each location once.
 use Rattle.std.specs.Prelude.{◌≡◌, Bool, ◌&&◌, ◌==◌, List, length}
 use Rattle.jp_doc.specs.Location.{Node}
-use Rattle.jp_eval.specs.Comparison.{eq}
-use Rattle.jp_eval.specs.Functions.{only_value, distinct}
+use Rattle.jp_value.specs.Comparison.{eq}
+use Rattle.jp_value.specs.Functions.{only_value, distinct}
 use Rattle.jp_eval.specs.Kept.{alone_of, alone_value}
 use Rattle.jp_eval.specs.declared.different.Different.{Different}
 

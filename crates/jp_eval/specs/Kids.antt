@@ -8,7 +8,7 @@ use Rattle.jp_trail.specs.Links.{link_step}
 use Rattle.jp_eval.specs.Base.{Base}
 use Rattle.jp_eval.specs.Nodelist.{items_at}
 use Rattle.jp_eval.specs.Part.{part_value}
-use Rattle.jp_eval.specs.Places.{item_count}
+use Rattle.jp_value.specs.Places.{item_count}
 use Rattle.jp_eval.specs.Walk.{done}
 use Rattle.jp_eval.specs.declared.row.Child.{Child}
 use Rattle.jp_eval.specs.declared.row.Children.{Children}

@@ -1,12 +1,12 @@
 -- What a query selects (RFC 9535, 2.1.2, 2.3 and 2.5).
-use Rattle.std.specs.Prelude.{ℕ, ◌-◌, ◌+◌, Bool, true, false, not, ◌&&◌, ◌||◌, nat_lt, ℤ, pos, negsuc, List}
-use Rattle.std.specs.Prelude.{[], ◌∷◌, ◌++◌, length, Option, Some, option_map, if◌then◌else◌}
+use Rattle.std.specs.Prelude.{ℕ, ◌-◌, ◌+◌, Bool, true, false, not, ◌&&◌, ◌||◌, ℤ, List}
+use Rattle.std.specs.Prelude.{[], ◌∷◌, ◌++◌, length, Option, Some}
 use Rattle.std.specs.List.{filter, flat_map}
 use Rattle.jp_doc.specs.Json as json
 use Rattle.jp_doc.specs.Json.{Json, item_list}
 use Rattle.jp_doc.specs.Location as at
 use Rattle.jp_doc.specs.Location.{Node, node}
-use Rattle.jp_syntax.specs.Tree.{Text, Literal, number, text, truth, null, Query, query, Segment, segment}
+use Rattle.jp_syntax.specs.Tree.{Query, query, Segment, segment}
 use Rattle.jp_syntax.specs.Tree.{Selector, name, wildcard, index, slice, filter as filter_by, Logical, any}
 use Rattle.jp_syntax.specs.Tree.{all, negation, comparing, test, test_call, Comparison, comparison}
 use Rattle.jp_syntax.specs.Tree.{Comparable, literal, single, value_call, Call, call, Argument}
@@ -18,22 +18,12 @@ use Rattle.jp_regexp.specs.Tests.{Tests}
 use Rattle.jp_check.specs.Numbers.{whole_number}
 use Rattle.jp_check.specs.Functions.{function_named}
 use Rattle.jp_eval.specs.Nodes.{children, child, descendants}
-use Rattle.jp_eval.specs.Slice.{slice_bounds, slice_indexes}
-use Rattle.jp_eval.specs.Comparison.{compared}
-use Rattle.jp_eval.specs.Functions.{Handed, handed_value, handed_truth, handed_nodes, as_truth, as_value}
-use Rattle.jp_eval.specs.Functions.{first_value, is_empty, called_if_known}
-
--- the value of a literal
-abbrev pub literal_value : Literal → Json
-literal_value (number t) = json.whole (whole_number t)
-literal_value (text t) = json.text t
-literal_value (truth b) = json.truth b
-literal_value null = json.null
-
--- the place of an index in an array with len items: a negative one counts from the end
-abbrev pub place_of : ℤ → ℕ → List ℕ
-place_of (pos i) len = if nat_lt i len then i ∷ [] else []
-place_of (negsuc i) len = if nat_lt i len then (len - (i + 1)) ∷ [] else []
+use Rattle.jp_value.specs.Slice.{slice_bounds, slice_indexes}
+use Rattle.jp_value.specs.Index.{place_of}
+use Rattle.jp_value.specs.Literals.{literal_value, written_value}
+use Rattle.jp_value.specs.Comparison.{compared}
+use Rattle.jp_value.specs.Functions.{Handed, handed_value, handed_truth, handed_nodes, as_truth, as_value}
+use Rattle.jp_value.specs.Functions.{first_value, is_empty, called_if_known}
 
 -- the places of an array's items that an index, and a slice, select; none of any other value
 abbrev pub index_places : ℤ → Json → List ℕ
@@ -48,9 +38,6 @@ slice_places first past step _ = []
 -- the nodes of these items
 abbrev pub items_at : Node → List ℕ → List Node
 items_at n places = flat_map (λ i. child (at.index i) n) places
-
-abbrev pub written_value : Option Text → Option ℤ
-written_value t = option_map whole_number t
 
 -- In a document with this root.
 module _ (tests : Tests) (root : Json) where

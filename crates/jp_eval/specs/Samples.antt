@@ -1,7 +1,6 @@
 -- Documents and parts of queries that the worked examples speak of.
-use Rattle.std.specs.Prelude.{ℕ, pos, List, [], ◌∷◌, map, Option, codes}
-use Rattle.jp_doc.specs.Json.{Text, Json, null, whole, array, object, items, no_members, add_member}
-use Rattle.jp_doc.specs.Location as at
+use Rattle.std.specs.Prelude.{List, [], ◌∷◌, map, Option, codes}
+use Rattle.jp_doc.specs.Json.{Text, Json, null, object, items, no_members}
 use Rattle.jp_doc.specs.Location.{Location}
 use Rattle.jp_syntax.specs.Tree as tree
 use Rattle.jp_syntax.specs.Tree.{Query, Segment, Selector, name, slice, filter, Logical, comparing}
@@ -9,28 +8,8 @@ use Rattle.jp_syntax.specs.Tree.{comparison, Comparable, literal, single, child,
 use Rattle.jp_regexp.specs.Tests.{Tests}
 use Rattle.jp_syntax.specs.declared.tree.Operator.{Operator}
 use Rattle.jp_syntax.specs.declared.tree.Start.TheVariants.{Root, Current}
+use Rattle.jp_value.specs.Samples.{num, arr, obj, obj2}
 use Rattle.jp_eval.specs.Nodelist.{document_nodes}
-
--- a number, and an array of values
-abbrev pub num : ℕ → Json
-num n = whole (pos n)
-
-abbrev pub arr : List Json → Json
-arr vs = array (items vs)
-
--- an object with one member, and with two
-abbrev pub obj : Text → Json → Json
-obj k v = object (add_member k v no_members)
-
-abbrev pub obj2 : Text → Json → Text → Json → Json
-obj2 k v l w = object (add_member k v (add_member l w no_members))
-
--- steps
-abbrev pub to : Text → at.Step
-to k = at.name k
-
-abbrev pub item : ℕ → at.Step
-item i = at.index i
 
 -- `$` and segments; `$[..]` with these selectors
 abbrev pub from_root : List Segment → Query
@@ -57,10 +36,6 @@ current_member k = single (member_of_current k)
 
 abbrev pub compares : Comparable → Operator → Comparable → Logical
 compares left operator right = comparing (comparison left operator right)
-
--- `{"a":null,"b":[1,{"c":2}]}`
-abbrev pub nested : Json
-nested = obj2 (codes "a") null (codes "b") (arr (num 1 ∷ obj (codes "c") (num 2) ∷ []))
 
 -- `[0,1,2,3,4]`
 abbrev pub five : Json

@@ -11,10 +11,10 @@ use Rattle.jp_check.specs.declared.ready.Logical.{Logical}
 use Rattle.jp_check.specs.declared.ready.Value.{Value}
 use Rattle.jp_check.specs.declared.ready.Nodes.{Nodes}
 use Rattle.jp_eval.specs.Base.{Base}
-use Rattle.jp_eval.specs.Functions.{as_nodes}
+use Rattle.jp_value.specs.Functions.{as_nodes}
 use Rattle.jp_eval.specs.Nodes.{descendants}
 use Rattle.jp_eval.specs.Nodelist as spec
-use Rattle.jp_eval.specs.RightTests.{tests}
+use Rattle.jp_value.specs.RightTests.{tests}
 use Rattle.jp_eval.specs.declared.walk.Task.{Task}
 use Rattle.jp_eval.specs.declared.walk.Task.TheVariants.{Run, Descend, Test}
 

@@ -5,17 +5,17 @@ ghost use Rattle.jp_check.specs.Ready.{wanted_inside};
 ghost use Rattle.jp_check.specs.declared.ready.Want.TheVariants.{First, Count, Only};
 ghost use Rattle.jp_doc.specs.Location.{Location, Node, node};
 ghost use Rattle.jp_eval.specs.Answers.{tells, is_of};
-ghost use Rattle.jp_eval.specs.Functions.{number_value, first_value, only_value, distinct};
+ghost use Rattle.jp_value.specs.Functions.{number_value, first_value, only_value, distinct};
 ghost use Rattle.jp_eval.specs.Kept.{alone_of, alone_value};
-ghost use Rattle.jp_eval.specs.Operands.{operand_value, HasWholeNumbers};
+ghost use Rattle.jp_value.specs.Operands.{operand_value, HasWholeNumbers};
 ghost use Rattle.jp_eval.specs.Part.{part_value};
 ghost use Rattle.jp_eval.specs.declared.answers.Answer.TheVariants.{Distinct};
 
-use crate::compare::Operand;
 use crate::different::Different;
 use crate::found::Alone;
 use crate::part::Part;
 use jp_check::ready::Want;
+use jp_value::Operand;
 
 /// What a filter is told of the nodes of a query.
 #[derive(Clone, Copy)]

@@ -9,18 +9,18 @@ ghost use Rattle.serde_json.specs.View.{view, members_view};
 ghost use Rattle.jp_doc.specs.DocumentValue.{IsDocumentValue};
 ghost use Rattle.jp_doc.specs.Json.{members_of};
 ghost use Rattle.jp_doc.specs.Location.{Location, node, name, index};
-ghost use Rattle.jp_eval.specs.BoundsView.{bounds_value};
+ghost use Rattle.jp_value.specs.BoundsView.{bounds_value};
 ghost use Rattle.jp_eval.specs.Kids.{kids, kids_height, all_kids, all_height};
 ghost use Rattle.jp_eval.specs.Nodelist.{items_at};
 ghost use Rattle.jp_eval.specs.Nodes.{child, children_at, member_nodes};
 ghost use Rattle.jp_eval.specs.Part.{part_value};
-ghost use Rattle.jp_eval.specs.Places.{AreWithin, item_count};
-ghost use Rattle.jp_eval.specs.Slice.{slice_indexes};
+ghost use Rattle.jp_value.specs.Places.{AreWithin, item_count};
+ghost use Rattle.jp_value.specs.Slice.{slice_indexes};
 
 use crate::part::{Inside, Part};
 use crate::row::{Child, Children};
-use crate::slice::{Bounds, first_place, place_after};
 use jp_trail::Link;
+use jp_value::{Bounds, first_place, place_after};
 use serde_json::{Map, Value};
 use std::alloc::{AllocError, Global};
 

@@ -3,7 +3,7 @@
 ghost use Rattle.std.specs.Prelude.{◌≡◌, ◌++◌, ◌∷◌, [], List, None, length, map, option_map, OnOk};
 ghost use Rattle.jp_doc.specs.Location.{Node, location_of};
 ghost use Rattle.jp_eval.specs.Different.{IsDifferent};
-ghost use Rattle.jp_eval.specs.Functions.{first_value, only_value, distinct, first_ones, same_location};
+ghost use Rattle.jp_value.specs.Functions.{first_value, only_value, distinct, first_ones, same_location};
 ghost use Rattle.jp_eval.specs.Kept.{put_first, alone_of, alone_value};
 ghost use Rattle.jp_eval.specs.Part.{part_value};
 ghost use Rattle.jp_trail.specs.Links.{link_steps};

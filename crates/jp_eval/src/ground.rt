@@ -28,7 +28,7 @@ impl<'v> Ground<'v> {
     ghost use Rattle.jp_doc.specs.Location.{Node};
     ghost use Rattle.jp_eval.specs.Answers.{is_answer, tells};
     ghost use Rattle.jp_eval.specs.Nodelist.{nodelist};
-    ghost use Rattle.jp_eval.specs.RightTests.{tests};
+    ghost use Rattle.jp_value.specs.RightTests.{tests};
 
     /// With no `$` query answered.
     pub(crate) fn new(alloc: Global, root: Part<'v>) -> Ground<'v>

@@ -36,7 +36,7 @@ impl<'v> Part<'v> {
     ghost use Rattle.jp_eval.specs.Inside.{nodes_inside, AreParts, IsLessDeep, IsOfKind, IsScalar};
     ghost use Rattle.jp_eval.specs.Nodes.{children_at};
     ghost use Rattle.jp_eval.specs.Part.{part_value};
-    ghost use Rattle.jp_eval.specs.Places.{item_count};
+    ghost use Rattle.jp_value.specs.Places.{item_count};
 
     /// The whole value of a document.
     pub fn root_of(document: &'v Document) -> Part<'v>

@@ -12,12 +12,11 @@ ghost use Rattle.jp_eval.specs.Part.{part_value};
 ghost use Rattle.jp_eval.specs.Walk.{picked, picked_by, reached, done};
 
 use crate::children::{children_of, named, placed, sliced};
-use crate::numbers::place;
 use crate::part::Part;
 use crate::row::Children;
-use crate::slice::bounds_of;
 use crate::walk::Task;
 use jp_check::ready::{Segment, Selector};
+use jp_value::{bounds_of, place};
 use std::alloc::{AllocError, Global};
 
 /// A task at each of some children of a value.

@@ -8,31 +8,29 @@ ghost use Rattle.jp_doc.specs.Json.{items_of, members_of};
 ghost use Rattle.jp_doc.specs.Location.{Location, node};
 ghost use Rattle.jp_eval.specs.Answers.{tells};
 ghost use Rattle.jp_eval.specs.Base.{Base, base_of};
-ghost use Rattle.jp_eval.specs.BoundsView.{bounds_value};
+ghost use Rattle.jp_value.specs.BoundsView.{bounds_value};
 ghost use Rattle.jp_eval.specs.Kept.{kept, put_found, plus};
 ghost use Rattle.jp_eval.specs.Links.{here};
 ghost use Rattle.jp_trail.specs.Links.{link_steps};
 ghost use Rattle.jp_eval.specs.Nodelist as spec;
 ghost use Rattle.jp_eval.specs.Nodes.{children, descendants, item_nodes, member_nodes};
-ghost use Rattle.jp_eval.specs.Operands.{operand_value, HasWholeNumbers};
+ghost use Rattle.jp_value.specs.Operands.{operand_value, HasWholeNumbers};
 ghost use Rattle.jp_eval.specs.Part.{part_value};
-ghost use Rattle.jp_eval.specs.Places.{AreWithin, item_count};
-ghost use Rattle.jp_eval.specs.Slice.{slice_indexes};
+ghost use Rattle.jp_value.specs.Places.{AreWithin, item_count};
+ghost use Rattle.jp_value.specs.Slice.{slice_indexes};
 ghost use Rattle.jp_eval.specs.Walk.{picked, picked_by, reached, is_true, value_given, nodes_given, done};
 
 use crate::answers::{Answer, has_first, of_distinct, operand};
-use crate::compare::{Operand, compare};
 use crate::found::{Found, add, into_answer, is_full, none_found};
-use crate::functions::{
-    exactly_one, length, literal, matches, matches_known, searches, searches_known,
-};
 use crate::ground::Ground;
-use crate::numbers::place;
 use crate::part::{Inside, Part};
-use crate::slice::{Bounds, bounds_of, first_place, place_after};
 use crate::visit::Visit;
 use jp_check::ready::{Logical, Nodes, Segment, Selector, Value as Giver, Want};
 use jp_trail::{Link, Trail};
+use jp_value::{
+    Bounds, Operand, bounds_of, compare, exactly_one, first_place, length, literal, matches,
+    matches_known, place, place_after, searches, searches_known,
+};
 use serde_json::{Map, Value};
 use std::alloc::AllocError;
 

@@ -9,13 +9,13 @@ use Rattle.jp_syntax.specs.declared.tree.Start.TheVariants as start
 use Rattle.jp_syntax.specs.declared.tree.Query.{out-Query}
 use Rattle.jp_check.specs.declared.ready.RootQuery.{RootQuery}
 use Rattle.std.specs.Str.{chars}
-use Rattle.jp_check.specs.Functions.{function_named, length_function, count_function, value_function}
-use Rattle.jp_check.specs.Functions.{xor_function, distinct_function}
-use Rattle.jp_check.specs.Kinds.{function_of}
+use Rattle.jp_types.specs.Functions.{function_named, length_function, count_function, value_function}
+use Rattle.jp_types.specs.Functions.{xor_function, distinct_function}
+use Rattle.jp_types.specs.Kinds.{function_of}
 use Rattle.jp_check.specs.Ready.{segment_in, selector_in, logical_in, value_in, as_argument}
 use Rattle.jp_check.specs.Ready.{text_argument, form_of, truth_argument, call_of_one, call_of_two}
 use Rattle.jp_check.specs.Ready.{nodes_in, queried, source_argument, source_test, source_side}
-use Rattle.jp_check.proofs.Levels.{query_level, segment_level, comparison_level}
+use Rattle.jp_types.proofs.Levels.{query_level, segment_level, comparison_level}
 use Rattle.jp_check.proofs.CallsMade.{called_one, called, given_two, text_is, query_written}
 use Rattle.jp_check.proofs.CallsMade.{call_written, logical_written, called_test}
 use Rattle.jp_check.proofs.Naming.{named}

@@ -2,12 +2,12 @@ use Rattle.std.proofs.Common.{◌∙◌, ◌++◌, refl, ap, append_assoc}
 use Rattle.jp_syntax.specs.Tree.{segments, selectors, logicals, arguments}
 use Rattle.jp_syntax.specs.PartViews.{segments_of, selectors_of, logicals_of, arguments_of}
 use Rattle.jp_syntax.specs.View.{text_of}
-use Rattle.jp_check.specs.Functions.{function_named}
+use Rattle.jp_types.specs.Functions.{function_named}
 use Rattle.jp_check.specs.Known.{known_texts}
 use Rattle.jp_check.specs.LiteralPatterns.{given_pattern, segments_patterns, selectors_patterns}
 use Rattle.jp_check.specs.LiteralPatterns.{logicals_patterns, arguments_patterns}
 use Rattle.jp_check.proofs.TextLists.{texts_end, texts_next}
-use Rattle.jp_check.proofs.Levels.{query_level, segment_level, call_level}
+use Rattle.jp_types.proofs.Levels.{query_level, segment_level, call_level}
 use Rattle.jp_check.proofs.patterns.+patterns.Goals as goal
 
 pub query_patterns-loop-segment-preserved : goal.query_patterns-loop-segment-preserved

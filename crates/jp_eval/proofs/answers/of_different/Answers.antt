@@ -1,7 +1,7 @@
 use Rattle.std.proofs.Common.{sym, ap, ◌∙◌}
 use Rattle.jp_check.specs.Ready.{wanted_inside}
 use Rattle.jp_eval.specs.Answers.{tells}
-use Rattle.jp_eval.specs.Functions.{distinct}
+use Rattle.jp_value.specs.Functions.{distinct}
 use Rattle.jp_eval.specs.declared.answers.Answer.TheVariants.{Distinct}
 use Rattle.jp_eval.proofs.Telling.{different_of_ones}
 use Rattle.jp_eval.proofs.answers.of_different.Goals as goal

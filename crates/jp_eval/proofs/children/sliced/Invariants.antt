@@ -2,12 +2,12 @@ use Rattle.std.proofs.Common.{◌≡◌, ◌≤◌, ◌++◌, length}
 use Rattle.serde_json.specs.Data.{depth}
 use Rattle.serde_json.specs.View.{view}
 use Rattle.jp_doc.specs.Location.{Location, node}
-use Rattle.jp_eval.specs.BoundsView.{bounds_value}
+use Rattle.jp_value.specs.BoundsView.{bounds_value}
 use Rattle.jp_eval.specs.Kids.{kids, kids_height}
 use Rattle.jp_eval.specs.Nodelist.{items_at}
 use Rattle.jp_eval.specs.Part.{part_value}
-use Rattle.jp_eval.specs.Places.{from_place, item_count, IfPlace}
-use Rattle.jp_eval.specs.Slice.{slice_indexes}
+use Rattle.jp_value.specs.Places.{from_place, item_count, IfPlace}
+use Rattle.jp_value.specs.Slice.{slice_indexes}
 use Rattle.jp_eval.proofs.children.sliced.Given as goal
 
 abbrev pub invariant-loop-next : goal.invariant-loop-next

@@ -1,5 +1,5 @@
 use Rattle.std.proofs.Common.{length, ap, ◌∙◌}
-use Rattle.jp_eval.specs.Functions.{first_ones, same_location}
+use Rattle.jp_value.specs.Functions.{first_ones, same_location}
 use Rattle.jp_eval.proofs.Differing.{count_located}
 use Rattle.jp_eval.proofs.different.each_once.Goals as goal
 

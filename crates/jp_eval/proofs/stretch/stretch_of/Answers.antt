@@ -5,8 +5,9 @@ use Rattle.std.specs.Str.{chars}
 use Rattle.jp_doc.specs.Location.{node, name}
 use Rattle.jp_check.specs.Numbers.{whole_number}
 use Rattle.jp_check.specs.Ready.{position_text}
-use Rattle.jp_eval.specs.BoundsView.{bounds_value}
-use Rattle.jp_eval.specs.Nodelist.{items_at, written_value}
+use Rattle.jp_value.specs.BoundsView.{bounds_value}
+use Rattle.jp_eval.specs.Nodelist.{items_at}
+use Rattle.jp_value.specs.Literals.{written_value}
 use Rattle.jp_eval.specs.Nodes.{child}
 use Rattle.jp_eval.specs.Part.{part_value}
 use Rattle.jp_eval.specs.Walk.{picked, is_true}

@@ -18,18 +18,19 @@ use Rattle.jp_check.specs.Ready.{position_text, wanted_inside}
 use Rattle.jp_check.specs.declared.ready.Want.TheVariants as want
 use Rattle.jp_eval.specs.Answers.{tells}
 use Rattle.jp_eval.specs.Base.{base_of}
-use Rattle.jp_eval.specs.BoundsView.{bounds_value}
-use Rattle.jp_eval.specs.Comparison.{compared}
-use Rattle.jp_eval.specs.Functions.{tested, length_value}
-use Rattle.jp_eval.specs.Functions.{exactly_one}
-use Rattle.jp_eval.specs.Nodelist.{items_at, written_value}
+use Rattle.jp_value.specs.BoundsView.{bounds_value}
+use Rattle.jp_value.specs.Comparison.{compared}
+use Rattle.jp_value.specs.Functions.{tested, length_value}
+use Rattle.jp_value.specs.Functions.{exactly_one}
+use Rattle.jp_eval.specs.Nodelist.{items_at}
+use Rattle.jp_value.specs.Literals.{written_value}
 use Rattle.jp_eval.specs.Kept.{kept, put_found, plus}
 use Rattle.jp_eval.specs.Links.{here}
 use Rattle.jp_trail.specs.Links.{link_steps}
 use Rattle.jp_eval.specs.Nodes.{children, descendants, item_nodes, node_if_some}
 use Rattle.jp_eval.specs.Part.{part_value}
-use Rattle.jp_eval.specs.Places.{item_count}
-use Rattle.jp_eval.specs.RightTests.{tests}
+use Rattle.jp_value.specs.Places.{item_count}
+use Rattle.jp_value.specs.RightTests.{tests}
 use Rattle.jp_eval.specs.Walk.{picked, picked_by, reached, is_true, value_given, nodes_given, done}
 use Rattle.jp_eval.proofs.Chains.{reached-none, reached-end, reached-each, reached-filter, reached-plain}
 use Rattle.jp_eval.proofs.Chains.{reached-deep}

@@ -1,8 +1,9 @@
 use Rattle.std.proofs.Common.{ap, sym, subst, arith}
 use Rattle.jp_eval.specs.Inside.{IsNoObject}
 use Rattle.jp_eval.specs.Nodes.{children_at}
-use Rattle.jp_eval.proofs.Inside.{array_depth, array_is_short, array_parts, array_value, object_depth}
-use Rattle.jp_eval.proofs.Inside.{object_parts, object_value, null_value, bool_value, number_value}
+use Rattle.jp_value.proofs.Views.{array_value, object_value}
+use Rattle.jp_eval.proofs.Inside.{array_depth, array_is_short, array_parts, object_depth}
+use Rattle.jp_eval.proofs.Inside.{object_parts, null_value, bool_value, number_value}
 use Rattle.jp_eval.proofs.Inside.{string_value}
 use Rattle.jp_eval.proofs.part.Part.inside.Goals as goal
 

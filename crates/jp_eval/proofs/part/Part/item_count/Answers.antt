@@ -1,6 +1,7 @@
 use Rattle.std.proofs.Common.{◌≤◌, length, arith, ◌∙◌, sym, ap}
-use Rattle.jp_eval.specs.Places.{item_count}
-use Rattle.jp_eval.proofs.Inside.{array_is_short, array_value, item_list_length}
+use Rattle.jp_value.specs.Places.{item_count}
+use Rattle.jp_value.proofs.Views.{array_value, item_list_length}
+use Rattle.jp_eval.proofs.Inside.{array_is_short}
 use Rattle.jp_eval.proofs.part.Part.item_count.Goals as goal
 
 pub overflow_cast-result : goal.overflow_cast-result

@@ -1,5 +1,0 @@
-use Rattle.std.proofs.Common.{rules}
-use Rattle.jp_check.proofs.functions.parameters.Goals as goal
-
-pub returns-in-Match : goal.returns-in-Match
-returns-in-Match c = search rules

@@ -1,6 +1,0 @@
-use Rattle.std.proofs.lemmas.Str.{encodes-chars}
-use Rattle.jp_eval.proofs.compare.is_text_below.Goals as goal
-
-pub returns : goal.returns
-returns c = rw (encodes-chars c.args.left.now c.utf8.left, encodes-chars c.args.right.now c.utf8.right)
-    c.lt.ensures

@@ -1,8 +1,0 @@
-use Rattle.jp_eval.proofs.Sameness.{same_is_equal, self_same}
-use Rattle.jp_eval.proofs.laws.comparison.Goals as goal
-
-pub returns-clause-equality : goal.returns-clause-equality
-returns-clause-equality c = same_is_equal
-
-pub returns-clause-reflexive : goal.returns-clause-reflexive
-returns-clause-reflexive c = self_same

@@ -1,0 +1,6 @@
+pub mod FaultLaws
+pub mod Fitting
+pub mod Levels
+pub mod Names
+pub mod NumberTexts
+pub mod WrittenNumbers

@@ -1,0 +1,76 @@
+//! The functions and their types: those of RFC 9535 (2.4.1 to 2.4.8), and this project's own, `xor` and
+//! `distinct`.
+
+ghost use Rattle.std.specs.Prelude.{◌≡◌, map, option_map};
+ghost use Rattle.std.specs.Str.{chars};
+ghost use Rattle.jp_types.specs.Functions as functions;
+ghost use Rattle.jp_types.specs.Kinds.{kind_of, function_of};
+
+/// The types of the function type system (RFC 9535, 2.4.1).
+#[derive(Clone, Copy)]
+pub(crate) enum Kind {
+    /// A value, or nothing.
+    Value,
+    /// True or false.
+    Logical,
+    /// A list of nodes.
+    Nodes,
+}
+
+/// A function of RFC 9535 (2.4.4 to 2.4.8), or of this project's own.
+#[derive(Clone, Copy, Debug, PartialEq, Eq)]
+pub enum Function {
+    /// How long a text, an array or an object is.
+    Length,
+    /// How many nodes there are.
+    Count,
+    /// Whether the whole text is in a pattern's language.
+    Match,
+    /// Whether some part of the text is in a pattern's language.
+    Search,
+    /// The value of the only node.
+    Value,
+    /// Whether exactly one of two is true. It is this project's own.
+    Xor,
+    /// The nodes, each location once. It is this project's own.
+    Distinct,
+}
+
+/// The function of this name, if it is one. It takes no memory.
+pub fn function_named(name: &str) -> Option<Function>
+    ensures { option_map function_of result ≡ functions.function_named (chars name.now) }
+{
+    match name {
+        "length" => Some(Function::Length),
+        "count" => Some(Function::Count),
+        "match" => Some(Function::Match),
+        "search" => Some(Function::Search),
+        "value" => Some(Function::Value),
+        "xor" => Some(Function::Xor),
+        "distinct" => Some(Function::Distinct),
+        _ => None,
+    }
+}
+
+/// The types of a function's parameters.
+pub(crate) fn parameters(function: Function) -> &'static [Kind]
+    ensures { map kind_of result.now ≡ functions.parameters (function_of function) }
+{
+    match function {
+        Function::Length => &[Kind::Value],
+        Function::Count | Function::Value | Function::Distinct => &[Kind::Nodes],
+        Function::Match | Function::Search => &[Kind::Value, Kind::Value],
+        Function::Xor => &[Kind::Logical, Kind::Logical],
+    }
+}
+
+/// The type of what a function gives.
+pub(crate) fn result_type(function: Function) -> Kind
+    ensures { kind_of result ≡ functions.result_type (function_of function) }
+{
+    match function {
+        Function::Length | Function::Count | Function::Value => Kind::Value,
+        Function::Match | Function::Search | Function::Xor => Kind::Logical,
+        Function::Distinct => Kind::Nodes,
+    }
+}

@@ -1,0 +1,16 @@
+//! Which trees are valid and well-typed (RFC 9535, 2.1 and 2.4): the numbers of a query, the functions and
+//! their types.
+#![tactic(auto)]
+
+mod examples;
+mod faults;
+mod functions;
+mod numbers;
+mod typing;
+mod walk;
+mod written;
+
+pub use faults::Faults;
+pub use functions::{Function, function_named};
+pub use walk::query_faults;
+pub use written::{position, whole_number};

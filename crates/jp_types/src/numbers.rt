@@ -1,0 +1,90 @@
+//! Numbers as they are written in a query (RFC 9535, 2.1).
+
+ghost use Rattle.std.specs.Prelude.{◌≡◌, [], ◌∷◌, option_map, true};
+ghost use Rattle.std.specs.Str.{chars};
+ghost use Rattle.jp_syntax.specs.View.{literal_of, slice_of, text_of};
+ghost use Rattle.jp_types.specs.Faults.{faults_of};
+ghost use Rattle.jp_types.specs.Numbers.{literal_number, position, is_fraction, is_in_range, literal_numbers};
+ghost use Rattle.jp_types.specs.Numbers.{part_of_slice, selector_numbers};
+
+use crate::faults::Faults;
+use jp_syntax::{Literal, Slice};
+
+/// The greatest index, 2 ^ 53 - 1 (RFC 7493, 2.2).
+const MAX_INDEX: u64 = 9_007_199_254_740_991;
+
+/// The most digits of a number literal.
+const MAX_DIGITS: usize = 38;
+
+/// Whether a number literal has a fraction or an exponent.
+fn is_fraction(number: &str) -> bool
+    ensures { result ≡ is_fraction (literal_number (chars number.now)) }
+{
+    number.chars().any(|c| matches!(c, '.' | 'e' | 'E'))
+}
+
+/// Whether a number literal has at most 38 digits.
+fn is_short(number: &str) -> bool
+    ensures { result ≡ is_in_range (literal_number (chars number.now)) }
+{
+    number.chars().filter(|c| c.is_ascii_digit()).count() <= MAX_DIGITS
+}
+
+/// Whether an index or a number of a slice is at most 9007199254740991 from zero.
+fn is_near(number: &str) -> bool
+    ensures { result ≡ is_in_range (position (chars number.now)) }
+{
+    let digits = number.strip_prefix('-').unwrap_or(number);
+    let mut magnitude = 0;
+    for c in digits.chars() {
+        magnitude = magnitude * 10 + u64::from(u32::from(c).saturating_sub(u32::from('0')));
+        if magnitude > MAX_INDEX {
+            return false;
+        }
+    }
+    true
+}
+
+/// The faults of a literal.
+pub(crate) fn literal_faults(literal: &Literal) -> Faults
+    ensures { result ≡ faults_of (literal_numbers (literal_of literal.now)) true }
+{
+    match literal {
+        Literal::Number(number) => Faults {
+            fraction: is_fraction(number.as_str()),
+            out_of_range: !is_short(number.as_str()),
+            ill_typed: false,
+        },
+        Literal::Text(_) | Literal::Truth(_) | Literal::Null => Faults::NONE,
+    }
+}
+
+/// The faults of an index, or of a number of a slice.
+pub(crate) fn position_faults(number: &str) -> Faults
+    ensures { result ≡ faults_of (position (chars number.now) ∷ []) true }
+{
+    Faults {
+        fraction: false,
+        out_of_range: !is_near(number),
+        ill_typed: false,
+    }
+}
+
+/// The faults of a number of a slice, which may be left out.
+fn part_faults(part: &Option<String>) -> Faults
+    ensures { result ≡ faults_of (part_of_slice (option_map text_of part.now)) true }
+{
+    match part {
+        None => Faults::NONE,
+        Some(number) => position_faults(number.as_str()),
+    }
+}
+
+/// The faults of a slice.
+pub(crate) fn slice_faults(slice: &Slice) -> Faults
+    ensures { result ≡ faults_of (selector_numbers (slice_of slice.now)) true }
+{
+    part_faults(&slice.first)
+        .with(part_faults(&slice.past))
+        .with(part_faults(&slice.step))
+}

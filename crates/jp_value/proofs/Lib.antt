@@ -1,0 +1,11 @@
+pub mod Sameness
+pub mod MembersByName
+pub mod Order
+pub mod BoundsLaws
+pub mod Positions
+pub mod SlicePlaces
+pub mod Views
+pub mod Lengths
+pub mod Answering
+pub mod Within
+pub mod OnLiterals

@@ -1,0 +1,8 @@
+use Rattle.jp_value.proofs.Sameness.{same_is_equal, self_same}
+use Rattle.jp_value.proofs.laws.comparison.Goals as goal
+
+pub returns-clause-equality : goal.returns-clause-equality
+returns-clause-equality c = same_is_equal
+
+pub returns-clause-reflexive : goal.returns-clause-reflexive
+returns-clause-reflexive c = self_same

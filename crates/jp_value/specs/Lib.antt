@@ -1,0 +1,11 @@
+pub mod Slice
+pub mod Index
+pub mod Literals
+pub mod Comparison
+pub mod Functions
+pub mod Samples
+pub mod Operands
+pub mod BoundsView
+pub mod Places
+pub mod RightTests
+pub mod Texts

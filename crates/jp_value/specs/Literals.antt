@@ -1,0 +1,17 @@
+-- What the literals and the numbers of a query stand for.
+use Rattle.std.specs.Prelude.{ℤ, Option, option_map}
+use Rattle.jp_doc.specs.Json as json
+use Rattle.jp_doc.specs.Json.{Json}
+use Rattle.jp_syntax.specs.Tree.{Text, Literal, number, text, truth, null}
+use Rattle.jp_check.specs.Numbers.{whole_number}
+
+-- the value of a literal
+abbrev pub literal_value : Literal → Json
+literal_value (number t) = json.whole (whole_number t)
+literal_value (text t) = json.text t
+literal_value (truth b) = json.truth b
+literal_value null = json.null
+
+-- a number that is written or left out
+abbrev pub written_value : Option Text → Option ℤ
+written_value t = option_map whole_number t

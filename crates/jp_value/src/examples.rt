@@ -1,0 +1,208 @@
+//! Worked examples of the definitions.
+
+ghost use Rattle.std.specs.Prelude.{◌≡◌, [], ◌∷◌, codes, pos, negsuc, Some, None, true, false};
+ghost use Rattle.jp_doc.specs.Json.{null, truth, whole, text, object, no_members};
+ghost use Rattle.jp_doc.specs.Location.{node};
+ghost use Rattle.jp_syntax.specs.Tree as tree;
+ghost use Rattle.jp_syntax.specs.declared.tree.Operator.TheVariants.{Eq, Ne, Le, Ge, Lt, Gt};
+ghost use Rattle.jp_regexp.specs.Tests.{Tests};
+ghost use Rattle.jp_check.specs.Functions.{length_function, count_function, match_function, search_function};
+ghost use Rattle.jp_check.specs.Functions.{value_function, xor_function, distinct_function};
+ghost use Rattle.jp_value.specs.Comparison.{compared};
+ghost use Rattle.jp_value.specs.Functions.{called, handed_value, handed_truth, handed_nodes, as_value};
+ghost use Rattle.jp_value.specs.Functions.{as_truth, as_nodes};
+ghost use Rattle.jp_value.specs.Index.{place_of};
+ghost use Rattle.jp_value.specs.Literals.{literal_value, written_value};
+ghost use Rattle.jp_value.specs.Places.{from_place, later};
+ghost use Rattle.jp_value.specs.Slice.{slice_bounds};
+ghost use Rattle.jp_value.specs.Samples.{num, arr, obj, obj2, to, item, nested};
+
+/// Indexes in an array with five items, and in one with none: from the front, from the end, and beyond.
+fn places()
+    ensures first { place_of (pos 0) 5 ≡ 0 ∷ [] }
+    ensures last { place_of (pos 4) 5 ≡ 4 ∷ [] }
+    ensures behind_the_last { place_of (pos 5) 5 ≡ [] }
+    ensures last_from_the_end { place_of (negsuc 0) 5 ≡ 4 ∷ [] }
+    ensures first_from_the_end { place_of (negsuc 4) 5 ≡ 0 ∷ [] }
+    ensures before_the_first { place_of (negsuc 5) 5 ≡ [] }
+    ensures of_nothing { place_of (pos 0) 0 ≡ [] }
+    ensures of_nothing_from_the_end { place_of (negsuc 0) 0 ≡ [] }
+{}
+
+/// What literals, and numbers of slices, stand for.
+fn literals()
+    ensures number { literal_value (tree.number (codes "-12")) ≡ whole (negsuc 11) }
+    ensures minus_zero { literal_value (tree.number (codes "-0")) ≡ num 0 }
+    ensures text { literal_value (tree.text (codes "12")) ≡ text (codes "12") }
+    ensures truth { literal_value (tree.truth false) ≡ truth false }
+    ensures null { literal_value tree.null ≡ null }
+    ensures written { written_value (Some (codes "-3")) ≡ Some (negsuc 2) }
+    ensures left_out { written_value None ≡ None }
+{}
+
+/// The bounds of slices of an array with five items, and with none.
+fn bounds()
+    ensures falling { slice_bounds (Some (pos 3)) (Some (pos 0)) (Some (negsuc 1)) 5
+        ≡ record { lower = pos 0; upper = pos 3; step = negsuc 1 } }
+    ensures reversed { slice_bounds None None (Some (negsuc 0)) 5
+        ≡ record { lower = negsuc 0; upper = pos 4; step = negsuc 0 } }
+    ensures step_zero { slice_bounds None None (Some (pos 0)) 5
+        ≡ record { lower = pos 0; upper = pos 5; step = pos 0 } }
+    ensures from_the_end { slice_bounds (Some (negsuc 1)) None None 5
+        ≡ record { lower = pos 3; upper = pos 5; step = pos 1 } }
+    ensures outside { slice_bounds (Some (negsuc 8)) (Some (pos 9)) None 5
+        ≡ record { lower = pos 0; upper = pos 5; step = pos 1 } }
+    ensures of_nothing { slice_bounds None None (Some (negsuc 0)) 0
+        ≡ record { lower = negsuc 0; upper = negsuc 0; step = negsuc 0 } }
+{}
+
+/// The indexes of `[1::2]` and of `[::-2]` in an array with five items, from one of them on.
+fn one_after_another()
+    ensures rising { later (slice_bounds (Some (pos 1)) None (Some (pos 2)) 5) 5 1 ≡ 3 ∷ [] }
+    ensures last { later (slice_bounds (Some (pos 1)) None (Some (pos 2)) 5) 5 3 ≡ [] }
+    ensures falling { later (slice_bounds None None (Some (negsuc 1)) 5) 5 4 ≡ 2 ∷ 0 ∷ [] }
+    ensures from { from_place (slice_bounds None None (Some (negsuc 1)) 5) 5 (Some 2) ≡ 2 ∷ 0 ∷ [] }
+    ensures none { from_place (slice_bounds None None (Some (negsuc 1)) 5) 5 None ≡ [] }
+    ensures step_zero { later (slice_bounds None None (Some (pos 0)) 5) 5 1 ≡ [] }
+{}
+
+/// The six operators of a nothing and a value, and of values of two kinds.
+fn operators()
+    ensures nothing_and_null { compared Eq None (Some null) ≡ false }
+    ensures nothings { compared Ge None None ≡ true }
+    ensures neither_below { compared Lt None None ≡ false }
+    ensures two_kinds { compared Le (Some (num 1)) (Some (text (codes "1"))) ≡ false }
+    ensures not_equal { compared Ne (Some (num 1)) (Some (text (codes "1"))) ≡ true }
+    ensures truths { compared Le (Some (truth false)) (Some (truth true)) ≡ false }
+    ensures arrays { compared Eq (Some (arr (num 1 ∷ obj (codes "a") null ∷ [])))
+        (Some (arr (num 1 ∷ obj (codes "a") null ∷ []))) ≡ true }
+    ensures arrays_in_order { compared Eq (Some (arr (num 1 ∷ num 2 ∷ []))) (Some (arr (num 2 ∷ num 1 ∷ [])))
+        ≡ false }
+    ensures other_names { compared Eq (Some (obj (codes "a") null)) (Some (obj (codes "b") null)) ≡ false }
+    ensures fewer_names { compared Eq (Some (obj (codes "a") null))
+        (Some (obj2 (codes "a") null (codes "b") null)) ≡ false }
+{}
+
+/// Values that are equal, and values that are not, of each kind.
+fn equality()
+    ensures nulls { compared Eq (Some null) (Some null) ≡ true }
+    ensures null_and_false { compared Eq (Some null) (Some (truth false)) ≡ false }
+    ensures truths { compared Eq (Some (truth true)) (Some (truth true)) ≡ true }
+    ensures other_truths { compared Eq (Some (truth true)) (Some (truth false)) ≡ false }
+    ensures numbers { compared Eq (Some (num 7)) (Some (num 7)) ≡ true }
+    ensures other_numbers { compared Eq (Some (num 7)) (Some (whole (negsuc 6))) ≡ false }
+    ensures texts { compared Eq (Some (text (codes "ab"))) (Some (text (codes "ab"))) ≡ true }
+    ensures text_in_capitals { compared Eq (Some (text (codes "ab"))) (Some (text (codes "aB"))) ≡ false }
+    ensures front_of_a_text { compared Eq (Some (text (codes "a"))) (Some (text (codes "ab"))) ≡ false }
+    ensures longer_array { compared Eq (Some (arr (num 1 ∷ []))) (Some (arr (num 1 ∷ num 1 ∷ []))) ≡ false }
+    ensures shorter_array { compared Eq (Some (arr (num 1 ∷ num 1 ∷ []))) (Some (arr (num 1 ∷ []))) ≡ false }
+    ensures empty_ones { compared Eq (Some (arr [])) (Some (object no_members)) ≡ false }
+    ensures more_names { compared Eq (Some (obj2 (codes "a") null (codes "b") null))
+        (Some (obj (codes "a") null)) ≡ false }
+    ensures other_values { compared Eq (Some (obj (codes "a") null)) (Some (obj (codes "a") (num 0)))
+        ≡ false }
+    ensures second_values { compared Eq (Some (obj2 (codes "a") null (codes "b") (num 1)))
+        (Some (obj2 (codes "a") null (codes "b") (num 2))) ≡ false }
+{}
+
+/// `<` of numbers by value and of texts by their scalar values, and of nothing else.
+fn order()
+    ensures numbers { compared Lt (Some (whole (negsuc 0))) (Some (num 0)) ≡ true }
+    ensures not_below_itself { compared Lt (Some (num 2)) (Some (num 2)) ≡ false }
+    ensures not_above { compared Gt (Some (num 2)) (Some (num 3)) ≡ false }
+    ensures above { compared Gt (Some (num 3)) (Some (num 2)) ≡ true }
+    ensures below_or_equal { compared Le (Some (num 2)) (Some (num 2)) ≡ true }
+    ensures above_or_equal { compared Ge (Some (num 2)) (Some (num 3)) ≡ false }
+    ensures longer_text { compared Lt (Some (text (codes "ab"))) (Some (text (codes "b"))) ≡ true }
+    ensures front_of_a_text { compared Lt (Some (text (codes "a"))) (Some (text (codes "ab"))) ≡ true }
+    ensures same_text { compared Lt (Some (text (codes "a"))) (Some (text (codes "a"))) ≡ false }
+    ensures truths { compared Lt (Some (truth false)) (Some (truth true)) ≡ false }
+    ensures arrays { compared Lt (Some (arr [])) (Some (arr (num 1 ∷ []))) ≡ false }
+    ensures nulls { compared Le (Some null) (Some null) ≡ true }
+    ensures nothing_and_number { compared Lt None (Some (num 1)) ≡ false }
+{}
+
+/// U+FFFF is below U+1F600, though not in UTF-16.
+#[tactic(auto, unfolding(crate::proofs::OnLiterals::texts_on_literals))]
+fn order_beyond_sixteen_bits()
+    ensures { compared Lt (Some (text (65535 ∷ []))) (Some (text (128512 ∷ []))) ≡ true }
+{}
+
+/// What is handed over as a value, as true or false, and as nodes.
+fn handed_over()
+    ensures value_of_none { as_value (handed_nodes []) ≡ None }
+    ensures value_of_nodes { as_value (handed_nodes (node [] null ∷ [])) ≡ Some null }
+    ensures value_of_truth { as_value (handed_truth true) ≡ None }
+    ensures value_as_it_is { as_value (handed_value (Some null)) ≡ Some null }
+    ensures truth_of_none { as_truth (handed_nodes []) ≡ false }
+    ensures truth_of_nodes { as_truth (handed_nodes (node [] (truth false) ∷ [])) ≡ true }
+    ensures truth_as_it_is { as_truth (handed_truth true) ≡ true }
+    ensures truth_of_a_value { as_truth (handed_value (Some (truth true))) ≡ false }
+    ensures nodes_as_they_are { as_nodes (handed_nodes (node [] null ∷ [])) ≡ node [] null ∷ [] }
+    ensures nodes_of_a_value { as_nodes (handed_value (Some null)) ≡ [] }
+{}
+
+/// `xor`: exactly one of two is true, whether a list of nodes or a truth is handed over.
+fn one_of_two()
+    ensures neither { (t : Tests) → called t xor_function (handed_nodes [] ∷ handed_truth false ∷ [])
+        ≡ handed_truth false }
+    ensures first { (t : Tests) → called t xor_function
+        (handed_nodes (node [] null ∷ []) ∷ handed_truth false ∷ []) ≡ handed_truth true }
+    ensures second { (t : Tests) → called t xor_function (handed_nodes [] ∷ handed_truth true ∷ [])
+        ≡ handed_truth true }
+    ensures both { (t : Tests) → called t xor_function
+        (handed_nodes (node [] null ∷ []) ∷ handed_truth true ∷ []) ≡ handed_truth false }
+{}
+
+/// `distinct`: the first node of each location, whatever the values are, and however far apart they stand.
+fn each_location_once()
+    ensures none { (t : Tests) → called t distinct_function (handed_nodes [] ∷ []) ≡ handed_nodes [] }
+    ensures first_of_each { (t : Tests) → called t distinct_function
+        (handed_nodes (node (item 1 ∷ []) null ∷ node (item 0 ∷ []) null ∷ node (item 1 ∷ []) null ∷ []) ∷ [])
+        ≡ handed_nodes (node (item 1 ∷ []) null ∷ node (item 0 ∷ []) null ∷ []) }
+    ensures names { (t : Tests) → called t distinct_function (handed_nodes (node (to (codes "a") ∷ []) null
+        ∷ node (to (codes "a") ∷ item 0 ∷ []) null ∷ node (to (codes "a") ∷ []) null ∷ []) ∷ [])
+        ≡ handed_nodes (node (to (codes "a") ∷ []) null ∷ node (to (codes "a") ∷ item 0 ∷ []) null ∷ []) }
+{}
+
+/// What the functions give: lengths, the one value of a list of nodes, and a match as the tests answer it.
+fn functions()
+    ensures length_of_text { (t : Tests) → called t length_function
+        (handed_value (Some (text (codes "abc"))) ∷ []) ≡ handed_value (Some (num 3)) }
+    ensures length_in_characters { (t : Tests)
+        → called t length_function (handed_value (Some (text (252 ∷ 128512 ∷ []))) ∷ [])
+        ≡ handed_value (Some (num 2)) }
+    ensures length_of_array { (t : Tests) → called t length_function
+        (handed_value (Some (arr (num 5 ∷ num 5 ∷ []))) ∷ []) ≡ handed_value (Some (num 2)) }
+    ensures length_of_true { (t : Tests) → called t length_function (handed_value (Some (truth true)) ∷ [])
+        ≡ handed_value None }
+    ensures count_of_none { (t : Tests) → called t count_function (handed_nodes [] ∷ [])
+        ≡ handed_value (Some (num 0)) }
+    ensures count_of_two { (t : Tests) → called t count_function
+        (handed_nodes (node [] null ∷ node [] null ∷ []) ∷ []) ≡ handed_value (Some (num 2)) }
+    ensures value_of_none { (t : Tests) → called t value_function (handed_nodes [] ∷ []) ≡ handed_value None }
+    ensures value_of_three { (t : Tests) → called t value_function
+        (handed_nodes (node [] null ∷ node [] null ∷ node [] null ∷ []) ∷ []) ≡ handed_value None }
+    ensures value_of_a_value { (t : Tests) → called t value_function (handed_value (Some null) ∷ [])
+        ≡ handed_value None }
+    ensures length_of_object { (t : Tests) → called t length_function (handed_value (Some nested) ∷ [])
+        ≡ handed_value (Some (num 2)) }
+    ensures length_of_number { (t : Tests) → called t length_function (handed_value (Some (num 3)) ∷ [])
+        ≡ handed_value None }
+    ensures length_of_nothing { (t : Tests) → called t length_function (handed_value None ∷ [])
+        ≡ handed_value None }
+    ensures value_of_one { (t : Tests) → called t value_function (handed_nodes (node [] null ∷ []) ∷ [])
+        ≡ handed_value (Some null) }
+    ensures value_of_two { (t : Tests) → called t value_function
+        (handed_nodes (node [] null ∷ node [] null ∷ []) ∷ []) ≡ handed_value None }
+    ensures no_pattern_text { (t : Tests) → called t match_function
+        (handed_value (Some (text (codes "1"))) ∷ handed_value (Some (num 1)) ∷ []) ≡ handed_truth false }
+    ensures no_text { (t : Tests) → called t search_function
+        (handed_value None ∷ handed_value (Some (text (codes "a"))) ∷ []) ≡ handed_truth false }
+    ensures matching { (t : Tests) → called t match_function
+        (handed_value (Some (text (codes "a"))) ∷ handed_value (Some (text (codes "."))) ∷ [])
+        ≡ handed_truth (t.is_match (codes "a") (codes ".")) }
+    ensures searching { (t : Tests) → called t search_function
+        (handed_value (Some (text (codes "a"))) ∷ handed_value (Some (text (codes "."))) ∷ [])
+        ≡ handed_truth (t.is_found (codes "a") (codes ".")) }
+{}

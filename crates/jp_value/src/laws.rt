@@ -1,0 +1,46 @@
+//! Laws of the definitions, each the contract of a function that does nothing.
+
+ghost use Rattle.std.specs.Prelude.{◌≡◌, ◌↔◌, ◌||◌, ◌<◌, ℕ, ℤ, pos, negsuc, int_lt, ◌≤ℤ◌, ◌<ℤ◌, IsTrue};
+ghost use Rattle.std.specs.Prelude.{Option, Some, None, true, false};
+ghost use Rattle.std.specs.List.{AllByRecursion};
+ghost use Rattle.jp_doc.specs.Json.{Text, Json, Members, object};
+ghost use Rattle.jp_doc.specs.Location.{member_at};
+ghost use Rattle.jp_doc.specs.Rising.{MembersRise};
+ghost use Rattle.jp_value.specs.Slice.{slice_bounds, slice_indexes, RisesFrom, FallsBelow};
+ghost use Rattle.jp_value.specs.Comparison.{eq, lt, le};
+
+/// The indexes of a slice lie within the array; they rise strictly for a positive step, and fall strictly for
+/// a negative one.
+/// Its bounds lie within the array too, so no index beyond the array meets them.
+pub fn slice()
+    ensures within { (first past step : Option ℤ) (len : ℕ)
+        → AllByRecursion (λ i. i < len) (slice_indexes (slice_bounds first past step len) len) }
+    ensures rising { (first past : Option ℤ) (step : ℤ) (len : ℕ) → IsTrue (int_lt (pos 0) step)
+        → RisesFrom 0 (slice_indexes (slice_bounds first past (Some step) len) len) }
+    ensures falling { (first past : Option ℤ) (step : ℤ) (len : ℕ) → IsTrue (int_lt step (pos 0))
+        → FallsBelow len (slice_indexes (slice_bounds first past (Some step) len) len) }
+    ensures bounds_of_rising { (first past : Option ℤ) (step : ℤ) (len : ℕ) → int_lt step (pos 0) ≡ false
+        → (pos 0 ≤ℤ (slice_bounds first past (Some step) len).lower)
+        × ((slice_bounds first past (Some step) len).upper ≤ℤ pos len) }
+    ensures bounds_of_falling { (first past : Option ℤ) (step : ℤ) (len : ℕ) → int_lt step (pos 0) ≡ true
+        → (negsuc 0 ≤ℤ (slice_bounds first past (Some step) len).lower)
+        × ((slice_bounds first past (Some step) len).upper <ℤ pos len) }
+{}
+
+/// `==` is equality of values, and so reflexive; it holds of two nothings; `a <= b` is `a < b` or `a == b`.
+pub fn comparison()
+    ensures equality { (v w : Json) → IsTrue (eq (Some v) (Some w)) ↔ (v ≡ w) }
+    ensures reflexive { (v : Json) → IsTrue (eq (Some v) (Some v)) }
+    ensures nothings { IsTrue (eq None None) }
+    ensures below_or_equal { (a b : Option Json) → le a b ≡ (lt a b || eq a b) }
+{}
+
+/// Objects whose names rise, as those of a document do, are equal exactly where each name has equal values in
+/// both, or
+/// stands in neither.
+#[tactic(auto, using(crate::proofs::MembersByName::objects_by_name))]
+pub fn objects()
+    ensures { (ms ns : Members) → MembersRise ms → MembersRise ns
+        → IsTrue (eq (Some (object ms)) (Some (object ns)))
+        ↔ ((k : Text) → IsTrue (eq (member_at k ms) (member_at k ns))) }
+{}

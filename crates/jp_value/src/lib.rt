@@ -1,0 +1,17 @@
+//! Values that a query speaks of (RFC 9535): their comparison, the functions over them, and the places of an
+//! array's items.
+#![tactic(auto)]
+
+mod comparison;
+mod examples;
+mod functions;
+pub mod laws;
+mod numbers;
+mod slice;
+
+pub use comparison::{Operand, compare, equal, less};
+pub use functions::{
+    exactly_one, length, literal, matches, matches_known, searches, searches_known,
+};
+pub use numbers::place;
+pub use slice::{Bounds, bounds_of, first_place, place_after, slice_bounds};
