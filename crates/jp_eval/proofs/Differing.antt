@@ -5,7 +5,7 @@ use Rattle.jp_doc.specs.Location.{Node}
 use Rattle.jp_eval.specs.Different.{IsDifferent}
 use Rattle.jp_value.specs.Functions.{only_value, distinct, first_ones, same_location, same_place}
 use Rattle.jp_eval.specs.declared.different.Different.{Different}
-use Rattle.jp_eval.proofs.FirstOnes.{ones_mapped, ones_again}
+use Rattle.jp_value.proofs.FirstOnes.{ones_mapped, ones_again}
 
 pub distinct_again : (ns : List Node) → distinct (distinct ns) ≡ distinct ns
 distinct_again ns = ones_again same_place ns

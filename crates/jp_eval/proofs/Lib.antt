@@ -14,7 +14,6 @@ pub mod Places
 pub mod Taking
 pub mod ReadyParts
 pub mod Answered
-pub mod FirstOnes
 pub mod Differing
 pub mod SameLocations
 pub mod Gathered

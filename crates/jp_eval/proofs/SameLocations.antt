@@ -11,7 +11,7 @@ use Rattle.jp_doc.specs.declared.location.Location.{Location}
 use Rattle.jp_doc.specs.declared.location.Step.{Step}
 use Rattle.jp_doc.specs.declared.location.Step.TheVariants.{Name, Index}
 use Rattle.jp_value.specs.Functions.{same_step, same_location, first_ones}
-use Rattle.jp_eval.proofs.FirstOnes.{ones_mapped}
+use Rattle.jp_value.proofs.FirstOnes.{ones_mapped}
 
 step_same : (s t : Step) → step_eq.eq-value.it s t ≡ same_step (step_of s) (step_of t)
 step_same (Name s) (Name t) =

@@ -9,3 +9,5 @@ pub mod Lengths
 pub mod Answering
 pub mod Within
 pub mod OnLiterals
+pub mod FirstOnes
+pub mod SamePlaces

@@ -7,11 +7,11 @@ use Rattle.jp_doc.specs.Json.{text_eq, Json, null, truth, whole, text, array, ob
 use Rattle.jp_doc.specs.Json.{add_item, Members, no_members, add_member}
 use Rattle.jp_value.specs.Comparison.{truth_eq, same, same_items, same_members}
 
-both : (a b : Bool) → (a && b) ≡ true → (a ≡ true) × (b ≡ true)
+pub both : (a b : Bool) → (a && b) ≡ true → (a ≡ true) × (b ≡ true)
 both true b h = (refl, h)
 both false b h = absurd cc
 
-joint : (a b : Bool) → a ≡ true → b ≡ true → (a && b) ≡ true
+pub joint : (a b : Bool) → a ≡ true → b ≡ true → (a && b) ≡ true
 joint true b g h = h
 joint false b g h = g
 

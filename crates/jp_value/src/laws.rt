@@ -1,13 +1,14 @@
 //! Laws of the definitions, each the contract of a function that does nothing.
 
 ghost use Rattle.std.specs.Prelude.{◌≡◌, ◌↔◌, ◌||◌, ◌<◌, ℕ, ℤ, pos, negsuc, int_lt, ◌≤ℤ◌, ◌<ℤ◌, IsTrue};
-ghost use Rattle.std.specs.Prelude.{Option, Some, None, true, false};
-ghost use Rattle.std.specs.List.{AllByRecursion};
+ghost use Rattle.std.specs.Prelude.{List, Option, Some, None, true, false};
+ghost use Rattle.std.specs.List.{AllByRecursion, AllPairs, list_any};
 ghost use Rattle.jp_doc.specs.Json.{Text, Json, Members, object};
-ghost use Rattle.jp_doc.specs.Location.{member_at};
+ghost use Rattle.jp_doc.specs.Location.{Location, Node, member_at};
 ghost use Rattle.jp_doc.specs.Rising.{MembersRise};
 ghost use Rattle.jp_value.specs.Slice.{slice_bounds, slice_indexes, RisesFrom, FallsBelow};
 ghost use Rattle.jp_value.specs.Comparison.{eq, lt, le};
+ghost use Rattle.jp_value.specs.Functions.{same_location, same_place, distinct};
 
 /// The indexes of a slice lie within the array; they rise strictly for a positive step, and fall strictly for
 /// a negative one.
@@ -43,4 +44,18 @@ pub fn objects()
     ensures { (ms ns : Members) → MembersRise ms → MembersRise ns
         → IsTrue (eq (Some (object ms)) (Some (object ns)))
         ↔ ((k : Text) → IsTrue (eq (member_at k ms) (member_at k ns))) }
+{}
+
+/// Two locations are the same, step by step, exactly where they are equal.
+#[tactic(auto, using(crate::proofs::SamePlaces::same_is_equal))]
+pub fn locations()
+    ensures { (l m : Location) → IsTrue (same_location l m) ↔ (l ≡ m) }
+{}
+
+/// What `distinct` leaves of nodes has no two at one location, and has each location of theirs.
+#[tactic(auto, using(crate::proofs::SamePlaces::each_once, crate::proofs::SamePlaces::each_there))]
+pub fn distinct_nodes()
+    ensures once { (ns : List Node) → AllPairs (λ m n. same_place m n ≡ false) (distinct ns) }
+    ensures each { (ns : List Node) (n : Node) → list_any (same_place n) (distinct ns)
+        ≡ list_any (same_place n) ns }
 {}

@@ -1,6 +1,6 @@
 use Rattle.std.proofs.Common.{length, ap, ◌∙◌}
 use Rattle.std.proofs.lemmas.List.Filters.{dedup_is}
-use Rattle.jp_eval.proofs.FirstOnes.{counted_ones}
+use Rattle.jp_value.proofs.FirstOnes.{counted_ones}
 use Rattle.jp_eval.proofs.different.count_different.Goals as goal
 
 pub returns : goal.returns

@@ -18,7 +18,7 @@ use Rattle.std.proofs.lemmas.Map.Keys.{IsDistinct-head, IsDistinct-tail}
 use Rattle.std.proofs.lemmas.Map.Made.{is_member-filter, length-from_same_keys}
 use Rattle.jp_value.specs.Functions.{first_ones}
 
-same_truth : (a b : Bool) → (a ≡ true → b ≡ true) → (b ≡ true → a ≡ true) → a ≡ b
+pub same_truth : (a b : Bool) → (a ≡ true → b ≡ true) → (b ≡ true → a ≡ true) → a ≡ b
 same_truth true true f g = refl
 same_truth true false f g = sym (f refl)
 same_truth false true f g = g refl
@@ -34,7 +34,7 @@ module _ {X : Type 0} (E : X → X → Bool) where
   abbrev Apart : X → X → Type 0
   Apart x y = E x y ≡ false
 
-  apart_ones : (xs : List X) → AllPairs Apart (first_ones E xs)
+  pub apart_ones : (xs : List X) → AllPairs Apart (first_ones E xs)
   apart_ones [] = λ i j d h k. absurd (omega arith)
   apart_ones (x ∷ xs) =
       let others = first_ones E xs in
@@ -67,7 +67,7 @@ module _ {X : Type 0} {E : X → X → Bool} (laws : IsEquivalence E) where
   not_same : (b : Bool) → b ≡ false → not b ≡ true
   not_same b h = ap not h
 
-  member_ones : (q : X) (xs : List X) → is_member E (first_ones E xs) q ≡ is_member E xs q
+  pub member_ones : (q : X) (xs : List X) → is_member E (first_ones E xs) q ≡ is_member E xs q
   member_ones q [] = refl
   member_ones q (x ∷ xs) =
       let others = first_ones E xs in
