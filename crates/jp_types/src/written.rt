@@ -7,7 +7,7 @@ ghost use Rattle.jp_types.specs.Numbers as spec;
 
 /// How far from zero a written number is, unless it has more than 38 digits. A minus counts as no digit.
 fn magnitude(text: &str) -> Option<u128>
-    ensures { MatchOption result (10 ^ 37 ≤ spec.magnitude (chars text.now))
+    ensures { MatchOption result (10 ^ 38 ≤ spec.magnitude (chars text.now))
         (λ n. (n ≡ spec.magnitude (chars text.now)) × (n < 2 ^ 127)) }
 {
     let mut number: u128 = 0;
@@ -45,7 +45,7 @@ fn signed(negative: bool, number: u128) -> i128
 /// The whole number that a text of digits, perhaps with a sign, is, unless it has more than 38 digits.
 pub fn whole_number(text: &str) -> Option<i128>
     ensures value { IfSome result (λ z. z ≡ spec.whole_number (chars text.now)) }
-    ensures long { IfNone result (10 ^ 37 ≤ spec.magnitude (chars text.now)) }
+    ensures long { IfNone result (10 ^ 38 ≤ spec.magnitude (chars text.now)) }
 {
     let number = magnitude(text)?;
     Some(signed(is_negative(text), number))
@@ -58,6 +58,7 @@ const MAX_INDEX: i128 = 9_007_199_254_740_991;
 pub fn position(text: &str) -> Option<i64>
     ensures value { IfSome result (λ z. z ≡ spec.whole_number (chars text.now)) }
     ensures near { IfSome result (λ z. (neg_ℤ (pos spec.max_index) ≤ℤ z) × (z ≤ℤ pos spec.max_index)) }
+    ensures far { IfNone result (spec.max_index < spec.magnitude (chars text.now)) }
 {
     let number = whole_number(text)?;
     if -MAX_INDEX <= number && number <= MAX_INDEX {

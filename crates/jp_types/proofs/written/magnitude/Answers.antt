@@ -1,4 +1,4 @@
-use Rattle.std.proofs.Common.{length, drop, sym, ◌∙◌, arith}
+use Rattle.std.proofs.Common.{length, drop, sym, ◌∙◌, ◌+◌, ◌*◌, ◌-◌, arith}
 use Rattle.std.proofs.lemmas.Iterator.{YieldsList-from_chars}
 use Rattle.std.proofs.lemmas.Iterator.Consumers.{YieldsList-turn, YieldsList-end}
 use Rattle.std.proofs.lemmas.List.{at_drop_all, length_push}
@@ -13,8 +13,12 @@ loop-c-init c = (magnitude_is (chars c.args.text.now), omega arith)
 pub returns-then-number-ge10000000000000000000000000000000000000
     : goal.returns-then-number-ge10000000000000000000000000000000000000
 returns-then-number-ge10000000000000000000000000000000000000 c =
-    let more = digits_grow c.loop-c.number (drop (length c.loop-c.yielded) (chars c.args.text.now)) in
-    omega (arith, c.loop-c.invariant.0)
+    let t = YieldsList-turn (YieldsList-from_chars c.args.text.now c.utf8.text cc) c.loop-c.yielded _
+    c.loop-c.yielded_by _ _ c.in-Some.c c.in-Some.is c.next.ensures.steps in
+    let e = digit_read (chars c.args.text.now) c.loop-c.number (length c.loop-c.yielded) c.in-Some.c t in
+    let more = digits_grow (c.loop-c.number * 10 + (c.in-Some.c - 48))
+    (drop (length c.loop-c.yielded + 1) (chars c.args.text.now)) in
+    omega (arith, e, c.loop-c.invariant.0)
 
 pub loop-c-preserved : goal.loop-c-preserved
 loop-c-preserved c =
