@@ -1,6 +1,7 @@
 //! Worked examples of the definitions.
 
-ghost use Rattle.std.specs.Prelude.{◌≡◌, [], ◌∷◌, ◌++◌, codes, pos, negsuc, true, false, IfOk};
+ghost use Rattle.std.specs.Prelude.{◌≡◌, ℕ, [], ◌∷◌, ◌++◌, codes, pos, negsuc, true, false, IfOk, Vec};
+ghost use Rattle.std.specs.declared.alloc.Global.{Global};
 ghost use Rattle.jp_doc.specs.Json.{null, truth, whole, text, array, object, items, no_members, add_member};
 ghost use Rattle.jp_doc.specs.Location.{name, index};
 ghost use Rattle.jp_syntax.specs.Tree as tree;
@@ -8,6 +9,7 @@ ghost use Rattle.jp_syntax.specs.declared.tree.Start.TheVariants.{Root};
 ghost use Rattle.jp_syntax.specs.View as view;
 ghost use Rattle.jp_check.specs.Plan.{planned_query};
 ghost use Rattle.jp_doc.specs.declared.fault.DocFault.TheVariants.{LongLine, Unreadable, NotWhole, LongArray};
+ghost use Rattle.jp_path.specs.Chunks.{bytes_in};
 ghost use Rattle.jp_path.specs.FaultLine.{fault_line};
 ghost use Rattle.jp_path.specs.OutputLine.{line_text};
 ghost use Rattle.jp_path.specs.PathQuery.{path_query};
@@ -56,6 +58,14 @@ fn fault_lines()
         ++ 10 ∷ [] }
     ensures long_line { fault_line 7 LongLine ≡ codes "7" ++ 9 ∷ codes "!" ++ 9 ∷ codes "long line"
         ++ 10 ∷ [] }
+{}
+
+/// Bytes in chunks: of none, of one, and of three, where one stands twice.
+fn chunks()
+    ensures none { bytes_in [] ≡ [] }
+    ensures one { (c : Vec ℕ Global) → bytes_in (c ∷ []) ≡ c.items ++ [] }
+    ensures in_order { (c d : Vec ℕ Global) → bytes_in (c ∷ d ∷ c ∷ [])
+        ≡ c.items ++ (d.items ++ (c.items ++ [])) }
 {}
 
 #[tactic(auto, unfolding(crate::proofs::OnLiterals::lines_on_literals))]
