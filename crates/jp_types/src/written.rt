@@ -5,7 +5,7 @@ ghost use Rattle.std.specs.Prelude.{if◌then◌else◌};
 ghost use Rattle.std.specs.Str.{chars};
 ghost use Rattle.jp_types.specs.Numbers as spec;
 
-/// How far from zero a written number is, unless it has more than 38 digits. A minus counts as no digit.
+/// How far from zero a written number is, unless it is 10^38 or more. A minus counts as no digit.
 fn magnitude(text: &str) -> Option<u128>
     ensures { MatchOption result (10 ^ 38 ≤ spec.magnitude (chars text.now))
         (λ n. (n ≡ spec.magnitude (chars text.now)) × (n < 2 ^ 127)) }
@@ -42,7 +42,7 @@ fn signed(negative: bool, number: u128) -> i128
     }
 }
 
-/// The whole number that a text of digits, perhaps with a sign, is, unless it has more than 38 digits.
+/// The whole number that a text of digits, perhaps with a minus, is, unless it is 10^38 or more from zero.
 pub fn whole_number(text: &str) -> Option<i128>
     ensures value { IfSome result (λ z. z ≡ spec.whole_number (chars text.now)) }
     ensures long { IfNone result (10 ^ 38 ≤ spec.magnitude (chars text.now)) }
