@@ -112,12 +112,6 @@ impl Lines {
         ensures more_bytes { OnErr result (Begins self.old.open_line self.new.open_line) }
         ensures same_count { OnErr result (self.new.count ≡ self.old.count) }
     {
-        if self.open_line.is_empty() {
-            let (count, rest) = push_lines(self.alloc, self.count, piece, out)?;
-            self.open_line.extend_from_slice(rest)?;
-            self.count = count;
-            return Ok(());
-        }
         let Some((line, after)) = first_line(piece) else {
             self.open_line.extend_from_slice(piece)?;
             return Ok(());

@@ -1,5 +1,6 @@
 use Rattle.std.proofs.Common.{◌≡◌, Bool, true, false, ◌||◌, nat_lt, List, [], ◌∷◌, length, Ok, refl, sym, ap}
-use Rattle.std.proofs.Common.{◌∙◌, suc}
+use Rattle.std.proofs.Common.{◌∙◌, suc, arith}
+use Rattle.std.proofs.lemmas.Grind.{common_steps}
 use Rattle.serde_json.proofs.Views.{view-Array}
 use Rattle.serde_json.specs.View.{items_view}
 use Rattle.serde_json.specs.Written.{items_have_float}
@@ -34,3 +35,12 @@ long_within-returns-else-branch t c =
           (sym c.long_within_items.ensures.long ∙ c.in_ok-long_within_items-in-Array.was
           ∙ ap (λ b. tested false b) c.if-branch.false)));
     }
+
+pub long_within_items-returns-in_err-long : goal.long_within_items-returns-in_err-long
+long_within_items-returns-in_err-long c = grind (arith, common_steps)
+
+pub long_within_items-loop-item-preserved : goal.long_within_items-loop-item-preserved
+long_within_items-loop-item-preserved c = grind (arith, common_steps)
+
+pub long_within_items-returns : goal.long_within_items-returns
+long_within_items-returns c = grind (arith, common_steps)

@@ -1,3 +1,5 @@
+use Rattle.std.proofs.Common.{arith}
+use Rattle.std.proofs.lemmas.Grind.{common_steps}
 use Rattle.jp_doc.proofs.FeedLaws.{goes_on, goes_end}
 use Rattle.jp_doc.proofs.lines.push_lines.Goals as goal
 
@@ -13,3 +15,6 @@ returns-clause-count c = (goes_end _ _ _ _ _ _ c.loop-line.invariant c.in_defaul
 
 pub returns-clause-rest : goal.returns-clause-rest
 returns-clause-rest c = (goes_end _ _ _ _ _ _ c.loop-line.invariant c.in_default.ensures.none).1
+
+pub loop-line-smaller : goal.loop-line-smaller
+loop-line-smaller c = grind (arith, common_steps)

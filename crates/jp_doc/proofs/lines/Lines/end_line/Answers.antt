@@ -1,5 +1,6 @@
-use Rattle.std.proofs.Common.{rules}
+use Rattle.std.proofs.Common.{rules, arith}
 use Rattle.std.proofs.Common.{◌≡◌, ℕ, ◌+◌, ◌∷◌, Vec, Global, true≢false, ap, sym, ◌∙◌, subst}
+use Rattle.std.proofs.lemmas.Grind.{common_steps}
 use Rattle.std.proofs.Math.ListN.{set}
 use Rattle.jp_doc.specs.Added.{Adds}
 use Rattle.jp_doc.specs.Feeding.{Progress, cut, numbered}
@@ -44,3 +45,54 @@ returns-clause-lines c =
 
 pub returns-clause-progress : goal.returns-clause-progress
 returns-clause-progress c = search rules
+
+pub returns-in_err-open_line-clause-more_lines : goal.returns-in_err-open_line-clause-more_lines
+returns-in_err-open_line-clause-more_lines c = grind (arith, common_steps)
+
+pub index_mut-requires : goal.index_mut-requires
+index_mut-requires c = grind (arith, common_steps)
+
+pub returns-in_err-count-clause-more_lines : goal.returns-in_err-count-clause-more_lines
+returns-in_err-count-clause-more_lines c = grind (arith, common_steps)
+
+pub overflow_add-number : goal.overflow_add-number
+overflow_add-number c = grind (arith, common_steps)
+
+pub returns-in_err-push-clause-lines : goal.returns-in_err-push-clause-lines
+returns-in_err-push-clause-lines c = grind (arith, common_steps)
+
+pub returns-in_err-push-clause-progress : goal.returns-in_err-push-clause-progress
+returns-in_err-push-clause-progress c = grind (arith, common_steps)
+
+pub returns-in_err-push-clause-more_lines : goal.returns-in_err-push-clause-more_lines
+returns-in_err-push-clause-more_lines c = grind (arith, common_steps)
+
+pub returns-in_err-push-clause-same_progress : goal.returns-in_err-push-clause-same_progress
+returns-in_err-push-clause-same_progress c = grind (arith, common_steps)
+
+pub returns-in_err-count-clause-lines : goal.returns-in_err-count-clause-lines
+returns-in_err-count-clause-lines c = grind (arith, common_steps)
+
+pub returns-in_err-count-clause-progress : goal.returns-in_err-count-clause-progress
+returns-in_err-count-clause-progress c = grind (arith, common_steps)
+
+pub returns-in_err-count-clause-same_progress : goal.returns-in_err-count-clause-same_progress
+returns-in_err-count-clause-same_progress c = grind (arith, common_steps)
+
+pub returns-in_err-open_line-clause-lines : goal.returns-in_err-open_line-clause-lines
+returns-in_err-open_line-clause-lines c = grind (arith, common_steps)
+
+pub returns-in_err-open_line-clause-progress : goal.returns-in_err-open_line-clause-progress
+returns-in_err-open_line-clause-progress c = grind (arith, common_steps)
+
+pub returns-in_err-open_line-clause-same_progress : goal.returns-in_err-open_line-clause-same_progress
+returns-in_err-open_line-clause-same_progress c = grind (arith, common_steps)
+
+pub invariant_of-self : goal.invariant_of-self
+invariant_of-self c = grind (arith, common_steps)
+
+pub returns-clause-more_lines : goal.returns-clause-more_lines
+returns-clause-more_lines c = grind (arith, common_steps)
+
+pub returns-clause-same_progress : goal.returns-clause-same_progress
+returns-clause-same_progress c = grind (arith, common_steps)

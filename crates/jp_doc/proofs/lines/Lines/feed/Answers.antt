@@ -4,3 +4,12 @@ use Rattle.jp_doc.proofs.lines.Lines.feed.Goals as goal
 
 pub returns-then-is_err-clause-same_progress : goal.returns-then-is_err-clause-same_progress
 returns-then-is_err-clause-same_progress c = grind (arith, common_steps)
+
+pub invariant_of-self : goal.invariant_of-self
+invariant_of-self c = grind (arith, common_steps)
+
+pub returns-else-is_err-clause-lines : goal.returns-else-is_err-clause-lines
+returns-else-is_err-clause-lines c = grind (arith, common_steps)
+
+pub returns-then-is_err-clause-same_lines : goal.returns-then-is_err-clause-same_lines
+returns-then-is_err-clause-same_lines c = grind (arith, common_steps)
