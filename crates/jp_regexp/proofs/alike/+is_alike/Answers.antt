@@ -1,3 +1,5 @@
+use Rattle.std.proofs.Common.{arith}
+use Rattle.std.proofs.lemmas.Grind.{common_steps}
 use Rattle.jp_regexp.proofs.AlikeLemmas.{alike_branches, alike_copies, alike_pieces}
 use Rattle.jp_regexp.proofs.alike.+is_alike.Goals as goal
 
@@ -20,3 +22,6 @@ is_alike-returns-in-Repeat t c = λ h.
     alike_copies c.args.those c.args.part.now c.in-Repeat.size c.in-Repeat.least c.in-Repeat.most
     c.in-Repeat.atom
     c.deref-in-Repeat.result.now c.in-Repeat.is c.deref-in-Repeat.ensures (c.is_alike-in-Repeat.ensures h)
+
+pub are_alike-loop-part-preserved : goal.are_alike-loop-part-preserved
+are_alike-loop-part-preserved c = grind (arith, common_steps)

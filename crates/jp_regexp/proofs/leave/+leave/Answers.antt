@@ -1,4 +1,5 @@
 use Rattle.std.proofs.Common.{rules, ◌≡◌, ◌+◌, ◌-◌, ◌*◌, ◌≤◌, ◌||◌, drop, refl, sym, ap, ◌∙◌, subst, arith}
+use Rattle.std.proofs.lemmas.Grind.{common_steps}
 use Rattle.jp_regexp.specs.declared.parts.Part.{the_lemmas}
 use Rattle.jp_regexp.specs.Tree.{set_of}
 use Rattle.jp_regexp.specs.Parts.{pattern_in, branches_before, unrolled_in, unrolled_in_turn}
@@ -438,3 +439,6 @@ leave_counted_on-returns t c =
     ∙ ap (λ b. entered_as b y) c.either.ensures in
     subst (λ r. IsWalk live (counted_on c.args.least a) c.args.at r) (sym is)
     (kept.0 (or_entered here.entered y) w)
+
+pub leave_in_turn-returns : goal.leave_in_turn-returns
+leave_in_turn-returns c = grind (arith, common_steps)

@@ -1,4 +1,5 @@
 use Rattle.std.proofs.Common.{arith, ap, ◌∙◌, sym}
+use Rattle.std.proofs.lemmas.Grind.{common_steps}
 use Rattle.jp_regexp.specs.Parts.{unrolled_in}
 use Rattle.jp_regexp.specs.Walk.{is_elem, leaves}
 use Rattle.jp_regexp.proofs.StateLemmas.{grows_more, state_with}
@@ -14,3 +15,12 @@ returns-clause-grows c =
     (state_with p c.state_of-state.result live c.in_ok-next.ensures.rises made.live
     (made.accepts ∙ ap (λ b. leaves (is_elem live) p 0 b) (sym made.at_start)))
     (c.is_settled.ensures.unsettled c.if-is_settled.false) c.in_ok-push.ensures.items
+
+pub returns-clause-cell : goal.returns-clause-cell
+returns-clause-cell c = grind (arith, common_steps)
+
+pub returns-in-Some-clause-cell : goal.returns-in-Some-clause-cell
+returns-in-Some-clause-cell c = grind (arith, common_steps)
+
+pub returns-then-is_settled-clause-cell : goal.returns-then-is_settled-clause-cell
+returns-then-is_settled-clause-cell c = grind (arith, common_steps)

@@ -1,4 +1,5 @@
 use Rattle.std.proofs.Common.{◌≡◌, ◌<◌, length, false, slice_index_or, ap, sym, ◌∙◌, true≢false, subst, arith}
+use Rattle.std.proofs.lemmas.Grind.{common_steps}
 use Rattle.jp_regexp.specs.Held.{pattern_of}
 use Rattle.jp_regexp.specs.Steps.{state_behind}
 use Rattle.jp_regexp.proofs.ProfileLemmas.{kept_profile, kept_table}
@@ -51,3 +52,9 @@ returns-in_default c =
       λ h. accepts.0 (ap (λ x. x.accepts) (sym at) ∙ h),
       λ m. ap (λ x. x.accepts) at ∙ accepts.1 m,
     )
+
+pub returns-then-is_empty : goal.returns-then-is_empty
+returns-then-is_empty c = grind (arith, common_steps)
+
+pub returns-in-255 : goal.returns-in-255
+returns-in-255 c = grind (arith, common_steps)

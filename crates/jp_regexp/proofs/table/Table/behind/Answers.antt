@@ -1,4 +1,5 @@
 use Rattle.std.proofs.Common.{◌≤◌, length, drop, sym, ◌∙◌, arith}
+use Rattle.std.proofs.lemmas.Grind.{common_steps}
 use Rattle.jp_regexp.proofs.BytesLemmas.{stuck}
 use Rattle.jp_regexp.proofs.table.Table.behind.Goals as goal
 
@@ -11,3 +12,9 @@ returns-then-index-len c =
     sym (c.loop-byte.invariant.leads
     ∙ stuck table.cells.items count c.requires.full c.loop-byte.state past
     (drop c.loop-byte.byte-index c.args.bytes.now))
+
+pub returns : goal.returns
+returns c = grind (arith, common_steps)
+
+pub loop-byte-preserved : goal.loop-byte-preserved
+loop-byte-preserved c = grind (arith, common_steps)
