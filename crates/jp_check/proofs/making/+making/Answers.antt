@@ -1,4 +1,5 @@
-use Rattle.std.proofs.Common.{Some, option_map, ◌≡◌, ◌∙◌, ap, ap₂, sym, map, codes, refl}
+use Rattle.std.proofs.Common.{Some, option_map, ◌≡◌, ◌∙◌, ap, ap₂, sym, map, codes, refl, arith}
+use Rattle.std.proofs.lemmas.Grind.{common_steps}
 use Rattle.std.proofs.lemmas.Result.{IfOk-weaker}
 use Rattle.jp_syntax.specs.Tree as tree
 use Rattle.jp_syntax.specs.PartViews.{argument_of, comparable_of, logical_of, selector_of, segment_of}
@@ -333,3 +334,24 @@ make_truth-returns-in_ok-new-in-Call-clause-made t c = λ all h.
     ap (truth_argument (form_of a)) (ap (logical_in all) c.in_ok-new-in-Call.ensures.ok
     ∙ c.in_ok-made-in-Call.ensures.made all h)
     ∙ call_written a _ (ap argument_of c.in-Call.is ∙ call_argument_made c.in-Call.call)
+
+pub make_xor-returns-clause-roots : goal.make_xor-returns-clause-roots
+make_xor-returns-clause-roots c = grind (arith, common_steps)
+
+pub make_comparison-returns-clause-roots : goal.make_comparison-returns-clause-roots
+make_comparison-returns-clause-roots c = grind (arith, common_steps)
+
+pub make_text_test-returns-clause-roots : goal.make_text_test-returns-clause-roots
+make_text_test-returns-clause-roots c = grind (arith, common_steps)
+
+pub make_text_test-make_value-requires : goal.make_text_test-make_value-requires
+make_text_test-make_value-requires c = grind (arith, common_steps)
+
+pub make_xor-make_truth-requires : goal.make_xor-make_truth-requires
+make_xor-make_truth-requires c = grind (arith, common_steps)
+
+pub make_text_test-make_value-requires-2 : goal.make_text_test-make_value-requires-2
+make_text_test-make_value-requires-2 c = grind (arith, common_steps)
+
+pub make_xor-make_truth-requires-2 : goal.make_xor-make_truth-requires-2
+make_xor-make_truth-requires-2 c = grind (arith, common_steps)
