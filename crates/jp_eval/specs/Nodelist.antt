@@ -1,5 +1,5 @@
 -- What a query selects (RFC 9535, 2.1.2, 2.3 and 2.5).
-use Rattle.std.specs.Prelude.{ℕ, ◌-◌, ◌+◌, Bool, true, false, not, ◌&&◌, ◌||◌, ℤ, List}
+use Rattle.std.specs.Prelude.{ℕ, Bool, true, false, not, ◌&&◌, ◌||◌, ℤ, List}
 use Rattle.std.specs.Prelude.{[], ◌∷◌, ◌++◌, length, Option, Some}
 use Rattle.std.specs.List.{filter, flat_map}
 use Rattle.jp_doc.specs.Json as json

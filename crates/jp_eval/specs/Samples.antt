@@ -1,6 +1,6 @@
 -- Documents and parts of queries that the worked examples speak of.
 use Rattle.std.specs.Prelude.{List, [], ◌∷◌, map, Option, codes}
-use Rattle.jp_doc.specs.Json.{Text, Json, null, object, items, no_members}
+use Rattle.jp_doc.specs.Json.{Text, Json, null, object, no_members}
 use Rattle.jp_doc.specs.Location.{Location}
 use Rattle.jp_syntax.specs.Tree as tree
 use Rattle.jp_syntax.specs.Tree.{Query, Segment, Selector, name, slice, filter, Logical, comparing}

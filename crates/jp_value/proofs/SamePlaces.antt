@@ -1,5 +1,5 @@
 -- Locations that are the same are equal, and `distinct` keeps each of a list once.
-use Rattle.std.proofs.Common.{◌≡◌, Bool, true, false, List, [], ◌∷◌, AllPairs, refl, ap, ap₂, subst}
+use Rattle.std.proofs.Common.{◌≡◌, true, false, List, [], ◌∷◌, AllPairs, refl, ap, ap₂, subst}
 use Rattle.std.specs.Prelude.{IsTrue, ◌↔◌}
 use Rattle.std.specs.Cmp.{IsEquivalence}
 use Rattle.std.specs.List.{list_any}
