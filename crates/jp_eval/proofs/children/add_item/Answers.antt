@@ -1,4 +1,5 @@
 use Rattle.std.proofs.Common.{arith}
+use Rattle.std.proofs.lemmas.Grind.{common_steps}
 use Rattle.jp_eval.proofs.Gathered.{gathered_height}
 use Rattle.jp_eval.proofs.children.add_item.Goals as goal
 
@@ -7,3 +8,6 @@ returns-in_ok-push-clause-height c =
     let below = c.in-Some.ensures.below in
     gathered_height c.args.children.now.items c.push.new.self.items _ _ c.in_ok-push.ensures.items
     (omega arith) (omega (arith, below))
+
+pub returns-in_ok-push-clause-nodes : goal.returns-in_ok-push-clause-nodes
+returns-in_ok-push-clause-nodes c = grind (arith, common_steps)

@@ -1,5 +1,6 @@
 use Rattle.std.proofs.Common.{◌≡◌, ◌+◌, ◌<◌, ◌∷◌, ◌++◌, [], suc, length, take, sym, ap, ap₂, ◌∙◌, arith}
 use Rattle.std.proofs.Common.{rules}
+use Rattle.std.proofs.lemmas.Grind.{common_steps}
 use Rattle.std.proofs.Math.Seq.{take-suc}
 use Rattle.jp_eval.proofs.roots.answer_all.Goals as goal
 
@@ -12,3 +13,6 @@ with-requires-clause-roots g c =
     ap (λ n. take n xs) next
     ∙ take-suc xs slot c.index-roots-slot.result within
     ∙ ap₂ (λ ys y. ys ++ y ∷ []) (sym c.loop-slot.invariant.0) (sym c.index-roots-slot.is)
+
+pub returns-clause-roots : goal.returns-clause-roots
+returns-clause-roots c = grind (arith, common_steps)
