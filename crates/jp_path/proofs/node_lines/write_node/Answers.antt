@@ -1,4 +1,5 @@
-use Rattle.std.proofs.Common.{ap, sym}
+use Rattle.std.proofs.Common.{ap, sym, arith}
+use Rattle.std.proofs.lemmas.Grind.{common_steps}
 use Rattle.serde_json.specs.Written.{compact_text}
 use Rattle.jp_doc.proofs.BackLaws.{value_back}
 use Rattle.jp_doc.specs.Json.{value_of}
@@ -12,3 +13,6 @@ returns-in-Ok-clause-ok c =
     (value_of c.args.value.now)
     (ap compact_text (sym (value_back c.args.value.now c.requires)))
     c.in-Ok.ensures.ok
+
+pub returns-in-Err-clause-err : goal.returns-in-Err-clause-err
+returns-in-Err-clause-err c = grind (arith, common_steps)

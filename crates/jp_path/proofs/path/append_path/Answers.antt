@@ -1,3 +1,5 @@
+use Rattle.std.proofs.Common.{arith}
+use Rattle.std.proofs.lemmas.Grind.{common_steps}
 use Rattle.jp_trail.proofs.Extending.{extends_on}
 use Rattle.jp_path.proofs.PathBytes.{next_step}
 use Rattle.jp_trail.proofs.PathBytes.{dollar_text}
@@ -13,3 +15,12 @@ loop-step-preserved c = record {
 
 pub returns-clause-text : goal.returns-clause-text
 returns-clause-text c = λ u. c.loop-step.invariant.text (dollar_text _ _ c.in_ok-push.ensures.items u)
+
+pub returns-clause-ok : goal.returns-clause-ok
+returns-clause-ok c = grind (arith, common_steps)
+
+pub returns-in_err-append_step-clause-kept : goal.returns-in_err-append_step-clause-kept
+returns-in_err-append_step-clause-kept c = grind (arith, common_steps)
+
+pub returns-clause-kept : goal.returns-clause-kept
+returns-clause-kept c = grind (arith, common_steps)

@@ -20,3 +20,6 @@ loop-step-preserved c = record {
 
 pub returns-clause-segments : goal.returns-clause-segments
 returns-clause-segments c = grind (arith, common_steps)
+
+pub returns-clause-steps : goal.returns-clause-steps
+returns-clause-steps c = grind (arith, common_steps)
