@@ -1,5 +1,5 @@
 -- What the workers did together, and the answer that their parts give.
-use Rattle.std.proofs.Common.{◌≡◌, refl, ℕ, zero, suc, ◌+◌, ◌*◌, ◌<◌, ◌≤◌, ◌⊎◌, inl, inr, Bool, List, [], ◌∷◌}
+use Rattle.std.proofs.Common.{◌≡◌, refl, ℕ, zero, suc, ◌+◌, ◌*◌, ◌<◌, ◌≤◌, inl, inr, Bool, List, [], ◌∷◌}
 use Rattle.std.proofs.Common.{◌++◌, length, take, drop, map, flat_map, Option, Some, None, Result, Ok, Err}
 use Rattle.std.proofs.Common.{true, false}
 use Rattle.std.proofs.Common.{All, Contains, sym, ap, subst, ⊎_elim, ◌∙◌, arith, add-zero, zero-add}

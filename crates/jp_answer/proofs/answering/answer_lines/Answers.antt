@@ -1,4 +1,5 @@
 use Rattle.std.proofs.Common.{◌∙◌, sym, inl, inr, arith}
+use Rattle.std.proofs.lemmas.Grind.{common_steps}
 use Rattle.jp_check.specs.Plan.{planned_query}
 use Rattle.jp_eval.specs.Evaluated.{evaluated_query}
 use Rattle.jp_path.specs.Chunks.{bytes_in}
@@ -66,3 +67,12 @@ loop-line-preserved g c =
       passed = passed_one k lines c.loop-line.line-index c.line-item.result c.loop-line-test.true
           c.line-item.is c.loop-line.faulty c.in-Some.fault kept.passed c.if-not-keeps_going.false found;
     }
+
+pub returns-clause-answer : goal.returns-clause-answer
+returns-clause-answer c = grind (arith, common_steps)
+
+pub returns-clause-passed : goal.returns-clause-passed
+returns-clause-passed c = grind (arith, common_steps)
+
+pub returns-clause-stopped : goal.returns-clause-stopped
+returns-clause-stopped c = grind (arith, common_steps)

@@ -1,4 +1,5 @@
-use Rattle.std.proofs.Common.{◌≡◌, ◌∙◌, ◌++◌, ◌∷◌, [], false, sym, ap, append_assoc}
+use Rattle.std.proofs.Common.{◌≡◌, ◌∙◌, ◌++◌, ◌∷◌, [], false, sym, ap, append_assoc, arith}
+use Rattle.std.proofs.lemmas.Grind.{common_steps}
 use Rattle.std.proofs.lemmas.List.{map-append, flat_map_more}
 use Rattle.std.proofs.lemmas.List.Elements.{All-push}
 use Rattle.std.specs.Vec.Iter.{into_iter_items}
@@ -20,3 +21,12 @@ loop-worker-preserved c =
       wanted = All-push (λ (w : Worker). w.wanted ≡ false) done w c.loop-worker.invariant.wanted
           c.if-wanted.false;
     }
+
+pub returns-clause-parts : goal.returns-clause-parts
+returns-clause-parts c = grind (arith, common_steps)
+
+pub returns-clause-seats : goal.returns-clause-seats
+returns-clause-seats c = grind (arith, common_steps)
+
+pub returns-clause-wanted : goal.returns-clause-wanted
+returns-clause-wanted c = grind (arith, common_steps)

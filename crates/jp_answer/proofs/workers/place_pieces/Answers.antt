@@ -1,4 +1,5 @@
 use Rattle.std.proofs.Common.{ℕ, arith, sym, subst, All, map}
+use Rattle.std.proofs.lemmas.Grind.{common_steps}
 use Rattle.std.proofs.lemmas.List.Elements.{All-map}
 use Rattle.jp_board.specs.Seats.{IsSeatOf, view_of}
 use Rattle.jp_board.specs.Tally.{Tallies}
@@ -21,3 +22,6 @@ returns g c = placed_ok c.args.pieces.now c.count-count.result c.close-mark.ensu
     (n : ℕ). Tallies n c.close-mark.ensures.0 c.close-mark.result
     (map view_of c.in_ok-seats.seats.items)) c.in_ok-board.ensures.board.0 c.close-mark.ensures.1)
     c.min.ensures c.place.ensures.len c.place.ensures.placed c.place.ensures.parts
+
+pub close-mark-requires-clause-all : goal.close-mark-requires-clause-all
+close-mark-requires-clause-all c = grind (arith, common_steps)

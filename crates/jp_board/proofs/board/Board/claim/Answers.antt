@@ -1,4 +1,5 @@
-use Rattle.std.proofs.Common.{rules, ap, ◌∙◌, if◌then◌else◌}
+use Rattle.std.proofs.Common.{rules, ap, ◌∙◌, if◌then◌else◌, arith}
+use Rattle.std.proofs.lemmas.Grind.{elements}
 use Rattle.jp_board.proofs.Steps.{claims}
 use Rattle.jp_board.proofs.board.Board.claim.Goals as goal
 
@@ -15,3 +16,6 @@ invariant_of-seat-2 c = search rules
 
 pub returns-then-found-self-clause-rises : goal.returns-then-found-self-clause-rises
 returns-then-found-self-clause-rises c = search rules
+
+pub returns-then-found-self-clause-mine : goal.returns-then-found-self-clause-mine
+returns-then-found-self-clause-mine c = grind (arith, elements)

@@ -1,4 +1,5 @@
 use Rattle.std.proofs.Common.{rules, arith, ap, sym, ◌∙◌, All, subst}
+use Rattle.std.proofs.lemmas.Grind.{common_steps}
 use Rattle.std.proofs.lemmas.List.Elements.{All-push}
 use Rattle.jp_board.specs.Steps.{Place}
 use Rattle.jp_board.specs.Seats.{IsAt, IsFresh}
@@ -39,3 +40,9 @@ loop-done-preserved c =
       subst (All (IsFresh key.0 key.1)) items (All-push (IsFresh key.0 key.1) c.loop-done.dealt.items
           c.new.result inv.6 is),
     )
+
+pub returns-clause-at : goal.returns-clause-at
+returns-clause-at c = grind (arith, common_steps)
+
+pub returns-clause-fresh : goal.returns-clause-fresh
+returns-clause-fresh c = grind (arith, common_steps)
