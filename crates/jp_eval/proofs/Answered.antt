@@ -6,10 +6,11 @@ use Rattle.jp_syntax.specs.Tree as tree
 use Rattle.jp_check.specs.Ready.{Wanted, first_of, count_of, only_of, distinct_of, wanted, where_wanted}
 use Rattle.jp_check.specs.declared.ready.Want.{Want}
 use Rattle.jp_check.specs.declared.ready.Want.TheVariants as want
-use Rattle.jp_eval.specs.Answers.{tells, is_of, is_answer, are_answers, root_nodes}
-use Rattle.jp_eval.specs.declared.answers.Answer.{Answer}
-use Rattle.jp_eval.specs.declared.answers.Answer.TheVariants as answer
-use Rattle.jp_eval.proofs.Telling.{both}
+use Rattle.jp_nodes.specs.Answers.{tells, is_of}
+use Rattle.jp_eval.specs.Rooted.{is_answer, are_answers, root_nodes}
+use Rattle.jp_nodes.specs.declared.answers.Answer.{Answer}
+use Rattle.jp_nodes.specs.declared.answers.Answer.TheVariants as answer
+use Rattle.jp_nodes.proofs.Telling.{both}
 
 where_none : (v : Want) → where_wanted v (wanted v tree.no_segments) ≡ tree.no_segments
 where_none want.First = refl

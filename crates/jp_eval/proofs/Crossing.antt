@@ -28,14 +28,14 @@ use Rattle.serde_json.specs.contracts.value.Value as Value
 use Rattle.jp_trail.specs.contracts.link.Link as Link
 use Rattle.jp_eval.proofs.fork.Cuts.TheSendSync as cuts
 use Rattle.jp_eval.specs.contracts.fork.Cuts as Cuts
-use Rattle.jp_eval.specs.contracts.part.Part as Part
-use Rattle.jp_eval.specs.contracts.row.Child as Child
-use Rattle.jp_eval.specs.contracts.row.Row as Row
+use Rattle.jp_nodes.specs.contracts.part.Part as Part
+use Rattle.jp_nodes.specs.contracts.row.Child as Child
+use Rattle.jp_nodes.specs.contracts.row.Row as Row
 use Rattle.jp_eval.specs.contracts.walk.Task as Task
 use Rattle.jp_eval.specs.contracts.ground.Ground as Ground
-use Rattle.jp_eval.specs.contracts.different.Different as Different
-use Rattle.jp_eval.specs.contracts.found.Alone as Alone
-use Rattle.jp_eval.specs.contracts.answers.Answer as Answer
+use Rattle.jp_nodes.specs.contracts.different.Different as Different
+use Rattle.jp_nodes.specs.contracts.found.Alone as Alone
+use Rattle.jp_nodes.specs.contracts.answers.Answer as Answer
 
 pub segment_sync : IsSync Segment.the_row
 segment_sync = search (

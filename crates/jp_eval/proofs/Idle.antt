@@ -11,9 +11,9 @@ use Rattle.jp_check.specs.declared.ready.Selector.TheVariants as sel
 use Rattle.jp_check.specs.declared.ready.Slice.{Slice}
 use Rattle.jp_value.specs.Literals.{written_value}
 use Rattle.jp_eval.specs.Base.{Base}
-use Rattle.jp_eval.specs.Inside.{IsScalar}
+use Rattle.jp_nodes.specs.Inside.{IsScalar}
 use Rattle.jp_eval.specs.Nodelist as spec
-use Rattle.jp_eval.specs.Nodes.{child, children, descendants}
+use Rattle.jp_nodes.specs.Nodes.{child, children, items_at, descendants}
 use Rattle.jp_eval.specs.Walk.{picked, picked_by, reached, is_true}
 use Rattle.jp_eval.proofs.Chains.{reached-none}
 use Rattle.jp_eval.proofs.ReadyParts.{picked_name, picked_wild, picked_index, picked_slice, picked_filter}
@@ -43,7 +43,7 @@ itself p (array vs) is = absurd is
 itself p (object ms) is = absurd is
 
 no_index : (z : ℤ) (p : Location) (v : Json) → IsScalar v
-    → spec.items_at (node p v) (spec.index_places z v) ≡ []
+    → items_at (node p v) (spec.index_places z v) ≡ []
 no_index z p null is = refl
 no_index z p (truth b) is = refl
 no_index z p (whole y) is = refl
@@ -56,7 +56,7 @@ sliced s v = spec.slice_places (written_value (option_map position_text s.first)
     (written_value (option_map position_text s.past))
     (written_value (option_map position_text s.step)) v
 
-no_slice : (s : Slice) (p : Location) (v : Json) → IsScalar v → spec.items_at (node p v) (sliced s v) ≡ []
+no_slice : (s : Slice) (p : Location) (v : Json) → IsScalar v → items_at (node p v) (sliced s v) ≡ []
 no_slice s p null is = refl
 no_slice s p (truth x) is = refl
 no_slice s p (whole z) is = refl

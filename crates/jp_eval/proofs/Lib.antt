@@ -1,22 +1,12 @@
-pub mod Descent
 pub mod Through
 pub mod Leading
 pub mod Listed
-pub mod Inside
-pub mod Keeping
 pub mod Chains
 pub mod Answering
 pub mod Idle
 pub mod WalkSteps
-pub mod Parts
-pub mod Telling
 pub mod Places
-pub mod Taking
 pub mod ReadyParts
 pub mod Answered
-pub mod Differing
-pub mod SameLocations
-pub mod Gathered
-pub mod Rows
 pub mod Stretches
 mod Crossing

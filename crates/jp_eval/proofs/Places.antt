@@ -10,15 +10,6 @@ use Rattle.jp_value.specs.Index.{place_of}
 use Rattle.jp_value.specs.Places.{AreWithin, item_count}
 use Rattle.jp_value.specs.Slice.{Bounds, slice_bounds, slice_indexes}
 
-pub within_more : (b : Bounds) (n m : ℕ) → n ≤ m → AreWithin b n → AreWithin b m
-within_more b n m h w = record {
-  lower = w.lower;
-  lower_of_rising = w.lower_of_rising;
-  upper = let u = w.upper in omega (arith, ints);
-  upper_of_falling = λ f. let u = w.upper_of_falling f in omega (arith, ints);
-  step = w.step;
-}
-
 no_place : (z : ℤ) → place_of z 0 ≡ []
 no_place (pos n) = let t : nat_lt n 0 ≡ false = grind (arith, nat_tests) in rw t refl
 no_place (negsuc n) = let t : nat_lt n 0 ≡ false = grind (arith, nat_tests) in rw t refl

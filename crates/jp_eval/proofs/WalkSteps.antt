@@ -14,21 +14,21 @@ use Rattle.std.specs.Str.{chars}
 use Rattle.jp_doc.specs.Json.{Json, items_of, members_of, value_of}
 use Rattle.jp_doc.specs.Location.{Location, Node, node, name, index, item_of}
 use Rattle.jp_trail.specs.Links.{link_step, link_steps}
-use Rattle.jp_eval.specs.Kept.{plus}
-use Rattle.jp_eval.specs.Links.{here}
-use Rattle.jp_eval.specs.Nodelist.{items_at}
-use Rattle.jp_eval.specs.Nodes.{child, children, descendants, item_nodes, member_nodes, node_if_some}
-use Rattle.jp_eval.specs.Part.{part_value}
+use Rattle.jp_nodes.specs.Kept.{plus}
+use Rattle.jp_nodes.specs.Links.{here}
+use Rattle.jp_nodes.specs.Nodes.{items_at}
+use Rattle.jp_nodes.specs.Nodes.{child, children, descendants, item_nodes, member_nodes, node_if_some}
+use Rattle.jp_nodes.specs.Part.{part_value}
 use Rattle.jp_value.specs.Places.{later, from_place}
 use Rattle.jp_value.specs.Slice.{Bounds}
 use Rattle.jp_eval.specs.Walk.{picked, picked_by, reached}
-use Rattle.jp_eval.specs.declared.part.Part.{Part}
+use Rattle.jp_nodes.specs.declared.part.Part.{Part}
 use Rattle.jp_trail.specs.declared.link.Link.{Link}
 use Rattle.jp_check.specs.declared.ready.Segment.{Segment}
 use Rattle.jp_check.specs.declared.ready.Selector.{Selector}
 use Rattle.jp_eval.specs.Base.{Base}
 use Rattle.jp_eval.proofs.Chains.{reached-append, reached-none, reached-descend}
-use Rattle.jp_eval.proofs.Keeping.{stepped, ended, plus-append}
+use Rattle.jp_nodes.proofs.Keeping.{stepped, ended, plus-append}
 
 front_of_one_more : (path : List Link) (l : Link) → take (length (path ++ l ∷ []) - 1) (path ++ l ∷ [])
     ≡ path
@@ -131,16 +131,6 @@ item_done put f at xs i x k mid start all h is e inv =
     (sym (ap (plus put k) first) ∙ inv)
 
 -- ---- members
-
-pub first_member_left : (P : Value → Type 0) (es others : List Entry) (e : Entry) → es ≡ e ∷ others
-    → All (λ (m : Entry). P m.1) es → P e.1
-first_member_left P es others e is all = subst (λ (l : List Entry). All (λ (m : Entry). P m.1) l) is all 0
-    e (omega arith)
-
-pub other_members_left : (P : Value → Type 0) (es others : List Entry) (e : Entry) → es ≡ e ∷ others
-    → All (λ (m : Entry). P m.1) es → All (λ (m : Entry). P m.1) others
-other_members_left P es others e is all =
-    λ k d h. subst (λ (l : List Entry). All (λ (m : Entry). P m.1) l) is all (suc k) d (omega arith)
 
 pub members_no_deeper : (es others : List Entry) (e : Entry) → es ≡ e ∷ others
     → members_depth (members_view others) ≤ members_depth (members_view es)

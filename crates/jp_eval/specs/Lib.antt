@@ -1,17 +1,10 @@
-pub mod Nodes
 pub mod Nodelist
 pub mod Samples
-pub mod Part
-pub mod Inside
-pub mod Links
-pub mod Kept
-pub mod Different
-pub mod Taken
-pub mod Answers
+pub mod Rooted
 pub mod Base
 pub mod Walk
 pub mod Evaluated
-pub mod Kids
+pub mod Along
 pub use Rattle.jp_value.specs.Slice
 pub use Rattle.jp_value.specs.Index
 pub use Rattle.jp_value.specs.Literals
@@ -19,3 +12,4 @@ pub use Rattle.jp_value.specs.Comparison
 pub use Rattle.jp_value.specs.Functions
 pub use Rattle.jp_value.specs.Operands
 pub use Rattle.jp_value.specs.BoundsView
+pub use Rattle.jp_nodes.specs.Nodes

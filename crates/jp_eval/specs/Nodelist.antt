@@ -17,7 +17,7 @@ use Rattle.jp_syntax.specs.declared.tree.Start.TheVariants.{Root, Current}
 use Rattle.jp_regexp.specs.Tests.{Tests}
 use Rattle.jp_check.specs.Numbers.{whole_number}
 use Rattle.jp_check.specs.Functions.{function_named}
-use Rattle.jp_eval.specs.Nodes.{children, child, descendants}
+use Rattle.jp_nodes.specs.Nodes.{children, child, items_at, descendants}
 use Rattle.jp_value.specs.Slice.{slice_bounds, slice_indexes}
 use Rattle.jp_value.specs.Index.{place_of}
 use Rattle.jp_value.specs.Literals.{literal_value, written_value}
@@ -34,10 +34,6 @@ abbrev pub slice_places : Option ℤ → Option ℤ → Option ℤ → Json → 
 slice_places first past step (json.array vs) = slice_indexes
     (slice_bounds first past step (length (item_list vs))) (length (item_list vs))
 slice_places first past step _ = []
-
--- the nodes of these items
-abbrev pub items_at : Node → List ℕ → List Node
-items_at n places = flat_map (λ i. child (at.index i) n) places
 
 -- In a document with this root.
 module _ (tests : Tests) (root : Json) where

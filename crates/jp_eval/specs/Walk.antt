@@ -12,7 +12,7 @@ use Rattle.jp_check.specs.declared.ready.Value.{Value}
 use Rattle.jp_check.specs.declared.ready.Nodes.{Nodes}
 use Rattle.jp_eval.specs.Base.{Base}
 use Rattle.jp_value.specs.Functions.{as_nodes}
-use Rattle.jp_eval.specs.Nodes.{descendants}
+use Rattle.jp_nodes.specs.Nodes.{descendants}
 use Rattle.jp_eval.specs.Nodelist as spec
 use Rattle.jp_value.specs.RightTests.{tests}
 use Rattle.jp_eval.specs.declared.walk.Task.{Task}

@@ -11,10 +11,9 @@ ghost use Rattle.jp_eval.specs.declared.evaluation.EvalFault.TheVariants.{Memory
 
 use crate::evaluator::Evaluator;
 use crate::fork::Fork;
-use crate::locations::Locations;
-use crate::visit::Visit;
 use jp_check::Plan;
 use jp_doc::{Document, Location};
+use jp_nodes::{Locations, Visit};
 use std::alloc::{AllocError, Global};
 use std::thread::Threads;
 use thiserror::Error;

@@ -9,14 +9,13 @@ ghost use Rattle.jp_regexp.specs.Tests.{Tests, AreRight};
 
 use crate::evaluation::EvalFault;
 use crate::fork::{Cuts, Fork};
-use crate::found::{Found, into_taker};
-use crate::part::Part;
 use crate::roots::answer_all;
 use crate::split::go_split;
-use crate::visit::Visit;
 use crate::walk::{Task, run};
 use jp_check::Plan;
 use jp_doc::Document;
+use jp_nodes::found::{Found, into_taker};
+use jp_nodes::{Part, Visit};
 use jp_trail::{Room, Trail};
 use std::alloc::Global;
 use std::mem;

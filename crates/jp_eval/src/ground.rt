@@ -2,12 +2,12 @@
 
 ghost use Rattle.std.specs.Prelude.{◌≡◌, true};
 ghost use Rattle.jp_check.specs.Ready.{roots_of};
-ghost use Rattle.jp_eval.specs.Answers.{are_answers};
-ghost use Rattle.jp_eval.specs.Part.{part_value};
+ghost use Rattle.jp_eval.specs.Rooted.{are_answers};
+ghost use Rattle.jp_nodes.specs.Part.{part_value};
 
-use crate::answers::{Answer, is_told, of_one};
-use crate::part::Part;
 use jp_check::ready::{RootQuery, Want};
+use jp_nodes::Part;
+use jp_nodes::answers::{Answer, is_told, of_one};
 use std::alloc::{AllocError, Global};
 
 /// What a walk is given throughout: the document, and what the filters wanted of the `$` queries inside them,
@@ -26,7 +26,8 @@ impl<'v> Ground<'v> {
     ghost use Rattle.std.specs.Prelude.{◌++◌, ◌∷◌, [], IfOk};
     ghost use Rattle.jp_check.specs.Ready.{root_at, wanted_in};
     ghost use Rattle.jp_doc.specs.Location.{Node};
-    ghost use Rattle.jp_eval.specs.Answers.{is_answer, tells};
+    ghost use Rattle.jp_nodes.specs.Answers.{tells};
+    ghost use Rattle.jp_eval.specs.Rooted.{is_answer};
     ghost use Rattle.jp_eval.specs.Nodelist.{nodelist};
     ghost use Rattle.jp_value.specs.RightTests.{tests};
 

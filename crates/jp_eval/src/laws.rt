@@ -1,8 +1,7 @@
 //! Laws of the definitions, each the contract of a function that does nothing.
 
-ghost use Rattle.std.specs.Prelude.{◌≡◌, ◌∷◌, ◌++◌};
-ghost use Rattle.std.specs.Prelude.{List, Some};
-ghost use Rattle.std.specs.List.{flat_map, AllByRecursion};
+ghost use Rattle.std.specs.Prelude.{◌≡◌, ◌++◌, List, Some};
+ghost use Rattle.std.specs.List.{AllByRecursion};
 ghost use Rattle.jp_doc.specs.Json.{Json};
 ghost use Rattle.jp_doc.specs.Location.{Node, value_at};
 ghost use Rattle.jp_doc.specs.Rising.{IsRising};
@@ -10,13 +9,7 @@ ghost use Rattle.jp_syntax.specs.Tree.{Query, Segment, segments, query_from};
 ghost use Rattle.jp_syntax.specs.declared.tree.Start.{Start};
 ghost use Rattle.jp_syntax.specs.declared.tree.Start.TheVariants.{Root};
 ghost use Rattle.jp_regexp.specs.Tests.{Tests};
-ghost use Rattle.jp_eval.specs.Nodes.{children, descendants as descendants_of};
 ghost use Rattle.jp_eval.specs.Nodelist.{nodelist, through, document_nodes};
-
-/// A node's descendants are the node and then those of each of its children.
-pub fn descendants()
-    ensures { (n : Node) → descendants_of n ≡ n ∷ flat_map descendants_of (children n) }
-{}
 
 /// The nodelist of a query with more segments behind it is what these make of its nodelist.
 pub fn further_segments()

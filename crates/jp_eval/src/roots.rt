@@ -2,16 +2,15 @@
 
 ghost use Rattle.std.specs.Prelude.{◌≡◌, true, IfOk};
 ghost use Rattle.jp_check.specs.Ready.{roots_of, wanted_in};
-ghost use Rattle.jp_eval.specs.Answers.{is_answer};
-ghost use Rattle.jp_eval.specs.Part.{part_value};
+ghost use Rattle.jp_eval.specs.Rooted.{is_answer};
+ghost use Rattle.jp_nodes.specs.Part.{part_value};
 
-use crate::answers::Answer;
-use crate::found::{into_answer, none_found};
 use crate::ground::Ground;
-use crate::part::Part;
-use crate::visit::Visit;
 use crate::walk::run;
 use jp_check::ready::RootQuery;
+use jp_nodes::answers::Answer;
+use jp_nodes::found::{into_answer, none_found};
+use jp_nodes::{Part, Visit};
 use jp_trail::Trail;
 use std::alloc::{AllocError, Global};
 

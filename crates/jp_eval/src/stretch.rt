@@ -6,16 +6,16 @@ ghost use Rattle.serde_json.specs.Data.{depth};
 ghost use Rattle.serde_json.specs.View.{view};
 ghost use Rattle.jp_doc.specs.Location.{Location, node};
 ghost use Rattle.jp_eval.specs.Base.{Base};
-ghost use Rattle.jp_eval.specs.Kids.{done_along, done_along_all, all_height, highest};
-ghost use Rattle.jp_eval.specs.Nodes.{descendants};
-ghost use Rattle.jp_eval.specs.Part.{part_value};
+ghost use Rattle.jp_nodes.specs.Kids.{all_height};
+ghost use Rattle.jp_eval.specs.Along.{done_along, done_along_all, highest};
+ghost use Rattle.jp_nodes.specs.Nodes.{descendants};
+ghost use Rattle.jp_nodes.specs.Part.{part_value};
 ghost use Rattle.jp_eval.specs.Walk.{picked, picked_by, reached, done};
 
-use crate::children::{children_of, named, placed, sliced};
-use crate::part::Part;
-use crate::row::Children;
 use crate::walk::Task;
 use jp_check::ready::{Segment, Selector};
+use jp_nodes::children::{children_of, named, placed, sliced};
+use jp_nodes::{Children, Part};
 use jp_value::{bounds_of, place};
 use std::alloc::{AllocError, Global};
 

@@ -6,26 +6,24 @@ ghost use Rattle.serde_json.specs.View.{items_view, members_view};
 ghost use Rattle.jp_doc.specs.DocumentValue.{IsDocumentValue};
 ghost use Rattle.jp_doc.specs.Json.{items_of, members_of};
 ghost use Rattle.jp_doc.specs.Location.{Location, node};
-ghost use Rattle.jp_eval.specs.Answers.{tells};
+ghost use Rattle.jp_nodes.specs.Answers.{tells};
 ghost use Rattle.jp_eval.specs.Base.{Base, base_of};
 ghost use Rattle.jp_value.specs.BoundsView.{bounds_value};
-ghost use Rattle.jp_eval.specs.Kept.{kept, put_found, plus};
-ghost use Rattle.jp_eval.specs.Links.{here};
+ghost use Rattle.jp_nodes.specs.Kept.{kept, put_found, plus};
+ghost use Rattle.jp_nodes.specs.Links.{here};
 ghost use Rattle.jp_trail.specs.Links.{link_steps};
-ghost use Rattle.jp_eval.specs.Nodelist as spec;
-ghost use Rattle.jp_eval.specs.Nodes.{children, descendants, item_nodes, member_nodes};
+ghost use Rattle.jp_nodes.specs.Nodes.{children, descendants, item_nodes, items_at, member_nodes};
 ghost use Rattle.jp_value.specs.Operands.{operand_value, HasWholeNumbers};
-ghost use Rattle.jp_eval.specs.Part.{part_value};
+ghost use Rattle.jp_nodes.specs.Part.{part_value};
 ghost use Rattle.jp_value.specs.Places.{AreWithin, item_count};
 ghost use Rattle.jp_value.specs.Slice.{slice_indexes};
 ghost use Rattle.jp_eval.specs.Walk.{picked, picked_by, reached, is_true, value_given, nodes_given, done};
 
-use crate::answers::{Answer, has_first, of_distinct, operand};
-use crate::found::{Found, add, into_answer, is_full, none_found};
 use crate::ground::Ground;
-use crate::part::{Inside, Part};
-use crate::visit::Visit;
 use jp_check::ready::{Logical, Nodes, Segment, Selector, Value as Giver, Want};
+use jp_nodes::answers::{Answer, has_first, of_distinct, operand};
+use jp_nodes::found::{Found, add, into_answer, is_full, none_found};
+use jp_nodes::{Inside, Part, Visit};
 use jp_trail::{Link, Trail};
 use jp_value::{
     Bounds, Operand, bounds_of, compare, exactly_one, first_place, length, literal, matches,
@@ -185,7 +183,7 @@ fn at_place<'v, V: Visit + Drop>(
 ) -> Result<(), AllocError>
     ensures found { OnOk result (kept V.kept found.new
         ≡ plus (put_found V.put) (kept V.kept found.old) (reached (base_of ground.now) rest.now
-        (spec.items_at (here path.old value.entry) (option_to_list place)))) }
+        (items_at (here path.old value.entry) (option_to_list place)))) }
     ensures path { OnOk result (path.new ≡ path.old) }
 {
     let Some(place) = place else {
@@ -212,7 +210,7 @@ fn each_place<'v, V: Visit + Drop>(
     requires { AreWithin (bounds_value bounds) (item_count (part_value value)) }
     ensures found { OnOk result (kept V.kept found.new
         ≡ plus (put_found V.put) (kept V.kept found.old) (reached (base_of ground.now) rest.now
-        (spec.items_at (here path.old value.entry)
+        (items_at (here path.old value.entry)
         (slice_indexes (bounds_value bounds) (item_count (part_value value.entry)))))) }
     ensures path { OnOk result (path.new ≡ path.old) }
 {

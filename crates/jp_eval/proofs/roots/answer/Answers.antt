@@ -1,10 +1,10 @@
 use Rattle.std.proofs.Common.{refl, ap₂, ◌∙◌}
 use Rattle.std.proofs.lemmas.Result.{IfOk-weaker}
 use Rattle.jp_check.specs.Ready.{roots_of, segments_in}
-use Rattle.jp_eval.specs.Answers.{root_nodes}
+use Rattle.jp_eval.specs.Rooted.{root_nodes}
 use Rattle.jp_eval.specs.Base.{base_of}
-use Rattle.jp_eval.specs.Kept.{put_found, plus}
-use Rattle.jp_eval.specs.Part.{part_value}
+use Rattle.jp_nodes.specs.Kept.{put_found, plus}
+use Rattle.jp_nodes.specs.Part.{part_value}
 use Rattle.jp_eval.proofs.Answered.{answers_it}
 use Rattle.jp_eval.proofs.ReadyParts.{from_root}
 use Rattle.jp_eval.proofs.roots.answer.Goals as goal

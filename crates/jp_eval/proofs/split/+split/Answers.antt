@@ -4,17 +4,18 @@ use Rattle.std.specs.List.{flat_map}
 use Rattle.jp_doc.specs.Location.{Location, Node, node}
 use Rattle.jp_trail.specs.Links.{link_steps}
 use Rattle.jp_eval.specs.Base.{base_of}
-use Rattle.jp_eval.specs.Kept.{kept, put_found, plus, taken, emptied_found}
-use Rattle.jp_eval.specs.Kids.{row_kids, row_height, done_along_all}
-use Rattle.jp_eval.specs.Part.{part_value}
+use Rattle.jp_nodes.specs.Kept.{kept, put_found, plus, taken, emptied_found}
+use Rattle.jp_nodes.specs.Kids.{row_kids, row_height}
+use Rattle.jp_eval.specs.Along.{done_along_all}
+use Rattle.jp_nodes.specs.Part.{part_value}
 use Rattle.jp_eval.specs.Walk.{done}
 use denote.Param.{param}
 use denote.Param.Send.{IsSend, IsSync, param_send}
 use denote.Struct.Tuple.{tuple_name}
 use mir.Syntax.{named}
 use Rattle.jp_eval.proofs.Crossing.{captured_send}
-use Rattle.jp_eval.proofs.Gathered.{kid_done, halves_joined}
-use Rattle.jp_eval.proofs.Keeping.{ended, full_enough, nothing_found}
+use Rattle.jp_nodes.proofs.Gathered.{kid_done, halves_joined}
+use Rattle.jp_nodes.proofs.Keeping.{ended, full_enough, nothing_found}
 use Rattle.jp_eval.proofs.Stretches.{others_no_higher, stretch_done}
 use Rattle.jp_eval.proofs.WalkSteps.{back_up, link_further, over}
 use Rattle.jp_eval.proofs.split.+split.Lts-each_of as lts

@@ -3,8 +3,9 @@ use Rattle.std.specs.List.{flat_map}
 use Rattle.serde_json.specs.Data.{depth}
 use Rattle.serde_json.specs.View.{view}
 use Rattle.jp_eval.specs.Base.{base_of}
-use Rattle.jp_eval.specs.Kept.{kept, put_found, plus}
-use Rattle.jp_eval.specs.Kids.{row_kids, row_height, row_length, done_along_all, highest}
+use Rattle.jp_nodes.specs.Kept.{kept, put_found, plus}
+use Rattle.jp_nodes.specs.Kids.{row_kids, row_height, row_length}
+use Rattle.jp_eval.specs.Along.{done_along_all, highest}
 use Rattle.jp_eval.specs.Walk.{done}
 use Rattle.jp_trail.specs.Links.{link_steps}
 use Rattle.jp_eval.proofs.split.+split.Given as goal

@@ -3,8 +3,8 @@ use Rattle.serde_json.specs.Data.{depth}
 use Rattle.serde_json.specs.View.{view}
 use Rattle.jp_doc.specs.Location.{Location, node}
 use Rattle.jp_eval.specs.Base.{Base}
-use Rattle.jp_eval.specs.Kids.{done_along_all, highest}
-use Rattle.jp_eval.specs.Part.{part_value}
+use Rattle.jp_eval.specs.Along.{done_along_all, highest}
+use Rattle.jp_nodes.specs.Part.{part_value}
 use Rattle.jp_eval.specs.Walk.{picked_by, reached}
 use Rattle.jp_eval.proofs.stretch.spread.Given as goal
 

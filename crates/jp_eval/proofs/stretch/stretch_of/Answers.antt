@@ -6,10 +6,10 @@ use Rattle.jp_doc.specs.Location.{node, name}
 use Rattle.jp_check.specs.Numbers.{whole_number}
 use Rattle.jp_check.specs.Ready.{position_text}
 use Rattle.jp_value.specs.BoundsView.{bounds_value}
-use Rattle.jp_eval.specs.Nodelist.{items_at}
+use Rattle.jp_nodes.specs.Nodes.{items_at}
 use Rattle.jp_value.specs.Literals.{written_value}
-use Rattle.jp_eval.specs.Nodes.{child}
-use Rattle.jp_eval.specs.Part.{part_value}
+use Rattle.jp_nodes.specs.Nodes.{child}
+use Rattle.jp_nodes.specs.Part.{part_value}
 use Rattle.jp_eval.specs.Walk.{picked, is_true}
 use Rattle.jp_eval.proofs.Places.{index_found, slice_found}
 use Rattle.jp_eval.proofs.ReadyParts.{picked_name, picked_wild, picked_index, picked_slice, picked_filter}

@@ -16,35 +16,38 @@ use Rattle.jp_check.specs.Numbers.{whole_number}
 use Rattle.jp_syntax.specs.View.{text_of}
 use Rattle.jp_check.specs.Ready.{position_text, wanted_inside}
 use Rattle.jp_check.specs.declared.ready.Want.TheVariants as want
-use Rattle.jp_eval.specs.Answers.{tells}
+use Rattle.jp_nodes.specs.Answers.{tells}
 use Rattle.jp_eval.specs.Base.{base_of}
 use Rattle.jp_value.specs.BoundsView.{bounds_value}
 use Rattle.jp_value.specs.Comparison.{compared}
 use Rattle.jp_value.specs.Functions.{tested, length_value}
 use Rattle.jp_value.specs.Functions.{exactly_one}
-use Rattle.jp_eval.specs.Nodelist.{items_at}
+use Rattle.jp_nodes.specs.Nodes.{items_at}
 use Rattle.jp_value.specs.Literals.{written_value}
-use Rattle.jp_eval.specs.Kept.{kept, put_found, plus}
-use Rattle.jp_eval.specs.Links.{here}
+use Rattle.jp_nodes.specs.Kept.{kept, put_found, plus}
+use Rattle.jp_nodes.specs.Links.{here}
 use Rattle.jp_trail.specs.Links.{link_steps}
-use Rattle.jp_eval.specs.Nodes.{children, descendants, item_nodes, node_if_some}
-use Rattle.jp_eval.specs.Part.{part_value}
+use Rattle.jp_nodes.specs.Nodes.{children, descendants, item_nodes, node_if_some}
+use Rattle.jp_nodes.specs.Part.{part_value}
 use Rattle.jp_value.specs.Places.{item_count}
 use Rattle.jp_value.specs.RightTests.{tests}
 use Rattle.jp_eval.specs.Walk.{picked, picked_by, reached, is_true, value_given, nodes_given, done}
 use Rattle.jp_eval.proofs.Chains.{reached-none, reached-end, reached-each, reached-filter, reached-plain}
 use Rattle.jp_eval.proofs.Chains.{reached-deep}
-use Rattle.jp_eval.proofs.Inside.{part_is_short}
-use Rattle.jp_eval.proofs.Keeping.{plus-one, nothing_found, full_enough}
+use Rattle.jp_nodes.proofs.InsideParts.{part_is_short}
+use Rattle.jp_nodes.proofs.Keeping.{plus-one, nothing_found, full_enough}
 use Rattle.jp_eval.proofs.ReadyParts.{picked_name, picked_wild, picked_index, picked_slice, picked_filter}
 use Rattle.jp_eval.proofs.ReadyParts.{true_any, true_all, true_not, true_compare, true_test, true_match}
 use Rattle.jp_eval.proofs.ReadyParts.{true_search, true_match_known, true_search_known, given_constant}
 use Rattle.jp_eval.proofs.ReadyParts.{given_single, given_length, given_count, given_only, nodes_here}
 use Rattle.jp_eval.proofs.ReadyParts.{nodes_root, nodes_distinct, true_xor}
-use Rattle.jp_eval.proofs.Places.{within_more, index_found, slice_found}
+use Rattle.jp_nodes.proofs.BoundsWithin.{within_more}
+use Rattle.jp_eval.proofs.Places.{index_found, slice_found}
 use Rattle.jp_eval.proofs.WalkSteps.{back_up, here_further, link_further, over, applied, descended}
-use Rattle.jp_eval.proofs.WalkSteps.{first_left, others_left, no_deeper, item_done, first_member_left}
-use Rattle.jp_eval.proofs.WalkSteps.{other_members_left, members_no_deeper, member_done, members_over}
+use Rattle.jp_nodes.proofs.Members.{first_member_left}
+use Rattle.jp_eval.proofs.WalkSteps.{first_left, others_left, no_deeper, item_done}
+use Rattle.jp_nodes.proofs.Members.{other_members_left}
+use Rattle.jp_eval.proofs.WalkSteps.{members_no_deeper, member_done, members_over}
 use Rattle.jp_eval.proofs.WalkSteps.{any_further, any_found, all_further, all_found, none_at, one_at}
 use Rattle.jp_eval.proofs.WalkSteps.{place_done, places_over}
 use Rattle.jp_eval.proofs.walk.+walk.Goals as goal

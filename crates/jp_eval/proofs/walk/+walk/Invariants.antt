@@ -12,16 +12,16 @@ use Rattle.jp_check.specs.declared.ready.Value.{size-Value}
 use Rattle.jp_check.specs.declared.ready.Nodes.{size-Nodes}
 use Rattle.jp_eval.specs.Base.{base_of}
 use Rattle.jp_value.specs.BoundsView.{bounds_value}
-use Rattle.jp_eval.specs.Kept.{kept, put_found, plus}
-use Rattle.jp_eval.specs.Links.{here}
+use Rattle.jp_nodes.specs.Kept.{kept, put_found, plus}
+use Rattle.jp_nodes.specs.Links.{here}
 use Rattle.jp_trail.specs.Links.{link_steps}
-use Rattle.jp_eval.specs.Nodelist.{items_at}
-use Rattle.jp_eval.specs.Nodes.{item_nodes, member_nodes}
-use Rattle.jp_eval.specs.Part.{part_value}
+use Rattle.jp_nodes.specs.Nodes.{items_at}
+use Rattle.jp_nodes.specs.Nodes.{item_nodes, member_nodes}
+use Rattle.jp_nodes.specs.Part.{part_value}
 use Rattle.jp_value.specs.Places.{from_place, item_count, IfPlace}
 use Rattle.jp_value.specs.Slice.{slice_indexes}
 use Rattle.jp_eval.specs.Walk.{picked_by, reached, is_true, done}
-use Rattle.jp_eval.specs.declared.part.Part.{Part}
+use Rattle.jp_nodes.specs.declared.part.Part.{Part}
 use Rattle.jp_eval.specs.declared.walk.Task.{Task}
 use Rattle.jp_eval.specs.declared.walk.Task.TheVariants.{Run, Descend, Test}
 use Rattle.jp_eval.proofs.walk.+walk.Given as goal

@@ -1,0 +1,12 @@
+pub mod Descent
+pub mod InsideParts
+pub mod Keeping
+pub mod Parts
+pub mod Telling
+pub mod Taking
+pub mod Differing
+pub mod SameLocations
+pub mod Gathered
+pub mod Rows
+pub mod Members
+pub mod BoundsWithin

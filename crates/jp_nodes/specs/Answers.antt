@@ -1,0 +1,28 @@
+-- A step of a proof, which nobody has to believe: what a filter is told of nodes.
+use Rattle.std.specs.Prelude.{Bool, true, false, ◌==◌, List, length, option_map}
+use Rattle.jp_doc.specs.Location.{Node}
+use Rattle.jp_check.specs.declared.ready.Want.{Want}
+use Rattle.jp_check.specs.declared.ready.Want.TheVariants as want
+use Rattle.jp_value.specs.Comparison.{eq}
+use Rattle.jp_value.specs.Functions.{first_value, only_value}
+use Rattle.jp_nodes.specs.Different.{is_different}
+use Rattle.jp_nodes.specs.Kept.{alone_of, alone_value}
+use Rattle.jp_nodes.specs.Part.{part_value}
+use Rattle.jp_nodes.specs.declared.answers.Answer.{Answer}
+use Rattle.jp_nodes.specs.declared.answers.Answer.TheVariants.{First, Count, Only, Distinct}
+
+-- an answer tells what is wanted of these nodes
+abbrev pub tells : Want → List Node → Answer → Bool
+tells want.First ns (First o) = eq (option_map part_value o) (first_value ns)
+tells want.Count ns (Count n) = n == length ns
+tells want.Only ns (Only a) = eq (alone_value (alone_of a)) (only_value ns)
+tells want.Distinct ns (Distinct d) = is_different d ns
+tells _ ns _ = false
+
+-- an answer to what is wanted, be it right or wrong
+abbrev pub is_of : Want → Answer → Bool
+is_of want.First (First o) = true
+is_of want.Count (Count n) = true
+is_of want.Only (Only a) = true
+is_of want.Distinct (Distinct d) = true
+is_of _ _ = false

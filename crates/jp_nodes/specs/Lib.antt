@@ -1,0 +1,9 @@
+pub mod Nodes
+pub mod Part
+pub mod Inside
+pub mod Links
+pub mod Kept
+pub mod Different
+pub mod Taken
+pub mod Answers
+pub mod Kids

@@ -1,0 +1,191 @@
+//! What is kept of the nodes that a walk finds: by the caller's taker, or by what a filter wants of them.
+
+ghost use Rattle.std.specs.Prelude.{◌≡◌, ◌+◌, IsTrue, IfSome, IfOk, OnOk, List, true};
+ghost use Rattle.jp_check.specs.declared.ready.Want.{Want};
+ghost use Rattle.jp_doc.specs.Location.{Node};
+ghost use Rattle.jp_nodes.specs.Answers.{tells};
+ghost use Rattle.jp_nodes.specs.Kept.{kept, put_found, none_kept, taken, alone_of, put_alone, plus};
+ghost use Rattle.jp_nodes.specs.Kept.{emptied_found};
+ghost use Rattle.jp_nodes.specs.Links.{here};
+ghost use Rattle.jp_nodes.specs.Part.{part_value};
+
+use crate::answers::Answer;
+use crate::different::{Located, each_once, locate, none_located};
+use crate::part::Part;
+use crate::visit::Visit;
+use jp_check::ready::Want;
+use jp_trail::Trail;
+use std::alloc::{AllocError, Global};
+
+/// What is kept of the nodes that a walk finds.
+#[derive(Drop)]
+pub enum Found<'v, V: Drop> {
+    /// What the caller keeps.
+    Taker(V),
+    /// The value of the first.
+    First(Option<Part<'v>>),
+    /// How many there are.
+    Count(u64),
+    /// The value, as long as there is one alone.
+    Only(Alone<'v>),
+    /// Where they are, and the value of the first.
+    Distinct(Located<'v>),
+}
+
+/// The values of nodes, as far as it matters whether there is exactly one.
+#[derive(Clone, Copy)]
+pub enum Alone<'v> {
+    /// There is none.
+    None,
+    /// The value of the only one.
+    One(Part<'v>),
+    /// There are several.
+    Several,
+}
+
+/// Whether a further node would change nothing.
+pub fn is_full<V: Visit + Drop>(found: &Found<'_, V>) -> bool
+    ensures { IsTrue result → (n : Node) → put_found V.put (kept V.kept found.now) n ≡ kept V.kept found.now }
+{
+    match found {
+        Found::Taker(taker) => taker.is_full(),
+        Found::First(first) => first.is_some(),
+        Found::Count(_) => false,
+        Found::Only(Alone::Several) => true,
+        Found::Only(Alone::None | Alone::One(_)) => false,
+        Found::Distinct(_) => false,
+    }
+}
+
+/// Takes the node that the path leads to.
+///
+/// `AllocError` if a growth was refused, or where more than a `u64` counts are counted.
+pub fn add<'v, V: Visit + Drop>(
+    alloc: Global,
+    path: &mut Trail<'v>,
+    value: Part<'v>,
+    found: &mut Found<'v, V>,
+) -> Result<(), AllocError>
+    ensures found { OnOk result (kept V.kept found.new
+        ≡ put_found V.put (kept V.kept found.old) (here path.old value.entry)) }
+    ensures path { OnOk result (path.new ≡ path.old) }
+{
+    match found {
+        Found::Taker(taker) => taker.node(alloc, path, value.value),
+        Found::First(first) => {
+            if first.is_none() {
+                *first = Some(value);
+            }
+            Ok(())
+        }
+        Found::Count(count) => {
+            *count = one_more(*count)?;
+            Ok(())
+        }
+        Found::Only(alone) => {
+            *alone = with_another(*alone, value);
+            Ok(())
+        }
+        Found::Distinct(located) => locate(alloc, path, value, located),
+    }
+}
+
+/// One node more. More than a `u64` counts are want of memory.
+fn one_more(count: u64) -> Result<u64, AllocError>
+    ensures { IfOk result (λ n. n ≡ count + 1) }
+{
+    count.checked_add(1).ok_or(AllocError)
+}
+
+/// The same with one value more.
+fn with_another<'v>(alone: Alone<'v>, value: Part<'v>) -> Alone<'v>
+    ensures { alone_of result ≡ put_alone (alone_of alone.entry) (part_value value.entry) }
+{
+    match alone {
+        Alone::None => Alone::One(value),
+        Alone::One(_) => Alone::Several,
+        Alone::Several => Alone::Several,
+    }
+}
+
+/// An empty taker of the caller's kind, where the caller's is what is kept.
+///
+/// `AllocError` where something else is kept.
+pub fn fresh<V: Visit + Drop>(found: &Found<'_, V>, alloc: Global) -> Result<V, AllocError>
+    ensures empty { IfOk result (λ t. taken (V.kept t)
+        ≡ emptied_found V.emptied (kept V.kept found.now)) }
+    ensures later { (ns : List Node)
+        → emptied_found V.emptied (plus (put_found V.put) (kept V.kept found.now) ns)
+        ≡ emptied_found V.emptied (kept V.kept found.now) }
+{
+    match found {
+        Found::Taker(taker) => Ok(taker.fresh(alloc)),
+        Found::First(_) => Err(AllocError),
+        Found::Count(_) => Err(AllocError),
+        Found::Only(_) => Err(AllocError),
+        Found::Distinct(_) => Err(AllocError),
+    }
+}
+
+/// Takes the nodes that another taker took, which began as an empty one.
+///
+/// `AllocError` if a growth was refused, or where something else than the caller's taker is kept.
+pub fn append<'v, V: Visit + Drop>(
+    found: &mut Found<'v, V>,
+    other: V,
+) -> Result<(), AllocError>
+    ensures { (ns : List Node) → taken (V.kept other)
+        ≡ plus (put_found V.put) (emptied_found V.emptied (kept V.kept found.old)) ns
+        → OnOk result (kept V.kept found.new ≡ plus (put_found V.put) (kept V.kept found.old) ns) }
+{
+    match found {
+        Found::Taker(taker) => taker.append(other),
+        Found::First(_) => Err(AllocError),
+        Found::Count(_) => Err(AllocError),
+        Found::Only(_) => Err(AllocError),
+        Found::Distinct(_) => Err(AllocError),
+    }
+}
+
+/// What the caller keeps, where that is what is kept.
+pub fn into_taker<'v, V: Visit + Drop>(found: Found<'v, V>) -> Option<V>
+    ensures { IfSome result (λ t. taken (V.kept t) ≡ kept V.kept found.entry) }
+{
+    match found {
+        Found::Taker(taker) => Some(taker),
+        Found::First(_) => None,
+        Found::Count(_) => None,
+        Found::Only(_) => None,
+        Found::Distinct(_) => None,
+    }
+}
+
+/// Nothing found yet, where this is wanted of the nodes. It takes no memory.
+pub fn none_found<'v, V: Visit + Drop>(alloc: Global, want: Want) -> Found<'v, V>
+    ensures { kept V.kept result ≡ none_kept want }
+{
+    match want {
+        Want::First => Found::First(None),
+        Want::Count => Found::Count(0),
+        Want::Only => Found::Only(Alone::None),
+        Want::Distinct => Found::Distinct(none_located(alloc)),
+    }
+}
+
+/// What is told of the nodes that were found.
+///
+/// `AllocError` where the caller's taker has them.
+pub fn into_answer<'v, V: Visit + Drop>(
+    found: Found<'v, V>,
+) -> Result<Answer<'v>, AllocError>
+    ensures { IfOk result (λ a. (want : Want) (ns : List Node) → kept V.kept found.entry
+        ≡ plus (put_found V.put) (none_kept want) ns → tells want ns a ≡ true) }
+{
+    match found {
+        Found::First(first) => Ok(Answer::First(first)),
+        Found::Count(count) => Ok(Answer::Count(count)),
+        Found::Only(alone) => Ok(Answer::Only(alone)),
+        Found::Distinct(located) => Ok(Answer::Distinct(each_once(located))),
+        Found::Taker(_) => Err(AllocError),
+    }
+}

@@ -1,0 +1,20 @@
+//! Nodes of a document (RFC 9535, 1.1): the children of a value, in rows that can be cut in two, and what is
+//! kept of the nodes that a walk finds.
+#![tactic(auto)]
+
+pub mod answers;
+pub mod children;
+mod different;
+mod examples;
+pub mod found;
+pub mod laws;
+mod locations;
+mod part;
+mod row;
+mod visit;
+
+pub use different::{Different, Located};
+pub use locations::Locations;
+pub use part::{Inside, Part};
+pub use row::{Child, Children, Row};
+pub use visit::Visit;

@@ -1,0 +1,110 @@
+//! Lists of children that can be cut in two.
+
+ghost use Rattle.std.specs.Prelude.{◌≡◌, ◌≤◌, ◌<◌, [], ◌∷◌, ◌++◌, suc, nat_le, IfSome, MatchOption};
+ghost use Rattle.serde_json.specs.Data.{depth};
+ghost use Rattle.serde_json.specs.View.{view};
+ghost use Rattle.jp_doc.specs.Location.{Location};
+ghost use Rattle.jp_nodes.specs.Kids.{kid, all_kids, all_height, row_kids, row_height, row_length};
+
+use crate::part::Part;
+use jp_trail::Link;
+
+/// A child, and the link to it.
+#[derive(Clone, Copy)]
+pub struct Child<'v> {
+    /// From the value to the child.
+    pub link: Link<'v>,
+    /// The child.
+    pub part: Part<'v>,
+}
+
+/// Some children of a value.
+#[derive(Drop)]
+pub enum Children<'v> {
+    /// These.
+    Listed(Vec<Child<'v>>),
+    /// All items of this value.
+    Items(Part<'v>),
+}
+
+/// Children that stand one behind another.
+#[derive(Clone, Copy)]
+pub enum Row<'c, 'v> {
+    /// These.
+    Listed(&'c [Child<'v>]),
+    /// The items of this value from the first place on, and before the second.
+    Items(Part<'v>, u32, u32),
+}
+
+impl<'v> Children<'v> {
+    /// All of them.
+    pub fn row(&self) -> Row<'_, 'v>
+        ensures nodes { (at : Location) → row_kids at result ≡ all_kids at self.now }
+        ensures height { row_height result ≤ all_height self.now }
+    {
+        match self {
+            Children::Listed(children) => Row::Listed(children.as_slice()),
+            Children::Items(value) => Row::Items(*value, 0, value.item_count()),
+        }
+    }
+}
+
+impl<'c, 'v> Row<'c, 'v> {
+    /// Whether there are so many.
+    pub fn has(self, floor: u64) -> bool
+        ensures { result ≡ nat_le floor (row_length self.entry) }
+    {
+        match self {
+            Row::Listed(children) => children.len() as u64 >= floor,
+            Row::Items(_, first, past) => past.saturating_sub(first) as u64 >= floor,
+        }
+    }
+
+    /// The first half, and the second.
+    pub fn halves(self) -> (Row<'c, 'v>, Row<'c, 'v>)
+        ensures nodes { (at : Location) → row_kids at result.0 ++ row_kids at result.1
+            ≡ row_kids at self.entry }
+        ensures left { row_height result.0 ≤ row_height self.entry }
+        ensures right { row_height result.1 ≤ row_height self.entry }
+    {
+        match self {
+            Row::Listed(children) => {
+                let (left, right) = children.split_at(children.len() / 2);
+                (Row::Listed(left), Row::Listed(right))
+            }
+            Row::Items(value, first, past) => {
+                let middle = first + past.saturating_sub(first) / 2;
+                (
+                    Row::Items(value, first, middle),
+                    Row::Items(value, middle, past),
+                )
+            }
+        }
+    }
+
+    /// The first, and those behind it.
+    pub fn split_first(self) -> Option<(Child<'v>, Row<'c, 'v>)>
+        ensures nodes { (at : Location) → MatchOption result (row_kids at self.entry ≡ [])
+            (λ p. row_kids at self.entry ≡ kid at p.0 ∷ row_kids at p.1) }
+        ensures child { IfSome result (λ p. suc (depth (view p.0.part.value.now)) ≤ row_height self.entry) }
+        ensures height { IfSome result (λ p. row_height p.1 ≤ row_height self.entry) }
+        ensures fewer { IfSome result (λ p. row_length p.1 < row_length self.entry) }
+    {
+        match self {
+            Row::Listed(children) => match children.split_first() {
+                None => None,
+                Some((child, others)) => Some((*child, Row::Listed(others))),
+            },
+            Row::Items(value, first, past) => {
+                if first >= past {
+                    return None;
+                }
+                let Some(part) = value.item(first) else {
+                    return None;
+                };
+                let link = Link::Index(first);
+                Some((Child { link, part }, Row::Items(value, first + 1, past)))
+            }
+        }
+    }
+}
