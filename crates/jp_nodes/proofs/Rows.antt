@@ -7,8 +7,7 @@ use Rattle.jp_doc.specs.Json.{Json, null, truth, whole, text, array, object, Ite
 use Rattle.jp_doc.specs.Json.{item_list}
 use Rattle.jp_doc.specs.Location.{Location, Node, node, index, item_at, item_of}
 use Rattle.jp_nodes.specs.Inside.{IsNoObject}
-use Rattle.jp_nodes.specs.Nodes.{items_at}
-use Rattle.jp_nodes.specs.Nodes.{child, children_at, item_nodes, node_if_some}
+use Rattle.jp_nodes.specs.Nodes.{child, children_at, item_nodes, items_at, node_if_some}
 use Rattle.jp_nodes.specs.Part.{part_value}
 use Rattle.jp_value.specs.Places.{item_count}
 use Rattle.jp_nodes.specs.declared.part.Part.{Part}

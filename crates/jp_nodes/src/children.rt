@@ -11,8 +11,7 @@ ghost use Rattle.jp_doc.specs.Json.{members_of};
 ghost use Rattle.jp_doc.specs.Location.{Location, node, name, index};
 ghost use Rattle.jp_value.specs.BoundsView.{bounds_value};
 ghost use Rattle.jp_nodes.specs.Kids.{kids, kids_height, all_kids, all_height};
-ghost use Rattle.jp_nodes.specs.Nodes.{items_at};
-ghost use Rattle.jp_nodes.specs.Nodes.{child, children_at, member_nodes};
+ghost use Rattle.jp_nodes.specs.Nodes.{child, children_at, items_at, member_nodes};
 ghost use Rattle.jp_nodes.specs.Part.{part_value};
 ghost use Rattle.jp_value.specs.Places.{AreWithin, item_count};
 ghost use Rattle.jp_value.specs.Slice.{slice_indexes};
@@ -62,11 +61,7 @@ fn gather_members<'v>(
 /// The member of this name, if there is one.
 ///
 /// `AllocError` if a growth was refused.
-pub fn named<'v>(
-    alloc: Global,
-    value: Part<'v>,
-    key: &'v str,
-) -> Result<Vec<Child<'v>>, AllocError>
+pub fn named<'v>(alloc: Global, value: Part<'v>, key: &'v str) -> Result<Vec<Child<'v>>, AllocError>
     ensures nodes { IfOk result (λ v. (at : Location)
         → kids at v.items ≡ child (name (chars key.now)) (node at (part_value value.entry))) }
     ensures height { IfOk result (λ v. kids_height v.items ≤ depth (view value.entry.value.now)) }

@@ -34,7 +34,7 @@ pub struct Different<'v> {
 }
 
 /// No nodes yet. It takes no memory.
-pub fn none_located<'v>(alloc: Global) -> Located<'v>
+pub(crate) fn none_located<'v>(alloc: Global) -> Located<'v>
     ensures first { option_map part_value result.first ≡ None }
     ensures locations { map location_of result.locations.items ≡ [] }
 {
@@ -47,7 +47,7 @@ pub fn none_located<'v>(alloc: Global) -> Located<'v>
 /// One node more.
 ///
 /// `AllocError` if a growth was refused.
-pub fn locate<'v>(
+pub(crate) fn locate<'v>(
     alloc: Global,
     path: &Trail<'v>,
     value: Part<'v>,
@@ -66,7 +66,7 @@ pub fn locate<'v>(
 }
 
 /// What there is of the nodes once each location stands there once.
-pub fn each_once(located: Located<'_>) -> Different<'_>
+pub(crate) fn each_once(located: Located<'_>) -> Different<'_>
     ensures { (ns : List Node) → option_map part_value located.entry.first ≡ first_value ns
         → map location_of located.entry.locations.items ≡ map (λ n. n.location) ns → IsDifferent result ns }
 {

@@ -130,10 +130,7 @@ pub fn fresh<V: Visit + Drop>(found: &Found<'_, V>, alloc: Global) -> Result<V, 
 /// Takes the nodes that another taker took, which began as an empty one.
 ///
 /// `AllocError` if a growth was refused, or where something else than the caller's taker is kept.
-pub fn append<'v, V: Visit + Drop>(
-    found: &mut Found<'v, V>,
-    other: V,
-) -> Result<(), AllocError>
+pub fn append<'v, V: Visit + Drop>(found: &mut Found<'v, V>, other: V) -> Result<(), AllocError>
     ensures { (ns : List Node) → taken (V.kept other)
         ≡ plus (put_found V.put) (emptied_found V.emptied (kept V.kept found.old)) ns
         → OnOk result (kept V.kept found.new ≡ plus (put_found V.put) (kept V.kept found.old) ns) }
@@ -175,9 +172,7 @@ pub fn none_found<'v, V: Visit + Drop>(alloc: Global, want: Want) -> Found<'v, V
 /// What is told of the nodes that were found.
 ///
 /// `AllocError` where the caller's taker has them.
-pub fn into_answer<'v, V: Visit + Drop>(
-    found: Found<'v, V>,
-) -> Result<Answer<'v>, AllocError>
+pub fn into_answer<'v, V: Visit + Drop>(found: Found<'v, V>) -> Result<Answer<'v>, AllocError>
     ensures { IfOk result (λ a. (want : Want) (ns : List Node) → kept V.kept found.entry
         ≡ plus (put_found V.put) (none_kept want) ns → tells want ns a ≡ true) }
 {

@@ -6,9 +6,8 @@ use Rattle.jp_doc.specs.Location.{node, name}
 use Rattle.jp_check.specs.Numbers.{whole_number}
 use Rattle.jp_check.specs.Ready.{position_text}
 use Rattle.jp_value.specs.BoundsView.{bounds_value}
-use Rattle.jp_nodes.specs.Nodes.{items_at}
+use Rattle.jp_nodes.specs.Nodes.{child, items_at}
 use Rattle.jp_value.specs.Literals.{written_value}
-use Rattle.jp_nodes.specs.Nodes.{child}
 use Rattle.jp_nodes.specs.Part.{part_value}
 use Rattle.jp_eval.specs.Walk.{picked, is_true}
 use Rattle.jp_eval.proofs.Places.{index_found, slice_found}

@@ -22,12 +22,11 @@ use Rattle.jp_value.specs.BoundsView.{bounds_value}
 use Rattle.jp_value.specs.Comparison.{compared}
 use Rattle.jp_value.specs.Functions.{tested, length_value}
 use Rattle.jp_value.specs.Functions.{exactly_one}
-use Rattle.jp_nodes.specs.Nodes.{items_at}
+use Rattle.jp_nodes.specs.Nodes.{children, descendants, item_nodes, items_at, node_if_some}
 use Rattle.jp_value.specs.Literals.{written_value}
 use Rattle.jp_nodes.specs.Kept.{kept, put_found, plus}
 use Rattle.jp_nodes.specs.Links.{here}
 use Rattle.jp_trail.specs.Links.{link_steps}
-use Rattle.jp_nodes.specs.Nodes.{children, descendants, item_nodes, node_if_some}
 use Rattle.jp_nodes.specs.Part.{part_value}
 use Rattle.jp_value.specs.Places.{item_count}
 use Rattle.jp_value.specs.RightTests.{tests}
@@ -44,9 +43,8 @@ use Rattle.jp_eval.proofs.ReadyParts.{nodes_root, nodes_distinct, true_xor}
 use Rattle.jp_nodes.proofs.BoundsWithin.{within_more}
 use Rattle.jp_eval.proofs.Places.{index_found, slice_found}
 use Rattle.jp_eval.proofs.WalkSteps.{back_up, here_further, link_further, over, applied, descended}
-use Rattle.jp_nodes.proofs.Members.{first_member_left}
+use Rattle.jp_nodes.proofs.Members.{first_member_left, other_members_left}
 use Rattle.jp_eval.proofs.WalkSteps.{first_left, others_left, no_deeper, item_done}
-use Rattle.jp_nodes.proofs.Members.{other_members_left}
 use Rattle.jp_eval.proofs.WalkSteps.{members_no_deeper, member_done, members_over}
 use Rattle.jp_eval.proofs.WalkSteps.{any_further, any_found, all_further, all_found, none_at, one_at}
 use Rattle.jp_eval.proofs.WalkSteps.{place_done, places_over}

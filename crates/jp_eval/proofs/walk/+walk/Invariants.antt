@@ -15,8 +15,7 @@ use Rattle.jp_value.specs.BoundsView.{bounds_value}
 use Rattle.jp_nodes.specs.Kept.{kept, put_found, plus}
 use Rattle.jp_nodes.specs.Links.{here}
 use Rattle.jp_trail.specs.Links.{link_steps}
-use Rattle.jp_nodes.specs.Nodes.{items_at}
-use Rattle.jp_nodes.specs.Nodes.{item_nodes, member_nodes}
+use Rattle.jp_nodes.specs.Nodes.{item_nodes, items_at, member_nodes}
 use Rattle.jp_nodes.specs.Part.{part_value}
 use Rattle.jp_value.specs.Places.{from_place, item_count, IfPlace}
 use Rattle.jp_value.specs.Slice.{slice_indexes}
