@@ -1,4 +1,5 @@
--- A step of a proof, which nobody has to believe: what a filter is told of nodes.
+-- A step of a proof, which nobody has to believe who asks what a query selects: what a filter is told of
+-- nodes.
 use Rattle.std.specs.Prelude.{Bool, true, false, ◌==◌, List, length, option_map}
 use Rattle.jp_doc.specs.Location.{Node}
 use Rattle.jp_check.specs.declared.ready.Want.{Want}

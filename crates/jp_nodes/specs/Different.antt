@@ -1,4 +1,5 @@
--- A step of a proof, which nobody has to believe: what is told of nodes, each location once.
+-- A step of a proof, which nobody has to believe who asks what a query selects: what is told of nodes, each
+-- location once.
 use Rattle.std.specs.Prelude.{◌≡◌, Bool, ◌&&◌, ◌==◌, List, length}
 use Rattle.jp_doc.specs.Location.{Node}
 use Rattle.jp_value.specs.Comparison.{eq}

@@ -1,4 +1,4 @@
--- A step of a proof, which nobody has to believe: what is inside of a part.
+-- A step of a proof, which nobody has to believe who asks what a query selects: what is inside of a part.
 use Rattle.std.specs.Prelude.{ℕ, ◌<◌, ◌≤◌, List, [], length}
 use Rattle.std.specs.List.{All}
 use Rattle.serde_json.specs.Data.{items_depth, members_depth}

@@ -1,4 +1,5 @@
--- A step of a proof, which nobody has to believe: what is kept of nodes that are found.
+-- A step of a proof, which nobody has to believe who asks what a query selects: what is kept of nodes that
+-- are found.
 use Rattle.std.specs.Prelude.{ℕ, ◌+◌, List, [], ◌∷◌, ◌++◌, map, Option, Some, None, option_map}
 use Rattle.std.specs.List.{fold}
 use Rattle.jp_doc.specs.Json.{Json}

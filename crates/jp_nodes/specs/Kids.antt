@@ -1,4 +1,5 @@
--- A step of a proof, which nobody has to believe: children of a value, and rows of them.
+-- A step of a proof, which nobody has to believe who asks what a query selects: children of a value, and rows
+-- of them.
 use Rattle.std.specs.Prelude.{ℕ, suc, ◌-◌, List, [], ◌∷◌, ◌++◌, length, map, max}
 use Rattle.std.specs.List.{range_with_len}
 use Rattle.serde_json.specs.Data.{depth}

@@ -1,4 +1,5 @@
--- A step of a proof, which nobody has to believe: the node that a trail leads to.
+-- A step of a proof, which nobody has to believe who asks what a query selects: the node that a trail leads
+-- to.
 use Rattle.std.specs.Prelude.{List}
 use Rattle.jp_doc.specs.Location.{Node, node}
 use Rattle.jp_trail.specs.Links.{link_steps}

@@ -1,4 +1,5 @@
--- A step of a proof, which nobody has to believe: the value that a part of a document is.
+-- A step of a proof, which nobody has to believe who asks what a query selects: the value that a part of a
+-- document is.
 use Rattle.jp_doc.specs.Json.{Json, value_of}
 use Rattle.jp_nodes.specs.declared.part.Part.{Part}
 

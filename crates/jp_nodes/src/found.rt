@@ -59,7 +59,7 @@ pub fn is_full<V: Visit + Drop>(found: &Found<'_, V>) -> bool
 
 /// Takes the node that the path leads to.
 ///
-/// `AllocError` if a growth was refused, or where more than a `u64` counts are counted.
+/// `AllocError` if a growth was refused, or where there are more nodes than a `u64` counts.
 pub fn add<'v, V: Visit + Drop>(
     alloc: Global,
     path: &mut Trail<'v>,

@@ -60,7 +60,7 @@ impl<'c, 'v> Row<'c, 'v> {
         }
     }
 
-    /// The first half, and the second.
+    /// The first half, and the second. No clause says that they are equally long.
     pub fn halves(self) -> (Row<'c, 'v>, Row<'c, 'v>)
         ensures nodes { (at : Location) → row_kids at result.0 ++ row_kids at result.1
             ≡ row_kids at self.entry }
