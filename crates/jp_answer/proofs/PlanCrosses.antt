@@ -7,7 +7,7 @@ use Rattle.jp_doc.proofs.line.Line.TheSendSync as lines
 use denote.Ref.{NamedLft}
 use Rattle.jp_check.specs.contracts.ready.Query as Ready
 use Rattle.jp_check.specs.contracts.known.KnownPattern as Known
-use Rattle.jp_syntax.specs.contracts.tree.Query as Query
+use Rattle.jp_tree.specs.contracts.tree.Query as Query
 use Rattle.jp_regexp.proofs.tree.CharSet.TheSendSync as sets
 use Rattle.jp_regexp.proofs.table.Table.TheSendSync as tables
 use Rattle.jp_check.proofs.ready.Constant.TheSendSync as constants
@@ -17,7 +17,7 @@ use Rattle.jp_check.proofs.ready.Want.TheSendSync as wants
 use Rattle.jp_check.proofs.ready.Form.TheSendSync as forms
 use Rattle.jp_check.proofs.ready.Logical.TheLaws.TheKnot.{crosses as ready_crosses}
 use Rattle.jp_regexp.proofs.parts.Part.TheLaws.TheKnot.{crosses as pattern_crosses}
-use Rattle.jp_syntax.proofs.tree.Argument.TheLaws.TheKnot.{crosses as tree_crosses}
+use Rattle.jp_tree.proofs.tree.Argument.TheLaws.TheKnot.{crosses as tree_crosses}
 
 pub known_sync : IsSync Known.the_row
 known_sync = search (tables.the_field_sync, sets.the_field_sync, crosses, pattern_crosses, sendable)

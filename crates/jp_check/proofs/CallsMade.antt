@@ -5,8 +5,8 @@ use Rattle.std.specs.Prelude.{string_bytes, codes}
 use Rattle.std.specs.Str.{chars}
 use Rattle.jp_syntax.specs.Tree as tree
 use Rattle.jp_syntax.specs.PartViews.{argument_of, arguments_of, call_of}
-use Rattle.jp_syntax.specs.declared.tree.Argument.{Argument}
-use Rattle.jp_syntax.specs.declared.tree.Call.{Call, out-Call}
+use Rattle.jp_tree.specs.declared.tree.Argument.{Argument}
+use Rattle.jp_tree.specs.declared.tree.Call.{Call, out-Call}
 use Rattle.jp_check.specs.Ready.{call_of_one, call_of_two, text_argument, form_of, truth_argument}
 use Rattle.jp_check.specs.Ready.{Source, queried, different, source_argument, source_test}
 use Rattle.jp_check.specs.LiteralPatterns.{literal_text}

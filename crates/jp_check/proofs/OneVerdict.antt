@@ -5,9 +5,9 @@ use Rattle.jp_syntax.specs.Tree.{Text, Query}
 use Rattle.jp_syntax.specs.Spelling.{Spells}
 use Rattle.jp_syntax.specs.Depth.{bracket_depth, max_depth}
 use Rattle.jp_syntax.proofs.OneTree.{one_tree}
-use Rattle.jp_syntax.specs.declared.fault.QueryFault.{QueryFault}
-use Rattle.jp_syntax.specs.declared.fault.QueryFault.TheVariants.{TooDeep, Syntax, Fraction, Range}
-use Rattle.jp_syntax.specs.declared.fault.QueryFault.TheVariants.{IllTyped, Memory}
+use Rattle.jp_tree.specs.declared.fault.QueryFault.{QueryFault}
+use Rattle.jp_tree.specs.declared.fault.QueryFault.TheVariants.{TooDeep, Syntax, Fraction, Range}
+use Rattle.jp_tree.specs.declared.fault.QueryFault.TheVariants.{IllTyped, Memory}
 use Rattle.jp_check.specs.Verdict.{verdict_of, IsVerdict}
 
 -- the three ways to a verdict

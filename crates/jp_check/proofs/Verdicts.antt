@@ -5,9 +5,9 @@ use Rattle.std.specs.Prelude.{◌≤◌, ◌↔◌, if◌then◌else◌}
 use Rattle.jp_syntax.specs.Tree.{Text, Query}
 use Rattle.jp_syntax.specs.Spelling.{Spells}
 use Rattle.jp_syntax.specs.Depth.{bracket_depth, max_depth}
-use Rattle.jp_syntax.specs.declared.fault.QueryFault.{QueryFault}
-use Rattle.jp_syntax.specs.declared.fault.QueryFault.TheVariants.{TooDeep, Syntax, Fraction, Range}
-use Rattle.jp_syntax.specs.declared.fault.QueryFault.TheVariants.{IllTyped, Memory}
+use Rattle.jp_tree.specs.declared.fault.QueryFault.{QueryFault}
+use Rattle.jp_tree.specs.declared.fault.QueryFault.TheVariants.{TooDeep, Syntax, Fraction, Range}
+use Rattle.jp_tree.specs.declared.fault.QueryFault.TheVariants.{IllTyped, Memory}
 use Rattle.jp_types.specs.Numbers.{has_fraction, in_range}
 use Rattle.jp_types.specs.Typing.{query_typed}
 use Rattle.jp_check.specs.Verdict.{verdict_of, IsAccepted}

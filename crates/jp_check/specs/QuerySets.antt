@@ -6,10 +6,10 @@ use Rattle.std.proofs.Common.{◌≡◌, ℕ, ◌==◌, Bool, true, false, List,
 use Rattle.std.proofs.Common.{ap₂, ◌∙◌}
 use Rattle.std.specs.Prelude.{if◌then◌else◌}
 use Rattle.jp_syntax.specs.Tree as tree
-use Rattle.jp_syntax.specs.declared.tree.Start.{Start}
-use Rattle.jp_syntax.specs.declared.tree.Start.TheVariants as start
-use Rattle.jp_syntax.specs.declared.tree.Operator.{Operator}
-use Rattle.jp_syntax.specs.declared.tree.Operator.TheVariants as op
+use Rattle.jp_tree.specs.declared.tree.Start.{Start}
+use Rattle.jp_tree.specs.declared.tree.Start.TheVariants as start
+use Rattle.jp_tree.specs.declared.tree.Operator.{Operator}
+use Rattle.jp_tree.specs.declared.tree.Operator.TheVariants as op
 
 -- a copy of any part of a tree
 data Copy : Type 0 where

@@ -1,7 +1,7 @@
 -- What the worked examples say of a tree.
 use Rattle.std.specs.Prelude.{◌≡◌, Ok, Err}
 use Rattle.jp_syntax.specs.Tree.{Query}
-use Rattle.jp_syntax.specs.declared.fault.QueryFault.{QueryFault}
+use Rattle.jp_tree.specs.declared.fault.QueryFault.{QueryFault}
 use Rattle.jp_check.specs.Verdict.{verdict_of}
 
 -- the tree is accepted as it is, or refused with this fault

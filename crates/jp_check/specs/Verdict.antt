@@ -3,8 +3,8 @@ use Rattle.std.specs.Prelude.{◌≡◌, ◌<◌, ◌≤◌, not, Result, Ok, Er
 use Rattle.jp_syntax.specs.Tree.{Text, Query}
 use Rattle.jp_syntax.specs.Spelling.{Spells}
 use Rattle.jp_syntax.specs.Depth.{bracket_depth, max_depth}
-use Rattle.jp_syntax.specs.declared.fault.QueryFault.{QueryFault}
-use Rattle.jp_syntax.specs.declared.fault.QueryFault.TheVariants.{TooDeep, Syntax, Fraction, Range, IllTyped}
+use Rattle.jp_tree.specs.declared.fault.QueryFault.{QueryFault}
+use Rattle.jp_tree.specs.declared.fault.QueryFault.TheVariants.{TooDeep, Syntax, Fraction, Range, IllTyped}
 use Rattle.jp_types.specs.Numbers.{has_fraction, in_range}
 use Rattle.jp_types.specs.Typing.{query_typed}
 

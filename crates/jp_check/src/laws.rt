@@ -4,9 +4,9 @@ ghost use Rattle.std.specs.Prelude.{◌≡◌, ◌≤◌, ◌↔◌, Result, Ok,
 ghost use Rattle.jp_syntax.specs.Tree.{Text, Query};
 ghost use Rattle.jp_syntax.specs.Spelling.{Spells};
 ghost use Rattle.jp_syntax.specs.Depth.{bracket_depth, max_depth};
-ghost use Rattle.jp_syntax.specs.declared.fault.QueryFault.{QueryFault};
-ghost use Rattle.jp_syntax.specs.declared.fault.QueryFault.TheVariants.{TooDeep, Syntax, Fraction, Range};
-ghost use Rattle.jp_syntax.specs.declared.fault.QueryFault.TheVariants.{IllTyped, Memory};
+ghost use Rattle.jp_tree.specs.declared.fault.QueryFault.{QueryFault};
+ghost use Rattle.jp_tree.specs.declared.fault.QueryFault.TheVariants.{TooDeep, Syntax, Fraction, Range};
+ghost use Rattle.jp_tree.specs.declared.fault.QueryFault.TheVariants.{IllTyped, Memory};
 ghost use Rattle.jp_types.specs.Numbers.{has_fraction, in_range};
 ghost use Rattle.jp_types.specs.Typing.{query_typed};
 ghost use Rattle.jp_check.specs.Verdict.{verdict_of, IsAccepted, IsVerdict};

@@ -4,8 +4,8 @@ use Rattle.std.specs.List.{flat_map}
 use Rattle.jp_doc.specs.Json.{Json}
 use Rattle.jp_doc.specs.Location.{Node}
 use Rattle.jp_syntax.specs.Tree.{Segment, segments, query_from}
-use Rattle.jp_syntax.specs.declared.tree.Start.{Start}
-use Rattle.jp_syntax.specs.declared.tree.Start.TheVariants.{Root, Current}
+use Rattle.jp_tree.specs.declared.tree.Start.{Start}
+use Rattle.jp_tree.specs.declared.tree.Start.TheVariants.{Root, Current}
 use Rattle.jp_regexp.specs.Tests.{Tests}
 use Rattle.jp_eval.specs.Nodelist.{nodelist, through, segment_nodes}
 

@@ -13,7 +13,7 @@ use Rattle.jp_syntax.specs.Tree.{Comparable, literal, single, value_call, Call, 
 use Rattle.jp_syntax.specs.Tree.{literal_argument, query_argument, logical_argument, call_argument, Segments}
 use Rattle.jp_syntax.specs.Tree.{no_segments, add_segment, Selectors, no_selectors, add_selector, Logicals}
 use Rattle.jp_syntax.specs.Tree.{no_logicals, add_logical, Arguments, no_arguments, add_argument}
-use Rattle.jp_syntax.specs.declared.tree.Start.TheVariants.{Root, Current}
+use Rattle.jp_tree.specs.declared.tree.Start.TheVariants.{Root, Current}
 use Rattle.jp_regexp.specs.Tests.{Tests}
 use Rattle.jp_check.specs.Numbers.{whole_number}
 use Rattle.jp_check.specs.Functions.{function_named}

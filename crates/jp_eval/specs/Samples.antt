@@ -6,8 +6,8 @@ use Rattle.jp_syntax.specs.Tree as tree
 use Rattle.jp_syntax.specs.Tree.{Query, Segment, Selector, name, slice, filter, Logical, comparing}
 use Rattle.jp_syntax.specs.Tree.{comparison, Comparable, literal, single, child, query_from}
 use Rattle.jp_regexp.specs.Tests.{Tests}
-use Rattle.jp_syntax.specs.declared.tree.Operator.{Operator}
-use Rattle.jp_syntax.specs.declared.tree.Start.TheVariants.{Root, Current}
+use Rattle.jp_tree.specs.declared.tree.Operator.{Operator}
+use Rattle.jp_tree.specs.declared.tree.Start.TheVariants.{Root, Current}
 use Rattle.jp_value.specs.Samples.{num, arr, obj, obj2}
 use Rattle.jp_eval.specs.Nodelist.{document_nodes}
 

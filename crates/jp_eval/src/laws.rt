@@ -6,8 +6,8 @@ ghost use Rattle.jp_doc.specs.Json.{Json};
 ghost use Rattle.jp_doc.specs.Location.{Node, value_at};
 ghost use Rattle.jp_doc.specs.Rising.{IsRising};
 ghost use Rattle.jp_syntax.specs.Tree.{Query, Segment, segments, query_from};
-ghost use Rattle.jp_syntax.specs.declared.tree.Start.{Start};
-ghost use Rattle.jp_syntax.specs.declared.tree.Start.TheVariants.{Root};
+ghost use Rattle.jp_tree.specs.declared.tree.Start.{Start};
+ghost use Rattle.jp_tree.specs.declared.tree.Start.TheVariants.{Root};
 ghost use Rattle.jp_regexp.specs.Tests.{Tests};
 ghost use Rattle.jp_eval.specs.Nodelist.{nodelist, through, document_nodes};
 

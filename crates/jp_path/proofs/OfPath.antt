@@ -7,7 +7,7 @@ use Rattle.jp_syntax.specs.Tree.{Text, Query}
 use Rattle.jp_syntax.specs.Spelling.{Spells}
 use Rattle.jp_syntax.specs.Depth.{bracket_depth, max_depth}
 use Rattle.jp_regexp.specs.Tests.{Tests}
-use Rattle.jp_syntax.specs.declared.fault.QueryFault.{QueryFault}
+use Rattle.jp_tree.specs.declared.fault.QueryFault.{QueryFault}
 use Rattle.jp_check.specs.declared.accepted.Plan.{Plan}
 use Rattle.jp_check.specs.Plan.{planned_query}
 use Rattle.jp_check.specs.Verdict.{IsAccepted}

@@ -2,7 +2,7 @@
 use Rattle.std.proofs.Common.{◌≡◌, ℕ, ◌≤◌, max, [], ◌∷◌, ◌++◌, refl, ap, ◌∙◌, arith}
 use Rattle.jp_syntax.specs.Tree.{Text}
 use Rattle.jp_syntax.specs.Depth.{Place, step, scan, count_of}
-use Rattle.jp_syntax.proofs.DepthLaws.{depth_from, depth_from_cons, count_within}
+use Rattle.jp_tokens.proofs.DepthLaws.{depth_from, depth_from_cons, count_within}
 
 -- a scan leads from one place to another, with at most one bracket open on the way
 pub record Passes (place : Place) (t : Text) (there : Place) : Type 0 where

@@ -16,7 +16,7 @@ use Rattle.jp_syntax.specs.Tree as tree
 use Rattle.jp_syntax.specs.Characters.{is_scalar}
 use Rattle.jp_syntax.specs.Parts.{Each}
 use Rattle.jp_syntax.specs.PartViews.{segment_of, segments_of}
-use Rattle.jp_syntax.specs.declared.tree.Segment.{Segment}
+use Rattle.jp_tree.specs.declared.tree.Segment.{Segment}
 use Rattle.jp_path.specs.PathQuery.{step_segment, IsStep, AreSteps}
 
 -- a text of ASCII characters

@@ -4,7 +4,7 @@ use Rattle.std.specs.List.{AllByRecursion}
 use Rattle.jp_doc.specs.Location as at
 use Rattle.jp_doc.specs.Location.{Location}
 use Rattle.jp_syntax.specs.Tree.{Query, Segment, Selector, name, index, child, query_from}
-use Rattle.jp_syntax.specs.declared.tree.Start.TheVariants.{Root}
+use Rattle.jp_tree.specs.declared.tree.Start.TheVariants.{Root}
 use Rattle.jp_syntax.specs.Characters.{is_scalar}
 use Rattle.jp_syntax.specs.Parts.{Each}
 

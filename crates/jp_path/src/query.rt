@@ -9,7 +9,7 @@ ghost use Rattle.jp_syntax.specs.View.{text_of};
 ghost use Rattle.jp_syntax.specs.PartViews.{selector_of, selectors_of, segment_of, segments_of};
 ghost use Rattle.jp_syntax.specs.Spelling.{Spells};
 ghost use Rattle.jp_syntax.specs.Depth.{bracket_depth, max_depth};
-ghost use Rattle.jp_syntax.specs.declared.tree.Start.TheVariants.{Root};
+ghost use Rattle.jp_tree.specs.declared.tree.Start.TheVariants.{Root};
 ghost use Rattle.jp_regexp.specs.Tests.{Tests};
 ghost use Rattle.jp_check.specs.Verdict.{IsAccepted};
 ghost use Rattle.jp_check.specs.Plan.{planned_query};
@@ -100,21 +100,21 @@ fn index_text(alloc: Global, index: u32) -> Result<String, AllocError>
     String::from_str(alloc, buffer.format(index))
 }
 
-#[tactic(auto, using(jp_syntax::proofs::Views::name_made))]
+#[tactic(auto, using(jp_tree::proofs::Views::name_made))]
 fn name_selector(name: String) -> Selector
     ensures name { selector_of result ≡ tree.name (text_of name) }
 {
     Selector::Name(name)
 }
 
-#[tactic(auto, using(jp_syntax::proofs::Views::index_made))]
+#[tactic(auto, using(jp_tree::proofs::Views::index_made))]
 fn index_selector(number: String) -> Selector
     ensures index { selector_of result ≡ tree.index (text_of number) }
 {
     Selector::Index(number)
 }
 
-#[tactic(auto, using(jp_syntax::proofs::Views::segment_made))]
+#[tactic(auto, using(jp_tree::proofs::Views::segment_made))]
 fn child_segment(selectors: Vec<Selector>) -> Segment
     ensures child { segment_of result ≡ tree.child (selectors_of selectors.items) }
 {
@@ -124,7 +124,7 @@ fn child_segment(selectors: Vec<Selector>) -> Segment
     }
 }
 
-#[tactic(auto, using(jp_syntax::proofs::Views::query_made))]
+#[tactic(auto, using(jp_tree::proofs::Views::query_made))]
 fn root_query(segments: Vec<Segment>) -> Query
     ensures from_root { view.query_of result ≡ tree.query_from Root (segments_of segments.items) }
 {

@@ -3,7 +3,7 @@
 ghost use Rattle.std.specs.Prelude.{◌≡◌, ◌^◌, ◌<◌, ◌≤◌, ◌⊎◌, ℕ, false, true, Some, None, IfOk, IsErrOf, OnOk};
 ghost use Rattle.std.specs.Io.KnownBytes.{IsAtEnd};
 ghost use Rattle.jp_doc.specs.declared.fault.DocFault.{DocFault as Fault};
-ghost use Rattle.jp_syntax.specs.declared.fault.QueryFault.{QueryFault as Refusal};
+ghost use Rattle.jp_tree.specs.declared.fault.QueryFault.{QueryFault as Refusal};
 ghost use Rattle.jp_program.specs.Outcome.{IsStatus, IsAnswered, IsPast, AreAllReads, AreTooManyLines};
 
 use crate::command_line::{Asked, Wanted, read_words};

@@ -7,7 +7,7 @@ ghost use Rattle.std.specs.Str.{chars};
 ghost use Rattle.jp_doc.specs.Lines.{lines, line_count};
 ghost use Rattle.jp_doc.specs.declared.fault.DocFault.{DocFault as Fault};
 ghost use Rattle.jp_syntax.specs.Tree.{Query};
-ghost use Rattle.jp_syntax.specs.declared.fault.QueryFault.{QueryFault as Refusal};
+ghost use Rattle.jp_tree.specs.declared.fault.QueryFault.{QueryFault as Refusal};
 ghost use Rattle.jp_syntax.specs.Depth.{bracket_depth, max_depth};
 ghost use Rattle.jp_check.specs.Plan.{planned_query};
 ghost use Rattle.jp_check.specs.Verdict.{IsAccepted, IsVerdict};

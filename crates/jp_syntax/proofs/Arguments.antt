@@ -3,13 +3,13 @@ use Rattle.std.proofs.Common.{◌≡◌, Bool, true, false, not, IsTrue, refl, s
 use Rattle.std.proofs.Common.{codes, List, [], ◌∷◌, ◌++◌}
 use Rattle.std.proofs.lemmas.Bool.{not_from_false, false_from_ne_true}
 use Rattle.std.proofs.lemmas.List.{append-nil}
-use Rattle.jp_syntax.specs.Tree.{Text}
-use Rattle.jp_syntax.specs.Tree as tree
-use Rattle.jp_syntax.specs.Characters.{is_lower}
-use Rattle.jp_syntax.specs.Parts.{none, more, Separated, separated}
-use Rattle.jp_syntax.specs.Spelling as sp
-use Rattle.jp_syntax.specs.Spelling.{LogicalIs, begins_with}
-use Rattle.jp_syntax.proofs.Endings.{never_at}
+use Rattle.jp_tree.specs.Tree.{Text}
+use Rattle.jp_tree.specs.Tree as tree
+use Rattle.jp_tree.specs.Characters.{is_lower}
+use Rattle.jp_tree.specs.Parts.{none, more, Separated, separated}
+use Rattle.jp_tree.specs.Spelling as sp
+use Rattle.jp_tree.specs.Spelling.{LogicalIs, begins_with}
+use Rattle.jp_tokens.proofs.Endings.{never_at}
 
 -- what is one query or one call
 abbrev pub is_single : tree.Logical → Bool

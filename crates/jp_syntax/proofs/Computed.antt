@@ -5,18 +5,18 @@ use Rattle.std.specs.Prelude.{is_none}
 use Rattle.std.specs.List.{AllByRecursion, list_all}
 use Rattle.std.proofs.lemmas.Bool.{and_parts, not-true, eqb-true}
 use Rattle.std.proofs.lemmas.List.{append-nil, nil_from_length}
-use Rattle.jp_syntax.specs.Tree.{Text, Query}
-use Rattle.jp_syntax.specs.Characters.{is_quote}
-use Rattle.jp_syntax.specs.Strings.{IsString, quoted}
-use Rattle.jp_syntax.specs.Numbers.{IsInt, IsNumber}
-use Rattle.jp_syntax.specs.Spelling.{Spells}
+use Rattle.jp_tree.specs.Tree.{Text, Query}
+use Rattle.jp_tree.specs.Characters.{is_quote}
+use Rattle.jp_tree.specs.Strings.{IsString, quoted}
+use Rattle.jp_tree.specs.Numbers.{IsInt, IsNumber}
+use Rattle.jp_tree.specs.Spelling.{Spells}
 use Rattle.jp_syntax.specs.Examples.{NoneSpells, AreInts, AreNoInts, AreNumbers, AreNoNumbers, NoneIsString}
-use Rattle.jp_syntax.specs.Reading.{Outcome, read, int_at, number_at, string_at}
+use Rattle.jp_tokens.specs.Reading.{Outcome, read, int_at, number_at, string_at}
 use Rattle.jp_syntax.proofs.ReadSound.{read_sound}
 use Rattle.jp_syntax.proofs.OneTree.{none_spelled}
-use Rattle.jp_syntax.proofs.Fronts.{Front}
-use Rattle.jp_syntax.proofs.LeavesRead.{Itself, int_sound, int_whole, number_sound, number_whole}
-use Rattle.jp_syntax.proofs.LeavesRead.{string_sound, string_whole}
+use Rattle.jp_tokens.proofs.Fronts.{Front}
+use Rattle.jp_tokens.proofs.LeavesRead.{Itself, int_sound, int_whole, number_sound, number_whole}
+use Rattle.jp_tokens.proofs.LeavesRead.{string_sound, string_whole}
 
 pub spelled : (t : Text) (q : Query) → read (length t) t ≡ Some q → Spells t q
 spelled t q e = read_sound (length t) t q e

@@ -1,17 +1,9 @@
 pub mod Arguments
 pub mod Computed
-pub mod Cuts
-pub mod DepthLaws
-pub mod DepthScan
-pub mod Endings
-pub mod Following
-pub mod Fronts
-pub mod LeavesRead
 pub mod LiteralOnce
 pub mod LoneLiterals
 pub mod NotEmpty
 pub mod OneTree
-pub mod OneValue
 pub mod Operands
 pub mod PartsSound
 pub mod PartsWhole
@@ -19,8 +11,4 @@ pub mod Progress
 pub mod ReadSound
 pub mod ReadWhole
 pub mod StringLaws
-pub mod Trims
 pub mod Top
-pub mod Turns
-pub mod Views
-pub mod Words

@@ -4,16 +4,16 @@ use Rattle.std.proofs.Common.{Some, None, refl, ap, inl, inr, arith}
 use Rattle.std.specs.Prelude.{is_none}
 use Rattle.std.proofs.lemmas.Bool.{cases_Bool}
 use Rattle.std.proofs.lemmas.Bool.Decides.{nat_tests}
-use Rattle.jp_syntax.specs.declared.tree.Operator.{Operator}
-use Rattle.jp_syntax.specs.Tree.{Text}
-use Rattle.jp_syntax.specs.Tree as tree
-use Rattle.jp_syntax.specs.Characters.{is_quote, is_digit, is_positive_digit, is_lower}
-use Rattle.jp_syntax.specs.Spelling.{begins_with}
-use Rattle.jp_syntax.specs.Reading.{Reader, ◌>>=◌, skip, run_at, int_at, whole_at, number_at, literal_at}
-use Rattle.jp_syntax.specs.Reading.{operator_at, calls, begins_literal, lone_literal_at, argument_of}
-use Rattle.jp_syntax.specs.Reading.{argument_at, operand_at, right_at, basic_at, and_at, and_behind, or_at}
-use Rattle.jp_syntax.specs.Reading.{or_behind, logical_at, compared_behind}
-use Rattle.jp_syntax.proofs.Following.{differs}
+use Rattle.jp_tree.specs.declared.tree.Operator.{Operator}
+use Rattle.jp_tree.specs.Tree.{Text}
+use Rattle.jp_tree.specs.Tree as tree
+use Rattle.jp_tree.specs.Characters.{is_quote, is_digit, is_positive_digit, is_lower}
+use Rattle.jp_tree.specs.Spelling.{begins_with}
+use Rattle.jp_tokens.specs.Reading.{Reader, ◌>>=◌, skip, run_at, int_at, whole_at, number_at, literal_at}
+use Rattle.jp_tokens.specs.Reading.{operator_at, calls, begins_literal, lone_literal_at, argument_of}
+use Rattle.jp_tokens.specs.Reading.{argument_at, operand_at, right_at, basic_at, and_at, and_behind, or_at}
+use Rattle.jp_tokens.specs.Reading.{or_behind, logical_at, compared_behind}
+use Rattle.jp_tokens.proofs.Following.{differs}
 use Rattle.jp_syntax.proofs.LoneLiterals.{calls_no_literal, sided, lone_literal_whole}
 
 -- ---- where none begins

@@ -4,24 +4,24 @@ use Rattle.std.proofs.Common.{refl, ap, ◌∙◌, append_assoc, arith}
 use Rattle.std.specs.Prelude.{is_none, codes}
 use Rattle.std.proofs.lemmas.Bool.{not-true}
 use Rattle.std.proofs.lemmas.Bool.Decides.{nat_tests}
-use Rattle.jp_syntax.specs.declared.tree.Operator.{Operator}
-use Rattle.jp_syntax.specs.declared.tree.Operator.TheVariants as op
-use Rattle.jp_syntax.specs.Tree.{Text}
-use Rattle.jp_syntax.specs.Tree as tree
-use Rattle.jp_syntax.specs.Characters.{is_blank, is_lower, is_function_character, is_quote}
-use Rattle.jp_syntax.specs.Parts.{IsBlank, After, after, Separated, separated}
-use Rattle.jp_syntax.specs.Strings.{quoted}
-use Rattle.jp_syntax.specs.Numbers.{zero_int, positive_int, negative_int, whole_int, minus_zero, IsNumber}
-use Rattle.jp_syntax.specs.Numbers.{number}
-use Rattle.jp_syntax.specs.Spelling as is
-use Rattle.jp_syntax.specs.Spelling.{begins_with, operator_text, IsFunctionName, function_name, LiteralIs}
-use Rattle.jp_syntax.specs.Spelling.{QueryIs, CallIs, ComparableIs, PlainIs, BasicIs, AndIs, OrIs, LogicalIs}
-use Rattle.jp_syntax.specs.Reading.{skip, past, run_at, int_at, whole_at, number_at, mark_at, operator_at}
-use Rattle.jp_syntax.specs.Reading.{literal_at, calls, lone_literal_at}
-use Rattle.jp_syntax.proofs.Fronts.{past_each}
-use Rattle.jp_syntax.proofs.Following.{Meets, Leaves, meets_behind, after_side, side_before_opening}
-use Rattle.jp_syntax.proofs.Following.{side_before_word}
-use Rattle.jp_syntax.proofs.LeavesRead.{literal_whole, positive_not_lower}
+use Rattle.jp_tree.specs.declared.tree.Operator.{Operator}
+use Rattle.jp_tree.specs.declared.tree.Operator.TheVariants as op
+use Rattle.jp_tree.specs.Tree.{Text}
+use Rattle.jp_tree.specs.Tree as tree
+use Rattle.jp_tree.specs.Characters.{is_blank, is_lower, is_function_character, is_quote}
+use Rattle.jp_tree.specs.Parts.{IsBlank, After, after, Separated, separated}
+use Rattle.jp_tree.specs.Strings.{quoted}
+use Rattle.jp_tree.specs.Numbers.{zero_int, positive_int, negative_int, whole_int, minus_zero, IsNumber}
+use Rattle.jp_tree.specs.Numbers.{number}
+use Rattle.jp_tree.specs.Spelling as is
+use Rattle.jp_tree.specs.Spelling.{begins_with, operator_text, IsFunctionName, function_name, LiteralIs}
+use Rattle.jp_tree.specs.Spelling.{QueryIs, CallIs, ComparableIs, PlainIs, BasicIs, AndIs, OrIs, LogicalIs}
+use Rattle.jp_tokens.specs.Reading.{skip, past, run_at, int_at, whole_at, number_at, mark_at, operator_at}
+use Rattle.jp_tokens.specs.Reading.{literal_at, calls, lone_literal_at}
+use Rattle.jp_tokens.proofs.Fronts.{past_each}
+use Rattle.jp_tokens.proofs.Following.{Meets, Leaves, meets_behind, after_side, side_before_opening}
+use Rattle.jp_tokens.proofs.Following.{side_before_word}
+use Rattle.jp_tokens.proofs.LeavesRead.{literal_whole, positive_not_lower}
 use Rattle.jp_syntax.proofs.PartsWhole.{operator_skip, operator_meets}
 
 -- a word before what goes on with none of its characters, and with no parenthesis

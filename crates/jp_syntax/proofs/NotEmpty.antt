@@ -1,10 +1,10 @@
 -- Parts that hold a character at least.
 use Rattle.std.proofs.Common.{ℕ, ◌<◌, ◌∷◌, ◌++◌, length, arith, length-append}
-use Rattle.jp_syntax.specs.Tree.{Text}
-use Rattle.jp_syntax.specs.Tree as tree
-use Rattle.jp_syntax.specs.Parts.{Behind, behind, After, after}
-use Rattle.jp_syntax.specs.Spelling as is
-use Rattle.jp_syntax.specs.Spelling.{SegmentIs}
+use Rattle.jp_tree.specs.Tree.{Text}
+use Rattle.jp_tree.specs.Tree as tree
+use Rattle.jp_tree.specs.Parts.{Behind, behind, After, after}
+use Rattle.jp_tree.specs.Spelling as is
+use Rattle.jp_tree.specs.Spelling.{SegmentIs}
 
 pub after_some : {A : Type 0} (c : ℕ) (mark : Text) (Part : Text → A → Type 0) (s : Text) (x : A)
     → After (c ∷ mark) Part s x → 0 < length s

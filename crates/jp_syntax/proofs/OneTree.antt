@@ -1,9 +1,9 @@
 -- A text spells at most one tree, and whether it spells one is decided.
 use Rattle.std.proofs.Common.{◌≡◌, length, arith, Option, Some, None, refl, sym, ◌∙◌, ◌⊎◌, inl, inr}
 use Rattle.std.proofs.lemmas.Option.{same_Some}
-use Rattle.jp_syntax.specs.Tree.{Text, Query}
-use Rattle.jp_syntax.specs.Spelling.{Spells}
-use Rattle.jp_syntax.specs.Reading.{read}
+use Rattle.jp_tree.specs.Tree.{Text, Query}
+use Rattle.jp_tree.specs.Spelling.{Spells}
+use Rattle.jp_tokens.specs.Reading.{read}
 use Rattle.jp_syntax.proofs.ReadSound.{read_sound}
 use Rattle.jp_syntax.proofs.ReadWhole.{read_whole}
 

@@ -2,18 +2,18 @@
 use Rattle.std.proofs.Common.{◌≡◌, ℕ, zero, suc, Bool, true, false, ◌||◌, ◌==◌, List, [], ◌∷◌, ◌++◌, Some}
 use Rattle.std.proofs.Common.{refl, subst}
 use Rattle.std.proofs.lemmas.Option.{same_Some}
-use Rattle.jp_syntax.specs.Tree.{Text}
-use Rattle.jp_syntax.specs.Tree as tree
-use Rattle.jp_syntax.specs.Characters.{is_lower, is_positive_digit, is_quote}
-use Rattle.jp_syntax.specs.Parts.{Separated, separated}
-use Rattle.jp_syntax.specs.Strings.{quoted}
-use Rattle.jp_syntax.specs.Numbers.{zero_int, positive_int, negative_int, IsWhole, whole_int, minus_zero}
-use Rattle.jp_syntax.specs.Numbers.{number}
-use Rattle.jp_syntax.specs.Spelling as is
-use Rattle.jp_syntax.specs.Spelling.{IsFunctionName, function_name, LiteralIs, QueryIs, CallIs, ComparableIs}
-use Rattle.jp_syntax.specs.Spelling.{PlainIs, BasicIs, AndIs, OrIs, LogicalIs, begins_with}
-use Rattle.jp_syntax.specs.Reading.{as_test, is_side}
-use Rattle.jp_syntax.proofs.Following.{firm, differs}
+use Rattle.jp_tree.specs.Tree.{Text}
+use Rattle.jp_tree.specs.Tree as tree
+use Rattle.jp_tree.specs.Characters.{is_lower, is_positive_digit, is_quote}
+use Rattle.jp_tree.specs.Parts.{Separated, separated}
+use Rattle.jp_tree.specs.Strings.{quoted}
+use Rattle.jp_tree.specs.Numbers.{zero_int, positive_int, negative_int, IsWhole, whole_int, minus_zero}
+use Rattle.jp_tree.specs.Numbers.{number}
+use Rattle.jp_tree.specs.Spelling as is
+use Rattle.jp_tree.specs.Spelling.{IsFunctionName, function_name, LiteralIs, QueryIs, CallIs, ComparableIs}
+use Rattle.jp_tree.specs.Spelling.{PlainIs, BasicIs, AndIs, OrIs, LogicalIs, begins_with}
+use Rattle.jp_tokens.specs.Reading.{as_test, is_side}
+use Rattle.jp_tokens.proofs.Following.{firm, differs}
 
 -- what a literal, a side by itself and a logical expression begin with
 abbrev pub is_literal_lead : ℕ → Bool

@@ -3,25 +3,25 @@ use Rattle.std.proofs.Common.{◌≡◌, ℕ, Bool, true, false, cond, eqb, List
 use Rattle.std.proofs.Common.{refl, sym, ap, subst, ◌∙◌, append_assoc, inl, inr}
 use Rattle.std.proofs.lemmas.Bool.{eqb-true}
 use Rattle.std.proofs.lemmas.Option.{cond_some, same_Some, option_and_then_some}
-use Rattle.jp_syntax.specs.declared.tree.Start.{Start}
-use Rattle.jp_syntax.specs.declared.tree.Start.TheVariants.{Root, Current}
-use Rattle.jp_syntax.specs.declared.tree.Operator.{Operator}
-use Rattle.jp_syntax.specs.declared.tree.Operator.TheVariants as op
-use Rattle.jp_syntax.specs.Tree.{Text}
-use Rattle.jp_syntax.specs.Tree as tree
-use Rattle.jp_syntax.specs.Characters.{is_blank, is_quote}
-use Rattle.jp_syntax.specs.Parts.{Each, IsBlank, Star, Behind, behind, After, after, Separated, separated}
-use Rattle.jp_syntax.specs.Numbers.{IsInt}
-use Rattle.jp_syntax.specs.Spelling as is
-use Rattle.jp_syntax.specs.Spelling.{begins_with, operator_text, IsShorthand, BoundIs, StepIs, SelectorIs}
-use Rattle.jp_syntax.specs.Spelling.{BracketedIs, SegmentIs, QueryIs}
-use Rattle.jp_syntax.specs.Reading.{Reader, Outcome, Turn, ◌>>=◌, taken, past, skip, all_of, next_item}
-use Rattle.jp_syntax.specs.Reading.{items_at, name_at, int_at, string_at, mark_at, begins_int, bound_at}
-use Rattle.jp_syntax.specs.Reading.{step_at, slice_at, index_or_slice, numbers_at, or_equal, operator_at}
-use Rattle.jp_syntax.specs.Reading.{selector_at, bracketed_at, named_at, descendant_at, dotted_at}
-use Rattle.jp_syntax.specs.Reading.{segment_behind, segments_at, query_at}
-use Rattle.jp_syntax.proofs.Fronts.{given, bind_some, chosen, Front, run_whole, run_each, IsTurn, all_sound}
-use Rattle.jp_syntax.proofs.LeavesRead.{Itself, carried, name_sound, int_sound, string_sound, mark_sound}
+use Rattle.jp_tree.specs.declared.tree.Start.{Start}
+use Rattle.jp_tree.specs.declared.tree.Start.TheVariants.{Root, Current}
+use Rattle.jp_tree.specs.declared.tree.Operator.{Operator}
+use Rattle.jp_tree.specs.declared.tree.Operator.TheVariants as op
+use Rattle.jp_tree.specs.Tree.{Text}
+use Rattle.jp_tree.specs.Tree as tree
+use Rattle.jp_tree.specs.Characters.{is_blank, is_quote}
+use Rattle.jp_tree.specs.Parts.{Each, IsBlank, Star, Behind, behind, After, after, Separated, separated}
+use Rattle.jp_tree.specs.Numbers.{IsInt}
+use Rattle.jp_tree.specs.Spelling as is
+use Rattle.jp_tree.specs.Spelling.{begins_with, operator_text, IsShorthand, BoundIs, StepIs, SelectorIs}
+use Rattle.jp_tree.specs.Spelling.{BracketedIs, SegmentIs, QueryIs}
+use Rattle.jp_tokens.specs.Reading.{Reader, Outcome, Turn, ◌>>=◌, taken, past, skip, all_of, next_item}
+use Rattle.jp_tokens.specs.Reading.{items_at, name_at, int_at, string_at, mark_at, begins_int, bound_at}
+use Rattle.jp_tokens.specs.Reading.{step_at, slice_at, index_or_slice, numbers_at, or_equal, operator_at}
+use Rattle.jp_tokens.specs.Reading.{selector_at, bracketed_at, named_at, descendant_at, dotted_at}
+use Rattle.jp_tokens.specs.Reading.{segment_behind, segments_at, query_at}
+use Rattle.jp_tokens.proofs.Fronts.{given, bind_some, chosen, Front, run_whole, run_each, IsTurn, all_sound}
+use Rattle.jp_tokens.proofs.LeavesRead.{Itself, carried, name_sound, int_sound, string_sound, mark_sound}
 
 pub front_behind : {A : Type 0} (Part : Text → A → Type 0) (t : Text) (x : A) (rest : Text)
     → Front Part (skip t) x rest → Front (Behind Part) t x rest

@@ -3,32 +3,32 @@ use Rattle.std.proofs.Common.{◌≡◌, ℕ, suc, ◌≤◌, Bool, true, false,
 use Rattle.std.proofs.Common.{length, Option, Some, None, refl, sym, ap, subst, ◌∙◌, append_assoc}
 use Rattle.std.proofs.Common.{length-append, arith}
 use Rattle.std.proofs.lemmas.Bool.{eq-eqb}
-use Rattle.jp_syntax.specs.declared.tree.Operator.{Operator}
-use Rattle.jp_syntax.specs.declared.tree.Operator.TheVariants as op
-use Rattle.jp_syntax.specs.Tree.{Text}
-use Rattle.jp_syntax.specs.Tree as tree
-use Rattle.jp_syntax.specs.Characters.{is_blank, is_digit, is_positive_digit, is_first, is_name_character}
-use Rattle.jp_syntax.specs.Characters.{is_quote}
-use Rattle.jp_syntax.specs.Parts.{IsBlank, Star, Behind, behind, After, after, Separated, separated}
-use Rattle.jp_syntax.specs.Strings.{quoted}
-use Rattle.jp_syntax.specs.Numbers.{IsInt, zero_int, positive_int, negative_int}
-use Rattle.jp_syntax.specs.Spelling as is
-use Rattle.jp_syntax.specs.Spelling.{begins_with, operator_text, IsShorthand, shorthand, BoundIs, StepIs}
-use Rattle.jp_syntax.specs.Spelling.{SelectorIs, BracketedIs, SegmentIs, QueryIs}
-use Rattle.jp_syntax.specs.Reading.{Reader, Outcome, Turn, skip, all_of, next_item, items_at, int_at}
-use Rattle.jp_syntax.specs.Reading.{string_at, mark_at, begins_int, bound_at, step_at, slice_at}
-use Rattle.jp_syntax.specs.Reading.{index_or_slice, numbers_at, or_equal, operator_at, selector_at}
-use Rattle.jp_syntax.specs.Reading.{bracketed_at, named_at, descendant_at, dotted_at, segment_behind}
-use Rattle.jp_syntax.specs.Reading.{segments_at, query_at}
+use Rattle.jp_tree.specs.declared.tree.Operator.{Operator}
+use Rattle.jp_tree.specs.declared.tree.Operator.TheVariants as op
+use Rattle.jp_tree.specs.Tree.{Text}
+use Rattle.jp_tree.specs.Tree as tree
+use Rattle.jp_tree.specs.Characters.{is_blank, is_digit, is_positive_digit, is_first, is_name_character}
+use Rattle.jp_tree.specs.Characters.{is_quote}
+use Rattle.jp_tree.specs.Parts.{IsBlank, Star, Behind, behind, After, after, Separated, separated}
+use Rattle.jp_tree.specs.Strings.{quoted}
+use Rattle.jp_tree.specs.Numbers.{IsInt, zero_int, positive_int, negative_int}
+use Rattle.jp_tree.specs.Spelling as is
+use Rattle.jp_tree.specs.Spelling.{begins_with, operator_text, IsShorthand, shorthand, BoundIs, StepIs}
+use Rattle.jp_tree.specs.Spelling.{SelectorIs, BracketedIs, SegmentIs, QueryIs}
+use Rattle.jp_tokens.specs.Reading.{Reader, Outcome, Turn, skip, all_of, next_item, items_at, int_at}
+use Rattle.jp_tokens.specs.Reading.{string_at, mark_at, begins_int, bound_at, step_at, slice_at}
+use Rattle.jp_tokens.specs.Reading.{index_or_slice, numbers_at, or_equal, operator_at, selector_at}
+use Rattle.jp_tokens.specs.Reading.{bracketed_at, named_at, descendant_at, dotted_at, segment_behind}
+use Rattle.jp_tokens.specs.Reading.{segments_at, query_at}
 use Rattle.jp_syntax.proofs.NotEmpty.{after_some, segment_some}
-use Rattle.jp_syntax.proofs.Endings.{positive_is_digit}
-use Rattle.jp_syntax.proofs.Fronts.{past_each, starts, Steps, all_whole, star_good}
-use Rattle.jp_syntax.proofs.Following.{differs, firm, firm_append, skip_behind, Meets, Leaves, meets_behind}
-use Rattle.jp_syntax.proofs.Following.{meets_firm, among_all, after_selector, after_logical, after_basic}
-use Rattle.jp_syntax.proofs.Following.{after_side, begins_segment, after_bound, side_before_name}
-use Rattle.jp_syntax.proofs.Following.{side_before_segment, segment_before_name, bound_before_digit}
-use Rattle.jp_syntax.proofs.Following.{selector_in_logical, selector_in_bound}
-use Rattle.jp_syntax.proofs.LeavesRead.{name_whole, int_whole, string_whole, int_firm, quote_firm}
+use Rattle.jp_tokens.proofs.Endings.{positive_is_digit}
+use Rattle.jp_tokens.proofs.Fronts.{past_each, starts, Steps, all_whole, star_good}
+use Rattle.jp_tokens.proofs.Following.{differs, firm, firm_append, skip_behind, Meets, Leaves, meets_behind}
+use Rattle.jp_tokens.proofs.Following.{meets_firm, among_all, after_selector, after_logical, after_basic}
+use Rattle.jp_tokens.proofs.Following.{after_side, begins_segment, after_bound, side_before_name}
+use Rattle.jp_tokens.proofs.Following.{side_before_segment, segment_before_name, bound_before_digit}
+use Rattle.jp_tokens.proofs.Following.{selector_in_logical, selector_in_bound}
+use Rattle.jp_tokens.proofs.LeavesRead.{name_whole, int_whole, string_whole, int_firm, quote_firm}
 
 -- ---- operators
 

@@ -1,20 +1,14 @@
 -- The loops of the reader get on.
 use Rattle.std.proofs.Common.{ℕ, [], ◌∷◌}
-use Rattle.jp_syntax.specs.Parts.{Behind, After}
-use Rattle.jp_syntax.specs.Strings.{Piece}
-use Rattle.jp_syntax.specs.Spelling.{SelectorIs, SegmentIs, ArgumentIs, BasicIs, AndIs, LogicalIs}
-use Rattle.jp_syntax.specs.Reading.{skip, next_item, next_basic, next_and, piece_at, selector_at, argument_at}
-use Rattle.jp_syntax.specs.Reading.{segment_behind, basic_at, and_at, logical_at}
-use Rattle.jp_syntax.proofs.LeavesRead.{Close, piece_sound, piece_some}
+use Rattle.jp_tree.specs.Parts.{Behind, After}
+use Rattle.jp_tree.specs.Spelling.{SelectorIs, SegmentIs, ArgumentIs, BasicIs, AndIs, LogicalIs}
+use Rattle.jp_tokens.specs.Reading.{skip, next_item, next_basic, next_and, selector_at, argument_at}
+use Rattle.jp_tokens.specs.Reading.{segment_behind, basic_at, and_at, logical_at}
 use Rattle.jp_syntax.proofs.NotEmpty.{after_some, segment_some}
 use Rattle.jp_syntax.proofs.Operands.{logical_firm}
 use Rattle.jp_syntax.proofs.PartsSound.{Closing, Nothing, next_sound, selector_sound, segment_sound}
 use Rattle.jp_syntax.proofs.ReadSound.{argument_sound, basic_sound, and_sound, turn_sound, logical_sound}
-use Rattle.jp_syntax.proofs.Turns.{GetsOn, gets_on}
-
-pub pieces_get_on : (quote : ℕ) → GetsOn (piece_at quote)
-pieces_get_on quote = gets_on (piece_at quote) (Piece quote) (Close quote) (piece_sound quote)
-    (piece_some quote)
+use Rattle.jp_tokens.proofs.Turns.{GetsOn, gets_on}
 
 module _ (n : ℕ) where
   pub selectors_get_on : GetsOn (λ u. next_item 93 (selector_at (logical_at n)) (skip u))

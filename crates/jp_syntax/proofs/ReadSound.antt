@@ -6,25 +6,25 @@ use Rattle.std.specs.Prelude.{is_none}
 use Rattle.std.proofs.lemmas.List.{append-nil, nil_from_length}
 use Rattle.std.proofs.lemmas.Bool.{eqb-true, and_parts}
 use Rattle.std.proofs.lemmas.Option.{some_pair_parts, cond_some, option_and_then_some}
-use Rattle.jp_syntax.specs.declared.tree.Start.TheVariants.{Root}
-use Rattle.jp_syntax.specs.declared.tree.Operator.{Operator}
-use Rattle.jp_syntax.specs.Tree.{Text}
-use Rattle.jp_syntax.specs.Tree as tree
-use Rattle.jp_syntax.specs.Characters.{is_blank}
-use Rattle.jp_syntax.specs.Parts.{IsBlank, Behind, behind, After, after, Separated, separated}
-use Rattle.jp_syntax.specs.Spelling as is
-use Rattle.jp_syntax.specs.Spelling.{begins_with, operator_text, joined, IsFunctionName, LiteralIs, QueryIs}
-use Rattle.jp_syntax.specs.Spelling.{CallIs, ArgumentIs, ComparableIs, PlainIs, BasicIs, AndIs, OrIs}
-use Rattle.jp_syntax.specs.Spelling.{LogicalIs, Spells}
-use Rattle.jp_syntax.specs.Reading.{Reader, Outcome, Turn, ◌>>=◌, taken, skip, all_of, items_at}
-use Rattle.jp_syntax.specs.Reading.{function_name_at, literal_at, mark_at, operator_at, calls}
-use Rattle.jp_syntax.specs.Reading.{lone_literal_at, as_test, is_side, argument_of, next_part, segments_at}
-use Rattle.jp_syntax.specs.Reading.{query_at, argument_at, arguments_at, call_at, operand_at, grouped_at}
-use Rattle.jp_syntax.specs.Reading.{tested_at, plain_at, right_at, compared_at, basic_at, and_at, or_at}
-use Rattle.jp_syntax.specs.Reading.{logical_at, read}
-use Rattle.jp_syntax.proofs.Fronts.{given, chosen, Front, run_whole, run_each, IsTurn, all_sound}
-use Rattle.jp_syntax.proofs.Following.{firm}
-use Rattle.jp_syntax.proofs.LeavesRead.{carried, function_sound, literal_sound, mark_sound}
+use Rattle.jp_tree.specs.declared.tree.Start.TheVariants.{Root}
+use Rattle.jp_tree.specs.declared.tree.Operator.{Operator}
+use Rattle.jp_tree.specs.Tree.{Text}
+use Rattle.jp_tree.specs.Tree as tree
+use Rattle.jp_tree.specs.Characters.{is_blank}
+use Rattle.jp_tree.specs.Parts.{IsBlank, Behind, behind, After, after, Separated, separated}
+use Rattle.jp_tree.specs.Spelling as is
+use Rattle.jp_tree.specs.Spelling.{begins_with, operator_text, joined, IsFunctionName, LiteralIs, QueryIs}
+use Rattle.jp_tree.specs.Spelling.{CallIs, ArgumentIs, ComparableIs, PlainIs, BasicIs, AndIs, OrIs}
+use Rattle.jp_tree.specs.Spelling.{LogicalIs, Spells}
+use Rattle.jp_tokens.specs.Reading.{Reader, Outcome, Turn, ◌>>=◌, taken, skip, all_of, items_at}
+use Rattle.jp_tokens.specs.Reading.{function_name_at, literal_at, mark_at, operator_at, calls}
+use Rattle.jp_tokens.specs.Reading.{lone_literal_at, as_test, is_side, argument_of, next_part, segments_at}
+use Rattle.jp_tokens.specs.Reading.{query_at, argument_at, arguments_at, call_at, operand_at, grouped_at}
+use Rattle.jp_tokens.specs.Reading.{tested_at, plain_at, right_at, compared_at, basic_at, and_at, or_at}
+use Rattle.jp_tokens.specs.Reading.{logical_at, read}
+use Rattle.jp_tokens.proofs.Fronts.{given, chosen, Front, run_whole, run_each, IsTurn, all_sound}
+use Rattle.jp_tokens.proofs.Following.{firm}
+use Rattle.jp_tokens.proofs.LeavesRead.{carried, function_sound, literal_sound, mark_sound}
 use Rattle.jp_syntax.proofs.Operands.{begins_front, OperandIs, literal_operand, query_operand, call_operand}
 use Rattle.jp_syntax.proofs.Operands.{side_of, test_of, logical_firm}
 use Rattle.jp_syntax.proofs.PartsSound.{front_behind, led_whole, Led, led, after_behind, turned, Nothing}

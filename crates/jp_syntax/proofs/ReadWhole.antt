@@ -4,28 +4,28 @@ use Rattle.std.proofs.Common.{length, Some, None, refl, sym, ap, subst, ◌∙�
 use Rattle.std.proofs.Common.{arith}
 use Rattle.std.proofs.lemmas.List.{append-nil}
 use Rattle.std.proofs.lemmas.Bool.{eq-eqb, not-true}
-use Rattle.jp_syntax.specs.declared.tree.Start.TheVariants.{Root}
-use Rattle.jp_syntax.specs.declared.tree.Operator.{Operator}
-use Rattle.jp_syntax.specs.Tree.{Text}
-use Rattle.jp_syntax.specs.Tree as tree
-use Rattle.jp_syntax.specs.Characters.{is_blank, is_lower}
-use Rattle.jp_syntax.specs.Parts.{IsBlank, After, after, Separated, separated}
-use Rattle.jp_syntax.specs.Spelling as is
-use Rattle.jp_syntax.specs.Spelling.{begins_with, is_composite, operator_text, joined, IsFunctionName}
-use Rattle.jp_syntax.specs.Spelling.{function_name, LiteralIs, QueryIs, CallIs, ArgumentIs, ComparableIs}
-use Rattle.jp_syntax.specs.Spelling.{PlainIs, BasicIs, AndIs, OrIs, LogicalIs, Spells}
-use Rattle.jp_syntax.specs.Reading.{Reader, Outcome, Turn, ◌>>=◌, skip, all_of, items_at, function_name_at}
-use Rattle.jp_syntax.specs.Reading.{literal_at, mark_at, operator_at, calls, lone_literal_at, as_test}
-use Rattle.jp_syntax.specs.Reading.{is_side, argument_of, next_part, segments_at, query_at, argument_at}
-use Rattle.jp_syntax.specs.Reading.{arguments_at, call_at, operand_at, grouped_at, tested_at, plain_at}
-use Rattle.jp_syntax.specs.Reading.{right_at, compared_at, basic_at, and_at, or_at, logical_at, read}
-use Rattle.jp_syntax.proofs.Fronts.{past_each, starts, Steps, all_whole, star_good}
-use Rattle.jp_syntax.proofs.Following.{differs, firm, firm_some, skip_behind, Meets, meets_behind, meets_firm}
-use Rattle.jp_syntax.proofs.Following.{among_all, starts_wider, after_argument, after_logical, after_and}
-use Rattle.jp_syntax.proofs.Following.{after_basic, after_side, basic_in_side, argument_in_side}
-use Rattle.jp_syntax.proofs.Following.{argument_in_basic, argument_in_logical}
+use Rattle.jp_tree.specs.declared.tree.Start.TheVariants.{Root}
+use Rattle.jp_tree.specs.declared.tree.Operator.{Operator}
+use Rattle.jp_tree.specs.Tree.{Text}
+use Rattle.jp_tree.specs.Tree as tree
+use Rattle.jp_tree.specs.Characters.{is_blank, is_lower}
+use Rattle.jp_tree.specs.Parts.{IsBlank, After, after, Separated, separated}
+use Rattle.jp_tree.specs.Spelling as is
+use Rattle.jp_tree.specs.Spelling.{begins_with, is_composite, operator_text, joined, IsFunctionName}
+use Rattle.jp_tree.specs.Spelling.{function_name, LiteralIs, QueryIs, CallIs, ArgumentIs, ComparableIs}
+use Rattle.jp_tree.specs.Spelling.{PlainIs, BasicIs, AndIs, OrIs, LogicalIs, Spells}
+use Rattle.jp_tokens.specs.Reading.{Reader, Outcome, Turn, ◌>>=◌, skip, all_of, items_at, function_name_at}
+use Rattle.jp_tokens.specs.Reading.{literal_at, mark_at, operator_at, calls, lone_literal_at, as_test}
+use Rattle.jp_tokens.specs.Reading.{is_side, argument_of, next_part, segments_at, query_at, argument_at}
+use Rattle.jp_tokens.specs.Reading.{arguments_at, call_at, operand_at, grouped_at, tested_at, plain_at}
+use Rattle.jp_tokens.specs.Reading.{right_at, compared_at, basic_at, and_at, or_at, logical_at, read}
+use Rattle.jp_tokens.proofs.Fronts.{past_each, starts, Steps, all_whole, star_good}
+use Rattle.jp_tokens.proofs.Following.{differs, firm, firm_some, skip_behind, Meets, meets_behind, meets_firm}
+use Rattle.jp_tokens.proofs.Following.{among_all, starts_wider, after_argument, after_logical, after_and}
+use Rattle.jp_tokens.proofs.Following.{after_basic, after_side, basic_in_side, argument_in_side}
+use Rattle.jp_tokens.proofs.Following.{argument_in_basic, argument_in_logical}
 use Rattle.jp_syntax.proofs.NotEmpty.{after_some}
-use Rattle.jp_syntax.proofs.LeavesRead.{function_whole, literal_whole, mark_whole}
+use Rattle.jp_tokens.proofs.LeavesRead.{function_whole, literal_whole, mark_whole}
 use Rattle.jp_syntax.proofs.Operands.{is_lead, leads, leads_firm, begins_front, literal_leads, literal_begins}
 use Rattle.jp_syntax.proofs.Operands.{operand_begins, leads_append, OperandIs, literal_operand, query_operand}
 use Rattle.jp_syntax.proofs.Operands.{call_operand, operand_of, side_fits, operand_leads, plain_leads}

@@ -3,11 +3,11 @@ use Rattle.std.proofs.Common.{ℕ, [], ◌∷◌, ◌≤◌, Bool, true, false, 
 use Rattle.std.proofs.Common.{Option, Some, None, if◌then◌else◌, nat_le}
 use Rattle.std.proofs.lemmas.Bool.{and_parts}
 use Rattle.std.proofs.lemmas.Bool.Decides.{nat_tests}
-use Rattle.jp_syntax.specs.Tree.{Text}
-use Rattle.jp_syntax.specs.Characters.{is_scalar, is_quote, is_bare, escaped, is_hex_digit, hex_value}
-use Rattle.jp_syntax.specs.Characters.{is_surrogate, is_high_surrogate, is_low_surrogate, pair_value}
-use Rattle.jp_syntax.specs.Parts.{Each, Star, none, more}
-use Rattle.jp_syntax.specs.Strings.{Piece, bare, escape, unicode, surrogates, HexIs, four, IsString, quoted}
+use Rattle.jp_tree.specs.Tree.{Text}
+use Rattle.jp_tree.specs.Characters.{is_scalar, is_quote, is_bare, escaped, is_hex_digit, hex_value}
+use Rattle.jp_tree.specs.Characters.{is_surrogate, is_high_surrogate, is_low_surrogate, pair_value}
+use Rattle.jp_tree.specs.Parts.{Each, Star, none, more}
+use Rattle.jp_tree.specs.Strings.{Piece, bare, escape, unicode, surrogates, HexIs, four, IsString, quoted}
 
 abbrev scalar_if_any : Option ℕ → Bool
 scalar_if_any (Some n) = is_scalar n

@@ -3,16 +3,16 @@ use Rattle.std.proofs.Common.{◌≡◌, ℕ, ◌≤◌, ◌<◌, length, Option
 use Rattle.std.proofs.Common.{inl, inr, ◌⊎◌, ◌↔◌, arith}
 use Rattle.std.specs.Prelude.{IfOk, IfErr, IsErrOf}
 use Rattle.std.proofs.lemmas.Option.{same_Some}
-use Rattle.jp_syntax.specs.declared.fault.QueryFault.{QueryFault}
-use Rattle.jp_syntax.specs.declared.fault.QueryFault.TheVariants as faults
-use Rattle.jp_syntax.specs.declared.tree.Query.{Query}
-use Rattle.jp_syntax.specs.Tree.{Text}
-use Rattle.jp_syntax.specs.Tree as tree
-use Rattle.jp_syntax.specs.View.{query_of}
-use Rattle.jp_syntax.specs.Spelling.{Spells}
-use Rattle.jp_syntax.specs.Depth.{bracket_depth, max_depth}
-use Rattle.jp_syntax.specs.Reading.{read}
-use Rattle.jp_syntax.specs.Gives.{Gives}
+use Rattle.jp_tree.specs.declared.fault.QueryFault.{QueryFault}
+use Rattle.jp_tree.specs.declared.fault.QueryFault.TheVariants as faults
+use Rattle.jp_tree.specs.declared.tree.Query.{Query}
+use Rattle.jp_tree.specs.Tree.{Text}
+use Rattle.jp_tree.specs.Tree as tree
+use Rattle.jp_tree.specs.View.{query_of}
+use Rattle.jp_tree.specs.Spelling.{Spells}
+use Rattle.jp_tokens.specs.Depth.{bracket_depth, max_depth}
+use Rattle.jp_tokens.specs.Reading.{read}
+use Rattle.jp_tokens.specs.Gives.{Gives}
 use Rattle.jp_syntax.proofs.ReadSound.{read_sound}
 use Rattle.jp_syntax.proofs.ReadWhole.{read_whole}
 

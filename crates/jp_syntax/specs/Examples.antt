@@ -1,14 +1,14 @@
 -- Short names for the worked examples.
 use Rattle.std.specs.Prelude.{ℕ, Bool, IsTrue, IsFalse, List, [], ◌∷◌, codes}
 use Rattle.std.specs.List.{AllByRecursion}
-use Rattle.jp_syntax.specs.declared.tree.Start.TheVariants.{Root, Current}
-use Rattle.jp_syntax.specs.declared.tree.Operator.{Operator}
-use Rattle.jp_syntax.specs.declared.tree.Operator.TheVariants as op
-use Rattle.jp_syntax.specs.Tree.{Text}
-use Rattle.jp_syntax.specs.Tree as tree
-use Rattle.jp_syntax.specs.Numbers.{IsInt, IsNumber}
-use Rattle.jp_syntax.specs.Strings.{IsString}
-use Rattle.jp_syntax.specs.Spelling.{Spells}
+use Rattle.jp_tree.specs.declared.tree.Start.TheVariants.{Root, Current}
+use Rattle.jp_tree.specs.declared.tree.Operator.{Operator}
+use Rattle.jp_tree.specs.declared.tree.Operator.TheVariants as op
+use Rattle.jp_tree.specs.Tree.{Text}
+use Rattle.jp_tree.specs.Tree as tree
+use Rattle.jp_tree.specs.Numbers.{IsInt, IsNumber}
+use Rattle.jp_tree.specs.Strings.{IsString}
+use Rattle.jp_tree.specs.Spelling.{Spells}
 
 -- a child segment with this name alone
 abbrev pub member : Text → tree.Segment

@@ -2,16 +2,16 @@
 
 ghost use Rattle.std.specs.Prelude.{◌≡◌, ◌++◌, [], ◌∷◌, codes, replicate, true, false, Some, None};
 ghost use Rattle.std.specs.Prelude.{IsTrue, IsFalse};
-ghost use Rattle.jp_syntax.specs.declared.tree.Operator.TheVariants as op;
-ghost use Rattle.jp_syntax.specs.Tree.{name, wildcard, index, slice, filter, negation, single, value_call};
-ghost use Rattle.jp_syntax.specs.Tree.{literal, number, text, truth, null, child, descendant, test};
-ghost use Rattle.jp_syntax.specs.Tree.{test_call};
-ghost use Rattle.jp_syntax.specs.Tree.{literal_argument, query_argument, logical_argument, call_argument};
-ghost use Rattle.jp_syntax.specs.Characters as class;
-ghost use Rattle.jp_syntax.specs.Depth.{bracket_depth, max_depth};
-ghost use Rattle.jp_syntax.specs.Singular.{is_singular};
-ghost use Rattle.jp_syntax.specs.Strings.{IsString};
-ghost use Rattle.jp_syntax.specs.Spelling.{Spells};
+ghost use Rattle.jp_tree.specs.declared.tree.Operator.TheVariants as op;
+ghost use Rattle.jp_tree.specs.Tree.{name, wildcard, index, slice, filter, negation, single, value_call};
+ghost use Rattle.jp_tree.specs.Tree.{literal, number, text, truth, null, child, descendant, test};
+ghost use Rattle.jp_tree.specs.Tree.{test_call};
+ghost use Rattle.jp_tree.specs.Tree.{literal_argument, query_argument, logical_argument, call_argument};
+ghost use Rattle.jp_tree.specs.Characters as class;
+ghost use Rattle.jp_tokens.specs.Depth.{bracket_depth, max_depth};
+ghost use Rattle.jp_tree.specs.Singular.{is_singular};
+ghost use Rattle.jp_tree.specs.Strings.{IsString};
+ghost use Rattle.jp_tree.specs.Spelling.{Spells};
 ghost use Rattle.jp_syntax.specs.Examples.{Holds, HoldsNone, AreInts, AreNoInts, AreNumbers, AreNoNumbers};
 ghost use Rattle.jp_syntax.specs.Examples.{NoneIsString, NoneSpells};
 ghost use Rattle.jp_syntax.specs.Examples.{member, item, from_root, from_current, selecting, filtering, its};

@@ -1,14 +1,14 @@
 //! Laws of the definitions.
 
 ghost use Rattle.std.specs.Prelude.{◌≡◌, ◌≤◌, ◌⊎◌, ℕ, suc, not, ◌↔◌, IsTrue, IsFalse, [], ◌∷◌, ◌++◌, length};
-ghost use Rattle.jp_syntax.specs.declared.tree.Start.{Start};
-ghost use Rattle.jp_syntax.specs.declared.tree.Start.TheVariants.{Root};
-ghost use Rattle.jp_syntax.specs.Tree.{Text, Query, Segments, Call, query, test, test_call};
-ghost use Rattle.jp_syntax.specs.Characters.{is_blank, is_bare, is_scalar};
-ghost use Rattle.jp_syntax.specs.Parts.{Each};
-ghost use Rattle.jp_syntax.specs.Strings.{IsString};
-ghost use Rattle.jp_syntax.specs.Spelling.{Spells, LogicalIs, QueryIs, CallIs, begins_with};
-ghost use Rattle.jp_syntax.specs.Depth.{bracket_depth, open_brackets};
+ghost use Rattle.jp_tree.specs.declared.tree.Start.{Start};
+ghost use Rattle.jp_tree.specs.declared.tree.Start.TheVariants.{Root};
+ghost use Rattle.jp_tree.specs.Tree.{Text, Query, Segments, Call, query, test, test_call};
+ghost use Rattle.jp_tree.specs.Characters.{is_blank, is_bare, is_scalar};
+ghost use Rattle.jp_tree.specs.Parts.{Each};
+ghost use Rattle.jp_tree.specs.Strings.{IsString};
+ghost use Rattle.jp_tree.specs.Spelling.{Spells, LogicalIs, QueryIs, CallIs, begins_with};
+ghost use Rattle.jp_tokens.specs.Depth.{bracket_depth, open_brackets};
 
 /// A spelled query starts at the root (RFC 9535, 2.2), and its text begins with `$`.
 pub fn starts_at_root()

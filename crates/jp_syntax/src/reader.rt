@@ -4,54 +4,34 @@
 //! `left` bounds how deep logical expressions stand inside each other.
 
 ghost use Rattle.std.specs.Prelude.{◌≡◌, ◌<◌, ◌⊎◌, ◌↔◌, length, option_map, IfOk, IfErr, IsErrOf};
-ghost use Rattle.jp_syntax.specs.Reading as reading;
-ghost use Rattle.jp_syntax.specs.Tree as tree;
-ghost use Rattle.jp_syntax.specs.View.{query_of};
-ghost use Rattle.jp_syntax.specs.PartViews.{argument_of, comparable_of, logical_of, selector_of, call_of};
-ghost use Rattle.jp_syntax.specs.PartViews.{segment_of, segments_of, selectors_of, logicals_of, arguments_of};
-ghost use Rattle.jp_syntax.specs.Gives.{Gives, GivesFront, ReadsRest};
-ghost use Rattle.jp_syntax.specs.Spelling.{Spells};
-ghost use Rattle.jp_syntax.specs.Depth.{bracket_depth, max_depth};
+ghost use Rattle.jp_tokens.specs.Reading as reading;
+ghost use Rattle.jp_tree.specs.Tree as tree;
+ghost use Rattle.jp_tree.specs.View.{query_of};
+ghost use Rattle.jp_tree.specs.PartViews.{argument_of, comparable_of, logical_of, selector_of, call_of};
+ghost use Rattle.jp_tree.specs.PartViews.{segment_of, segments_of, selectors_of, logicals_of, arguments_of};
+ghost use Rattle.jp_tokens.specs.Gives.{Gives, GivesFront};
+ghost use Rattle.jp_tree.specs.Spelling.{Spells};
+ghost use Rattle.jp_tokens.specs.Depth.{bracket_depth, max_depth};
 ghost use Rattle.std.specs.Str.{chars};
 
-use crate::depth::bracket_depth;
-use crate::fault::QueryFault;
-use crate::literals::{begins_literal, calls, literal_at};
-use crate::made::{
-    call_from, call_side, compared_argument, filter_selector, joined_all, joined_any,
-    literal_argument, literal_side, name_selector, negation, one_argument, one_logical,
-    one_selector, push_argument, push_logical, push_segment, push_selector, query_from, query_side,
-    segment_from, standing_argument, wildcard,
+use jp_tokens::{
+    begins_literal, calls, compared_argument, compared_at, first_character, function_name_at,
+    inside_brackets, is_end, is_quote, is_too_deep, literal_at, mark_at, named_at, numbers_at,
+    opened_arguments, operator_at, skip, standing_argument, string_at, tested_at,
 };
-use crate::operators::operator_at;
-use crate::shorthand::named_at;
-use crate::sides::{compared_at, tested_at};
-use crate::slices::numbers_at;
-use crate::strings::string_at;
-use crate::text::{first_character, function_name_at, is_quote, mark_at, skip};
-use crate::tree::{Argument, Call, Comparable, Logical, Operator, Query, Segment, Selector, Start};
+use jp_tree::made::{
+    call_from, call_side, filter_selector, joined_all, joined_any, literal_argument, literal_side,
+    name_selector, negation, one_argument, one_logical, one_selector, push_argument, push_logical,
+    push_segment, push_selector, query_from, query_side, segment_from, wildcard,
+};
+use jp_tree::{
+    Argument, Call, Comparable, Logical, Operator, Query, QueryFault, Segment, Selector, Start,
+};
 use std::alloc::Global;
-
-/// The deepest nesting of brackets and parentheses that is read.
-const MAX_DEPTH: u64 = 64;
-
-/// Behind `[`, past the blanks that may stand inside the brackets (RFC 9535, 2.5.1).
-fn inside_brackets(behind: &str) -> &str
-    ensures { chars result.now ≡ reading.skip (chars behind.now) }
-{
-    skip(behind)
-}
-
-/// Behind the parenthesis that follows a function's name: no blank stands before it (RFC 9535, 2.4).
-fn opened_arguments(text: &str) -> Result<&str, QueryFault>
-    ensures { ReadsRest result (reading.mark_at 40 (chars text.now)) }
-{
-    mark_at('(', text)
-}
 
 /// A selector (RFC 9535, 2.3).
 #[cycle(reader)]
-#[tactic(auto, unfolding(crate::specs::Reading::selector_at))]
+#[tactic(auto, unfolding(jp_tokens::specs::Reading::selector_at))]
 fn selector_at(alloc: Global, left: usize, text: &str) -> Result<(Selector, &str), QueryFault>
     ensures { GivesFront selector_of result (reading.selector_at (reading.logical_at left) (chars text.now)) }
 {
@@ -72,7 +52,7 @@ fn selector_at(alloc: Global, left: usize, text: &str) -> Result<(Selector, &str
 
 /// A comma and another selector, or the end of the list.
 #[cycle(reader)]
-#[tactic(auto, unfolding(crate::specs::Reading::next_item))]
+#[tactic(auto, unfolding(jp_tokens::specs::Reading::next_item))]
 fn next_selector(
     alloc: Global,
     left: usize,
@@ -115,7 +95,7 @@ fn selectors_from(
 
 /// Behind `[`.
 #[cycle(reader)]
-#[tactic(auto, unfolding(crate::specs::Reading::items_at))]
+#[tactic(auto, unfolding(jp_tokens::specs::Reading::items_at))]
 fn bracketed_at(alloc: Global, left: usize, text: &str) -> Result<(Vec<Selector>, &str), QueryFault>
     ensures { GivesFront (λ xs. selectors_of xs.items) result
         (reading.bracketed_at (reading.logical_at left) (chars text.now)) }
@@ -126,7 +106,7 @@ fn bracketed_at(alloc: Global, left: usize, text: &str) -> Result<(Vec<Selector>
 
 /// Behind `..`.
 #[cycle(reader)]
-#[tactic(auto, unfolding(crate::specs::Reading::descendant_at))]
+#[tactic(auto, unfolding(jp_tokens::specs::Reading::descendant_at))]
 fn descendant_at(alloc: Global, left: usize, text: &str) -> Result<(Segment, &str), QueryFault>
     ensures { GivesFront segment_of result
         (reading.descendant_at (reading.logical_at left) (chars text.now)) }
@@ -143,7 +123,7 @@ fn descendant_at(alloc: Global, left: usize, text: &str) -> Result<(Segment, &st
 
 /// Behind `.`.
 #[cycle(reader)]
-#[tactic(auto, unfolding(crate::specs::Reading::dotted_at))]
+#[tactic(auto, unfolding(jp_tokens::specs::Reading::dotted_at))]
 fn dotted_at(alloc: Global, left: usize, text: &str) -> Result<(Segment, &str), QueryFault>
     ensures { GivesFront segment_of result (reading.dotted_at (reading.logical_at left) (chars text.now)) }
 {
@@ -156,7 +136,7 @@ fn dotted_at(alloc: Global, left: usize, text: &str) -> Result<(Segment, &str), 
 
 /// Another segment, or the end, before the blanks.
 #[cycle(reader)]
-#[tactic(auto, unfolding(crate::specs::Reading::segment_behind))]
+#[tactic(auto, unfolding(jp_tokens::specs::Reading::segment_behind))]
 fn segment_behind<'a>(
     alloc: Global,
     left: usize,
@@ -203,7 +183,7 @@ fn segments_from(
 
 /// A query inside a filter (RFC 9535, 2.3.5.1).
 #[cycle(reader)]
-#[tactic(auto, unfolding(crate::specs::Reading::query_at))]
+#[tactic(auto, unfolding(jp_tokens::specs::Reading::query_at))]
 fn query_at(alloc: Global, left: usize, text: &str) -> Result<(Query, &str), QueryFault>
     ensures { GivesFront query_of result (reading.query_at (reading.logical_at left) (chars text.now)) }
 {
@@ -241,7 +221,7 @@ fn argument_at(alloc: Global, left: usize, text: &str) -> Result<(Argument, &str
 
 /// A comma and another argument, or the end of the list.
 #[cycle(reader)]
-#[tactic(auto, unfolding(crate::specs::Reading::next_item))]
+#[tactic(auto, unfolding(jp_tokens::specs::Reading::next_item))]
 fn next_argument(
     alloc: Global,
     left: usize,
@@ -284,7 +264,7 @@ fn arguments_from(
 
 /// Behind `(` and blanks.
 #[cycle(reader)]
-#[tactic(auto, unfolding(crate::specs::Reading::arguments_at, crate::specs::Reading::items_at))]
+#[tactic(auto, unfolding(jp_tokens::specs::Reading::arguments_at, jp_tokens::specs::Reading::items_at))]
 fn arguments_at(alloc: Global, left: usize, text: &str) -> Result<(Vec<Argument>, &str), QueryFault>
     ensures { GivesFront (λ xs. arguments_of xs.items) result
         (reading.arguments_at (reading.logical_at left) (chars text.now)) }
@@ -301,7 +281,7 @@ fn arguments_at(alloc: Global, left: usize, text: &str) -> Result<(Vec<Argument>
 
 /// A call of a function (RFC 9535, 2.4).
 #[cycle(reader)]
-#[tactic(auto, unfolding(crate::specs::Reading::call_at))]
+#[tactic(auto, unfolding(jp_tokens::specs::Reading::call_at))]
 fn call_at(alloc: Global, left: usize, text: &str) -> Result<(Call, &str), QueryFault>
     ensures { GivesFront call_of result (reading.call_at (reading.logical_at left) (chars text.now)) }
 {
@@ -313,7 +293,7 @@ fn call_at(alloc: Global, left: usize, text: &str) -> Result<(Call, &str), Query
 
 /// A literal, a query or a call.
 #[cycle(reader)]
-#[tactic(auto, unfolding(crate::specs::Reading::operand_at))]
+#[tactic(auto, unfolding(jp_tokens::specs::Reading::operand_at))]
 fn operand_at(alloc: Global, left: usize, text: &str) -> Result<(Comparable, &str), QueryFault>
     ensures { GivesFront comparable_of result
         (reading.operand_at (reading.logical_at left) (chars text.now)) }
@@ -338,7 +318,7 @@ fn operand_at(alloc: Global, left: usize, text: &str) -> Result<(Comparable, &st
 
 /// Behind `(`.
 #[cycle(reader)]
-#[tactic(auto, unfolding(crate::specs::Reading::grouped_at))]
+#[tactic(auto, unfolding(jp_tokens::specs::Reading::grouped_at))]
 fn grouped_at(alloc: Global, left: usize, text: &str) -> Result<(Logical, &str), QueryFault>
     ensures { GivesFront logical_of result (reading.grouped_at (reading.logical_at left) (chars text.now)) }
 {
@@ -349,7 +329,7 @@ fn grouped_at(alloc: Global, left: usize, text: &str) -> Result<(Logical, &str),
 
 /// What `!` may stand before: parentheses, a query or a call.
 #[cycle(reader)]
-#[tactic(auto, unfolding(crate::specs::Reading::plain_at))]
+#[tactic(auto, unfolding(jp_tokens::specs::Reading::plain_at))]
 fn plain_at(alloc: Global, left: usize, text: &str) -> Result<(Logical, &str), QueryFault>
     ensures { GivesFront logical_of result (reading.plain_at (reading.logical_at left) (chars text.now)) }
 {
@@ -365,7 +345,7 @@ fn plain_at(alloc: Global, left: usize, text: &str) -> Result<(Logical, &str), Q
 
 /// Behind the operator.
 #[cycle(reader)]
-#[tactic(auto, unfolding(crate::specs::Reading::right_at))]
+#[tactic(auto, unfolding(jp_tokens::specs::Reading::right_at))]
 fn right_at(
     alloc: Global,
     left: usize,
@@ -382,7 +362,7 @@ fn right_at(
 
 /// A basic expression (RFC 9535, 2.3.5.1).
 #[cycle(reader)]
-#[tactic(auto, unfolding(crate::specs::Reading::basic_at))]
+#[tactic(auto, unfolding(jp_tokens::specs::Reading::basic_at))]
 fn basic_at(alloc: Global, left: usize, text: &str) -> Result<(Logical, &str), QueryFault>
     ensures { GivesFront logical_of result (reading.basic_at (reading.logical_at left) (chars text.now)) }
 {
@@ -405,7 +385,7 @@ fn basic_at(alloc: Global, left: usize, text: &str) -> Result<(Logical, &str), Q
 
 /// Another part, or the end, before the blanks.
 #[cycle(reader)]
-#[tactic(auto, unfolding(crate::specs::Reading::next_part))]
+#[tactic(auto, unfolding(jp_tokens::specs::Reading::next_part))]
 fn next_basic<'a>(
     alloc: Global,
     left: usize,
@@ -463,7 +443,7 @@ fn and_behind(
 
 /// Basic expressions with `&&` between.
 #[cycle(reader)]
-#[tactic(auto, unfolding(crate::specs::Reading::and_at))]
+#[tactic(auto, unfolding(jp_tokens::specs::Reading::and_at))]
 fn and_at(alloc: Global, left: usize, text: &str) -> Result<(Logical, &str), QueryFault>
     ensures { GivesFront logical_of result (reading.and_at (reading.logical_at left) (chars text.now)) }
 {
@@ -473,7 +453,7 @@ fn and_at(alloc: Global, left: usize, text: &str) -> Result<(Logical, &str), Que
 
 /// Another part, or the end, before the blanks.
 #[cycle(reader)]
-#[tactic(auto, unfolding(crate::specs::Reading::next_part))]
+#[tactic(auto, unfolding(jp_tokens::specs::Reading::next_part))]
 fn next_and<'a>(
     alloc: Global,
     left: usize,
@@ -531,7 +511,7 @@ fn or_behind(
 
 /// A logical expression in which others stand inside each other at most `left` deep.
 #[cycle(reader)]
-#[tactic(auto, unfolding(crate::specs::Reading::logical_at, crate::specs::Reading::or_at))]
+#[tactic(auto, unfolding(jp_tokens::specs::Reading::logical_at, jp_tokens::specs::Reading::or_at))]
 fn logical_at(alloc: Global, left: usize, text: &str) -> Result<(Logical, &str), QueryFault>
     ensures { GivesFront logical_of result (reading.logical_at left (chars text.now)) }
 {
@@ -544,7 +524,7 @@ fn logical_at(alloc: Global, left: usize, text: &str) -> Result<(Logical, &str),
 
 /// A logical expression that begins with a comparison, behind its left side and its operator.
 #[cycle(reader)]
-#[tactic(auto, unfolding(crate::specs::Reading::compared_behind))]
+#[tactic(auto, unfolding(jp_tokens::specs::Reading::compared_behind))]
 fn compared_behind(
     alloc: Global,
     left: usize,
@@ -564,14 +544,14 @@ fn compared_behind(
 }
 
 /// The whole text.
-#[tactic(auto, unfolding(crate::specs::Reading::read))]
+#[tactic(auto, unfolding(jp_tokens::specs::Reading::read))]
 fn read(alloc: Global, text: &str) -> Result<Query, QueryFault>
     ensures { Gives query_of result (reading.read (length text.now) (chars text.now)) }
 {
     match first_character(text) {
         Some(('$', more)) => {
             let (segments, rest) = segments_from(alloc, text.len(), Vec::new(alloc), more)?;
-            if !rest.is_empty() {
+            if !is_end(rest) {
                 return Err(QueryFault::Syntax);
             }
             Ok(query_from(Start::Root, segments))
@@ -600,7 +580,7 @@ pub fn read_query(alloc: Global, text: &str) -> Result<Query, QueryFault>
     ensures faults { IfErr result (λ e. (e ≡ QueryFault.TooDeep) ⊎ (e
         ≡ QueryFault.Syntax) ⊎ (e ≡ QueryFault.Memory)) }
 {
-    if bracket_depth(text) > MAX_DEPTH {
+    if is_too_deep(text) {
         return Err(QueryFault::TooDeep);
     }
     read(alloc, text)

@@ -2,9 +2,9 @@
 use Rattle.std.proofs.Common.{◌≡◌, Bool, true, false, ◌&&◌, List, [], ◌∷◌, length, map, refl, ap, suc}
 use Rattle.std.proofs.Common.{arith}
 use Rattle.std.specs.List.{list_all, zip}
-use Rattle.jp_syntax.specs.Tree.{arguments}
-use Rattle.jp_syntax.specs.PartViews.{argument_of, arguments_of}
-use Rattle.jp_syntax.specs.declared.tree.Argument.{Argument}
+use Rattle.jp_tree.specs.Tree.{arguments}
+use Rattle.jp_tree.specs.PartViews.{argument_of, arguments_of}
+use Rattle.jp_tree.specs.declared.tree.Argument.{Argument}
 use Rattle.jp_types.specs.declared.functions.Kind.{Kind}
 use Rattle.jp_types.specs.Kinds.{kind_of}
 use Rattle.jp_types.specs.Typing.{fits, all_fit}

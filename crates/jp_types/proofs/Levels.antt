@@ -1,15 +1,15 @@
 -- One level of a tree of `src/`, by what its parts stand for.
 use Rattle.std.proofs.Common.{◌≡◌}
-use Rattle.jp_syntax.specs.Tree as tree
-use Rattle.jp_syntax.specs.View.{query_of, text_of, argument_level, comparable_level, logical_level}
-use Rattle.jp_syntax.specs.View.{selector_level}
-use Rattle.jp_syntax.specs.PartViews.{comparable_of, call_of, comparison_of, segment_of, segments_of}
-use Rattle.jp_syntax.specs.PartViews.{selectors_of, arguments_of}
-use Rattle.jp_syntax.specs.declared.tree.Call.{Call}
-use Rattle.jp_syntax.specs.declared.tree.Comparison.{Comparison}
-use Rattle.jp_syntax.specs.declared.tree.Segment.{Segment}
-use Rattle.jp_syntax.specs.declared.tree.Query.{Query, out-Query, fold_out-Query}
-use Rattle.jp_syntax.proofs.Views.{segment_made, comparison_made, call_made}
+use Rattle.jp_tree.specs.Tree as tree
+use Rattle.jp_tree.specs.View.{query_of, text_of, argument_level, comparable_level, logical_level}
+use Rattle.jp_tree.specs.View.{selector_level}
+use Rattle.jp_tree.specs.PartViews.{comparable_of, call_of, comparison_of, segment_of, segments_of}
+use Rattle.jp_tree.specs.PartViews.{selectors_of, arguments_of}
+use Rattle.jp_tree.specs.declared.tree.Call.{Call}
+use Rattle.jp_tree.specs.declared.tree.Comparison.{Comparison}
+use Rattle.jp_tree.specs.declared.tree.Segment.{Segment}
+use Rattle.jp_tree.specs.declared.tree.Query.{Query, out-Query, fold_out-Query}
+use Rattle.jp_tree.proofs.Views.{segment_made, comparison_made, call_made}
 
 pub query_level : (x : Query)
     → query_of x ≡ tree.query (out-Query x).start

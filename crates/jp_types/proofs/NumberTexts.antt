@@ -10,7 +10,7 @@ use Rattle.std.proofs.lemmas.Bool.Decides.{Decides-eqb}
 use Rattle.std.proofs.lemmas.Str.{chars_past_char, encode_ascii, encodes-chars}
 use lib.Utf8.{encodes}
 use Rattle.jp_types.specs.Numbers.{digits_from, unsigned_digits}
-use Rattle.jp_syntax.specs.Tree.{Text}
+use Rattle.jp_tree.specs.Tree.{Text}
 
 -- more digits make no smaller number
 digits_from-up : (n : ℕ) (t : Text) → n ≤ digits_from n t

@@ -2,7 +2,7 @@
 -- `distinct`.
 use Rattle.std.specs.Prelude.{List, [], ◌∷◌, Option, Some, None, codes, if◌then◌else◌}
 use Rattle.std.specs.Str.{bytes_eq}
-use Rattle.jp_syntax.specs.Tree.{Text}
+use Rattle.jp_tree.specs.Tree.{Text}
 
 -- the three types: a value or nothing, true or false, a list of nodes
 pub data Kind : Type 0 where

@@ -2,13 +2,13 @@
 use Rattle.std.specs.Prelude.{ℕ, ◌+◌, ◌*◌, ◌-◌, ◌||◌, ◌&&◌, ◌==◌, nat_le, Bool, false, ℤ, pos, neg_ℤ, List}
 use Rattle.std.specs.Prelude.{[], ◌∷◌, ◌++◌, Option, count_by, option_to_list, map, if◌then◌else◌}
 use Rattle.std.specs.List.{list_any, list_all}
-use Rattle.jp_syntax.specs.Tree.{Text, Literal, number, text, truth, null, Query, query, Segment, segment}
-use Rattle.jp_syntax.specs.Tree.{Selector, name, wildcard, index, slice, filter, Logical, any, all, negation}
-use Rattle.jp_syntax.specs.Tree.{comparing, test, test_call, Comparison, comparison, Comparable, literal}
-use Rattle.jp_syntax.specs.Tree.{single, value_call, Call, call, Argument, literal_argument, query_argument}
-use Rattle.jp_syntax.specs.Tree.{logical_argument, call_argument, Segments, no_segments, add_segment}
-use Rattle.jp_syntax.specs.Tree.{Selectors, no_selectors, add_selector, Logicals, no_logicals, add_logical}
-use Rattle.jp_syntax.specs.Tree.{Arguments, no_arguments, add_argument}
+use Rattle.jp_tree.specs.Tree.{Text, Literal, number, text, truth, null, Query, query, Segment, segment}
+use Rattle.jp_tree.specs.Tree.{Selector, name, wildcard, index, slice, filter, Logical, any, all, negation}
+use Rattle.jp_tree.specs.Tree.{comparing, test, test_call, Comparison, comparison, Comparable, literal}
+use Rattle.jp_tree.specs.Tree.{single, value_call, Call, call, Argument, literal_argument, query_argument}
+use Rattle.jp_tree.specs.Tree.{logical_argument, call_argument, Segments, no_segments, add_segment}
+use Rattle.jp_tree.specs.Tree.{Selectors, no_selectors, add_selector, Logicals, no_logicals, add_logical}
+use Rattle.jp_tree.specs.Tree.{Arguments, no_arguments, add_argument}
 
 -- a number as it is written in a query: a literal, or an index or a part of a slice
 pub data Written : Type 0 where

@@ -1,11 +1,11 @@
 -- Queries and parts of them that the worked examples speak of.
 use Rattle.std.specs.Prelude.{List, [], ◌∷◌, codes}
-use Rattle.jp_syntax.specs.Tree.{Text, number, text, Query, Selector, name, wildcard, index, filter, Logical}
-use Rattle.jp_syntax.specs.Tree.{any, all, test, test_call, comparing, comparison, Comparable, literal}
-use Rattle.jp_syntax.specs.Tree.{single, value_call, Call, call, Argument, literal_argument, query_argument}
-use Rattle.jp_syntax.specs.Tree.{logical_argument, call_argument, arguments, logicals, child, query_from}
-use Rattle.jp_syntax.specs.declared.tree.Operator.TheVariants.{Eq, Gt}
-use Rattle.jp_syntax.specs.declared.tree.Start.TheVariants.{Root, Current}
+use Rattle.jp_tree.specs.Tree.{Text, number, text, Query, Selector, name, wildcard, index, filter, Logical}
+use Rattle.jp_tree.specs.Tree.{any, all, test, test_call, comparing, comparison, Comparable, literal}
+use Rattle.jp_tree.specs.Tree.{single, value_call, Call, call, Argument, literal_argument, query_argument}
+use Rattle.jp_tree.specs.Tree.{logical_argument, call_argument, arguments, logicals, child, query_from}
+use Rattle.jp_tree.specs.declared.tree.Operator.TheVariants.{Eq, Gt}
+use Rattle.jp_tree.specs.declared.tree.Start.TheVariants.{Root, Current}
 
 -- `$[..]` with one selector, and `$[?..]`
 abbrev pub selecting : Selector → Query

@@ -1,12 +1,12 @@
 -- Well-typedness (RFC 9535, 2.4.3).
 use Rattle.std.specs.Prelude.{Bool, true, false, ◌&&◌, List, [], ◌∷◌, Option, Some, None, option_map}
-use Rattle.jp_syntax.specs.Tree.{Query, query, Segment, segment, Selector, filter, Logical, any, all}
-use Rattle.jp_syntax.specs.Tree.{negation, comparing, test, test_call, Comparison, comparison, Comparable}
-use Rattle.jp_syntax.specs.Tree.{literal, single, value_call, Call, call, Argument, literal_argument}
-use Rattle.jp_syntax.specs.Tree.{query_argument, logical_argument, call_argument, Segments, no_segments}
-use Rattle.jp_syntax.specs.Tree.{add_segment, Selectors, no_selectors, add_selector, Logicals, no_logicals}
-use Rattle.jp_syntax.specs.Tree.{add_logical, Arguments, no_arguments, add_argument}
-use Rattle.jp_syntax.specs.Singular.{is_singular}
+use Rattle.jp_tree.specs.Tree.{Query, query, Segment, segment, Selector, filter, Logical, any, all}
+use Rattle.jp_tree.specs.Tree.{negation, comparing, test, test_call, Comparison, comparison, Comparable}
+use Rattle.jp_tree.specs.Tree.{literal, single, value_call, Call, call, Argument, literal_argument}
+use Rattle.jp_tree.specs.Tree.{query_argument, logical_argument, call_argument, Segments, no_segments}
+use Rattle.jp_tree.specs.Tree.{add_segment, Selectors, no_selectors, add_selector, Logicals, no_logicals}
+use Rattle.jp_tree.specs.Tree.{add_logical, Arguments, no_arguments, add_argument}
+use Rattle.jp_tree.specs.Singular.{is_singular}
 use Rattle.jp_types.specs.Functions.{Kind, value_type, logical_type, nodes_type, Function, function_named}
 use Rattle.jp_types.specs.Functions.{parameters, result_type}
 

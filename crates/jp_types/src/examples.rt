@@ -1,7 +1,7 @@
 //! Worked examples of the definitions.
 
 ghost use Rattle.std.specs.Prelude.{◌≡◌, [], ◌∷◌, codes, pos, negsuc, replicate, Some, None, true, false};
-ghost use Rattle.jp_syntax.specs.Tree as tree;
+ghost use Rattle.jp_tree.specs.Tree as tree;
 ghost use Rattle.jp_types.specs.Faults.{faults_of, joined};
 ghost use Rattle.jp_types.specs.Functions as functions;
 ghost use Rattle.jp_types.specs.Functions.{function_named, parameters, result_type};

@@ -2,13 +2,13 @@
 
 ghost use Rattle.std.specs.Prelude.{◌≡◌, [], ◌∷◌, option_map, true};
 ghost use Rattle.std.specs.Str.{chars};
-ghost use Rattle.jp_syntax.specs.View.{literal_of, slice_of, text_of};
+ghost use Rattle.jp_tree.specs.View.{literal_of, slice_of, text_of};
 ghost use Rattle.jp_types.specs.Faults.{faults_of};
 ghost use Rattle.jp_types.specs.Numbers.{literal_number, position, is_fraction, is_in_range, literal_numbers};
 ghost use Rattle.jp_types.specs.Numbers.{part_of_slice, selector_numbers};
 
 use crate::faults::Faults;
-use jp_syntax::{Literal, Slice};
+use jp_tree::{Literal, Slice};
 
 /// The greatest index, 2 ^ 53 - 1 (RFC 7493, 2.2).
 const MAX_INDEX: u64 = 9_007_199_254_740_991;

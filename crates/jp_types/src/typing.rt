@@ -1,13 +1,14 @@
 //! Which calls are well-typed (RFC 9535, 2.4.3), their arguments taken for themselves.
 
 ghost use Rattle.std.specs.Prelude.{◌≡◌, map, option_map};
-ghost use Rattle.jp_syntax.specs.Tree as tree;
-ghost use Rattle.jp_syntax.specs.PartViews.{argument_of, arguments_of, call_of};
+ghost use Rattle.jp_tree.specs.Tree as tree;
+ghost use Rattle.jp_tree.specs.PartViews.{argument_of, arguments_of, call_of};
 ghost use Rattle.jp_types.specs.Kinds.{kind_of, function_of};
 ghost use Rattle.jp_types.specs.Typing as typing;
 
 use crate::functions::{Function, Kind, function_named, parameters, result_type};
-use jp_syntax::{Argument, Call, is_singular};
+use jp_tokens::is_singular;
+use jp_tree::{Argument, Call};
 
 /// The type of what a call gives, where its function is known.
 fn type_of_call(call: &Call) -> Option<Kind>

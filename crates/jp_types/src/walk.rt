@@ -1,9 +1,9 @@
 //! The faults of a query, found in one walk over its tree.
 
 ghost use Rattle.std.specs.Prelude.{◌≡◌};
-ghost use Rattle.jp_syntax.specs.Tree.{logicals};
-ghost use Rattle.jp_syntax.specs.View.{query_of};
-ghost use Rattle.jp_syntax.specs.PartViews as view;
+ghost use Rattle.jp_tree.specs.Tree.{logicals};
+ghost use Rattle.jp_tree.specs.View.{query_of};
+ghost use Rattle.jp_tree.specs.PartViews as view;
 ghost use Rattle.jp_types.specs.Faults.{faults_of};
 ghost use Rattle.jp_types.specs.Numbers as numbers;
 ghost use Rattle.jp_types.specs.Typing as typing;
@@ -12,7 +12,7 @@ use crate::faults::Faults;
 use crate::functions::{Kind, function_named};
 use crate::numbers::{literal_faults, position_faults, slice_faults};
 use crate::typing::{fits_parameters, serves_as};
-use jp_syntax::{Argument, Call, Comparable, Comparison, Logical, Query, Segment, Selector};
+use jp_tree::{Argument, Call, Comparable, Comparison, Logical, Query, Segment, Selector};
 
 /// The faults of a query.
 #[cycle(walk)]

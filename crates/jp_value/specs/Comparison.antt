@@ -3,8 +3,8 @@ use Rattle.std.specs.Prelude.{Bool, true, false, not, ◌&&◌, ◌||◌, int_lt
 use Rattle.std.specs.Ordering.{int_eq, is_lt}
 use Rattle.jp_doc.specs.Json.{text_eq, text_cmp, Json, null, truth, whole, text, array, object, Items}
 use Rattle.jp_doc.specs.Json.{no_items, add_item, Members, no_members, add_member}
-use Rattle.jp_syntax.specs.declared.tree.Operator.{Operator}
-use Rattle.jp_syntax.specs.declared.tree.Operator.TheVariants.{Eq, Ne, Le, Ge, Lt, Gt}
+use Rattle.jp_tree.specs.declared.tree.Operator.{Operator}
+use Rattle.jp_tree.specs.declared.tree.Operator.TheVariants.{Eq, Ne, Le, Ge, Lt, Gt}
 
 abbrev pub truth_eq : Bool → Bool → Bool
 truth_eq true b = b

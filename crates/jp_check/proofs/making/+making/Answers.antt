@@ -3,11 +3,11 @@ use Rattle.std.proofs.lemmas.Grind.{common_steps}
 use Rattle.std.proofs.lemmas.Result.{IfOk-weaker}
 use Rattle.jp_syntax.specs.Tree as tree
 use Rattle.jp_syntax.specs.PartViews.{argument_of, comparable_of, logical_of, selector_of, segment_of}
-use Rattle.jp_syntax.proofs.Views.{filter_made, any_made, all_made, not_made, compare_made, test_made}
-use Rattle.jp_syntax.proofs.Views.{test_call_made, single_made, value_call_made, query_argument_made}
-use Rattle.jp_syntax.proofs.Views.{call_argument_made, logical_argument_made}
-use Rattle.jp_syntax.specs.declared.tree.Start.TheVariants as start
-use Rattle.jp_syntax.specs.declared.tree.Query.{out-Query}
+use Rattle.jp_tree.proofs.Views.{filter_made, any_made, all_made, not_made, compare_made, test_made}
+use Rattle.jp_tree.proofs.Views.{test_call_made, single_made, value_call_made, query_argument_made}
+use Rattle.jp_tree.proofs.Views.{call_argument_made, logical_argument_made}
+use Rattle.jp_tree.specs.declared.tree.Start.TheVariants as start
+use Rattle.jp_tree.specs.declared.tree.Query.{out-Query}
 use Rattle.jp_check.specs.declared.ready.RootQuery.{RootQuery}
 use Rattle.std.specs.Str.{chars}
 use Rattle.jp_types.specs.Functions.{function_named, length_function, count_function, value_function}

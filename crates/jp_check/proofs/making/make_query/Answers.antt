@@ -1,7 +1,7 @@
 use Rattle.std.proofs.Common.{◌∙◌, map, sym, ap}
 use Rattle.jp_syntax.specs.Tree as tree
 use Rattle.jp_syntax.specs.PartViews.{segment_of}
-use Rattle.jp_syntax.specs.declared.tree.Query.{out-Query}
+use Rattle.jp_tree.specs.declared.tree.Query.{out-Query}
 use Rattle.jp_types.proofs.Levels.{query_level}
 use Rattle.jp_check.proofs.MakingSteps.{begins_itself}
 use Rattle.jp_check.proofs.making.make_query.Goals as goal

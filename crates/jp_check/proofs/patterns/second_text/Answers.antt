@@ -2,7 +2,7 @@ use Rattle.std.proofs.lemmas.Grind.{common_steps}
 use Rattle.std.proofs.Common.{◌≡◌, ◌<◌, length, List, [], ◌∷◌, refl, arith}
 use Rattle.jp_syntax.specs.Tree.{arguments}
 use Rattle.jp_syntax.specs.PartViews.{arguments_of}
-use Rattle.jp_syntax.specs.declared.tree.Argument.{Argument}
+use Rattle.jp_tree.specs.declared.tree.Argument.{Argument}
 use Rattle.jp_check.specs.LiteralPatterns as literal
 use Rattle.jp_check.proofs.patterns.second_text.Goals as goal
 

@@ -1,6 +1,6 @@
 use Rattle.std.proofs.Common.{refl}
 use Rattle.jp_syntax.proofs.Computed.{ints}
-use Rattle.jp_syntax.specs.Reading.{int_at, run_at}
+use Rattle.jp_tokens.specs.Reading.{int_at, run_at}
 use Rattle.jp_syntax.proofs.examples.integers.Goals as goal
 
 pub returns : goal.returns

@@ -1,6 +1,6 @@
 use Rattle.std.proofs.Common.{refl}
 use Rattle.jp_syntax.proofs.Computed.{no_strings}
-use Rattle.jp_syntax.specs.Reading.{piece_at, escape_at, unicode_at, pair_at, hex_at, mark_at, all_of, many}
+use Rattle.jp_tokens.specs.Reading.{piece_at, escape_at, unicode_at, pair_at, hex_at, mark_at, all_of, many}
 use Rattle.jp_syntax.proofs.examples.texts_that_are_no_strings.Goals as goal
 
 pub returns : goal.returns

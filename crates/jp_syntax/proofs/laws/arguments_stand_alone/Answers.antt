@@ -1,4 +1,4 @@
-use Rattle.jp_syntax.specs.Spelling.{LogicalIs}
+use Rattle.jp_tree.specs.Spelling.{LogicalIs}
 use Rattle.jp_syntax.proofs.Arguments as law
 use Rattle.jp_syntax.proofs.laws.arguments_stand_alone.Goals as goal
 

@@ -1,5 +1,5 @@
 use Rattle.jp_syntax.proofs.StringLaws.{bares}
-use Rattle.jp_syntax.specs.Strings.{quoted}
+use Rattle.jp_tree.specs.Strings.{quoted}
 use Rattle.std.proofs.Common.{refl}
 use Rattle.jp_syntax.proofs.laws.bare_characters.Goals as goal
 

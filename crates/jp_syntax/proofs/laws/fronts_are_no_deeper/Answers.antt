@@ -1,4 +1,4 @@
-use Rattle.jp_syntax.proofs.DepthLaws as law
+use Rattle.jp_tokens.proofs.DepthLaws as law
 use Rattle.jp_syntax.proofs.laws.fronts_are_no_deeper.Goals as goal
 
 pub returns-clause-front : goal.returns-clause-front

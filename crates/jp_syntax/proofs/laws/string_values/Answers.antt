@@ -1,4 +1,4 @@
-use Rattle.jp_syntax.proofs.OneValue.{one_value}
+use Rattle.jp_tokens.proofs.OneValue.{one_value}
 use Rattle.jp_syntax.proofs.StringLaws.{string_scalar}
 use Rattle.jp_syntax.proofs.laws.string_values.Goals as goal
 

@@ -2,14 +2,14 @@ use Rattle.std.proofs.Common.{ap, sym, ◌∙◌, refl, rules}
 use Rattle.std.specs.Prelude.{option_map}
 use Rattle.std.specs.Str.{chars}
 use Rattle.std.proofs.lemmas.Result.{err_from_is_err_and}
-use Rattle.jp_syntax.specs.Reading.{skip, logical_at, next_and, next_basic, segment_behind, next_item}
-use Rattle.jp_syntax.specs.Reading.{selector_at, literal_at, operator_at, argument_at, compared_behind}
-use Rattle.jp_syntax.specs.Reading.{all_of}
-use Rattle.jp_syntax.specs.Tree as tree
-use Rattle.jp_syntax.specs.View.{literal_of}
-use Rattle.jp_syntax.specs.PartViews.{selectors_of, segments_of, arguments_of, logicals_of, selector_of}
-use Rattle.jp_syntax.specs.PartViews.{segment_of, argument_of, logical_of}
-use Rattle.jp_syntax.proofs.Turns.{still_fails, turn_fails, turn_ends, turn_goes, turn_shortens}
+use Rattle.jp_tokens.specs.Reading.{skip, logical_at, next_and, next_basic, segment_behind, next_item}
+use Rattle.jp_tokens.specs.Reading.{selector_at, literal_at, operator_at, argument_at, compared_behind}
+use Rattle.jp_tokens.specs.Reading.{all_of}
+use Rattle.jp_tree.specs.Tree as tree
+use Rattle.jp_tree.specs.View.{literal_of}
+use Rattle.jp_tree.specs.PartViews.{selectors_of, segments_of, arguments_of, logicals_of, selector_of}
+use Rattle.jp_tree.specs.PartViews.{segment_of, argument_of, logical_of}
+use Rattle.jp_tokens.proofs.Turns.{still_fails, turn_fails, turn_ends, turn_goes, turn_shortens}
 use Rattle.jp_syntax.proofs.LiteralOnce.{argument_other, argument_alone, argument_none, argument_compared}
 use Rattle.jp_syntax.proofs.Progress.{selectors_get_on, arguments_get_on, segments_get_on, basics_get_on}
 use Rattle.jp_syntax.proofs.Progress.{ands_get_on}

@@ -2,9 +2,9 @@ use Rattle.std.proofs.Common.{◌≡◌, ◌+◌, ◌*◌, length}
 use Rattle.std.specs.Str.{chars}
 use denote.Text.{Utf8}
 use denote.Shadow.{shadow}
-use Rattle.jp_syntax.specs.Reading.{skip, logical_at, next_and, next_basic, segment_behind, next_item}
-use Rattle.jp_syntax.specs.Reading.{selector_at, argument_at, all_of}
-use Rattle.jp_syntax.specs.PartViews.{selectors_of, segments_of, arguments_of, logicals_of}
+use Rattle.jp_tokens.specs.Reading.{skip, logical_at, next_and, next_basic, segment_behind, next_item}
+use Rattle.jp_tokens.specs.Reading.{selector_at, argument_at, all_of}
+use Rattle.jp_tree.specs.PartViews.{selectors_of, segments_of, arguments_of, logicals_of}
 use Rattle.jp_syntax.proofs.reader.+reader.Given as goal
 
 abbrev pub decreases-or_behind : goal.decreases-or_behind

@@ -1,15 +1,11 @@
-use Rattle.std.proofs.Common.{◌∙◌, sym, rules, refl}
-use Rattle.std.specs.Str.{IsUtf8}
-use Rattle.jp_syntax.specs.Reading.{read}
-use Rattle.jp_syntax.proofs.Cuts.{at_end}
+use Rattle.std.proofs.Common.{◌∙◌, sym, refl}
+use Rattle.jp_tokens.specs.Reading.{read}
 use Rattle.jp_syntax.proofs.reader.read.Goals as goal
 
-pub returns-then-not-is_empty : goal.returns-then-not-is_empty
+pub returns-then-not-is_end : goal.returns-then-not-is_end
 unfolding read
-returns-then-not-is_empty c =
-    let text : IsUtf8 c.in_ok-segments-in-Some-eq36-default.rest.now = search rules in
-    let end = at_end c.in_ok-segments-in-Some-eq36-default.rest.now text ∙ sym c.is_empty.ensures
-    ∙ c.if-not-is_empty.true in
+returns-then-not-is_end c =
+    let end = sym c.is_end.ensures ∙ c.if-not-is_end.true in
     let segments = rw c.new.ensures.items at c.in_ok-segments-in-Some-eq36-default.ensures in
     rw (
       c.in-Some-eq36-default.ensures,
@@ -18,12 +14,10 @@ returns-then-not-is_empty c =
       end,
     ) refl
 
-pub returns-else-not-is_empty : goal.returns-else-not-is_empty
+pub returns-else-not-is_end : goal.returns-else-not-is_end
 unfolding read
-returns-else-not-is_empty c =
-    let text : IsUtf8 c.in_ok-segments-in-Some-eq36-default.rest.now = search rules in
-    let end = at_end c.in_ok-segments-in-Some-eq36-default.rest.now text ∙ sym c.is_empty.ensures
-    ∙ c.if-not-is_empty.false in
+returns-else-not-is_end c =
+    let end = sym c.is_end.ensures ∙ c.if-not-is_end.false in
     let segments = rw c.new.ensures.items at c.in_ok-segments-in-Some-eq36-default.ensures in
     rw (
       c.in-Some-eq36-default.ensures,

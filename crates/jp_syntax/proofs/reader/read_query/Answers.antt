@@ -1,6 +1,6 @@
 use Rattle.std.proofs.Common.{length}
 use Rattle.std.specs.Str.{chars}
-use Rattle.jp_syntax.proofs.Cuts.{chars_fit}
+use Rattle.jp_tokens.proofs.Cuts.{chars_fit}
 use Rattle.jp_syntax.proofs.Top.{is_found, is_only, is_none, is_deep, is_fault}
 use Rattle.jp_syntax.proofs.reader.read_query.Goals as goal
 

@@ -1,7 +1,7 @@
 use Rattle.std.proofs.Common.{◌∙◌, [], refl}
-use Rattle.jp_syntax.specs.Tree.{segments, selectors, logicals, arguments}
-use Rattle.jp_syntax.specs.View.{text_of}
-use Rattle.jp_syntax.specs.PartViews.{comparable_of, segments_of, selectors_of, logicals_of, arguments_of}
+use Rattle.jp_tree.specs.Tree.{segments, selectors, logicals, arguments}
+use Rattle.jp_tree.specs.View.{text_of}
+use Rattle.jp_tree.specs.PartViews.{comparable_of, segments_of, selectors_of, logicals_of, arguments_of}
 use Rattle.jp_types.specs.Numbers.{comparable_numbers, segments_numbers, selectors_numbers}
 use Rattle.jp_types.specs.Numbers.{logicals_numbers, arguments_numbers}
 use Rattle.jp_types.specs.Functions.{function_named}

@@ -1,6 +1,6 @@
 use Rattle.std.proofs.Common.{◌≡◌, drop}
-use Rattle.jp_syntax.specs.Tree.{segments, selectors, logicals, arguments}
-use Rattle.jp_syntax.specs.PartViews.{segments_of, selectors_of, logicals_of, arguments_of}
+use Rattle.jp_tree.specs.Tree.{segments, selectors, logicals, arguments}
+use Rattle.jp_tree.specs.PartViews.{segments_of, selectors_of, logicals_of, arguments_of}
 use Rattle.jp_types.specs.Faults.{faults_of, joined}
 use Rattle.jp_types.specs.Numbers.{segments_numbers, selectors_numbers, logicals_numbers}
 use Rattle.jp_types.specs.Numbers.{arguments_numbers}

@@ -1,8 +1,0 @@
-use Rattle.std.proofs.Common.{◌≡◌}
-use Rattle.jp_syntax.specs.Depth as depth
-use Rattle.jp_syntax.specs.DepthView.{place_of}
-use Rattle.jp_syntax.proofs.depth.bracket_depth.Given as goal
-
-abbrev pub invariant-loop-c : goal.invariant-loop-c
-invariant-loop-c l = (place_of l.quotes l.count ≡ depth.scan (depth.outside 0) l.yielded)
-    × (l.deepest ≡ depth.bracket_depth l.yielded)

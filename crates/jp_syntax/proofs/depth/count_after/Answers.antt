@@ -1,5 +1,0 @@
-use Rattle.jp_syntax.proofs.DepthScan.{quoted_count}
-use Rattle.jp_syntax.proofs.depth.count_after.Goals as goal
-
-pub returns-in-Inside : goal.returns-in-Inside
-returns-in-Inside c = rw c.in-Inside.is (quoted_count c.in-Inside.field-0 c.args.count c.args.c)

@@ -1,5 +1,0 @@
-use Rattle.jp_syntax.proofs.Views.{all_made}
-use Rattle.jp_syntax.proofs.made.all_of.Goals as goal
-
-pub returns : goal.returns
-returns c = all_made c.args.parts

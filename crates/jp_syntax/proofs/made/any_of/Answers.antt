@@ -1,5 +1,0 @@
-use Rattle.jp_syntax.proofs.Views.{any_made}
-use Rattle.jp_syntax.proofs.made.any_of.Goals as goal
-
-pub returns : goal.returns
-returns c = any_made c.args.parts

@@ -1,5 +1,0 @@
-use Rattle.jp_syntax.proofs.Views.{value_call_made}
-use Rattle.jp_syntax.proofs.made.call_side.Goals as goal
-
-pub returns : goal.returns
-returns c = value_call_made c.args.call

@@ -1,5 +1,0 @@
-use Rattle.jp_syntax.proofs.Views.{compare_made}
-use Rattle.jp_syntax.proofs.made.comparing.Goals as goal
-
-pub returns : goal.returns
-returns c = compare_made c.args.comparison

@@ -1,5 +1,0 @@
-use Rattle.jp_syntax.proofs.Views.{index_made}
-use Rattle.jp_syntax.proofs.made.index_selector.Goals as goal
-
-pub returns : goal.returns
-returns c = index_made c.args.number

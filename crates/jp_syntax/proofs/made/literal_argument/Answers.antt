@@ -1,5 +1,0 @@
-use Rattle.jp_syntax.proofs.Views.{literal_argument_made}
-use Rattle.jp_syntax.proofs.made.literal_argument.Goals as goal
-
-pub returns : goal.returns
-returns c = literal_argument_made c.args.literal

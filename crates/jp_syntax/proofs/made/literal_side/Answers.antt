@@ -1,5 +1,0 @@
-use Rattle.jp_syntax.proofs.Views.{literal_made}
-use Rattle.jp_syntax.proofs.made.literal_side.Goals as goal
-
-pub returns : goal.returns
-returns c = literal_made c.args.literal

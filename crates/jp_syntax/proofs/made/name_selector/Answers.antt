@@ -1,5 +1,0 @@
-use Rattle.jp_syntax.proofs.Views.{name_made}
-use Rattle.jp_syntax.proofs.made.name_selector.Goals as goal
-
-pub returns : goal.returns
-returns c = name_made c.args.name

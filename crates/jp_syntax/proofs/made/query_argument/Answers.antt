@@ -1,5 +1,0 @@
-use Rattle.jp_syntax.proofs.Views.{query_argument_made}
-use Rattle.jp_syntax.proofs.made.query_argument.Goals as goal
-
-pub returns : goal.returns
-returns c = query_argument_made c.args.query

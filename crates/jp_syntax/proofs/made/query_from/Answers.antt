@@ -1,5 +1,0 @@
-use Rattle.jp_syntax.proofs.Views.{query_made}
-use Rattle.jp_syntax.proofs.made.query_from.Goals as goal
-
-pub returns : goal.returns
-returns c = query_made c.args.start c.args.segments

@@ -1,5 +1,0 @@
-use Rattle.jp_syntax.proofs.Views.{single_made}
-use Rattle.jp_syntax.proofs.made.query_side.Goals as goal
-
-pub returns : goal.returns
-returns c = single_made c.args.query

@@ -1,5 +1,0 @@
-use Rattle.jp_syntax.proofs.Views.{segment_made}
-use Rattle.jp_syntax.proofs.made.segment_from.Goals as goal
-
-pub returns : goal.returns
-returns c = segment_made c.args.deep c.args.selectors

@@ -1,5 +1,0 @@
-use Rattle.jp_syntax.proofs.Views.{test_made}
-use Rattle.jp_syntax.proofs.made.test_of.Goals as goal
-
-pub returns : goal.returns
-returns c = test_made c.args.query

@@ -1,0 +1,12 @@
+pub mod Cuts
+pub mod DepthLaws
+pub mod DepthScan
+pub mod Endings
+pub mod Following
+pub mod Fronts
+pub mod LeavesRead
+pub mod OneValue
+pub mod Pieces
+pub mod Trims
+pub mod Turns
+pub mod Words

@@ -1,0 +1,4 @@
+use Rattle.jp_tokens.proofs.text.opened_arguments.Goals as goal
+
+pub returns : goal.returns
+returns c = c.mark_at.ensures

@@ -1,0 +1,9 @@
+pub mod Tree
+pub mod View
+pub mod PartViews
+pub mod Characters
+pub mod Parts
+pub mod Strings
+pub mod Numbers
+pub mod Singular
+pub mod Spelling

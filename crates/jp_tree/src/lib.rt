@@ -1,0 +1,12 @@
+//! The tree that a query text of JSONPath (RFC 9535) spells, and which text spells it.
+#![tactic(auto)]
+
+mod fault;
+pub mod made;
+mod tree;
+
+pub use fault::QueryFault;
+pub use tree::{
+    Argument, Call, Comparable, Comparison, Literal, Logical, Operator, Query, Segment, Selector,
+    Slice, Start,
+};
