@@ -1,6 +1,6 @@
 -- What reading gives, in the words of the grammar.
 use Rattle.std.proofs.Common.{◌≡◌, ℕ, ◌≤◌, ◌<◌, length, Option, Some, None, Result, Ok, Err, sym, ◌∙◌, refl}
-use Rattle.std.proofs.Common.{inl, inr, ◌⊎◌, ◌↔◌, arith}
+use Rattle.std.proofs.Common.{inl, inr, ◌⊎◌, ◌↔◌}
 use Rattle.std.specs.Prelude.{IfOk, IfErr, IsErrOf}
 use Rattle.std.proofs.lemmas.Option.{same_Some}
 use Rattle.jp_tree.specs.declared.fault.QueryFault.{QueryFault}
@@ -38,9 +38,9 @@ module _ (n : ℕ) (t : Text) (le : length t ≤ n) where
   is_none (Err faults.Syntax) g e q h = let k : ◌≡◌ {A = Option tree.Query} None (Some q) = sym g
       ∙ read_whole n t q le h in absurd cc
 
-  pub is_deep : (r : Result Query QueryFault) → Gives query_of r (read n t) → bracket_depth t ≤ max_depth
+  pub is_deep : (r : Result Query QueryFault) → Gives query_of r (read n t) → ¬ (max_depth < bracket_depth t)
       → IsErrOf r faults.TooDeep ↔ (max_depth < bracket_depth t)
-  is_deep r g d = (λ e. absurd (not_deep r g e), λ h. absurd (omega arith))
+  is_deep r g d = (λ e. absurd (not_deep r g e), λ h. absurd (d h))
     where
       not_deep : (r : Result Query QueryFault) → Gives query_of r (read n t) → IsErrOf r faults.TooDeep → ⊥
       not_deep (Ok p) g e = absurd cc

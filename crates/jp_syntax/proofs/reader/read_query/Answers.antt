@@ -1,4 +1,5 @@
 use Rattle.std.proofs.Common.{length}
+use Rattle.std.proofs.lemmas.Bool.{iff_false}
 use Rattle.std.specs.Str.{chars}
 use Rattle.jp_tokens.proofs.Cuts.{chars_fit}
 use Rattle.jp_syntax.proofs.Top.{is_found, is_only, is_none, is_deep, is_fault}
@@ -20,7 +21,7 @@ pub returns-clause-too_deep : goal.returns-clause-too_deep
 returns-clause-too_deep c =
     is_deep (length c.args.text.now) (chars c.args.text.now) (chars_fit c.args.text.now c.utf8.text)
     c.read.result c.read.ensures
-    (rw c.bracket_depth.ensures at c.if-bracket_depth-gt-MAX_DEPTH.false)
+    (iff_false c.is_too_deep.ensures c.if-is_too_deep.false)
 
 pub returns-clause-faults : goal.returns-clause-faults
 returns-clause-faults c = is_fault (length c.args.text.now) (chars c.args.text.now)
