@@ -268,21 +268,22 @@ fn counts(
     Ok((whole, part))
 }
 
+/// Whether the counts of a row are those of its pattern.
+fn is_counted(alloc: Global, row: &str, texts: &[String]) -> Result<bool, Fail> {
+    let mut words = row.split_whitespace();
+    let whole = (number(&mut words)?, number(&mut words)?);
+    let part = (number(&mut words)?, number(&mut words)?);
+    let pattern = words.next().unwrap_or("");
+    Ok(counts(alloc, pattern, texts)? == (whole, part))
+}
+
 #[test]
 fn generated(rt: HostRuntime) -> Result<(), Fail> {
     let alloc = rt.alloc();
     let texts = texts(alloc)?;
     assert_eq!(rt; texts.len(), 364);
     for row in ROWS.lines() {
-        let mut words = row.split_whitespace();
-        let whole = (number(&mut words)?, number(&mut words)?);
-        let part = (number(&mut words)?, number(&mut words)?);
-        let text = words.next().unwrap_or("");
-        assert_eq!(rt;
-            counts(alloc, text, texts.as_slice())?,
-            (whole, part),
-            "at {text}"
-        );
+        assert!(rt; is_counted(alloc, row, texts.as_slice())?, "{row}");
     }
     Ok(())
 }

@@ -1,6 +1,7 @@
 //! What is left to read of a pattern, step by step, and how many places there are.
 
-use crate::reading::{is_empty_alone, read, repeated, said};
+use crate::matching::is_matched;
+use crate::reading::{is_empty_alone, read, repeated, said, size_of};
 use jp_regexp::Pattern;
 use std::alloc::{AllocError, Global};
 use std::test::*;
@@ -19,64 +20,79 @@ fn stays_small(alloc: Global, pattern: &Pattern, anew: bool) -> Result<bool, All
     Ok(is_small && terms.len() == u64::from(anew) && terms.is_empty() != anew)
 }
 
-#[test]
-fn few_places(rt: HostRuntime) -> Result<(), Fail> {
-    let alloc = rt.alloc();
+/// The same of a pattern of nine atoms.
+fn nine_atoms_stay_small(alloc: Global, anew: bool) -> Result<bool, Fail> {
     let pattern = read(alloc, "(a|b)*a(a|b){3}")?;
-    assert_eq!(rt; pattern.unrolled_size(), 9);
-    assert!(rt; stays_small(alloc, &pattern, false)?);
-    assert!(rt; stays_small(alloc, &pattern, true)?);
-    Ok(())
+    Ok(pattern.unrolled_size() == 9 && stays_small(alloc, &pattern, anew)?)
 }
 
-/// A character, and whether the terms accept behind it.
-const STEPS: &[(char, bool)] = &[('a', true), ('b', true), ('b', false), ('a', false)];
-
-/// The same where each place may be a beginning, and how many terms there are.
-const STEPS_ANEW: &[(char, bool, u64)] = &[
-    ('b', false, 1),
-    ('a', true, 3),
-    ('b', true, 2),
-    ('b', false, 1),
-    ('a', true, 3),
-];
-
 #[test]
-fn steps(rt: HostRuntime) -> Result<(), Fail> {
-    let pattern = read(rt.alloc(), "a|ab")?;
-    let mut terms = pattern.start(rt.alloc())?;
-    assert!(rt; !terms.accepts());
-    for (c, accepts) in STEPS {
-        terms.step(*c, false)?;
-        assert_eq!(rt; terms.accepts(), *accepts, "after {c}");
+fn few_places(rt: HostRuntime) -> Result<(), Fail> {
+    for anew in [false, true] {
+        assert!(rt; nine_atoms_stay_small(rt.alloc(), anew)?);
     }
     Ok(())
 }
 
+/// Behind these characters of `a|ab`: whether the terms accept, and how many there are.
+fn stands(alloc: Global, characters: &str, anew: bool) -> Result<(bool, u64), Fail> {
+    let pattern = read(alloc, "a|ab")?;
+    let mut terms = pattern.start(alloc)?;
+    for c in characters.chars() {
+        terms.step(c, anew)?;
+    }
+    Ok((terms.accepts(), terms.len()))
+}
+
+#[test]
+fn steps(rt: HostRuntime) -> Result<(), Fail> {
+    for (characters, accepts) in [
+        ("", false),
+        ("a", true),
+        ("ab", true),
+        ("abb", false),
+        ("abba", false),
+    ] {
+        let (found, _) = stands(rt.alloc(), characters, false)?;
+        assert_eq!(rt; found, accepts, "behind {characters}");
+    }
+    Ok(())
+}
+
+/// The same where each place may be a beginning.
 #[test]
 fn steps_anew(rt: HostRuntime) -> Result<(), Fail> {
-    let pattern = read(rt.alloc(), "a|ab")?;
-    let mut terms = pattern.start(rt.alloc())?;
-    for (c, accepts, len) in STEPS_ANEW {
-        terms.step(*c, true)?;
+    for (characters, wanted) in [
+        ("b", (false, 1)),
+        ("ba", (true, 3)),
+        ("bab", (true, 2)),
+        ("babb", (false, 1)),
+        ("babba", (true, 3)),
+    ] {
         assert_eq!(rt;
-            (terms.accepts(), terms.len()),
-            (*accepts, *len),
-            "after {c}"
+            stands(rt.alloc(), characters, true)?,
+            wanted,
+            "behind {characters}"
         );
     }
     Ok(())
 }
 
+/// Of two thousand atoms, the first thousand of which may be left out.
+const COPIES: &str = "(a?){1000}a{1000}";
+
+/// Whether so many letters match, and whether a part of them does.
+fn copies_match(alloc: Global, count: usize) -> Result<(bool, bool), Fail> {
+    let text = repeated(alloc, "a", count)?;
+    is_matched(alloc, COPIES, &text)
+}
+
 #[test]
 fn many_copies(rt: HostRuntime) -> Result<(), Fail> {
-    let alloc = rt.alloc();
-    let pattern = read(alloc, "(a?){1000}a{1000}")?;
-    assert_eq!(rt; pattern.unrolled_size(), 2_000);
+    assert_eq!(rt; size_of(rt.alloc(), COPIES)?, 2_000);
     for (count, wanted) in [(999, false), (1_000, true), (2_000, true), (2_001, false)] {
-        let text = repeated(alloc, "a", count)?;
         assert_eq!(rt;
-            said(alloc, &pattern, &text)?,
+            copies_match(rt.alloc(), count)?,
             (wanted, count >= 1_000),
             "at {count}"
         );
@@ -84,13 +100,18 @@ fn many_copies(rt: HostRuntime) -> Result<(), Fail> {
     Ok(())
 }
 
+/// 64 stars inside each other, over nothing.
+fn stars(alloc: Global) -> Result<String, Fail> {
+    let mut stars = repeated(alloc, "(", 64)?;
+    stars.push_str(&repeated(alloc, ")*", 64)?)?;
+    Ok(stars)
+}
+
 #[test]
 fn at_once(rt: HostRuntime) -> Result<(), Fail> {
     let alloc = rt.alloc();
-    let mut stars = repeated(alloc, "(", 64)?;
-    stars.push_str(&repeated(alloc, ")*", 64)?)?;
     assert!(rt; is_empty_alone(alloc, "((((){1000}){1000}){1000}){1000}")?);
-    assert!(rt; is_empty_alone(alloc, &stars)?);
+    assert!(rt; is_empty_alone(alloc, &stars(alloc)?)?);
     Ok(())
 }
 

@@ -82,8 +82,11 @@ pub fn said(alloc: Global, pattern: &Pattern, text: &str) -> Result<(bool, bool)
 /// Whether the pattern has no atoms at all, and so matches the empty text alone.
 pub fn is_empty_alone(alloc: Global, text: &str) -> Result<bool, Fail> {
     let pattern = read(alloc, text)?;
-    let whole = pattern.unrolled_size() == 0 && pattern.matches(alloc, "")?;
-    Ok(whole && said(alloc, &pattern, "a")? == (false, true))
+    Ok(pattern.unrolled_size() == 0 && says_empty_alone(alloc, &pattern)?)
+}
+
+fn says_empty_alone(alloc: Global, pattern: &Pattern) -> Result<bool, AllocError> {
+    Ok(pattern.matches(alloc, "")? && said(alloc, pattern, "a")? == (false, true))
 }
 
 /// Whether neither call takes the text for a pattern.
@@ -93,7 +96,7 @@ fn is_refused(alloc: Global, text: &str) -> Result<bool, AllocError> {
 }
 
 /// The unrolled size of a pattern.
-fn size_of(alloc: Global, text: &str) -> Result<u64, Fail> {
+pub fn size_of(alloc: Global, text: &str) -> Result<u64, Fail> {
     Ok(read(alloc, text)?.unrolled_size())
 }
 
