@@ -125,7 +125,7 @@ fn visit_in<V: Visit + Drop>(
     *room = path.into_room();
     match into_taker(found) {
         Some(taker) => Ok(taker),
-        None => Err(EvalFault::Memory),
+        None => unreachable!(),
     }
 }
 
@@ -154,6 +154,6 @@ fn split_in<R: Threads + Sync, F: Fork + Sync, V: Visit + Drop + Send>(
     *room = path.into_room();
     match into_taker(found) {
         Some(taker) => Ok(taker),
-        None => Err(EvalFault::Memory),
+        None => unreachable!(),
     }
 }

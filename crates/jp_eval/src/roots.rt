@@ -48,5 +48,8 @@ fn answer<'v, V: Visit + Drop>(
         &mut path,
         &mut found,
     )?;
-    into_answer(found)
+    match into_answer(found) {
+        Some(answer) => Ok(answer),
+        None => unreachable!(),
+    }
 }

@@ -151,7 +151,7 @@ fn half<'v, R: Threads + Sync, F: Fork + Sync, V: Visit + Drop + Send>(
     )?;
     match into_taker(found) {
         Some(taker) => Ok(taker),
-        None => Err(AllocError),
+        None => unreachable!(),
     }
 }
 

@@ -455,7 +455,10 @@ fn ask<'v, V: Visit + Drop>(
         Nodes::Here(segments) => {
             let mut found = none_found::<'v, V>(ground.alloc, want);
             run(ground, segments.as_slice(), value, path, &mut found)?;
-            into_answer(found)
+            match into_answer(found) {
+                Some(answer) => Ok(answer),
+                None => unreachable!(),
+            }
         }
         Nodes::Root(slot) => Ok(ground.answer(*slot, want)),
         Nodes::Distinct(nodes) => {

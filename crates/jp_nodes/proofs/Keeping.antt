@@ -1,9 +1,12 @@
 -- What is kept of nodes found one after another.
-use Rattle.std.proofs.Common.{◌≡◌, List, [], ◌∷◌, ◌++◌, refl, ap, sym, ◌∙◌}
+use Rattle.std.proofs.Common.{◌≡◌, List, [], ◌∷◌, ◌++◌, true, false, refl, ap, sym, ◌∙◌}
 use Rattle.std.proofs.lemmas.Grind.{fold-append}
 use Rattle.std.specs.List.{fold}
 use Rattle.jp_doc.specs.Location.{Node}
+use Rattle.jp_check.specs.declared.ready.Want.{Want}
+use Rattle.jp_check.specs.declared.ready.Want.TheVariants as want
 use Rattle.jp_nodes.specs.Kept.{Kept, taken, first, count, only, located, put_found, plus, emptied_found}
+use Rattle.jp_nodes.specs.Kept.{is_taken, none_kept}
 
 module _ {K : Type 0} (put : K → Node → K) where
   pub plus-none : (k : K) → plus put k [] ≡ k
@@ -84,3 +87,36 @@ unfolding plus
 emptied_stays put emptied law k [] = refl
 emptied_stays put emptied law k (n ∷ ns) = emptied_stays put emptied law (put_found put k n) ns
     ∙ emptied_once put emptied law k n
+
+taken_once : {K : Type 0} (put : K → Node → K) (k : Kept K) (n : Node)
+    → is_taken (put_found put k n) ≡ is_taken k
+taken_once put (taken k) n = refl
+taken_once put (first o) n = refl
+taken_once put (count m) n = refl
+taken_once put (only a) n = refl
+taken_once put (located o ls) n = refl
+
+-- whether a taker keeps the nodes does not change
+taken_stays : {K : Type 0} (put : K → Node → K) (k : Kept K) (ns : List Node)
+    → is_taken (fold (put_found put) k ns) ≡ is_taken k
+taken_stays put k [] = refl
+taken_stays put k (n ∷ ns) = taken_stays put (put_found put k n) ns ∙ taken_once put k n
+
+none_taken : (K : Type 0) (wanted : Want) → is_taken (none_kept {K = K} wanted) ≡ false
+none_taken K want.First = refl
+none_taken K want.Count = refl
+none_taken K want.Only = refl
+none_taken K want.Distinct = refl
+
+-- a walk that began with a taker ends with one
+pub not_lost : {K : Type 0} (put : K → Node → K) (start : K) (ns : List Node) (k : Kept K)
+    → k ≡ plus (put_found put) (taken start) ns → is_taken k ≡ false → ⊥
+unfolding plus
+not_lost put start ns k h lost = cc (sym lost ∙ ap is_taken h ∙ taken_stays put (taken start) ns)
+
+-- a walk that began with what a filter wants ends with no taker
+pub not_taken : {K : Type 0} (put : K → Node → K) (wanted : Want) (ns : List Node) (before k : Kept K)
+    → k ≡ plus (put_found put) before ns → before ≡ none_kept wanted → is_taken k ≡ true → ⊥
+unfolding plus
+not_taken {K} put wanted ns before k h none is =
+    cc (sym is ∙ ap is_taken h ∙ taken_stays put before ns ∙ ap is_taken none ∙ none_taken K wanted)

@@ -1,6 +1,6 @@
 -- A step of a proof, which nobody has to believe who asks what a query selects: what is kept of nodes that
 -- are found.
-use Rattle.std.specs.Prelude.{ℕ, ◌+◌, List, [], ◌∷◌, ◌++◌, map, Option, Some, None, option_map}
+use Rattle.std.specs.Prelude.{ℕ, ◌+◌, Bool, true, false, List, [], ◌∷◌, ◌++◌, map, Option, Some, None, option_map}
 use Rattle.std.specs.List.{fold}
 use Rattle.jp_doc.specs.Json.{Json}
 use Rattle.jp_doc.specs.Location.{Node, Location, location_of}
@@ -41,6 +41,14 @@ pub data Kept (K : Type 0) : Type 0 where
   count : ℕ → Kept K
   only : Alone → Kept K
   located : Option Json → List Location → Kept K
+
+-- whether the caller's taker keeps it
+abbrev pub is_taken : {K : Type 0} → Kept K → Bool
+is_taken (taken k) = true
+is_taken (first o) = false
+is_taken (count n) = false
+is_taken (only a) = false
+is_taken (located o ls) = false
 
 abbrev pub kept : {V K : Type 0} → (V → K) → Found V → Kept K
 kept keeps (Taker t) = taken (keeps t)

@@ -1,11 +1,11 @@
 //! What is kept of the nodes that a walk finds: by the caller's taker, or by what a filter wants of them.
 
-ghost use Rattle.std.specs.Prelude.{◌≡◌, ◌+◌, IsTrue, IfSome, IfOk, OnOk, List, true};
+ghost use Rattle.std.specs.Prelude.{◌≡◌, ◌+◌, ◌↔◌, IsTrue, IfSome, IsNone, IfOk, IsErr, OnOk, List, true, false};
 ghost use Rattle.jp_check.specs.declared.ready.Want.{Want};
 ghost use Rattle.jp_doc.specs.Location.{Node};
 ghost use Rattle.jp_nodes.specs.Answers.{tells};
 ghost use Rattle.jp_nodes.specs.Kept.{kept, put_found, none_kept, taken, alone_of, put_alone, plus};
-ghost use Rattle.jp_nodes.specs.Kept.{emptied_found};
+ghost use Rattle.jp_nodes.specs.Kept.{emptied_found, is_taken};
 ghost use Rattle.jp_nodes.specs.Links.{here};
 ghost use Rattle.jp_nodes.specs.Part.{part_value};
 
@@ -110,13 +110,14 @@ fn with_another<'v>(alone: Alone<'v>, value: Part<'v>) -> Alone<'v>
 
 /// An empty taker of the caller's kind, where the caller's is what is kept.
 ///
-/// `AllocError` where something else is kept.
+/// It takes no memory: `AllocError` exactly where something else is kept.
 pub fn fresh<V: Visit + Drop>(found: &Found<'_, V>, alloc: Global) -> Result<V, AllocError>
     ensures empty { IfOk result (λ t. taken (V.kept t)
         ≡ emptied_found V.emptied (kept V.kept found.now)) }
     ensures later { (ns : List Node)
         → emptied_found V.emptied (plus (put_found V.put) (kept V.kept found.now) ns)
         ≡ emptied_found V.emptied (kept V.kept found.now) }
+    ensures other { IsErr result ↔ (is_taken (kept V.kept found.now) ≡ false) }
 {
     match found {
         Found::Taker(taker) => Ok(taker.fresh(alloc)),
@@ -144,9 +145,10 @@ pub fn append<'v, V: Visit + Drop>(found: &mut Found<'v, V>, other: V) -> Result
     }
 }
 
-/// What the caller keeps, where that is what is kept.
+/// What the caller keeps, or nothing exactly where something else is kept.
 pub fn into_taker<'v, V: Visit + Drop>(found: Found<'v, V>) -> Option<V>
-    ensures { IfSome result (λ t. taken (V.kept t) ≡ kept V.kept found.entry) }
+    ensures taker { IfSome result (λ t. taken (V.kept t) ≡ kept V.kept found.entry) }
+    ensures other { IsNone result ↔ (is_taken (kept V.kept found.entry) ≡ false) }
 {
     match found {
         Found::Taker(taker) => Some(taker),
@@ -169,18 +171,17 @@ pub fn none_found<'v, V: Visit + Drop>(alloc: Global, want: Want) -> Found<'v, V
     }
 }
 
-/// What is told of the nodes that were found.
-///
-/// `AllocError` where the caller's taker has them.
-pub fn into_answer<'v, V: Visit + Drop>(found: Found<'v, V>) -> Result<Answer<'v>, AllocError>
-    ensures { IfOk result (λ a. (want : Want) (ns : List Node) → kept V.kept found.entry
+/// What is told of the nodes that were found, or nothing exactly where the caller's taker has them.
+pub fn into_answer<'v, V: Visit + Drop>(found: Found<'v, V>) -> Option<Answer<'v>>
+    ensures answer { IfSome result (λ a. (want : Want) (ns : List Node) → kept V.kept found.entry
         ≡ plus (put_found V.put) (none_kept want) ns → tells want ns a ≡ true) }
+    ensures other { IsNone result ↔ (is_taken (kept V.kept found.entry) ≡ true) }
 {
     match found {
-        Found::First(first) => Ok(Answer::First(first)),
-        Found::Count(count) => Ok(Answer::Count(count)),
-        Found::Only(alone) => Ok(Answer::Only(alone)),
-        Found::Distinct(located) => Ok(Answer::Distinct(each_once(located))),
-        Found::Taker(_) => Err(AllocError),
+        Found::First(first) => Some(Answer::First(first)),
+        Found::Count(count) => Some(Answer::Count(count)),
+        Found::Only(alone) => Some(Answer::Only(alone)),
+        Found::Distinct(located) => Some(Answer::Distinct(each_once(located))),
+        Found::Taker(_) => None,
     }
 }

@@ -1,4 +1,4 @@
-use Rattle.std.proofs.Common.{sym, ap, ap₂, ◌∙◌}
+use Rattle.std.proofs.Common.{is_some, sym, ap, ap₂, ◌∙◌}
 use Rattle.std.specs.List.{fold}
 use Rattle.jp_doc.specs.Document.{document_value}
 use Rattle.jp_check.specs.Plan.{planned_query}
@@ -8,12 +8,12 @@ use Rattle.jp_eval.specs.Base.{base_of}
 use Rattle.jp_eval.specs.Nodelist.{document_nodes}
 use Rattle.jp_value.specs.RightTests.{tests}
 use Rattle.jp_eval.proofs.Answering.{same_nodes}
-use Rattle.jp_nodes.proofs.Keeping.{taken_out}
+use Rattle.jp_nodes.proofs.Keeping.{taken_out, not_lost}
 use Rattle.jp_eval.proofs.ReadyParts.{from_root, started}
 use Rattle.jp_eval.proofs.evaluator.visit_in.Goals as goal
 
-pub returns-in-Some : goal.returns-in-Some
-returns-in-Some g c =
+pub returns : goal.returns
+returns g c =
     let ready = c.ready-ready.result.now in
     let ground = c.in_ok-ground.ground in
     let value = document_value c.args.document.now in
@@ -27,5 +27,10 @@ returns-in-Some g c =
     (c.in_ok-ground.ensures.roots ∙ c.as_slice.ensures.value)
     ∙ started ready.start (segments_in (roots_of ready.roots.items) ready.segments.items) value
     ∙ ap (λ q. document_nodes tests q value) c.ready-ready.ensures in
-    λ t right. taken_out g.V.Visit.put _ _ _ (c.in-Some.ensures ∙ c.in_ok-run.ensures.found)
+    λ t right. taken_out g.V.Visit.put _ _ _ (c.in-Some.ensures.taker ∙ c.in_ok-run.ensures.found)
     ∙ ap (fold g.V.Visit.put (g.V.Visit.kept c.args.taker)) (nodes ∙ same_nodes t query value right)
+
+pub unreachable-requires : goal.unreachable-requires
+unreachable-requires g c =
+    not_lost g.V.Visit.put (g.V.Visit.kept c.args.taker) _ _ c.in_ok-run.ensures.found
+    (c.into_taker.ensures.other.0 (ap is_some c.in-None.is))

@@ -1,10 +1,10 @@
-use Rattle.std.proofs.Common.{refl, ap₂, ◌∙◌}
-use Rattle.std.proofs.lemmas.Result.{IfOk-weaker}
+use Rattle.std.proofs.Common.{is_some, refl, ap, ap₂, ◌∙◌}
 use Rattle.jp_check.specs.Ready.{roots_of, segments_in}
 use Rattle.jp_eval.specs.Rooted.{root_nodes}
 use Rattle.jp_eval.specs.Base.{base_of}
 use Rattle.jp_nodes.specs.Kept.{put_found, plus}
 use Rattle.jp_nodes.specs.Part.{part_value}
+use Rattle.jp_nodes.proofs.Keeping.{not_taken}
 use Rattle.jp_eval.proofs.Answered.{answers_it}
 use Rattle.jp_eval.proofs.ReadyParts.{from_root}
 use Rattle.jp_eval.proofs.roots.answer.Goals as goal
@@ -19,5 +19,10 @@ returns g c =
     c.new-path.result c.as_slice.ensures.value c.new-path.ensures refl in
     let held = c.in_ok-run.ensures.found
     ∙ ap₂ (plus (put_found g.V.Visit.put)) c.none_found-found.ensures nodes in
-    IfOk-weaker c.into_answer.result _ _ (λ a h. answers_it root query.want ss a
-    (h query.want (root_nodes root ss) held)) c.into_answer.ensures
+    answers_it root query.want ss c.in-Some.answer
+    (c.in-Some.ensures.answer query.want (root_nodes root ss) held)
+
+pub unreachable-requires : goal.unreachable-requires
+unreachable-requires g c =
+    not_taken g.V.Visit.put c.args.query.now.want _ _ _ c.in_ok-run.ensures.found c.none_found-found.ensures
+    (c.into_answer.ensures.other.0 (ap is_some c.in-None.is))

@@ -1,4 +1,4 @@
-use Rattle.std.proofs.Common.{◌≡◌, ◌<◌, ◌≤◌, List, length, refl, sym, ap, ◌∙◌, arith, rules}
+use Rattle.std.proofs.Common.{◌≡◌, ◌<◌, ◌≤◌, List, length, is_some, refl, sym, ap, ◌∙◌, arith, rules}
 use Rattle.std.proofs.lemmas.Result.{on_ok_weaker}
 use Rattle.std.specs.List.{flat_map}
 use Rattle.jp_doc.specs.Location.{Location, Node, node}
@@ -15,7 +15,7 @@ use denote.Struct.Tuple.{tuple_name}
 use mir.Syntax.{named}
 use Rattle.jp_eval.proofs.Crossing.{captured_send}
 use Rattle.jp_nodes.proofs.Gathered.{kid_done, halves_joined}
-use Rattle.jp_nodes.proofs.Keeping.{ended, full_enough, nothing_found}
+use Rattle.jp_nodes.proofs.Keeping.{ended, full_enough, nothing_found, not_lost}
 use Rattle.jp_eval.proofs.Stretches.{others_no_higher, stretch_done}
 use Rattle.jp_eval.proofs.WalkSteps.{back_up, link_further, over}
 use Rattle.jp_eval.proofs.split.+split.Lts-each_of as lts
@@ -73,12 +73,17 @@ one_by_one-returns-clause-found g t c =
     (flat_map (done (base_of c.args.ground.now) c.args.task) ns))
     (sym (c.in_default.ensures.nodes (link_steps c.loop-child.path))) ∙ c.loop-child.invariant.2)
 
-pub half-returns-in-Some : goal.half-returns-in-Some
-half-returns-in-Some g t c =
-    c.in-Some.ensures ∙ c.in_ok-each_of.ensures.found
+pub half-returns : goal.half-returns
+half-returns g t c =
+    c.in-Some.ensures.taker ∙ c.in_ok-each_of.ensures.found
     ∙ ap (λ ls. plus (put_found g.V.Visit.put) (taken (g.V.Visit.kept c.args.taker))
     (flat_map (done (base_of c.args.ground.now) c.args.task) (row_kids (link_steps ls) c.args.children)))
     c.in_ok-path.ensures
+
+pub half-unreachable-requires : goal.half-unreachable-requires
+half-unreachable-requires g t c =
+    not_lost g.V.Visit.put (g.V.Visit.kept c.args.taker) _ _ c.in_ok-each_of.ensures.found
+    (c.into_taker.ensures.other.0 (ap is_some c.in-None.is))
 
 pub go_split-returns-in_default-clause-found : goal.go_split-returns-in_default-clause-found
 go_split-returns-in_default-clause-found g t c =

@@ -1,5 +1,5 @@
 use Rattle.std.proofs.Common.{◌≡◌, ◌<◌, ◌≤◌, [], ◌∷◌, ◌++◌, length, get_or, not, true, false}
-use Rattle.std.proofs.Common.{w64, Some, None, option_map, option_to_list, refl, sym, ap, ap₂, ◌∙◌, arith}
+use Rattle.std.proofs.Common.{w64, Some, None, is_some, option_map, option_to_list, refl, sym, ap, ap₂, ◌∙◌, arith}
 use Rattle.std.proofs.Common.{rules}
 use mir.Val.{SFits}
 use Rattle.std.proofs.lemmas.Int.{to_z-of_z}
@@ -34,7 +34,7 @@ use Rattle.jp_eval.specs.Walk.{picked, picked_by, reached, is_true, value_given,
 use Rattle.jp_eval.proofs.Chains.{reached-none, reached-end, reached-each, reached-filter, reached-plain}
 use Rattle.jp_eval.proofs.Chains.{reached-deep}
 use Rattle.jp_nodes.proofs.InsideParts.{part_is_short}
-use Rattle.jp_nodes.proofs.Keeping.{plus-one, nothing_found, full_enough}
+use Rattle.jp_nodes.proofs.Keeping.{plus-one, nothing_found, full_enough, not_taken}
 use Rattle.jp_eval.proofs.ReadyParts.{picked_name, picked_wild, picked_index, picked_slice, picked_filter}
 use Rattle.jp_eval.proofs.ReadyParts.{true_any, true_all, true_not, true_compare, true_test, true_match}
 use Rattle.jp_eval.proofs.ReadyParts.{true_search, true_match_known, true_search_known, given_constant}
@@ -613,8 +613,8 @@ give-returns-in_ok-ask-in-Only-clause-value g t c =
     c.in_ok-ask-in-Only.ensures.answer
     ∙ sym (ap (λ v. value_given base v n) c.in-Only.is ∙ given_only base n c.in-Only.nodes)
 
-pub ask-returns-in_ok-run-in-Here-clause-answer : goal.ask-returns-in_ok-run-in-Here-clause-answer
-ask-returns-in_ok-run-in-Here-clause-answer g t c =
+pub ask-returns-in-Some-clause-answer : goal.ask-returns-in-Some-clause-answer
+ask-returns-in-Some-clause-answer g t c =
     let base = base_of c.args.ground.now in
     let n = here c.args.path.now c.args.value in
     let want = c.args.want in
@@ -622,8 +622,12 @@ ask-returns-in_ok-run-in-Here-clause-answer g t c =
     ∙ sym (ap (λ q. nodes_given base q want n) c.in-Here.is) in
     let held = c.in_ok-run-in-Here.ensures.found
     ∙ ap₂ (plus (put_found g.V.Visit.put)) c.none_found-found.ensures nodes in
-    IfOk-weaker c.into_answer.result _ _ (λ a h. h want (nodes_given base c.args.nodes.now want n) held)
-    c.into_answer.ensures
+    c.in-Some.ensures.answer want (nodes_given base c.args.nodes.now want n) held
+
+pub ask-unreachable-requires : goal.ask-unreachable-requires
+ask-unreachable-requires g t c =
+    not_taken g.V.Visit.put c.args.want _ _ _ c.in_ok-run-in-Here.ensures.found c.none_found-found.ensures
+    (c.into_answer.ensures.other.0 (ap is_some c.in-None.is))
 
 pub ask-returns-in-Root-clause-answer : goal.ask-returns-in-Root-clause-answer
 ask-returns-in-Root-clause-answer g t c =
