@@ -1,6 +1,7 @@
 //! What is kept of the nodes that a walk finds: by the caller's taker, or by what a filter wants of them.
 
-ghost use Rattle.std.specs.Prelude.{◌≡◌, ◌+◌, ◌↔◌, IsTrue, IfSome, IsNone, IfOk, IsErr, OnOk, List, true, false};
+ghost use Rattle.std.specs.Prelude.{◌≡◌, ◌+◌, ◌↔◌, List, true, false};
+ghost use Rattle.std.specs.Prelude.{IsTrue, IfSome, IsNone, IfOk, IsErr, OnOk};
 ghost use Rattle.jp_check.specs.declared.ready.Want.{Want};
 ghost use Rattle.jp_doc.specs.Location.{Node};
 ghost use Rattle.jp_nodes.specs.Answers.{tells};
