@@ -1,11 +1,11 @@
 -- Answers that are handed out one after another.
-use Rattle.std.proofs.Common.{◌≡◌, ℕ, ◌+◌, Bool, true, List, [], ◌++◌, length, take, Option, Some}
+use Rattle.std.proofs.Common.{◌≡◌, ℕ, ◌+◌, Bool, true, false, inl, inr, List, [], ◌++◌, length, take, Option, Some}
 use Rattle.std.proofs.Common.{None, Result, Ok, Err, IfErr, OnOk, IsErrAnd, refl, sym, ◌∙◌, ap, subst, arith}
 use Rattle.std.proofs.Common.{append-nil, length-append}
 use Rattle.std.proofs.Math.Seq.{take-length, take-append-add}
 use Rattle.std.proofs.lemmas.List.{take-append-le}
-use Rattle.std.specs.Io.KnownBytes.{Appends, Keeps}
-use Rattle.std.proofs.KnownBytes.{Appends-nil, Appends-trans, Appends-kept}
+use Rattle.std.specs.Io.KnownBytes.{Appends}
+use Rattle.std.proofs.KnownBytes.{Appends-nil, Appends-trans}
 use Rattle.jp_doc.specs.Lines.{Line}
 use Rattle.jp_doc.specs.declared.fault.DocFault.{DocFault}
 use Rattle.jp_syntax.specs.Tree as tree
@@ -16,9 +16,9 @@ use Rattle.jp_answer.proofs.Forms.{formed_joined, nothing_in}
 use Rattle.jp_answer.specs.declared.fault.RunFault.{RunFault}
 use Rattle.jp_answer.specs.declared.fault.RunFault.TheVariants.{Query, Document, Read, Write, Limit}
 use Rattle.jp_answer.specs.declared.fault.RunFault.TheVariants.{Memory, Settings}
-use Rattle.jp_run.specs.Ended.{HandingEnded, AnswerEnded, RestEnded}
+use Rattle.jp_run.specs.Ended.{HandingEnded, AnswerEnded}
 use Rattle.jp_run.specs.Handed.{Handed, HandedFront}
-use Rattle.jp_run.specs.Written.{AppendsFront}
+use Rattle.jp_run.specs.Written.{AppendsFront, IsPassedOn}
 
 -- what is told by a call that passes on a fault
 pub told : {T : Type 0} (r : Result T RunFault) (fault : RunFault) (P : RunFault → Type 0)
@@ -40,6 +40,11 @@ at_ok (Err f) p = tt
 pub also_ok : {T E P : Type 0} (R : Type 0) (r : Result T E) → P → OnOk r R → OnOk r (P × R)
 also_ok R (Ok x) p h = (p, h)
 also_ok R (Err f) p h = tt
+
+-- what holds nothing back, and has not failed, was flushed
+pub is_flushed : (flushed failed : Bool) → IsPassedOn flushed failed → failed ≡ false → flushed ≡ true
+is_flushed flushed failed (inl h) e = h
+is_flushed flushed failed (inr h) e = absurd (cc)
 
 pub front_of_all : (old new : Option (List ℕ)) (bytes : List ℕ) → Appends old new bytes
     → AppendsFront old new bytes
@@ -90,15 +95,6 @@ module _ (going : Bool) (q : tree.Query) where
         ∙ ap (λ s. unless_stopped s f.whole (answer_in going t q ys)) f.stopped;
     stopped = f.stopped;
     appended = f.appended;
-  }
-
-  pub handed_kept : (ls : List Line) (stop : Option (ℕ × DocFault)) (a b c : Option (List ℕ))
-      → Handed going q ls stop a b → Keeps b c → Handed going q ls stop a c
-  handed_kept ls stop a b c f k = record {
-    whole = f.whole;
-    is = f.is;
-    stopped = f.stopped;
-    appended = Appends-kept a b c f.whole.bytes f.appended k;
   }
 
   pub no_front : (ls : List Line) (a : Option (List ℕ)) → HandedFront going q ls a a
@@ -155,17 +151,6 @@ module _ (going : Bool) (q : tree.Query) where
   ended_after xs ys failed a b c Read g h = absurd h
   ended_after xs ys failed a b c Limit g h = absurd h
   ended_after xs ys failed a b c Settings g h = absurd h
-
-  -- all was handed out, but not passed on
-  pub ended_kept : (ls same : List Line) (count : ℕ) (failed : Bool) (a b c : Option (List ℕ)) (f : RunFault)
-      → (f ≡ Write) × (failed ≡ true) → Handed going q ls None a b → Keeps b c → ls ≡ same
-      → RestEnded going q same count failed a c f
-  ended_kept ls same count failed a b c f h g k e =
-      subst (RestEnded going q same count failed a c) (sym h.0) (
-        h.1,
-        subst (λ (l : List Line). HandedFront going q l a c) e (handed_front ls None a c
-            (handed_kept ls None a b c g k)),
-      )
 
   module _ (ls : List Line) (whole : Answer) (is : (t : Tests) → AreRight t → answer_in going t q ls ≡ whole)
       (a b : Option (List ℕ)) where

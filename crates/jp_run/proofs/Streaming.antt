@@ -579,3 +579,11 @@ module _ (going : Bool) (q : tree.Query) (batch : ℕ) (some : 0 < batch) where
   rest_ended e u p kept answered (Query fault) st end none h = absurd h
   rest_ended e u p kept answered Read st end none h = absurd h
   rest_ended e u p kept answered Settings st end none h = absurd h
+
+-- an answer that does not keep going passes no faulty line
+pub none_ok : (going : Bool) (before after : List Line) (n : ℕ) (r : Result Totals RunFault)
+    → n ≡ passed_in going before → IfOk r (λ totals. totals.faulty ≡ n + passed_in going after)
+    → going ≡ false → IfOk r (λ totals. totals.faulty ≡ 0)
+none_ok false before after n (Ok totals) e h off = omega (arith, e, h)
+none_ok false before after n (Err fault) e h off = tt
+none_ok true before after n r e h off = absurd (cc)

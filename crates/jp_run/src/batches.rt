@@ -1,4 +1,4 @@
-//! Lines that are answered in batches, each handed to the sink before the next begins.
+//! Lines that are answered in batches, each handed to the sink, and passed on, before the next begins.
 
 ghost use Rattle.std.specs.Prelude.{◌≡◌, ◌+◌, ◌≤◌, ◌++◌, false, true, None, map, length, vec_len, IfOk, OnOk};
 ghost use Rattle.std.specs.Prelude.{IfErr};
@@ -11,11 +11,12 @@ ghost use Rattle.jp_run.specs.Batches.{in_batches, whole_batches, left_over};
 ghost use Rattle.jp_run.specs.Ended.{AnswerEnded, RestEnded};
 ghost use Rattle.jp_run.specs.Handed.{Handed};
 ghost use Rattle.jp_run.specs.Limits.{max_lines};
+ghost use Rattle.jp_run.specs.Written.{IsPassedOn};
 
 use crate::ends::Sink;
 use crate::gathering::{Pending, take_last};
 use crate::running::Totals;
-use crate::writing::{hand_out, pass_on};
+use crate::writing::hand_out;
 use jp_answer::{Gate, RunFault, Settings, answer_in_chunks};
 use jp_check::Plan;
 use jp_doc::Line;
@@ -50,6 +51,7 @@ pub(crate) fn answer_batches<R: Threads + Sync, K: Sink, G: Gate + Sync>(
         (whole_batches settings.batch (map line_of pending.old.lines.items))) }
     ensures progress { OnOk result (pending.new.progress ≡ pending.old.progress) }
     ensures working { OnOk result (K.failed sink.new ≡ false) }
+    ensures passed_on { K.flushed sink.old ≡ true → IsPassedOn (K.flushed sink.new) (K.failed sink.new) }
     ensures fault { IfErr result (AnswerEnded settings.keeps_going (planned_query plan.now)
         (map line_of pending.old.lines.items)
         (K.failed sink.new) (K.contents sink.old) (K.contents sink.new)) }
@@ -61,7 +63,7 @@ pub(crate) fn answer_batches<R: Threads + Sync, K: Sink, G: Gate + Sync>(
     Ok(())
 }
 
-/// Answers the last line too, and what is left, and passes all on.
+/// Answers the last line too, and what is left.
 pub(crate) fn answer_rest<R: Threads + Sync, K: Sink, G: Gate + Sync>(
     rt: &R,
     alloc: Global,
@@ -87,6 +89,7 @@ pub(crate) fn answer_rest<R: Threads + Sync, K: Sink, G: Gate + Sync>(
     ensures few_lines { IfOk result (λ totals. totals.lines ≤ max_lines) }
     ensures flushed { OnOk result (K.flushed sink.new ≡ true) }
     ensures working { OnOk result (K.failed sink.new ≡ false) }
+    ensures passed_on { K.flushed sink.old ≡ true → IsPassedOn (K.flushed sink.new) (K.failed sink.new) }
     ensures fault { IfErr result (RestEnded settings.keeps_going (planned_query plan.now)
         (map line_of pending.old.lines.items ++ finished_lines pending.old.progress)
         (finished pending.old.progress).count
@@ -94,7 +97,6 @@ pub(crate) fn answer_rest<R: Threads + Sync, K: Sink, G: Gate + Sync>(
 {
     let lines = take_last(pending)?;
     let faulty = answer_lines(rt, alloc, plan, settings, gate, &pending.lines, sink)?;
-    pass_on(sink)?;
     Ok(Totals {
         lines,
         documents: pending.answered.lines + pending.lines.len() as u64,
@@ -124,6 +126,7 @@ fn answer_whole<R: Threads + Sync, K: Sink, G: Gate + Sync>(
         (whole_batches settings.batch (map line_of lines.now)) None
         (K.contents sink.old) (K.contents sink.new)) }
     ensures working { OnOk result (K.failed sink.new ≡ false) }
+    ensures passed_on { K.flushed sink.old ≡ true → IsPassedOn (K.flushed sink.new) (K.failed sink.new) }
     ensures fault { IfErr result (AnswerEnded settings.keeps_going (planned_query plan.now)
         (map line_of lines.now)
         (K.failed sink.new) (K.contents sink.old) (K.contents sink.new)) }
@@ -139,7 +142,8 @@ fn answer_whole<R: Threads + Sync, K: Sink, G: Gate + Sync>(
     Ok((lines.len() - rest.len(), faulty))
 }
 
-/// Answers some lines, and hands the answer to the sink. Gives how many faulty lines it passes.
+/// Answers some lines, and hands the answer to the sink, which passes it on. Gives how many faulty lines it
+/// passes.
 fn answer_lines<R: Threads + Sync, K: Sink, G: Gate + Sync>(
     rt: &R,
     alloc: Global,
@@ -157,6 +161,8 @@ fn answer_lines<R: Threads + Sync, K: Sink, G: Gate + Sync>(
     ensures passed { IfOk result (λ n. n ≡ passed_in settings.keeps_going (map line_of lines.now)) }
     ensures few_faulty { IfOk result (λ n. n ≤ length lines.now) }
     ensures working { OnOk result (K.failed sink.new ≡ false) }
+    ensures flushed { OnOk result (K.flushed sink.new ≡ true) }
+    ensures passed_on { K.flushed sink.old ≡ true → IsPassedOn (K.flushed sink.new) (K.failed sink.new) }
     ensures fault { IfErr result (AnswerEnded settings.keeps_going (planned_query plan.now)
         (map line_of lines.now)
         (K.failed sink.new) (K.contents sink.old) (K.contents sink.new)) }

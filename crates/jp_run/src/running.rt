@@ -18,7 +18,7 @@ ghost use Rattle.jp_run.specs.Batches.{documents_in, whole_batches, WasNotWhole}
 ghost use Rattle.jp_run.specs.Ended.{StreamEnded};
 ghost use Rattle.jp_run.specs.Handed.{Handed, IsHanded};
 ghost use Rattle.jp_run.specs.Limits.{max_reads, max_lines};
-ghost use Rattle.jp_run.specs.Written.{AppendsFront};
+ghost use Rattle.jp_run.specs.Written.{AppendsFront, IsPassedOn};
 
 use crate::batches::{answer_batches, answer_rest};
 use crate::ends::{Sink, Source};
@@ -61,10 +61,14 @@ impl Totals {
 /// selects.
 ///
 /// The query is read first. Then the source is read to its end, at most 65,536 bytes a call. As soon as
-/// `batch` documents have come they are answered by the workers and written, before the next read; the rest
-/// is at the end. The run stops at the first faulty line, unless the settings are to keep going: then a
-/// faulty line gives its fault line, and the totals count it.
+/// `batch` documents have come they are answered by the workers and written, and the sink is flushed, before
+/// the next read; the rest is at the end. The run stops at the first faulty line, unless the settings are to
+/// keep going: then a faulty line gives its fault line, and the totals count it.
 /// Neither end has failed before, and the counts of the source are at most 2^62.
+///
+/// What is flushed when: each batch's lines as soon as they are written, also those before a faulty line and
+/// those at the end of the input. So a sink that gathers bytes has nothing of the run's while it waits for
+/// input, and nothing after it, unless one of its calls has failed.
 ///
 /// # Errors
 ///
@@ -99,10 +103,15 @@ pub fn run<R: Threads + Sync, S: Source, K: Sink, G: Gate + Sync>(
     // The faulty lines that the answer passed: none where it doesn't keep going.
     ensures faulty { IfOk result (λ totals. IfSome (S.remaining source.old)
         (λ input. totals.faulty ≡ passed_in settings.now.keeps_going (lines input))) }
+    // None, whatever the source tells of its bytes.
+    ensures none_passed { settings.now.keeps_going ≡ false → IfOk result (λ totals. totals.faulty ≡ 0) }
     ensures few_lines { IfOk result (λ totals. totals.lines ≤ max_lines) }
     ensures end { OnOk result (IsAtEnd (S.remaining source.new)) }
     ensures flushed { OnOk result (K.flushed sink.new ≡ true) }
     ensures still_working { OnOk result ((S.failed source.new ≡ false) × (K.failed sink.new ≡ false)) }
+    // However the run ends, also in the midst of reading: the sink holds nothing back that the run has handed
+    // to it.
+    ensures passed_on { K.flushed sink.old ≡ true → IsPassedOn (K.flushed sink.new) (K.failed sink.new) }
     // The query's fault is the text's verdict, and nothing was read or written.
     ensures query { (f : Refusal) → IsErrOf result (RunFault.Query f) → IsVerdict (chars query.now) (Err f)
         × (source.new ≡ source.old) × (sink.new ≡ sink.old) }
@@ -166,10 +175,12 @@ fn stream<R: Threads + Sync, S: Source, K: Sink, G: Gate + Sync>(
         (λ input. (totals.lines ≡ line_count input) × (totals.documents ≡ length (lines input)))) }
     ensures passed { IfOk result (λ totals. IfSome (S.remaining source.old)
         (λ input. totals.faulty ≡ passed_in settings.keeps_going (lines input))) }
+    ensures none_passed { settings.keeps_going ≡ false → IfOk result (λ totals. totals.faulty ≡ 0) }
     ensures few_lines { IfOk result (λ totals. totals.lines ≤ max_lines) }
     ensures end { OnOk result (IsAtEnd (S.remaining source.new)) }
     ensures flushed { OnOk result (K.flushed sink.new ≡ true) }
     ensures still_working { OnOk result ((S.failed source.new ≡ false) × (K.failed sink.new ≡ false)) }
+    ensures passed_on { K.flushed sink.old ≡ true → IsPassedOn (K.flushed sink.new) (K.failed sink.new) }
     ensures fault { IfErr result (StreamEnded settings.keeps_going (planned_query plan.now)
         settings.batch (record {
           source_old = S.remaining source.old;

@@ -5,7 +5,7 @@ ghost use Rattle.std.specs.Io.KnownBytes.{Appends, Keeps};
 ghost use Rattle.jp_answer.specs.Answered.{outcome_of};
 ghost use Rattle.jp_path.specs.Chunks.{bytes_in};
 ghost use Rattle.jp_run.specs.Ended.{HandingEnded};
-ghost use Rattle.jp_run.specs.Written.{AppendsFront};
+ghost use Rattle.jp_run.specs.Written.{AppendsFront, IsPassedOn};
 
 use crate::ends::{Broken, Sink};
 use jp_answer::{Outcome, RunFault};
@@ -54,19 +54,22 @@ fn write_chunks<K: Sink>(sink: &mut K, chunks: &[Vec<u8>]) -> Result<(), Broken>
     Ok(())
 }
 
-/// Hands over the bytes of an answer, and then tells its faulty line, if there is one.
+/// Hands over the bytes of an answer and passes them on, and then tells its faulty line, if there is one.
 pub(crate) fn hand_out<K: Sink>(sink: &mut K, answer: &Outcome) -> Result<(), RunFault>
     requires { K.failed sink.old ≡ false }
     ensures whole { OnOk result ((outcome_of answer.now).stopped ≡ None) }
     ensures ok { OnOk result (Appends (K.contents sink.old) (K.contents sink.new)
         (outcome_of answer.now).bytes) }
     ensures working { OnOk result (K.failed sink.new ≡ false) }
+    ensures flushed { OnOk result (K.flushed sink.new ≡ true) }
+    ensures passed_on { IsPassedOn (K.flushed sink.new) (K.failed sink.new) }
     ensures fault { IfErr result (HandingEnded (outcome_of answer.now) (K.failed sink.new)
         (K.contents sink.old) (K.contents sink.new)) }
 {
     if write_chunks(sink, &answer.chunks).is_err() {
         return Err(RunFault::Write);
     }
+    pass_on(sink)?;
     if let Some(stop) = answer.stopped {
         return Err(RunFault::Document {
             line: stop.line,
@@ -77,7 +80,7 @@ pub(crate) fn hand_out<K: Sink>(sink: &mut K, answer: &Outcome) -> Result<(), Ru
 }
 
 /// Passes on all that was handed over.
-pub(crate) fn pass_on<K: Sink>(sink: &mut K) -> Result<(), RunFault>
+fn pass_on<K: Sink>(sink: &mut K) -> Result<(), RunFault>
     requires { K.failed sink.old ≡ false }
     ensures bytes { Keeps (K.contents sink.old) (K.contents sink.new) }
     ensures flushed { OnOk result (K.flushed sink.new ≡ true) }

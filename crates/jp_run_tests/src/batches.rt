@@ -18,7 +18,7 @@ const TWO: &[u8] = b"{\"a\":1}\n\n{\"a\":null}\n";
 /// Their members with the name `a`.
 const TWO_LINES: &[u8] = b"1\t$['a']\t1\n3\t$['a']\tnull\n";
 
-/// A run over bytes that come one by one, of which one call fails. Gives its end, what it wrote, and how
+/// A run over bytes that come one by one, of which one call fails. Gives its end, where it wrote, and how
 /// often it read.
 fn byte_by_byte<R: Threads + Sync>(
     rt: &R,
@@ -27,7 +27,7 @@ fn byte_by_byte<R: Threads + Sync>(
     input: &[u8],
     batch: u64,
     fails_at: u64,
-) -> (Result<Totals, RunFault>, Vec<u8>, u64) {
+) -> (Result<Totals, RunFault>, Holds, u64) {
     let mut source = OneByte::new(input, fails_at);
     let mut sink = Holds::new(Vec::new(alloc), 3, ROOM);
     let end = match Settings::new(2, 1, batch) {
@@ -42,24 +42,26 @@ fn byte_by_byte<R: Threads + Sync>(
         ),
         Err(fault) => Err(fault),
     };
-    (end, sink.bytes, source.reads())
+    (end, sink, source.reads())
 }
 
 #[test]
 fn the_same_for_all_batches(rt: HostRuntime) {
     for batch in [1u64, 2, 10, 1_000, 4_096] {
-        let (end, bytes, reads) = byte_by_byte(&rt, rt.alloc(), "$.a", TWO, batch, 0);
+        let (end, sink, reads) = byte_by_byte(&rt, rt.alloc(), "$.a", TWO, batch, 0);
         let totals = Totals {
             lines: 3,
             documents: 2,
             faulty: 0,
         };
         assert!(rt; matches!(end, Ok(found) if found == totals));
-        assert_eq!(rt; bytes.as_slice(), TWO_LINES);
+        assert_eq!(rt; sink.bytes.as_slice(), TWO_LINES);
         assert_eq!(rt; reads, 21);
     }
 }
 
+/// What is written, and passed on too, before a call that fails: no run knows beforehand which that is, so
+/// before each call.
 #[test]
 fn a_failing_read_leaves_whole_batches(rt: HostRuntime) {
     for call in 1..=21u64 {
@@ -68,20 +70,33 @@ fn a_failing_read_leaves_whole_batches(rt: HostRuntime) {
             9..=20 => 11,
             _ => 25,
         };
-        let (end, bytes, reads) = byte_by_byte(&rt, rt.alloc(), "$.a", TWO, 1, call);
+        let (end, sink, reads) = byte_by_byte(&rt, rt.alloc(), "$.a", TWO, 1, call);
         let (front, _) = TWO_LINES.split_at(written);
         let is_read = matches!(end, Err(RunFault::Read)) && reads == call;
-        assert!(rt; is_read && bytes.as_slice() == front, "{call}");
-        let (end, bytes, reads) = byte_by_byte(&rt, rt.alloc(), "$.a", TWO, 10, call);
+        assert!(rt; is_read && sink.bytes.as_slice() == front, "{call}");
+        assert_eq!(rt; sink.passed_on, written);
+        let (end, sink, reads) = byte_by_byte(&rt, rt.alloc(), "$.a", TWO, 10, call);
         let is_read = matches!(end, Err(RunFault::Read)) && reads == call;
-        assert!(rt; is_read && bytes.is_empty(), "{call}");
+        assert!(rt; is_read && sink.bytes.is_empty(), "{call}");
     }
+}
+
+/// The lines before a faulty one are passed on, and those of a run that ends well.
+#[test]
+fn what_is_written_is_passed_on(rt: HostRuntime) {
+    let (end, sink, _) = byte_by_byte(&rt, rt.alloc(), "$", b"[]\n{\n", 2, 0);
+    assert!(rt; matches!(end, Err(RunFault::Document { .. })));
+    assert_eq!(rt; sink.bytes.as_slice(), b"1\t$\t[]\n".as_slice());
+    assert_eq!(rt; sink.passed_on, 7);
+    let (end, sink, _) = byte_by_byte(&rt, rt.alloc(), "$", b"[]", 2, 0);
+    assert!(rt; end.is_ok());
+    assert_eq!(rt; sink.passed_on, 7);
 }
 
 #[test]
 fn no_read_follows_the_faulty_batch(rt: HostRuntime) {
     for (batch, wanted) in [(1u64, 2u64), (2, 5), (3, 6)] {
-        let (end, bytes, reads) = byte_by_byte(&rt, rt.alloc(), "$", b"{\n[]\n", batch, 0);
+        let (end, sink, reads) = byte_by_byte(&rt, rt.alloc(), "$", b"{\n[]\n", batch, 0);
         assert!(rt;
             matches!(
                 end,
@@ -91,7 +106,7 @@ fn no_read_follows_the_faulty_batch(rt: HostRuntime) {
                 })
             )
         );
-        assert!(rt; bytes.is_empty());
+        assert!(rt; sink.bytes.is_empty());
         assert_eq!(rt; reads, wanted);
     }
 }

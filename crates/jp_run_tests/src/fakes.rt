@@ -91,6 +91,8 @@ pub(crate) struct Holds {
     flushes: bool,
     flushed: bool,
     failed: bool,
+    /// How many bytes it had taken at the last flush.
+    pub(crate) passed_on: usize,
     /// Whether a write followed one that failed.
     pub(crate) called_again: bool,
     ghost some: { 0 < most },
@@ -108,6 +110,7 @@ impl Holds {
             flushes: true,
             flushed: true,
             failed: false,
+            passed_on: 0,
             called_again: false,
         }
     }
@@ -123,6 +126,7 @@ impl Holds {
             flushes: false,
             flushed: self.flushed,
             failed: self.failed,
+            passed_on: self.passed_on,
             called_again: self.called_again,
         }
     }
@@ -155,6 +159,7 @@ impl Sink for Holds {
     fn flush(&mut self) -> Result<(), Broken> {
         if self.flushes {
             self.flushed = true;
+            self.passed_on = self.bytes.len();
             return Ok(());
         }
         self.failed = true;

@@ -275,10 +275,21 @@ fn lines_and_documents_are_counted(rt: HostRuntime) -> Result<(), Fail> {
 fn a_refused_query_reads_nothing(rt: HostRuntime) -> Result<(), Fail> {
     let refused = [
         ("$.a ", QueryFault::Syntax),
+        ("$ ", QueryFault::Syntax),
         ("", QueryFault::Syntax),
+        ("@.a", QueryFault::Syntax),
+        ("$.['a']", QueryFault::Syntax),
         ("$[-0]", QueryFault::Syntax),
         ("$[01]", QueryFault::Syntax),
+        ("$[?!!@.a]", QueryFault::Syntax),
+        ("$[?@.*==1]", QueryFault::Syntax),
+        ("$[?@.a==1==2]", QueryFault::Syntax),
+        ("$[?true]", QueryFault::Syntax),
         ("$['\\uD83D']", QueryFault::Syntax),
+        (
+            "$[?@==-100000000000000000000000000000000000000]",
+            QueryFault::Range,
+        ),
         ("$[9007199254740992]", QueryFault::Range),
         ("$[?@.a==1.5]", QueryFault::Fraction),
         ("$[?nope(@)]", QueryFault::IllTyped),

@@ -10,6 +10,7 @@ use Rattle.jp_run.proofs.batches.answer_whole.Goals as goal
 pub loop-rest-init : goal.loop-rest-init
 loop-rest-init g c = record {
   working = search rules;
+  flushed = λ e. e;
   partly = partly_start _ _ _ _ _;
   passed = sym (zero-add _);
 }
@@ -23,6 +24,7 @@ returns-in_err-faulty-clause-fault g c = told _ _ _ c.from_residual.ensures.1
 pub loop-rest-preserved : goal.loop-rest-preserved
 loop-rest-preserved g c = record {
   working = grind (arith, common_steps);
+  flushed = λ e. c.in_ok-faulty.ensures.flushed;
   partly = partly_more _ _ _ _ _ _ _ _ _ _ c.loop-rest.invariant.partly
       (omega (arith, length-map c.loop-rest.rest.now line_of))
       (ap (map line_of) c.split_at.ensures.front ∙ sym (take-map line_of c.args.settings.batch

@@ -2,10 +2,10 @@ use Rattle.std.proofs.Common.{arith, refl, inl, map, ◌∙◌, ap}
 use Rattle.std.proofs.lemmas.List.{length-map}
 use Rattle.jp_doc.specs.Lines.{line_of}
 use Rattle.jp_run.specs.Limits.{max_lines}
-use Rattle.jp_run.proofs.Handing.{told, told_so, at_ok, also_ok}
+use Rattle.jp_run.proofs.Handing.{told, told_so, at_ok, also_ok, is_flushed}
 use Rattle.jp_run.proofs.Streaming.{stands_start, grown, grown_few, stands_then, stands_few, read_ended}
 use Rattle.jp_run.proofs.Streaming.{stands_front, batch_ended, rest_ended, rest_ok, totals_ok}
-use Rattle.jp_run.proofs.Streaming.{grown_passed, stands_passed, faulty_ok}
+use Rattle.jp_run.proofs.Streaming.{grown_passed, stands_passed, faulty_ok, none_ok}
 use Rattle.jp_run.proofs.running.stream.Goals as goal
 
 pub returns-clause-fault : goal.returns-clause-fault
@@ -18,6 +18,7 @@ pub loop-turn-init : goal.loop-turn-init
 loop-turn-init g c = record {
   source_working = c.requires.working.0;
   sink_working = c.requires.working.1;
+  flushed = λ e. e;
   stands = stands_start _ _ _ c.args.settings.in_range.2.0 _ _ _ _ _ c.new.ensures
       (ap (map line_of) c.new-2.ensures.items) refl;
   few_lines = omega (arith, ap (λ p. p.count) c.new.ensures);
@@ -109,6 +110,8 @@ pub loop-turn-preserved : goal.loop-turn-preserved
 loop-turn-preserved g c = record {
   source_working = c.in_ok-n.ensures.working;
   sink_working = c.in_ok-answer_batches.ensures.working;
+  flushed = λ e. is_flushed _ _ (c.in_ok-answer_batches.ensures.passed_on (c.loop-turn.invariant.flushed e))
+      c.in_ok-answer_batches.ensures.working;
   stands = stands_then _ _ _ c.args.settings.in_range.2.0 _ _ _ _ _ _ _ _ _ _ _ _ _ _ _ _ c.in_ok-n.n
       c.read_lines.new.chunk c.loop-turn.invariant.stands c.in_ok-n.ensures.read c.in_ok-n.ensures.last
       c.in_ok-n.ensures.progress c.in_ok-n.ensures.lines c.in_ok-n.ensures.answered
@@ -150,3 +153,25 @@ returns-then-n-eq0-clause-passed g c = faulty_ok _ _ _ c.args.settings.in_range.
     c.in_ok-answer_batches.ensures.answered c.in_ok-answer_batches.ensures.passed
     c.in_ok-answer_batches.ensures.progress)
     (c.in_ok-n.ensures.end c.if-n-eq0.true) c.answer_rest.result c.answer_rest.ensures.passed
+
+pub returns-in_err-answer_batches-clause-passed_on :
+    goal.returns-in_err-answer_batches-clause-passed_on
+returns-in_err-answer_batches-clause-passed_on g c =
+    λ e. c.in_err-answer_batches.ensures.passed_on (c.loop-turn.invariant.flushed e)
+
+pub returns-then-n-eq0-clause-passed_on : goal.returns-then-n-eq0-clause-passed_on
+returns-then-n-eq0-clause-passed_on g c = λ e. c.answer_rest.ensures.passed_on (is_flushed _ _
+    (c.in_ok-answer_batches.ensures.passed_on (c.loop-turn.invariant.flushed e))
+    c.in_ok-answer_batches.ensures.working)
+
+pub returns-clause-passed_on : goal.returns-clause-passed_on
+returns-clause-passed_on g c = λ e. inl (c.loop-turn.invariant.flushed e)
+
+pub returns-then-n-eq0-clause-none_passed : goal.returns-then-n-eq0-clause-none_passed
+returns-then-n-eq0-clause-none_passed g c = none_ok _ _ _ _ c.answer_rest.result
+    (stands_then _ _ _ c.args.settings.in_range.2.0 _ _ _ _ _ _ _ _ _ _ _ _ _ _ _ _ c.in_ok-n.n
+    c.read_lines.new.chunk c.loop-turn.invariant.stands c.in_ok-n.ensures.read c.in_ok-n.ensures.last
+    c.in_ok-n.ensures.progress c.in_ok-n.ensures.lines c.in_ok-n.ensures.answered
+    c.in_ok-answer_batches.ensures.handed c.in_ok-answer_batches.ensures.left
+    c.in_ok-answer_batches.ensures.answered c.in_ok-answer_batches.ensures.passed
+    c.in_ok-answer_batches.ensures.progress).passed c.answer_rest.ensures.passed
