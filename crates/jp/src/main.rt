@@ -6,12 +6,9 @@ use jp_program::{program, tell};
 use jp_run::{FromReader, FromWriter, RunFault, Sink};
 use std::alloc::AllocGlobal;
 use std::env;
-use std::io::{self, BufWriter, ErrorKind, Input, Print};
+use std::io::{self, ErrorKind, Input, Print};
 use std::process::ExitCode;
 use std::thread::Threads;
-
-/// How many bytes of output are held back before they are written.
-const BUFFER_SIZE: usize = 65_536;
 
 fn main(rt: HostRuntime) -> ExitCode {
     let mut notes = FromWriter::new(rt.stderr());
@@ -39,17 +36,15 @@ fn given_words(rt: &HostRuntime) -> Result<Vec<String>, RunFault> {
     }
 }
 
-/// Runs the program over these words, and standard input and output.
+/// Runs the program over these words, and standard input and output. Nothing is held back before standard
+/// output: a run writes the lines of a batch in long chunks.
 fn run_words<R: Threads + Sync + AllocGlobal + Input + Print, N: Sink>(
     rt: &R,
     given: &[String],
     notes: &mut N,
 ) -> Result<u8, RunFault> {
     let words: Vec<&str> = given.iter().map(|word| word.as_str()).collect(rt.alloc())?;
-    let Ok(writer) = BufWriter::with_capacity(rt.alloc(), BUFFER_SIZE, io::writer(rt)) else {
-        return Err(RunFault::Memory);
-    };
     let mut source = FromReader::new(rt.reader());
-    let mut sink = FromWriter::new(writer);
+    let mut sink = FromWriter::new(io::writer(rt));
     Ok(program(rt, &words, &mut source, &mut sink, notes))
 }

@@ -1,1 +1,3 @@
+mod Ran
+mod Saying
 mod Told

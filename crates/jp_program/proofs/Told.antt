@@ -1,6 +1,7 @@
--- What a run has told still holds once its sink is flushed.
-use Rattle.std.proofs.Common.{◌≡◌, ◌∙◌, ℕ, ◌<◌, Bool, true, false, List, [], ◌∷◌, ◌++◌, length, cond}
-use Rattle.std.proofs.Common.{Option, Some, None, IfSome, Result, Ok, Err, refl, ap, sym, arith}
+-- What a run has told still holds once its sink is flushed, and says what its status says.
+use Rattle.std.proofs.Common.{◌≡◌, ◌∙◌, ℕ, ◌<◌, ◌⊎◌, inl, inr, Bool, true, false, List, [], ◌∷◌, ◌++◌, length}
+use Rattle.std.proofs.Common.{cond, Option, Some, None, IfSome, Result, Ok, Err, refl, ap, sym}
+use Rattle.std.proofs.Common.{arith}
 use Rattle.std.specs.Prelude.{is_err}
 use Rattle.std.specs.List.{filter}
 use Rattle.std.specs.Io.KnownBytes.{Appends, Keeps}
@@ -8,24 +9,22 @@ use Rattle.jp_doc.specs.Json.{Json}
 use Rattle.jp_doc.specs.Lines.{Line, lines}
 use Rattle.jp_doc.specs.Reading.{reading}
 use Rattle.jp_doc.specs.declared.fault.DocFault.{DocFault}
-use Rattle.jp_syntax.specs.Tree as tree
-use Rattle.jp_syntax.specs.Tree.{Text}
+use Rattle.jp_tree.specs.Tree as tree
+use Rattle.jp_tree.specs.Tree.{Text}
+use Rattle.jp_tree.specs.declared.fault.QueryFault.{QueryFault}
 use Rattle.jp_regexp.specs.Tests.{Tests}
 use Rattle.jp_answer.specs.Answer.{Answer, answer, after, line_answer, document_lines}
-use Rattle.jp_answer.specs.Answered.{IsAnswerTo, IsAnswerIn}
+use Rattle.jp_answer.specs.Answered.{IsAnswerIn}
 use Rattle.jp_answer.specs.Form.{passed_in}
 use Rattle.jp_answer.specs.Status.{status_of}
 use Rattle.jp_answer.specs.declared.fault.RunFault.{RunFault}
 use Rattle.jp_answer.specs.declared.fault.RunFault.TheVariants.{Query, Document, Read, Write, Limit}
 use Rattle.jp_answer.specs.declared.fault.RunFault.TheVariants.{Memory, Settings}
 use Rattle.jp_answer.specs.Whole.{whole, lines_or_fault, is_faulty, faulty_lines}
-use Rattle.jp_program.specs.Outcome.{IsAnswered, IsPast}
+use Rattle.jp_program.specs.Outcome.{IsAnswered, IsPast, IsFront, IsCutShort}
+use Rattle.jp_program.specs.Wanted.{Wanted}
 
--- the answer of this query's text to the input, which stopped there, was appended
-abbrev pub IsTold : Text → Option (ℕ × DocFault) → Option (List ℕ) → Option (List ℕ) → Option (List ℕ)
-    → Type 0
-IsTold text stopped input old new = IfSome input (λ bytes. (a : Answer) × IsAnswerTo text bytes a
-    × (a.stopped ≡ stopped) × Appends old new a.bytes)
+-- what was appended still is, where a flush keeps all
 
 kept : (old new after : Option (List ℕ)) (bytes : List ℕ) → Appends old new bytes → Keeps new after
     → Appends old after bytes
@@ -34,11 +33,35 @@ kept (Some x) None after bytes a k = absurd a
 kept (Some x) (Some y) None bytes a k = absurd k
 kept (Some x) (Some y) (Some z) bytes a k = k ∙ a
 
-pub told : (text : Text) (stopped : Option (ℕ × DocFault)) (input old new after : Option (List ℕ))
-    → IsTold text stopped input old new → Keeps new after → IsAnswered stopped input old after
-told text stopped None old new after t k = tt
-told text stopped (Some bytes) old new after t k =
-    (text, t.0, t.1, t.2, kept old new after t.0.bytes t.3 k)
+pub answered_kept : (text : Text) (stopped : Option (ℕ × DocFault)) (input old new after : Option (List ℕ))
+    → IsAnswered text stopped input old new → Keeps new after → IsAnswered text stopped input old after
+answered_kept text stopped None old new after t k = tt
+answered_kept text stopped (Some bytes) old new after t k =
+    (t.0, t.1, t.2, kept old new after t.0.bytes t.3 k)
+
+pub front_kept : (w : Wanted) (input old new after : Option (List ℕ)) → IsFront w input old new
+    → Keeps new after → IsFront w input old after
+front_kept w None old new after f k = tt
+front_kept w (Some bytes) old new after f k =
+    λ a is. let front = f a is in (front.0, front.1, kept old new after _ front.2 k)
+
+pub cut_kept : (w : Wanted) (failed : Bool) (a b old new after : Option (List ℕ))
+    → IsCutShort w failed a b old new → Keeps new after → IsCutShort w failed a b old after
+cut_kept w failed a b old new after h k = (
+  h.0,
+  h.1,
+  h.2,
+  (
+    h.3.0,
+    h.3.1,
+    record {
+      whole = h.3.2.whole;
+      is = h.3.2.is;
+      stopped = h.3.2.stopped;
+      appended = kept old new after h.3.2.whole.bytes h.3.2.appended k;
+    },
+  ),
+)
 
 -- where no line is faulty, the answer that keeps going is the other one
 
@@ -64,31 +87,32 @@ IsToldIn going text stopped input old new = IfSome input (λ bytes. (a : Answer)
 
 pub told_stop : (going : Bool) (text : Text) (stopped : Option (ℕ × DocFault))
     (input old new : Option (List ℕ)) → IsToldIn going text stopped input old new → (going ≡ true → ⊥)
-    → IsTold text stopped input old new
+    → IsAnswered text stopped input old new
 told_stop false text stopped None old new h off = tt
 told_stop false text stopped (Some bytes) old new h off = h
 told_stop true text stopped input old new h off = absurd (off refl)
 
+pub stops : (going : Bool) → (going ≡ true → ⊥) → going ≡ false
+stops false off = refl
+stops true off = absurd (off refl)
+
 pub fine : (going : Bool) (text : Text) (input old new : Option (List ℕ)) (n : ℕ)
     → IsToldIn going text None input old new
-    → IfSome input (λ bytes. n ≡ passed_in going (lines bytes)) → n ≡ 0 → IsAnswered None input old new
+    → IfSome input (λ bytes. n ≡ passed_in going (lines bytes)) → n ≡ 0 → IsAnswered text None input old new
 fine going text None old new n h c e = tt
-fine false text (Some bytes) old new n h c e = (text, h.0, h.1, h.2, h.3)
+fine false text (Some bytes) old new n h c e = h
 fine true text (Some bytes) old new n h c e = (
-  text,
   h.0,
   (h.1.0, h.1.1, λ t right. agree t h.1.0 (lines bytes) (sym c ∙ e) ∙ h.1.2 t right),
   h.2,
   h.3,
 )
 
-pub past : (going : Bool) (text : Text) (input old new : Option (List ℕ)) (n : ℕ)
-    → IsToldIn going text None input old new
-    → IfSome input (λ bytes. n ≡ passed_in going (lines bytes)) → 0 < n → IsPast input old new
-past going text None old new n h c lt = tt
-past false text (Some bytes) old new n h c lt = absurd (omega (arith, c, lt))
-past true text (Some bytes) old new n h c lt = (
-  text,
+pub past : (text : Text) (input old new : Option (List ℕ)) (n : ℕ)
+    → IsToldIn true text None input old new
+    → IfSome input (λ bytes. n ≡ faulty_lines (lines bytes)) → 0 < n → IsPast text input old new
+past text None old new n h c lt = tt
+past text (Some bytes) old new n h c lt = (
   h.1.0,
   h.1.1,
   record { bytes = h.0.bytes; faulty = n },
@@ -98,7 +122,26 @@ past true text (Some bytes) old new n h c lt = (
   h.3,
 )
 
--- the status of a document's fault is no other fault's
+-- which faults have a status
+
+pub none_of : (f : RunFault) → status_of f ≡ 0 → ⊥
+none_of (Query fault) e = omega (arith, e)
+none_of (Document line fault) e = omega (arith, e)
+none_of Read e = omega (arith, e)
+none_of Write e = omega (arith, e)
+none_of Limit e = omega (arith, e)
+none_of Memory e = omega (arith, e)
+none_of Settings e = omega (arith, e)
+
+pub query_of : (f : RunFault) → status_of f ≡ 2 → (fault : QueryFault) × (f ≡ Query fault)
+query_of (Query fault) e = (fault, refl)
+query_of (Document line fault) e = absurd (omega arith)
+query_of Read e = absurd (omega arith)
+query_of Write e = absurd (omega arith)
+query_of Limit e = absurd (omega arith)
+query_of Memory e = absurd (omega arith)
+query_of Settings e = absurd (omega arith)
+
 pub document_of : (f : RunFault) → status_of f ≡ 3
     → (line : ℕ) × (fault : DocFault) × (f ≡ Document line fault)
 document_of (Query fault) e = absurd (omega arith)
@@ -108,3 +151,39 @@ document_of Write e = absurd (omega arith)
 document_of Limit e = absurd (omega arith)
 document_of Memory e = absurd (omega arith)
 document_of Settings e = absurd (omega arith)
+
+pub end_of : (f : RunFault) → status_of f ≡ 4 → (f ≡ Read) ⊎ (f ≡ Write) ⊎ (f ≡ Limit)
+end_of (Query fault) e = absurd (omega arith)
+end_of (Document line fault) e = absurd (omega arith)
+end_of Read e = inl refl
+end_of Write e = inr (inl refl)
+end_of Limit e = inr (inr refl)
+end_of Memory e = absurd (omega arith)
+end_of Settings e = absurd (omega arith)
+
+pub memory_of : (f : RunFault) → status_of f ≡ 5 → f ≡ Memory
+memory_of (Query fault) e = absurd (omega arith)
+memory_of (Document line fault) e = absurd (omega arith)
+memory_of Read e = absurd (omega arith)
+memory_of Write e = absurd (omega arith)
+memory_of Limit e = absurd (omega arith)
+memory_of Memory e = refl
+memory_of Settings e = absurd (omega arith)
+
+pub settings_of : (f : RunFault) → status_of f ≡ 64 → f ≡ Settings
+settings_of (Query fault) e = absurd (omega arith)
+settings_of (Document line fault) e = absurd (omega arith)
+settings_of Read e = absurd (omega arith)
+settings_of Write e = absurd (omega arith)
+settings_of Limit e = absurd (omega arith)
+settings_of Memory e = absurd (omega arith)
+settings_of Settings e = refl
+
+pub of_two : {A B C : Type 0} → (A → C) → (B → C) → A ⊎ B → C
+of_two f g (inl a) = f a
+of_two f g (inr b) = g b
+
+pub of_three : {A B C D : Type 0} → (A → D) → (B → D) → (C → D) → A ⊎ B ⊎ C → D
+of_three f g h (inl a) = f a
+of_three f g h (inr (inl b)) = g b
+of_three f g h (inr (inr c)) = h c

@@ -1,25 +1,41 @@
 //! What the command does.
 
-ghost use Rattle.std.specs.Prelude.{◌≡◌, ◌^◌, ◌<◌, ◌≤◌, ◌⊎◌, ℕ, false, true, Some, None, IfOk, IsErrOf, OnOk};
-ghost use Rattle.std.specs.Io.KnownBytes.{IsAtEnd};
+ghost use Rattle.std.specs.Prelude.{◌≡◌, ◌^◌, ◌<◌, ◌≤◌, ◌⊎◌, ℕ, List, true, false, Some, None, Err, IfOk};
+ghost use Rattle.std.specs.Prelude.{IsErrOf};
+ghost use Rattle.std.specs.Io.KnownBytes.{Consumes, IsAtEnd, Keeps};
+ghost use Rattle.clap.specs.Walk.{texts};
 ghost use Rattle.jp_doc.specs.declared.fault.DocFault.{DocFault as Fault};
 ghost use Rattle.jp_tree.specs.declared.fault.QueryFault.{QueryFault as Refusal};
-ghost use Rattle.jp_program.specs.Outcome.{IsStatus, IsAnswered, IsPast, AreAllReads, AreTooManyLines};
+ghost use Rattle.jp_check.specs.Verdict.{IsVerdict};
+ghost use Rattle.jp_answer.specs.Status.{status_of};
+ghost use Rattle.jp_run.specs.Batches.{WasNotWhole};
+ghost use Rattle.jp_run.specs.Written.{IsPassedOn};
+ghost use Rattle.jp_program.specs.CommandLine.{AsksToShow};
+ghost use Rattle.jp_program.specs.Outcome.{IsStatus, IsTaken, IsAnswered, IsPast, IsFront, IsCutShort};
+ghost use Rattle.jp_program.specs.Outcome.{AreAllReads, AreTooManyLines};
+ghost use Rattle.jp_program.specs.Wanted.{Wanted as Wish, Wants, WantsCheck, WantsRun, IsWrong};
 
 use crate::command_line::{Asked, Wanted, read_words};
-use jp_run::{OpenGate, RunFault, Sink, Source, check_query, run, write_all};
+use jp_run::{OpenGate, RunFault, Sink, Source, Totals, check_query, run, write_all};
 use std::alloc::{AllocError, AllocGlobal, Global};
 use std::thread::Threads;
+
+/// What no run has seen.
+const NOTHING_SEEN: Totals = Totals {
+    lines: 0,
+    documents: 0,
+    faulty: 0,
+};
 
 /// Does what the words ask for, and gives the status to end with. The first word is the program's name.
 ///
 /// Neither end has failed before, and the counts of the source are at most 2^62. A fault is told on `notes`,
 /// in one line; a failure to write it, or the help, is passed over.
 ///
-/// The status is 0 where the run finished, or the help or a check was asked for; 2 where the query is
-/// refused; 3 where a line holds no document, also where the answer has gone on past it; 4 where reading or
-/// writing failed, or a limit was passed; 5 where a growth of memory was refused; 64 where the command line
-/// is refused.
+/// The status is 0 where the run finished, or the help, the version or a check was asked for; 2 where the
+/// query is refused; 3 where a line holds no document, also where the answer has gone on past it; 4 where
+/// reading or writing failed, or a limit was passed; 5 where a growth of memory was refused; 64 where the
+/// command line is refused.
 pub fn program<R: Threads + AllocGlobal + Sync, S: Source, K: Sink, N: Sink>(
     rt: &R,
     words: &[&str],
@@ -31,77 +47,128 @@ pub fn program<R: Threads + AllocGlobal + Sync, S: Source, K: Sink, N: Sink>(
     requires few { (S.reads source.old ≤ 2 ^ 62) × (S.given source.old ≤ 2 ^ 62) }
     // There is no other status.
     ensures statuses { IsStatus result }
-    // Where anything was read, 0 says that the answer of a query to the whole input was written, that it has
-    // no faulty line, that it was passed on, and that neither end has failed.
-    ensures answer { result ≡ 0 → (source.new ≡ source.old)
-        ⊎ IsAnswered None (S.remaining source.old) (K.contents sink.old) (K.contents sink.new) }
-    ensures end { result ≡ 0 → (source.new ≡ source.old) ⊎ IsAtEnd (S.remaining source.new) }
-    ensures passed_on { result ≡ 0 → (source.new ≡ source.old) ⊎ (K.flushed sink.new ≡ true)
-        × (S.failed source.new ≡ false) × (K.failed sink.new ≡ false) }
-    // A refused query and a refused command line read nothing and write nothing.
-    ensures query { result ≡ 2 → (source.new ≡ source.old) × (sink.new ≡ sink.old) }
-    ensures command_line { result ≡ 64 → (source.new ≡ source.old) × (sink.new ≡ sink.old) }
-    // The lines of the documents before the first faulty line were written; or the answer that keeps going
-    // was, and it has passed faulty lines.
-    ensures document { result ≡ 3 → ((line : ℕ) × (fault : Fault) × IsAnswered (Some (line, fault))
-        (S.remaining source.old) (K.contents sink.old) (K.contents sink.new))
-        ⊎ IsPast (S.remaining source.old) (K.contents sink.old) (K.contents sink.new) }
-    // An end has failed, or a limit was passed.
-    ensures failed { result ≡ 4 → (S.failed source.new ≡ true) ⊎ (K.failed sink.new ≡ true)
+    // 0: the help or the version was asked for, and nothing was read; or a check of a query that is accepted,
+    // and nothing was read or written; or a run, whose query is accepted and has no faulty line before it:
+    // its answer to the whole input was written and passed on, and neither end has failed.
+    ensures finished { result ≡ 0 → (AsksToShow (texts words.now) × (source.new ≡ source.old))
+        ⊎ ((w : Wish) × WantsCheck (texts words.now) w × IsTaken w.query
+        × (source.new ≡ source.old) × (sink.new ≡ sink.old))
+        ⊎ ((w : Wish) × WantsRun (texts words.now) w × IsTaken w.query
+        × IsAnswered w.query None (S.remaining source.old) (K.contents sink.old) (K.contents sink.new)
+        × IsAtEnd (S.remaining source.new) × (K.flushed sink.new ≡ true)
+        × (S.failed source.new ≡ false) × (K.failed sink.new ≡ false)) }
+    // 2: the wanted query is refused, and nothing was read or written.
+    ensures query { result ≡ 2 → (f : Refusal) × (w : Wish) × Wants (texts words.now) w
+        × IsVerdict w.query (Err f) × (source.new ≡ source.old) × (sink.new ≡ sink.old) }
+    // 3: the lines of the documents before the first faulty line were written, and no read followed the one
+    // that completed its batch; or to keep going was asked for, and the answer that does was written and has
+    // passed faulty lines.
+    ensures document { result ≡ 3 → ((line : ℕ) × (fault : Fault) × (w : Wish)
+        × WantsRun (texts words.now) w × (w.keeps_going ≡ false)
+        × IsAnswered w.query (Some (line, fault)) (S.remaining source.old) (K.contents sink.old)
+        (K.contents sink.new)
+        × (bytes : List ℕ) × Consumes (S.remaining source.old) (S.remaining source.new) bytes
+        × WasNotWhole w.batch line bytes (S.last source.new))
+        ⊎ ((w : Wish) × WantsRun (texts words.now) w × (w.keeps_going ≡ true)
+        × IsPast w.query (S.remaining source.old) (K.contents sink.old) (K.contents sink.new)) }
+    // 4: a front of the wanted answer was written, and the source has failed, the sink has, or a limit was
+    // passed.
+    ensures failed { result ≡ 4 → (w : Wish) × WantsRun (texts words.now) w
+        × IsFront w (S.remaining source.old) (K.contents sink.old) (K.contents sink.new)
+        × (IsCutShort w (S.failed source.new) (S.remaining source.old) (S.remaining source.new)
+        (K.contents sink.old) (K.contents sink.new)
+        ⊎ (K.failed sink.new ≡ true)
         ⊎ AreAllReads (S.reads source.old) (S.reads source.new)
-        ⊎ AreTooManyLines (S.remaining source.old) (S.remaining source.new) }
+        ⊎ AreTooManyLines (S.remaining source.old) (S.remaining source.new)) }
+    // 5: nothing was written, or a front of the wanted answer.
+    ensures memory { result ≡ 5 → Keeps (K.contents sink.old) (K.contents sink.new)
+        ⊎ ((w : Wish) × WantsRun (texts words.now) w
+        × IsFront w (S.remaining source.old) (K.contents sink.old) (K.contents sink.new)) }
+    // 64: the words are wrong, or a number is out of its range, and nothing was read or written.
+    ensures command_line { result ≡ 64 → IsWrong (texts words.now)
+        × (source.new ≡ source.old) × (sink.new ≡ sink.old) }
+    // After a fault the sink holds nothing back: it was flushed, or one of its calls has failed.
+    ensures passed_on { (result ≡ 3) ⊎ (result ≡ 4) ⊎ (result ≡ 5)
+        → IsPassedOn (K.flushed sink.new) (K.failed sink.new) }
 {
     match done(rt, words, source, sink) {
-        Ok(0) => 0,
-        Ok(faulty) => {
-            tell_faulty(rt.alloc(), notes, faulty);
-            3
+        Ok(totals) => {
+            if totals.faulty > 0 {
+                tell_faulty(rt.alloc(), notes, totals.faulty);
+            }
+            totals.status()
         }
         Err(fault) => {
+            pass_on_after(sink, &fault);
             tell(rt.alloc(), notes, &fault);
             fault.status()
         }
     }
 }
 
-/// Does what the words ask for. Gives how many faulty lines were passed.
+/// Does what the words ask for. Gives what a run has seen: nothing where none was asked for.
 fn done<R: Threads + AllocGlobal + Sync, S: Source, K: Sink>(
     rt: &R,
     words: &[&str],
     source: &mut S,
     sink: &mut K,
-) -> Result<u64, RunFault>
+) -> Result<Totals, RunFault>
     requires working { (S.failed source.old ≡ false) × (K.failed sink.old ≡ false) }
     requires few { (S.reads source.old ≤ 2 ^ 62) × (S.given source.old ≤ 2 ^ 62) }
-    ensures answer { IfOk result (λ n. n ≡ 0 → (source.new ≡ source.old)
-        ⊎ IsAnswered None (S.remaining source.old) (K.contents sink.old) (K.contents sink.new)) }
-    ensures past { IfOk result (λ n. 0 < n → IsPast (S.remaining source.old) (K.contents sink.old)
-        (K.contents sink.new)) }
-    ensures end { OnOk result ((source.new ≡ source.old) ⊎ IsAtEnd (S.remaining source.new)) }
-    ensures passed_on { OnOk result ((source.new ≡ source.old) ⊎ (K.flushed sink.new ≡ true)
-        × (S.failed source.new ≡ false) × (K.failed sink.new ≡ false)) }
-    ensures query { (f : Refusal) → IsErrOf result (RunFault.Query f)
-        → (source.new ≡ source.old) × (sink.new ≡ sink.old) }
-    ensures settings { IsErrOf result RunFault.Settings
-        → (source.new ≡ source.old) × (sink.new ≡ sink.old) }
+    ensures finished { IfOk result (λ totals. totals.faulty ≡ 0
+        → (AsksToShow (texts words.now) × (source.new ≡ source.old))
+        ⊎ ((w : Wish) × WantsCheck (texts words.now) w × IsTaken w.query
+        × (source.new ≡ source.old) × (sink.new ≡ sink.old))
+        ⊎ ((w : Wish) × WantsRun (texts words.now) w × IsTaken w.query
+        × IsAnswered w.query None (S.remaining source.old) (K.contents sink.old) (K.contents sink.new)
+        × IsAtEnd (S.remaining source.new) × (K.flushed sink.new ≡ true)
+        × (S.failed source.new ≡ false) × (K.failed sink.new ≡ false))) }
+    ensures past { IfOk result (λ totals. 0 < totals.faulty → (w : Wish)
+        × WantsRun (texts words.now) w × (w.keeps_going ≡ true)
+        × IsPast w.query (S.remaining source.old) (K.contents sink.old) (K.contents sink.new)) }
+    ensures passed_on { IfOk result (λ totals. 0 < totals.faulty → K.flushed sink.new ≡ true) }
+    ensures query { (f : Refusal) → IsErrOf result (RunFault.Query f) → (w : Wish) × Wants (texts words.now) w
+        × IsVerdict w.query (Err f) × (source.new ≡ source.old) × (sink.new ≡ sink.old) }
+    ensures settings { IsErrOf result RunFault.Settings → IsWrong (texts words.now)
+        × (source.new ≡ source.old) × (sink.new ≡ sink.old) }
     ensures document { (line : ℕ) (fault : Fault) → IsErrOf result (RunFault.Document line fault)
-        → IsAnswered (Some (line, fault)) (S.remaining source.old) (K.contents sink.old)
-        (K.contents sink.new) }
-    ensures read { IsErrOf result RunFault.Read → S.failed source.new ≡ true }
-    ensures write { IsErrOf result RunFault.Write → K.failed sink.new ≡ true }
-    ensures limit { IsErrOf result RunFault.Limit → AreAllReads (S.reads source.old) (S.reads source.new)
-        ⊎ AreTooManyLines (S.remaining source.old) (S.remaining source.new) }
+        → (w : Wish) × WantsRun (texts words.now) w × (w.keeps_going ≡ false)
+        × IsAnswered w.query (Some (line, fault)) (S.remaining source.old) (K.contents sink.old)
+        (K.contents sink.new)
+        × (bytes : List ℕ) × Consumes (S.remaining source.old) (S.remaining source.new) bytes
+        × WasNotWhole w.batch line bytes (S.last source.new) }
+    ensures read { IsErrOf result RunFault.Read → (w : Wish) × WantsRun (texts words.now) w
+        × IsFront w (S.remaining source.old) (K.contents sink.old) (K.contents sink.new)
+        × IsCutShort w (S.failed source.new) (S.remaining source.old) (S.remaining source.new)
+        (K.contents sink.old) (K.contents sink.new) }
+    ensures write { IsErrOf result RunFault.Write → (w : Wish) × WantsRun (texts words.now) w
+        × IsFront w (S.remaining source.old) (K.contents sink.old) (K.contents sink.new)
+        × (K.failed sink.new ≡ true) }
+    ensures limit { IsErrOf result RunFault.Limit → (w : Wish) × WantsRun (texts words.now) w
+        × IsFront w (S.remaining source.old) (K.contents sink.old) (K.contents sink.new)
+        × (AreAllReads (S.reads source.old) (S.reads source.new)
+        ⊎ AreTooManyLines (S.remaining source.old) (S.remaining source.new)) }
+    ensures memory { IsErrOf result RunFault.Memory → (sink.new ≡ sink.old)
+        ⊎ ((w : Wish) × WantsRun (texts words.now) w
+        × IsFront w (S.remaining source.old) (K.contents sink.old) (K.contents sink.new)) }
 {
     match read_words(rt.alloc(), words)? {
-        Asked::Help(text) => {
+        Asked::Show(text) => {
             show(sink, text.as_str());
-            Ok(0)
+            Ok(NOTHING_SEEN)
         }
         Asked::Query(wanted) if wanted.check => {
             check_query(rt.alloc(), wanted.query)?;
-            Ok(0)
+            Ok(NOTHING_SEEN)
         }
-        Asked::Query(wanted) => answer_all(rt, source, sink, wanted),
+        Asked::Query(wanted) => {
+            let Wanted {
+                query,
+                settings,
+                ..
+            } = wanted;
+            run(rt, rt.alloc(), source, sink, query, &settings, &OpenGate)
+        }
     }
 }
 
@@ -114,49 +181,19 @@ fn show<K: Sink>(sink: &mut K, text: &str)
     }
 }
 
-/// Runs the query over the source, and gives how many faulty lines were passed. After a fault what stands
-/// before it goes out; where it can't, the fault still tells.
-fn answer_all<R: Threads + AllocGlobal + Sync, S: Source, K: Sink>(
-    rt: &R,
-    source: &mut S,
-    sink: &mut K,
-    wanted: Wanted<'_>,
-) -> Result<u64, RunFault>
-    requires working { (S.failed source.old ≡ false) × (K.failed sink.old ≡ false) }
-    requires few { (S.reads source.old ≤ 2 ^ 62) × (S.given source.old ≤ 2 ^ 62) }
-    ensures answer { IfOk result (λ n. n ≡ 0 → IsAnswered None (S.remaining source.old)
-        (K.contents sink.old) (K.contents sink.new)) }
-    ensures past { IfOk result (λ n. 0 < n → IsPast (S.remaining source.old) (K.contents sink.old)
-        (K.contents sink.new)) }
-    ensures end { OnOk result (IsAtEnd (S.remaining source.new)) }
-    ensures passed_on { OnOk result ((K.flushed sink.new ≡ true)
-        × (S.failed source.new ≡ false) × (K.failed sink.new ≡ false)) }
-    ensures query { (f : Refusal) → IsErrOf result (RunFault.Query f)
-        → (source.new ≡ source.old) × (sink.new ≡ sink.old) }
-    ensures settings { IsErrOf result RunFault.Settings → ⊥ }
-    ensures document { (line : ℕ) (fault : Fault) → IsErrOf result (RunFault.Document line fault)
-        → IsAnswered (Some (line, fault)) (S.remaining source.old) (K.contents sink.old)
-        (K.contents sink.new) }
-    ensures read { IsErrOf result RunFault.Read → S.failed source.new ≡ true }
-    ensures write { IsErrOf result RunFault.Write → K.failed sink.new ≡ true }
-    ensures limit { IsErrOf result RunFault.Limit → AreAllReads (S.reads source.old) (S.reads source.new)
-        ⊎ AreTooManyLines (S.remaining source.old) (S.remaining source.new) }
+/// After a fault of a run, passes on what stands before it; where that can't be, the fault still tells.
+/// After a refused query or command line there is nothing.
+fn pass_on_after<K: Sink>(sink: &mut K, fault: &RunFault)
+    ensures kept { Keeps (K.contents sink.old) (K.contents sink.new) }
+    ensures passed_on { (status_of fault.now ≡ 3) ⊎ (status_of fault.now ≡ 4) ⊎ (status_of fault.now ≡ 5)
+        → IsPassedOn (K.flushed sink.new) (K.failed sink.new) }
+    ensures untouched { (status_of fault.now ≡ 2) ⊎ (status_of fault.now ≡ 64) → sink.new ≡ sink.old }
+    ensures failed { K.failed sink.old ≡ true → K.failed sink.new ≡ true }
 {
-    let settings = &wanted.settings;
-    match run(
-        rt,
-        rt.alloc(),
-        source,
-        sink,
-        wanted.query,
-        settings,
-        &OpenGate,
-    ) {
-        Ok(totals) => Ok(totals.faulty),
-        Err(RunFault::Query(fault)) => Err(RunFault::Query(fault)),
-        Err(fault) => {
+    match fault {
+        RunFault::Query(_) | RunFault::Settings => {}
+        _ => {
             let _ = sink.flush();
-            Err(fault)
         }
     }
 }

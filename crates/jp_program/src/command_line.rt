@@ -1,7 +1,14 @@
 //! What the command line asks for.
 
-ghost use Rattle.std.specs.Prelude.{◌≡◌, ◌⊎◌, OnErr, IsErrOf};
+ghost use Rattle.std.specs.Prelude.{◌≡◌, ◌≤◌, ◌^◌, ℕ, Bool, false, IfOk, IfErr, IfSome, IsNone, codes};
+ghost use Rattle.clap.specs.Walk.{texts};
+ghost use Rattle.clap.specs.Words.{app_of, found_of, rows_of, rule_of, new_app, FailsBy};
+ghost use Rattle.jp_program.specs.CommandLine.{number_rule, flag_rule, query_rule, jp_app, said, refusals};
+ghost use Rattle.jp_program.specs.CommandLine.{with_version, with_numbers as numbers_of, with_query as query_of};
+ghost use Rattle.jp_program.specs.Asked.{IsAsked, IsNotAsked, wanted_of};
+ghost use Rattle.jp_program.specs.Wanted.{Wanted as Wish, Says, SaysNumber, SaysFlag, AreSaid};
 
+use crate::version::VERSION;
 use clap::error::ErrorKind;
 use clap::{Arg, ArgAction, ArgMatches, Command, Error, value_parser};
 use jp_run::{RunFault, Settings};
@@ -9,9 +16,11 @@ use std::alloc::{AllocError, Global};
 
 /// What the help says behind the options.
 const MORE: &str = "\
-INPUT is read from standard input, a JSON document on each line; blank lines are counted and hold none.
+INPUT is read from standard input, one JSON document on each line; blank lines are counted and hold none.
+All numbers have to be whole, of 64 bits: a line with a fraction or an exponent is faulty.
+
 OUTPUT is a line for each node that the query selects, in order: the number of the document's line, a tab,
-the node's normalized path, a tab, the node's value.
+the node's normalized path, a tab, the node's value. No other tab stands in it: cut -f3 gives the values.
 
 A QUERY that begins with - is given behind --. Beside the functions of RFC 9535 it may call two of our own:
 xor(A, B), exactly one of the two is true, and distinct(NODES), the nodes with each location once.
@@ -19,20 +28,22 @@ xor(A, B), exactly one of the two is true, and distinct(NODES), the nodes with e
 The first line that holds no document ends the run. With --keep-going it gives a line of its own instead: its
 number, a tab, !, a tab, what is wrong with it.
 
-Status: 0 finished; 2 the query is refused; 3 a line holds no document; 4 reading or writing failed, or a
-limit was passed; 5 out of memory; 64 the command line is refused.
+Status: 0 finished, whether or not anything was selected; 2 the query is refused; 3 a line holds no document;
+4 reading or writing failed, or a limit was passed; 5 out of memory; 64 the command line is refused.
 
 Examples:
-  jp '$..name' < people.jsonl
-  jp --workers 8 '$.items[?@.price > 10]' < orders.jsonl
+  jp '$.msg' < app.log
+  jp '$[?$.level==\"error\" && @==$.msg]' < app.log
+  sed 's/.*/[&]/' app.log | jp '$[?@.level==\"error\"]'
+  jp --workers 8 '$.items[?@.count > 10]' < orders.jsonl
   jp --check '$[?count(@.*) > 1]'
   jp --keep-going '$.id' < log.jsonl | awk -F'\\t' '{ print > ($2 == \"!\" ? \"bad\" : \"good\") }'";
 
 /// What the command line asks for.
 #[derive(Drop)]
 pub(crate) enum Asked<'a> {
-    /// The text of the help.
-    Help(String),
+    /// To show this text: the help, or the version.
+    Show(String),
     /// A run of a query, or its check.
     Query(Wanted<'a>),
 }
@@ -53,12 +64,18 @@ pub(crate) struct Wanted<'a> {
 /// [`RunFault::Settings`] where they ask for nothing that there is, [`RunFault::Memory`] where a growth of
 /// memory was refused.
 pub(crate) fn read_words<'a>(alloc: Global, words: &'a [&'a str]) -> Result<Asked<'a>, RunFault>
-    ensures { OnErr result (IsErrOf result RunFault.Settings ⊎ IsErrOf result RunFault.Memory) }
+    ensures asked { IfOk result (IsAsked (texts words.entry.now)) }
+    ensures fault { IfErr result (IsNotAsked (texts words.entry.now)) }
 {
     match matches(alloc, words) {
-        Ok(matches) => Ok(Asked::Query(wanted_by(&matches)?)),
+        Ok(matches) => match wanted_by(&matches) {
+            Some(wanted) => Ok(Asked::Query(wanted)),
+            None => Err(RunFault::Settings),
+        },
         Err(error) => match error.kind() {
-            ErrorKind::DisplayHelp => Ok(Asked::Help(format!(in alloc; "{error}")?)),
+            ErrorKind::DisplayHelp | ErrorKind::DisplayVersion => {
+                Ok(Asked::Show(format!(in alloc; "{error}")?))
+            }
             ErrorKind::OutOfMemory => Err(RunFault::Memory),
             _ => Err(RunFault::Settings),
         },
@@ -66,17 +83,31 @@ pub(crate) fn read_words<'a>(alloc: Global, words: &'a [&'a str]) -> Result<Aske
 }
 
 /// What the words say of each option.
-fn matches<'a>(alloc: Global, words: &'a [&'a str]) -> Result<ArgMatches<'a>, Error> {
-    let command = Command::new(alloc, "jp")
-        .bin_name("jp")?
-        .about("Prints what a JSONPath query selects in each of many JSON documents.")
-        .after_help(MORE);
-    let command = with_query(alloc, with_numbers(alloc, command)?)?;
+fn matches<'a>(alloc: Global, words: &'a [&'a str]) -> Result<ArgMatches<'a>, Error>
+    ensures said { IfOk result (λ m. rows_of (found_of m) ≡ said (texts words.entry.now)) }
+    ensures fault { FailsBy (refusals (texts words.entry.now)) result }
+{
+    let command = with_query(alloc, with_numbers(alloc, named(alloc)?)?)?;
     command.try_get_matches_from(words)
 }
 
+/// The command, with its name, its version and its texts.
+fn named<'a>(alloc: Global) -> Result<Command<'a>, AllocError>
+    ensures { IfOk result (λ r. app_of r ≡ with_version (new_app (codes "jp"))) }
+{
+    let command = Command::new(alloc, "jp").bin_name("jp")?;
+    Ok(
+        command
+            .version(VERSION)
+            .about("Prints what a JSONPath query selects in each of many JSON documents.")
+            .after_help(MORE),
+    )
+}
+
 /// The command, with the options that take a number.
-fn with_numbers<'a>(alloc: Global, command: Command<'a>) -> Result<Command<'a>, AllocError> {
+fn with_numbers<'a>(alloc: Global, command: Command<'a>) -> Result<Command<'a>, AllocError>
+    ensures { IfOk result (λ r. app_of r ≡ numbers_of (app_of command.entry)) }
+{
     let workers = "How many threads work at once, 1 to 64";
     let piece = "How many documents a thread takes at a time, 1 to 1000000";
     let batch = "How many documents are answered and written together, 1 to 1000000";
@@ -86,24 +117,21 @@ fn with_numbers<'a>(alloc: Global, command: Command<'a>) -> Result<Command<'a>, 
 }
 
 /// The command, with the query, whether it is only checked, and whether faulty lines are passed.
-fn with_query<'a>(alloc: Global, command: Command<'a>) -> Result<Command<'a>, AllocError> {
-    let check = Arg::new(alloc, "check")
-        .long("check")
-        .action(ArgAction::SetTrue)
-        .help("Read nothing, and say only whether QUERY is accepted");
-    let keep_going = Arg::new(alloc, "keep-going")
-        .long("keep-going")
-        .action(ArgAction::SetTrue)
-        .help("Write a line for each faulty line too, and go on");
-    let query = Arg::new(alloc, "query")
-        .value_name("QUERY")
-        .required(true)
-        .help("A JSONPath query (RFC 9535)");
-    command.arg(check)?.arg(keep_going)?.arg(query)
+fn with_query<'a>(alloc: Global, command: Command<'a>) -> Result<Command<'a>, AllocError>
+    ensures { IfOk result (λ r. app_of r ≡ query_of (app_of command.entry)) }
+{
+    let check = "Read nothing, and say only whether QUERY is accepted";
+    let keep_going = "Write a line for each faulty line too, and go on";
+    let command = command.arg(flag(alloc, "check", check))?;
+    let command = command.arg(flag(alloc, "keep-going", keep_going))?;
+    command.arg(query(alloc))
 }
 
 /// An option that takes a number.
-fn number<'a>(alloc: Global, name: &'a str, default: &'a str, help: &'a str) -> Arg<'a> {
+fn number<'a>(alloc: Global, name: &'a str, default: &'a str, help: &'a str) -> Arg<'a>
+    ensures rule { rule_of result ≡ number_rule name.entry.now default.entry.now }
+    ensures local { result.global ≡ false }
+{
     Arg::new(alloc, name)
         .long(name)
         .value_name("N")
@@ -112,27 +140,74 @@ fn number<'a>(alloc: Global, name: &'a str, default: &'a str, help: &'a str) -> 
         .help(help)
 }
 
-/// The query, and what is to be done with it.
-fn wanted_by<'a>(matches: &ArgMatches<'a>) -> Result<Wanted<'a>, RunFault>
-    ensures { OnErr result (IsErrOf result RunFault.Settings) }
+/// An option that is there or not.
+fn flag<'a>(alloc: Global, name: &'a str, help: &'a str) -> Arg<'a>
+    ensures rule { rule_of result ≡ flag_rule name.entry.now }
+    ensures local { result.global ≡ false }
 {
-    let workers = matches.get_one::<u64>("workers");
-    let piece = matches.get_one::<u64>("piece");
-    let batch = matches.get_one::<u64>("batch");
-    let (Some(workers), Some(piece), Some(batch)) = (workers, piece, batch) else {
-        return Err(RunFault::Settings);
-    };
-    let Some(query) = matches.get_str("query") else {
-        return Err(RunFault::Settings);
-    };
-    let settings = Settings::new(workers, piece, batch)?;
-    Ok(Wanted {
+    Arg::new(alloc, name)
+        .long(name)
+        .action(ArgAction::SetTrue)
+        .help(help)
+}
+
+/// The query.
+fn query<'a>(alloc: Global) -> Arg<'a>
+    ensures rule { rule_of result ≡ query_rule }
+    ensures local { result.global ≡ false }
+{
+    Arg::new(alloc, "query")
+        .value_name("QUERY")
+        .required(true)
+        .help("A JSONPath query (RFC 9535)")
+}
+
+/// The query, and what is to be done with it; none where a number is out of its range.
+fn wanted_by<'a>(matches: &ArgMatches<'a>) -> Option<Wanted<'a>>
+    ensures some { IfSome result (λ w. Says (rows_of (found_of matches.now)) (wanted_of w)) }
+    ensures none { IsNone result → (w : Wish) → Says (rows_of (found_of matches.now)) w → ⊥ }
+{
+    let query = matches.get_str("query")?;
+    let check = flag_by(matches, "check")?;
+    let keep_going = flag_by(matches, "keep-going")?;
+    let settings = settings_by(matches, keep_going)?;
+    Some(Wanted {
         query,
-        check: matches.get_flag("check"),
-        settings: if matches.get_flag("keep-going") {
-            settings.keep_going()
-        } else {
-            settings
-        },
+        check,
+        settings,
     })
+}
+
+/// The settings; none where a number is out of its range.
+fn settings_by(matches: &ArgMatches<'_>, keep_going: bool) -> Option<Settings>
+    ensures some { IfSome result (λ s. AreSaid (rows_of (found_of matches.now)) s.workers s.piece s.batch) }
+    ensures form { IfSome result (λ s. s.keeps_going ≡ keep_going) }
+    ensures none { IsNone result → (w p b : ℕ) → AreSaid (rows_of (found_of matches.now)) w p b → ⊥ }
+{
+    let workers = number_by(matches, "workers")?;
+    let piece = number_by(matches, "piece")?;
+    let batch = number_by(matches, "batch")?;
+    let settings = Settings::new(workers, piece, batch).ok()?;
+    Some(if keep_going {
+        settings.keep_going()
+    } else {
+        settings
+    })
+}
+
+/// The number that is said of an option; none where it is none of 64 bits.
+fn number_by(matches: &ArgMatches<'_>, name: &str) -> Option<u64>
+    ensures some { IfSome result (SaysNumber name.now (rows_of (found_of matches.now))) }
+    ensures none { IsNone result → (n : ℕ) → SaysNumber name.now (rows_of (found_of matches.now)) n
+        → 2 ^ 64 ≤ n }
+{
+    matches.get_one::<u64>(name)
+}
+
+/// Whether an option is there; none where that is not said.
+fn flag_by(matches: &ArgMatches<'_>, name: &str) -> Option<bool>
+    ensures some { IfSome result (SaysFlag name.now (rows_of (found_of matches.now))) }
+    ensures none { IsNone result → (b : Bool) → SaysFlag name.now (rows_of (found_of matches.now)) b → ⊥ }
+{
+    matches.get_one::<bool>(name)
 }

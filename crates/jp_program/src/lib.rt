@@ -3,5 +3,8 @@
 
 mod command;
 mod command_line;
+mod examples;
+mod laws;
+mod version;
 
 pub use command::{program, tell};

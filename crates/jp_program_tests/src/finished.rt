@@ -52,6 +52,7 @@ fn options_stand_before_or_behind(rt: HostRuntime) -> Result<(), Fail> {
 
 /// What the help has to name.
 const TAUGHT: &str = "\
+--version
 --workers
 --piece
 --batch
@@ -63,6 +64,8 @@ QUERY
 [default: 4096]
 1 to 64
 1 to 1000000
+numbers have to be whole
+cut -f3
 RFC 9535
 xor(A, B)
 distinct(NODES)
@@ -92,5 +95,21 @@ fn a_check_reads_nothing(rt: HostRuntime) -> Result<(), Fail> {
     assert_eq!(rt; left.status, 0);
     assert_eq!(rt; left.output.as_slice(), "".as_bytes());
     assert_eq!(rt; left.notes.as_slice(), "".as_bytes());
+    Ok(())
+}
+
+/// The program's name, its version, and the toolchain that it was proved with, in one line.
+#[test]
+fn the_version_is_told(rt: HostRuntime) -> Result<(), Fail> {
+    for word in &["--version", "-V"] {
+        let left = run_words(&rt, &["jp", *word], b"{");
+        assert_eq!(rt; left.status, 0);
+        assert_eq!(rt; left.notes.as_slice(), "".as_bytes());
+        let text = str::from_utf8(&left.output)?;
+        assert!(rt; text.starts_with("jp 0."));
+        assert!(rt; text.contains(" (proved with rattle-kit-"));
+        assert!(rt; text.ends_with(")\n"));
+        assert_eq!(rt; text.lines().count(), 1);
+    }
     Ok(())
 }

@@ -11,3 +11,5 @@ mod refusals;
 mod refused;
 #[cfg(test)]
 mod running;
+#[cfg(test)]
+mod settings;

@@ -1,8 +1,46 @@
-use Rattle.std.proofs.Common.{Err, ap, inl, sym, ◌∙◌}
-use Rattle.jp_program.proofs.Told.{document_of}
+use Rattle.std.proofs.Common.{◌∙◌, Err, Some, inl, inr, ap, sym, subst}
+use Rattle.std.specs.Io.KnownBytes.{Keeps}
+use Rattle.jp_program.proofs.Told.{query_of, document_of, end_of, memory_of, of_two, of_three}
+use Rattle.jp_program.proofs.Told.{answered_kept, front_kept, cut_kept}
 use Rattle.jp_program.proofs.command.program.Goals as goal
+
+pub returns-in-Err-clause-query : goal.returns-in-Err-clause-query
+returns-in-Err-clause-query g c = λ e.
+    let status = sym c.status-in-Err.ensures ∙ e in
+    let q = query_of c.in-Err.fault status in
+    let d = c.in-Err.ensures.query q.0 (ap Err q.1) in
+    (q.0, d.0, d.1, d.2, d.3, c.pass_on_after.ensures.untouched (inl status) ∙ d.4)
 
 pub returns-in-Err-clause-document : goal.returns-in-Err-clause-document
 returns-in-Err-clause-document g c = λ e.
-    let d = document_of c.in-Err.fault (sym c.status.ensures ∙ e) in
-    inl (d.0, d.1, c.in-Err.ensures.document d.0 d.1 (ap Err d.2))
+    let f = document_of c.in-Err.fault (sym c.status-in-Err.ensures ∙ e) in
+    let d = c.in-Err.ensures.document f.0 f.1 (ap Err f.2) in inl (
+      f.0,
+      f.1,
+      d.0,
+      d.1,
+      d.2,
+      answered_kept d.0.query (Some (f.0, f.1)) _ _ _ _ d.3 c.pass_on_after.ensures.kept,
+      d.4,
+      d.5,
+      d.6,
+    )
+
+pub returns-in-Err-clause-failed : goal.returns-in-Err-clause-failed
+returns-in-Err-clause-failed g c = λ e.
+    let kept = c.pass_on_after.ensures.kept in of_three
+    (λ f. let d = c.in-Err.ensures.read (ap Err f) in
+    (d.0, d.1, front_kept d.0 _ _ _ _ d.2 kept, inl (cut_kept d.0 _ _ _ _ _ _ d.3 kept)))
+    (λ f. let d = c.in-Err.ensures.write (ap Err f) in
+    (d.0, d.1, front_kept d.0 _ _ _ _ d.2 kept, inr (inl (c.pass_on_after.ensures.failed d.3))))
+    (λ f. let d = c.in-Err.ensures.limit (ap Err f) in
+    (d.0, d.1, front_kept d.0 _ _ _ _ d.2 kept, inr (inr d.3)))
+    (end_of c.in-Err.fault (sym c.status-in-Err.ensures ∙ e))
+
+pub returns-in-Err-clause-memory : goal.returns-in-Err-clause-memory
+returns-in-Err-clause-memory g c = λ e.
+    let kept = c.pass_on_after.ensures.kept in of_two
+    (λ same. inl (subst (λ s. Keeps (g.K.Sink.contents s) (g.K.Sink.contents c.pass_on_after.new.sink)) same
+    kept))
+    (λ d. inr (d.0, d.1, front_kept d.0 _ _ _ _ d.2 kept))
+    (c.in-Err.ensures.memory (ap Err (memory_of c.in-Err.fault (sym c.status-in-Err.ensures ∙ e))))

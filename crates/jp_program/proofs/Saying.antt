@@ -1,0 +1,71 @@
+-- What `get_one` reads is what is said of an option.
+use Rattle.std.proofs.Common.{◌≡◌, ◌∙◌, ℕ, ◌≤◌, ◌<◌, ◌^◌, Bool, true, false, List, Option, Some, None, IfSome, option_map}
+use Rattle.std.proofs.Common.{Result, Ok, Err, refl, sym, ap, arith}
+use Rattle.std.specs.Prelude.{IsNone}
+use Rattle.std.specs.Str.Parse.{ParsesUnsigned, ParsesBool}
+use Rattle.clap.specs.Matches.{ReadsOne}
+use Rattle.std.specs.Str.{chars}
+use Rattle.clap.specs.Walk.{Text, Row, first_of, one_of}
+use Rattle.jp_program.specs.Wanted.{SaysNumber, SaysFlag, flag_text}
+
+-- a text that is read as an option's value, by the type's own reading
+module _ {T E : Type 0} (reads : List ℕ → Result T E → Type 0) (o : Option Text) where
+  read_at : (r : Option T) (t : Option Text) → o ≡ t → (o ≡ None → r ≡ None)
+      → ((x : Text) → o ≡ Some x → ReadsOne reads x r)
+      → IfSome r (λ v. (x : Text) × (o ≡ Some x) × reads x (Ok v))
+  read_at None t e none value = tt
+  read_at (Some v) None e none value = absurd (let bad = none e in cc)
+  read_at (Some v) (Some x) e none value = (x, e, value x e)
+
+  -- a value comes from the option's text
+  pub read_some : (r : Option T) → (o ≡ None → r ≡ None) → ((x : Text) → o ≡ Some x → ReadsOne reads x r)
+      → IfSome r (λ v. (x : Text) × (o ≡ Some x) × reads x (Ok v))
+  read_some r none value = read_at r o refl none value
+
+  -- and where there is none, a text is not read
+  pub read_none : (r : Option T) → ((x : Text) → o ≡ Some x → ReadsOne reads x r) → IsNone r → (x : Text)
+      → o ≡ Some x → (e : E) × reads x (Err e)
+  read_none None value h x e = value x e
+  read_none (Some v) value h x e = absurd (cc)
+
+some_weaker : {T : Type 0} (r : Option T) (P R : T → Type 0) → ((v : T) → P v → R v) → IfSome r P → IfSome r R
+some_weaker None P R f h = tt
+some_weaker (Some v) P R f h = f v h
+
+flag_read : (E : Type 0) (b : Bool) (x : Text) → ParsesBool {E = E} x (Ok b) → x ≡ flag_text b
+flag_read E true x h = h
+flag_read E false x h = h
+
+module _ (E : Type 0) (name : Text) (rows : List Row) (o : Option Text) (is : o ≡ one_of name rows) where
+  module _ (reads : List ℕ → Result ℕ E → Type 0)
+      (number : (x : Text) (r : Result ℕ E) → reads x r → ParsesUnsigned 64 10 x r) where
+    pub number_some : (r : Option ℕ) → (o ≡ None → r ≡ None)
+        → ((x : Text) → o ≡ Some x → ReadsOne reads x r) → IfSome r (SaysNumber name rows)
+    number_some r none value = some_weaker r _ _ (λ v h. let n = number h.0 (Ok v) h.2 in
+        (h.0, sym is ∙ h.1, n.0.0, sym n.1)) (read_some reads o r none value)
+
+    pub number_none : (r : Option ℕ) → ((x : Text) → o ≡ Some x → ReadsOne reads x r) → IsNone r
+        → (n : ℕ) → SaysNumber name rows n → 2 ^ 64 ≤ n
+    number_none r value h n s =
+        let e = read_none reads o r value h s.0 (is ∙ s.1) in
+        let not_few : n < 2 ^ 64 → ⊥ = λ lt. number s.0 (Err e.0) e.1 (s.2, omega (arith, lt, s.3)) in
+        omega (arith, not_few)
+
+  pub flag_some : (r : Option Bool) → (o ≡ None → r ≡ None)
+      → ((x : Text) → o ≡ Some x → ReadsOne (ParsesBool {E = E}) x r)
+      → IfSome r (SaysFlag name rows)
+  flag_some r none value = some_weaker r _ _
+      (λ b h. sym is ∙ h.1 ∙ ap Some (flag_read E b h.0 h.2)) (read_some ParsesBool o r none value)
+
+  pub flag_none : (r : Option Bool) → ((x : Text) → o ≡ Some x → ReadsOne (ParsesBool {E = E}) x r)
+      → IsNone r → (b : Bool) → SaysFlag name rows b → ⊥
+  flag_none r value h true s = (read_none ParsesBool o r value h (flag_text true) (is ∙ s)).1.0 refl
+  flag_none r value h false s = (read_none ParsesBool o r value h (flag_text false) (is ∙ s)).1.1 refl
+
+-- the query's text is what is said of it
+module _ (name : Text) (rows : List Row) (o : Option Text) (is : o ≡ first_of name rows) where
+  pub query_some : (s : Text) → o ≡ Some s → option_map chars (first_of name rows) ≡ Some (chars s)
+  query_some s e = ap (option_map chars) (sym is ∙ e)
+
+  pub query_none : o ≡ None → (text : List ℕ) → option_map chars (first_of name rows) ≡ Some text → ⊥
+  query_none e text said = let none = ap (option_map chars) (sym is ∙ e) in absurd (cc)

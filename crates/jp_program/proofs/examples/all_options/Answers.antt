@@ -1,0 +1,21 @@
+use Rattle.std.proofs.Common.{refl, arith, [], ◌∷◌}
+use Rattle.clap.proofs.OnLiterals.{clap_on_literals}
+use Rattle.jp_program.specs.CommandLine.{said, refusals}
+use Rattle.jp_program.proofs.examples.all_options.Goals as goal
+
+pub returns : goal.returns
+unfolding clap_on_literals said refusals
+returns c = (
+  refl,
+  record {
+    query = refl;
+    check = refl;
+    keeps_going = refl;
+    settings = (
+      (56 ∷ [], refl, (omega arith, (omega arith, tt)), refl),
+      (50 ∷ [], refl, (omega arith, (omega arith, tt)), refl),
+      (43 ∷ 49 ∷ 48 ∷ [], refl, (omega arith, (omega arith, (omega arith, tt))), refl),
+      ((omega arith, omega arith), (omega arith, omega arith), (omega arith, omega arith)),
+    );
+  },
+)

@@ -1,0 +1,21 @@
+use Rattle.std.proofs.Common.{refl, arith, [], ◌∷◌}
+use Rattle.clap.proofs.OnLiterals.{clap_on_literals}
+use Rattle.jp_program.specs.CommandLine.{said, refusals}
+use Rattle.jp_program.proofs.laws.query_alone.Goals as goal
+
+pub returns : goal.returns
+unfolding clap_on_literals said refusals
+returns c = λ name rest. (
+  refl,
+  record {
+    query = refl;
+    check = refl;
+    keeps_going = refl;
+    settings = (
+      (52 ∷ [], refl, (omega arith, (omega arith, tt)), refl),
+      (54 ∷ 52 ∷ [], refl, (omega arith, (omega arith, (omega arith, tt))), refl),
+      (52 ∷ 48 ∷ 57 ∷ 54 ∷ [], refl, (omega arith, (omega arith, (omega arith, (omega arith, (omega arith, tt))))), refl),
+      ((omega arith, omega arith), (omega arith, omega arith), (omega arith, omega arith)),
+    );
+  },
+)

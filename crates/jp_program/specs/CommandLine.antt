@@ -1,0 +1,59 @@
+-- The command line, as data: which options there are, and what the words of one say. What `clap` makes of
+-- words is its own definition (`matches_of`, `fault_of`).
+use Rattle.std.specs.Prelude.{◌≢◌, ◌⊎◌, true, List, [], ◌∷◌, Some, codes}
+use Rattle.clap.specs.Walk.{Rule, Row, Text}
+use Rattle.clap.specs.Simple.{App, new_app, new_rule, with_rule, on_top, matches_of}
+use Rattle.clap.specs.Kinds.{Kinds, IsAmong}
+use Rattle.clap.specs.Faults.{fault_of}
+use Rattle.clap.specs.declared.builder.action.ArgAction.TheVariants.{SetTrue}
+use Rattle.clap.specs.declared.builder.value_parser.ValueParser.TheVariants as vp
+use Rattle.clap.specs.declared.error.kind.ErrorKind.{ErrorKind}
+use Rattle.clap.specs.declared.error.kind.ErrorKind.TheVariants.{DisplayHelp, DisplayVersion}
+
+-- an option that takes a number of 64 bits
+abbrev pub number_rule : Text → Text → Rule
+number_rule name default = record (new_rule name) {
+  long = Some name;
+  value_names = 1;
+  parser = Some (vp.Unsigned 0 18446744073709551615);
+  defaults = default ∷ [];
+}
+
+-- an option that is there or not
+abbrev pub flag_rule : Text → Rule
+flag_rule name = record (new_rule name) { long = Some name; action = Some SetTrue }
+
+abbrev pub query_rule : Rule
+query_rule = record (new_rule (codes "query")) { value_names = 1; required = true }
+
+abbrev pub with_version : App → App
+with_version = on_top (λ s. record s { has_version = true })
+
+abbrev pub with_numbers : App → App
+with_numbers a = with_rule (with_rule (with_rule a (number_rule (codes "workers") (codes "4")))
+    (number_rule (codes "piece") (codes "64"))) (number_rule (codes "batch") (codes "4096"))
+
+abbrev pub with_query : App → App
+with_query a = with_rule (with_rule (with_rule a (flag_rule (codes "check")))
+    (flag_rule (codes "keep-going"))) query_rule
+
+-- `jp [--workers N] [--piece N] [--batch N] [--check] [--keep-going] QUERY`, with `--help` and `--version`
+abbrev pub jp_app : App
+jp_app = with_query (with_numbers (with_version (new_app (codes "jp"))))
+
+-- what the words say of each option, the first of which is the program's name
+unfoldable pub said : List Text → List Row
+said words = matches_of jp_app words
+
+-- what is wrong with the words, or what they ask to be shown; nothing where they are taken
+unfoldable pub refusals : List Text → Kinds
+refusals words = fault_of jp_app words
+
+-- the words ask for the help or the version
+abbrev pub AsksToShow : List Text → Type 0
+AsksToShow words = IsAmong DisplayHelp (refusals words) ⊎ IsAmong DisplayVersion (refusals words)
+
+-- the words are wrong
+abbrev pub IsRefused : List Text → Type 0
+IsRefused words = (kind : ErrorKind) × IsAmong kind (refusals words) × (kind ≢ DisplayHelp)
+    × (kind ≢ DisplayVersion)

@@ -1,0 +1,58 @@
+-- What a command line wants.
+use Rattle.std.specs.Prelude.{◌≡◌, ◌⊎◌, ℕ, Bool, true, false, List, [], Some, option_map, codes}
+use Rattle.std.specs.Str.{chars}
+use Rattle.std.specs.Str.Parse.{IsNumeral, digits_value, without_leading_plus}
+use Rattle.clap.specs.Walk.{Text, Row, first_of, one_of}
+use Rattle.jp_answer.specs.Ranges.{AreSettings}
+use Rattle.jp_program.specs.CommandLine.{said, refusals, IsRefused}
+
+-- the query's text in scalar values, whether it is only checked, the form of the answer, and the settings
+pub record Wanted : Type 0 where
+  pub query : List ℕ
+  pub check : Bool
+  pub keeps_going : Bool
+  pub workers : ℕ
+  pub piece : ℕ
+  pub batch : ℕ
+
+-- an option's text is this number in decimal, perhaps behind a plus
+abbrev pub SaysNumber : Text → List Row → ℕ → Type 0
+SaysNumber name rows n = (text : Text) × (one_of name rows ≡ Some text)
+    × IsNumeral 10 (without_leading_plus text) × (digits_value 10 (without_leading_plus text) ≡ n)
+
+abbrev pub flag_text : Bool → Text
+flag_text true = codes "true"
+flag_text false = codes "false"
+
+-- an option is there or not
+abbrev pub SaysFlag : Text → List Row → Bool → Type 0
+SaysFlag name rows is_there = one_of name rows ≡ Some (flag_text is_there)
+
+-- the numbers of the three options, in their ranges
+abbrev pub AreSaid : List Row → ℕ → ℕ → ℕ → Type 0
+AreSaid rows workers piece batch = SaysNumber (codes "workers") rows workers
+    × SaysNumber (codes "piece") rows piece × SaysNumber (codes "batch") rows batch
+    × AreSettings workers piece batch
+
+-- what is said of each option is this
+pub record Says (rows : List Row) (w : Wanted) : Type 0 where
+  pub query : option_map chars (first_of (codes "query") rows) ≡ Some w.query
+  pub check : SaysFlag (codes "check") rows w.check
+  pub keeps_going : SaysFlag (codes "keep-going") rows w.keeps_going
+  pub settings : AreSaid rows w.workers w.piece w.batch
+
+-- the words are taken, and want this
+abbrev pub Wants : List Text → Wanted → Type 0
+Wants words w = (refusals words ≡ []) × Says (said words) w
+
+-- a check alone is wanted
+abbrev pub WantsCheck : List Text → Wanted → Type 0
+WantsCheck words w = Wants words w × (w.check ≡ true)
+
+-- a run is wanted
+abbrev pub WantsRun : List Text → Wanted → Type 0
+WantsRun words w = Wants words w × (w.check ≡ false)
+
+-- the words are wrong, or a number is out of its range
+abbrev pub IsWrong : List Text → Type 0
+IsWrong words = IsRefused words ⊎ ((refusals words ≡ []) × ((w : Wanted) → Says (said words) w → ⊥))

@@ -1,0 +1,41 @@
+//! Worked examples of what command lines want.
+
+ghost use Rattle.std.specs.Prelude.{[], ◌∷◌, true, codes};
+ghost use Rattle.jp_program.specs.CommandLine.{AsksToShow, IsRefused};
+ghost use Rattle.jp_program.specs.Wanted.{Wants, IsWrong};
+
+/// Each option, in both of its forms, and a query that begins with `-`.
+fn all_options()
+    ensures { Wants (codes "jp" ∷ codes "--workers" ∷ codes "8" ∷ codes "--piece=2" ∷ codes "--batch"
+        ∷ codes "+10" ∷ codes "--check" ∷ codes "--keep-going" ∷ codes "--" ∷ codes "-q" ∷ []) (record {
+          query = codes "-q";
+          check = true;
+          keeps_going = true;
+          workers = 8;
+          piece = 2;
+          batch = 10;
+        }) }
+{}
+
+/// The help and the version, whatever stands beside them.
+fn what_is_shown()
+    ensures help { AsksToShow (codes "jp" ∷ codes "--help" ∷ []) }
+    ensures short_help { AsksToShow (codes "jp" ∷ codes "-h" ∷ codes "$.a" ∷ []) }
+    ensures version { AsksToShow (codes "jp" ∷ codes "--version" ∷ []) }
+    ensures short_version { AsksToShow (codes "jp" ∷ codes "--workers=1" ∷ codes "-V" ∷ []) }
+{}
+
+/// No query, two, an unknown option, an option without its number, and with what is none.
+fn wrong_words()
+    ensures no_query { IsRefused (codes "jp" ∷ codes "--check" ∷ []) }
+    ensures two_queries { IsRefused (codes "jp" ∷ codes "$" ∷ codes "$" ∷ []) }
+    ensures unknown { IsRefused (codes "jp" ∷ codes "--nope" ∷ codes "$" ∷ []) }
+    ensures no_number { IsRefused (codes "jp" ∷ codes "$" ∷ codes "--piece" ∷ []) }
+    ensures other_number { IsRefused (codes "jp" ∷ codes "--batch=x" ∷ codes "$" ∷ []) }
+    ensures twice { IsRefused (codes "jp" ∷ codes "--check" ∷ codes "--check" ∷ codes "$" ∷ []) }
+{}
+
+/// A number past its range.
+fn too_many_workers()
+    ensures { IsWrong (codes "jp" ∷ codes "--workers" ∷ codes "65" ∷ codes "$" ∷ []) }
+{}

@@ -1,0 +1,104 @@
+//! Settings that a run obeys, and what it passes on.
+
+use jp_program::program;
+use jp_run::{FromReader, FromWriter};
+use std::alloc::{AllocGlobal, Global};
+use std::io::{self, ErrorKind, Read, Write};
+use std::thread::Threads;
+
+/// Hands out its bytes at the first call, and fails at each other one.
+#[derive(Drop)]
+struct OneRead<'a>(Option<&'a [u8]>);
+
+impl Read for OneRead<'_> {
+    fn read(&mut self, buf: &mut [u8]) -> io::Result<usize> {
+        let Some(mut bytes) = self.0.take() else {
+            return Err(ErrorKind::ConnectionReset.into());
+        };
+        bytes.read(buf)
+    }
+}
+
+/// Takes all, and knows how many bytes it had taken at the last flush.
+#[derive(Drop)]
+struct Gathers {
+    taken: Vec<u8>,
+    passed_on: usize,
+}
+
+impl Write for Gathers {
+    fn write(&mut self, buf: &[u8]) -> io::Result<usize> {
+        match self.taken.extend_from_slice(buf) {
+            Ok(()) => Ok(buf.len()),
+            Err(_) => Err(ErrorKind::OutOfMemory.into()),
+        }
+    }
+
+    fn flush(&mut self) -> io::Result<()> {
+        self.passed_on = self.taken.len();
+        Ok(())
+    }
+}
+
+/// What is left by a program whose source fails at its second read: its status, what it wrote, and how much of
+/// that it passed on.
+fn cut_short<R: Threads + AllocGlobal + Sync>(
+    rt: &R,
+    words: &[&str],
+    front: &[u8],
+    before: Vec<u8>,
+) -> (u8, Vec<u8>, usize) {
+    let mut gathers = Gathers {
+        taken: before,
+        passed_on: 0,
+    };
+    let mut notes = Vec::new(rt.alloc());
+    let mut source = FromReader::new(OneRead(Some(front)));
+    let mut sink = FromWriter::new(&mut gathers);
+    let mut told = FromWriter::new(&mut notes);
+    let status = program(rt, words, &mut source, &mut sink, &mut told);
+    let Gathers { taken, passed_on } = gathers;
+    (status, taken, passed_on)
+}
+
+/// How much is written before the failure, by the size of the batches: the lines of the whole ones. Other
+/// settings don't change that.
+fn batches_are_obeyed<R: Threads + AllocGlobal + Sync>(rt: &R, alloc: Global) -> bool {
+    let front: &[u8] = b"{\"a\":1}\n{\"a\":2}\n{\"a\":3}\n";
+    let lines: &[u8] = b"1\t$['a']\t1\n2\t$['a']\t2\n3\t$['a']\t3\n";
+    let rows: [(&[&str], usize); 5] = [
+        (&["jp", "--batch", "1", "$.a"], 33),
+        (&["jp", "--batch=2", "$.a"], 22),
+        (&["jp", "--batch=10", "$.a"], 0),
+        (&["jp", "$.a"], 0),
+        (&["jp", "--piece=1", "--workers=1", "--batch=2", "$.a"], 22),
+    ];
+    for (words, size) in &rows {
+        let (status, written, passed_on) = cut_short(rt, *words, front, Vec::new(alloc));
+        let (wanted, _) = lines.split_at(*size);
+        if status != 4 || written.as_slice() != wanted || passed_on != *size {
+            return false;
+        }
+    }
+    true
+}
+
+#[test]
+fn a_batch_is_as_large_as_the_words_say(rt: HostRuntime) {
+    assert!(rt; batches_are_obeyed(&rt, rt.alloc()));
+}
+
+/// What a sink had taken before, and had not passed on, is passed on after a fault too; and nothing is after a
+/// refusal, which writes nothing.
+#[test]
+fn nothing_is_held_back_after_a_fault(rt: HostRuntime) {
+    for (query, wanted) in &[("$.a", 4u8), ("$[", 2), ("$[?@==1.5]", 2)] {
+        let Ok(before) = Vec::from_slice(rt.alloc(), b"before") else {
+            return;
+        };
+        let (status, written, passed_on) = cut_short(&rt, &["jp", *query], b"{}", before);
+        assert_eq!(rt; status, *wanted);
+        assert_eq!(rt; written.as_slice(), b"before".as_slice());
+        assert_eq!(rt; passed_on, if status == 4 { 6 } else { 0 });
+    }
+}
