@@ -1,5 +1,6 @@
 pub mod DocumentSteps
 pub mod EscapedName
+pub mod Fields
 pub mod IndexText
 pub mod OfPath
 pub mod OnLiterals

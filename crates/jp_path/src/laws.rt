@@ -1,13 +1,16 @@
 //! Laws of the definitions, each the contract of a function that does nothing.
 
-ghost use Rattle.std.specs.Prelude.{◌≡◌, ◌≤◌, ℕ, List, [], ◌∷◌, ◌++◌, Some};
+ghost use Rattle.std.specs.Prelude.{◌≡◌, ◌≤◌, ℕ, List, [], ◌∷◌, ◌++◌, length, Some};
 ghost use Rattle.std.specs.List.{fold, flat_map, AllByRecursion};
 ghost use Rattle.jp_doc.specs.Json.{Json};
 ghost use Rattle.jp_doc.specs.Document.{document_value};
 ghost use Rattle.jp_doc.specs.declared.document.Document.{Document};
+ghost use Rattle.jp_doc.specs.declared.fault.DocFault.{DocFault};
 ghost use Rattle.jp_doc.specs.Location.{Location, Node, node, value_at};
 ghost use Rattle.jp_regexp.specs.Tests.{Tests};
 ghost use Rattle.jp_eval.specs.Nodelist.{document_nodes};
+ghost use Rattle.jp_path.specs.FaultLine.{fault_line};
+ghost use Rattle.jp_path.specs.Fields.{times, HasThreeFields, AreLinesOfThree};
 ghost use Rattle.jp_path.specs.OutputLine.{node_line, put_line};
 ghost use Rattle.jp_syntax.specs.Tree.{Query};
 ghost use Rattle.jp_syntax.specs.Spelling.{Spells};
@@ -51,6 +54,17 @@ pub fn printed_paths()
         (document_nodes t p (document_value d)) }
     ensures steps { (d : Document) (at : Location) (v : Json) → value_at at (document_value d) ≡ Some v
         → AreSteps at }
+{}
+
+/// An output line has three fields, of whatever node, and so has a fault line: two tabs, and one line feed,
+/// which is the last byte. So the lines of several nodes can be cut at line feeds and each line at its tabs,
+/// and there are as many as nodes.
+pub fn three_fields()
+    ensures node { (number : ℕ) (n : Node) → HasThreeFields (node_line number n) }
+    ensures fault { (number : ℕ) (f : DocFault) → HasThreeFields (fault_line number f) }
+    ensures nodes { (number : ℕ) (ns : List Node) → AreLinesOfThree (flat_map (node_line number) ns) }
+    ensures one_each { (number : ℕ) (ns : List Node) → times 10 (flat_map (node_line number) ns)
+        ≡ length ns }
 {}
 
 /// The lines that a taker writes of several nodes are those of each in turn, behind what stood there.
