@@ -1,3 +1,4 @@
+pub mod AnswerFields
 pub mod Forms
 pub mod Joining
 pub mod OnLiterals

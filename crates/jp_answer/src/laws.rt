@@ -1,10 +1,13 @@
 //! Laws of the definitions, each the contract of a function that does nothing.
 
-ghost use Rattle.std.specs.Prelude.{◌≡◌, ◌++◌, ℕ, true, false, None, List};
+ghost use Rattle.std.specs.Prelude.{◌≡◌, ◌++◌, ℕ, Bool, true, false, None, List, length};
+ghost use Rattle.jp_doc.specs.Json.{Json};
 ghost use Rattle.jp_doc.specs.Lines.{Line};
 ghost use Rattle.jp_syntax.specs.Tree.{Text, Query};
 ghost use Rattle.jp_regexp.specs.Tests.{Tests};
-ghost use Rattle.jp_answer.specs.Answer.{Answer, answer, joined};
+ghost use Rattle.jp_eval.specs.Nodelist.{document_nodes};
+ghost use Rattle.jp_path.specs.Fields.{times, AreLinesOfThree};
+ghost use Rattle.jp_answer.specs.Answer.{Answer, answer, joined, document_lines};
 ghost use Rattle.jp_answer.specs.Answered.{IsAnswerIn, IsAnswerTo};
 ghost use Rattle.jp_answer.specs.Faults.{first_fault};
 ghost use Rattle.jp_answer.specs.Form.{answer_in};
@@ -27,6 +30,15 @@ pub fn first_fault_stops()
 pub fn whole_pieces()
     ensures { (t : Tests) (q : Query) (a b : List Line) → whole t q (a ++ b)
         ≡ both (whole t q a) (whole t q b) }
+{}
+
+/// The bytes of an answer, in either form, are lines of three fields, one after another: two tabs in each,
+/// and one line feed, its last byte. A document has as many of them as nodes.
+pub fn three_fields()
+    ensures answer { (k : Bool) (t : Tests) (q : Query) (ls : List Line)
+        → AreLinesOfThree (answer_in k t q ls).bytes }
+    ensures one_each { (t : Tests) (q : Query) (number : ℕ) (root : Json)
+        → times 10 (document_lines t q number root) ≡ length (document_nodes t q root) }
 {}
 
 /// The two forms of an answer: the one that does not keep going is the answer, and the other has the bytes of
