@@ -4,5 +4,6 @@ pub mod Joining
 pub mod OnLiterals
 pub mod Placing
 pub mod Settling
+pub mod Streams
 pub mod Tending
 mod PlanCrosses
