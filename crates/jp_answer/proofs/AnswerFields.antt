@@ -1,5 +1,5 @@
 -- The bytes of an answer are lines of three fields, one after another.
-use Rattle.std.proofs.Common.{◌≡◌, ℕ, Bool, true, false, List, [], ◌∷◌, Result, Ok, Err, flat_map}
+use Rattle.std.proofs.Common.{ℕ, Bool, true, false, List, [], ◌∷◌, Result, Ok, Err, flat_map}
 use Rattle.jp_doc.specs.Json.{Json}
 use Rattle.jp_doc.specs.Lines.{Line}
 use Rattle.jp_doc.specs.Reading.{reading}
