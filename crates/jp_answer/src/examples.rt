@@ -7,6 +7,7 @@ ghost use Rattle.jp_tree.specs.declared.tree.Start.TheVariants.{Root};
 ghost use Rattle.jp_regexp.specs.Tests.{Tests};
 ghost use Rattle.jp_answer.specs.Answer.{stream_answer};
 ghost use Rattle.jp_answer.specs.Faults.{first_fault};
+ghost use Rattle.jp_answer.specs.Streams.{placed_blocks, AreBlocks};
 ghost use Rattle.jp_answer.specs.Whole.{stream_whole};
 
 /// `$.a` on the lines `{"a":1}`, an empty one and `{"a":null}`.
@@ -36,6 +37,23 @@ fn blank_line_between()
               "$['a']" ++ 9 ∷ codes "null" ++ 10 ∷ [];
           stopped = None;
         } }
+{}
+
+/// The second of two blocks: `$.a` on `{"a":2}` behind one line feed, where the first block has one line.
+#[tactic(auto, unfolding(crate::proofs::OnLiterals::runs_on_literals))]
+fn second_block()
+    ensures placed { placed_blocks 0 ((codes "{\"a\":1}" ++ 10 ∷ []) ∷ (codes "{\"a\":2}" ++ 10 ∷ []) ∷ [])
+        ≡ (codes "{\"a\":1}" ++ 10 ∷ []) ∷ (10 ∷ codes "{\"a\":2}" ++ 10 ∷ []) ∷ [] }
+    ensures lines { (t : Tests) →
+        stream_answer t (tree.query_from Root (tree.child (tree.name (codes "a") ∷ []) ∷ []))
+        (10 ∷ codes "{\"a\":2}" ++ 10 ∷ [])
+        ≡ record {
+          bytes = codes "2" ++ 9 ∷ codes "$['a']" ++ 9 ∷ codes "2" ++ 10 ∷ [];
+          stopped = None;
+        } }
+    ensures blank_lines { placed_blocks 0 ((10 ∷ 10 ∷ 97 ∷ 10 ∷ []) ∷ [] ∷ (98 ∷ []) ∷ [])
+        ≡ (10 ∷ 10 ∷ 97 ∷ 10 ∷ []) ∷ (10 ∷ 10 ∷ 10 ∷ []) ∷ (10 ∷ 10 ∷ 10 ∷ 98 ∷ []) ∷ [] }
+    ensures cut_within_a_line { ¬ AreBlocks ((97 ∷ []) ∷ (98 ∷ 10 ∷ []) ∷ []) }
 {}
 
 /// `$` on no input, and on `[]`.

@@ -1,14 +1,19 @@
 //! Laws of the definitions, each the contract of a function that does nothing.
 
-ghost use Rattle.std.specs.Prelude.{◌≡◌, ◌++◌, ℕ, true, false, None, List};
-ghost use Rattle.jp_doc.specs.Lines.{Line};
+ghost use Rattle.std.specs.Prelude.{◌≡◌, ◌+◌, ◌++◌, ℕ, Bool, true, false, None, List, length, map};
+ghost use Rattle.std.specs.List.{concat};
+ghost use Rattle.jp_doc.specs.Json.{Json};
+ghost use Rattle.jp_doc.specs.Lines.{Line, lines, line_count};
 ghost use Rattle.jp_syntax.specs.Tree.{Text, Query};
 ghost use Rattle.jp_regexp.specs.Tests.{Tests};
-ghost use Rattle.jp_answer.specs.Answer.{Answer, answer, joined};
+ghost use Rattle.jp_eval.specs.Nodelist.{document_nodes};
+ghost use Rattle.jp_path.specs.Fields.{times, AreLinesOfThree};
+ghost use Rattle.jp_answer.specs.Answer.{Answer, answer, joined, document_lines, stream_answer};
 ghost use Rattle.jp_answer.specs.Answered.{IsAnswerIn, IsAnswerTo};
 ghost use Rattle.jp_answer.specs.Faults.{first_fault};
 ghost use Rattle.jp_answer.specs.Form.{answer_in};
-ghost use Rattle.jp_answer.specs.Whole.{both, whole};
+ghost use Rattle.jp_answer.specs.Streams.{AreWholeLines, line_feeds, AreBlocks, placed_blocks, in_turn};
+ghost use Rattle.jp_answer.specs.Whole.{both, whole, stream_whole};
 
 /// The answer to lines and further lines is the answer to the first where that has stopped, and else its
 /// bytes and then the answer to the further lines. So it is the same in whatever pieces the lines are taken.
@@ -27,6 +32,35 @@ pub fn first_fault_stops()
 pub fn whole_pieces()
     ensures { (t : Tests) (q : Query) (a b : List Line) → whole t q (a ++ b)
         ≡ both (whole t q a) (whole t q b) }
+{}
+
+/// A stream that is cut between two lines: the answer to whole lines and what follows them is that to the
+/// lines, and then that to as many line feeds as there are lines, followed by the rest; in either form.
+///
+/// So a large file can be answered in blocks, each by a process of its own that is given as many line feeds
+/// first as the blocks before it have lines: the answers one after another, each number kept, are the answer
+/// to the file. Each block but the last ends in a line feed.
+pub fn streams()
+    ensures answer { (t : Tests) (q : Query) (a b : List ℕ) → AreWholeLines a → stream_answer t q (a ++ b)
+        ≡ joined (stream_answer t q a) (stream_answer t q (line_feeds (line_count a) ++ b)) }
+    ensures whole { (t : Tests) (q : Query) (a b : List ℕ) → AreWholeLines a → stream_whole t q (a ++ b)
+        ≡ both (stream_whole t q a) (stream_whole t q (line_feeds (line_count a) ++ b)) }
+    ensures either { (k : Bool) (t : Tests) (q : Query) (a b : List ℕ) → AreWholeLines a
+        → answer_in k t q (lines (a ++ b))
+        ≡ joined (answer_in k t q (lines a)) (answer_in k t q (lines (line_feeds (line_count a) ++ b))) }
+    ensures blocks { (k : Bool) (t : Tests) (q : Query) (bs : List (List ℕ)) → AreBlocks bs
+        → answer_in k t q (lines (concat bs))
+        ≡ in_turn (map (λ b. answer_in k t q (lines b)) (placed_blocks 0 bs)) }
+    ensures count { (a b : List ℕ) → AreWholeLines a → line_count (a ++ b) ≡ line_count a + line_count b }
+{}
+
+/// The bytes of an answer, in either form, are lines of three fields, one after another: two tabs in each,
+/// and one line feed, its last byte. A document has as many of them as nodes.
+pub fn three_fields()
+    ensures answer { (k : Bool) (t : Tests) (q : Query) (ls : List Line)
+        → AreLinesOfThree (answer_in k t q ls).bytes }
+    ensures one_each { (t : Tests) (q : Query) (number : ℕ) (root : Json)
+        → times 10 (document_lines t q number root) ≡ length (document_nodes t q root) }
 {}
 
 /// The two forms of an answer: the one that does not keep going is the answer, and the other has the bytes of

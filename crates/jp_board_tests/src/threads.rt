@@ -4,10 +4,11 @@ ghost use Rattle.jp_board.specs.Seats.{IsSeatOf, made_of};
 
 use jp_board::{Board, Seat, Tally};
 use std::alloc::{AllocError, Global};
+use std::sync::Wait;
 use std::sync::atomic::{AtomicBool, AtomicU64, Ordering};
 use std::test::Fail;
 use std::thread;
-use std::thread::Threads;
+use std::thread::{Promise, Threads};
 
 const PIECES: u64 = 10_000;
 
@@ -58,6 +59,76 @@ fn claims_at_once<R: Threads + Sync>(
             ensures { IsSeatOf board.entry.now result }
         { claims_all(board, seat, counts) },
     )
+}
+
+/// That a thread gives back a seat of this board.
+#[derive(Clone, Copy)]
+struct SeatOf<'a>(&'a Board);
+
+impl<'a> Promise<Seat> for SeatOf<'a> {
+    ghost kept_by = { λ p s. IsSeatOf p.0.now s };
+}
+
+/// Two seats claim on threads of a scope.
+fn claims_in_a_scope<R: Threads + Wait>(
+    rt: &R,
+    board: &Board,
+    one: Seat,
+    other: Seat,
+    counts: &[AtomicU64],
+) -> Result<(Seat, Seat), AllocError>
+    requires one { IsSeatOf board.now one }
+    requires other { IsSeatOf board.now other }
+    ensures one { IfOk result (λ p. IsSeatOf board.now p.0) }
+    ensures other { IfOk result (λ p. IsSeatOf board.now p.1) }
+{
+    thread::scope(
+        thread::scope_env(),
+        rt,
+        |scope| -> Result<(Seat, Seat), AllocError>
+            requires one { IsSeatOf board.now one }
+            requires other { IsSeatOf board.now other }
+            ensures one { IfOk result (λ p. IsSeatOf board.entry.now p.0) }
+            ensures other { IfOk result (λ p. IsSeatOf board.entry.now p.1) }
+        {
+            let first = scope.spawn_with(
+                SeatOf(board),
+                move || -> Seat
+                    requires { IsSeatOf board.now one }
+                    ensures { IsSeatOf board.entry.now result }
+                { claims_all(board, one, counts) },
+            )?;
+            let second = scope.spawn_with(
+                SeatOf(board),
+                move || -> Seat
+                    requires { IsSeatOf board.now other }
+                    ensures { IsSeatOf board.entry.now result }
+                { claims_all(board, other, counts) },
+            )?;
+            Ok((first.join(rt), second.join(rt)))
+        },
+    )
+}
+
+#[test]
+fn two_threads_of_a_scope_claim_each_piece_once(rt: HostRuntime) -> Result<(), Fail> {
+    let counts = no_counts(rt.alloc())?;
+    let (board, mut seats) = Board::new(rt.alloc(), PIECES, 2)?;
+    let (Some(b), Some(a)) = (seats.pop(), seats.pop()) else {
+        panic!(&rt; "no seat")
+    };
+    let (a, b) = claims_in_a_scope(&rt, &board, a, b, &counts)?;
+    let tally = board.close(vec![in rt.alloc(); a, b]?).ok();
+    assert!(&rt;
+        tally
+            == Some(Tally {
+                claimed: PIECES,
+                least: 5_000
+            })
+    );
+    let all_once = counts.iter().all(|count| count.load(Ordering::SeqCst) == 1);
+    assert!(&rt; all_once);
+    Ok(())
 }
 
 #[test]

@@ -1,5 +1,6 @@
 pub mod KnownLemmas
 pub mod PatternSets
+pub mod Sound
 pub mod TextLists
 pub mod Verdicts
 pub mod OneVerdict

@@ -1,6 +1,8 @@
 -- A step of a proof, which nobody has to believe: what a part of a ready tree stands for, whatever `$`
 -- queries are listed behind those that are listed already.
-use Rattle.std.specs.Prelude.{◌≡◌, ◌++◌, List}
+use Rattle.std.specs.Prelude.{◌≡◌, ◌++◌, Bool, true, List}
+use Rattle.std.specs.List.{list_all}
+use Rattle.jp_types.specs.Numbers.{Written, is_in_range}
 use Rattle.jp_check.specs.Ready.{Wanted}
 
 -- the first list begins the second
@@ -10,3 +12,7 @@ Begins roots all = (more : List Wanted) × (all ≡ roots ++ more)
 -- read where these are listed, or these and more, it is this
 abbrev pub Reads : {A : Type 0} → List Wanted → (List Wanted → A) → A → Type 0
 Reads roots view x = (all : List Wanted) → Begins roots all → view all ≡ x
+
+-- a part of a query that can be made ready: its numbers are in range, and it is well-typed
+abbrev pub IsSound : List Written → Bool → Type 0
+IsSound numbers typed = (list_all is_in_range numbers ≡ true) × (typed ≡ true)

@@ -22,7 +22,6 @@ pub fn accepted_tree()
 {}
 
 /// Each refusal of a tree is told only where those before it do not apply, and no other is told of a tree.
-#[tactic(auto, using(crate::proofs::Verdicts::refuses_fraction, crate::proofs::Verdicts::refuses_range, crate::proofs::Verdicts::refuses_type, crate::proofs::Verdicts::no_other_refusal))]
 pub fn refused_tree()
     ensures fraction { (q : Query) → verdict_of q ≡ Err Fraction ↔ (has_fraction q ≡ true) }
     ensures range { (q : Query) → verdict_of q ≡ Err Range

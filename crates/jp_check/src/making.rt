@@ -1,15 +1,18 @@
 //! A query made ready, in one walk over its tree.
 
-ghost use Rattle.std.specs.Prelude.{◌≡◌, List, map, option_map, codes, IfOk, OnOk};
+ghost use Rattle.std.specs.Prelude.{◌≡◌, ◌⊎◌, List, [], ◌∷◌, Some, map, option_map, codes, true, IfOk, OnOk};
 ghost use Rattle.jp_syntax.specs.Tree as tree;
 ghost use Rattle.jp_syntax.specs.Tree.{Text};
 ghost use Rattle.jp_syntax.specs.View.{query_of, text_of};
 ghost use Rattle.jp_syntax.specs.PartViews as view;
 ghost use Rattle.jp_types.specs.Functions as functions;
+ghost use Rattle.jp_types.specs.Functions.{value_type, logical_type, nodes_type};
 ghost use Rattle.jp_types.specs.Kinds.{function_of};
+ghost use Rattle.jp_types.specs.Numbers as numbers;
+ghost use Rattle.jp_types.specs.Typing as typing;
 ghost use Rattle.jp_check.specs.Ready as ready;
 ghost use Rattle.jp_check.specs.Ready.{Wanted};
-ghost use Rattle.jp_check.specs.Making.{Begins, Reads};
+ghost use Rattle.jp_check.specs.Making.{Begins, Reads, IsSound};
 
 use crate::known::KnownPattern;
 use crate::leaves::{make_constant, make_position, make_slice, read_pattern};
@@ -21,6 +24,8 @@ use std::alloc::{AllocError, Global};
 
 /// A query made ready.
 pub(crate) fn make_query(alloc: Global, query: &jp_syntax::Query) -> Result<Query, AllocError>
+    requires { IsSound (numbers.query_numbers (query_of query.now))
+        (typing.query_typed (query_of query.now)) }
     ensures { IfOk result (λ r. ready.ready_query r ≡ query_of query.now) }
 {
     let mut roots = Vec::new(alloc);
@@ -38,6 +43,8 @@ fn make_segments(
     segments: &[jp_syntax::Segment],
     roots: &mut Vec<RootQuery>,
 ) -> Result<Vec<Segment>, AllocError>
+    requires sound { IsSound (numbers.segments_numbers (tree.segments (view.segments_of segments.now)))
+        (typing.segments_typed (tree.segments (view.segments_of segments.now))) }
     ensures made { IfOk result (λ v. Reads (ready.roots_of roots.new.items)
         (λ all. map (ready.segment_in all) v.items) (view.segments_of segments.now)) }
     ensures roots { OnOk result (Begins (ready.roots_of roots.old.items) (ready.roots_of roots.new.items)) }
@@ -57,6 +64,8 @@ fn make_selectors(
     selectors: &[jp_syntax::Selector],
     roots: &mut Vec<RootQuery>,
 ) -> Result<Vec<Selector>, AllocError>
+    requires sound { IsSound (numbers.selectors_numbers (tree.selectors (view.selectors_of selectors.now)))
+        (typing.selectors_typed (tree.selectors (view.selectors_of selectors.now))) }
     ensures made { IfOk result (λ v. Reads (ready.roots_of roots.new.items)
         (λ all. map (ready.selector_in all) v.items) (view.selectors_of selectors.now)) }
     ensures roots { OnOk result (Begins (ready.roots_of roots.old.items) (ready.roots_of roots.new.items)) }
@@ -74,6 +83,8 @@ fn make_selector(
     selector: &jp_syntax::Selector,
     roots: &mut Vec<RootQuery>,
 ) -> Result<Selector, AllocError>
+    requires sound { IsSound (numbers.selector_numbers (view.selector_of selector.now))
+        (typing.selector_typed (view.selector_of selector.now)) }
     ensures made { IfOk result (λ x. Reads (ready.roots_of roots.new.items)
         (λ all. ready.selector_in all x) (view.selector_of selector.now)) }
     ensures roots { OnOk result (Begins (ready.roots_of roots.old.items) (ready.roots_of roots.new.items)) }
@@ -99,6 +110,8 @@ fn make_logical(
     logical: &jp_syntax::Logical,
     roots: &mut Vec<RootQuery>,
 ) -> Result<Logical, AllocError>
+    requires sound { IsSound (numbers.logical_numbers (view.logical_of logical.now))
+        (typing.logical_typed (view.logical_of logical.now)) }
     ensures made { IfOk result (λ l. Reads (ready.roots_of roots.new.items)
         (λ all. ready.logical_in all l) (view.logical_of logical.now)) }
     ensures roots { OnOk result (Begins (ready.roots_of roots.old.items) (ready.roots_of roots.new.items)) }
@@ -123,6 +136,8 @@ fn make_negation(
     part: &jp_syntax::Logical,
     roots: &mut Vec<RootQuery>,
 ) -> Result<Logical, AllocError>
+    requires sound { IsSound (numbers.logical_numbers (view.logical_of part.now))
+        (typing.logical_typed (view.logical_of part.now)) }
     ensures made { IfOk result (λ l. Reads (ready.roots_of roots.new.items)
         (λ all. ready.logical_in all l) (tree.negation (view.logical_of part.now))) }
     ensures roots { OnOk result (Begins (ready.roots_of roots.old.items) (ready.roots_of roots.new.items)) }
@@ -139,6 +154,8 @@ fn make_comparison(
     comparison: &Comparison,
     roots: &mut Vec<RootQuery>,
 ) -> Result<Logical, AllocError>
+    requires sound { IsSound (numbers.comparison_numbers (view.comparison_of comparison.now))
+        (typing.comparison_typed (view.comparison_of comparison.now)) }
     ensures made { IfOk result (λ l. Reads (ready.roots_of roots.new.items)
         (λ all. ready.logical_in all l) (tree.comparing (view.comparison_of comparison.now))) }
     ensures roots { OnOk result (Begins (ready.roots_of roots.old.items) (ready.roots_of roots.new.items)) }
@@ -155,6 +172,8 @@ fn make_parts(
     parts: &[jp_syntax::Logical],
     roots: &mut Vec<RootQuery>,
 ) -> Result<Vec<Logical>, AllocError>
+    requires sound { IsSound (numbers.logicals_numbers (tree.logicals (view.logicals_of parts.now)))
+        (typing.logicals_typed (tree.logicals (view.logicals_of parts.now))) }
     ensures made { IfOk result (λ v. Reads (ready.roots_of roots.new.items)
         (λ all. map (ready.logical_in all) v.items) (view.logicals_of parts.now)) }
     ensures roots { OnOk result (Begins (ready.roots_of roots.old.items) (ready.roots_of roots.new.items)) }
@@ -174,6 +193,8 @@ fn make_nodes(
     query: &jp_syntax::Query,
     roots: &mut Vec<RootQuery>,
 ) -> Result<Nodes, AllocError>
+    requires sound { IsSound (numbers.query_numbers (query_of query.now))
+        (typing.query_typed (query_of query.now)) }
     ensures made { IfOk result (λ q. Reads (ready.roots_of roots.new.items)
         (λ all. ready.nodes_in all q want) (ready.queried (query_of query.now))) }
     ensures roots { OnOk result (Begins (ready.roots_of roots.old.items) (ready.roots_of roots.new.items)) }
@@ -196,6 +217,8 @@ fn make_side(
     side: &Comparable,
     roots: &mut Vec<RootQuery>,
 ) -> Result<Value, AllocError>
+    requires sound { IsSound (numbers.comparable_numbers (view.comparable_of side.now))
+        (typing.comparable_typed (view.comparable_of side.now)) }
     ensures made { IfOk result (λ v. Reads (ready.roots_of roots.new.items)
         (λ all. ready.value_in all v) (view.comparable_of side.now)) }
     ensures roots { OnOk result (Begins (ready.roots_of roots.old.items) (ready.roots_of roots.new.items)) }
@@ -209,13 +232,16 @@ fn make_side(
     }
 }
 
-/// An argument that gives a value. Any other, which no accepted query has, is refused.
+/// An argument that gives a value.
 #[cycle(making)]
 fn make_value(
     alloc: Global,
     argument: &Argument,
     roots: &mut Vec<RootQuery>,
 ) -> Result<Value, AllocError>
+    requires sound { IsSound (numbers.argument_numbers (view.argument_of argument.now))
+        (typing.argument_typed (view.argument_of argument.now)) }
+    requires fits { typing.fits value_type (view.argument_of argument.now) ≡ true }
     ensures made { IfOk result (λ v. Reads (ready.roots_of roots.new.items)
         (λ all. ready.as_argument (ready.value_in all v)) (view.argument_of argument.now)) }
     ensures roots { OnOk result (Begins (ready.roots_of roots.old.items) (ready.roots_of roots.new.items)) }
@@ -225,12 +251,12 @@ fn make_value(
         Argument::Query(query) => {
             Ok(Value::Single(make_nodes(alloc, Want::First, query, roots)?))
         }
-        Argument::Logical(_) => Err(AllocError),
+        Argument::Logical(_) => unreachable!(),
         Argument::Call(call) => make_value_call(alloc, call, roots),
     }
 }
 
-/// An argument that gives nodes. Any other, which no accepted query has, is refused.
+/// An argument that gives nodes.
 #[cycle(making)]
 fn make_argument_nodes(
     alloc: Global,
@@ -238,6 +264,9 @@ fn make_argument_nodes(
     argument: &Argument,
     roots: &mut Vec<RootQuery>,
 ) -> Result<Nodes, AllocError>
+    requires sound { IsSound (numbers.argument_numbers (view.argument_of argument.now))
+        (typing.argument_typed (view.argument_of argument.now)) }
+    requires fits { typing.fits nodes_type (view.argument_of argument.now) ≡ true }
     ensures made { IfOk result (λ q. Reads (ready.roots_of roots.new.items)
         (λ all. ready.source_argument (ready.nodes_in all q want)) (view.argument_of argument.now)) }
     ensures roots { OnOk result (Begins (ready.roots_of roots.old.items) (ready.roots_of roots.new.items)) }
@@ -245,12 +274,12 @@ fn make_argument_nodes(
     match argument {
         Argument::Query(query) => make_nodes(alloc, want, query, roots),
         Argument::Call(call) => make_distinct(alloc, want, call, roots),
-        Argument::Literal(_) => Err(AllocError),
-        Argument::Logical(_) => Err(AllocError),
+        Argument::Literal(_) => unreachable!(),
+        Argument::Logical(_) => unreachable!(),
     }
 }
 
-/// A call that gives nodes. Any other, which no accepted query has, is refused.
+/// A call that gives nodes.
 #[cycle(making)]
 #[inline(never)]
 fn make_distinct(
@@ -259,34 +288,40 @@ fn make_distinct(
     call: &Call,
     roots: &mut Vec<RootQuery>,
 ) -> Result<Nodes, AllocError>
+    requires sound { IsSound (numbers.call_numbers (view.call_of call.now))
+        (typing.call_typed (view.call_of call.now)) }
+    requires serves { typing.serves_as nodes_type (typing.type_of_call (view.call_of call.now)) ≡ true }
     ensures made { IfOk result (λ q. Reads (ready.roots_of roots.new.items)
         (λ all. ready.source_argument (ready.nodes_in all q want))
         (tree.call_argument (view.call_of call.now))) }
     ensures roots { OnOk result (Begins (ready.roots_of roots.old.items) (ready.roots_of roots.new.items)) }
 {
     let [argument] = call.arguments.as_slice() else {
-        return Err(AllocError);
+        unreachable!()
     };
     let Some(Function::Distinct) = function_named(call.name.as_str()) else {
-        return Err(AllocError);
+        unreachable!()
     };
     let nodes = make_argument_nodes(alloc, want.inside(), argument, roots)?;
     Ok(Nodes::Distinct(Box::new(alloc, nodes)?))
 }
 
-/// A call that gives a value. Any other, which no accepted query has, is refused.
+/// A call that gives a value.
 #[cycle(making)]
 fn make_value_call(
     alloc: Global,
     call: &Call,
     roots: &mut Vec<RootQuery>,
 ) -> Result<Value, AllocError>
+    requires sound { IsSound (numbers.call_numbers (view.call_of call.now))
+        (typing.call_typed (view.call_of call.now)) }
+    requires serves { typing.serves_as value_type (typing.type_of_call (view.call_of call.now)) ≡ true }
     ensures made { IfOk result (λ v. Reads (ready.roots_of roots.new.items)
         (λ all. ready.value_in all v) (tree.value_call (view.call_of call.now))) }
     ensures roots { OnOk result (Begins (ready.roots_of roots.old.items) (ready.roots_of roots.new.items)) }
 {
     let [argument] = call.arguments.as_slice() else {
-        return Err(AllocError);
+        unreachable!()
     };
     match function_named(call.name.as_str()) {
         Some(Function::Length) => {
@@ -299,11 +334,11 @@ fn make_value_call(
         Some(Function::Value) => {
             Ok(Value::Only(make_argument_nodes(alloc, Want::Only, argument, roots)?))
         }
-        _ => Err(AllocError),
+        _ => unreachable!(),
     }
 }
 
-/// A call that gives true or false. Any other, which no accepted query has, is refused.
+/// A call that gives true or false.
 #[cycle(making)]
 #[inline(never)]
 fn make_test_call(
@@ -311,6 +346,9 @@ fn make_test_call(
     call: &Call,
     roots: &mut Vec<RootQuery>,
 ) -> Result<Logical, AllocError>
+    requires sound { IsSound (numbers.call_numbers (view.call_of call.now))
+        (typing.call_typed (view.call_of call.now)) }
+    requires serves { typing.serves_as logical_type (typing.type_of_call (view.call_of call.now)) ≡ true }
     ensures made { IfOk result (λ l. Reads (ready.roots_of roots.new.items)
         (λ all. ready.logical_in all l) (tree.test_call (view.call_of call.now))) }
     ensures roots { OnOk result (Begins (ready.roots_of roots.old.items) (ready.roots_of roots.new.items)) }
@@ -322,7 +360,9 @@ fn make_test_call(
         Some(Function::Distinct) => {
             Ok(Logical::Test(make_distinct(alloc, Want::First, call, roots)?))
         }
-        _ => make_text_test(alloc, function, arguments, roots),
+        Some(Function::Match) => make_text_test(alloc, function, arguments, roots),
+        Some(Function::Search) => make_text_test(alloc, function, arguments, roots),
+        _ => unreachable!(),
     }
 }
 
@@ -334,13 +374,17 @@ fn make_xor(
     arguments: &[Argument],
     roots: &mut Vec<RootQuery>,
 ) -> Result<Logical, AllocError>
+    requires sound { IsSound (numbers.arguments_numbers (tree.arguments (view.arguments_of arguments.now)))
+        (typing.arguments_typed (tree.arguments (view.arguments_of arguments.now))) }
+    requires fit { typing.all_fit (logical_type ∷ logical_type ∷ [])
+        (tree.arguments (view.arguments_of arguments.now)) ≡ true }
     ensures made { IfOk result (λ l. Reads (ready.roots_of roots.new.items)
         (λ all. ready.logical_in all l) (tree.test_call (tree.call (codes "xor")
         (tree.arguments (view.arguments_of arguments.now))))) }
     ensures roots { OnOk result (Begins (ready.roots_of roots.old.items) (ready.roots_of roots.new.items)) }
 {
     let [left, right] = arguments else {
-        return Err(AllocError);
+        unreachable!()
     };
     let first = make_truth(alloc, left, roots)?;
     let second = make_truth(alloc, right, roots)?;
@@ -357,13 +401,16 @@ fn form_of(argument: &Argument) -> Form
     }
 }
 
-/// An argument that is true or false. Any other, which no accepted query has, is refused.
+/// An argument that is true or false.
 #[cycle(making)]
 fn make_truth(
     alloc: Global,
     argument: &Argument,
     roots: &mut Vec<RootQuery>,
 ) -> Result<Box<Logical>, AllocError>
+    requires sound { IsSound (numbers.argument_numbers (view.argument_of argument.now))
+        (typing.argument_typed (view.argument_of argument.now)) }
+    requires fits { typing.fits logical_type (view.argument_of argument.now) ≡ true }
     ensures made { IfOk result (λ l. Reads (ready.roots_of roots.new.items)
         (λ all. ready.truth_argument (ready.form_of (view.argument_of argument.now))
         (ready.logical_in all l.value)) (view.argument_of argument.now)) }
@@ -382,11 +429,11 @@ fn make_truth(
             let made = make_test_call(alloc, call, roots)?;
             Ok(Box::new(alloc, made)?)
         }
-        Argument::Literal(_) => Err(AllocError),
+        Argument::Literal(_) => unreachable!(),
     }
 }
 
-/// `match` or `search` of a text and a pattern. Any other call, which no accepted query has, is refused.
+/// `match` or `search` of a text and a pattern.
 #[cycle(making)]
 #[inline(never)]
 fn make_text_test(
@@ -395,6 +442,12 @@ fn make_text_test(
     arguments: &[Argument],
     roots: &mut Vec<RootQuery>,
 ) -> Result<Logical, AllocError>
+    requires sound { IsSound (numbers.arguments_numbers (tree.arguments (view.arguments_of arguments.now)))
+        (typing.arguments_typed (tree.arguments (view.arguments_of arguments.now))) }
+    requires fit { typing.all_fit (value_type ∷ value_type ∷ [])
+        (tree.arguments (view.arguments_of arguments.now)) ≡ true }
+    requires test { (option_map function_of function ≡ Some functions.match_function)
+        ⊎ (option_map function_of function ≡ Some functions.search_function) }
     ensures made { IfOk result (λ l. (name : Text)
         → option_map function_of function ≡ functions.function_named name
         → Reads (ready.roots_of roots.new.items) (λ all. ready.logical_in all l)
@@ -402,49 +455,45 @@ fn make_text_test(
     ensures roots { OnOk result (Begins (ready.roots_of roots.old.items) (ready.roots_of roots.new.items)) }
 {
     let [text, pattern] = arguments else {
-        return Err(AllocError);
+        unreachable!()
     };
     let text = make_value(alloc, text, roots)?;
     if let Some(pattern) = literal_text(pattern) {
         let pattern = read_pattern(alloc, pattern)?;
-        return read_test(function, text, pattern);
+        return Ok(read_test(function, text, pattern));
     }
     let pattern = make_value(alloc, pattern, roots)?;
-    given_test(function, text, pattern)
+    Ok(given_test(function, text, pattern))
 }
 
 /// A call with a literal pattern.
-fn read_test(
-    function: Option<Function>,
-    text: Value,
-    pattern: KnownPattern,
-) -> Result<Logical, AllocError>
-    ensures { IfOk result (λ l. (all : List Wanted) (name : Text)
+fn read_test(function: Option<Function>, text: Value, pattern: KnownPattern) -> Logical
+    requires { (option_map function_of function ≡ Some functions.match_function)
+        ⊎ (option_map function_of function ≡ Some functions.search_function) }
+    ensures { (all : List Wanted) (name : Text)
         → option_map function_of function ≡ functions.function_named name
-        → ready.logical_in all l ≡ tree.test_call (ready.call_of_two name
-        (ready.as_argument (ready.value_in all text)) (ready.text_argument (text_of pattern.text)))) }
+        → ready.logical_in all result ≡ tree.test_call (ready.call_of_two name
+        (ready.as_argument (ready.value_in all text)) (ready.text_argument (text_of pattern.text))) }
 {
     match function {
-        Some(Function::Match) => Ok(Logical::MatchRead(text, pattern)),
-        Some(Function::Search) => Ok(Logical::SearchRead(text, pattern)),
-        _ => Err(AllocError),
+        Some(Function::Match) => Logical::MatchRead(text, pattern),
+        Some(Function::Search) => Logical::SearchRead(text, pattern),
+        _ => unreachable!(),
     }
 }
 
 /// A call with a pattern that is known only at a node.
-fn given_test(
-    function: Option<Function>,
-    text: Value,
-    pattern: Value,
-) -> Result<Logical, AllocError>
-    ensures { IfOk result (λ l. (all : List Wanted) (name : Text)
+fn given_test(function: Option<Function>, text: Value, pattern: Value) -> Logical
+    requires { (option_map function_of function ≡ Some functions.match_function)
+        ⊎ (option_map function_of function ≡ Some functions.search_function) }
+    ensures { (all : List Wanted) (name : Text)
         → option_map function_of function ≡ functions.function_named name
-        → ready.logical_in all l ≡ tree.test_call (ready.call_of_two name
-        (ready.as_argument (ready.value_in all text)) (ready.as_argument (ready.value_in all pattern)))) }
+        → ready.logical_in all result ≡ tree.test_call (ready.call_of_two name
+        (ready.as_argument (ready.value_in all text)) (ready.as_argument (ready.value_in all pattern))) }
 {
     match function {
-        Some(Function::Match) => Ok(Logical::Match(text, pattern)),
-        Some(Function::Search) => Ok(Logical::Search(text, pattern)),
-        _ => Err(AllocError),
+        Some(Function::Match) => Logical::Match(text, pattern),
+        Some(Function::Search) => Logical::Search(text, pattern),
+        _ => unreachable!(),
     }
 }

@@ -54,7 +54,7 @@ fn given_pattern(function: Option<Function>, given: &[Argument]) -> Option<&str>
     }
 }
 
-/// Reads the text as a pattern, made ready for many texts, and adds it.
+/// Reads the text as a pattern, and adds it.
 fn push_known(alloc: Global, text: &str, known: &mut Vec<KnownPattern>) -> Result<(), AllocError>
     ensures { OnOk result (known_texts known.new.items ≡ known_texts known.old.items ++ chars text.now ∷ []) }
 {

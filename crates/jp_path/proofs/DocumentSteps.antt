@@ -26,7 +26,7 @@ neither true y h = absurd cc
 neither false y h = (refl, h)
 
 -- data that the JSON crate has, with short arrays
-abbrev Kept : Data → Type 0
+abbrev pub Kept : Data → Type 0
 Kept d = IsOfValue d × (has_long_array max_items (json_of d) ≡ false)
 
 -- a member that is found has a name of scalar values
@@ -91,7 +91,7 @@ child_known P (index i) (array ds) x kept found done =
     (items_have_long_array max_items (items_of ds)) kept.1 in
     item_known P i ds x kept.0 parts.1 found (λ e is more. done e is more (short_index i ds x parts.0 found))
 
-steps_known : (l : Location) (d : Data) (w : Json) → Kept d → value_at l (json_of d) ≡ Some w → AreSteps l
+pub steps_known : (l : Location) (d : Data) (w : Json) → Kept d → value_at l (json_of d) ≡ Some w → AreSteps l
 steps_known [] d w kept h = tt
 steps_known (s ∷ l) d w kept h =
     behind (value_at l) (child_at s (json_of d)) w h

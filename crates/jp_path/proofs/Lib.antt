@@ -1,6 +1,8 @@
 pub mod DocumentSteps
 pub mod EscapedName
+pub mod Fields
 pub mod IndexText
+pub mod LineSteps
 pub mod OfPath
 pub mod OnLiterals
 pub mod OwnNode
@@ -9,6 +11,8 @@ pub mod PathAccepted
 pub mod PathBytes
 pub mod PathSpelled
 pub mod PrintedPaths
+pub mod ReadTexts
+pub mod ReadValues
 pub mod SourceSteps
 pub mod Taken
 pub mod Written

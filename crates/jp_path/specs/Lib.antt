@@ -1,4 +1,5 @@
 pub mod Chunks
 pub mod FaultLine
+pub mod Fields
 pub mod OutputLine
 pub mod PathQuery

@@ -11,6 +11,7 @@ ghost use Rattle.jp_check.specs.Plan.{planned_query};
 ghost use Rattle.jp_doc.specs.declared.fault.DocFault.TheVariants.{LongLine, Unreadable, NotWhole, LongArray};
 ghost use Rattle.jp_path.specs.Chunks.{bytes_in};
 ghost use Rattle.jp_path.specs.FaultLine.{fault_line};
+ghost use Rattle.jp_path.specs.Fields.{times, HasThreeFields};
 ghost use Rattle.jp_path.specs.OutputLine.{line_text};
 ghost use Rattle.jp_path.specs.PathQuery.{path_query};
 
@@ -58,6 +59,19 @@ fn fault_lines()
         ++ 10 ∷ [] }
     ensures long_line { fault_line 7 LongLine ≡ codes "7" ++ 9 ∷ codes "!" ++ 9 ∷ codes "long line"
         ++ 10 ∷ [] }
+{}
+
+/// How often a byte stands among others; a line whose name and text have a tab and a line feed; and what has
+/// not three fields.
+#[tactic(auto, unfolding(crate::proofs::OnLiterals::lines_on_literals))]
+fn three_fields()
+    ensures none { times 9 [] ≡ 0 }
+    ensures twice { times 9 (9 ∷ 97 ∷ 9 ∷ 10 ∷ []) ≡ 2 }
+    ensures escapes { line_text 1 (name (9 ∷ 10 ∷ []) ∷ []) (text (9 ∷ 10 ∷ []))
+        ≡ codes "1" ++ 9 ∷ codes "$['\\t\\n']" ++ 9 ∷ codes "\"\\t\\n\"" ++ 10 ∷ [] }
+    ensures two_fields { ¬ HasThreeFields (codes "1" ++ 9 ∷ codes "$" ++ 10 ∷ []) }
+    ensures line_feed_within { ¬ HasThreeFields (9 ∷ 10 ∷ 9 ∷ 10 ∷ []) }
+    ensures not_ended { ¬ HasThreeFields (9 ∷ 9 ∷ 10 ∷ 97 ∷ []) }
 {}
 
 /// Bytes in chunks: of none, of one, and of three, where one stands twice.

@@ -1,13 +1,18 @@
 //! Laws of the definitions, each the contract of a function that does nothing.
 
-ghost use Rattle.std.specs.Prelude.{◌≡◌, ◌≤◌, ℕ, List, [], ◌∷◌, ◌++◌, Some};
+ghost use Rattle.std.specs.Prelude.{◌≡◌, ◌≤◌, ℕ, List, [], ◌∷◌, ◌++◌, length, Some, Ok};
 ghost use Rattle.std.specs.List.{fold, flat_map, AllByRecursion};
 ghost use Rattle.jp_doc.specs.Json.{Json};
 ghost use Rattle.jp_doc.specs.Document.{document_value};
 ghost use Rattle.jp_doc.specs.declared.document.Document.{Document};
+ghost use Rattle.jp_doc.specs.declared.fault.DocFault.{DocFault};
+ghost use Rattle.jp_doc.specs.Reading.{reading};
+ghost use Rattle.jp_doc.specs.Rising.{IsRising};
 ghost use Rattle.jp_doc.specs.Location.{Location, Node, node, value_at};
 ghost use Rattle.jp_regexp.specs.Tests.{Tests};
 ghost use Rattle.jp_eval.specs.Nodelist.{document_nodes};
+ghost use Rattle.jp_path.specs.FaultLine.{fault_line};
+ghost use Rattle.jp_path.specs.Fields.{times, HasThreeFields, AreLinesOfThree};
 ghost use Rattle.jp_path.specs.OutputLine.{node_line, put_line};
 ghost use Rattle.jp_syntax.specs.Tree.{Query};
 ghost use Rattle.jp_syntax.specs.Spelling.{Spells};
@@ -51,6 +56,32 @@ pub fn printed_paths()
         (document_nodes t p (document_value d)) }
     ensures steps { (d : Document) (at : Location) (v : Json) → value_at at (document_value d) ≡ Some v
         → AreSteps at }
+{}
+
+/// The same of each line that is read as a document, whoever reads it: the text of each path that a query
+/// prints of it is accepted with a query whose nodelist on what the line is read as is just the node. The
+/// names there rise, and the steps that lead to a node are such as the other laws speak of.
+pub fn printed_lines()
+    ensures selected { (t : Tests) (line : List ℕ) (root : Json) (at : Location) (v : Json)
+        → reading line ≡ Ok root → value_at at root ≡ Some v → (q : Query) × IsAccepted (path_text at) q
+        × (document_nodes t q root ≡ node at v ∷ []) }
+    ensures printed { (t : Tests) (line : List ℕ) (root : Json) (p : Query) → reading line ≡ Ok root
+        → AllByRecursion (λ n. (q : Query) × IsAccepted (path_text n.location) q
+        × (document_nodes t q root ≡ n ∷ [])) (document_nodes t p root) }
+    ensures steps { (line : List ℕ) (root : Json) (at : Location) (v : Json) → reading line ≡ Ok root
+        → value_at at root ≡ Some v → AreSteps at }
+    ensures rising { (line : List ℕ) (root : Json) → reading line ≡ Ok root → IsRising root }
+{}
+
+/// An output line has three fields, of whatever node, and so has a fault line: two tabs, and one line feed,
+/// which is the last byte. So the lines of several nodes can be cut at line feeds and each line at its tabs,
+/// and there are as many as nodes.
+pub fn three_fields()
+    ensures node { (number : ℕ) (n : Node) → HasThreeFields (node_line number n) }
+    ensures fault { (number : ℕ) (f : DocFault) → HasThreeFields (fault_line number f) }
+    ensures nodes { (number : ℕ) (ns : List Node) → AreLinesOfThree (flat_map (node_line number) ns) }
+    ensures one_each { (number : ℕ) (ns : List Node) → times 10 (flat_map (node_line number) ns)
+        ≡ length ns }
 {}
 
 /// The lines that a taker writes of several nodes are those of each in turn, behind what stood there.

@@ -1,4 +1,4 @@
--- What a function that reads ensures. Nobody has to believe this file: no public clause cites it.
+-- What a call that reads ensures, by its definition in `Reading`. No clause of `read_query` names this file.
 use Rattle.std.specs.Prelude.{◌≡◌, ℕ, List, Option, Some, None, Result, Ok, Err}
 use Rattle.std.specs.Borrow.{Bor}
 use Rattle.std.specs.Str.{chars}

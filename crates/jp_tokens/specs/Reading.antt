@@ -1,6 +1,7 @@
--- Reading from left to right: what stands at the front of a text, and the rest behind it.
--- `None` says that no front of the text is what is read.
--- Nobody has to believe this file: no public clause cites it. `Spelling` says what a text spells.
+-- What each call of this crate reads, from left to right: what stands at the front of a text, and the rest
+-- behind it. `None` says that no front of the text is what is read.
+-- No clause of `read_query` names this file: `Spelling` says what a text spells, and that this is the same is
+-- proved above.
 use Rattle.std.specs.Prelude.{ℕ, zero, suc, ◌+◌, Bool, true, false, not, ◌||◌, ◌&&◌, ◌==◌, if◌then◌else◌}
 use Rattle.std.specs.Prelude.{List, [], ◌∷◌, ◌++◌, length, Option, Some, None, option_and_then, option_map}
 use Rattle.std.specs.Prelude.{is_none, bytes_eq, codes}

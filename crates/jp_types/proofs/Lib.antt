@@ -2,5 +2,4 @@ pub mod FaultLaws
 pub mod Fitting
 pub mod Levels
 pub mod Names
-pub mod NumberTexts
 pub mod WrittenNumbers

@@ -117,3 +117,10 @@ either l m = filtered (any (logicals (l ∷ m ∷ [])))
 
 abbrev pub both : Logical → Logical → Query
 both l m = filtered (all (logicals (l ∷ m ∷ [])))
+
+-- `$[?xor(..,@.a)]` and `$[?xor(@.a,..)]` with a logical expression
+abbrev pub xor_with : Logical → Query
+xor_with l = tested (codes "xor") (logical_argument l ∷ its_a ∷ [])
+
+abbrev pub xor_behind : Logical → Query
+xor_behind l = tested (codes "xor") (its_a ∷ logical_argument l ∷ [])

@@ -7,8 +7,9 @@ ghost use Rattle.jp_types.specs.Functions as functions;
 ghost use Rattle.jp_types.specs.Functions.{function_named, parameters, result_type};
 ghost use Rattle.jp_types.specs.Functions.{value_type, logical_type, nodes_type};
 ghost use Rattle.jp_types.specs.Numbers.{literal_number, position, whole_number};
-ghost use Rattle.jp_types.specs.Typing.{fits, serves_as};
-ghost use Rattle.jp_types.specs.Samples.{match_call, each, its_a, has_a};
+ghost use Rattle.jp_types.specs.Typing.{fits, query_typed, serves_as};
+ghost use Rattle.jp_types.specs.Samples.{match_call, each, its_a, has_a, xor_with, xor_behind, unknown};
+ghost use Rattle.jp_types.specs.Samples.{unknown_call, calling, equals, num, member_a, filtered, matching};
 
 /// Which arguments fit which parameter, and what may stand where a type is asked for.
 fn uses()
@@ -58,6 +59,31 @@ fn table_of_functions()
         × (result_type functions.distinct_function ≡ nodes_type) }
     ensures no_other { (function_named (codes "lengt") ≡ None) × (function_named (codes "Count") ≡ None)
         × (function_named [] ≡ None) }
+{}
+
+/// The rules hold inside a logical argument too, wherever a call stands in it.
+fn types_in_logical_arguments()
+    ensures known { query_typed (xor_with (matching (codes "a"))) ≡ true }
+    ensures in_the_first { query_typed (xor_with unknown) ≡ false }
+    ensures in_the_second { query_typed (xor_behind unknown) ≡ false }
+    ensures negated { query_typed (xor_with (tree.negation unknown)) ≡ false }
+    ensures second_of_any { query_typed (xor_with (tree.any
+        (tree.logicals (tree.test member_a ∷ unknown ∷ [])))) ≡ false }
+    ensures second_of_all { query_typed (xor_with (tree.all
+        (tree.logicals (tree.test member_a ∷ unknown ∷ [])))) ≡ false }
+    ensures on_the_left { query_typed (xor_with (equals (tree.value_call unknown_call) (num (codes "1"))))
+        ≡ false }
+    ensures on_the_right { query_typed (xor_with (equals (num (codes "1")) (tree.value_call unknown_call)))
+        ≡ false }
+    ensures in_a_test { query_typed (xor_with (tree.test (filtered unknown))) ≡ false }
+    ensures in_a_call { query_typed (xor_with (tree.test_call
+        (calling (codes "xor") (tree.logical_argument unknown ∷ its_a ∷ [])))) ≡ false }
+    ensures value_as_test { query_typed (xor_with (tree.test_call (calling (codes "length") (its_a ∷ []))))
+        ≡ false }
+    ensures logical_as_value { query_typed (xor_with (equals (tree.value_call (match_call (codes "a")))
+        (num (codes "1")))) ≡ false }
+    ensures many_for_value { query_typed (xor_with (tree.test_call
+        (calling (codes "search") (each ∷ its_a ∷ [])))) ≡ false }
 {}
 
 /// What written numbers are.

@@ -8,10 +8,8 @@ ghost use Rattle.jp_types.specs.Numbers.{literal_number, position, is_fraction, 
 ghost use Rattle.jp_types.specs.Numbers.{part_of_slice, selector_numbers};
 
 use crate::faults::Faults;
+use crate::written::position;
 use jp_tree::{Literal, Slice};
-
-/// The greatest index, 2 ^ 53 - 1 (RFC 7493, 2.2).
-const MAX_INDEX: u64 = 9_007_199_254_740_991;
 
 /// The most digits of a number literal.
 const MAX_DIGITS: usize = 38;
@@ -28,21 +26,6 @@ fn is_short(number: &str) -> bool
     ensures { result ≡ is_in_range (literal_number (chars number.now)) }
 {
     number.chars().filter(|c| c.is_ascii_digit()).count() <= MAX_DIGITS
-}
-
-/// Whether an index or a number of a slice is at most 9007199254740991 from zero.
-fn is_near(number: &str) -> bool
-    ensures { result ≡ is_in_range (position (chars number.now)) }
-{
-    let digits = number.strip_prefix('-').unwrap_or(number);
-    let mut magnitude = 0;
-    for c in digits.chars() {
-        magnitude = magnitude * 10 + u64::from(u32::from(c).saturating_sub(u32::from('0')));
-        if magnitude > MAX_INDEX {
-            return false;
-        }
-    }
-    true
 }
 
 /// The faults of a literal.
@@ -65,7 +48,7 @@ pub(crate) fn position_faults(number: &str) -> Faults
 {
     Faults {
         fraction: false,
-        out_of_range: !is_near(number),
+        out_of_range: position(number).is_none(),
         ill_typed: false,
     }
 }

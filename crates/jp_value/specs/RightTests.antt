@@ -1,5 +1,5 @@
--- A step of a proof, which nobody has to believe.
--- Tests for `match` and `search` that are right: any two right tests answer alike.
+-- The two tests that the contracts of `match` and `search` name. They are right, which is a law of this crate
+-- too (`right_tests`), and any two right tests answer alike: so nobody has to know which they are.
 use Rattle.jp_regexp.specs.Tests.{Tests, AreRight}
 use Rattle.jp_regexp.proofs.RightTests.{right_tests}
 

@@ -1,5 +1,5 @@
 //! What the functions give: those of RFC 9535 (2.4.4 to 2.4.8), and `xor`, this project's own. Its other one,
-//! `distinct`, stands in `different.rt`.
+//! `distinct`, stands in `jp_nodes`.
 
 ghost use Rattle.std.specs.Prelude.{◌≡◌, Some, length, option_map, IfOk};
 ghost use Rattle.std.specs.Str.{chars};

@@ -3,12 +3,14 @@
 ghost use Rattle.std.specs.Prelude.{◌≡◌, ◌↔◌, ◌||◌, ◌<◌, ℕ, ℤ, pos, negsuc, int_lt, ◌≤ℤ◌, ◌<ℤ◌, IsTrue};
 ghost use Rattle.std.specs.Prelude.{List, Option, Some, None, true, false};
 ghost use Rattle.std.specs.List.{AllByRecursion, AllPairs, list_any};
+ghost use Rattle.jp_regexp.specs.Tests.{AreRight};
 ghost use Rattle.jp_doc.specs.Json.{Text, Json, Members, object};
 ghost use Rattle.jp_doc.specs.Location.{Location, Node, member_at};
 ghost use Rattle.jp_doc.specs.Rising.{MembersRise};
 ghost use Rattle.jp_value.specs.Slice.{slice_bounds, slice_indexes, RisesFrom, FallsBelow};
 ghost use Rattle.jp_value.specs.Comparison.{eq, lt, le};
 ghost use Rattle.jp_value.specs.Functions.{same_location, same_place, distinct};
+ghost use Rattle.jp_value.specs.RightTests.{tests};
 
 /// The indexes of a slice lie within the array; they rise strictly for a positive step, and fall strictly for
 /// a negative one.
@@ -58,4 +60,11 @@ pub fn distinct_nodes()
     ensures once { (ns : List Node) → AllPairs (λ m n. same_place m n ≡ false) (distinct ns) }
     ensures each { (ns : List Node) (n : Node) → list_any (same_place n) (distinct ns)
         ≡ list_any (same_place n) ns }
+{}
+
+/// The tests that the contracts of `match` and `search` name answer as the language of a pattern says (RFC
+/// 9535, 2.4.6 and 2.4.7).
+#[tactic(auto, using(crate::specs::RightTests::are_right))]
+pub fn right_tests()
+    ensures { AreRight tests }
 {}

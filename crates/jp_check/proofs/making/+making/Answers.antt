@@ -1,4 +1,5 @@
 use Rattle.std.proofs.Common.{Some, option_map, ◌≡◌, ◌∙◌, ap, ap₂, sym, map, codes, refl, arith}
+use Rattle.std.proofs.Common.{length, rules, subst, inl, inr, [], ◌∷◌}
 use Rattle.std.proofs.lemmas.Grind.{common_steps}
 use Rattle.std.proofs.lemmas.Result.{IfOk-weaker}
 use Rattle.jp_syntax.specs.Tree as tree
@@ -8,10 +9,12 @@ use Rattle.jp_tree.proofs.Views.{test_call_made, single_made, value_call_made, q
 use Rattle.jp_tree.proofs.Views.{call_argument_made, logical_argument_made}
 use Rattle.jp_tree.specs.declared.tree.Start.TheVariants as start
 use Rattle.jp_tree.specs.declared.tree.Query.{out-Query}
+use Rattle.jp_tree.specs.declared.tree.Segment.{the_lemmas}
 use Rattle.jp_check.specs.declared.ready.RootQuery.{RootQuery}
 use Rattle.std.specs.Str.{chars}
 use Rattle.jp_types.specs.Functions.{function_named, length_function, count_function, value_function}
-use Rattle.jp_types.specs.Functions.{xor_function, distinct_function}
+use Rattle.jp_types.specs.Functions.{xor_function, distinct_function, match_function, search_function}
+use Rattle.jp_types.specs.Functions.{logical_type, value_type}
 use Rattle.jp_types.specs.Kinds.{function_of}
 use Rattle.jp_check.specs.Ready.{segment_in, selector_in, logical_in, value_in, as_argument}
 use Rattle.jp_check.specs.Ready.{text_argument, form_of, truth_argument, call_of_one, call_of_two}
@@ -25,6 +28,16 @@ use Rattle.jp_check.proofs.MakingSteps.{root_found}
 use Rattle.jp_check.proofs.ReadyViews.{filter_read, any_read, all_read, not_read, compare_read, test_read}
 use Rattle.jp_check.proofs.ReadyViews.{single_read, length_read, count_read, only_read, here_read}
 use Rattle.jp_check.proofs.ReadyViews.{root_read, segment_read, xor_read, distinct_read}
+use Rattle.jp_tree.specs.PartViews.{logicals_of, selectors_of, segments_of}
+use Rattle.jp_types.specs.Numbers.{logicals_numbers, logical_numbers, selectors_numbers, selector_numbers}
+use Rattle.jp_types.specs.Numbers.{segments_numbers, segment_numbers}
+use Rattle.jp_types.specs.Typing.{logicals_typed, logical_typed, selectors_typed, selector_typed}
+use Rattle.jp_types.specs.Typing.{segments_typed, segment_typed}
+use Rattle.jp_check.specs.Making.{IsSound}
+use Rattle.jp_check.proofs.Sound.{sound_at, argument_sound, first_fits, second_fits, two_fit}
+use Rattle.jp_check.proofs.Sound.{value_of_one, nodes_of_one, fitting}
+use Rattle.jp_types.specs.Numbers.{call_numbers}
+use Rattle.jp_types.specs.Typing.{call_typed}
 use Rattle.jp_check.proofs.making.+making.Goals as goal
 
 pub make_segments-loop-segment-preserved : goal.make_segments-loop-segment-preserved
@@ -246,14 +259,22 @@ make_test_call-returns-in-Some-Xor-clause-made t c =
     c.as_slice-arguments.result.now c.as_str.ensures.value (named _ xor_function known)
     c.as_slice-arguments.ensures.value))) c.make_xor.ensures.made
 
-pub make_test_call-returns-in_default-clause-made
-    : goal.make_test_call-returns-in_default-clause-made
-make_test_call-returns-in_default-clause-made t c =
+pub make_test_call-returns-in-Some-Match-clause-made : goal.make_test_call-returns-in-Some-Match-clause-made
+make_test_call-returns-in-Some-Match-clause-made t c =
     let name = chars c.as_str.result.now in
     IfOk-weaker c.make_text_test.result _ _ (λ l r all h. r name c.function_named-function.ensures all h
     ∙ sym (ap tree.test_call (called c.args.call.now c.as_str.result.now name
     c.as_slice-arguments.result.now c.as_str.ensures.value refl c.as_slice-arguments.ensures.value)))
     c.make_text_test.ensures.made
+
+pub make_test_call-returns-in-Some-Search-clause-made : goal.make_test_call-returns-in-Some-Search-clause-made
+make_test_call-returns-in-Some-Search-clause-made t c =
+    let name = chars c.as_str.result.now in
+    IfOk-weaker c.make_text_test-in-Some-Search.result _ _
+    (λ l r all h. r name c.function_named-function.ensures all h
+    ∙ sym (ap tree.test_call (called c.args.call.now c.as_str.result.now name
+    c.as_slice-arguments.result.now c.as_str.ensures.value refl c.as_slice-arguments.ensures.value)))
+    c.make_text_test-in-Some-Search.ensures.made
 
 pub make_test_call-returns-in_ok-make_distinct-in-Some-Distinct-clause-made
     : goal.make_test_call-returns-in_ok-make_distinct-in-Some-Distinct-clause-made
@@ -292,24 +313,22 @@ make_xor-returns-clause-made t c = λ all h.
 
 pub make_text_test-returns-clause-made : goal.make_text_test-returns-clause-made
 make_text_test-returns-clause-made t c =
-    IfOk-weaker c.given_test.result _ _ (λ l r name known all h. r all name known
+    λ name known all h. c.given_test.ensures all name known
     ∙ ap₂ (λ s p. tree.test_call (call_of_two name s p))
     (c.in_ok-text.ensures.made all (begins_on _ _ _ c.in_ok-pattern-2.ensures.roots h))
     (c.in_ok-pattern-2.ensures.made all h)
     ∙ sym (ap tree.test_call (given_two name c.args.arguments.now c.text-item.result
-    c.pattern-item.result c.in-len2.len_at_least c.in-len2.len_below c.text-item.is c.pattern-item.is)))
-    c.given_test.ensures
+    c.pattern-item.result c.in-len2.len_at_least c.in-len2.len_below c.text-item.is c.pattern-item.is))
 
 pub make_text_test-returns-in-Some-clause-made : goal.make_text_test-returns-in-Some-clause-made
 make_text_test-returns-in-Some-clause-made t c =
     let literal : argument_of c.pattern-item.result ≡ text_argument (chars c.in-Some.pattern.now) =
     text_is (argument_of c.pattern-item.result) (chars c.in-Some.pattern.now) c.in-Some.ensures in
-    IfOk-weaker c.read_test.result _ _ (λ l r name known all h. r all name known
+    λ name known all h. c.read_test.ensures all name known
     ∙ ap₂ (λ s p. tree.test_call (call_of_two name s p)) (c.in_ok-text.ensures.made all h)
     (ap text_argument c.in_ok-pattern.ensures ∙ sym literal)
     ∙ sym (ap tree.test_call (given_two name c.args.arguments.now c.text-item.result
-    c.pattern-item.result c.in-len2.len_at_least c.in-len2.len_below c.text-item.is c.pattern-item.is)))
-    c.read_test.ensures
+    c.pattern-item.result c.in-len2.len_at_least c.in-len2.len_below c.text-item.is c.pattern-item.is))
 
 pub make_truth-returns-in_ok-new-in-Query-clause-made
     : goal.make_truth-returns-in_ok-new-in-Query-clause-made
@@ -345,13 +364,131 @@ pub make_text_test-returns-clause-roots : goal.make_text_test-returns-clause-roo
 make_text_test-returns-clause-roots c = grind (arith, common_steps)
 
 pub make_text_test-make_value-requires : goal.make_text_test-make_value-requires
-make_text_test-make_value-requires c = grind (arith, common_steps)
+make_text_test-make_value-requires t c = (
+  grind (arith, common_steps),
+  (
+    argument_sound c.args.arguments.now 0 c.text-item.result (omega (arith, c.in-len2.len_at_least))
+        c.text-item.is c.requires.sound,
+    first_fits value_type (value_type ∷ []) c.args.arguments.now c.text-item.result
+        (omega (arith, c.in-len2.len_at_least)) c.text-item.is c.requires.fit,
+  ),
+)
 
 pub make_xor-make_truth-requires : goal.make_xor-make_truth-requires
-make_xor-make_truth-requires c = grind (arith, common_steps)
+make_xor-make_truth-requires t c = (
+  grind (arith, common_steps),
+  (
+    argument_sound c.args.arguments.now 0 c.left-item.result (omega (arith, c.in-len2.len_at_least))
+        c.left-item.is c.requires.sound,
+    first_fits logical_type (logical_type ∷ []) c.args.arguments.now c.left-item.result
+        (omega (arith, c.in-len2.len_at_least)) c.left-item.is c.requires.fit,
+  ),
+)
 
 pub make_text_test-make_value-requires-2 : goal.make_text_test-make_value-requires-2
-make_text_test-make_value-requires-2 c = grind (arith, common_steps)
+make_text_test-make_value-requires-2 t c = (
+  grind (arith, common_steps),
+  (
+    argument_sound c.args.arguments.now 1 c.pattern-item.result (omega (arith, c.in-len2.len_at_least))
+        c.pattern-item.is c.requires.sound,
+    second_fits value_type value_type [] c.args.arguments.now c.pattern-item.result
+        (omega (arith, c.in-len2.len_at_least)) c.pattern-item.is c.requires.fit,
+  ),
+)
 
 pub make_xor-make_truth-requires-2 : goal.make_xor-make_truth-requires-2
-make_xor-make_truth-requires-2 c = grind (arith, common_steps)
+make_xor-make_truth-requires-2 t c = (
+  grind (arith, common_steps),
+  (
+    argument_sound c.args.arguments.now 1 c.right-item.result (omega (arith, c.in-len2.len_at_least))
+        c.right-item.is c.requires.sound,
+    second_fits logical_type logical_type [] c.args.arguments.now c.right-item.result
+        (omega (arith, c.in-len2.len_at_least)) c.right-item.is c.requires.fit,
+  ),
+)
+
+pub make_parts-make_logical-requires : goal.make_parts-make_logical-requires
+make_parts-make_logical-requires t c = (
+  search (rules, the_lemmas),
+  sound_at (λ xs. logicals_numbers (tree.logicals (logicals_of xs)))
+      (λ xs. logicals_typed (tree.logicals (logicals_of xs))) (λ x. logical_numbers (logical_of x))
+      (λ x. logical_typed (logical_of x)) (λ x xs. refl) (λ x xs. refl) c.args.parts.now
+      c.loop-part.part-index c.part-item.result c.loop-part-test.true c.part-item.is c.requires.sound,
+)
+
+pub make_selectors-make_selector-requires : goal.make_selectors-make_selector-requires
+make_selectors-make_selector-requires t c = (
+  search (rules, the_lemmas),
+  sound_at (λ xs. selectors_numbers (tree.selectors (selectors_of xs)))
+      (λ xs. selectors_typed (tree.selectors (selectors_of xs))) (λ x. selector_numbers (selector_of x))
+      (λ x. selector_typed (selector_of x)) (λ x xs. refl) (λ x xs. refl) c.args.selectors.now
+      c.loop-selector.selector-index c.selector-item.result c.loop-selector-test.true c.selector-item.is
+      c.requires.sound,
+)
+
+pub make_segments-make_selectors-requires : goal.make_segments-make_selectors-requires
+make_segments-make_selectors-requires t c =
+    let one = sound_at (λ xs. segments_numbers (tree.segments (segments_of xs)))
+    (λ xs. segments_typed (tree.segments (segments_of xs))) (λ x. segment_numbers (segment_of x))
+    (λ x. segment_typed (segment_of x)) (λ x xs. refl) (λ x xs. refl) c.args.segments.now
+    c.loop-segment.segment-index c.segment-item.result c.loop-segment-test.true c.segment-item.is
+    c.requires.sound in (
+      search (rules, the_lemmas),
+      subst (λ xs. IsSound (selectors_numbers (tree.selectors (selectors_of xs)))
+          (selectors_typed (tree.selectors (selectors_of xs)))) (sym c.as_slice.ensures.value)
+          (subst (λ x. IsSound (segment_numbers x) (segment_typed x)) (segment_level c.segment-item.result)
+          one),
+    )
+
+pub make_distinct-unreachable-requires : goal.make_distinct-unreachable-requires
+make_distinct-unreachable-requires t c =
+    let one : length c.as_slice.result.now ≡ 1 = ap length c.as_slice.ensures.value
+    ∙ nodes_of_one c.args.call.now c.requires.sound.1 c.requires.serves in
+    grind (arith, one)
+
+pub make_value_call-unreachable-requires : goal.make_value_call-unreachable-requires
+make_value_call-unreachable-requires t c =
+    let one : length c.as_slice.result.now ≡ 1 = ap length c.as_slice.ensures.value
+    ∙ value_of_one c.args.call.now c.requires.sound.1 c.requires.serves in
+    grind (arith, one)
+
+pub make_xor-unreachable-requires : goal.make_xor-unreachable-requires
+make_xor-unreachable-requires t c =
+    let two : length c.args.arguments.now ≡ 2 = two_fit logical_type logical_type c.args.arguments.now
+    c.requires.fit in
+    grind (arith, two)
+
+pub make_text_test-unreachable-requires : goal.make_text_test-unreachable-requires
+make_text_test-unreachable-requires t c =
+    let two : length c.args.arguments.now ≡ 2 = two_fit value_type value_type c.args.arguments.now
+    c.requires.fit in
+    grind (arith, two)
+
+pub make_test_call-make_text_test-requires : goal.make_test_call-make_text_test-requires
+make_test_call-make_text_test-requires t c =
+    let told = c.in-Some-Match.field-0-is in
+    let known : function_named (chars c.as_str.result.now) ≡ Some match_function =
+    sym c.function_named-function.ensures ∙ ap (option_map function_of) c.in-Some-Match.is
+    ∙ ap (λ f. Some (function_of f)) (rw c.in-Some-Match.is at told) in
+    let same = called c.args.call.now c.as_str.result.now (chars c.as_str.result.now)
+    c.as_slice-arguments.result.now c.as_str.ensures.value refl c.as_slice-arguments.ensures.value in
+    let fit = fitting (chars c.as_str.result.now) c.as_slice-arguments.result.now match_function known
+    (subst (λ x. IsSound (call_numbers x) (call_typed x)) same c.requires.sound) in (
+      search (rules, the_lemmas),
+      (fit.0, (fit.1, inl (c.function_named-function.ensures ∙ known))),
+    )
+
+pub make_test_call-make_text_test-requires-in-Some-Search
+    : goal.make_test_call-make_text_test-requires-in-Some-Search
+make_test_call-make_text_test-requires-in-Some-Search t c =
+    let told = c.in-Some-Search.field-0-is in
+    let known : function_named (chars c.as_str.result.now) ≡ Some search_function =
+    sym c.function_named-function.ensures ∙ ap (option_map function_of) c.in-Some-Search.is
+    ∙ ap (λ f. Some (function_of f)) (rw c.in-Some-Search.is at told) in
+    let same = called c.args.call.now c.as_str.result.now (chars c.as_str.result.now)
+    c.as_slice-arguments.result.now c.as_str.ensures.value refl c.as_slice-arguments.ensures.value in
+    let fit = fitting (chars c.as_str.result.now) c.as_slice-arguments.result.now search_function known
+    (subst (λ x. IsSound (call_numbers x) (call_typed x)) same c.requires.sound) in (
+      search (rules, the_lemmas),
+      (fit.0, (fit.1, inr (c.function_named-function.ensures ∙ known))),
+    )

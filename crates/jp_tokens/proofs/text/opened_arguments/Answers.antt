@@ -1,4 +1,5 @@
+use Rattle.std.proofs.Common.{rules}
 use Rattle.jp_tokens.proofs.text.opened_arguments.Goals as goal
 
 pub returns : goal.returns
-returns c = c.mark_at.ensures
+returns c = search rules

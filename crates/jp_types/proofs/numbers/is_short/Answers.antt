@@ -11,4 +11,4 @@ returns c =
     let count = count_from_yields_List c.filter.result c.count.result c.count.ensures.ran
     (YieldsList-from_filter _ is_digit (YieldsList-from_chars c.args.number.now c.utf8.number cc)
     c.filter.ensures.closure (λ x r q k. search (rules, tests))) in
-    rw (count, length-filter)
+    search (rules, count, length-filter)

@@ -1,0 +1,8 @@
+use jp_check::Plan;
+use jp_doc::{Document, Location};
+use jp_eval::{EvalFault, evaluate};
+use std::alloc::Global;
+
+fn selected(alloc: Global, plan: &Plan, document: &Document) -> Result<Vec<Location>, EvalFault> {
+    evaluate(alloc, plan, document)
+}

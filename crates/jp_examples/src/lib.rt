@@ -1,0 +1,20 @@
+//! The examples of the crates' READMEs, each in a module of its own, as the README has it.
+#![tactic(auto)]
+
+mod answer;
+mod board;
+mod check;
+mod doc;
+mod eval;
+mod examples;
+mod nodes;
+mod path;
+mod program;
+mod regexp;
+mod run;
+mod syntax;
+mod tokens;
+mod trail;
+mod tree;
+mod types;
+mod value;
