@@ -40,8 +40,8 @@ impl Write for Gathers {
     }
 }
 
-/// What is left by a program whose source fails at its second read: its status, what it wrote, and how much of
-/// that it passed on.
+/// What is left by a program whose source fails at its second read: its status, what it wrote, and how much
+/// of that it passed on.
 fn cut_short<R: Threads + AllocGlobal + Sync>(
     rt: &R,
     words: &[&str],
@@ -88,8 +88,8 @@ fn a_batch_is_as_large_as_the_words_say(rt: HostRuntime) {
     assert!(rt; batches_are_obeyed(&rt, rt.alloc()));
 }
 
-/// What a sink had taken before, and had not passed on, is passed on after a fault too; and nothing is after a
-/// refusal, which writes nothing.
+/// What a sink had taken before, and had not passed on, is passed on after a fault too; and nothing is after
+/// a refusal, which writes nothing.
 #[test]
 fn nothing_is_held_back_after_a_fault(rt: HostRuntime) {
     for (query, wanted) in &[("$.a", 4u8), ("$[", 2), ("$[?@==1.5]", 2)] {

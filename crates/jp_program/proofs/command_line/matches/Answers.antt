@@ -28,15 +28,17 @@ fails_so a b ws r e s h = subst (λ (x : App). FailsBy (fault_of x ws) r) e (h (
 pub returns-clause-said : goal.returns-clause-said
 unfolding said
 returns-clause-said c =
-    let numbers_is = c.in_ok-with_numbers.ensures ∙ ap with_numbers c.in_ok-named.ensures in
-    let app_is : app_of c.in_ok-command.command ≡ jp_app = c.in_ok-command.ensures ∙ ap with_query numbers_is in
-    rows_are (app_of c.in_ok-command.command) jp_app (map (λ s. s.now) c.args.words.now) c.try_get_matches_from.result app_is simple
-    c.try_get_matches_from.ensures.matches
+    let numbers_are = c.in_ok-with_numbers.ensures ∙ ap with_numbers c.in_ok-named.ensures in
+    let app_is : app_of c.in_ok-command.command ≡ jp_app =
+    c.in_ok-command.ensures ∙ ap with_query numbers_are in
+    rows_are (app_of c.in_ok-command.command) jp_app (map (λ s. s.now) c.args.words.now)
+    c.try_get_matches_from.result app_is simple c.try_get_matches_from.ensures.matches
 
 pub returns-clause-fault : goal.returns-clause-fault
 unfolding refusals
 returns-clause-fault c =
-    let numbers_is = c.in_ok-with_numbers.ensures ∙ ap with_numbers c.in_ok-named.ensures in
-    let app_is : app_of c.in_ok-command.command ≡ jp_app = c.in_ok-command.ensures ∙ ap with_query numbers_is in
-    fails_so (app_of c.in_ok-command.command) jp_app (map (λ s. s.now) c.args.words.now) c.try_get_matches_from.result app_is free
-    c.try_get_matches_from.ensures.kinds
+    let numbers_are = c.in_ok-with_numbers.ensures ∙ ap with_numbers c.in_ok-named.ensures in
+    let app_is : app_of c.in_ok-command.command ≡ jp_app =
+    c.in_ok-command.ensures ∙ ap with_query numbers_are in
+    fails_so (app_of c.in_ok-command.command) jp_app (map (λ s. s.now) c.args.words.now)
+    c.try_get_matches_from.result app_is free c.try_get_matches_from.ensures.kinds

@@ -7,4 +7,5 @@ pub returns : goal.returns
 returns c = IfOk-weaker c.arg-3.result _ _ (λ r h. h.shape c.query.ensures.local
     ∙ ap₂ with_rule (c.in_ok-command-2.ensures.shape c.flag-2.ensures.local
     ∙ ap₂ with_rule (c.in_ok-command.ensures.shape c.flag.ensures.local
-    ∙ ap (with_rule (app_of c.args.command)) c.flag.ensures.rule) c.flag-2.ensures.rule) c.query.ensures.rule) c.arg-3.ensures
+    ∙ ap (with_rule (app_of c.args.command)) c.flag.ensures.rule) c.flag-2.ensures.rule)
+    c.query.ensures.rule) c.arg-3.ensures

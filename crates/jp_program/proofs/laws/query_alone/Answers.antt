@@ -14,7 +14,12 @@ returns c = λ name rest. (
     settings = (
       (52 ∷ [], refl, (omega arith, (omega arith, tt)), refl),
       (54 ∷ 52 ∷ [], refl, (omega arith, (omega arith, (omega arith, tt))), refl),
-      (52 ∷ 48 ∷ 57 ∷ 54 ∷ [], refl, (omega arith, (omega arith, (omega arith, (omega arith, (omega arith, tt))))), refl),
+      (
+        52 ∷ 48 ∷ 57 ∷ 54 ∷ [],
+        refl,
+        (omega arith, (omega arith, (omega arith, (omega arith, (omega arith, tt))))),
+        refl,
+      ),
       ((omega arith, omega arith), (omega arith, omega arith), (omega arith, omega arith)),
     );
   },
