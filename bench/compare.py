@@ -13,6 +13,7 @@ import shutil
 import subprocess
 import sys
 import tempfile
+import textwrap
 import time
 
 import cases
@@ -41,10 +42,12 @@ class Run:
 
 
 class Program:
-    """A program that is measured. A slow one is run once, and its members may stand in another order."""
+    """A program that is measured. It prints the bytes of the program by hand, or is slow, is run once, and
+    prints the same lines, or the values of them, in an order of its own."""
 
-    def __init__(self, name, words, slow=False):
-        self.name, self.words, self.slow = name, words, slow
+    def __init__(self, name, words, prints="bytes"):
+        self.name, self.words, self.prints = name, words, prints
+        self.slow = prints != "bytes"
         self.best = None
 
     def keep(self, run):
@@ -61,24 +64,28 @@ def programs_for(query, expression, paths, others):
                 words = [paths[name], "--workers", workers, query]
                 found.append(Program("%s %s" % (name, workers), words))
     for name in others:
-        found.append(Program(name, [name, "-nr", cases.jq_program(expression)], slow=True))
+        found.append(Program(name, [name, "-nr", cases.jq_program(expression)], "lines"))
+    if "jq" in others:
+        found.append(Program("jq, values", ["jq", "-c", expression], "values"))
     return found
 
 
 def sorted_lines(path):
-    """The lines, each value with its members in order of their names."""
+    """What stands before the value of each line, and the value with its members in order of their names."""
     found = []
     with open(path, encoding="utf-8") as lines:
         for line in lines:
-            number, place, value = line.rstrip("\n").split("\t", 2)
-            found.append((number, place, json.dumps(json.loads(value), sort_keys=True)))
+            *front, value = line.rstrip("\n").split("\t")
+            found.append((front, json.dumps(json.loads(value), sort_keys=True)))
     return sorted(found)
 
 
 def same(program, got, wanted):
-    if filecmp.cmp(got, wanted, shallow=False):
-        return True
-    return program.slow and sorted_lines(got) == sorted_lines(wanted)
+    if program.prints == "bytes":
+        return filecmp.cmp(got, wanted, shallow=False)
+    if program.prints == "lines":
+        return sorted_lines(got) == sorted_lines(wanted)
+    return [value for _, value in sorted_lines(got)] == sorted(value for _, value in sorted_lines(wanted))
 
 
 def compare(case, source, programs, room):
@@ -112,7 +119,8 @@ def measure(case, arguments, paths, others, room):
 
 
 def speed(size, run):
-    return "%.3g" % (size / run.wall) if size / run.wall < 10 else "%.0f" % (size / run.wall)
+    """Megabytes of input a second."""
+    return "%.*f" % (size / run.wall < 10, size / run.wall)
 
 
 def memory(runs, name):
@@ -152,17 +160,18 @@ def summary(measured, names):
         if name + " 1" in names:
             said.append("the time of jp by that of %s: %s with one worker, %s with four" % (
                 words, ratios(measured, "jp 1", name + " 1"), ratios(measured, "jp 4", name + " 4")))
-    for name in ("jq", "gojq"):
+    for name in ("jq", "gojq", "jq, values"):
         if name in names:
             said.append("the time of %s by that of jp: %s with one worker, %s with four" % (
-                name, ratios(measured, name, "jp 1"), ratios(measured, name, "jp 4")))
+                name.replace("values", "the values alone,"), ratios(measured, name, "jp 1"),
+                ratios(measured, name, "jp 4")))
     ups = [name for name in ("jp", "by_hand", "over_simdjson") if name + " 1" in names]
     said.append("four workers by one: " + ", ".join(
         "%s %s" % (name.replace("_", " "), ratios(measured, name + " 1", name + " 4")) for name in ups))
     busy = max(run.wall / max(run.processor, 1e-3) for runs, _ in measured.values()
                for name, run in runs.items() if name.endswith("1"))
     said.append("the best run of one thread took at most %.2f times its processor time" % busy)
-    return "\n".join("- %s" % line for line in said)
+    return "\n".join(textwrap.fill("- " + line, 110, subsequent_indent="  ") for line in said)
 
 
 def first_line(words):
@@ -177,7 +186,8 @@ def machine(arguments, load, others):
             "%g MB of each input, best of %d rounds" % (arguments.mb, arguments.rounds),
             first_line(["rustc", "--version"])]
     said += ["%s %s" % (name, first_line([name, "--version"])) for name in others]
-    return "%s: %s." % (time.strftime("%d %B %Y, %H:%M UTC", time.gmtime()), "; ".join(said))
+    now = time.strftime("%d %B %Y, %H:%M UTC", time.gmtime())
+    return textwrap.fill("%s: %s." % (now, "; ".join(said)), 110)
 
 
 def words():
@@ -185,7 +195,7 @@ def words():
     parser.add_argument("--mb", type=float, default=16, help="megabytes of each input (16)")
     parser.add_argument("--rounds", type=int, default=5, help="timed rounds (5)")
     parser.add_argument("--only", choices=[case[0] for case in cases.CASES], help="one case alone")
-    parser.add_argument("--jq", action="store_true", help="also jq and gojq, run once each")
+    parser.add_argument("--jq", action="store_true", help="also jq and gojq, run once")
     arguments = parser.parse_args()
     if not 0 < arguments.mb <= 100000 or arguments.rounds < 1:
         parser.error("--mb and --rounds want numbers above zero")
