@@ -196,10 +196,7 @@ def words():
     parser.add_argument("--rounds", type=int, default=5, help="timed rounds (5)")
     parser.add_argument("--only", choices=[case[0] for case in cases.CASES], help="one case alone")
     parser.add_argument("--jq", action="store_true", help="also jq and gojq, run once")
-    arguments = parser.parse_args()
-    if not 0 < arguments.mb <= 100000 or arguments.rounds < 1:
-        parser.error("--mb and --rounds want numbers above zero")
-    return arguments
+    return tools.checked(parser)
 
 
 def found_others(arguments):

@@ -20,6 +20,21 @@ class Words(argparse.ArgumentParser):
         refuse("%s; --help says more" % message, 64)
 
 
+def checked(parser):
+    """The words of the call, where --mb and --rounds are numbers above zero."""
+    arguments = parser.parse_args()
+    if not 0 < arguments.mb <= 100000 or arguments.rounds < 1:
+        parser.error("--mb and --rounds want numbers above zero")
+    return arguments
+
+
+def make_room():
+    try:
+        os.makedirs(ROOM, exist_ok=True)
+    except OSError:
+        refuse("%s cannot be made" % ROOM)
+
+
 def jp():
     """The command that is measured: JP, or what the toolchain has built here."""
     path = os.path.abspath(os.environ.get("JP") or os.path.join(HERE, "..", "crates", "jp", "out", "jp"))
