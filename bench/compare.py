@@ -9,6 +9,7 @@ import json
 import math
 import os
 import platform
+import re
 import shutil
 import subprocess
 import sys
@@ -178,14 +179,25 @@ def first_line(words):
     return subprocess.run(words, capture_output=True, text=True).stdout.split("\n")[0]
 
 
-def machine(arguments, load, others):
+def versions(paths, others):
+    """What the programs that jp is compared with were made from."""
+    with open(os.path.join(tools.HERE, "by_hand", "Cargo.lock")) as lock:
+        crates = dict(re.findall(r'name = "(\w+)"\nversion = "(.*)"', lock.read()))
+    said = [first_line(["rustc", "--version"])]
+    said += ["%s %s" % (name, crates[name]) for name in ("serde_json", "regex")]
+    if "over_simdjson" in paths:
+        with open("/usr/include/simdjson.h", encoding="utf-8") as header:
+            found = re.search(r"#define SIMDJSON_VERSION ([0-9.]+)", header.read())
+        said.append("simdjson %s" % (found[1] if found else "of an unknown version"))
+    return said + [first_line([name, "--version"]) for name in others]
+
+
+def machine(arguments, load, made_from):
     with open("/proc/cpuinfo") as told:
         models = [line.split(":", 1)[1].strip() for line in told if line.startswith("model name")]
     said = ["%d processors, %s" % (os.cpu_count(), models[0] if models else platform.machine()),
             "load %.1f before and %.1f after" % (load, os.getloadavg()[0]),
-            "%g MB of each input, best of %d rounds" % (arguments.mb, arguments.rounds),
-            first_line(["rustc", "--version"])]
-    said += ["%s %s" % (name, first_line([name, "--version"])) for name in others]
+            "%g MB of each input, best of %d rounds" % (arguments.mb, arguments.rounds), *made_from]
     now = time.strftime("%d %B %Y, %H:%M UTC", time.gmtime())
     return textwrap.fill("%s: %s." % (now, "; ".join(said)), 110)
 
@@ -224,7 +236,8 @@ def main():
                 said = ", ".join("%s %s" % (name, speed(size, run)) for name, run in runs.items())
                 print("%s: %s MB/s" % (case[0], said), file=sys.stderr, flush=True)
     names = list(next(iter(measured.values()))[0])
-    print("\n\n".join([machine(arguments, load, others), table(measured, names), summary(measured, names)]))
+    about = machine(arguments, load, versions(paths, others))
+    print("\n\n".join([about, table(measured, names), summary(measured, names)]))
 
 
 if __name__ == "__main__":
