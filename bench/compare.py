@@ -52,9 +52,10 @@ class Program:
         self.best = None
 
     def keep(self, run):
-        if self.best is None or run.wall < self.best.wall:
-            run.memory = max(run.memory, self.best.memory if self.best else 0)
-            self.best = run
+        """Keeps the least time and the most memory."""
+        best = self.best or run
+        run.memory = best.memory = max(run.memory, best.memory)
+        self.best = min(run, best, key=lambda each: each.wall)
 
 
 def programs_for(query, expression, paths, others):

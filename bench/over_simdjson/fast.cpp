@@ -60,10 +60,8 @@ static const Case CASES[] = {
      }},
     {"$.items[?@.price>5000].name",
      [](Walk &w, size_t i) {
-         w.at_member(i, "items", [&](size_t i) {
-             w.at_kept(
-                 i, [&](size_t j) { return w.above(w.member(j, "price"), 5000); }, printing(w, "name"));
-         });
+         auto test = [&](size_t j) { return w.above(w.member(j, "price"), 5000); };
+         w.at_member(i, "items", [&](size_t i) { w.at_kept(i, test, printing(w, "name")); });
      }},
     {"$.items[?match(@.sku,'[A-M][A-Z]-[0-9]{3}[02468]')].qty",
      [](Walk &w, size_t i) {
@@ -72,10 +70,8 @@ static const Case CASES[] = {
      }},
     {"$.items[?@.recalled].id",
      [](Walk &w, size_t i) {
-         w.at_member(i, "items", [&](size_t i) {
-             w.at_kept(
-                 i, [&](size_t j) { return w.member(j, "recalled") != 0; }, printing(w, "id"));
-         });
+         auto test = [&](size_t j) { return w.member(j, "recalled") != 0; };
+         w.at_member(i, "items", [&](size_t i) { w.at_kept(i, test, printing(w, "id")); });
      }},
     {"$.paragraphs[?search(@,'(error|timeout|refused) [0-9]{3}')]",
      [](Walk &w, size_t i) {
@@ -85,8 +81,8 @@ static const Case CASES[] = {
     {"$[*]", [](Walk &w, size_t i) { w.at_children(i, [&](size_t j) { w.node(j); }); }},
     {"$[?@.v>990000].k",
      [](Walk &w, size_t i) {
-         w.at_kept(
-             i, [&](size_t j) { return w.above(w.member(j, "v"), 990000); }, printing(w, "k"));
+         auto test = [&](size_t j) { return w.above(w.member(j, "v"), 990000); };
+         w.at_kept(i, test, printing(w, "k"));
      }},
 };
 

@@ -41,17 +41,22 @@ class Walk {
         return c ? c < 0 : a.rank < b.rank;
     }
 
-    // All numbers are whole, no array is too long, and nothing is too deep. One wide pass looks for the mark
-    // of a double in each word (and in up to three behind); only where there may be one the tape is read word
-    // by word.
+    // Whether the mark of a double may stand in one of the tape's words, or in up to three behind them.
+    bool may_have_double(size_t n) const {
+        const __m256i mark = _mm256_set1_epi8('d');
+        __m256i found = _mm256_setzero_si256();
+        for (size_t i = 0; i < n; i += 4) {
+            __m256i words = _mm256_loadu_si256((const __m256i *)(tape + i));
+            found = _mm256_or_si256(found, _mm256_cmpeq_epi8(words, mark));
+        }
+        return _mm256_movemask_epi8(found) & 0x80808080;
+    }
+
+    // All numbers are whole, no array is too long, and nothing is too deep. The tape is read word by word
+    // only where that may not be so.
     bool whole(bool suspect) const {
         size_t n = payload(0), depth = 0;
-        __m256i doubles = _mm256_setzero_si256();
-        for (size_t i = 0; i < n; i += 4)
-            doubles =
-                _mm256_or_si256(doubles, _mm256_cmpeq_epi8(_mm256_loadu_si256((const __m256i *)(tape + i)),
-                                                           _mm256_set1_epi8('d')));
-        if (!suspect && !(_mm256_movemask_epi8(doubles) & 0x80808080)) return true;
+        if (!suspect && !may_have_double(n)) return true;
         for (size_t i = 1; i + 1 < n; i += type(i) == 'l' || type(i) == 'u' ? 2 : 1) {
             char t = type(i);
             if (t == 'd' || ((t == '[' || t == '{') && ++depth > DEEPEST)) return false;
@@ -219,8 +224,8 @@ class Walk {
         }
     }
     template <class Go> void at_children(size_t i, Go go) {
-        at_kept(
-            i, [](size_t) { return true; }, go);
+        auto any = [](size_t) { return true; };
+        at_kept(i, any, go);
     }
     bool has_inner(size_t i) const {
         char t = type(i), end = t == '{' ? '}' : ']';
@@ -231,11 +236,9 @@ class Walk {
     }
     // Each node and then each of its descendants that has children.
     template <class Go> void descend(size_t i, Go go) {
+        auto holds = [&](size_t j) { return type(j) == '{' || type(j) == '['; };
         go(i);
-        if (has_inner(i))
-            at_kept(
-                i, [&](size_t j) { return type(j) == '{' || type(j) == '['; },
-                [&](size_t j) { descend(j, go); });
+        if (has_inner(i)) at_kept(i, holds, [&](size_t j) { descend(j, go); });
     }
 
     void value(Bytes &to, size_t i) {

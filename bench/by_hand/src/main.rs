@@ -113,17 +113,15 @@ fn read_blocks(input: &File, mut give: impl FnMut(Block) -> bool) -> io::Result<
         let mut bytes = std::mem::take(&mut rest);
         more = more && read_lines(input, &mut bytes, &mut rest)?;
         let count = bytes.iter().filter(|byte| **byte == b'\n').count() as u64;
-        if bytes.is_empty()
-            || !give(Block {
-                place,
-                before,
-                bytes,
-            })
-            || !more
-        {
+        let block = Block {
+            place,
+            before,
+            bytes,
+        };
+        before += count;
+        if block.bytes.is_empty() || !give(block) || !more {
             break;
         }
-        before += count;
     }
     Ok(())
 }
