@@ -158,7 +158,7 @@ def ratios(measured, above, below):
 def summary(measured, names):
     """What the table says, in the geometric mean over its cases."""
     said = []
-    for name, words in (("by_hand", "the program by hand"), ("over_simdjson", "that over simdjson")):
+    for name, words in (("by_hand", "the program by hand"), ("over_simdjson", "the one over simdjson")):
         if name + " 1" in names:
             said.append("the time of jp by that of %s: %s with one worker, %s with four" % (
                 words, ratios(measured, "jp 1", name + " 1"), ratios(measured, "jp 4", name + " 4")))
