@@ -1,0 +1,151 @@
+//! The queries of the table, each by hand. Their texts are those of `bench/cases.py`.
+
+use crate::lines::Lines;
+use regex::Regex;
+use serde_json::Value;
+
+/// Prints the nodes that a query selects of a document.
+pub type Query = Box<dyn Fn(&Value, &mut Lines) + Send + Sync>;
+
+/// The query of this text, where it is written by hand.
+pub fn query(text: &str) -> Option<Query> {
+    Some(match text {
+        "$" => Box::new(|value, lines| lines.node(value)),
+        "$.id" => Box::new(|value, lines| print_member(value, "id", lines)),
+        "$.user.id" => Box::new(|value, lines| {
+            at_member(value, "user", lines, |user, lines| {
+                print_member(user, "id", lines)
+            })
+        }),
+        "$.trace.spans[1].attrs.host" => Box::new(host_of_second_span),
+        "$[*]" => Box::new(|value, lines| {
+            at_children(value, lines, |_| true, |child, lines| lines.node(child))
+        }),
+        "$..*" => Box::new(|value, lines| {
+            descend(value, lines, &mut |value, lines| {
+                at_children(value, lines, |_| true, |child, lines| lines.node(child))
+            })
+        }),
+        "$..id" => Box::new(|value, lines| {
+            descend(value, lines, &mut |value, lines| {
+                print_member(value, "id", lines)
+            })
+        }),
+        "$[?@.v>990000].k" => Box::new(|value, lines| {
+            at_children(
+                value,
+                lines,
+                |child| above(member(child, "v"), 990000),
+                |child, lines| print_member(child, "k", lines),
+            )
+        }),
+        "$.items[*].price" => of_items("price", |_| true),
+        "$.items[?@.price>5000].name" => {
+            of_items("name", |item| above(member(item, "price"), 5000))
+        }
+        "$.items[?@.recalled].id" => of_items("id", |item| member(item, "recalled").is_some()),
+        "$.items[?match(@.sku,'[A-M][A-Z]-[0-9]{3}[02468]')].qty" => {
+            let pattern = Regex::new(r"\A(?:[A-M][A-Z]-[0-9]{3}[02468])\z").expect("a pattern");
+            of_items("qty", move |item| fits(member(item, "sku"), &pattern))
+        }
+        "$.paragraphs[?search(@,'(error|timeout|refused) [0-9]{3}')]" => {
+            let pattern = Regex::new(r"(?:error|timeout|refused) [0-9]{3}").expect("a pattern");
+            Box::new(move |value, lines| {
+                at_member(value, "paragraphs", lines, |value, lines| {
+                    let test = |child: &Value| fits(Some(child), &pattern);
+                    at_children(value, lines, test, |child, lines| lines.node(child))
+                })
+            })
+        }
+        _ => return None,
+    })
+}
+
+/// `$.items[?TEST].NAME`
+fn of_items(name: &'static str, test: impl Fn(&Value) -> bool + Send + Sync + 'static) -> Query {
+    Box::new(move |value, lines| {
+        at_member(value, "items", lines, |items, lines| {
+            at_children(items, lines, &test, |item, lines| {
+                print_member(item, name, lines)
+            })
+        })
+    })
+}
+
+fn host_of_second_span(value: &Value, lines: &mut Lines) {
+    at_member(value, "trace", lines, |trace, lines| {
+        at_member(trace, "spans", lines, |spans, lines| {
+            if let Some(span) = spans.as_array().and_then(|spans| spans.get(1)) {
+                lines.at_index(1, |lines| {
+                    at_member(span, "attrs", lines, |attrs, lines| {
+                        print_member(attrs, "host", lines)
+                    })
+                })
+            }
+        })
+    })
+}
+
+fn member<'a>(value: &'a Value, name: &str) -> Option<&'a Value> {
+    match value {
+        Value::Object(members) => members.get(name),
+        _ => None,
+    }
+}
+
+fn at_member(value: &Value, name: &str, lines: &mut Lines, go: impl FnOnce(&Value, &mut Lines)) {
+    if let Some(inner) = member(value, name) {
+        lines.at_name(name, |lines| go(inner, lines));
+    }
+}
+
+fn print_member(value: &Value, name: &str, lines: &mut Lines) {
+    at_member(value, name, lines, |inner, lines| lines.node(inner));
+}
+
+/// Goes on at each child for which the test holds; the path of the others is never made.
+fn at_children(
+    value: &Value,
+    lines: &mut Lines,
+    test: impl Fn(&Value) -> bool,
+    mut go: impl FnMut(&Value, &mut Lines),
+) {
+    match value {
+        Value::Array(items) => {
+            for (index, inner) in items.iter().enumerate().filter(|(_, inner)| test(inner)) {
+                lines.at_index(index, |lines| go(inner, lines));
+            }
+        }
+        Value::Object(members) => {
+            for (name, inner) in members.iter().filter(|(_, inner)| test(inner)) {
+                lines.at_name(name, |lines| go(inner, lines));
+            }
+        }
+        _ => {}
+    }
+}
+
+/// The value, and then each array and object inside it, each before what it holds.
+fn descend(value: &Value, lines: &mut Lines, go: &mut dyn FnMut(&Value, &mut Lines)) {
+    go(value, lines);
+    let holds = |inner: &Value| inner.is_array() || inner.is_object();
+    at_children(value, lines, holds, |inner, lines| {
+        descend(inner, lines, go)
+    });
+}
+
+fn above(value: Option<&Value>, bound: i64) -> bool {
+    match value {
+        Some(Value::Number(number)) => match number.as_i64() {
+            Some(number) => number > bound,
+            None => number.is_u64(),
+        },
+        _ => false,
+    }
+}
+
+fn fits(value: Option<&Value>, pattern: &Regex) -> bool {
+    value
+        .and_then(Value::as_str)
+        .map_or(false, |text| pattern.is_match(text))
+}

@@ -1,0 +1,248 @@
+"""Measures jp and what it is compared with, side by side on the same inputs, and prints a table in Markdown.
+
+The first run of each program goes to a file, and its bytes are compared with those of the program by hand
+before anything is timed. The timed runs go to /dev/null; the programs take turns within a round, and the best
+round counts.
+"""
+import filecmp
+import json
+import math
+import os
+import platform
+import re
+import shutil
+import subprocess
+import sys
+import tempfile
+import textwrap
+import time
+
+import cases
+import corpus
+import tools
+
+TIME = "/usr/bin/time"
+# How long a run may take, in seconds.
+PATIENCE = "600"
+
+
+class Run:
+    """One run, under a small process that tells the peak of memory (a fork of this one would count)."""
+
+    def __init__(self, words, source, sink, notes):
+        watched = [TIME, "-o", notes, "-f", "%M", "timeout", PATIENCE, *words]
+        with open(source, "rb") as stdin, open(sink, "wb") as stdout:
+            start = time.perf_counter()
+            child = subprocess.Popen(watched, stdin=stdin, stdout=stdout, stderr=subprocess.DEVNULL)
+            _, status, used = os.wait4(child.pid, 0)
+            self.wall = time.perf_counter() - start
+        child.returncode = self.status = os.waitstatus_to_exitcode(status)
+        self.processor = used.ru_utime + used.ru_stime
+        with open(notes) as told:
+            self.memory = int((told.read().split() or ["0"])[-1]) / 1024
+
+
+class Program:
+    """A program that is measured. It prints the bytes of the program by hand, or is slow, is run once, and
+    prints the same lines, or the values of them, in an order of its own."""
+
+    def __init__(self, name, words, prints="bytes"):
+        self.name, self.words, self.prints = name, words, prints
+        self.slow = prints != "bytes"
+        self.best = None
+
+    def keep(self, run):
+        """Keeps the least time and the most memory."""
+        best = self.best or run
+        run.memory = best.memory = max(run.memory, best.memory)
+        self.best = min(run, best, key=lambda each: each.wall)
+
+
+def programs_for(query, expression, paths, others):
+    found = []
+    for name in ("jp", "by_hand", "over_simdjson"):
+        for workers in ("1", "4"):
+            if name in paths:
+                words = [paths[name], "--workers", workers, query]
+                found.append(Program("%s %s" % (name, workers), words))
+    for name in others:
+        found.append(Program(name, [name, "-nr", cases.jq_program(expression)], "lines"))
+    if "jq" in others:
+        found.append(Program("jq, values", ["jq", "-c", expression], "values"))
+    return found
+
+
+def sorted_lines(path):
+    """What stands before the value of each line, and the value with its members in order of their names."""
+    found = []
+    with open(path, encoding="utf-8") as lines:
+        for line in lines:
+            *front, value = line.rstrip("\n").split("\t")
+            found.append((front, json.dumps(json.loads(value), sort_keys=True)))
+    return sorted(found)
+
+
+def same(program, got, wanted):
+    if program.prints == "bytes":
+        return filecmp.cmp(got, wanted, shallow=False)
+    if program.prints == "lines":
+        return sorted_lines(got) == sorted_lines(wanted)
+    return [value for _, value in sorted_lines(got)] == sorted(value for _, value in sorted_lines(wanted))
+
+
+def compare(case, source, programs, room):
+    """Runs each program once, and fails where it does not print what the program by hand does."""
+    wanted, notes = os.path.join(room, "wanted"), os.path.join(room, "notes")
+    by_hand = next(program for program in programs if program.name == "by_hand 1")
+    if Run(by_hand.words, source, wanted, notes).status != 0:
+        tools.refuse("by_hand fails on the case %s" % case)
+    for program in programs:
+        got = os.path.join(room, "got")
+        first = Run(program.words, source, got, notes)
+        if first.status != 0:
+            tools.refuse("%s ends with status %d on the case %s" % (program.name, first.status, case))
+        if not same(program, got, wanted):
+            tools.refuse("%s does not print what by_hand does on the case %s" % (program.name, case))
+        if program.slow:
+            program.keep(first)
+
+
+def measure(case, arguments, paths, others, room):
+    """The programs, measured on one case, and the size of its input in megabytes."""
+    name, kind, query, expression = case
+    source = corpus.made_in(tools.ROOM, kind, arguments.mb)
+    programs = programs_for(query, expression, paths, others)
+    compare(name, source, programs, room)
+    for _ in range(arguments.rounds):
+        for program in programs:
+            if not program.slow:
+                program.keep(Run(program.words, source, os.devnull, os.path.join(room, "notes")))
+    return {program.name: program.best for program in programs}, os.path.getsize(source) / 1e6
+
+
+def speed(size, run):
+    """Megabytes of input a second."""
+    return "%.*f" % (size / run.wall < 10, size / run.wall)
+
+
+def memory(runs, name):
+    return "%.0f, %.0f" % (runs[name + " 1"].memory, runs[name + " 4"].memory)
+
+
+def times(runs, name):
+    return runs[name + " 1"].wall / runs[name + " 4"].wall
+
+
+def table(measured, names):
+    """The table in Markdown: megabytes of input a second, four workers by one, the peak of memory in MB."""
+    head = ["case", *[name.replace("_", " ") for name in names], "jp, 4 by 1", "by hand, 4 by 1",
+            "MB of jp 1, 4", "MB of by hand 1, 4"]
+    rows = [head, ["---"] + ["---:"] * (len(head) - 1)]
+    for case, (runs, size) in measured.items():
+        rows.append(["`%s`" % case, *[speed(size, runs[name]) for name in names],
+                     "%.1f" % times(runs, "jp"), "%.1f" % times(runs, "by_hand"),
+                     memory(runs, "jp"), memory(runs, "by_hand")])
+    return "\n".join("| %s |" % " | ".join(row) for row in rows)
+
+
+def spread(numbers):
+    """The geometric mean, and in brackets the least and the most."""
+    mean = math.exp(sum(math.log(number) for number in numbers) / len(numbers))
+    return "%.2f (%.2f to %.2f)" % (mean, min(numbers), max(numbers))
+
+
+def ratios(measured, above, below):
+    return spread([runs[above].wall / runs[below].wall for runs, _ in measured.values()])
+
+
+def summary(measured, names):
+    """What the table says, in the geometric mean over its cases."""
+    said = []
+    for name, words in (("by_hand", "the program by hand"), ("over_simdjson", "the one over simdjson")):
+        if name + " 1" in names:
+            said.append("the time of jp by that of %s: %s with one worker, %s with four" % (
+                words, ratios(measured, "jp 1", name + " 1"), ratios(measured, "jp 4", name + " 4")))
+    for name in ("jq", "gojq", "jq, values"):
+        if name in names:
+            said.append("the time of %s by that of jp: %s with one worker, %s with four" % (
+                name.replace("values", "the values alone,"), ratios(measured, name, "jp 1"),
+                ratios(measured, name, "jp 4")))
+    ups = [name for name in ("jp", "by_hand", "over_simdjson") if name + " 1" in names]
+    said.append("four workers by one: " + ", ".join(
+        "%s %s" % (name.replace("_", " "), ratios(measured, name + " 1", name + " 4")) for name in ups))
+    busy = max(run.wall / max(run.processor, 1e-3) for runs, _ in measured.values()
+               for name, run in runs.items() if name.endswith("1"))
+    said.append("the best run of one thread took at most %.2f times its processor time" % busy)
+    return "\n".join(textwrap.fill("- " + line, 110, subsequent_indent="  ") for line in said)
+
+
+def first_line(words):
+    return subprocess.run(words, capture_output=True, text=True).stdout.split("\n")[0]
+
+
+def versions(paths, others):
+    """What the programs that jp is compared with were made from."""
+    with open(os.path.join(tools.HERE, "by_hand", "Cargo.lock")) as lock:
+        crates = dict(re.findall(r'name = "(\w+)"\nversion = "(.*)"', lock.read()))
+    said = [first_line(["rustc", "--version"])]
+    said += ["%s %s" % (name, crates[name]) for name in ("serde_json", "regex")]
+    if "over_simdjson" in paths:
+        with open("/usr/include/simdjson.h", encoding="utf-8") as header:
+            found = re.search(r"#define SIMDJSON_VERSION ([0-9.]+)", header.read())
+        said.append("simdjson %s" % (found[1] if found else "of an unknown version"))
+    return said + [first_line([name, "--version"]) for name in others]
+
+
+def machine(arguments, load, made_from):
+    with open("/proc/cpuinfo") as told:
+        models = [line.split(":", 1)[1].strip() for line in told if line.startswith("model name")]
+    said = ["%d processors, %s" % (os.cpu_count(), models[0] if models else platform.machine()),
+            "load %.1f before and %.1f after" % (load, os.getloadavg()[0]),
+            "%g MB of each input, best of %d rounds" % (arguments.mb, arguments.rounds), *made_from]
+    now = time.strftime("%d %B %Y, %H:%M UTC", time.gmtime())
+    return textwrap.fill("%s: %s." % (now, "; ".join(said)), 110)
+
+
+def words():
+    parser = tools.Words(prog="bench/run", description=__doc__.split("\n\n")[0])
+    parser.add_argument("--mb", type=float, default=16, help="megabytes of each input (16)")
+    parser.add_argument("--rounds", type=int, default=5, help="timed rounds (5)")
+    parser.add_argument("--only", choices=[case[0] for case in cases.CASES], help="one case alone")
+    parser.add_argument("--jq", action="store_true", help="also jq and gojq, run once")
+    return tools.checked(parser)
+
+
+def found_others(arguments):
+    found = []
+    for name in ("jq", "gojq") if arguments.jq else ():
+        if shutil.which(name):
+            found.append(name)
+        else:
+            print("bench/run: %s is left out: Debian's package %s" % (name, name), file=sys.stderr)
+    return found
+
+
+def main():
+    arguments = words()
+    paths = {"jp": tools.jp()}
+    if not os.access(TIME, os.X_OK):
+        tools.refuse("no %s: Debian's package time" % TIME)
+    paths.update(tools.build())
+    others = found_others(arguments)
+    load, measured = os.getloadavg()[0], {}
+    with tempfile.TemporaryDirectory(dir=tools.ROOM) as room:
+        for case in cases.CASES:
+            if arguments.only in (None, case[0]):
+                measured[case[0]] = runs, size = measure(case, arguments, paths, others, room)
+                said = ", ".join("%s %s" % (name, speed(size, run)) for name, run in runs.items())
+                print("%s: %s MB/s" % (case[0], said), file=sys.stderr, flush=True)
+    names = list(next(iter(measured.values()))[0])
+    about = machine(arguments, load, versions(paths, others))
+    print("\n\n".join([about, table(measured, names), summary(measured, names)]))
+
+
+if __name__ == "__main__":
+    try:
+        main()
+    except OSError as fault:
+        tools.refuse(str(fault))
