@@ -9,6 +9,8 @@ mod copies;
 #[cfg(test)]
 mod documents;
 #[cfg(test)]
+mod large;
+#[cfg(test)]
 mod limits;
 #[cfg(test)]
 mod lines;
