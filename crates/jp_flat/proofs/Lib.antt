@@ -8,3 +8,4 @@ pub mod Entries
 pub mod InsideObject
 pub mod Rising
 pub mod Sorted
+pub mod OnLiterals

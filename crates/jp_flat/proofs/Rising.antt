@@ -61,11 +61,11 @@ rise_at Less k l v w ms e h later = ((e, above_below k l ms e h.0), h)
 rise_at Equal k l v w ms e h later = h
 rise_at Greater k l v w ms e h later = (above_put l k v ms (turned k l e) h.0, later)
 
-rise_put : (k : Text) (v : Json) (ms : Members) → NamesRise ms → NamesRise (put_member k v ms)
+pub rise_put : (k : Text) (v : Json) (ms : Members) → NamesRise ms → NamesRise (put_member k v ms)
 rise_put k v no_members h = (tt, tt)
 rise_put k v (add_member l w ms) h = rise_at (text_cmp k l) k l v w ms refl h (rise_put k v ms h.1)
 
-all_rise : (es : List (Text × Json)) (ms : Members) → NamesRise ms → NamesRise (put_all es ms)
+pub all_rise : (es : List (Text × Json)) (ms : Members) → NamesRise ms → NamesRise (put_all es ms)
 all_rise [] ms h = h
 all_rise (e ∷ es) ms h = all_rise es (put_member e.0 e.1 ms) (rise_put e.0 e.1 ms h)
 

@@ -3,7 +3,9 @@
 
 mod digits;
 mod document;
+mod examples;
 mod gather;
+pub mod laws;
 mod nodes;
 mod reader;
 mod value;
