@@ -77,7 +77,8 @@ fn names_that_rise()
     ensures none { NamesRise no_members }
     ensures in_order { NamesRise (add_member (codes "a") null (add_member (codes "ab") null
         (add_member (codes "b") null no_members))) }
-    ensures out_of_order { ¬ NamesRise (add_member (codes "b") null (add_member (codes "a") null no_members)) }
+    ensures out_of_order { ¬ NamesRise
+        (add_member (codes "b") null (add_member (codes "a") null no_members)) }
     ensures twice { ¬ NamesRise (add_member (codes "a") null (add_member (codes "a") null no_members)) }
     ensures not_above { ¬ AreAbove (codes "b") (add_member (codes "c") null
         (add_member (codes "a") null no_members)) }

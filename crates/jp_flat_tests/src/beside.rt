@@ -13,6 +13,7 @@ fn look_alike(left: FlatValue<'_>, right: FlatValue<'_>) -> bool {
 }
 
 /// Whether the items are those of the tree, one by one and by their places.
+#[cycle(beside)]
 fn same_items(
     alloc: Global,
     flat: FlatValue<'_>,
@@ -37,6 +38,7 @@ fn same_items(
 }
 
 /// Whether the members are those of the tree, in rising order and by their names.
+#[cycle(beside)]
 fn same_members(
     alloc: Global,
     flat: FlatValue<'_>,
@@ -62,6 +64,7 @@ fn same_members(
 }
 
 /// Whether a flat value is the tree's, down to so many levels.
+#[cycle(beside)]
 fn same(alloc: Global, flat: FlatValue<'_>, tree: &Value, levels: u32) -> Result<bool, AllocError> {
     if levels == 0 {
         return Ok(false);

@@ -1,7 +1,7 @@
 //! Each public call once, with ample memory.
 
 use jp_flat::{FlatMember, FlatReader, Kind};
-use std::alloc::Global;
+use std::alloc::{AllocError, Global};
 use std::test::Fail;
 
 const LINE: &[u8] = b"{\"b\":[-12,\"x\\ny\",true,null],\"a\":{\"c\":7},\"b2\":{}}";
@@ -85,5 +85,23 @@ fn items_one_by_one(rt: HostRuntime) -> Result<(), Fail> {
     let (third, none) = last.split_first().ok_or("no item")?;
     assert!(rt; first.whole() == Some(3) && second.item_count() == 2 && third.whole() == Some(6));
     assert!(rt; none.split_first().is_none() && document.root().members().is_none());
+    Ok(())
+}
+
+/// The whole number at `$.id` of a line, where it is read flat.
+fn id_of(reader: &mut FlatReader, line: &[u8]) -> Result<Option<i128>, AllocError> {
+    let Some(document) = reader.read(line)? else {
+        return Ok(None);
+    };
+    let id = document.root().member("id").and_then(|value| value.whole());
+    Ok(id)
+}
+
+#[test]
+fn numbers_of_lines(rt: HostRuntime) -> Result<(), Fail> {
+    let mut reader = FlatReader::new(rt.alloc());
+    assert_eq!(rt; id_of(&mut reader, b"{\"id\":7,\"at\":8}")?, Some(7));
+    assert_eq!(rt; id_of(&mut reader, b"{\"id\":\"7\"}")?, None);
+    assert_eq!(rt; id_of(&mut reader, b"{\"id\":9,\"at\":8.5}")?, None);
     Ok(())
 }

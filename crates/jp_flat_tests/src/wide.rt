@@ -45,17 +45,19 @@ fn are_all(members: &[FlatMember<'_>]) -> bool {
     expected == COUNT
 }
 
+/// Whether the object of a line has these members, in an order that rises.
+fn gathers_all(alloc: Global, reader: &mut FlatReader, line: &[u8]) -> Result<bool, Fail> {
+    let document = reader.read(line)?.ok_or("not flat")?;
+    let members = document.root().members().ok_or("no object")?;
+    let mut gathered = Vec::new(alloc);
+    members.gather(&mut gathered)?;
+    Ok(are_all(&gathered))
+}
+
 fn is_gathered(alloc: Global, step: u32, twice: bool) -> Result<bool, Fail> {
     let line = wide(alloc, step, twice)?;
     let mut reader = FlatReader::new(alloc);
-    let document = reader.read(&line)?.ok_or("not flat")?;
-    let mut gathered = Vec::new(alloc);
-    document
-        .root()
-        .members()
-        .ok_or("no object")?
-        .gather(&mut gathered)?;
-    Ok(are_all(&gathered))
+    gathers_all(alloc, &mut reader, &line)
 }
 
 #[test]
