@@ -9,3 +9,4 @@ pub mod InsideObject
 pub mod Rising
 pub mod Sorted
 pub mod OnLiterals
+pub mod Kept
