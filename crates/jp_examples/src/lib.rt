@@ -7,6 +7,7 @@ mod check;
 mod doc;
 mod eval;
 mod examples;
+mod flat;
 mod nodes;
 mod path;
 mod program;

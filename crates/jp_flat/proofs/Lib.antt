@@ -1,0 +1,12 @@
+pub mod Good
+pub mod Numbers
+pub mod PlainTokens
+pub mod Reading
+pub mod Shapes
+pub mod Inside
+pub mod Entries
+pub mod InsideObject
+pub mod Rising
+pub mod Sorted
+pub mod OnLiterals
+pub mod Kept

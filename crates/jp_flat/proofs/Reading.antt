@@ -1,0 +1,128 @@
+-- What a line is read as, where its tokens are plain.
+use Rattle.std.proofs.Common.{◌≡◌, ℕ, ◌≤◌, true, List, [], ◌++◌, length, Option, Some, None, Ok}
+use Rattle.std.proofs.Common.{IsSome, option_and_then, refl, sym, ap, ◌∙◌, subst, append-nil, le-leb}
+use Rattle.std.proofs.lemmas.Bool.{leb-true}
+use Rattle.std.specs.Prelude.{nat_le}
+use Rattle.std.specs.Str.{IsUtf8}
+use Rattle.json.specs.Token.{Token}
+use Rattle.json.specs.Lex.{tokens}
+use Rattle.json.specs.Json as text
+use Rattle.json.specs.Tree as tree
+use Rattle.json.specs.Tree.{json_tokens}
+use Rattle.json.proofs.Printed.Trees.{value-json_tokens}
+use Rattle.json.proofs.Unique.Spelling.{tokens-document, value-json_tokens_back}
+use Rattle.json.proofs.Nesting.{value-depth}
+use Rattle.serde_json.specs.Data.{Data}
+use Rattle.serde_json.specs.Read.{of_json, read, max_depth}
+use Rattle.jp_doc.specs.Json.{json_of}
+use Rattle.jp_doc.specs.Reading.{max_line, document_from, reading}
+use Rattle.jp_doc.proofs.ReadLaws.{reading_read}
+use Rattle.jp_flat.specs.Flat.{data_at, is_flat, is_small, max_tokens, value_at, json_or_null}
+use Rattle.jp_flat.specs.Plain.{is_plain_from, is_plain}
+use Rattle.jp_flat.proofs.Good.{is_good}
+use Rattle.jp_flat.proofs.Numbers.{both, both_back}
+use Rattle.jp_flat.proofs.PlainTokens.{plain_tokens, Made, make, whole_numbers, short_arrays}
+
+-- a plain value that the tokens begin with
+pub record Flat (ts : List Token) : Type 0 where
+  pub source : text.Json
+  pub rest : List Token
+  pub spelled : ts ≡ json_tokens source ++ rest
+  pub nests : tree.depth source ≤ 127
+  pub few : length (json_tokens source) ≤ max_tokens
+  pub plain : is_plain source ≡ true
+
+pub read_of_flat : (ts : List Token) (f : Flat ts) → text.value max_depth ts ≡ Some (f.source, f.rest)
+read_of_flat ts f = ap (text.value max_depth) f.spelled ∙ value-json_tokens f.source max_depth f.rest f.nests
+
+pub flat_is : (ts : List Token) → Flat ts → is_flat ts ≡ true
+flat_is ts f = ap is_small (read_of_flat ts f) ∙ both_back _ _ (le-leb _ max_tokens f.few) f.plain
+
+opened : (ts : List Token) (o : Option (text.Json × List Token)) → text.value max_depth ts ≡ o
+    → is_small o ≡ true → Flat ts
+opened ts None e h = absurd (cc)
+opened ts (Some p) e h =
+    let b = both (nat_le (length (json_tokens p.0)) max_tokens) _ h in
+    record {
+      source = p.0;
+      rest = p.1;
+      spelled = value-json_tokens_back max_depth ts p.1 p.0 e;
+      nests = value-depth max_depth ts p.1 p.0 e;
+      few = leb-true _ max_tokens b.0;
+      plain = b.1;
+    }
+
+pub flat_of : (ts : List Token) → is_flat ts ≡ true → Flat ts
+flat_of ts h = opened ts (text.value max_depth ts) refl h
+
+-- what the JSON crate makes of it
+pub made_of : (ts : List Token) (f : Flat ts) → Made f.source
+made_of ts f = make f.source f.few f.plain
+
+pub data_is : (ts : List Token) (f : Flat ts) (d : Data) → of_json f.source ≡ Some d → data_at ts ≡ Some d
+data_is ts f d e = ap (option_and_then (λ p. of_json p.0)) (read_of_flat ts f) ∙ e
+
+pub value_is : (ts : List Token) (f : Flat ts) (d : Data) → of_json f.source ≡ Some d
+    → value_at ts ≡ json_of d
+value_is ts f d e = ap json_or_null (data_is ts f d e)
+
+from_plain : (d : Data) → is_good d ≡ true → document_from (Some d) ≡ Ok (json_of d)
+from_plain d p = rw (whole_numbers d p, short_arrays d p) refl
+
+whole_text : (line : List ℕ) (j : text.Json) (d : Data) → tokens line ≡ json_tokens j → tree.depth j ≤ 127
+    → of_json j ≡ Some d → read line ≡ Some d
+whole_text line j d e shallow made =
+    ap (λ ts. option_and_then of_json (option_and_then (λ p. text.if_last p.0 p.1) (text.value max_depth ts)))
+    (e ∙ sym (append-nil (json_tokens j)))
+    ∙ ap (λ o. option_and_then of_json (option_and_then (λ p. text.if_last p.0 p.1) o))
+    (value-json_tokens j max_depth [] shallow)
+    ∙ made
+
+-- what is found of a line whose tokens are plain
+pub record ReadFlat (line : List ℕ) : Type 0 where
+  pub flat : Flat (tokens line)
+  pub reads : reading line ≡ Ok (value_at (tokens line))
+
+of_document : (line : List ℕ) (j : text.Json) → text.document line ≡ Some j → IsUtf8 line
+    → length line ≤ max_line → length (tokens line) ≤ max_tokens → is_plain_from 0 (tokens line) ≡ true
+    → ReadFlat line
+of_document line j e u short few plain =
+    let spelled = tokens-document line j e in
+    let whole : tokens line ≡ json_tokens j ++ [] = spelled ∙ sym (append-nil (json_tokens j)) in
+    let p = plain_tokens j [] (subst (λ ts. is_plain_from 0 ts ≡ true) whole plain) in
+    let short_tokens = subst (λ ts. length ts ≤ max_tokens) spelled few in
+    let m = make j short_tokens p.1 in
+    let f : Flat (tokens line) = record {
+      source = j;
+      rest = [];
+      spelled = whole;
+      nests = p.0;
+      few = short_tokens;
+      plain = p.1;
+    } in
+    record {
+      flat = f;
+      reads = reading_read line m.found short (u, whole_text line j m.found spelled p.0 m.made)
+          ∙ from_plain m.found m.plain ∙ ap Ok (sym (value_is (tokens line) f m.found m.made));
+    }
+
+of_some : (line : List ℕ) (o : Option text.Json) → text.document line ≡ o → IsSome o → IsUtf8 line
+    → length line ≤ max_line → length (tokens line) ≤ max_tokens → is_plain_from 0 (tokens line) ≡ true
+    → ReadFlat line
+of_some line None e h u short few plain = absurd (cc)
+of_some line (Some j) e h u short few plain = of_document line j e u short few plain
+
+pub read_flat : (line : List ℕ) → IsSome (text.document line) → IsUtf8 line → length line ≤ max_line
+    → length (tokens line) ≤ max_tokens → is_plain_from 0 (tokens line) ≡ true → ReadFlat line
+read_flat line h u short few plain = of_some line (text.document line) refl h u short few plain
+
+-- the same of a tape, as the reader knows it
+pub read_tape : (line s : List ℕ) (tape ts : List Token) → (s ≡ line) × IsUtf8 line
+    → (tape ≡ tokens s) × IsSome (text.document s) → length line ≤ max_line → length tape ≤ max_tokens
+    → ts ≡ tape → is_plain_from 0 ts ≡ true → (is_flat tape ≡ true) × (reading line ≡ Ok (value_at tape))
+read_tape line s tape ts is made short few same plain =
+    let whole : tape ≡ tokens line = made.0 ∙ ap tokens is.0 in
+    let r = read_flat line (subst (λ l. IsSome (text.document l)) is.0 made.1) is.1 short
+    (subst (λ l. length l ≤ max_tokens) whole few) (subst (λ l. is_plain_from 0 l ≡ true) (same
+    ∙ whole) plain) in
+    (ap is_flat whole ∙ flat_is (tokens line) r.flat, r.reads ∙ ap (λ l. Ok (value_at l)) (sym whole))

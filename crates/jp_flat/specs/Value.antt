@@ -1,0 +1,76 @@
+-- The value that a place in a flat document stands for, and what is told of it.
+use Rattle.std.specs.Prelude.{◌≡◌, ℕ, ◌-◌, List, ◌∷◌, map, drop, length, Option, Some, None}
+use Rattle.std.specs.Str.{chars}
+use Rattle.json.specs.Tape.{node_token}
+use Rattle.json.specs.Token.{Token, begin_array, begin_object}
+use Rattle.jp_doc.specs.Json as json
+use Rattle.jp_doc.specs.Json.{Json, null, truth, whole, text, array, object, Items, Members, item_list}
+use Rattle.jp_flat.specs.Digits.{whole_value}
+use Rattle.jp_flat.specs.Flat.{value_at}
+use Rattle.jp_flat.specs.Members.{entries_at}
+use Rattle.jp_flat.specs.declared.value.FlatItems.{FlatItems}
+use Rattle.jp_flat.specs.declared.value.FlatMembers.{FlatMembers}
+use Rattle.jp_flat.specs.declared.value.FlatValue.{FlatValue}
+use Rattle.jp_flat.specs.declared.value.Kind.{Kind}
+use Rattle.jp_flat.specs.declared.value.Kind.TheVariants.{Null, Truth, Whole, Text, Array, Object}
+
+-- the tokens from the value's first on
+abbrev pub tokens_of : FlatValue → List Token
+tokens_of v = drop v.at (map node_token v.nodes.now)
+
+-- the value
+abbrev pub flat_value : FlatValue → Json
+flat_value v = value_at (tokens_of v)
+
+-- what a kind tells of the value
+abbrev pub IsKind : Kind → Json → Type 0
+IsKind Null v = v ≡ null
+IsKind (Truth b) v = v ≡ truth b
+IsKind (Whole s) v = v ≡ whole (whole_value s.now)
+IsKind (Text s) v = v ≡ text (chars s.now)
+IsKind Array v = (vs : Items) × (v ≡ array vs)
+IsKind Object v = (ms : Members) × (v ≡ object ms)
+
+-- the text that a value is, if it is one
+abbrev pub text_in : Json → Option json.Text
+text_in (text s) = Some s
+text_in null = None
+text_in (truth b) = None
+text_in (whole z) = None
+text_in (array vs) = None
+text_in (object ms) = None
+
+-- how many items an array has, and 0 of any other value
+abbrev pub item_count : Json → ℕ
+item_count (array vs) = length (item_list vs)
+item_count null = 0
+item_count (truth b) = 0
+item_count (whole z) = 0
+item_count (text s) = 0
+item_count (object ms) = 0
+
+-- a value that is no array, and one that is no object
+abbrev pub IsNoArray : Json → Type 0
+IsNoArray (array vs) = ⊥
+IsNoArray _ = Unit {0}
+
+abbrev pub IsNoObject : Json → Type 0
+IsNoObject (object ms) = ⊥
+IsNoObject _ = Unit {0}
+
+-- the array of the items that are left, and how many nodes are
+abbrev pub items_value : FlatItems → Json
+items_value i = value_at (begin_array ∷ drop i.at (map node_token i.nodes.now))
+
+abbrev pub items_left : FlatItems → ℕ
+items_left i = length i.nodes.now - i.at
+
+-- The object of the members that are left, these members in the order of the line, and how many nodes are.
+abbrev pub members_value : FlatMembers → Json
+members_value m = value_at (begin_object ∷ drop m.at (map node_token m.nodes.now))
+
+abbrev pub entries : FlatMembers → List (json.Text × Json)
+entries m = entries_at (drop m.at (map node_token m.nodes.now))
+
+abbrev pub members_left : FlatMembers → ℕ
+members_left m = length m.nodes.now - m.at

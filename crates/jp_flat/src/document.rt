@@ -1,0 +1,64 @@
+//! The flat reading of a line.
+
+ghost use Rattle.std.specs.Prelude.{◌≡◌, true, Ok, IfOk, IfSome};
+ghost use Rattle.jp_doc.specs.Reading.{reading};
+ghost use Rattle.jp_flat.specs.Flat.{is_flat};
+
+use crate::nodes::are_plain;
+use crate::value::FlatValue;
+use bumpalo::Bump;
+use json::{Error, Scratch, Tape};
+use std::alloc::AllocError;
+
+/// The greatest number of bytes in a line.
+const MAX_LINE: usize = 268_435_456;
+
+/// The greatest number of nodes: those of an array of the greatest number of items, and its brackets.
+const MAX_NODES: usize = 16_777_218;
+
+/// A document as a flat list of nodes, which lie in the buffers of a reader and borrow from the line.
+#[derive(Drop)]
+pub struct FlatDocument<'a> {
+    tape: Tape<'a, &'a Bump>,
+    ghost flat: { is_flat tape ≡ true },
+}
+
+impl<'a> FlatDocument<'a> {
+    ghost use Rattle.jp_flat.specs.Document.{document_value};
+    ghost use Rattle.jp_flat.specs.Value.{flat_value};
+
+    /// The document that a line holds, or `None` where the line is not plain. The nodes lie in the arena.
+    ///
+    /// `AllocError` if a growth was refused.
+    pub(crate) fn read(
+        line: &'a [u8],
+        scratch: &'a mut Scratch,
+        arena: &'a Bump,
+    ) -> Result<Option<FlatDocument<'a>>, AllocError>
+        ensures { IfOk result (λ o. IfSome o (λ d. reading line.now ≡ Ok (document_value d))) }
+    {
+        if line.len() > MAX_LINE {
+            return Ok(None);
+        }
+        let Ok(text) = simdutf8::basic::from_utf8(line) else {
+            return Ok(None);
+        };
+        match Tape::parse(text, scratch, Vec::new(arena)) {
+            Ok(tape) => {
+                if tape.len() > MAX_NODES || !are_plain(tape.nodes()) {
+                    return Ok(None);
+                }
+                Ok(Some(FlatDocument { tape }))
+            }
+            Err(Error::OutOfMemory) => Err(AllocError),
+            Err(_) => Ok(None),
+        }
+    }
+
+    /// The whole value.
+    pub fn root(&self) -> FlatValue<'_>
+        ensures { flat_value result ≡ document_value self.now }
+    {
+        FlatValue::first(self.tape.nodes())
+    }
+}

@@ -1,0 +1,96 @@
+//! Worked examples of the definitions.
+
+ghost use Rattle.std.specs.Prelude.{◌≡◌, [], ◌∷◌, codes, pos, negsuc, true, false, Some, None};
+ghost use Rattle.json.specs.Lex.{tokens};
+ghost use Rattle.json.specs.Token.{begin_array, end_array, end_object, number, key, string};
+ghost use Rattle.jp_doc.specs.Json.{null, truth, whole, text, array, object};
+ghost use Rattle.jp_doc.specs.Json.{no_items, add_item, no_members, add_member};
+ghost use Rattle.jp_flat.specs.Digits.{whole_value};
+ghost use Rattle.jp_flat.specs.Flat.{is_flat, value_at};
+ghost use Rattle.jp_flat.specs.Gathered.{AreAbove, NamesRise};
+ghost use Rattle.jp_flat.specs.Members.{put_member, put_all, last_of, entries_at};
+ghost use Rattle.jp_flat.specs.Value.{text_in, item_count, IsNoArray, IsNoObject};
+
+#[tactic(auto, unfolding(crate::proofs::OnLiterals::flat_on_literals))]
+fn numbers_of_texts()
+    ensures zero { whole_value (codes "0") ≡ pos 0 }
+    ensures negative { whole_value (codes "-12") ≡ negsuc 11 }
+    ensures greatest { whole_value (codes "18446744073709551615") ≡ pos 18446744073709551615 }
+    ensures least { whole_value (codes "-9223372036854775808") ≡ negsuc 9223372036854775807 }
+{}
+
+#[tactic(auto, unfolding(crate::proofs::OnLiterals::flat_on_literals))]
+fn values_that_tokens_begin_with()
+    ensures number { value_at (number (codes "-3") ∷ []) ≡ whole (negsuc 2) }
+    ensures text_value { value_at (string (codes "ab") ∷ []) ≡ text (codes "ab") }
+    ensures empty_array { value_at (begin_array ∷ end_array ∷ []) ≡ array no_items }
+    ensures first_alone { value_at (number (codes "1") ∷ number (codes "2") ∷ []) ≡ whole (pos 1) }
+    ensures line { value_at (tokens (codes "{\"b\":[true],\"a\":null}"))
+        ≡ object (add_member (codes "a") null
+        (add_member (codes "b") (array (add_item (truth true) no_items)) no_members)) }
+    ensures last_of_a_name { value_at (tokens (codes "{\"a\":1,\"a\":2}"))
+        ≡ object (add_member (codes "a") (whole (pos 2)) no_members) }
+    ensures none { value_at (end_array ∷ []) ≡ null }
+{}
+
+#[tactic(auto, unfolding(crate::proofs::OnLiterals::flat_on_literals))]
+fn what_is_flat()
+    ensures number { is_flat (tokens (codes "-3")) ≡ true }
+    ensures nineteen_digits { is_flat (tokens (codes "9999999999999999999")) ≡ true }
+    ensures greatest { is_flat (tokens (codes "18446744073709551615")) ≡ true }
+    ensures least { is_flat (tokens (codes "-9223372036854775808")) ≡ true }
+    ensures array_of_texts { is_flat (tokens (codes "[\"a\",[]]")) ≡ true }
+{}
+
+#[tactic(auto, unfolding(crate::proofs::OnLiterals::flat_on_literals))]
+fn what_is_not_flat()
+    ensures above_the_greatest { is_flat (tokens (codes "18446744073709551616")) ≡ false }
+    ensures below_the_least { is_flat (tokens (codes "-9223372036854775809")) ≡ false }
+    ensures minus_zero { is_flat (tokens (codes "-0")) ≡ false }
+    ensures fraction { is_flat (tokens (codes "[1,2.5]")) ≡ false }
+    ensures exponent { is_flat (tokens (codes "1e3")) ≡ false }
+    ensures open_array { is_flat (begin_array ∷ []) ≡ false }
+    ensures nothing { is_flat [] ≡ false }
+{}
+
+#[tactic(auto, unfolding(crate::proofs::OnLiterals::flat_on_literals))]
+fn members_put_together()
+    ensures before { put_member (codes "a") null (add_member (codes "b") null no_members)
+        ≡ add_member (codes "a") null (add_member (codes "b") null no_members) }
+    ensures behind { put_member (codes "c") null (add_member (codes "b") null no_members)
+        ≡ add_member (codes "b") null (add_member (codes "c") null no_members) }
+    ensures in_its_place { put_member (codes "b") (truth true) (add_member (codes "b") null no_members)
+        ≡ add_member (codes "b") (truth true) no_members }
+    ensures all { put_all ((codes "b", null) ∷ (codes "a", truth true) ∷ (codes "b", truth false) ∷ [])
+        no_members ≡ add_member (codes "a") (truth true) (add_member (codes "b") (truth false) no_members) }
+    ensures last { last_of (codes "a") ((codes "a", null) ∷ (codes "b", null) ∷ (codes "a", truth true) ∷ [])
+        None ≡ Some (truth true) }
+    ensures none { last_of (codes "c") ((codes "a", null) ∷ []) None ≡ None }
+    ensures of_a_line { entries_at
+        (key (codes "b") ∷ number (codes "1") ∷ key (codes "a") ∷ number (codes "2") ∷ end_object ∷ [])
+        ≡ (codes "b", whole (pos 1)) ∷ (codes "a", whole (pos 2)) ∷ [] }
+    ensures of_an_empty_object { entries_at (end_object ∷ []) ≡ [] }
+{}
+
+#[tactic(auto, unfolding(crate::proofs::OnLiterals::flat_on_literals))]
+fn names_that_rise()
+    ensures none { NamesRise no_members }
+    ensures in_order { NamesRise (add_member (codes "a") null (add_member (codes "ab") null
+        (add_member (codes "b") null no_members))) }
+    ensures out_of_order { ¬ NamesRise
+        (add_member (codes "b") null (add_member (codes "a") null no_members)) }
+    ensures twice { ¬ NamesRise (add_member (codes "a") null (add_member (codes "a") null no_members)) }
+    ensures not_above { ¬ AreAbove (codes "b") (add_member (codes "c") null
+        (add_member (codes "a") null no_members)) }
+{}
+
+fn what_values_are()
+    ensures text_value { text_in (text (codes "a")) ≡ Some (codes "a") }
+    ensures no_text { text_in (whole (pos 1)) ≡ None }
+    ensures two_items { item_count (array (add_item null (add_item (array no_items) no_items))) ≡ 2 }
+    ensures no_items_in_an_object { item_count (object (add_member (codes "a") null no_members)) ≡ 0 }
+    ensures no_array { IsNoArray (object no_members) × IsNoArray null }
+    ensures an_array { ¬ IsNoArray (array no_items) }
+    ensures no_object { IsNoObject (array no_items) × IsNoObject (truth true) }
+    ensures an_object { ¬ IsNoObject (object no_members) }
+{}

@@ -1,0 +1,15 @@
+//! Documents read flat: a line as one list of nodes, in buffers that are kept from line to line.
+#![tactic(auto)]
+
+mod digits;
+mod document;
+mod examples;
+mod gather;
+pub mod laws;
+mod nodes;
+mod reader;
+mod value;
+
+pub use document::FlatDocument;
+pub use reader::FlatReader;
+pub use value::{FlatItems, FlatMember, FlatMembers, FlatValue, Kind};

@@ -1,0 +1,59 @@
+//! Lines that are read one after another.
+
+ghost use Rattle.std.specs.Prelude.{◌≡◌, Ok, IfOk, IfSome};
+ghost use Rattle.jp_doc.specs.Reading.{reading};
+ghost use Rattle.jp_flat.specs.Document.{document_value};
+
+use crate::document::FlatDocument;
+use bumpalo::Bump;
+use json::Scratch;
+use std::alloc::{AllocError, Global};
+
+/// The bytes of a line behind which the buffers are let go: 1 MB.
+const LONG_LINE: usize = 1_000_000;
+
+/// Reads lines, in buffers that are kept from line to line: where no line before was as long, they grow, and
+/// else a line takes no memory. After a line of over 1,000,000 bytes they are let go, once the next is read.
+#[derive(Drop)]
+pub struct FlatReader {
+    alloc: Global,
+    scratch: Scratch,
+    arena: Bump,
+    was_long: bool,
+}
+
+impl FlatReader {
+    /// A reader that holds no memory yet.
+    pub fn new(alloc: Global) -> FlatReader {
+        FlatReader {
+            alloc,
+            scratch: Scratch::new(alloc),
+            arena: Bump::new(alloc),
+            was_long: false,
+        }
+    }
+
+    /// The document that a line holds, or `None` where `Document::read` is to decide: of each line that holds
+    /// none, and of a line that is not plain.
+    ///
+    /// `AllocError` if a growth was refused. Then the next line may be read as if there had been none.
+    pub fn read<'a>(&'a mut self, line: &'a [u8]) -> Result<Option<FlatDocument<'a>>, AllocError>
+        ensures { IfOk result (λ o. IfSome o (λ d. reading line.now ≡ Ok (document_value d))) }
+    {
+        self.begin(line.len());
+        FlatDocument::read(line, &mut self.scratch, &self.arena)
+    }
+
+    /// Makes room for a line of so many bytes: in the buffers that there are, or in new ones after a long
+    /// line.
+    fn begin(&mut self, length: usize) {
+        if self.was_long {
+            self.scratch = Scratch::new(self.alloc);
+            self.arena = Bump::new(self.alloc);
+        } else {
+            // An error says that nodes of an earlier line are still kept, which stays so.
+            let _ = self.arena.reset();
+        }
+        self.was_long = length > LONG_LINE;
+    }
+}

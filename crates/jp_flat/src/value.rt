@@ -1,0 +1,321 @@
+//! Values of a flat document, and cursors over their items and members.
+
+ghost use Rattle.std.specs.Prelude.{◌≡◌, ℕ, ◌+◌, ◌<◌, List, ◌∷◌, map, drop, length, true, Some, MatchOption};
+ghost use Rattle.std.specs.Prelude.{IfSome};
+ghost use Rattle.json.specs.Json.{Json, value};
+ghost use Rattle.json.specs.Tape.{node_token, Linked};
+ghost use Rattle.json.specs.Token.{Token, begin_array, begin_object};
+ghost use Rattle.jp_flat.specs.Flat.{is_flat};
+
+use crate::digits::whole_number;
+use json::Node;
+
+/// The node at a place, and `Null` behind the last.
+#[inline(always)]
+fn node_at<'d>(nodes: &[Node<'d>], at: usize) -> Node<'d>
+    ensures { at < length nodes.now
+        → drop at (map node_token nodes.now) ≡ node_token result ∷ drop (at + 1) (map node_token nodes.now) }
+{
+    if at < nodes.len() {
+        nodes[at]
+    } else {
+        Node::Null
+    }
+}
+
+/// The place behind the value that begins at this one.
+#[inline(always)]
+fn after(nodes: &[Node<'_>], at: usize) -> usize
+    requires within { at < length nodes.now }
+    requires linked { ∥ Linked (map node_token nodes.now) 0 nodes.now ∥₁ }
+    ensures value { (depth : ℕ) (j : Json) (rest : List Token)
+        → value depth (drop at (map node_token nodes.now)) ≡ Some (j, rest)
+        → rest ≡ drop result (map node_token nodes.now) }
+    ensures later { at < result }
+{
+    match nodes[at] {
+        Node::Object(end) | Node::Array(end) => end,
+        _ => at + 1,
+    }
+}
+
+/// A value of a flat document.
+#[derive(Clone, Copy)]
+pub struct FlatValue<'d> {
+    nodes: &'d [Node<'d>],
+    at: usize,
+    ghost linked: { ∥ Linked (map node_token nodes.now) 0 nodes.now ∥₁ },
+    ghost flat: { is_flat (drop at (map node_token nodes.now)) ≡ true },
+}
+
+/// Items of an array, from one on to the last.
+#[derive(Clone, Copy)]
+pub struct FlatItems<'d> {
+    nodes: &'d [Node<'d>],
+    at: usize,
+    ghost linked: { ∥ Linked (map node_token nodes.now) 0 nodes.now ∥₁ },
+    ghost flat: { is_flat (begin_array ∷ drop at (map node_token nodes.now)) ≡ true },
+}
+
+/// Members of an object in the order of the line, from one on to the last.
+#[derive(Clone, Copy)]
+pub struct FlatMembers<'d> {
+    nodes: &'d [Node<'d>],
+    at: usize,
+    ghost linked: { ∥ Linked (map node_token nodes.now) 0 nodes.now ∥₁ },
+    ghost flat: { is_flat (begin_object ∷ drop at (map node_token nodes.now)) ≡ true },
+}
+
+/// A member of an object.
+#[derive(Clone, Copy, Drop)]
+pub struct FlatMember<'d> {
+    /// Its name.
+    pub name: &'d str,
+    /// Its value.
+    pub value: FlatValue<'d>,
+}
+
+/// What a value is, with no look inside of it.
+#[derive(Clone, Copy)]
+pub enum Kind<'d> {
+    /// `null`.
+    Null,
+    /// `true` or `false`.
+    Truth(bool),
+    /// A whole number, as it stands in the line.
+    Whole(&'d str),
+    /// A text, without its escapes.
+    Text(&'d str),
+    /// An array.
+    Array,
+    /// An object.
+    Object,
+}
+
+impl<'d> FlatValue<'d> {
+    ghost use Rattle.std.specs.Prelude.{None, option_map, ◌≤◌};
+    ghost use Rattle.std.specs.Str.{chars};
+    ghost use Rattle.serde_json.specs.Written.{compact_text};
+    ghost use Rattle.jp_doc.specs.DocumentValue.{whole_in};
+    ghost use Rattle.jp_doc.specs.Json.{data_of};
+    ghost use Rattle.jp_doc.specs.Location.{member_of, item_of};
+    ghost use Rattle.jp_flat.specs.Value.{flat_value, tokens_of, items_value, members_value, text_in};
+    ghost use Rattle.jp_flat.specs.Value.{item_count, IsKind, IsNoArray, IsNoObject};
+
+    /// The value that the nodes begin with.
+    pub(crate) fn first(nodes: &'d [Node<'d>]) -> FlatValue<'d>
+        requires linked { Linked (map node_token nodes.now) 0 nodes.now }
+        requires flat { is_flat (map node_token nodes.now) ≡ true }
+        ensures { tokens_of result ≡ map node_token nodes.now }
+    {
+        FlatValue { nodes, at: 0 }
+    }
+
+    /// The node that the value begins with.
+    fn node(self) -> Node<'d>
+        ensures { tokens_of self.entry ≡ node_token result ∷ drop 1 (tokens_of self.entry) }
+    {
+        node_at(self.nodes, self.at)
+    }
+
+    /// What the value is.
+    pub fn kind(self) -> Kind<'d>
+        ensures { IsKind result (flat_value self.entry) }
+    {
+        match self.node() {
+            Node::Object(_) => Kind::Object,
+            Node::Array(_) => Kind::Array,
+            Node::String(text) => Kind::Text(text),
+            Node::Number(text) => Kind::Whole(text),
+            Node::Bool(truth) => Kind::Truth(truth),
+            _ => Kind::Null,
+        }
+    }
+
+    /// The text, without its escapes, where the value is one.
+    pub fn text(self) -> Option<&'d str>
+        ensures { option_map (λ s. chars s.now) result ≡ text_in (flat_value self.entry) }
+    {
+        match self.node() {
+            Node::String(text) => Some(text),
+            _ => None,
+        }
+    }
+
+    /// The whole number, where the value is one.
+    pub fn whole(self) -> Option<i128>
+        ensures { result ≡ whole_in (flat_value self.entry) }
+    {
+        match self.node() {
+            Node::Number(text) => Some(whole_number(text)),
+            _ => None,
+        }
+    }
+
+    /// The whole number as it stands in the line, which is its compact text, where the value is one.
+    pub fn digits(self) -> Option<&'d str>
+        ensures { MatchOption result (whole_in (flat_value self.entry) ≡ None)
+            (λ s. compact_text (data_of (flat_value self.entry)) ≡ s.now) }
+    {
+        match self.node() {
+            Node::Number(text) => Some(text),
+            _ => None,
+        }
+    }
+
+    /// The items, where the value is an array.
+    pub fn items(self) -> Option<FlatItems<'d>>
+        ensures { MatchOption result (IsNoArray (flat_value self.entry))
+            (λ i. items_value i ≡ flat_value self.entry) }
+    {
+        match self.node() {
+            Node::Array(_) => Some(FlatItems {
+                nodes: self.nodes,
+                at: self.at.saturating_add(1),
+            }),
+            _ => None,
+        }
+    }
+
+    /// The members in the order of the line, where the value is an object. A name may come more than once:
+    /// then the last member of it is the object's.
+    pub fn members(self) -> Option<FlatMembers<'d>>
+        ensures { MatchOption result (IsNoObject (flat_value self.entry))
+            (λ m. members_value m ≡ flat_value self.entry) }
+    {
+        match self.node() {
+            Node::Object(_) => Some(FlatMembers {
+                nodes: self.nodes,
+                at: self.at.saturating_add(1),
+            }),
+            _ => None,
+        }
+    }
+
+    /// How many items the array has, and 0 of any other value. It goes over them.
+    pub fn item_count(self) -> u32
+        ensures count { result ≡ item_count (flat_value self.entry) }
+        ensures short { result ≤ 16777216 }
+    {
+        match self.items() {
+            Some(items) => items.count(),
+            None => 0,
+        }
+    }
+
+    /// The item at this place, where the value is an array that has one. It goes over those before it.
+    pub fn item(self, place: u32) -> Option<FlatValue<'d>>
+        ensures { option_map flat_value result ≡ item_of place (flat_value self.entry) }
+    {
+        match self.items() {
+            Some(items) => items.nth(place),
+            None => None,
+        }
+    }
+
+    /// The member of this name, where the value is an object that has one. It goes over all members.
+    pub fn member(self, name: &str) -> Option<FlatValue<'d>>
+        ensures { option_map flat_value result ≡ member_of (chars name.now) (flat_value self.entry) }
+    {
+        match self.members() {
+            Some(members) => members.last(name),
+            None => None,
+        }
+    }
+}
+
+impl<'d> FlatItems<'d> {
+    ghost use Rattle.std.specs.Prelude.{option_map, ◌≤◌};
+    ghost use Rattle.jp_doc.specs.Json.{Items, array, no_items, add_item};
+    ghost use Rattle.jp_doc.specs.Location.{item_of};
+    ghost use Rattle.jp_flat.specs.Value.{flat_value, items_value, items_left, item_count};
+
+    /// The first, and those behind it.
+    pub fn split_first(self) -> Option<(FlatValue<'d>, FlatItems<'d>)>
+        ensures value { MatchOption result (items_value self.entry ≡ array no_items)
+            (λ p. (vs : Items) × (items_value self.entry ≡ array (add_item (flat_value p.0) vs))
+            × (items_value p.1 ≡ array vs)) }
+        ensures fewer { IfSome result (λ p. items_left p.1 < items_left self.entry) }
+    {
+        let (nodes, at) = (self.nodes, self.at);
+        match node_at(nodes, at) {
+            Node::EndArray => None,
+            _ => {
+                let end = after(nodes, at);
+                Some((FlatValue { nodes, at }, FlatItems { nodes, at: end }))
+            }
+        }
+    }
+
+    /// The item at this place of these.
+    fn nth(self, place: u32) -> Option<FlatValue<'d>>
+        ensures { option_map flat_value result ≡ item_of place (items_value self.entry) }
+    {
+        let mut left = self;
+        for i in 0..place {
+            match left.split_first() {
+                Some((_, others)) => left = others,
+                None => return None,
+            }
+        }
+        match left.split_first() {
+            Some((first, _)) => Some(first),
+            None => None,
+        }
+    }
+
+    /// How many these are.
+    fn count(self) -> u32
+        ensures count { result ≡ item_count (items_value self.entry) }
+        ensures short { result ≤ 16777216 }
+    {
+        let mut count = 0;
+        let mut left = self;
+        while let Some((_, others)) = left.split_first() {
+            count += 1;
+            left = others;
+        }
+        count
+    }
+}
+
+impl<'d> FlatMembers<'d> {
+    ghost use Rattle.std.specs.Prelude.{[], None, option_map, IsUtf8};
+    ghost use Rattle.std.specs.Str.{chars};
+    ghost use Rattle.jp_flat.specs.Members.{last_of};
+    ghost use Rattle.jp_flat.specs.Value.{flat_value, entries, members_left};
+
+    /// The first in the order of the line, and those behind it.
+    pub fn split_first(self) -> Option<(FlatMember<'d>, FlatMembers<'d>)>
+        ensures value { MatchOption result (entries self.entry ≡ [])
+            (λ p. entries self.entry ≡ (chars p.0.name.now, flat_value p.0.value) ∷ entries p.1) }
+        ensures utf8 { IfSome result (λ p. IsUtf8 p.0.name.now) }
+        ensures fewer { IfSome result (λ p. members_left p.1 < members_left self.entry) }
+    {
+        let (nodes, at) = (self.nodes, self.at);
+        match node_at(nodes, at) {
+            Node::Key(name) => {
+                let start = at.saturating_add(1);
+                let end = after(nodes, start);
+                let value = FlatValue { nodes, at: start };
+                Some((FlatMember { name, value }, FlatMembers { nodes, at: end }))
+            }
+            _ => None,
+        }
+    }
+
+    /// The value of the last of these that has the name.
+    fn last(self, name: &str) -> Option<FlatValue<'d>>
+        ensures { option_map flat_value result ≡ last_of (chars name.now) (entries self.entry) None }
+    {
+        let mut found = None;
+        let mut left = self;
+        while let Some((member, others)) = left.split_first() {
+            if member.name == name {
+                found = Some(member.value);
+            }
+            left = others;
+        }
+        found
+    }
+}

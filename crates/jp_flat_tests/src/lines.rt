@@ -1,0 +1,65 @@
+//! Lines that are left to `Document::read`.
+
+use jp_flat::FlatReader;
+use std::test::Fail;
+
+/// Lines that hold no document: their faults are for `Document::read` to tell.
+const FAULTY: [&[u8]; 29] = [
+    b"",
+    b" \r",
+    b"{",
+    b"\"a",
+    b"1 2",
+    b"\xff",
+    b"\"\xff\"",
+    b"{\"\xff\":1}",
+    b"\xef\xbb\xbf1",
+    b"\"\\ud83d\"",
+    b"\"\\ud83d\\u0061\"",
+    b"\"\\x\"",
+    b"\"\t\"",
+    b"01",
+    b"-01",
+    b"+1",
+    b"-",
+    b"[1,]",
+    b"{\"a\":1,}",
+    b"{a:1}",
+    b"nul",
+    b"1.5",
+    b"1e3",
+    b"1.0",
+    b"-0",
+    b"18446744073709551616",
+    b"99999999999999999999",
+    b"-9223372036854775809",
+    b"[[1],{\"a\":[2.5]}]",
+];
+
+#[test]
+fn faults_are_left(rt: HostRuntime) -> Result<(), Fail> {
+    let mut reader = FlatReader::new(rt.alloc());
+    for line in &FAULTY {
+        assert!(rt; reader.read(line)?.is_none(), "{:?}", line);
+    }
+    Ok(())
+}
+
+/// Numbers that `Document::read` refuses, of digits beyond 64 bits or of a zero behind a minus.
+const NUMBERS: [&[u8]; 6] = [
+    b"[100000000000000000000]",
+    b"[184467440737095516150]",
+    b"[-10000000000000000000]",
+    b"[-18446744073709551615]",
+    b"{\"a\":-0}",
+    b"[0,-0]",
+];
+
+#[test]
+fn numbers_that_are_left(rt: HostRuntime) -> Result<(), Fail> {
+    let mut reader = FlatReader::new(rt.alloc());
+    for line in &NUMBERS {
+        assert!(rt; reader.read(line)?.is_none(), "{:?}", line);
+    }
+    Ok(())
+}

@@ -1,0 +1,48 @@
+//! Calls whose growths of memory a sweep refuses, one after another, each in a run of its own.
+//!
+//! A turn says whether the answer was right, or nothing where it was want of memory. Each is made twice, with
+//! one reader and one buffer: one growth is refused at most, so one of the two answers.
+
+use jp_flat::{FlatMember, FlatReader};
+use std::alloc::{AllocError, Global};
+
+/// An object of so many names, which fall.
+fn falling(alloc: Global, count: u32) -> Result<Vec<u8>, AllocError> {
+    let mut line = Vec::new(alloc);
+    line.push(b'{')?;
+    for number in 0..count {
+        let name = count - number;
+        line.extend_from_slice(format!(in alloc; "\"{name:03}\":{number},")?.as_bytes())?;
+    }
+    line.extend_from_slice(b"\"000\":\"\\u00fc\"}")?;
+    Ok(line)
+}
+
+/// The text of the first name, and how many names there are.
+fn gathered(reader: &mut FlatReader, line: &[u8], alloc: Global) -> Result<bool, AllocError> {
+    let Some(document) = reader.read(line)? else {
+        return Ok(false);
+    };
+    let Some(members) = document.root().members() else {
+        return Ok(false);
+    };
+    let mut out: Vec<FlatMember<'_>> = Vec::new(alloc);
+    members.gather(&mut out)?;
+    let first = out.first().map(|member| (member.name, member.value.text()));
+    Ok(out.len() == 101 && first == Some(("000", Some("ü"))))
+}
+
+/// The same of two lines, of which the second is in the buffers of the first.
+fn turn(reader: &mut FlatReader, alloc: Global) -> Option<bool> {
+    let line = falling(alloc, 100).ok()?;
+    let first = gathered(reader, &line, alloc).ok()?;
+    let second = gathered(reader, &line, alloc).ok()?;
+    Some(first && second)
+}
+
+#[test]
+fn a_flat_document(rt: HostRuntime) {
+    let mut reader = FlatReader::new(rt.alloc());
+    let turns = (turn(&mut reader, rt.alloc()), turn(&mut reader, rt.alloc()));
+    assert!(rt; matches!(turns, (Some(true), Some(true) | None) | (None, Some(true))));
+}
