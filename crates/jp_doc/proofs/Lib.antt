@@ -11,4 +11,5 @@ pub mod ReadRising
 pub mod CutLaws
 pub mod FeedLaws
 pub mod BackLaws
+pub mod Below
 pub mod OrderLaws

@@ -9,3 +9,4 @@ pub mod DocumentValue
 pub mod Feeding
 pub mod Limits
 pub mod Added
+pub mod Height

@@ -2,6 +2,7 @@
 
 ghost use Rattle.std.specs.Prelude.{◌≡◌, ℕ, ◌<◌, ◌≤◌, false, not, ◌==◌, IsTrue, List, [], ◌∷◌, ◌++◌, length};
 ghost use Rattle.std.specs.Prelude.{Some, None, Ok, Err, option_and_then, option_map, slice_get, Vec, String};
+ghost use Rattle.std.specs.Prelude.{IfSome};
 ghost use Rattle.std.specs.declared.alloc.Global.{Global};
 ghost use Rattle.std.specs.BTreeMap.{BTreeMap};
 ghost use Rattle.std.specs.List.{All, list_all, concat};
@@ -17,7 +18,8 @@ ghost use Rattle.jp_doc.specs.Json.{Text, text_cmp, Json, json_of, members_of, v
 ghost use Rattle.jp_doc.specs.Lines.{all_lines, lines, line_count};
 ghost use Rattle.jp_doc.specs.Feeding.{cut, last_line, nothing_fed, lines_of_pieces, after_pieces};
 ghost use Rattle.jp_doc.specs.Joined.{joined};
-ghost use Rattle.jp_doc.specs.Location.{Location, location_of, step_of, value_at};
+ghost use Rattle.jp_doc.specs.Height.{height};
+ghost use Rattle.jp_doc.specs.Location.{Step, Location, location_of, step_of, child_at, value_at};
 ghost use Rattle.jp_doc.specs.Reading.{max_line, max_items, has_long_array, crate_reading, reading};
 ghost use Rattle.jp_doc.specs.Rising.{IsRising, MembersRise, NamesAreUtf8};
 ghost use Rattle.jp_doc.specs.declared.location.Location as code;
@@ -67,6 +69,12 @@ pub fn first_fault()
 pub fn value_at_further()
     ensures { (a b : Location) (v : Json) → value_at (a ++ b) v
         ≡ option_and_then (value_at b) (value_at a v) }
+{}
+
+/// A child is less high than its value.
+#[tactic(auto, using(crate::proofs::Below::child_below))]
+pub fn children_are_below()
+    ensures { (s : Step) (v : Json) → IfSome (child_at s v) (λ w. height w < height v) }
 {}
 
 /// A `Location` leads by its steps, one for one.

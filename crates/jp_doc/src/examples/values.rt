@@ -4,6 +4,7 @@ ghost use Rattle.std.specs.Prelude.{◌≡◌, [], ◌∷◌, codes, pos, negsuc
 ghost use Rattle.std.specs.declared.cmp.Ordering.TheVariants.{Less, Equal, Greater};
 ghost use Rattle.serde_json.specs.Data as crate_data;
 ghost use Rattle.jp_doc.specs.DocumentValue.{whole_in};
+ghost use Rattle.jp_doc.specs.Height.{height};
 ghost use Rattle.jp_doc.specs.Json.{null, truth, whole, text, array, object, items, item_list, text_eq};
 ghost use Rattle.jp_doc.specs.Json.{text_cmp};
 ghost use Rattle.jp_doc.specs.Json.{no_items, add_item, no_members, add_member, json_of, data_of};
@@ -46,6 +47,13 @@ fn values_of_the_crate()
     ensures name_back { data_of (object (add_member (233 ∷ []) (truth false) no_members))
         ≡ crate_data.object
         (crate_data.member (195 ∷ 169 ∷ []) (crate_data.boolean false) crate_data.no_members) }
+{}
+
+fn heights()
+    ensures scalar { height (text (codes "ab")) ≡ 0 }
+    ensures empty { height (array no_items) ≡ 1 }
+    ensures highest_item { height (array (add_item (array no_items) (add_item null no_items))) ≡ 2 }
+    ensures member { height (object (add_member (codes "a") (object no_members) no_members)) ≡ 2 }
 {}
 
 fn numbers_in_values()
