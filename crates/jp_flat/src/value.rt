@@ -163,6 +163,11 @@ impl<'d> FlatValue<'d> {
         }
     }
 
+    /// How many nodes the value has: at least as many as there are values inside of it.
+    pub fn node_count(self) -> usize {
+        after(self.nodes, self.at).saturating_sub(self.at)
+    }
+
     /// The items, where the value is an array.
     pub fn items(self) -> Option<FlatItems<'d>>
         ensures { MatchOption result (IsNoArray (flat_value self.entry))
@@ -264,8 +269,8 @@ impl<'d> FlatItems<'d> {
         }
     }
 
-    /// How many these are.
-    fn count(self) -> u32
+    /// How many these are. It goes over them.
+    pub fn count(self) -> u32
         ensures count { result ≡ item_count (items_value self.entry) }
         ensures short { result ≤ 16777216 }
     {

@@ -1,0 +1,46 @@
+-- Items and members as lists.
+use Rattle.std.proofs.Common.{◌≡◌, ℕ, ◌<◌, List, [], ◌∷◌, map, Option, Some, IfSome, refl, ap, ap₂, sym, ◌∙◌}
+use Rattle.std.proofs.Common.{subst}
+use Rattle.std.specs.Str.{chars}
+use Rattle.serde_json.specs.View.{items_view, members_view}
+use Rattle.serde_json.specs.declared.value.Value.{Value}
+use Rattle.jp_doc.specs.Height.{height}
+use Rattle.jp_doc.specs.Json as json
+use Rattle.jp_doc.specs.Json.{Json, array, object, value_of, items_of, items, item_list, no_items, add_item}
+use Rattle.jp_doc.specs.Json.{no_members, add_member}
+use Rattle.jp_flat.specs.Gathered.{entry, onto, gathered}
+use Rattle.jp_flat.specs.declared.value.FlatMember.{FlatMember}
+use Rattle.jp_part.specs.Inside.{items_inside, members_inside}
+use Rattle.jp_part.specs.Members.{members}
+
+pub items_back : (vs : json.Items) → items (item_list vs) ≡ vs
+items_back no_items = refl
+items_back (add_item v vs) = ap (add_item v) (items_back vs)
+
+pub list_back : (xs : List Json) → item_list (items xs) ≡ xs
+list_back [] = refl
+list_back (x ∷ xs) = ap (λ ys. x ∷ ys) (list_back xs)
+
+pub items_of_values : (vs : List Value) → items_of (items_view vs) ≡ items (map (λ v. value_of v) vs)
+items_of_values [] = refl
+items_of_values (v ∷ vs) = ap (add_item (value_of v)) (items_of_values vs)
+
+-- the array that a value is, of its items
+pub array_of : (v w : Json) (vs : json.Items) → w ≡ array vs → v ≡ w
+    → w ≡ array (items (item_list (items_inside v)))
+array_of v w vs is same =
+    is ∙ ap array (sym (items_back vs))
+    ∙ ap (λ x. array (items (item_list (items_inside x)))) (sym (same ∙ is))
+
+pub object_of : (v w : Json) (ms : json.Members) → w ≡ object ms → v ≡ w → w ≡ object (members_inside v)
+object_of v w ms is same = is ∙ ap (λ x. object (members_inside x)) (sym (same ∙ is))
+
+-- a child is below its value
+pub of_child : (o : Option Json) (w : Json) (n : ℕ) → Some w ≡ o → IfSome o (λ x. height x < n)
+    → height w < n
+of_child o w n is h = subst (λ x. IfSome x (λ y. height y < n)) (sym is) h
+
+-- members that were gathered
+pub gathered_members : (list : List FlatMember) → gathered list ≡ members (map entry list)
+gathered_members [] = refl
+gathered_members (m ∷ list) = ap (add_member (chars m.name.now) _) (gathered_members list)

@@ -1,0 +1,13 @@
+use Rattle.std.specs.Str.{chars}
+use Rattle.jp_doc.proofs.Below.{member_below}
+use Rattle.jp_part.specs.Part.{part_value}
+use Rattle.jp_part.proofs.Lists.{of_child}
+use Rattle.jp_part.proofs.part.Part.member.Goals as goal
+
+pub returns-in-Some-clause-below : goal.returns-in-Some-clause-below
+returns-in-Some-clause-below c = of_child _ _ _ c.in-Some.ensures
+    (member_below (chars c.args.name.now) (part_value c.args.self))
+
+pub returns-in-Some-member-clause-below : goal.returns-in-Some-member-clause-below
+returns-in-Some-member-clause-below c = of_child _ _ _ c.in-Some-member.ensures
+    (member_below (chars c.args.name.now) (part_value c.args.self))
