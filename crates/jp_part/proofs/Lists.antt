@@ -1,14 +1,15 @@
 -- Items and members as lists.
-use Rattle.std.proofs.Common.{◌≡◌, ℕ, ◌<◌, List, [], ◌∷◌, map, Option, Some, IfSome, refl, ap, ap₂, sym, ◌∙◌}
-use Rattle.std.proofs.Common.{subst}
+use Rattle.std.proofs.Common.{◌≡◌, ℕ, zero, suc, ◌+◌, ◌<◌, ◌≤◌, List, [], ◌∷◌, ◌++◌, map, drop, Option, Some, IfSome}
+use Rattle.std.proofs.Common.{refl, ap, sym, ◌∙◌, subst, arith}
 use Rattle.std.specs.Str.{chars}
-use Rattle.serde_json.specs.View.{items_view, members_view}
+use Rattle.serde_json.specs.View.{items_view}
 use Rattle.serde_json.specs.declared.value.Value.{Value}
 use Rattle.jp_doc.specs.Height.{height}
 use Rattle.jp_doc.specs.Json as json
-use Rattle.jp_doc.specs.Json.{Json, array, object, value_of, items_of, items, item_list, no_items, add_item}
+use Rattle.jp_doc.specs.Json.{Text, Json, array, object, value_of, items_of, items, item_list, no_items, add_item}
 use Rattle.jp_doc.specs.Json.{no_members, add_member}
-use Rattle.jp_flat.specs.Gathered.{entry, onto, gathered}
+use Rattle.jp_flat.specs.Gathered.{entry, gathered}
+use Rattle.jp_flat.specs.Value.{flat_value}
 use Rattle.jp_flat.specs.declared.value.FlatMember.{FlatMember}
 use Rattle.jp_part.specs.Inside.{items_inside, members_inside}
 use Rattle.jp_part.specs.Members.{members}
@@ -43,4 +44,34 @@ of_child o w n is h = subst (λ x. IfSome x (λ y. height y < n)) (sym is) h
 -- members that were gathered
 pub gathered_members : (list : List FlatMember) → gathered list ≡ members (map entry list)
 gathered_members [] = refl
-gathered_members (m ∷ list) = ap (add_member (chars m.name.now) _) (gathered_members list)
+gathered_members (m ∷ list) = ap (add_member (chars m.name.now) (flat_value m.value)) (gathered_members list)
+
+-- ---- behind the first so many
+
+pub drop_more : (xs left : List Json) (x : Json) (i : ℕ) → drop i xs ≡ x ∷ left → drop (i + 1) xs ≡ left
+drop_more [] left x zero h = absurd cc
+drop_more [] left x (suc i) h = absurd cc
+drop_more (y ∷ ys) left x zero h = ap (drop 1) h
+drop_more (y ∷ ys) left x (suc i) h = let e : suc i + 1 ≡ suc (i + 1) = omega arith in rw e (drop_more ys left x i h)
+
+pub drop_enough : (xs : List Json) (i n : ℕ) → drop i xs ≡ [] → i ≤ n → drop n xs ≡ []
+drop_enough [] i zero h le = refl
+drop_enough [] i (suc n) h le = refl
+drop_enough (y ∷ ys) zero n h le = absurd cc
+drop_enough (y ∷ ys) (suc i) zero h le = absurd (omega (arith, le))
+drop_enough (y ∷ ys) (suc i) (suc n) h le = drop_enough ys i n h (omega (arith, le))
+
+-- ---- members that are listed, before others
+
+abbrev pub and_members : List (Text × Json) → json.Members → json.Members
+and_members [] ms = ms
+and_members (e ∷ es) ms = add_member e.0 e.1 (and_members es ms)
+
+pub and_none : (es : List (Text × Json)) → and_members es no_members ≡ members es
+and_none [] = refl
+and_none (e ∷ es) = ap (add_member e.0 e.1) (and_none es)
+
+pub and_one : (es : List (Text × Json)) (e : Text × Json) (ms : json.Members)
+    → and_members (es ++ e ∷ []) ms ≡ and_members es (add_member e.0 e.1 ms)
+and_one [] e ms = refl
+and_one (d ∷ es) e ms = ap (add_member d.0 d.1) (and_one es e ms)

@@ -1,7 +1,7 @@
 -- Values of the JSON crate, and values inside of them.
-use Rattle.std.proofs.Common.{◌≡◌, ℕ, zero, suc, ◌<◌, ◌≤◌, List, [], ◌∷◌, length, Option, Some, IfSome, option_map}
+use Rattle.std.proofs.Common.{◌≡◌, ℕ, suc, ◌≤◌, List, [], ◌∷◌, length, Option, Some, IfSome}
 use Rattle.std.proofs.Common.{Bool, false, nat_lt, Bor, Vec, Global, BTreeMap, String, sym, ap, ◌∙◌, subst}
-use Rattle.std.proofs.Common.{refl, arith, rules}
+use Rattle.std.proofs.Common.{◌++◌, map, refl, ap₂, arith, rules}
 use Rattle.std.proofs.lemmas.Bool.Decides.{nat_tests}
 use Rattle.std.proofs.Math.Logic.{∥∥₁_elim, ∥∥₁_map}
 use Rattle.std.proofs.Props.{props}
@@ -17,8 +17,12 @@ use Rattle.jp_doc.proofs.Found.{array_kept, object_kept, first_false}
 use Rattle.jp_doc.proofs.RisingProps.{rising_prop}
 use Rattle.jp_doc.specs.DocumentValue.{IsDocumentValue}
 use Rattle.jp_doc.specs.Json as json
-use Rattle.jp_doc.specs.Json.{value_of, json_of, items_of, members_of, item_list, whole_of}
+use Rattle.jp_doc.specs.Json.{value_of, json_of, items_of, members_of, item_list, items, whole_of}
 use Rattle.jp_doc.specs.Reading.{max_items, has_long_array}
+use Rattle.jp_part.proofs.Lists.{items_of_values, and_members, and_one}
+use Rattle.jp_part.specs.Members.{tree_entry}
+use Rattle.jp_part.specs.declared.tree.TreeMember.{TreeMember}
+use Rattle.std.proofs.lemmas.List.{map-append}
 
 pub null_value : (v : Value) → v ≡ variant.Null → value_of v ≡ json.null
 null_value v is = ap value_of is ∙ search (rules, the_lemmas)
@@ -99,3 +103,34 @@ pub other_members : (e : Entry) (es : List Entry)
     → ∥ All (λ (m : Entry). IsDocumentValue m.1) (e ∷ es) ∥₁
     → ∥ All (λ (m : Entry). IsDocumentValue m.1) es ∥₁
 other_members e es h = ∥∥₁_map h (others_behind e es)
+
+-- ---- values, as the values inside of them
+
+pub items_kept : (value : Value) (v : Vec Value Global) (xs : List Value) → value ≡ variant.Array v
+    → xs ≡ v.items → IsDocumentValue value → All IsDocumentValue xs
+items_kept value v xs is e p = subst (λ l. All IsDocumentValue l) (sym e) (array_parts value v is p)
+
+pub items_few : (value : Value) (v : Vec Value Global) (xs : List Value) → value ≡ variant.Array v
+    → xs ≡ v.items → IsDocumentValue value → length xs ≤ 16777216
+items_few value v xs is e p = subst (λ l. length l ≤ 16777216) (sym e) (array_is_short value v is p)
+
+pub array_items : (value : Value) (v : Vec Value Global) (xs : List Value) → value ≡ variant.Array v
+    → xs ≡ v.items → value_of value ≡ json.array (items (map (λ w. value_of w) xs))
+array_items value v xs is e =
+    array_value value v is ∙ ap json.array (items_of_values v.items
+    ∙ ap (λ l. items (map (λ w. value_of w) l)) (sym e))
+
+-- one more member is listed
+pub one_member : (list more : List TreeMember) (m : TreeMember) (es rest : List Entry) (e : Entry)
+    (all : json.Members) → more ≡ list ++ m ∷ [] → m.name.now ≡ string_bytes e.0 → m.value.value.now ≡ e.1
+    → es ≡ e ∷ rest
+    → and_members (map tree_entry list) (members_of (members_view es)) ≡ all
+    → and_members (map tree_entry more) (members_of (members_view rest)) ≡ all
+one_member list more m es rest e all is name value first inv =
+    ap (λ l. and_members (map tree_entry l) (members_of (members_view rest))) is
+    ∙ ap (λ l. and_members l (members_of (members_view rest))) (map-append tree_entry list (m ∷ []))
+    ∙ and_one (map tree_entry list) (tree_entry m) (members_of (members_view rest))
+    ∙ ap₂ (λ k w. and_members (map tree_entry list)
+    (json.add_member (chars k) (value_of w) (members_of (members_view rest)))) name value
+    ∙ sym (ap (λ (l : List Entry). and_members (map tree_entry list) (members_of (members_view l))) first)
+    ∙ inv

@@ -143,24 +143,8 @@ impl<'v> Part<'v> {
         ensures { IsInside result (part_value self.entry) }
     {
         match self {
-            Part::Tree(tree) => match tree.value {
-                Value::Array(items) => Inside::Items(Items::Tree(TreeItems {
-                    items: items.as_slice(),
-                })),
-                Value::Object(members) => Inside::Members(Members::Tree(TreeMembers { members })),
-                Value::Null => Inside::Nothing,
-                Value::Bool(_) => Inside::Nothing,
-                Value::Number(_) => Inside::Nothing,
-                Value::String(_) => Inside::Nothing,
-            },
-            Part::Flat(flat) => match flat.kind() {
-                jp_flat::Kind::Array => inside_array(flat),
-                jp_flat::Kind::Object => inside_object(flat),
-                jp_flat::Kind::Null => Inside::Nothing,
-                jp_flat::Kind::Truth(_) => Inside::Nothing,
-                jp_flat::Kind::Whole(_) => Inside::Nothing,
-                jp_flat::Kind::Text(_) => Inside::Nothing,
-            },
+            Part::Tree(tree) => tree_inside(tree),
+            Part::Flat(flat) => flat_inside(flat),
         }
     }
 
@@ -172,6 +156,36 @@ impl<'v> Part<'v> {
             Part::Tree(tree) => tree_kind(tree),
             Part::Flat(flat) => flat_kind(flat),
         }
+    }
+}
+
+/// What is inside of a value of a tree.
+fn tree_inside(tree: TreeValue<'_>) -> Inside<'_>
+    ensures { IsInside result (value_of tree.entry.value.now) }
+{
+    match tree.value {
+        Value::Array(items) => Inside::Items(Items::Tree(TreeItems {
+            items: items.as_slice(),
+        })),
+        Value::Object(members) => Inside::Members(Members::Tree(TreeMembers { members })),
+        Value::Null => Inside::Nothing,
+        Value::Bool(_) => Inside::Nothing,
+        Value::Number(_) => Inside::Nothing,
+        Value::String(_) => Inside::Nothing,
+    }
+}
+
+/// What is inside of a flat value.
+fn flat_inside(flat: FlatValue<'_>) -> Inside<'_>
+    ensures { IsInside result (flat_value flat.entry) }
+{
+    match flat.kind() {
+        jp_flat::Kind::Array => inside_array(flat),
+        jp_flat::Kind::Object => inside_object(flat),
+        jp_flat::Kind::Null => Inside::Nothing,
+        jp_flat::Kind::Truth(_) => Inside::Nothing,
+        jp_flat::Kind::Whole(_) => Inside::Nothing,
+        jp_flat::Kind::Text(_) => Inside::Nothing,
     }
 }
 
