@@ -13,7 +13,6 @@ ghost use Rattle.jp_nodes.specs.declared.answers.Answer.TheVariants.{Distinct};
 
 use crate::different::Different;
 use crate::found::Alone;
-
 use jp_check::ready::Want;
 use jp_part::{Kind, Part};
 

@@ -10,8 +10,8 @@ ghost use Rattle.jp_trail.specs.Links.{link_steps};
 
 use crate::found::Alone;
 use crate::locations::location;
-use jp_part::Part;
 use jp_doc::Location;
+use jp_part::Part;
 use jp_trail::Trail;
 use std::alloc::{AllocError, Global};
 

@@ -12,9 +12,9 @@ ghost use Rattle.jp_part.specs.Part.{part_value};
 
 use crate::answers::Answer;
 use crate::different::{Located, each_once, locate, none_located};
-use jp_part::Part;
 use crate::visit::Visit;
 use jp_check::ready::Want;
+use jp_part::Part;
 use jp_trail::Trail;
 use std::alloc::{AllocError, Global};
 

@@ -60,7 +60,7 @@ pub object_parts : (value : Value) (m : BTreeMap (String Global) Value) → valu
     → IsDocumentValue value → All (λ (e : Entry). IsDocumentValue e.1) m.entries
 object_parts value m is p = object_kept m (subst IsDocumentValue is p)
 
-within : (n : ℕ) → nat_lt max_items n ≡ false → n ≤ 16777216
+pub within : (n : ℕ) → nat_lt max_items n ≡ false → n ≤ 16777216
 within n h = grind (arith, nat_tests)
 
 pub array_is_short : (value : Value) (v : Vec Value Global) → value ≡ variant.Array v

@@ -1,12 +1,12 @@
 use Rattle.std.proofs.Common.{◌≡◌, ◌≤◌, ◌++◌, length}
-use Rattle.serde_json.specs.Data.{depth}
-use Rattle.serde_json.specs.View.{view}
+use Rattle.jp_doc.specs.Height.{height}
 use Rattle.jp_doc.specs.Location.{Location, node}
+use Rattle.jp_flat.specs.Value.{item_count}
 use Rattle.jp_value.specs.BoundsView.{bounds_value}
 use Rattle.jp_nodes.specs.Kids.{kids, kids_height}
 use Rattle.jp_nodes.specs.Nodes.{items_at}
 use Rattle.jp_part.specs.Part.{part_value}
-use Rattle.jp_value.specs.Places.{from_place, item_count, IfPlace}
+use Rattle.jp_value.specs.Places.{from_place, IfPlace}
 use Rattle.jp_value.specs.Slice.{slice_indexes}
 use Rattle.jp_nodes.proofs.children.sliced.Given as goal
 
@@ -18,7 +18,7 @@ invariant-loop-next l =
     × ((at : Location) → kids at l.children.items
     ++ items_at (node at (part_value l.value)) (from_place bounds len l.next)
     ≡ items_at (node at (part_value l.value)) (slice_indexes bounds len))
-    × (kids_height l.children.items ≤ depth (view l.value.value.now))
+    × (kids_height l.children.items ≤ height (part_value l.value))
 
 abbrev pub decreases-loop-next : goal.decreases-loop-next
 decreases-loop-next l =
