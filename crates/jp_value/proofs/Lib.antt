@@ -4,7 +4,6 @@ pub mod Order
 pub mod BoundsLaws
 pub mod Positions
 pub mod SlicePlaces
-pub mod Views
 pub mod Lengths
 pub mod Answering
 pub mod Within

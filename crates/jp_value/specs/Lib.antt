@@ -5,6 +5,7 @@ pub mod Comparison
 pub mod Functions
 pub mod Samples
 pub mod Operands
+pub mod Kinds
 pub mod BoundsView
 pub mod Places
 pub mod RightTests

@@ -37,13 +37,13 @@ fn whole(number: &Number) -> i128
     number.as_i128().unwrap_or(0)
 }
 
-fn same_text(left: &str, right: &str) -> bool
+pub(crate) fn same_text(left: &str, right: &str) -> bool
     ensures { result ≡ text_eq (chars left.now) (chars right.now) }
 {
     left == right
 }
 
-fn is_text_below(left: &str, right: &str) -> bool
+pub(crate) fn is_text_below(left: &str, right: &str) -> bool
     ensures { result ≡ is_lt (text_cmp (chars left.now) (chars right.now)) }
 {
     left < right
@@ -110,7 +110,7 @@ fn same_members(left: &Map<String, Value>, right: &Map<String, Value>) -> bool
 }
 
 /// The same operand, where what is lent is an array or an object.
-pub(crate) fn plain(operand: Operand<'_>) -> Operand<'_>
+fn plain(operand: Operand<'_>) -> Operand<'_>
     requires { HasWholeNumbers operand }
     ensures value { operand_value result ≡ operand_value operand.entry }
     ensures whole { HasWholeNumbers result }

@@ -9,25 +9,24 @@ ghost use Rattle.jp_check.specs.Ready.{constant_of};
 ghost use Rattle.jp_value.specs.Functions as spec;
 ghost use Rattle.jp_value.specs.Texts.{text_in};
 ghost use Rattle.jp_value.specs.Literals.{literal_value};
-ghost use Rattle.jp_value.specs.Operands.{operand_value, HasWholeNumbers};
+ghost use Rattle.jp_part.specs.Inside.{kind_value};
+ghost use Rattle.jp_value.specs.Kinds.{given_value};
 ghost use Rattle.jp_value.specs.RightTests.{tests};
 
-use crate::comparison::{Operand, plain};
 use jp_check::ready::{Constant, KnownPattern};
+use jp_part::Kind;
 use jp_regexp::Pattern;
-use serde_json::Value;
 use std::alloc::{AllocError, Global};
 
 /// The value of a literal.
-pub fn literal(constant: &Constant) -> Operand<'_>
-    ensures value { operand_value result ≡ Some (literal_value (constant_of constant.now)) }
-    ensures whole { HasWholeNumbers result }
+pub fn literal(constant: &Constant) -> Kind<'_>
+    ensures { kind_value result ≡ literal_value (constant_of constant.now) }
 {
     match constant {
-        Constant::Whole(number) => Operand::Whole(number.value),
-        Constant::Text(text) => Operand::Text(text.as_str()),
-        Constant::Truth(truth) => Operand::Truth(*truth),
-        Constant::Null => Operand::Null,
+        Constant::Whole(number) => Kind::Whole(number.value),
+        Constant::Text(text) => Kind::Text(text.as_str()),
+        Constant::Truth(truth) => Kind::Truth(*truth),
+        Constant::Null => Kind::Null,
     }
 }
 
@@ -37,27 +36,42 @@ fn count_characters(text: &str) -> usize
     text.chars().count()
 }
 
-/// The number of scalar values of a text, of items of an array, or of members of an object.
-pub fn length(operand: Operand<'_>) -> Operand<'_>
-    requires { HasWholeNumbers operand }
-    ensures value { operand_value result ≡ spec.length_value (operand_value operand.entry) }
-    ensures whole { HasWholeNumbers result }
+/// The number of scalar values of a text, of items of an array, or of members of an object, and nothing of
+/// anything else (RFC 9535, 2.4.4).
+///
+/// It takes memory only for an object, whose members are gathered. `AllocError` if a growth was refused.
+pub fn length(alloc: Global, given: Option<Kind<'_>>) -> Result<Option<Kind<'_>>, AllocError>
+    ensures { IfOk result (λ n. given_value n ≡ spec.length_value (given_value given.entry)) }
 {
-    match plain(operand) {
-        Operand::Text(text) => Operand::Whole(count_characters(text) as i128),
-        Operand::Lent(Value::Array(items)) => Operand::Whole(items.len() as i128),
-        Operand::Lent(Value::Object(members)) => Operand::Whole(members.len() as i128),
-        _ => Operand::Nothing,
+    match given {
+        Some(kind) => length_of(alloc, kind),
+        None => Ok(None),
     }
 }
 
-/// The text of an operand that is one.
-fn text_of(operand: Operand<'_>) -> Option<&str>
-    requires { HasWholeNumbers operand }
-    ensures { option_map (λ s. chars s.now) result ≡ text_in (operand_value operand.entry) }
+/// The same of a value.
+fn length_of(alloc: Global, kind: Kind<'_>) -> Result<Option<Kind<'_>>, AllocError>
+    ensures { IfOk result (λ n. given_value n ≡ spec.length_value (Some (kind_value kind.entry))) }
 {
-    match plain(operand) {
-        Operand::Text(text) => Some(text),
+    match kind {
+        Kind::Text(text) => Ok(Some(Kind::Whole(count_characters(text) as i128))),
+        Kind::Array(items) => Ok(Some(Kind::Whole(items.count() as i128))),
+        Kind::Object(members) => {
+            let members = members.gather(alloc)?;
+            Ok(Some(Kind::Whole(members.row().len() as i128)))
+        }
+        Kind::Null => Ok(None),
+        Kind::Truth(_) => Ok(None),
+        Kind::Whole(_) => Ok(None),
+    }
+}
+
+/// The text that is given, if it is one.
+fn text_of(given: Option<Kind<'_>>) -> Option<&str>
+    ensures { option_map (λ s. chars s.now) result ≡ text_in (given_value given.entry) }
+{
+    match given {
+        Some(Kind::Text(text)) => Some(text),
         _ => None,
     }
 }
@@ -72,13 +86,11 @@ pub fn exactly_one(left: bool, right: bool) -> bool
 /// Whether the whole text matches the pattern. Of anything but two texts it is false.
 pub fn matches(
     alloc: Global,
-    text: Operand<'_>,
-    pattern_text: Operand<'_>,
+    text: Option<Kind<'_>>,
+    pattern_text: Option<Kind<'_>>,
 ) -> Result<bool, AllocError>
-    requires text { HasWholeNumbers text }
-    requires pattern { HasWholeNumbers pattern_text }
-    ensures { IfOk result (λ b. b ≡ spec.tested tests.is_match (operand_value text.entry)
-        (operand_value pattern_text.entry)) }
+    ensures { IfOk result (λ b. b ≡ spec.tested tests.is_match (given_value text.entry)
+        (given_value pattern_text.entry)) }
 {
     match (text_of(text), text_of(pattern_text)) {
         (Some(text), Some(pattern_text)) => is_match_read(alloc, text, pattern_text),
@@ -89,13 +101,11 @@ pub fn matches(
 /// Whether some part of the text matches the pattern. Of anything but two texts it is false.
 pub fn searches(
     alloc: Global,
-    text: Operand<'_>,
-    pattern_text: Operand<'_>,
+    text: Option<Kind<'_>>,
+    pattern_text: Option<Kind<'_>>,
 ) -> Result<bool, AllocError>
-    requires text { HasWholeNumbers text }
-    requires pattern { HasWholeNumbers pattern_text }
-    ensures { IfOk result (λ b. b ≡ spec.tested tests.is_found (operand_value text.entry)
-        (operand_value pattern_text.entry)) }
+    ensures { IfOk result (λ b. b ≡ spec.tested tests.is_found (given_value text.entry)
+        (given_value pattern_text.entry)) }
 {
     match (text_of(text), text_of(pattern_text)) {
         (Some(text), Some(pattern_text)) => is_found_read(alloc, text, pattern_text),
@@ -106,11 +116,10 @@ pub fn searches(
 /// Whether the whole text matches a literal pattern. Of anything but a text it is false.
 pub fn matches_known(
     alloc: Global,
-    text: Operand<'_>,
+    text: Option<Kind<'_>>,
     known: &KnownPattern,
 ) -> Result<bool, AllocError>
-    requires { HasWholeNumbers text }
-    ensures { IfOk result (λ b. b ≡ spec.tested tests.is_match (operand_value text.entry)
+    ensures { IfOk result (λ b. b ≡ spec.tested tests.is_match (given_value text.entry)
         (Some (json.text (characters known.now.text)))) }
 {
     match text_of(text) {
@@ -122,11 +131,10 @@ pub fn matches_known(
 /// Whether some part of the text matches a literal pattern. Of anything but a text it is false.
 pub fn searches_known(
     alloc: Global,
-    text: Operand<'_>,
+    text: Option<Kind<'_>>,
     known: &KnownPattern,
 ) -> Result<bool, AllocError>
-    requires { HasWholeNumbers text }
-    ensures { IfOk result (λ b. b ≡ spec.tested tests.is_found (operand_value text.entry)
+    ensures { IfOk result (λ b. b ≡ spec.tested tests.is_found (given_value text.entry)
         (Some (json.text (characters known.now.text)))) }
 {
     match text_of(text) {

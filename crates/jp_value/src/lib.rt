@@ -5,6 +5,7 @@
 mod comparison;
 mod examples;
 mod functions;
+mod kinds;
 pub mod laws;
 mod numbers;
 mod slice;
@@ -13,5 +14,6 @@ pub use comparison::{Operand, compare, equal, less};
 pub use functions::{
     exactly_one, length, literal, matches, matches_known, searches, searches_known,
 };
+pub use kinds::compare_kinds;
 pub use numbers::place;
 pub use slice::{Bounds, bounds_of, first_place, place_after, slice_bounds};

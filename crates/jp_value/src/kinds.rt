@@ -1,0 +1,135 @@
+//! Comparison (RFC 9535, 2.3.5.2.2) of values in either form that a document is read in.
+
+ghost use Rattle.std.specs.Prelude.{◌≡◌, IfOk};
+ghost use Rattle.jp_doc.specs.Json.{items};
+ghost use Rattle.jp_part.specs.Inside.{item_values, kind_value, members_in};
+ghost use Rattle.jp_part.specs.Members.{members, row_entries};
+ghost use Rattle.jp_value.specs.Comparison as spec;
+ghost use Rattle.jp_value.specs.Kinds.{given_value};
+
+use crate::comparison::{is_text_below, same_text};
+use jp_part::{Items, Kind, MemberRow, Members};
+use jp_syntax::Operator;
+use std::alloc::{AllocError, Global};
+
+/// Whether two values are deeply equal.
+#[cycle(same_kind)]
+fn same_kind(alloc: Global, left: Kind<'_>, right: Kind<'_>) -> Result<bool, AllocError>
+    ensures { IfOk result (λ b. b ≡ spec.same (kind_value left.entry) (kind_value right.entry)) }
+{
+    match (left, right) {
+        (Kind::Null, Kind::Null) => Ok(true),
+        (Kind::Truth(x), Kind::Truth(y)) => Ok(x == y),
+        (Kind::Whole(x), Kind::Whole(y)) => Ok(x == y),
+        (Kind::Text(x), Kind::Text(y)) => Ok(same_text(x, y)),
+        (Kind::Array(x), Kind::Array(y)) => same_items(alloc, x, y),
+        (Kind::Object(x), Kind::Object(y)) => same_members(alloc, x, y),
+        _ => Ok(false),
+    }
+}
+
+#[cycle(same_kind)]
+fn same_items(alloc: Global, left: Items<'_>, right: Items<'_>) -> Result<bool, AllocError>
+    ensures { IfOk result (λ b. b ≡ spec.same_items (items (item_values left.entry))
+        (items (item_values right.entry))) }
+{
+    let mut ones = left;
+    let mut others = right;
+    while let Some((one, behind)) = ones.split_first() {
+        match others.split_first() {
+            Some((other, behind_other)) => {
+                if !same_kind(alloc, one.kind(), other.kind())? {
+                    return Ok(false);
+                }
+                ones = behind;
+                others = behind_other;
+            }
+            None => return Ok(false),
+        }
+    }
+    Ok(others.split_first().is_none())
+}
+
+#[cycle(same_kind)]
+fn same_members(alloc: Global, left: Members<'_>, right: Members<'_>) -> Result<bool, AllocError>
+    ensures { IfOk result (λ b. b ≡ spec.same_members (members_in left.entry) (members_in right.entry)) }
+{
+    let left = left.gather(alloc)?;
+    let right = right.gather(alloc)?;
+    same_rows(alloc, left.row(), right.row())
+}
+
+#[cycle(same_kind)]
+fn same_rows(
+    alloc: Global,
+    left: MemberRow<'_, '_>,
+    right: MemberRow<'_, '_>,
+) -> Result<bool, AllocError>
+    ensures { IfOk result (λ b. b ≡ spec.same_members (members (row_entries left.entry))
+        (members (row_entries right.entry))) }
+{
+    let mut ones = left;
+    let mut others = right;
+    while let Some((one, behind)) = ones.split_first() {
+        match others.split_first() {
+            Some((other, behind_other)) => {
+                if !same_text(one.name, other.name)
+                    || !same_kind(alloc, one.value.kind(), other.value.kind())?
+                {
+                    return Ok(false);
+                }
+                ones = behind;
+                others = behind_other;
+            }
+            None => return Ok(false),
+        }
+    }
+    Ok(others.split_first().is_none())
+}
+
+fn is_equal(
+    alloc: Global,
+    left: Option<Kind<'_>>,
+    right: Option<Kind<'_>>,
+) -> Result<bool, AllocError>
+    ensures { IfOk result (λ b. b ≡ spec.eq (given_value left.entry) (given_value right.entry)) }
+{
+    match (left, right) {
+        (None, None) => Ok(true),
+        (Some(left), Some(right)) => same_kind(alloc, left, right),
+        _ => Ok(false),
+    }
+}
+
+fn is_less(left: Option<Kind<'_>>, right: Option<Kind<'_>>) -> bool
+    ensures { result ≡ spec.lt (given_value left.entry) (given_value right.entry) }
+{
+    match (left, right) {
+        (Some(Kind::Whole(x)), Some(Kind::Whole(y))) => x < y,
+        (Some(Kind::Text(x)), Some(Kind::Text(y))) => is_text_below(x, y),
+        _ => false,
+    }
+}
+
+/// Whether the comparison of two values, or of nothing, is true (RFC 9535, 2.3.5.2.2).
+///
+/// It takes memory only where two objects are compared: for their members, side by side. `AllocError` if a
+/// growth was refused.
+pub fn compare_kinds(
+    alloc: Global,
+    operator: Operator,
+    left: Option<Kind<'_>>,
+    right: Option<Kind<'_>>,
+) -> Result<bool, AllocError>
+    ensures { IfOk result (λ b. b ≡ spec.compared operator (given_value left.entry)
+        (given_value right.entry)) }
+{
+    match operator {
+        Operator::Eq => is_equal(alloc, left, right),
+        Operator::Ne => Ok(!is_equal(alloc, left, right)?),
+        Operator::Lt => Ok(is_less(left, right)),
+        Operator::Le => Ok(is_less(left, right) || is_equal(alloc, left, right)?),
+        Operator::Gt => Ok(is_less(right, left)),
+        Operator::Ge => Ok(is_less(right, left) || is_equal(alloc, right, left)?),
+    }
+}
