@@ -1,6 +1,7 @@
 //! Values inside of a document, in either form that it is read in: as a tree of the JSON crate, or flat.
 #![tactic(auto)]
 
+mod examples;
 mod items;
 mod members;
 mod part;
