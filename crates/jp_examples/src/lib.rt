@@ -9,6 +9,7 @@ mod eval;
 mod examples;
 mod flat;
 mod nodes;
+mod part;
 mod path;
 mod program;
 mod regexp;
