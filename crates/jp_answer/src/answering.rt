@@ -1,9 +1,9 @@
 //! The answer to numbered lines, on one thread.
 
 ghost use Rattle.std.specs.Prelude.{◌≡◌, ◌≢◌, ◌≤◌, ◌++◌, IfOk, length, map};
-ghost use Rattle.jp_doc.specs.Document.{document_value};
 ghost use Rattle.jp_doc.specs.Lines.{line_of};
 ghost use Rattle.jp_doc.specs.Reading.{reading};
+ghost use Rattle.jp_part.specs.Part.{part_value};
 ghost use Rattle.jp_check.specs.Plan.{planned_query};
 ghost use Rattle.jp_eval.specs.Evaluated.{evaluated_query};
 ghost use Rattle.jp_eval.specs.Nodelist.{document_nodes};
@@ -19,6 +19,8 @@ use crate::outcome::{DocStop, Outcome};
 use jp_check::Plan;
 use jp_doc::{DocFault, Document, Line};
 use jp_eval::{EvalFault, Evaluator, OpenFork};
+use jp_flat::FlatReader;
+use jp_part::Part;
 use jp_path::NodeLines;
 use std::alloc::{AllocError, Global};
 use std::thread::Threads;
@@ -36,6 +38,7 @@ const SPLIT_BYTES: usize = 8192;
 pub(crate) fn answer_lines<R: Threads + Sync>(
     rt: &R,
     alloc: Global,
+    reader: &mut FlatReader,
     plan: &Plan,
     lines: &[Line],
     keeps_going: bool,
@@ -55,6 +58,7 @@ pub(crate) fn answer_lines<R: Threads + Sync>(
         let (more, fault) = add_line(
             rt,
             alloc,
+            reader,
             &mut evaluator,
             line,
             keeps_going,
@@ -86,8 +90,35 @@ pub(crate) fn answer_lines<R: Threads + Sync>(
     })
 }
 
-/// The lines so far and what a line gives, and what is wrong with it, if anything.
+/// The lines so far and what a line gives, and what is wrong with it, if anything. The line is read flat
+/// where it is plain, and as a tree where it is not: the tree's reading alone tells faults.
 fn add_line<R: Threads + Sync>(
+    rt: &R,
+    alloc: Global,
+    reader: &mut FlatReader,
+    evaluator: &mut Evaluator<'_>,
+    line: &Line,
+    keeps_going: bool,
+    splits: bool,
+    written: NodeLines,
+) -> Result<(NodeLines, Option<DocFault>), AllocError>
+    ensures lines { IfOk result (λ r. (t : Tests) → AreRight t → r.0.1 ≡ written.1
+        ++ given keeps_going t (evaluated_query evaluator.old) line.now.number
+        (reading line.now.bytes.items)) }
+    ensures fault { IfOk result (λ r. r.1 ≡ fault_in (reading line.now.bytes.items)) }
+    ensures query { evaluated_query evaluator.new ≡ evaluated_query evaluator.old }
+{
+    let splits = splits && line.bytes.len() >= SPLIT_BYTES;
+    let Some(document) = reader.read(&line.bytes)? else {
+        return add_tree(rt, alloc, evaluator, line, keeps_going, splits, written);
+    };
+    let root = Part::root_of_flat(&document);
+    let lines = with_nodes(rt, evaluator, line.number, root, splits, written)?;
+    Ok((lines, None))
+}
+
+/// The same, where the line is read as a tree.
+fn add_tree<R: Threads + Sync>(
     rt: &R,
     alloc: Global,
     evaluator: &mut Evaluator<'_>,
@@ -104,8 +135,8 @@ fn add_line<R: Threads + Sync>(
 {
     match Document::read(alloc, &line.bytes) {
         Ok(document) => {
-            let splits = splits && line.bytes.len() >= SPLIT_BYTES;
-            let lines = with_nodes(rt, evaluator, line.number, &document, splits, written)?;
+            let root = Part::root_of(&document);
+            let lines = with_nodes(rt, evaluator, line.number, root, splits, written)?;
             Ok((lines, None))
         }
         Err(DocFault::Memory) => Err(AllocError),
@@ -124,17 +155,17 @@ fn with_nodes<R: Threads + Sync>(
     rt: &R,
     evaluator: &mut Evaluator<'_>,
     number: u64,
-    document: &Document,
+    root: Part<'_>,
     splits: bool,
     written: NodeLines,
 ) -> Result<NodeLines, AllocError>
     ensures lines { IfOk result (λ w. (t : Tests) → AreRight t → w.1 ≡ written.1
-        ++ document_lines t (evaluated_query evaluator.old) number (document_value document.now)) }
+        ++ document_lines t (evaluated_query evaluator.old) number (part_value root.entry)) }
     ensures query { evaluated_query evaluator.new ≡ evaluated_query evaluator.old }
 {
     let mut taker = written;
     taker.begin(number);
-    let Ok(written) = visited(rt, evaluator, document, splits, taker) else {
+    let Ok(written) = visited(rt, evaluator, root, splits, taker) else {
         return Err(AllocError);
     };
     Ok(written)
@@ -144,18 +175,18 @@ fn with_nodes<R: Threads + Sync>(
 fn visited<R: Threads + Sync>(
     rt: &R,
     evaluator: &mut Evaluator<'_>,
-    document: &Document,
+    root: Part<'_>,
     splits: bool,
     taker: NodeLines,
 ) -> Result<NodeLines, EvalFault>
     ensures lines { IfOk result (λ w. (t : Tests) → AreRight t → w ≡ fold put_line taker
-        (document_nodes t (evaluated_query evaluator.old) (document_value document.now))) }
+        (document_nodes t (evaluated_query evaluator.old) (part_value root.entry))) }
     ensures query { evaluated_query evaluator.new ≡ evaluated_query evaluator.old }
 {
     if splits {
-        evaluator.visit_split(rt, document, SPLIT_FLOOR, &OpenFork, taker)
+        evaluator.visit_part_split(rt, root, SPLIT_FLOOR, &OpenFork, taker)
     } else {
-        evaluator.visit(document, taker)
+        evaluator.visit_part(root, taker)
     }
 }
 

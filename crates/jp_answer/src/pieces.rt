@@ -7,6 +7,7 @@ use crate::answering::answer_lines;
 use crate::outcome::Outcome;
 use jp_check::Plan;
 use jp_doc::Line;
+use jp_flat::FlatReader;
 use std::alloc::{AllocError, Global};
 use std::thread::Threads;
 
@@ -61,6 +62,7 @@ impl Pieces<'_> {
         &self,
         rt: &R,
         alloc: Global,
+        reader: &mut FlatReader,
         piece: u64,
     ) -> Result<Outcome, AllocError>
         requires { piece * self.now.size < length self.now.lines.now }
@@ -68,6 +70,14 @@ impl Pieces<'_> {
     {
         let (_, rest) = self.lines.split_at(piece as usize * self.size);
         let (lines, _) = rest.split_at(self.size.min(rest.len()));
-        answer_lines(rt, alloc, self.plan, lines, self.keeps_going, self.splits)
+        answer_lines(
+            rt,
+            alloc,
+            reader,
+            self.plan,
+            lines,
+            self.keeps_going,
+            self.splits,
+        )
     }
 }

@@ -9,6 +9,7 @@ use crate::gate::Gate;
 use crate::outcome::Outcome;
 use crate::pieces::Pieces;
 use jp_board::{Board, Seat};
+use jp_flat::FlatReader;
 use std::alloc::{AllocError, Global};
 use std::thread::Threads;
 
@@ -43,6 +44,7 @@ pub(crate) fn work<R: Threads + Sync, G: Gate>(
     ensures seat { IsSeatOf board.now result.seat }
     ensures worked { IsWorked pieces.now result }
 {
+    let mut reader = FlatReader::new(alloc);
     let mut parts = Vec::new(alloc);
     let mut wanted = false;
     // No later claim is lower, so the loop ends.
@@ -50,7 +52,18 @@ pub(crate) fn work<R: Threads + Sync, G: Gate>(
     while let Some(piece) = board.claim(&mut seat) {
         floor = piece + 1;
         if !wanted {
-            wanted = tend(rt, alloc, pieces, board, gate, &mut seat, piece, &mut parts).is_err();
+            wanted = tend(
+                rt,
+                alloc,
+                &mut reader,
+                pieces,
+                board,
+                gate,
+                &mut seat,
+                piece,
+                &mut parts,
+            )
+            .is_err();
         }
     }
     Worker {
@@ -65,6 +78,7 @@ pub(crate) fn work<R: Threads + Sync, G: Gate>(
 fn tend<R: Threads + Sync, G: Gate>(
     rt: &R,
     alloc: Global,
+    reader: &mut FlatReader,
     pieces: &Pieces,
     board: &Board,
     gate: &G,
@@ -84,19 +98,20 @@ fn tend<R: Threads + Sync, G: Gate>(
         parts.new.items) }
 {
     if pieces.keeps_going {
-        return take(rt, alloc, pieces, board, gate, seat, piece, parts);
+        return take(rt, alloc, reader, pieces, board, gate, seat, piece, parts);
     }
     let mark = board.look(seat);
     if mark < piece {
         return Ok(());
     }
-    take(rt, alloc, pieces, board, gate, seat, piece, parts)
+    take(rt, alloc, reader, pieces, board, gate, seat, piece, parts)
 }
 
 /// Answers the piece, and reports it where its answer has stopped.
 fn take<R: Threads + Sync, G: Gate>(
     rt: &R,
     alloc: Global,
+    reader: &mut FlatReader,
     pieces: &Pieces,
     board: &Board,
     gate: &G,
@@ -116,7 +131,7 @@ fn take<R: Threads + Sync, G: Gate>(
         parts.new.items) }
 {
     gate.pass(piece);
-    let answer = pieces.answer(rt, alloc, piece)?;
+    let answer = pieces.answer(rt, alloc, reader, piece)?;
     let stopped = answer.stopped.is_some();
     parts.push(Part { piece, answer })?;
     if stopped {

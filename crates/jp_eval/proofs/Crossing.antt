@@ -28,7 +28,11 @@ use Rattle.serde_json.specs.contracts.value.Value as Value
 use Rattle.jp_trail.specs.contracts.link.Link as Link
 use Rattle.jp_eval.proofs.fork.Cuts.TheSendSync as cuts
 use Rattle.jp_eval.specs.contracts.fork.Cuts as Cuts
-use Rattle.jp_nodes.specs.contracts.part.Part as Part
+use Rattle.jp_part.specs.contracts.part.Part as Part
+use Rattle.jp_part.specs.contracts.items.Items as Items
+use Rattle.jp_part.specs.contracts.members.MemberRow as MemberRow
+use Rattle.jp_part.specs.contracts.tree.TreeMember as TreeMember
+use Rattle.jp_flat.specs.contracts.value.FlatMember as FlatMember
 use Rattle.jp_nodes.specs.contracts.row.Child as Child
 use Rattle.jp_nodes.specs.contracts.row.Row as Row
 use Rattle.jp_eval.specs.contracts.walk.Task as Task
@@ -106,8 +110,20 @@ part_field a = search (value_sync, crosses, sendable) depth 60 fits 20000
 child_sync : (a : NamedLft) → IsSync (Child.the_row a)
 child_sync a = search (part_field, links.the_field_sync, crosses, sendable) depth 60 fits 20000
 
+items_field : (a : NamedLft) → IsSync (Items.the_field a).row
+items_field a = search (value_sync, crosses, sendable) depth 60 fits 20000
+
+tree_member : (a : NamedLft) → IsSync (TreeMember.the_row a)
+tree_member a = search (value_sync, crosses, sendable) depth 60 fits 20000
+
+flat_member : (a : NamedLft) → IsSync (FlatMember.the_row a)
+flat_member a = search (crosses, sendable) depth 60 fits 20000
+
+member_row_field : (a b : NamedLft) → IsSync (MemberRow.the_field a b).row
+member_row_field a b = search (tree_member, flat_member, crosses, sendable) depth 60 fits 20000
+
 pub row_sync : (a b : NamedLft) → IsSync (Row.the_row a b)
-row_sync a b = search (part_field, child_sync, crosses, sendable) depth 60 fits 20000
+row_sync a b = search (items_field, member_row_field, child_sync, crosses, sendable) depth 60 fits 20000
 
 pub task_sync : (a : NamedLft) → IsSync (Task.the_row a)
 task_sync a = search (segment_sync, selector_sync, logical_sync, crosses, sendable) depth 60 fits 20000

@@ -11,7 +11,7 @@ use Rattle.jp_check.specs.declared.ready.Selector.TheVariants as sel
 use Rattle.jp_check.specs.declared.ready.Slice.{Slice}
 use Rattle.jp_value.specs.Literals.{written_value}
 use Rattle.jp_eval.specs.Base.{Base}
-use Rattle.jp_nodes.specs.Inside.{IsScalar}
+use Rattle.jp_part.specs.Inside.{IsScalar}
 use Rattle.jp_eval.specs.Nodelist as spec
 use Rattle.jp_nodes.specs.Nodes.{child, children, items_at, descendants}
 use Rattle.jp_eval.specs.Walk.{picked, picked_by, reached, is_true}

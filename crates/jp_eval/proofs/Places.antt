@@ -7,7 +7,8 @@ use Rattle.std.proofs.lemmas.Int.{ints}
 use Rattle.jp_doc.specs.Json.{Json, null, truth, whole, text, array, object}
 use Rattle.jp_eval.specs.Nodelist.{index_places, slice_places}
 use Rattle.jp_value.specs.Index.{place_of}
-use Rattle.jp_value.specs.Places.{AreWithin, item_count}
+use Rattle.jp_value.specs.Places.{AreWithin}
+use Rattle.jp_flat.specs.Value.{item_count}
 use Rattle.jp_value.specs.Slice.{Bounds, slice_bounds, slice_indexes}
 
 no_place : (z : ℤ) → place_of z 0 ≡ []

@@ -43,8 +43,8 @@ use Rattle.jp_value.specs.Literals.{literal_value, written_value}
 use Rattle.jp_eval.specs.Rooted.{root_nodes}
 use Rattle.jp_eval.specs.Base.{Base}
 use Rattle.jp_nodes.specs.Links.{here}
-use Rattle.jp_nodes.specs.Part.{part_value}
-use Rattle.jp_nodes.specs.declared.part.Part.{Part}
+use Rattle.jp_part.specs.Part.{part_value}
+use Rattle.jp_part.specs.declared.part.Part.{Part}
 use Rattle.jp_value.specs.Comparison.{compared}
 use Rattle.jp_value.specs.Functions.{first_value, only_value, is_empty, as_value, tested, length_value}
 use Rattle.jp_value.specs.Functions.{number_value, as_truth, as_nodes, exactly_one, distinct}

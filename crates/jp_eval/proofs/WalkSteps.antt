@@ -18,11 +18,11 @@ use Rattle.jp_nodes.specs.Kept.{plus}
 use Rattle.jp_nodes.specs.Links.{here}
 use Rattle.jp_nodes.specs.Nodes.{items_at}
 use Rattle.jp_nodes.specs.Nodes.{child, children, descendants, item_nodes, member_nodes, node_if_some}
-use Rattle.jp_nodes.specs.Part.{part_value}
+use Rattle.jp_part.specs.Part.{part_value}
 use Rattle.jp_value.specs.Places.{later, from_place}
 use Rattle.jp_value.specs.Slice.{Bounds}
 use Rattle.jp_eval.specs.Walk.{picked, picked_by, reached}
-use Rattle.jp_nodes.specs.declared.part.Part.{Part}
+use Rattle.jp_part.specs.declared.part.Part.{Part}
 use Rattle.jp_trail.specs.declared.link.Link.{Link}
 use Rattle.jp_check.specs.declared.ready.Segment.{Segment}
 use Rattle.jp_check.specs.declared.ready.Selector.{Selector}
@@ -88,67 +88,6 @@ descended put base xs rest n k mid last here below =
     (flat_map (λ c. reached base rest (flat_map (picked_by base xs) (descendants c))) (children n)))
     ∙ ap (plus put k) (sym (reached-descend base xs rest n))
 
--- ---- items
-
-pub first_left : (P : Value → Type 0) (xs : List Value) (i : ℕ) (x : Value) → i < length xs
-    → x ≡ get_or xs i x → All P (drop i xs) → P x
-first_left P [] i x h is all = absurd (omega arith)
-first_left P (y ∷ xs) zero x h is all = subst P (sym is) (all 0 x (omega arith))
-first_left P (y ∷ xs) (suc i) x h is all = first_left P xs i x (omega arith) is all
-
-next : (i : ℕ) → suc i + 1 ≡ suc (i + 1)
-next i = omega arith
-
-drop_none : (i : ℕ) → drop {A = Value} i [] ≡ []
-drop_none zero = refl
-drop_none (suc i) = refl
-
-pub others_left : (P : Value → Type 0) (xs : List Value) (i : ℕ) → All P (drop i xs)
-    → All P (drop (i + 1) xs)
-others_left P [] i all = λ k d h. absurd (omega (arith, ap length (drop_none (i + 1)), h))
-others_left P (x ∷ xs) zero all = λ k d h. all (suc k) d (omega arith)
-others_left P (x ∷ xs) (suc i) all = rw (next i) (others_left P xs i all)
-
-pub no_deeper : (xs : List Value) (i : ℕ) → items_depth (items_view (drop (i + 1) xs)) ≤ items_depth
-    (items_view (drop i xs))
-no_deeper [] i = rw (drop_none (i + 1), drop_none i) (omega arith)
-no_deeper (x ∷ xs) zero = omega arith
-no_deeper (x ∷ xs) (suc i) = rw (next i) (no_deeper xs i)
-
-pub item_done : {K : Type 0} (put : K → Node → K) (f : Node → List Node) (at : Location) (xs : List Value)
-    (i : ℕ) (x : Value) (k mid start : K) (all : List Node) → i < length xs → x ≡ get_or xs i x
-    → mid ≡ plus put k (f (node (at ++ index i ∷ []) (value_of x)))
-    → plus put k (flat_map f (item_nodes at i (items_of (items_view (drop i xs))))) ≡ plus put start all
-    → plus put mid (flat_map f (item_nodes at (i + 1) (items_of (items_view (drop (i + 1) xs)))))
-    ≡ plus put start all
-item_done put f at xs i x k mid start all h is e inv =
-    let others = flat_map f (item_nodes at (i + 1) (items_of (items_view (drop (i + 1) xs)))) in
-    let first : flat_map f (item_nodes at i (items_of (items_view (drop i xs))))
-    ≡ f (node (at ++ index i ∷ []) (value_of x)) ++ others =
-    at_drop_more (λ ys. flat_map f (item_nodes at i (items_of (items_view ys)))) xs i x h
-    ∙ ap (λ y. f (node (at ++ index i ∷ []) (value_of y)) ++ others) (sym is) in
-    stepped put k mid (f (node (at ++ index i ∷ []) (value_of x))) others all start e
-    (sym (ap (plus put k) first) ∙ inv)
-
--- ---- members
-
-pub members_no_deeper : (es others : List Entry) (e : Entry) → es ≡ e ∷ others
-    → members_depth (members_view others) ≤ members_depth (members_view es)
-members_no_deeper es others e is =
-    subst (λ (l : List Entry). members_depth (members_view others) ≤ members_depth (members_view l))
-    (sym is) (omega arith)
-
-pub member_done : {K : Type 0} (put : K → Node → K) (f : Node → List Node) (at : Location)
-    (es others : List Entry) (e : Entry) (k mid start : K) (all : List Node) → es ≡ e ∷ others
-    → mid ≡ plus put k (f (node (at ++ name (chars (string_bytes e.0)) ∷ []) (value_of e.1)))
-    → plus put k (flat_map f (member_nodes at (members_of (members_view es)))) ≡ plus put start all
-    → plus put mid (flat_map f (member_nodes at (members_of (members_view others)))) ≡ plus put start all
-member_done put f at es others e k mid start all is found inv =
-    stepped put k mid (f (node (at ++ name (chars (string_bytes e.0)) ∷ []) (value_of e.1)))
-    (flat_map f (member_nodes at (members_of (members_view others)))) all start found
-    (sym (ap (λ (l : List Entry). plus put k (flat_map f (member_nodes at (members_of (members_view l)))))
-    is) ∙ inv)
-
 -- ---- places
 
 pub none_at : (n : Node) (o : Option ℕ) (p : ℕ) → o ≡ Some p → None ≡ item_of p n.value
@@ -160,40 +99,6 @@ pub one_at : (n : Node) (o : Option ℕ) (p : ℕ) (v : Json) → o ≡ Some p �
     → items_at n (option_to_list o) ≡ node (n.location ++ index p ∷ []) v ∷ []
 one_at n o p v is some = ap (λ x. items_at n (option_to_list x)) is
     ∙ ap (λ x. node_if_some (n.location ++ index p ∷ []) x ++ []) (sym some)
-
-pub place_done : {K : Type 0} (put : K → Node → K) (base : Base) (rest : List Segment) (n : Node)
-    (b : Bounds) (len : ℕ) (next further : Option ℕ) (p : ℕ) (k mid start : K) (all : List Node)
-    → next ≡ Some p → from_place b len further ≡ later b len p
-    → mid ≡ plus put k (reached base rest (items_at n (p ∷ [])))
-    → plus put k (reached base rest (items_at n (from_place b len next))) ≡ plus put start all
-    → plus put mid (reached base rest (items_at n (from_place b len further))) ≡ plus put start all
-place_done put base rest n b len next further p k mid start all is behind e inv =
-    let found = reached base rest (items_at n (p ∷ [])) in
-    let others = reached base rest (items_at n (from_place b len further)) in
-    let first : reached base rest (items_at n (from_place b len next)) ≡ found ++ others =
-    ap (λ o. reached base rest (items_at n (from_place b len o))) is
-    ∙ ap (λ t. reached base rest (t ++ items_at n (later b len p))) (sym (append-nil (child (index p) n)))
-    ∙ reached-append base rest (items_at n (p ∷ [])) (items_at n (later b len p))
-    ∙ ap (λ l. found ++ reached base rest (items_at n l)) (sym behind) in
-    stepped put k mid found others all start e (sym (ap (plus put k) first) ∙ inv)
-
-pub places_over : {K : Type 0} (put : K → Node → K) (base : Base) (rest : List Segment) (n : Node)
-    (b : Bounds) (len : ℕ) (next : Option ℕ) (k start : K) (all : List Node) → next ≡ None
-    → plus put k (reached base rest (items_at n (from_place b len next))) ≡ plus put start all
-    → k ≡ plus put start all
-places_over put base rest n b len next k start all is inv =
-    ended put k start all
-    (sym (ap (plus put k) (ap (λ o. reached base rest (items_at n (from_place b len o))) is
-    ∙ reached-none base rest)) ∙ inv)
-
-pub members_over : {K : Type 0} (put : K → Node → K) (f : Node → List Node) (at : Location)
-    (es : List Entry) (k start : K) (all : List Node) → es ≡ []
-    → plus put k (flat_map f (member_nodes at (members_of (members_view es)))) ≡ plus put start all
-    → k ≡ plus put start all
-members_over put f at es k start all is inv =
-    ended put k start all
-    (sym (ap (λ (l : List Entry). plus put k (flat_map f (member_nodes at (members_of (members_view l)))))
-    is) ∙ inv)
 
 -- ---- some part, and each part
 

@@ -55,8 +55,7 @@ pub fn visit_nodes<V: Visit + Drop>(
 }
 
 /// The locations of the nodes that a query selects in a document, in the order of its nodelist (RFC 9535,
-/// 2.1.2): a node
-/// that is selected more than once stands there as often.
+/// 2.1.2): a node that is selected more than once stands there as often.
 ///
 /// # Errors
 ///

@@ -5,6 +5,7 @@ ghost use Rattle.std.specs.List.{fold};
 ghost use Rattle.jp_check.specs.Plan.{planned_query};
 ghost use Rattle.jp_doc.specs.Document.{document_value};
 ghost use Rattle.jp_eval.specs.Nodelist.{document_nodes};
+ghost use Rattle.jp_part.specs.Part.{part_value};
 ghost use Rattle.jp_regexp.specs.Tests.{Tests, AreRight};
 
 use crate::evaluation::EvalFault;
@@ -15,7 +16,8 @@ use crate::walk::{Task, run};
 use jp_check::Plan;
 use jp_doc::Document;
 use jp_nodes::found::{Found, into_taker};
-use jp_nodes::{Part, Visit};
+use jp_nodes::Visit;
+use jp_part::Part;
 use jp_trail::{Room, Trail};
 use std::alloc::Global;
 use std::mem;
@@ -58,7 +60,21 @@ impl<'p> Evaluator<'p> {
             (document_nodes tests (evaluated_query self.old) (document_value document.now))) }
         ensures query { evaluated_query self.new ≡ evaluated_query self.old }
     {
-        visit_in(self.alloc, self.plan, document, &mut self.room, taker)
+        self.visit_part(Part::root_of(document), taker)
+    }
+
+    /// The same as `visit`, of a document by its whole value, in whatever form it is read.
+    ///
+    /// # Errors
+    ///
+    /// [`EvalFault::Memory`] where a growth of memory was refused. Further documents may be visited then.
+    pub fn visit_part<V: Visit + Drop>(&mut self, root: Part<'_>, taker: V) -> Result<V, EvalFault>
+        ensures nodes { IfOk result (λ t. (tests : Tests) → AreRight tests →
+            V.kept t ≡ fold V.put (V.kept taker)
+            (document_nodes tests (evaluated_query self.old) (part_value root.entry))) }
+        ensures query { evaluated_query self.new ≡ evaluated_query self.old }
+    {
+        visit_in(self.alloc, self.plan, root, &mut self.room, taker)
     }
 
     /// The same as `visit`, where a list of children that the query's own segments walk, and that has at
@@ -84,17 +100,30 @@ impl<'p> Evaluator<'p> {
             (document_nodes tests (evaluated_query self.old) (document_value document.now))) }
         ensures query { evaluated_query self.new ≡ evaluated_query self.old }
     {
+        self.visit_part_split(rt, Part::root_of(document), floor, fork, taker)
+    }
+
+    /// The same as `visit_split`, of a document by its whole value, in whatever form it is read.
+    ///
+    /// # Errors
+    ///
+    /// [`EvalFault::Memory`] where a growth of memory was refused. Further documents may be visited then.
+    pub fn visit_part_split<R: Threads + Sync, F: Fork + Sync, V: Visit + Drop + Send>(
+        &mut self,
+        rt: &R,
+        root: Part<'_>,
+        floor: u64,
+        fork: &F,
+        taker: V,
+    ) -> Result<V, EvalFault>
+        ensures nodes { IfOk result (λ t. (tests : Tests) → AreRight tests →
+            V.kept t ≡ fold V.put (V.kept taker)
+            (document_nodes tests (evaluated_query self.old) (part_value root.entry))) }
+        ensures query { evaluated_query self.new ≡ evaluated_query self.old }
+    {
         let cuts = Cuts::from_floor(floor);
-        split_in(
-            rt,
-            fork,
-            cuts,
-            self.alloc,
-            self.plan,
-            document,
-            &mut self.room,
-            taker,
-        )
+        let (alloc, plan) = (self.alloc, self.plan);
+        split_in(rt, fork, cuts, alloc, plan, root, &mut self.room, taker)
     }
 }
 
@@ -102,15 +131,14 @@ impl<'p> Evaluator<'p> {
 fn visit_in<V: Visit + Drop>(
     alloc: Global,
     plan: &Plan,
-    document: &Document,
+    root: Part<'_>,
     room: &mut Room,
     taker: V,
 ) -> Result<V, EvalFault>
     ensures { IfOk result (λ t. (tests : Tests) → AreRight tests →
         V.kept t ≡ fold V.put (V.kept taker)
-        (document_nodes tests (planned_query plan.now) (document_value document.now))) }
+        (document_nodes tests (planned_query plan.now) (part_value root.entry))) }
 {
-    let root = Part::root_of(document);
     let ready = plan.ready();
     let ground = answer_all::<V>(alloc, root, ready.roots.as_slice())?;
     let mut path = Trail::with_room(alloc, mem::replace(room, Room::new(alloc)));
@@ -136,15 +164,14 @@ fn split_in<R: Threads + Sync, F: Fork + Sync, V: Visit + Drop + Send>(
     cuts: Cuts,
     alloc: Global,
     plan: &Plan,
-    document: &Document,
+    root: Part<'_>,
     room: &mut Room,
     taker: V,
 ) -> Result<V, EvalFault>
     ensures { IfOk result (λ t. (tests : Tests) → AreRight tests →
         V.kept t ≡ fold V.put (V.kept taker)
-        (document_nodes tests (planned_query plan.now) (document_value document.now))) }
+        (document_nodes tests (planned_query plan.now) (part_value root.entry))) }
 {
-    let root = Part::root_of(document);
     let ready = plan.ready();
     let ground = answer_all::<V>(alloc, root, ready.roots.as_slice())?;
     let mut path = Trail::with_room(alloc, mem::replace(room, Room::new(alloc)));

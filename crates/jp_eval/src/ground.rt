@@ -3,11 +3,11 @@
 ghost use Rattle.std.specs.Prelude.{◌≡◌, true};
 ghost use Rattle.jp_check.specs.Ready.{roots_of};
 ghost use Rattle.jp_eval.specs.Rooted.{are_answers};
-ghost use Rattle.jp_nodes.specs.Part.{part_value};
+ghost use Rattle.jp_part.specs.Part.{part_value};
 
 use jp_check::ready::{RootQuery, Want};
-use jp_nodes::Part;
 use jp_nodes::answers::{Answer, is_told, of_one};
+use jp_part::Part;
 use std::alloc::{AllocError, Global};
 
 /// What a walk is given throughout: the document, and what the filters wanted of the `$` queries inside them,

@@ -1,4 +1,5 @@
-//! What a query selects in a document (RFC 9535): nodes, selection, comparison, functions.
+//! What a query selects in a document (RFC 9535, 2.1.2): the walk of a plan through a document, on one thread
+//! or by halves of long lists at once.
 #![tactic(auto)]
 
 mod evaluation;

@@ -3,14 +3,15 @@
 ghost use Rattle.std.specs.Prelude.{◌≡◌, true, IfOk};
 ghost use Rattle.jp_check.specs.Ready.{roots_of, wanted_in};
 ghost use Rattle.jp_eval.specs.Rooted.{is_answer};
-ghost use Rattle.jp_nodes.specs.Part.{part_value};
+ghost use Rattle.jp_part.specs.Part.{part_value};
 
 use crate::ground::Ground;
 use crate::walk::run;
 use jp_check::ready::RootQuery;
 use jp_nodes::answers::Answer;
 use jp_nodes::found::{into_answer, none_found};
-use jp_nodes::{Part, Visit};
+use jp_nodes::Visit;
+use jp_part::Part;
 use jp_trail::Trail;
 use std::alloc::{AllocError, Global};
 

@@ -17,7 +17,8 @@ use crate::stretch::{Stretch, stretches};
 use crate::walk::{Task, go, holds};
 use crate::wide::is_wide;
 use jp_nodes::found::{Found, append, fresh, into_taker, is_full};
-use jp_nodes::{Part, Row, Visit};
+use jp_nodes::{Row, Visit};
+use jp_part::Part;
 use jp_trail::{Link, Trail};
 use std::alloc::{AllocError, Global};
 use std::thread::{Threads, join};
@@ -39,7 +40,7 @@ pub(crate) fn go_split<'v, R: Threads + Sync, F: Fork + Sync, V: Visit + Drop + 
         (done (base_of ground.now) task.entry (here path.old value.entry))) }
     ensures path { OnOk result (path.new ≡ path.old) }
 {
-    if cuts.left == 0 || !is_wide(value.value, cuts.floor) {
+    if cuts.left == 0 || !is_wide(value, cuts.floor) {
         return go(ground, task, value, path, found);
     }
     let Some(further) = settled::<V>(ground, task, value, path)? else {
@@ -68,7 +69,7 @@ fn each_stretch<'v, R: Threads + Sync, F: Fork + Sync, V: Visit + Drop + Send>(
     ensures path { OnOk result (path.new ≡ path.old) }
 {
     for stretch in stretches {
-        let children = stretch.children.row();
+        let children = stretch.children.counted_row();
         each_of(rt, fork, cuts, ground, stretch.task, children, path, found)?;
     }
     Ok(())

@@ -2,20 +2,20 @@
 
 ghost use Rattle.std.specs.Prelude.{◌≡◌, ◌≤◌, IfOk, IfSome};
 ghost use Rattle.std.specs.List.{flat_map};
-ghost use Rattle.serde_json.specs.Data.{depth};
-ghost use Rattle.serde_json.specs.View.{view};
+ghost use Rattle.jp_doc.specs.Height.{height};
 ghost use Rattle.jp_doc.specs.Location.{Location, node};
 ghost use Rattle.jp_eval.specs.Base.{Base};
 ghost use Rattle.jp_nodes.specs.Kids.{all_height};
 ghost use Rattle.jp_eval.specs.Along.{done_along, done_along_all, highest};
 ghost use Rattle.jp_nodes.specs.Nodes.{descendants};
-ghost use Rattle.jp_nodes.specs.Part.{part_value};
+ghost use Rattle.jp_part.specs.Part.{part_value};
 ghost use Rattle.jp_eval.specs.Walk.{picked, picked_by, reached, done};
 
 use crate::walk::Task;
 use jp_check::ready::{Segment, Selector};
 use jp_nodes::children::{children_of, named, placed, sliced};
-use jp_nodes::{Children, Part};
+use jp_nodes::Children;
+use jp_part::Part;
 use jp_value::{bounds_of, place};
 use std::alloc::{AllocError, Global};
 
@@ -34,7 +34,7 @@ pub(crate) fn stretches<'v>(
 ) -> Result<Option<Vec<Stretch<'v>>>, AllocError>
     ensures nodes { IfOk result (λ o. IfSome o (λ v. (base : Base) (at : Location) →
         done_along_all base at v.items ≡ done base task.entry (node at (part_value value.entry)))) }
-    ensures height { IfOk result (λ o. IfSome o (λ v. highest v.items ≤ depth (view value.entry.value.now))) }
+    ensures height { IfOk result (λ o. IfSome o (λ v. highest v.items ≤ height (part_value value.entry))) }
 {
     match task {
         Task::Run(segments) => match segments.split_first() {
@@ -63,7 +63,7 @@ fn spread_deep<'v>(
     ensures nodes { IfOk result (λ v. (base : Base) (at : Location) → done_along_all base at v.items
         ≡ reached base rest.now (flat_map (picked_by base selectors.now)
         (descendants (node at (part_value value.entry))))) }
-    ensures height { IfOk result (λ v. highest v.items ≤ depth (view value.entry.value.now)) }
+    ensures height { IfOk result (λ v. highest v.items ≤ height (part_value value.entry)) }
 {
     let mut stretches = spread(alloc, selectors, rest, value)?;
     stretches.push(Stretch {
@@ -82,7 +82,7 @@ fn spread<'v>(
 ) -> Result<Vec<Stretch<'v>>, AllocError>
     ensures nodes { IfOk result (λ v. (base : Base) (at : Location) → done_along_all base at v.items
         ≡ reached base rest.now (picked_by base selectors.now (node at (part_value value.entry)))) }
-    ensures height { IfOk result (λ v. highest v.items ≤ depth (view value.entry.value.now)) }
+    ensures height { IfOk result (λ v. highest v.items ≤ height (part_value value.entry)) }
 {
     let mut stretches = Vec::new(alloc);
     for selector in selectors {
@@ -100,7 +100,7 @@ fn stretch_of<'v>(
 ) -> Result<Stretch<'v>, AllocError>
     ensures nodes { IfOk result (λ s. (base : Base) (at : Location) → done_along base at s
         ≡ reached base rest.now (picked base selector.now (node at (part_value value.entry)))) }
-    ensures height { IfOk result (λ s. all_height s.children ≤ depth (view value.entry.value.now)) }
+    ensures height { IfOk result (λ s. all_height s.children ≤ height (part_value value.entry)) }
 {
     match selector {
         Selector::Name(name) => {

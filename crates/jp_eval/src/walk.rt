@@ -1,35 +1,31 @@
 //! The walk of a query through a document, depth first, on one path.
 
-ghost use Rattle.std.specs.Prelude.{◌≡◌, ◌≤◌, [], ◌∷◌, length, option_to_list, IfOk, OnOk, IsTrue, true};
-ghost use Rattle.std.specs.List.{All, flat_map, list_any, list_all};
-ghost use Rattle.serde_json.specs.View.{items_view, members_view};
-ghost use Rattle.jp_doc.specs.DocumentValue.{IsDocumentValue};
-ghost use Rattle.jp_doc.specs.Json.{items_of, members_of};
+ghost use Rattle.std.specs.Prelude.{◌≡◌, [], ◌∷◌, option_to_list, IfOk, OnOk, IsTrue, true};
+ghost use Rattle.std.specs.List.{flat_map, list_any, list_all};
 ghost use Rattle.jp_doc.specs.Location.{Location, node};
-ghost use Rattle.jp_nodes.specs.Answers.{tells};
-ghost use Rattle.jp_eval.specs.Base.{Base, base_of};
-ghost use Rattle.jp_value.specs.BoundsView.{bounds_value};
-ghost use Rattle.jp_nodes.specs.Kept.{kept, put_found, plus};
-ghost use Rattle.jp_nodes.specs.Links.{here};
 ghost use Rattle.jp_trail.specs.Links.{link_steps};
-ghost use Rattle.jp_nodes.specs.Nodes.{children, descendants, item_nodes, items_at, member_nodes};
-ghost use Rattle.jp_value.specs.Operands.{operand_value, HasWholeNumbers};
-ghost use Rattle.jp_nodes.specs.Part.{part_value};
-ghost use Rattle.jp_value.specs.Places.{AreWithin, item_count};
-ghost use Rattle.jp_value.specs.Slice.{slice_indexes};
+ghost use Rattle.jp_part.specs.Part.{part_value};
+ghost use Rattle.jp_value.specs.Kinds.{given_value};
+ghost use Rattle.jp_nodes.specs.Answers.{tells};
+ghost use Rattle.jp_nodes.specs.Kept.{kept, put_found, plus};
+ghost use Rattle.jp_nodes.specs.Kids.{row_kids};
+ghost use Rattle.jp_nodes.specs.Links.{here};
+ghost use Rattle.jp_nodes.specs.Nodes.{children, descendants, items_at};
+ghost use Rattle.jp_eval.specs.Base.{Base, base_of};
 ghost use Rattle.jp_eval.specs.Walk.{picked, picked_by, reached, is_true, value_given, nodes_given, done};
 
 use crate::ground::Ground;
 use jp_check::ready::{Logical, Nodes, Segment, Selector, Value as Giver, Want};
 use jp_nodes::answers::{Answer, has_first, of_distinct, operand};
+use jp_nodes::children::{children_of, sliced};
 use jp_nodes::found::{Found, add, into_answer, is_full, none_found};
-use jp_nodes::{Inside, Part, Visit};
+use jp_nodes::{Row, Visit};
+use jp_part::{Kind, Part};
 use jp_trail::{Link, Trail};
 use jp_value::{
-    Bounds, Operand, bounds_of, compare, exactly_one, first_place, length, literal, matches,
-    matches_known, place, place_after, searches, searches_known,
+    bounds_of, compare_kinds, exactly_one, length, literal, matches, matches_known, place, searches,
+    searches_known,
 };
-use serde_json::{Map, Value};
 use std::alloc::AllocError;
 
 /// What is done at a value.
@@ -165,7 +161,9 @@ fn select<'v, V: Visit + Drop>(
         }
         Selector::Slice(slice) => {
             let bounds = bounds_of(slice, value.item_count());
-            each_place(ground, bounds, rest, value, path, found)
+            let children = sliced(ground.alloc, value, bounds)?;
+            let children = Row::Listed(children.as_slice());
+            each_of(ground, Task::Run(rest), children, path, found)
         }
         Selector::Filter(test) => { each_child(ground, Task::Test(test, rest), value, path, found) }
     }
@@ -197,34 +195,6 @@ fn at_place<'v, V: Visit + Drop>(
     Ok(())
 }
 
-/// The segments from each item of a slice.
-#[cycle(walk)]
-fn each_place<'v, V: Visit + Drop>(
-    ground: &Ground<'v>,
-    bounds: Bounds,
-    rest: &'v [Segment],
-    value: Part<'v>,
-    path: &mut Trail<'v>,
-    found: &mut Found<'v, V>,
-) -> Result<(), AllocError>
-    requires { AreWithin (bounds_value bounds) (item_count (part_value value)) }
-    ensures found { OnOk result (kept V.kept found.new
-        ≡ plus (put_found V.put) (kept V.kept found.old) (reached (base_of ground.now) rest.now
-        (items_at (here path.old value.entry)
-        (slice_indexes (bounds_value bounds) (item_count (part_value value.entry)))))) }
-    ensures path { OnOk result (path.new ≡ path.old) }
-{
-    let mut next = first_place(bounds);
-    while let Some(place) = next {
-        if is_full(found) {
-            return Ok(());
-        }
-        at_place(ground, Some(place), rest, value, path, found)?;
-        next = place_after(bounds, place);
-    }
-    Ok(())
-}
-
 /// The task at each child of the value.
 #[cycle(walk)]
 fn each_child<'v, V: Visit + Drop>(
@@ -240,69 +210,35 @@ fn each_child<'v, V: Visit + Drop>(
         (children (here path.old value.entry)))) }
     ensures path { OnOk result (path.new ≡ path.old) }
 {
-    match value.inside() {
-        Inside::Items(items) => each_item(ground, task, items, path, found),
-        Inside::Members(members) => each_member(ground, task, members, path, found),
-        Inside::Nothing => Ok(()),
-    }
+    let children = children_of(ground.alloc, value)?;
+    each_of(ground, task, children.row(), path, found)
 }
 
+/// The task at each of these children, one after another.
 #[cycle(walk)]
-fn each_item<'v, V: Visit + Drop>(
+fn each_of<'v, V: Visit + Drop>(
     ground: &Ground<'v>,
     task: Task<'v>,
-    items: &'v Vec<Value>,
+    children: Row<'_, 'v>,
     path: &mut Trail<'v>,
     found: &mut Found<'v, V>,
 ) -> Result<(), AllocError>
-    requires inside { All IsDocumentValue items.now.items }
-    requires short { length items.now.items ≤ 16777216 }
     ensures found { OnOk result (kept V.kept found.new
         ≡ plus (put_found V.put) (kept V.kept found.old)
-        (flat_map (done (base_of ground.now) task.entry)
-        (item_nodes (link_steps path.old) 0 (items_of (items_view items.now.items))))) }
+        (flat_map (done (base_of ground.now) task.entry) (row_kids (link_steps path.old) children.entry))) }
     ensures path { OnOk result (path.new ≡ path.old) }
 {
-    for (index, value) in items.iter().enumerate() {
+    let mut rest = children;
+    while let Some((child, others)) = rest.split_first() {
         if is_full(found) {
             return Ok(());
         }
-        let child = Part { value };
-        if is_idle(task, child) {
+        rest = others;
+        if is_idle(task, child.part) {
             continue;
         }
-        path.push(Link::Index(index as u32))?;
-        go(ground, task, child, path, found)?;
-        path.pop();
-    }
-    Ok(())
-}
-
-#[cycle(walk)]
-fn each_member<'v, V: Visit + Drop>(
-    ground: &Ground<'v>,
-    task: Task<'v>,
-    members: &'v Map<String, Value>,
-    path: &mut Trail<'v>,
-    found: &mut Found<'v, V>,
-) -> Result<(), AllocError>
-    requires { All (λ m. IsDocumentValue m.1) members.now.entries }
-    ensures found { OnOk result (kept V.kept found.new
-        ≡ plus (put_found V.put) (kept V.kept found.old)
-        (flat_map (done (base_of ground.now) task.entry)
-        (member_nodes (link_steps path.old) (members_of (members_view members.now.entries))))) }
-    ensures path { OnOk result (path.new ≡ path.old) }
-{
-    for (name, value) in members.iter() {
-        if is_full(found) {
-            return Ok(());
-        }
-        let child = Part { value };
-        if is_idle(task, child) {
-            continue;
-        }
-        path.push(Link::Name(name.as_str()))?;
-        go(ground, task, child, path, found)?;
+        path.push(child.link)?;
+        go(ground, task, child.part, path, found)?;
         path.pop();
     }
     Ok(())
@@ -326,7 +262,7 @@ pub(crate) fn holds<'v, V: Visit + Drop>(
         Logical::Not(part) => Ok(!holds::<V>(ground, part, value, path)?),
         Logical::Compare(left, operator, right) => {
             let (left, right) = give_both::<V>(ground, left, right, value, path)?;
-            Ok(compare(*operator, left, right))
+            compare_kinds(ground.alloc, *operator, left, right)
         }
         Logical::Test(nodes) => {
             let answer = ask::<V>(ground, Want::First, nodes, value, path)?;
@@ -402,13 +338,11 @@ fn give_both<'v, V: Visit + Drop>(
     right: &'v Giver,
     value: Part<'v>,
     path: &mut Trail<'v>,
-) -> Result<(Operand<'v>, Operand<'v>), AllocError>
-    ensures left { IfOk result (λ o. operand_value o.0
+) -> Result<(Option<Kind<'v>>, Option<Kind<'v>>), AllocError>
+    ensures left { IfOk result (λ o. given_value o.0
         ≡ value_given (base_of ground.now) left.now (here path.old value.entry)) }
-    ensures right { IfOk result (λ o. operand_value o.1
+    ensures right { IfOk result (λ o. given_value o.1
         ≡ value_given (base_of ground.now) right.now (here path.old value.entry)) }
-    ensures left_whole { IfOk result (λ o. HasWholeNumbers o.0) }
-    ensures right_whole { IfOk result (λ o. HasWholeNumbers o.1) }
     ensures path { OnOk result (path.new ≡ path.old) }
 {
     let left = give::<V>(ground, left, value, path)?;
@@ -423,16 +357,15 @@ fn give<'v, V: Visit + Drop>(
     giver: &'v Giver,
     value: Part<'v>,
     path: &mut Trail<'v>,
-) -> Result<Operand<'v>, AllocError>
-    ensures value { IfOk result (λ o. operand_value o
+) -> Result<Option<Kind<'v>>, AllocError>
+    ensures value { IfOk result (λ o. given_value o
         ≡ value_given (base_of ground.now) giver.now (here path.old value.entry)) }
-    ensures whole { IfOk result HasWholeNumbers }
     ensures path { OnOk result (path.new ≡ path.old) }
 {
     match giver {
-        Giver::Constant(constant) => Ok(literal(constant)),
+        Giver::Constant(constant) => Ok(Some(literal(constant))),
         Giver::Single(nodes) => Ok(operand(ask::<V>(ground, Want::First, nodes, value, path)?)),
-        Giver::Length(of) => Ok(length(give::<V>(ground, of, value, path)?)),
+        Giver::Length(of) => length(ground.alloc, give::<V>(ground, of, value, path)?),
         Giver::Count(nodes) => Ok(operand(ask::<V>(ground, Want::Count, nodes, value, path)?)),
         Giver::Only(nodes) => Ok(operand(ask::<V>(ground, Want::Only, nodes, value, path)?)),
     }

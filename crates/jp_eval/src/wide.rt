@@ -1,10 +1,20 @@
 //! Values with a long list inside.
 
+use jp_part::Part;
 use serde_json::{Map, Value};
+
+/// Whether the value, or one inside of it, may have at least so many children. Of a flat value this is told
+/// by how many nodes it has.
+pub(crate) fn is_wide(value: Part<'_>, floor: u64) -> bool {
+    match value {
+        Part::Tree(tree) => is_wide_tree(tree.value, floor),
+        Part::Flat(flat) => flat.node_count() as u64 >= floor,
+    }
+}
 
 /// Whether the value, or one inside of it, has at least so many children.
 #[cycle(wide)]
-pub(crate) fn is_wide(value: &Value, floor: u64) -> bool {
+fn is_wide_tree(value: &Value, floor: u64) -> bool {
     match value {
         Value::Array(items) => items.len() as u64 >= floor || has_wide_item(items, floor),
         Value::Object(members) => members.len() as u64 >= floor || has_wide_member(members, floor),
@@ -15,7 +25,7 @@ pub(crate) fn is_wide(value: &Value, floor: u64) -> bool {
 #[cycle(wide)]
 fn has_wide_item(items: &Vec<Value>, floor: u64) -> bool {
     for item in items {
-        if is_wide(item, floor) {
+        if is_wide_tree(item, floor) {
             return true;
         }
     }
@@ -25,7 +35,7 @@ fn has_wide_item(items: &Vec<Value>, floor: u64) -> bool {
 #[cycle(wide)]
 fn has_wide_member(members: &Map<String, Value>, floor: u64) -> bool {
     for (_, member) in members.iter() {
-        if is_wide(member, floor) {
+        if is_wide_tree(member, floor) {
             return true;
         }
     }

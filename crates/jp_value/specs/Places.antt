@@ -1,15 +1,9 @@
 -- The indexes of a slice, one after another.
-use Rattle.std.specs.Prelude.{ℕ, ◌+◌, ◌-◌, pos, negsuc, int_lt, ◌≤ℤ◌, ◌+ℤ◌, List, [], ◌∷◌, length, Option}
+use Rattle.std.specs.Prelude.{ℕ, ◌+◌, ◌-◌, pos, negsuc, int_lt, ◌≤ℤ◌, ◌+ℤ◌, List, [], ◌∷◌, Option}
 use Rattle.std.specs.Prelude.{Some, None, IfSome, IsTrue, if◌then◌else◌}
 use Rattle.std.specs.List.{filter, range_with_len}
-use Rattle.jp_doc.specs.Json.{Json, array, item_list}
 use Rattle.jp_value.specs.Slice.{Bounds, meets_rising, meets_falling, numbers_down}
 use Rattle.jp_value.specs.BoundsView.{IsPosition}
-
--- how many items an array has, and 0 of any other value
-abbrev pub item_count : Json → ℕ
-item_count (array vs) = length (item_list vs)
-item_count _ = 0
 
 -- the indexes of a slice that come behind this one
 abbrev pub later : Bounds → ℕ → ℕ → List ℕ

@@ -12,6 +12,8 @@ ghost use Rattle.jp_value.specs.Comparison.{compared};
 ghost use Rattle.jp_value.specs.Functions.{called, handed_value, handed_truth, handed_nodes, as_value};
 ghost use Rattle.jp_value.specs.Functions.{as_truth, as_nodes};
 ghost use Rattle.jp_value.specs.Index.{place_of};
+ghost use Rattle.jp_part.specs.declared.part.Kind.TheVariants.{Null, Whole};
+ghost use Rattle.jp_value.specs.Kinds.{given_value};
 ghost use Rattle.jp_value.specs.Literals.{literal_value, written_value};
 ghost use Rattle.jp_value.specs.Places.{from_place, later};
 ghost use Rattle.jp_value.specs.Slice.{slice_bounds};
@@ -129,6 +131,12 @@ fn order_beyond_sixteen_bits()
 {}
 
 /// What is handed over as a value, as true or false, and as nodes.
+fn given()
+    ensures number { given_value (Some (Whole (negsuc 2))) ≡ Some (whole (negsuc 2)) }
+    ensures null_value { given_value (Some Null) ≡ Some null }
+    ensures nothing { given_value None ≡ None }
+{}
+
 fn handed_over()
     ensures value_of_none { as_value (handed_nodes []) ≡ None }
     ensures value_of_nodes { as_value (handed_nodes (node [] null ∷ [])) ≡ Some null }

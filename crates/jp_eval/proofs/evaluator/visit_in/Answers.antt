@@ -1,6 +1,6 @@
 use Rattle.std.proofs.Common.{is_some, sym, ap, ap₂, ◌∙◌}
 use Rattle.std.specs.List.{fold}
-use Rattle.jp_doc.specs.Document.{document_value}
+use Rattle.jp_part.specs.Part.{part_value}
 use Rattle.jp_check.specs.Plan.{planned_query}
 use Rattle.jp_check.specs.Ready.{roots_of, segments_in}
 use Rattle.jp_eval.specs.Rooted.{root_nodes}
@@ -16,11 +16,11 @@ pub returns : goal.returns
 returns g c =
     let ready = c.ready-ready.result.now in
     let ground = c.in_ok-ground.ground in
-    let value = document_value c.args.document.now in
+    let value = part_value c.args.root in
     let query = planned_query c.args.plan.now in
-    let at_root = c.in_ok-ground.ensures.root ∙ c.root_of-root.ensures in
+    let at_root = c.in_ok-ground.ensures.root in
     let nodes =
-    from_root (base_of ground) ready.segments c.as_slice-2.result.now c.root_of-root.result
+    from_root (base_of ground) ready.segments c.as_slice-2.result.now c.args.root
     c.with_room-path.result c.as_slice-2.ensures.value c.with_room-path.ensures
     (sym c.in_ok-ground.ensures.root)
     ∙ ap₂ (λ v rs. root_nodes v (segments_in (roots_of rs) ready.segments.items)) at_root

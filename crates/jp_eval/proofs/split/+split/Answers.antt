@@ -7,7 +7,7 @@ use Rattle.jp_eval.specs.Base.{base_of}
 use Rattle.jp_nodes.specs.Kept.{kept, put_found, plus, taken, emptied_found}
 use Rattle.jp_nodes.specs.Kids.{row_kids, row_height}
 use Rattle.jp_eval.specs.Along.{done_along_all}
-use Rattle.jp_nodes.specs.Part.{part_value}
+use Rattle.jp_part.specs.Part.{part_value}
 use Rattle.jp_eval.specs.Walk.{done}
 use denote.Param.{param}
 use denote.Param.Send.{IsSend, IsSync, param_send}
@@ -35,7 +35,7 @@ each_stretch-loop-stretch-preserved g t c =
           (c.in_ok-each_of.ensures.found
           ∙ ap (λ ns. plus (put_found g.V.Visit.put) (kept g.V.Visit.kept c.loop-stretch.found)
           (flat_map (done (base_of c.args.ground.now) c.stretch-item.result.task) ns))
-          (c.row-children.ensures.nodes (link_steps c.loop-stretch.path)))
+          (c.counted_row-children.ensures.nodes (link_steps c.loop-stretch.path)))
           c.loop-stretch.invariant.2,
     )
 

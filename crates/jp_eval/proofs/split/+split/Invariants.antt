@@ -1,7 +1,7 @@
 use Rattle.std.proofs.Common.{◌≡◌, ◌+◌, ◌*◌, ◌≤◌, ℕ, drop}
 use Rattle.std.specs.List.{flat_map}
-use Rattle.serde_json.specs.Data.{depth}
-use Rattle.serde_json.specs.View.{view}
+use Rattle.jp_doc.specs.Height.{height}
+use Rattle.jp_part.specs.Part.{part_value}
 use Rattle.jp_eval.specs.Base.{base_of}
 use Rattle.jp_nodes.specs.Kept.{kept, put_found, plus}
 use Rattle.jp_nodes.specs.Kids.{row_kids, row_height, row_length}
@@ -15,7 +15,7 @@ abbrev pub weight : ℕ → ℕ → ℕ → ℕ
 weight height cuts rank = 16 * height + 4 * cuts + rank
 
 abbrev pub decreases-go_split : goal.decreases-go_split
-decreases-go_split g l = weight (depth (view l.value.value.now)) l.cuts.left 15
+decreases-go_split g l = weight (height (part_value l.value)) l.cuts.left 15
 
 abbrev pub decreases-each_stretch : goal.decreases-each_stretch
 decreases-each_stretch g l = weight (highest l.stretches.now) l.cuts.left 14

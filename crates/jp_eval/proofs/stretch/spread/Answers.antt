@@ -1,6 +1,6 @@
 use Rattle.std.proofs.Common.{◌<◌, length, arith}
 use Rattle.jp_doc.specs.Location.{node}
-use Rattle.jp_nodes.specs.Part.{part_value}
+use Rattle.jp_part.specs.Part.{part_value}
 use Rattle.jp_eval.proofs.Stretches.{selector_left, stretch_more, all_spread, highest_more}
 use Rattle.jp_eval.proofs.stretch.spread.Goals as goal
 

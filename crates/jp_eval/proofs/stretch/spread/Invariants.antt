@@ -1,10 +1,9 @@
 use Rattle.std.proofs.Common.{◌≡◌, ◌≤◌, ◌++◌, drop}
-use Rattle.serde_json.specs.Data.{depth}
-use Rattle.serde_json.specs.View.{view}
+use Rattle.jp_doc.specs.Height.{height}
 use Rattle.jp_doc.specs.Location.{Location, node}
 use Rattle.jp_eval.specs.Base.{Base}
 use Rattle.jp_eval.specs.Along.{done_along_all, highest}
-use Rattle.jp_nodes.specs.Part.{part_value}
+use Rattle.jp_part.specs.Part.{part_value}
 use Rattle.jp_eval.specs.Walk.{picked_by, reached}
 use Rattle.jp_eval.proofs.stretch.spread.Given as goal
 
@@ -13,4 +12,4 @@ invariant-loop-selector l =
     ((base : Base) (at : Location) → done_along_all base at l.stretches.items
     ++ reached base l.rest (picked_by base (drop l.selector-index l.selectors) (node at (part_value l.value)))
     ≡ reached base l.rest (picked_by base l.selectors (node at (part_value l.value))))
-    × (highest l.stretches.items ≤ depth (view l.value.value.now))
+    × (highest l.stretches.items ≤ height (part_value l.value))

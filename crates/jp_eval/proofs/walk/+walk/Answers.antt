@@ -8,10 +8,8 @@ use Rattle.std.proofs.lemmas.List.{nil_from_length, at_drop_all}
 use Rattle.std.proofs.lemmas.Result.{IfOk-weaker, on_ok_weaker}
 use Rattle.std.specs.List.{flat_map, list_any, list_all}
 use Rattle.std.specs.Str.{chars}
-use Rattle.serde_json.specs.Data.{depth}
-use Rattle.serde_json.specs.View.{view, items_view}
-use Rattle.jp_doc.specs.DocumentValue.{IsDocumentValue}
-use Rattle.jp_doc.specs.Json.{items_of, value_of, text}
+use Rattle.jp_doc.specs.Height.{height}
+use Rattle.jp_doc.specs.Json.{text}
 use Rattle.jp_doc.specs.Location.{node, name, member_of}
 use Rattle.jp_check.specs.Numbers.{whole_number}
 use Rattle.jp_syntax.specs.View.{text_of}
@@ -23,32 +21,27 @@ use Rattle.jp_value.specs.BoundsView.{bounds_value}
 use Rattle.jp_value.specs.Comparison.{compared}
 use Rattle.jp_value.specs.Functions.{tested, length_value}
 use Rattle.jp_value.specs.Functions.{exactly_one}
-use Rattle.jp_nodes.specs.Nodes.{children, descendants, item_nodes, items_at, node_if_some}
+use Rattle.jp_nodes.specs.Kids.{kids}
+use Rattle.jp_nodes.specs.Nodes.{children, descendants, items_at, node_if_some}
 use Rattle.jp_value.specs.Literals.{written_value}
 use Rattle.jp_nodes.specs.Kept.{kept, put_found, plus}
 use Rattle.jp_nodes.specs.Links.{here}
 use Rattle.jp_trail.specs.Links.{link_steps}
-use Rattle.jp_nodes.specs.Part.{part_value}
-use Rattle.jp_value.specs.Places.{item_count}
+use Rattle.jp_part.specs.Part.{part_value}
 use Rattle.jp_value.specs.RightTests.{tests}
 use Rattle.jp_eval.specs.Walk.{picked, picked_by, reached, is_true, value_given, nodes_given, done}
 use Rattle.jp_eval.proofs.Chains.{reached-none, reached-end, reached-each, reached-filter, reached-plain}
 use Rattle.jp_eval.proofs.Chains.{reached-deep}
-use Rattle.jp_nodes.proofs.InsideParts.{part_is_short}
-use Rattle.jp_nodes.proofs.Keeping.{plus-one, nothing_found, full_enough, not_taken}
+use Rattle.jp_nodes.proofs.Gathered.{kid_done}
+use Rattle.jp_nodes.proofs.Keeping.{plus-one, ended, nothing_found, full_enough, not_taken}
 use Rattle.jp_eval.proofs.ReadyParts.{picked_name, picked_wild, picked_index, picked_slice, picked_filter}
 use Rattle.jp_eval.proofs.ReadyParts.{true_any, true_all, true_not, true_compare, true_test, true_match}
 use Rattle.jp_eval.proofs.ReadyParts.{true_search, true_match_known, true_search_known, given_constant}
 use Rattle.jp_eval.proofs.ReadyParts.{given_single, given_length, given_count, given_only, nodes_here}
 use Rattle.jp_eval.proofs.ReadyParts.{nodes_root, nodes_distinct, true_xor}
-use Rattle.jp_nodes.proofs.BoundsWithin.{within_more}
 use Rattle.jp_eval.proofs.Places.{index_found, slice_found}
 use Rattle.jp_eval.proofs.WalkSteps.{back_up, here_further, link_further, over, applied, descended}
-use Rattle.jp_nodes.proofs.Members.{first_member_left, other_members_left}
-use Rattle.jp_eval.proofs.WalkSteps.{first_left, others_left, no_deeper, item_done}
-use Rattle.jp_eval.proofs.WalkSteps.{members_no_deeper, member_done, members_over}
 use Rattle.jp_eval.proofs.WalkSteps.{any_further, any_found, all_further, all_found, none_at, one_at}
-use Rattle.jp_eval.proofs.WalkSteps.{place_done, places_over}
 use Rattle.jp_eval.proofs.walk.+walk.Goals as goal
 
 pub apply-loop-selector-preserved : goal.apply-loop-selector-preserved
@@ -92,150 +85,44 @@ at_place-returns-in_ok-run-clause-found g t c =
     ∙ sym (one_at (here c.args.path.now c.args.value) c.args.place c.in-Some.place _ c.in-Some.is
     c.in-Some-item.ensures.value))
 
-pub each_item-returns-then-is_full-clause-found : goal.each_item-returns-then-is_full-clause-found
-each_item-returns-then-is_full-clause-found g t c =
+pub each_of-loop-child-preserved : goal.each_of-loop-child-preserved
+each_of-loop-child-preserved g t c =
+    let p : c.pop.new.self ≡ c.loop-child.path = back_up _ _ _ _ _ c.in_ok-push.ensures.ok
+    c.in_ok-go.ensures.path c.pop.ensures in
+    rw p (
+      c.loop-child.invariant.0,
+      omega (arith, c.in-Some.ensures.height, c.loop-child.invariant.1),
+      kid_done (put_found g.V.Visit.put) (done (base_of c.args.ground.now) c.args.task) _ _ _ _ _ _ _
+          (c.in-Some.ensures.nodes (link_steps c.loop-child.path))
+          (c.in_ok-go.ensures.found
+          ∙ ap (λ s. plus (put_found g.V.Visit.put) (kept g.V.Visit.kept c.loop-child.found)
+          (done (base_of c.args.ground.now) c.args.task (node s (part_value c.in-Some.child.part))))
+          (link_further c.loop-child.path c.push.new.self _ c.in_ok-push.ensures.ok))
+          c.loop-child.invariant.2,
+    )
+
+pub each_of-loop-child-preserved-then-is_idle : goal.each_of-loop-child-preserved-then-is_idle
+each_of-loop-child-preserved-then-is_idle g t c = (
+  c.loop-child.invariant.0,
+  omega (arith, c.in-Some.ensures.height, c.loop-child.invariant.1),
+  kid_done (put_found g.V.Visit.put) (done (base_of c.args.ground.now) c.args.task) _ _ _ _ _ _ _
+      (c.in-Some.ensures.nodes (link_steps c.loop-child.path))
+      (nothing_found (put_found g.V.Visit.put) _ _
+      (c.is_idle.ensures c.if-is_idle.true (base_of c.args.ground.now) _))
+      c.loop-child.invariant.2,
+)
+
+pub each_of-returns-then-is_full-clause-found : goal.each_of-returns-then-is_full-clause-found
+each_of-returns-then-is_full-clause-found g t c =
     full_enough (put_found g.V.Visit.put) _ _ _ _ (c.is_full.ensures c.if-is_full.true)
-    c.loop-index.invariant.3
+    c.loop-child.invariant.2
 
-pub each_item-invariant_of-child : goal.each_item-invariant_of-child
-each_item-invariant_of-child g t c =
-    let h : c.loop-index.index < length c.args.items.now.items = search rules in
-    record {
-      kept = first_left IsDocumentValue c.args.items.now.items c.loop-index.index
-          c.value-item.result h (c.value-item.is ∙ ap (λ l. get_or l c.loop-index.index c.value-item.result)
-          c.deref-value-items.ensures.value) c.loop-index.invariant.1;
-    }
-
-pub each_item-loop-index-preserved : goal.each_item-loop-index-preserved
-each_item-loop-index-preserved g t c =
-    let xs = c.args.items.now.items in
-    let i = c.loop-index.index in
-    let h : i < length xs = search rules in
-    let p : c.pop.new.self ≡ c.loop-index.path = back_up _ _ _ _ _ c.in_ok-push.ensures.ok
-    c.in_ok-go.ensures.path c.pop.ensures in
-    let d = no_deeper xs i in
-    rw p (
-      c.loop-index.invariant.0,
-      others_left IsDocumentValue xs i c.loop-index.invariant.1,
-      omega (arith, c.loop-index.invariant.2),
-      item_done (put_found g.V.Visit.put) (done (base_of c.args.ground.now) c.args.task)
-          (link_steps c.loop-index.path) xs i c.value-item.result _ _ _ _ h (c.value-item.is
-          ∙ ap (λ l. get_or l i c.value-item.result) c.deref-value-items.ensures.value)
-          (c.in_ok-go.ensures.found
-          ∙ ap (λ s. plus (put_found g.V.Visit.put) (kept g.V.Visit.kept c.loop-index.found)
-          (done (base_of c.args.ground.now) c.args.task (node s (value_of c.value-item.result))))
-          (link_further c.loop-index.path c.push.new.self _ c.in_ok-push.ensures.ok))
-          c.loop-index.invariant.3,
-    )
-
-pub each_item-loop-index-preserved-then-is_idle : goal.each_item-loop-index-preserved-then-is_idle
-each_item-loop-index-preserved-then-is_idle g t c =
-    let xs = c.args.items.now.items in
-    let i = c.loop-index.index in
-    let h : i < length xs = search rules in
-    let d = no_deeper xs i in (
-      c.loop-index.invariant.0,
-      others_left IsDocumentValue xs i c.loop-index.invariant.1,
-      omega (arith, c.loop-index.invariant.2),
-      item_done (put_found g.V.Visit.put) (done (base_of c.args.ground.now) c.args.task)
-          (link_steps c.loop-index.path) xs i c.value-item.result _ _ _ _ h (c.value-item.is
-          ∙ ap (λ l. get_or l i c.value-item.result) c.deref-value-items.ensures.value)
-          (nothing_found (put_found g.V.Visit.put) _ _
-          (c.is_idle.ensures c.if-is_idle.true (base_of c.args.ground.now) _))
-          c.loop-index.invariant.3,
-    )
-
-pub each_item-returns-clause-found : goal.each_item-returns-clause-found
-each_item-returns-clause-found g t c =
-    let h : length c.args.items.now.items ≤ c.loop-index.index = search rules in
-    over (put_found g.V.Visit.put) (λ xs. flat_map (done (base_of c.args.ground.now) c.args.task)
-    (item_nodes (link_steps c.loop-index.path) c.loop-index.index (items_of (items_view xs))))
-    c.args.items.now.items c.loop-index.index _ _ _ h refl c.loop-index.invariant.3
-
-pub each_member-invariant_of-child : goal.each_member-invariant_of-child
-each_member-invariant_of-child g t c =
-    let e : c.loop-name.name-iterator ≡ (c.in-Some.name.now, c.in-Some.value.now) ∷ c.next.new.self =
-    search rules in
-    record {
-      kept = first_member_left IsDocumentValue c.loop-name.name-iterator c.next.new.self
-          (c.in-Some.name.now, c.in-Some.value.now) e c.loop-name.invariant.1;
-    }
-
-pub each_member-loop-name-preserved : goal.each_member-loop-name-preserved
-each_member-loop-name-preserved g t c =
-    let e : c.loop-name.name-iterator ≡ (c.in-Some.name.now, c.in-Some.value.now) ∷ c.next.new.self =
-    search rules in
-    let p : c.pop.new.self ≡ c.loop-name.path = back_up _ _ _ _ _ c.in_ok-push.ensures.ok
-    c.in_ok-go.ensures.path c.pop.ensures in
-    let d = members_no_deeper c.loop-name.name-iterator c.next.new.self
-    (c.in-Some.name.now, c.in-Some.value.now) e in
-    rw p (
-      c.loop-name.invariant.0,
-      other_members_left IsDocumentValue c.loop-name.name-iterator c.next.new.self
-          (c.in-Some.name.now, c.in-Some.value.now) e c.loop-name.invariant.1,
-      omega (arith, c.loop-name.invariant.2),
-      member_done (put_found g.V.Visit.put) (done (base_of c.args.ground.now) c.args.task)
-          (link_steps c.loop-name.path) c.loop-name.name-iterator c.next.new.self
-          (c.in-Some.name.now, c.in-Some.value.now) _ _ _ _ e
-          (c.in_ok-go.ensures.found
-          ∙ ap (λ s. plus (put_found g.V.Visit.put) (kept g.V.Visit.kept c.loop-name.found)
-          (done (base_of c.args.ground.now) c.args.task (node s (value_of c.in-Some.value.now))))
-          (link_further c.loop-name.path c.push.new.self _ c.in_ok-push.ensures.ok
-          ∙ ap (λ k. link_steps c.loop-name.path ++ name (chars k) ∷ []) c.as_str.ensures.value))
-          c.loop-name.invariant.3,
-    )
-
-pub each_member-loop-name-preserved-then-is_idle : goal.each_member-loop-name-preserved-then-is_idle
-each_member-loop-name-preserved-then-is_idle g t c =
-    let e : c.loop-name.name-iterator ≡ (c.in-Some.name.now, c.in-Some.value.now) ∷ c.next.new.self =
-    search rules in
-    let d = members_no_deeper c.loop-name.name-iterator c.next.new.self
-    (c.in-Some.name.now, c.in-Some.value.now) e in (
-      c.loop-name.invariant.0,
-      other_members_left IsDocumentValue c.loop-name.name-iterator c.next.new.self
-          (c.in-Some.name.now, c.in-Some.value.now) e c.loop-name.invariant.1,
-      omega (arith, c.loop-name.invariant.2),
-      member_done (put_found g.V.Visit.put) (done (base_of c.args.ground.now) c.args.task)
-          (link_steps c.loop-name.path) c.loop-name.name-iterator c.next.new.self
-          (c.in-Some.name.now, c.in-Some.value.now) _ _ _ _ e
-          (nothing_found (put_found g.V.Visit.put) _ _
-          (c.is_idle.ensures c.if-is_idle.true (base_of c.args.ground.now) _))
-          c.loop-name.invariant.3,
-    )
-
-pub each_member-returns-clause-found : goal.each_member-returns-clause-found
-each_member-returns-clause-found g t c =
-    let e : c.loop-name.name-iterator ≡ [] = search rules in
-    members_over (put_found g.V.Visit.put) (done (base_of c.args.ground.now) c.args.task)
-    (link_steps c.loop-name.path) c.loop-name.name-iterator _ _ _ e c.loop-name.invariant.3
-
-pub each_place-first_place-next-requires : goal.each_place-first_place-next-requires
-each_place-first_place-next-requires g t c = within_more _ _ _ (part_is_short c.args.value) c.requires
-
-pub each_place-loop-next-smaller : goal.each_place-loop-next-smaller
-each_place-loop-next-smaller g t c =
-    let e = c.place_after-next.ensures.indexes _ c.requires in
-    rw (c.in-Some.is, e) (omega arith)
-
-pub each_place-loop-next-preserved : goal.each_place-loop-next-preserved
-each_place-loop-next-preserved g t c =
-    rw c.in_ok-at_place.ensures.path (
-      c.loop-next.invariant.0,
-      c.place_after-next.ensures.place,
-      place_done (put_found g.V.Visit.put)
-          (base_of c.args.ground.now) c.args.rest.now (here c.loop-next.path c.args.value)
-          (bounds_value c.args.bounds) (item_count (part_value c.args.value)) c.loop-next.next
-          c.place_after-next.result c.in-Some.place _ _ _ _ c.in-Some.is
-          (c.place_after-next.ensures.indexes _ c.requires) c.in_ok-at_place.ensures.found
-          c.loop-next.invariant.2,
-    )
-
-pub each_place-returns-clause-found : goal.each_place-returns-clause-found
-each_place-returns-clause-found g t c =
-    places_over (put_found g.V.Visit.put) (base_of c.args.ground.now) c.args.rest.now
-    (here c.loop-next.path c.args.value) (bounds_value c.args.bounds)
-    (item_count (part_value c.args.value)) c.loop-next.next _ _ _ c.in_default.is
-    c.loop-next.invariant.2
+pub each_of-returns-clause-found : goal.each_of-returns-clause-found
+each_of-returns-clause-found g t c =
+    ended (put_found g.V.Visit.put) _ _ _
+    (ap (λ ns. plus (put_found g.V.Visit.put) (kept g.V.Visit.kept c.loop-child.found)
+    (flat_map (done (base_of c.args.ground.now) c.args.task) ns))
+    (sym (c.in_default.ensures.nodes (link_steps c.loop-child.path))) ∙ c.loop-child.invariant.2)
 
 pub go-returns-in-Run-clause-found : goal.go-returns-in-Run-clause-found
 go-returns-in-Run-clause-found g t c = rw c.in-Run.is c.run.ensures.found
@@ -325,7 +212,7 @@ run-returns-else-segment-clause-found g t c =
 
 pub select-run-requires : goal.select-run-requires
 select-run-requires g t c =
-    let below : depth (view c.in-Some.child.value.now) < depth (view c.args.value.value.now) =
+    let below : height (part_value c.in-Some.child) < height (part_value c.args.value) =
     c.in-Some.ensures.below in
     search rules
 
@@ -380,23 +267,24 @@ select-returns-in-Index-clause-found g t c =
     c.in-Index.is ∙ picked_index (base_of c.args.ground.now) (here c.args.path.now c.args.value)
     c.in-Index.index))) c.at_place.ensures.found
 
-pub select-returns-in-Slice-clause-found : goal.select-returns-in-Slice-clause-found
-select-returns-in-Slice-clause-found g t c =
-    on_ok_weaker c.each_place.result (λ e. e
-    ∙ ap (λ ps. plus (put_found g.V.Visit.put) (kept g.V.Visit.kept c.args.found.now)
-    (reached (base_of c.args.ground.now) c.args.rest.now (items_at (here c.args.path.now c.args.value)
-    ps)))
-    (slice_found (part_value c.args.value)
+pub select-returns-in_ok-children-in-Slice-clause-found : goal.select-returns-in_ok-children-in-Slice-clause-found
+select-returns-in_ok-children-in-Slice-clause-found g t c =
+    let base = base_of c.args.ground.now in
+    let n = here c.args.path.now c.args.value in
+    let picks = slice_found (part_value c.args.value)
     (written_value (option_map position_text c.in-Slice.slice.first))
     (written_value (option_map position_text c.in-Slice.slice.past))
     (written_value (option_map position_text c.in-Slice.slice.step)) c.item_count-in-Slice.result
     (bounds_value c.bounds_of-bounds.result) c.item_count-in-Slice.ensures.count
-    c.bounds_of-bounds.ensures.bounds)
-    ∙ ap (λ ns. plus (put_found g.V.Visit.put) (kept g.V.Visit.kept c.args.found.now)
-    (reached (base_of c.args.ground.now) c.args.rest.now ns))
-    (sym (ap (λ x. picked (base_of c.args.ground.now) x (here c.args.path.now c.args.value))
-    c.in-Slice.is ∙ picked_slice (base_of c.args.ground.now) (here c.args.path.now c.args.value)
-    c.in-Slice.slice))) c.each_place.ensures.found
+    c.bounds_of-bounds.ensures.bounds in
+    on_ok_weaker c.each_of.result (λ e. e
+    ∙ ap (plus (put_found g.V.Visit.put) (kept g.V.Visit.kept c.args.found.now))
+    (ap (flat_map (λ k. reached base c.args.rest.now (k ∷ [])))
+    (ap (kids (link_steps c.args.path.now)) c.as_slice.ensures.value
+    ∙ c.in_ok-children-in-Slice.ensures.nodes (link_steps c.args.path.now) ∙ ap (items_at n) picks)
+    ∙ sym (reached-each base c.args.rest.now _) ∙ ap (reached base c.args.rest.now)
+    (sym (ap (λ x. picked base x n) c.in-Slice.is ∙ picked_slice base n c.in-Slice.slice))))
+    c.each_of.ensures.found
 
 pub select-returns-in-Filter-clause-found : goal.select-returns-in-Filter-clause-found
 select-returns-in-Filter-clause-found g t c =
@@ -467,45 +355,10 @@ any-returns-then-branch-clause-truth g t c =
     c.args.parts.now c.loop-part.part-index c.part-item.result h c.part-item.is on)
     ∙ c.loop-part.invariant.1
 
-pub each_child-returns-in-Items-clause-found : goal.each_child-returns-in-Items-clause-found
-each_child-returns-in-Items-clause-found g t c =
-    on_ok_weaker c.each_item.result (λ e. e
-    ∙ ap (λ ns. plus (put_found g.V.Visit.put) (kept g.V.Visit.kept c.args.found.now)
-    (flat_map (done (base_of c.args.ground.now) c.args.task) ns))
-    (sym (c.in-Items.ensures.children (link_steps c.args.path.now)))) c.each_item.ensures.found
-
-pub each_child-returns-in-Members-clause-found : goal.each_child-returns-in-Members-clause-found
-each_child-returns-in-Members-clause-found g t c =
-    on_ok_weaker c.each_member.result (λ e. e
-    ∙ ap (λ ns. plus (put_found g.V.Visit.put) (kept g.V.Visit.kept c.args.found.now)
-    (flat_map (done (base_of c.args.ground.now) c.args.task) ns))
-    (sym (c.in-Members.ensures.children (link_steps c.args.path.now)))) c.each_member.ensures.found
-
-pub each_child-returns-in-Nothing-clause-found : goal.each_child-returns-in-Nothing-clause-found
-each_child-returns-in-Nothing-clause-found g t c =
-    nothing_found (put_found g.V.Visit.put) _ _
-    (ap (flat_map (done (base_of c.args.ground.now) c.args.task))
-    (c.in-Nothing.ensures.children (link_steps c.args.path.now)))
-
 pub apply-returns-then-is_full-clause-found : goal.apply-returns-then-is_full-clause-found
 apply-returns-then-is_full-clause-found g t c =
     full_enough (put_found g.V.Visit.put) _ _ _ _ (c.is_full.ensures c.if-is_full.true)
     c.loop-selector.invariant.1
-
-pub each_member-returns-then-is_full-clause-found : goal.each_member-returns-then-is_full-clause-found
-each_member-returns-then-is_full-clause-found g t c =
-    full_enough (put_found g.V.Visit.put) _ _ _ _ (c.is_full.ensures c.if-is_full.true)
-    c.loop-name.invariant.3
-
-pub each_place-returns-then-is_full-clause-found : goal.each_place-returns-then-is_full-clause-found
-each_place-returns-then-is_full-clause-found g t c =
-    full_enough (put_found g.V.Visit.put) _ _ _ _ (c.is_full.ensures c.if-is_full.true)
-    c.loop-next.invariant.2
-
-pub each_place-place_after-next-requires-clause-bounds
-    : goal.each_place-place_after-next-requires-clause-bounds
-each_place-place_after-next-requires-clause-bounds g t c = within_more _ _ _ (part_is_short c.args.value)
-    c.requires
 
 pub holds-returns-in_ok-text-in-Match-clause-truth : goal.holds-returns-in_ok-text-in-Match-clause-truth
 holds-returns-in_ok-text-in-Match-clause-truth g t c =
@@ -530,10 +383,12 @@ pub holds-returns-in_ok-left-in-Compare-clause-truth : goal.holds-returns-in_ok-
 holds-returns-in_ok-left-in-Compare-clause-truth g t c =
     let base = base_of c.args.ground.now in
     let n = here c.args.path.now c.args.value in
-    c.compare.ensures ∙ ap₂ (compared c.in-Compare.operator) c.in_ok-left-in-Compare.ensures.left
+    IfOk-weaker c.compare_kinds.result _ _ (λ b e. e
+    ∙ ap₂ (compared c.in-Compare.operator) c.in_ok-left-in-Compare.ensures.left
     c.in_ok-left-in-Compare.ensures.right
     ∙ sym (ap (λ l. is_true base l n) c.in-Compare.is
-    ∙ true_compare base n c.in-Compare.left c.in-Compare.operator c.in-Compare.right)
+    ∙ true_compare base n c.in-Compare.left c.in-Compare.operator c.in-Compare.right))
+    c.compare_kinds.ensures
 
 pub holds-returns-in_ok-text-in-MatchRead-clause-truth
     : goal.holds-returns-in_ok-text-in-MatchRead-clause-truth
@@ -569,19 +424,20 @@ holds-returns-in_ok-right-in-Xor-clause-truth g t c =
     c.in-Xor.right)
 
 pub give-returns-in-Constant-clause-value : goal.give-returns-in-Constant-clause-value
-give-returns-in-Constant-clause-value g t c = c.literal.ensures.value
+give-returns-in-Constant-clause-value g t c = ap Some c.literal.ensures
     ∙ sym (ap (λ v. value_given (base_of c.args.ground.now) v (here c.args.path.now c.args.value))
     c.in-Constant.is ∙ given_constant (base_of c.args.ground.now) (here c.args.path.now c.args.value)
     c.in-Constant.constant)
 
 pub give-returns-in_ok-give-in-Length-clause-value : goal.give-returns-in_ok-give-in-Length-clause-value
-give-returns-in_ok-give-in-Length-clause-value g t c = c.length.ensures.value
+give-returns-in_ok-give-in-Length-clause-value g t c =
+    let base = base_of c.args.ground.now in
+    let n = here c.args.path.now c.args.value in
+    IfOk-weaker c.length.result _ _ (λ k e. e
     ∙ ap length_value (c.in_ok-give-in-Length.ensures.value
-    ∙ ap (λ v. value_given (base_of c.args.ground.now) v (here c.args.path.now c.args.value))
-    c.deref.ensures) ∙ sym
-    (ap (λ v. value_given (base_of c.args.ground.now) v (here c.args.path.now c.args.value))
-    c.in-Length.is ∙ given_length (base_of c.args.ground.now) (here c.args.path.now c.args.value)
-    c.in-Length.of)
+    ∙ ap (λ v. value_given base v n) c.deref.ensures)
+    ∙ sym (ap (λ v. value_given base v n) c.in-Length.is ∙ given_length base n c.in-Length.of))
+    c.length.ensures
 
 pub holds-returns-in_ok-answer-in-Test-clause-truth : goal.holds-returns-in_ok-answer-in-Test-clause-truth
 holds-returns-in_ok-answer-in-Test-clause-truth g t c =

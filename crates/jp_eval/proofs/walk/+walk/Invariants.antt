@@ -1,26 +1,20 @@
 use Rattle.std.proofs.Common.{◌≡◌, ◌+◌, ◌*◌, ◌≤◌, ℕ, max, drop, length}
-use Rattle.std.specs.List.{All, flat_map, list_any, list_all}
+use Rattle.std.specs.List.{flat_map, list_any, list_all}
 use denote.Param.Weighed.{most}
-use Rattle.serde_json.specs.Data.{depth, items_depth, members_depth}
-use Rattle.serde_json.specs.View.{view, items_view, members_view}
-use Rattle.jp_doc.specs.DocumentValue.{IsDocumentValue}
-use Rattle.jp_doc.specs.Json.{items_of, members_of}
+use Rattle.jp_doc.specs.Height.{height}
 use Rattle.jp_check.specs.declared.ready.Segment.{size-Segment}
 use Rattle.jp_check.specs.declared.ready.Selector.{size-Selector}
 use Rattle.jp_check.specs.declared.ready.Logical.{size-Logical}
 use Rattle.jp_check.specs.declared.ready.Value.{size-Value}
 use Rattle.jp_check.specs.declared.ready.Nodes.{size-Nodes}
 use Rattle.jp_eval.specs.Base.{base_of}
-use Rattle.jp_value.specs.BoundsView.{bounds_value}
 use Rattle.jp_nodes.specs.Kept.{kept, put_found, plus}
 use Rattle.jp_nodes.specs.Links.{here}
 use Rattle.jp_trail.specs.Links.{link_steps}
-use Rattle.jp_nodes.specs.Nodes.{item_nodes, items_at, member_nodes}
-use Rattle.jp_nodes.specs.Part.{part_value}
-use Rattle.jp_value.specs.Places.{from_place, item_count, IfPlace}
-use Rattle.jp_value.specs.Slice.{slice_indexes}
+use Rattle.jp_nodes.specs.Kids.{row_kids, row_height, row_length}
+use Rattle.jp_part.specs.Part.{part_value}
 use Rattle.jp_eval.specs.Walk.{picked_by, reached, is_true, done}
-use Rattle.jp_nodes.specs.declared.part.Part.{Part}
+use Rattle.jp_part.specs.declared.part.Part.{Part}
 use Rattle.jp_eval.specs.declared.walk.Task.{Task}
 use Rattle.jp_eval.specs.declared.walk.Task.TheVariants.{Run, Descend, Test}
 use Rattle.jp_eval.proofs.walk.+walk.Given as goal
@@ -30,9 +24,9 @@ task_size (Run rest) = most size-Segment rest.now
 task_size (Descend xs rest) = max (most size-Selector xs.now) (most size-Segment rest.now)
 task_size (Test l rest) = max (size-Logical l.now) (most size-Segment rest.now)
 
--- the size of what is left of the query, then the depth of the value, then the rank of the function
+-- the size of what is left of the query, then the height of the value, then the rank of the function
 abbrev pub weight : ℕ → Part → ℕ → ℕ
-weight size p rank = 2000 * size + 8 * depth (view p.value.now) + rank
+weight size p rank = 2000 * size + 8 * height (part_value p) + rank
 
 -- a descent at a value does not come back to it
 abbrev pub task_rank : Task → ℕ
@@ -57,18 +51,11 @@ decreases-select g l = weight (max (size-Selector l.selector.now) (most size-Seg
 abbrev pub decreases-at_place : goal.decreases-at_place
 decreases-at_place g l = weight (most size-Segment l.rest.now) l.value 2
 
-abbrev pub decreases-each_place : goal.decreases-each_place
-decreases-each_place g l = weight (most size-Segment l.rest.now) l.value 3
-
 abbrev pub decreases-each_child : goal.decreases-each_child
 decreases-each_child g l = weight (task_size l.task) l.value 3
 
-abbrev pub decreases-each_item : goal.decreases-each_item
-decreases-each_item g l = 2000 * task_size l.task + 8 * items_depth (items_view l.items.now.items) + 9
-
-abbrev pub decreases-each_member : goal.decreases-each_member
-decreases-each_member g l = 2000 * task_size l.task + 8 * members_depth
-    (members_view l.members.now.entries) + 9
+abbrev pub decreases-each_of : goal.decreases-each_of
+decreases-each_of g l = 2000 * task_size l.task + 8 * row_height l.children + 1
 
 abbrev pub decreases-ask : goal.decreases-ask
 decreases-ask g l = weight (size-Nodes l.nodes.now) l.value 7
@@ -97,47 +84,17 @@ invariant-apply-loop-selector g l =
     ≡ plus (put_found g.V.Visit.put) (kept g.V.Visit.kept l.initial.found)
     (reached root l.rest (picked_by root l.selectors (here l.initial.path l.value))))
 
-abbrev pub invariant-each_place-loop-next : goal.invariant-each_place-loop-next
-invariant-each_place-loop-next g l =
-    let root = base_of l.ground in
-    let bounds = bounds_value l.bounds in
-    let len = item_count (part_value l.value) in
+abbrev pub invariant-each_of-loop-child : goal.invariant-each_of-loop-child
+invariant-each_of-loop-child g l =
     (l.path ≡ l.initial.path)
-    × IfPlace bounds l.next
+    × (row_height l.rest ≤ row_height l.children)
     × (plus (put_found g.V.Visit.put) (kept g.V.Visit.kept l.found)
-    (reached root l.rest (items_at (here l.path l.value) (from_place bounds len l.next)))
+    (flat_map (done (base_of l.ground) l.task) (row_kids (link_steps l.path) l.rest))
     ≡ plus (put_found g.V.Visit.put) (kept g.V.Visit.kept l.initial.found)
-    (reached root l.rest (items_at (here l.initial.path l.value) (slice_indexes bounds len))))
+    (flat_map (done (base_of l.ground) l.task) (row_kids (link_steps l.initial.path) l.children)))
 
-abbrev pub decreases-each_place-loop-next : goal.decreases-each_place-loop-next
-decreases-each_place-loop-next g l =
-    length (from_place (bounds_value l.bounds) (item_count (part_value l.value)) l.next)
-
-abbrev pub invariant-each_item-loop-index : goal.invariant-each_item-loop-index
-invariant-each_item-loop-index g l =
-    let root = base_of l.ground in
-    (l.path ≡ l.initial.path)
-    × All IsDocumentValue (drop l.index l.items.items)
-    × (items_depth (items_view (drop l.index l.items.items)) ≤ items_depth (items_view l.items.items))
-    × (plus (put_found g.V.Visit.put) (kept g.V.Visit.kept l.found)
-    (flat_map (done root l.task)
-    (item_nodes (link_steps l.path) l.index (items_of (items_view (drop l.index l.items.items)))))
-    ≡ plus (put_found g.V.Visit.put) (kept g.V.Visit.kept l.initial.found)
-    (flat_map (done root l.task) (item_nodes (link_steps l.initial.path) 0
-    (items_of (items_view l.items.items)))))
-
-abbrev pub invariant-each_member-loop-name : goal.invariant-each_member-loop-name
-invariant-each_member-loop-name g l =
-    let root = base_of l.ground in
-    (l.path ≡ l.initial.path)
-    × All (λ m. IsDocumentValue m.1) l.name-iterator
-    × (members_depth (members_view l.name-iterator) ≤ members_depth (members_view l.members.entries))
-    × (plus (put_found g.V.Visit.put) (kept g.V.Visit.kept l.found)
-    (flat_map (done root l.task)
-    (member_nodes (link_steps l.path) (members_of (members_view l.name-iterator))))
-    ≡ plus (put_found g.V.Visit.put) (kept g.V.Visit.kept l.initial.found)
-    (flat_map (done root l.task) (member_nodes (link_steps l.initial.path)
-    (members_of (members_view l.members.entries)))))
+abbrev pub decreases-each_of-loop-child : goal.decreases-each_of-loop-child
+decreases-each_of-loop-child g l = row_length l.rest
 
 abbrev pub invariant-any-loop-part : goal.invariant-any-loop-part
 invariant-any-loop-part g l =

@@ -2,7 +2,7 @@ use Rattle.std.proofs.Common.{[], ap, ap₂, ◌∙◌}
 use Rattle.jp_check.specs.Ready.{roots_of, wanted_in}
 use Rattle.jp_check.proofs.MakingSteps.{listed_more}
 use Rattle.jp_eval.specs.Rooted.{are_answers}
-use Rattle.jp_nodes.specs.Part.{part_value}
+use Rattle.jp_part.specs.Part.{part_value}
 use Rattle.jp_eval.proofs.Answered.{one_more}
 use Rattle.jp_eval.proofs.ground.Ground.with.Goals as goal
 
