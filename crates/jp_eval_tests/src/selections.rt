@@ -2,8 +2,11 @@
 //! RFC 9535.
 
 use jp_check::plan;
-use jp_doc::{Document, Step};
-use jp_eval::{Bounds, Operand, equal, evaluate, less, slice_bounds};
+use jp_doc::{Document, Location, Step};
+use jp_eval::{Bounds, Evaluator, Operand, equal, evaluate, less, slice_bounds};
+use jp_flat::FlatReader;
+use jp_nodes::Locations;
+use jp_part::Part;
 use jp_path::write_path;
 use std::alloc::Global;
 use std::test::Fail;
@@ -92,8 +95,26 @@ $["\uD83D\uDE00"] on {"😀":1} gives $['😀']"#;
 fn selected(alloc: Global, query: &str, document: &str) -> Result<String, Fail> {
     let plan = plan(alloc, query)?;
     let document = Document::read(alloc, document.as_bytes())?;
+    paths(alloc, evaluate(alloc, &plan, &document)?.as_slice())
+}
+
+/// The same, where the document is read flat.
+fn selected_flat(alloc: Global, query: &str, document: &str) -> Result<String, Fail> {
+    let plan = plan(alloc, query)?;
+    let mut reader = FlatReader::new(alloc);
+    let Some(document) = reader.read(document.as_bytes())? else {
+        return Ok(String::from_str(alloc, "not flat")?);
+    };
+    let none = Locations {
+        locations: Vec::new(alloc),
+    };
+    let found = Evaluator::new(alloc, &plan).visit_part(Part::root_of_flat(&document), none)?;
+    paths(alloc, found.locations.as_slice())
+}
+
+fn paths(alloc: Global, locations: &[Location]) -> Result<String, Fail> {
     let mut paths = String::new(alloc);
-    for location in &evaluate(alloc, &plan, &document)? {
+    for location in locations {
         if !paths.is_empty() {
             paths.push(' ')?;
         }
@@ -116,6 +137,8 @@ fn rows(rt: HostRuntime) -> Result<(), Fail> {
         };
         let paths = selected(rt.alloc(), query, document)?;
         assert_eq!(rt; paths.as_str(), wanted, "{row}");
+        let paths = selected_flat(rt.alloc(), query, document)?;
+        assert_eq!(rt; paths.as_str(), wanted, "{row}, read flat");
     }
     Ok(())
 }

@@ -3,7 +3,10 @@
 use crate::forks::{Counting, Meeting};
 use jp_check::plan;
 use jp_doc::{Document, Location, Step};
-use jp_eval::{OpenFork, evaluate, evaluate_split};
+use jp_eval::{Evaluator, OpenFork, evaluate, evaluate_split};
+use jp_flat::FlatReader;
+use jp_nodes::Locations;
+use jp_part::Part;
 use jp_path::write_path;
 use std::alloc::Global;
 use std::test::Fail;
@@ -54,6 +57,36 @@ fn rows(rt: HostRuntime) -> Result<(), Fail> {
             let floor = FLOORS[time % FLOORS.len()];
             let found = evaluate_split(&rt, alloc, &plan, &document, floor, &OpenFork)?;
             let paths = paths(alloc, found.as_slice())?;
+            assert_eq!(rt; paths.as_str(), wanted, "{row}");
+        }
+    }
+    Ok(())
+}
+
+/// Each row with each floor, where the document is read flat.
+#[test]
+fn flat_rows(rt: HostRuntime) -> Result<(), Fail> {
+    let alloc = rt.alloc();
+    for row in ROWS.lines() {
+        let Some((query, rest)) = row.split_once(" on ") else {
+            panic!(rt; "{row}");
+        };
+        let Some((document, wanted)) = rest.split_once(" gives ") else {
+            panic!(rt; "{row}");
+        };
+        let plan = plan(alloc, query)?;
+        let mut reader = FlatReader::new(alloc);
+        let Some(document) = reader.read(document.as_bytes())? else {
+            panic!(rt; "{row}");
+        };
+        let root = Part::root_of_flat(&document);
+        for floor in FLOORS {
+            let none = Locations {
+                locations: Vec::new(alloc),
+            };
+            let mut evaluator = Evaluator::new(alloc, &plan);
+            let found = evaluator.visit_part_split(&rt, root, floor, &OpenFork, none)?;
+            let paths = paths(alloc, found.locations.as_slice())?;
             assert_eq!(rt; paths.as_str(), wanted, "{row}");
         }
     }

@@ -13,8 +13,7 @@ pub struct Broken;
 /// Where the bytes come from.
 ///
 /// An `Err` comes exactly from a call that fails. An Ok `read` hands out at most the buffer's length; 0 for a
-/// buffer that
-/// isn't empty is the end of the input.
+/// buffer that isn't empty is the end of the input.
 pub trait Source {
     /// The bytes that are still to come, where they are known, as those in memory are.
     ghost remaining: { Self → Option (List ℕ) };
@@ -62,8 +61,7 @@ pub trait Source {
 /// Where the bytes go.
 ///
 /// An `Err` comes exactly from a call that fails. A `write` that fails takes no byte; an Ok `write` of some
-/// bytes takes at
-/// least one, and never more than it was given.
+/// bytes takes at least one, and never more than it was given.
 pub trait Sink {
     /// The bytes that it has taken, where they are known, as those in memory are.
     ghost contents: { Self → Option (List ℕ) };

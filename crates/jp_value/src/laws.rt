@@ -39,8 +39,7 @@ pub fn comparison()
 {}
 
 /// Objects whose names rise, as those of a document do, are equal exactly where each name has equal values in
-/// both, or
-/// stands in neither.
+/// both, or stands in neither.
 #[tactic(auto, using(crate::proofs::MembersByName::objects_by_name))]
 pub fn objects()
     ensures { (ms ns : Members) → MembersRise ms → MembersRise ns
