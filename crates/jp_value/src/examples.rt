@@ -1,6 +1,7 @@
 //! Worked examples of the definitions.
 
 ghost use Rattle.std.specs.Prelude.{◌≡◌, [], ◌∷◌, codes, pos, negsuc, Some, None, true, false};
+ghost use Rattle.jp_part.specs.declared.part.Kind.TheVariants.{Null, Truth, Whole};
 ghost use Rattle.jp_doc.specs.Json.{null, truth, whole, text, object, no_members};
 ghost use Rattle.jp_doc.specs.Location.{node};
 ghost use Rattle.jp_syntax.specs.Tree as tree;
@@ -12,7 +13,6 @@ ghost use Rattle.jp_value.specs.Comparison.{compared};
 ghost use Rattle.jp_value.specs.Functions.{called, handed_value, handed_truth, handed_nodes, as_value};
 ghost use Rattle.jp_value.specs.Functions.{as_truth, as_nodes};
 ghost use Rattle.jp_value.specs.Index.{place_of};
-ghost use Rattle.jp_part.specs.declared.part.Kind.TheVariants.{Null, Whole};
 ghost use Rattle.jp_value.specs.Kinds.{given_value};
 ghost use Rattle.jp_value.specs.Literals.{literal_value, written_value};
 ghost use Rattle.jp_value.specs.Places.{from_place, later};
@@ -85,6 +85,20 @@ fn operators()
         (Some (obj2 (codes "a") null (codes "b") null)) ≡ false }
 {}
 
+/// What is given by its kind: nothing, or a value. `null` is a value, and `false` and 0 are values too.
+fn given_by_kinds()
+    ensures nothing { given_value None ≡ None }
+    ensures null { given_value (Some Null) ≡ Some null }
+    ensures truth { given_value (Some (Truth false)) ≡ Some (truth false) }
+    ensures number { given_value (Some (Whole (pos 0))) ≡ Some (num 0) }
+    ensures number_below_zero { given_value (Some (Whole (negsuc 6))) ≡ Some (whole (negsuc 6)) }
+    ensures nothing_and_null { compared Eq (given_value None) (given_value (Some Null)) ≡ false }
+    ensures number_and_truth { compared Eq (given_value (Some (Whole (pos 0))))
+        (given_value (Some (Truth false))) ≡ false }
+    ensures numbers { compared Lt (given_value (Some (Whole (negsuc 6)))) (given_value (Some (Whole (pos 0))))
+        ≡ true }
+{}
+
 /// Values that are equal, and values that are not, of each kind.
 fn equality()
     ensures nulls { compared Eq (Some null) (Some null) ≡ true }
@@ -131,12 +145,6 @@ fn order_beyond_sixteen_bits()
 {}
 
 /// What is handed over as a value, as true or false, and as nodes.
-fn given()
-    ensures number { given_value (Some (Whole (negsuc 2))) ≡ Some (whole (negsuc 2)) }
-    ensures null_value { given_value (Some Null) ≡ Some null }
-    ensures nothing { given_value None ≡ None }
-{}
-
 fn handed_over()
     ensures value_of_none { as_value (handed_nodes []) ≡ None }
     ensures value_of_nodes { as_value (handed_nodes (node [] null ∷ [])) ≡ Some null }

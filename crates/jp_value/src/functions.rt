@@ -4,13 +4,13 @@
 ghost use Rattle.std.specs.Prelude.{◌≡◌, Some, length, option_map, IfOk};
 ghost use Rattle.std.specs.Str.{chars};
 ghost use Rattle.jp_doc.specs.Json as json;
+ghost use Rattle.jp_part.specs.Inside.{kind_value};
 ghost use Rattle.jp_syntax.specs.View.{text_of as characters};
 ghost use Rattle.jp_check.specs.Ready.{constant_of};
 ghost use Rattle.jp_value.specs.Functions as spec;
+ghost use Rattle.jp_value.specs.Kinds.{given_value};
 ghost use Rattle.jp_value.specs.Texts.{text_in};
 ghost use Rattle.jp_value.specs.Literals.{literal_value};
-ghost use Rattle.jp_part.specs.Inside.{kind_value};
-ghost use Rattle.jp_value.specs.Kinds.{given_value};
 ghost use Rattle.jp_value.specs.RightTests.{tests};
 
 use jp_check::ready::{Constant, KnownPattern};
@@ -83,7 +83,9 @@ pub fn exactly_one(left: bool, right: bool) -> bool
     left != right
 }
 
-/// Whether the whole text matches the pattern. Of anything but two texts it is false.
+/// Whether the whole text matches the pattern (RFC 9535, 2.4.6). Of anything but two texts it is false.
+///
+/// `AllocError` if a growth was refused.
 pub fn matches(
     alloc: Global,
     text: Option<Kind<'_>>,
@@ -98,7 +100,10 @@ pub fn matches(
     }
 }
 
-/// Whether some part of the text matches the pattern. Of anything but two texts it is false.
+/// Whether some part of the text matches the pattern (RFC 9535, 2.4.7). Of anything but two texts it is
+/// false.
+///
+/// `AllocError` if a growth was refused.
 pub fn searches(
     alloc: Global,
     text: Option<Kind<'_>>,
@@ -113,7 +118,9 @@ pub fn searches(
     }
 }
 
-/// Whether the whole text matches a literal pattern. Of anything but a text it is false.
+/// Whether the whole text matches a literal pattern (RFC 9535, 2.4.6). Of anything but a text it is false.
+///
+/// `AllocError` if a growth was refused.
 pub fn matches_known(
     alloc: Global,
     text: Option<Kind<'_>>,
@@ -128,7 +135,10 @@ pub fn matches_known(
     }
 }
 
-/// Whether some part of the text matches a literal pattern. Of anything but a text it is false.
+/// Whether some part of the text matches a literal pattern (RFC 9535, 2.4.7). Of anything but a text it is
+/// false.
+///
+/// `AllocError` if a growth was refused.
 pub fn searches_known(
     alloc: Global,
     text: Option<Kind<'_>>,

@@ -56,7 +56,12 @@ fn same_members(alloc: Global, left: Members<'_>, right: Members<'_>) -> Result<
 {
     let left = left.gather(alloc)?;
     let right = right.gather(alloc)?;
-    same_rows(alloc, left.row(), right.row())
+    let ones = left.row();
+    let others = right.row();
+    if ones.len() != others.len() {
+        return Ok(false);
+    }
+    same_rows(alloc, ones, others)
 }
 
 #[cycle(same_kind)]
