@@ -14,7 +14,7 @@ ghost use Rattle.jp_path.specs.OutputLine.{line_text};
 use crate::chunks::{COPIED, append_chunks, join_chunks, push_chunk};
 use crate::fault_line::write_fault;
 use crate::output_line::append_number;
-use crate::value_text::append_text;
+use crate::tree_text::append_tree;
 use jp_doc::DocFault;
 use jp_eval::Visit;
 use jp_trail::Trail;
@@ -210,7 +210,7 @@ fn append_parts(
     append_number(number, out)?;
     trail.append_path(out)?;
     out.push(b'\t')?;
-    append_text(alloc, value, room, out)?;
+    append_tree(alloc, value, room, out)?;
     out.push(b'\n')?;
     Ok(())
 }
