@@ -4,22 +4,22 @@ use Rattle.std.proofs.Common.{drop, sym, ap, ◌∙◌, subst, append_assoc, ari
 use Rattle.std.proofs.lemmas.List.{map-append}
 use Rattle.std.proofs.lemmas.List.Concat.{flat_map-append}
 use Rattle.std.specs.List.{flat_map}
-use Rattle.serde_json.specs.Data.{depth}
-use Rattle.serde_json.specs.View.{view}
+use Rattle.jp_doc.specs.Height.{height}
 use Rattle.jp_doc.specs.Location.{Location, Node}
+use Rattle.jp_part.specs.Part.{part_value}
 use Rattle.jp_nodes.specs.Kept.{plus}
 use Rattle.jp_nodes.specs.Kids.{kid, kids, kids_height}
 use Rattle.jp_nodes.specs.declared.row.Child.{Child}
 use Rattle.jp_nodes.proofs.Keeping.{plus-append, stepped}
 
 height-push : (cs : List Child) (c : Child) (m : ℕ) → kids_height cs ≤ m
-    → suc (depth (view c.part.value.now)) ≤ m → kids_height (cs ++ c ∷ []) ≤ m
+    → suc (height (part_value c.part)) ≤ m → kids_height (cs ++ c ∷ []) ≤ m
 height-push [] c m h d = omega arith
 height-push (x ∷ cs) c m h d = let p = height-push cs c m (omega arith) d in omega arith
 
 -- one more child is no higher
 pub gathered_height : (cs more : List Child) (c : Child) (m : ℕ) → more ≡ cs ++ c ∷ []
-    → kids_height cs ≤ m → suc (depth (view c.part.value.now)) ≤ m → kids_height more ≤ m
+    → kids_height cs ≤ m → suc (height (part_value c.part)) ≤ m → kids_height more ≤ m
 gathered_height cs more c m e h d = subst (λ l. kids_height l ≤ m) (sym e) (height-push cs c m h d)
 
 -- one more child

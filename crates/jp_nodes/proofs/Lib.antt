@@ -1,5 +1,4 @@
 pub mod Descent
-pub mod InsideParts
 pub mod Keeping
 pub mod Parts
 pub mod Telling
@@ -8,5 +7,4 @@ pub mod Differing
 pub mod SameLocations
 pub mod Gathered
 pub mod Rows
-pub mod Members
 pub mod BoundsWithin

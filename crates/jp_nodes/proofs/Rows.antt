@@ -1,88 +1,156 @@
--- Items of an array that stand one behind another.
-use Rattle.std.proofs.Common.{◌≡◌, ℕ, zero, suc, ◌+◌, ◌-◌, ◌≤◌, [], ◌∷◌, ◌++◌, length, Option}
-use Rattle.std.proofs.Common.{None, option_map, refl, sym, ap, ◌∙◌, arith, zero-add, add-zero}
-use Rattle.std.proofs.lemmas.List.Concat.{flat_map-append}
-use Rattle.std.specs.List.{range_with_len}
-use Rattle.jp_doc.specs.Json.{Json, null, truth, whole, text, array, object, Items, no_items, add_item}
-use Rattle.jp_doc.specs.Json.{item_list}
-use Rattle.jp_doc.specs.Location.{Location, Node, node, index, item_at, item_of}
-use Rattle.jp_nodes.specs.Inside.{IsNoObject}
-use Rattle.jp_nodes.specs.Nodes.{child, children_at, item_nodes, items_at, node_if_some}
-use Rattle.jp_nodes.specs.Part.{part_value}
-use Rattle.jp_value.specs.Places.{item_count}
-use Rattle.jp_nodes.specs.declared.part.Part.{Part}
+-- Items of an array, and members of an object, that stand one behind another.
+use Rattle.std.proofs.Common.{◌≡◌, ℕ, zero, suc, ◌+◌, ◌-◌, ◌<◌, ◌≤◌, List, [], ◌∷◌, ◌++◌, length, take, drop, map}
+use Rattle.std.proofs.Common.{Option, Some, None, option_map, refl, sym, ap, ap₂, ◌∙◌, subst, arith, add-zero}
+use Rattle.std.specs.Prelude.{max}
+use Rattle.jp_doc.specs.Height.{height, items_height, members_height}
+use Rattle.jp_doc.specs.Json.{Text, Json, null, truth, whole, text, array, object, items, item_list}
+use Rattle.jp_doc.specs.Location.{Location, Node, node, index, name, item_at, item_of}
+use Rattle.jp_part.specs.Inside.{items_inside, IsScalar}
+use Rattle.jp_part.specs.Members.{members}
+use Rattle.jp_part.specs.Part.{part_value}
+use Rattle.jp_part.specs.declared.part.Part.{Part}
+use Rattle.jp_nodes.specs.Nodes.{children_at, item_nodes, member_nodes}
 
--- ---- all items
+-- ---- so many items
 
-behind : (all vs : Items) (v : Json) (k : ℕ)
-    → ((j : ℕ) → item_at (k + j) all ≡ item_at j (add_item v vs))
-    → (j : ℕ) → item_at (k + 1 + j) all ≡ item_at j vs
-behind all vs v k same j = let e : k + 1 + j ≡ k + suc j = omega arith in rw e (same (suc j))
+pub take_none : (n : ℕ) → take {A = Json} n [] ≡ []
+take_none zero = refl
+take_none (suc n) = refl
 
-items_from : (at : Location) (all vs : Items) (k : ℕ)
-    → ((j : ℕ) → item_at (k + j) all ≡ item_at j vs)
-    → items_at (node at (array all)) (range_with_len k (length (item_list vs))) ≡ item_nodes at k vs
-items_from at all no_items k same = refl
-items_from at all (add_item v vs) k same =
-    ap (λ o. node_if_some (at ++ index k ∷ []) o
-    ++ items_at (node at (array all)) (range_with_len (k + 1) (length (item_list vs))))
-    (ap (λ i. item_at i all) (sym (add-zero k)) ∙ same 0)
-    ∙ ap (λ ns. node (at ++ index k ∷ []) v ∷ ns)
-    (items_from at all vs (k + 1) (behind all vs v k same))
+drop_none : (n : ℕ) → drop {A = Json} n [] ≡ []
+drop_none zero = refl
+drop_none (suc n) = refl
 
-pub all_items : (at : Location) (v : Json) → IsNoObject v
-    → items_at (node at v) (range_with_len 0 (item_count v)) ≡ children_at at v
-all_items at null h = refl
-all_items at (truth b) h = refl
-all_items at (whole z) h = refl
-all_items at (text s) h = refl
-all_items at (array vs) h = items_from at vs vs 0 (λ j. rw (zero-add j) refl)
-all_items at (object ms) h = absurd h
+pub take_enough : (n : ℕ) (xs : List Json) → length xs ≤ n → take n xs ≡ xs
+take_enough n [] h = take_none n
+take_enough zero (x ∷ xs) h = absurd (omega (arith, h))
+take_enough (suc n) (x ∷ xs) h = ap (λ ys. x ∷ ys) (take_enough n xs (omega (arith, h)))
 
--- ---- halves
-
-ranges_joined : (i m n : ℕ) → range_with_len i m ++ range_with_len (i + m) n ≡ range_with_len i (m + n)
-ranges_joined i zero n = rw (add-zero i, zero-add n) refl
-ranges_joined i (suc m) n =
+joined : (at : Location) (i m k : ℕ) (xs : List Json)
+    → item_nodes at i (items (take m xs)) ++ item_nodes at (i + m) (items (take k (drop m xs)))
+    ≡ item_nodes at i (items (take (m + k) xs))
+joined at i zero k xs = let e : zero + k ≡ k = omega arith in rw (add-zero i, e) refl
+joined at i (suc m) k [] =
+    rw (take_none k, take_none (suc m + k)) refl
+joined at i (suc m) k (x ∷ xs) =
     let e : i + suc m ≡ (i + 1) + m = omega arith in
-    let f : suc m + n ≡ suc (m + n) = omega arith in
-    rw (e, f) (ap (λ l. i ∷ l) (ranges_joined (i + 1) m n))
+    let f : suc m + k ≡ suc (m + k) = omega arith in
+    rw (e, f) (ap (λ ns. node (at ++ index i ∷ []) x ∷ ns) (joined at (i + 1) m k xs))
 
-pub halves_of_items : (n : Node) (first m past : ℕ) → m ≤ past - first
-    → items_at n (range_with_len first (first + m - first))
-    ++ items_at n (range_with_len (first + m) (past - (first + m)))
-    ≡ items_at n (range_with_len first (past - first))
-halves_of_items n first m past h =
-    let e : first + m - first ≡ m = omega arith in
-    let f : m + (past - (first + m)) ≡ past - first = omega arith in
-    rw e (sym (flat_map-append (λ i. child (index i) n) (range_with_len first m)
-    (range_with_len (first + m) (past - (first + m))))
-    ∙ ap (items_at n) (ranges_joined first m (past - (first + m)) ∙ ap (range_with_len first) f))
+-- the items of two halves
+pub halves_of_items : (at : Location) (first half past : ℕ) (xs : List Json) → half ≤ past - first
+    → item_nodes at first (items (take (first + half - first) xs))
+    ++ item_nodes at (first + half) (items (take (past - (first + half)) (drop half xs)))
+    ≡ item_nodes at first (items (take (past - first) xs))
+halves_of_items at first half past xs h =
+    let e : first + half - first ≡ half = omega arith in
+    let f : half + (past - (first + half)) ≡ past - first = omega (arith, h) in
+    rw e (joined at first half (past - (first + half)) xs
+    ∙ ap (λ n. item_nodes at first (items (take n xs))) f)
+
+-- those behind the first so many are no higher
+pub others_height : (m : ℕ) (xs : List Json) → items_height (items (drop m xs)) ≤ items_height (items xs)
+others_height zero xs = omega arith
+others_height (suc m) [] = omega arith
+others_height (suc m) (x ∷ xs) = let h = others_height m xs in omega (arith, h)
 
 -- ---- the first item
 
-none_at : (i : ℕ) (vs : Items) → item_at i vs ≡ None → item_at (i + 1) vs ≡ None
-none_at i no_items h = refl
-none_at zero (add_item v vs) h = absurd cc
-none_at (suc i) (add_item v vs) h = let e : suc i + 1 ≡ suc (i + 1) = omega arith in rw e (none_at i vs h)
+pub none_before : (at : Location) (first past : ℕ) (xs : List Json) → past ≤ first
+    → item_nodes at first (items (take (past - first) xs)) ≡ []
+none_before at first past xs h = let e : past - first ≡ 0 = omega (arith, h) in rw e refl
 
-none_next : (i : ℕ) (v : Json) → item_of i v ≡ None → item_of (i + 1) v ≡ None
-none_next i null h = refl
-none_next i (truth b) h = refl
-none_next i (whole z) h = refl
-none_next i (text s) h = refl
-none_next i (array vs) h = none_at i vs h
-none_next i (object ms) h = refl
+pub none_left : (at : Location) (first past : ℕ) (xs : List Json) → xs ≡ []
+    → item_nodes at first (items (take (past - first) xs)) ≡ []
+none_left at first past xs is = rw is (ap (λ l. item_nodes at first (items l)) (take_none (past - first)))
 
-none_from : (n : Node) (i m : ℕ) → item_of i n.value ≡ None → items_at n (range_with_len i m) ≡ []
-none_from n i zero h = refl
-none_from n i (suc m) h =
-    ap (λ o. node_if_some (n.location ++ index i ∷ []) o ++ items_at n (range_with_len (i + 1) m)) h
-    ∙ none_from n (i + 1) m (none_next i n.value h)
+pub first_item : (at : Location) (first past : ℕ) (xs others : List Json) (x : Json) → first < past
+    → xs ≡ x ∷ others
+    → item_nodes at first (items (take (past - first) xs))
+    ≡ node (at ++ index first ∷ []) x ∷ item_nodes at (first + 1) (items (take (past - (first + 1)) others))
+first_item at first past xs others x h is =
+    let e : past - first ≡ suc (past - (first + 1)) = omega (arith, h) in
+    ap (λ l. item_nodes at first (items (take (past - first) l))) is
+    ∙ ap (λ n. item_nodes at first (items (take n (x ∷ others)))) e
 
--- there is no item at the first place
-pub no_first : (at : Location) (p : Part) (o : Option Part) (first past : ℕ)
-    → option_map part_value o ≡ item_of first (part_value p) → o ≡ None
-    → items_at (node at (part_value p)) (range_with_len first (past - first)) ≡ []
-no_first at p o first past is none =
-    none_from (node at (part_value p)) first (past - first) (sym is ∙ ap (option_map part_value) none)
+pub item_height : (xs others : List Json) (x : Json) → xs ≡ x ∷ others
+    → suc (height x) ≤ suc (items_height (items xs))
+item_height xs others x is =
+    subst (λ l. suc (height x) ≤ suc (items_height (items l))) (sym is) (omega arith)
+
+pub items_behind : (xs others : List Json) (x : Json) → xs ≡ x ∷ others
+    → suc (items_height (items others)) ≤ suc (items_height (items xs))
+items_behind xs others x is =
+    subst (λ l. suc (items_height (items others)) ≤ suc (items_height (items l))) (sym is) (omega arith)
+
+-- ---- members
+
+abbrev Entries : Type 0
+Entries = List (Text × Json)
+
+pub first_member : (at : Location) (es others : Entries) (k : Text) (v : Json) → es ≡ (k, v) ∷ others
+    → member_nodes at (members es)
+    ≡ node (at ++ name k ∷ []) v ∷ member_nodes at (members others)
+first_member at es others k v is = ap (λ (l : Entries). member_nodes at (members l)) is
+
+pub no_member : (at : Location) (es : Entries) → es ≡ [] → member_nodes at (members es) ≡ []
+no_member at es is = ap (λ (l : Entries). member_nodes at (members l)) is
+
+pub member_height : (es others : Entries) (k : Text) (v : Json) → es ≡ (k, v) ∷ others
+    → suc (height v) ≤ suc (members_height (members es))
+member_height es others k v is =
+    subst (λ (l : Entries). suc (height v) ≤ suc (members_height (members l))) (sym is) (omega arith)
+
+pub members_behind : (es others : Entries) (k : Text) (v : Json) → es ≡ (k, v) ∷ others
+    → suc (members_height (members others)) ≤ suc (members_height (members es))
+members_behind es others k v is =
+    subst (λ (l : Entries). suc (members_height (members others)) ≤ suc (members_height (members l)))
+    (sym is) (omega arith)
+
+members_joined : (at : Location) (es fs : Entries)
+    → member_nodes at (members es) ++ member_nodes at (members fs) ≡ member_nodes at (members (es ++ fs))
+members_joined at [] fs = refl
+members_joined at (e ∷ es) fs = ap (λ ns. node (at ++ name e.0 ∷ []) e.1 ∷ ns) (members_joined at es fs)
+
+pub halves_of_members : (at : Location) (es fs all : Entries) → es ++ fs ≡ all
+    → member_nodes at (members es) ++ member_nodes at (members fs) ≡ member_nodes at (members all)
+halves_of_members at es fs all is = members_joined at es fs
+    ∙ ap (λ (l : Entries). member_nodes at (members l)) is
+
+front_height : (es fs : Entries) → members_height (members es) ≤ members_height (members (es ++ fs))
+front_height [] fs = omega arith
+front_height (e ∷ es) fs = let h = front_height es fs in omega (arith, h)
+
+back_height : (es fs : Entries) → members_height (members fs) ≤ members_height (members (es ++ fs))
+back_height [] fs = omega arith
+back_height (e ∷ es) fs = let h = back_height es fs in omega (arith, h)
+
+pub front_members : (es fs all : Entries) → es ++ fs ≡ all
+    → suc (members_height (members es)) ≤ suc (members_height (members all))
+front_members es fs all is =
+    subst (λ (l : Entries). suc (members_height (members es)) ≤ suc (members_height (members l))) is
+    (let h = front_height es fs in omega (arith, h))
+
+pub back_members : (es fs all : Entries) → es ++ fs ≡ all
+    → suc (members_height (members fs)) ≤ suc (members_height (members all))
+back_members es fs all is =
+    subst (λ (l : Entries). suc (members_height (members fs)) ≤ suc (members_height (members l))) is
+    (let h = back_height es fs in omega (arith, h))
+
+-- ---- what is inside of a value
+
+pub nothing_inside : (at : Location) (v : Json) → IsScalar v → [] ≡ children_at at v
+nothing_inside at null h = refl
+nothing_inside at (truth b) h = refl
+nothing_inside at (whole z) h = refl
+nothing_inside at (text s) h = refl
+nothing_inside at (array vs) h = absurd h
+nothing_inside at (object ms) h = absurd h
+
+pub no_items : (v : Json) → IsScalar v → [] ≡ item_list (items_inside v)
+no_items null h = refl
+no_items (truth b) h = refl
+no_items (whole z) h = refl
+no_items (text s) h = refl
+no_items (array vs) h = absurd h
+no_items (object ms) h = absurd h

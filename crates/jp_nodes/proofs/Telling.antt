@@ -14,12 +14,12 @@ use Rattle.jp_nodes.specs.Different.{IsDifferent, is_different}
 use Rattle.jp_value.specs.Functions.{first_value, only_value, distinct}
 use Rattle.jp_nodes.specs.Kept.{Kept, alone_of, alone_value, put_found, plus, none_kept}
 use Rattle.jp_nodes.specs.Kept.{taken, first, count, only, located}
-use Rattle.jp_nodes.specs.Part.{part_value}
+use Rattle.jp_part.specs.Part.{part_value}
 use Rattle.jp_nodes.specs.declared.answers.Answer.TheVariants as answer
 use Rattle.jp_nodes.specs.declared.different.Different.{Different}
 use Rattle.jp_nodes.specs.declared.found.Alone as code
 use Rattle.jp_nodes.specs.declared.found.Alone.TheVariants.{One as one}
-use Rattle.jp_nodes.specs.declared.part.Part.{Part}
+use Rattle.jp_part.specs.declared.part.Part.{Part}
 use Rattle.jp_nodes.proofs.Differing.{differs_again}
 use Rattle.jp_nodes.proofs.Parts.{alone_in, kept_all}
 use Rattle.jp_value.proofs.Sameness.{same_is_equal, self_same}

@@ -8,7 +8,7 @@ use Rattle.jp_value.specs.Comparison.{eq}
 use Rattle.jp_value.specs.Functions.{first_value, only_value}
 use Rattle.jp_nodes.specs.Different.{is_different}
 use Rattle.jp_nodes.specs.Kept.{alone_of, alone_value}
-use Rattle.jp_nodes.specs.Part.{part_value}
+use Rattle.jp_part.specs.Part.{part_value}
 use Rattle.jp_nodes.specs.declared.answers.Answer.{Answer}
 use Rattle.jp_nodes.specs.declared.answers.Answer.TheVariants.{First, Count, Only, Distinct}
 

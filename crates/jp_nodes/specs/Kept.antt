@@ -7,7 +7,7 @@ use Rattle.jp_doc.specs.Json.{Json}
 use Rattle.jp_doc.specs.Location.{Node, Location, location_of}
 use Rattle.jp_check.specs.declared.ready.Want.{Want}
 use Rattle.jp_check.specs.declared.ready.Want.TheVariants as want
-use Rattle.jp_nodes.specs.Part.{part_value}
+use Rattle.jp_part.specs.Part.{part_value}
 use Rattle.jp_nodes.specs.declared.found.Found.{Found}
 use Rattle.jp_nodes.specs.declared.found.Found.TheVariants.{Taker, First, Count, Only, Distinct}
 use Rattle.jp_nodes.specs.declared.found.Alone as code

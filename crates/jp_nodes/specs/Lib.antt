@@ -1,6 +1,4 @@
 pub mod Nodes
-pub mod Part
-pub mod Inside
 pub mod Links
 pub mod Kept
 pub mod Different

@@ -7,15 +7,15 @@ ghost use Rattle.jp_doc.specs.Location.{Location, Node, node};
 ghost use Rattle.jp_nodes.specs.Answers.{tells, is_of};
 ghost use Rattle.jp_value.specs.Functions.{number_value, first_value, only_value, distinct};
 ghost use Rattle.jp_nodes.specs.Kept.{alone_of, alone_value};
-ghost use Rattle.jp_value.specs.Operands.{operand_value, HasWholeNumbers};
-ghost use Rattle.jp_nodes.specs.Part.{part_value};
+ghost use Rattle.jp_part.specs.Inside.{kind_value};
+ghost use Rattle.jp_part.specs.Part.{part_value};
 ghost use Rattle.jp_nodes.specs.declared.answers.Answer.TheVariants.{Distinct};
 
 use crate::different::Different;
 use crate::found::Alone;
-use crate::part::Part;
+
 use jp_check::ready::Want;
-use jp_value::Operand;
+use jp_part::{Kind, Part};
 
 /// What a filter is told of the nodes of a query.
 #[derive(Clone, Copy)]
@@ -97,42 +97,39 @@ pub fn has_first(answer: Answer<'_>) -> bool
 }
 
 /// The value of the first node, the number of nodes, or the value of the only one, as it was wanted.
-pub fn operand(answer: Answer<'_>) -> Operand<'_>
+pub fn operand(answer: Answer<'_>) -> Option<Kind<'_>>
     ensures first { (ns : List Node) → tells First ns answer.entry ≡ true
-        → operand_value result ≡ first_value ns }
+        → option_map kind_value result ≡ first_value ns }
     ensures count { (ns : List Node) → tells Count ns answer.entry ≡ true
-        → operand_value result ≡ Some (number_value (length ns)) }
+        → option_map kind_value result ≡ Some (number_value (length ns)) }
     ensures only { (ns : List Node) → tells Only ns answer.entry ≡ true
-        → operand_value result ≡ only_value ns }
-    ensures whole { HasWholeNumbers result }
+        → option_map kind_value result ≡ only_value ns }
 {
     match answer {
         Answer::First(first) => first_operand(first),
-        Answer::Count(count) => Operand::Whole(count as i128),
+        Answer::Count(count) => Some(Kind::Whole(count as i128)),
         Answer::Only(alone) => only_operand(alone),
-        Answer::Distinct(_) => Operand::Nothing,
+        Answer::Distinct(_) => None,
     }
 }
 
 /// The value of the first, or nothing.
-fn first_operand(first: Option<Part<'_>>) -> Operand<'_>
-    ensures value { operand_value result ≡ option_map part_value first.entry }
-    ensures whole { HasWholeNumbers result }
+fn first_operand(first: Option<Part<'_>>) -> Option<Kind<'_>>
+    ensures { option_map kind_value result ≡ option_map part_value first.entry }
 {
     match first {
-        Some(part) => Operand::Lent(part.value),
-        None => Operand::Nothing,
+        Some(part) => Some(part.kind()),
+        None => None,
     }
 }
 
 /// The value that is alone, or nothing.
-fn only_operand(alone: Alone<'_>) -> Operand<'_>
-    ensures value { operand_value result ≡ alone_value (alone_of alone.entry) }
-    ensures whole { HasWholeNumbers result }
+fn only_operand(alone: Alone<'_>) -> Option<Kind<'_>>
+    ensures { option_map kind_value result ≡ alone_value (alone_of alone.entry) }
 {
     match alone {
-        Alone::One(part) => Operand::Lent(part.value),
-        Alone::None => Operand::Nothing,
-        Alone::Several => Operand::Nothing,
+        Alone::One(part) => Some(part.kind()),
+        Alone::None => None,
+        Alone::Several => None,
     }
 }

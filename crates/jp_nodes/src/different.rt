@@ -5,12 +5,12 @@ ghost use Rattle.jp_doc.specs.Location.{Node, location_of};
 ghost use Rattle.jp_nodes.specs.Different.{IsDifferent};
 ghost use Rattle.jp_value.specs.Functions.{first_value, only_value, distinct, first_ones, same_location};
 ghost use Rattle.jp_nodes.specs.Kept.{put_first, alone_of, alone_value};
-ghost use Rattle.jp_nodes.specs.Part.{part_value};
+ghost use Rattle.jp_part.specs.Part.{part_value};
 ghost use Rattle.jp_trail.specs.Links.{link_steps};
 
 use crate::found::Alone;
 use crate::locations::location;
-use crate::part::Part;
+use jp_part::Part;
 use jp_doc::Location;
 use jp_trail::Trail;
 use std::alloc::{AllocError, Global};

@@ -8,11 +8,11 @@ ghost use Rattle.jp_nodes.specs.Answers.{tells};
 ghost use Rattle.jp_nodes.specs.Kept.{kept, put_found, none_kept, taken, alone_of, put_alone, plus};
 ghost use Rattle.jp_nodes.specs.Kept.{emptied_found, is_taken};
 ghost use Rattle.jp_nodes.specs.Links.{here};
-ghost use Rattle.jp_nodes.specs.Part.{part_value};
+ghost use Rattle.jp_part.specs.Part.{part_value};
 
 use crate::answers::Answer;
 use crate::different::{Located, each_once, locate, none_located};
-use crate::part::Part;
+use jp_part::Part;
 use crate::visit::Visit;
 use jp_check::ready::Want;
 use jp_trail::Trail;
@@ -72,7 +72,7 @@ pub fn add<'v, V: Visit + Drop>(
     ensures path { OnOk result (path.new ≡ path.old) }
 {
     match found {
-        Found::Taker(taker) => taker.node(alloc, path, value.value),
+        Found::Taker(taker) => taker.node(alloc, path, value),
         Found::First(first) => {
             if first.is_none() {
                 *first = Some(value);

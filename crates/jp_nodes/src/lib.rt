@@ -9,12 +9,10 @@ mod examples;
 pub mod found;
 pub mod laws;
 mod locations;
-mod part;
 mod row;
 mod visit;
 
 pub use different::{Different, Located};
 pub use locations::Locations;
-pub use part::{Inside, Part};
 pub use row::{Child, Children, Row};
 pub use visit::Visit;

@@ -7,8 +7,8 @@ ghost use Rattle.jp_nodes.specs.Taken.{put_location};
 
 use crate::visit::Visit;
 use jp_doc::{Location, Step};
+use jp_part::Part;
 use jp_trail::{Link, Trail};
-use serde_json::Value;
 use std::alloc::{AllocError, Global};
 
 /// Where each node is.
@@ -36,7 +36,7 @@ impl Visit for Locations {
         &mut self,
         alloc: Global,
         trail: &mut Trail<'_>,
-        _value: &Value,
+        _value: Part<'_>,
     ) -> Result<(), AllocError> {
         self.locations.push(location(alloc, trail.links())?)?;
         Ok(())

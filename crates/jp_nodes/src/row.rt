@@ -1,12 +1,12 @@
 //! Lists of children that can be cut in two.
 
 ghost use Rattle.std.specs.Prelude.{◌≡◌, ◌≤◌, ◌<◌, [], ◌∷◌, ◌++◌, suc, nat_le, IfSome, MatchOption};
-ghost use Rattle.serde_json.specs.Data.{depth};
-ghost use Rattle.serde_json.specs.View.{view};
+ghost use Rattle.jp_doc.specs.Height.{height};
 ghost use Rattle.jp_doc.specs.Location.{Location};
 ghost use Rattle.jp_nodes.specs.Kids.{kid, all_kids, all_height, row_kids, row_height, row_length};
+ghost use Rattle.jp_part.specs.Part.{part_value};
 
-use crate::part::Part;
+use jp_part::{Items, MemberList, MemberRow, Part};
 use jp_trail::Link;
 
 /// A child, and the link to it.
@@ -23,8 +23,10 @@ pub struct Child<'v> {
 pub enum Children<'v> {
     /// These.
     Listed(Vec<Child<'v>>),
-    /// All items of this value.
-    Items(Part<'v>),
+    /// These items, from the first on.
+    Items(Items<'v>),
+    /// These members.
+    Members(MemberList<'v>),
 }
 
 /// Children that stand one behind another.
@@ -32,8 +34,10 @@ pub enum Children<'v> {
 pub enum Row<'c, 'v> {
     /// These.
     Listed(&'c [Child<'v>]),
-    /// The items of this value from the first place on, and before the second.
-    Items(Part<'v>, u32, u32),
+    /// Those of these items whose places are before the second, where the first has the first place.
+    Items(Items<'v>, u32, u32),
+    /// These members.
+    Members(MemberRow<'c, 'v>),
 }
 
 impl<'v> Children<'v> {
@@ -44,19 +48,33 @@ impl<'v> Children<'v> {
     {
         match self {
             Children::Listed(children) => Row::Listed(children.as_slice()),
-            Children::Items(value) => Row::Items(*value, 0, value.item_count()),
+            Children::Items(items) => Row::Items(*items, 0, u32::MAX),
+            Children::Members(members) => Row::Members(members.row()),
+        }
+    }
+
+    /// All of them, where items are counted, so that the row can tell how long it is.
+    pub fn counted_row(&self) -> Row<'_, 'v>
+        ensures nodes { (at : Location) → row_kids at result ≡ all_kids at self.now }
+        ensures height { row_height result ≤ all_height self.now }
+    {
+        match self {
+            Children::Listed(children) => Row::Listed(children.as_slice()),
+            Children::Items(items) => Row::Items(*items, 0, items.count()),
+            Children::Members(members) => Row::Members(members.row()),
         }
     }
 }
 
 impl<'c, 'v> Row<'c, 'v> {
-    /// Whether there are so many.
+    /// Whether there are so many places.
     pub fn has(self, floor: u64) -> bool
         ensures { result ≡ nat_le floor (row_length self.entry) }
     {
         match self {
             Row::Listed(children) => children.len() as u64 >= floor,
             Row::Items(_, first, past) => past.saturating_sub(first) as u64 >= floor,
+            Row::Members(members) => members.len() as u64 >= floor,
         }
     }
 
@@ -72,12 +90,17 @@ impl<'c, 'v> Row<'c, 'v> {
                 let (left, right) = children.split_at(children.len() / 2);
                 (Row::Listed(left), Row::Listed(right))
             }
-            Row::Items(value, first, past) => {
-                let middle = first + past.saturating_sub(first) / 2;
+            Row::Items(items, first, past) => {
+                let half = past.saturating_sub(first) / 2;
+                let middle = first + half;
                 (
-                    Row::Items(value, first, middle),
-                    Row::Items(value, middle, past),
+                    Row::Items(items, first, middle),
+                    Row::Items(items.skip(half), middle, past),
                 )
+            }
+            Row::Members(members) => {
+                let (left, right) = members.halves();
+                (Row::Members(left), Row::Members(right))
             }
         }
     }
@@ -86,7 +109,7 @@ impl<'c, 'v> Row<'c, 'v> {
     pub fn split_first(self) -> Option<(Child<'v>, Row<'c, 'v>)>
         ensures nodes { (at : Location) → MatchOption result (row_kids at self.entry ≡ [])
             (λ p. row_kids at self.entry ≡ kid at p.0 ∷ row_kids at p.1) }
-        ensures child { IfSome result (λ p. suc (depth (view p.0.part.value.now)) ≤ row_height self.entry) }
+        ensures child { IfSome result (λ p. suc (height (part_value p.0.part)) ≤ row_height self.entry) }
         ensures height { IfSome result (λ p. row_height p.1 ≤ row_height self.entry) }
         ensures fewer { IfSome result (λ p. row_length p.1 < row_length self.entry) }
     {
@@ -95,16 +118,26 @@ impl<'c, 'v> Row<'c, 'v> {
                 None => None,
                 Some((child, others)) => Some((*child, Row::Listed(others))),
             },
-            Row::Items(value, first, past) => {
+            Row::Items(items, first, past) => {
                 if first >= past {
                     return None;
                 }
-                let Some(part) = value.item(first) else {
-                    return None;
-                };
-                let link = Link::Index(first);
-                Some((Child { link, part }, Row::Items(value, first + 1, past)))
+                match items.split_first() {
+                    None => None,
+                    Some((part, others)) => {
+                        let link = Link::Index(first);
+                        Some((Child { link, part }, Row::Items(others, first + 1, past)))
+                    }
+                }
             }
+            Row::Members(members) => match members.split_first() {
+                None => None,
+                Some((member, others)) => {
+                    let link = Link::Name(member.name);
+                    let part = member.value;
+                    Some((Child { link, part }, Row::Members(others)))
+                }
+            },
         }
     }
 }

@@ -1,15 +1,13 @@
 //! What a walk hands its nodes to.
 
-ghost use Rattle.std.specs.Prelude.{◌≡◌, List, IsTrue, OnOk, false};
+ghost use Rattle.std.specs.Prelude.{◌≡◌, List, IsTrue, OnOk};
 ghost use Rattle.std.specs.List.{fold};
-ghost use Rattle.serde_json.specs.View.{view};
-ghost use Rattle.serde_json.specs.Written.{has_float};
-ghost use Rattle.jp_doc.specs.Json.{value_of};
 ghost use Rattle.jp_doc.specs.Location.{Node, node};
+ghost use Rattle.jp_part.specs.Part.{part_value};
 ghost use Rattle.jp_trail.specs.Links.{link_steps};
 
+use jp_part::Part;
 use jp_trail::Trail;
-use serde_json::Value;
 use std::alloc::{AllocError, Global};
 
 /// What takes the nodes that a walk finds, one after another.
@@ -28,18 +26,17 @@ pub trait Visit {
     /// What an empty taker of the same kind keeps.
     ghost emptied: { Kept → Kept };
 
-    /// Takes the node at the trail, whose value is this one. All numbers of the value are whole.
+    /// Takes the node at the trail, whose value is this one.
     ///
     /// `AllocError` if a growth was refused. The trail is as before, whatever the answer.
     fn node(
         &mut self,
         alloc: Global,
         trail: &mut Trail<'_>,
-        value: &Value,
+        value: Part<'_>,
     ) -> Result<(), AllocError>
-        requires { has_float (view value.now) ≡ false }
         ensures kept { OnOk result (kept self.new
-            ≡ put (kept self.old) (node (link_steps trail.old) (value_of value.now))) }
+            ≡ put (kept self.old) (node (link_steps trail.old) (part_value value.entry))) }
         ensures trail { trail.new ≡ trail.old };
 
     /// Whether a further node would change nothing.

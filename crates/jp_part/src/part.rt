@@ -1,17 +1,17 @@
 //! Values inside of a document.
 
-ghost use Rattle.std.specs.Prelude.{◌≡◌, ◌≤◌, ◌<◌, ℤ, false, length, option_map, IfSome, IsTrue};
+ghost use Rattle.std.specs.Prelude.{◌≡◌, ◌≤◌, ◌<◌, ℤ, false, option_map, IfSome, IsTrue};
 ghost use Rattle.std.specs.Str.{chars};
 ghost use Rattle.serde_json.specs.Find.{is_float};
 ghost use Rattle.serde_json.specs.View.{number_view};
 ghost use Rattle.jp_doc.specs.Document.{document_value};
 ghost use Rattle.jp_doc.specs.Height.{height};
 ghost use Rattle.jp_doc.specs.Json as json;
-ghost use Rattle.jp_doc.specs.Json.{item_list, value_of, whole_of};
+ghost use Rattle.jp_doc.specs.Json.{value_of, whole_of};
 ghost use Rattle.jp_doc.specs.Location.{member_of, item_of};
 ghost use Rattle.jp_flat.specs.Document as flat;
-ghost use Rattle.jp_flat.specs.Value.{flat_value};
-ghost use Rattle.jp_part.specs.Inside.{items_inside, kind_value, IsInside, IsScalar};
+ghost use Rattle.jp_flat.specs.Value.{flat_value, item_count};
+ghost use Rattle.jp_part.specs.Inside.{kind_value, IsInside, IsScalar};
 ghost use Rattle.jp_part.specs.Part.{part_value};
 
 use crate::items::Items;
@@ -117,7 +117,7 @@ impl<'v> Part<'v> {
 
     /// How many items the array has, and 0 of any other value. Of a flat document it goes over them.
     pub fn item_count(self) -> u32
-        ensures count { result ≡ length (item_list (items_inside (part_value self.entry))) }
+        ensures count { result ≡ item_count (part_value self.entry) }
         ensures short { result ≤ 16777216 }
     {
         match self.inside() {

@@ -5,7 +5,7 @@ use Rattle.jp_doc.specs.Location.{Location, node}
 use Rattle.jp_value.specs.BoundsView.{bounds_value}
 use Rattle.jp_nodes.specs.Kids.{kids, kids_height}
 use Rattle.jp_nodes.specs.Nodes.{items_at}
-use Rattle.jp_nodes.specs.Part.{part_value}
+use Rattle.jp_part.specs.Part.{part_value}
 use Rattle.jp_value.specs.Places.{from_place, item_count, IfPlace}
 use Rattle.jp_value.specs.Slice.{slice_indexes}
 use Rattle.jp_nodes.proofs.children.sliced.Given as goal

@@ -1,7 +1,7 @@
 use Rattle.std.proofs.Common.{sym, ap, ◌∙◌, map, option_map}
 use Rattle.jp_doc.specs.Location.{location_of}
 use Rattle.jp_nodes.specs.Kept.{kept}
-use Rattle.jp_nodes.specs.Part.{part_value}
+use Rattle.jp_part.specs.Part.{part_value}
 use Rattle.jp_nodes.proofs.Telling.{first_tells, count_tells, only_tells, located_tells}
 use Rattle.jp_nodes.proofs.found.into_answer.Goals as goal
 
