@@ -1,6 +1,7 @@
 pub mod DocumentSteps
 pub mod EscapedName
 pub mod Fields
+pub mod FlatTexts
 pub mod IndexText
 pub mod LineSteps
 pub mod OfPath

@@ -4,11 +4,14 @@
 mod chunks;
 mod examples;
 mod fault_line;
+mod flat_text;
 pub mod laws;
 mod node_lines;
 mod output_line;
 mod path;
 mod query;
+mod scalar_text;
+mod tree_text;
 mod value_text;
 
 pub use chunks::{append_chunks, join_chunks, push_chunk};

@@ -1,24 +1,21 @@
 //! The taker that writes the output line of each node.
 
-ghost use Rattle.std.specs.Prelude.{◌≡◌, ◌++◌, ◌∷◌, [], false, decimal, encode_utf8_all};
+ghost use Rattle.std.specs.Prelude.{◌≡◌, ◌++◌, []};
 ghost use Rattle.std.specs.Prelude.{IfOk, OnOk, OnErr};
-ghost use Rattle.serde_json.specs.View.{view};
-ghost use Rattle.serde_json.specs.Written.{has_float, compact_text};
-ghost use Rattle.jp_doc.specs.Json.{value_of};
+ghost use Rattle.jp_part.specs.Part.{part_value};
 ghost use Rattle.jp_trail.specs.Appended.{Extends};
 ghost use Rattle.jp_trail.specs.Links.{link_steps};
-ghost use Rattle.jp_trail.specs.Path.{path_text};
 ghost use Rattle.jp_path.specs.Chunks.{bytes_in};
 ghost use Rattle.jp_path.specs.OutputLine.{line_text};
 
 use crate::chunks::{COPIED, append_chunks, join_chunks, push_chunk};
 use crate::fault_line::write_fault;
 use crate::output_line::append_number;
-use crate::value_text::append_text;
+use crate::value_text::append_value;
 use jp_doc::DocFault;
 use jp_eval::Visit;
+use jp_part::Part;
 use jp_trail::Trail;
-use serde_json::Value;
 use std::alloc::{AllocError, Global};
 use std::marker::Model;
 use std::mem;
@@ -116,7 +113,7 @@ impl Visit for NodeLines {
         &mut self,
         alloc: Global,
         trail: &mut Trail<'_>,
-        value: &Value,
+        value: Part<'_>,
     ) -> Result<(), AllocError> {
         write_node(
             alloc,
@@ -171,14 +168,13 @@ fn write_node(
     alloc: Global,
     number: u64,
     trail: &mut Trail<'_>,
-    value: &Value,
+    value: Part<'_>,
     room: &mut Vec<u8>,
     out: &mut Vec<u8>,
 ) -> Result<(), AllocError>
-    requires { has_float (view value.now) ≡ false }
     ensures same { trail.new ≡ trail.old }
     ensures ok { OnOk result (out.new.items
-        ≡ out.old.items ++ line_text number (link_steps trail.old) (value_of value.now)) }
+        ≡ out.old.items ++ line_text number (link_steps trail.old) (part_value value.entry)) }
     ensures err { OnErr result (out.new.items ≡ out.old.items) }
 {
     let before = out.len();
@@ -196,21 +192,19 @@ fn append_parts(
     alloc: Global,
     number: u64,
     trail: &mut Trail<'_>,
-    value: &Value,
+    value: Part<'_>,
     room: &mut Vec<u8>,
     out: &mut Vec<u8>,
 ) -> Result<(), AllocError>
-    requires { has_float (view value.now) ≡ false }
     ensures same { trail.new ≡ trail.old }
-    ensures ok { OnOk result (out.new.items ≡ out.old.items ++ (decimal number
-        ++ (9 ∷ encode_utf8_all (path_text (link_steps trail.old)) ++
-        (9 ∷ compact_text (view value.now) ++ 10 ∷ [])))) }
+    ensures ok { OnOk result (out.new.items
+        ≡ out.old.items ++ line_text number (link_steps trail.old) (part_value value.entry)) }
     ensures kept { Extends out.old.items out.new.items }
 {
     append_number(number, out)?;
     trail.append_path(out)?;
     out.push(b'\t')?;
-    append_text(alloc, value, room, out)?;
+    append_value(alloc, value, room, out)?;
     out.push(b'\n')?;
     Ok(())
 }

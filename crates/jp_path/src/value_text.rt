@@ -1,151 +1,27 @@
-//! A value's compact text (RFC 8259), appended with no text of its own between.
+//! The compact text of a value in either form, appended.
 
-ghost use Rattle.std.specs.Prelude.{◌≡◌, ◌++◌, ◌∷◌, [], false, OnOk};
-ghost use Rattle.json.specs.Print.{token_text};
-ghost use Rattle.json.specs.Token as spec;
-ghost use Rattle.json.specs.Token.{number};
-ghost use Rattle.json.specs.Tree.{json_tokens, items_tokens, members_tokens};
+ghost use Rattle.std.specs.Prelude.{◌≡◌, ◌++◌, OnOk};
+ghost use Rattle.jp_part.specs.Part.{part_value};
+ghost use Rattle.jp_path.specs.OutputLine.{value_text};
 ghost use Rattle.jp_trail.specs.Appended.{Extends};
-ghost use Rattle.serde_json.specs.Find.{is_float};
-ghost use Rattle.serde_json.specs.View.{view, number_view, items_view, members_view};
-ghost use Rattle.serde_json.specs.Written.{has_float, items_have_float, members_have_float, compact_text};
-ghost use Rattle.serde_json.specs.Written.{number_text, outline, items_outline, members_outline};
 
-use itoa::Buffer;
-use json::Writer;
-use serde_json::{Map, Number, Value};
+use crate::flat_text::append_flat;
+use crate::tree_text::append_tree;
+use jp_part::Part;
 use std::alloc::{AllocError, Global};
-use std::mem;
 
-/// Appends the compact text of a value whose numbers are whole, with no allocation but the growth of `out`
-/// and of the room.
-///
-/// Texts, arrays and objects are made in the room: the JSON crate's writer, which they go through, clears as
-/// many bytes as it is given, so it is not given `out`.
-pub(crate) fn append_text(
+/// Appends the compact text of a value (RFC 8259), with room for pieces of it.
+pub(crate) fn append_value(
     alloc: Global,
-    value: &Value,
+    value: Part<'_>,
     room: &mut Vec<u8>,
     out: &mut Vec<u8>,
 ) -> Result<(), AllocError>
-    requires { has_float (view value.now) ≡ false }
-    ensures ok { OnOk result (out.new.items ≡ out.old.items ++ compact_text (view value.now)) }
+    ensures ok { OnOk result (out.new.items ≡ out.old.items ++ value_text (part_value value.entry)) }
     ensures kept { Extends out.old.items out.new.items }
 {
     match value {
-        Value::Null => append_null(out),
-        Value::Bool(truth) => append_truth(*truth, out),
-        Value::Number(number) => append_number(number, out),
-        _ => {
-            make_text(alloc, value, room)?;
-            out.extend_from_slice(room.as_slice())
-        }
-    }
-}
-
-fn append_null(out: &mut Vec<u8>) -> Result<(), AllocError>
-    ensures ok { OnOk result (out.new.items ≡ out.old.items ++ token_text spec.null) }
-    ensures kept { Extends out.old.items out.new.items }
-{
-    out.extend_from_slice(b"null")
-}
-
-fn append_truth(truth: bool, out: &mut Vec<u8>) -> Result<(), AllocError>
-    ensures ok { OnOk result (out.new.items ≡ out.old.items ++ token_text (spec.boolean truth)) }
-    ensures kept { Extends out.old.items out.new.items }
-{
-    if truth {
-        out.extend_from_slice(b"true")
-    } else {
-        out.extend_from_slice(b"false")
-    }
-}
-
-/// Appends a whole number.
-fn append_number(whole: &Number, out: &mut Vec<u8>) -> Result<(), AllocError>
-    requires { is_float (number_view whole.now) ≡ false }
-    ensures ok { OnOk result (out.new.items ≡ out.old.items ++ number_text (number_view whole.now)) }
-    ensures kept { Extends out.old.items out.new.items }
-{
-    let mut buffer = Buffer::new();
-    match (whole.as_u64(), whole.as_i64()) {
-        (Some(n), _) => out.extend_from_slice(buffer.format(n).as_bytes()),
-        (None, Some(n)) => out.extend_from_slice(buffer.format(n).as_bytes()),
-        (None, None) => Ok(()),
-    }
-}
-
-/// Makes the compact text in the room, by way of the JSON crate's writer.
-fn make_text(alloc: Global, value: &Value, room: &mut Vec<u8>) -> Result<(), AllocError>
-    requires { has_float (view value.now) ≡ false }
-    ensures { OnOk result (room.new.items ≡ compact_text (view value.now)) }
-{
-    room.clear();
-    let mut writer = Writer::new(mem::replace(room, Vec::new(alloc)));
-    let written = write(value, &mut writer);
-    *room = writer.into_inner();
-    written
-}
-
-/// Writes the tokens of a value.
-#[cycle(write)]
-fn write(value: &Value, out: &mut Writer) -> Result<(), AllocError>
-    ensures ok { OnOk result (has_float (view value.now) ≡ false → out.new.tokens
-        ≡ out.old.tokens ++ json_tokens (outline (view value.now))) }
-    ensures before { out.new.before ≡ out.old.before }
-{
-    match value {
-        Value::Null => out.null(),
-        Value::Bool(truth) => out.boolean(*truth),
-        Value::Number(number) => write_number(number, out),
-        Value::String(text) => out.string(text.as_str()),
-        Value::Array(items) => {
-            out.begin_array()?;
-            write_items(items, out)
-        }
-        Value::Object(members) => {
-            out.begin_object()?;
-            write_members(members, out)
-        }
-    }
-}
-
-/// Writes the items and the closing bracket.
-#[cycle(write)]
-fn write_items(items: &Vec<Value>, out: &mut Writer) -> Result<(), AllocError>
-    ensures ok { OnOk result (items_have_float (items_view items.now.items) ≡ false → out.new.tokens
-        ≡ out.old.tokens ++ items_tokens (items_outline (items_view items.now.items))) }
-    ensures before { out.new.before ≡ out.old.before }
-{
-    for item in items {
-        write(item, out)?;
-    }
-    out.end_array()
-}
-
-/// Writes the members and the closing bracket.
-#[cycle(write)]
-fn write_members(members: &Map<String, Value>, out: &mut Writer) -> Result<(), AllocError>
-    ensures ok { OnOk result (members_have_float (members_view members.now.entries) ≡ false → out.new.tokens
-        ≡ out.old.tokens ++ members_tokens (members_outline (members_view members.now.entries))) }
-    ensures before { out.new.before ≡ out.old.before }
-{
-    for (key, member) in members.iter() {
-        out.key(key.as_str())?;
-        write(member, out)?;
-    }
-    out.end_object()
-}
-
-/// Writes a whole number.
-fn write_number(whole: &Number, out: &mut Writer) -> Result<(), AllocError>
-    ensures ok { OnOk result (is_float (number_view whole.now) ≡ false → out.new.tokens
-        ≡ out.old.tokens ++ number (number_text (number_view whole.now)) ∷ []) }
-    ensures before { out.new.before ≡ out.old.before }
-{
-    match (whole.as_u64(), whole.as_i64()) {
-        (Some(n), _) => out.u64(n),
-        (None, Some(n)) => out.i64(n),
-        (None, None) => out.null(),
+        Part::Tree(tree) => append_tree(alloc, tree.value, room, out),
+        Part::Flat(flat) => append_flat(alloc, flat, room, out),
     }
 }

@@ -2,8 +2,8 @@ use Rattle.std.proofs.Common.{arith}
 use Rattle.std.proofs.lemmas.Grind.{common_steps}
 use Rattle.jp_path.proofs.node_lines.append_parts.Goals as goal
 
-pub returns-in_err-append_text-clause-kept : goal.returns-in_err-append_text-clause-kept
-returns-in_err-append_text-clause-kept c = grind (arith, common_steps)
+pub returns-in_err-append_value-clause-kept : goal.returns-in_err-append_value-clause-kept
+returns-in_err-append_value-clause-kept c = grind (arith, common_steps)
 
 pub returns-in_err-push-clause-kept : goal.returns-in_err-push-clause-kept
 returns-in_err-push-clause-kept c = grind (arith, common_steps)

@@ -5,7 +5,7 @@ use Rattle.json.specs.Tree.{members_tokens}
 use Rattle.serde_json.specs.View.{view, members_view}
 use Rattle.serde_json.specs.Written.{has_float, members_have_float, members_outline}
 use Rattle.jp_path.proofs.Written.{next_member}
-use Rattle.jp_path.proofs.value_text.+write.Goals as goal
+use Rattle.jp_path.proofs.tree_text.+write.Goals as goal
 
 pub write_members-loop-key-preserved : goal.write_members-loop-key-preserved
 write_members-loop-key-preserved t c =

@@ -4,7 +4,7 @@ use Rattle.json.specs.Tree.{json_tokens}
 use Rattle.serde_json.specs.View.{view}
 use Rattle.serde_json.specs.Written.{outline}
 use Rattle.jp_path.proofs.Written.{text_of_tokens}
-use Rattle.jp_path.proofs.value_text.make_text.Goals as goal
+use Rattle.jp_path.proofs.tree_text.make_text.Goals as goal
 
 pub returns : goal.returns
 returns c =

@@ -1,0 +1,83 @@
+//! The texts of values with nothing inside (RFC 8259), appended.
+
+ghost use Rattle.std.specs.Prelude.{◌≡◌, ◌++◌, IsTrue, OnOk, encode_utf8_all};
+ghost use Rattle.std.specs.Str.{chars};
+ghost use Rattle.json.specs.Print.{token_text, escape, quoted};
+ghost use Rattle.json.specs.Token as spec;
+ghost use Rattle.jp_trail.specs.Appended.{Extends};
+
+use json::Writer;
+use std::alloc::{AllocError, Global};
+use std::mem;
+
+pub(crate) fn append_null(out: &mut Vec<u8>) -> Result<(), AllocError>
+    ensures ok { OnOk result (out.new.items ≡ out.old.items ++ token_text spec.null) }
+    ensures kept { Extends out.old.items out.new.items }
+{
+    out.extend_from_slice(b"null")
+}
+
+pub(crate) fn append_truth(truth: bool, out: &mut Vec<u8>) -> Result<(), AllocError>
+    ensures ok { OnOk result (out.new.items ≡ out.old.items ++ token_text (spec.boolean truth)) }
+    ensures kept { Extends out.old.items out.new.items }
+{
+    if truth {
+        out.extend_from_slice(b"true")
+    } else {
+        out.extend_from_slice(b"false")
+    }
+}
+
+/// Appends a text between quotes, with the shortest escapes (RFC 8259, 7).
+///
+/// One that needs no escape is copied; of another the text is made in the room.
+pub(crate) fn append_quoted(
+    alloc: Global,
+    text: &str,
+    room: &mut Vec<u8>,
+    out: &mut Vec<u8>,
+) -> Result<(), AllocError>
+    ensures ok { OnOk result (out.new.items ≡ out.old.items ++ quoted (encode_utf8_all (chars text.now))) }
+    ensures kept { Extends out.old.items out.new.items }
+{
+    if is_bare(text.as_bytes()) {
+        return append_bare(text, out);
+    }
+    make_quoted(alloc, text, room)?;
+    out.extend_from_slice(room.as_slice())
+}
+
+/// Whether no byte needs an escape.
+fn is_bare(bytes: &[u8]) -> bool
+    ensures { IsTrue result → escape bytes.now ≡ bytes.now }
+{
+    for byte in bytes {
+        if *byte < 32 || *byte == b'"' || *byte == b'\\' {
+            return false;
+        }
+    }
+    true
+}
+
+/// Appends a text that needs no escape.
+fn append_bare(text: &str, out: &mut Vec<u8>) -> Result<(), AllocError>
+    requires { escape text.now ≡ text.now }
+    ensures ok { OnOk result (out.new.items ≡ out.old.items ++ quoted text.now) }
+    ensures kept { Extends out.old.items out.new.items }
+{
+    out.push(b'"')?;
+    out.extend_from_slice(text.as_bytes())?;
+    out.push(b'"')?;
+    Ok(())
+}
+
+/// Makes a text between quotes in the room, by way of the JSON crate's writer.
+fn make_quoted(alloc: Global, text: &str, room: &mut Vec<u8>) -> Result<(), AllocError>
+    ensures { OnOk result (room.new.items ≡ quoted text.now) }
+{
+    room.clear();
+    let mut writer = Writer::new(mem::replace(room, Vec::new(alloc)));
+    let written = writer.string(text);
+    *room = writer.into_inner();
+    written
+}
