@@ -17,8 +17,8 @@ const ROOM: usize = 16;
 
 /// Appends the compact text of a value.
 ///
-/// Texts that need escapes are made in the room. The members of each object are gathered in a list of its own,
-/// since they are written in rising order of their names.
+/// Texts that need escapes are made in the room. The members of each object are gathered in a list, since
+/// they are written in rising order of their names.
 #[cycle(append_flat)]
 pub(crate) fn append_flat(
     alloc: Global,

@@ -23,8 +23,8 @@ use std::mem;
 /// Takes nodes as the output lines of a document with a number, behind those of the documents before it.
 ///
 /// Its meaning is that number and the bytes of all lines so far. A node takes no allocation but the growth of
-/// what is written, since the room that its value's text is made in is used again. The lines of a taker that
-/// is appended stay where they are.
+/// what is written, since the room that its value's text is made in is used again, and a list of members for
+/// each object of a flat document. The lines of a taker that is appended stay where they are.
 #[derive(Drop)]
 pub struct NodeLines {
     number: u64,

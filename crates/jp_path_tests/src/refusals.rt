@@ -3,7 +3,10 @@
 //! A turn says whether the answer was right, or nothing where it was want of memory. Each is made twice: one
 //! growth is refused at most, so one of the two answers.
 
+use crate::forms::line_of;
 use jp_doc::{Document, Location, Step};
+use jp_flat::FlatReader;
+use jp_part::Part;
 use jp_path::{
     append_chunks, join_chunks, path_plan, push_chunk, query_of, write_line, write_path,
 };
@@ -48,6 +51,20 @@ fn line(alloc: Global) -> Option<bool> {
     }
 }
 
+/// The line of a flat object whose names fall, and of whose texts one needs an escape.
+fn flat_line(alloc: Global) -> Result<bool, AllocError> {
+    let mut reader = FlatReader::new(alloc);
+    let Some(document) = reader.read(b"{\"b\":{},\"a\":[-7,\"\\n\",\"x\"]}")? else {
+        return Ok(false);
+    };
+    let line = line_of(alloc, Part::root_of_flat(&document))?;
+    Ok(line.as_slice() == b"7\t$\t{\"a\":[-7,\"\\n\",\"x\"],\"b\":{}}\n".as_slice())
+}
+
+fn flat_line_or_none(alloc: Global) -> Option<bool> {
+    flat_line(alloc).ok()
+}
+
 /// A long chunk, a short one and a long one: two chunks, since the short one goes to the first.
 fn joined(alloc: Global) -> Result<bool, AllocError> {
     let mut chunks = Vec::new(alloc);
@@ -80,5 +97,11 @@ fn paths_of_a_location(rt: HostRuntime) {
 #[test]
 fn an_output_line(rt: HostRuntime) {
     let turns = (line(rt.alloc()), line(rt.alloc()));
+    assert!(rt; matches!(turns, (Some(true), Some(true) | None) | (None, Some(true))));
+}
+
+#[test]
+fn the_line_of_a_flat_value(rt: HostRuntime) {
+    let turns = (flat_line_or_none(rt.alloc()), flat_line_or_none(rt.alloc()));
     assert!(rt; matches!(turns, (Some(true), Some(true) | None) | (None, Some(true))));
 }
