@@ -1,13 +1,11 @@
 -- Where the places of slices lie.
-use Rattle.std.proofs.Common.{◌≡◌, ℕ, ◌≤◌, ℤ, pos, negsuc, Bool, true, false, cond, List, [], Option}
+use Rattle.std.proofs.Common.{◌≡◌, ℕ, ℤ, pos, negsuc, Bool, true, false, cond, List, [], Option}
 use Rattle.std.proofs.Common.{refl, ap, ap₂, ◌∙◌, arith}
 use Rattle.std.specs.Prelude.{nat_lt}
 use Rattle.std.proofs.lemmas.Bool.Decides.{nat_tests}
-use Rattle.std.proofs.lemmas.Int.{ints}
 use Rattle.jp_doc.specs.Json.{Json, null, truth, whole, text, array, object}
 use Rattle.jp_eval.specs.Nodelist.{index_places, slice_places}
 use Rattle.jp_value.specs.Index.{place_of}
-use Rattle.jp_value.specs.Places.{AreWithin}
 use Rattle.jp_flat.specs.Value.{item_count}
 use Rattle.jp_value.specs.Slice.{Bounds, slice_bounds, slice_indexes}
 

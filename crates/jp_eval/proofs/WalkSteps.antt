@@ -1,33 +1,25 @@
 -- The steps of the walk.
-use Rattle.std.proofs.Common.{◌≡◌, ℕ, zero, suc, ◌+◌, ◌-◌, ◌<◌, ◌≤◌, List, [], ◌∷◌, ◌++◌, length}
+use Rattle.std.proofs.Common.{◌≡◌, ℕ, ◌+◌, ◌-◌, ◌<◌, ◌≤◌, List, [], ◌∷◌, ◌++◌, length}
 use Rattle.std.proofs.Common.{length-append, get_or, take, drop, Option, Some, None, option_to_list, Bool}
-use Rattle.std.proofs.Common.{true, false, ◌&&◌, ◌||◌, refl, sym, ap, ◌∙◌, subst, arith, append-nil}
+use Rattle.std.proofs.Common.{true, false, ◌&&◌, ◌||◌, sym, ap, ◌∙◌, arith}
 use Rattle.std.proofs.Math.Seq.{take-append_seam}
 use Rattle.std.proofs.lemmas.List.{at_drop_more, at_drop_all, map-append}
-use Rattle.std.specs.List.{All, flat_map, list_any, list_all}
-use Rattle.serde_json.proofs.Views.{Entry}
-use Rattle.serde_json.specs.Data.{items_depth, members_depth}
-use Rattle.serde_json.specs.View.{items_view, members_view}
-use Rattle.serde_json.specs.declared.value.Value.{Value}
-use Rattle.std.specs.Prelude.{string_bytes}
-use Rattle.std.specs.Str.{chars}
-use Rattle.jp_doc.specs.Json.{Json, items_of, members_of, value_of}
-use Rattle.jp_doc.specs.Location.{Location, Node, node, name, index, item_of}
+use Rattle.std.specs.List.{flat_map, list_any, list_all}
+use Rattle.jp_doc.specs.Json.{Json}
+use Rattle.jp_doc.specs.Location.{Node, node, index, item_of}
 use Rattle.jp_trail.specs.Links.{link_step, link_steps}
 use Rattle.jp_nodes.specs.Kept.{plus}
 use Rattle.jp_nodes.specs.Links.{here}
 use Rattle.jp_nodes.specs.Nodes.{items_at}
-use Rattle.jp_nodes.specs.Nodes.{child, children, descendants, item_nodes, member_nodes, node_if_some}
+use Rattle.jp_nodes.specs.Nodes.{children, descendants, node_if_some}
 use Rattle.jp_part.specs.Part.{part_value}
-use Rattle.jp_value.specs.Places.{later, from_place}
-use Rattle.jp_value.specs.Slice.{Bounds}
 use Rattle.jp_eval.specs.Walk.{picked, picked_by, reached}
 use Rattle.jp_part.specs.declared.part.Part.{Part}
 use Rattle.jp_trail.specs.declared.link.Link.{Link}
 use Rattle.jp_check.specs.declared.ready.Segment.{Segment}
 use Rattle.jp_check.specs.declared.ready.Selector.{Selector}
 use Rattle.jp_eval.specs.Base.{Base}
-use Rattle.jp_eval.proofs.Chains.{reached-append, reached-none, reached-descend}
+use Rattle.jp_eval.proofs.Chains.{reached-append, reached-descend}
 use Rattle.jp_nodes.proofs.Keeping.{stepped, ended, plus-append}
 
 front_of_one_more : (path : List Link) (l : Link) → take (length (path ++ l ∷ []) - 1) (path ++ l ∷ [])

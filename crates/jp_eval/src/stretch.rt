@@ -13,8 +13,8 @@ ghost use Rattle.jp_eval.specs.Walk.{picked, picked_by, reached, done};
 
 use crate::walk::Task;
 use jp_check::ready::{Segment, Selector};
-use jp_nodes::children::{children_of, named, placed, sliced};
 use jp_nodes::Children;
+use jp_nodes::children::{children_of, named, placed, sliced};
 use jp_part::Part;
 use jp_value::{bounds_of, place};
 use std::alloc::{AllocError, Global};

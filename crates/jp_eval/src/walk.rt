@@ -23,8 +23,8 @@ use jp_nodes::{Row, Visit};
 use jp_part::{Kind, Part};
 use jp_trail::{Link, Trail};
 use jp_value::{
-    bounds_of, compare_kinds, exactly_one, length, literal, matches, matches_known, place, searches,
-    searches_known,
+    bounds_of, compare_kinds, exactly_one, length, literal, matches, matches_known, place,
+    searches, searches_known,
 };
 use std::alloc::AllocError;
 

@@ -10,7 +10,14 @@ use std::test::Fail;
 
 /// Names as a line has them: some are the same text, and some stand more than once in a line.
 const NAMES: [&str; 8] = [
-    r#""a""#, r#""b""#, r#""\u0061""#, r#""""#, r#""é""#, r#""\ud83d\ude00""#, r#""b\n""#, r#""Z""#,
+    r#""a""#,
+    r#""b""#,
+    r#""\u0061""#,
+    r#""""#,
+    r#""é""#,
+    r#""\ud83d\ude00""#,
+    r#""b\n""#,
+    r#""Z""#,
 ];
 
 /// Values, of which some make a line faulty.

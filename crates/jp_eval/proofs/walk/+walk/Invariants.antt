@@ -1,4 +1,4 @@
-use Rattle.std.proofs.Common.{◌≡◌, ◌+◌, ◌*◌, ◌≤◌, ℕ, max, drop, length}
+use Rattle.std.proofs.Common.{◌≡◌, ◌+◌, ◌*◌, ◌≤◌, ℕ, max, drop}
 use Rattle.std.specs.List.{flat_map, list_any, list_all}
 use denote.Param.Weighed.{most}
 use Rattle.jp_doc.specs.Height.{height}

@@ -12,7 +12,7 @@ append_list-loop-member-preserved t c =
     let left = drop (l.member-index + 1) c.args.list.now in
     let first : here ≡ m ∷ left = grind (arith, common_steps) in
     let named = extends_on _ _ _ (extends_on _ _ _ l.invariant.kept c.append_comma.ensures.kept)
-        c.append_quoted.ensures.kept in record {
+    c.append_quoted.ensures.kept in record {
       rest = next_listed l.later m here left _ _ _ _ _ _ first c.in_ok-append_comma.ensures.ok
           c.in_ok-append_quoted.ensures.ok c.in_ok-push-2.ensures.items c.in_ok-append_flat.ensures.ok
           l.invariant.rest;
