@@ -58,6 +58,7 @@ const QUERIES: [&str; 6] = [
 ];
 
 /// Numbers that look like chance, the same ones each time.
+#[derive(Drop)]
 struct Chance {
     state: u64,
 }
