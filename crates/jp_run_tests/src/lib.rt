@@ -8,6 +8,8 @@ mod batches;
 #[cfg(test)]
 mod fakes;
 #[cfg(test)]
+mod forms;
+#[cfg(test)]
 mod gates;
 #[cfg(test)]
 mod hostile;
