@@ -1,5 +1,7 @@
 //! A hundred thousand lines, whose answer is the one that trees give.
 
+ghost use Rattle.std.specs.Prelude.{◌<◌};
+
 use jp_answer::{OpenGate, answer_all};
 use jp_check::{Plan, plan};
 use jp_doc::{DocFault, Document, Line};
@@ -157,11 +159,13 @@ fn by_trees(alloc: Global, plan: &Plan, lines: &[Line]) -> Result<(Vec<u8>, u64)
 #[test]
 fn a_hundred_thousand_lines(rt: HostRuntime) -> Result<(), Fail> {
     let alloc = rt.alloc();
-    let lines = lines(alloc, 100_000)?;
+    let made = lines(alloc, 100_000)?;
+    let lines = made.as_slice();
     for query in QUERIES {
         let plan = plan(alloc, query)?;
-        let (bytes, faulty) = by_trees(alloc, &plan, lines.as_slice())?;
-        let whole = answer_all(&rt, alloc, &plan, lines.as_slice(), 2, 64, &OpenGate)?;
+        let (bytes, faulty) = by_trees(alloc, &plan, lines)?;
+        assert!(rt; lines.len() <= 100_000);
+        let whole = answer_all(&rt, alloc, &plan, lines, 2, 64, &OpenGate)?;
         assert!(rt; whole.bytes == bytes, "{query}");
         assert_eq!(rt; whole.faulty, faulty);
         assert!(rt; faulty > 1_000 && faulty < 99_000);
