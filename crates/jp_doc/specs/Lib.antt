@@ -10,3 +10,4 @@ pub mod Feeding
 pub mod Limits
 pub mod Added
 pub mod Height
+pub mod FaultWords

@@ -20,7 +20,8 @@ use Rattle.jp_doc.specs.Location.{Node}
 use Rattle.jp_doc.specs.declared.fault.DocFault.{DocFault}
 use Rattle.jp_doc.specs.declared.fault.DocFault.TheVariants.{LongLine, Unreadable, NotWhole, LongArray}
 use Rattle.jp_doc.specs.declared.fault.DocFault.TheVariants.{Memory}
-use Rattle.jp_path.specs.FaultLine.{kind_text, fault_line}
+use Rattle.jp_doc.specs.FaultWords.{fault_words}
+use Rattle.jp_path.specs.FaultLine.{fault_line}
 use Rattle.jp_path.specs.Fields.{times, HasThreeFields, AreLinesOfThree}
 use Rattle.jp_path.specs.OutputLine.{node_line}
 
@@ -230,16 +231,16 @@ node_fields number n =
     three_fields (decimal number) (encode_utf8_all (path_text n.location)) (compact_text (data_of n.value))
     (decimal_field number) (path_field n.location) (compact_field (data_of n.value))
 
-kind_field : (f : DocFault) → IsField (kind_text f)
+kind_field : (f : DocFault) → IsField (fault_words f)
 kind_field LongLine = written (codes "long line") refl
 kind_field Unreadable = written (codes "unreadable") refl
 kind_field NotWhole = written (codes "not whole") refl
 kind_field LongArray = written (codes "long array") refl
-kind_field Memory = tt
+kind_field Memory = written (codes "memory") refl
 
 pub fault_fields : (number : ℕ) (f : DocFault) → HasThreeFields (fault_line number f)
 fault_fields number f =
-    three_fields (decimal number) (33 ∷ []) (kind_text f) (decimal_field number) (written (33 ∷ []) refl)
+    three_fields (decimal number) (33 ∷ []) (fault_words f) (decimal_field number) (written (33 ∷ []) refl)
     (kind_field f)
 
 -- lines one after another

@@ -3,7 +3,8 @@
 ghost use Rattle.std.specs.Prelude.{◌≡◌, ◌≢◌, ◌++◌, ◌∷◌, [], decimal, OnOk, OnErr};
 ghost use Rattle.jp_doc.specs.declared.fault.DocFault.TheVariants.{Memory};
 ghost use Rattle.jp_trail.specs.Appended.{Extends};
-ghost use Rattle.jp_path.specs.FaultLine.{fault_line, kind_text};
+ghost use Rattle.jp_doc.specs.FaultWords.{fault_words};
+ghost use Rattle.jp_path.specs.FaultLine.{fault_line};
 
 use crate::output_line::append_number;
 use jp_doc::DocFault;
@@ -36,29 +37,14 @@ pub fn write_fault(
 
 /// Appends the parts of a line, and on an error some of them.
 fn append_fault(number: u64, fault: &DocFault, out: &mut Vec<u8>) -> Result<(), AllocError>
-    requires { fault.now ≢ Memory }
     ensures ok { OnOk result (out.new.items ≡ out.old.items
-        ++ (decimal number ++ (9 ∷ 33 ∷ 9 ∷ kind_text fault.now ++ 10 ∷ []))) }
+        ++ (decimal number ++ (9 ∷ 33 ∷ 9 ∷ fault_words fault.now ++ 10 ∷ []))) }
     ensures kept { Extends out.old.items out.new.items }
 {
     append_number(number, out)?;
     out.push(b'!')?;
     out.push(b'\t')?;
-    out.extend_from_slice(kind_of(fault).as_bytes())?;
+    out.extend_from_slice(fault.words().as_bytes())?;
     out.push(b'\n')?;
     Ok(())
-}
-
-/// What is wrong with a line.
-fn kind_of(fault: &DocFault) -> &'static str
-    requires { fault.now ≢ Memory }
-    ensures { result.now ≡ kind_text fault.now }
-{
-    match fault {
-        DocFault::LongLine => "long line",
-        DocFault::Unreadable => "unreadable",
-        DocFault::NotWhole => "not whole",
-        DocFault::LongArray => "long array",
-        DocFault::Memory => unreachable!(),
-    }
 }
