@@ -129,9 +129,10 @@ pub fn fresh<V: Visit + Drop>(found: &Found<'_, V>, alloc: Global) -> V
 /// `AllocError` if a growth was refused.
 pub fn append<'v, V: Visit + Drop>(found: &mut Found<'v, V>, other: V) -> Result<(), AllocError>
     requires { is_taken (kept V.kept found.old) ≡ true }
-    ensures { (ns : List Node) → taken (V.kept other)
+    ensures nodes { (ns : List Node) → taken (V.kept other)
         ≡ plus (put_found V.put) (emptied_found V.emptied (kept V.kept found.old)) ns
         → OnOk result (kept V.kept found.new ≡ plus (put_found V.put) (kept V.kept found.old) ns) }
+    ensures taker { is_taken (kept V.kept found.new) ≡ true }
 {
     match found {
         Found::Taker(taker) => taker.append(other),
