@@ -40,12 +40,12 @@ each_stretch-loop-stretch-preserved g t c =
     )
 
 pub each_stretch-each_of-requires-clause-taken : goal.each_stretch-each_of-requires-clause-taken
-each_stretch-each_of-requires-clause-taken g t c =
-    taken_on g.V.Visit.put _ _ _ _ c.loop-stretch.invariant.2 c.requires
+each_stretch-each_of-requires-clause-taken g t c κs within =
+    taken_on g.V.Visit.put _ _ _ _ c.loop-stretch.invariant.2 c.requires.taken
 
 pub one_by_one-go_split-requires-clause-taken : goal.one_by_one-go_split-requires-clause-taken
-one_by_one-go_split-requires-clause-taken g t c =
-    taken_on g.V.Visit.put _ _ _ _ c.loop-child.invariant.2 c.requires
+one_by_one-go_split-requires-clause-taken g t c κs within =
+    taken_on g.V.Visit.put _ _ _ _ c.loop-child.invariant.2 c.requires.taken
 
 pub each_stretch-returns-clause-found : goal.each_stretch-returns-clause-found
 each_stretch-returns-clause-found g t c =
@@ -148,7 +148,7 @@ each_of-join-first-requires-send-F g t c κs within =
     (record { mir = named 15; lft = κs.1.1.1.1.1.1.1.1.1.1.1.1.1.1.1.0 })
     (record { mir = named 16; lft = κs.1.1.1.1.1.1.1.1.1.1.1.1.1.1.1.1.0 })
     (record { mir = named 17; lft = κs.1.1.1.1.1.1.1.1.1.1.1.1.1.1.1.1.1.0 }) f r v in
-    param_send 1 (lts.arg-9-0 g.row.R g.row.F g.row.V g.R.laws g.F.laws g.V.laws g.R.Threads-dict
+    param_send 1 (lts.arg-6-1 g.row.R g.row.F g.row.V g.R.laws g.F.laws g.V.laws g.R.Threads-dict
     g.F.Fork-dict g.V.Visit-dict g.V.Destruct-dict κs)
     (record {
       owned = sent.owned;
