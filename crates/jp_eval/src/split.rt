@@ -1,10 +1,10 @@
 //! The walk where long lists are cut into halves that are walked at once.
 
-ghost use Rattle.std.specs.Prelude.{◌≡◌, [], IfOk, OnOk, MatchOption};
+ghost use Rattle.std.specs.Prelude.{◌≡◌, [], true, IfOk, OnOk, MatchOption};
 ghost use Rattle.std.specs.List.{All, flat_map};
 ghost use Rattle.std.specs.Thread.{IsSync};
 ghost use Rattle.jp_eval.specs.Base.{base_of};
-ghost use Rattle.jp_nodes.specs.Kept.{kept, put_found, plus, taken};
+ghost use Rattle.jp_nodes.specs.Kept.{kept, put_found, plus, taken, is_taken};
 ghost use Rattle.jp_nodes.specs.Kids.{row_kids};
 ghost use Rattle.jp_eval.specs.Along.{done_along_all};
 ghost use Rattle.jp_nodes.specs.Links.{here};
@@ -35,6 +35,7 @@ pub(crate) fn go_split<'v, R: Threads + Sync, F: Fork + Sync, V: Visit + Drop + 
     path: &mut Trail<'v>,
     found: &mut Found<'v, V>,
 ) -> Result<(), AllocError>
+    requires taken { is_taken (kept V.kept found.old) ≡ true }
     ensures found { OnOk result (kept V.kept found.new
         ≡ plus (put_found V.put) (kept V.kept found.old)
         (done (base_of ground.now) task.entry (here path.old value.entry))) }
@@ -63,6 +64,7 @@ fn each_stretch<'v, R: Threads + Sync, F: Fork + Sync, V: Visit + Drop + Send>(
     path: &mut Trail<'v>,
     found: &mut Found<'v, V>,
 ) -> Result<(), AllocError>
+    requires taken { is_taken (kept V.kept found.old) ≡ true }
     ensures found { OnOk result (kept V.kept found.new
         ≡ plus (put_found V.put) (kept V.kept found.old)
         (done_along_all (base_of ground.now) (link_steps path.old) stretches.now)) }
@@ -87,6 +89,7 @@ fn each_of<'v, R: Threads + Sync, F: Fork + Sync, V: Visit + Drop + Send>(
     path: &mut Trail<'v>,
     found: &mut Found<'v, V>,
 ) -> Result<(), AllocError>
+    requires taken { is_taken (kept V.kept found.old) ≡ true }
     ensures found { OnOk result (kept V.kept found.new
         ≡ plus (put_found V.put) (kept V.kept found.old)
         (flat_map (done (base_of ground.now) task.entry) (row_kids (link_steps path.old) children.entry))) }
@@ -100,8 +103,8 @@ fn each_of<'v, R: Threads + Sync, F: Fork + Sync, V: Visit + Drop + Send>(
         left: cuts.left - 1,
     };
     let (left, right) = children.halves();
-    let mine = fresh(found, ground.alloc)?;
-    let other = fresh(found, ground.alloc)?;
+    let mine = fresh(found, ground.alloc);
+    let other = fresh(found, ground.alloc);
     let at = path.links();
     let (first, second) = join(
         rt,
@@ -168,6 +171,7 @@ fn one_by_one<'v, R: Threads + Sync, F: Fork + Sync, V: Visit + Drop + Send>(
     path: &mut Trail<'v>,
     found: &mut Found<'v, V>,
 ) -> Result<(), AllocError>
+    requires taken { is_taken (kept V.kept found.old) ≡ true }
     ensures found { OnOk result (kept V.kept found.new
         ≡ plus (put_found V.put) (kept V.kept found.old)
         (flat_map (done (base_of ground.now) task.entry) (row_kids (link_steps path.old) children.entry))) }

@@ -102,6 +102,14 @@ taken_stays : {K : Type 0} (put : K → Node → K) (k : Kept K) (ns : List Node
 taken_stays put k [] = refl
 taken_stays put k (n ∷ ns) = taken_stays put (put_found put k n) ns ∙ taken_once put k n
 
+-- a part of a walk that begins with a taker begins with one too
+pub taken_on : {K : Type 0} (put : K → Node → K) (start k : Kept K) (all rest : List Node)
+    → plus (put_found put) k rest ≡ plus (put_found put) start all → is_taken start ≡ true
+    → is_taken k ≡ true
+unfolding plus
+taken_on put start k all rest h is = sym (taken_stays put k rest) ∙ ap is_taken h
+    ∙ taken_stays put start all ∙ is
+
 none_taken : (K : Type 0) (wanted : Want) → is_taken (none_kept {K = K} wanted) ≡ false
 none_taken K want.First = refl
 none_taken K want.Count = refl

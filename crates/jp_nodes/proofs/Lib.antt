@@ -8,3 +8,4 @@ pub mod SameLocations
 pub mod Gathered
 pub mod Rows
 pub mod BoundsWithin
+pub mod Slicing

@@ -1,16 +1,11 @@
 -- Items of an array, and members of an object, that stand one behind another.
-use Rattle.std.proofs.Common.{◌≡◌, ℕ, zero, suc, ◌+◌, ◌-◌, ◌<◌, ◌≤◌, List, [], ◌∷◌, ◌++◌, length, take, drop, map}
-use Rattle.std.proofs.Common.{option_map, refl, sym, ap, ◌∙◌, subst, arith, add-zero}
-use Rattle.std.proofs.lemmas.Option.{slice_get-map}
-use Rattle.std.specs.List.{slice_get}
-use Rattle.jp_doc.specs.Json as json
+use Rattle.std.proofs.Common.{◌≡◌, ℕ, zero, suc, ◌+◌, ◌-◌, ◌<◌, ◌≤◌, List, [], ◌∷◌, ◌++◌, length, take, drop}
+use Rattle.std.proofs.Common.{refl, sym, ap, ◌∙◌, subst, arith, add-zero}
 use Rattle.jp_doc.specs.Height.{height, items_height, members_height}
-use Rattle.jp_doc.specs.Json.{Text, Json, null, truth, whole, text, array, object, items, item_list}
-use Rattle.jp_doc.specs.Location.{Location, node, index, name, item_at, item_of}
-use Rattle.jp_part.specs.Inside.{items_inside, IsScalar}
+use Rattle.jp_doc.specs.Json.{Text, Json, null, truth, whole, text, array, object, items}
+use Rattle.jp_doc.specs.Location.{Location, node, index, name}
+use Rattle.jp_part.specs.Inside.{IsScalar}
 use Rattle.jp_part.specs.Members.{members}
-use Rattle.jp_part.specs.Part.{part_value}
-use Rattle.jp_part.specs.declared.part.Part.{Part}
 use Rattle.jp_nodes.specs.Nodes.{children_at, item_nodes, member_nodes}
 
 -- ---- so many items
@@ -148,30 +143,3 @@ nothing_inside at (whole z) h = refl
 nothing_inside at (text s) h = refl
 nothing_inside at (array vs) h = absurd h
 nothing_inside at (object ms) h = absurd h
-
-pub no_items : (v : Json) → IsScalar v → [] ≡ item_list (items_inside v)
-no_items null h = refl
-no_items (truth b) h = refl
-no_items (whole z) h = refl
-no_items (text s) h = refl
-no_items (array vs) h = absurd h
-no_items (object ms) h = absurd h
-
--- ---- one item of those that are listed
-
-at_place : (i : ℕ) (vs : json.Items) → slice_get (item_list vs) i ≡ item_at i vs
-at_place i json.no_items = refl
-at_place zero (json.add_item v vs) = refl
-at_place (suc i) (json.add_item v vs) = at_place i vs
-
-of_place : (i : ℕ) (v : Json) → slice_get (item_list (items_inside v)) i ≡ item_of i v
-of_place i null = refl
-of_place i (truth b) = refl
-of_place i (whole z) = refl
-of_place i (text s) = refl
-of_place i (array vs) = at_place i vs
-of_place i (object ms) = refl
-
-pub listed_item : (ps : List Part) (v : Json) (i : ℕ) → map part_value ps ≡ item_list (items_inside v)
-    → option_map part_value (slice_get ps i) ≡ item_of i v
-listed_item ps v i is = sym (slice_get-map part_value ps i) ∙ ap (λ l. slice_get l i) is ∙ of_place i v

@@ -1,13 +1,10 @@
 //! Children of a value, so that a list of them can be cut. Items are not listed.
 
-ghost use Rattle.std.specs.Prelude.{◌≡◌, ◌≤◌, ◌++◌, IfOk, OnOk, map, max};
-ghost use Rattle.std.specs.Prelude.{option_to_list};
+ghost use Rattle.std.specs.Prelude.{◌≡◌, ◌≤◌, IfOk, option_to_list};
 ghost use Rattle.std.specs.Str.{chars};
 ghost use Rattle.jp_doc.specs.Height.{height};
-ghost use Rattle.jp_doc.specs.Json.{Json, array, item_list};
-ghost use Rattle.jp_doc.specs.Location.{Location, node, name, index};
+ghost use Rattle.jp_doc.specs.Location.{Location, node, name};
 ghost use Rattle.jp_flat.specs.Value.{item_count};
-ghost use Rattle.jp_part.specs.Inside.{items_inside, item_values};
 ghost use Rattle.jp_part.specs.Part.{part_value};
 ghost use Rattle.jp_value.specs.BoundsView.{bounds_value};
 ghost use Rattle.jp_value.specs.Places.{AreWithin};
@@ -16,9 +13,10 @@ ghost use Rattle.jp_nodes.specs.Kids.{kids, kids_height, all_kids, all_height};
 ghost use Rattle.jp_nodes.specs.Nodes.{child, children_at, items_at};
 
 use crate::row::{Child, Children};
-use jp_part::{Inside, Items, Part};
+use crate::slices::{falling, rising};
+use jp_part::{Inside, Part};
 use jp_trail::Link;
-use jp_value::{Bounds, first_place, place_after};
+use jp_value::Bounds;
 use std::alloc::{AllocError, Global};
 
 /// The children of the value (RFC 9535, 1.1). Members are listed, and items are not.
@@ -79,50 +77,6 @@ pub fn placed<'v>(
     Ok(children)
 }
 
-/// The items of the value, from the first on: none of one that is no array.
-fn items_of<'v>(alloc: Global, value: Part<'v>) -> Result<Vec<Part<'v>>, AllocError>
-    ensures { IfOk result (λ v. map part_value v.items ≡ item_list (items_inside (part_value value.entry))) }
-{
-    match value.inside() {
-        Inside::Items(items) => list_of(alloc, items),
-        Inside::Members(_) => Ok(Vec::new(alloc)),
-        Inside::Nothing => Ok(Vec::new(alloc)),
-    }
-}
-
-fn list_of<'v>(alloc: Global, items: Items<'v>) -> Result<Vec<Part<'v>>, AllocError>
-    ensures { IfOk result (λ v. map part_value v.items ≡ item_values items.entry) }
-{
-    let mut list = Vec::new(alloc);
-    let mut left = items;
-    while let Some((first, others)) = left.split_first() {
-        list.push(first)?;
-        left = others;
-    }
-    Ok(list)
-}
-
-/// Adds the item at this place of these, if there is one.
-fn add_item<'v>(
-    items: &[Part<'v>],
-    place: u32,
-    children: &mut Vec<Child<'v>>,
-) -> Result<(), AllocError>
-    ensures nodes { OnOk result ((v : Json) → map part_value items.now ≡ item_list (items_inside v)
-        → (at : Location) → kids at children.new.items
-        ≡ kids at children.old.items ++ child (index place) (node at v)) }
-    ensures height { OnOk result ((v : Json) → map part_value items.now ≡ item_list (items_inside v)
-        → kids_height children.new.items ≤ max (kids_height children.old.items) (height v)) }
-{
-    if let Some(part) = items.get(place as usize) {
-        children.push(Child {
-            link: Link::Index(place),
-            part: *part,
-        })?;
-    }
-    Ok(())
-}
-
 /// The items of a slice (RFC 9535, 2.3.4), whose bounds lie within the array.
 ///
 /// `AllocError` if a growth was refused.
@@ -137,12 +91,17 @@ pub fn sliced<'v>(
         (slice_indexes (bounds_value bounds) (item_count (part_value value.entry)))) }
     ensures height { IfOk result (λ v. kids_height v.items ≤ height (part_value value.entry)) }
 {
-    let items = items_of(alloc, value)?;
-    let mut children = Vec::new(alloc);
-    let mut next = first_place(bounds);
-    while let Some(place) = next {
-        add_item(items.as_slice(), place, &mut children)?;
-        next = place_after(bounds, place);
+    match value.inside() {
+        Inside::Items(items) => {
+            if bounds.step > 0 {
+                rising(alloc, items, bounds)
+            } else if bounds.step < 0 {
+                falling(alloc, items, bounds)
+            } else {
+                Ok(Vec::new(alloc))
+            }
+        }
+        Inside::Members(_) => Ok(Vec::new(alloc)),
+        Inside::Nothing => Ok(Vec::new(alloc)),
     }
-    Ok(children)
 }

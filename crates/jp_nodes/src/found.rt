@@ -1,7 +1,7 @@
 //! What is kept of the nodes that a walk finds: by the caller's taker, or by what a filter wants of them.
 
 ghost use Rattle.std.specs.Prelude.{◌≡◌, ◌+◌, ◌↔◌, List, true, false};
-ghost use Rattle.std.specs.Prelude.{IsTrue, IfSome, IsNone, IfOk, IsErr, OnOk};
+ghost use Rattle.std.specs.Prelude.{IsTrue, IfSome, IsNone, IfOk, OnOk};
 ghost use Rattle.jp_check.specs.declared.ready.Want.{Want};
 ghost use Rattle.jp_doc.specs.Location.{Node};
 ghost use Rattle.jp_nodes.specs.Answers.{tells};
@@ -91,7 +91,7 @@ pub fn add<'v, V: Visit + Drop>(
     }
 }
 
-/// One node more. More than a `u64` counts are want of memory.
+/// One node more. More than a `u64` counts are told as want of memory: no walk lives to find so many.
 fn one_more(count: u64) -> Result<u64, AllocError>
     ensures { IfOk result (λ n. n ≡ count + 1) }
 {
@@ -109,40 +109,34 @@ fn with_another<'v>(alone: Alone<'v>, value: Part<'v>) -> Alone<'v>
     }
 }
 
-/// An empty taker of the caller's kind, where the caller's is what is kept.
-///
-/// It takes no memory: `AllocError` exactly where something else is kept.
-pub fn fresh<V: Visit + Drop>(found: &Found<'_, V>, alloc: Global) -> Result<V, AllocError>
-    ensures empty { IfOk result (λ t. taken (V.kept t)
-        ≡ emptied_found V.emptied (kept V.kept found.now)) }
+/// An empty taker of the caller's kind, where the caller's is what is kept. It takes no memory.
+pub fn fresh<V: Visit + Drop>(found: &Found<'_, V>, alloc: Global) -> V
+    requires { is_taken (kept V.kept found.now) ≡ true }
+    ensures empty { taken (V.kept result) ≡ emptied_found V.emptied (kept V.kept found.now) }
     ensures later { (ns : List Node)
         → emptied_found V.emptied (plus (put_found V.put) (kept V.kept found.now) ns)
         ≡ emptied_found V.emptied (kept V.kept found.now) }
-    ensures other { IsErr result ↔ (is_taken (kept V.kept found.now) ≡ false) }
 {
     match found {
-        Found::Taker(taker) => Ok(taker.fresh(alloc)),
-        Found::First(_) => Err(AllocError),
-        Found::Count(_) => Err(AllocError),
-        Found::Only(_) => Err(AllocError),
-        Found::Distinct(_) => Err(AllocError),
+        Found::Taker(taker) => taker.fresh(alloc),
+        Found::First(_) | Found::Count(_) | Found::Only(_) | Found::Distinct(_) => unreachable!(),
     }
 }
 
-/// Takes the nodes that another taker took, which began as an empty one.
+/// Takes the nodes that another taker took, which began as an empty one, where the caller's taker is
+/// what is kept.
 ///
-/// `AllocError` if a growth was refused, or where something else than the caller's taker is kept.
+/// `AllocError` if a growth was refused.
 pub fn append<'v, V: Visit + Drop>(found: &mut Found<'v, V>, other: V) -> Result<(), AllocError>
-    ensures { (ns : List Node) → taken (V.kept other)
+    requires { is_taken (kept V.kept found.old) ≡ true }
+    ensures nodes { (ns : List Node) → taken (V.kept other)
         ≡ plus (put_found V.put) (emptied_found V.emptied (kept V.kept found.old)) ns
         → OnOk result (kept V.kept found.new ≡ plus (put_found V.put) (kept V.kept found.old) ns) }
+    ensures taker { is_taken (kept V.kept found.new) ≡ true }
 {
     match found {
         Found::Taker(taker) => taker.append(other),
-        Found::First(_) => Err(AllocError),
-        Found::Count(_) => Err(AllocError),
-        Found::Only(_) => Err(AllocError),
-        Found::Distinct(_) => Err(AllocError),
+        Found::First(_) | Found::Count(_) | Found::Only(_) | Found::Distinct(_) => unreachable!(),
     }
 }
 

@@ -10,6 +10,7 @@ pub mod found;
 pub mod laws;
 mod locations;
 mod row;
+mod slices;
 mod visit;
 
 pub use different::{Different, Located};

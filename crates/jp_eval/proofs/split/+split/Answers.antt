@@ -15,7 +15,7 @@ use denote.Struct.Tuple.{tuple_name}
 use mir.Syntax.{named}
 use Rattle.jp_eval.proofs.Crossing.{captured_send}
 use Rattle.jp_nodes.proofs.Gathered.{kid_done, halves_joined}
-use Rattle.jp_nodes.proofs.Keeping.{ended, full_enough, nothing_found, not_lost}
+use Rattle.jp_nodes.proofs.Keeping.{ended, full_enough, nothing_found, not_lost, taken_on}
 use Rattle.jp_eval.proofs.Stretches.{others_no_higher, stretch_done}
 use Rattle.jp_eval.proofs.WalkSteps.{back_up, link_further, over}
 use Rattle.jp_eval.proofs.split.+split.Lts-each_of as lts
@@ -38,6 +38,14 @@ each_stretch-loop-stretch-preserved g t c =
           (c.counted_row-children.ensures.nodes (link_steps c.loop-stretch.path)))
           c.loop-stretch.invariant.2,
     )
+
+pub each_stretch-each_of-requires-clause-taken : goal.each_stretch-each_of-requires-clause-taken
+each_stretch-each_of-requires-clause-taken g t c κs within =
+    taken_on g.V.Visit.put _ _ _ _ c.loop-stretch.invariant.2 c.requires.taken
+
+pub one_by_one-go_split-requires-clause-taken : goal.one_by_one-go_split-requires-clause-taken
+one_by_one-go_split-requires-clause-taken g t c κs within =
+    taken_on g.V.Visit.put _ _ _ _ c.loop-child.invariant.2 c.requires.taken
 
 pub each_stretch-returns-clause-found : goal.each_stretch-returns-clause-found
 each_stretch-returns-clause-found g t c =
@@ -104,23 +112,23 @@ each_of-returns-clause-found g t c =
     let at = link_steps c.args.path.now in
     let before = kept g.V.Visit.kept c.args.found.now in
     let first : taken (g.V.Visit.kept c.in_ok-first.field-0)
-    ≡ plus put (taken (g.V.Visit.kept c.in_ok-mine.mine))
+    ≡ plus put (taken (g.V.Visit.kept c.fresh-mine.result))
     (flat_map f (left (link_steps c.links-at.result.now))) = search rules in
     let second : taken (g.V.Visit.kept c.in_ok-second.field-0)
-    ≡ plus put (taken (g.V.Visit.kept c.in_ok-other.other))
+    ≡ plus put (taken (g.V.Visit.kept c.fresh-other.result))
     (flat_map f (right (link_steps c.links-at.result.now))) = search rules in
     let appended : kept g.V.Visit.kept c.append.new.found ≡ plus put before (flat_map f (left at)) =
-    c.in_ok-append.ensures (flat_map f (left at))
-    (first ∙ ap (λ ls. plus put (taken (g.V.Visit.kept c.in_ok-mine.mine))
+    c.in_ok-append.ensures.nodes (flat_map f (left at))
+    (first ∙ ap (λ ls. plus put (taken (g.V.Visit.kept c.fresh-mine.result))
     (flat_map f (left (link_steps ls)))) c.links-at.ensures ∙ ap (λ k. plus put k (flat_map f (left at)))
-    c.in_ok-mine.ensures.empty) in
+    c.fresh-mine.ensures.empty) in
     on_ok_weaker c.append-2.result (λ e. halves_joined put f (left at) (right at) _ before _ _
     (c.halves.ensures.nodes at) appended e)
-    (c.append-2.ensures (flat_map f (right at))
-    (second ∙ ap (λ ls. plus put (taken (g.V.Visit.kept c.in_ok-other.other))
+    (c.append-2.ensures.nodes (flat_map f (right at))
+    (second ∙ ap (λ ls. plus put (taken (g.V.Visit.kept c.fresh-other.result))
     (flat_map f (right (link_steps ls)))) c.links-at.ensures ∙ ap (λ k. plus put k (flat_map f (right at)))
-    (c.in_ok-other.ensures.empty ∙ sym (ap (emptied_found g.V.Visit.emptied) appended
-    ∙ c.in_ok-other.ensures.later (flat_map f (left at))))))
+    (c.fresh-other.ensures.empty ∙ sym (ap (emptied_found g.V.Visit.emptied) appended
+    ∙ c.fresh-other.ensures.later (flat_map f (left at))))))
 
 pub each_of-join-first-requires-send-F : goal.each_of-join-first-requires-send-F
 each_of-join-first-requires-send-F g t c κs within =
@@ -140,7 +148,7 @@ each_of-join-first-requires-send-F g t c κs within =
     (record { mir = named 15; lft = κs.1.1.1.1.1.1.1.1.1.1.1.1.1.1.1.0 })
     (record { mir = named 16; lft = κs.1.1.1.1.1.1.1.1.1.1.1.1.1.1.1.1.0 })
     (record { mir = named 17; lft = κs.1.1.1.1.1.1.1.1.1.1.1.1.1.1.1.1.1.0 }) f r v in
-    param_send 1 (lts.arg-9-1 g.row.R g.row.F g.row.V g.R.laws g.F.laws g.V.laws g.R.Threads-dict
+    param_send 1 (lts.arg-6-1 g.row.R g.row.F g.row.V g.R.laws g.F.laws g.V.laws g.R.Threads-dict
     g.F.Fork-dict g.V.Visit-dict g.V.Destruct-dict κs)
     (record {
       owned = sent.owned;

@@ -267,7 +267,8 @@ select-returns-in-Index-clause-found g t c =
     c.in-Index.is ∙ picked_index (base_of c.args.ground.now) (here c.args.path.now c.args.value)
     c.in-Index.index))) c.at_place.ensures.found
 
-pub select-returns-in_ok-children-in-Slice-clause-found : goal.select-returns-in_ok-children-in-Slice-clause-found
+pub select-returns-in_ok-children-in-Slice-clause-found :
+    goal.select-returns-in_ok-children-in-Slice-clause-found
 select-returns-in_ok-children-in-Slice-clause-found g t c =
     let base = base_of c.args.ground.now in
     let n = here c.args.path.now c.args.value in

@@ -1,15 +1,29 @@
-use Rattle.std.proofs.Common.{arith}
-use Rattle.std.proofs.lemmas.Grind.{common_steps}
-use Rattle.jp_part.proofs.Short.{part_is_short}
+use Rattle.std.proofs.Common.{ap₂, sym, ◌∙◌, arith}
+use Rattle.std.proofs.lemmas.Result.{IfOk-weaker}
+use Rattle.jp_doc.specs.Location.{node}
+use Rattle.jp_value.specs.BoundsView.{bounds_value}
+use Rattle.jp_value.specs.Slice.{slice_indexes}
+use Rattle.jp_nodes.specs.Nodes.{items_at}
 use Rattle.jp_nodes.proofs.BoundsWithin.{within_more}
+use Rattle.jp_nodes.proofs.Slicing.{items_counted}
 use Rattle.jp_nodes.proofs.children.sliced.Goals as goal
 
-pub first_place-next-requires : goal.first_place-next-requires
-first_place-next-requires c =
-    within_more _ _ _ (let few = part_is_short c.args.value in omega (arith, few)) c.requires
+pub rising-requires-clause-within : goal.rising-requires-clause-within
+rising-requires-clause-within c =
+    let same = items_counted _ _ c.in-Items.ensures in
+    within_more _ _ _ (omega (arith, same)) c.requires
 
-pub place_after-next-requires-clause-bounds : goal.place_after-next-requires-clause-bounds
-place_after-next-requires-clause-bounds c = within_more _ _ _ (let few = part_is_short c.args.value in omega (arith, few)) c.requires
+pub falling-requires-clause-within : goal.falling-requires-clause-within
+falling-requires-clause-within c =
+    let same = items_counted _ _ c.in-Items.ensures in
+    within_more _ _ _ (omega (arith, same)) c.requires
 
-pub loop-next-preserved : goal.loop-next-preserved
-loop-next-preserved c = grind (arith, common_steps)
+pub returns-then-bounds-gt0-clause-nodes : goal.returns-then-bounds-gt0-clause-nodes
+returns-then-bounds-gt0-clause-nodes c = IfOk-weaker c.rising.result _ _
+    (λ v h at. h at ∙ ap₂ (λ w n. items_at (node at w) (slice_indexes (bounds_value c.args.bounds) n))
+    (sym c.in-Items.ensures) (sym (items_counted _ _ c.in-Items.ensures))) c.rising.ensures.nodes
+
+pub returns-then-bounds-lt0-clause-nodes : goal.returns-then-bounds-lt0-clause-nodes
+returns-then-bounds-lt0-clause-nodes c = IfOk-weaker c.falling.result _ _
+    (λ v h at. h at ∙ ap₂ (λ w n. items_at (node at w) (slice_indexes (bounds_value c.args.bounds) n))
+    (sym c.in-Items.ensures) (sym (items_counted _ _ c.in-Items.ensures))) c.falling.ensures.nodes

@@ -4,8 +4,8 @@ use Rattle.jp_nodes.specs.Kept.{kept, put_found, taken, plus, emptied_found}
 use Rattle.jp_nodes.proofs.Keeping.{taken_out, taken_plus}
 use Rattle.jp_nodes.proofs.found.append.Goals as goal
 
-pub returns-in-Taker : goal.returns-in-Taker
-returns-in-Taker g c = λ ns e. on_ok_weaker c.append.result
+pub returns-clause-nodes : goal.returns-clause-nodes
+returns-clause-nodes g c = λ ns e. on_ok_weaker c.append.result
     (λ h. ap taken h ∙ taken_plus g.V.Visit.put (g.V.Visit.kept c.in-Taker.taker) ns
     ∙ ap (λ f. plus (put_found g.V.Visit.put) (kept g.V.Visit.kept f) ns) (sym c.in-Taker.is))
     (c.append.ensures ns (taken_out g.V.Visit.put _ _ ns (e

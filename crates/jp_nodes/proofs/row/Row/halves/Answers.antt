@@ -23,7 +23,8 @@ returns-in-Items-clause-nodes c = λ at.
     ap (λ xs. item_nodes at c.in-Items.first (items (take (c.in-Items.first
     + c.saturating_sub-half.result / 2 - c.in-Items.first) (item_values c.in-Items.items)))
     ++ item_nodes at (c.in-Items.first + c.saturating_sub-half.result / 2)
-    (items (take (c.in-Items.past - (c.in-Items.first + c.saturating_sub-half.result / 2)) xs))) c.skip.ensures
+    (items (take (c.in-Items.past - (c.in-Items.first + c.saturating_sub-half.result / 2)) xs)))
+    c.skip.ensures
     ∙ halves_of_items at c.in-Items.first (c.saturating_sub-half.result / 2) c.in-Items.past
     (item_values c.in-Items.items) half ∙ sym (ap (row_kids at) c.in-Items.is)
 
