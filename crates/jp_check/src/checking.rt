@@ -42,8 +42,7 @@ fn verdict(query: &Query) -> Result<(), QueryFault>
 ///
 /// - [`QueryFault::Fraction`] where some number literal has a fraction or an exponent.
 /// - [`QueryFault::Range`] where an index or a number of a slice is more than 9007199254740991 from zero, or
-/// a number
-///   literal has more than 38 digits.
+///   a number literal has more than 38 digits.
 /// - [`QueryFault::IllTyped`] where a function is unknown or not used as its type allows (RFC 9535, 2.4.3).
 ///
 /// [`QueryFault::Memory`] in the place of any answer where a growth of memory was refused.
@@ -71,7 +70,7 @@ pub fn check(alloc: Global, query: Query) -> Result<Plan, QueryFault>
 /// The first of these that applies:
 ///
 /// - [`QueryFault::TooDeep`] where brackets and parentheses are nested more than 64 deep. It takes no memory
-/// to tell.
+///   to tell.
 /// - [`QueryFault::Syntax`] where the text spells no query.
 /// - Those of [`check`].
 ///
