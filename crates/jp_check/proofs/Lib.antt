@@ -1,4 +1,6 @@
 pub mod KnownLemmas
+pub mod LiteralDigits
+pub mod NumbersSpelled
 pub mod PatternSets
 pub mod Sound
 pub mod TextLists

@@ -2,7 +2,8 @@ use Rattle.std.proofs.Common.{ap, ◌∙◌, ◌++◌}
 use Rattle.jp_syntax.specs.View.{query_of}
 use Rattle.jp_check.specs.Known.{known_texts}
 use Rattle.jp_check.specs.LiteralPatterns.{literal_patterns}
-use Rattle.jp_check.proofs.Verdicts.{accepted_by}
+use Rattle.jp_check.proofs.NumbersSpelled.{spelled_readable}
+use Rattle.jp_check.proofs.Verdicts.{accepted_by, accepts_only}
 use Rattle.jp_check.proofs.checking.check.Goals as goal
 
 pub invariant_of-result : goal.invariant_of-result
@@ -14,3 +15,9 @@ invariant_of-result c =
           c.new-patterns.ensures.items;
       made = c.in_ok-ready.ensures;
     }
+
+pub make_query-requires : goal.make_query-requires
+make_query-requires c =
+    let q = query_of c.args.query in
+    let accepted = accepts_only q q c.in_ok-verdict.ensures.ok in
+    (spelled_readable q c.requires.spelled accepted.1 accepted.2, accepted.3)
