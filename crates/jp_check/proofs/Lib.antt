@@ -10,3 +10,4 @@ pub mod ReadyViews
 pub mod MakingSteps
 pub mod Naming
 pub mod CallsMade
+pub mod PatternsListed

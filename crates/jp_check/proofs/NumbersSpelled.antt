@@ -102,7 +102,8 @@ module _ (Inner : Text → tree.Logical → Type 0)
       selectors_plain xs (separated_each (codes ",") (is.SelectorIs Inner)
       (λ x. ArePlain (numbers.selector_numbers x)) selector_plain s xs h)
 
-  segment_plain : (t : Text) (s : tree.Segment) → is.SegmentIs Inner t s → ArePlain (numbers.segment_numbers s)
+  segment_plain : (t : Text) (s : tree.Segment) → is.SegmentIs Inner t s
+      → ArePlain (numbers.segment_numbers s)
   segment_plain w y (is.child_bracketed t xs h) = bracketed_plain t xs h
   segment_plain w y is.child_wildcard = tt
   segment_plain w y (is.child_name t h) = tt

@@ -52,7 +52,7 @@ impl Plan {
         for known in &self.patterns {
             if known.text.as_str() == text {
                 return match &known.pattern {
-                    Some(pattern) => Known::Read(pattern),
+                    Some(pattern) => Known::Read(&**pattern),
                     None => Known::NoPattern,
                 };
             }

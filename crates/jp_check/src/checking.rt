@@ -11,7 +11,6 @@ ghost use Rattle.jp_check.specs.Plan.{planned_query};
 
 use crate::accepted::Plan;
 use crate::making::make_query;
-use crate::patterns::query_patterns;
 use jp_syntax::{Query, QueryFault, read_query};
 use jp_types::query_faults;
 use std::alloc::Global;
@@ -53,9 +52,7 @@ pub fn check(alloc: Global, query: Query) -> Result<Plan, QueryFault>
     ensures fault { IfErr result (λ f. f ≢ QueryFault.Memory → verdict_of (query_of query) ≡ Err f) }
 {
     verdict(&query)?;
-    let mut patterns = Vec::new(alloc);
-    query_patterns(alloc, &query, &mut patterns)?;
-    let ready = make_query(alloc, &query)?;
+    let (ready, patterns) = make_query(alloc, &query)?;
     Ok(Plan {
         query,
         patterns,

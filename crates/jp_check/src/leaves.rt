@@ -8,21 +8,10 @@ ghost use Rattle.jp_types.specs.Numbers as numbers;
 ghost use Rattle.jp_check.specs.Making.{is_readable};
 ghost use Rattle.jp_check.specs.Ready as ready;
 
-use crate::known::KnownPattern;
 use crate::ready::{Constant, Number, Position, Slice};
-use jp_regexp::Pattern;
 use jp_syntax::Literal;
 use jp_types::{position, whole_number};
 use std::alloc::{AllocError, Global};
-
-/// The text, and the pattern that it is, if it is one, made ready for many texts.
-pub(crate) fn read_pattern(alloc: Global, text: &str) -> Result<KnownPattern, AllocError>
-    ensures { IfOk result (λ k. text_of k.text ≡ chars text.now) }
-{
-    let pattern = Pattern::ready(alloc, text)?;
-    let text = String::from_str(alloc, text)?;
-    Ok(KnownPattern { text, pattern })
-}
 
 /// An index or a number of a slice.
 pub(crate) fn make_position(alloc: Global, text: &str) -> Result<Position, AllocError>
