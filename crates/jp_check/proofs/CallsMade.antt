@@ -18,7 +18,7 @@ one_is [] a low high is = absurd (omega arith)
 one_is (x ∷ []) a low high is = ap (λ y. y ∷ []) (sym is)
 one_is (x ∷ y ∷ xs) a low high is = absurd (omega arith)
 
-two_are : (xs : List Argument) (a b : Argument) → 2 ≤ length xs → length xs < 3 → a ≡ get_or xs 0 a
+pub two_are : (xs : List Argument) (a b : Argument) → 2 ≤ length xs → length xs < 3 → a ≡ get_or xs 0 a
     → b ≡ get_or xs 1 b → xs ≡ a ∷ b ∷ []
 two_are [] a b low high is is2 = absurd (omega arith)
 two_are (x ∷ []) a b low high is is2 = absurd (omega arith)

@@ -1,7 +1,8 @@
 -- Texts among those that were read.
 use Rattle.std.proofs.Common.{◌≡◌, ℕ, ◌<◌, Bool, true, false, List, length, get_or, sym, ap, ◌∙◌, subst}
 use Rattle.std.proofs.Common.{arith}
-use Rattle.std.specs.Prelude.{string_bytes, Contains}
+use Rattle.std.specs.Prelude.{string_bytes, Contains, option_map}
+use Rattle.std.specs.Arc.{arc_value}
 use Rattle.std.specs.Str.{chars, IsUtf8, bytes_eq}
 use Rattle.std.proofs.lemmas.List.{get_or-map, length-map}
 use Rattle.std.proofs.lemmas.Slice.Eq.{bytes_eq-Decides}
@@ -45,7 +46,8 @@ known_is_other ks i k text r utf8 within is compared e found =
 
 -- what was read of the text at a place where it is this one
 pub known_read : (k : KnownPattern) (text : List ℕ) (r : Bool) → r ≡ bytes_eq (string_bytes k.text) text
-    → r ≡ true → IsRead (chars text) k.pattern
+    → r ≡ true → IsRead (chars text) (option_map arc_value k.pattern)
 known_read k text r compared e =
-    subst (λ bs. IsRead (chars bs) k.pattern) ((bytes_eq-Decides (string_bytes k.text) text).0
-    (sym compared ∙ e)) (read_had (text_of k.text) k.pattern k.read)
+    subst (λ bs. IsRead (chars bs) (option_map arc_value k.pattern))
+    ((bytes_eq-Decides (string_bytes k.text) text).0 (sym compared ∙ e))
+    (read_had (text_of k.text) (option_map arc_value k.pattern) k.read)

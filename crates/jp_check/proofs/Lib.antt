@@ -1,4 +1,6 @@
 pub mod KnownLemmas
+pub mod LiteralDigits
+pub mod NumbersSpelled
 pub mod PatternSets
 pub mod Sound
 pub mod TextLists
@@ -8,3 +10,4 @@ pub mod ReadyViews
 pub mod MakingSteps
 pub mod Naming
 pub mod CallsMade
+pub mod PatternsListed

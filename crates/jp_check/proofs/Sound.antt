@@ -4,7 +4,7 @@ use Rattle.std.proofs.Common.{length, get_or, Option, Some, None, option_map, re
 use Rattle.std.proofs.Common.{subst, arith}
 use Rattle.std.specs.List.{list_all}
 use Rattle.std.proofs.lemmas.List.Folds.{list_all-append}
-use Rattle.jp_types.specs.Numbers.{Written, is_in_range, arguments_numbers}
+use Rattle.jp_types.specs.Numbers.{Written, arguments_numbers}
 use Rattle.jp_types.specs.Functions.{Kind, value_type, nodes_type, Function, result_type}
 use Rattle.jp_types.specs.Functions.{length_function, count_function, match_function, search_function}
 use Rattle.jp_types.specs.Functions.{value_function, xor_function, distinct_function, parameters}
@@ -21,7 +21,7 @@ use Rattle.jp_types.specs.Functions.{function_named}
 use Rattle.jp_types.proofs.Levels.{call_level}
 use Rattle.jp_types.specs.Numbers.{argument_numbers, call_numbers}
 use Rattle.jp_types.specs.Typing.{argument_typed}
-use Rattle.jp_check.specs.Making.{IsSound}
+use Rattle.jp_check.specs.Making.{IsSound, is_readable}
 
 pub both : (a b : Bool) → (a && b) ≡ true → (a ≡ true) × (b ≡ true)
 both true true e = (refl, refl)
@@ -31,7 +31,7 @@ both false b e = absurd cc
 pub sound_parts : (ns ms : List Written) (s t : Bool) → IsSound (ns ++ ms) (s && t)
     → IsSound ns s × IsSound ms t
 sound_parts ns ms s t h =
-    let n = both _ _ (sym (list_all-append is_in_range ns ms) ∙ h.0) in
+    let n = both _ _ (sym (list_all-append is_readable ns ms) ∙ h.0) in
     let u = both s t h.1 in ((n.0, u.0), (n.1, u.1))
 
 module _ {X : Type 0} (numbers : List X → List Written) (typed : List X → Bool)
@@ -41,7 +41,7 @@ module _ {X : Type 0} (numbers : List X → List Written) (typed : List X → Bo
   sound_more : (x : X) (xs : List X) → IsSound (numbers (x ∷ xs)) (typed (x ∷ xs))
       → IsSound (numbers_of x) (typed_of x) × IsSound (numbers xs) (typed xs)
   sound_more x xs h = sound_parts (numbers_of x) (numbers xs) (typed_of x) (typed xs)
-      (ap (λ ns. list_all is_in_range ns) (sym (more x xs)) ∙ h.0, sym (more_typed x xs) ∙ h.1)
+      (ap (λ ns. list_all is_readable ns) (sym (more x xs)) ∙ h.0, sym (more_typed x xs) ∙ h.1)
 
   -- each part of a list is as the list
   pub sound_at : (xs : List X) (i : ℕ) (x : X) → i < length xs → x ≡ get_or xs i x

@@ -14,8 +14,7 @@ abbrev pub known_texts : List KnownPattern → List Text
 known_texts ks = map (λ (k : KnownPattern). text_of k.text) ks
 
 -- What is told of a text where these texts were read: of one of them the pattern that it is (RFC 9485), or
--- that it is
--- none; of every other text that it is unknown.
+-- that it is none; of every other text that it is unknown.
 abbrev pub Tells : List Text → Text → Known → Type 0
 Tells texts t (Read p) = Contains texts t × IsPatternOf t (pattern_of p.now)
 Tells texts t NoPattern = Contains texts t × ((p : Pattern) → IsPatternOf t p → ⊥)

@@ -1,8 +1,11 @@
--- A step of a proof, which nobody has to believe: what a part of a ready tree stands for, whatever `$`
--- queries are listed behind those that are listed already.
-use Rattle.std.specs.Prelude.{◌≡◌, ◌++◌, Bool, true, List}
+-- Steps of a proof, which nobody has to believe: what a part of a ready tree stands for, whatever `$`
+-- queries are listed behind those that are listed already, and what is asked of a part that is made ready.
+use Rattle.std.specs.Prelude.{◌≡◌, ◌++◌, ◌^◌, nat_lt, Bool, true, List}
 use Rattle.std.specs.List.{list_all}
-use Rattle.jp_types.specs.Numbers.{Written, is_in_range}
+use Rattle.jp_types.specs.Numbers.{Written, literal_number, position, magnitude, is_in_range}
+use Rattle.jp_tree.specs.Tree.{Text}
+use Rattle.jp_check.specs.Known.{known_texts}
+use Rattle.jp_check.specs.declared.known.KnownPattern.{KnownPattern}
 use Rattle.jp_check.specs.Ready.{Wanted}
 
 -- the first list begins the second
@@ -13,6 +16,15 @@ Begins roots all = (more : List Wanted) × (all ≡ roots ++ more)
 abbrev pub Reads : {A : Type 0} → List Wanted → (List Wanted → A) → A → Type 0
 Reads roots view x = (all : List Wanted) → Begins roots all → view all ≡ x
 
--- a part of a query that can be made ready: its numbers are in range, and it is well-typed
+-- behind the patterns that were read before, those of these texts were read
+abbrev pub Lists : List KnownPattern → List KnownPattern → List Text → Type 0
+Lists before after texts = known_texts after ≡ known_texts before ++ texts
+
+-- a number that can be read: a literal below 10^38, or an index in its range
+abbrev pub is_readable : Written → Bool
+is_readable (literal_number t) = nat_lt (magnitude t) (10 ^ 38)
+is_readable (position t) = is_in_range (position t)
+
+-- a part of a query that can be made ready: its numbers can be read, and it is well-typed
 abbrev pub IsSound : List Written → Bool → Type 0
-IsSound numbers typed = (list_all is_in_range numbers ≡ true) × (typed ≡ true)
+IsSound numbers typed = (list_all is_readable numbers ≡ true) × (typed ≡ true)

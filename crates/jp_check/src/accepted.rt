@@ -45,15 +45,14 @@ impl Plan {
     }
 
     /// What is known of the text as a pattern: what it is, if it stands in the query as a literal second
-    /// argument of
-    /// `match` or `search`. It takes no memory.
+    /// argument of `match` or `search`. It takes no memory.
     pub fn pattern(&self, text: &str) -> Known<'_>
         ensures { Tells (literal_patterns (planned_query self.now)) (chars text.now) result }
     {
         for known in &self.patterns {
             if known.text.as_str() == text {
                 return match &known.pattern {
-                    Some(pattern) => Known::Read(pattern),
+                    Some(pattern) => Known::Read(&**pattern),
                     None => Known::NoPattern,
                 };
             }

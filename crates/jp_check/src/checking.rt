@@ -11,7 +11,6 @@ ghost use Rattle.jp_check.specs.Plan.{planned_query};
 
 use crate::accepted::Plan;
 use crate::making::make_query;
-use crate::patterns::query_patterns;
 use jp_syntax::{Query, QueryFault, read_query};
 use jp_types::query_faults;
 use std::alloc::Global;
@@ -42,8 +41,7 @@ fn verdict(query: &Query) -> Result<(), QueryFault>
 ///
 /// - [`QueryFault::Fraction`] where some number literal has a fraction or an exponent.
 /// - [`QueryFault::Range`] where an index or a number of a slice is more than 9007199254740991 from zero, or
-/// a number
-///   literal has more than 38 digits.
+///   a number literal has more than 38 digits.
 /// - [`QueryFault::IllTyped`] where a function is unknown or not used as its type allows (RFC 9535, 2.4.3).
 ///
 /// [`QueryFault::Memory`] in the place of any answer where a growth of memory was refused.
@@ -54,9 +52,7 @@ pub fn check(alloc: Global, query: Query) -> Result<Plan, QueryFault>
     ensures fault { IfErr result (λ f. f ≢ QueryFault.Memory → verdict_of (query_of query) ≡ Err f) }
 {
     verdict(&query)?;
-    let mut patterns = Vec::new(alloc);
-    query_patterns(alloc, &query, &mut patterns)?;
-    let ready = make_query(alloc, &query)?;
+    let (ready, patterns) = make_query(alloc, &query)?;
     Ok(Plan {
         query,
         patterns,
@@ -71,7 +67,7 @@ pub fn check(alloc: Global, query: Query) -> Result<Plan, QueryFault>
 /// The first of these that applies:
 ///
 /// - [`QueryFault::TooDeep`] where brackets and parentheses are nested more than 64 deep. It takes no memory
-/// to tell.
+///   to tell.
 /// - [`QueryFault::Syntax`] where the text spells no query.
 /// - Those of [`check`].
 ///

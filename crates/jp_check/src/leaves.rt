@@ -5,27 +5,17 @@ ghost use Rattle.std.specs.List.{list_all};
 ghost use Rattle.std.specs.Str.{chars};
 ghost use Rattle.jp_syntax.specs.View.{literal_of, slice_of, text_of};
 ghost use Rattle.jp_types.specs.Numbers as numbers;
+ghost use Rattle.jp_check.specs.Making.{is_readable};
 ghost use Rattle.jp_check.specs.Ready as ready;
 
-use crate::known::KnownPattern;
 use crate::ready::{Constant, Number, Position, Slice};
-use jp_regexp::Pattern;
 use jp_syntax::Literal;
 use jp_types::{position, whole_number};
 use std::alloc::{AllocError, Global};
 
-/// The text, and the pattern that it is, if it is one, made ready for many texts.
-pub(crate) fn read_pattern(alloc: Global, text: &str) -> Result<KnownPattern, AllocError>
-    ensures { IfOk result (λ k. text_of k.text ≡ chars text.now) }
-{
-    let pattern = Pattern::ready(alloc, text)?;
-    let text = String::from_str(alloc, text)?;
-    Ok(KnownPattern { text, pattern })
-}
-
 /// An index or a number of a slice.
 pub(crate) fn make_position(alloc: Global, text: &str) -> Result<Position, AllocError>
-    requires { numbers.is_in_range (numbers.position (chars text.now)) ≡ true }
+    requires { is_readable (numbers.position (chars text.now)) ≡ true }
     ensures { IfOk result (λ p. ready.position_text p ≡ chars text.now) }
 {
     let Some(value) = position(text) else {
@@ -37,7 +27,7 @@ pub(crate) fn make_position(alloc: Global, text: &str) -> Result<Position, Alloc
 
 /// A number of a slice, which may be left out.
 fn make_part(alloc: Global, part: &Option<String>) -> Result<Option<Position>, AllocError>
-    requires { list_all numbers.is_in_range (numbers.part_of_slice (option_map text_of part.now)) ≡ true }
+    requires { list_all is_readable (numbers.part_of_slice (option_map text_of part.now)) ≡ true }
     ensures { IfOk result (λ o. option_map ready.position_text o ≡ option_map text_of part.now) }
 {
     match part {
@@ -48,7 +38,7 @@ fn make_part(alloc: Global, part: &Option<String>) -> Result<Option<Position>, A
 
 /// The numbers of a slice.
 pub(crate) fn make_slice(alloc: Global, slice: &jp_syntax::Slice) -> Result<Slice, AllocError>
-    requires { list_all numbers.is_in_range (numbers.selector_numbers (slice_of slice.now)) ≡ true }
+    requires { list_all is_readable (numbers.selector_numbers (slice_of slice.now)) ≡ true }
     ensures { IfOk result (λ s. ready.slice_of s ≡ slice_of slice.now) }
 {
     let first = make_part(alloc, &slice.first)?;
@@ -59,15 +49,19 @@ pub(crate) fn make_slice(alloc: Global, slice: &jp_syntax::Slice) -> Result<Slic
 
 /// A number literal.
 fn make_number(alloc: Global, text: &str) -> Result<Number, AllocError>
+    requires { is_readable (numbers.literal_number (chars text.now)) ≡ true }
     ensures { IfOk result (λ n. text_of n.text ≡ chars text.now) }
 {
-    let value = whole_number(text).ok_or(AllocError)?;
+    let Some(value) = whole_number(text) else {
+        unreachable!()
+    };
     let text = String::from_str(alloc, text)?;
     Ok(Number { text, value })
 }
 
 /// A literal.
 pub(crate) fn make_constant(alloc: Global, literal: &Literal) -> Result<Constant, AllocError>
+    requires { list_all is_readable (numbers.literal_numbers (literal_of literal.now)) ≡ true }
     ensures { IfOk result (λ x. ready.constant_of x ≡ literal_of literal.now) }
 {
     match literal {

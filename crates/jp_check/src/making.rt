@@ -1,6 +1,7 @@
 //! A query made ready, in one walk over its tree.
 
-ghost use Rattle.std.specs.Prelude.{◌≡◌, ◌⊎◌, List, [], ◌∷◌, Some, map, option_map, codes, true, IfOk, OnOk};
+ghost use Rattle.std.specs.Prelude.{◌≡◌, ◌⊎◌, List, [], ◌∷◌, ◌++◌, Some, map, option_map, codes, true};
+ghost use Rattle.std.specs.Prelude.{IfOk, OnOk};
 ghost use Rattle.jp_syntax.specs.Tree as tree;
 ghost use Rattle.jp_syntax.specs.Tree.{Text};
 ghost use Rattle.jp_syntax.specs.View.{query_of, text_of};
@@ -12,46 +13,70 @@ ghost use Rattle.jp_types.specs.Numbers as numbers;
 ghost use Rattle.jp_types.specs.Typing as typing;
 ghost use Rattle.jp_check.specs.Ready as ready;
 ghost use Rattle.jp_check.specs.Ready.{Wanted};
-ghost use Rattle.jp_check.specs.Making.{Begins, Reads, IsSound};
+ghost use Rattle.jp_check.specs.Known.{known_texts};
+ghost use Rattle.jp_check.specs.LiteralPatterns as literal;
+ghost use Rattle.jp_check.specs.Making.{Begins, Reads, Lists, IsSound};
 
 use crate::known::KnownPattern;
-use crate::leaves::{make_constant, make_position, make_slice, read_pattern};
-use crate::patterns::literal_text;
+use crate::leaves::{make_constant, make_position, make_slice};
+use crate::patterns::{list_pattern, literal_text};
 use crate::ready::{Form, Logical, Nodes, Query, RootQuery, Segment, Selector, Value, Want};
 use jp_syntax::{Argument, Call, Comparable, Comparison, Start};
 use jp_types::{Function, function_named};
 use std::alloc::{AllocError, Global};
 
-/// A query made ready.
-pub(crate) fn make_query(alloc: Global, query: &jp_syntax::Query) -> Result<Query, AllocError>
+/// What the walk puts into lists of their own.
+#[derive(Drop)]
+struct Listed {
+    /// The `$` queries inside filters, each behind those inside of it.
+    roots: Vec<RootQuery>,
+    /// The literal patterns, in the order of the text.
+    patterns: Vec<KnownPattern>,
+}
+
+/// A query made ready, and its literal patterns.
+pub(crate) fn make_query(
+    alloc: Global,
+    query: &jp_syntax::Query,
+) -> Result<(Query, Vec<KnownPattern>), AllocError>
     requires { IsSound (numbers.query_numbers (query_of query.now))
         (typing.query_typed (query_of query.now)) }
-    ensures { IfOk result (λ r. ready.ready_query r ≡ query_of query.now) }
+    ensures made { IfOk result (λ r. ready.ready_query r.0 ≡ query_of query.now) }
+    ensures patterns { IfOk result (λ r. known_texts r.1.items
+        ≡ literal.literal_patterns (query_of query.now)) }
 {
-    let mut roots = Vec::new(alloc);
-    let segments = make_segments(alloc, query.segments.as_slice(), &mut roots)?;
-    Ok(Query {
+    let mut listed = Listed {
+        roots: Vec::new(alloc),
+        patterns: Vec::new(alloc),
+    };
+    let segments = make_segments(alloc, query.segments.as_slice(), &mut listed)?;
+    let Listed { roots, patterns } = listed;
+    let ready = Query {
         start: query.start,
         segments,
         roots,
-    })
+    };
+    Ok((ready, patterns))
 }
 
 #[cycle(making)]
 fn make_segments(
     alloc: Global,
     segments: &[jp_syntax::Segment],
-    roots: &mut Vec<RootQuery>,
+    listed: &mut Listed,
 ) -> Result<Vec<Segment>, AllocError>
     requires sound { IsSound (numbers.segments_numbers (tree.segments (view.segments_of segments.now)))
         (typing.segments_typed (tree.segments (view.segments_of segments.now))) }
-    ensures made { IfOk result (λ v. Reads (ready.roots_of roots.new.items)
+    ensures made { IfOk result (λ v. Reads (ready.roots_of listed.new.roots.items)
         (λ all. map (ready.segment_in all) v.items) (view.segments_of segments.now)) }
-    ensures roots { OnOk result (Begins (ready.roots_of roots.old.items) (ready.roots_of roots.new.items)) }
+    ensures roots { OnOk result (Begins (ready.roots_of listed.old.roots.items)
+        (ready.roots_of listed.new.roots.items)) }
+    ensures patterns { OnOk result (Lists listed.old.patterns.items listed.new.patterns.items
+        (literal.segments_patterns (tree.segments (view.segments_of segments.now)))) }
 {
     let mut made = Vec::with_capacity(alloc, segments.len())?;
     for segment in segments {
-        let selectors = make_selectors(alloc, segment.selectors.as_slice(), roots)?;
+        let selectors = make_selectors(alloc, segment.selectors.as_slice(), listed)?;
         let deep = segment.deep;
         made.push(Segment { deep, selectors })?;
     }
@@ -62,17 +87,20 @@ fn make_segments(
 fn make_selectors(
     alloc: Global,
     selectors: &[jp_syntax::Selector],
-    roots: &mut Vec<RootQuery>,
+    listed: &mut Listed,
 ) -> Result<Vec<Selector>, AllocError>
     requires sound { IsSound (numbers.selectors_numbers (tree.selectors (view.selectors_of selectors.now)))
         (typing.selectors_typed (tree.selectors (view.selectors_of selectors.now))) }
-    ensures made { IfOk result (λ v. Reads (ready.roots_of roots.new.items)
+    ensures made { IfOk result (λ v. Reads (ready.roots_of listed.new.roots.items)
         (λ all. map (ready.selector_in all) v.items) (view.selectors_of selectors.now)) }
-    ensures roots { OnOk result (Begins (ready.roots_of roots.old.items) (ready.roots_of roots.new.items)) }
+    ensures roots { OnOk result (Begins (ready.roots_of listed.old.roots.items)
+        (ready.roots_of listed.new.roots.items)) }
+    ensures patterns { OnOk result (Lists listed.old.patterns.items listed.new.patterns.items
+        (literal.selectors_patterns (tree.selectors (view.selectors_of selectors.now)))) }
 {
     let mut made = Vec::with_capacity(alloc, selectors.len())?;
     for selector in selectors {
-        made.push(make_selector(alloc, selector, roots)?)?;
+        made.push(make_selector(alloc, selector, listed)?)?;
     }
     Ok(made)
 }
@@ -81,13 +109,16 @@ fn make_selectors(
 fn make_selector(
     alloc: Global,
     selector: &jp_syntax::Selector,
-    roots: &mut Vec<RootQuery>,
+    listed: &mut Listed,
 ) -> Result<Selector, AllocError>
     requires sound { IsSound (numbers.selector_numbers (view.selector_of selector.now))
         (typing.selector_typed (view.selector_of selector.now)) }
-    ensures made { IfOk result (λ x. Reads (ready.roots_of roots.new.items)
+    ensures made { IfOk result (λ x. Reads (ready.roots_of listed.new.roots.items)
         (λ all. ready.selector_in all x) (view.selector_of selector.now)) }
-    ensures roots { OnOk result (Begins (ready.roots_of roots.old.items) (ready.roots_of roots.new.items)) }
+    ensures roots { OnOk result (Begins (ready.roots_of listed.old.roots.items)
+        (ready.roots_of listed.new.roots.items)) }
+    ensures patterns { OnOk result (Lists listed.old.patterns.items listed.new.patterns.items
+        (literal.selector_patterns (view.selector_of selector.now))) }
 {
     match selector {
         jp_syntax::Selector::Name(name) => {
@@ -99,7 +130,7 @@ fn make_selector(
         }
         jp_syntax::Selector::Slice(slice) => Ok(Selector::Slice(make_slice(alloc, slice)?)),
         jp_syntax::Selector::Filter(logical) => {
-            Ok(Selector::Filter(make_logical(alloc, logical, roots)?))
+            Ok(Selector::Filter(make_logical(alloc, logical, listed)?))
         }
     }
 }
@@ -108,23 +139,26 @@ fn make_selector(
 fn make_logical(
     alloc: Global,
     logical: &jp_syntax::Logical,
-    roots: &mut Vec<RootQuery>,
+    listed: &mut Listed,
 ) -> Result<Logical, AllocError>
     requires sound { IsSound (numbers.logical_numbers (view.logical_of logical.now))
         (typing.logical_typed (view.logical_of logical.now)) }
-    ensures made { IfOk result (λ l. Reads (ready.roots_of roots.new.items)
+    ensures made { IfOk result (λ l. Reads (ready.roots_of listed.new.roots.items)
         (λ all. ready.logical_in all l) (view.logical_of logical.now)) }
-    ensures roots { OnOk result (Begins (ready.roots_of roots.old.items) (ready.roots_of roots.new.items)) }
+    ensures roots { OnOk result (Begins (ready.roots_of listed.old.roots.items)
+        (ready.roots_of listed.new.roots.items)) }
+    ensures patterns { OnOk result (Lists listed.old.patterns.items listed.new.patterns.items
+        (literal.logical_patterns (view.logical_of logical.now))) }
 {
     match logical {
-        jp_syntax::Logical::Any(parts) => Ok(Logical::Any(make_parts(alloc, parts, roots)?)),
-        jp_syntax::Logical::All(parts) => Ok(Logical::All(make_parts(alloc, parts, roots)?)),
-        jp_syntax::Logical::Not(part) => make_negation(alloc, part, roots),
-        jp_syntax::Logical::Compare(comparison) => make_comparison(alloc, comparison, roots),
+        jp_syntax::Logical::Any(parts) => Ok(Logical::Any(make_parts(alloc, parts, listed)?)),
+        jp_syntax::Logical::All(parts) => Ok(Logical::All(make_parts(alloc, parts, listed)?)),
+        jp_syntax::Logical::Not(part) => make_negation(alloc, part, listed),
+        jp_syntax::Logical::Compare(comparison) => make_comparison(alloc, comparison, listed),
         jp_syntax::Logical::Test(query) => {
-            Ok(Logical::Test(make_nodes(alloc, Want::First, query, roots)?))
+            Ok(Logical::Test(make_nodes(alloc, Want::First, query, listed)?))
         }
-        jp_syntax::Logical::Call(call) => make_test_call(alloc, call, roots),
+        jp_syntax::Logical::Call(call) => make_test_call(alloc, call, listed),
     }
 }
 
@@ -134,15 +168,18 @@ fn make_logical(
 fn make_negation(
     alloc: Global,
     part: &jp_syntax::Logical,
-    roots: &mut Vec<RootQuery>,
+    listed: &mut Listed,
 ) -> Result<Logical, AllocError>
     requires sound { IsSound (numbers.logical_numbers (view.logical_of part.now))
         (typing.logical_typed (view.logical_of part.now)) }
-    ensures made { IfOk result (λ l. Reads (ready.roots_of roots.new.items)
+    ensures made { IfOk result (λ l. Reads (ready.roots_of listed.new.roots.items)
         (λ all. ready.logical_in all l) (tree.negation (view.logical_of part.now))) }
-    ensures roots { OnOk result (Begins (ready.roots_of roots.old.items) (ready.roots_of roots.new.items)) }
+    ensures roots { OnOk result (Begins (ready.roots_of listed.old.roots.items)
+        (ready.roots_of listed.new.roots.items)) }
+    ensures patterns { OnOk result (Lists listed.old.patterns.items listed.new.patterns.items
+        (literal.logical_patterns (view.logical_of part.now))) }
 {
-    let part = make_logical(alloc, part, roots)?;
+    let part = make_logical(alloc, part, listed)?;
     Ok(Logical::Not(Box::new(alloc, part)?))
 }
 
@@ -152,16 +189,19 @@ fn make_negation(
 fn make_comparison(
     alloc: Global,
     comparison: &Comparison,
-    roots: &mut Vec<RootQuery>,
+    listed: &mut Listed,
 ) -> Result<Logical, AllocError>
     requires sound { IsSound (numbers.comparison_numbers (view.comparison_of comparison.now))
         (typing.comparison_typed (view.comparison_of comparison.now)) }
-    ensures made { IfOk result (λ l. Reads (ready.roots_of roots.new.items)
+    ensures made { IfOk result (λ l. Reads (ready.roots_of listed.new.roots.items)
         (λ all. ready.logical_in all l) (tree.comparing (view.comparison_of comparison.now))) }
-    ensures roots { OnOk result (Begins (ready.roots_of roots.old.items) (ready.roots_of roots.new.items)) }
+    ensures roots { OnOk result (Begins (ready.roots_of listed.old.roots.items)
+        (ready.roots_of listed.new.roots.items)) }
+    ensures patterns { OnOk result (Lists listed.old.patterns.items listed.new.patterns.items
+        (literal.comparison_patterns (view.comparison_of comparison.now))) }
 {
-    let left = make_side(alloc, &comparison.left, roots)?;
-    let right = make_side(alloc, &comparison.right, roots)?;
+    let left = make_side(alloc, &comparison.left, listed)?;
+    let right = make_side(alloc, &comparison.right, listed)?;
     Ok(Logical::Compare(left, comparison.op, right))
 }
 
@@ -170,17 +210,20 @@ fn make_comparison(
 fn make_parts(
     alloc: Global,
     parts: &[jp_syntax::Logical],
-    roots: &mut Vec<RootQuery>,
+    listed: &mut Listed,
 ) -> Result<Vec<Logical>, AllocError>
     requires sound { IsSound (numbers.logicals_numbers (tree.logicals (view.logicals_of parts.now)))
         (typing.logicals_typed (tree.logicals (view.logicals_of parts.now))) }
-    ensures made { IfOk result (λ v. Reads (ready.roots_of roots.new.items)
+    ensures made { IfOk result (λ v. Reads (ready.roots_of listed.new.roots.items)
         (λ all. map (ready.logical_in all) v.items) (view.logicals_of parts.now)) }
-    ensures roots { OnOk result (Begins (ready.roots_of roots.old.items) (ready.roots_of roots.new.items)) }
+    ensures roots { OnOk result (Begins (ready.roots_of listed.old.roots.items)
+        (ready.roots_of listed.new.roots.items)) }
+    ensures patterns { OnOk result (Lists listed.old.patterns.items listed.new.patterns.items
+        (literal.logicals_patterns (tree.logicals (view.logicals_of parts.now)))) }
 {
     let mut made = Vec::with_capacity(alloc, parts.len())?;
     for part in parts {
-        made.push(make_logical(alloc, part, roots)?)?;
+        made.push(make_logical(alloc, part, listed)?)?;
     }
     Ok(made)
 }
@@ -191,20 +234,23 @@ fn make_nodes(
     alloc: Global,
     want: Want,
     query: &jp_syntax::Query,
-    roots: &mut Vec<RootQuery>,
+    listed: &mut Listed,
 ) -> Result<Nodes, AllocError>
     requires sound { IsSound (numbers.query_numbers (query_of query.now))
         (typing.query_typed (query_of query.now)) }
-    ensures made { IfOk result (λ q. Reads (ready.roots_of roots.new.items)
+    ensures made { IfOk result (λ q. Reads (ready.roots_of listed.new.roots.items)
         (λ all. ready.nodes_in all q want) (ready.queried (query_of query.now))) }
-    ensures roots { OnOk result (Begins (ready.roots_of roots.old.items) (ready.roots_of roots.new.items)) }
+    ensures roots { OnOk result (Begins (ready.roots_of listed.old.roots.items)
+        (ready.roots_of listed.new.roots.items)) }
+    ensures patterns { OnOk result (Lists listed.old.patterns.items listed.new.patterns.items
+        (literal.literal_patterns (query_of query.now))) }
 {
-    let segments = make_segments(alloc, query.segments.as_slice(), roots)?;
+    let segments = make_segments(alloc, query.segments.as_slice(), listed)?;
     match query.start {
         Start::Current => Ok(Nodes::Here(segments)),
         Start::Root => {
-            let slot = roots.len();
-            roots.push(RootQuery { want, segments })?;
+            let slot = listed.roots.len();
+            listed.roots.push(RootQuery { want, segments })?;
             Ok(Nodes::Root(slot))
         }
     }
@@ -212,47 +258,45 @@ fn make_nodes(
 
 /// A side of a comparison.
 #[cycle(making)]
-fn make_side(
-    alloc: Global,
-    side: &Comparable,
-    roots: &mut Vec<RootQuery>,
-) -> Result<Value, AllocError>
+fn make_side(alloc: Global, side: &Comparable, listed: &mut Listed) -> Result<Value, AllocError>
     requires sound { IsSound (numbers.comparable_numbers (view.comparable_of side.now))
         (typing.comparable_typed (view.comparable_of side.now)) }
-    ensures made { IfOk result (λ v. Reads (ready.roots_of roots.new.items)
+    ensures made { IfOk result (λ v. Reads (ready.roots_of listed.new.roots.items)
         (λ all. ready.value_in all v) (view.comparable_of side.now)) }
-    ensures roots { OnOk result (Begins (ready.roots_of roots.old.items) (ready.roots_of roots.new.items)) }
+    ensures roots { OnOk result (Begins (ready.roots_of listed.old.roots.items)
+        (ready.roots_of listed.new.roots.items)) }
+    ensures patterns { OnOk result (Lists listed.old.patterns.items listed.new.patterns.items
+        (literal.comparable_patterns (view.comparable_of side.now))) }
 {
     match side {
         Comparable::Literal(literal) => Ok(Value::Constant(make_constant(alloc, literal)?)),
         Comparable::Single(query) => {
-            Ok(Value::Single(make_nodes(alloc, Want::First, query, roots)?))
+            Ok(Value::Single(make_nodes(alloc, Want::First, query, listed)?))
         }
-        Comparable::Call(call) => make_value_call(alloc, call, roots),
+        Comparable::Call(call) => make_value_call(alloc, call, listed),
     }
 }
 
 /// An argument that gives a value.
 #[cycle(making)]
-fn make_value(
-    alloc: Global,
-    argument: &Argument,
-    roots: &mut Vec<RootQuery>,
-) -> Result<Value, AllocError>
+fn make_value(alloc: Global, argument: &Argument, listed: &mut Listed) -> Result<Value, AllocError>
     requires sound { IsSound (numbers.argument_numbers (view.argument_of argument.now))
         (typing.argument_typed (view.argument_of argument.now)) }
     requires fits { typing.fits value_type (view.argument_of argument.now) ≡ true }
-    ensures made { IfOk result (λ v. Reads (ready.roots_of roots.new.items)
+    ensures made { IfOk result (λ v. Reads (ready.roots_of listed.new.roots.items)
         (λ all. ready.as_argument (ready.value_in all v)) (view.argument_of argument.now)) }
-    ensures roots { OnOk result (Begins (ready.roots_of roots.old.items) (ready.roots_of roots.new.items)) }
+    ensures roots { OnOk result (Begins (ready.roots_of listed.old.roots.items)
+        (ready.roots_of listed.new.roots.items)) }
+    ensures patterns { OnOk result (Lists listed.old.patterns.items listed.new.patterns.items
+        (literal.argument_patterns (view.argument_of argument.now))) }
 {
     match argument {
         Argument::Literal(literal) => Ok(Value::Constant(make_constant(alloc, literal)?)),
         Argument::Query(query) => {
-            Ok(Value::Single(make_nodes(alloc, Want::First, query, roots)?))
+            Ok(Value::Single(make_nodes(alloc, Want::First, query, listed)?))
         }
         Argument::Logical(_) => unreachable!(),
-        Argument::Call(call) => make_value_call(alloc, call, roots),
+        Argument::Call(call) => make_value_call(alloc, call, listed),
     }
 }
 
@@ -262,18 +306,21 @@ fn make_argument_nodes(
     alloc: Global,
     want: Want,
     argument: &Argument,
-    roots: &mut Vec<RootQuery>,
+    listed: &mut Listed,
 ) -> Result<Nodes, AllocError>
     requires sound { IsSound (numbers.argument_numbers (view.argument_of argument.now))
         (typing.argument_typed (view.argument_of argument.now)) }
     requires fits { typing.fits nodes_type (view.argument_of argument.now) ≡ true }
-    ensures made { IfOk result (λ q. Reads (ready.roots_of roots.new.items)
+    ensures made { IfOk result (λ q. Reads (ready.roots_of listed.new.roots.items)
         (λ all. ready.source_argument (ready.nodes_in all q want)) (view.argument_of argument.now)) }
-    ensures roots { OnOk result (Begins (ready.roots_of roots.old.items) (ready.roots_of roots.new.items)) }
+    ensures roots { OnOk result (Begins (ready.roots_of listed.old.roots.items)
+        (ready.roots_of listed.new.roots.items)) }
+    ensures patterns { OnOk result (Lists listed.old.patterns.items listed.new.patterns.items
+        (literal.argument_patterns (view.argument_of argument.now))) }
 {
     match argument {
-        Argument::Query(query) => make_nodes(alloc, want, query, roots),
-        Argument::Call(call) => make_distinct(alloc, want, call, roots),
+        Argument::Query(query) => make_nodes(alloc, want, query, listed),
+        Argument::Call(call) => make_distinct(alloc, want, call, listed),
         Argument::Literal(_) => unreachable!(),
         Argument::Logical(_) => unreachable!(),
     }
@@ -286,15 +333,18 @@ fn make_distinct(
     alloc: Global,
     want: Want,
     call: &Call,
-    roots: &mut Vec<RootQuery>,
+    listed: &mut Listed,
 ) -> Result<Nodes, AllocError>
     requires sound { IsSound (numbers.call_numbers (view.call_of call.now))
         (typing.call_typed (view.call_of call.now)) }
     requires serves { typing.serves_as nodes_type (typing.type_of_call (view.call_of call.now)) ≡ true }
-    ensures made { IfOk result (λ q. Reads (ready.roots_of roots.new.items)
+    ensures made { IfOk result (λ q. Reads (ready.roots_of listed.new.roots.items)
         (λ all. ready.source_argument (ready.nodes_in all q want))
         (tree.call_argument (view.call_of call.now))) }
-    ensures roots { OnOk result (Begins (ready.roots_of roots.old.items) (ready.roots_of roots.new.items)) }
+    ensures roots { OnOk result (Begins (ready.roots_of listed.old.roots.items)
+        (ready.roots_of listed.new.roots.items)) }
+    ensures patterns { OnOk result (Lists listed.old.patterns.items listed.new.patterns.items
+        (literal.call_patterns (view.call_of call.now))) }
 {
     let [argument] = call.arguments.as_slice() else {
         unreachable!()
@@ -302,37 +352,36 @@ fn make_distinct(
     let Some(Function::Distinct) = function_named(call.name.as_str()) else {
         unreachable!()
     };
-    let nodes = make_argument_nodes(alloc, want.inside(), argument, roots)?;
+    let nodes = make_argument_nodes(alloc, want.inside(), argument, listed)?;
     Ok(Nodes::Distinct(Box::new(alloc, nodes)?))
 }
 
 /// A call that gives a value.
 #[cycle(making)]
-fn make_value_call(
-    alloc: Global,
-    call: &Call,
-    roots: &mut Vec<RootQuery>,
-) -> Result<Value, AllocError>
+fn make_value_call(alloc: Global, call: &Call, listed: &mut Listed) -> Result<Value, AllocError>
     requires sound { IsSound (numbers.call_numbers (view.call_of call.now))
         (typing.call_typed (view.call_of call.now)) }
     requires serves { typing.serves_as value_type (typing.type_of_call (view.call_of call.now)) ≡ true }
-    ensures made { IfOk result (λ v. Reads (ready.roots_of roots.new.items)
+    ensures made { IfOk result (λ v. Reads (ready.roots_of listed.new.roots.items)
         (λ all. ready.value_in all v) (tree.value_call (view.call_of call.now))) }
-    ensures roots { OnOk result (Begins (ready.roots_of roots.old.items) (ready.roots_of roots.new.items)) }
+    ensures roots { OnOk result (Begins (ready.roots_of listed.old.roots.items)
+        (ready.roots_of listed.new.roots.items)) }
+    ensures patterns { OnOk result (Lists listed.old.patterns.items listed.new.patterns.items
+        (literal.call_patterns (view.call_of call.now))) }
 {
     let [argument] = call.arguments.as_slice() else {
         unreachable!()
     };
     match function_named(call.name.as_str()) {
         Some(Function::Length) => {
-            let value = make_value(alloc, argument, roots)?;
+            let value = make_value(alloc, argument, listed)?;
             Ok(Value::Length(Box::new(alloc, value)?))
         }
         Some(Function::Count) => {
-            Ok(Value::Count(make_argument_nodes(alloc, Want::Count, argument, roots)?))
+            Ok(Value::Count(make_argument_nodes(alloc, Want::Count, argument, listed)?))
         }
         Some(Function::Value) => {
-            Ok(Value::Only(make_argument_nodes(alloc, Want::Only, argument, roots)?))
+            Ok(Value::Only(make_argument_nodes(alloc, Want::Only, argument, listed)?))
         }
         _ => unreachable!(),
     }
@@ -341,27 +390,26 @@ fn make_value_call(
 /// A call that gives true or false.
 #[cycle(making)]
 #[inline(never)]
-fn make_test_call(
-    alloc: Global,
-    call: &Call,
-    roots: &mut Vec<RootQuery>,
-) -> Result<Logical, AllocError>
+fn make_test_call(alloc: Global, call: &Call, listed: &mut Listed) -> Result<Logical, AllocError>
     requires sound { IsSound (numbers.call_numbers (view.call_of call.now))
         (typing.call_typed (view.call_of call.now)) }
     requires serves { typing.serves_as logical_type (typing.type_of_call (view.call_of call.now)) ≡ true }
-    ensures made { IfOk result (λ l. Reads (ready.roots_of roots.new.items)
+    ensures made { IfOk result (λ l. Reads (ready.roots_of listed.new.roots.items)
         (λ all. ready.logical_in all l) (tree.test_call (view.call_of call.now))) }
-    ensures roots { OnOk result (Begins (ready.roots_of roots.old.items) (ready.roots_of roots.new.items)) }
+    ensures roots { OnOk result (Begins (ready.roots_of listed.old.roots.items)
+        (ready.roots_of listed.new.roots.items)) }
+    ensures patterns { OnOk result (Lists listed.old.patterns.items listed.new.patterns.items
+        (literal.call_patterns (view.call_of call.now))) }
 {
     let arguments = call.arguments.as_slice();
     let function = function_named(call.name.as_str());
     match function {
-        Some(Function::Xor) => make_xor(alloc, arguments, roots),
+        Some(Function::Xor) => make_xor(alloc, arguments, listed),
         Some(Function::Distinct) => {
-            Ok(Logical::Test(make_distinct(alloc, Want::First, call, roots)?))
+            Ok(Logical::Test(make_distinct(alloc, Want::First, call, listed)?))
         }
-        Some(Function::Match) => make_text_test(alloc, function, arguments, roots),
-        Some(Function::Search) => make_text_test(alloc, function, arguments, roots),
+        Some(Function::Match) => make_text_test(alloc, function, arguments, listed),
+        Some(Function::Search) => make_text_test(alloc, function, arguments, listed),
         _ => unreachable!(),
     }
 }
@@ -372,22 +420,25 @@ fn make_test_call(
 fn make_xor(
     alloc: Global,
     arguments: &[Argument],
-    roots: &mut Vec<RootQuery>,
+    listed: &mut Listed,
 ) -> Result<Logical, AllocError>
     requires sound { IsSound (numbers.arguments_numbers (tree.arguments (view.arguments_of arguments.now)))
         (typing.arguments_typed (tree.arguments (view.arguments_of arguments.now))) }
     requires fit { typing.all_fit (logical_type ∷ logical_type ∷ [])
         (tree.arguments (view.arguments_of arguments.now)) ≡ true }
-    ensures made { IfOk result (λ l. Reads (ready.roots_of roots.new.items)
+    ensures made { IfOk result (λ l. Reads (ready.roots_of listed.new.roots.items)
         (λ all. ready.logical_in all l) (tree.test_call (tree.call (codes "xor")
         (tree.arguments (view.arguments_of arguments.now))))) }
-    ensures roots { OnOk result (Begins (ready.roots_of roots.old.items) (ready.roots_of roots.new.items)) }
+    ensures roots { OnOk result (Begins (ready.roots_of listed.old.roots.items)
+        (ready.roots_of listed.new.roots.items)) }
+    ensures patterns { OnOk result (Lists listed.old.patterns.items listed.new.patterns.items
+        (literal.arguments_patterns (tree.arguments (view.arguments_of arguments.now)))) }
 {
     let [left, right] = arguments else {
         unreachable!()
     };
-    let first = make_truth(alloc, left, roots)?;
-    let second = make_truth(alloc, right, roots)?;
+    let first = make_truth(alloc, left, listed)?;
+    let second = make_truth(alloc, right, listed)?;
     Ok(Logical::Xor(form_of(left), first, form_of(right), second))
 }
 
@@ -406,27 +457,30 @@ fn form_of(argument: &Argument) -> Form
 fn make_truth(
     alloc: Global,
     argument: &Argument,
-    roots: &mut Vec<RootQuery>,
+    listed: &mut Listed,
 ) -> Result<Box<Logical>, AllocError>
     requires sound { IsSound (numbers.argument_numbers (view.argument_of argument.now))
         (typing.argument_typed (view.argument_of argument.now)) }
     requires fits { typing.fits logical_type (view.argument_of argument.now) ≡ true }
-    ensures made { IfOk result (λ l. Reads (ready.roots_of roots.new.items)
+    ensures made { IfOk result (λ l. Reads (ready.roots_of listed.new.roots.items)
         (λ all. ready.truth_argument (ready.form_of (view.argument_of argument.now))
         (ready.logical_in all l.value)) (view.argument_of argument.now)) }
-    ensures roots { OnOk result (Begins (ready.roots_of roots.old.items) (ready.roots_of roots.new.items)) }
+    ensures roots { OnOk result (Begins (ready.roots_of listed.old.roots.items)
+        (ready.roots_of listed.new.roots.items)) }
+    ensures patterns { OnOk result (Lists listed.old.patterns.items listed.new.patterns.items
+        (literal.argument_patterns (view.argument_of argument.now))) }
 {
     match argument {
         Argument::Query(query) => {
-            let nodes = make_nodes(alloc, Want::First, query, roots)?;
+            let nodes = make_nodes(alloc, Want::First, query, listed)?;
             Ok(Box::new(alloc, Logical::Test(nodes))?)
         }
         Argument::Logical(logical) => {
-            let made = make_logical(alloc, logical, roots)?;
+            let made = make_logical(alloc, logical, listed)?;
             Ok(Box::new(alloc, made)?)
         }
         Argument::Call(call) => {
-            let made = make_test_call(alloc, call, roots)?;
+            let made = make_test_call(alloc, call, listed)?;
             Ok(Box::new(alloc, made)?)
         }
         Argument::Literal(_) => unreachable!(),
@@ -440,7 +494,7 @@ fn make_text_test(
     alloc: Global,
     function: Option<Function>,
     arguments: &[Argument],
-    roots: &mut Vec<RootQuery>,
+    listed: &mut Listed,
 ) -> Result<Logical, AllocError>
     requires sound { IsSound (numbers.arguments_numbers (tree.arguments (view.arguments_of arguments.now)))
         (typing.arguments_typed (tree.arguments (view.arguments_of arguments.now))) }
@@ -450,19 +504,24 @@ fn make_text_test(
         ⊎ (option_map function_of function ≡ Some functions.search_function) }
     ensures made { IfOk result (λ l. (name : Text)
         → option_map function_of function ≡ functions.function_named name
-        → Reads (ready.roots_of roots.new.items) (λ all. ready.logical_in all l)
+        → Reads (ready.roots_of listed.new.roots.items) (λ all. ready.logical_in all l)
         (tree.test_call (tree.call name (tree.arguments (view.arguments_of arguments.now))))) }
-    ensures roots { OnOk result (Begins (ready.roots_of roots.old.items) (ready.roots_of roots.new.items)) }
+    ensures roots { OnOk result (Begins (ready.roots_of listed.old.roots.items)
+        (ready.roots_of listed.new.roots.items)) }
+    ensures patterns { OnOk result (Lists listed.old.patterns.items listed.new.patterns.items
+        (literal.second_text (tree.arguments (view.arguments_of arguments.now))
+        ++ literal.arguments_patterns (tree.arguments (view.arguments_of arguments.now)))) }
 {
     let [text, pattern] = arguments else {
         unreachable!()
     };
-    let text = make_value(alloc, text, roots)?;
     if let Some(pattern) = literal_text(pattern) {
-        let pattern = read_pattern(alloc, pattern)?;
+        let pattern = list_pattern(alloc, pattern, &mut listed.patterns)?;
+        let text = make_value(alloc, text, listed)?;
         return Ok(read_test(function, text, pattern));
     }
-    let pattern = make_value(alloc, pattern, roots)?;
+    let text = make_value(alloc, text, listed)?;
+    let pattern = make_value(alloc, pattern, listed)?;
     Ok(given_test(function, text, pattern))
 }
 

@@ -203,6 +203,15 @@ fn known_patterns_deep_inside(rt: HostRuntime) {
     assert_eq!(rt; known(rt.alloc(), query, "b"), Some("unknown"));
 }
 
+#[test]
+fn known_patterns_of_arguments(rt: HostRuntime) {
+    let query = "$[?xor(match(@.a,'x'),(search(value(@[?match(@,'y')]),'x')||match(@,'(')))]";
+    assert_eq!(rt; known(rt.alloc(), query, "x"), Some("a pattern"));
+    assert_eq!(rt; known(rt.alloc(), query, "y"), Some("a pattern"));
+    assert_eq!(rt; known(rt.alloc(), query, "("), Some("no pattern"));
+    assert_eq!(rt; known(rt.alloc(), query, "xy"), Some("unknown"));
+}
+
 /// The index that stands first in the one segment, before a filter, and what is wanted of three `$` queries.
 fn parts_of_ready(alloc: Global, text: &str) -> Option<(i64, Want, Want, Want)> {
     let plan = plan(alloc, text).ok()?;

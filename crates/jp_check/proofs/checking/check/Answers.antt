@@ -1,16 +1,18 @@
-use Rattle.std.proofs.Common.{ap, ◌∙◌, ◌++◌}
 use Rattle.jp_syntax.specs.View.{query_of}
-use Rattle.jp_check.specs.Known.{known_texts}
-use Rattle.jp_check.specs.LiteralPatterns.{literal_patterns}
-use Rattle.jp_check.proofs.Verdicts.{accepted_by}
+use Rattle.jp_check.proofs.NumbersSpelled.{spelled_readable}
+use Rattle.jp_check.proofs.Verdicts.{accepted_by, accepts_only}
 use Rattle.jp_check.proofs.checking.check.Goals as goal
 
 pub invariant_of-result : goal.invariant_of-result
 invariant_of-result c =
     record {
       accepted = accepted_by (query_of c.args.query) c.requires.spelled c.in_ok-verdict.ensures.ok;
-      known = c.in_ok-query_patterns.ensures
-          ∙ ap (λ ks. known_texts ks ++ literal_patterns (query_of c.args.query))
-          c.new-patterns.ensures.items;
-      made = c.in_ok-ready.ensures;
+      known = c.in_ok-ready.ensures.patterns;
+      made = c.in_ok-ready.ensures.made;
     }
+
+pub make_query-requires : goal.make_query-requires
+make_query-requires c =
+    let q = query_of c.args.query in
+    let accepted = accepts_only q q c.in_ok-verdict.ensures.ok in
+    (spelled_readable q c.requires.spelled accepted.1 accepted.2, accepted.3)

@@ -1,7 +1,7 @@
 use Rattle.std.proofs.Common.{Some, option_map, ◌≡◌, ◌∙◌, ap, ap₂, sym, map, codes, refl, arith}
 use Rattle.std.proofs.Common.{length, rules, subst, inl, inr, [], ◌∷◌}
 use Rattle.std.proofs.lemmas.Grind.{common_steps}
-use Rattle.std.proofs.lemmas.Result.{IfOk-weaker}
+use Rattle.std.proofs.lemmas.Result.{IfOk-weaker, on_ok_weaker}
 use Rattle.jp_syntax.specs.Tree as tree
 use Rattle.jp_syntax.specs.PartViews.{argument_of, comparable_of, logical_of, selector_of, segment_of}
 use Rattle.jp_tree.proofs.Views.{filter_made, any_made, all_made, not_made, compare_made, test_made}
@@ -38,6 +38,11 @@ use Rattle.jp_check.proofs.Sound.{sound_at, argument_sound, first_fits, second_f
 use Rattle.jp_check.proofs.Sound.{value_of_one, nodes_of_one, fitting}
 use Rattle.jp_types.specs.Numbers.{call_numbers}
 use Rattle.jp_types.specs.Typing.{call_typed}
+use Rattle.jp_check.specs.LiteralPatterns.{segments_patterns, segment_patterns, selectors_patterns}
+use Rattle.jp_check.specs.LiteralPatterns.{logicals_patterns, literal_patterns, comparison_patterns}
+use Rattle.jp_check.proofs.TextLists.{texts_end, texts_next}
+use Rattle.jp_check.proofs.PatternsListed.{listed_same, listed_on, two_patterns, read_patterns}
+use Rattle.jp_check.proofs.PatternsListed.{other_patterns, called_patterns, one_patterns}
 use Rattle.jp_check.proofs.making.+making.Goals as goal
 
 pub make_segments-loop-segment-preserved : goal.make_segments-loop-segment-preserved
@@ -51,12 +56,22 @@ make_segments-loop-segment-preserved t c = (
       ∙ sym (segment_level c.segment-item.result))
       c.loop-segment.invariant.0,
   begins_on _ _ _ c.loop-segment.invariant.1 c.in_ok-selectors.ensures.roots,
+  texts_next (λ xs. segments_patterns (tree.segments (segments_of xs))) c.args.segments.now
+      c.loop-segment.segment-index c.segment-item.result _ _ _ _ refl c.loop-segment-test.true
+      c.segment-item.is (listed_same _ _ _ _ c.in_ok-selectors.ensures.patterns
+      (ap (λ xs. selectors_patterns (tree.selectors (selectors_of xs))) c.as_slice.ensures.value
+      ∙ sym (ap segment_patterns (segment_level c.segment-item.result)))) c.loop-segment.invariant.2,
 )
 
 pub make_segments-returns-clause-made : goal.make_segments-returns-clause-made
 make_segments-returns-clause-made t c =
     made_all segment_in segment_of c.args.segments.now c.loop-segment.segment-index _ _
     c.loop-segment-test.false c.loop-segment.invariant.0
+
+pub make_segments-returns-clause-patterns : goal.make_segments-returns-clause-patterns
+make_segments-returns-clause-patterns t c =
+    texts_end (λ xs. segments_patterns (tree.segments (segments_of xs))) c.args.segments.now
+    c.loop-segment.segment-index _ _ refl c.loop-segment-test.false c.loop-segment.invariant.2
 
 pub make_selectors-loop-selector-preserved : goal.make_selectors-loop-selector-preserved
 make_selectors-loop-selector-preserved t c = (
@@ -65,6 +80,9 @@ make_selectors-loop-selector-preserved t c = (
       c.selector-item.is c.in_ok-push.ensures.items c.in_ok-make_selector.ensures.roots
       c.in_ok-make_selector.ensures.made c.loop-selector.invariant.0,
   begins_on _ _ _ c.loop-selector.invariant.1 c.in_ok-make_selector.ensures.roots,
+  texts_next (λ xs. selectors_patterns (tree.selectors (selectors_of xs))) c.args.selectors.now
+      c.loop-selector.selector-index c.selector-item.result _ _ _ _ refl c.loop-selector-test.true
+      c.selector-item.is c.in_ok-make_selector.ensures.patterns c.loop-selector.invariant.2,
 )
 
 pub make_selectors-returns-clause-made : goal.make_selectors-returns-clause-made
@@ -72,18 +90,31 @@ make_selectors-returns-clause-made t c =
     made_all selector_in selector_of c.args.selectors.now c.loop-selector.selector-index _ _
     c.loop-selector-test.false c.loop-selector.invariant.0
 
+pub make_selectors-returns-clause-patterns : goal.make_selectors-returns-clause-patterns
+make_selectors-returns-clause-patterns t c =
+    texts_end (λ xs. selectors_patterns (tree.selectors (selectors_of xs))) c.args.selectors.now
+    c.loop-selector.selector-index _ _ refl c.loop-selector-test.false c.loop-selector.invariant.2
+
 pub make_parts-loop-part-preserved : goal.make_parts-loop-part-preserved
 make_parts-loop-part-preserved t c = (
   made_more logical_in logical_of c.args.parts.now c.loop-part.part-index c.part-item.result
       c.in_ok-make_logical.field-0 _ _ _ _ c.loop-part-test.true c.part-item.is c.in_ok-push.ensures.items
       c.in_ok-make_logical.ensures.roots c.in_ok-make_logical.ensures.made c.loop-part.invariant.0,
   begins_on _ _ _ c.loop-part.invariant.1 c.in_ok-make_logical.ensures.roots,
+  texts_next (λ xs. logicals_patterns (tree.logicals (logicals_of xs))) c.args.parts.now
+      c.loop-part.part-index c.part-item.result _ _ _ _ refl c.loop-part-test.true c.part-item.is
+      c.in_ok-make_logical.ensures.patterns c.loop-part.invariant.2,
 )
 
 pub make_parts-returns-clause-made : goal.make_parts-returns-clause-made
 make_parts-returns-clause-made t c =
     made_all logical_in logical_of c.args.parts.now c.loop-part.part-index _ _ c.loop-part-test.false
     c.loop-part.invariant.0
+
+pub make_parts-returns-clause-patterns : goal.make_parts-returns-clause-patterns
+make_parts-returns-clause-patterns t c =
+    texts_end (λ xs. logicals_patterns (tree.logicals (logicals_of xs))) c.args.parts.now
+    c.loop-part.part-index _ _ refl c.loop-part-test.false c.loop-part.invariant.2
 
 pub make_argument_nodes-returns-in-Query-clause-made
     : goal.make_argument_nodes-returns-in-Query-clause-made
@@ -161,8 +192,8 @@ pub make_nodes-returns-in_ok-push-in-Root-clause-made
 make_nodes-returns-in_ok-push-in-Root-clause-made t c = λ all h.
     let r : RootQuery = record { want = c.args.want; segments = c.in_ok-segments.segments } in
     root_read all c.len-slot.result c.args.want
-    ∙ ap queried (root_found c.make_segments.new.roots.items _ r c.len-slot.result all (c.len-slot.ensures
-    ∙ c.make_segments.new.roots.ok.0) c.in_ok-push-in-Root.ensures.items h
+    ∙ ap queried (root_found c.make_segments.new.listed.roots.items _ r c.len-slot.result all
+    (c.len-slot.ensures ∙ c.make_segments.new.listed.roots.ok.0) c.in_ok-push-in-Root.ensures.items h
     ∙ ap (λ ss. tree.query start.Root (tree.segments ss))
     (c.in_ok-segments.ensures.made _ (begins_itself _) ∙ ap (map segment_of) c.as_slice.ensures.value)
     ∙ sym (query_level c.args.query.now
@@ -172,7 +203,7 @@ make_nodes-returns-in_ok-push-in-Root-clause-made t c = λ all h.
 pub make_nodes-returns-in_ok-push-in-Root-clause-roots
     : goal.make_nodes-returns-in_ok-push-in-Root-clause-roots
 make_nodes-returns-in_ok-push-in-Root-clause-roots t c =
-    begins_on _ _ _ c.in_ok-segments.ensures.roots (listed_begins c.make_segments.new.roots.items _ _
+    begins_on _ _ _ c.in_ok-segments.ensures.roots (listed_begins c.make_segments.new.listed.roots.items _ _
     c.in_ok-push-in-Root.ensures.items)
 
 pub make_selector-returns-in_ok-make_logical-in-Filter-clause-made
@@ -315,7 +346,7 @@ pub make_text_test-returns-clause-made : goal.make_text_test-returns-clause-made
 make_text_test-returns-clause-made t c =
     λ name known all h. c.given_test.ensures all name known
     ∙ ap₂ (λ s p. tree.test_call (call_of_two name s p))
-    (c.in_ok-text.ensures.made all (begins_on _ _ _ c.in_ok-pattern-2.ensures.roots h))
+    (c.in_ok-text-2.ensures.made all (begins_on _ _ _ c.in_ok-pattern-2.ensures.roots h))
     (c.in_ok-pattern-2.ensures.made all h)
     ∙ sym (ap tree.test_call (given_two name c.args.arguments.now c.text-item.result
     c.pattern-item.result c.in-len2.len_at_least c.in-len2.len_below c.text-item.is c.pattern-item.is))
@@ -326,7 +357,7 @@ make_text_test-returns-in-Some-clause-made t c =
     text_is (argument_of c.pattern-item.result) (chars c.in-Some.pattern.now) c.in-Some.ensures in
     λ name known all h. c.read_test.ensures all name known
     ∙ ap₂ (λ s p. tree.test_call (call_of_two name s p)) (c.in_ok-text.ensures.made all h)
-    (ap text_argument c.in_ok-pattern.ensures ∙ sym literal)
+    (ap text_argument c.in_ok-pattern.ensures.read ∙ sym literal)
     ∙ sym (ap tree.test_call (given_two name c.args.arguments.now c.text-item.result
     c.pattern-item.result c.in-len2.len_at_least c.in-len2.len_below c.text-item.is c.pattern-item.is))
 
@@ -387,6 +418,17 @@ make_xor-make_truth-requires t c = (
 
 pub make_text_test-make_value-requires-2 : goal.make_text_test-make_value-requires-2
 make_text_test-make_value-requires-2 t c = (
+  grind (arith, common_steps),
+  (
+    argument_sound c.args.arguments.now 0 c.text-item.result (omega (arith, c.in-len2.len_at_least))
+        c.text-item.is c.requires.sound,
+    first_fits value_type (value_type ∷ []) c.args.arguments.now c.text-item.result
+        (omega (arith, c.in-len2.len_at_least)) c.text-item.is c.requires.fit,
+  ),
+)
+
+pub make_text_test-make_value-requires-3 : goal.make_text_test-make_value-requires-3
+make_text_test-make_value-requires-3 t c = (
   grind (arith, common_steps),
   (
     argument_sound c.args.arguments.now 1 c.pattern-item.result (omega (arith, c.in-len2.len_at_least))
@@ -492,3 +534,128 @@ make_test_call-make_text_test-requires-in-Some-Search t c =
       search (rules, the_lemmas),
       (fit.0, (fit.1, inr (c.function_named-function.ensures ∙ known))),
     )
+
+-- the literal patterns
+pub make_comparison-returns-clause-patterns : goal.make_comparison-returns-clause-patterns
+make_comparison-returns-clause-patterns t c =
+    listed_same _ _ _ _
+    (listed_on _ _ _ _ _ c.in_ok-left.ensures.patterns c.in_ok-right.ensures.patterns)
+    (sym (ap comparison_patterns (comparison_level c.args.comparison.now)))
+
+pub make_nodes-returns-in-Current-clause-patterns : goal.make_nodes-returns-in-Current-clause-patterns
+make_nodes-returns-in-Current-clause-patterns t c =
+    listed_same _ _ _ _ c.in_ok-segments.ensures.patterns
+    (ap (λ ss. segments_patterns (tree.segments (segments_of ss))) c.as_slice.ensures.value
+    ∙ sym (ap literal_patterns (query_level c.args.query.now)))
+
+pub make_nodes-returns-in_ok-push-in-Root-clause-patterns
+    : goal.make_nodes-returns-in_ok-push-in-Root-clause-patterns
+make_nodes-returns-in_ok-push-in-Root-clause-patterns t c =
+    listed_same _ _ _ _ c.in_ok-segments.ensures.patterns
+    (ap (λ ss. segments_patterns (tree.segments (segments_of ss))) c.as_slice.ensures.value
+    ∙ sym (ap literal_patterns (query_level c.args.query.now)))
+
+pub make_value_call-returns-in_ok-new-in-Some-Length-clause-patterns
+    : goal.make_value_call-returns-in_ok-new-in-Some-Length-clause-patterns
+make_value_call-returns-in_ok-new-in-Some-Length-clause-patterns t c =
+    let known : function_named (chars c.as_str.result.now) ≡ Some length_function =
+    sym (ap (option_map function_of) (sym c.in-Some-Length.is) ∙ c.function_named.ensures)
+    ∙ ap (λ f. Some (function_of f)) c.in-Some-Length.field-0-is in
+    listed_same _ _ _ _ c.in_ok-value-in-Some-Length.ensures.patterns
+    (one_patterns c.args.call.now c.as_str.result.now (codes "length") c.as_slice.result.now
+    c.argument-item.result refl c.as_str.ensures.value (named _ length_function known)
+    c.as_slice.ensures.value c.in-len1.len_at_least c.in-len1.len_below c.argument-item.is)
+
+pub make_value_call-returns-in_ok-make_argument_nodes-in-Some-Count-clause-patterns
+    : goal.make_value_call-returns-in_ok-make_argument_nodes-in-Some-Count-clause-patterns
+make_value_call-returns-in_ok-make_argument_nodes-in-Some-Count-clause-patterns t c =
+    let known : function_named (chars c.as_str.result.now) ≡ Some count_function =
+    sym (ap (option_map function_of) (sym c.in-Some-Count.is) ∙ c.function_named.ensures)
+    ∙ ap (λ f. Some (function_of f)) c.in-Some-Count.field-0-is in
+    listed_same _ _ _ _ c.in_ok-make_argument_nodes-in-Some-Count.ensures.patterns
+    (one_patterns c.args.call.now c.as_str.result.now (codes "count") c.as_slice.result.now
+    c.argument-item.result refl c.as_str.ensures.value (named _ count_function known)
+    c.as_slice.ensures.value c.in-len1.len_at_least c.in-len1.len_below c.argument-item.is)
+
+pub make_value_call-returns-in_ok-make_argument_nodes-in-Some-Value-clause-patterns
+    : goal.make_value_call-returns-in_ok-make_argument_nodes-in-Some-Value-clause-patterns
+make_value_call-returns-in_ok-make_argument_nodes-in-Some-Value-clause-patterns t c =
+    let known : function_named (chars c.as_str.result.now) ≡ Some value_function =
+    sym (ap (option_map function_of) (sym c.in-Some-Value.is) ∙ c.function_named.ensures)
+    ∙ ap (λ f. Some (function_of f)) c.in-Some-Value.field-0-is in
+    listed_same _ _ _ _ c.in_ok-make_argument_nodes-in-Some-Value.ensures.patterns
+    (one_patterns c.args.call.now c.as_str.result.now (codes "value") c.as_slice.result.now
+    c.argument-item.result refl c.as_str.ensures.value (named _ value_function known)
+    c.as_slice.ensures.value c.in-len1.len_at_least c.in-len1.len_below c.argument-item.is)
+
+pub make_distinct-returns-clause-patterns : goal.make_distinct-returns-clause-patterns
+make_distinct-returns-clause-patterns t c =
+    let known : function_named (chars c.as_str.result.now) ≡ Some distinct_function =
+    sym (ap (option_map function_of) (sym c.in-Some-Distinct.is) ∙ c.function_named.ensures)
+    ∙ ap (λ f. Some (function_of f)) c.in-Some-Distinct.field-0-is in
+    listed_same _ _ _ _ c.in_ok-nodes.ensures.patterns
+    (one_patterns c.args.call.now c.as_str.result.now (codes "distinct") c.as_slice.result.now
+    c.argument-item.result refl c.as_str.ensures.value (named _ distinct_function known)
+    c.as_slice.ensures.value c.in-len1.len_at_least c.in-len1.len_below c.argument-item.is)
+
+pub make_test_call-returns-in-Some-Xor-clause-patterns
+    : goal.make_test_call-returns-in-Some-Xor-clause-patterns
+make_test_call-returns-in-Some-Xor-clause-patterns t c =
+    let told = c.in-Some-Xor.field-0-is in
+    let name = chars c.as_str.result.now in
+    let known : function_named name ≡ Some xor_function = sym c.function_named-function.ensures
+    ∙ ap (option_map function_of) c.in-Some-Xor.is
+    ∙ ap (λ f. Some (function_of f)) (rw c.in-Some-Xor.is at told) in
+    on_ok_weaker c.make_xor.result (λ h. listed_same _ _ _ _ h
+    (called_patterns c.args.call.now c.as_str.result.now name c.as_slice-arguments.result.now
+    (Some xor_function) known c.as_str.ensures.value refl c.as_slice-arguments.ensures.value))
+    c.make_xor.ensures.patterns
+
+pub make_test_call-returns-in-Some-Match-clause-patterns
+    : goal.make_test_call-returns-in-Some-Match-clause-patterns
+make_test_call-returns-in-Some-Match-clause-patterns t c =
+    let told = c.in-Some-Match.field-0-is in
+    let name = chars c.as_str.result.now in
+    let known : function_named name ≡ Some match_function = sym c.function_named-function.ensures
+    ∙ ap (option_map function_of) c.in-Some-Match.is
+    ∙ ap (λ f. Some (function_of f)) (rw c.in-Some-Match.is at told) in
+    on_ok_weaker c.make_text_test.result (λ h. listed_same _ _ _ _ h
+    (called_patterns c.args.call.now c.as_str.result.now name c.as_slice-arguments.result.now
+    (Some match_function) known c.as_str.ensures.value refl c.as_slice-arguments.ensures.value))
+    c.make_text_test.ensures.patterns
+
+pub make_test_call-returns-in-Some-Search-clause-patterns
+    : goal.make_test_call-returns-in-Some-Search-clause-patterns
+make_test_call-returns-in-Some-Search-clause-patterns t c =
+    let told = c.in-Some-Search.field-0-is in
+    let name = chars c.as_str.result.now in
+    let known : function_named name ≡ Some search_function = sym c.function_named-function.ensures
+    ∙ ap (option_map function_of) c.in-Some-Search.is
+    ∙ ap (λ f. Some (function_of f)) (rw c.in-Some-Search.is at told) in
+    on_ok_weaker c.make_text_test-in-Some-Search.result (λ h. listed_same _ _ _ _ h
+    (called_patterns c.args.call.now c.as_str.result.now name c.as_slice-arguments.result.now
+    (Some search_function) known c.as_str.ensures.value refl c.as_slice-arguments.ensures.value))
+    c.make_text_test-in-Some-Search.ensures.patterns
+
+pub make_xor-returns-clause-patterns : goal.make_xor-returns-clause-patterns
+make_xor-returns-clause-patterns t c =
+    listed_same _ _ _ _
+    (listed_on _ _ _ _ _ c.in_ok-first.ensures.patterns c.in_ok-second.ensures.patterns)
+    (two_patterns c.args.arguments.now c.left-item.result c.right-item.result c.in-len2.len_at_least
+    c.in-len2.len_below c.left-item.is c.right-item.is)
+
+pub make_text_test-returns-clause-patterns : goal.make_text_test-returns-clause-patterns
+make_text_test-returns-clause-patterns t c =
+    listed_same _ _ _ _
+    (listed_on _ _ _ _ _ c.in_ok-text-2.ensures.patterns c.in_ok-pattern-2.ensures.patterns)
+    (other_patterns c.args.arguments.now c.text-item.result c.pattern-item.result
+    c.in-len2.len_at_least c.in-len2.len_below c.text-item.is c.pattern-item.is
+    c.in_default-literal_text.ensures)
+
+pub make_text_test-returns-in-Some-clause-patterns : goal.make_text_test-returns-in-Some-clause-patterns
+make_text_test-returns-in-Some-clause-patterns t c =
+    listed_same _ _ _ _
+    (listed_on _ _ _ _ _ c.in_ok-pattern.ensures.listed c.in_ok-text.ensures.patterns)
+    (read_patterns c.args.arguments.now c.text-item.result c.pattern-item.result
+    c.in-len2.len_at_least c.in-len2.len_below c.text-item.is c.pattern-item.is
+    (chars c.in-Some.pattern.now) c.in-Some.ensures)

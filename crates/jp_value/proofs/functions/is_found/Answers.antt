@@ -1,8 +1,11 @@
-use Rattle.std.proofs.Common.{subst}
+use Rattle.std.proofs.Common.{subst, sym}
+use Rattle.std.specs.Prelude.{option_map}
+use Rattle.std.specs.Arc.{arc_value}
 use Rattle.std.specs.Str.{chars}
 use Rattle.std.proofs.lemmas.Result.{IfOk-weaker}
 use Rattle.jp_syntax.specs.View.{text_of}
 use Rattle.jp_regexp.specs.Held.{IsRead, pattern_of}
+use Rattle.jp_regexp.specs.Profile.{IsPatternOf}
 use Rattle.jp_check.proofs.PatternSets.{read_had}
 use Rattle.jp_value.proofs.Answering.{finding, finding_none}
 use Rattle.jp_value.proofs.functions.is_found.Goals as goal
@@ -10,14 +13,15 @@ use Rattle.jp_value.proofs.functions.is_found.Goals as goal
 pub returns-in-Some : goal.returns-in-Some
 returns-in-Some c =
     let known = c.args.known.now in
-    let read = subst (IsRead (text_of known.text)) c.in-Some.is
-    (read_had (text_of known.text) known.pattern known.read) in
+    let read = subst (λ o. IsRead (text_of known.text) (option_map arc_value o)) c.in-Some.is
+    (read_had (text_of known.text) (option_map arc_value known.pattern) known.read) in
+    let same = subst (λ p. IsPatternOf (text_of known.text) (pattern_of p)) (sym c.deref.ensures) read in
     IfOk-weaker c.found_in.result _ _ (λ b h. finding (chars c.args.text.now) (text_of known.text)
-    (pattern_of c.in-Some.pattern) b read h) c.found_in.ensures
+    (pattern_of c.deref.result.now) b same h) c.found_in.ensures
 
 pub returns-in-None : goal.returns-in-None
 returns-in-None c =
     let known = c.args.known.now in
-    let read = subst (IsRead (text_of known.text)) c.in-None.is
-    (read_had (text_of known.text) known.pattern known.read) in
+    let read = subst (λ o. IsRead (text_of known.text) (option_map arc_value o)) c.in-None.is
+    (read_had (text_of known.text) (option_map arc_value known.pattern) known.read) in
     finding_none (chars c.args.text.now) (text_of known.text) read

@@ -1,8 +1,11 @@
-use Rattle.std.proofs.Common.{ap, ◌∙◌, subst, arith}
+use Rattle.std.proofs.Common.{ap, sym, ◌∙◌, subst, arith}
+use Rattle.std.specs.Prelude.{option_map}
+use Rattle.std.specs.Arc.{arc_value}
 use Rattle.std.specs.Str.{chars, bytes_eq}
 use Rattle.std.proofs.lemmas.List.{length-map}
 use borrow.Author.Count.{below_more}
-use Rattle.jp_regexp.specs.Held.{IsRead}
+use Rattle.jp_regexp.specs.Held.{IsRead, pattern_of}
+use Rattle.jp_regexp.specs.Profile.{IsPatternOf}
 use Rattle.jp_syntax.specs.View.{text_of}
 use Rattle.jp_check.specs.declared.known.KnownPattern.{KnownPattern}
 use Rattle.jp_check.proofs.KnownLemmas.{known_contains, known_is_other, known_read}
@@ -14,8 +17,9 @@ returns-in-Some c =
     rw (← c.args.self.now.known, ← c.deref-known-items.ensures.value) (
       known_contains c.deref-known-items.result.now c.loop-known.known-index c.known-item.result
           c.args.text.now c.eq.result c.loop-known-test.true c.known-item.is compared c.if-eq.true,
-      subst (IsRead (chars c.args.text.now)) c.in-Some.is (known_read c.known-item.result c.args.text.now
-          c.eq.result compared c.if-eq.true),
+      subst (λ p. IsPatternOf (chars c.args.text.now) (pattern_of p)) (sym c.deref.ensures)
+          (subst (λ o. IsRead (chars c.args.text.now) (option_map arc_value o)) c.in-Some.is
+          (known_read c.known-item.result c.args.text.now c.eq.result compared c.if-eq.true)),
     )
 
 pub returns-in-None : goal.returns-in-None
@@ -24,8 +28,8 @@ returns-in-None c =
     rw (← c.args.self.now.known, ← c.deref-known-items.ensures.value) (
       known_contains c.deref-known-items.result.now c.loop-known.known-index c.known-item.result
           c.args.text.now c.eq.result c.loop-known-test.true c.known-item.is compared c.if-eq.true,
-      subst (IsRead (chars c.args.text.now)) c.in-None.is (known_read c.known-item.result c.args.text.now
-          c.eq.result compared c.if-eq.true),
+      subst (λ o. IsRead (chars c.args.text.now) (option_map arc_value o)) c.in-None.is
+          (known_read c.known-item.result c.args.text.now c.eq.result compared c.if-eq.true),
     )
 
 pub loop-known-preserved : goal.loop-known-preserved

@@ -1,6 +1,6 @@
 use Rattle.std.proofs.Common.{arith}
 use Rattle.std.proofs.lemmas.Grind.{common_steps}
-use Rattle.jp_check.proofs.leaves.read_pattern.Goals as goal
+use Rattle.jp_check.proofs.patterns.read_pattern.Goals as goal
 
 pub invariant_of-result : goal.invariant_of-result
 invariant_of-result c = grind (arith, common_steps)
