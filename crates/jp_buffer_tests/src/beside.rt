@@ -34,51 +34,78 @@ fn are_alike(left: &[LineRef<'_>], right: &[LineRef<'_>]) -> bool {
             && line.bytes == other.bytes)
 }
 
-/// Whether the lines that wait are those that are left of the others.
-fn same_left(
-    alloc: Global,
-    buffer: &LineBuffer,
-    others: &[Line],
+/// The same pieces fed in both ways.
+#[derive(Drop)]
+struct Both {
+    buffer: LineBuffer,
+    lines: Lines,
+    out: Vec<Line>,
+    /// How many lines were taken away from the buffer.
     taken: usize,
-) -> Result<bool, AllocError> {
-    let Some(left) = others.get(taken..) else {
-        return Ok(false);
-    };
-    are_same(alloc, buffer, left)
 }
 
-/// Whether the lines that wait are these.
-fn are_same(alloc: Global, buffer: &LineBuffer, others: &[Line]) -> Result<bool, AllocError> {
-    Ok(are_alike(&buffer.lines(alloc)?, &refs_of(alloc, others)?))
+impl Both {
+    fn new(alloc: Global) -> Both {
+        Both {
+            buffer: LineBuffer::new(alloc),
+            lines: Lines::new(alloc),
+            out: Vec::new(alloc),
+            taken: 0,
+        }
+    }
+
+    /// Feeds a piece in both ways, and tells that it did: it does not where too many lines have ended.
+    fn feed(&mut self, piece: &[u8]) -> Result<bool, AllocError> {
+        if self.lines.count() > 10_000 {
+            return Ok(false);
+        }
+        self.lines.feed(piece, &mut self.out)?;
+        feed(&mut self.buffer, piece)
+    }
+
+    /// Ends the lines in both ways, and tells that it did.
+    fn finish(&mut self) -> Result<bool, AllocError> {
+        if self.lines.count() > 10_000 {
+            return Ok(false);
+        }
+        self.lines.finish(&mut self.out)?;
+        finish(&mut self.buffer)
+    }
+
+    /// Takes lines away from the buffer, as many as wait at most.
+    fn take_away(&mut self, count: usize) {
+        let away = count.min(self.buffer.len());
+        if take_away(&mut self.buffer, away) {
+            self.taken = self.taken.wrapping_add(away);
+        }
+    }
+
+    /// Whether the lines that wait in the buffer are those that are left of the others.
+    fn are_alike(&self, alloc: Global) -> Result<bool, AllocError> {
+        let Some(left) = self.out.get(self.taken..) else {
+            return Ok(false);
+        };
+        let same = are_alike(&self.buffer.lines(alloc)?, &refs_of(alloc, left)?);
+        Ok(same && self.buffer.count() == self.lines.count())
+    }
 }
 
 /// Whether both ways give the same lines of pieces that are drawn, where some lines are taken away each time.
 fn go_alike(alloc: Global, seed: u64) -> Result<bool, AllocError> {
-    let (mut buffer, mut lines) = (LineBuffer::new(alloc), Lines::new(alloc));
-    let mut out = Vec::new(alloc);
-    let (mut state, mut taken) = (seed, 0usize);
+    let mut both = Both::new(alloc);
+    let mut state = drawn(seed);
     for _ in 0..40 {
-        state = drawn(state);
         let (piece, next) = drawn_piece(alloc, state, state >> 59)?;
         state = drawn(next);
-        if lines.count() > 10_000 || !feed(&mut buffer, &piece)? {
+        if !both.feed(&piece)? {
             return Ok(false);
         }
-        lines.feed(&piece, &mut out)?;
-        let away = ((state >> 62) as usize).min(buffer.len());
-        if !take_away(&mut buffer, away) {
-            return Ok(false);
-        }
-        taken = taken.wrapping_add(away);
-        if !same_left(alloc, &buffer, &out, taken)? || buffer.count() != lines.count() {
+        both.take_away((state >> 62) as usize);
+        if !both.are_alike(alloc)? {
             return Ok(false);
         }
     }
-    if lines.count() > 10_000 || !finish(&mut buffer)? {
-        return Ok(false);
-    }
-    lines.finish(&mut out)?;
-    Ok(same_left(alloc, &buffer, &out, taken)? && buffer.count() == lines.count())
+    Ok(both.finish()? && both.are_alike(alloc)?)
 }
 
 #[test]

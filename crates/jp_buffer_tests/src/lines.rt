@@ -96,18 +96,39 @@ fn a_feed_after_a_finish(rt: HostRuntime) -> Result<(), Fail> {
     Ok(())
 }
 
-/// Whether lines that are taken away leave the others, and the line that is open.
+/// A piece, how many lines are taken away after it, and the lines that wait then.
+type Turn<'b> = (&'b [u8], usize, &'b [(u64, &'b [u8])]);
+
+const TURNS: [Turn<'static>; 5] = [
+    (
+        b"first\n\nsecond\n3\nfo",
+        0,
+        &[(1, b"first"), (3, b"second"), (4, b"3")],
+    ),
+    (b"", 1, &[(3, b"second"), (4, b"3")]),
+    (b"urth\nfif", 1, &[(4, b"3"), (5, b"fourth")]),
+    (b"th", 2, &[]),
+    (b"\nsixth\n", 1, &[(7, b"sixth")]),
+];
+
+/// Whether the lines of a turn wait after it.
+fn is_right(
+    alloc: Global,
+    buffer: &mut LineBuffer,
+    (piece, away, expected): Turn<'_>,
+) -> Result<bool, AllocError> {
+    Ok(feed(buffer, piece)? && take_away(buffer, away) && wait(alloc, expected, buffer)?)
+}
+
+/// Whether all turns are right, one after another.
 fn taken(alloc: Global) -> Result<bool, AllocError> {
     let mut buffer = LineBuffer::new(alloc);
-    let fed = feed(&mut buffer, b"first\n\nsecond\n3\nfo")?;
-    let none = take_away(&mut buffer, 0)
-        && wait(alloc, &[(1, b"first"), (3, b"second"), (4, b"3")], &buffer)?;
-    let one = take_away(&mut buffer, 1) && wait(alloc, &[(3, b"second"), (4, b"3")], &buffer)?;
-    let more = feed(&mut buffer, b"urth\nfif")?
-        && wait(alloc, &[(3, b"second"), (4, b"3"), (5, b"fourth")], &buffer)?;
-    let all = take_away(&mut buffer, 3) && wait(alloc, &[], &buffer)? && buffer.count() == 5;
-    let last = feed(&mut buffer, b"th")? && finish(&mut buffer)?;
-    Ok(fed && none && one && more && all && last && wait(alloc, &[(6, b"fifth")], &buffer)?)
+    for turn in TURNS {
+        if !is_right(alloc, &mut buffer, turn)? {
+            return Ok(false);
+        }
+    }
+    Ok(true)
 }
 
 #[test]

@@ -29,32 +29,35 @@ fn finished(alloc: Global, buffer: &mut LineBuffer, before: &[(u64, &[u8])]) -> 
         || buffer.count() == count && wait(alloc, before, buffer) && finish(buffer) == Ok(true)
 }
 
-/// Whether pieces with a blank line that is open, and with lines that are longer than those before, give
-/// their lines.
+/// Pieces with a blank line that is open between them, and lines that are longer than those before. With
+/// each, the lines that wait before it.
+const PIECES: [(&[(u64, &[u8])], &[u8]); 3] = [
+    (&[], b"[1]\n\t "),
+    (&[(1, b"[1]")], b"\n[\"a longer line\"]\n\n \t "),
+    (
+        &BEFORE_LAST,
+        b"[\"and the longest line of all that wait here\"]",
+    ),
+];
+
+const BEFORE_LAST: [(u64, &[u8]); 2] = [(1, b"[1]"), (3, b"[\"a longer line\"]")];
+
+const LEFT: [(u64, &[u8]); 2] = [
+    (3, b"[\"a longer line\"]"),
+    (5, b" \t [\"and the longest line of all that wait here\"]"),
+];
+
+/// Whether the pieces give their lines.
 fn read_in_pieces(alloc: Global) -> bool {
     let mut buffer = LineBuffer::new(alloc);
-    let first = fed(alloc, &mut buffer, &[], b"[1]\n\t ");
-    let one: [(u64, &[u8]); 1] = [(1, b"[1]")];
-    let second = fed(
-        alloc,
-        &mut buffer,
-        &one,
-        b"\n[\"a line that is longer\"]\n\n \t ",
-    );
-    let two: [(u64, &[u8]); 2] = [(1, b"[1]"), (3, b"[\"a line that is longer\"]")];
-    let third = fed(
-        alloc,
-        &mut buffer,
-        &two,
-        b"[\"and the longest line of all that wait here\"]",
-    );
-    let last = finished(alloc, &mut buffer, &two);
-    let taken = take_away(&mut buffer, 1);
-    let left: [(u64, &[u8]); 2] = [
-        (3, b"[\"a line that is longer\"]"),
-        (5, b" \t [\"and the longest line of all that wait here\"]"),
-    ];
-    first && second && third && last && taken && wait(alloc, &left, &buffer)
+    for (before, piece) in PIECES {
+        if !fed(alloc, &mut buffer, before, piece) {
+            return false;
+        }
+    }
+    finished(alloc, &mut buffer, &BEFORE_LAST)
+        && take_away(&mut buffer, 1)
+        && wait(alloc, &LEFT, &buffer)
 }
 
 #[test]
