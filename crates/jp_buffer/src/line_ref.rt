@@ -1,0 +1,42 @@
+//! Lines whose bytes stand elsewhere.
+
+ghost use Rattle.std.specs.Prelude.{◌≡◌, map, IfOk};
+ghost use Rattle.jp_buffer.specs.Buffered.{line_at};
+ghost use Rattle.jp_doc.specs.Lines.{line_of};
+
+use jp_doc::Line;
+use std::alloc::{AllocError, Global};
+
+/// A line that isn't blank, whose bytes stand elsewhere.
+#[derive(Clone, Copy, Debug)]
+pub struct LineRef<'b> {
+    /// The line's number, from 1.
+    pub number: u64,
+    /// Its bytes, without the line feed.
+    pub bytes: &'b [u8],
+}
+
+impl<'b> LineRef<'b> {
+    /// The line, where it stands.
+    pub fn of(line: &'b Line) -> LineRef<'b>
+        ensures { line_at result ≡ line_of line.now }
+    {
+        LineRef {
+            number: line.number,
+            bytes: line.bytes.as_slice(),
+        }
+    }
+}
+
+/// The lines, where they stand.
+///
+/// `AllocError` if a growth was refused.
+pub fn refs_of<'b>(alloc: Global, lines: &'b [Line]) -> Result<Vec<LineRef<'b>>, AllocError>
+    ensures { IfOk result (λ v. map line_at v.items ≡ map line_of lines.now) }
+{
+    let mut refs = Vec::with_capacity(alloc, lines.len())?;
+    for line in lines {
+        refs.push(LineRef::of(line))?;
+    }
+    Ok(refs)
+}
