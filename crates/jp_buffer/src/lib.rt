@@ -1,6 +1,11 @@
-//! The lines of a stream that wait for their answer, in one buffer.
+//! The lines of a stream, kept in buffers that are used again.
 #![tactic(auto)]
 
+mod buffer;
+mod cutting;
+mod examples;
 mod line_ref;
+mod waiting;
 
+pub use buffer::LineBuffer;
 pub use line_ref::{LineRef, refs_of};

@@ -1,8 +1,8 @@
-//! Lines whose bytes stand elsewhere.
+//! Numbered lines whose bytes stand elsewhere.
 
 ghost use Rattle.std.specs.Prelude.{◌≡◌, map, IfOk};
-ghost use Rattle.jp_buffer.specs.Buffered.{line_at};
 ghost use Rattle.jp_doc.specs.Lines.{line_of};
+ghost use Rattle.jp_buffer.specs.Buffered.{line_at};
 
 use jp_doc::Line;
 use std::alloc::{AllocError, Global};
@@ -17,22 +17,20 @@ pub struct LineRef<'b> {
 }
 
 impl<'b> LineRef<'b> {
-    /// The line, where it stands.
+    /// A line that has its own bytes.
     pub fn of(line: &'b Line) -> LineRef<'b>
         ensures { line_at result ≡ line_of line.now }
     {
         LineRef {
             number: line.number,
-            bytes: line.bytes.as_slice(),
+            bytes: &line.bytes,
         }
     }
 }
 
-/// The lines, where they stand.
-///
-/// `AllocError` if a growth was refused.
+/// Lines that have their own bytes, in their order. `AllocError` if the list was refused its memory.
 pub fn refs_of<'b>(alloc: Global, lines: &'b [Line]) -> Result<Vec<LineRef<'b>>, AllocError>
-    ensures { IfOk result (λ v. map line_at v.items ≡ map line_of lines.now) }
+    ensures { IfOk result (λ refs. map line_at refs.items ≡ map line_of lines.now) }
 {
     let mut refs = Vec::with_capacity(alloc, lines.len())?;
     for line in lines {

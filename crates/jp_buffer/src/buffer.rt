@@ -1,0 +1,154 @@
+//! The lines of a stream that wait for their answer, and the line that is not ended yet.
+
+ghost use Rattle.std.specs.Prelude.{◌≡◌, ◌≤◌, ◌++◌, map, drop, length, IfOk, OnOk, OnErr};
+ghost use Rattle.jp_doc.specs.Feeding.{fed, fed_lines, finished, finished_lines};
+ghost use Rattle.jp_buffer.specs.Buffered.{line_at, nothing_buffered};
+ghost use Rattle.jp_buffer.specs.Waiting.{Begins};
+
+use crate::cutting::{first_line, push_lines};
+use crate::line_ref::LineRef;
+use crate::waiting::Waiting;
+use std::alloc::{AllocError, Global};
+use std::marker::Model;
+
+/// The lines of a stream that wait for their answer, and the line that is not ended yet.
+///
+/// A line takes no allocation of its own: its bytes go behind those of the lines before it, into memory that
+/// is used again once lines are taken away. Blank lines are counted, and take no memory.
+#[derive(Drop)]
+pub struct LineBuffer {
+    waiting: Waiting,
+    /// The bytes of the line that is not ended yet.
+    open_line: Vec<u8>,
+    /// How many lines have ended, blank ones too.
+    count: u64,
+}
+
+impl Model for LineBuffer {
+    ghost use Rattle.std.specs.Prelude.{◌≡◌, false};
+    ghost use Rattle.jp_doc.specs.Feeding.{has_line_feed};
+    ghost use Rattle.jp_buffer.specs.Buffered.{Buffered};
+
+    ghost Value = { Buffered };
+
+    ghost view = { λ b. record {
+      progress = record { count = b.count; open_line = b.open_line.items };
+      lines = b.waiting;
+    } };
+
+    ghost invariant = { λ b. has_line_feed b.open_line.items ≡ false };
+}
+
+impl LineBuffer {
+    /// No lines yet. It takes no memory.
+    pub fn new(alloc: Global) -> LineBuffer
+        ensures { result ≡ nothing_buffered }
+    {
+        LineBuffer {
+            waiting: Waiting::new(alloc),
+            open_line: Vec::new(alloc),
+            count: 0,
+        }
+    }
+
+    /// How many lines have ended, blank ones and those that were taken away too.
+    pub fn count(&self) -> u64
+        ensures { result ≡ self.now.progress.count }
+    {
+        self.count
+    }
+
+    /// How many lines wait.
+    pub fn len(&self) -> usize
+        ensures { result ≡ length self.now.lines }
+    {
+        self.waiting.len()
+    }
+
+    /// Adds the lines that the piece completes, without those that are blank.
+    ///
+    /// `AllocError` if a growth was refused: then nothing has changed, and the piece can be fed again.
+    pub fn feed(&mut self, piece: &[u8]) -> Result<(), AllocError>
+        requires { self.old.progress.count ≤ 4294967295 }
+        ensures lines { OnOk result (self.new.lines
+            ≡ self.old.lines ++ fed_lines self.old.progress piece.now) }
+        ensures progress { OnOk result (self.new.progress ≡ fed self.old.progress piece.now) }
+        ensures same { OnErr result (self.new ≡ self.old) }
+    {
+        let before = self.waiting.len();
+        let fed = self.feed_piece(piece);
+        if fed.is_err() {
+            self.waiting.truncate(before);
+        }
+        fed
+    }
+
+    /// Ends the line that is open, if there is one, and adds it unless it is blank. The next piece begins a
+    /// new line.
+    ///
+    /// `AllocError` if a growth was refused: then nothing has changed.
+    pub fn finish(&mut self) -> Result<(), AllocError>
+        requires { self.old.progress.count ≤ 4294967295 }
+        ensures lines { OnOk result (self.new.lines
+            ≡ self.old.lines ++ finished_lines self.old.progress) }
+        ensures progress { OnOk result (self.new.progress ≡ finished self.old.progress) }
+        ensures same { OnErr result (self.new ≡ self.old) }
+    {
+        if self.open_line.is_empty() {
+            return Ok(());
+        }
+        let number = self.count + 1;
+        self.waiting.push(number, &self.open_line, &[])?;
+        self.open_line.clear();
+        self.count = number;
+        Ok(())
+    }
+
+    /// The lines that wait, in order. `AllocError` if the list was refused its memory.
+    pub fn lines(&self, alloc: Global) -> Result<Vec<LineRef<'_>>, AllocError>
+        ensures { IfOk result (λ lines. map line_at lines.items ≡ self.now.lines) }
+    {
+        self.waiting.lines(alloc)
+    }
+
+    /// Takes so many lines away from the front. Their memory is used again.
+    pub fn take_away(&mut self, count: usize)
+        requires { count ≤ length self.old.lines }
+        ensures lines { self.new.lines ≡ drop count self.old.lines }
+        ensures progress { self.new.progress ≡ self.old.progress }
+    {
+        self.waiting.take_away(count);
+    }
+
+    /// As `feed`, but an `Err` may leave more behind the lines that wait.
+    fn feed_piece(&mut self, piece: &[u8]) -> Result<(), AllocError>
+        requires { self.old.progress.count ≤ 4294967295 }
+        ensures lines { OnOk result (self.new.lines
+            ≡ self.old.lines ++ fed_lines self.old.progress piece.now) }
+        ensures progress { OnOk result (self.new.progress ≡ fed self.old.progress piece.now) }
+        ensures more_lines { OnErr result (Begins self.old.lines self.new.lines) }
+        ensures same_progress { OnErr result (self.new.progress ≡ self.old.progress) }
+    {
+        let Some((line, after)) = first_line(piece) else {
+            self.open_line.extend_from_slice(piece)?;
+            return Ok(());
+        };
+        let number = self.count + 1;
+        self.waiting.push(number, &self.open_line, line)?;
+        let (count, rest) = push_lines(number, after, &mut self.waiting)?;
+        put_instead(&mut self.open_line, rest)?;
+        self.count = count;
+        Ok(())
+    }
+}
+
+/// Puts bytes in the place of those of a vector. `AllocError` if a growth was refused: then they are the
+/// bytes that they were.
+fn put_instead(place: &mut Vec<u8>, bytes: &[u8]) -> Result<(), AllocError>
+    ensures ok { OnOk result (place.new.items ≡ bytes.now) }
+    ensures same { OnErr result (place.new.items ≡ place.old.items) }
+{
+    place.reserve(bytes.len())?;
+    place.clear();
+    place.extend_from_slice(bytes)
+}

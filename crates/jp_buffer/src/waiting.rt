@@ -1,0 +1,168 @@
+//! Lines that wait for their answer, in one buffer.
+
+ghost use Rattle.std.specs.Prelude.{◌≡◌, ◌+◌, ◌<◌, ◌≤◌, ◌^◌, [], ◌∷◌, ◌++◌, map, take, drop, length};
+ghost use Rattle.std.specs.Prelude.{IfOk, OnOk, OnErr, vec_len};
+ghost use Rattle.jp_doc.specs.Feeding.{numbered};
+ghost use Rattle.jp_buffer.specs.Buffered.{line_at};
+ghost use Rattle.jp_buffer.specs.Waiting.{Begins, bytes_of};
+
+use crate::cutting::is_blank_line;
+use crate::line_ref::LineRef;
+use std::alloc::{AllocError, Global};
+use std::marker::Model;
+
+/// A line of the buffer, which begins where the one before it ends.
+#[derive(Clone, Copy)]
+struct Span {
+    number: u64,
+    len: usize,
+}
+
+/// The lines that wait for their answer.
+#[derive(Drop)]
+pub(crate) struct Waiting {
+    /// The bytes of the lines, one behind another, and no others.
+    bytes: Vec<u8>,
+    spans: Vec<Span>,
+}
+
+impl Model for Waiting {
+    ghost use Rattle.std.specs.Prelude.{◌≡◌, List, length};
+    ghost use Rattle.jp_doc.specs.Lines.{Line};
+    ghost use Rattle.jp_buffer.specs.Waiting.{bytes_of, lines_in};
+
+    ghost Value = { List Line };
+
+    ghost view = { λ w. lines_in w.bytes.items w.spans.items };
+
+    ghost invariant = { λ w. length w.bytes.items ≡ bytes_of w.spans.items };
+}
+
+impl Waiting {
+    /// No lines. It takes no memory.
+    pub(crate) fn new(alloc: Global) -> Waiting
+        ensures { result ≡ [] }
+    {
+        Waiting {
+            bytes: Vec::new(alloc),
+            spans: Vec::new(alloc),
+        }
+    }
+
+    /// How many lines wait.
+    pub(crate) fn len(&self) -> usize
+        ensures { result ≡ length self.now }
+    {
+        self.spans.len()
+    }
+
+    /// Adds a line that is given in two parts, unless it is blank.
+    pub(crate) fn push(&mut self, number: u64, front: &[u8], back: &[u8]) -> Result<(), AllocError>
+        ensures lines { OnOk result
+            (self.new ≡ self.old ++ numbered number ((front.now ++ back.now) ∷ [])) }
+        ensures same { OnErr result (self.new ≡ self.old) }
+    {
+        if is_blank_line(front) && is_blank_line(back) {
+            return Ok(());
+        }
+        self.append(number, front, back)
+    }
+
+    /// Adds a line that is given in two parts.
+    fn append(&mut self, number: u64, front: &[u8], back: &[u8]) -> Result<(), AllocError>
+        ensures lines { OnOk result (self.new ≡ self.old ++ (number, front.now ++ back.now) ∷ []) }
+        ensures same { OnErr result (self.new ≡ self.old) }
+    {
+        let before = self.bytes.len();
+        match append_parts(number, front, back, &mut self.bytes, &mut self.spans) {
+            Ok(()) => Ok(()),
+            Err(error) => {
+                self.bytes.truncate(before);
+                Err(error)
+            }
+        }
+    }
+
+    /// The lines, in order. `AllocError` if the list was refused its memory.
+    pub(crate) fn lines(&self, alloc: Global) -> Result<Vec<LineRef<'_>>, AllocError>
+        ensures { IfOk result (λ lines. map line_at lines.items ≡ self.now) }
+    {
+        let mut lines = Vec::with_capacity(alloc, self.spans.len())?;
+        let mut rest = self.bytes.as_slice();
+        for span in &self.spans {
+            let (bytes, after) = rest.split_at(span.len);
+            let number = span.number;
+            lines.push(LineRef { number, bytes })?;
+            rest = after;
+        }
+        Ok(lines)
+    }
+
+    /// Keeps so many lines at the front.
+    pub(crate) fn truncate(&mut self, count: usize)
+        requires { count ≤ length self.old }
+        ensures { self.new ≡ take count self.old }
+    {
+        let (kept, _) = self.spans.split_at(count);
+        let end = total_len(kept);
+        self.bytes.truncate(end);
+        self.spans.truncate(count);
+    }
+
+    /// Takes so many lines away from the front.
+    pub(crate) fn take_away(&mut self, count: usize)
+        requires { count ≤ length self.old }
+        ensures { self.new ≡ drop count self.old }
+    {
+        let (taken, _) = self.spans.split_at(count);
+        let end = total_len(taken);
+        take_front(&mut self.bytes, end);
+        take_front(&mut self.spans, count);
+    }
+}
+
+/// Appends a line that is given in two parts. An `Err` may leave more behind the bytes.
+fn append_parts(
+    number: u64,
+    front: &[u8],
+    back: &[u8],
+    bytes: &mut Vec<u8>,
+    spans: &mut Vec<Span>,
+) -> Result<(), AllocError>
+    ensures bytes { OnOk result (bytes.new.items ≡ bytes.old.items ++ (front.now ++ back.now)) }
+    ensures spans { OnOk result (spans.new.items
+        ≡ spans.old.items ++ record { number = number; len = length (front.now ++ back.now) } ∷ []) }
+    ensures more_bytes { OnErr result (Begins bytes.old.items bytes.new.items) }
+    ensures same_spans { OnErr result (spans.new.items ≡ spans.old.items) }
+{
+    bytes.extend_from_slice(front)?;
+    bytes.extend_from_slice(back)?;
+    let len = front.len() + back.len();
+    spans.push(Span { number, len })?;
+    Ok(())
+}
+
+/// How many bytes lines have together.
+fn total_len(spans: &[Span]) -> usize
+    requires { bytes_of spans.now < 2 ^ 64 }
+    ensures { result ≡ bytes_of spans.now }
+{
+    let mut total = 0;
+    for span in spans {
+        total += span.len;
+    }
+    total
+}
+
+/// Takes so many items away from the front. Only those behind them are moved, and none if none is taken.
+fn take_front<T: Copy>(items: &mut Vec<T>, count: usize)
+    requires { count ≤ vec_len items.old }
+    ensures { items.new.items ≡ drop count items.old.items }
+{
+    if count == 0 {
+        return;
+    }
+    let left = items.len() - count;
+    items.copy_within(count.., 0);
+    items.truncate(left);
+}
