@@ -1,6 +1,7 @@
 -- The answer in either form: of lines that come in two parts, and of one line more.
-use Rattle.std.proofs.Common.{◌≡◌, ℕ, suc, ◌+◌, ◌≤◌, Bool, true, false, List, [], ◌∷◌, ◌++◌, length, Option}
-use Rattle.std.proofs.Common.{Some, None, Result, Ok, Err, refl, ap, sym, ◌∙◌, arith, length-append}
+use Rattle.std.proofs.Common.{◌≡◌, ℕ, zero, suc, ◌+◌, ◌≤◌, Bool, true, false, List, [], ◌∷◌, ◌++◌}
+use Rattle.std.proofs.Common.{length, Option, Some, None, Result, Ok, Err, refl, ap, sym, ◌∙◌, arith}
+use Rattle.std.proofs.Common.{length-append}
 use Rattle.std.proofs.Common.{append_assoc, cond, ◌<◌, ◌⊎◌, inl, inr, add-one, drop, get_or, map}
 use Rattle.std.proofs.Math.Seq.{drop-cons}
 use Rattle.std.specs.Prelude.{is_err}
@@ -10,10 +11,11 @@ use Rattle.std.proofs.lemmas.List.Concat.{flat_map-append}
 use Rattle.std.proofs.lemmas.List.Elements.{filter-append}
 use Rattle.std.proofs.lemmas.List.Sums.{length-filter, count_by-le-length}
 use Rattle.jp_doc.specs.Json.{Json}
-use Rattle.jp_doc.specs.Lines.{Line, line_of}
+use Rattle.jp_buffer.specs.Buffered.{line_at}
+use Rattle.jp_doc.specs.Lines.{Line}
 use Rattle.jp_doc.specs.Reading.{reading}
 use Rattle.jp_doc.specs.declared.fault.DocFault.{DocFault}
-use Rattle.jp_doc.specs.declared.line.Line as code
+use Rattle.jp_buffer.specs.declared.line_ref.LineRef as code
 use Rattle.jp_syntax.specs.Tree.{Query}
 use Rattle.jp_regexp.specs.Tests.{Tests}
 use Rattle.jp_path.specs.FaultLine.{fault_line}
@@ -155,65 +157,85 @@ stop_here true l ls fault ends e = absurd (cc)
 stop_here false l ls fault ends e = stop_now l.0 (reading l.1) (first_fault ls) fault e
 
 -- the lines of `src/` from a place on
-next_line : (lines : List code.Line) (i : ℕ) (l : code.Line) → i < length lines
-    → l ≡ get_or lines i l → map line_of (drop i lines) ≡ line_of l ∷ map line_of (drop (i + 1) lines)
+next_line : (lines : List code.LineRef) (i : ℕ) (l : code.LineRef) → i < length lines
+    → l ≡ get_or lines i l → map line_at (drop i lines) ≡ line_at l ∷ map line_at (drop (i + 1) lines)
 next_line lines i l h is =
     let cut : drop i lines ≡ get_or lines i l ∷ drop (suc i) lines = drop-cons lines i l h in
-    rw (add-one i) (ap (map line_of) cut
-    ∙ ap (λ (x : code.Line). line_of x ∷ map line_of (drop (suc i) lines)) (sym is))
+    rw (add-one i) (ap (map line_at) cut
+    ∙ ap (λ (x : code.LineRef). line_at x ∷ map line_at (drop (suc i) lines)) (sym is))
+
+-- what is looked up past the end of the lines
+abbrev no_line : code.LineRef
+no_line = record { number = 0; bytes = record { ref_ptr = (0, 0); now = [] } }
+
+-- a line of those of `src/`, as a loop takes it
+abbrev line_there : List code.LineRef → ℕ → code.LineRef
+line_there lines i = get_or lines i no_line
+
+whatever_else : (lines : List code.LineRef) (i : ℕ) (l m : code.LineRef) → i < length lines
+    → get_or lines i l ≡ get_or lines i m
+whatever_else [] i l m h = absurd (omega (arith, h))
+whatever_else (x ∷ xs) zero l m h = refl
+whatever_else (x ∷ xs) (suc i) l m h = whatever_else xs i l m (omega (arith, h))
+
+is_there : (lines : List code.LineRef) (i : ℕ) → i < length lines
+    → line_there lines i ≡ get_or lines i (line_there lines i)
+is_there lines i h = whatever_else lines i no_line (line_there lines i) h
 
 -- a line of those of `src/` is taken
-module _ (k : Bool) (lines : List code.Line) (i : ℕ) (l : code.Line) (h : i < length lines)
-    (is : l ≡ get_or lines i l) where
+module _ (k : Bool) (lines : List code.LineRef) (i : ℕ) (h : i < length lines) where
+  abbrev l : code.LineRef
+  l = line_there lines i
+
   abbrev all : List Line
-  all = map line_of lines
+  all = map line_at lines
 
   abbrev now : List Line
-  now = map line_of (drop i lines)
+  now = map line_at (drop i lines)
 
   abbrev later : List Line
-  later = map line_of (drop (i + 1) lines)
+  later = map line_at (drop (i + 1) lines)
 
   abbrev fault_here : Option DocFault
-  fault_here = fault_in (reading l.bytes.items)
+  fault_here = fault_in (reading l.bytes.now)
 
-  here : now ≡ line_of l ∷ later
-  here = next_line lines i l h is
+  here : now ≡ line_at l ∷ later
+  here = next_line lines i l h (is_there lines i h)
 
   pub answer_more : (t : Tests) (q p : Query) (old new : List ℕ) → p ≡ q
       → answer_in k t q all ≡ after old (answer_in k t q now)
-      → new ≡ old ++ given k t p l.number (reading l.bytes.items) → (k ≡ true) ⊎ (fault_here ≡ None)
+      → new ≡ old ++ given k t p l.number (reading l.bytes.now) → (k ≡ true) ⊎ (fault_here ≡ None)
       → answer_in k t q all ≡ after new (answer_in k t q later)
   answer_more t q p old new same e f g =
-      let gives : List ℕ = given k t q l.number (reading l.bytes.items) in
+      let gives : List ℕ = given k t q l.number (reading l.bytes.now) in
       let a : Answer = answer_in k t q later in
       e ∙ ap (λ (ls : List Line). after old (answer_in k t q ls)) here
-      ∙ ap (after old) (goes_on t q k (line_of l) later g)
+      ∙ ap (after old) (goes_on t q k (line_at l) later g)
       ∙ ap (λ bs. record { bytes = bs; stopped = a.stopped }) (sym (append_assoc old gives a.bytes))
-      ∙ ap (λ bs. after bs a) (sym (f ∙ ap (λ q. old ++ given k t q l.number (reading l.bytes.items)) same))
+      ∙ ap (λ bs. after bs a) (sym (f ∙ ap (λ q. old ++ given k t q l.number (reading l.bytes.now)) same))
 
   pub answer_last : (t : Tests) (q p : Query) (old new : List ℕ) (fault : DocFault) → p ≡ q
       → answer_in k t q all ≡ after old (answer_in k t q now)
-      → new ≡ old ++ given k t p l.number (reading l.bytes.items) → k ≡ false → fault_here ≡ Some fault
+      → new ≡ old ++ given k t p l.number (reading l.bytes.now) → k ≡ false → fault_here ≡ Some fault
       → answer_in k t q all ≡ record { bytes = new; stopped = Some (l.number, fault) }
   answer_last t q p old new fault same e f ends found =
       e ∙ ap (λ (ls : List Line). after old (answer_in k t q ls)) here
-      ∙ ap (after old) (ends_at t q k (line_of l) later fault ends found)
+      ∙ ap (after old) (ends_at t q k (line_at l) later fault ends found)
       ∙ ap (λ bs. record { bytes = bs; stopped = Some (l.number, fault) })
-      (sym (f ∙ ap (λ q. old ++ given k t q l.number (reading l.bytes.items)) same))
+      (sym (f ∙ ap (λ q. old ++ given k t q l.number (reading l.bytes.now)) same))
 
   pub stop_more : stop_in k all ≡ stop_in k now → (k ≡ true) ⊎ (fault_here ≡ None)
       → stop_in k all ≡ stop_in k later
-  stop_more e g = e ∙ ap (stop_in k) here ∙ stop_later k (line_of l) later g
+  stop_more e g = e ∙ ap (stop_in k) here ∙ stop_later k (line_at l) later g
 
   pub stop_last : (fault : DocFault) → stop_in k all ≡ stop_in k now → k ≡ false → fault_here ≡ Some fault
       → stop_in k all ≡ Some (l.number, fault)
-  stop_last fault e ends found = e ∙ ap (stop_in k) here ∙ stop_here k (line_of l) later fault ends found
+  stop_last fault e ends found = e ∙ ap (stop_in k) here ∙ stop_here k (line_at l) later fault ends found
 
   pub passed_more : (n : ℕ) → passed_in k all ≡ n + passed_in k now → fault_here ≡ None
       → passed_in k all ≡ n + passed_in k later
   passed_more n e none = e
-      ∙ ap (λ m. n + m) (ap (passed_in k) here ∙ passed_document k (line_of l) later none)
+      ∙ ap (λ m. n + m) (ap (passed_in k) here ∙ passed_document k (line_at l) later none)
 
   pub passed_one : (n : ℕ) (fault : DocFault) → passed_in k all ≡ n + passed_in k now → k ≡ true
       → fault_here ≡ Some fault → passed_in k all ≡ n + 1 + passed_in k later
@@ -221,8 +243,8 @@ module _ (k : Bool) (lines : List code.Line) (i : ℕ) (l : code.Line) (h : i < 
     arith,
     e,
     ap (passed_in k) here,
-    passed_fault k (line_of l) later fault going found,
+    passed_fault k (line_at l) later fault going found,
   )
 
   pub passed_fits : (n : ℕ) → passed_in k all ≡ n + 1 + passed_in k later → n + 1 ≤ length lines
-  passed_fits n e = omega (arith, e, passed_few k all, length-map lines line_of)
+  passed_fits n e = omega (arith, e, passed_few k all, length-map lines line_at)

@@ -16,7 +16,7 @@ use Rattle.jp_answer.specs.Placed.{StandsAt, IsPlaced, ComeFrom}
 use Rattle.jp_answer.specs.Worked.{pieces_of}
 use Rattle.jp_answer.specs.declared.outcome.Outcome.{Outcome}
 use Rattle.jp_answer.specs.declared.outcome.DocStop.{DocStop}
-use Rattle.jp_answer.specs.declared.worker.Part.{Part}
+use Rattle.jp_answer.specs.declared.worker.PieceAnswer.{PieceAnswer}
 use Rattle.jp_answer.proofs.Tending.{has_cases}
 
 get_same : {X : Type 0} (xs : List X) (i : ℕ) (v : X) → i < length xs → slice_get (set xs i v) i ≡ Some v
@@ -31,7 +31,7 @@ get_other (x ∷ xs) zero (suc j) v apart = refl
 get_other (x ∷ xs) (suc i) zero v apart = refl
 get_other (x ∷ xs) (suc i) (suc j) v apart = get_other xs i j v (λ e. apart (ap suc e))
 
-module _ (parts : List Part) (new : Part) (placed : List (Option Outcome)) where
+module _ (parts : List PieceAnswer) (new : PieceAnswer) (placed : List (Option Outcome)) where
   abbrev put : List (Option Outcome)
   put = set placed new.piece (Some new.answer)
 
@@ -51,7 +51,7 @@ module _ (parts : List Part) (new : Part) (placed : List (Option Outcome)) where
       (has_cases parts new x has))
 
   same_part : (x : ℕ) (a : Outcome) → new.piece ≡ x → new.answer ≡ a
-      → ◌≡◌ {A = Part} new (record { piece = x; answer = a })
+      → ◌≡◌ {A = PieceAnswer} new (record { piece = x; answer = a })
   same_part x a e f = ap (λ (y : ℕ). record { piece = y; answer = new.answer }) e
       ∙ ap (λ (b : Outcome). record { piece = x; answer = b }) f
 

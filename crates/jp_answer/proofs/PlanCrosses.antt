@@ -3,7 +3,7 @@ use denote.Param.Send.{IsSync, sendable}
 use Rattle.std.proofs.Crossing.{crosses}
 use Rattle.jp_check.specs.contracts.accepted.Plan as Plan
 use Rattle.jp_answer.specs.contracts.pieces.Pieces as Pieces
-use Rattle.jp_doc.proofs.line.Line.TheSendSync as lines
+use Rattle.jp_buffer.proofs.line_ref.LineRef.TheSendSync as lines
 use denote.Ref.{NamedLft}
 use Rattle.jp_check.specs.contracts.ready.Query as Ready
 use Rattle.jp_check.specs.contracts.known.KnownPattern as Known

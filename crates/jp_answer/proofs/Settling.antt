@@ -14,9 +14,10 @@ use Rattle.std.proofs.lemmas.List.Elements.{Contains-append_left, Contains-appen
 use Rattle.std.proofs.lemmas.List.Elements.{Contains-append_cases}
 use Rattle.std.proofs.lemmas.List.Sums.{sum_by-cons}
 use Rattle.std.proofs.lemmas.Option.{get_or_from_slice_get}
-use Rattle.jp_doc.specs.Lines.{Line, line_of}
+use Rattle.jp_buffer.specs.Buffered.{line_at}
+use Rattle.jp_doc.specs.Lines.{Line}
 use Rattle.jp_doc.specs.declared.fault.DocFault.{DocFault}
-use Rattle.jp_doc.specs.declared.line.Line as code
+use Rattle.jp_buffer.specs.declared.line_ref.LineRef as code
 use Rattle.jp_check.specs.Plan.{planned_query}
 use Rattle.jp_regexp.specs.Tests.{Tests, AreRight}
 use Rattle.jp_board.specs.declared.seat.Seat.{Seat}
@@ -33,7 +34,7 @@ use Rattle.jp_answer.specs.Placed.{StandsAt, IsPlaced, ComeFrom, nothing, joined
 use Rattle.jp_answer.specs.Worked.{pieces_of, AreTended, IsTended, IsWorked}
 use Rattle.jp_answer.specs.declared.outcome.Outcome.{Outcome}
 use Rattle.jp_answer.specs.declared.pieces.Pieces.{Pieces}
-use Rattle.jp_answer.specs.declared.worker.Part.{Part}
+use Rattle.jp_answer.specs.declared.worker.PieceAnswer.{PieceAnswer}
 use Rattle.jp_answer.specs.declared.worker.Worker.{Worker}
 use Rattle.jp_board.proofs.Tallying.{claims_below, claims_all}
 use Rattle.jp_answer.proofs.Forms.{formed_joined, nothing_in, passed_joined, passed_none, passed_few}
@@ -90,19 +91,19 @@ module _ (p : Pieces) where
 
   -- the lines from a piece on
   abbrev lines_from : ℕ → List Line
-  lines_from x = map line_of (drop (x * p.size) p.lines.now)
+  lines_from x = map line_at (drop (x * p.size) p.lines.now)
 
   next_place : (x : ℕ) → x * p.size + p.size ≡ (x + 1) * p.size
   next_place x = omega (arith, add-mul x 1 p.size, one-mul p.size)
 
   cut_piece : (x : ℕ) → lines_from x ≡ piece_lines p x ++ lines_from (x + 1)
   cut_piece x =
-      let rest : List code.Line = drop (x * p.size) p.lines.now in
+      let rest : List code.LineRef = drop (x * p.size) p.lines.now in
       let cut : rest ≡ take p.size rest ++ drop ((x + 1) * p.size) p.lines.now =
       sym (take-append-drop p.size rest)
-      ∙ ap (λ (l : List code.Line). take p.size rest ++ l) (drop-drop p.size (x * p.size) p.lines.now
+      ∙ ap (λ (l : List code.LineRef). take p.size rest ++ l) (drop-drop p.size (x * p.size) p.lines.now
       ∙ ap (λ n. drop n p.lines.now) (next_place x)) in
-      ap (map line_of) cut ∙ map-append line_of (take p.size rest) (drop ((x + 1) * p.size) p.lines.now)
+      ap (map line_at) cut ∙ map-append line_at (take p.size rest) (drop ((x + 1) * p.size) p.lines.now)
 
   -- the answer to the piece with this number stands at each place, counted from a piece on
   abbrev StandFrom : Tests → ℕ → List (Option Outcome) → Type 0
@@ -136,16 +137,16 @@ module _ (p : Pieces) where
       ∙ sym (formed_joined t (planned_query p.plan.now) p.keeps_going (piece_lines p x) (lines_from (x + 1)))
       ∙ ap (to_lines t) (sym (cut_piece x))
 
-  from_start : lines_from 0 ≡ map line_of p.lines.now
-  from_start = ap (λ n. map line_of (drop n p.lines.now)) (zero-mul p.size)
+  from_start : lines_from 0 ≡ map line_at p.lines.now
+  from_start = ap (λ n. map line_at (drop n p.lines.now)) (zero-mul p.size)
 
   -- the answer to all lines is that of what stands there
   pub placed_answer : (placed : List (Option Outcome)) → ArePlaced p placed → (t : Tests) → AreRight t
-      → to_lines t (map line_of p.lines.now) ≡ joined_all placed
+      → to_lines t (map line_at p.lines.now) ≡ joined_all placed
   placed_answer placed h t right =
       let all = joined_all placed in
       let rest = to_lines t (lines_from (0 + length placed)) in
-      let whole : joined all rest ≡ to_lines t (map line_of p.lines.now) =
+      let whole : joined all rest ≡ to_lines t (map line_at p.lines.now) =
       joined_pieces t placed 0 (λ k lt. let (a, at, is) = h.each k lt in (
         a,
         at,
@@ -155,7 +156,7 @@ module _ (p : Pieces) where
       sym whole ∙ ⊎_elim
       (λ (long : length p.lines.now ≤ length placed * p.size).
       let none : lines_from (0 + length placed) ≡ [] = ap (λ n. lines_from n) (zero-add (length placed))
-      ∙ ap (map line_of) (drop_of_length-le p.lines.now long) in
+      ∙ ap (map line_at) (drop_of_length-le p.lines.now long) in
       ap (λ ls. joined all (to_lines t ls)) none
       ∙ ap (joined all) (nothing_in t (planned_query p.plan.now) p.keeps_going)
       ∙ with_nothing all.stopped all refl)
@@ -203,10 +204,10 @@ module _ (p : Pieces) where
   none_passed true some rest h = absurd (cc)
 
   pub placed_passed : (placed : List (Option Outcome)) → ArePlaced p placed
-      → passed_in p.keeps_going (map line_of p.lines.now) ≡ passed_all placed
+      → passed_in p.keeps_going (map line_at p.lines.now) ≡ passed_all placed
   placed_passed placed h =
       let rest = passed_in p.keeps_going (lines_from (0 + length placed)) in
-      let whole : passed_all placed + rest ≡ passed_in p.keeps_going (map line_of p.lines.now) =
+      let whole : passed_all placed + rest ≡ passed_in p.keeps_going (map line_at p.lines.now) =
       passed_pieces placed 0 (λ k lt. let (a, at, is) = h.each k lt in (
         a,
         at,
@@ -215,7 +216,7 @@ module _ (p : Pieces) where
       let none : rest ≡ 0 = ⊎_elim
       (λ (long : length p.lines.now ≤ length placed * p.size).
       ap (λ n. passed_in p.keeps_going (lines_from n)) (zero-add (length placed))
-      ∙ ap (λ ls. passed_in p.keeps_going (map line_of ls)) (drop_of_length-le p.lines.now long)
+      ∙ ap (λ ls. passed_in p.keeps_going (map line_at ls)) (drop_of_length-le p.lines.now long)
       ∙ passed_none p.keeps_going)
       (λ (f : (x : ℕ) × (x < length placed) × IsFaulty p x).
       none_passed p.keeps_going (piece_lines p f.0) (lines_from (0 + length placed)) f.2)
@@ -227,8 +228,8 @@ module _ (p : Pieces) where
   placed_few placed h = omega (
     arith,
     placed_passed placed h,
-    passed_few p.keeps_going (map line_of p.lines.now),
-    length-map p.lines.now line_of,
+    passed_few p.keeps_going (map line_at p.lines.now),
+    length-map p.lines.now line_at,
   )
 
 -- what several workers did together
@@ -236,24 +237,24 @@ module _ (p : Pieces) where
 abbrev views_of : List Worker → List View
 views_of ws = map view_of (map (λ w. w.seat) ws)
 
-abbrev parts_of : List Worker → List Part
+abbrev parts_of : List Worker → List PieceAnswer
 parts_of ws = flat_map (λ w. w.parts.items) ws
 
-has_left : (xs ys : List Part) (x : ℕ) → Contains (pieces_of xs) x → Contains (pieces_of (xs ++ ys)) x
-has_left xs ys x h = subst (λ l. Contains l x) (sym (map-append (λ (q : Part). q.piece) xs ys))
+has_left : (xs ys : List PieceAnswer) (x : ℕ) → Contains (pieces_of xs) x → Contains (pieces_of (xs ++ ys)) x
+has_left xs ys x h = subst (λ l. Contains l x) (sym (map-append (λ (q : PieceAnswer). q.piece) xs ys))
     (Contains-append_left (pieces_of xs) (pieces_of ys) x h)
 
-has_right : (xs ys : List Part) (x : ℕ) → Contains (pieces_of ys) x → Contains (pieces_of (xs ++ ys)) x
-has_right xs ys x h = subst (λ l. Contains l x) (sym (map-append (λ (q : Part). q.piece) xs ys))
+has_right : (xs ys : List PieceAnswer) (x : ℕ) → Contains (pieces_of ys) x → Contains (pieces_of (xs ++ ys)) x
+has_right xs ys x h = subst (λ l. Contains l x) (sym (map-append (λ (q : PieceAnswer). q.piece) xs ys))
     (Contains-append_right (pieces_of xs) (pieces_of ys) x h)
 
-tended_left : (looks more : List ℕ) (xs ys : List Part) (x : ℕ) → IsTended looks xs x
+tended_left : (looks more : List ℕ) (xs ys : List PieceAnswer) (x : ℕ) → IsTended looks xs x
     → IsTended (looks ++ more) (xs ++ ys) x
 tended_left looks more xs ys x (inl has) = inl (has_left xs ys x has)
 tended_left looks more xs ys x (inr (mark, seen, below)) = inr
     (mark, Contains-append_left looks more mark seen, below)
 
-tended_right : (looks more : List ℕ) (xs ys : List Part) (x : ℕ) → IsTended more ys x
+tended_right : (looks more : List ℕ) (xs ys : List PieceAnswer) (x : ℕ) → IsTended more ys x
     → IsTended (looks ++ more) (xs ++ ys) x
 tended_right looks more xs ys x (inl has) = inl (has_right xs ys x has)
 tended_right looks more xs ys x (inr (mark, seen, below)) = inr
@@ -268,7 +269,7 @@ told_some p (w ∷ ws) h long =
     omega arith
 
 -- what is proved of the parts of all workers, which have claimed, reported and seen these
-pub record AllAreSound (p : Pieces) (claims reports looks : List ℕ) (parts : List Part) : Type 0 where
+pub record AllAreSound (p : Pieces) (claims reports looks : List ℕ) (parts : List PieceAnswer) : Type 0 where
   pub right : All (λ part. IsPieceAnswer p part.piece part.answer) parts
   pub faulty : (x : ℕ) → Contains reports x → IsFaulty p x
   pub tended : AreTended claims looks parts
@@ -278,7 +279,7 @@ pub together : (p : Pieces) (ws : List Worker) → All (IsWorked p) ws
     → AllAreSound p (all_claims (views_of ws)) (all_reports (views_of ws)) (all_looks (views_of ws))
     (parts_of ws)
 together p [] h fine = record {
-  right = All-nil (λ (q : Part). IsPieceAnswer p q.piece q.answer);
+  right = All-nil (λ (q : PieceAnswer). IsPieceAnswer p q.piece q.answer);
   faulty = λ x c. let lt = c.1 in absurd (omega arith);
   tended = λ x c. let lt = c.1 in absurd (omega arith);
 }
@@ -290,7 +291,7 @@ together p (w ∷ ws) h fine =
     ≡ false) w ws fine) in
     let done = first.tended (All-head (λ (w : Worker). w.wanted ≡ false) w ws fine) in
     record {
-      right = All-append (λ (q : Part). IsPieceAnswer p q.piece q.answer) w.parts.items
+      right = All-append (λ (q : PieceAnswer). IsPieceAnswer p q.piece q.answer) w.parts.items
           (parts_of ws) first.sound.right others.right;
       faulty = λ x c. ⊎_elim (λ here. (first.sound.stopped x here).1) (others.faulty x)
           (Contains-append_cases v.reports (all_reports vs) x c);
@@ -301,7 +302,7 @@ together p (w ∷ ws) h fine =
     }
 
 -- each piece up to the final mark has a part
-pub each_has : (p : Pieces) (pieces claimed least : ℕ) (views : List View) (parts : List Part)
+pub each_has : (p : Pieces) (pieces claimed least : ℕ) (views : List View) (parts : List PieceAnswer)
     → Tallies pieces claimed least views → 0 < times_told views
     → AllAreSound p (all_claims views) (all_reports views) (all_looks views) parts → (x : ℕ) → x < pieces
     → x ≤ least → Contains (pieces_of parts) x
@@ -313,7 +314,7 @@ each_has p pieces claimed least views parts t told s x within under =
     absurd (omega arith))
     (s.tended x (claims_all pieces claimed least x views t told within))
 
-pub placed_so : (p : Pieces) (pieces claimed least : ℕ) (views : List View) (parts : List Part)
+pub placed_so : (p : Pieces) (pieces claimed least : ℕ) (views : List View) (parts : List PieceAnswer)
     (placed : List (Option Outcome)) (n : ℕ) → AreAllPieces p pieces
     → Tallies pieces claimed least views → 0 < times_told views
     → AllAreSound p (all_claims views) (all_reports views) (all_looks views) parts
@@ -326,7 +327,7 @@ placed_so p pieces claimed least views parts placed n cut t told s e len filled 
       let (a, at) = filled x (omega arith) has in (
         a,
         at,
-        All-contains (λ (q : Part). IsPieceAnswer p q.piece q.answer) parts
+        All-contains (λ (q : PieceAnswer). IsPieceAnswer p q.piece q.answer) parts
             (record { piece = x; answer = a }) s.right (from x a at),
       );
   enough = ⊎_elim
@@ -348,7 +349,7 @@ each_some p placed h k d below =
 
 -- the same of the workers, their seats and their parts
 pub all_placed : (p : Pieces) (pieces claimed least : ℕ) (ws : List Worker) (seats : List Seat)
-    (parts : List Part) (placed : List (Option Outcome)) (n : ℕ)
+    (parts : List PieceAnswer) (placed : List (Option Outcome)) (n : ℕ)
     → 0 < length ws → All (IsWorked p) ws → All (λ (w : Worker). w.wanted ≡ false) ws
     → seats ≡ map (λ w. w.seat) ws → parts ≡ parts_of ws
     → AreAllPieces p pieces → Tallies pieces claimed least (map view_of seats)
@@ -361,12 +362,12 @@ all_placed p pieces claimed least ws seats parts placed n some worked fine of_se
     (ss : List Seat). Tallies pieces claimed least (map view_of ss)) of_seats tally in
     placed_so p pieces claimed least (views_of ws) (parts_of ws) placed n cut t
     (told_some p ws worked some) (together p ws worked fine) e len
-    (subst (λ (ps : List Part). (x : ℕ) → x < n → Contains (pieces_of ps) x
+    (subst (λ (ps : List PieceAnswer). (x : ℕ) → x < n → Contains (pieces_of ps) x
     → IsPlaced placed x) of_parts filled)
-    (subst (λ (ps : List Part). ComeFrom ps placed) of_parts from)
+    (subst (λ (ps : List PieceAnswer). ComeFrom ps placed) of_parts from)
 
 pub placed_ok : {E : Type 0} (p : Pieces) (pieces claimed least : ℕ) (ws : List Worker) (seats : List Seat)
-    (parts : List Part) (n : ℕ) (r : Result (Vec (Option Outcome) Global) E)
+    (parts : List PieceAnswer) (n : ℕ) (r : Result (Vec (Option Outcome) Global) E)
     → 0 < length ws → All (IsWorked p) ws → All (λ (w : Worker). w.wanted ≡ false) ws
     → seats ≡ map (λ w. w.seat) ws → parts ≡ parts_of ws
     → AreAllPieces p pieces → Tallies pieces claimed least (map view_of seats)
@@ -384,7 +385,7 @@ placed_ok p pieces claimed least ws seats parts n (Err e) some worked fine of_se
 -- what is joined is the answer, and passes as many faulty lines
 pub ok_joined : {E : Type 0} (p : Pieces) (placed : List (Option Outcome)) (r : Result Outcome E)
     → ArePlaced p placed → IfOk r (λ a. outcome_of a ≡ joined_all placed)
-    → IfOk r (λ a. (t : Tests) → AreRight t → to_lines p t (map line_of p.lines.now) ≡ outcome_of a)
+    → IfOk r (λ a. (t : Tests) → AreRight t → to_lines p t (map line_at p.lines.now) ≡ outcome_of a)
 ok_joined p placed (Ok a) h e = λ t right. placed_answer p placed h t right ∙ sym e
 ok_joined p placed (Err e) h k = tt
 

@@ -13,26 +13,27 @@ use Rattle.jp_answer.specs.Worked.{pieces_of, AreSound, IsTended, AreTended, Oth
 use Rattle.jp_answer.specs.declared.outcome.Outcome.{Outcome}
 use Rattle.jp_answer.specs.declared.outcome.DocStop.{DocStop}
 use Rattle.jp_answer.specs.declared.pieces.Pieces.{Pieces}
-use Rattle.jp_answer.specs.declared.worker.Part.{Part}
+use Rattle.jp_answer.specs.declared.worker.PieceAnswer.{PieceAnswer}
 
-abbrev part : ℕ → Outcome → Part
+abbrev part : ℕ → Outcome → PieceAnswer
 part x a = record { piece = x; answer = a }
 
-still_has : (parts : List Part) (new : Part) (x : ℕ) → Contains (pieces_of parts) x
+still_has : (parts : List PieceAnswer) (new : PieceAnswer) (x : ℕ) → Contains (pieces_of parts) x
     → Contains (pieces_of (parts ++ new ∷ [])) x
 still_has parts new x h =
-    subst (λ l. Contains l x) (sym (map-append (λ (p : Part). p.piece) parts (new ∷ [])))
+    subst (λ l. Contains l x) (sym (map-append (λ (p : PieceAnswer). p.piece) parts (new ∷ [])))
     (Contains-append_left (pieces_of parts) (new.piece ∷ []) x h)
 
-now_has : (parts : List Part) (new : Part) → Contains (pieces_of (parts ++ new ∷ [])) new.piece
-now_has parts new = subst (λ l. Contains l new.piece) (sym (map-append (λ (p : Part). p.piece) parts
+now_has : (parts : List PieceAnswer) (new : PieceAnswer) → Contains (pieces_of (parts ++ new ∷ [])) new.piece
+now_has parts new = subst (λ l. Contains l new.piece) (sym (map-append (λ (p : PieceAnswer). p.piece) parts
     (new ∷ []))) (Contains-push (pieces_of parts) new.piece)
 
-pub has_cases : (parts : List Part) (new : Part) (x : ℕ) → Contains (pieces_of (parts ++ new ∷ [])) x
+pub has_cases : (parts : List PieceAnswer) (new : PieceAnswer) (x : ℕ)
+    → Contains (pieces_of (parts ++ new ∷ [])) x
     → Contains (pieces_of parts) x ⊎ (new.piece ≡ x)
 has_cases parts new x h =
     Contains-push_cases (pieces_of parts) new.piece x (subst (λ l. Contains l x) (map-append (λ
-    (p : Part). p.piece) parts (new ∷ [])) h)
+    (p : PieceAnswer). p.piece) parts (new ∷ [])) h)
 
 some_mapped : {X Y : Type 0} (f : X → Y) (o : Option X) → true ≡ is_some o → IsSome (option_map f o)
 some_mapped f None e = absurd cc
@@ -53,14 +54,14 @@ module _ (p : Pieces) where
 
   pub sound_none : AreSound p [] [] []
   sound_none = record {
-    right = All-nil (λ (q : Part). IsPieceAnswer p q.piece q.answer);
+    right = All-nil (λ (q : PieceAnswer). IsPieceAnswer p q.piece q.answer);
     claimed = λ x h. h;
     stopped = λ x h. let lt = h.1 in absurd (omega arith);
     reported = λ x h f. h;
   }
 
   -- one more piece is claimed
-  pub sound_claim : (claims reports : List ℕ) (parts : List Part) (x : ℕ)
+  pub sound_claim : (claims reports : List ℕ) (parts : List PieceAnswer) (x : ℕ)
       → AreSound p claims reports parts → AreSound p (claims ++ x ∷ []) reports parts
   sound_claim claims reports parts x s = record {
     right = s.right;
@@ -70,11 +71,11 @@ module _ (p : Pieces) where
   }
 
   -- one more piece is answered, and has not stopped
-  pub sound_part : (claims reports : List ℕ) (parts : List Part) (x : ℕ) (a : Outcome)
+  pub sound_part : (claims reports : List ℕ) (parts : List PieceAnswer) (x : ℕ) (a : Outcome)
       → AreSound p claims reports parts → Contains claims x
       → IsPieceAnswer p x a → (IsFaulty p x → ⊥) → AreSound p claims reports (parts ++ part x a ∷ [])
   sound_part claims reports parts x a s mine right plain = record {
-    right = All-push (λ (q : Part). IsPieceAnswer p q.piece q.answer) parts (part x a) s.right right;
+    right = All-push (λ (q : PieceAnswer). IsPieceAnswer p q.piece q.answer) parts (part x a) s.right right;
     claimed = λ y h. ⊎_elim (s.claimed y) (λ (e : x ≡ y). subst (Contains claims) e mine) (has_cases parts
         (part x a) y h);
     stopped = λ y h. let old = s.stopped y h in (still_has parts (part x a) y old.0, old.1);
@@ -83,11 +84,11 @@ module _ (p : Pieces) where
   }
 
   -- one more piece is answered, has stopped, and is reported
-  pub sound_stop : (claims reports : List ℕ) (parts : List Part) (x : ℕ) (a : Outcome)
+  pub sound_stop : (claims reports : List ℕ) (parts : List PieceAnswer) (x : ℕ) (a : Outcome)
       → AreSound p claims reports parts → Contains claims x
       → IsPieceAnswer p x a → IsFaulty p x → AreSound p claims (reports ++ x ∷ []) (parts ++ part x a ∷ [])
   sound_stop claims reports parts x a s mine right faulty = record {
-    right = All-push (λ (q : Part). IsPieceAnswer p q.piece q.answer) parts (part x a) s.right right;
+    right = All-push (λ (q : PieceAnswer). IsPieceAnswer p q.piece q.answer) parts (part x a) s.right right;
     claimed = λ y h. ⊎_elim (s.claimed y) (λ (e : x ≡ y). subst (Contains claims) e mine) (has_cases parts
         (part x a) y h);
     stopped = λ y h. ⊎_elim
@@ -105,35 +106,35 @@ module _ (p : Pieces) where
   }
 
 -- one more piece is claimed
-pub tended_claim : (claims looks : List ℕ) (parts : List Part) (x : ℕ) → AreTended claims looks parts
+pub tended_claim : (claims looks : List ℕ) (parts : List PieceAnswer) (x : ℕ) → AreTended claims looks parts
     → OthersAreTended x (claims ++ x ∷ []) looks parts
 tended_claim claims looks parts x t = λ y h apart. ⊎_elim (λ old. t y old) (λ (e : x ≡ y). absurd (apart
     (sym e))) (Contains-push_cases claims x y h)
 
-by_case : (looks : List ℕ) (parts : List Part) (x y : ℕ) → (y ≢ x → IsTended looks parts y)
+by_case : (looks : List ℕ) (parts : List PieceAnswer) (x y : ℕ) → (y ≢ x → IsTended looks parts y)
     → IsTended looks parts x → IsTended looks parts y
 by_case looks parts x y others here = dite (ℕ_discrete y x) (λ e. subst (IsTended looks parts)
     (sym e) here) others
 
-still_tended : (looks : List ℕ) (parts : List Part) (mark y : ℕ) → IsTended looks parts y
+still_tended : (looks : List ℕ) (parts : List PieceAnswer) (mark y : ℕ) → IsTended looks parts y
     → IsTended (looks ++ mark ∷ []) parts y
 still_tended looks parts mark y t =
     ⊎_elim (λ has. inl has) (λ (k : (n : ℕ) × Contains looks n × (n < y)). inr
     (k.0, Contains-append_left looks (mark ∷ []) k.0 k.1, k.2)) t
 
 -- a mark below the piece was seen
-pub tended_left : (claims looks : List ℕ) (parts : List Part) (x mark : ℕ)
+pub tended_left : (claims looks : List ℕ) (parts : List PieceAnswer) (x mark : ℕ)
     → OthersAreTended x claims looks parts → mark < x → AreTended claims (looks ++ mark ∷ []) parts
 tended_left claims looks parts x mark t above = λ y h. by_case (looks ++ mark ∷ []) parts x y
     (λ apart. still_tended looks parts mark y (t y h apart)) (inr (mark, Contains-push looks mark, above))
 
 -- a mark was seen, and the piece is still to be answered
-pub others_looked : (claims looks : List ℕ) (parts : List Part) (x mark : ℕ)
+pub others_looked : (claims looks : List ℕ) (parts : List PieceAnswer) (x mark : ℕ)
     → OthersAreTended x claims looks parts → OthersAreTended x claims (looks ++ mark ∷ []) parts
 others_looked claims looks parts x mark t = λ y h apart. still_tended looks parts mark y (t y h apart)
 
 -- the piece was answered
-pub tended_part : (claims looks : List ℕ) (parts : List Part) (x : ℕ) (a : Outcome)
+pub tended_part : (claims looks : List ℕ) (parts : List PieceAnswer) (x : ℕ) (a : Outcome)
     → OthersAreTended x claims looks parts → AreTended claims looks (parts ++ part x a ∷ [])
 tended_part claims looks parts x a t = λ y h. by_case looks (parts ++ part x a ∷ []) x y
     (λ apart. ⊎_elim

@@ -1,6 +1,7 @@
 -- Lines that are cut into pieces.
 use Rattle.std.specs.Prelude.{◌≡◌, ℕ, ◌*◌, ◌<◌, ◌≤◌, List, length, take, drop, map, IsSome}
-use Rattle.jp_doc.specs.Lines.{Line, line_of}
+use Rattle.jp_buffer.specs.Buffered.{line_at}
+use Rattle.jp_doc.specs.Lines.{Line}
 use Rattle.jp_check.specs.Plan.{planned_query}
 use Rattle.jp_regexp.specs.Tests.{Tests, AreRight}
 use Rattle.jp_answer.specs.Answered.{outcome_of}
@@ -10,7 +11,7 @@ use Rattle.jp_answer.specs.declared.pieces.Pieces.{Pieces}
 
 -- the lines of the piece with this number, from 0
 abbrev pub piece_lines : Pieces → ℕ → List Line
-piece_lines p x = map line_of (take p.size (drop (x * p.size) p.lines.now))
+piece_lines p x = map line_at (take p.size (drop (x * p.size) p.lines.now))
 
 -- each of so many pieces has a line, and together they have all lines
 pub record AreAllPieces (p : Pieces) (n : ℕ) : Type 0 where

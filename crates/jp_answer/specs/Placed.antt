@@ -6,7 +6,7 @@ use Rattle.jp_answer.specs.Answered.{outcome_of}
 use Rattle.jp_answer.specs.Pieces.{IsFaulty, IsPieceAnswer}
 use Rattle.jp_answer.specs.declared.outcome.Outcome.{Outcome}
 use Rattle.jp_answer.specs.declared.pieces.Pieces.{Pieces}
-use Rattle.jp_answer.specs.declared.worker.Part.{Part}
+use Rattle.jp_answer.specs.declared.worker.PieceAnswer.{PieceAnswer}
 
 -- this answer stands at the number
 abbrev pub StandsAt : List (Option Outcome) → ℕ → Outcome → Type 0
@@ -17,7 +17,7 @@ abbrev pub IsPlaced : List (Option Outcome) → ℕ → Type 0
 IsPlaced placed x = (a : Outcome) × StandsAt placed x a
 
 -- what stands at a number is a part of that piece
-abbrev pub ComeFrom : List Part → List (Option Outcome) → Type 0
+abbrev pub ComeFrom : List PieceAnswer → List (Option Outcome) → Type 0
 ComeFrom parts placed = (x : ℕ) (a : Outcome) → StandsAt placed x a
     → Contains parts (record { piece = x; answer = a })
 

@@ -1,7 +1,7 @@
 //! The answer to numbered lines, on one thread.
 
 ghost use Rattle.std.specs.Prelude.{◌≡◌, ◌≢◌, ◌≤◌, ◌++◌, IfOk, length, map};
-ghost use Rattle.jp_doc.specs.Lines.{line_of};
+ghost use Rattle.jp_buffer.specs.Buffered.{line_at};
 ghost use Rattle.jp_doc.specs.Reading.{reading};
 ghost use Rattle.jp_part.specs.Part.{part_value};
 ghost use Rattle.jp_check.specs.Plan.{planned_query};
@@ -16,8 +16,9 @@ ghost use Rattle.jp_answer.specs.Answered.{outcome_of};
 ghost use Rattle.jp_answer.specs.Form.{answer_in, stop_in, passed_in, given, fault_in};
 
 use crate::outcome::{DocStop, Outcome};
+use jp_buffer::LineRef;
 use jp_check::Plan;
-use jp_doc::{DocFault, Document, Line};
+use jp_doc::{DocFault, Document};
 use jp_eval::{EvalFault, Evaluator, OpenFork};
 use jp_flat::FlatReader;
 use jp_part::Part;
@@ -40,16 +41,16 @@ pub(crate) fn answer_lines<R: Threads + Sync>(
     alloc: Global,
     reader: &mut FlatReader,
     plan: &Plan,
-    lines: &[Line],
+    lines: &[LineRef<'_>],
     keeps_going: bool,
     splits: bool,
 ) -> Result<Outcome, AllocError>
     requires { length lines.now ≤ 4294967296 }
     ensures answer { IfOk result (λ a. (t : Tests) → AreRight t →
-        answer_in keeps_going t (planned_query plan.now) (map line_of lines.now) ≡ outcome_of a) }
-    ensures stopped { IfOk result (λ a. stop_in keeps_going (map line_of lines.now)
+        answer_in keeps_going t (planned_query plan.now) (map line_at lines.now) ≡ outcome_of a) }
+    ensures stopped { IfOk result (λ a. stop_in keeps_going (map line_at lines.now)
         ≡ (outcome_of a).stopped) }
-    ensures passed { IfOk result (λ a. passed_in keeps_going (map line_of lines.now) ≡ a.faulty) }
+    ensures passed { IfOk result (λ a. passed_in keeps_going (map line_at lines.now) ≡ a.faulty) }
 {
     let mut evaluator = Evaluator::new(alloc, plan);
     let mut written = NodeLines::new(alloc);
@@ -97,19 +98,19 @@ fn add_line<R: Threads + Sync>(
     alloc: Global,
     reader: &mut FlatReader,
     evaluator: &mut Evaluator<'_>,
-    line: &Line,
+    line: &LineRef<'_>,
     keeps_going: bool,
     splits: bool,
     written: NodeLines,
 ) -> Result<(NodeLines, Option<DocFault>), AllocError>
     ensures lines { IfOk result (λ r. (t : Tests) → AreRight t → r.0.1 ≡ written.1
         ++ given keeps_going t (evaluated_query evaluator.old) line.now.number
-        (reading line.now.bytes.items)) }
-    ensures fault { IfOk result (λ r. r.1 ≡ fault_in (reading line.now.bytes.items)) }
+        (reading line.now.bytes.now)) }
+    ensures fault { IfOk result (λ r. r.1 ≡ fault_in (reading line.now.bytes.now)) }
     ensures query { evaluated_query evaluator.new ≡ evaluated_query evaluator.old }
 {
     let splits = splits && line.bytes.len() >= SPLIT_BYTES;
-    let Some(document) = reader.read(&line.bytes)? else {
+    let Some(document) = reader.read(line.bytes)? else {
         return add_tree(rt, alloc, evaluator, line, keeps_going, splits, written);
     };
     let root = Part::root_of_flat(&document);
@@ -122,18 +123,18 @@ fn add_tree<R: Threads + Sync>(
     rt: &R,
     alloc: Global,
     evaluator: &mut Evaluator<'_>,
-    line: &Line,
+    line: &LineRef<'_>,
     keeps_going: bool,
     splits: bool,
     written: NodeLines,
 ) -> Result<(NodeLines, Option<DocFault>), AllocError>
     ensures lines { IfOk result (λ r. (t : Tests) → AreRight t → r.0.1 ≡ written.1
         ++ given keeps_going t (evaluated_query evaluator.old) line.now.number
-        (reading line.now.bytes.items)) }
-    ensures fault { IfOk result (λ r. r.1 ≡ fault_in (reading line.now.bytes.items)) }
+        (reading line.now.bytes.now)) }
+    ensures fault { IfOk result (λ r. r.1 ≡ fault_in (reading line.now.bytes.now)) }
     ensures query { evaluated_query evaluator.new ≡ evaluated_query evaluator.old }
 {
-    match Document::read(alloc, &line.bytes) {
+    match Document::read(alloc, line.bytes) {
         Ok(document) => {
             let root = Part::root_of(&document);
             let lines = with_nodes(rt, evaluator, line.number, root, splits, written)?;

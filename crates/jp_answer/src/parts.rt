@@ -7,7 +7,7 @@ ghost use Rattle.jp_answer.specs.Placed.{IsPlaced, ComeFrom, joined_all, passed_
 ghost use Rattle.jp_answer.specs.Worked.{pieces_of};
 
 use crate::outcome::Outcome;
-use crate::worker::{Part, Worker};
+use crate::worker::{PieceAnswer, Worker};
 use jp_board::Seat;
 use jp_path::append_chunks;
 use std::alloc::{AllocError, Global};
@@ -18,7 +18,7 @@ use std::alloc::{AllocError, Global};
 pub(crate) fn gather(
     alloc: Global,
     workers: Vec<Worker>,
-) -> Result<(Vec<Seat>, Vec<Part>), AllocError>
+) -> Result<(Vec<Seat>, Vec<PieceAnswer>), AllocError>
     ensures seats { IfOk result (λ r. r.0.items ≡ map (λ w. w.seat) workers.items) }
     ensures parts { IfOk result (λ r. r.1.items ≡ flat_map (λ w. w.parts.items) workers.items) }
     ensures wanted { OnOk result (All (λ w. w.wanted ≡ false) workers.items) }
@@ -43,7 +43,7 @@ pub(crate) fn gather(
 /// The answers to the first so many pieces, each at its number, where it is among the parts.
 pub(crate) fn place(
     alloc: Global,
-    parts: Vec<Part>,
+    parts: Vec<PieceAnswer>,
     count: usize,
 ) -> Result<Vec<Option<Outcome>>, AllocError>
     ensures len { IfOk result (λ v. vec_len v ≡ count) }
@@ -59,7 +59,7 @@ pub(crate) fn place(
 }
 
 /// Puts a part's answer at its piece's number, if there is such a place.
-fn put(placed: &mut Vec<Option<Outcome>>, part: Part)
+fn put(placed: &mut Vec<Option<Outcome>>, part: PieceAnswer)
     ensures { placed.new.items ≡ slice_set placed.old.items part.piece (Some part.answer) }
 {
     let at = part.piece as usize;

@@ -5,8 +5,8 @@ ghost use Rattle.jp_answer.specs.Ranges.{AreDocuments};
 
 use crate::answering::answer_lines;
 use crate::outcome::Outcome;
+use jp_buffer::LineRef;
 use jp_check::Plan;
-use jp_doc::Line;
 use jp_flat::FlatReader;
 use std::alloc::{AllocError, Global};
 use std::thread::Threads;
@@ -16,7 +16,7 @@ use std::thread::Threads;
 #[derive(Clone, Copy, Drop)]
 pub(crate) struct Pieces<'a> {
     pub(crate) plan: &'a Plan,
-    pub(crate) lines: &'a [Line],
+    pub(crate) lines: &'a [LineRef<'a>],
     pub(crate) size: usize,
     pub(crate) keeps_going: bool,
     /// Whether a long list in a document is cut into halves that are walked at once.
@@ -30,7 +30,7 @@ impl Pieces<'_> {
     /// The lines, cut into pieces of that size.
     pub(crate) fn new<'a>(
         plan: &'a Plan,
-        lines: &'a [Line],
+        lines: &'a [LineRef<'a>],
         size: usize,
         keeps_going: bool,
         splits: bool,

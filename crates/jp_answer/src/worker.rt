@@ -15,7 +15,7 @@ use std::thread::Threads;
 
 /// The answer to one piece.
 #[derive(Drop)]
-pub(crate) struct Part {
+pub(crate) struct PieceAnswer {
     pub(crate) piece: u64,
     pub(crate) answer: Outcome,
 }
@@ -25,7 +25,7 @@ pub(crate) struct Part {
 pub(crate) struct Worker {
     pub(crate) seat: Seat,
     /// The answers to the pieces that it has claimed and not left.
-    pub(crate) parts: Vec<Part>,
+    pub(crate) parts: Vec<PieceAnswer>,
     /// Whether a growth of memory was refused. From then on it has only claimed.
     pub(crate) wanted: bool,
 }
@@ -84,7 +84,7 @@ fn tend<R: Threads + Sync, G: Gate>(
     gate: &G,
     seat: &mut Seat,
     piece: u64,
-    parts: &mut Vec<Part>,
+    parts: &mut Vec<PieceAnswer>,
 ) -> Result<(), AllocError>
     requires seat { IsSeatOf board.now seat.old × Contains (view_of seat.old).claims piece }
     requires piece { piece * pieces.now.size < length pieces.now.lines.now }
@@ -117,7 +117,7 @@ fn take<R: Threads + Sync, G: Gate>(
     gate: &G,
     seat: &mut Seat,
     piece: u64,
-    parts: &mut Vec<Part>,
+    parts: &mut Vec<PieceAnswer>,
 ) -> Result<(), AllocError>
     requires seat { IsSeatOf board.now seat.old × Contains (view_of seat.old).claims piece }
     requires piece { piece * pieces.now.size < length pieces.now.lines.now }
@@ -133,7 +133,7 @@ fn take<R: Threads + Sync, G: Gate>(
     gate.pass(piece);
     let answer = pieces.answer(rt, alloc, reader, piece)?;
     let stopped = answer.stopped.is_some();
-    parts.push(Part { piece, answer })?;
+    parts.push(PieceAnswer { piece, answer })?;
     if stopped {
         board.report(seat, piece);
     }

@@ -2,6 +2,7 @@
 
 ghost use Rattle.std.specs.Prelude.{◌≡◌, ◌≤◌, ◌<◌, ℕ, length, map, All, IfOk, OnErr, IsErrOf, vec_len};
 ghost use Rattle.std.specs.Thread.{IsSync};
+ghost use Rattle.jp_buffer.specs.Buffered.{line_at};
 ghost use Rattle.jp_doc.specs.Lines.{line_of};
 ghost use Rattle.jp_check.specs.Plan.{planned_query};
 ghost use Rattle.jp_regexp.specs.Tests.{Tests, AreRight};
@@ -23,6 +24,7 @@ use crate::parts::{gather, join, passed, place};
 use crate::pieces::Pieces;
 use crate::worker::{Worker, work};
 use jp_board::{Board, BoardFault, Seat};
+use jp_buffer::{LineRef, refs_of};
 use jp_check::Plan;
 use jp_doc::Line;
 use jp_path::join_chunks;
@@ -56,7 +58,8 @@ pub fn answer<R: Threads + Sync, G: Gate + Sync>(
         answer_to t (planned_query plan.now) (map line_of lines.now) ≡ answer_of a) }
     ensures fault { OnErr result (IsErrOf result RunFault.Memory) }
 {
-    let answer = answer_in_chunks(rt, alloc, plan, lines, workers, piece, false, gate)?;
+    let lines = refs_of(alloc, lines)?;
+    let answer = answer_in_chunks(rt, alloc, plan, &lines, workers, piece, false, gate)?;
     Ok(Answer {
         bytes: join_chunks(alloc, answer.chunks)?,
         stopped: answer.stopped,
@@ -89,7 +92,8 @@ pub fn answer_all<R: Threads + Sync, G: Gate + Sync>(
         whole t (planned_query plan.now) (map line_of lines.now) ≡ whole_of w) }
     ensures fault { OnErr result (IsErrOf result RunFault.Memory) }
 {
-    let answer = answer_in_chunks(rt, alloc, plan, lines, workers, piece, true, gate)?;
+    let lines = refs_of(alloc, lines)?;
+    let answer = answer_in_chunks(rt, alloc, plan, &lines, workers, piece, true, gate)?;
     Ok(Whole {
         bytes: join_chunks(alloc, answer.chunks)?,
         faulty: answer.faulty,
@@ -110,7 +114,7 @@ pub fn answer_in_chunks<R: Threads + Sync, G: Gate + Sync>(
     rt: &R,
     alloc: Global,
     plan: &Plan,
-    lines: &[Line],
+    lines: &[LineRef<'_>],
     workers: u64,
     piece: u64,
     keeps_going: bool,
@@ -120,8 +124,8 @@ pub fn answer_in_chunks<R: Threads + Sync, G: Gate + Sync>(
     requires piece { AreDocuments piece }
     requires lines { length lines.now ≤ 4294967296 }
     ensures answer { IfOk result (λ a. (t : Tests) → AreRight t →
-        answer_in keeps_going t (planned_query plan.now) (map line_of lines.now) ≡ outcome_of a) }
-    ensures passed { IfOk result (λ a. passed_in keeps_going (map line_of lines.now) ≡ a.faulty) }
+        answer_in keeps_going t (planned_query plan.now) (map line_at lines.now) ≡ outcome_of a) }
+    ensures passed { IfOk result (λ a. passed_in keeps_going (map line_at lines.now) ≡ a.faulty) }
     ensures fault { OnErr result (IsErrOf result RunFault.Memory) }
 {
     let pieces = Pieces::new(plan, lines, piece as usize, keeps_going, workers > 1);
@@ -139,9 +143,9 @@ fn answer_pieces<R: Threads + Sync, G: Gate + Sync>(
     requires { AreWorkers workers }
     ensures answer { IfOk result (λ a. (t : Tests) → AreRight t →
         answer_in pieces.now.keeps_going t (planned_query pieces.now.plan.now)
-        (map line_of pieces.now.lines.now) ≡ outcome_of a) }
+        (map line_at pieces.now.lines.now) ≡ outcome_of a) }
     ensures passed { IfOk result (λ a. passed_in pieces.now.keeps_going
-        (map line_of pieces.now.lines.now) ≡ a.faulty) }
+        (map line_at pieces.now.lines.now) ≡ a.faulty) }
 {
     let placed = place_pieces(rt, alloc, pieces, workers, gate)?;
     let faulty = passed(&placed);

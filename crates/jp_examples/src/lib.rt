@@ -3,6 +3,7 @@
 
 mod answer;
 mod board;
+mod buffer;
 mod check;
 mod doc;
 mod eval;

@@ -1,12 +1,14 @@
 -- Items and members as lists.
-use Rattle.std.proofs.Common.{◌≡◌, ℕ, zero, suc, ◌+◌, ◌<◌, ◌≤◌, List, [], ◌∷◌, ◌++◌, map, drop, Option, Some, IfSome}
+use Rattle.std.proofs.Common.{◌≡◌, ℕ, zero, suc, ◌+◌, ◌<◌, ◌≤◌, List, [], ◌∷◌, ◌++◌, map, drop, Option}
+use Rattle.std.proofs.Common.{Some, IfSome}
 use Rattle.std.proofs.Common.{refl, ap, sym, ◌∙◌, subst, arith}
 use Rattle.std.specs.Str.{chars}
 use Rattle.serde_json.specs.View.{items_view}
 use Rattle.serde_json.specs.declared.value.Value.{Value}
 use Rattle.jp_doc.specs.Height.{height}
 use Rattle.jp_doc.specs.Json as json
-use Rattle.jp_doc.specs.Json.{Text, Json, array, object, value_of, items_of, items, item_list, no_items, add_item}
+use Rattle.jp_doc.specs.Json.{Text, Json, array, object, value_of, items_of, items, item_list}
+use Rattle.jp_doc.specs.Json.{no_items, add_item}
 use Rattle.jp_doc.specs.Json.{no_members, add_member}
 use Rattle.jp_flat.specs.Gathered.{entry, gathered}
 use Rattle.jp_flat.specs.Value.{flat_value}
@@ -52,7 +54,8 @@ pub drop_more : (xs left : List Json) (x : Json) (i : ℕ) → drop i xs ≡ x �
 drop_more [] left x zero h = absurd cc
 drop_more [] left x (suc i) h = absurd cc
 drop_more (y ∷ ys) left x zero h = ap (drop 1) h
-drop_more (y ∷ ys) left x (suc i) h = let e : suc i + 1 ≡ suc (i + 1) = omega arith in rw e (drop_more ys left x i h)
+drop_more (y ∷ ys) left x (suc i) h =
+    let e : suc i + 1 ≡ suc (i + 1) = omega arith in rw e (drop_more ys left x i h)
 
 pub drop_enough : (xs : List Json) (i n : ℕ) → drop i xs ≡ [] → i ≤ n → drop n xs ≡ []
 drop_enough [] i zero h le = refl

@@ -1,5 +1,6 @@
 -- What `get_one` reads is what is said of an option.
-use Rattle.std.proofs.Common.{◌≡◌, ◌∙◌, ℕ, ◌≤◌, ◌<◌, ◌^◌, Bool, true, false, List, Option, Some, None, IfSome, option_map}
+use Rattle.std.proofs.Common.{◌≡◌, ◌∙◌, ℕ, ◌≤◌, ◌<◌, ◌^◌, Bool, true, false, List, Option, Some, None}
+use Rattle.std.proofs.Common.{IfSome, option_map}
 use Rattle.std.proofs.Common.{Result, Ok, Err, refl, sym, ap, arith}
 use Rattle.std.specs.Prelude.{IsNone}
 use Rattle.std.specs.Str.Parse.{ParsesUnsigned, ParsesBool}

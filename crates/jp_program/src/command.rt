@@ -198,18 +198,24 @@ fn pass_on_after<K: Sink>(sink: &mut K, fault: &RunFault)
     }
 }
 
-/// Tells a fault in one line, and passes over a failure of that.
-pub fn tell<N: Sink>(alloc: Global, notes: &mut N, fault: &RunFault) {
+/// Tells a fault in one line, and passes over a failure of that. Notes that have failed before are left.
+pub fn tell<N: Sink>(alloc: Global, notes: &mut N, fault: &RunFault)
+    ensures untouched { N.failed notes.old ≡ true → notes.new ≡ notes.old }
+{
     note(notes, format!(in alloc; "jp: {fault}\n"));
 }
 
 /// Tells how many faulty lines were passed, in one line, and passes over a failure of that.
-fn tell_faulty<N: Sink>(alloc: Global, notes: &mut N, faulty: u64) {
+fn tell_faulty<N: Sink>(alloc: Global, notes: &mut N, faulty: u64)
+    ensures untouched { N.failed notes.old ≡ true → notes.new ≡ notes.old }
+{
     note(notes, format!(in alloc; "jp: faulty lines: {faulty}\n"));
 }
 
 /// Writes a line, or that memory was wanted for it, where the notes have not failed before.
-fn note<N: Sink>(notes: &mut N, line: Result<String, AllocError>) {
+fn note<N: Sink>(notes: &mut N, line: Result<String, AllocError>)
+    ensures untouched { N.failed notes.old ≡ true → notes.new ≡ notes.old }
+{
     if notes.failed() {
         return;
     }

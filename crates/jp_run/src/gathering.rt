@@ -1,17 +1,16 @@
 //! The lines of a source, as its bytes come in.
 
-ghost use Rattle.std.specs.Prelude.{◌≡◌, ◌<◌, ◌≤◌, ◌++◌, false, map, take, length, IfOk, OnOk, OnErr, IfErr};
+ghost use Rattle.std.specs.Prelude.{◌≡◌, ◌<◌, ◌≤◌, ◌++◌, false, take, length, IfOk, OnOk, OnErr, IfErr};
 ghost use Rattle.std.specs.Prelude.{IsErrOf};
 ghost use Rattle.std.specs.Io.KnownBytes.{Consumes, IsAtEnd};
 ghost use Rattle.jp_doc.specs.Feeding.{fed, fed_lines, finished, finished_lines};
-ghost use Rattle.jp_doc.specs.Lines.{line_of};
 ghost use Rattle.jp_run.specs.Counts.{counted};
 ghost use Rattle.jp_run.specs.Ended.{ReadEnded, LastEnded};
 ghost use Rattle.jp_run.specs.Limits.{max_lines};
 
 use crate::ends::Source;
 use jp_answer::RunFault;
-use jp_doc::{Line, Lines};
+use jp_buffer::LineBuffer;
 
 /// The greatest number of lines.
 const MAX_LINES: u64 = 4_294_967_295;
@@ -19,9 +18,7 @@ const MAX_LINES: u64 = 4_294_967_295;
 /// The lines that have come, and how far the input has.
 #[derive(Drop)]
 pub(crate) struct Pending {
-    pub(crate) progress: Lines,
-    /// The lines that aren't blank and are not answered yet.
-    pub(crate) lines: Vec<Line>,
+    pub(crate) buffer: LineBuffer,
     pub(crate) answered: Answered,
 }
 
@@ -44,19 +41,20 @@ pub(crate) fn read_lines<S: Source>(
     pending: &mut Pending,
 ) -> Result<usize, RunFault>
     requires working { S.failed source.old ≡ false }
-    requires few_lines { pending.old.progress.count ≤ max_lines }
+    requires few_lines { pending.old.buffer.progress.count ≤ max_lines }
     requires room { 0 < length chunk.old }
     ensures read { IfOk result (λ n. Consumes (S.remaining source.old) (S.remaining source.new)
         (take n chunk.new)) }
     ensures last { IfOk result (λ n. (n ≤ length chunk.new) × (S.last source.new ≡ n)) }
     ensures end { IfOk result (λ n. n ≡ 0 → IsAtEnd (S.remaining source.new)) }
     ensures working { OnOk result (S.failed source.new ≡ false) }
-    ensures progress { IfOk result (λ n. pending.new.progress ≡ fed pending.old.progress (take n chunk.new)) }
-    ensures lines { IfOk result (λ n. map line_of pending.new.lines.items
-        ≡ map line_of pending.old.lines.items ++ fed_lines pending.old.progress (take n chunk.new)) }
+    ensures progress { IfOk result (λ n. pending.new.buffer.progress
+        ≡ fed pending.old.buffer.progress (take n chunk.new)) }
+    ensures lines { IfOk result (λ n. pending.new.buffer.lines
+        ≡ pending.old.buffer.lines ++ fed_lines pending.old.buffer.progress (take n chunk.new)) }
     ensures answered { OnOk result (pending.new.answered ≡ pending.old.answered) }
-    ensures few_lines { OnOk result (pending.new.progress.count ≤ max_lines) }
-    ensures fault { IfErr result (ReadEnded pending.old.progress (S.failed source.new)
+    ensures few_lines { OnOk result (pending.new.buffer.progress.count ≤ max_lines) }
+    ensures fault { IfErr result (ReadEnded pending.old.buffer.progress (S.failed source.new)
         (S.remaining source.old) (S.remaining source.new)) }
     ensures reads { S.reads source.new ≡ counted (S.reads source.old) 1 }
 {
@@ -64,8 +62,8 @@ pub(crate) fn read_lines<S: Source>(
         return Err(RunFault::Read);
     };
     let (piece, _) = chunk.split_at(n);
-    pending.progress.feed(piece, &mut pending.lines)?;
-    within_limit(&pending.progress)?;
+    pending.buffer.feed(piece)?;
+    within_limit(&pending.buffer)?;
     Ok(n)
 }
 
@@ -73,26 +71,27 @@ pub(crate) fn read_lines<S: Source>(
 ///
 /// `Limit` if they are more than 4,294,967,295.
 pub(crate) fn take_last(pending: &mut Pending) -> Result<u64, RunFault>
-    requires few_lines { pending.old.progress.count ≤ max_lines }
-    ensures lines { OnOk result (map line_of pending.new.lines.items
-        ≡ map line_of pending.old.lines.items ++ finished_lines pending.old.progress) }
-    ensures count { IfOk result (λ count. count ≡ (finished pending.old.progress).count) }
+    requires few_lines { pending.old.buffer.progress.count ≤ max_lines }
+    ensures lines { OnOk result (pending.new.buffer.lines
+        ≡ pending.old.buffer.lines ++ finished_lines pending.old.buffer.progress) }
+    ensures count { IfOk result (λ count. count ≡ (finished pending.old.buffer.progress).count) }
     ensures few_lines { IfOk result (λ count. count ≤ max_lines) }
     ensures answered { OnOk result (pending.new.answered ≡ pending.old.answered) }
-    ensures fault { IfErr result (LastEnded (finished pending.old.progress).count) }
+    ensures fault { IfErr result (LastEnded (finished pending.old.buffer.progress).count) }
 {
-    pending.progress.finish(&mut pending.lines)?;
-    within_limit(&pending.progress)
+    pending.buffer.finish()?;
+    within_limit(&pending.buffer)
 }
 
 /// The number of lines that have ended.
 ///
 /// `Limit` if they are more than 4,294,967,295.
-fn within_limit(progress: &Lines) -> Result<u64, RunFault>
-    ensures ok { IfOk result (λ count. (count ≡ progress.now.count) × (progress.now.count ≤ max_lines)) }
-    ensures limit { OnErr result (IsErrOf result RunFault.Limit × (max_lines < progress.now.count)) }
+fn within_limit(buffer: &LineBuffer) -> Result<u64, RunFault>
+    ensures ok { IfOk result (λ count. (count ≡ buffer.now.progress.count)
+        × (buffer.now.progress.count ≤ max_lines)) }
+    ensures limit { OnErr result (IsErrOf result RunFault.Limit × (max_lines < buffer.now.progress.count)) }
 {
-    let count = progress.count();
+    let count = buffer.count();
     if count > MAX_LINES {
         return Err(RunFault::Limit);
     }

@@ -24,8 +24,8 @@ use crate::batches::{answer_batches, answer_rest};
 use crate::ends::{Sink, Source};
 use crate::gathering::{Answered, Pending, read_lines};
 use jp_answer::{Gate, RunFault, Settings};
+use jp_buffer::LineBuffer;
 use jp_check::{Plan, plan};
-use jp_doc::Lines;
 use jp_syntax::QueryFault;
 use std::alloc::Global;
 use std::thread::Threads;
@@ -61,9 +61,10 @@ impl Totals {
 /// selects.
 ///
 /// The query is read first. Then the source is read to its end, at most 65,536 bytes a call. As soon as
-/// `batch` documents have come they are answered by the workers and written, and the sink is flushed, before
-/// the next read; the rest is at the end. The run stops at the first faulty line, unless the settings are to
-/// keep going: then a faulty line gives its fault line, and the totals count it.
+/// `batch` documents have come they are answered by the workers, of whom there is one for each 65,536 bytes
+/// of their lines at most, and written, and the sink is flushed, before the next read; the rest is at the
+/// end. The run stops at the first faulty line, unless the settings are to keep going: then a faulty line
+/// gives its fault line, and the totals count it.
 /// Neither end has failed before, and the counts of the source are at most 2^62.
 ///
 /// What is flushed when: each batch's lines as soon as they are written, also those before a faulty line and
@@ -198,8 +199,7 @@ fn stream<R: Threads + Sync, S: Source, K: Sink, G: Gate + Sync>(
     let mut buffer = vec![in alloc; 0u8; READ_SIZE]?;
     let chunk = buffer.as_mut_slice();
     let mut pending = Pending {
-        progress: Lines::new(alloc),
-        lines: Vec::new(alloc),
+        buffer: LineBuffer::new(alloc),
         answered: Answered {
             lines: 0,
             faulty: 0,

@@ -5,12 +5,15 @@ use crate::gates::{Entered, Pair};
 use crate::thousand::{items_of_thousand, thousand};
 use jp_doc::DocFault;
 use jp_run::{FromReader, OpenGate, RunFault, Settings, Source, Totals, run};
-use std::alloc::Global;
+use std::alloc::{AllocError, Global};
 use std::test::Fail;
 use std::thread::Threads;
 
 /// More bytes than any of these runs writes.
 const ROOM: usize = 1_000_000;
+
+/// More bytes than a worker is started for.
+const WORTH_A_WORKER: usize = 70_000;
 
 /// Two documents, with a blank line between them.
 const TWO: &[u8] = b"{\"a\":1}\n\n{\"a\":null}\n";
@@ -111,13 +114,26 @@ fn no_read_follows_the_faulty_batch(rt: HostRuntime) {
     }
 }
 
+/// A document on a line that is long enough for a worker of its own.
+fn push_long(document: &str, out: &mut String) -> Result<(), AllocError> {
+    out.push_str(document)?;
+    for _blank in 0..WORTH_A_WORKER {
+        out.push(' ')?;
+    }
+    out.push('\n')?;
+    Ok(())
+}
+
 /// Two documents are two pieces, however large a piece may be.
 #[test]
 fn two_workers_at_once_in_a_batch(rt: HostRuntime) -> Result<(), Fail> {
+    let mut text = String::new(rt.alloc());
+    push_long("[]", &mut text)?;
+    push_long("{}", &mut text)?;
     for piece in [1u64, 64] {
         let settings = Settings::new(2, piece, 2)?;
         let gate = Pair(Entered::new());
-        let mut source = FromReader::new(b"[]\n{}\n".as_slice());
+        let mut source = FromReader::new(text.as_bytes());
         let mut sink = Holds::new(Vec::new(rt.alloc()), ROOM, ROOM);
         let end = run(
             &rt,

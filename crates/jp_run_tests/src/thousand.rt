@@ -2,6 +2,10 @@
 
 use std::alloc::{AllocError, Global};
 
+/// What stands behind each line: with it the lines are worth several workers.
+const BLANKS: &str =
+    "                                                                                          ";
+
 /// Line n of a thousand is an array of n mod 11 items, each the number n.
 pub(crate) fn thousand(alloc: Global) -> Result<String, AllocError> {
     let mut text = String::new(alloc);
@@ -14,7 +18,11 @@ pub(crate) fn thousand(alloc: Global) -> Result<String, AllocError> {
             }
             text.push_str(&number)?;
         }
-        text.push_str("]\n")?;
+        text.push(']')?;
+        for _time in 0..4 {
+            text.push_str(BLANKS)?;
+        }
+        text.push('\n')?;
     }
     Ok(text)
 }

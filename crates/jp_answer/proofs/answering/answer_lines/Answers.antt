@@ -15,19 +15,18 @@ loop-line-preserved-in_default g c =
     let none = sym c.in_ok-more.ensures.fault ∙ c.in_default.is in
     record {
       query = c.in_ok-more.ensures.query ∙ kept.query;
-      answer = λ t right. answer_more k lines c.loop-line.line-index c.line-item.result c.loop-line-test.true
-          c.line-item.is t (planned_query c.args.plan.now) (evaluated_query c.loop-line.evaluator)
-          c.loop-line.written.1 c.in_ok-more.more.1 kept.query (kept.answer t right)
+      answer = λ t right. answer_more k lines c.loop-line.line-index c.loop-line-test.true t
+          (planned_query c.args.plan.now) (evaluated_query c.loop-line.evaluator) c.loop-line.written.1
+          c.in_ok-more.more.1 kept.query (kept.answer t right)
           (c.in_ok-more.ensures.lines t right) (inr none);
-      stopped = stop_more k lines c.loop-line.line-index c.line-item.result c.loop-line-test.true
-          c.line-item.is kept.stopped (inr none);
-      passed = passed_more k lines c.loop-line.line-index c.line-item.result c.loop-line-test.true
-          c.line-item.is c.loop-line.faulty kept.passed none;
+      stopped = stop_more k lines c.loop-line.line-index c.loop-line-test.true kept.stopped (inr none);
+      passed = passed_more k lines c.loop-line.line-index c.loop-line-test.true c.loop-line.faulty kept.passed
+          none;
     }
 
 pub returns-then-not-keeps_going-clause-answer : goal.returns-then-not-keeps_going-clause-answer
 returns-then-not-keeps_going-clause-answer g c = λ t right. answer_last c.args.keeps_going c.args.lines.now
-    c.loop-line.line-index c.line-item.result c.loop-line-test.true c.line-item.is t
+    c.loop-line.line-index c.loop-line-test.true t
     (planned_query c.args.plan.now) (evaluated_query c.loop-line.evaluator) c.loop-line.written.1
     (bytes_in c.in_ok-into_chunks.field-0.items) c.in-Some.fault c.loop-line.invariant.query
     (c.loop-line.invariant.answer t right)
@@ -36,16 +35,16 @@ returns-then-not-keeps_going-clause-answer g c = λ t right. answer_last c.args.
 
 pub returns-then-not-keeps_going-clause-stopped : goal.returns-then-not-keeps_going-clause-stopped
 returns-then-not-keeps_going-clause-stopped g c = stop_last c.args.keeps_going c.args.lines.now
-    c.loop-line.line-index c.line-item.result c.loop-line-test.true c.line-item.is c.in-Some.fault
+    c.loop-line.line-index c.loop-line-test.true c.in-Some.fault
     c.loop-line.invariant.stopped c.if-not-keeps_going.true (sym c.in_ok-more.ensures.fault ∙ c.in-Some.is)
 
 pub overflow_add-faulty : goal.overflow_add-faulty
 overflow_add-faulty g c = omega (
   arith,
-  passed_fits c.args.keeps_going c.args.lines.now c.loop-line.line-index c.line-item.result
-      c.loop-line-test.true c.line-item.is c.loop-line.faulty
-      (passed_one c.args.keeps_going c.args.lines.now c.loop-line.line-index c.line-item.result
-      c.loop-line-test.true c.line-item.is c.loop-line.faulty c.in-Some.fault c.loop-line.invariant.passed
+  passed_fits c.args.keeps_going c.args.lines.now c.loop-line.line-index
+      c.loop-line-test.true c.loop-line.faulty
+      (passed_one c.args.keeps_going c.args.lines.now c.loop-line.line-index
+      c.loop-line-test.true c.loop-line.faulty c.in-Some.fault c.loop-line.invariant.passed
       c.if-not-keeps_going.false (sym c.in_ok-more.ensures.fault ∙ c.in-Some.is)),
   c.requires,
 )
@@ -58,14 +57,14 @@ loop-line-preserved g c =
     let found = sym c.in_ok-more.ensures.fault ∙ c.in-Some.is in
     record {
       query = c.in_ok-more.ensures.query ∙ kept.query;
-      answer = λ t right. answer_more k lines c.loop-line.line-index c.line-item.result c.loop-line-test.true
-          c.line-item.is t (planned_query c.args.plan.now) (evaluated_query c.loop-line.evaluator)
-          c.loop-line.written.1 c.in_ok-more.more.1 kept.query (kept.answer t right)
+      answer = λ t right. answer_more k lines c.loop-line.line-index c.loop-line-test.true t
+          (planned_query c.args.plan.now) (evaluated_query c.loop-line.evaluator) c.loop-line.written.1
+          c.in_ok-more.more.1 kept.query (kept.answer t right)
           (c.in_ok-more.ensures.lines t right) (inl c.if-not-keeps_going.false);
-      stopped = stop_more k lines c.loop-line.line-index c.line-item.result c.loop-line-test.true
-          c.line-item.is kept.stopped (inl c.if-not-keeps_going.false);
-      passed = passed_one k lines c.loop-line.line-index c.line-item.result c.loop-line-test.true
-          c.line-item.is c.loop-line.faulty c.in-Some.fault kept.passed c.if-not-keeps_going.false found;
+      stopped = stop_more k lines c.loop-line.line-index c.loop-line-test.true kept.stopped
+          (inl c.if-not-keeps_going.false);
+      passed = passed_one k lines c.loop-line.line-index c.loop-line-test.true c.loop-line.faulty
+          c.in-Some.fault kept.passed c.if-not-keeps_going.false found;
     }
 
 pub returns-clause-answer : goal.returns-clause-answer

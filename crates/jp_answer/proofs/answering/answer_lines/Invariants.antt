@@ -1,5 +1,5 @@
 use Rattle.std.proofs.Common.{◌≡◌, ◌+◌, drop, map}
-use Rattle.jp_doc.specs.Lines.{line_of}
+use Rattle.jp_buffer.specs.Buffered.{line_at}
 use Rattle.jp_check.specs.Plan.{planned_query}
 use Rattle.jp_eval.specs.Evaluated.{evaluated_query}
 use Rattle.jp_regexp.specs.Tests.{Tests, AreRight}
@@ -10,11 +10,11 @@ use Rattle.jp_answer.proofs.answering.answer_lines.Given as goal
 abbrev pub invariant-loop-line : goal.invariant-loop-line
 invariant-loop-line g l = record {
   query : evaluated_query l.evaluator ≡ planned_query l.plan;
-  answer : (t : Tests) → AreRight t → answer_in l.keeps_going t (planned_query l.plan) (map line_of l.lines)
+  answer : (t : Tests) → AreRight t → answer_in l.keeps_going t (planned_query l.plan) (map line_at l.lines)
       ≡ after l.written.1 (answer_in l.keeps_going t (planned_query l.plan)
-      (map line_of (drop l.line-index l.lines)));
-  stopped : stop_in l.keeps_going (map line_of l.lines)
-      ≡ stop_in l.keeps_going (map line_of (drop l.line-index l.lines));
-  passed : passed_in l.keeps_going (map line_of l.lines)
-      ≡ l.faulty + passed_in l.keeps_going (map line_of (drop l.line-index l.lines));
+      (map line_at (drop l.line-index l.lines)));
+  stopped : stop_in l.keeps_going (map line_at l.lines)
+      ≡ stop_in l.keeps_going (map line_at (drop l.line-index l.lines));
+  passed : passed_in l.keeps_going (map line_at l.lines)
+      ≡ l.faulty + passed_in l.keeps_going (map line_at (drop l.line-index l.lines));
 }

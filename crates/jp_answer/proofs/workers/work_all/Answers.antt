@@ -15,7 +15,7 @@ pub map_vec-requires-sync-F : goal.map_vec-requires-sync-F
 map_vec-requires-sync-F g c = λ κs outlives.
     let names = lts.name-12 g.row.R g.row.G g.R.laws g.G.laws g.R.Threads-dict g.G.Gate-dict in
     let lent : NamedLft = record { mir = named 10; lft = κs.1.1.1.1.1.1.1.1.1.1.0 } in
-    let rows = lts.of-4 g.row.R g.row.G g.R.laws g.G.laws g.R.Threads-dict g.G.Gate-dict
+    let rows = lts.of-2 g.row.R g.row.G g.R.laws g.G.laws g.R.Threads-dict g.G.Gate-dict
     (record { mir = named 7; lft = κs.1.1.1.1.1.1.1.0 })
     (record { mir = named 8; lft = κs.1.1.1.1.1.1.1.1.0 })
     (record { mir = named 9; lft = κs.1.1.1.1.1.1.1.1.1.0 }) lent

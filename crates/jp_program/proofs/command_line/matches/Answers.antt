@@ -1,7 +1,8 @@
 use Rattle.std.proofs.Common.{refl, true, ◌≡◌, ◌∙◌, ap, map, subst, List}
 use Rattle.std.specs.Prelude.{Result, IfOk}
 use Rattle.std.proofs.lemmas.Result.{IfOk-weaker}
-use Rattle.clap.specs.Words.{App, Text, app_of, found_of, rows_of, is_simple, matches_of, fault_of, is_simple_and_free, FailsBy, HasMatchesOf}
+use Rattle.clap.specs.Words.{App, Text, app_of, found_of, rows_of, is_simple, matches_of, fault_of}
+use Rattle.clap.specs.Words.{is_simple_and_free, FailsBy, HasMatchesOf}
 use Rattle.clap.specs.declared.parser.matches.ArgMatches.{ArgMatches}
 use Rattle.clap.specs.declared.error.Error.{Error}
 use Rattle.clap.proofs.OnLiterals.{clap_on_literals}

@@ -1,6 +1,6 @@
 use Rattle.std.proofs.Common.{arith, map}
 use Rattle.std.proofs.lemmas.List.{length-map}
-use Rattle.jp_doc.specs.Lines.{line_of}
+use Rattle.jp_buffer.specs.Buffered.{line_at}
 use Rattle.jp_answer.specs.Answered.{outcome_of}
 use Rattle.jp_answer.proofs.Forms.{passed_few}
 use Rattle.jp_run.proofs.Handing.{told, handing_done, ended_handing}
@@ -19,6 +19,6 @@ pub returns-clause-few_faulty : goal.returns-clause-few_faulty
 returns-clause-few_faulty g c = omega (
   arith,
   c.in_ok-answer.ensures.passed,
-  passed_few c.args.settings.keeps_going (map line_of c.args.lines.now),
-  length-map c.args.lines.now line_of,
+  passed_few c.args.settings.keeps_going (map line_at c.args.lines.now),
+  length-map c.args.lines.now line_at,
 )

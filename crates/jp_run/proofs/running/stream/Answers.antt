@@ -1,6 +1,5 @@
 use Rattle.std.proofs.Common.{arith, refl, inl, map, ◌∙◌, ap}
 use Rattle.std.proofs.lemmas.List.{length-map}
-use Rattle.jp_doc.specs.Lines.{line_of}
 use Rattle.jp_run.specs.Limits.{max_lines}
 use Rattle.jp_run.proofs.Handing.{told, told_so, at_ok, also_ok, is_flushed}
 use Rattle.jp_run.proofs.Streaming.{stands_start, grown, grown_few, stands_then, stands_few, read_ended}
@@ -19,9 +18,9 @@ loop-turn-init g c = record {
   source_working = c.requires.working.0;
   sink_working = c.requires.working.1;
   flushed = λ e. e;
-  stands = stands_start _ _ _ c.args.settings.in_range.2.0 _ _ _ _ _ c.new.ensures
-      (ap (map line_of) c.new-2.ensures.items) refl;
-  few_lines = omega (arith, ap (λ p. p.count) c.new.ensures);
+  stands = stands_start _ _ _ c.args.settings.in_range.2.0 _ _ _ _ _
+      (ap (λ b. b.progress) c.new.ensures) (ap (λ b. b.lines) c.new.ensures) refl;
+  few_lines = omega (arith, ap (λ b. b.progress.count) c.new.ensures);
   reads = omega arith;
 }
 
@@ -38,8 +37,6 @@ answer_batches-requires-clause-few g c = λ κs outlives. omega (
       c.loop-turn.invariant.stands c.in_ok-n.ensures.read c.in_ok-n.ensures.last
       c.in_ok-n.ensures.progress c.in_ok-n.ensures.lines c.in_ok-n.ensures.answered)
       c.in_ok-n.ensures.few_lines,
-  length-map c.read_lines.new.pending.lines.items line_of,
-  c.read_lines.new.pending.lines.ok.0,
 )
 
 pub returns-in_err-answer_batches-clause-fault : goal.returns-in_err-answer_batches-clause-fault
@@ -61,8 +58,6 @@ answer_rest-requires-clause-few g c = λ κs outlives. omega (
       c.in_ok-answer_batches.ensures.answered c.in_ok-answer_batches.ensures.passed
       c.in_ok-answer_batches.ensures.progress)
       (omega (arith, ap (λ p. p.count) c.in_ok-answer_batches.ensures.progress, c.in_ok-n.ensures.few_lines)),
-  length-map c.answer_batches.new.pending.lines.items line_of,
-  c.answer_batches.new.pending.lines.ok.0,
 )
 
 pub returns-then-n-eq0-clause-handed : goal.returns-then-n-eq0-clause-handed

@@ -1,5 +1,4 @@
-use Rattle.std.proofs.Common.{◌≡◌, ◌+◌, ◌≤◌, false, true, map}
-use Rattle.jp_doc.specs.Lines.{line_of}
+use Rattle.std.proofs.Common.{◌≡◌, ◌+◌, ◌≤◌, false, true}
 use Rattle.jp_check.specs.Plan.{planned_query}
 use Rattle.jp_run.specs.Limits.{max_lines}
 use Rattle.jp_run.proofs.Streaming.{Stands}
@@ -13,7 +12,7 @@ invariant-loop-turn g l = record {
   stands : Stands l.settings.keeps_going (planned_query l.plan) l.settings.batch
       (g.S.Source.remaining l.fn.source)
       (g.S.Source.remaining l.source) (g.K.Sink.contents l.fn.sink) (g.K.Sink.contents l.sink)
-      l.pending.progress (map line_of l.pending.lines.items) l.pending.answered;
-  few_lines : l.pending.progress.count ≤ max_lines;
+      l.pending.buffer.progress l.pending.buffer.lines l.pending.answered;
+  few_lines : l.pending.buffer.progress.count ≤ max_lines;
   reads : g.S.Source.reads l.source ≡ g.S.Source.reads l.fn.source + l._turn;
 }

@@ -43,6 +43,7 @@ loop-name-preserved c =
 pub returns : goal.returns
 returns c =
     sym c.loop-name.invariant.0
-    ∙ ap (λ (l : List Entry). and_members (map tree_entry c.loop-name.list.items) (members_of (members_view l)))
+    ∙ ap (λ (l : List Entry). and_members (map tree_entry c.loop-name.list.items)
+    (members_of (members_view l)))
     c.in-None.ensures.steps.0
     ∙ and_none (map tree_entry c.loop-name.list.items)
