@@ -20,12 +20,21 @@ use Rattle.jp_regexp.proofs.parts.Part.TheLaws.TheKnot.{crosses as pattern_cross
 use Rattle.jp_tree.proofs.tree.Argument.TheLaws.TheKnot.{crosses as tree_crosses}
 
 pub known_sync : IsSync Known.the_row
-known_sync = search (tables.the_field_sync, sets.the_field_sync, crosses, pattern_crosses, sendable)
-    depth 60 fits 20000
+known_sync = search (
+  tables.the_field_sync,
+  tables.the_field_send,
+  sets.the_field_sync,
+  sets.the_field_send,
+  crosses,
+  pattern_crosses,
+  sendable,
+) depth 60 fits 20000
 
 pub ready_field : IsSync (Ready.the_field).row
 ready_field = search (
   tables.the_field_sync,
+  tables.the_field_send,
+  sets.the_field_send,
   sets.the_field_sync,
   constants.the_field_sync,
   positions.the_field_sync,

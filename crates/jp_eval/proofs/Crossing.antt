@@ -44,6 +44,8 @@ use Rattle.jp_nodes.specs.contracts.answers.Answer as Answer
 pub segment_sync : IsSync Segment.the_row
 segment_sync = search (
   tables.the_field_sync,
+  tables.the_field_send,
+  sets.the_field_send,
   sets.the_field_sync,
   constants.the_field_sync,
   positions.the_field_sync,
@@ -58,6 +60,8 @@ segment_sync = search (
 pub selector_sync : IsSync Selector.the_row
 selector_sync = search (
   tables.the_field_sync,
+  tables.the_field_send,
+  sets.the_field_send,
   sets.the_field_sync,
   constants.the_field_sync,
   positions.the_field_sync,
@@ -72,6 +76,8 @@ selector_sync = search (
 pub logical_sync : IsSync Logical.the_row
 logical_sync = search (
   tables.the_field_sync,
+  tables.the_field_send,
+  sets.the_field_send,
   sets.the_field_sync,
   constants.the_field_sync,
   positions.the_field_sync,
@@ -86,6 +92,8 @@ logical_sync = search (
 pub root_sync : IsSync RootQuery.the_row
 root_sync = search (
   tables.the_field_sync,
+  tables.the_field_send,
+  sets.the_field_send,
   sets.the_field_sync,
   constants.the_field_sync,
   positions.the_field_sync,

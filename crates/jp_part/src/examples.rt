@@ -16,8 +16,7 @@ fn members_of_a_list()
 
 fn what_is_inside()
     ensures items { items_inside (array (add_item null no_items)) ≡ add_item null no_items }
-    ensures no_items_of_an_object {
-        items_inside (object (add_member (codes "a") null no_members)) ≡ no_items }
+    ensures none_of_an_object { items_inside (object (add_member (codes "a") null no_members)) ≡ no_items }
     ensures no_items_of_a_text { items_inside (text (codes "[1]")) ≡ no_items }
     ensures members { members_inside (object (add_member (codes "a") null no_members))
         ≡ add_member (codes "a") null no_members }

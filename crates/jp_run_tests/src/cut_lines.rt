@@ -15,9 +15,24 @@ const WORKERS: [u64; 3] = [1, 2, 64];
 
 /// Inputs, the answers of `$..a` to them, and how many lines and documents they have.
 const ROWS: [(&[u8], &[u8], u64, u64); 5] = [
-    (b"{\"a\":1}\n[{\"a\":2}]\n", b"1\t$['a']\t1\n2\t$[0]['a']\t2\n", 2, 2),
-    (b"{\"a\":1}\r\n\r\n{\"a\":2}\r\n", b"1\t$['a']\t1\n3\t$['a']\t2\n", 3, 2),
-    (b"{\"a\":1}\n{\"a\":2}", b"1\t$['a']\t1\n2\t$['a']\t2\n", 2, 2),
+    (
+        b"{\"a\":1}\n[{\"a\":2}]\n",
+        b"1\t$['a']\t1\n2\t$[0]['a']\t2\n",
+        2,
+        2,
+    ),
+    (
+        b"{\"a\":1}\r\n\r\n{\"a\":2}\r\n",
+        b"1\t$['a']\t1\n3\t$['a']\t2\n",
+        3,
+        2,
+    ),
+    (
+        b"{\"a\":1}\n{\"a\":2}",
+        b"1\t$['a']\t1\n2\t$['a']\t2\n",
+        2,
+        2,
+    ),
     (b"\n \t\r\n\n\n", b"", 4, 0),
     (b"", b"", 0, 0),
 ];
@@ -39,7 +54,12 @@ fn run_of<R: Threads + Sync, S: Source>(
 }
 
 /// Whether the run ended so.
-fn is_row(end: &Result<(Totals, Vec<u8>), RunFault>, answer: &[u8], lines: u64, documents: u64) -> bool {
+fn is_row(
+    end: &Result<(Totals, Vec<u8>), RunFault>,
+    answer: &[u8],
+    lines: u64,
+    documents: u64,
+) -> bool {
     match end {
         Ok((totals, bytes)) => {
             bytes.as_slice() == answer && totals.lines == lines && totals.documents == documents

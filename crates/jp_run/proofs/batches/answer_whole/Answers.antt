@@ -37,8 +37,13 @@ loop-done-preserved g c = record {
   flushed = λ e. c.in_ok-faulty.ensures.flushed;
   within = omega (arith, c.loop-done.invariant.within, c.loop-done-test.true);
   partly = partly_more _ _ _ _ _ _ _ _ _ _ c.loop-done.invariant.partly
-      (omega (arith, c.loop-done.invariant.within, c.loop-done-test.true,
-      length-map c.args.lines.now line_at, length-drop c.loop-done.done (map line_at c.args.lines.now)))
+      (omega (
+        arith,
+        c.loop-done.invariant.within,
+        c.loop-done-test.true,
+        length-map c.args.lines.now line_at,
+        length-drop c.loop-done.done (map line_at c.args.lines.now),
+      ))
       (front_is c.args.settings.batch c.loop-done.done c.args.lines.now _ c.batch_at-front.ensures)
       (sym (drop-drop c.args.settings.batch c.loop-done.done (map line_at c.args.lines.now)))
       c.in_ok-faulty.ensures.handed;
@@ -65,33 +70,55 @@ overflow_add-faulty g c = omega (
 pub returns-clause-passed : goal.returns-clause-passed
 returns-clause-passed g c = partly_passed _ _ _ _ _ _ _ c.loop-done.invariant.partly
     c.args.settings.in_range.2.0
-    (omega (arith, c.loop-done.invariant.within, c.loop-done-test.false,
-    length-map c.args.lines.now line_at, length-drop c.loop-done.done (map line_at c.args.lines.now))) _
+    (omega (
+      arith,
+      c.loop-done.invariant.within,
+      c.loop-done-test.false,
+      length-map c.args.lines.now line_at,
+      length-drop c.loop-done.done (map line_at c.args.lines.now),
+    )) _
     c.loop-done.invariant.passed
 
 pub returns-clause-few : goal.returns-clause-few
 returns-clause-few g c = omega (
   arith,
   partly_few _ _ _ _ _ _ _ c.loop-done.invariant.partly c.args.settings.in_range.2.0
-      (omega (arith, c.loop-done.invariant.within, c.loop-done-test.false,
-      length-map c.args.lines.now line_at, length-drop c.loop-done.done (map line_at c.args.lines.now)))
+      (omega (
+        arith,
+        c.loop-done.invariant.within,
+        c.loop-done-test.false,
+        length-map c.args.lines.now line_at,
+        length-drop c.loop-done.done (map line_at c.args.lines.now),
+      ))
       _ c.loop-done.invariant.passed,
   c.loop-done.invariant.within,
-  length-map c.args.lines.now line_at, length-drop c.loop-done.done (map line_at c.args.lines.now),
+  length-map c.args.lines.now line_at,
+  length-drop c.loop-done.done (map line_at c.args.lines.now),
 )
 
 pub returns-clause-count : goal.returns-clause-count
 returns-clause-count g c = omega (
   arith,
   partly_count _ _ _ _ _ _ _ c.loop-done.invariant.partly c.args.settings.in_range.2.0
-      (omega (arith, c.loop-done.invariant.within, c.loop-done-test.false,
-      length-map c.args.lines.now line_at, length-drop c.loop-done.done (map line_at c.args.lines.now))),
+      (omega (
+        arith,
+        c.loop-done.invariant.within,
+        c.loop-done-test.false,
+        length-map c.args.lines.now line_at,
+        length-drop c.loop-done.done (map line_at c.args.lines.now),
+      )),
   c.loop-done.invariant.within,
-  length-map c.args.lines.now line_at, length-drop c.loop-done.done (map line_at c.args.lines.now),
+  length-map c.args.lines.now line_at,
+  length-drop c.loop-done.done (map line_at c.args.lines.now),
 )
 
 pub returns-clause-handed : goal.returns-clause-handed
 returns-clause-handed g c = partly_handed _ _ _ _ _ _ _ c.loop-done.invariant.partly
     c.args.settings.in_range.2.0
-    (omega (arith, c.loop-done.invariant.within, c.loop-done-test.false,
-    length-map c.args.lines.now line_at, length-drop c.loop-done.done (map line_at c.args.lines.now)))
+    (omega (
+      arith,
+      c.loop-done.invariant.within,
+      c.loop-done-test.false,
+      length-map c.args.lines.now line_at,
+      length-drop c.loop-done.done (map line_at c.args.lines.now),
+    ))
