@@ -91,9 +91,9 @@ impl Both {
 }
 
 /// Whether both ways give the same lines of pieces that are drawn, where some lines are taken away each time.
-fn go_alike(alloc: Global, seed: u64) -> Result<bool, AllocError> {
+fn go_alike(alloc: Global, start: u64) -> Result<bool, AllocError> {
     let mut both = Both::new(alloc);
-    let mut state = drawn(seed);
+    let mut state = drawn(start);
     for _ in 0..40 {
         let (piece, next) = drawn_piece(alloc, state, state >> 59)?;
         state = drawn(next);
@@ -110,8 +110,8 @@ fn go_alike(alloc: Global, seed: u64) -> Result<bool, AllocError> {
 
 #[test]
 fn generated_pieces(rt: HostRuntime) -> Result<(), Fail> {
-    for seed in 0..200 {
-        assert!(rt; go_alike(rt.alloc(), seed)?, "seed {seed}");
+    for start in 0..200 {
+        assert!(rt; go_alike(rt.alloc(), start)?, "start {start}");
     }
     Ok(())
 }
