@@ -5,16 +5,18 @@ ghost use Rattle.jp_doc.specs.Feeding.{fed, fed_lines, finished, finished_lines}
 ghost use Rattle.jp_buffer.specs.Buffered.{line_at, nothing_buffered};
 ghost use Rattle.jp_buffer.specs.Waiting.{Begins};
 
-use crate::cutting::{first_line, push_lines};
+use crate::cutting::push_lines;
 use crate::line_ref::LineRef;
-use crate::waiting::Waiting;
+use crate::waiting::{LONG_LINE, Waiting};
+use jp_doc::first_line;
 use std::alloc::{AllocError, Global};
 use std::marker::Model;
 
 /// The lines of a stream that wait for their answer, and the line that is not ended yet.
 ///
 /// A line takes no allocation of its own: its bytes go behind those of the lines before it, into memory that
-/// is used again once lines are taken away. Blank lines are counted, and take no memory.
+/// is used again once lines are taken away; after lines of over 1,000,000 bytes it is let go. Blank lines are
+/// counted, and take no memory.
 #[derive(Drop)]
 pub struct LineBuffer {
     waiting: Waiting,
@@ -100,6 +102,7 @@ impl LineBuffer {
         let number = self.count + 1;
         self.waiting.push(number, &self.open_line, &[])?;
         self.open_line.clear();
+        self.open_line.shrink_to(LONG_LINE);
         self.count = number;
         Ok(())
     }
@@ -111,7 +114,7 @@ impl LineBuffer {
         self.waiting.lines(alloc)
     }
 
-    /// Takes so many lines away from the front. Their memory is used again.
+    /// Takes so many lines away from the front. Their memory is used again, but for that of long lines.
     pub fn take_away(&mut self, count: usize)
         requires { count ≤ length self.old.lines }
         ensures lines { self.new.lines ≡ drop count self.old.lines }
@@ -142,13 +145,14 @@ impl LineBuffer {
     }
 }
 
-/// Puts bytes in the place of those of a vector. `AllocError` if a growth was refused: then they are the
-/// bytes that they were.
+/// Puts bytes in the place of those of a vector, whose memory is let go where they were many. `AllocError` if
+/// a growth was refused: then they are the bytes that they were.
 fn put_instead(place: &mut Vec<u8>, bytes: &[u8]) -> Result<(), AllocError>
     ensures ok { OnOk result (place.new.items ≡ bytes.now) }
     ensures same { OnErr result (place.new.items ≡ place.old.items) }
 {
     place.reserve(bytes.len())?;
     place.clear();
+    place.shrink_to(bytes.len().max(LONG_LINE));
     place.extend_from_slice(bytes)
 }

@@ -1,36 +1,12 @@
-//! Where bytes are cut into lines.
+//! Bytes that are cut into lines, behind those that wait.
 
-ghost use Rattle.std.specs.Prelude.{◌≡◌, ◌+◌, ◌≤◌, ◌∷◌, ◌++◌, false, length, IfSome, IfNone, IfOk, OnOk};
-ghost use Rattle.std.specs.Prelude.{OnErr};
-ghost use Rattle.jp_doc.specs.Feeding.{cut, has_line_feed, numbered};
-ghost use Rattle.jp_doc.specs.Lines.{is_blank};
+ghost use Rattle.std.specs.Prelude.{◌≡◌, ◌+◌, ◌≤◌, ◌++◌, length, IfOk, OnOk, OnErr};
+ghost use Rattle.jp_doc.specs.Feeding.{cut, numbered};
 ghost use Rattle.jp_buffer.specs.Waiting.{Begins};
 
 use crate::waiting::Waiting;
-use memchr::memchr;
+use jp_doc::first_line;
 use std::alloc::AllocError;
-
-/// Whether a line holds nothing but white space.
-pub(crate) fn is_blank_line(line: &[u8]) -> bool
-    ensures { result ≡ is_blank line.now }
-{
-    line.iter()
-        .all(|byte| *byte == b' ' || *byte == b'\t' || *byte == b'\r')
-}
-
-/// What stands before the first line feed, and what stands after it.
-pub(crate) fn first_line(bytes: &[u8]) -> Option<(&[u8], &[u8])>
-    ensures some { IfSome result (λ parts. (bytes.now ≡ parts.0.now ++ 10 ∷ parts.1.now)
-        × (has_line_feed parts.0.now ≡ false)) }
-    ensures none { IfNone result (has_line_feed bytes.now ≡ false) }
-{
-    let Some(at) = memchr(b'\n', bytes) else {
-        return None;
-    };
-    let (line, rest) = bytes.split_at(at);
-    let (_, after) = rest.split_at(1);
-    Some((line, after))
-}
 
 /// Adds the lines that end in the bytes, numbered on from `before`. Gives how many lines have ended then,
 /// and the bytes of the next. An `Err` may leave more behind the lines that wait.

@@ -6,10 +6,13 @@ ghost use Rattle.jp_doc.specs.Feeding.{numbered};
 ghost use Rattle.jp_buffer.specs.Buffered.{line_at};
 ghost use Rattle.jp_buffer.specs.Waiting.{Begins, bytes_of};
 
-use crate::cutting::is_blank_line;
 use crate::line_ref::LineRef;
+use jp_doc::is_blank_line;
 use std::alloc::{AllocError, Global};
 use std::marker::Model;
+
+/// The bytes of a line behind which memory is let go: 1 MB.
+pub(crate) const LONG_LINE: usize = 1_000_000;
 
 /// A line of the buffer, which begins where the one before it ends.
 #[derive(Clone, Copy)]
@@ -109,7 +112,7 @@ impl Waiting {
         self.spans.truncate(count);
     }
 
-    /// Takes so many lines away from the front.
+    /// Takes so many lines away from the front, and lets their memory go where they are long.
     pub(crate) fn take_away(&mut self, count: usize)
         requires { count ≤ length self.old }
         ensures { self.new ≡ drop count self.old }
@@ -118,6 +121,7 @@ impl Waiting {
         let end = total_len(taken);
         take_front(&mut self.bytes, end);
         take_front(&mut self.spans, count);
+        let_go(&mut self.bytes, end, count);
     }
 }
 
@@ -165,4 +169,13 @@ fn take_front<T: Copy>(items: &mut Vec<T>, count: usize)
     let left = items.len() - count;
     items.copy_within(count.., 0);
     items.truncate(left);
+}
+
+/// Lets the spare memory of the bytes go, but for 1 MB, where the lines that were taken away are long.
+fn let_go(bytes: &mut Vec<u8>, taken: usize, count: usize)
+    ensures { bytes.new.items ≡ bytes.old.items }
+{
+    if taken / LONG_LINE > count {
+        bytes.shrink_to(LONG_LINE);
+    }
 }

@@ -1,6 +1,7 @@
 //! JSON documents, one on a line: lines, what a line is read as, and locations in a document.
 #![tactic(auto)]
 
+mod cutting;
 mod document;
 mod examples;
 mod fault;
@@ -10,6 +11,7 @@ mod line;
 mod lines;
 mod location;
 
+pub use cutting::{first_line, is_blank_line};
 pub use document::{Document, whole_number};
 pub use fault::DocFault;
 pub use limits::fault_within;

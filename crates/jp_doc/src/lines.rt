@@ -1,14 +1,13 @@
 //! Lines of bytes that come in pieces (JSON Lines).
 
-ghost use Rattle.std.specs.Prelude.{◌≡◌, ◌+◌, ◌≤◌, [], ◌∷◌, ◌++◌, false, length, map, IfSome, IfNone, IfOk};
-ghost use Rattle.std.specs.Prelude.{OnOk, OnErr};
+ghost use Rattle.std.specs.Prelude.{◌≡◌, ◌+◌, ◌≤◌, [], ◌∷◌, ◌++◌, false, length, map, IfOk, OnOk, OnErr};
 ghost use Rattle.jp_doc.specs.Added.{Adds, Begins, after_line};
 ghost use Rattle.jp_doc.specs.Feeding.{cut, has_line_feed, numbered, nothing_fed, fed, fed_lines, finished};
 ghost use Rattle.jp_doc.specs.Feeding.{finished_lines};
-ghost use Rattle.jp_doc.specs.Lines.{is_blank, line_of};
+ghost use Rattle.jp_doc.specs.Lines.{line_of};
 
+use crate::cutting::{first_line, is_blank_line};
 use crate::line::Line;
-use memchr::memchr;
 use std::alloc::{AllocError, Global};
 use std::marker::Model;
 use std::mem;
@@ -145,28 +144,6 @@ impl Lines {
         self.count = count;
         Ok(())
     }
-}
-
-/// Whether a line holds nothing but white space.
-fn is_blank_line(line: &[u8]) -> bool
-    ensures blank { result ≡ is_blank line.now }
-{
-    line.iter()
-        .all(|byte| *byte == b' ' || *byte == b'\t' || *byte == b'\r')
-}
-
-/// What stands before the first line feed, and what stands after it.
-fn first_line(bytes: &[u8]) -> Option<(&[u8], &[u8])>
-    ensures some { IfSome result (λ parts. (bytes.now ≡ parts.0.now ++ 10 ∷ parts.1.now)
-        × (has_line_feed parts.0.now ≡ false)) }
-    ensures none { IfNone result (has_line_feed bytes.now ≡ false) }
-{
-    let Some(at) = memchr(b'\n', bytes) else {
-        return None;
-    };
-    let (line, rest) = bytes.split_at(at);
-    let (_, after) = rest.split_at(1);
-    Some((line, after))
 }
 
 /// Adds the lines that end in the bytes, numbered on from `before`. Gives how many lines have ended then,

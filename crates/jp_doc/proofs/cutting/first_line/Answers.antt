@@ -1,5 +1,5 @@
 use Rattle.jp_doc.proofs.CutLaws.{first_here, none_here}
-use Rattle.jp_doc.proofs.lines.first_line.Goals as goal
+use Rattle.jp_doc.proofs.cutting.first_line.Goals as goal
 
 pub returns-in_default-clause-none : goal.returns-in_default-clause-none
 returns-in_default-clause-none c = none_here _ c.in_default.ensures
