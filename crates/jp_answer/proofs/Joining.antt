@@ -5,7 +5,7 @@ use Rattle.jp_doc.specs.Json.{Json}
 use Rattle.jp_doc.specs.Lines.{Line}
 use Rattle.jp_doc.specs.Reading.{reading}
 use Rattle.jp_doc.specs.declared.fault.DocFault.{DocFault}
-use Rattle.jp_syntax.specs.Tree.{Query}
+use Rattle.jp_tree.specs.Tree.{Query}
 use Rattle.jp_regexp.specs.Tests.{Tests}
 use Rattle.jp_answer.specs.Faults.{fault_or, first_fault}
 use Rattle.jp_answer.specs.Answer.{Answer, after, line_answer, document_lines, answer, joined, unless_stopped}

@@ -1,7 +1,7 @@
 -- What a query text is answered with over a byte stream.
 use Rattle.std.specs.Prelude.{◌≡◌, ℕ, Bool, List, option_map}
 use Rattle.jp_doc.specs.Lines.{lines}
-use Rattle.jp_syntax.specs.Tree.{Text, Query}
+use Rattle.jp_tree.specs.Tree.{Text, Query}
 use Rattle.jp_regexp.specs.Tests.{Tests, AreRight}
 use Rattle.jp_check.specs.Verdict.{IsAccepted}
 use Rattle.jp_path.specs.Chunks.{bytes_in}

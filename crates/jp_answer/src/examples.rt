@@ -2,7 +2,7 @@
 
 ghost use Rattle.std.specs.Prelude.{◌≡◌, [], ◌∷◌, ◌++◌, codes, Some, None};
 ghost use Rattle.jp_doc.specs.declared.fault.DocFault.TheVariants.{Unreadable, NotWhole};
-ghost use Rattle.jp_syntax.specs.Tree as tree;
+ghost use Rattle.jp_tree.specs.Tree as tree;
 ghost use Rattle.jp_tree.specs.declared.tree.Start.TheVariants.{Root};
 ghost use Rattle.jp_regexp.specs.Tests.{Tests};
 ghost use Rattle.jp_answer.specs.Answer.{stream_answer};

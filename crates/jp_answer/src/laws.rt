@@ -4,7 +4,7 @@ ghost use Rattle.std.specs.Prelude.{◌≡◌, ◌+◌, ◌++◌, ℕ, Bool, tru
 ghost use Rattle.std.specs.List.{concat};
 ghost use Rattle.jp_doc.specs.Json.{Json};
 ghost use Rattle.jp_doc.specs.Lines.{Line, lines, line_count};
-ghost use Rattle.jp_syntax.specs.Tree.{Text, Query};
+ghost use Rattle.jp_tree.specs.Tree.{Text, Query};
 ghost use Rattle.jp_regexp.specs.Tests.{Tests};
 ghost use Rattle.jp_eval.specs.Nodelist.{document_nodes};
 ghost use Rattle.jp_path.specs.Fields.{times, AreLinesOfThree};

@@ -3,8 +3,8 @@ use Rattle.std.proofs.Common.{◌≡◌, ℕ, ◌<◌, ◌≤◌, List, [], ◌�
 use Rattle.std.proofs.Common.{arith}
 use Rattle.std.specs.Prelude.{string_bytes, codes}
 use Rattle.std.specs.Str.{chars}
-use Rattle.jp_syntax.specs.Tree as tree
-use Rattle.jp_syntax.specs.PartViews.{argument_of, arguments_of, call_of}
+use Rattle.jp_tree.specs.Tree as tree
+use Rattle.jp_tree.specs.PartViews.{argument_of, arguments_of, call_of}
 use Rattle.jp_tree.specs.declared.tree.Argument.{Argument}
 use Rattle.jp_tree.specs.declared.tree.Call.{Call, out-Call}
 use Rattle.jp_check.specs.Ready.{call_of_one, call_of_two, text_argument, form_of, truth_argument}

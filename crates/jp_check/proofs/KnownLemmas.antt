@@ -8,7 +8,7 @@ use Rattle.std.proofs.lemmas.List.{get_or-map, length-map}
 use Rattle.std.proofs.lemmas.Slice.Eq.{bytes_eq-Decides}
 use Rattle.std.proofs.lemmas.Str.{encodes-chars, IsUtf8-string_bytes}
 use lib.Utf8.{encodes}
-use Rattle.jp_syntax.specs.View.{text_of}
+use Rattle.jp_tree.specs.View.{text_of}
 use Rattle.jp_regexp.specs.Held.{IsRead}
 use Rattle.jp_check.specs.Known.{known_texts}
 use Rattle.jp_check.specs.declared.known.KnownPattern.{KnownPattern}

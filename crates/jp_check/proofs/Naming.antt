@@ -3,7 +3,7 @@ use Rattle.std.proofs.Common.{◌≡◌, Bool, true, false, codes, Option, Some,
 use Rattle.std.specs.Prelude.{if◌then◌else◌}
 use Rattle.std.specs.Str.{bytes_eq}
 use Rattle.std.proofs.lemmas.Slice.Eq.{bytes_eq-Decides}
-use Rattle.jp_syntax.specs.Tree.{Text}
+use Rattle.jp_tree.specs.Tree.{Text}
 use Rattle.jp_types.specs.Functions.{Function, length_function, count_function, match_function}
 use Rattle.jp_types.specs.Functions.{search_function, value_function, xor_function, distinct_function}
 use Rattle.jp_types.specs.Functions.{function_named}

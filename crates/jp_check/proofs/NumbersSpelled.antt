@@ -9,7 +9,7 @@ use Rattle.jp_tree.specs.Tree.{Text}
 use Rattle.jp_tree.specs.Tree as tree
 use Rattle.jp_tree.specs.Parts.{Star, none, more, Behind, behind, After, after, Separated, separated}
 use Rattle.jp_tree.specs.Spelling as is
-use Rattle.jp_syntax.specs.Depth.{bracket_depth, max_depth}
+use Rattle.jp_tokens.specs.Depth.{bracket_depth, max_depth}
 use Rattle.jp_types.specs.Numbers as numbers
 use Rattle.jp_types.specs.Numbers.{Written, is_fraction, is_in_range}
 use Rattle.jp_check.specs.Making.{is_readable}

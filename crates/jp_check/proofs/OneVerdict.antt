@@ -1,9 +1,9 @@
 -- A text has one verdict.
 use Rattle.std.proofs.Common.{◌≡◌, Result, Ok, Err, refl, sym, ◌∙◌, ap, arith}
 use Rattle.std.specs.Prelude.{◌<◌, ◌≤◌}
-use Rattle.jp_syntax.specs.Tree.{Text, Query}
-use Rattle.jp_syntax.specs.Spelling.{Spells}
-use Rattle.jp_syntax.specs.Depth.{bracket_depth, max_depth}
+use Rattle.jp_tree.specs.Tree.{Text, Query}
+use Rattle.jp_tree.specs.Spelling.{Spells}
+use Rattle.jp_tokens.specs.Depth.{bracket_depth, max_depth}
 use Rattle.jp_syntax.proofs.OneTree.{one_tree}
 use Rattle.jp_tree.specs.declared.fault.QueryFault.{QueryFault}
 use Rattle.jp_tree.specs.declared.fault.QueryFault.TheVariants.{TooDeep, Syntax, Fraction, Range}

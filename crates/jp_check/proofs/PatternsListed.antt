@@ -3,9 +3,9 @@ use Rattle.std.proofs.Common.{◌≡◌, ℕ, ◌<◌, ◌≤◌, List, [], ◌�
 use Rattle.std.proofs.Common.{append_assoc, append-nil}
 use Rattle.std.specs.Prelude.{string_bytes}
 use Rattle.std.specs.Str.{chars}
-use Rattle.jp_syntax.specs.Tree as tree
-use Rattle.jp_syntax.specs.Tree.{Text, arguments}
-use Rattle.jp_syntax.specs.PartViews.{argument_of, arguments_of, call_of}
+use Rattle.jp_tree.specs.Tree as tree
+use Rattle.jp_tree.specs.Tree.{Text, arguments}
+use Rattle.jp_tree.specs.PartViews.{argument_of, arguments_of, call_of}
 use Rattle.jp_tree.specs.declared.tree.Argument.{Argument}
 use Rattle.jp_tree.specs.declared.tree.Call.{Call, out-Call}
 use Rattle.jp_types.specs.Functions.{Function, function_named}

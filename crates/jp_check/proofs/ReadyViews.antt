@@ -2,8 +2,8 @@
 use Rattle.std.proofs.Common.{◌≡◌, ℕ, Bool, codes, map, sym, ap, ◌∙◌}
 use Rattle.std.specs.Prelude.{List, String, Vec, Box}
 use Rattle.std.specs.declared.alloc.Global.{Global}
-use Rattle.jp_syntax.specs.Tree as tree
-use Rattle.jp_syntax.specs.View.{text_of}
+use Rattle.jp_tree.specs.Tree as tree
+use Rattle.jp_tree.specs.View.{text_of}
 use Rattle.jp_tree.specs.declared.tree.Operator.{Operator}
 use Rattle.jp_tree.specs.declared.tree.Start.TheVariants as start
 use Rattle.jp_check.specs.Ready.{Wanted, root_at, position_text, slice_of, constant_of, as_argument}

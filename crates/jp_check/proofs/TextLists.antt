@@ -2,7 +2,7 @@
 use Rattle.std.proofs.Common.{◌≡◌, ℕ, ◌+◌, ◌<◌, ◌≤◌, List, [], ◌∷◌, ◌++◌, length, get_or, drop, sym, ap}
 use Rattle.std.proofs.Common.{◌∙◌, append_assoc, append-nil}
 use Rattle.std.proofs.lemmas.List.{at_drop_more, at_drop_all}
-use Rattle.jp_syntax.specs.Tree.{Text}
+use Rattle.jp_tree.specs.Tree.{Text}
 
 module _ {X : Type 0} (texts : List X → List Text) where
   -- a loop over the parts has come to its end

@@ -2,9 +2,9 @@
 use Rattle.std.proofs.Common.{◌≡◌, Bool, true, false, not, Result, Ok, Err, refl, sym, subst}
 use Rattle.std.proofs.Math.Logic.{∥∥₁_map}
 use Rattle.std.specs.Prelude.{◌≤◌, ◌↔◌, if◌then◌else◌}
-use Rattle.jp_syntax.specs.Tree.{Text, Query}
-use Rattle.jp_syntax.specs.Spelling.{Spells}
-use Rattle.jp_syntax.specs.Depth.{bracket_depth, max_depth}
+use Rattle.jp_tree.specs.Tree.{Text, Query}
+use Rattle.jp_tree.specs.Spelling.{Spells}
+use Rattle.jp_tokens.specs.Depth.{bracket_depth, max_depth}
 use Rattle.jp_tree.specs.declared.fault.QueryFault.{QueryFault}
 use Rattle.jp_tree.specs.declared.fault.QueryFault.TheVariants.{TooDeep, Syntax, Fraction, Range}
 use Rattle.jp_tree.specs.declared.fault.QueryFault.TheVariants.{IllTyped, Memory}

@@ -1,7 +1,7 @@
 -- Patterns that were read, and what is known of a text.
 use Rattle.std.specs.Prelude.{List, map, Contains}
-use Rattle.jp_syntax.specs.Tree.{Text}
-use Rattle.jp_syntax.specs.View.{text_of}
+use Rattle.jp_tree.specs.Tree.{Text}
+use Rattle.jp_tree.specs.View.{text_of}
 use Rattle.jp_regexp.specs.Pattern.{Pattern}
 use Rattle.jp_regexp.specs.Profile.{IsPatternOf}
 use Rattle.jp_regexp.specs.Held.{pattern_of}

@@ -6,7 +6,3 @@ pub mod Samples
 pub mod Ready
 pub mod Making
 pub mod QuerySets
-pub use Rattle.jp_types.specs.Numbers
-pub use Rattle.jp_types.specs.Functions
-pub use Rattle.jp_types.specs.Kinds
-pub use Rattle.jp_types.specs.Typing

@@ -1,12 +1,12 @@
 -- The literal patterns of a query: the texts that are given to `match` and `search` as literals (RFC 9535,
 -- 2.4.6 and 2.4.7).
 use Rattle.std.specs.Prelude.{List, [], ◌∷◌, ◌++◌, Option, Some}
-use Rattle.jp_syntax.specs.Tree.{Text, text, Query, query, Segment, segment, Selector, filter, Logical, any}
-use Rattle.jp_syntax.specs.Tree.{all, negation, comparing, test, test_call, Comparison, comparison}
-use Rattle.jp_syntax.specs.Tree.{Comparable, literal, single, value_call, Call, call, Argument}
-use Rattle.jp_syntax.specs.Tree.{literal_argument, query_argument, logical_argument, call_argument, Segments}
-use Rattle.jp_syntax.specs.Tree.{no_segments, add_segment, Selectors, no_selectors, add_selector, Logicals}
-use Rattle.jp_syntax.specs.Tree.{no_logicals, add_logical, Arguments, no_arguments, add_argument}
+use Rattle.jp_tree.specs.Tree.{Text, text, Query, query, Segment, segment, Selector, filter, Logical, any}
+use Rattle.jp_tree.specs.Tree.{all, negation, comparing, test, test_call, Comparison, comparison}
+use Rattle.jp_tree.specs.Tree.{Comparable, literal, single, value_call, Call, call, Argument}
+use Rattle.jp_tree.specs.Tree.{literal_argument, query_argument, logical_argument, call_argument, Segments}
+use Rattle.jp_tree.specs.Tree.{no_segments, add_segment, Selectors, no_selectors, add_selector, Logicals}
+use Rattle.jp_tree.specs.Tree.{no_logicals, add_logical, Arguments, no_arguments, add_argument}
 use Rattle.jp_types.specs.Functions.{Function, match_function, search_function, function_named}
 
 -- the text that an argument is as a literal

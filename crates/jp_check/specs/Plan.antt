@@ -1,6 +1,6 @@
 -- What a plan stands for.
-use Rattle.jp_syntax.specs.Tree.{Text, Query}
-use Rattle.jp_syntax.specs.View.{query_of}
+use Rattle.jp_tree.specs.Tree.{Text, Query}
+use Rattle.jp_tree.specs.View.{query_of}
 use Rattle.jp_check.specs.Verdict.{IsAccepted}
 use Rattle.jp_check.specs.declared.accepted.Plan.{Plan}
 

@@ -5,7 +5,7 @@ use Rattle.std.proofs.Props.{props}
 use Rattle.std.proofs.Common.{◌≡◌, ℕ, ◌==◌, Bool, true, false, List, [], Option, Some, None, refl, ap}
 use Rattle.std.proofs.Common.{ap₂, ◌∙◌}
 use Rattle.std.specs.Prelude.{if◌then◌else◌}
-use Rattle.jp_syntax.specs.Tree as tree
+use Rattle.jp_tree.specs.Tree as tree
 use Rattle.jp_tree.specs.declared.tree.Start.{Start}
 use Rattle.jp_tree.specs.declared.tree.Start.TheVariants as start
 use Rattle.jp_tree.specs.declared.tree.Operator.{Operator}

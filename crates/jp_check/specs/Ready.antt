@@ -1,7 +1,7 @@
 -- The query that a ready tree stands for.
 use Rattle.std.specs.Prelude.{ℕ, List, [], ◌∷◌, ◌++◌, map, get_or, codes, option_map}
-use Rattle.jp_syntax.specs.Tree as tree
-use Rattle.jp_syntax.specs.View.{text_of}
+use Rattle.jp_tree.specs.Tree as tree
+use Rattle.jp_tree.specs.View.{text_of}
 use Rattle.jp_tree.specs.declared.tree.Start.TheVariants as start
 use Rattle.jp_check.specs.declared.ready.Want.{Want}
 use Rattle.jp_check.specs.declared.ready.Want.TheVariants.{First, Count, Only, Distinct}

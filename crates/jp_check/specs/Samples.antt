@@ -1,6 +1,6 @@
 -- What the worked examples say of a tree.
 use Rattle.std.specs.Prelude.{◌≡◌, Ok, Err}
-use Rattle.jp_syntax.specs.Tree.{Query}
+use Rattle.jp_tree.specs.Tree.{Query}
 use Rattle.jp_tree.specs.declared.fault.QueryFault.{QueryFault}
 use Rattle.jp_check.specs.Verdict.{verdict_of}
 

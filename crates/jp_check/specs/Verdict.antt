@@ -1,8 +1,8 @@
 -- The verdict of a query text (RFC 9535, 2.1).
 use Rattle.std.specs.Prelude.{◌≡◌, ◌<◌, ◌≤◌, not, Result, Ok, Err, if◌then◌else◌}
-use Rattle.jp_syntax.specs.Tree.{Text, Query}
-use Rattle.jp_syntax.specs.Spelling.{Spells}
-use Rattle.jp_syntax.specs.Depth.{bracket_depth, max_depth}
+use Rattle.jp_tree.specs.Tree.{Text, Query}
+use Rattle.jp_tree.specs.Spelling.{Spells}
+use Rattle.jp_tokens.specs.Depth.{bracket_depth, max_depth}
 use Rattle.jp_tree.specs.declared.fault.QueryFault.{QueryFault}
 use Rattle.jp_tree.specs.declared.fault.QueryFault.TheVariants.{TooDeep, Syntax, Fraction, Range, IllTyped}
 use Rattle.jp_types.specs.Numbers.{has_fraction, in_range}

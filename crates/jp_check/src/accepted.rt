@@ -1,7 +1,7 @@
 //! Plans: queries that were accepted.
 
-ghost use Rattle.jp_syntax.specs.Tree.{Text};
-ghost use Rattle.jp_syntax.specs.View.{query_of};
+ghost use Rattle.jp_tree.specs.Tree.{Text};
+ghost use Rattle.jp_tree.specs.View.{query_of};
 ghost use Rattle.std.specs.Prelude.{◌≡◌};
 ghost use Rattle.jp_check.specs.Known.{known_texts};
 ghost use Rattle.jp_check.specs.LiteralPatterns.{literal_patterns};

@@ -2,10 +2,10 @@
 
 ghost use Rattle.std.specs.Prelude.{◌≡◌, ◌≢◌, ◌<◌, ◌≤◌, ◌↔◌, Ok, Err, IfOk, IfErr, IsErrOf, OnOk};
 ghost use Rattle.std.specs.Str.{chars};
-ghost use Rattle.jp_syntax.specs.Tree.{Text};
-ghost use Rattle.jp_syntax.specs.View.{query_of};
-ghost use Rattle.jp_syntax.specs.Spelling.{Spells};
-ghost use Rattle.jp_syntax.specs.Depth.{bracket_depth, max_depth};
+ghost use Rattle.jp_tree.specs.Tree.{Text};
+ghost use Rattle.jp_tree.specs.View.{query_of};
+ghost use Rattle.jp_tree.specs.Spelling.{Spells};
+ghost use Rattle.jp_tokens.specs.Depth.{bracket_depth, max_depth};
 ghost use Rattle.jp_check.specs.Verdict.{verdict_of, IsVerdict, IsAccepted};
 ghost use Rattle.jp_check.specs.Plan.{planned_query};
 

@@ -1,7 +1,7 @@
 //! Worked examples of the definitions.
 
 ghost use Rattle.std.specs.Prelude.{◌≡◌, [], ◌∷◌, codes, replicate, Some, None, true};
-ghost use Rattle.jp_syntax.specs.Tree as tree;
+ghost use Rattle.jp_tree.specs.Tree as tree;
 ghost use Rattle.jp_tree.specs.declared.fault.QueryFault.TheVariants.{Fraction, Range, IllTyped};
 ghost use Rattle.jp_check.specs.LiteralPatterns.{literal_patterns};
 ghost use Rattle.jp_check.specs.Samples.{IsValid, IsRefused};

@@ -2,7 +2,7 @@
 
 ghost use Rattle.std.specs.Prelude.{◌≡◌, IfOk, option_map};
 ghost use Rattle.std.specs.Arc.{arc_value};
-ghost use Rattle.jp_syntax.specs.View.{text_of};
+ghost use Rattle.jp_tree.specs.View.{text_of};
 ghost use Rattle.jp_regexp.specs.Held.{IsRead};
 
 use jp_regexp::Pattern;

@@ -1,9 +1,9 @@
 //! Laws of the definitions, each the contract of a function that does nothing.
 
 ghost use Rattle.std.specs.Prelude.{◌≡◌, ◌≤◌, ◌↔◌, Result, Ok, Err, true, false};
-ghost use Rattle.jp_syntax.specs.Tree.{Text, Query};
-ghost use Rattle.jp_syntax.specs.Spelling.{Spells};
-ghost use Rattle.jp_syntax.specs.Depth.{bracket_depth, max_depth};
+ghost use Rattle.jp_tree.specs.Tree.{Text, Query};
+ghost use Rattle.jp_tree.specs.Spelling.{Spells};
+ghost use Rattle.jp_tokens.specs.Depth.{bracket_depth, max_depth};
 ghost use Rattle.jp_tree.specs.declared.fault.QueryFault.{QueryFault};
 ghost use Rattle.jp_tree.specs.declared.fault.QueryFault.TheVariants.{TooDeep, Syntax, Fraction, Range};
 ghost use Rattle.jp_tree.specs.declared.fault.QueryFault.TheVariants.{IllTyped, Memory};

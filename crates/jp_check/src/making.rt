@@ -2,10 +2,10 @@
 
 ghost use Rattle.std.specs.Prelude.{◌≡◌, ◌⊎◌, List, [], ◌∷◌, ◌++◌, Some, map, option_map, codes, true};
 ghost use Rattle.std.specs.Prelude.{IfOk, OnOk};
-ghost use Rattle.jp_syntax.specs.Tree as tree;
-ghost use Rattle.jp_syntax.specs.Tree.{Text};
-ghost use Rattle.jp_syntax.specs.View.{query_of, text_of};
-ghost use Rattle.jp_syntax.specs.PartViews as view;
+ghost use Rattle.jp_tree.specs.Tree as tree;
+ghost use Rattle.jp_tree.specs.Tree.{Text};
+ghost use Rattle.jp_tree.specs.View.{query_of, text_of};
+ghost use Rattle.jp_tree.specs.PartViews as view;
 ghost use Rattle.jp_types.specs.Functions as functions;
 ghost use Rattle.jp_types.specs.Functions.{value_type, logical_type, nodes_type};
 ghost use Rattle.jp_types.specs.Kinds.{function_of};

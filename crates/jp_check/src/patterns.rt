@@ -2,8 +2,8 @@
 
 ghost use Rattle.std.specs.Prelude.{◌≡◌, IfOk, OnOk, ◌∷◌, [], option_map, option_to_list};
 ghost use Rattle.std.specs.Str.{chars};
-ghost use Rattle.jp_syntax.specs.View.{text_of};
-ghost use Rattle.jp_syntax.specs.PartViews as view;
+ghost use Rattle.jp_tree.specs.View.{text_of};
+ghost use Rattle.jp_tree.specs.PartViews as view;
 ghost use Rattle.jp_check.specs.LiteralPatterns as literal;
 ghost use Rattle.jp_check.specs.Making.{Lists};
 

@@ -5,7 +5,7 @@
 
 ghost use Rattle.std.specs.Prelude.{◌≡◌, ◌≤ℤ◌, neg_ℤ, pos};
 ghost use Rattle.std.proofs.Props.{props};
-ghost use Rattle.jp_syntax.specs.View.{text_of};
+ghost use Rattle.jp_tree.specs.View.{text_of};
 ghost use Rattle.jp_types.specs.Numbers.{whole_number, max_index};
 
 pub use crate::known::KnownPattern;

@@ -2,7 +2,7 @@
 use Rattle.std.proofs.Common.{◌≡◌, ◌⊎◌, inl, inr, ℕ, zero, suc, ◌<◌, ◌≤◌, true, false, ◌&&◌, List, []}
 use Rattle.std.proofs.Common.{◌∷◌, ◌++◌, length, get_or, refl, ap, ◌∙◌, arith}
 use Rattle.jp_doc.specs.Json.{Json}
-use Rattle.jp_syntax.specs.Tree as tree
+use Rattle.jp_tree.specs.Tree as tree
 use Rattle.jp_check.specs.Ready.{Wanted, first_of, count_of, only_of, distinct_of, wanted, where_wanted}
 use Rattle.jp_check.specs.declared.ready.Want.{Want}
 use Rattle.jp_check.specs.declared.ready.Want.TheVariants as want

@@ -1,7 +1,7 @@
 -- Any two right tests give the same nodelists.
 use Rattle.std.proofs.Common.{◌≡◌, ap}
 use Rattle.jp_doc.specs.Json.{Json}
-use Rattle.jp_syntax.specs.Tree.{Query}
+use Rattle.jp_tree.specs.Tree.{Query}
 use Rattle.jp_regexp.specs.Tests.{Tests, AreRight}
 use Rattle.jp_value.specs.RightTests.{tests}
 use Rattle.jp_value.proofs.Answering.{same_tests}

@@ -4,7 +4,7 @@ use Rattle.std.proofs.Common.{append-nil}
 use Rattle.std.proofs.lemmas.List.Concat.{flat_map-append}
 use Rattle.std.specs.List.{filter, flat_map}
 use Rattle.jp_doc.specs.Location.{Node}
-use Rattle.jp_syntax.specs.Tree as tree
+use Rattle.jp_tree.specs.Tree as tree
 use Rattle.jp_check.specs.Ready.{segment_in, segments_in, selector_in}
 use Rattle.jp_check.specs.declared.ready.Segment.{Segment, out-Segment}
 use Rattle.jp_check.specs.declared.ready.Selector.{Selector}

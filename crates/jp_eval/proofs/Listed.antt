@@ -9,9 +9,9 @@ use Rattle.jp_doc.specs.Json.{no_items, add_item, Members, no_members, add_membe
 use Rattle.jp_doc.specs.Location.{Step, name, index, Location, Node, node, value_at, child_at, member_at}
 use Rattle.jp_doc.specs.Location.{item_at}
 use Rattle.jp_doc.specs.Rising.{IsRising, ItemsRise, MembersRise}
-use Rattle.jp_syntax.specs.Tree as tree
-use Rattle.jp_syntax.specs.Tree.{Query, query, Segment, segment, Segments, no_segments, add_segment}
-use Rattle.jp_syntax.specs.Tree.{Selector, Selectors, no_selectors, add_selector}
+use Rattle.jp_tree.specs.Tree as tree
+use Rattle.jp_tree.specs.Tree.{Query, query, Segment, segment, Segments, no_segments, add_segment}
+use Rattle.jp_tree.specs.Tree.{Selector, Selectors, no_selectors, add_selector}
 use Rattle.jp_tree.specs.declared.tree.Start.TheVariants.{Root, Current}
 use Rattle.jp_regexp.specs.Tests.{Tests}
 use Rattle.jp_nodes.specs.Nodes.{child, children, descendants, items_at, node_if_some}

@@ -6,12 +6,12 @@ use Rattle.jp_doc.specs.Json as json
 use Rattle.jp_doc.specs.Json.{Json}
 use Rattle.jp_doc.specs.Location as at
 use Rattle.jp_doc.specs.Location.{Node, node}
-use Rattle.jp_syntax.specs.Tree as tree
-use Rattle.jp_syntax.specs.View.{text_of}
+use Rattle.jp_tree.specs.Tree as tree
+use Rattle.jp_tree.specs.View.{text_of}
 use Rattle.jp_tree.specs.declared.tree.Operator.{Operator}
 use Rattle.jp_tree.specs.declared.tree.Start.{Start}
 use Rattle.jp_tree.specs.declared.tree.Start.TheVariants as start
-use Rattle.jp_check.specs.Numbers.{whole_number}
+use Rattle.jp_types.specs.Numbers.{whole_number}
 use Rattle.jp_check.specs.Ready.{Wanted, root_at, position_text, constant_of, as_argument}
 use Rattle.jp_check.specs.Ready.{truth_argument, segment_in, Source, queried, different, source_argument}
 use Rattle.jp_check.specs.Ready.{source_test, source_side, wanted_inside}

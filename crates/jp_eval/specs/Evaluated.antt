@@ -1,5 +1,5 @@
 -- What an evaluator stands for.
-use Rattle.jp_syntax.specs.Tree.{Query}
+use Rattle.jp_tree.specs.Tree.{Query}
 use Rattle.jp_check.specs.Plan.{planned_query}
 use Rattle.jp_eval.specs.declared.evaluator.Evaluator.{Evaluator}
 

@@ -5,11 +5,3 @@ pub mod Base
 pub mod Walk
 pub mod Evaluated
 pub mod Along
-pub use Rattle.jp_value.specs.Slice
-pub use Rattle.jp_value.specs.Index
-pub use Rattle.jp_value.specs.Literals
-pub use Rattle.jp_value.specs.Comparison
-pub use Rattle.jp_value.specs.Functions
-pub use Rattle.jp_value.specs.Operands
-pub use Rattle.jp_value.specs.BoundsView
-pub use Rattle.jp_nodes.specs.Nodes

@@ -6,17 +6,17 @@ use Rattle.jp_doc.specs.Json as json
 use Rattle.jp_doc.specs.Json.{Json, item_list}
 use Rattle.jp_doc.specs.Location as at
 use Rattle.jp_doc.specs.Location.{Node, node}
-use Rattle.jp_syntax.specs.Tree.{Query, query, Segment, segment}
-use Rattle.jp_syntax.specs.Tree.{Selector, name, wildcard, index, slice, filter as filter_by, Logical, any}
-use Rattle.jp_syntax.specs.Tree.{all, negation, comparing, test, test_call, Comparison, comparison}
-use Rattle.jp_syntax.specs.Tree.{Comparable, literal, single, value_call, Call, call, Argument}
-use Rattle.jp_syntax.specs.Tree.{literal_argument, query_argument, logical_argument, call_argument, Segments}
-use Rattle.jp_syntax.specs.Tree.{no_segments, add_segment, Selectors, no_selectors, add_selector, Logicals}
-use Rattle.jp_syntax.specs.Tree.{no_logicals, add_logical, Arguments, no_arguments, add_argument}
+use Rattle.jp_tree.specs.Tree.{Query, query, Segment, segment}
+use Rattle.jp_tree.specs.Tree.{Selector, name, wildcard, index, slice, filter as filter_by, Logical, any}
+use Rattle.jp_tree.specs.Tree.{all, negation, comparing, test, test_call, Comparison, comparison}
+use Rattle.jp_tree.specs.Tree.{Comparable, literal, single, value_call, Call, call, Argument}
+use Rattle.jp_tree.specs.Tree.{literal_argument, query_argument, logical_argument, call_argument, Segments}
+use Rattle.jp_tree.specs.Tree.{no_segments, add_segment, Selectors, no_selectors, add_selector, Logicals}
+use Rattle.jp_tree.specs.Tree.{no_logicals, add_logical, Arguments, no_arguments, add_argument}
 use Rattle.jp_tree.specs.declared.tree.Start.TheVariants.{Root, Current}
 use Rattle.jp_regexp.specs.Tests.{Tests}
-use Rattle.jp_check.specs.Numbers.{whole_number}
-use Rattle.jp_check.specs.Functions.{function_named}
+use Rattle.jp_types.specs.Numbers.{whole_number}
+use Rattle.jp_types.specs.Functions.{function_named}
 use Rattle.jp_nodes.specs.Nodes.{children, child, items_at, descendants}
 use Rattle.jp_value.specs.Slice.{slice_bounds, slice_indexes}
 use Rattle.jp_value.specs.Index.{place_of}

@@ -2,9 +2,9 @@
 use Rattle.std.specs.Prelude.{List, [], ◌∷◌, map, Option, codes}
 use Rattle.jp_doc.specs.Json.{Text, Json, null, object, no_members}
 use Rattle.jp_doc.specs.Location.{Location}
-use Rattle.jp_syntax.specs.Tree as tree
-use Rattle.jp_syntax.specs.Tree.{Query, Segment, Selector, name, slice, filter, Logical, comparing}
-use Rattle.jp_syntax.specs.Tree.{comparison, Comparable, literal, single, child, query_from}
+use Rattle.jp_tree.specs.Tree as tree
+use Rattle.jp_tree.specs.Tree.{Query, Segment, Selector, name, slice, filter, Logical, comparing}
+use Rattle.jp_tree.specs.Tree.{comparison, Comparable, literal, single, child, query_from}
 use Rattle.jp_regexp.specs.Tests.{Tests}
 use Rattle.jp_tree.specs.declared.tree.Operator.{Operator}
 use Rattle.jp_tree.specs.declared.tree.Start.TheVariants.{Root, Current}

@@ -3,7 +3,7 @@
 ghost use Rattle.std.specs.Prelude.{◌≡◌, [], ◌∷◌, codes, Some, None, true, false, map};
 ghost use Rattle.jp_doc.specs.Json.{null, truth, text, object, no_members};
 ghost use Rattle.jp_doc.specs.Location.{node};
-ghost use Rattle.jp_syntax.specs.Tree as tree;
+ghost use Rattle.jp_tree.specs.Tree as tree;
 ghost use Rattle.jp_tree.specs.declared.tree.Operator.TheVariants.{Eq, Le, Ge, Lt, Gt};
 ghost use Rattle.jp_tree.specs.declared.tree.Start.TheVariants.{Current};
 ghost use Rattle.jp_regexp.specs.Tests.{Tests};

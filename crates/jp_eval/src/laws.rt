@@ -5,7 +5,7 @@ ghost use Rattle.std.specs.List.{AllByRecursion};
 ghost use Rattle.jp_doc.specs.Json.{Json};
 ghost use Rattle.jp_doc.specs.Location.{Node, value_at};
 ghost use Rattle.jp_doc.specs.Rising.{IsRising};
-ghost use Rattle.jp_syntax.specs.Tree.{Query, Segment, segments, query_from};
+ghost use Rattle.jp_tree.specs.Tree.{Query, Segment, segments, query_from};
 ghost use Rattle.jp_tree.specs.declared.tree.Start.{Start};
 ghost use Rattle.jp_tree.specs.declared.tree.Start.TheVariants.{Root};
 ghost use Rattle.jp_regexp.specs.Tests.{Tests};

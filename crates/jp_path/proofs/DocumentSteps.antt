@@ -15,8 +15,8 @@ use Rattle.jp_doc.proofs.TextLaws.{IsOfValue, ItemsAreOfValue, MembersAreOfValue
 use Rattle.jp_doc.specs.Document.{document_value}
 use Rattle.jp_doc.specs.declared.document.Document.{Document}
 use Rattle.serde_json.specs.View.{view}
-use Rattle.jp_syntax.specs.Characters.{is_scalar}
-use Rattle.jp_syntax.specs.Parts.{Each}
+use Rattle.jp_tree.specs.Characters.{is_scalar}
+use Rattle.jp_tree.specs.Parts.{Each}
 use Rattle.jp_path.specs.PathQuery.{IsStep, AreSteps}
 use Rattle.jp_path.proofs.OwnNode.{behind, items_within}
 use Rattle.jp_path.proofs.SourceSteps.{each_scalar}

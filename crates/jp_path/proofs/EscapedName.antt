@@ -5,12 +5,12 @@ use Rattle.std.proofs.Common.{if◌then◌else◌, [], ◌∷◌, ◌++◌, code
 use Rattle.std.proofs.lemmas.Bool.Decides.{nat_tests}
 use Rattle.std.specs.List.{flat_map}
 use borrow.Author.Tests.{eqb-true, ltb-true, ltb-false, le-leb}
-use Rattle.jp_syntax.specs.Tree.{Text}
-use Rattle.jp_syntax.specs.Characters.{is_scalar, is_bare, is_hex_digit, hex_value, hex_number, is_surrogate}
-use Rattle.jp_syntax.specs.Characters.{escaped as escaped_by}
-use Rattle.jp_syntax.specs.Parts.{Each, Star, none, more}
-use Rattle.jp_syntax.specs.Strings.{Piece, bare, escape, unicode, HexIs, four}
-use Rattle.jp_syntax.specs.Depth.{Place, inside, step}
+use Rattle.jp_tree.specs.Tree.{Text}
+use Rattle.jp_tree.specs.Characters.{is_scalar, is_bare, is_hex_digit, hex_value, hex_number, is_surrogate}
+use Rattle.jp_tree.specs.Characters.{escaped as escaped_by}
+use Rattle.jp_tree.specs.Parts.{Each, Star, none, more}
+use Rattle.jp_tree.specs.Strings.{Piece, bare, escape, unicode, HexIs, four}
+use Rattle.jp_tokens.specs.Depth.{Place, inside, step}
 use Rattle.jp_trail.specs.Path.{escaped, hex_digit}
 use Rattle.jp_path.proofs.Passing.{Passes, passes_none, passes_one, passes_on}
 

@@ -6,12 +6,12 @@ use Rattle.std.specs.Char.{digit_value}
 use Rattle.std.specs.Str.Parse.{AllDigits, digits_value, digits_value_after}
 use Rattle.std.proofs.lemmas.Bool.Decides.{nat_tests}
 use Rattle.std.proofs.lemmas.Fmt.{decimal_is_IsNumeral_wide, decimal_digit, first_decimal}
-use Rattle.jp_check.specs.Numbers.{whole_number, digits_from, magnitude}
+use Rattle.jp_types.specs.Numbers.{whole_number, digits_from, magnitude}
 use borrow.Author.Tests.{eqb-true}
-use Rattle.jp_syntax.specs.Characters.{is_digit, is_positive_digit, is_quote}
-use Rattle.jp_syntax.specs.Parts.{Each}
-use Rattle.jp_syntax.specs.Numbers.{IsInt, zero_int, positive_int}
-use Rattle.jp_syntax.specs.Depth.{outside, is_opening, is_closing, step}
+use Rattle.jp_tree.specs.Characters.{is_digit, is_positive_digit, is_quote}
+use Rattle.jp_tree.specs.Parts.{Each}
+use Rattle.jp_tree.specs.Numbers.{IsInt, zero_int, positive_int}
+use Rattle.jp_tokens.specs.Depth.{outside, is_opening, is_closing, step}
 use Rattle.jp_path.proofs.Passing.{Passes, passes_none, passes_one, passes_on}
 
 not_small : digit_value 45 < 10 → ⊥

@@ -3,9 +3,9 @@ use Rattle.std.proofs.Common.{◌≡◌, ◌≤◌, [], ◌∷◌, ap, sym, ◌�
 use Rattle.std.specs.Prelude.{Some, Result, Ok, Err, IfOk}
 use Rattle.jp_doc.specs.Json.{Json}
 use Rattle.jp_doc.specs.Location.{Location, value_at, node}
-use Rattle.jp_syntax.specs.Tree.{Text, Query}
-use Rattle.jp_syntax.specs.Spelling.{Spells}
-use Rattle.jp_syntax.specs.Depth.{bracket_depth, max_depth}
+use Rattle.jp_tree.specs.Tree.{Text, Query}
+use Rattle.jp_tree.specs.Spelling.{Spells}
+use Rattle.jp_tokens.specs.Depth.{bracket_depth, max_depth}
 use Rattle.jp_regexp.specs.Tests.{Tests}
 use Rattle.jp_tree.specs.declared.fault.QueryFault.{QueryFault}
 use Rattle.jp_check.specs.declared.accepted.Plan.{Plan}

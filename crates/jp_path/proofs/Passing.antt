@@ -1,7 +1,7 @@
 -- Texts that open at most one bracket, piece by piece.
 use Rattle.std.proofs.Common.{◌≡◌, ℕ, ◌≤◌, max, [], ◌∷◌, ◌++◌, refl, ap, ◌∙◌, arith}
-use Rattle.jp_syntax.specs.Tree.{Text}
-use Rattle.jp_syntax.specs.Depth.{Place, step, scan, count_of}
+use Rattle.jp_tree.specs.Tree.{Text}
+use Rattle.jp_tokens.specs.Depth.{Place, step, scan, count_of}
 use Rattle.jp_tokens.proofs.DepthLaws.{depth_from, depth_from_cons, count_within}
 
 -- a scan leads from one place to another, with at most one bracket open on the way

@@ -8,10 +8,10 @@ use Rattle.jp_doc.specs.Json.{Json}
 use Rattle.jp_doc.specs.Location.{Location, value_at, node}
 use Rattle.jp_regexp.specs.Tests.{Tests}
 use Rattle.jp_eval.specs.Nodelist.{document_nodes}
-use Rattle.jp_syntax.specs.Tree.{Query, segments}
-use Rattle.jp_syntax.specs.Depth.{bracket_depth, max_depth}
-use Rattle.jp_check.specs.Numbers.{segments_numbers, is_fraction, is_in_range, magnitude, max_index}
-use Rattle.jp_check.specs.Typing.{segments_typed}
+use Rattle.jp_tree.specs.Tree.{Query, segments}
+use Rattle.jp_tokens.specs.Depth.{bracket_depth, max_depth}
+use Rattle.jp_types.specs.Numbers.{segments_numbers, is_fraction, is_in_range, magnitude, max_index}
+use Rattle.jp_types.specs.Typing.{segments_typed}
 use Rattle.jp_check.specs.Verdict.{IsAccepted}
 use Rattle.jp_check.proofs.Verdicts.{accepts, accepts_only}
 use Rattle.jp_trail.specs.Path.{path_text}

@@ -5,14 +5,14 @@ use Rattle.std.proofs.lemmas.List.{append-nil}
 use Rattle.std.specs.List.{flat_map}
 use Rattle.jp_doc.specs.Location as at
 use Rattle.jp_doc.specs.Location.{Location}
-use Rattle.jp_syntax.specs.Tree.{Text, Query}
-use Rattle.jp_syntax.specs.Tree as tree
-use Rattle.jp_syntax.specs.Characters.{is_scalar}
-use Rattle.jp_syntax.specs.Parts.{Each, Star, none, more, Behind, behind, separated}
-use Rattle.jp_syntax.specs.Strings.{IsString, quoted}
-use Rattle.jp_syntax.specs.Spelling as sp
-use Rattle.jp_syntax.specs.Spelling.{Spells, spells, SegmentIs, SelectorIs, LogicalIs}
-use Rattle.jp_syntax.specs.Depth.{outside, bracket_depth}
+use Rattle.jp_tree.specs.Tree.{Text, Query}
+use Rattle.jp_tree.specs.Tree as tree
+use Rattle.jp_tree.specs.Characters.{is_scalar}
+use Rattle.jp_tree.specs.Parts.{Each, Star, none, more, Behind, behind, separated}
+use Rattle.jp_tree.specs.Strings.{IsString, quoted}
+use Rattle.jp_tree.specs.Spelling as sp
+use Rattle.jp_tree.specs.Spelling.{Spells, spells, SegmentIs, SelectorIs, LogicalIs}
+use Rattle.jp_tokens.specs.Depth.{outside, bracket_depth}
 use Rattle.jp_syntax.proofs.OneTree.{one_tree}
 use Rattle.jp_trail.specs.Path.{escaped, step_text, path_text}
 use Rattle.jp_path.specs.PathQuery.{step_segment, path_query, IsStep, AreSteps}

@@ -5,7 +5,7 @@ use Rattle.std.specs.List.{AllByRecursion}
 use Rattle.jp_doc.specs.Json.{Json}
 use Rattle.jp_doc.specs.Location.{Location, Node, node, value_at}
 use Rattle.jp_doc.specs.Rising.{IsRising}
-use Rattle.jp_syntax.specs.Tree.{Query}
+use Rattle.jp_tree.specs.Tree.{Query}
 use Rattle.jp_regexp.specs.Tests.{Tests}
 use Rattle.jp_check.specs.Verdict.{IsAccepted}
 use Rattle.jp_eval.specs.Nodelist.{document_nodes}

@@ -12,10 +12,10 @@ use Rattle.std.proofs.lemmas.List.{map-append}
 use Rattle.std.proofs.lemmas.Str.{chars-IsAscii, scalars-chars, IsUtf8-string_bytes}
 use Rattle.jp_doc.specs.Location.{step_of}
 use Rattle.jp_doc.specs.declared.location.Step as code
-use Rattle.jp_syntax.specs.Tree as tree
-use Rattle.jp_syntax.specs.Characters.{is_scalar}
-use Rattle.jp_syntax.specs.Parts.{Each}
-use Rattle.jp_syntax.specs.PartViews.{segment_of, segments_of}
+use Rattle.jp_tree.specs.Tree as tree
+use Rattle.jp_tree.specs.Characters.{is_scalar}
+use Rattle.jp_tree.specs.Parts.{Each}
+use Rattle.jp_tree.specs.PartViews.{segment_of, segments_of}
 use Rattle.jp_tree.specs.declared.tree.Segment.{Segment}
 use Rattle.jp_path.specs.PathQuery.{step_segment, IsStep, AreSteps}
 

@@ -3,10 +3,10 @@ use Rattle.std.specs.Prelude.{◌<◌, ◌^◌, ⊤, [], ◌∷◌, map, decimal
 use Rattle.std.specs.List.{AllByRecursion}
 use Rattle.jp_doc.specs.Location as at
 use Rattle.jp_doc.specs.Location.{Location}
-use Rattle.jp_syntax.specs.Tree.{Query, Segment, Selector, name, index, child, query_from}
+use Rattle.jp_tree.specs.Tree.{Query, Segment, Selector, name, index, child, query_from}
 use Rattle.jp_tree.specs.declared.tree.Start.TheVariants.{Root}
-use Rattle.jp_syntax.specs.Characters.{is_scalar}
-use Rattle.jp_syntax.specs.Parts.{Each}
+use Rattle.jp_tree.specs.Characters.{is_scalar}
+use Rattle.jp_tree.specs.Parts.{Each}
 
 -- the selector of one step, and the segment that has it alone
 abbrev pub step_selector : at.Step → Selector

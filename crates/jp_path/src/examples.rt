@@ -4,9 +4,9 @@ ghost use Rattle.std.specs.Prelude.{◌≡◌, ℕ, [], ◌∷◌, ◌++◌, cod
 ghost use Rattle.std.specs.declared.alloc.Global.{Global};
 ghost use Rattle.jp_doc.specs.Json.{null, truth, whole, text, array, object, items, no_members, add_member};
 ghost use Rattle.jp_doc.specs.Location.{name, index};
-ghost use Rattle.jp_syntax.specs.Tree as tree;
+ghost use Rattle.jp_tree.specs.Tree as tree;
 ghost use Rattle.jp_tree.specs.declared.tree.Start.TheVariants.{Root};
-ghost use Rattle.jp_syntax.specs.View as view;
+ghost use Rattle.jp_tree.specs.View as view;
 ghost use Rattle.jp_check.specs.Plan.{planned_query};
 ghost use Rattle.jp_doc.specs.declared.fault.DocFault.TheVariants.{LongLine, Unreadable, NotWhole, LongArray};
 ghost use Rattle.jp_path.specs.Chunks.{bytes_in};

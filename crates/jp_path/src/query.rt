@@ -3,12 +3,12 @@
 ghost use Rattle.std.specs.Prelude.{◌≡◌, ◌≤◌, [], ◌∷◌, Some, IfOk, IfErr, OnOk, map, decimal};
 ghost use Rattle.jp_doc.specs.Json.{Json};
 ghost use Rattle.jp_doc.specs.Location.{step_of, location_of, value_at, node};
-ghost use Rattle.jp_syntax.specs.Tree as tree;
-ghost use Rattle.jp_syntax.specs.View as view;
-ghost use Rattle.jp_syntax.specs.View.{text_of};
-ghost use Rattle.jp_syntax.specs.PartViews.{selector_of, selectors_of, segment_of, segments_of};
-ghost use Rattle.jp_syntax.specs.Spelling.{Spells};
-ghost use Rattle.jp_syntax.specs.Depth.{bracket_depth, max_depth};
+ghost use Rattle.jp_tree.specs.Tree as tree;
+ghost use Rattle.jp_tree.specs.View as view;
+ghost use Rattle.jp_tree.specs.View.{text_of};
+ghost use Rattle.jp_tree.specs.PartViews.{selector_of, selectors_of, segment_of, segments_of};
+ghost use Rattle.jp_tree.specs.Spelling.{Spells};
+ghost use Rattle.jp_tokens.specs.Depth.{bracket_depth, max_depth};
 ghost use Rattle.jp_tree.specs.declared.tree.Start.TheVariants.{Root};
 ghost use Rattle.jp_regexp.specs.Tests.{Tests};
 ghost use Rattle.jp_check.specs.Verdict.{IsAccepted};

@@ -9,7 +9,7 @@ use Rattle.std.specs.Io.KnownBytes.{Appends}
 use Rattle.std.proofs.KnownBytes.{Appends-nil, Appends-trans}
 use Rattle.jp_doc.specs.Lines.{Line}
 use Rattle.jp_doc.specs.declared.fault.DocFault.{DocFault}
-use Rattle.jp_syntax.specs.Tree as tree
+use Rattle.jp_tree.specs.Tree as tree
 use Rattle.jp_regexp.specs.Tests.{Tests, AreRight}
 use Rattle.jp_answer.specs.Answer.{Answer, after, joined, unless_stopped}
 use Rattle.jp_answer.specs.Form.{answer_in}

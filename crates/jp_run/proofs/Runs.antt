@@ -4,8 +4,8 @@ use Rattle.std.proofs.Common.{Err, IfErr, OnOk, OnErr, IsErrAnd, ◌∙◌, ap, 
 use Rattle.std.specs.Io.KnownBytes.{Appends}
 use Rattle.jp_doc.specs.Lines.{lines}
 use Rattle.jp_doc.specs.declared.fault.DocFault.{DocFault}
-use Rattle.jp_syntax.specs.Tree as tree
-use Rattle.jp_syntax.specs.Tree.{Text}
+use Rattle.jp_tree.specs.Tree as tree
+use Rattle.jp_tree.specs.Tree.{Text}
 use Rattle.jp_tree.specs.declared.fault.QueryFault.{QueryFault}
 use Rattle.jp_regexp.proofs.RightTests.{right_tests}
 use Rattle.jp_check.specs.Verdict.{IsAccepted, IsVerdict}

@@ -3,7 +3,7 @@ use Rattle.std.proofs.Common.{◌≡◌, ℕ, ◌+◌, ◌*◌, ◌<◌, ◌≤�
 use Rattle.std.proofs.Common.{None, sym, ◌∙◌, ap, subst, arith, take-append-drop}
 use Rattle.std.proofs.Common.{length-append, length-drop, zero-mul, take-add, drop-drop}
 use Rattle.jp_doc.specs.Lines.{Line}
-use Rattle.jp_syntax.specs.Tree.{Query}
+use Rattle.jp_tree.specs.Tree.{Query}
 use Rattle.jp_answer.specs.Form.{passed_in}
 use Rattle.jp_answer.specs.declared.fault.RunFault.{RunFault}
 use Rattle.jp_answer.proofs.Forms.{passed_joined, passed_few}

@@ -17,7 +17,7 @@ use Rattle.jp_doc.specs.Feeding.{Cut, cut, numbered, last_line, Progress, nothin
 use Rattle.jp_doc.specs.Feeding.{finished, finished_lines}
 use Rattle.jp_doc.specs.declared.fault.DocFault.{DocFault}
 use Rattle.jp_doc.proofs.CutLaws.{cut_both, lines_cut, lines_both, numbered_both}
-use Rattle.jp_syntax.specs.Tree as tree
+use Rattle.jp_tree.specs.Tree as tree
 use Rattle.jp_regexp.proofs.RightTests.{right_tests}
 use Rattle.jp_answer.specs.Answer.{Answer}
 use Rattle.jp_answer.specs.Faults.{first_fault}

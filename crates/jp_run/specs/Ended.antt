@@ -4,7 +4,7 @@ use Rattle.std.specs.Prelude.{◌≡◌, ℕ, ◌+◌, ◌<◌, ◌⊎◌, Bool,
 use Rattle.std.specs.Io.KnownBytes.{Appends, Consumes, Keeps}
 use Rattle.jp_doc.specs.Lines.{Line, lines, line_count}
 use Rattle.jp_doc.specs.Feeding.{Progress, fed}
-use Rattle.jp_syntax.specs.Tree as tree
+use Rattle.jp_tree.specs.Tree as tree
 use Rattle.jp_answer.specs.Answer.{Answer}
 use Rattle.jp_answer.specs.declared.fault.RunFault.{RunFault}
 use Rattle.jp_answer.specs.declared.fault.RunFault.TheVariants.{Query, Document, Read, Write, Limit}

@@ -2,8 +2,8 @@
 
 ghost use Rattle.std.specs.Prelude.{◌≡◌, ◌<◌, ◌⊎◌, ◌↔◌, Err, IfErr, OnOk, IsErrOf};
 ghost use Rattle.std.specs.Str.{chars};
-ghost use Rattle.jp_syntax.specs.Tree.{Query};
-ghost use Rattle.jp_syntax.specs.Depth.{bracket_depth, max_depth};
+ghost use Rattle.jp_tree.specs.Tree.{Query};
+ghost use Rattle.jp_tokens.specs.Depth.{bracket_depth, max_depth};
 ghost use Rattle.jp_tree.specs.declared.fault.QueryFault.{QueryFault as Refusal};
 ghost use Rattle.jp_check.specs.Verdict.{IsAccepted, IsVerdict};
 

@@ -1,11 +1,1 @@
 pub mod Examples
-pub use Rattle.jp_tree.specs.Tree
-pub use Rattle.jp_tree.specs.View
-pub use Rattle.jp_tree.specs.PartViews
-pub use Rattle.jp_tree.specs.Characters
-pub use Rattle.jp_tree.specs.Parts
-pub use Rattle.jp_tree.specs.Strings
-pub use Rattle.jp_tree.specs.Numbers
-pub use Rattle.jp_tree.specs.Singular
-pub use Rattle.jp_tree.specs.Spelling
-pub use Rattle.jp_tokens.specs.Depth

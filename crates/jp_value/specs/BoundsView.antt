@@ -1,6 +1,6 @@
 -- The bounds of a slice, as the definition speaks of them.
 use Rattle.std.specs.Prelude.{ℤ, pos, neg_ℤ, ◌≤ℤ◌}
-use Rattle.jp_check.specs.Numbers.{max_index}
+use Rattle.jp_types.specs.Numbers.{max_index}
 use Rattle.jp_value.specs.Slice as spec
 use Rattle.jp_value.specs.declared.slice.Bounds.{Bounds}
 

@@ -6,8 +6,8 @@ use Rattle.jp_doc.specs.Json.{Text, Json, whole, text, text_eq, array, object, M
 use Rattle.jp_doc.specs.Json.{add_member}
 use Rattle.jp_doc.specs.Json.{item_list}
 use Rattle.jp_doc.specs.Location.{Step, name, index, Location, Node}
-use Rattle.jp_check.specs.Functions.{Function, length_function, count_function, match_function}
-use Rattle.jp_check.specs.Functions.{search_function, value_function, xor_function, distinct_function}
+use Rattle.jp_types.specs.Functions.{Function, length_function, count_function, match_function}
+use Rattle.jp_types.specs.Functions.{search_function, value_function, xor_function, distinct_function}
 use Rattle.jp_regexp.specs.Tests.{Tests}
 
 -- what an argument hands over and a call gives: a value or nothing, true or false, or a list of nodes

@@ -2,8 +2,8 @@
 use Rattle.std.specs.Prelude.{ℤ, Option, option_map}
 use Rattle.jp_doc.specs.Json as json
 use Rattle.jp_doc.specs.Json.{Json}
-use Rattle.jp_syntax.specs.Tree.{Text, Literal, number, text, truth, null}
-use Rattle.jp_check.specs.Numbers.{whole_number}
+use Rattle.jp_tree.specs.Tree.{Text, Literal, number, text, truth, null}
+use Rattle.jp_types.specs.Numbers.{whole_number}
 
 -- the value of a literal
 abbrev pub literal_value : Literal → Json

@@ -4,11 +4,11 @@ ghost use Rattle.std.specs.Prelude.{◌≡◌, [], ◌∷◌, codes, pos, negsuc
 ghost use Rattle.jp_part.specs.declared.part.Kind.TheVariants.{Null, Truth, Whole};
 ghost use Rattle.jp_doc.specs.Json.{null, truth, whole, text, object, no_members};
 ghost use Rattle.jp_doc.specs.Location.{node};
-ghost use Rattle.jp_syntax.specs.Tree as tree;
+ghost use Rattle.jp_tree.specs.Tree as tree;
 ghost use Rattle.jp_tree.specs.declared.tree.Operator.TheVariants.{Eq, Ne, Le, Ge, Lt, Gt};
 ghost use Rattle.jp_regexp.specs.Tests.{Tests};
-ghost use Rattle.jp_check.specs.Functions.{length_function, count_function, match_function, search_function};
-ghost use Rattle.jp_check.specs.Functions.{value_function, xor_function, distinct_function};
+ghost use Rattle.jp_types.specs.Functions.{length_function, count_function, match_function, search_function};
+ghost use Rattle.jp_types.specs.Functions.{value_function, xor_function, distinct_function};
 ghost use Rattle.jp_value.specs.Comparison.{compared};
 ghost use Rattle.jp_value.specs.Functions.{called, handed_value, handed_truth, handed_nodes, as_value};
 ghost use Rattle.jp_value.specs.Functions.{as_truth, as_nodes};

@@ -5,7 +5,7 @@ ghost use Rattle.std.specs.Prelude.{◌≡◌, Some, length, option_map, IfOk};
 ghost use Rattle.std.specs.Str.{chars};
 ghost use Rattle.jp_doc.specs.Json as json;
 ghost use Rattle.jp_part.specs.Inside.{kind_value};
-ghost use Rattle.jp_syntax.specs.View.{text_of as characters};
+ghost use Rattle.jp_tree.specs.View.{text_of as characters};
 ghost use Rattle.jp_check.specs.Ready.{constant_of};
 ghost use Rattle.jp_value.specs.Functions as spec;
 ghost use Rattle.jp_value.specs.Kinds.{given_value};

@@ -1,4 +1,4 @@
-use Rattle.jp_syntax.specs.View.{query_of}
+use Rattle.jp_tree.specs.View.{query_of}
 use Rattle.jp_check.proofs.NumbersSpelled.{spelled_readable}
 use Rattle.jp_check.proofs.Verdicts.{accepted_by, accepts_only}
 use Rattle.jp_check.proofs.checking.check.Goals as goal

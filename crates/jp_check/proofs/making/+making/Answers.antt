@@ -2,8 +2,8 @@ use Rattle.std.proofs.Common.{Some, option_map, ◌≡◌, ◌∙◌, ap, ap₂,
 use Rattle.std.proofs.Common.{length, rules, subst, inl, inr, [], ◌∷◌}
 use Rattle.std.proofs.lemmas.Grind.{common_steps}
 use Rattle.std.proofs.lemmas.Result.{IfOk-weaker, on_ok_weaker}
-use Rattle.jp_syntax.specs.Tree as tree
-use Rattle.jp_syntax.specs.PartViews.{argument_of, comparable_of, logical_of, selector_of, segment_of}
+use Rattle.jp_tree.specs.Tree as tree
+use Rattle.jp_tree.specs.PartViews.{argument_of, comparable_of, logical_of, selector_of, segment_of}
 use Rattle.jp_tree.proofs.Views.{filter_made, any_made, all_made, not_made, compare_made, test_made}
 use Rattle.jp_tree.proofs.Views.{test_call_made, single_made, value_call_made, query_argument_made}
 use Rattle.jp_tree.proofs.Views.{call_argument_made, logical_argument_made}

@@ -1,9 +1,9 @@
 use Rattle.std.proofs.Common.{◌≡◌, ◌++◌, drop, map}
-use Rattle.jp_syntax.specs.Tree.{segments, selectors, logicals}
-use Rattle.jp_syntax.specs.PartViews.{segments_of, selectors_of, logicals_of}
+use Rattle.jp_tree.specs.Tree.{segments, selectors, logicals}
+use Rattle.jp_tree.specs.PartViews.{segments_of, selectors_of, logicals_of}
 use Rattle.jp_check.specs.Known.{known_texts}
 use Rattle.jp_check.specs.LiteralPatterns.{segments_patterns, selectors_patterns, logicals_patterns}
-use Rattle.jp_syntax.specs.PartViews.{segment_of, selector_of, logical_of}
+use Rattle.jp_tree.specs.PartViews.{segment_of, selector_of, logical_of}
 use Rattle.jp_check.specs.Making.{Begins, Reads}
 use Rattle.jp_check.specs.Ready.{roots_of, segment_in, selector_in, logical_in}
 use Rattle.jp_check.proofs.making.+making.Given as goal

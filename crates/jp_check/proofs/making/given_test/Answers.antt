@@ -1,5 +1,5 @@
 use Rattle.std.proofs.Common.{◌≡◌, ◌∙◌, ap, sym, Some, option_map}
-use Rattle.jp_syntax.specs.Tree as tree
+use Rattle.jp_tree.specs.Tree as tree
 use Rattle.jp_types.specs.Functions.{function_named, match_function, search_function}
 use Rattle.jp_types.specs.Kinds.{function_of}
 use Rattle.jp_check.specs.Ready.{call_of_two, as_argument, value_in}

@@ -1,6 +1,6 @@
 use Rattle.std.proofs.Common.{◌∙◌, ◌++◌, map, sym, ap}
-use Rattle.jp_syntax.specs.Tree as tree
-use Rattle.jp_syntax.specs.PartViews.{segment_of, segments_of}
+use Rattle.jp_tree.specs.Tree as tree
+use Rattle.jp_tree.specs.PartViews.{segment_of, segments_of}
 use Rattle.jp_tree.specs.declared.tree.Query.{out-Query}
 use Rattle.jp_types.proofs.Levels.{query_level}
 use Rattle.jp_check.specs.Known.{known_texts}

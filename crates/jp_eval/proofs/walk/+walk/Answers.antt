@@ -11,8 +11,8 @@ use Rattle.std.specs.Str.{chars}
 use Rattle.jp_doc.specs.Height.{height}
 use Rattle.jp_doc.specs.Json.{text}
 use Rattle.jp_doc.specs.Location.{node, name, member_of}
-use Rattle.jp_check.specs.Numbers.{whole_number}
-use Rattle.jp_syntax.specs.View.{text_of}
+use Rattle.jp_types.specs.Numbers.{whole_number}
+use Rattle.jp_tree.specs.View.{text_of}
 use Rattle.jp_check.specs.Ready.{position_text, wanted_inside}
 use Rattle.jp_check.specs.declared.ready.Want.TheVariants as want
 use Rattle.jp_nodes.specs.Answers.{tells}

@@ -1,6 +1,6 @@
 use Rattle.std.proofs.Common.{◌∙◌, ap, sym, subst}
 use Rattle.std.specs.Str.{chars}
-use Rattle.jp_syntax.specs.Tree.{Text}
+use Rattle.jp_tree.specs.Tree.{Text}
 use Rattle.jp_check.specs.Plan.{planned_query}
 use Rattle.jp_check.specs.Verdict.{IsAccepted}
 use Rattle.jp_path.proofs.examples.query_and_plan.Goals as goal

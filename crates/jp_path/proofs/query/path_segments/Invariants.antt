@@ -1,6 +1,6 @@
 use Rattle.std.proofs.Common.{◌≡◌, ◌++◌, drop, map}
 use Rattle.jp_doc.specs.Location.{step_of}
-use Rattle.jp_syntax.specs.PartViews.{segments_of}
+use Rattle.jp_tree.specs.PartViews.{segments_of}
 use Rattle.jp_path.specs.PathQuery.{step_segment, AreSteps}
 use Rattle.jp_path.proofs.query.path_segments.Given as goal
 

@@ -1,7 +1,7 @@
 use Rattle.std.proofs.Common.{◌≡◌, ◌∙◌, ap}
 use Rattle.jp_doc.specs.Location.{location_of}
-use Rattle.jp_syntax.specs.Tree as tree
-use Rattle.jp_syntax.specs.View.{query_of}
+use Rattle.jp_tree.specs.Tree as tree
+use Rattle.jp_tree.specs.View.{query_of}
 use Rattle.jp_tree.specs.declared.tree.Start.TheVariants.{Root}
 use Rattle.jp_path.specs.PathQuery.{path_query}
 use Rattle.jp_path.proofs.OfPath as of_path

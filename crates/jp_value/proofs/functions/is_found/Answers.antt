@@ -3,7 +3,7 @@ use Rattle.std.specs.Prelude.{option_map}
 use Rattle.std.specs.Arc.{arc_value}
 use Rattle.std.specs.Str.{chars}
 use Rattle.std.proofs.lemmas.Result.{IfOk-weaker}
-use Rattle.jp_syntax.specs.View.{text_of}
+use Rattle.jp_tree.specs.View.{text_of}
 use Rattle.jp_regexp.specs.Held.{IsRead, pattern_of}
 use Rattle.jp_regexp.specs.Profile.{IsPatternOf}
 use Rattle.jp_check.proofs.PatternSets.{read_had}
