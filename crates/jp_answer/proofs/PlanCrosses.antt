@@ -5,17 +5,17 @@ use Rattle.jp_check.specs.contracts.accepted.Plan as Plan
 use Rattle.jp_answer.specs.contracts.pieces.Pieces as Pieces
 use Rattle.jp_buffer.proofs.line_ref.LineRef.TheSendSync as lines
 use denote.Ref.{NamedLft}
-use Rattle.jp_check.specs.contracts.ready.Query as Ready
-use Rattle.jp_check.specs.contracts.known.KnownPattern as Known
+use Rattle.jp_compiled.specs.contracts.query.Query as Ready
+use Rattle.jp_compiled.specs.contracts.known.KnownPattern as Known
 use Rattle.jp_tree.specs.contracts.tree.Query as Query
 use Rattle.jp_regexp.proofs.tree.CharSet.TheSendSync as sets
 use Rattle.jp_regexp.proofs.table.Table.TheSendSync as tables
-use Rattle.jp_check.proofs.ready.Constant.TheSendSync as constants
-use Rattle.jp_check.proofs.ready.Position.TheSendSync as positions
-use Rattle.jp_check.proofs.ready.Slice.TheSendSync as slices
-use Rattle.jp_check.proofs.ready.Want.TheSendSync as wants
-use Rattle.jp_check.proofs.ready.Form.TheSendSync as forms
-use Rattle.jp_check.proofs.ready.Logical.TheLaws.TheKnot.{crosses as ready_crosses}
+use Rattle.jp_compiled.proofs.query.Constant.TheSendSync as constants
+use Rattle.jp_compiled.proofs.query.Position.TheSendSync as positions
+use Rattle.jp_compiled.proofs.query.Slice.TheSendSync as slices
+use Rattle.jp_compiled.proofs.query.Want.TheSendSync as wants
+use Rattle.jp_compiled.proofs.query.Form.TheSendSync as forms
+use Rattle.jp_compiled.proofs.query.Logical.TheLaws.TheKnot.{crosses as ready_crosses}
 use Rattle.jp_regexp.proofs.parts.Part.TheLaws.TheKnot.{crosses as pattern_crosses}
 use Rattle.jp_tree.proofs.tree.Argument.TheLaws.TheKnot.{crosses as tree_crosses}
 

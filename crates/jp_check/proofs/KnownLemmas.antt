@@ -11,8 +11,8 @@ use lib.Utf8.{encodes}
 use Rattle.jp_tree.specs.View.{text_of}
 use Rattle.jp_regexp.specs.Held.{IsRead}
 use Rattle.jp_check.specs.Known.{known_texts}
-use Rattle.jp_check.specs.declared.known.KnownPattern.{KnownPattern}
-use Rattle.jp_check.proofs.PatternSets.{read_had}
+use Rattle.jp_compiled.specs.declared.known.KnownPattern.{KnownPattern}
+use Rattle.jp_compiled.proofs.PatternSets.{read_had}
 
 -- texts of the same characters have the same bytes
 same_bytes : (bs ds : List ℕ) → IsUtf8 bs → IsUtf8 ds → chars bs ≡ chars ds → bs ≡ ds

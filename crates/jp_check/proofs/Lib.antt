@@ -1,12 +1,10 @@
 pub mod KnownLemmas
 pub mod LiteralDigits
 pub mod NumbersSpelled
-pub mod PatternSets
 pub mod Sound
 pub mod TextLists
 pub mod Verdicts
 pub mod OneVerdict
-pub mod ReadyViews
 pub mod MakingSteps
 pub mod Naming
 pub mod CallsMade

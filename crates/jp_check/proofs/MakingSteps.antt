@@ -1,4 +1,4 @@
--- Steps of making a query ready.
+-- Steps of compiling a query.
 use Rattle.std.proofs.Common.{arith, length-append, ◌≡◌, ℕ, ◌+◌, ◌<◌, ◌≤◌, List, [], ◌∷◌, ◌++◌, length}
 use Rattle.std.proofs.Common.{get_or, drop, map, refl, sym, ap, ◌∙◌, append_assoc, append-nil}
 use Rattle.std.proofs.Math.Seq.{get_or-append_seam}
@@ -6,11 +6,11 @@ use Rattle.std.proofs.lemmas.List.{at_drop_more, at_drop_all, map-append}
 use Rattle.jp_check.specs.Making.{Begins, Reads}
 use Rattle.jp_tree.specs.Tree as tree
 use Rattle.jp_tree.specs.declared.tree.Start.TheVariants as start
-use Rattle.jp_check.specs.Ready.{Wanted, wanted, where_wanted, root_at, wanted_in, roots_behind, roots_of}
-use Rattle.jp_check.specs.Ready.{segments_in}
-use Rattle.jp_check.specs.declared.ready.Want.{Want}
-use Rattle.jp_check.specs.declared.ready.Want.TheVariants as want
-use Rattle.jp_check.specs.declared.ready.RootQuery.{RootQuery}
+use Rattle.jp_compiled.specs.Compiled.{Wanted, wanted, where_wanted, root_at, wanted_in, roots_behind, roots_of}
+use Rattle.jp_compiled.specs.Compiled.{segments_in}
+use Rattle.jp_compiled.specs.declared.query.Want.{Want}
+use Rattle.jp_compiled.specs.declared.query.Want.TheVariants as want
+use Rattle.jp_compiled.specs.declared.query.RootQuery.{RootQuery}
 
 pub begins_itself : (a : List Wanted) → Begins a a
 begins_itself a = ([], sym (append-nil a))

@@ -3,6 +3,5 @@ pub mod Plan
 pub mod LiteralPatterns
 pub mod Known
 pub mod Samples
-pub mod Ready
 pub mod Making
 pub mod QuerySets

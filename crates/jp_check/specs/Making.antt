@@ -1,12 +1,12 @@
--- Steps of a proof, which nobody has to believe: what a part of a ready tree stands for, whatever `$`
--- queries are listed behind those that are listed already, and what is asked of a part that is made ready.
+-- Steps of a proof, which nobody has to believe: what a part of a compiled query stands for, whatever `$`
+-- queries are listed behind those that are listed already, and what is asked of a part that is compiled.
 use Rattle.std.specs.Prelude.{◌≡◌, ◌++◌, ◌^◌, nat_lt, Bool, true, List}
 use Rattle.std.specs.List.{list_all}
 use Rattle.jp_types.specs.Numbers.{Written, literal_number, position, magnitude, is_in_range}
 use Rattle.jp_tree.specs.Tree.{Text}
 use Rattle.jp_check.specs.Known.{known_texts}
-use Rattle.jp_check.specs.declared.known.KnownPattern.{KnownPattern}
-use Rattle.jp_check.specs.Ready.{Wanted}
+use Rattle.jp_compiled.specs.declared.known.KnownPattern.{KnownPattern}
+use Rattle.jp_compiled.specs.Compiled.{Wanted}
 
 -- the first list begins the second
 abbrev pub Begins : List Wanted → List Wanted → Type 0
@@ -25,6 +25,6 @@ abbrev pub is_readable : Written → Bool
 is_readable (literal_number t) = nat_lt (magnitude t) (10 ^ 38)
 is_readable (position t) = is_in_range (position t)
 
--- a part of a query that can be made ready: its numbers can be read, and it is well-typed
+-- a part of a query that can be compiled: its numbers can be read, and it is well-typed
 abbrev pub IsSound : List Written → Bool → Type 0
 IsSound numbers typed = (list_all is_readable numbers ≡ true) × (typed ≡ true)

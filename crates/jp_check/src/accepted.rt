@@ -5,12 +5,12 @@ ghost use Rattle.jp_tree.specs.View.{query_of};
 ghost use Rattle.std.specs.Prelude.{◌≡◌};
 ghost use Rattle.jp_check.specs.Known.{known_texts};
 ghost use Rattle.jp_check.specs.LiteralPatterns.{literal_patterns};
-ghost use Rattle.jp_check.specs.Ready.{ready_query};
+ghost use Rattle.jp_compiled.specs.Compiled.{compiled_query};
 ghost use Rattle.jp_check.specs.QuerySets.{query_set};
 ghost use Rattle.jp_check.specs.Verdict.{IsAccepted};
 
-use crate::known::{Known, KnownPattern};
-use crate::ready;
+use crate::known::Known;
+use jp_compiled::{KnownPattern, Query as CompiledQuery};
 use jp_syntax::Query;
 
 /// A query that is well-formed, valid and well-typed (RFC 9535, 2.1).
@@ -18,10 +18,10 @@ use jp_syntax::Query;
 pub struct Plan {
     pub(crate) query: Query,
     pub(crate) patterns: Vec<KnownPattern>,
-    pub(crate) ready: ready::Query,
+    pub(crate) compiled: CompiledQuery,
     ghost accepted: { ∥ ((t : Text) × IsAccepted t (query_of query)) ∥₁ },
     ghost known: { known_texts patterns.items ≡ literal_patterns (query_of query) },
-    ghost made: { ready_query ready ≡ query_of query } by { query_set (ready_query ready) (query_of query) },
+    ghost made: { compiled_query compiled ≡ query_of query } by { query_set (compiled_query compiled) (query_of query) },
 }
 
 impl Plan {
@@ -37,11 +37,11 @@ impl Plan {
         &self.query
     }
 
-    /// The same query made ready, with its numbers, functions and literal patterns.
-    pub fn ready(&self) -> &ready::Query
-        ensures { ready_query result.now ≡ planned_query self.now }
+    /// The same query compiled, with its numbers, functions and literal patterns.
+    pub fn compiled(&self) -> &CompiledQuery
+        ensures { compiled_query result.now ≡ planned_query self.now }
     {
-        &self.ready
+        &self.compiled
     }
 
     /// What is known of the text as a pattern: what it is, if it stands in the query as a literal second

@@ -52,11 +52,11 @@ pub fn check(alloc: Global, query: Query) -> Result<Plan, QueryFault>
     ensures fault { IfErr result (λ f. f ≢ QueryFault.Memory → verdict_of (query_of query) ≡ Err f) }
 {
     verdict(&query)?;
-    let (ready, patterns) = make_query(alloc, &query)?;
+    let (compiled, patterns) = make_query(alloc, &query)?;
     Ok(Plan {
         query,
         patterns,
-        ready,
+        compiled,
     })
 }
 

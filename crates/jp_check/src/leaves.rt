@@ -1,4 +1,4 @@
-//! The leaves of a ready tree.
+//! The leaves of a compiled query.
 
 ghost use Rattle.std.specs.Prelude.{◌≡◌, option_map, true, IfOk};
 ghost use Rattle.std.specs.List.{list_all};
@@ -6,9 +6,9 @@ ghost use Rattle.std.specs.Str.{chars};
 ghost use Rattle.jp_tree.specs.View.{literal_of, slice_of, text_of};
 ghost use Rattle.jp_types.specs.Numbers as numbers;
 ghost use Rattle.jp_check.specs.Making.{is_readable};
-ghost use Rattle.jp_check.specs.Ready as ready;
+ghost use Rattle.jp_compiled.specs.Compiled as compiled;
 
-use crate::ready::{Constant, Number, Position, Slice};
+use jp_compiled::{Constant, Number, Position, Slice};
 use jp_syntax::Literal;
 use jp_types::{position, whole_number};
 use std::alloc::{AllocError, Global};
@@ -16,7 +16,7 @@ use std::alloc::{AllocError, Global};
 /// An index or a number of a slice.
 pub(crate) fn make_position(alloc: Global, text: &str) -> Result<Position, AllocError>
     requires { is_readable (numbers.position (chars text.now)) ≡ true }
-    ensures { IfOk result (λ p. ready.position_text p ≡ chars text.now) }
+    ensures { IfOk result (λ p. compiled.position_text p ≡ chars text.now) }
 {
     let Some(value) = position(text) else {
         unreachable!()
@@ -28,7 +28,7 @@ pub(crate) fn make_position(alloc: Global, text: &str) -> Result<Position, Alloc
 /// A number of a slice, which may be left out.
 fn make_part(alloc: Global, part: &Option<String>) -> Result<Option<Position>, AllocError>
     requires { list_all is_readable (numbers.part_of_slice (option_map text_of part.now)) ≡ true }
-    ensures { IfOk result (λ o. option_map ready.position_text o ≡ option_map text_of part.now) }
+    ensures { IfOk result (λ o. option_map compiled.position_text o ≡ option_map text_of part.now) }
 {
     match part {
         None => Ok(None),
@@ -39,7 +39,7 @@ fn make_part(alloc: Global, part: &Option<String>) -> Result<Option<Position>, A
 /// The numbers of a slice.
 pub(crate) fn make_slice(alloc: Global, slice: &jp_syntax::Slice) -> Result<Slice, AllocError>
     requires { list_all is_readable (numbers.selector_numbers (slice_of slice.now)) ≡ true }
-    ensures { IfOk result (λ s. ready.slice_of s ≡ slice_of slice.now) }
+    ensures { IfOk result (λ s. compiled.slice_of s ≡ slice_of slice.now) }
 {
     let first = make_part(alloc, &slice.first)?;
     let past = make_part(alloc, &slice.past)?;
@@ -62,7 +62,7 @@ fn make_number(alloc: Global, text: &str) -> Result<Number, AllocError>
 /// A literal.
 pub(crate) fn make_constant(alloc: Global, literal: &Literal) -> Result<Constant, AllocError>
     requires { list_all is_readable (numbers.literal_numbers (literal_of literal.now)) ≡ true }
-    ensures { IfOk result (λ x. ready.constant_of x ≡ literal_of literal.now) }
+    ensures { IfOk result (λ x. compiled.constant_of x ≡ literal_of literal.now) }
 {
     match literal {
         Literal::Number(text) => Ok(Constant::Whole(make_number(alloc, text.as_str())?)),

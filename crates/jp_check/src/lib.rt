@@ -9,7 +9,6 @@ pub mod laws;
 mod leaves;
 mod making;
 mod patterns;
-pub mod ready;
 
 pub use accepted::Plan;
 pub use checking::{check, plan};

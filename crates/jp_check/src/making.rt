@@ -1,4 +1,4 @@
-//! A query made ready, in one walk over its tree.
+//! A query compiled, in one walk over its tree.
 
 ghost use Rattle.std.specs.Prelude.{◌≡◌, ◌⊎◌, List, [], ◌∷◌, ◌++◌, Some, map, option_map, codes, true};
 ghost use Rattle.std.specs.Prelude.{IfOk, OnOk};
@@ -11,16 +11,17 @@ ghost use Rattle.jp_types.specs.Functions.{value_type, logical_type, nodes_type}
 ghost use Rattle.jp_types.specs.Kinds.{function_of};
 ghost use Rattle.jp_types.specs.Numbers as numbers;
 ghost use Rattle.jp_types.specs.Typing as typing;
-ghost use Rattle.jp_check.specs.Ready as ready;
-ghost use Rattle.jp_check.specs.Ready.{Wanted};
+ghost use Rattle.jp_compiled.specs.Compiled as compiled;
+ghost use Rattle.jp_compiled.specs.Compiled.{Wanted};
 ghost use Rattle.jp_check.specs.Known.{known_texts};
 ghost use Rattle.jp_check.specs.LiteralPatterns as literal;
 ghost use Rattle.jp_check.specs.Making.{Begins, Reads, Lists, IsSound};
 
-use crate::known::KnownPattern;
 use crate::leaves::{make_constant, make_position, make_slice};
 use crate::patterns::{list_pattern, literal_text};
-use crate::ready::{Form, Logical, Nodes, Query, RootQuery, Segment, Selector, Value, Want};
+use jp_compiled::{
+    Form, KnownPattern, Logical, Nodes, Query, RootQuery, Segment, Selector, Value, Want,
+};
 use jp_syntax::{Argument, Call, Comparable, Comparison, Start};
 use jp_types::{Function, function_named};
 use std::alloc::{AllocError, Global};
@@ -34,14 +35,14 @@ struct Listed {
     patterns: Vec<KnownPattern>,
 }
 
-/// A query made ready, and its literal patterns.
+/// A compiled query, and its literal patterns.
 pub(crate) fn make_query(
     alloc: Global,
     query: &jp_syntax::Query,
 ) -> Result<(Query, Vec<KnownPattern>), AllocError>
     requires { IsSound (numbers.query_numbers (query_of query.now))
         (typing.query_typed (query_of query.now)) }
-    ensures made { IfOk result (λ r. ready.ready_query r.0 ≡ query_of query.now) }
+    ensures made { IfOk result (λ r. compiled.compiled_query r.0 ≡ query_of query.now) }
     ensures patterns { IfOk result (λ r. known_texts r.1.items
         ≡ literal.literal_patterns (query_of query.now)) }
 {
@@ -51,12 +52,12 @@ pub(crate) fn make_query(
     };
     let segments = make_segments(alloc, query.segments.as_slice(), &mut listed)?;
     let Listed { roots, patterns } = listed;
-    let ready = Query {
+    let compiled = Query {
         start: query.start,
         segments,
         roots,
     };
-    Ok((ready, patterns))
+    Ok((compiled, patterns))
 }
 
 #[cycle(making)]
@@ -67,10 +68,10 @@ fn make_segments(
 ) -> Result<Vec<Segment>, AllocError>
     requires sound { IsSound (numbers.segments_numbers (tree.segments (view.segments_of segments.now)))
         (typing.segments_typed (tree.segments (view.segments_of segments.now))) }
-    ensures made { IfOk result (λ v. Reads (ready.roots_of listed.new.roots.items)
-        (λ all. map (ready.segment_in all) v.items) (view.segments_of segments.now)) }
-    ensures roots { OnOk result (Begins (ready.roots_of listed.old.roots.items)
-        (ready.roots_of listed.new.roots.items)) }
+    ensures made { IfOk result (λ v. Reads (compiled.roots_of listed.new.roots.items)
+        (λ all. map (compiled.segment_in all) v.items) (view.segments_of segments.now)) }
+    ensures roots { OnOk result (Begins (compiled.roots_of listed.old.roots.items)
+        (compiled.roots_of listed.new.roots.items)) }
     ensures patterns { OnOk result (Lists listed.old.patterns.items listed.new.patterns.items
         (literal.segments_patterns (tree.segments (view.segments_of segments.now)))) }
 {
@@ -91,10 +92,10 @@ fn make_selectors(
 ) -> Result<Vec<Selector>, AllocError>
     requires sound { IsSound (numbers.selectors_numbers (tree.selectors (view.selectors_of selectors.now)))
         (typing.selectors_typed (tree.selectors (view.selectors_of selectors.now))) }
-    ensures made { IfOk result (λ v. Reads (ready.roots_of listed.new.roots.items)
-        (λ all. map (ready.selector_in all) v.items) (view.selectors_of selectors.now)) }
-    ensures roots { OnOk result (Begins (ready.roots_of listed.old.roots.items)
-        (ready.roots_of listed.new.roots.items)) }
+    ensures made { IfOk result (λ v. Reads (compiled.roots_of listed.new.roots.items)
+        (λ all. map (compiled.selector_in all) v.items) (view.selectors_of selectors.now)) }
+    ensures roots { OnOk result (Begins (compiled.roots_of listed.old.roots.items)
+        (compiled.roots_of listed.new.roots.items)) }
     ensures patterns { OnOk result (Lists listed.old.patterns.items listed.new.patterns.items
         (literal.selectors_patterns (tree.selectors (view.selectors_of selectors.now)))) }
 {
@@ -113,10 +114,10 @@ fn make_selector(
 ) -> Result<Selector, AllocError>
     requires sound { IsSound (numbers.selector_numbers (view.selector_of selector.now))
         (typing.selector_typed (view.selector_of selector.now)) }
-    ensures made { IfOk result (λ x. Reads (ready.roots_of listed.new.roots.items)
-        (λ all. ready.selector_in all x) (view.selector_of selector.now)) }
-    ensures roots { OnOk result (Begins (ready.roots_of listed.old.roots.items)
-        (ready.roots_of listed.new.roots.items)) }
+    ensures made { IfOk result (λ x. Reads (compiled.roots_of listed.new.roots.items)
+        (λ all. compiled.selector_in all x) (view.selector_of selector.now)) }
+    ensures roots { OnOk result (Begins (compiled.roots_of listed.old.roots.items)
+        (compiled.roots_of listed.new.roots.items)) }
     ensures patterns { OnOk result (Lists listed.old.patterns.items listed.new.patterns.items
         (literal.selector_patterns (view.selector_of selector.now))) }
 {
@@ -143,10 +144,10 @@ fn make_logical(
 ) -> Result<Logical, AllocError>
     requires sound { IsSound (numbers.logical_numbers (view.logical_of logical.now))
         (typing.logical_typed (view.logical_of logical.now)) }
-    ensures made { IfOk result (λ l. Reads (ready.roots_of listed.new.roots.items)
-        (λ all. ready.logical_in all l) (view.logical_of logical.now)) }
-    ensures roots { OnOk result (Begins (ready.roots_of listed.old.roots.items)
-        (ready.roots_of listed.new.roots.items)) }
+    ensures made { IfOk result (λ l. Reads (compiled.roots_of listed.new.roots.items)
+        (λ all. compiled.logical_in all l) (view.logical_of logical.now)) }
+    ensures roots { OnOk result (Begins (compiled.roots_of listed.old.roots.items)
+        (compiled.roots_of listed.new.roots.items)) }
     ensures patterns { OnOk result (Lists listed.old.patterns.items listed.new.patterns.items
         (literal.logical_patterns (view.logical_of logical.now))) }
 {
@@ -172,10 +173,10 @@ fn make_negation(
 ) -> Result<Logical, AllocError>
     requires sound { IsSound (numbers.logical_numbers (view.logical_of part.now))
         (typing.logical_typed (view.logical_of part.now)) }
-    ensures made { IfOk result (λ l. Reads (ready.roots_of listed.new.roots.items)
-        (λ all. ready.logical_in all l) (tree.negation (view.logical_of part.now))) }
-    ensures roots { OnOk result (Begins (ready.roots_of listed.old.roots.items)
-        (ready.roots_of listed.new.roots.items)) }
+    ensures made { IfOk result (λ l. Reads (compiled.roots_of listed.new.roots.items)
+        (λ all. compiled.logical_in all l) (tree.negation (view.logical_of part.now))) }
+    ensures roots { OnOk result (Begins (compiled.roots_of listed.old.roots.items)
+        (compiled.roots_of listed.new.roots.items)) }
     ensures patterns { OnOk result (Lists listed.old.patterns.items listed.new.patterns.items
         (literal.logical_patterns (view.logical_of part.now))) }
 {
@@ -193,10 +194,10 @@ fn make_comparison(
 ) -> Result<Logical, AllocError>
     requires sound { IsSound (numbers.comparison_numbers (view.comparison_of comparison.now))
         (typing.comparison_typed (view.comparison_of comparison.now)) }
-    ensures made { IfOk result (λ l. Reads (ready.roots_of listed.new.roots.items)
-        (λ all. ready.logical_in all l) (tree.comparing (view.comparison_of comparison.now))) }
-    ensures roots { OnOk result (Begins (ready.roots_of listed.old.roots.items)
-        (ready.roots_of listed.new.roots.items)) }
+    ensures made { IfOk result (λ l. Reads (compiled.roots_of listed.new.roots.items)
+        (λ all. compiled.logical_in all l) (tree.comparing (view.comparison_of comparison.now))) }
+    ensures roots { OnOk result (Begins (compiled.roots_of listed.old.roots.items)
+        (compiled.roots_of listed.new.roots.items)) }
     ensures patterns { OnOk result (Lists listed.old.patterns.items listed.new.patterns.items
         (literal.comparison_patterns (view.comparison_of comparison.now))) }
 {
@@ -214,10 +215,10 @@ fn make_parts(
 ) -> Result<Vec<Logical>, AllocError>
     requires sound { IsSound (numbers.logicals_numbers (tree.logicals (view.logicals_of parts.now)))
         (typing.logicals_typed (tree.logicals (view.logicals_of parts.now))) }
-    ensures made { IfOk result (λ v. Reads (ready.roots_of listed.new.roots.items)
-        (λ all. map (ready.logical_in all) v.items) (view.logicals_of parts.now)) }
-    ensures roots { OnOk result (Begins (ready.roots_of listed.old.roots.items)
-        (ready.roots_of listed.new.roots.items)) }
+    ensures made { IfOk result (λ v. Reads (compiled.roots_of listed.new.roots.items)
+        (λ all. map (compiled.logical_in all) v.items) (view.logicals_of parts.now)) }
+    ensures roots { OnOk result (Begins (compiled.roots_of listed.old.roots.items)
+        (compiled.roots_of listed.new.roots.items)) }
     ensures patterns { OnOk result (Lists listed.old.patterns.items listed.new.patterns.items
         (literal.logicals_patterns (tree.logicals (view.logicals_of parts.now)))) }
 {
@@ -238,10 +239,10 @@ fn make_nodes(
 ) -> Result<Nodes, AllocError>
     requires sound { IsSound (numbers.query_numbers (query_of query.now))
         (typing.query_typed (query_of query.now)) }
-    ensures made { IfOk result (λ q. Reads (ready.roots_of listed.new.roots.items)
-        (λ all. ready.nodes_in all q want) (ready.queried (query_of query.now))) }
-    ensures roots { OnOk result (Begins (ready.roots_of listed.old.roots.items)
-        (ready.roots_of listed.new.roots.items)) }
+    ensures made { IfOk result (λ q. Reads (compiled.roots_of listed.new.roots.items)
+        (λ all. compiled.nodes_in all q want) (compiled.queried (query_of query.now))) }
+    ensures roots { OnOk result (Begins (compiled.roots_of listed.old.roots.items)
+        (compiled.roots_of listed.new.roots.items)) }
     ensures patterns { OnOk result (Lists listed.old.patterns.items listed.new.patterns.items
         (literal.literal_patterns (query_of query.now))) }
 {
@@ -261,10 +262,10 @@ fn make_nodes(
 fn make_side(alloc: Global, side: &Comparable, listed: &mut Listed) -> Result<Value, AllocError>
     requires sound { IsSound (numbers.comparable_numbers (view.comparable_of side.now))
         (typing.comparable_typed (view.comparable_of side.now)) }
-    ensures made { IfOk result (λ v. Reads (ready.roots_of listed.new.roots.items)
-        (λ all. ready.value_in all v) (view.comparable_of side.now)) }
-    ensures roots { OnOk result (Begins (ready.roots_of listed.old.roots.items)
-        (ready.roots_of listed.new.roots.items)) }
+    ensures made { IfOk result (λ v. Reads (compiled.roots_of listed.new.roots.items)
+        (λ all. compiled.value_in all v) (view.comparable_of side.now)) }
+    ensures roots { OnOk result (Begins (compiled.roots_of listed.old.roots.items)
+        (compiled.roots_of listed.new.roots.items)) }
     ensures patterns { OnOk result (Lists listed.old.patterns.items listed.new.patterns.items
         (literal.comparable_patterns (view.comparable_of side.now))) }
 {
@@ -283,10 +284,10 @@ fn make_value(alloc: Global, argument: &Argument, listed: &mut Listed) -> Result
     requires sound { IsSound (numbers.argument_numbers (view.argument_of argument.now))
         (typing.argument_typed (view.argument_of argument.now)) }
     requires fits { typing.fits value_type (view.argument_of argument.now) ≡ true }
-    ensures made { IfOk result (λ v. Reads (ready.roots_of listed.new.roots.items)
-        (λ all. ready.as_argument (ready.value_in all v)) (view.argument_of argument.now)) }
-    ensures roots { OnOk result (Begins (ready.roots_of listed.old.roots.items)
-        (ready.roots_of listed.new.roots.items)) }
+    ensures made { IfOk result (λ v. Reads (compiled.roots_of listed.new.roots.items)
+        (λ all. compiled.as_argument (compiled.value_in all v)) (view.argument_of argument.now)) }
+    ensures roots { OnOk result (Begins (compiled.roots_of listed.old.roots.items)
+        (compiled.roots_of listed.new.roots.items)) }
     ensures patterns { OnOk result (Lists listed.old.patterns.items listed.new.patterns.items
         (literal.argument_patterns (view.argument_of argument.now))) }
 {
@@ -311,10 +312,10 @@ fn make_argument_nodes(
     requires sound { IsSound (numbers.argument_numbers (view.argument_of argument.now))
         (typing.argument_typed (view.argument_of argument.now)) }
     requires fits { typing.fits nodes_type (view.argument_of argument.now) ≡ true }
-    ensures made { IfOk result (λ q. Reads (ready.roots_of listed.new.roots.items)
-        (λ all. ready.source_argument (ready.nodes_in all q want)) (view.argument_of argument.now)) }
-    ensures roots { OnOk result (Begins (ready.roots_of listed.old.roots.items)
-        (ready.roots_of listed.new.roots.items)) }
+    ensures made { IfOk result (λ q. Reads (compiled.roots_of listed.new.roots.items)
+        (λ all. compiled.source_argument (compiled.nodes_in all q want)) (view.argument_of argument.now)) }
+    ensures roots { OnOk result (Begins (compiled.roots_of listed.old.roots.items)
+        (compiled.roots_of listed.new.roots.items)) }
     ensures patterns { OnOk result (Lists listed.old.patterns.items listed.new.patterns.items
         (literal.argument_patterns (view.argument_of argument.now))) }
 {
@@ -338,11 +339,11 @@ fn make_distinct(
     requires sound { IsSound (numbers.call_numbers (view.call_of call.now))
         (typing.call_typed (view.call_of call.now)) }
     requires serves { typing.serves_as nodes_type (typing.type_of_call (view.call_of call.now)) ≡ true }
-    ensures made { IfOk result (λ q. Reads (ready.roots_of listed.new.roots.items)
-        (λ all. ready.source_argument (ready.nodes_in all q want))
+    ensures made { IfOk result (λ q. Reads (compiled.roots_of listed.new.roots.items)
+        (λ all. compiled.source_argument (compiled.nodes_in all q want))
         (tree.call_argument (view.call_of call.now))) }
-    ensures roots { OnOk result (Begins (ready.roots_of listed.old.roots.items)
-        (ready.roots_of listed.new.roots.items)) }
+    ensures roots { OnOk result (Begins (compiled.roots_of listed.old.roots.items)
+        (compiled.roots_of listed.new.roots.items)) }
     ensures patterns { OnOk result (Lists listed.old.patterns.items listed.new.patterns.items
         (literal.call_patterns (view.call_of call.now))) }
 {
@@ -362,10 +363,10 @@ fn make_value_call(alloc: Global, call: &Call, listed: &mut Listed) -> Result<Va
     requires sound { IsSound (numbers.call_numbers (view.call_of call.now))
         (typing.call_typed (view.call_of call.now)) }
     requires serves { typing.serves_as value_type (typing.type_of_call (view.call_of call.now)) ≡ true }
-    ensures made { IfOk result (λ v. Reads (ready.roots_of listed.new.roots.items)
-        (λ all. ready.value_in all v) (tree.value_call (view.call_of call.now))) }
-    ensures roots { OnOk result (Begins (ready.roots_of listed.old.roots.items)
-        (ready.roots_of listed.new.roots.items)) }
+    ensures made { IfOk result (λ v. Reads (compiled.roots_of listed.new.roots.items)
+        (λ all. compiled.value_in all v) (tree.value_call (view.call_of call.now))) }
+    ensures roots { OnOk result (Begins (compiled.roots_of listed.old.roots.items)
+        (compiled.roots_of listed.new.roots.items)) }
     ensures patterns { OnOk result (Lists listed.old.patterns.items listed.new.patterns.items
         (literal.call_patterns (view.call_of call.now))) }
 {
@@ -394,10 +395,10 @@ fn make_test_call(alloc: Global, call: &Call, listed: &mut Listed) -> Result<Log
     requires sound { IsSound (numbers.call_numbers (view.call_of call.now))
         (typing.call_typed (view.call_of call.now)) }
     requires serves { typing.serves_as logical_type (typing.type_of_call (view.call_of call.now)) ≡ true }
-    ensures made { IfOk result (λ l. Reads (ready.roots_of listed.new.roots.items)
-        (λ all. ready.logical_in all l) (tree.test_call (view.call_of call.now))) }
-    ensures roots { OnOk result (Begins (ready.roots_of listed.old.roots.items)
-        (ready.roots_of listed.new.roots.items)) }
+    ensures made { IfOk result (λ l. Reads (compiled.roots_of listed.new.roots.items)
+        (λ all. compiled.logical_in all l) (tree.test_call (view.call_of call.now))) }
+    ensures roots { OnOk result (Begins (compiled.roots_of listed.old.roots.items)
+        (compiled.roots_of listed.new.roots.items)) }
     ensures patterns { OnOk result (Lists listed.old.patterns.items listed.new.patterns.items
         (literal.call_patterns (view.call_of call.now))) }
 {
@@ -426,11 +427,11 @@ fn make_xor(
         (typing.arguments_typed (tree.arguments (view.arguments_of arguments.now))) }
     requires fit { typing.all_fit (logical_type ∷ logical_type ∷ [])
         (tree.arguments (view.arguments_of arguments.now)) ≡ true }
-    ensures made { IfOk result (λ l. Reads (ready.roots_of listed.new.roots.items)
-        (λ all. ready.logical_in all l) (tree.test_call (tree.call (codes "xor")
+    ensures made { IfOk result (λ l. Reads (compiled.roots_of listed.new.roots.items)
+        (λ all. compiled.logical_in all l) (tree.test_call (tree.call (codes "xor")
         (tree.arguments (view.arguments_of arguments.now))))) }
-    ensures roots { OnOk result (Begins (ready.roots_of listed.old.roots.items)
-        (ready.roots_of listed.new.roots.items)) }
+    ensures roots { OnOk result (Begins (compiled.roots_of listed.old.roots.items)
+        (compiled.roots_of listed.new.roots.items)) }
     ensures patterns { OnOk result (Lists listed.old.patterns.items listed.new.patterns.items
         (literal.arguments_patterns (tree.arguments (view.arguments_of arguments.now)))) }
 {
@@ -444,7 +445,7 @@ fn make_xor(
 
 /// How an argument that is true or false is written.
 fn form_of(argument: &Argument) -> Form
-    ensures { result ≡ ready.form_of (view.argument_of argument.now) }
+    ensures { result ≡ compiled.form_of (view.argument_of argument.now) }
 {
     match argument {
         Argument::Logical(_) => Form::Expression,
@@ -462,11 +463,11 @@ fn make_truth(
     requires sound { IsSound (numbers.argument_numbers (view.argument_of argument.now))
         (typing.argument_typed (view.argument_of argument.now)) }
     requires fits { typing.fits logical_type (view.argument_of argument.now) ≡ true }
-    ensures made { IfOk result (λ l. Reads (ready.roots_of listed.new.roots.items)
-        (λ all. ready.truth_argument (ready.form_of (view.argument_of argument.now))
-        (ready.logical_in all l.value)) (view.argument_of argument.now)) }
-    ensures roots { OnOk result (Begins (ready.roots_of listed.old.roots.items)
-        (ready.roots_of listed.new.roots.items)) }
+    ensures made { IfOk result (λ l. Reads (compiled.roots_of listed.new.roots.items)
+        (λ all. compiled.truth_argument (compiled.form_of (view.argument_of argument.now))
+        (compiled.logical_in all l.value)) (view.argument_of argument.now)) }
+    ensures roots { OnOk result (Begins (compiled.roots_of listed.old.roots.items)
+        (compiled.roots_of listed.new.roots.items)) }
     ensures patterns { OnOk result (Lists listed.old.patterns.items listed.new.patterns.items
         (literal.argument_patterns (view.argument_of argument.now))) }
 {
@@ -504,10 +505,10 @@ fn make_text_test(
         ⊎ (option_map function_of function ≡ Some functions.search_function) }
     ensures made { IfOk result (λ l. (name : Text)
         → option_map function_of function ≡ functions.function_named name
-        → Reads (ready.roots_of listed.new.roots.items) (λ all. ready.logical_in all l)
+        → Reads (compiled.roots_of listed.new.roots.items) (λ all. compiled.logical_in all l)
         (tree.test_call (tree.call name (tree.arguments (view.arguments_of arguments.now))))) }
-    ensures roots { OnOk result (Begins (ready.roots_of listed.old.roots.items)
-        (ready.roots_of listed.new.roots.items)) }
+    ensures roots { OnOk result (Begins (compiled.roots_of listed.old.roots.items)
+        (compiled.roots_of listed.new.roots.items)) }
     ensures patterns { OnOk result (Lists listed.old.patterns.items listed.new.patterns.items
         (literal.second_text (tree.arguments (view.arguments_of arguments.now))
         ++ literal.arguments_patterns (tree.arguments (view.arguments_of arguments.now)))) }
@@ -531,8 +532,8 @@ fn read_test(function: Option<Function>, text: Value, pattern: KnownPattern) -> 
         ⊎ (option_map function_of function ≡ Some functions.search_function) }
     ensures { (all : List Wanted) (name : Text)
         → option_map function_of function ≡ functions.function_named name
-        → ready.logical_in all result ≡ tree.test_call (ready.call_of_two name
-        (ready.as_argument (ready.value_in all text)) (ready.text_argument (text_of pattern.text))) }
+        → compiled.logical_in all result ≡ tree.test_call (compiled.call_of_two name
+        (compiled.as_argument (compiled.value_in all text)) (compiled.text_argument (text_of pattern.text))) }
 {
     match function {
         Some(Function::Match) => Logical::MatchRead(text, pattern),
@@ -547,8 +548,8 @@ fn given_test(function: Option<Function>, text: Value, pattern: Value) -> Logica
         ⊎ (option_map function_of function ≡ Some functions.search_function) }
     ensures { (all : List Wanted) (name : Text)
         → option_map function_of function ≡ functions.function_named name
-        → ready.logical_in all result ≡ tree.test_call (ready.call_of_two name
-        (ready.as_argument (ready.value_in all text)) (ready.as_argument (ready.value_in all pattern))) }
+        → compiled.logical_in all result ≡ tree.test_call (compiled.call_of_two name
+        (compiled.as_argument (compiled.value_in all text)) (compiled.as_argument (compiled.value_in all pattern))) }
 {
     match function {
         Some(Function::Match) => Logical::Match(text, pattern),

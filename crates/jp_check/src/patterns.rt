@@ -7,7 +7,7 @@ ghost use Rattle.jp_tree.specs.PartViews as view;
 ghost use Rattle.jp_check.specs.LiteralPatterns as literal;
 ghost use Rattle.jp_check.specs.Making.{Lists};
 
-use crate::known::KnownPattern;
+use jp_compiled::KnownPattern;
 use jp_regexp::Pattern;
 use jp_syntax::{Argument, Literal};
 use std::alloc::{AllocError, Global};

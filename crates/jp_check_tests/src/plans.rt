@@ -1,6 +1,6 @@
 //! The calls with ample memory. The expected answers come from the rules of RFC 9535.
 
-use jp_check::ready::{Selector, Want};
+use jp_compiled::{Selector, Want};
 use jp_check::{Known, check, plan};
 use jp_syntax::{QueryFault, read_query};
 use std::alloc::{AllocError, Global};
@@ -213,24 +213,24 @@ fn known_patterns_of_arguments(rt: HostRuntime) {
 }
 
 /// The index that stands first in the one segment, before a filter, and what is wanted of three `$` queries.
-fn parts_of_ready(alloc: Global, text: &str) -> Option<(i64, Want, Want, Want)> {
+fn parts_of_compiled(alloc: Global, text: &str) -> Option<(i64, Want, Want, Want)> {
     let plan = plan(alloc, text).ok()?;
-    let ready = plan.ready();
-    let [segment] = ready.segments.as_slice() else {
+    let compiled = plan.compiled();
+    let [segment] = compiled.segments.as_slice() else {
         return None;
     };
     let [Selector::Index(index), Selector::Filter(_)] = segment.selectors.as_slice() else {
         return None;
     };
-    let [first, second, third] = ready.roots.as_slice() else {
+    let [first, second, third] = compiled.roots.as_slice() else {
         return None;
     };
     Some((index.value, first.want, second.want, third.want))
 }
 
 #[test]
-fn ready_queries(rt: HostRuntime) {
-    let parts = parts_of_ready(
+fn compiled_queries(rt: HostRuntime) {
+    let parts = parts_of_compiled(
         rt.alloc(),
         "$[-7,?count($[?@.a==$.b])>value($..c)&&search(@,'a')]",
     );

@@ -3,9 +3,9 @@ use Rattle.std.proofs.Common.{◌≡◌, ◌⊎◌, inl, inr, ℕ, zero, suc, �
 use Rattle.std.proofs.Common.{◌∷◌, ◌++◌, length, get_or, refl, ap, ◌∙◌, arith}
 use Rattle.jp_doc.specs.Json.{Json}
 use Rattle.jp_tree.specs.Tree as tree
-use Rattle.jp_check.specs.Ready.{Wanted, first_of, count_of, only_of, distinct_of, wanted, where_wanted}
-use Rattle.jp_check.specs.declared.ready.Want.{Want}
-use Rattle.jp_check.specs.declared.ready.Want.TheVariants as want
+use Rattle.jp_compiled.specs.Compiled.{Wanted, first_of, count_of, only_of, distinct_of, wanted, where_wanted}
+use Rattle.jp_compiled.specs.declared.query.Want.{Want}
+use Rattle.jp_compiled.specs.declared.query.Want.TheVariants as want
 use Rattle.jp_nodes.specs.Answers.{tells, is_of}
 use Rattle.jp_eval.specs.Rooted.{is_answer, are_answers, root_nodes}
 use Rattle.jp_nodes.specs.declared.answers.Answer.{Answer}

@@ -5,16 +5,16 @@ use Rattle.std.proofs.lemmas.List.Concat.{flat_map-append}
 use Rattle.std.specs.List.{filter, flat_map}
 use Rattle.jp_doc.specs.Location.{Node}
 use Rattle.jp_tree.specs.Tree as tree
-use Rattle.jp_check.specs.Ready.{segment_in, segments_in, selector_in}
-use Rattle.jp_check.specs.declared.ready.Segment.{Segment, out-Segment}
-use Rattle.jp_check.specs.declared.ready.Selector.{Selector}
+use Rattle.jp_compiled.specs.Compiled.{segment_in, segments_in, selector_in}
+use Rattle.jp_compiled.specs.declared.query.Segment.{Segment, out-Segment}
+use Rattle.jp_compiled.specs.declared.query.Selector.{Selector}
 use Rattle.jp_eval.specs.Base.{Base}
 use Rattle.jp_nodes.specs.Nodes.{children, descendants}
 use Rattle.jp_eval.specs.Nodelist as spec
 use Rattle.jp_value.specs.RightTests.{tests}
 use Rattle.jp_eval.specs.Walk.{picked, picked_by, reached}
 use Rattle.jp_nodes.proofs.Descent.{descend}
-use Rattle.jp_eval.proofs.ReadyParts.{segment_is}
+use Rattle.jp_eval.proofs.CompiledParts.{segment_is}
 
 flat_map-flat_map : {X Y Z : Type 0} (f : Y → List Z) (g : X → List Y) (xs : List X)
     → flat_map f (flat_map g xs) ≡ flat_map (λ x. flat_map f (g x)) xs

@@ -8,17 +8,17 @@ use denote.Struct.Tuple.{TupleAt, field_at, type_at}
 use mathlib.Core.List.{List, [], ◌∷◌}
 use mir.Syntax.{Sym}
 use Rattle.std.proofs.Crossing.{crosses}
-use Rattle.jp_check.specs.contracts.ready.Segment as Segment
-use Rattle.jp_check.specs.contracts.ready.Selector as Selector
-use Rattle.jp_check.specs.contracts.ready.Logical as Logical
-use Rattle.jp_check.specs.contracts.ready.RootQuery as RootQuery
+use Rattle.jp_compiled.specs.contracts.query.Segment as Segment
+use Rattle.jp_compiled.specs.contracts.query.Selector as Selector
+use Rattle.jp_compiled.specs.contracts.query.Logical as Logical
+use Rattle.jp_compiled.specs.contracts.query.RootQuery as RootQuery
 use Rattle.jp_regexp.proofs.tree.CharSet.TheSendSync as sets
 use Rattle.jp_regexp.proofs.table.Table.TheSendSync as tables
-use Rattle.jp_check.proofs.ready.Constant.TheSendSync as constants
-use Rattle.jp_check.proofs.ready.Position.TheSendSync as positions
-use Rattle.jp_check.proofs.ready.Slice.TheSendSync as slices
-use Rattle.jp_check.proofs.ready.Form.TheSendSync as forms
-use Rattle.jp_check.proofs.ready.Logical.TheLaws.TheKnot.{crosses as ready_crosses}
+use Rattle.jp_compiled.proofs.query.Constant.TheSendSync as constants
+use Rattle.jp_compiled.proofs.query.Position.TheSendSync as positions
+use Rattle.jp_compiled.proofs.query.Slice.TheSendSync as slices
+use Rattle.jp_compiled.proofs.query.Form.TheSendSync as forms
+use Rattle.jp_compiled.proofs.query.Logical.TheLaws.TheKnot.{crosses as ready_crosses}
 use Rattle.jp_regexp.proofs.parts.Part.TheLaws.TheKnot.{crosses as pattern_crosses}
 use Rattle.jp_trail.proofs.link.Link.TheSendSync as links
 use Rattle.std.proofs.MapsCrossing.{crosses as map_crosses}

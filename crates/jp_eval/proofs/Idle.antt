@@ -4,11 +4,11 @@ use Rattle.std.specs.List.{filter, flat_map}
 use Rattle.jp_doc.specs.Json.{Json, null, truth, whole, text, array, object}
 use Rattle.jp_doc.specs.Location as at
 use Rattle.jp_doc.specs.Location.{Location, Node, node}
-use Rattle.jp_check.specs.Ready.{position_text}
-use Rattle.jp_check.specs.declared.ready.Segment.{Segment}
-use Rattle.jp_check.specs.declared.ready.Selector.{Selector}
-use Rattle.jp_check.specs.declared.ready.Selector.TheVariants as sel
-use Rattle.jp_check.specs.declared.ready.Slice.{Slice}
+use Rattle.jp_compiled.specs.Compiled.{position_text}
+use Rattle.jp_compiled.specs.declared.query.Segment.{Segment}
+use Rattle.jp_compiled.specs.declared.query.Selector.{Selector}
+use Rattle.jp_compiled.specs.declared.query.Selector.TheVariants as sel
+use Rattle.jp_compiled.specs.declared.query.Slice.{Slice}
 use Rattle.jp_value.specs.Literals.{written_value}
 use Rattle.jp_eval.specs.Base.{Base}
 use Rattle.jp_part.specs.Inside.{IsScalar}
@@ -16,7 +16,7 @@ use Rattle.jp_eval.specs.Nodelist as spec
 use Rattle.jp_nodes.specs.Nodes.{child, children, items_at, descendants}
 use Rattle.jp_eval.specs.Walk.{picked, picked_by, reached, is_true}
 use Rattle.jp_eval.proofs.Chains.{reached-none}
-use Rattle.jp_eval.proofs.ReadyParts.{picked_name, picked_wild, picked_index, picked_slice, picked_filter}
+use Rattle.jp_eval.proofs.CompiledParts.{picked_name, picked_wild, picked_index, picked_slice, picked_filter}
 
 no_member : (k : List ℕ) (p : Location) (v : Json) → IsScalar v → child (at.name k) (node p v) ≡ []
 no_member k p null is = refl

@@ -6,7 +6,7 @@ pub mod Answering
 pub mod Idle
 pub mod WalkSteps
 pub mod Places
-pub mod ReadyParts
+pub mod CompiledParts
 pub mod Answered
 pub mod Stretches
 mod Crossing

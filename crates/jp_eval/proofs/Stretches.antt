@@ -5,8 +5,8 @@ use Rattle.std.proofs.lemmas.List.{at_drop_more, at_drop_all}
 use Rattle.std.proofs.lemmas.List.Concat.{flat_map-append}
 use Rattle.std.specs.List.{filter, flat_map}
 use Rattle.jp_doc.specs.Location.{Location, Node}
-use Rattle.jp_check.specs.declared.ready.Segment.{Segment}
-use Rattle.jp_check.specs.declared.ready.Selector.{Selector}
+use Rattle.jp_compiled.specs.declared.query.Segment.{Segment}
+use Rattle.jp_compiled.specs.declared.query.Selector.{Selector}
 use Rattle.jp_eval.specs.Base.{Base}
 use Rattle.jp_nodes.specs.Kids.{all_height}
 use Rattle.jp_eval.specs.Along.{done_along, done_along_all, highest}

@@ -16,8 +16,8 @@ use Rattle.jp_part.specs.Part.{part_value}
 use Rattle.jp_eval.specs.Walk.{picked, picked_by, reached}
 use Rattle.jp_part.specs.declared.part.Part.{Part}
 use Rattle.jp_trail.specs.declared.link.Link.{Link}
-use Rattle.jp_check.specs.declared.ready.Segment.{Segment}
-use Rattle.jp_check.specs.declared.ready.Selector.{Selector}
+use Rattle.jp_compiled.specs.declared.query.Segment.{Segment}
+use Rattle.jp_compiled.specs.declared.query.Selector.{Selector}
 use Rattle.jp_eval.specs.Base.{Base}
 use Rattle.jp_eval.proofs.Chains.{reached-append, reached-descend}
 use Rattle.jp_nodes.proofs.Keeping.{stepped, ended, plus-append}

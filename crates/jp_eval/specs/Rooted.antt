@@ -3,8 +3,8 @@ use Rattle.std.specs.Prelude.{Bool, true, false, ◌&&◌, List, [], ◌∷◌}
 use Rattle.jp_doc.specs.Json.{Json}
 use Rattle.jp_doc.specs.Location.{Node, node}
 use Rattle.jp_tree.specs.Tree.{Segments}
-use Rattle.jp_check.specs.Ready.{Wanted, first_of, count_of, only_of, distinct_of}
-use Rattle.jp_check.specs.declared.ready.Want.TheVariants as want
+use Rattle.jp_compiled.specs.Compiled.{Wanted, first_of, count_of, only_of, distinct_of}
+use Rattle.jp_compiled.specs.declared.query.Want.TheVariants as want
 use Rattle.jp_value.specs.RightTests.{tests}
 use Rattle.jp_nodes.specs.Answers.{tells}
 use Rattle.jp_nodes.specs.declared.answers.Answer.{Answer}

@@ -3,13 +3,13 @@ use Rattle.std.specs.Prelude.{List, [], ◌∷◌, Bool, Option}
 use Rattle.std.specs.List.{filter, flat_map}
 use Rattle.jp_doc.specs.Json.{Json}
 use Rattle.jp_doc.specs.Location.{Node}
-use Rattle.jp_check.specs.Ready.{logical_in, selector_in, segments_in, value_in, nodes_in, source_argument}
-use Rattle.jp_check.specs.declared.ready.Want.{Want}
-use Rattle.jp_check.specs.declared.ready.Segment.{Segment}
-use Rattle.jp_check.specs.declared.ready.Selector.{Selector}
-use Rattle.jp_check.specs.declared.ready.Logical.{Logical}
-use Rattle.jp_check.specs.declared.ready.Value.{Value}
-use Rattle.jp_check.specs.declared.ready.Nodes.{Nodes}
+use Rattle.jp_compiled.specs.Compiled.{logical_in, selector_in, segments_in, value_in, nodes_in, source_argument}
+use Rattle.jp_compiled.specs.declared.query.Want.{Want}
+use Rattle.jp_compiled.specs.declared.query.Segment.{Segment}
+use Rattle.jp_compiled.specs.declared.query.Selector.{Selector}
+use Rattle.jp_compiled.specs.declared.query.Logical.{Logical}
+use Rattle.jp_compiled.specs.declared.query.Value.{Value}
+use Rattle.jp_compiled.specs.declared.query.Nodes.{Nodes}
 use Rattle.jp_eval.specs.Base.{Base}
 use Rattle.jp_value.specs.Functions.{as_nodes}
 use Rattle.jp_nodes.specs.Nodes.{descendants}

@@ -139,13 +139,13 @@ fn visit_in<V: Visit + Drop>(
         V.kept t ≡ fold V.put (V.kept taker)
         (document_nodes tests (planned_query plan.now) (part_value root.entry))) }
 {
-    let ready = plan.ready();
-    let ground = answer_all::<V>(alloc, root, ready.roots.as_slice())?;
+    let compiled = plan.compiled();
+    let ground = answer_all::<V>(alloc, root, compiled.roots.as_slice())?;
     let mut path = Trail::with_room(alloc, mem::replace(room, Room::new(alloc)));
     let mut found = Found::Taker(taker);
     run(
         &ground,
-        ready.segments.as_slice(),
+        compiled.segments.as_slice(),
         root,
         &mut path,
         &mut found,
@@ -172,11 +172,11 @@ fn split_in<R: Threads + Sync, F: Fork + Sync, V: Visit + Drop + Send>(
         V.kept t ≡ fold V.put (V.kept taker)
         (document_nodes tests (planned_query plan.now) (part_value root.entry))) }
 {
-    let ready = plan.ready();
-    let ground = answer_all::<V>(alloc, root, ready.roots.as_slice())?;
+    let compiled = plan.compiled();
+    let ground = answer_all::<V>(alloc, root, compiled.roots.as_slice())?;
     let mut path = Trail::with_room(alloc, mem::replace(room, Room::new(alloc)));
     let mut found = Found::Taker(taker);
-    let task = Task::Run(ready.segments.as_slice());
+    let task = Task::Run(compiled.segments.as_slice());
     go_split(rt, fork, cuts, &ground, task, root, &mut path, &mut found)?;
     *room = path.into_room();
     match into_taker(found) {

@@ -1,11 +1,11 @@
 //! What a walk is given throughout.
 
 ghost use Rattle.std.specs.Prelude.{◌≡◌, true};
-ghost use Rattle.jp_check.specs.Ready.{roots_of};
+ghost use Rattle.jp_compiled.specs.Compiled.{roots_of};
 ghost use Rattle.jp_eval.specs.Rooted.{are_answers};
 ghost use Rattle.jp_part.specs.Part.{part_value};
 
-use jp_check::ready::{RootQuery, Want};
+use jp_compiled::{RootQuery, Want};
 use jp_nodes::answers::{Answer, is_told, of_one};
 use jp_part::Part;
 use std::alloc::{AllocError, Global};
@@ -24,7 +24,7 @@ pub(crate) struct Ground<'v> {
 
 impl<'v> Ground<'v> {
     ghost use Rattle.std.specs.Prelude.{◌++◌, ◌∷◌, [], IfOk};
-    ghost use Rattle.jp_check.specs.Ready.{root_at, wanted_in};
+    ghost use Rattle.jp_compiled.specs.Compiled.{root_at, wanted_in};
     ghost use Rattle.jp_doc.specs.Location.{Node};
     ghost use Rattle.jp_nodes.specs.Answers.{tells};
     ghost use Rattle.jp_eval.specs.Rooted.{is_answer};

@@ -1,13 +1,13 @@
 //! The `$` queries inside filters, each answered once a document.
 
 ghost use Rattle.std.specs.Prelude.{◌≡◌, true, IfOk};
-ghost use Rattle.jp_check.specs.Ready.{roots_of, wanted_in};
+ghost use Rattle.jp_compiled.specs.Compiled.{roots_of, wanted_in};
 ghost use Rattle.jp_eval.specs.Rooted.{is_answer};
 ghost use Rattle.jp_part.specs.Part.{part_value};
 
 use crate::ground::Ground;
 use crate::walk::run;
-use jp_check::ready::RootQuery;
+use jp_compiled::RootQuery;
 use jp_nodes::Visit;
 use jp_nodes::answers::Answer;
 use jp_nodes::found::{into_answer, none_found};

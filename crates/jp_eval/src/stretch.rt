@@ -12,7 +12,7 @@ ghost use Rattle.jp_part.specs.Part.{part_value};
 ghost use Rattle.jp_eval.specs.Walk.{picked, picked_by, reached, done};
 
 use crate::walk::Task;
-use jp_check::ready::{Segment, Selector};
+use jp_compiled::{Segment, Selector};
 use jp_nodes::Children;
 use jp_nodes::children::{children_of, named, placed, sliced};
 use jp_part::Part;

@@ -15,7 +15,7 @@ ghost use Rattle.jp_eval.specs.Base.{Base, base_of};
 ghost use Rattle.jp_eval.specs.Walk.{picked, picked_by, reached, is_true, value_given, nodes_given, done};
 
 use crate::ground::Ground;
-use jp_check::ready::{Logical, Nodes, Segment, Selector, Value as Giver, Want};
+use jp_compiled::{Logical, Nodes, Segment, Selector, Value as Giver, Want};
 use jp_nodes::answers::{Answer, has_first, of_distinct, operand};
 use jp_nodes::children::{children_of, sliced};
 use jp_nodes::found::{Found, add, into_answer, is_full, none_found};

@@ -4,8 +4,8 @@ use Rattle.std.proofs.Common.{◌++◌, map, refl, sym, ap, ◌∙◌, arith, ap
 use Rattle.std.specs.List.{fold}
 use Rattle.jp_doc.specs.Json.{Json}
 use Rattle.jp_doc.specs.Location.{Node, Location}
-use Rattle.jp_check.specs.declared.ready.Want.{Want}
-use Rattle.jp_check.specs.declared.ready.Want.TheVariants as want
+use Rattle.jp_compiled.specs.declared.query.Want.{Want}
+use Rattle.jp_compiled.specs.declared.query.Want.TheVariants as want
 use Rattle.jp_value.specs.Functions.{first_value}
 use Rattle.jp_nodes.specs.Kept.{Kept, put_found, plus, none_kept, first, count, only, located, Alone}
 use Rattle.jp_nodes.specs.Kept.{none as no_value, one, several}

@@ -2,8 +2,8 @@
 -- nodes.
 use Rattle.std.specs.Prelude.{Bool, true, false, ◌==◌, List, length, option_map}
 use Rattle.jp_doc.specs.Location.{Node}
-use Rattle.jp_check.specs.declared.ready.Want.{Want}
-use Rattle.jp_check.specs.declared.ready.Want.TheVariants as want
+use Rattle.jp_compiled.specs.declared.query.Want.{Want}
+use Rattle.jp_compiled.specs.declared.query.Want.TheVariants as want
 use Rattle.jp_value.specs.Comparison.{eq}
 use Rattle.jp_value.specs.Functions.{first_value, only_value}
 use Rattle.jp_nodes.specs.Different.{is_different}

@@ -5,8 +5,8 @@ use Rattle.std.specs.Prelude.{List, [], ◌∷◌, ◌++◌, map}
 use Rattle.std.specs.List.{fold}
 use Rattle.jp_doc.specs.Json.{Json}
 use Rattle.jp_doc.specs.Location.{Node, Location, location_of}
-use Rattle.jp_check.specs.declared.ready.Want.{Want}
-use Rattle.jp_check.specs.declared.ready.Want.TheVariants as want
+use Rattle.jp_compiled.specs.declared.query.Want.{Want}
+use Rattle.jp_compiled.specs.declared.query.Want.TheVariants as want
 use Rattle.jp_part.specs.Part.{part_value}
 use Rattle.jp_nodes.specs.declared.found.Found.{Found}
 use Rattle.jp_nodes.specs.declared.found.Found.TheVariants.{Taker, First, Count, Only, Distinct}

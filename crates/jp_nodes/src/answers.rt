@@ -1,8 +1,8 @@
 //! What a filter is told of the nodes of a query, by what it wants of them.
 
 ghost use Rattle.std.specs.Prelude.{◌≡◌, ◌∷◌, [], List, Some, is_some, length, option_map, true};
-ghost use Rattle.jp_check.specs.Ready.{wanted_inside};
-ghost use Rattle.jp_check.specs.declared.ready.Want.TheVariants.{First, Count, Only};
+ghost use Rattle.jp_compiled.specs.Compiled.{wanted_inside};
+ghost use Rattle.jp_compiled.specs.declared.query.Want.TheVariants.{First, Count, Only};
 ghost use Rattle.jp_doc.specs.Location.{Location, Node, node};
 ghost use Rattle.jp_nodes.specs.Answers.{tells, is_of};
 ghost use Rattle.jp_value.specs.Functions.{number_value, first_value, only_value, distinct};
@@ -13,7 +13,7 @@ ghost use Rattle.jp_nodes.specs.declared.answers.Answer.TheVariants.{Distinct};
 
 use crate::different::Different;
 use crate::found::Alone;
-use jp_check::ready::Want;
+use jp_compiled::Want;
 use jp_part::{Kind, Part};
 
 /// What a filter is told of the nodes of a query.

@@ -2,7 +2,7 @@
 
 ghost use Rattle.std.specs.Prelude.{◌≡◌, ◌+◌, ◌↔◌, List, true, false};
 ghost use Rattle.std.specs.Prelude.{IsTrue, IfSome, IsNone, IfOk, OnOk};
-ghost use Rattle.jp_check.specs.declared.ready.Want.{Want};
+ghost use Rattle.jp_compiled.specs.declared.query.Want.{Want};
 ghost use Rattle.jp_doc.specs.Location.{Node};
 ghost use Rattle.jp_nodes.specs.Answers.{tells};
 ghost use Rattle.jp_nodes.specs.Kept.{kept, put_found, none_kept, taken, alone_of, put_alone, plus};
@@ -13,7 +13,7 @@ ghost use Rattle.jp_part.specs.Part.{part_value};
 use crate::answers::Answer;
 use crate::different::{Located, each_once, locate, none_located};
 use crate::visit::Visit;
-use jp_check::ready::Want;
+use jp_compiled::Want;
 use jp_part::Part;
 use jp_trail::Trail;
 use std::alloc::{AllocError, Global};

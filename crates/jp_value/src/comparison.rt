@@ -10,7 +10,7 @@ ghost use Rattle.jp_doc.specs.Json.{text_eq, text_cmp, value_of, whole_of, items
 ghost use Rattle.jp_value.specs.Comparison as spec;
 ghost use Rattle.jp_value.specs.Operands.{operand_value, HasWholeNumbers, IsPlain};
 
-use jp_syntax::Operator;
+use jp_tree::Operator;
 use serde_json::{Map, Number, Value};
 
 /// A comparable value, or nothing.

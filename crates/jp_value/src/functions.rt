@@ -6,14 +6,14 @@ ghost use Rattle.std.specs.Str.{chars};
 ghost use Rattle.jp_doc.specs.Json as json;
 ghost use Rattle.jp_part.specs.Inside.{kind_value};
 ghost use Rattle.jp_tree.specs.View.{text_of as characters};
-ghost use Rattle.jp_check.specs.Ready.{constant_of};
+ghost use Rattle.jp_compiled.specs.Compiled.{constant_of};
 ghost use Rattle.jp_value.specs.Functions as spec;
 ghost use Rattle.jp_value.specs.Kinds.{given_value};
 ghost use Rattle.jp_value.specs.Texts.{text_in};
 ghost use Rattle.jp_value.specs.Literals.{literal_value};
 ghost use Rattle.jp_value.specs.RightTests.{tests};
 
-use jp_check::ready::{Constant, KnownPattern};
+use jp_compiled::{Constant, KnownPattern};
 use jp_part::Kind;
 use jp_regexp::Pattern;
 use std::alloc::{AllocError, Global};

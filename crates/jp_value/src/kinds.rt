@@ -9,7 +9,7 @@ ghost use Rattle.jp_value.specs.Kinds.{given_value};
 
 use crate::comparison::{is_text_below, same_text};
 use jp_part::{Items, Kind, MemberRow, Members};
-use jp_syntax::Operator;
+use jp_tree::Operator;
 use std::alloc::{AllocError, Global};
 
 /// Whether two values are deeply equal.

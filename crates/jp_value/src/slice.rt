@@ -2,13 +2,13 @@
 
 ghost use Rattle.std.specs.Prelude.{◌≡◌, ◌≤◌, ◌<◌, ◌-◌, ◌<ℤ◌, pos, ℕ, option_map, unwrap_or};
 ghost use Rattle.std.specs.Option.{ForSome};
-ghost use Rattle.jp_check.specs.Ready.{position_text};
+ghost use Rattle.jp_compiled.specs.Compiled.{position_text};
 ghost use Rattle.jp_value.specs.BoundsView.{bounds_value, IsPosition};
 ghost use Rattle.jp_value.specs.Literals.{written_value};
 ghost use Rattle.jp_value.specs.Places.{AreWithin, IfPlace, IsPlace, from_place, later};
 ghost use Rattle.jp_value.specs.Slice as spec;
 
-use jp_check::ready::{Position, Slice};
+use jp_compiled::{Position, Slice};
 
 /// The bounds of a slice within an array: from `lower` up, or from `upper` down, by `step`.
 #[derive(Clone, Copy, Debug, PartialEq, Eq)]

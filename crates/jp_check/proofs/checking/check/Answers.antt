@@ -7,8 +7,8 @@ pub invariant_of-result : goal.invariant_of-result
 invariant_of-result c =
     record {
       accepted = accepted_by (query_of c.args.query) c.requires.spelled c.in_ok-verdict.ensures.ok;
-      known = c.in_ok-ready.ensures.patterns;
-      made = c.in_ok-ready.ensures.made;
+      known = c.in_ok-compiled.ensures.patterns;
+      made = c.in_ok-compiled.ensures.made;
     }
 
 pub make_query-requires : goal.make_query-requires

@@ -10,24 +10,24 @@ use Rattle.jp_tree.proofs.Views.{call_argument_made, logical_argument_made}
 use Rattle.jp_tree.specs.declared.tree.Start.TheVariants as start
 use Rattle.jp_tree.specs.declared.tree.Query.{out-Query}
 use Rattle.jp_tree.specs.declared.tree.Segment.{the_lemmas}
-use Rattle.jp_check.specs.declared.ready.RootQuery.{RootQuery}
+use Rattle.jp_compiled.specs.declared.query.RootQuery.{RootQuery}
 use Rattle.std.specs.Str.{chars}
 use Rattle.jp_types.specs.Functions.{function_named, length_function, count_function, value_function}
 use Rattle.jp_types.specs.Functions.{xor_function, distinct_function, match_function, search_function}
 use Rattle.jp_types.specs.Functions.{logical_type, value_type}
 use Rattle.jp_types.specs.Kinds.{function_of}
-use Rattle.jp_check.specs.Ready.{segment_in, selector_in, logical_in, value_in, as_argument}
-use Rattle.jp_check.specs.Ready.{text_argument, form_of, truth_argument, call_of_one, call_of_two}
-use Rattle.jp_check.specs.Ready.{nodes_in, queried, source_argument, source_test, source_side}
+use Rattle.jp_compiled.specs.Compiled.{segment_in, selector_in, logical_in, value_in, as_argument}
+use Rattle.jp_compiled.specs.Compiled.{text_argument, form_of, truth_argument, call_of_one, call_of_two}
+use Rattle.jp_compiled.specs.Compiled.{nodes_in, queried, source_argument, source_test, source_side}
 use Rattle.jp_types.proofs.Levels.{query_level, segment_level, comparison_level}
 use Rattle.jp_check.proofs.CallsMade.{called_one, called, given_two, text_is, query_written}
 use Rattle.jp_check.proofs.CallsMade.{call_written, logical_written, called_test}
 use Rattle.jp_check.proofs.Naming.{named}
 use Rattle.jp_check.proofs.MakingSteps.{begins_itself, begins_on, made_more, made_all, listed_begins}
 use Rattle.jp_check.proofs.MakingSteps.{root_found}
-use Rattle.jp_check.proofs.ReadyViews.{filter_read, any_read, all_read, not_read, compare_read, test_read}
-use Rattle.jp_check.proofs.ReadyViews.{single_read, length_read, count_read, only_read, here_read}
-use Rattle.jp_check.proofs.ReadyViews.{root_read, segment_read, xor_read, distinct_read}
+use Rattle.jp_compiled.proofs.CompiledViews.{filter_read, any_read, all_read, not_read, compare_read, test_read}
+use Rattle.jp_compiled.proofs.CompiledViews.{single_read, length_read, count_read, only_read, here_read}
+use Rattle.jp_compiled.proofs.CompiledViews.{root_read, segment_read, xor_read, distinct_read}
 use Rattle.jp_tree.specs.PartViews.{logicals_of, selectors_of, segments_of}
 use Rattle.jp_types.specs.Numbers.{logicals_numbers, logical_numbers, selectors_numbers, selector_numbers}
 use Rattle.jp_types.specs.Numbers.{segments_numbers, segment_numbers}

@@ -2,31 +2,31 @@ use Rattle.std.proofs.Common.{is_some, sym, ap, ap₂, ◌∙◌}
 use Rattle.std.specs.List.{fold}
 use Rattle.jp_part.specs.Part.{part_value}
 use Rattle.jp_check.specs.Plan.{planned_query}
-use Rattle.jp_check.specs.Ready.{roots_of, segments_in}
+use Rattle.jp_compiled.specs.Compiled.{roots_of, segments_in}
 use Rattle.jp_eval.specs.Rooted.{root_nodes}
 use Rattle.jp_eval.specs.Base.{base_of}
 use Rattle.jp_eval.specs.Nodelist.{document_nodes}
 use Rattle.jp_value.specs.RightTests.{tests}
 use Rattle.jp_eval.proofs.Answering.{same_nodes}
 use Rattle.jp_nodes.proofs.Keeping.{taken_out, not_lost}
-use Rattle.jp_eval.proofs.ReadyParts.{from_root, started}
+use Rattle.jp_eval.proofs.CompiledParts.{from_root, started}
 use Rattle.jp_eval.proofs.evaluator.split_in.Goals as goal
 
 pub returns : goal.returns
 returns g c =
-    let ready = c.ready-ready.result.now in
+    let compiled = c.compiled-compiled.result.now in
     let ground = c.in_ok-ground.ground in
     let value = part_value c.args.root in
     let query = planned_query c.args.plan.now in
     let at_root = c.in_ok-ground.ensures.root in
     let nodes =
-    from_root (base_of ground) ready.segments c.as_slice-2.result.now c.args.root
+    from_root (base_of ground) compiled.segments c.as_slice-2.result.now c.args.root
     c.with_room-path.result c.as_slice-2.ensures.value c.with_room-path.ensures
     (sym c.in_ok-ground.ensures.root)
-    ∙ ap₂ (λ v rs. root_nodes v (segments_in (roots_of rs) ready.segments.items)) at_root
+    ∙ ap₂ (λ v rs. root_nodes v (segments_in (roots_of rs) compiled.segments.items)) at_root
     (c.in_ok-ground.ensures.roots ∙ c.as_slice.ensures.value)
-    ∙ started ready.start (segments_in (roots_of ready.roots.items) ready.segments.items) value
-    ∙ ap (λ q. document_nodes tests q value) c.ready-ready.ensures in
+    ∙ started compiled.start (segments_in (roots_of compiled.roots.items) compiled.segments.items) value
+    ∙ ap (λ q. document_nodes tests q value) c.compiled-compiled.ensures in
     λ t right. taken_out g.V.Visit.put _ _ _ (c.in-Some.ensures.taker ∙ c.in_ok-go_split.ensures.found)
     ∙ ap (fold g.V.Visit.put (g.V.Visit.kept c.args.taker)) (nodes ∙ same_nodes t query value right)
 

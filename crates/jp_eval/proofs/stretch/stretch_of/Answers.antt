@@ -4,14 +4,14 @@ use Rattle.std.proofs.lemmas.Int.{to_z-of_z}
 use Rattle.std.specs.Str.{chars}
 use Rattle.jp_doc.specs.Location.{node, name}
 use Rattle.jp_types.specs.Numbers.{whole_number}
-use Rattle.jp_check.specs.Ready.{position_text}
+use Rattle.jp_compiled.specs.Compiled.{position_text}
 use Rattle.jp_value.specs.BoundsView.{bounds_value}
 use Rattle.jp_nodes.specs.Nodes.{child, items_at}
 use Rattle.jp_value.specs.Literals.{written_value}
 use Rattle.jp_part.specs.Part.{part_value}
 use Rattle.jp_eval.specs.Walk.{picked, is_true}
 use Rattle.jp_eval.proofs.Places.{index_found, slice_found}
-use Rattle.jp_eval.proofs.ReadyParts.{picked_name, picked_wild, picked_index, picked_slice, picked_filter}
+use Rattle.jp_eval.proofs.CompiledParts.{picked_name, picked_wild, picked_index, picked_slice, picked_filter}
 use Rattle.jp_eval.proofs.Stretches.{run_along, test_along}
 use Rattle.jp_eval.proofs.stretch.stretch_of.Goals as goal
 

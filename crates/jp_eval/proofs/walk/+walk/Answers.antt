@@ -13,8 +13,8 @@ use Rattle.jp_doc.specs.Json.{text}
 use Rattle.jp_doc.specs.Location.{node, name, member_of}
 use Rattle.jp_types.specs.Numbers.{whole_number}
 use Rattle.jp_tree.specs.View.{text_of}
-use Rattle.jp_check.specs.Ready.{position_text, wanted_inside}
-use Rattle.jp_check.specs.declared.ready.Want.TheVariants as want
+use Rattle.jp_compiled.specs.Compiled.{position_text, wanted_inside}
+use Rattle.jp_compiled.specs.declared.query.Want.TheVariants as want
 use Rattle.jp_nodes.specs.Answers.{tells}
 use Rattle.jp_eval.specs.Base.{base_of}
 use Rattle.jp_value.specs.BoundsView.{bounds_value}
@@ -34,11 +34,11 @@ use Rattle.jp_eval.proofs.Chains.{reached-none, reached-end, reached-each, reach
 use Rattle.jp_eval.proofs.Chains.{reached-deep}
 use Rattle.jp_nodes.proofs.Gathered.{kid_done}
 use Rattle.jp_nodes.proofs.Keeping.{plus-one, ended, nothing_found, full_enough, not_taken}
-use Rattle.jp_eval.proofs.ReadyParts.{picked_name, picked_wild, picked_index, picked_slice, picked_filter}
-use Rattle.jp_eval.proofs.ReadyParts.{true_any, true_all, true_not, true_compare, true_test, true_match}
-use Rattle.jp_eval.proofs.ReadyParts.{true_search, true_match_known, true_search_known, given_constant}
-use Rattle.jp_eval.proofs.ReadyParts.{given_single, given_length, given_count, given_only, nodes_here}
-use Rattle.jp_eval.proofs.ReadyParts.{nodes_root, nodes_distinct, true_xor}
+use Rattle.jp_eval.proofs.CompiledParts.{picked_name, picked_wild, picked_index, picked_slice, picked_filter}
+use Rattle.jp_eval.proofs.CompiledParts.{true_any, true_all, true_not, true_compare, true_test, true_match}
+use Rattle.jp_eval.proofs.CompiledParts.{true_search, true_match_known, true_search_known, given_constant}
+use Rattle.jp_eval.proofs.CompiledParts.{given_single, given_length, given_count, given_only, nodes_here}
+use Rattle.jp_eval.proofs.CompiledParts.{nodes_root, nodes_distinct, true_xor}
 use Rattle.jp_eval.proofs.Places.{index_found, slice_found}
 use Rattle.jp_eval.proofs.WalkSteps.{back_up, here_further, link_further, over, applied, descended}
 use Rattle.jp_eval.proofs.WalkSteps.{any_further, any_found, all_further, all_found, none_at, one_at}

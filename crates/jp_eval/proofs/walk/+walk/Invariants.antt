@@ -2,11 +2,11 @@ use Rattle.std.proofs.Common.{◌≡◌, ◌+◌, ◌*◌, ◌≤◌, ℕ, max, 
 use Rattle.std.specs.List.{flat_map, list_any, list_all}
 use denote.Param.Weighed.{most}
 use Rattle.jp_doc.specs.Height.{height}
-use Rattle.jp_check.specs.declared.ready.Segment.{size-Segment}
-use Rattle.jp_check.specs.declared.ready.Selector.{size-Selector}
-use Rattle.jp_check.specs.declared.ready.Logical.{size-Logical}
-use Rattle.jp_check.specs.declared.ready.Value.{size-Value}
-use Rattle.jp_check.specs.declared.ready.Nodes.{size-Nodes}
+use Rattle.jp_compiled.specs.declared.query.Segment.{size-Segment}
+use Rattle.jp_compiled.specs.declared.query.Selector.{size-Selector}
+use Rattle.jp_compiled.specs.declared.query.Logical.{size-Logical}
+use Rattle.jp_compiled.specs.declared.query.Value.{size-Value}
+use Rattle.jp_compiled.specs.declared.query.Nodes.{size-Nodes}
 use Rattle.jp_eval.specs.Base.{base_of}
 use Rattle.jp_nodes.specs.Kept.{kept, put_found, plus}
 use Rattle.jp_nodes.specs.Links.{here}

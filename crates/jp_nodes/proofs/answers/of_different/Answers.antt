@@ -1,5 +1,5 @@
 use Rattle.std.proofs.Common.{sym, ap, ◌∙◌}
-use Rattle.jp_check.specs.Ready.{wanted_inside}
+use Rattle.jp_compiled.specs.Compiled.{wanted_inside}
 use Rattle.jp_nodes.specs.Answers.{tells}
 use Rattle.jp_value.specs.Functions.{distinct}
 use Rattle.jp_nodes.specs.declared.answers.Answer.TheVariants.{Distinct}

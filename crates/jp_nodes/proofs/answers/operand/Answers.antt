@@ -1,5 +1,5 @@
 use Rattle.std.proofs.Common.{sym, ap, ◌∙◌}
-use Rattle.jp_check.specs.declared.ready.Want.TheVariants.{First, Only}
+use Rattle.jp_compiled.specs.declared.query.Want.TheVariants.{First, Only}
 use Rattle.jp_nodes.specs.Answers.{tells}
 use Rattle.jp_nodes.proofs.Telling.{first_told, only_told}
 use Rattle.jp_nodes.proofs.answers.operand.Goals as goal

@@ -7,7 +7,7 @@ use borrow.Author.Count.{below_more}
 use Rattle.jp_regexp.specs.Held.{IsRead, pattern_of}
 use Rattle.jp_regexp.specs.Profile.{IsPatternOf}
 use Rattle.jp_tree.specs.View.{text_of}
-use Rattle.jp_check.specs.declared.known.KnownPattern.{KnownPattern}
+use Rattle.jp_compiled.specs.declared.known.KnownPattern.{KnownPattern}
 use Rattle.jp_check.proofs.KnownLemmas.{known_contains, known_is_other, known_read}
 use Rattle.jp_check.proofs.accepted.Plan.pattern.Goals as goal
 

@@ -1,6 +1,6 @@
 use Rattle.std.proofs.Common.{◌≡◌, ◌<◌, ◌≤◌, [], length, get_or, rules, sym, ◌∙◌}
 use Rattle.jp_tree.specs.Tree.{no_segments}
-use Rattle.jp_check.specs.Ready.{roots_of, wanted}
+use Rattle.jp_compiled.specs.Compiled.{roots_of, wanted}
 use Rattle.jp_part.specs.Part.{part_value}
 use Rattle.jp_eval.proofs.Answered.{answer_at, none_at, told_where, told_else, told_none}
 use Rattle.jp_eval.proofs.ground.Ground.answer.Goals as goal

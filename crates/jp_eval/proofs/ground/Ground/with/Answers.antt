@@ -1,5 +1,5 @@
 use Rattle.std.proofs.Common.{[], ap, ap₂, ◌∙◌}
-use Rattle.jp_check.specs.Ready.{roots_of, wanted_in}
+use Rattle.jp_compiled.specs.Compiled.{roots_of, wanted_in}
 use Rattle.jp_check.proofs.MakingSteps.{listed_more}
 use Rattle.jp_eval.specs.Rooted.{are_answers}
 use Rattle.jp_part.specs.Part.{part_value}

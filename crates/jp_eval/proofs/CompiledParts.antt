@@ -1,4 +1,4 @@
--- What the parts of a ready tree select, and where they are true.
+-- What the parts of a compiled query select, and where they are true.
 use Rattle.std.proofs.Common.{◌≡◌, List, [], ◌∷◌, not, ◌&&◌, ◌||◌, map, Some, option_map, is_some, length}
 use Rattle.std.proofs.Common.{Vec, Box, String, Global, refl, sym, ap, ap₂, ◌∙◌, rules}
 use Rattle.std.specs.List.{filter, list_any, list_all}
@@ -12,31 +12,31 @@ use Rattle.jp_tree.specs.declared.tree.Operator.{Operator}
 use Rattle.jp_tree.specs.declared.tree.Start.{Start}
 use Rattle.jp_tree.specs.declared.tree.Start.TheVariants as start
 use Rattle.jp_types.specs.Numbers.{whole_number}
-use Rattle.jp_check.specs.Ready.{Wanted, root_at, position_text, constant_of, as_argument}
-use Rattle.jp_check.specs.Ready.{truth_argument, segment_in, Source, queried, different, source_argument}
-use Rattle.jp_check.specs.Ready.{source_test, source_side, wanted_inside}
-use Rattle.jp_check.specs.Ready.{selector_in, logical_in, value_in, nodes_in, segments_in}
-use Rattle.jp_check.proofs.ReadyViews.{name_read, wild_read, index_read, slice_read, filter_read}
-use Rattle.jp_check.proofs.ReadyViews.{any_read, all_read, not_read, compare_read, test_read, match_read}
-use Rattle.jp_check.proofs.ReadyViews.{match_known, search_read, search_known, constant_read, single_read}
-use Rattle.jp_check.proofs.ReadyViews.{length_read, count_read, only_read, here_read, root_read}
-use Rattle.jp_check.proofs.ReadyViews.{xor_read, distinct_read}
-use Rattle.jp_check.specs.declared.known.KnownPattern.{KnownPattern}
-use Rattle.jp_check.specs.declared.ready.Form.{Form}
-use Rattle.jp_check.specs.declared.ready.Form.TheVariants.{Bare, Expression}
-use Rattle.jp_check.specs.declared.ready.Want.{Want}
-use Rattle.jp_check.specs.declared.ready.Want.TheVariants.{First, Count, Only}
-use Rattle.jp_check.specs.declared.ready.Position.{Position}
-use Rattle.jp_check.specs.declared.ready.Slice.{Slice}
-use Rattle.jp_check.specs.declared.ready.Constant.{Constant}
-use Rattle.jp_check.specs.declared.ready.Segment.{Segment, out-Segment, the_lemmas}
-use Rattle.jp_check.specs.declared.ready.Selector.TheVariants as sel
-use Rattle.jp_check.specs.declared.ready.Logical.{Logical}
-use Rattle.jp_check.specs.declared.ready.Logical.TheVariants as log
-use Rattle.jp_check.specs.declared.ready.Value.{Value}
-use Rattle.jp_check.specs.declared.ready.Value.TheVariants as val
-use Rattle.jp_check.specs.declared.ready.Nodes.{Nodes}
-use Rattle.jp_check.specs.declared.ready.Nodes.TheVariants as nod
+use Rattle.jp_compiled.specs.Compiled.{Wanted, root_at, position_text, constant_of, as_argument}
+use Rattle.jp_compiled.specs.Compiled.{truth_argument, segment_in, Source, queried, different, source_argument}
+use Rattle.jp_compiled.specs.Compiled.{source_test, source_side, wanted_inside}
+use Rattle.jp_compiled.specs.Compiled.{selector_in, logical_in, value_in, nodes_in, segments_in}
+use Rattle.jp_compiled.proofs.CompiledViews.{name_read, wild_read, index_read, slice_read, filter_read}
+use Rattle.jp_compiled.proofs.CompiledViews.{any_read, all_read, not_read, compare_read, test_read, match_read}
+use Rattle.jp_compiled.proofs.CompiledViews.{match_known, search_read, search_known, constant_read, single_read}
+use Rattle.jp_compiled.proofs.CompiledViews.{length_read, count_read, only_read, here_read, root_read}
+use Rattle.jp_compiled.proofs.CompiledViews.{xor_read, distinct_read}
+use Rattle.jp_compiled.specs.declared.known.KnownPattern.{KnownPattern}
+use Rattle.jp_compiled.specs.declared.query.Form.{Form}
+use Rattle.jp_compiled.specs.declared.query.Form.TheVariants.{Bare, Expression}
+use Rattle.jp_compiled.specs.declared.query.Want.{Want}
+use Rattle.jp_compiled.specs.declared.query.Want.TheVariants.{First, Count, Only}
+use Rattle.jp_compiled.specs.declared.query.Position.{Position}
+use Rattle.jp_compiled.specs.declared.query.Slice.{Slice}
+use Rattle.jp_compiled.specs.declared.query.Constant.{Constant}
+use Rattle.jp_compiled.specs.declared.query.Segment.{Segment, out-Segment, the_lemmas}
+use Rattle.jp_compiled.specs.declared.query.Selector.TheVariants as sel
+use Rattle.jp_compiled.specs.declared.query.Logical.{Logical}
+use Rattle.jp_compiled.specs.declared.query.Logical.TheVariants as log
+use Rattle.jp_compiled.specs.declared.query.Value.{Value}
+use Rattle.jp_compiled.specs.declared.query.Value.TheVariants as val
+use Rattle.jp_compiled.specs.declared.query.Nodes.{Nodes}
+use Rattle.jp_compiled.specs.declared.query.Nodes.TheVariants as nod
 use Rattle.jp_trail.specs.Links.{link_steps}
 use Rattle.jp_trail.specs.declared.link.Link.{Link}
 use Rattle.jp_value.specs.Literals.{literal_value, written_value}

@@ -1,4 +1,4 @@
--- What a ready tree stands for, part by part.
+-- What a compiled query stands for, part by part.
 use Rattle.std.proofs.Common.{◌≡◌, ℕ, Bool, codes, map, sym, ap, ◌∙◌}
 use Rattle.std.specs.Prelude.{List, String, Vec, Box}
 use Rattle.std.specs.declared.alloc.Global.{Global}
@@ -6,28 +6,28 @@ use Rattle.jp_tree.specs.Tree as tree
 use Rattle.jp_tree.specs.View.{text_of}
 use Rattle.jp_tree.specs.declared.tree.Operator.{Operator}
 use Rattle.jp_tree.specs.declared.tree.Start.TheVariants as start
-use Rattle.jp_check.specs.Ready.{Wanted, root_at, position_text, slice_of, constant_of, as_argument}
-use Rattle.jp_check.specs.Ready.{text_argument, truth_argument, call_of_one, call_of_two}
-use Rattle.jp_check.specs.Ready.{nodes_level, logical_level, Source, queried, different, source_argument}
-use Rattle.jp_check.specs.Ready.{source_test, source_side, wanted_inside}
-use Rattle.jp_check.specs.Ready.{selector_level, value_level, segment_level, segment_in, selector_in}
-use Rattle.jp_check.specs.Ready.{logical_in, value_in, nodes_in, segments_in}
-use Rattle.jp_check.specs.declared.known.KnownPattern.{KnownPattern}
-use Rattle.jp_check.specs.declared.ready.Form.{Form}
-use Rattle.jp_check.specs.declared.ready.Want.{Want}
-use Rattle.jp_check.specs.declared.ready.Want.TheVariants as want
-use Rattle.jp_check.specs.declared.ready.Position.{Position}
-use Rattle.jp_check.specs.declared.ready.Slice.{Slice}
-use Rattle.jp_check.specs.declared.ready.Constant.{Constant}
-use Rattle.jp_check.specs.declared.ready.Segment.{Segment, roll-Segment, fold-roll-Segment}
-use Rattle.jp_check.specs.declared.ready.Selector.{Selector, fold-roll-Selector}
-use Rattle.jp_check.specs.declared.ready.Selector.TheVariants as sel
-use Rattle.jp_check.specs.declared.ready.Logical.{Logical, fold-roll-Logical}
-use Rattle.jp_check.specs.declared.ready.Logical.TheVariants as log
-use Rattle.jp_check.specs.declared.ready.Value.{Value, fold-roll-Value}
-use Rattle.jp_check.specs.declared.ready.Value.TheVariants as val
-use Rattle.jp_check.specs.declared.ready.Nodes.{Nodes, fold-roll-Nodes}
-use Rattle.jp_check.specs.declared.ready.Nodes.TheVariants as nod
+use Rattle.jp_compiled.specs.Compiled.{Wanted, root_at, position_text, slice_of, constant_of, as_argument}
+use Rattle.jp_compiled.specs.Compiled.{text_argument, truth_argument, call_of_one, call_of_two}
+use Rattle.jp_compiled.specs.Compiled.{nodes_level, logical_level, Source, queried, different, source_argument}
+use Rattle.jp_compiled.specs.Compiled.{source_test, source_side, wanted_inside}
+use Rattle.jp_compiled.specs.Compiled.{selector_level, value_level, segment_level, segment_in, selector_in}
+use Rattle.jp_compiled.specs.Compiled.{logical_in, value_in, nodes_in, segments_in}
+use Rattle.jp_compiled.specs.declared.known.KnownPattern.{KnownPattern}
+use Rattle.jp_compiled.specs.declared.query.Form.{Form}
+use Rattle.jp_compiled.specs.declared.query.Want.{Want}
+use Rattle.jp_compiled.specs.declared.query.Want.TheVariants as want
+use Rattle.jp_compiled.specs.declared.query.Position.{Position}
+use Rattle.jp_compiled.specs.declared.query.Slice.{Slice}
+use Rattle.jp_compiled.specs.declared.query.Constant.{Constant}
+use Rattle.jp_compiled.specs.declared.query.Segment.{Segment, roll-Segment, fold-roll-Segment}
+use Rattle.jp_compiled.specs.declared.query.Selector.{Selector, fold-roll-Selector}
+use Rattle.jp_compiled.specs.declared.query.Selector.TheVariants as sel
+use Rattle.jp_compiled.specs.declared.query.Logical.{Logical, fold-roll-Logical}
+use Rattle.jp_compiled.specs.declared.query.Logical.TheVariants as log
+use Rattle.jp_compiled.specs.declared.query.Value.{Value, fold-roll-Value}
+use Rattle.jp_compiled.specs.declared.query.Value.TheVariants as val
+use Rattle.jp_compiled.specs.declared.query.Nodes.{Nodes, fold-roll-Nodes}
+use Rattle.jp_compiled.specs.declared.query.Nodes.TheVariants as nod
 
 module _ (roots : List Wanted) where
   pub name_read : (s : String Global) → selector_in roots (sel.Name s) ≡ tree.name (text_of s)

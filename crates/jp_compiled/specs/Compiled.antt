@@ -1,25 +1,25 @@
--- The query that a ready tree stands for.
+-- The query that a compiled query stands for.
 use Rattle.std.specs.Prelude.{ℕ, List, [], ◌∷◌, ◌++◌, map, get_or, codes, option_map}
 use Rattle.jp_tree.specs.Tree as tree
 use Rattle.jp_tree.specs.View.{text_of}
 use Rattle.jp_tree.specs.declared.tree.Start.TheVariants as start
-use Rattle.jp_check.specs.declared.ready.Want.{Want}
-use Rattle.jp_check.specs.declared.ready.Want.TheVariants.{First, Count, Only, Distinct}
-use Rattle.jp_check.specs.declared.ready.Form.{Form}
-use Rattle.jp_check.specs.declared.ready.Form.TheVariants.{Bare, Expression}
-use Rattle.jp_check.specs.declared.ready.Position.{Position}
-use Rattle.jp_check.specs.declared.ready.Slice.{Slice}
-use Rattle.jp_check.specs.declared.ready.Constant.{Constant}
-use Rattle.jp_check.specs.declared.ready.Constant.TheVariants as constant
-use Rattle.jp_check.specs.declared.ready.Segment.{Segment, fold-Segment}
-use Rattle.jp_check.specs.declared.ready.Selector.{Selector, fold-Selector}
-use Rattle.jp_check.specs.declared.ready.Logical.{Logical, fold-Logical}
-use Rattle.jp_check.specs.declared.ready.Value.{Value, fold-Value}
-use Rattle.jp_check.specs.declared.ready.Nodes.{Nodes, fold-Nodes}
-use Rattle.jp_check.specs.declared.ready.Logical.TheOpen.{Logical-F, Nodes-F, Selector-F, Value-F}
-use Rattle.jp_check.specs.declared.ready.Logical.TheOpen.{Segment-F}
-use Rattle.jp_check.specs.declared.ready.RootQuery.{RootQuery}
-use Rattle.jp_check.specs.declared.ready.Query.{Query}
+use Rattle.jp_compiled.specs.declared.query.Want.{Want}
+use Rattle.jp_compiled.specs.declared.query.Want.TheVariants.{First, Count, Only, Distinct}
+use Rattle.jp_compiled.specs.declared.query.Form.{Form}
+use Rattle.jp_compiled.specs.declared.query.Form.TheVariants.{Bare, Expression}
+use Rattle.jp_compiled.specs.declared.query.Position.{Position}
+use Rattle.jp_compiled.specs.declared.query.Slice.{Slice}
+use Rattle.jp_compiled.specs.declared.query.Constant.{Constant}
+use Rattle.jp_compiled.specs.declared.query.Constant.TheVariants as constant
+use Rattle.jp_compiled.specs.declared.query.Segment.{Segment, fold-Segment}
+use Rattle.jp_compiled.specs.declared.query.Selector.{Selector, fold-Selector}
+use Rattle.jp_compiled.specs.declared.query.Logical.{Logical, fold-Logical}
+use Rattle.jp_compiled.specs.declared.query.Value.{Value, fold-Value}
+use Rattle.jp_compiled.specs.declared.query.Nodes.{Nodes, fold-Nodes}
+use Rattle.jp_compiled.specs.declared.query.Logical.TheOpen.{Logical-F, Nodes-F, Selector-F, Value-F}
+use Rattle.jp_compiled.specs.declared.query.Logical.TheOpen.{Segment-F}
+use Rattle.jp_compiled.specs.declared.query.RootQuery.{RootQuery}
+use Rattle.jp_compiled.specs.declared.query.Query.{Query}
 
 -- the segments of a `$` query inside a filter, by what the filter wants of it
 pub data Wanted : Type 0 where
@@ -163,7 +163,7 @@ abbrev pub segment_level : Segment-F tree.Logical (Want → Source) tree.Selecto
     → tree.Segment
 segment_level s = tree.segment s.deep (tree.selectors s.selectors.items)
 
--- what the parts of a ready tree stand for, where its `$` queries are these
+-- what the parts of a compiled query stand for, where its `$` queries are these
 module _ (roots : List Wanted) where
   abbrev pub segment_in : Segment → tree.Segment
   segment_in = fold-Segment tree.Logical (Want → Source) tree.Selector tree.Comparable tree.Segment
@@ -201,5 +201,5 @@ abbrev pub roots_of : List RootQuery → List Wanted
 roots_of rs = roots_behind [] rs
 
 -- the query
-abbrev pub ready_query : Query → tree.Query
-ready_query q = tree.query q.start (segments_in (roots_of q.roots.items) q.segments.items)
+abbrev pub compiled_query : Query → tree.Query
+compiled_query q = tree.query q.start (segments_in (roots_of q.roots.items) q.segments.items)

@@ -1,4 +1,4 @@
-//! The tree of a query made ready: what can be known of it before there is a document.
+//! The tree of a compiled query.
 //!
 //! Numbers are read, functions are resolved, literal patterns are read, and each `$` query inside a filter
 //! stands in a list of its own, behind those that stand inside it.
@@ -8,10 +8,10 @@ ghost use Rattle.std.proofs.Props.{props};
 ghost use Rattle.jp_tree.specs.View.{text_of};
 ghost use Rattle.jp_types.specs.Numbers.{whole_number, max_index};
 
-pub use crate::known::KnownPattern;
-use jp_syntax::{Operator, Start};
+use crate::known::KnownPattern;
+use jp_tree::{Operator, Start};
 
-/// A query made ready.
+/// A compiled query.
 #[derive(Drop)]
 pub struct Query {
     /// The identifier that the query begins with.
@@ -45,7 +45,7 @@ pub enum Want {
 }
 
 impl Want {
-    ghost use Rattle.jp_check.specs.Ready.{wanted_inside};
+    ghost use Rattle.jp_compiled.specs.Compiled.{wanted_inside};
 
     /// What is wanted of the nodes that `distinct` is given, where this is wanted of those that it leaves.
     pub fn inside(self) -> Want
@@ -59,7 +59,7 @@ impl Want {
 }
 
 /// A segment (RFC 9535, 2.5).
-#[cycle(ready)]
+#[cycle(query)]
 #[derive(Drop)]
 pub struct Segment {
     /// Whether it is a descendant segment.
@@ -69,7 +69,7 @@ pub struct Segment {
 }
 
 /// A selector (RFC 9535, 2.3).
-#[cycle(ready)]
+#[cycle(query)]
 #[derive(Drop)]
 pub enum Selector {
     /// The member of this name.
@@ -108,7 +108,7 @@ pub struct Slice {
 }
 
 /// A logical expression (RFC 9535, 2.3.5).
-#[cycle(ready)]
+#[cycle(query)]
 #[derive(Drop)]
 pub enum Logical {
     /// Parts joined by `||`.
@@ -143,7 +143,7 @@ pub enum Form {
 }
 
 /// What gives a value, or nothing: a side of a comparison, or an argument.
-#[cycle(ready)]
+#[cycle(query)]
 #[derive(Drop)]
 pub enum Value {
     /// A literal.
@@ -159,7 +159,7 @@ pub enum Value {
 }
 
 /// A query inside a filter.
-#[cycle(ready)]
+#[cycle(query)]
 #[derive(Drop)]
 pub enum Nodes {
     /// The segments from the current node on.

@@ -1,0 +1,2 @@
+pub mod CompiledViews
+pub mod PatternSets

@@ -1,0 +1,2 @@
+-- The definitions of `jp_compiled`.
+pub mod Compiled
