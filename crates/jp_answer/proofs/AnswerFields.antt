@@ -7,9 +7,9 @@ use Rattle.jp_doc.specs.declared.fault.DocFault.{DocFault}
 use Rattle.jp_tree.specs.Tree.{Query}
 use Rattle.jp_regexp.specs.Tests.{Tests}
 use Rattle.jp_eval.specs.Nodelist.{document_nodes}
-use Rattle.jp_path.specs.FaultLine.{fault_line}
-use Rattle.jp_path.specs.Fields.{AreLinesOfThree}
-use Rattle.jp_path.proofs.Fields.{fault_fields, fields_both, fields_one, fields_none, nodes_fields}
+use Rattle.jp_output.specs.FaultLine.{fault_line}
+use Rattle.jp_output.specs.Fields.{AreLinesOfThree}
+use Rattle.jp_output.proofs.Fields.{fault_fields, fields_both, fields_one, fields_none, nodes_fields}
 use Rattle.jp_answer.specs.Answer.{Answer, answer, line_answer, document_lines}
 use Rattle.jp_answer.specs.Form.{answer_in}
 use Rattle.jp_answer.specs.Whole.{line_bytes, lines_or_fault}

@@ -18,7 +18,7 @@ use Rattle.jp_doc.specs.declared.fault.DocFault.{DocFault}
 use Rattle.jp_buffer.specs.declared.line_ref.LineRef as code
 use Rattle.jp_tree.specs.Tree.{Query}
 use Rattle.jp_regexp.specs.Tests.{Tests}
-use Rattle.jp_path.specs.FaultLine.{fault_line}
+use Rattle.jp_output.specs.FaultLine.{fault_line}
 use Rattle.jp_answer.specs.Answer.{Answer, after, line_answer, document_lines, answer, joined}
 use Rattle.jp_answer.specs.Faults.{fault_or, first_fault}
 use Rattle.jp_answer.specs.Form.{answer_in, stop_in, passed_in, given, fault_in}

@@ -8,7 +8,7 @@ use native.Mathlib.Decide.{ℕ_discrete}
 use Rattle.std.proofs.lemmas.List.{length-set}
 use Rattle.std.proofs.lemmas.List.Elements.{Contains-push, Contains-append_left}
 use Rattle.std.proofs.lemmas.Option.{slice_get_within}
-use Rattle.jp_path.specs.Chunks.{bytes_in}
+use Rattle.jp_output.specs.Chunks.{bytes_in}
 use Rattle.jp_answer.specs.Answer as answers
 use Rattle.jp_answer.specs.Answer.{after, joined, unless_stopped}
 use Rattle.jp_answer.specs.Answered.{outcome_of}

@@ -8,7 +8,7 @@ use Rattle.jp_doc.specs.declared.fault.DocFault.{DocFault}
 use Rattle.jp_tree.specs.Tree.{Query}
 use Rattle.jp_regexp.specs.Tests.{Tests}
 use Rattle.jp_eval.specs.Nodelist.{document_nodes}
-use Rattle.jp_path.specs.OutputLine.{node_line}
+use Rattle.jp_output.specs.OutputLine.{node_line}
 
 -- the bytes, and the first faulty line with its fault, if there is one
 pub record Answer : Type 0 where

@@ -4,7 +4,7 @@ use Rattle.jp_doc.specs.Lines.{lines}
 use Rattle.jp_tree.specs.Tree.{Text, Query}
 use Rattle.jp_regexp.specs.Tests.{Tests, AreRight}
 use Rattle.jp_check.specs.Verdict.{IsAccepted}
-use Rattle.jp_path.specs.Chunks.{bytes_in}
+use Rattle.jp_output.specs.Chunks.{bytes_in}
 use Rattle.jp_answer.specs.Answer.{Answer, stream_answer}
 use Rattle.jp_answer.specs.Form.{answer_in}
 use Rattle.jp_answer.specs.declared.outcome.Answer as code

@@ -7,7 +7,7 @@ ghost use Rattle.jp_doc.specs.Lines.{Line, lines, line_count};
 ghost use Rattle.jp_tree.specs.Tree.{Text, Query};
 ghost use Rattle.jp_regexp.specs.Tests.{Tests};
 ghost use Rattle.jp_eval.specs.Nodelist.{document_nodes};
-ghost use Rattle.jp_path.specs.Fields.{times, AreLinesOfThree};
+ghost use Rattle.jp_output.specs.Fields.{times, AreLinesOfThree};
 ghost use Rattle.jp_answer.specs.Answer.{Answer, answer, joined, document_lines, stream_answer};
 ghost use Rattle.jp_answer.specs.Answered.{IsAnswerIn, IsAnswerTo};
 ghost use Rattle.jp_answer.specs.Faults.{first_fault};

@@ -9,7 +9,7 @@ ghost use Rattle.jp_answer.specs.Worked.{pieces_of};
 use crate::outcome::Outcome;
 use crate::worker::{PieceAnswer, Worker};
 use jp_board::Seat;
-use jp_path::append_chunks;
+use jp_output::append_chunks;
 use std::alloc::{AllocError, Global};
 
 /// The seats and the parts of all workers.

@@ -27,7 +27,7 @@ use jp_board::{Board, BoardFault, Seat};
 use jp_buffer::{LineRef, refs_of};
 use jp_check::Plan;
 use jp_doc::Line;
-use jp_path::join_chunks;
+use jp_output::join_chunks;
 use std::alloc::{AllocError, Global};
 use std::thread;
 use std::thread::Threads;

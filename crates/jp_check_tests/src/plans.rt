@@ -1,7 +1,7 @@
 //! The calls with ample memory. The expected answers come from the rules of RFC 9535.
 
-use jp_compiled::{Selector, Want};
 use jp_check::{Known, check, plan};
+use jp_compiled::{Selector, Want};
 use jp_syntax::{QueryFault, read_query};
 use std::alloc::{AllocError, Global};
 use std::test::Fail;

@@ -1,7 +1,7 @@
 use jp_check::Plan;
 use jp_doc::Document;
 use jp_eval::{EvalFault, visit_nodes};
-use jp_path::NodeLines;
+use jp_output::NodeLines;
 use std::alloc::Global;
 
 fn lines(

@@ -1,22 +1,9 @@
-//! Normalized paths (RFC 9535, 2.7), output lines and fault lines.
+//! Normalized paths (RFC 9535, 2.7) as queries: each selects just its node.
 #![tactic(auto)]
 
-mod chunks;
 mod examples;
-mod fault_line;
-mod flat_text;
 pub mod laws;
-mod node_lines;
-mod output_line;
-mod path;
 mod query;
-mod scalar_text;
-mod tree_text;
-mod value_text;
 
-pub use chunks::{append_chunks, join_chunks, push_chunk};
-pub use fault_line::write_fault;
-pub use node_lines::NodeLines;
-pub use output_line::write_line;
-pub use path::write_path;
+pub use jp_output::{write_fault, write_line, write_path};
 pub use query::{path_plan, query_of};

@@ -1,10 +1,10 @@
 //! Lines of a value in either form that its document is read in, with ample memory.
 
 use jp_doc::Document;
-use jp_eval::Visit;
 use jp_flat::FlatReader;
+use jp_nodes::Visit;
+use jp_output::NodeLines;
 use jp_part::Part;
-use jp_path::NodeLines;
 use jp_trail::Trail;
 use std::alloc::{AllocError, Global};
 use std::test::Fail;

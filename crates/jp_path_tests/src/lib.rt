@@ -1,4 +1,4 @@
-//! Tests of `jp_path` through its public calls.
+//! Tests of `jp_output` and `jp_path` through their public calls.
 #![tactic(auto)]
 
 #[cfg(test)]

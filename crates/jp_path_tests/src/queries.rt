@@ -3,7 +3,8 @@
 use jp_check::{Plan, plan};
 use jp_doc::{Document, Location, Step};
 use jp_eval::{Evaluator, evaluate, visit_nodes};
-use jp_path::{NodeLines, join_chunks, path_plan, query_of, write_path};
+use jp_output::{NodeLines, join_chunks};
+use jp_path::{path_plan, query_of, write_path};
 use jp_syntax::{bracket_depth, read_query};
 use std::alloc::{AllocError, Global};
 use std::test::Fail;

@@ -6,10 +6,9 @@
 use crate::forms::line_of;
 use jp_doc::{Document, Location, Step};
 use jp_flat::FlatReader;
+use jp_output::{append_chunks, join_chunks, push_chunk};
 use jp_part::Part;
-use jp_path::{
-    append_chunks, join_chunks, path_plan, push_chunk, query_of, write_line, write_path,
-};
+use jp_path::{path_plan, query_of, write_line, write_path};
 use std::alloc::{AllocError, Global};
 
 /// The location `$['it\\'s'][10]`.

@@ -4,7 +4,7 @@ use Rattle.std.proofs.Common.{◌∙◌, subst, arith, length-append, append_ass
 use Rattle.std.proofs.Math.Seq.{drop-cons, take-append-add}
 use Rattle.std.specs.Io.KnownBytes.{Appends}
 use Rattle.std.proofs.KnownBytes.{Appends-trans}
-use Rattle.jp_path.specs.Chunks.{bytes_in}
+use Rattle.jp_output.specs.Chunks.{bytes_in}
 use Rattle.jp_run.specs.Written.{AppendsFront}
 use Rattle.jp_run.proofs.Handed.{Written}
 use Rattle.jp_run.proofs.Handing.{front_longer}

@@ -6,7 +6,7 @@ use jp_answer::{OpenGate, answer_all};
 use jp_check::{Plan, plan};
 use jp_doc::{DocFault, Document, Line};
 use jp_eval::Evaluator;
-use jp_path::NodeLines;
+use jp_output::NodeLines;
 use std::alloc::{AllocError, Global};
 use std::test::Fail;
 

@@ -2,7 +2,7 @@ use Rattle.std.proofs.Common.{◌∙◌, sym, inl, inr, arith}
 use Rattle.std.proofs.lemmas.Grind.{common_steps}
 use Rattle.jp_check.specs.Plan.{planned_query}
 use Rattle.jp_eval.specs.Evaluated.{evaluated_query}
-use Rattle.jp_path.specs.Chunks.{bytes_in}
+use Rattle.jp_output.specs.Chunks.{bytes_in}
 use Rattle.jp_answer.proofs.Forms.{answer_more, answer_last, stop_more, stop_last, passed_more, passed_one}
 use Rattle.jp_answer.proofs.Forms.{passed_fits}
 use Rattle.jp_answer.proofs.answering.answer_lines.Goals as goal

@@ -3,8 +3,8 @@ use Rattle.std.specs.List.{fold}
 use Rattle.jp_part.specs.Part.{part_value}
 use Rattle.jp_eval.specs.Evaluated.{evaluated_query}
 use Rattle.jp_eval.specs.Nodelist.{document_nodes}
-use Rattle.jp_path.specs.OutputLine.{put_line}
-use Rattle.jp_path.proofs.Taken.{lines_fold}
+use Rattle.jp_output.specs.OutputLine.{put_line}
+use Rattle.jp_output.proofs.Taken.{lines_fold}
 use Rattle.jp_answer.proofs.answering.with_nodes.Goals as goal
 
 pub returns-clause-lines : goal.returns-clause-lines

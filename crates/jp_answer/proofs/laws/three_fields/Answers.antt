@@ -1,5 +1,5 @@
 use Rattle.jp_answer.proofs.AnswerFields.{answer_fields}
-use Rattle.jp_path.proofs.Fields.{nodes_counted}
+use Rattle.jp_output.proofs.Fields.{nodes_counted}
 use Rattle.jp_eval.specs.Nodelist.{document_nodes}
 use Rattle.jp_answer.proofs.laws.three_fields.Goals as goal
 

@@ -4,7 +4,7 @@ use Rattle.std.proofs.lemmas.Grind.{common_steps}
 use Rattle.std.specs.Prelude.{IsSome}
 use Rattle.std.proofs.lemmas.List.Elements.{All-rest}
 use Rattle.std.specs.Vec.Iter.{into_iter_items}
-use Rattle.jp_path.specs.Chunks.{bytes_in}
+use Rattle.jp_output.specs.Chunks.{bytes_in}
 use Rattle.jp_answer.specs.Answer.{after}
 use Rattle.jp_answer.specs.Placed.{joined_all}
 use Rattle.jp_answer.specs.declared.outcome.Outcome.{Outcome}

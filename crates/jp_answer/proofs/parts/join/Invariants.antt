@@ -1,7 +1,7 @@
 use Rattle.std.proofs.Common.{◌≡◌, All}
 use Rattle.std.specs.Prelude.{IsSome}
 use Rattle.std.specs.Vec.Iter.{into_iter_items}
-use Rattle.jp_path.specs.Chunks.{bytes_in}
+use Rattle.jp_output.specs.Chunks.{bytes_in}
 use Rattle.jp_answer.specs.Answer.{after}
 use Rattle.jp_answer.specs.Placed.{joined_all}
 use Rattle.jp_answer.proofs.parts.join.Given as goal

@@ -1,0 +1,286 @@
+-- An output line has three fields: no byte below the space stands in one.
+use Rattle.std.proofs.Common.{◌≡◌, ℕ, zero, suc, ◌+◌, ◌/◌, ◌%◌, ◌≤◌, ◌<◌, ◌==◌, nat_lt, nat_le, Bool, true}
+use Rattle.std.proofs.Common.{false, cond, List, [], ◌∷◌, ◌++◌, refl, ap, sym, ◌∙◌, arith, append_assoc}
+use Rattle.std.proofs.Common.{codes, decimal, encode_utf8_all, pos, negsuc, flat_map, length, ap₂}
+use Rattle.std.proofs.Common.{append-nil}
+use Rattle.std.proofs.lemmas.Bool.{and_parts, leb-true, ltb-true, ltb-false}
+use Rattle.std.proofs.lemmas.Bool.Decides.{nat_tests}
+use Rattle.std.proofs.lemmas.List.Sums.{sum_by-append, sum_by-cons, count_by-le-length}
+use Rattle.std.specs.List.{AllByRecursion, concat, list_all}
+use Rattle.std.specs.Char.{digit_char}
+use Rattle.std.specs.Fmt.{digits, digits_onto, digit_glyph}
+use lib.Utf8.{encode}
+use Rattle.json.specs.Print.{escape_letter, escape_byte, escape, quoted}
+use Rattle.serde_json.specs.Data as crate_data
+use Rattle.serde_json.specs.Written.{number_text, compact_text, items_text, members_text, comma_if}
+use Rattle.jp_doc.specs.Location.{Step, name, index, Location}
+use Rattle.jp_trail.specs.Path.{escaped, hex_digit, step_text, path_text}
+use Rattle.jp_doc.specs.Json.{data_of}
+use Rattle.jp_doc.specs.Location.{Node}
+use Rattle.jp_doc.specs.declared.fault.DocFault.{DocFault}
+use Rattle.jp_doc.specs.declared.fault.DocFault.TheVariants.{LongLine, Unreadable, NotWhole, LongArray}
+use Rattle.jp_doc.specs.declared.fault.DocFault.TheVariants.{Memory}
+use Rattle.jp_doc.specs.FaultWords.{fault_words}
+use Rattle.jp_output.specs.FaultLine.{fault_line}
+use Rattle.jp_output.specs.Fields.{times, HasThreeFields, AreLinesOfThree}
+use Rattle.jp_output.specs.OutputLine.{node_line}
+
+-- no byte is below the space
+abbrev pub IsField : List ℕ → Type 0
+IsField bytes = AllByRecursion (λ b. 32 ≤ b) bytes
+
+field_both : (xs ys : List ℕ) → IsField xs → IsField ys → IsField (xs ++ ys)
+field_both [] ys h g = g
+field_both (x ∷ xs) ys h g = (h.0, field_both xs ys h.1 g)
+
+field_each : (f : ℕ → List ℕ) → ((c : ℕ) → IsField (f c)) → (cs : List ℕ) → IsField (flat_map f cs)
+field_each f h [] = tt
+field_each f h (c ∷ cs) = field_both (f c) (flat_map f cs) (h c) (field_each f h cs)
+
+-- where each byte is given
+written : (t : List ℕ) → list_all (λ b. nat_le 32 b) t ≡ true → IsField t
+written [] e = tt
+written (b ∷ t) e = let p = and_parts (nat_le 32 b) (list_all (λ c. nat_le 32 c) t) e in
+    (leb-true 32 b p.0, written t p.1)
+
+either : (P : List ℕ → Type 0) (b : Bool) (x y : List ℕ) → (b ≡ true → P x) → (b ≡ false → P y)
+    → P (cond b x y)
+either P true x y h g = h refl
+either P false x y h g = g refl
+
+-- counts
+
+times_both : (b : ℕ) (xs ys : List ℕ) → times b (xs ++ ys) ≡ times b xs + times b ys
+times_both b xs ys = sum_by-append (λ c. cond (c == b) 1 0) xs ys
+
+times_first : (b x : ℕ) (xs : List ℕ) → times b (x ∷ xs) ≡ cond (x == b) 1 0 + times b xs
+times_first b x xs = sum_by-cons (λ c. cond (c == b) 1 0) x xs
+
+times_none : (b : ℕ) → times b [] ≡ 0
+times_none b = omega (arith, count_by-le-length (λ c. c == b) [])
+
+high_differs : (b x : ℕ) → b < 32 → 32 ≤ x → ◌≡◌ {A = ℕ} (cond (x == b) 1 0) 0
+high_differs b x low high = grind (arith, nat_tests)
+
+pub field_lacks : (b : ℕ) (xs : List ℕ) → b < 32 → IsField xs → times b xs ≡ 0
+field_lacks b [] low h = times_none b
+field_lacks b (x ∷ xs) low h = omega (
+  arith,
+  times_first b x xs,
+  high_differs b x low h.0,
+  field_lacks b xs low h.1,
+)
+
+module _ (x y z : List ℕ) (hx : IsField x) (hy : IsField y) (hz : IsField z) where
+  counted : (b : ℕ) → b < 32 → times b (x ++ (9 ∷ y ++ (9 ∷ z ++ 10 ∷ [])))
+      ≡ cond (9 == b) 1 0 + cond (9 == b) 1 0 + cond (10 == b) 1 0
+  counted b low = omega (
+    arith,
+    times_both b x (9 ∷ y ++ (9 ∷ z ++ 10 ∷ [])),
+    times_first b 9 (y ++ (9 ∷ z ++ 10 ∷ [])),
+    times_both b y (9 ∷ z ++ 10 ∷ []),
+    times_first b 9 (z ++ 10 ∷ []),
+    times_both b z (10 ∷ []),
+    times_first b 10 [],
+    times_none b,
+    field_lacks b x low hx,
+    field_lacks b y low hy,
+    field_lacks b z low hz,
+  )
+
+  pub three_fields : HasThreeFields (x ++ (9 ∷ y ++ (9 ∷ z ++ 10 ∷ [])))
+  three_fields = record {
+    tabs = counted 9 (omega arith);
+    line_feeds = counted 10 (omega arith);
+    ends = (
+      x ++ (9 ∷ y ++ (9 ∷ z)),
+      sym (append_assoc x (9 ∷ y ++ (9 ∷ z)) (10 ∷ [])
+          ∙ ap (λ (l : List ℕ). x ++ (9 ∷ l)) (append_assoc y (9 ∷ z) (10 ∷ []))),
+    );
+  }
+
+-- numbers
+
+glyph_high : (d : ℕ) → 32 ≤ digit_glyph false d
+glyph_high d = grind (arith, nat_tests)
+
+digits_field : (k base n : ℕ) (acc : List ℕ) → IsField acc → IsField (digits_onto k base false n acc)
+digits_field zero base n acc h = h
+digits_field (suc k) base n acc h = either IsField (n / base == 0) _ _ (λ e. (glyph_high (n % base), h))
+    (λ e. digits_field k base (n / base) (digit_glyph false (n % base) ∷ acc) (glyph_high (n % base), h))
+
+pub decimal_field : (n : ℕ) → IsField (decimal n)
+unfolding digits
+decimal_field n = digits_field 64 10 n [] tt
+
+number_field : (n : crate_data.Num) → IsField (number_text n)
+number_field (crate_data.unsigned n) = decimal_field n
+number_field (crate_data.negative (pos n)) = decimal_field n
+number_field (crate_data.negative (negsuc n)) = (omega arith, decimal_field (suc n))
+number_field (crate_data.float x) = tt
+
+-- texts, by the JSON crate's escapes
+
+digit_high : (d : ℕ) → 32 ≤ digit_char d
+digit_high d = grind (arith, nat_tests)
+
+letter_high : (x : ℕ) → 0 < escape_letter x → 32 ≤ escape_letter x
+letter_high x h = grind (arith, nat_tests)
+
+escape_field : (x : ℕ) → IsField (escape_byte x)
+unfolding escape_byte
+escape_field x =
+    either IsField (nat_lt 0 (escape_letter x)) _ _
+    (λ e. (omega arith, (letter_high x (ltb-true 0 (escape_letter x) e), tt)))
+    (λ e. either IsField (nat_lt x 32) _ _
+    (λ g. field_both (codes "\\u00") (digit_char (x / 16) ∷ digit_char (x % 16) ∷ [])
+    (written (codes "\\u00") refl) (digit_high (x / 16), (digit_high (x % 16), tt)))
+    (λ g. (ltb-false x 32 g, tt)))
+
+quoted_field : (s : List ℕ) → IsField (quoted s)
+quoted_field s = (
+  omega arith,
+  field_both (escape s) (34 ∷ []) (field_each escape_byte escape_field s) (written (34 ∷ []) refl),
+)
+
+comma_field : (later : Bool) → IsField (comma_if later)
+comma_field true = (omega arith, tt)
+comma_field false = tt
+
+boolean_field : (b : Bool) → IsField (compact_text (crate_data.boolean b))
+boolean_field true = written (codes "true") refl
+boolean_field false = written (codes "false") refl
+
+mutual
+  pub compact_field : (d : crate_data.Data) → IsField (compact_text d)
+  compact_field crate_data.null = written (codes "null") refl
+  compact_field (crate_data.boolean b) = boolean_field b
+  compact_field (crate_data.number n) = number_field n
+  compact_field (crate_data.string s) = quoted_field s
+  compact_field (crate_data.array ds) = (omega arith, items_field false ds)
+  compact_field (crate_data.object ms) = (omega arith, members_field false ms)
+
+  items_field : (later : Bool) (ds : crate_data.Items) → IsField (items_text later ds)
+  items_field later crate_data.no_items = (omega arith, tt)
+  items_field later (crate_data.item d ds) =
+      field_both (comma_if later) (compact_text d ++ items_text true ds) (comma_field later)
+      (field_both (compact_text d) (items_text true ds) (compact_field d) (items_field true ds))
+
+  members_field : (later : Bool) (ms : crate_data.Members) → IsField (members_text later ms)
+  members_field later crate_data.no_members = (omega arith, tt)
+  members_field later (crate_data.member k d ms) =
+      field_both (comma_if later) (quoted k ++ 58 ∷ (compact_text d ++ members_text true ms))
+      (comma_field later)
+      (field_both (quoted k) (58 ∷ (compact_text d ++ members_text true ms)) (quoted_field k) (
+        omega arith,
+        field_both (compact_text d) (members_text true ms) (compact_field d) (members_field true ms),
+      ))
+
+-- paths, by the escapes of RFC 9535
+
+hex_high : (d : ℕ) → 32 ≤ hex_digit d
+hex_high d = grind (arith, nat_tests)
+
+escaped_field : (c : ℕ) → IsField (escaped c)
+escaped_field c =
+    either IsField (c == 39) _ _ (λ e. written (codes "\\'") refl) (λ e.
+    either IsField (c == 92) _ _ (λ e. written (codes "\\\\") refl) (λ e.
+    either IsField (c == 8) _ _ (λ e. written (codes "\\b") refl) (λ e.
+    either IsField (c == 9) _ _ (λ e. written (codes "\\t") refl) (λ e.
+    either IsField (c == 10) _ _ (λ e. written (codes "\\n") refl) (λ e.
+    either IsField (c == 12) _ _ (λ e. written (codes "\\f") refl) (λ e.
+    either IsField (c == 13) _ _ (λ e. written (codes "\\r") refl) (λ e.
+    either IsField (nat_lt c 32) _ _
+    (λ e. field_both (codes "\\u00") (hex_digit (c / 16) ∷ hex_digit (c % 16) ∷ [])
+    (written (codes "\\u00") refl) (hex_high (c / 16), (hex_high (c % 16), tt)))
+    (λ e. (ltb-false c 32 e, tt)))))))))
+
+step_field : (s : Step) → IsField (step_text s)
+step_field (name k) =
+    field_both (codes "['") (flat_map escaped k ++ codes "']") (written (codes "['") refl)
+    (field_both (flat_map escaped k) (codes "']") (field_each escaped escaped_field k)
+    (written (codes "']") refl))
+step_field (index i) =
+    field_both (codes "[") (decimal i ++ codes "]") (written (codes "[") refl)
+    (field_both (decimal i) (codes "]") (decimal_field i) (written (codes "]") refl))
+
+steps_field : (l : Location) → IsField (flat_map step_text l)
+steps_field [] = tt
+steps_field (s ∷ l) = field_both (step_text s) (flat_map step_text l) (step_field s) (steps_field l)
+
+-- the UTF-8 of a character that is no control character
+encode_field : (c : ℕ) → 32 ≤ c → IsField (encode c)
+unfolding encode
+encode_field c h =
+    either IsField (nat_lt c 128) _ _ (λ e. (h, tt)) (λ e.
+    either IsField (nat_lt c 2048) _ _ (λ e. (omega arith, (omega arith, tt))) (λ e.
+    either IsField (nat_lt c 65536) _ _ (λ e. (omega arith, (omega arith, (omega arith, tt))))
+    (λ e. (omega arith, (omega arith, (omega arith, (omega arith, tt)))))))
+
+encoded_field : (t : List ℕ) → IsField t → IsField (encode_utf8_all t)
+encoded_field [] h = tt
+encoded_field (c ∷ t) h = field_both (encode c) (encode_utf8_all t) (encode_field c h.0) (encoded_field t h.1)
+
+pub path_field : (l : Location) → IsField (encode_utf8_all (path_text l))
+path_field l = encoded_field (path_text l) (omega arith, steps_field l)
+
+-- lines
+
+pub node_fields : (number : ℕ) (n : Node) → HasThreeFields (node_line number n)
+node_fields number n =
+    three_fields (decimal number) (encode_utf8_all (path_text n.location)) (compact_text (data_of n.value))
+    (decimal_field number) (path_field n.location) (compact_field (data_of n.value))
+
+kind_field : (f : DocFault) → IsField (fault_words f)
+kind_field LongLine = written (codes "long line") refl
+kind_field Unreadable = written (codes "unreadable") refl
+kind_field NotWhole = written (codes "not whole") refl
+kind_field LongArray = written (codes "long array") refl
+kind_field Memory = written (codes "memory") refl
+
+pub fault_fields : (number : ℕ) (f : DocFault) → HasThreeFields (fault_line number f)
+fault_fields number f =
+    three_fields (decimal number) (33 ∷ []) (fault_words f) (decimal_field number) (written (33 ∷ []) refl)
+    (kind_field f)
+
+-- lines one after another
+
+pub fields_both : (a b : List ℕ) → AreLinesOfThree a → AreLinesOfThree b → AreLinesOfThree (a ++ b)
+fields_both a b h g = (
+  h.0 ++ g.0,
+  fields_all h.0 g.0 h.1 g.1,
+  concat_both h.0 g.0 ∙ ap₂ (λ (x y : List ℕ). x ++ y) h.2 g.2,
+)
+  where
+    fields_all : (xs ys : List (List ℕ)) → AllByRecursion HasThreeFields xs
+        → AllByRecursion HasThreeFields ys → AllByRecursion HasThreeFields (xs ++ ys)
+    fields_all [] ys p q = q
+    fields_all (x ∷ xs) ys p q = (p.0, fields_all xs ys p.1 q)
+
+    concat_both : (xs ys : List (List ℕ)) → concat (xs ++ ys) ≡ concat xs ++ concat ys
+    concat_both [] ys = refl
+    concat_both (x ∷ xs) ys = ap (λ (l : List ℕ). x ++ l) (concat_both xs ys)
+        ∙ sym (append_assoc x (concat xs) (concat ys))
+
+pub fields_one : (line : List ℕ) → HasThreeFields line → AreLinesOfThree line
+fields_one line h = (line ∷ [], (h, tt), append-nil line)
+
+pub fields_none : AreLinesOfThree []
+fields_none = ([], tt, refl)
+
+-- the lines of several nodes, and how many they are
+
+pub nodes_fields : (number : ℕ) (ns : List Node) → AreLinesOfThree (flat_map (node_line number) ns)
+nodes_fields number [] = fields_none
+nodes_fields number (n ∷ ns) =
+    fields_both (node_line number n) (flat_map (node_line number) ns)
+    (fields_one (node_line number n) (node_fields number n)) (nodes_fields number ns)
+
+pub nodes_counted : (number : ℕ) (ns : List Node) → times 10 (flat_map (node_line number) ns) ≡ length ns
+nodes_counted number [] = times_none 10
+nodes_counted number (n ∷ ns) = omega (
+  arith,
+  times_both 10 (node_line number n) (flat_map (node_line number) ns),
+  (node_fields number n).line_feeds,
+  nodes_counted number ns,
+)

@@ -1,0 +1,6 @@
+pub mod Fields
+pub mod FlatTexts
+pub mod OnLiterals
+pub mod PathBytes
+pub mod Taken
+pub mod Written

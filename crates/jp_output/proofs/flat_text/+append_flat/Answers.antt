@@ -1,0 +1,22 @@
+use Rattle.std.proofs.Common.{◌≡◌, [], ◌∷◌, ◌+◌, drop, arith}
+use Rattle.std.proofs.lemmas.Grind.{common_steps}
+use Rattle.jp_trail.proofs.Extending.{extends_on}
+use Rattle.jp_output.proofs.FlatTexts.{next_listed, left_height}
+use Rattle.jp_output.proofs.flat_text.+append_flat.Goals as goal
+
+pub append_list-loop-member-preserved : goal.append_list-loop-member-preserved
+append_list-loop-member-preserved t c =
+    let l = c.loop-member in
+    let m = c.member-item.result in
+    let here = drop l.member-index c.args.list.now in
+    let left = drop (l.member-index + 1) c.args.list.now in
+    let first : here ≡ m ∷ left = grind (arith, common_steps) in
+    let named = extends_on _ _ _ (extends_on _ _ _ l.invariant.kept c.append_comma.ensures.kept)
+    c.append_quoted.ensures.kept in record {
+      rest = next_listed l.later m here left _ _ _ _ _ _ first c.in_ok-append_comma.ensures.ok
+          c.in_ok-append_quoted.ensures.ok c.in_ok-push-2.ensures.items c.in_ok-append_flat.ensures.ok
+          l.invariant.rest;
+      kept = extends_on _ _ _ (extends_on _ _ _ named (58 ∷ [], c.in_ok-push-2.ensures.items))
+          c.append_flat.ensures.kept;
+      height = left_height m here left _ first l.invariant.height;
+    }

@@ -1,0 +1,4 @@
+pub mod Chunks
+pub mod FaultLine
+pub mod Fields
+pub mod OutputLine

@@ -1,0 +1,20 @@
+//! Output lines and fault lines, with normalized paths (RFC 9535, 2.7).
+#![tactic(auto)]
+
+mod chunks;
+mod examples;
+mod fault_line;
+mod flat_text;
+pub mod laws;
+mod node_lines;
+mod output_line;
+mod path;
+mod scalar_text;
+mod tree_text;
+mod value_text;
+
+pub use chunks::{append_chunks, join_chunks, push_chunk};
+pub use fault_line::write_fault;
+pub use node_lines::NodeLines;
+pub use output_line::write_line;
+pub use path::write_path;

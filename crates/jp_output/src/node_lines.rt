@@ -1,0 +1,210 @@
+//! The taker that writes the output line of each node.
+
+ghost use Rattle.std.specs.Prelude.{◌≡◌, ◌++◌, []};
+ghost use Rattle.std.specs.Prelude.{IfOk, OnOk, OnErr};
+ghost use Rattle.jp_part.specs.Part.{part_value};
+ghost use Rattle.jp_trail.specs.Appended.{Extends};
+ghost use Rattle.jp_trail.specs.Links.{link_steps};
+ghost use Rattle.jp_output.specs.Chunks.{bytes_in};
+ghost use Rattle.jp_output.specs.OutputLine.{line_text};
+
+use crate::chunks::{COPIED, append_chunks, join_chunks, push_chunk};
+use crate::fault_line::write_fault;
+use crate::output_line::append_number;
+use crate::value_text::append_value;
+use jp_doc::DocFault;
+use jp_nodes::Visit;
+use jp_part::Part;
+use jp_trail::Trail;
+use std::alloc::{AllocError, Global};
+use std::marker::Model;
+use std::mem;
+
+/// Takes nodes as the output lines of a document with a number, behind those of the documents before it.
+///
+/// Its meaning is that number and the bytes of all lines so far. A node takes no allocation but the growth of
+/// what is written, since the room that its value's text is made in is used again, and a list of members for
+/// each object of a flat document. The lines of a taker that is appended stay where they are.
+#[derive(Drop)]
+pub struct NodeLines {
+    number: u64,
+    room: Vec<u8>,
+    /// The lines before those of `out`.
+    before: Vec<Vec<u8>>,
+    out: Vec<u8>,
+}
+
+impl Model for NodeLines {
+    ghost use Rattle.std.specs.Prelude.{ℕ, List, ◌++◌};
+    ghost use Rattle.jp_output.specs.Chunks.{bytes_in};
+
+    ghost Value = { ℕ × List ℕ };
+
+    ghost view = { λ t. (t.number, bytes_in t.before.items ++ t.out.items) };
+}
+
+impl NodeLines {
+    ghost use Rattle.std.specs.Prelude.{◌≢◌};
+    ghost use Rattle.jp_doc.specs.declared.fault.DocFault.TheVariants.{Memory};
+    ghost use Rattle.jp_output.specs.FaultLine.{fault_line};
+
+    /// No lines, of a document with the number 0. It takes no memory.
+    pub fn new(alloc: Global) -> NodeLines
+        ensures { result ≡ (0, []) }
+    {
+        NodeLines {
+            number: 0,
+            room: Vec::new(alloc),
+            before: Vec::new(alloc),
+            out: Vec::new(alloc),
+        }
+    }
+
+    /// Begins the lines of a document with this number.
+    pub fn begin(&mut self, number: u64)
+        ensures { self.new ≡ (number, self.old.1) }
+    {
+        self.number = number;
+    }
+
+    /// Appends the fault line of the line with this number. Condition: the fault is not `Memory`.
+    ///
+    /// After an `AllocError`, which says that a growth was refused, the lines are as before.
+    pub fn push_fault(&mut self, alloc: Global, fault: &DocFault) -> Result<(), AllocError>
+        requires { fault.now ≢ Memory }
+        ensures ok { OnOk result (self.new ≡ (self.old.0, self.old.1 ++ fault_line self.old.0 fault.now)) }
+        ensures err { OnErr result (self.new ≡ self.old) }
+    {
+        write_fault(alloc, self.number, fault, &mut self.out)
+    }
+
+    /// The bytes of all lines, in chunks as they were written. `AllocError` if a growth was refused.
+    pub fn into_chunks(self) -> Result<Vec<Vec<u8>>, AllocError>
+        ensures { IfOk result (λ chunks. bytes_in chunks.items ≡ self.1) }
+    {
+        let mut chunks = self.before;
+        push_chunk(&mut chunks, self.out)?;
+        Ok(chunks)
+    }
+
+    /// The bytes of all lines. `AllocError` if a growth was refused.
+    pub fn into_bytes(self, alloc: Global) -> Result<Vec<u8>, AllocError>
+        ensures { IfOk result (λ v. v.items ≡ self.1) }
+    {
+        join_chunks(alloc, self.into_chunks()?)
+    }
+}
+
+impl Visit for NodeLines {
+    ghost use Rattle.std.specs.Prelude.{ℕ, List, [], refl};
+    ghost use Rattle.jp_output.specs.OutputLine.{put_line};
+
+    ghost Kept = { ℕ × List ℕ };
+
+    ghost kept = { λ t. t };
+
+    ghost put = { put_line };
+
+    ghost emptied = { λ lines. (lines.0, []) };
+
+    ghost emptied_stays = { λ _ _. refl };
+
+    fn node(
+        &mut self,
+        alloc: Global,
+        trail: &mut Trail<'_>,
+        value: Part<'_>,
+    ) -> Result<(), AllocError> {
+        write_node(
+            alloc,
+            self.number,
+            trail,
+            value,
+            &mut self.room,
+            &mut self.out,
+        )
+    }
+
+    fn is_full(&self) -> bool {
+        false
+    }
+
+    fn fresh(&self, alloc: Global) -> Self {
+        NodeLines {
+            number: self.number,
+            room: Vec::new(alloc),
+            before: Vec::new(alloc),
+            out: Vec::new(alloc),
+        }
+    }
+
+    fn append(&mut self, other: Self) -> Result<(), AllocError> {
+        append_all(&mut self.before, &mut self.out, other.before, other.out)?;
+        Ok(())
+    }
+}
+
+/// Appends chunks and a last one to those before `out` and to `out`.
+fn append_all(
+    before: &mut Vec<Vec<u8>>,
+    out: &mut Vec<u8>,
+    chunks: Vec<Vec<u8>>,
+    last: Vec<u8>,
+) -> Result<(), AllocError>
+    ensures { OnOk result (bytes_in before.new.items ++ out.new.items
+        ≡ (bytes_in before.old.items ++ out.old.items) ++ (bytes_in chunks.items ++ last.items)) }
+{
+    if chunks.is_empty() && last.len() <= COPIED {
+        return out.extend_from_slice(last.as_slice());
+    }
+    push_chunk(before, mem::replace(out, last))?;
+    append_chunks(before, chunks)
+}
+
+/// Appends the output line of the node at the trail, with room for its value's text.
+///
+/// After an `AllocError`, which says that a growth was refused, `out` is as before.
+fn write_node(
+    alloc: Global,
+    number: u64,
+    trail: &mut Trail<'_>,
+    value: Part<'_>,
+    room: &mut Vec<u8>,
+    out: &mut Vec<u8>,
+) -> Result<(), AllocError>
+    ensures same { trail.new ≡ trail.old }
+    ensures ok { OnOk result (out.new.items
+        ≡ out.old.items ++ line_text number (link_steps trail.old) (part_value value.entry)) }
+    ensures err { OnErr result (out.new.items ≡ out.old.items) }
+{
+    let before = out.len();
+    match append_parts(alloc, number, trail, value, room, out) {
+        Ok(()) => Ok(()),
+        Err(error) => {
+            out.truncate(before);
+            Err(error)
+        }
+    }
+}
+
+/// Appends the parts of a line, and on an error some of them.
+fn append_parts(
+    alloc: Global,
+    number: u64,
+    trail: &mut Trail<'_>,
+    value: Part<'_>,
+    room: &mut Vec<u8>,
+    out: &mut Vec<u8>,
+) -> Result<(), AllocError>
+    ensures same { trail.new ≡ trail.old }
+    ensures ok { OnOk result (out.new.items
+        ≡ out.old.items ++ line_text number (link_steps trail.old) (part_value value.entry)) }
+    ensures kept { Extends out.old.items out.new.items }
+{
+    append_number(number, out)?;
+    trail.append_path(out)?;
+    out.push(b'\t')?;
+    append_value(alloc, value, room, out)?;
+    out.push(b'\n')?;
+    Ok(())
+}

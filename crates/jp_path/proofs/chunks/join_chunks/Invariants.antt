@@ -1,9 +1,0 @@
-use Rattle.std.proofs.Common.{◌≡◌, ◌++◌}
-use Rattle.std.specs.Vec.Iter.{into_iter_items}
-use Rattle.jp_path.specs.Chunks.{bytes_in}
-use Rattle.jp_path.proofs.chunks.join_chunks.Given as goal
-
-abbrev pub invariant-loop-chunk : goal.invariant-loop-chunk
-invariant-loop-chunk l = record {
-  so_far : bytes_in l.fn.chunks.items ≡ l.bytes.items ++ bytes_in (into_iter_items l.chunk-iterator);
-}
