@@ -20,7 +20,7 @@ STAGES = [(name, re.compile(pattern)) for name, pattern in (
     ("JSON is read", r"\bserde_json::(de|value|number)\b|\bjson::(reader|lexer|word|scratch|index)\b"),
     ("numbers and arrays are tested", r"\bjp_doc::limits\b"),
     ("lines are cut", r"\bjp_doc::lines\b|\bjp_run::gathering\b"),
-    ("the text of lines", r"\bjp_path\b|\bserde_json::ser\b|\bjson::write|\bitoa\b"),
+    ("the text of lines", r"\bjp_output\b|\bserde_json::ser\b|\bjson::write|\bitoa\b"),
     ("the walk", r"\bjp_(eval|nodes|trail|value|regexp)\b"),
     ("the workers", r"\bjp_(answer|board)\b|map_vec|start_thread|\bclone3?\b"),
 )]

@@ -1,16 +1,9 @@
-use jp_check::Plan;
-use jp_doc::Document;
-use jp_eval::{EvalFault, visit_nodes};
-use jp_output::NodeLines;
+use jp_check::{Plan, check};
+use jp_doc::Location;
+use jp_path::query_of;
+use jp_syntax::QueryFault;
 use std::alloc::Global;
 
-fn lines(
-    alloc: Global,
-    plan: &Plan,
-    number: u64,
-    document: &Document,
-) -> Result<Vec<u8>, EvalFault> {
-    let mut lines = NodeLines::new(alloc);
-    lines.begin(number);
-    Ok(visit_nodes(alloc, plan, document, lines)?.into_bytes(alloc)?)
+fn plan_of_node(alloc: Global, location: &Location) -> Result<Plan, QueryFault> {
+    check(alloc, query_of(alloc, location)?)
 }
