@@ -5,7 +5,6 @@ pub mod Form
 pub mod Pieces
 pub mod Placed
 pub mod Ranges
-pub mod Status
 pub mod Streams
 pub mod Whole
 pub mod Worked

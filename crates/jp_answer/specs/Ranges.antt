@@ -8,6 +8,3 @@ AreWorkers n = (1 ≤ n) × (n ≤ 64)
 -- 1 to 1000000 documents, of a piece or of a batch
 abbrev pub AreDocuments : ℕ → Type 0
 AreDocuments n = (1 ≤ n) × (n ≤ 1000000)
-
-abbrev pub AreSettings : ℕ → ℕ → ℕ → Type 0
-AreSettings workers piece batch = AreWorkers workers × AreDocuments piece × AreDocuments batch

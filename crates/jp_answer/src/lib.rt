@@ -3,18 +3,14 @@
 
 mod answering;
 mod examples;
-mod fault;
 mod gate;
 pub mod laws;
 mod outcome;
 mod parts;
 mod pieces;
-mod settings;
 mod worker;
 mod workers;
 
-pub use fault::RunFault;
 pub use gate::{Gate, OpenGate};
 pub use outcome::{Answer, DocStop, Outcome, Whole};
-pub use settings::Settings;
 pub use workers::{answer, answer_all, answer_in_chunks};

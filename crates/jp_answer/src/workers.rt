@@ -1,6 +1,6 @@
 //! The answer to lines, by workers that share a board.
 
-ghost use Rattle.std.specs.Prelude.{◌≡◌, ◌≤◌, ◌<◌, ℕ, length, map, All, IfOk, OnErr, IsErrOf, vec_len};
+ghost use Rattle.std.specs.Prelude.{◌≡◌, ◌≤◌, ◌<◌, ℕ, length, map, All, IfOk, vec_len};
 ghost use Rattle.std.specs.Thread.{IsSync};
 ghost use Rattle.jp_buffer.specs.Buffered.{line_at};
 ghost use Rattle.jp_doc.specs.Lines.{line_of};
@@ -17,7 +17,6 @@ ghost use Rattle.jp_answer.specs.Ranges.{AreWorkers, AreDocuments};
 ghost use Rattle.jp_answer.specs.Whole.{whole, whole_of};
 ghost use Rattle.jp_answer.specs.Worked.{IsWorked};
 
-use crate::fault::RunFault;
 use crate::gate::Gate;
 use crate::outcome::{Answer, Outcome, Whole};
 use crate::parts::{gather, join, passed, place};
@@ -39,9 +38,7 @@ use std::thread::Threads;
 /// workers take their steps. There are 1 to 64 workers, a piece has 1 to 1,000,000 lines, and there are at
 /// most 4,294,967,296 lines. The calling thread may be one of the workers.
 ///
-/// # Errors
-///
-/// [`RunFault::Memory`] where a growth of memory was refused to any worker, even where a line is faulty.
+/// `AllocError` where a growth of memory was refused to any worker, even where a line is faulty.
 pub fn answer<R: Threads + Sync, G: Gate + Sync>(
     rt: &R,
     alloc: Global,
@@ -50,13 +47,12 @@ pub fn answer<R: Threads + Sync, G: Gate + Sync>(
     workers: u64,
     piece: u64,
     gate: &G,
-) -> Result<Answer, RunFault>
+) -> Result<Answer, AllocError>
     requires workers { AreWorkers workers }
     requires piece { AreDocuments piece }
     requires lines { length lines.now ≤ 4294967296 }
     ensures answer { IfOk result (λ a. (t : Tests) → AreRight t →
         answer_to t (planned_query plan.now) (map line_of lines.now) ≡ answer_of a) }
-    ensures fault { OnErr result (IsErrOf result RunFault.Memory) }
 {
     let lines = refs_of(alloc, lines)?;
     let answer = answer_in_chunks(rt, alloc, plan, &lines, workers, piece, false, gate)?;
@@ -73,9 +69,7 @@ pub fn answer<R: Threads + Sync, G: Gate + Sync>(
 /// workers take their steps. There are 1 to 64 workers, a piece has 1 to 1,000,000 lines, and there are at
 /// most 4,294,967,296 lines. The calling thread may be one of the workers.
 ///
-/// # Errors
-///
-/// [`RunFault::Memory`] where a growth of memory was refused to any worker.
+/// `AllocError` where a growth of memory was refused to any worker.
 pub fn answer_all<R: Threads + Sync, G: Gate + Sync>(
     rt: &R,
     alloc: Global,
@@ -84,13 +78,12 @@ pub fn answer_all<R: Threads + Sync, G: Gate + Sync>(
     workers: u64,
     piece: u64,
     gate: &G,
-) -> Result<Whole, RunFault>
+) -> Result<Whole, AllocError>
     requires workers { AreWorkers workers }
     requires piece { AreDocuments piece }
     requires lines { length lines.now ≤ 4294967296 }
     ensures whole { IfOk result (λ w. (t : Tests) → AreRight t →
         whole t (planned_query plan.now) (map line_of lines.now) ≡ whole_of w) }
-    ensures fault { OnErr result (IsErrOf result RunFault.Memory) }
 {
     let lines = refs_of(alloc, lines)?;
     let answer = answer_in_chunks(rt, alloc, plan, &lines, workers, piece, true, gate)?;
@@ -107,9 +100,7 @@ pub fn answer_all<R: Threads + Sync, G: Gate + Sync>(
 /// workers take their steps. There are 1 to 64 workers, a piece has 1 to 1,000,000 lines, and there are at
 /// most 4,294,967,296 lines. The calling thread may be one of the workers.
 ///
-/// # Errors
-///
-/// [`RunFault::Memory`] where a growth of memory was refused to any worker.
+/// `AllocError` where a growth of memory was refused to any worker.
 pub fn answer_in_chunks<R: Threads + Sync, G: Gate + Sync>(
     rt: &R,
     alloc: Global,
@@ -119,17 +110,16 @@ pub fn answer_in_chunks<R: Threads + Sync, G: Gate + Sync>(
     piece: u64,
     keeps_going: bool,
     gate: &G,
-) -> Result<Outcome, RunFault>
+) -> Result<Outcome, AllocError>
     requires workers { AreWorkers workers }
     requires piece { AreDocuments piece }
     requires lines { length lines.now ≤ 4294967296 }
     ensures answer { IfOk result (λ a. (t : Tests) → AreRight t →
         answer_in keeps_going t (planned_query plan.now) (map line_at lines.now) ≡ outcome_of a) }
     ensures passed { IfOk result (λ a. passed_in keeps_going (map line_at lines.now) ≡ a.faulty) }
-    ensures fault { OnErr result (IsErrOf result RunFault.Memory) }
 {
     let pieces = Pieces::new(plan, lines, piece as usize, keeps_going, workers > 1);
-    Ok(answer_pieces(rt, alloc, &pieces, workers, gate)?)
+    answer_pieces(rt, alloc, &pieces, workers, gate)
 }
 
 /// The answer to all pieces, in the form that they ask for.

@@ -1,20 +1,18 @@
-use jp_answer::{Answer, OpenGate, RunFault, Settings, answer};
+use jp_answer::{Answer, OpenGate, answer};
 use jp_check::Plan;
 use jp_doc::Line;
-use std::alloc::Global;
+use std::alloc::{AllocError, Global};
 use std::thread::Threads;
 
-/// The answer of as many workers as are set. `None` for more than 4,294,967,296 lines.
+/// The answer of four workers. `None` for more than 4,294,967,296 lines.
 fn by_workers<R: Threads + Sync>(
     rt: &R,
     alloc: Global,
     plan: &Plan,
     lines: &[Line],
-    settings: &Settings,
-) -> Option<Result<Answer, RunFault>> {
+) -> Option<Result<Answer, AllocError>> {
     if lines.len() > 4_294_967_296 {
         return None;
     }
-    let Settings { workers, piece, .. } = *settings;
-    Some(answer(rt, alloc, plan, lines, workers, piece, &OpenGate))
+    Some(answer(rt, alloc, plan, lines, 4, 64, &OpenGate))
 }

@@ -5,7 +5,7 @@ use Rattle.std.specs.Io.KnownBytes.{IsAtEnd}
 use Rattle.clap.specs.Walk.{Text}
 use Rattle.jp_doc.specs.Lines.{lines}
 use Rattle.jp_answer.specs.Form.{passed_in}
-use Rattle.jp_answer.specs.declared.fault.RunFault.{RunFault}
+use Rattle.jp_run.specs.declared.fault.RunFault.{RunFault}
 use Rattle.jp_run.specs.declared.running.Totals.{Totals}
 use Rattle.jp_program.specs.Asked.{IsAsked, wanted_of}
 use Rattle.jp_program.specs.Outcome.{IsTaken, IsAnswered, IsPast}

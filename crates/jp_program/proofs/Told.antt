@@ -16,10 +16,10 @@ use Rattle.jp_regexp.specs.Tests.{Tests}
 use Rattle.jp_answer.specs.Answer.{Answer, answer, after, line_answer, document_lines}
 use Rattle.jp_answer.specs.Answered.{IsAnswerIn}
 use Rattle.jp_answer.specs.Form.{passed_in}
-use Rattle.jp_answer.specs.Status.{status_of}
-use Rattle.jp_answer.specs.declared.fault.RunFault.{RunFault}
-use Rattle.jp_answer.specs.declared.fault.RunFault.TheVariants.{Query, Document, Read, Write, Limit}
-use Rattle.jp_answer.specs.declared.fault.RunFault.TheVariants.{Memory, Settings}
+use Rattle.jp_run.specs.Status.{status_of}
+use Rattle.jp_run.specs.declared.fault.RunFault.{RunFault}
+use Rattle.jp_run.specs.declared.fault.RunFault.TheVariants.{Query, Document, Read, Write, Limit}
+use Rattle.jp_run.specs.declared.fault.RunFault.TheVariants.{Memory, Settings}
 use Rattle.jp_answer.specs.Whole.{whole, lines_or_fault, is_faulty, faulty_lines}
 use Rattle.jp_program.specs.Outcome.{IsAnswered, IsPast, IsFront, IsCutShort}
 use Rattle.jp_program.specs.Wanted.{Wanted}

@@ -2,8 +2,8 @@
 use Rattle.std.specs.Prelude.{◌≡◌, ◌⊎◌, List}
 use Rattle.std.specs.Str.{chars}
 use Rattle.clap.specs.Walk.{Text}
-use Rattle.jp_answer.specs.declared.fault.RunFault.{RunFault}
-use Rattle.jp_answer.specs.declared.fault.RunFault.TheVariants.{Memory, Settings}
+use Rattle.jp_run.specs.declared.fault.RunFault.{RunFault}
+use Rattle.jp_run.specs.declared.fault.RunFault.TheVariants.{Memory, Settings}
 use Rattle.jp_program.specs.CommandLine.{AsksToShow}
 use Rattle.jp_program.specs.Wanted.{Wanted, Wants, IsWrong}
 use Rattle.jp_program.specs.declared.command_line.Asked.{Asked}

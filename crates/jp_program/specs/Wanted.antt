@@ -3,7 +3,7 @@ use Rattle.std.specs.Prelude.{◌≡◌, ◌⊎◌, ℕ, Bool, true, false, List
 use Rattle.std.specs.Str.{chars}
 use Rattle.std.specs.Str.Parse.{IsNumeral, digits_value, without_leading_plus}
 use Rattle.clap.specs.Walk.{Text, Row, first_of, one_of}
-use Rattle.jp_answer.specs.Ranges.{AreSettings}
+use Rattle.jp_run.specs.Settings.{AreSettings}
 use Rattle.jp_program.specs.CommandLine.{said, refusals, IsRefused}
 
 -- the query's text in scalar values, whether it is only checked, the form of the answer, and the settings

@@ -7,7 +7,7 @@ ghost use Rattle.clap.specs.Walk.{texts};
 ghost use Rattle.jp_doc.specs.declared.fault.DocFault.{DocFault as Fault};
 ghost use Rattle.jp_tree.specs.declared.fault.QueryFault.{QueryFault as Refusal};
 ghost use Rattle.jp_check.specs.Verdict.{IsVerdict};
-ghost use Rattle.jp_answer.specs.Status.{status_of};
+ghost use Rattle.jp_run.specs.Status.{status_of};
 ghost use Rattle.jp_run.specs.Batches.{WasNotWhole};
 ghost use Rattle.jp_run.specs.Written.{IsPassedOn};
 ghost use Rattle.jp_program.specs.CommandLine.{AsksToShow};

@@ -13,8 +13,8 @@ use Rattle.jp_check.proofs.OneVerdict.{one_verdict}
 use Rattle.jp_answer.specs.Answer.{Answer}
 use Rattle.jp_answer.specs.Answered.{IsAnswerIn}
 use Rattle.jp_answer.specs.Form.{answer_in}
-use Rattle.jp_answer.specs.declared.fault.RunFault.{RunFault}
-use Rattle.jp_answer.specs.declared.fault.RunFault.TheVariants.{Query, Memory}
+use Rattle.jp_run.specs.declared.fault.RunFault.{RunFault}
+use Rattle.jp_run.specs.declared.fault.RunFault.TheVariants.{Query, Memory}
 use Rattle.jp_run.specs.Ended.{Ends, StreamEnded}
 use Rattle.jp_run.specs.Handed.{Handed, HandedFront}
 use Rattle.jp_run.specs.Written.{AppendsFront}

@@ -5,7 +5,7 @@ use Rattle.std.proofs.Common.{length-append, length-drop, zero-mul, take-add, dr
 use Rattle.jp_doc.specs.Lines.{Line}
 use Rattle.jp_tree.specs.Tree.{Query}
 use Rattle.jp_answer.specs.Form.{passed_in}
-use Rattle.jp_answer.specs.declared.fault.RunFault.{RunFault}
+use Rattle.jp_run.specs.declared.fault.RunFault.{RunFault}
 use Rattle.jp_answer.proofs.Forms.{passed_joined, passed_few}
 use Rattle.jp_run.specs.Batches.{in_batches, whole_batches}
 use Rattle.jp_run.specs.Ended.{AnswerEnded}

@@ -23,9 +23,9 @@ use Rattle.jp_answer.specs.Answer.{Answer}
 use Rattle.jp_answer.specs.Faults.{first_fault}
 use Rattle.jp_answer.specs.Form.{stop_in, passed_in}
 use Rattle.jp_answer.proofs.Forms.{stop_so, passed_joined, passed_few, passed_none}
-use Rattle.jp_answer.specs.declared.fault.RunFault.{RunFault}
-use Rattle.jp_answer.specs.declared.fault.RunFault.TheVariants.{Query, Document, Read, Write, Limit}
-use Rattle.jp_answer.specs.declared.fault.RunFault.TheVariants.{Memory, Settings}
+use Rattle.jp_run.specs.declared.fault.RunFault.{RunFault}
+use Rattle.jp_run.specs.declared.fault.RunFault.TheVariants.{Query, Document, Read, Write, Limit}
+use Rattle.jp_run.specs.declared.fault.RunFault.TheVariants.{Memory, Settings}
 use Rattle.jp_run.specs.declared.gathering.Answered.{Answered}
 use Rattle.jp_run.specs.declared.running.Totals.{Totals}
 use Rattle.jp_run.specs.Batches.{documents_in, in_batches, whole_batches, left_over}

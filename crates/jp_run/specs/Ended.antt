@@ -6,9 +6,9 @@ use Rattle.jp_doc.specs.Lines.{Line, lines, line_count}
 use Rattle.jp_doc.specs.Feeding.{Progress, fed}
 use Rattle.jp_tree.specs.Tree as tree
 use Rattle.jp_answer.specs.Answer.{Answer}
-use Rattle.jp_answer.specs.declared.fault.RunFault.{RunFault}
-use Rattle.jp_answer.specs.declared.fault.RunFault.TheVariants.{Query, Document, Read, Write, Limit}
-use Rattle.jp_answer.specs.declared.fault.RunFault.TheVariants.{Memory, Settings}
+use Rattle.jp_run.specs.declared.fault.RunFault.{RunFault}
+use Rattle.jp_run.specs.declared.fault.RunFault.TheVariants.{Query, Document, Read, Write, Limit}
+use Rattle.jp_run.specs.declared.fault.RunFault.TheVariants.{Memory, Settings}
 use Rattle.jp_run.specs.Batches.{documents_in, whole_batches, WasNotWhole}
 use Rattle.jp_run.specs.Handed.{Handed, HandedFront}
 use Rattle.jp_run.specs.Limits.{max_reads, max_lines}

@@ -4,3 +4,5 @@ pub mod Ended
 pub mod Handed
 pub mod Limits
 pub mod Written
+pub mod Settings
+pub mod Status

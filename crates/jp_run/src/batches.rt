@@ -14,10 +14,12 @@ ghost use Rattle.jp_run.specs.Limits.{max_lines};
 ghost use Rattle.jp_run.specs.Written.{IsPassedOn};
 
 use crate::ends::Sink;
+use crate::fault::RunFault;
 use crate::gathering::{Pending, take_last};
 use crate::running::Totals;
+use crate::settings::Settings;
 use crate::writing::hand_out;
-use jp_answer::{Gate, RunFault, Settings, answer_in_chunks};
+use jp_answer::{Gate, answer_in_chunks};
 use jp_buffer::{LineBuffer, LineRef};
 use jp_check::Plan;
 use std::alloc::Global;

@@ -7,8 +7,8 @@ ghost use Rattle.jp_tokens.specs.Depth.{bracket_depth, max_depth};
 ghost use Rattle.jp_tree.specs.declared.fault.QueryFault.{QueryFault as Refusal};
 ghost use Rattle.jp_check.specs.Verdict.{IsAccepted, IsVerdict};
 
+use crate::fault::RunFault;
 use crate::running::plan_of;
-use jp_answer::RunFault;
 use jp_syntax::QueryFault;
 use std::alloc::Global;
 

@@ -9,7 +9,7 @@ ghost use Rattle.jp_run.specs.Ended.{ReadEnded, LastEnded};
 ghost use Rattle.jp_run.specs.Limits.{max_lines};
 
 use crate::ends::Source;
-use jp_answer::RunFault;
+use crate::fault::RunFault;
 use jp_buffer::LineBuffer;
 
 /// The greatest number of lines.

@@ -1,20 +1,24 @@
 //! The answer to a collection of documents, one on a line: from the bytes that come in to those that go out.
 #![tactic(auto)]
 
+mod answers;
 mod batches;
 mod checking;
 mod ends;
 mod examples;
+mod fault;
 mod gathering;
 mod running;
+mod settings;
 mod std_ends;
 mod writing;
 
+pub use answers::{answer, answer_all};
 pub use checking::check_query;
 pub use ends::{Broken, Sink, Source};
-pub use jp_answer::{
-    Answer, DocStop, Gate, OpenGate, RunFault, Settings, Whole, answer, answer_all, laws,
-};
+pub use fault::RunFault;
+pub use jp_answer::{Answer, DocStop, Gate, OpenGate, Whole, laws};
 pub use running::{Totals, run};
+pub use settings::Settings;
 pub use std_ends::{FromReader, FromWriter};
 pub use writing::write_all;

@@ -22,8 +22,10 @@ ghost use Rattle.jp_run.specs.Written.{AppendsFront, IsPassedOn};
 
 use crate::batches::{answer_batches, answer_rest};
 use crate::ends::{Sink, Source};
+use crate::fault::RunFault;
 use crate::gathering::{Answered, Pending, read_lines};
-use jp_answer::{Gate, RunFault, Settings};
+use crate::settings::Settings;
+use jp_answer::Gate;
 use jp_buffer::LineBuffer;
 use jp_check::{Plan, plan};
 use jp_syntax::QueryFault;

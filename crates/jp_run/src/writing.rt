@@ -8,7 +8,8 @@ ghost use Rattle.jp_run.specs.Ended.{HandingEnded};
 ghost use Rattle.jp_run.specs.Written.{AppendsFront, IsPassedOn};
 
 use crate::ends::{Broken, Sink};
-use jp_answer::{Outcome, RunFault};
+use crate::fault::RunFault;
+use jp_answer::Outcome;
 
 /// Hands over all of the bytes, to a sink that has not failed.
 ///

@@ -1,6 +1,6 @@
 use Rattle.std.proofs.Common.{refl}
 use Rattle.jp_check.specs.Plan.{planned_query}
-use Rattle.jp_answer.specs.declared.fault.RunFault.TheVariants.{Document, Read, Limit}
+use Rattle.jp_run.specs.declared.fault.RunFault.TheVariants.{Document, Read, Limit}
 use Rattle.jp_run.proofs.Runs.{not_both, refused_so, at_fault, accepted_ok, answer_known, answer_ok}
 use Rattle.jp_run.proofs.Runs.{front_err}
 use Rattle.jp_run.proofs.running.run.Goals as goal

@@ -1,8 +1,8 @@
 //! Why a run ended early.
 
 ghost use Rattle.std.specs.Prelude.{◌≡◌};
-ghost use Rattle.jp_answer.specs.declared.fault.RunFault.TheVariants.{Memory};
-ghost use Rattle.jp_answer.specs.Status.{status_of};
+ghost use Rattle.jp_run.specs.declared.fault.RunFault.TheVariants.{Memory};
+ghost use Rattle.jp_run.specs.Status.{status_of};
 
 use jp_doc::DocFault;
 use jp_syntax::QueryFault;

@@ -1,7 +1,7 @@
 //! How a run is cut up.
 
 ghost use Rattle.std.specs.Prelude.{◌≡◌, ◌↔◌, false, true, IsOk, IfOk, OnErr, IsErrOf};
-ghost use Rattle.jp_answer.specs.Ranges.{AreSettings};
+ghost use Rattle.jp_run.specs.Settings.{AreSettings};
 
 use crate::fault::RunFault;
 

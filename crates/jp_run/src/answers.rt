@@ -1,0 +1,75 @@
+//! The answer to lines that a caller has, as a run gives it.
+
+ghost use Rattle.std.specs.Prelude.{◌≡◌, ◌≤◌, length, map, IfOk, OnErr, IsErrOf};
+ghost use Rattle.jp_doc.specs.Lines.{line_of};
+ghost use Rattle.jp_check.specs.Plan.{planned_query};
+ghost use Rattle.jp_regexp.specs.Tests.{Tests, AreRight};
+ghost use Rattle.jp_answer.specs.Answer.{answer as answer_to};
+ghost use Rattle.jp_answer.specs.Answered.{answer_of};
+ghost use Rattle.jp_answer.specs.Ranges.{AreWorkers, AreDocuments};
+ghost use Rattle.jp_answer.specs.Whole.{whole, whole_of};
+
+use crate::fault::RunFault;
+use jp_answer::{Answer, Gate, Whole};
+use jp_check::Plan;
+use jp_doc::Line;
+use std::alloc::Global;
+use std::thread::Threads;
+
+/// The answer to lines, by at most that many workers, each of which claims `piece` lines at a time: there are
+/// no more of them than pieces.
+///
+/// It is the same for every number of workers, every size of a piece, every gate, and in whatever order the
+/// workers take their steps. There are 1 to 64 workers, a piece has 1 to 1,000,000 lines, and there are at
+/// most 4,294,967,296 lines. The calling thread may be one of the workers.
+///
+/// # Errors
+///
+/// [`RunFault::Memory`] where a growth of memory was refused to any worker, even where a line is faulty.
+pub fn answer<R: Threads + Sync, G: Gate + Sync>(
+    rt: &R,
+    alloc: Global,
+    plan: &Plan,
+    lines: &[Line],
+    workers: u64,
+    piece: u64,
+    gate: &G,
+) -> Result<Answer, RunFault>
+    requires workers { AreWorkers workers }
+    requires piece { AreDocuments piece }
+    requires lines { length lines.now ≤ 4294967296 }
+    ensures answer { IfOk result (λ a. (t : Tests) → AreRight t →
+        answer_to t (planned_query plan.now) (map line_of lines.now) ≡ answer_of a) }
+    ensures fault { OnErr result (IsErrOf result RunFault.Memory) }
+{
+    Ok(jp_answer::answer(rt, alloc, plan, lines, workers, piece, gate)?)
+}
+
+/// The answer that keeps going, by at most that many workers, as `answer` has them: a faulty line gives its
+/// fault line.
+///
+/// It is the same for every number of workers, every size of a piece, every gate, and in whatever order the
+/// workers take their steps. There are 1 to 64 workers, a piece has 1 to 1,000,000 lines, and there are at
+/// most 4,294,967,296 lines. The calling thread may be one of the workers.
+///
+/// # Errors
+///
+/// [`RunFault::Memory`] where a growth of memory was refused to any worker.
+pub fn answer_all<R: Threads + Sync, G: Gate + Sync>(
+    rt: &R,
+    alloc: Global,
+    plan: &Plan,
+    lines: &[Line],
+    workers: u64,
+    piece: u64,
+    gate: &G,
+) -> Result<Whole, RunFault>
+    requires workers { AreWorkers workers }
+    requires piece { AreDocuments piece }
+    requires lines { length lines.now ≤ 4294967296 }
+    ensures whole { IfOk result (λ w. (t : Tests) → AreRight t →
+        whole t (planned_query plan.now) (map line_of lines.now) ≡ whole_of w) }
+    ensures fault { OnErr result (IsErrOf result RunFault.Memory) }
+{
+    Ok(jp_answer::answer_all(rt, alloc, plan, lines, workers, piece, gate)?)
+}
