@@ -10,7 +10,7 @@ ghost use Rattle.jp_regexp.specs.Tests.{Tests, AreRight};
 
 use crate::evaluation::EvalFault;
 use crate::fork::{Cuts, Fork};
-use crate::roots::answer_all;
+use crate::roots::answer_roots;
 use crate::split::go_split;
 use crate::walk::{Task, run};
 use jp_check::Plan;
@@ -140,7 +140,7 @@ fn visit_in<V: Visit + Drop>(
         (document_nodes tests (planned_query plan.now) (part_value root.entry))) }
 {
     let compiled = plan.compiled();
-    let ground = answer_all::<V>(alloc, root, compiled.roots.as_slice())?;
+    let ground = answer_roots::<V>(alloc, root, compiled.roots.as_slice())?;
     let mut path = Trail::with_room(alloc, mem::replace(room, Room::new(alloc)));
     let mut found = Found::Taker(taker);
     run(
@@ -173,7 +173,7 @@ fn split_in<R: Threads + Sync, F: Fork + Sync, V: Visit + Drop + Send>(
         (document_nodes tests (planned_query plan.now) (part_value root.entry))) }
 {
     let compiled = plan.compiled();
-    let ground = answer_all::<V>(alloc, root, compiled.roots.as_slice())?;
+    let ground = answer_roots::<V>(alloc, root, compiled.roots.as_slice())?;
     let mut path = Trail::with_room(alloc, mem::replace(room, Room::new(alloc)));
     let mut found = Found::Taker(taker);
     let task = Task::Run(compiled.segments.as_slice());

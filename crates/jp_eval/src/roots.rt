@@ -16,7 +16,7 @@ use jp_trail::Trail;
 use std::alloc::{AllocError, Global};
 
 /// What the filters want of these `$` queries, each found with the answers of those before it.
-pub(crate) fn answer_all<'v, V: Visit + Drop>(
+pub(crate) fn answer_roots<'v, V: Visit + Drop>(
     alloc: Global,
     root: Part<'v>,
     roots: &'v [RootQuery],

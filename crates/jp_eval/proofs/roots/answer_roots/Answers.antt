@@ -2,7 +2,7 @@ use Rattle.std.proofs.Common.{◌≡◌, ◌+◌, ◌<◌, ◌∷◌, ◌++◌, 
 use Rattle.std.proofs.Common.{rules}
 use Rattle.std.proofs.lemmas.Grind.{common_steps}
 use Rattle.std.proofs.Math.Seq.{take-suc}
-use Rattle.jp_eval.proofs.roots.answer_all.Goals as goal
+use Rattle.jp_eval.proofs.roots.answer_roots.Goals as goal
 
 pub with-requires-clause-roots : goal.with-requires-clause-roots
 with-requires-clause-roots g c =

@@ -1,6 +1,6 @@
 use Rattle.std.proofs.Common.{◌≡◌, take}
 use Rattle.jp_part.specs.Part.{part_value}
-use Rattle.jp_eval.proofs.roots.answer_all.Given as goal
+use Rattle.jp_eval.proofs.roots.answer_roots.Given as goal
 
 abbrev pub invariant-loop-slot : goal.invariant-loop-slot
 invariant-loop-slot g l = (l.ground.roots.now ≡ take l.slot l.roots)
