@@ -164,30 +164,31 @@ fn with_nodes<R: Threads + Sync>(
         ++ document_lines t (evaluated_query evaluator.old) number (part_value root.entry)) }
     ensures query { evaluated_query evaluator.new ≡ evaluated_query evaluator.old }
 {
-    let mut taker = written;
-    taker.begin(number);
-    let Ok(written) = visited(rt, evaluator, root, splits, taker) else {
+    let mut visitor = written;
+    visitor.begin(number);
+    let Ok(written) = visited(rt, evaluator, root, splits, visitor) else {
         return Err(AllocError);
     };
     Ok(written)
 }
 
-/// The taker once it has taken the nodes, of which long lists are walked by halves at once where this is set.
+/// The visitor once it has taken the nodes, of which long lists are walked by halves at once where this is
+/// set.
 fn visited<R: Threads + Sync>(
     rt: &R,
     evaluator: &mut Evaluator<'_>,
     root: Part<'_>,
     splits: bool,
-    taker: NodeLines,
+    visitor: NodeLines,
 ) -> Result<NodeLines, EvalFault>
-    ensures lines { IfOk result (λ w. (t : Tests) → AreRight t → w ≡ fold put_line taker
+    ensures lines { IfOk result (λ w. (t : Tests) → AreRight t → w ≡ fold put_line visitor
         (document_nodes t (evaluated_query evaluator.old) (part_value root.entry))) }
     ensures query { evaluated_query evaluator.new ≡ evaluated_query evaluator.old }
 {
     if splits {
-        evaluator.visit_part_split(rt, root, SPLIT_FLOOR, &OpenFork, taker)
+        evaluator.visit_part_split(rt, root, SPLIT_FLOOR, &OpenFork, visitor)
     } else {
-        evaluator.visit_part(root, taker)
+        evaluator.visit_part(root, visitor)
     }
 }
 

@@ -6,7 +6,8 @@ use Rattle.std.proofs.lemmas.List.{at_drop_more, at_drop_all, map-append}
 use Rattle.jp_check.specs.Making.{Begins, Reads}
 use Rattle.jp_tree.specs.Tree as tree
 use Rattle.jp_tree.specs.declared.tree.Start.TheVariants as start
-use Rattle.jp_compiled.specs.Compiled.{Wanted, wanted, where_wanted, root_at, wanted_in, roots_behind, roots_of}
+use Rattle.jp_compiled.specs.Compiled.{Wanted, wanted, where_wanted, root_at, wanted_in}
+use Rattle.jp_compiled.specs.Compiled.{roots_behind, roots_of}
 use Rattle.jp_compiled.specs.Compiled.{segments_in}
 use Rattle.jp_compiled.specs.declared.query.Want.{Want}
 use Rattle.jp_compiled.specs.declared.query.Want.TheVariants as want

@@ -549,7 +549,8 @@ fn given_test(function: Option<Function>, text: Value, pattern: Value) -> Logica
     ensures { (all : List Wanted) (name : Text)
         → option_map function_of function ≡ functions.function_named name
         → compiled.logical_in all result ≡ tree.test_call (compiled.call_of_two name
-        (compiled.as_argument (compiled.value_in all text)) (compiled.as_argument (compiled.value_in all pattern))) }
+        (compiled.as_argument (compiled.value_in all text))
+        (compiled.as_argument (compiled.value_in all pattern))) }
 {
     match function {
         Some(Function::Match) => Logical::Match(text, pattern),

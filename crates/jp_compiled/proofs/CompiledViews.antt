@@ -8,7 +8,8 @@ use Rattle.jp_tree.specs.declared.tree.Operator.{Operator}
 use Rattle.jp_tree.specs.declared.tree.Start.TheVariants as start
 use Rattle.jp_compiled.specs.Compiled.{Wanted, root_at, position_text, slice_of, constant_of, as_argument}
 use Rattle.jp_compiled.specs.Compiled.{text_argument, truth_argument, call_of_one, call_of_two}
-use Rattle.jp_compiled.specs.Compiled.{nodes_level, logical_level, Source, queried, different, source_argument}
+use Rattle.jp_compiled.specs.Compiled.{nodes_level, logical_level, Source, queried, different}
+use Rattle.jp_compiled.specs.Compiled.{source_argument}
 use Rattle.jp_compiled.specs.Compiled.{source_test, source_side, wanted_inside}
 use Rattle.jp_compiled.specs.Compiled.{selector_level, value_level, segment_level, segment_in, selector_in}
 use Rattle.jp_compiled.specs.Compiled.{logical_in, value_in, nodes_in, segments_in}

@@ -6,10 +6,10 @@ use Rattle.jp_tree.specs.Tree as tree
 use Rattle.jp_compiled.specs.Compiled.{Wanted, first_of, count_of, only_of, distinct_of, wanted, where_wanted}
 use Rattle.jp_compiled.specs.declared.query.Want.{Want}
 use Rattle.jp_compiled.specs.declared.query.Want.TheVariants as want
-use Rattle.jp_nodes.specs.Answers.{tells, is_of}
+use Rattle.jp_nodes.specs.Aggregates.{tells, is_of}
 use Rattle.jp_eval.specs.Rooted.{is_answer, are_answers, root_nodes}
-use Rattle.jp_nodes.specs.declared.answers.Answer.{Answer}
-use Rattle.jp_nodes.specs.declared.answers.Answer.TheVariants as answer
+use Rattle.jp_nodes.specs.declared.aggregates.Aggregate.{Aggregate}
+use Rattle.jp_nodes.specs.declared.aggregates.Aggregate.TheVariants as answer
 use Rattle.jp_nodes.proofs.Telling.{both}
 
 where_none : (v : Want) → where_wanted v (wanted v tree.no_segments) ≡ tree.no_segments
@@ -19,7 +19,7 @@ where_none want.Only = refl
 where_none want.Distinct = refl
 
 module _ (root : Json) where
-  pub one_more : (ws : List Wanted) (answers : List Answer) (w : Wanted) (a : Answer)
+  pub one_more : (ws : List Wanted) (answers : List Aggregate) (w : Wanted) (a : Aggregate)
       → are_answers root ws answers ≡ true → is_answer root w a ≡ true
       → are_answers root (ws ++ w ∷ []) (answers ++ a ∷ []) ≡ true
   one_more [] [] w a h is = ap (λ b. b && true) is
@@ -30,7 +30,7 @@ module _ (root : Json) where
       ap (λ c. c && are_answers root (ws ++ w ∷ []) (bs ++ a ∷ [])) parts.0
       ∙ one_more ws bs w a parts.1 is
 
-  pub answer_at : (ws : List Wanted) (answers : List Answer) (i : ℕ) (d : Wanted) (a : Answer)
+  pub answer_at : (ws : List Wanted) (answers : List Aggregate) (i : ℕ) (d : Wanted) (a : Aggregate)
       → are_answers root ws answers ≡ true → i < length answers → a ≡ get_or answers i a
       → is_answer root (get_or ws i d) a ≡ true
   answer_at [] [] i d a h within is = absurd (omega arith)
@@ -41,7 +41,7 @@ module _ (root : Json) where
   answer_at (w ∷ ws) (b ∷ bs) (suc i) d a h within is =
       answer_at ws bs i d a (both (is_answer root w b) (are_answers root ws bs) h).1 (omega arith) is
 
-  pub none_at : (ws : List Wanted) (answers : List Answer) (i : ℕ) (d : Wanted)
+  pub none_at : (ws : List Wanted) (answers : List Aggregate) (i : ℕ) (d : Wanted)
       → are_answers root ws answers ≡ true → length answers ≤ i → get_or ws i d ≡ d
   none_at [] answers i d h past = refl
   none_at (w ∷ ws) [] i d h past = absurd cc
@@ -50,7 +50,7 @@ module _ (root : Json) where
       none_at ws bs i d (both (is_answer root w b) (are_answers root ws bs) h).1 (omega arith)
 
   -- an answer to a query tells what is wanted of it
-  pub answers_it : (w : Want) (ss : tree.Segments) (a : Answer) → tells w (root_nodes root ss) a ≡ true
+  pub answers_it : (w : Want) (ss : tree.Segments) (a : Aggregate) → tells w (root_nodes root ss) a ≡ true
       → is_answer root (wanted w ss) a ≡ true
   answers_it want.First ss a h = h
   answers_it want.Count ss a h = h
@@ -58,11 +58,11 @@ module _ (root : Json) where
   answers_it want.Distinct ss a h = h
 
   -- An answer to a query tells what is wanted of it, or the query stands for `$` where this is wanted.
-  abbrev Told : Want → Wanted → Answer → Type 0
+  abbrev Told : Want → Wanted → Aggregate → Type 0
   Told v w a = ((is_of v a ≡ true) × (tells v (root_nodes root (where_wanted v w)) a ≡ true))
       ⊎ ((is_of v a ≡ false) × (where_wanted v w ≡ tree.no_segments))
 
-  told : (v : Want) (w : Wanted) (a : Answer) → is_answer root w a ≡ true → Told v w a
+  told : (v : Want) (w : Wanted) (a : Aggregate) → is_answer root w a ≡ true → Told v w a
   told want.First (first_of ss) (answer.First x) h = inl (refl, h)
   told want.Count (first_of ss) (answer.First x) h = inr (refl, refl)
   told want.Only (first_of ss) (answer.First x) h = inr (refl, refl)
@@ -92,7 +92,7 @@ module _ (root : Json) where
   told want.Only (distinct_of ss) (answer.Distinct x) h = inr (refl, refl)
   told want.Distinct (distinct_of ss) (answer.Distinct x) h = inl (refl, h)
 
-  pub told_where : (v : Want) (w : Wanted) (a : Answer) → is_answer root w a ≡ true → is_of v a ≡ true
+  pub told_where : (v : Want) (w : Wanted) (a : Aggregate) → is_answer root w a ≡ true → is_of v a ≡ true
       → tells v (root_nodes root (where_wanted v w)) a ≡ true
   told_where v w a h is =
       elim (told v w a h) as (λ t. tells v (root_nodes root (where_wanted v w)) a ≡ true) [
@@ -100,7 +100,7 @@ module _ (root : Json) where
         | inr n ↦ let clash = n.0 in absurd cc
       ]
 
-  none_where : (v : Want) (w : Wanted) (a : Answer) → is_answer root w a ≡ true → is_of v a ≡ false
+  none_where : (v : Want) (w : Wanted) (a : Aggregate) → is_answer root w a ≡ true → is_of v a ≡ false
       → where_wanted v w ≡ tree.no_segments
   none_where v w a h is =
       elim (told v w a h) as (λ t. where_wanted v w ≡ tree.no_segments) [
@@ -109,17 +109,17 @@ module _ (root : Json) where
       ]
 
   -- what is told of the root alone, where no other query stands
-  of_root : (v : Want) (w : Wanted) (a : Answer) → where_wanted v w ≡ tree.no_segments
+  of_root : (v : Want) (w : Wanted) (a : Aggregate) → where_wanted v w ≡ tree.no_segments
       → tells v (root_nodes root tree.no_segments) a ≡ true
       → tells v (root_nodes root (where_wanted v w)) a ≡ true
   of_root v w a e h = ap (λ ss. tells v (root_nodes root ss) a) e ∙ h
 
-  pub told_else : (v : Want) (w : Wanted) (a b : Answer) → is_answer root w a ≡ true → is_of v a ≡ false
+  pub told_else : (v : Want) (w : Wanted) (a b : Aggregate) → is_answer root w a ≡ true → is_of v a ≡ false
       → tells v (root_nodes root tree.no_segments) b ≡ true
       → tells v (root_nodes root (where_wanted v w)) b ≡ true
   told_else v w a b h is one = of_root v w b (none_where v w a h is) one
 
-  pub told_none : (v : Want) (w : Wanted) (b : Answer) → w ≡ wanted v tree.no_segments
+  pub told_none : (v : Want) (w : Wanted) (b : Aggregate) → w ≡ wanted v tree.no_segments
       → tells v (root_nodes root tree.no_segments) b ≡ true
       → tells v (root_nodes root (where_wanted v w)) b ≡ true
   told_none v w b e one = of_root v w b (ap (where_wanted v) e ∙ where_none v) one

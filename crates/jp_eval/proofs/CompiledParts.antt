@@ -13,12 +13,15 @@ use Rattle.jp_tree.specs.declared.tree.Start.{Start}
 use Rattle.jp_tree.specs.declared.tree.Start.TheVariants as start
 use Rattle.jp_types.specs.Numbers.{whole_number}
 use Rattle.jp_compiled.specs.Compiled.{Wanted, root_at, position_text, constant_of, as_argument}
-use Rattle.jp_compiled.specs.Compiled.{truth_argument, segment_in, Source, queried, different, source_argument}
+use Rattle.jp_compiled.specs.Compiled.{truth_argument, segment_in, Source, queried, different}
+use Rattle.jp_compiled.specs.Compiled.{source_argument}
 use Rattle.jp_compiled.specs.Compiled.{source_test, source_side, wanted_inside}
 use Rattle.jp_compiled.specs.Compiled.{selector_in, logical_in, value_in, nodes_in, segments_in}
 use Rattle.jp_compiled.proofs.CompiledViews.{name_read, wild_read, index_read, slice_read, filter_read}
-use Rattle.jp_compiled.proofs.CompiledViews.{any_read, all_read, not_read, compare_read, test_read, match_read}
-use Rattle.jp_compiled.proofs.CompiledViews.{match_known, search_read, search_known, constant_read, single_read}
+use Rattle.jp_compiled.proofs.CompiledViews.{any_read, all_read, not_read, compare_read, test_read}
+use Rattle.jp_compiled.proofs.CompiledViews.{match_read}
+use Rattle.jp_compiled.proofs.CompiledViews.{match_known, search_read, search_known, constant_read}
+use Rattle.jp_compiled.proofs.CompiledViews.{single_read}
 use Rattle.jp_compiled.proofs.CompiledViews.{length_read, count_read, only_read, here_read, root_read}
 use Rattle.jp_compiled.proofs.CompiledViews.{xor_read, distinct_read}
 use Rattle.jp_compiled.specs.declared.known.KnownPattern.{KnownPattern}

@@ -36,10 +36,10 @@ use Rattle.jp_flat.specs.contracts.value.FlatMember as FlatMember
 use Rattle.jp_nodes.specs.contracts.row.Child as Child
 use Rattle.jp_nodes.specs.contracts.row.Row as Row
 use Rattle.jp_eval.specs.contracts.walk.Task as Task
-use Rattle.jp_eval.specs.contracts.ground.Ground as Ground
+use Rattle.jp_eval.specs.contracts.context.Context as Context
 use Rattle.jp_nodes.specs.contracts.different.Different as Different
 use Rattle.jp_nodes.specs.contracts.found.Alone as Alone
-use Rattle.jp_nodes.specs.contracts.answers.Answer as Answer
+use Rattle.jp_nodes.specs.contracts.aggregates.Aggregate as Aggregate
 
 pub segment_sync : IsSync Segment.the_row
 segment_sync = search (
@@ -142,19 +142,19 @@ alone_field a = search (part_field, crosses, sendable) depth 60 fits 20000
 different_field : (a : NamedLft) → IsSync (Different.the_field a).row
 different_field a = search (alone_field, crosses, sendable) depth 60 fits 20000
 
-answer_sync : (a : NamedLft) → IsSync (Answer.the_row a)
+answer_sync : (a : NamedLft) → IsSync (Aggregate.the_row a)
 answer_sync a = search (part_sync, alone_field, different_field, crosses, sendable) depth 60 fits
     20000
 
-pub ground_sync : (a : NamedLft) → IsSync (Ground.the_row a)
+pub ground_sync : (a : NamedLft) → IsSync (Context.the_row a)
 ground_sync a = search (part_field, root_sync, answer_sync, crosses, sendable) depth 60 fits 20000
 
--- what a half is given: the fork, the runtime, the cuts, the ground, the task, the row, the links, a taker
+-- what a half is given: the fork, the runtime, the cuts, the context, the task, the row, the links, a visitor
 abbrev pub captured : (F R V : RattleType) (f r c : NamedLft) (g gv t tv s sc sv l lv : NamedLft)
     → List RattleType
 captured F R V f r c g gv t tv s sc sv l lv =
     ShrRef f.mir f.lft F ∷ ShrRef r.mir r.lft R ∷ ShrRef c.mir c.lft Cuts.the_row
-    ∷ ShrRef g.mir g.lft (Ground.the_row gv) ∷ ShrRef t.mir t.lft (Task.the_row tv)
+    ∷ ShrRef g.mir g.lft (Context.the_row gv) ∷ ShrRef t.mir t.lft (Task.the_row tv)
     ∷ ShrRef s.mir s.lft (Row.the_row sc sv) ∷ ShrSlice l.mir l.lft (Link.the_row lv) ∷ V ∷ []
 
 pub captured_send : (name : Sym) (F R V : RattleType) (f r c : NamedLft)

@@ -34,9 +34,9 @@ impl From<AllocError> for EvalFault {
     }
 }
 
-/// Hands the nodes that a query selects in a document to the taker, in the order of its nodelist (RFC 9535,
-/// 2.1.2), as long as one more would change something, and gives the taker back: a node that is selected more
-/// than once comes as often.
+/// Hands the nodes that a query selects in a document to the visitor, in the order of its nodelist (RFC 9535,
+/// 2.1.2), as long as one more would change something, and gives the visitor back: a node that is selected
+/// more than once comes as often.
 ///
 /// # Errors
 ///
@@ -45,13 +45,13 @@ pub fn visit_nodes<V: Visit + Drop>(
     alloc: Global,
     plan: &Plan,
     document: &Document,
-    taker: V,
+    visitor: V,
 ) -> Result<V, EvalFault>
     ensures { IfOk result (λ t. (tests : Tests) → AreRight tests →
-        V.kept t ≡ fold V.put (V.kept taker)
+        V.kept t ≡ fold V.put (V.kept visitor)
         (document_nodes tests (planned_query plan.now) (document_value document.now))) }
 {
-    Evaluator::new(alloc, plan).visit(document, taker)
+    Evaluator::new(alloc, plan).visit(document, visitor)
 }
 
 /// The locations of the nodes that a query selects in a document, in the order of its nodelist (RFC 9535,
@@ -68,8 +68,8 @@ pub fn evaluate(alloc: Global, plan: &Plan, document: &Document) -> Result<Vec<L
     let none = Locations {
         locations: Vec::new(alloc),
     };
-    let taker = visit_nodes(alloc, plan, document, none)?;
-    Ok(taker.locations)
+    let visitor = visit_nodes(alloc, plan, document, none)?;
+    Ok(visitor.locations)
 }
 
 /// The same as `evaluate`, where a list of children that the query's own segments walk, and that has at least
@@ -97,6 +97,6 @@ pub fn evaluate_split<R: Threads + Sync, F: Fork + Sync>(
     let none = Locations {
         locations: Vec::new(alloc),
     };
-    let taker = Evaluator::new(alloc, plan).visit_split(rt, document, floor, fork, none)?;
-    Ok(taker.locations)
+    let visitor = Evaluator::new(alloc, plan).visit_split(rt, document, floor, fork, none)?;
+    Ok(visitor.locations)
 }

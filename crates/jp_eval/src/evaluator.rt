@@ -16,7 +16,7 @@ use crate::walk::{Task, run};
 use jp_check::Plan;
 use jp_doc::Document;
 use jp_nodes::Visit;
-use jp_nodes::found::{Found, into_taker};
+use jp_nodes::found::{Found, into_visitor};
 use jp_part::Part;
 use jp_trail::{Room, Trail};
 use std::alloc::Global;
@@ -47,20 +47,24 @@ impl<'p> Evaluator<'p> {
         }
     }
 
-    /// Hands the nodes that the query selects in a document to the taker, in the order of its nodelist (RFC
-    /// 9535, 2.1.2), as long as one more would change something, and gives the taker back: a node that is
+    /// Hands the nodes that the query selects in a document to the visitor, in the order of its nodelist (RFC
+    /// 9535, 2.1.2), as long as one more would change something, and gives the visitor back: a node that is
     /// selected more than once comes as often.
     ///
     /// # Errors
     ///
     /// [`EvalFault::Memory`] where a growth of memory was refused. Further documents may be visited then.
-    pub fn visit<V: Visit + Drop>(&mut self, document: &Document, taker: V) -> Result<V, EvalFault>
+    pub fn visit<V: Visit + Drop>(
+        &mut self,
+        document: &Document,
+        visitor: V,
+    ) -> Result<V, EvalFault>
         ensures nodes { IfOk result (λ t. (tests : Tests) → AreRight tests →
-            V.kept t ≡ fold V.put (V.kept taker)
+            V.kept t ≡ fold V.put (V.kept visitor)
             (document_nodes tests (evaluated_query self.old) (document_value document.now))) }
         ensures query { evaluated_query self.new ≡ evaluated_query self.old }
     {
-        self.visit_part(Part::root_of(document), taker)
+        self.visit_part(Part::root_of(document), visitor)
     }
 
     /// The same as `visit`, of a document by its whole value, in whatever form it is read.
@@ -68,13 +72,17 @@ impl<'p> Evaluator<'p> {
     /// # Errors
     ///
     /// [`EvalFault::Memory`] where a growth of memory was refused. Further documents may be visited then.
-    pub fn visit_part<V: Visit + Drop>(&mut self, root: Part<'_>, taker: V) -> Result<V, EvalFault>
+    pub fn visit_part<V: Visit + Drop>(
+        &mut self,
+        root: Part<'_>,
+        visitor: V,
+    ) -> Result<V, EvalFault>
         ensures nodes { IfOk result (λ t. (tests : Tests) → AreRight tests →
-            V.kept t ≡ fold V.put (V.kept taker)
+            V.kept t ≡ fold V.put (V.kept visitor)
             (document_nodes tests (evaluated_query self.old) (part_value root.entry))) }
         ensures query { evaluated_query self.new ≡ evaluated_query self.old }
     {
-        visit_in(self.alloc, self.plan, root, &mut self.room, taker)
+        visit_in(self.alloc, self.plan, root, &mut self.room, visitor)
     }
 
     /// The same as `visit`, where a list of children that the query's own segments walk, and that has at
@@ -93,14 +101,14 @@ impl<'p> Evaluator<'p> {
         document: &Document,
         floor: u64,
         fork: &F,
-        taker: V,
+        visitor: V,
     ) -> Result<V, EvalFault>
         ensures nodes { IfOk result (λ t. (tests : Tests) → AreRight tests →
-            V.kept t ≡ fold V.put (V.kept taker)
+            V.kept t ≡ fold V.put (V.kept visitor)
             (document_nodes tests (evaluated_query self.old) (document_value document.now))) }
         ensures query { evaluated_query self.new ≡ evaluated_query self.old }
     {
-        self.visit_part_split(rt, Part::root_of(document), floor, fork, taker)
+        self.visit_part_split(rt, Part::root_of(document), floor, fork, visitor)
     }
 
     /// The same as `visit_split`, of a document by its whole value, in whatever form it is read.
@@ -114,45 +122,45 @@ impl<'p> Evaluator<'p> {
         root: Part<'_>,
         floor: u64,
         fork: &F,
-        taker: V,
+        visitor: V,
     ) -> Result<V, EvalFault>
         ensures nodes { IfOk result (λ t. (tests : Tests) → AreRight tests →
-            V.kept t ≡ fold V.put (V.kept taker)
+            V.kept t ≡ fold V.put (V.kept visitor)
             (document_nodes tests (evaluated_query self.old) (part_value root.entry))) }
         ensures query { evaluated_query self.new ≡ evaluated_query self.old }
     {
         let cuts = Cuts::from_floor(floor);
         let (alloc, plan) = (self.alloc, self.plan);
-        split_in(rt, fork, cuts, alloc, plan, root, &mut self.room, taker)
+        split_in(rt, fork, cuts, alloc, plan, root, &mut self.room, visitor)
     }
 }
 
-/// Hands the nodes to the taker, with this room for the text of the path.
+/// Hands the nodes to the visitor, with this room for the text of the path.
 fn visit_in<V: Visit + Drop>(
     alloc: Global,
     plan: &Plan,
     root: Part<'_>,
     room: &mut Room,
-    taker: V,
+    visitor: V,
 ) -> Result<V, EvalFault>
     ensures { IfOk result (λ t. (tests : Tests) → AreRight tests →
-        V.kept t ≡ fold V.put (V.kept taker)
+        V.kept t ≡ fold V.put (V.kept visitor)
         (document_nodes tests (planned_query plan.now) (part_value root.entry))) }
 {
     let compiled = plan.compiled();
-    let ground = answer_roots::<V>(alloc, root, compiled.roots.as_slice())?;
+    let context = answer_roots::<V>(alloc, root, compiled.roots.as_slice())?;
     let mut path = Trail::with_room(alloc, mem::replace(room, Room::new(alloc)));
-    let mut found = Found::Taker(taker);
+    let mut found = Found::Visitor(visitor);
     run(
-        &ground,
+        &context,
         compiled.segments.as_slice(),
         root,
         &mut path,
         &mut found,
     )?;
     *room = path.into_room();
-    match into_taker(found) {
-        Some(taker) => Ok(taker),
+    match into_visitor(found) {
+        Some(visitor) => Ok(visitor),
         None => unreachable!(),
     }
 }
@@ -166,21 +174,21 @@ fn split_in<R: Threads + Sync, F: Fork + Sync, V: Visit + Drop + Send>(
     plan: &Plan,
     root: Part<'_>,
     room: &mut Room,
-    taker: V,
+    visitor: V,
 ) -> Result<V, EvalFault>
     ensures { IfOk result (λ t. (tests : Tests) → AreRight tests →
-        V.kept t ≡ fold V.put (V.kept taker)
+        V.kept t ≡ fold V.put (V.kept visitor)
         (document_nodes tests (planned_query plan.now) (part_value root.entry))) }
 {
     let compiled = plan.compiled();
-    let ground = answer_roots::<V>(alloc, root, compiled.roots.as_slice())?;
+    let context = answer_roots::<V>(alloc, root, compiled.roots.as_slice())?;
     let mut path = Trail::with_room(alloc, mem::replace(room, Room::new(alloc)));
-    let mut found = Found::Taker(taker);
+    let mut found = Found::Visitor(visitor);
     let task = Task::Run(compiled.segments.as_slice());
-    go_split(rt, fork, cuts, &ground, task, root, &mut path, &mut found)?;
+    go_split(rt, fork, cuts, &context, task, root, &mut path, &mut found)?;
     *room = path.into_room();
-    match into_taker(found) {
-        Some(taker) => Ok(taker),
+    match into_visitor(found) {
+        Some(visitor) => Ok(visitor),
         None => unreachable!(),
     }
 }

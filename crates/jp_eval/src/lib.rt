@@ -2,11 +2,11 @@
 //! or by halves of long lists at once.
 #![tactic(auto)]
 
+mod context;
 mod evaluation;
 mod evaluator;
 mod examples;
 mod fork;
-mod ground;
 pub mod laws;
 mod roots;
 mod split;

@@ -11,12 +11,12 @@ ghost use Rattle.jp_nodes.specs.Links.{here};
 ghost use Rattle.jp_eval.specs.Walk.{done};
 ghost use Rattle.jp_trail.specs.Links.{link_steps};
 
+use crate::context::Context;
 use crate::fork::{Cuts, Fork};
-use crate::ground::Ground;
 use crate::stretch::{Stretch, stretches};
 use crate::walk::{Task, go, holds};
 use crate::wide::is_wide;
-use jp_nodes::found::{Found, append, fresh, into_taker, is_full};
+use jp_nodes::found::{Found, append, fresh, into_visitor, is_full};
 use jp_nodes::{Row, Visit};
 use jp_part::Part;
 use jp_trail::{Link, Trail};
@@ -29,7 +29,7 @@ pub(crate) fn go_split<'v, R: Threads + Sync, F: Fork + Sync, V: Visit + Drop + 
     rt: &R,
     fork: &F,
     cuts: Cuts,
-    ground: &Ground<'v>,
+    context: &Context<'v>,
     task: Task<'v>,
     value: Part<'v>,
     path: &mut Trail<'v>,
@@ -38,18 +38,18 @@ pub(crate) fn go_split<'v, R: Threads + Sync, F: Fork + Sync, V: Visit + Drop + 
     requires taken { is_taken (kept V.kept found.old) ≡ true }
     ensures found { OnOk result (kept V.kept found.new
         ≡ plus (put_found V.put) (kept V.kept found.old)
-        (done (base_of ground.now) task.entry (here path.old value.entry))) }
+        (done (base_of context.now) task.entry (here path.old value.entry))) }
     ensures path { OnOk result (path.new ≡ path.old) }
 {
     if cuts.left == 0 || !is_wide(value, cuts.floor) {
-        return go(ground, task, value, path, found);
+        return go(context, task, value, path, found);
     }
-    let Some(further) = settled::<V>(ground, task, value, path)? else {
+    let Some(further) = settled::<V>(context, task, value, path)? else {
         return Ok(());
     };
-    match stretches(ground.alloc, further, value)? {
-        Some(stretches) => each_stretch(rt, fork, cuts, ground, stretches.as_slice(), path, found),
-        None => go(ground, further, value, path, found),
+    match stretches(context.alloc, further, value)? {
+        Some(stretches) => each_stretch(rt, fork, cuts, context, stretches.as_slice(), path, found),
+        None => go(context, further, value, path, found),
     }
 }
 
@@ -59,7 +59,7 @@ fn each_stretch<'v, R: Threads + Sync, F: Fork + Sync, V: Visit + Drop + Send>(
     rt: &R,
     fork: &F,
     cuts: Cuts,
-    ground: &Ground<'v>,
+    context: &Context<'v>,
     stretches: &[Stretch<'v>],
     path: &mut Trail<'v>,
     found: &mut Found<'v, V>,
@@ -67,12 +67,12 @@ fn each_stretch<'v, R: Threads + Sync, F: Fork + Sync, V: Visit + Drop + Send>(
     requires taken { is_taken (kept V.kept found.old) ≡ true }
     ensures found { OnOk result (kept V.kept found.new
         ≡ plus (put_found V.put) (kept V.kept found.old)
-        (done_along_all (base_of ground.now) (link_steps path.old) stretches.now)) }
+        (done_along_all (base_of context.now) (link_steps path.old) stretches.now)) }
     ensures path { OnOk result (path.new ≡ path.old) }
 {
     for stretch in stretches {
         let children = stretch.children.counted_row();
-        each_of(rt, fork, cuts, ground, stretch.task, children, path, found)?;
+        each_of(rt, fork, cuts, context, stretch.task, children, path, found)?;
     }
     Ok(())
 }
@@ -83,7 +83,7 @@ fn each_of<'v, R: Threads + Sync, F: Fork + Sync, V: Visit + Drop + Send>(
     rt: &R,
     fork: &F,
     cuts: Cuts,
-    ground: &Ground<'v>,
+    context: &Context<'v>,
     task: Task<'v>,
     children: Row<'_, 'v>,
     path: &mut Trail<'v>,
@@ -92,19 +92,19 @@ fn each_of<'v, R: Threads + Sync, F: Fork + Sync, V: Visit + Drop + Send>(
     requires taken { is_taken (kept V.kept found.old) ≡ true }
     ensures found { OnOk result (kept V.kept found.new
         ≡ plus (put_found V.put) (kept V.kept found.old)
-        (flat_map (done (base_of ground.now) task.entry) (row_kids (link_steps path.old) children.entry))) }
+        (flat_map (done (base_of context.now) task.entry) (row_kids (link_steps path.old) children.entry))) }
     ensures path { OnOk result (path.new ≡ path.old) }
 {
     if cuts.left == 0 || !children.has(cuts.floor.max(2)) {
-        return one_by_one(rt, fork, cuts, ground, task, children, path, found);
+        return one_by_one(rt, fork, cuts, context, task, children, path, found);
     }
     let further = Cuts {
         floor: cuts.floor,
         left: cuts.left - 1,
     };
     let (left, right) = children.halves();
-    let mine = fresh(found, ground.alloc);
-    let other = fresh(found, ground.alloc);
+    let mine = fresh(found, context.alloc);
+    let other = fresh(found, context.alloc);
     let at = path.links();
     let (first, second) = join(
         rt,
@@ -112,49 +112,49 @@ fn each_of<'v, R: Threads + Sync, F: Fork + Sync, V: Visit + Drop + Send>(
             requires { IsSync R.row × IsSync F.row }
             ensures { IfOk result (λ t. taken (V.kept t)
                 ≡ plus (put_found V.put) (taken (V.kept mine))
-                (flat_map (done (base_of ground.entry.now) task.entry)
+                (flat_map (done (base_of context.entry.now) task.entry)
                 (row_kids (link_steps at.entry.now) left.entry))) }
         {
             fork.half(0);
-            half(rt, fork, further, ground, task, left, at, mine)
+            half(rt, fork, further, context, task, left, at, mine)
         },
         || -> Result<V, AllocError>
             requires { IsSync R.row × IsSync F.row }
             ensures { IfOk result (λ t. taken (V.kept t)
                 ≡ plus (put_found V.put) (taken (V.kept other))
-                (flat_map (done (base_of ground.entry.now) task.entry)
+                (flat_map (done (base_of context.entry.now) task.entry)
                 (row_kids (link_steps at.entry.now) right.entry))) }
         {
             fork.half(1);
-            half(rt, fork, further, ground, task, right, at, other)
+            half(rt, fork, further, context, task, right, at, other)
         },
     );
     append(found, first?)?;
     append(found, second?)
 }
 
-/// The task at each of the children of a half, for a taker of its own.
+/// The task at each of the children of a half, for a visitor of its own.
 #[cycle(split)]
 fn half<'v, R: Threads + Sync, F: Fork + Sync, V: Visit + Drop + Send>(
     rt: &R,
     fork: &F,
     cuts: Cuts,
-    ground: &Ground<'v>,
+    context: &Context<'v>,
     task: Task<'v>,
     children: Row<'_, 'v>,
     at: &[Link<'v>],
-    taker: V,
+    visitor: V,
 ) -> Result<V, AllocError>
-    ensures { IfOk result (λ t. taken (V.kept t) ≡ plus (put_found V.put) (taken (V.kept taker))
-        (flat_map (done (base_of ground.now) task.entry) (row_kids (link_steps at.now) children.entry))) }
+    ensures { IfOk result (λ t. taken (V.kept t) ≡ plus (put_found V.put) (taken (V.kept visitor))
+        (flat_map (done (base_of context.now) task.entry) (row_kids (link_steps at.now) children.entry))) }
 {
-    let mut path = trail_of(ground.alloc, at)?;
-    let mut found = Found::Taker(taker);
+    let mut path = trail_of(context.alloc, at)?;
+    let mut found = Found::Visitor(visitor);
     each_of(
-        rt, fork, cuts, ground, task, children, &mut path, &mut found,
+        rt, fork, cuts, context, task, children, &mut path, &mut found,
     )?;
-    match into_taker(found) {
-        Some(taker) => Ok(taker),
+    match into_visitor(found) {
+        Some(visitor) => Ok(visitor),
         None => unreachable!(),
     }
 }
@@ -165,7 +165,7 @@ fn one_by_one<'v, R: Threads + Sync, F: Fork + Sync, V: Visit + Drop + Send>(
     rt: &R,
     fork: &F,
     cuts: Cuts,
-    ground: &Ground<'v>,
+    context: &Context<'v>,
     task: Task<'v>,
     children: Row<'_, 'v>,
     path: &mut Trail<'v>,
@@ -174,7 +174,7 @@ fn one_by_one<'v, R: Threads + Sync, F: Fork + Sync, V: Visit + Drop + Send>(
     requires taken { is_taken (kept V.kept found.old) ≡ true }
     ensures found { OnOk result (kept V.kept found.new
         ≡ plus (put_found V.put) (kept V.kept found.old)
-        (flat_map (done (base_of ground.now) task.entry) (row_kids (link_steps path.old) children.entry))) }
+        (flat_map (done (base_of context.now) task.entry) (row_kids (link_steps path.old) children.entry))) }
     ensures path { OnOk result (path.new ≡ path.old) }
 {
     let mut rest = children;
@@ -183,7 +183,7 @@ fn one_by_one<'v, R: Threads + Sync, F: Fork + Sync, V: Visit + Drop + Send>(
             return Ok(());
         }
         path.push(child.link)?;
-        go_split(rt, fork, cuts, ground, task, child.part, path, found)?;
+        go_split(rt, fork, cuts, context, task, child.part, path, found)?;
         path.pop();
         rest = others;
     }
@@ -192,20 +192,20 @@ fn one_by_one<'v, R: Threads + Sync, F: Fork + Sync, V: Visit + Drop + Send>(
 
 /// The task where its test is decided, or nothing where it is false of the value.
 fn settled<'v, V: Visit + Drop>(
-    ground: &Ground<'v>,
+    context: &Context<'v>,
     task: Task<'v>,
     value: Part<'v>,
     path: &mut Trail<'v>,
 ) -> Result<Option<Task<'v>>, AllocError>
     ensures task { IfOk result (λ o. MatchOption o
-        (done (base_of ground.now) task.entry (here path.old value.entry) ≡ [])
-        (λ t. done (base_of ground.now) t (here path.old value.entry)
-        ≡ done (base_of ground.now) task.entry (here path.old value.entry))) }
+        (done (base_of context.now) task.entry (here path.old value.entry) ≡ [])
+        (λ t. done (base_of context.now) t (here path.old value.entry)
+        ≡ done (base_of context.now) task.entry (here path.old value.entry))) }
     ensures path { OnOk result (path.new ≡ path.old) }
 {
     match task {
         Task::Test(test, rest) => {
-            let holds = holds::<V>(ground, test, value, path)?;
+            let holds = holds::<V>(context, test, value, path)?;
             if holds {
                 Ok(Some(Task::Run(rest)))
             } else {

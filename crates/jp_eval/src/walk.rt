@@ -6,7 +6,7 @@ ghost use Rattle.jp_doc.specs.Location.{Location, node};
 ghost use Rattle.jp_trail.specs.Links.{link_steps};
 ghost use Rattle.jp_part.specs.Part.{part_value};
 ghost use Rattle.jp_value.specs.Kinds.{given_value};
-ghost use Rattle.jp_nodes.specs.Answers.{tells};
+ghost use Rattle.jp_nodes.specs.Aggregates.{tells};
 ghost use Rattle.jp_nodes.specs.Kept.{kept, put_found, plus};
 ghost use Rattle.jp_nodes.specs.Kids.{row_kids};
 ghost use Rattle.jp_nodes.specs.Links.{here};
@@ -14,11 +14,11 @@ ghost use Rattle.jp_nodes.specs.Nodes.{children, descendants, items_at};
 ghost use Rattle.jp_eval.specs.Base.{Base, base_of};
 ghost use Rattle.jp_eval.specs.Walk.{picked, picked_by, reached, is_true, value_given, nodes_given, done};
 
-use crate::ground::Ground;
+use crate::context::Context;
 use jp_compiled::{Logical, Nodes, Segment, Selector, Value as Giver, Want};
-use jp_nodes::answers::{Answer, has_first, of_distinct, operand};
+use jp_nodes::aggregates::{Aggregate, has_first, of_distinct, operand};
 use jp_nodes::children::{children_of, sliced};
-use jp_nodes::found::{Found, add, into_answer, is_full, none_found};
+use jp_nodes::found::{Found, add, into_aggregate, is_full, none_found};
 use jp_nodes::{Row, Visit};
 use jp_part::{Kind, Part};
 use jp_trail::{Link, Trail};
@@ -53,7 +53,7 @@ fn is_idle(task: Task<'_>, value: Part<'_>) -> bool
 
 #[cycle(walk)]
 pub(crate) fn go<'v, V: Visit + Drop>(
-    ground: &Ground<'v>,
+    context: &Context<'v>,
     task: Task<'v>,
     value: Part<'v>,
     path: &mut Trail<'v>,
@@ -61,18 +61,18 @@ pub(crate) fn go<'v, V: Visit + Drop>(
 ) -> Result<(), AllocError>
     ensures found { OnOk result (kept V.kept found.new
         ≡ plus (put_found V.put) (kept V.kept found.old)
-        (done (base_of ground.now) task.entry (here path.old value.entry))) }
+        (done (base_of context.now) task.entry (here path.old value.entry))) }
     ensures path { OnOk result (path.new ≡ path.old) }
 {
     match task {
-        Task::Run(rest) => run(ground, rest, value, path, found),
+        Task::Run(rest) => run(context, rest, value, path, found),
         Task::Descend(selectors, rest) => {
-            apply(ground, selectors, rest, value, path, found)?;
-            each_child(ground, task, value, path, found)
+            apply(context, selectors, rest, value, path, found)?;
+            each_child(context, task, value, path, found)
         }
         Task::Test(test, rest) => {
-            if holds::<V>(ground, test, value, path)? {
-                run(ground, rest, value, path, found)?;
+            if holds::<V>(context, test, value, path)? {
+                run(context, rest, value, path, found)?;
             }
             Ok(())
         }
@@ -82,25 +82,25 @@ pub(crate) fn go<'v, V: Visit + Drop>(
 /// The segments from the value on.
 #[cycle(walk)]
 pub(crate) fn run<'v, V: Visit + Drop>(
-    ground: &Ground<'v>,
+    context: &Context<'v>,
     segments: &'v [Segment],
     value: Part<'v>,
     path: &mut Trail<'v>,
     found: &mut Found<'v, V>,
 ) -> Result<(), AllocError>
     ensures found { OnOk result (kept V.kept found.new
-        ≡ plus (put_found V.put) (kept V.kept found.old) (reached (base_of ground.now) segments.now
+        ≡ plus (put_found V.put) (kept V.kept found.old) (reached (base_of context.now) segments.now
         (here path.old value.entry ∷ []))) }
     ensures path { OnOk result (path.new ≡ path.old) }
 {
     match segments.split_first() {
-        None => add(ground.alloc, path, value, found),
+        None => add(context.alloc, path, value, found),
         Some((segment, rest)) => {
             let selectors = segment.selectors.as_slice();
             if segment.deep {
-                go(ground, Task::Descend(selectors, rest), value, path, found)
+                go(context, Task::Descend(selectors, rest), value, path, found)
             } else {
-                apply(ground, selectors, rest, value, path, found)
+                apply(context, selectors, rest, value, path, found)
             }
         }
     }
@@ -109,7 +109,7 @@ pub(crate) fn run<'v, V: Visit + Drop>(
 /// Each selector at the value, and then the segments.
 #[cycle(walk)]
 fn apply<'v, V: Visit + Drop>(
-    ground: &Ground<'v>,
+    context: &Context<'v>,
     selectors: &'v [Selector],
     rest: &'v [Segment],
     value: Part<'v>,
@@ -117,15 +117,15 @@ fn apply<'v, V: Visit + Drop>(
     found: &mut Found<'v, V>,
 ) -> Result<(), AllocError>
     ensures found { OnOk result (kept V.kept found.new
-        ≡ plus (put_found V.put) (kept V.kept found.old) (reached (base_of ground.now) rest.now
-        (picked_by (base_of ground.now) selectors.now (here path.old value.entry)))) }
+        ≡ plus (put_found V.put) (kept V.kept found.old) (reached (base_of context.now) rest.now
+        (picked_by (base_of context.now) selectors.now (here path.old value.entry)))) }
     ensures path { OnOk result (path.new ≡ path.old) }
 {
     for selector in selectors {
         if is_full(found) {
             return Ok(());
         }
-        select(ground, selector, rest, value, path, found)?;
+        select(context, selector, rest, value, path, found)?;
     }
     Ok(())
 }
@@ -133,7 +133,7 @@ fn apply<'v, V: Visit + Drop>(
 /// One selector at the value, and then the segments.
 #[cycle(walk)]
 fn select<'v, V: Visit + Drop>(
-    ground: &Ground<'v>,
+    context: &Context<'v>,
     selector: &'v Selector,
     rest: &'v [Segment],
     value: Part<'v>,
@@ -141,38 +141,40 @@ fn select<'v, V: Visit + Drop>(
     found: &mut Found<'v, V>,
 ) -> Result<(), AllocError>
     ensures found { OnOk result (kept V.kept found.new
-        ≡ plus (put_found V.put) (kept V.kept found.old) (reached (base_of ground.now) rest.now
-        (picked (base_of ground.now) selector.now (here path.old value.entry)))) }
+        ≡ plus (put_found V.put) (kept V.kept found.old) (reached (base_of context.now) rest.now
+        (picked (base_of context.now) selector.now (here path.old value.entry)))) }
     ensures path { OnOk result (path.new ≡ path.old) }
 {
     match selector {
         Selector::Name(name) => {
             if let Some(child) = value.member(name.as_str()) {
                 path.push(Link::Name(name.as_str()))?;
-                run(ground, rest, child, path, found)?;
+                run(context, rest, child, path, found)?;
                 path.pop();
             }
             Ok(())
         }
-        Selector::Wild => each_child(ground, Task::Run(rest), value, path, found),
+        Selector::Wild => each_child(context, Task::Run(rest), value, path, found),
         Selector::Index(index) => {
             let place = place(index.value, value.item_count());
-            at_place(ground, place, rest, value, path, found)
+            at_place(context, place, rest, value, path, found)
         }
         Selector::Slice(slice) => {
             let bounds = bounds_of(slice, value.item_count());
-            let children = sliced(ground.alloc, value, bounds)?;
+            let children = sliced(context.alloc, value, bounds)?;
             let children = Row::Listed(children.as_slice());
-            each_of(ground, Task::Run(rest), children, path, found)
+            each_of(context, Task::Run(rest), children, path, found)
         }
-        Selector::Filter(test) => { each_child(ground, Task::Test(test, rest), value, path, found) }
+        Selector::Filter(test) => {
+            each_child(context, Task::Test(test, rest), value, path, found)
+        }
     }
 }
 
 /// The segments from the item at this place, if there is one.
 #[cycle(walk)]
 fn at_place<'v, V: Visit + Drop>(
-    ground: &Ground<'v>,
+    context: &Context<'v>,
     place: Option<u32>,
     rest: &'v [Segment],
     value: Part<'v>,
@@ -180,7 +182,7 @@ fn at_place<'v, V: Visit + Drop>(
     found: &mut Found<'v, V>,
 ) -> Result<(), AllocError>
     ensures found { OnOk result (kept V.kept found.new
-        ≡ plus (put_found V.put) (kept V.kept found.old) (reached (base_of ground.now) rest.now
+        ≡ plus (put_found V.put) (kept V.kept found.old) (reached (base_of context.now) rest.now
         (items_at (here path.old value.entry) (option_to_list place)))) }
     ensures path { OnOk result (path.new ≡ path.old) }
 {
@@ -189,7 +191,7 @@ fn at_place<'v, V: Visit + Drop>(
     };
     if let Some(child) = value.item(place) {
         path.push(Link::Index(place))?;
-        run(ground, rest, child, path, found)?;
+        run(context, rest, child, path, found)?;
         path.pop();
     }
     Ok(())
@@ -198,7 +200,7 @@ fn at_place<'v, V: Visit + Drop>(
 /// The task at each child of the value.
 #[cycle(walk)]
 fn each_child<'v, V: Visit + Drop>(
-    ground: &Ground<'v>,
+    context: &Context<'v>,
     task: Task<'v>,
     value: Part<'v>,
     path: &mut Trail<'v>,
@@ -206,18 +208,18 @@ fn each_child<'v, V: Visit + Drop>(
 ) -> Result<(), AllocError>
     ensures found { OnOk result (kept V.kept found.new
         ≡ plus (put_found V.put) (kept V.kept found.old)
-        (flat_map (done (base_of ground.now) task.entry)
+        (flat_map (done (base_of context.now) task.entry)
         (children (here path.old value.entry)))) }
     ensures path { OnOk result (path.new ≡ path.old) }
 {
-    let children = children_of(ground.alloc, value)?;
-    each_of(ground, task, children.row(), path, found)
+    let children = children_of(context.alloc, value)?;
+    each_of(context, task, children.row(), path, found)
 }
 
 /// The task at each of these children, one after another.
 #[cycle(walk)]
 fn each_of<'v, V: Visit + Drop>(
-    ground: &Ground<'v>,
+    context: &Context<'v>,
     task: Task<'v>,
     children: Row<'_, 'v>,
     path: &mut Trail<'v>,
@@ -225,7 +227,7 @@ fn each_of<'v, V: Visit + Drop>(
 ) -> Result<(), AllocError>
     ensures found { OnOk result (kept V.kept found.new
         ≡ plus (put_found V.put) (kept V.kept found.old)
-        (flat_map (done (base_of ground.now) task.entry) (row_kids (link_steps path.old) children.entry))) }
+        (flat_map (done (base_of context.now) task.entry) (row_kids (link_steps path.old) children.entry))) }
     ensures path { OnOk result (path.new ≡ path.old) }
 {
     let mut rest = children;
@@ -238,7 +240,7 @@ fn each_of<'v, V: Visit + Drop>(
             continue;
         }
         path.push(child.link)?;
-        go(ground, task, child.part, path, found)?;
+        go(context, task, child.part, path, found)?;
         path.pop();
     }
     Ok(())
@@ -247,46 +249,46 @@ fn each_of<'v, V: Visit + Drop>(
 /// Whether the expression is true, where `@` is the value at the path.
 #[cycle(walk)]
 pub(crate) fn holds<'v, V: Visit + Drop>(
-    ground: &Ground<'v>,
+    context: &Context<'v>,
     test: &'v Logical,
     value: Part<'v>,
     path: &mut Trail<'v>,
 ) -> Result<bool, AllocError>
-    ensures truth { IfOk result (λ b. b ≡ is_true (base_of ground.now) test.now
+    ensures truth { IfOk result (λ b. b ≡ is_true (base_of context.now) test.now
         (here path.old value.entry)) }
     ensures path { OnOk result (path.new ≡ path.old) }
 {
     match test {
-        Logical::Any(parts) => any::<V>(ground, parts.as_slice(), value, path),
-        Logical::All(parts) => all::<V>(ground, parts.as_slice(), value, path),
-        Logical::Not(part) => Ok(!holds::<V>(ground, part, value, path)?),
+        Logical::Any(parts) => any::<V>(context, parts.as_slice(), value, path),
+        Logical::All(parts) => all::<V>(context, parts.as_slice(), value, path),
+        Logical::Not(part) => Ok(!holds::<V>(context, part, value, path)?),
         Logical::Compare(left, operator, right) => {
-            let (left, right) = give_both::<V>(ground, left, right, value, path)?;
-            compare_kinds(ground.alloc, *operator, left, right)
+            let (left, right) = give_both::<V>(context, left, right, value, path)?;
+            compare_kinds(context.alloc, *operator, left, right)
         }
         Logical::Test(nodes) => {
-            let answer = ask::<V>(ground, Want::First, nodes, value, path)?;
+            let answer = ask::<V>(context, Want::First, nodes, value, path)?;
             Ok(has_first(answer))
         }
         Logical::Match(text, pattern) => {
-            let (text, pattern) = give_both::<V>(ground, text, pattern, value, path)?;
-            matches(ground.alloc, text, pattern)
+            let (text, pattern) = give_both::<V>(context, text, pattern, value, path)?;
+            matches(context.alloc, text, pattern)
         }
         Logical::MatchRead(text, known) => {
-            let text = give::<V>(ground, text, value, path)?;
-            matches_known(ground.alloc, text, known)
+            let text = give::<V>(context, text, value, path)?;
+            matches_known(context.alloc, text, known)
         }
         Logical::Search(text, pattern) => {
-            let (text, pattern) = give_both::<V>(ground, text, pattern, value, path)?;
-            searches(ground.alloc, text, pattern)
+            let (text, pattern) = give_both::<V>(context, text, pattern, value, path)?;
+            searches(context.alloc, text, pattern)
         }
         Logical::SearchRead(text, known) => {
-            let text = give::<V>(ground, text, value, path)?;
-            searches_known(ground.alloc, text, known)
+            let text = give::<V>(context, text, value, path)?;
+            searches_known(context.alloc, text, known)
         }
         Logical::Xor(_, left, _, right) => {
-            let left = holds::<V>(ground, left, value, path)?;
-            let right = holds::<V>(ground, right, value, path)?;
+            let left = holds::<V>(context, left, value, path)?;
+            let right = holds::<V>(context, right, value, path)?;
             Ok(exactly_one(left, right))
         }
     }
@@ -294,17 +296,17 @@ pub(crate) fn holds<'v, V: Visit + Drop>(
 
 #[cycle(walk)]
 fn any<'v, V: Visit + Drop>(
-    ground: &Ground<'v>,
+    context: &Context<'v>,
     parts: &'v [Logical],
     value: Part<'v>,
     path: &mut Trail<'v>,
 ) -> Result<bool, AllocError>
     ensures truth { IfOk result (λ b. b ≡ list_any
-        (λ l. is_true (base_of ground.now) l (here path.old value.entry)) parts.now) }
+        (λ l. is_true (base_of context.now) l (here path.old value.entry)) parts.now) }
     ensures path { OnOk result (path.new ≡ path.old) }
 {
     for part in parts {
-        if holds::<V>(ground, part, value, path)? {
+        if holds::<V>(context, part, value, path)? {
             return Ok(true);
         }
     }
@@ -313,17 +315,17 @@ fn any<'v, V: Visit + Drop>(
 
 #[cycle(walk)]
 fn all<'v, V: Visit + Drop>(
-    ground: &Ground<'v>,
+    context: &Context<'v>,
     parts: &'v [Logical],
     value: Part<'v>,
     path: &mut Trail<'v>,
 ) -> Result<bool, AllocError>
     ensures truth { IfOk result (λ b. b ≡ list_all
-        (λ l. is_true (base_of ground.now) l (here path.old value.entry)) parts.now) }
+        (λ l. is_true (base_of context.now) l (here path.old value.entry)) parts.now) }
     ensures path { OnOk result (path.new ≡ path.old) }
 {
     for part in parts {
-        if !holds::<V>(ground, part, value, path)? {
+        if !holds::<V>(context, part, value, path)? {
             return Ok(false);
         }
     }
@@ -333,69 +335,69 @@ fn all<'v, V: Visit + Drop>(
 /// The two values that stand there, or nothing.
 #[cycle(walk)]
 fn give_both<'v, V: Visit + Drop>(
-    ground: &Ground<'v>,
+    context: &Context<'v>,
     left: &'v Giver,
     right: &'v Giver,
     value: Part<'v>,
     path: &mut Trail<'v>,
 ) -> Result<(Option<Kind<'v>>, Option<Kind<'v>>), AllocError>
     ensures left { IfOk result (λ o. given_value o.0
-        ≡ value_given (base_of ground.now) left.now (here path.old value.entry)) }
+        ≡ value_given (base_of context.now) left.now (here path.old value.entry)) }
     ensures right { IfOk result (λ o. given_value o.1
-        ≡ value_given (base_of ground.now) right.now (here path.old value.entry)) }
+        ≡ value_given (base_of context.now) right.now (here path.old value.entry)) }
     ensures path { OnOk result (path.new ≡ path.old) }
 {
-    let left = give::<V>(ground, left, value, path)?;
-    let right = give::<V>(ground, right, value, path)?;
+    let left = give::<V>(context, left, value, path)?;
+    let right = give::<V>(context, right, value, path)?;
     Ok((left, right))
 }
 
 /// The value that stands there, or nothing.
 #[cycle(walk)]
 fn give<'v, V: Visit + Drop>(
-    ground: &Ground<'v>,
+    context: &Context<'v>,
     giver: &'v Giver,
     value: Part<'v>,
     path: &mut Trail<'v>,
 ) -> Result<Option<Kind<'v>>, AllocError>
     ensures value { IfOk result (λ o. given_value o
-        ≡ value_given (base_of ground.now) giver.now (here path.old value.entry)) }
+        ≡ value_given (base_of context.now) giver.now (here path.old value.entry)) }
     ensures path { OnOk result (path.new ≡ path.old) }
 {
     match giver {
         Giver::Constant(constant) => Ok(Some(literal(constant))),
-        Giver::Single(nodes) => Ok(operand(ask::<V>(ground, Want::First, nodes, value, path)?)),
-        Giver::Length(of) => length(ground.alloc, give::<V>(ground, of, value, path)?),
-        Giver::Count(nodes) => Ok(operand(ask::<V>(ground, Want::Count, nodes, value, path)?)),
-        Giver::Only(nodes) => Ok(operand(ask::<V>(ground, Want::Only, nodes, value, path)?)),
+        Giver::Single(nodes) => Ok(operand(ask::<V>(context, Want::First, nodes, value, path)?)),
+        Giver::Length(of) => length(context.alloc, give::<V>(context, of, value, path)?),
+        Giver::Count(nodes) => Ok(operand(ask::<V>(context, Want::Count, nodes, value, path)?)),
+        Giver::Only(nodes) => Ok(operand(ask::<V>(context, Want::Only, nodes, value, path)?)),
     }
 }
 
 /// What is wanted of the nodes of a query.
 #[cycle(walk)]
 fn ask<'v, V: Visit + Drop>(
-    ground: &Ground<'v>,
+    context: &Context<'v>,
     want: Want,
     nodes: &'v Nodes,
     value: Part<'v>,
     path: &mut Trail<'v>,
-) -> Result<Answer<'v>, AllocError>
+) -> Result<Aggregate<'v>, AllocError>
     ensures answer { IfOk result (λ a. tells want
-        (nodes_given (base_of ground.now) nodes.now want (here path.old value.entry)) a ≡ true) }
+        (nodes_given (base_of context.now) nodes.now want (here path.old value.entry)) a ≡ true) }
     ensures path { OnOk result (path.new ≡ path.old) }
 {
     match nodes {
         Nodes::Here(segments) => {
-            let mut found = none_found::<'v, V>(ground.alloc, want);
-            run(ground, segments.as_slice(), value, path, &mut found)?;
-            match into_answer(found) {
+            let mut found = none_found::<'v, V>(context.alloc, want);
+            run(context, segments.as_slice(), value, path, &mut found)?;
+            match into_aggregate(found) {
                 Some(answer) => Ok(answer),
                 None => unreachable!(),
             }
         }
-        Nodes::Root(slot) => Ok(ground.answer(*slot, want)),
+        Nodes::Root(slot) => Ok(context.answer(*slot, want)),
         Nodes::Distinct(nodes) => {
-            let answer = ask::<V>(ground, want.inside(), nodes, value, path)?;
+            let answer = ask::<V>(context, want.inside(), nodes, value, path)?;
             Ok(of_distinct(want, answer))
         }
     }

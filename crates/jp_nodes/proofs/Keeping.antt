@@ -58,13 +58,13 @@ taken_fold : {K : Type 0} (put : K → Node → K) (k : K) (ns : List Node)
 taken_fold put k [] = refl
 taken_fold put k (n ∷ ns) = taken_fold put (put k n) ns
 
--- the taker that comes out of a walk that began with one
+-- the visitor that comes out of a walk that began with one
 pub taken_out : {K : Type 0} (put : K → Node → K) (k start : K) (ns : List Node)
     → taken k ≡ plus (put_found put) (taken start) ns → k ≡ fold put start ns
 unfolding out_of plus
 taken_out put k start ns h = ap (λ x. out_of x k) (h ∙ taken_fold put start ns)
 
--- the same of a taker
+-- the same of a visitor
 pub taken_plus : {K : Type 0} (put : K → Node → K) (k : K) (ns : List Node)
     → taken (fold put k ns) ≡ plus (put_found put) (taken k) ns
 unfolding plus
@@ -79,7 +79,7 @@ emptied_once put emptied law (count m) n = refl
 emptied_once put emptied law (only a) n = refl
 emptied_once put emptied law (located o ls) n = refl
 
--- an empty taker of the same kind is the same later
+-- an empty visitor of the same kind is the same later
 pub emptied_stays : {K : Type 0} (put : K → Node → K) (emptied : K → K)
     → ((k : K) (n : Node) → emptied (put k n) ≡ emptied k) → (k : Kept K) (ns : List Node)
     → emptied_found emptied (plus (put_found put) k ns) ≡ emptied_found emptied k
@@ -96,13 +96,13 @@ taken_once put (count m) n = refl
 taken_once put (only a) n = refl
 taken_once put (located o ls) n = refl
 
--- whether a taker keeps the nodes does not change
+-- whether a visitor keeps the nodes does not change
 taken_stays : {K : Type 0} (put : K → Node → K) (k : Kept K) (ns : List Node)
     → is_taken (fold (put_found put) k ns) ≡ is_taken k
 taken_stays put k [] = refl
 taken_stays put k (n ∷ ns) = taken_stays put (put_found put k n) ns ∙ taken_once put k n
 
--- a part of a walk that begins with a taker begins with one too
+-- a part of a walk that begins with a visitor begins with one too
 pub taken_on : {K : Type 0} (put : K → Node → K) (start k : Kept K) (all rest : List Node)
     → plus (put_found put) k rest ≡ plus (put_found put) start all → is_taken start ≡ true
     → is_taken k ≡ true
@@ -116,13 +116,13 @@ none_taken K want.Count = refl
 none_taken K want.Only = refl
 none_taken K want.Distinct = refl
 
--- a walk that began with a taker ends with one
+-- a walk that began with a visitor ends with one
 pub not_lost : {K : Type 0} (put : K → Node → K) (start : K) (ns : List Node) (k : Kept K)
     → k ≡ plus (put_found put) (taken start) ns → is_taken k ≡ false → ⊥
 unfolding plus
 not_lost put start ns k h lost = cc (sym lost ∙ ap is_taken h ∙ taken_stays put (taken start) ns)
 
--- a walk that began with what a filter wants ends with no taker
+-- a walk that began with what a filter wants ends with no visitor
 pub not_taken : {K : Type 0} (put : K → Node → K) (wanted : Want) (ns : List Node) (before k : Kept K)
     → k ≡ plus (put_found put) before ns → before ≡ none_kept wanted → is_taken k ≡ true → ⊥
 unfolding plus

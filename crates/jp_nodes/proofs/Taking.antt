@@ -1,4 +1,4 @@
--- What takers keep of several nodes.
+-- What visitors keep of several nodes.
 use Rattle.std.proofs.Common.{◌≡◌, List, [], ◌∷◌, ◌++◌, map, ap, sym, ◌∙◌, append_assoc, append-nil}
 use Rattle.std.specs.List.{fold}
 use Rattle.jp_doc.specs.Location.{Location, Node}
@@ -10,7 +10,7 @@ locations_fold ls [] = sym (append-nil ls)
 locations_fold ls (n ∷ ns) = locations_fold (ls ++ n.location ∷ []) ns
     ∙ append_assoc ls (n.location ∷ []) (map (λ n. n.location) ns)
 
--- the locations of one taker behind those of another
+-- the locations of one visitor behind those of another
 pub locations_append : (ls ms : List Location) (ns : List Node) → ms ≡ fold put_location [] ns
     → ls ++ ms ≡ fold put_location ls ns
 locations_append ls ms ns e = ap (λ l. ls ++ l) (e ∙ locations_fold [] ns) ∙ sym (locations_fold ls ns)

@@ -8,14 +8,14 @@ use Rattle.jp_doc.specs.Json.{Json}
 use Rattle.jp_doc.specs.Location.{Location, Node, node}
 use Rattle.jp_compiled.specs.declared.query.Want.{Want}
 use Rattle.jp_compiled.specs.declared.query.Want.TheVariants as want
-use Rattle.jp_nodes.specs.Answers.{tells}
+use Rattle.jp_nodes.specs.Aggregates.{tells}
 use Rattle.jp_value.specs.Comparison.{eq}
 use Rattle.jp_nodes.specs.Different.{IsDifferent, is_different}
 use Rattle.jp_value.specs.Functions.{first_value, only_value, distinct}
 use Rattle.jp_nodes.specs.Kept.{Kept, alone_of, alone_value, put_found, plus, none_kept}
 use Rattle.jp_nodes.specs.Kept.{taken, first, count, only, located}
 use Rattle.jp_part.specs.Part.{part_value}
-use Rattle.jp_nodes.specs.declared.answers.Answer.TheVariants as answer
+use Rattle.jp_nodes.specs.declared.aggregates.Aggregate.TheVariants as answer
 use Rattle.jp_nodes.specs.declared.different.Different.{Different}
 use Rattle.jp_nodes.specs.declared.found.Alone as code
 use Rattle.jp_nodes.specs.declared.found.Alone.TheVariants.{One as one}

@@ -9,7 +9,7 @@ use Rattle.jp_compiled.specs.declared.query.Want.{Want}
 use Rattle.jp_compiled.specs.declared.query.Want.TheVariants as want
 use Rattle.jp_part.specs.Part.{part_value}
 use Rattle.jp_nodes.specs.declared.found.Found.{Found}
-use Rattle.jp_nodes.specs.declared.found.Found.TheVariants.{Taker, First, Count, Only, Distinct}
+use Rattle.jp_nodes.specs.declared.found.Found.TheVariants.{Visitor, First, Count, Only, Distinct}
 use Rattle.jp_nodes.specs.declared.found.Alone as code
 use Rattle.jp_nodes.specs.declared.found.Alone.TheVariants as code_alone
 
@@ -34,7 +34,7 @@ alone_value none = None
 alone_value (one v) = Some v
 alone_value several = None
 
--- what the caller's taker keeps, the value of the first, how many, the value of the only one, or the value
+-- what the caller's visitor keeps, the value of the first, how many, the value of the only one, or the value
 -- of the first and where they are
 pub data Kept (K : Type 0) : Type 0 where
   taken : K → Kept K
@@ -43,7 +43,7 @@ pub data Kept (K : Type 0) : Type 0 where
   only : Alone → Kept K
   located : Option Json → List Location → Kept K
 
--- whether the caller's taker keeps it
+-- whether the caller's visitor keeps it
 abbrev pub is_taken : {K : Type 0} → Kept K → Bool
 is_taken (taken k) = true
 is_taken (first o) = false
@@ -52,7 +52,7 @@ is_taken (only a) = false
 is_taken (located o ls) = false
 
 abbrev pub kept : {V K : Type 0} → (V → K) → Found V → Kept K
-kept keeps (Taker t) = taken (keeps t)
+kept keeps (Visitor t) = taken (keeps t)
 kept keeps (First o) = first (option_map part_value o)
 kept keeps (Count n) = count n
 kept keeps (Only a) = only (alone_of a)
@@ -75,7 +75,7 @@ put_found put (located o ls) n = located (put_first o n.value) (ls ++ n.location
 unfoldable pub plus : {K : Type 0} → (K → Node → K) → K → List Node → K
 plus put k ns = fold put k ns
 
--- what an empty taker of the same kind keeps
+-- what an empty visitor of the same kind keeps
 abbrev pub emptied_found : {K : Type 0} → (K → K) → Kept K → Kept K
 emptied_found emptied (taken k) = taken (emptied k)
 emptied_found emptied (first o) = first None

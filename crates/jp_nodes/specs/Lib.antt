@@ -3,5 +3,5 @@ pub mod Links
 pub mod Kept
 pub mod Different
 pub mod Taken
-pub mod Answers
+pub mod Aggregates
 pub mod Kids

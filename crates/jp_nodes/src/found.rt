@@ -1,16 +1,16 @@
-//! What is kept of the nodes that a walk finds: by the caller's taker, or by what a filter wants of them.
+//! What is kept of the nodes that a walk finds: by the caller's visitor, or by what a filter wants of them.
 
 ghost use Rattle.std.specs.Prelude.{◌≡◌, ◌+◌, ◌↔◌, List, true, false};
 ghost use Rattle.std.specs.Prelude.{IsTrue, IfSome, IsNone, IfOk, OnOk};
 ghost use Rattle.jp_compiled.specs.declared.query.Want.{Want};
 ghost use Rattle.jp_doc.specs.Location.{Node};
-ghost use Rattle.jp_nodes.specs.Answers.{tells};
+ghost use Rattle.jp_nodes.specs.Aggregates.{tells};
 ghost use Rattle.jp_nodes.specs.Kept.{kept, put_found, none_kept, taken, alone_of, put_alone, plus};
 ghost use Rattle.jp_nodes.specs.Kept.{emptied_found, is_taken};
 ghost use Rattle.jp_nodes.specs.Links.{here};
 ghost use Rattle.jp_part.specs.Part.{part_value};
 
-use crate::answers::Answer;
+use crate::aggregates::Aggregate;
 use crate::different::{Located, each_once, locate, none_located};
 use crate::visit::Visit;
 use jp_compiled::Want;
@@ -22,7 +22,7 @@ use std::alloc::{AllocError, Global};
 #[derive(Drop)]
 pub enum Found<'v, V: Drop> {
     /// What the caller keeps.
-    Taker(V),
+    Visitor(V),
     /// The value of the first.
     First(Option<Part<'v>>),
     /// How many there are.
@@ -49,7 +49,7 @@ pub fn is_full<V: Visit + Drop>(found: &Found<'_, V>) -> bool
     ensures { IsTrue result → (n : Node) → put_found V.put (kept V.kept found.now) n ≡ kept V.kept found.now }
 {
     match found {
-        Found::Taker(taker) => taker.is_full(),
+        Found::Visitor(visitor) => visitor.is_full(),
         Found::First(first) => first.is_some(),
         Found::Count(_) => false,
         Found::Only(Alone::Several) => true,
@@ -72,7 +72,7 @@ pub fn add<'v, V: Visit + Drop>(
     ensures path { OnOk result (path.new ≡ path.old) }
 {
     match found {
-        Found::Taker(taker) => taker.node(alloc, path, value),
+        Found::Visitor(visitor) => visitor.node(alloc, path, value),
         Found::First(first) => {
             if first.is_none() {
                 *first = Some(value);
@@ -109,7 +109,7 @@ fn with_another<'v>(alone: Alone<'v>, value: Part<'v>) -> Alone<'v>
     }
 }
 
-/// An empty taker of the caller's kind, where the caller's is what is kept. It takes no memory.
+/// An empty visitor of the caller's kind, where the caller's is what is kept. It takes no memory.
 pub fn fresh<V: Visit + Drop>(found: &Found<'_, V>, alloc: Global) -> V
     requires { is_taken (kept V.kept found.now) ≡ true }
     ensures empty { taken (V.kept result) ≡ emptied_found V.emptied (kept V.kept found.now) }
@@ -118,12 +118,12 @@ pub fn fresh<V: Visit + Drop>(found: &Found<'_, V>, alloc: Global) -> V
         ≡ emptied_found V.emptied (kept V.kept found.now) }
 {
     match found {
-        Found::Taker(taker) => taker.fresh(alloc),
+        Found::Visitor(visitor) => visitor.fresh(alloc),
         Found::First(_) | Found::Count(_) | Found::Only(_) | Found::Distinct(_) => unreachable!(),
     }
 }
 
-/// Takes the nodes that another taker took, which began as an empty one, where the caller's taker is
+/// Takes the nodes that another visitor took, which began as an empty one, where the caller's visitor is
 /// what is kept.
 ///
 /// `AllocError` if a growth was refused.
@@ -132,21 +132,21 @@ pub fn append<'v, V: Visit + Drop>(found: &mut Found<'v, V>, other: V) -> Result
     ensures nodes { (ns : List Node) → taken (V.kept other)
         ≡ plus (put_found V.put) (emptied_found V.emptied (kept V.kept found.old)) ns
         → OnOk result (kept V.kept found.new ≡ plus (put_found V.put) (kept V.kept found.old) ns) }
-    ensures taker { is_taken (kept V.kept found.new) ≡ true }
+    ensures visitor { is_taken (kept V.kept found.new) ≡ true }
 {
     match found {
-        Found::Taker(taker) => taker.append(other),
+        Found::Visitor(visitor) => visitor.append(other),
         Found::First(_) | Found::Count(_) | Found::Only(_) | Found::Distinct(_) => unreachable!(),
     }
 }
 
 /// What the caller keeps, or nothing exactly where something else is kept.
-pub fn into_taker<'v, V: Visit + Drop>(found: Found<'v, V>) -> Option<V>
-    ensures taker { IfSome result (λ t. taken (V.kept t) ≡ kept V.kept found.entry) }
+pub fn into_visitor<'v, V: Visit + Drop>(found: Found<'v, V>) -> Option<V>
+    ensures visitor { IfSome result (λ t. taken (V.kept t) ≡ kept V.kept found.entry) }
     ensures other { IsNone result ↔ (is_taken (kept V.kept found.entry) ≡ false) }
 {
     match found {
-        Found::Taker(taker) => Some(taker),
+        Found::Visitor(visitor) => Some(visitor),
         Found::First(_) => None,
         Found::Count(_) => None,
         Found::Only(_) => None,
@@ -166,17 +166,17 @@ pub fn none_found<'v, V: Visit + Drop>(alloc: Global, want: Want) -> Found<'v, V
     }
 }
 
-/// What is told of the nodes that were found, or nothing exactly where the caller's taker has them.
-pub fn into_answer<'v, V: Visit + Drop>(found: Found<'v, V>) -> Option<Answer<'v>>
+/// What is told of the nodes that were found, or nothing exactly where the caller's visitor has them.
+pub fn into_aggregate<'v, V: Visit + Drop>(found: Found<'v, V>) -> Option<Aggregate<'v>>
     ensures answer { IfSome result (λ a. (want : Want) (ns : List Node) → kept V.kept found.entry
         ≡ plus (put_found V.put) (none_kept want) ns → tells want ns a ≡ true) }
     ensures other { IsNone result ↔ (is_taken (kept V.kept found.entry) ≡ true) }
 {
     match found {
-        Found::First(first) => Some(Answer::First(first)),
-        Found::Count(count) => Some(Answer::Count(count)),
-        Found::Only(alone) => Some(Answer::Only(alone)),
-        Found::Distinct(located) => Some(Answer::Distinct(each_once(located))),
-        Found::Taker(_) => None,
+        Found::First(first) => Some(Aggregate::First(first)),
+        Found::Count(count) => Some(Aggregate::Count(count)),
+        Found::Only(alone) => Some(Aggregate::Only(alone)),
+        Found::Distinct(located) => Some(Aggregate::Distinct(each_once(located))),
+        Found::Visitor(_) => None,
     }
 }

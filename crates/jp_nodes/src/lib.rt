@@ -2,7 +2,7 @@
 //! kept of the nodes that a walk finds.
 #![tactic(auto)]
 
-pub mod answers;
+pub mod aggregates;
 pub mod children;
 mod different;
 mod examples;

@@ -1,4 +1,4 @@
-//! The taker that keeps where each node is.
+//! The visitor that keeps where each node is.
 
 ghost use Rattle.std.specs.Prelude.{◌≡◌, map, IfOk};
 ghost use Rattle.jp_doc.specs.Location.{step_of, location_of};

@@ -23,7 +23,7 @@ pub trait Visit {
     /// What is kept once this node is taken too.
     ghost put: { Kept → Node → Kept };
 
-    /// What an empty taker of the same kind keeps.
+    /// What an empty visitor of the same kind keeps.
     ghost emptied: { Kept → Kept };
 
     /// Takes the node at the trail, whose value is this one.
@@ -43,11 +43,11 @@ pub trait Visit {
     fn is_full(&self) -> bool
         ensures { IsTrue result → (n : Node) → put (kept self.now) n ≡ kept self.now };
 
-    /// An empty taker of the same kind.
+    /// An empty visitor of the same kind.
     fn fresh(&self, alloc: Global) -> Self
         ensures { kept result ≡ emptied (kept self.now) };
 
-    /// Takes the nodes that another taker took, one that began as an empty one of the same kind.
+    /// Takes the nodes that another visitor took, one that began as an empty one of the same kind.
     ///
     /// `AllocError` if a growth was refused.
     fn append(&mut self, other: Self) -> Result<(), AllocError>

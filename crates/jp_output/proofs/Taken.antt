@@ -11,7 +11,7 @@ lines_fold number bytes (n ∷ ns) =
     lines_fold number (bytes ++ node_line number n) ns
     ∙ ap (λ bs. (number, bs)) (append_assoc bytes (node_line number n) (flat_map (node_line number) ns))
 
--- the lines of one taker behind those of another, of the same document
+-- the lines of one visitor behind those of another, of the same document
 pub lines_append : (number : ℕ) (bytes : List ℕ) (more : ℕ × List ℕ) (ns : List Node)
     → more ≡ fold put_line (number, []) ns → (number, bytes ++ more.1) ≡ fold put_line (number, bytes) ns
 lines_append number bytes more ns e =

@@ -19,7 +19,7 @@ pub fn three_fields()
         ≡ length ns }
 {}
 
-/// The lines that a taker writes of several nodes are those of each in turn, behind what stood there.
+/// The lines that a visitor writes of several nodes are those of each in turn, behind what stood there.
 #[tactic(auto, using(crate::proofs::Taken::lines_fold))]
 pub fn lines_of_nodes()
     ensures { (number : ℕ) (bytes : List ℕ) (ns : List Node) → fold put_line (number, bytes) ns

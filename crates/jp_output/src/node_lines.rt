@@ -1,4 +1,4 @@
-//! The taker that writes the output line of each node.
+//! The visitor that writes the output line of each node.
 
 ghost use Rattle.std.specs.Prelude.{◌≡◌, ◌++◌, []};
 ghost use Rattle.std.specs.Prelude.{IfOk, OnOk, OnErr};
@@ -24,7 +24,7 @@ use std::mem;
 ///
 /// Its meaning is that number and the bytes of all lines so far. A node takes no allocation but the growth of
 /// what is written, since the room that its value's text is made in is used again, and a list of members for
-/// each object of a flat document. The lines of a taker that is appended stay where they are.
+/// each object of a flat document. The lines of a visitor that is appended stay where they are.
 #[derive(Drop)]
 pub struct NodeLines {
     number: u64,

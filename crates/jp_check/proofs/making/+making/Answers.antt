@@ -25,7 +25,8 @@ use Rattle.jp_check.proofs.CallsMade.{call_written, logical_written, called_test
 use Rattle.jp_check.proofs.Naming.{named}
 use Rattle.jp_check.proofs.MakingSteps.{begins_itself, begins_on, made_more, made_all, listed_begins}
 use Rattle.jp_check.proofs.MakingSteps.{root_found}
-use Rattle.jp_compiled.proofs.CompiledViews.{filter_read, any_read, all_read, not_read, compare_read, test_read}
+use Rattle.jp_compiled.proofs.CompiledViews.{filter_read, any_read, all_read, not_read}
+use Rattle.jp_compiled.proofs.CompiledViews.{compare_read, test_read}
 use Rattle.jp_compiled.proofs.CompiledViews.{single_read, length_read, count_read, only_read, here_read}
 use Rattle.jp_compiled.proofs.CompiledViews.{root_read, segment_read, xor_read, distinct_read}
 use Rattle.jp_tree.specs.PartViews.{logicals_of, selectors_of, segments_of}

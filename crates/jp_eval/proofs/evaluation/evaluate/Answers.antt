@@ -12,6 +12,6 @@ pub returns : goal.returns
 returns c = record {
   nodes = λ t right.
       let ns = document_nodes t (planned_query c.args.plan.now) (document_value c.args.document.now) in
-      c.in_ok-taker.ensures t right ∙ ap (λ xs. fold put_location (map location_of xs) ns)
+      c.in_ok-visitor.ensures t right ∙ ap (λ xs. fold put_location (map location_of xs) ns)
       c.new.ensures.items ∙ locations_fold [] ns;
 }

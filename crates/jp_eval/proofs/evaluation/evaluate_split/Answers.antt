@@ -12,7 +12,7 @@ pub returns : goal.returns
 returns g c = record {
   nodes = λ t right.
       let ns = document_nodes t (planned_query c.args.plan.now) (document_value c.args.document.now) in
-      c.in_ok-taker.ensures.nodes t right
+      c.in_ok-visitor.ensures.nodes t right
       ∙ ap (λ q. fold put_location (map location_of c.new.result.items)
       (document_nodes t q (document_value c.args.document.now))) c.new-2.ensures
       ∙ ap (λ xs. fold put_location (map location_of xs) ns)

@@ -15,22 +15,22 @@ use Rattle.jp_eval.proofs.evaluator.visit_in.Goals as goal
 pub returns : goal.returns
 returns g c =
     let compiled = c.compiled-compiled.result.now in
-    let ground = c.in_ok-ground.ground in
+    let context = c.in_ok-context.context in
     let value = part_value c.args.root in
     let query = planned_query c.args.plan.now in
-    let at_root = c.in_ok-ground.ensures.root in
+    let at_root = c.in_ok-context.ensures.root in
     let nodes =
-    from_root (base_of ground) compiled.segments c.as_slice-2.result.now c.args.root
+    from_root (base_of context) compiled.segments c.as_slice-2.result.now c.args.root
     c.with_room-path.result c.as_slice-2.ensures.value c.with_room-path.ensures
-    (sym c.in_ok-ground.ensures.root)
+    (sym c.in_ok-context.ensures.root)
     ∙ ap₂ (λ v rs. root_nodes v (segments_in (roots_of rs) compiled.segments.items)) at_root
-    (c.in_ok-ground.ensures.roots ∙ c.as_slice.ensures.value)
+    (c.in_ok-context.ensures.roots ∙ c.as_slice.ensures.value)
     ∙ started compiled.start (segments_in (roots_of compiled.roots.items) compiled.segments.items) value
     ∙ ap (λ q. document_nodes tests q value) c.compiled-compiled.ensures in
-    λ t right. taken_out g.V.Visit.put _ _ _ (c.in-Some.ensures.taker ∙ c.in_ok-run.ensures.found)
-    ∙ ap (fold g.V.Visit.put (g.V.Visit.kept c.args.taker)) (nodes ∙ same_nodes t query value right)
+    λ t right. taken_out g.V.Visit.put _ _ _ (c.in-Some.ensures.visitor ∙ c.in_ok-run.ensures.found)
+    ∙ ap (fold g.V.Visit.put (g.V.Visit.kept c.args.visitor)) (nodes ∙ same_nodes t query value right)
 
 pub unreachable-requires : goal.unreachable-requires
 unreachable-requires g c =
-    not_lost g.V.Visit.put (g.V.Visit.kept c.args.taker) _ _ c.in_ok-run.ensures.found
-    (c.into_taker.ensures.other.0 (ap is_some c.in-None.is))
+    not_lost g.V.Visit.put (g.V.Visit.kept c.args.visitor) _ _ c.in_ok-run.ensures.found
+    (c.into_visitor.ensures.other.0 (ap is_some c.in-None.is))

@@ -11,11 +11,11 @@ use Rattle.jp_eval.proofs.roots.answer.Goals as goal
 
 pub returns : goal.returns
 returns g c =
-    let ground = c.args.ground.now in
+    let context = c.args.context.now in
     let query = c.args.query.now in
-    let root = part_value ground.root in
-    let ss = segments_in (roots_of ground.roots.now) query.segments.items in
-    let nodes = from_root (base_of ground) query.segments c.as_slice.result.now ground.root
+    let root = part_value context.root in
+    let ss = segments_in (roots_of context.roots.now) query.segments.items in
+    let nodes = from_root (base_of context) query.segments c.as_slice.result.now context.root
     c.new-path.result c.as_slice.ensures.value c.new-path.ensures refl in
     let held = c.in_ok-run.ensures.found
     ∙ ap₂ (plus (put_found g.V.Visit.put)) c.none_found-found.ensures nodes in
@@ -25,4 +25,4 @@ returns g c =
 pub unreachable-requires : goal.unreachable-requires
 unreachable-requires g c =
     not_taken g.V.Visit.put c.args.query.now.want _ _ _ c.in_ok-run.ensures.found c.none_found-found.ensures
-    (c.into_answer.ensures.other.0 (ap is_some c.in-None.is))
+    (c.into_aggregate.ensures.other.0 (ap is_some c.in-None.is))

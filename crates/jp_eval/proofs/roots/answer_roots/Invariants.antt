@@ -3,5 +3,5 @@ use Rattle.jp_part.specs.Part.{part_value}
 use Rattle.jp_eval.proofs.roots.answer_roots.Given as goal
 
 abbrev pub invariant-loop-slot : goal.invariant-loop-slot
-invariant-loop-slot g l = (l.ground.roots.now ≡ take l.slot l.roots)
-    × (part_value l.ground.root ≡ part_value l.initial.root)
+invariant-loop-slot g l = (l.context.roots.now ≡ take l.slot l.roots)
+    × (part_value l.context.root ≡ part_value l.initial.root)

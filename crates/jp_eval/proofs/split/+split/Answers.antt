@@ -30,11 +30,11 @@ each_stretch-loop-stretch-preserved g t c =
     rw c.in_ok-each_of.ensures.path (
       c.loop-stretch.invariant.0,
       omega (arith, e, c.loop-stretch.invariant.1),
-      stretch_done (put_found g.V.Visit.put) (base_of c.args.ground.now) (link_steps c.loop-stretch.path) ss
+      stretch_done (put_found g.V.Visit.put) (base_of c.args.context.now) (link_steps c.loop-stretch.path) ss
           i c.stretch-item.result _ _ _ _ h c.stretch-item.is
           (c.in_ok-each_of.ensures.found
           ∙ ap (λ ns. plus (put_found g.V.Visit.put) (kept g.V.Visit.kept c.loop-stretch.found)
-          (flat_map (done (base_of c.args.ground.now) c.stretch-item.result.task) ns))
+          (flat_map (done (base_of c.args.context.now) c.stretch-item.result.task) ns))
           (c.counted_row-children.ensures.nodes (link_steps c.loop-stretch.path)))
           c.loop-stretch.invariant.2,
     )
@@ -50,7 +50,7 @@ one_by_one-go_split-requires-clause-taken g t c κs within =
 pub each_stretch-returns-clause-found : goal.each_stretch-returns-clause-found
 each_stretch-returns-clause-found g t c =
     over (put_found g.V.Visit.put)
-    (λ xs. done_along_all (base_of c.args.ground.now) (link_steps c.loop-stretch.path) xs)
+    (λ xs. done_along_all (base_of c.args.context.now) (link_steps c.loop-stretch.path) xs)
     c.args.stretches.now c.loop-stretch.stretch-index _ _ _ (omega arith) refl c.loop-stretch.invariant.2
 
 pub one_by_one-loop-child-preserved : goal.one_by_one-loop-child-preserved
@@ -60,11 +60,11 @@ one_by_one-loop-child-preserved g t c =
     rw p (
       c.loop-child.invariant.0,
       omega (arith, c.in-Some.ensures.height, c.loop-child.invariant.1),
-      kid_done (put_found g.V.Visit.put) (done (base_of c.args.ground.now) c.args.task) _ _ _ _ _ _ _
+      kid_done (put_found g.V.Visit.put) (done (base_of c.args.context.now) c.args.task) _ _ _ _ _ _ _
           (c.in-Some.ensures.nodes (link_steps c.loop-child.path))
           (c.in_ok-go_split.ensures.found
           ∙ ap (λ s. plus (put_found g.V.Visit.put) (kept g.V.Visit.kept c.loop-child.found)
-          (done (base_of c.args.ground.now) c.args.task (node s (part_value c.in-Some.child.part))))
+          (done (base_of c.args.context.now) c.args.task (node s (part_value c.in-Some.child.part))))
           (link_further c.loop-child.path c.push.new.self _ c.in_ok-push.ensures.ok))
           c.loop-child.invariant.2,
     )
@@ -78,20 +78,20 @@ pub one_by_one-returns-clause-found : goal.one_by_one-returns-clause-found
 one_by_one-returns-clause-found g t c =
     ended (put_found g.V.Visit.put) _ _ _
     (ap (λ ns. plus (put_found g.V.Visit.put) (kept g.V.Visit.kept c.loop-child.found)
-    (flat_map (done (base_of c.args.ground.now) c.args.task) ns))
+    (flat_map (done (base_of c.args.context.now) c.args.task) ns))
     (sym (c.in_default.ensures.nodes (link_steps c.loop-child.path))) ∙ c.loop-child.invariant.2)
 
 pub half-returns : goal.half-returns
 half-returns g t c =
-    c.in-Some.ensures.taker ∙ c.in_ok-each_of.ensures.found
-    ∙ ap (λ ls. plus (put_found g.V.Visit.put) (taken (g.V.Visit.kept c.args.taker))
-    (flat_map (done (base_of c.args.ground.now) c.args.task) (row_kids (link_steps ls) c.args.children)))
+    c.in-Some.ensures.visitor ∙ c.in_ok-each_of.ensures.found
+    ∙ ap (λ ls. plus (put_found g.V.Visit.put) (taken (g.V.Visit.kept c.args.visitor))
+    (flat_map (done (base_of c.args.context.now) c.args.task) (row_kids (link_steps ls) c.args.children)))
     c.in_ok-path.ensures
 
 pub half-unreachable-requires : goal.half-unreachable-requires
 half-unreachable-requires g t c =
-    not_lost g.V.Visit.put (g.V.Visit.kept c.args.taker) _ _ c.in_ok-each_of.ensures.found
-    (c.into_taker.ensures.other.0 (ap is_some c.in-None.is))
+    not_lost g.V.Visit.put (g.V.Visit.kept c.args.visitor) _ _ c.in_ok-each_of.ensures.found
+    (c.into_visitor.ensures.other.0 (ap is_some c.in-None.is))
 
 pub go_split-returns-in_default-clause-found : goal.go_split-returns-in_default-clause-found
 go_split-returns-in_default-clause-found g t c =
@@ -106,7 +106,7 @@ each_of-join-first-requires-after_bounds g t c κs within =
 pub each_of-returns-clause-found : goal.each_of-returns-clause-found
 each_of-returns-clause-found g t c =
     let put = put_found g.V.Visit.put in
-    let f = done (base_of c.args.ground.now) c.args.task in
+    let f = done (base_of c.args.context.now) c.args.task in
     let left : Location → List Node = λ at. row_kids at c.halves.result.0 in
     let right : Location → List Node = λ at. row_kids at c.halves.result.1 in
     let at = link_steps c.args.path.now in

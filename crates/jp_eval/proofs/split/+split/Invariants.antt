@@ -40,18 +40,18 @@ invariant-each_stretch-loop-stretch g l =
     (l.path ≡ l.initial.path)
     × (highest (drop l.stretch-index l.stretches) ≤ highest l.stretches)
     × (plus (put_found g.V.Visit.put) (kept g.V.Visit.kept l.found)
-    (done_along_all (base_of l.ground) (link_steps l.path) (drop l.stretch-index l.stretches))
+    (done_along_all (base_of l.context) (link_steps l.path) (drop l.stretch-index l.stretches))
     ≡ plus (put_found g.V.Visit.put) (kept g.V.Visit.kept l.initial.found)
-    (done_along_all (base_of l.ground) (link_steps l.initial.path) l.stretches))
+    (done_along_all (base_of l.context) (link_steps l.initial.path) l.stretches))
 
 abbrev pub invariant-one_by_one-loop-child : goal.invariant-one_by_one-loop-child
 invariant-one_by_one-loop-child g l =
     (l.path ≡ l.initial.path)
     × (row_height l.rest ≤ row_height l.children)
     × (plus (put_found g.V.Visit.put) (kept g.V.Visit.kept l.found)
-    (flat_map (done (base_of l.ground) l.task) (row_kids (link_steps l.path) l.rest))
+    (flat_map (done (base_of l.context) l.task) (row_kids (link_steps l.path) l.rest))
     ≡ plus (put_found g.V.Visit.put) (kept g.V.Visit.kept l.initial.found)
-    (flat_map (done (base_of l.ground) l.task) (row_kids (link_steps l.initial.path) l.children)))
+    (flat_map (done (base_of l.context) l.task) (row_kids (link_steps l.initial.path) l.children)))
 
 abbrev pub decreases-one_by_one-loop-child : goal.decreases-one_by_one-loop-child
 decreases-one_by_one-loop-child g l = row_length l.rest

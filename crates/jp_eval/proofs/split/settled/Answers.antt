@@ -7,6 +7,6 @@ use Rattle.jp_eval.proofs.split.settled.Goals as goal
 
 pub returns-else-holds-clause-task : goal.returns-else-holds-clause-task
 returns-else-holds-clause-task g c =
-    let truth : is_true (base_of c.args.ground.now) c.in-Test.test.now (here c.args.path.now c.args.value)
+    let truth : is_true (base_of c.args.context.now) c.in-Test.test.now (here c.args.path.now c.args.value)
     ≡ false = sym c.in_ok-holds-in-Test.ensures.truth ∙ c.if-holds.false in
-    rw (c.in-Test.is, truth) (reached-none (base_of c.args.ground.now) c.in-Test.rest.now)
+    rw (c.in-Test.is, truth) (reached-none (base_of c.args.context.now) c.in-Test.rest.now)

@@ -15,7 +15,7 @@ use Rattle.jp_types.specs.Numbers.{whole_number}
 use Rattle.jp_tree.specs.View.{text_of}
 use Rattle.jp_compiled.specs.Compiled.{position_text, wanted_inside}
 use Rattle.jp_compiled.specs.declared.query.Want.TheVariants as want
-use Rattle.jp_nodes.specs.Answers.{tells}
+use Rattle.jp_nodes.specs.Aggregates.{tells}
 use Rattle.jp_eval.specs.Base.{base_of}
 use Rattle.jp_value.specs.BoundsView.{bounds_value}
 use Rattle.jp_value.specs.Comparison.{compared}
@@ -49,7 +49,7 @@ apply-loop-selector-preserved g t c =
     let h : c.loop-selector.selector-index < length c.args.selectors.now = omega arith in
     rw c.in_ok-select.ensures.path (
       c.loop-selector.invariant.0,
-      applied (put_found g.V.Visit.put) (base_of c.args.ground.now)
+      applied (put_found g.V.Visit.put) (base_of c.args.context.now)
           c.args.selectors.now c.loop-selector.selector-index c.selector-item.result c.args.rest.now
           (here c.loop-selector.path c.args.value) _ _ _ _ h c.selector-item.is c.in_ok-select.ensures.found
           c.loop-selector.invariant.1,
@@ -57,29 +57,29 @@ apply-loop-selector-preserved g t c =
 
 pub apply-returns-clause-found : goal.apply-returns-clause-found
 apply-returns-clause-found g t c =
-    over (put_found g.V.Visit.put) (λ xs. reached (base_of c.args.ground.now) c.args.rest.now
-    (picked_by (base_of c.args.ground.now) xs (here c.loop-selector.path c.args.value)))
+    over (put_found g.V.Visit.put) (λ xs. reached (base_of c.args.context.now) c.args.rest.now
+    (picked_by (base_of c.args.context.now) xs (here c.loop-selector.path c.args.value)))
     c.args.selectors.now c.loop-selector.selector-index _ _ _ (omega arith)
-    (reached-none (base_of c.args.ground.now) c.args.rest.now) c.loop-selector.invariant.1
+    (reached-none (base_of c.args.context.now) c.args.rest.now) c.loop-selector.invariant.1
 
 pub at_place-returns-in_default-clause-found : goal.at_place-returns-in_default-clause-found
 at_place-returns-in_default-clause-found g t c =
     nothing_found (put_found g.V.Visit.put) _ _
-    (ap (λ o. reached (base_of c.args.ground.now) c.args.rest.now
+    (ap (λ o. reached (base_of c.args.context.now) c.args.rest.now
     (items_at (here c.args.path.now c.args.value) (option_to_list o))) c.in_default.is
-    ∙ reached-none (base_of c.args.ground.now) c.args.rest.now)
+    ∙ reached-none (base_of c.args.context.now) c.args.rest.now)
 
 pub at_place-returns-in_default-item-clause-found : goal.at_place-returns-in_default-item-clause-found
 at_place-returns-in_default-item-clause-found g t c =
-    nothing_found (put_found g.V.Visit.put) _ _ (ap (reached (base_of c.args.ground.now) c.args.rest.now)
+    nothing_found (put_found g.V.Visit.put) _ _ (ap (reached (base_of c.args.context.now) c.args.rest.now)
     (none_at (here c.args.path.now c.args.value) c.args.place c.in-Some.place c.in-Some.is
-    c.in_default-item.ensures.value) ∙ reached-none (base_of c.args.ground.now) c.args.rest.now)
+    c.in_default-item.ensures.value) ∙ reached-none (base_of c.args.context.now) c.args.rest.now)
 
 pub at_place-returns-in_ok-run-clause-found : goal.at_place-returns-in_ok-run-clause-found
 at_place-returns-in_ok-run-clause-found g t c =
     c.in_ok-run.ensures.found
     ∙ ap (λ ns. plus (put_found g.V.Visit.put) (kept g.V.Visit.kept c.args.found.now)
-    (reached (base_of c.args.ground.now) c.args.rest.now ns))
+    (reached (base_of c.args.context.now) c.args.rest.now ns))
     (ap (λ n. n ∷ []) (here_further c.args.path.now c.push.new.self _ c.in-Some-item.child
     c.in_ok-push.ensures.ok)
     ∙ sym (one_at (here c.args.path.now c.args.value) c.args.place c.in-Some.place _ c.in-Some.is
@@ -92,11 +92,11 @@ each_of-loop-child-preserved g t c =
     rw p (
       c.loop-child.invariant.0,
       omega (arith, c.in-Some.ensures.height, c.loop-child.invariant.1),
-      kid_done (put_found g.V.Visit.put) (done (base_of c.args.ground.now) c.args.task) _ _ _ _ _ _ _
+      kid_done (put_found g.V.Visit.put) (done (base_of c.args.context.now) c.args.task) _ _ _ _ _ _ _
           (c.in-Some.ensures.nodes (link_steps c.loop-child.path))
           (c.in_ok-go.ensures.found
           ∙ ap (λ s. plus (put_found g.V.Visit.put) (kept g.V.Visit.kept c.loop-child.found)
-          (done (base_of c.args.ground.now) c.args.task (node s (part_value c.in-Some.child.part))))
+          (done (base_of c.args.context.now) c.args.task (node s (part_value c.in-Some.child.part))))
           (link_further c.loop-child.path c.push.new.self _ c.in_ok-push.ensures.ok))
           c.loop-child.invariant.2,
     )
@@ -105,10 +105,10 @@ pub each_of-loop-child-preserved-then-is_idle : goal.each_of-loop-child-preserve
 each_of-loop-child-preserved-then-is_idle g t c = (
   c.loop-child.invariant.0,
   omega (arith, c.in-Some.ensures.height, c.loop-child.invariant.1),
-  kid_done (put_found g.V.Visit.put) (done (base_of c.args.ground.now) c.args.task) _ _ _ _ _ _ _
+  kid_done (put_found g.V.Visit.put) (done (base_of c.args.context.now) c.args.task) _ _ _ _ _ _ _
       (c.in-Some.ensures.nodes (link_steps c.loop-child.path))
       (nothing_found (put_found g.V.Visit.put) _ _
-      (c.is_idle.ensures c.if-is_idle.true (base_of c.args.ground.now) _))
+      (c.is_idle.ensures c.if-is_idle.true (base_of c.args.context.now) _))
       c.loop-child.invariant.2,
 )
 
@@ -121,7 +121,7 @@ pub each_of-returns-clause-found : goal.each_of-returns-clause-found
 each_of-returns-clause-found g t c =
     ended (put_found g.V.Visit.put) _ _ _
     (ap (λ ns. plus (put_found g.V.Visit.put) (kept g.V.Visit.kept c.loop-child.found)
-    (flat_map (done (base_of c.args.ground.now) c.args.task) ns))
+    (flat_map (done (base_of c.args.context.now) c.args.task) ns))
     (sym (c.in_default.ensures.nodes (link_steps c.loop-child.path))) ∙ c.loop-child.invariant.2)
 
 pub go-returns-in-Run-clause-found : goal.go-returns-in-Run-clause-found
@@ -129,7 +129,7 @@ go-returns-in-Run-clause-found g t c = rw c.in-Run.is c.run.ensures.found
 
 pub go-returns-in_ok-apply-in-Descend-clause-found : goal.go-returns-in_ok-apply-in-Descend-clause-found
 go-returns-in_ok-apply-in-Descend-clause-found g t c =
-    let base = base_of c.args.ground.now in
+    let base = base_of c.args.context.now in
     let xs = c.in-Descend.selectors.now in
     let rest = c.in-Descend.rest.now in
     on_ok_weaker c.each_child.result (λ e. rw c.in-Descend.is (descended (put_found g.V.Visit.put) base xs
@@ -139,43 +139,43 @@ go-returns-in_ok-apply-in-Descend-clause-found g t c =
 pub go-returns-in_ok-run-in-Test-clause-found : goal.go-returns-in_ok-run-in-Test-clause-found
 go-returns-in_ok-run-in-Test-clause-found g t c =
     let n = here c.args.path.now c.args.value in
-    let truth : is_true (base_of c.args.ground.now) c.in-Test.test.now n ≡ true =
+    let truth : is_true (base_of c.args.context.now) c.in-Test.test.now n ≡ true =
     sym c.in_ok-holds-in-Test.ensures.truth ∙ c.if-branch.true in
     rw (c.in-Test.is, truth) (rw c.in_ok-holds-in-Test.ensures.path at c.in_ok-run-in-Test.ensures.found)
 
 pub go-returns-else-branch-clause-found : goal.go-returns-else-branch-clause-found
 go-returns-else-branch-clause-found g t c =
     let n = here c.args.path.now c.args.value in
-    let truth : is_true (base_of c.args.ground.now) c.in-Test.test.now n ≡ false =
+    let truth : is_true (base_of c.args.context.now) c.in-Test.test.now n ≡ false =
     sym c.in_ok-holds-in-Test.ensures.truth ∙ c.if-branch.false in
     rw (c.in-Test.is, truth) (nothing_found (put_found g.V.Visit.put) _ _
-    (reached-none (base_of c.args.ground.now) c.in-Test.rest.now))
+    (reached-none (base_of c.args.context.now) c.in-Test.rest.now))
 
 pub holds-returns-in-Any-clause-truth : goal.holds-returns-in-Any-clause-truth
 holds-returns-in-Any-clause-truth g t c =
     IfOk-weaker c.any.result _ _ (λ b e. e
-    ∙ ap (list_any (λ l. is_true (base_of c.args.ground.now) l (here c.args.path.now c.args.value)))
+    ∙ ap (list_any (λ l. is_true (base_of c.args.context.now) l (here c.args.path.now c.args.value)))
     c.as_slice.ensures.value
-    ∙ sym (ap (λ l. is_true (base_of c.args.ground.now) l (here c.args.path.now c.args.value))
-    c.in-Any.is ∙ true_any (base_of c.args.ground.now) (here c.args.path.now c.args.value)
+    ∙ sym (ap (λ l. is_true (base_of c.args.context.now) l (here c.args.path.now c.args.value))
+    c.in-Any.is ∙ true_any (base_of c.args.context.now) (here c.args.path.now c.args.value)
     c.in-Any.parts)) c.any.ensures.truth
 
 pub holds-returns-in-All-clause-truth : goal.holds-returns-in-All-clause-truth
 holds-returns-in-All-clause-truth g t c =
     IfOk-weaker c.all.result _ _ (λ b e. e
-    ∙ ap (list_all (λ l. is_true (base_of c.args.ground.now) l (here c.args.path.now c.args.value)))
+    ∙ ap (list_all (λ l. is_true (base_of c.args.context.now) l (here c.args.path.now c.args.value)))
     c.as_slice-in-All.ensures.value
-    ∙ sym (ap (λ l. is_true (base_of c.args.ground.now) l (here c.args.path.now c.args.value))
-    c.in-All.is ∙ true_all (base_of c.args.ground.now) (here c.args.path.now c.args.value)
+    ∙ sym (ap (λ l. is_true (base_of c.args.context.now) l (here c.args.path.now c.args.value))
+    c.in-All.is ∙ true_all (base_of c.args.context.now) (here c.args.path.now c.args.value)
     c.in-All.parts)) c.all.ensures.truth
 
 pub holds-returns-in_ok-holds-in-Not-clause-truth : goal.holds-returns-in_ok-holds-in-Not-clause-truth
 holds-returns-in_ok-holds-in-Not-clause-truth g t c =
     ap not (c.in_ok-holds-in-Not.ensures.truth
-    ∙ ap (λ l. is_true (base_of c.args.ground.now) l (here c.args.path.now c.args.value))
+    ∙ ap (λ l. is_true (base_of c.args.context.now) l (here c.args.path.now c.args.value))
     c.deref.ensures) ∙ sym
-    (ap (λ l. is_true (base_of c.args.ground.now) l (here c.args.path.now c.args.value)) c.in-Not.is
-    ∙ true_not (base_of c.args.ground.now) (here c.args.path.now c.args.value) c.in-Not.part)
+    (ap (λ l. is_true (base_of c.args.context.now) l (here c.args.path.now c.args.value)) c.in-Not.is
+    ∙ true_not (base_of c.args.context.now) (here c.args.path.now c.args.value) c.in-Not.part)
 
 pub run-returns-in-None-clause-found : goal.run-returns-in-None-clause-found
 run-returns-in-None-clause-found g t c =
@@ -183,31 +183,31 @@ run-returns-in-None-clause-found g t c =
     ∙ sym (plus-one (put_found g.V.Visit.put) (kept g.V.Visit.kept c.args.found.now)
     (here c.args.path.now c.args.value))
     ∙ ap (plus (put_found g.V.Visit.put) (kept g.V.Visit.kept c.args.found.now))
-    (sym (ap (λ ss. reached (base_of c.args.ground.now) ss (here c.args.path.now c.args.value ∷ []))
+    (sym (ap (λ ss. reached (base_of c.args.context.now) ss (here c.args.path.now c.args.value ∷ []))
     (nil_from_length c.args.segments.now c.in-None.ensures.cases)
-    ∙ reached-end (base_of c.args.ground.now) (here c.args.path.now c.args.value ∷ []))))
+    ∙ reached-end (base_of c.args.context.now) (here c.args.path.now c.args.value ∷ []))))
     c.add.ensures.found
 
 pub run-returns-then-segment-clause-found : goal.run-returns-then-segment-clause-found
 run-returns-then-segment-clause-found g t c =
     on_ok_weaker c.go.result (λ e. e
     ∙ ap (plus (put_found g.V.Visit.put) (kept g.V.Visit.kept c.args.found.now))
-    (ap (λ xs. reached (base_of c.args.ground.now) c.in-Some.rest.now
-    (flat_map (picked_by (base_of c.args.ground.now) xs)
+    (ap (λ xs. reached (base_of c.args.context.now) c.in-Some.rest.now
+    (flat_map (picked_by (base_of c.args.context.now) xs)
     (descendants (here c.args.path.now c.args.value)))) c.as_slice-selectors.ensures.value
-    ∙ sym (ap (λ ss. reached (base_of c.args.ground.now) ss (here c.args.path.now c.args.value ∷ []))
-    c.in-Some.ensures.cases.0 ∙ reached-deep (base_of c.args.ground.now) c.in-Some.segment.now
+    ∙ sym (ap (λ ss. reached (base_of c.args.context.now) ss (here c.args.path.now c.args.value ∷ []))
+    c.in-Some.ensures.cases.0 ∙ reached-deep (base_of c.args.context.now) c.in-Some.segment.now
     c.in-Some.rest.now (here c.args.path.now c.args.value) c.if-segment.true))) c.go.ensures.found
 
 pub run-returns-else-segment-clause-found : goal.run-returns-else-segment-clause-found
 run-returns-else-segment-clause-found g t c =
     on_ok_weaker c.apply.result (λ e. e
     ∙ ap (plus (put_found g.V.Visit.put) (kept g.V.Visit.kept c.args.found.now))
-    (ap (λ xs. reached (base_of c.args.ground.now) c.in-Some.rest.now
-    (picked_by (base_of c.args.ground.now) xs (here c.args.path.now c.args.value)))
+    (ap (λ xs. reached (base_of c.args.context.now) c.in-Some.rest.now
+    (picked_by (base_of c.args.context.now) xs (here c.args.path.now c.args.value)))
     c.as_slice-selectors.ensures.value
-    ∙ sym (ap (λ ss. reached (base_of c.args.ground.now) ss (here c.args.path.now c.args.value ∷ []))
-    c.in-Some.ensures.cases.0 ∙ reached-plain (base_of c.args.ground.now) c.in-Some.segment.now
+    ∙ sym (ap (λ ss. reached (base_of c.args.context.now) ss (here c.args.path.now c.args.value ∷ []))
+    c.in-Some.ensures.cases.0 ∙ reached-plain (base_of c.args.context.now) c.in-Some.segment.now
     c.in-Some.rest.now (here c.args.path.now c.args.value) c.if-segment.false))) c.apply.ensures.found
 
 pub select-run-requires : goal.select-run-requires
@@ -221,10 +221,10 @@ select-returns-in_default-clause-found g t c =
     let none : None ≡ member_of (text_of c.in-Name.name) (part_value c.args.value) =
     c.in_default.ensures.value ∙ ap (λ k. member_of (chars k) (part_value c.args.value))
     c.as_str.ensures.value in
-    nothing_found (put_found g.V.Visit.put) _ _ (ap (reached (base_of c.args.ground.now) c.args.rest.now)
-    (ap (λ x. picked (base_of c.args.ground.now) x (here c.args.path.now c.args.value)) c.in-Name.is
-    ∙ picked_name (base_of c.args.ground.now) (here c.args.path.now c.args.value) c.in-Name.name
-    ∙ ap (node_if_some _) (sym none)) ∙ reached-none (base_of c.args.ground.now) c.args.rest.now)
+    nothing_found (put_found g.V.Visit.put) _ _ (ap (reached (base_of c.args.context.now) c.args.rest.now)
+    (ap (λ x. picked (base_of c.args.context.now) x (here c.args.path.now c.args.value)) c.in-Name.is
+    ∙ picked_name (base_of c.args.context.now) (here c.args.path.now c.args.value) c.in-Name.name
+    ∙ ap (node_if_some _) (sym none)) ∙ reached-none (base_of c.args.context.now) c.args.rest.now)
 
 pub select-returns-in_ok-run-in-Name-clause-found : goal.select-returns-in_ok-run-in-Name-clause-found
 select-returns-in_ok-run-in-Name-clause-found g t c =
@@ -232,23 +232,23 @@ select-returns-in_ok-run-in-Name-clause-found g t c =
     c.as_str.ensures.value in
     c.in_ok-run-in-Name.ensures.found
     ∙ ap (λ ns. plus (put_found g.V.Visit.put) (kept g.V.Visit.kept c.args.found.now)
-    (reached (base_of c.args.ground.now) c.args.rest.now ns))
+    (reached (base_of c.args.context.now) c.args.rest.now ns))
     (ap (λ n. n ∷ []) (here_further c.args.path.now c.push.new.self _ c.in-Some.child
     c.in_ok-push-in-Name.ensures.ok
     ∙ ap (λ k. node (link_steps c.args.path.now ++ name (chars k) ∷ []) (part_value c.in-Some.child))
     c.as_str-in-Some.ensures.value)
-    ∙ sym (ap (λ x. picked (base_of c.args.ground.now) x (here c.args.path.now c.args.value)) c.in-Name.is
-    ∙ picked_name (base_of c.args.ground.now) (here c.args.path.now c.args.value) c.in-Name.name
+    ∙ sym (ap (λ x. picked (base_of c.args.context.now) x (here c.args.path.now c.args.value)) c.in-Name.is
+    ∙ picked_name (base_of c.args.context.now) (here c.args.path.now c.args.value) c.in-Name.name
     ∙ ap (node_if_some _) (sym some)))
 
 pub select-returns-in-Wild-clause-found : goal.select-returns-in-Wild-clause-found
 select-returns-in-Wild-clause-found g t c =
     on_ok_weaker c.each_child.result (λ e. e
     ∙ ap (plus (put_found g.V.Visit.put) (kept g.V.Visit.kept c.args.found.now))
-    (sym (ap (reached (base_of c.args.ground.now) c.args.rest.now)
-    (ap (λ x. picked (base_of c.args.ground.now) x (here c.args.path.now c.args.value)) c.in-Wild.is
-    ∙ picked_wild (base_of c.args.ground.now) (here c.args.path.now c.args.value))
-    ∙ reached-each (base_of c.args.ground.now) c.args.rest.now
+    (sym (ap (reached (base_of c.args.context.now) c.args.rest.now)
+    (ap (λ x. picked (base_of c.args.context.now) x (here c.args.path.now c.args.value)) c.in-Wild.is
+    ∙ picked_wild (base_of c.args.context.now) (here c.args.path.now c.args.value))
+    ∙ reached-each (base_of c.args.context.now) c.args.rest.now
     (children (here c.args.path.now c.args.value))))) c.each_child.ensures.found
 
 pub select-returns-in-Index-clause-found : goal.select-returns-in-Index-clause-found
@@ -257,20 +257,20 @@ select-returns-in-Index-clause-found g t c =
     let placed = simp to_z-of_z at c.place-place.ensures in
     on_ok_weaker c.at_place.result (λ e. e
     ∙ ap (λ ps. plus (put_found g.V.Visit.put) (kept g.V.Visit.kept c.args.found.now)
-    (reached (base_of c.args.ground.now) c.args.rest.now (items_at (here c.args.path.now c.args.value)
+    (reached (base_of c.args.context.now) c.args.rest.now (items_at (here c.args.path.now c.args.value)
     ps)))
     (placed ∙ index_found (part_value c.args.value) (whole_number (position_text c.in-Index.index))
     c.in-Index.index.value c.item_count.result c.in-Index.index.read c.item_count.ensures.count)
     ∙ ap (λ ns. plus (put_found g.V.Visit.put) (kept g.V.Visit.kept c.args.found.now)
-    (reached (base_of c.args.ground.now) c.args.rest.now ns))
-    (sym (ap (λ x. picked (base_of c.args.ground.now) x (here c.args.path.now c.args.value))
-    c.in-Index.is ∙ picked_index (base_of c.args.ground.now) (here c.args.path.now c.args.value)
+    (reached (base_of c.args.context.now) c.args.rest.now ns))
+    (sym (ap (λ x. picked (base_of c.args.context.now) x (here c.args.path.now c.args.value))
+    c.in-Index.is ∙ picked_index (base_of c.args.context.now) (here c.args.path.now c.args.value)
     c.in-Index.index))) c.at_place.ensures.found
 
 pub select-returns-in_ok-children-in-Slice-clause-found :
     goal.select-returns-in_ok-children-in-Slice-clause-found
 select-returns-in_ok-children-in-Slice-clause-found g t c =
-    let base = base_of c.args.ground.now in
+    let base = base_of c.args.context.now in
     let n = here c.args.path.now c.args.value in
     let picks = slice_found (part_value c.args.value)
     (written_value (option_map position_text c.in-Slice.slice.first))
@@ -291,29 +291,29 @@ pub select-returns-in-Filter-clause-found : goal.select-returns-in-Filter-clause
 select-returns-in-Filter-clause-found g t c =
     on_ok_weaker c.each_child-in-Filter.result (λ e. e
     ∙ ap (plus (put_found g.V.Visit.put) (kept g.V.Visit.kept c.args.found.now))
-    (sym (ap (reached (base_of c.args.ground.now) c.args.rest.now)
-    (ap (λ x. picked (base_of c.args.ground.now) x (here c.args.path.now c.args.value)) c.in-Filter.is
-    ∙ picked_filter (base_of c.args.ground.now) (here c.args.path.now c.args.value) c.in-Filter.test)
-    ∙ reached-filter (base_of c.args.ground.now) c.args.rest.now
-    (is_true (base_of c.args.ground.now) c.in-Filter.test)
+    (sym (ap (reached (base_of c.args.context.now) c.args.rest.now)
+    (ap (λ x. picked (base_of c.args.context.now) x (here c.args.path.now c.args.value)) c.in-Filter.is
+    ∙ picked_filter (base_of c.args.context.now) (here c.args.path.now c.args.value) c.in-Filter.test)
+    ∙ reached-filter (base_of c.args.context.now) c.args.rest.now
+    (is_true (base_of c.args.context.now) c.in-Filter.test)
     (children (here c.args.path.now c.args.value))))) c.each_child-in-Filter.ensures.found
 
 pub all-loop-part-preserved : goal.all-loop-part-preserved
 all-loop-part-preserved g t c =
     let h : c.loop-part.part-index < length c.args.parts.now = omega arith in
     let truth = c.in_ok-holds.ensures.truth in
-    let on : is_true (base_of c.args.ground.now) c.part-item.result (here c.args.path.now c.args.value)
+    let on : is_true (base_of c.args.context.now) c.part-item.result (here c.args.path.now c.args.value)
     ≡ true = sym (rw c.loop-part.invariant.0 at truth) ∙ c.if-not-branch.false in (
       c.in_ok-holds.ensures.path
           ∙ c.loop-part.invariant.0,
-      all_further (λ l. is_true (base_of c.args.ground.now) l
+      all_further (λ l. is_true (base_of c.args.context.now) l
           (here c.args.path.now c.args.value)) c.args.parts.now c.loop-part.part-index c.part-item.result h
           c.part-item.is on ∙ c.loop-part.invariant.1,
     )
 
 pub all-returns-clause-truth : goal.all-returns-clause-truth
 all-returns-clause-truth g t c =
-    sym (at_drop_all (list_all (λ l. is_true (base_of c.args.ground.now) l
+    sym (at_drop_all (list_all (λ l. is_true (base_of c.args.context.now) l
     (here c.args.path.now c.args.value))) c.args.parts.now c.loop-part.part-index (omega arith))
     ∙ c.loop-part.invariant.1
 
@@ -321,9 +321,9 @@ pub all-returns-then-not-branch-clause-truth : goal.all-returns-then-not-branch-
 all-returns-then-not-branch-clause-truth g t c =
     let h : c.loop-part.part-index < length c.args.parts.now = omega arith in
     let truth = c.in_ok-holds.ensures.truth in
-    let off : is_true (base_of c.args.ground.now) c.part-item.result (here c.args.path.now c.args.value)
+    let off : is_true (base_of c.args.context.now) c.part-item.result (here c.args.path.now c.args.value)
     ≡ false = sym (rw c.loop-part.invariant.0 at truth) ∙ c.if-not-branch.true in
-    sym (all_found (λ l. is_true (base_of c.args.ground.now) l (here c.args.path.now c.args.value))
+    sym (all_found (λ l. is_true (base_of c.args.context.now) l (here c.args.path.now c.args.value))
     c.args.parts.now c.loop-part.part-index c.part-item.result h c.part-item.is off)
     ∙ c.loop-part.invariant.1
 
@@ -331,18 +331,18 @@ pub any-loop-part-preserved : goal.any-loop-part-preserved
 any-loop-part-preserved g t c =
     let h : c.loop-part.part-index < length c.args.parts.now = omega arith in
     let truth = c.in_ok-holds.ensures.truth in
-    let off : is_true (base_of c.args.ground.now) c.part-item.result (here c.args.path.now c.args.value)
+    let off : is_true (base_of c.args.context.now) c.part-item.result (here c.args.path.now c.args.value)
     ≡ false = sym (rw c.loop-part.invariant.0 at truth) ∙ c.if-branch.false in (
       c.in_ok-holds.ensures.path
           ∙ c.loop-part.invariant.0,
-      any_further (λ l. is_true (base_of c.args.ground.now) l
+      any_further (λ l. is_true (base_of c.args.context.now) l
           (here c.args.path.now c.args.value)) c.args.parts.now c.loop-part.part-index c.part-item.result h
           c.part-item.is off ∙ c.loop-part.invariant.1,
     )
 
 pub any-returns-clause-truth : goal.any-returns-clause-truth
 any-returns-clause-truth g t c =
-    sym (at_drop_all (list_any (λ l. is_true (base_of c.args.ground.now) l
+    sym (at_drop_all (list_any (λ l. is_true (base_of c.args.context.now) l
     (here c.args.path.now c.args.value))) c.args.parts.now c.loop-part.part-index (omega arith))
     ∙ c.loop-part.invariant.1
 
@@ -350,9 +350,9 @@ pub any-returns-then-branch-clause-truth : goal.any-returns-then-branch-clause-t
 any-returns-then-branch-clause-truth g t c =
     let h : c.loop-part.part-index < length c.args.parts.now = omega arith in
     let truth = c.in_ok-holds.ensures.truth in
-    let on : is_true (base_of c.args.ground.now) c.part-item.result (here c.args.path.now c.args.value)
+    let on : is_true (base_of c.args.context.now) c.part-item.result (here c.args.path.now c.args.value)
     ≡ true = sym (rw c.loop-part.invariant.0 at truth) ∙ c.if-branch.true in
-    sym (any_found (λ l. is_true (base_of c.args.ground.now) l (here c.args.path.now c.args.value))
+    sym (any_found (λ l. is_true (base_of c.args.context.now) l (here c.args.path.now c.args.value))
     c.args.parts.now c.loop-part.part-index c.part-item.result h c.part-item.is on)
     ∙ c.loop-part.invariant.1
 
@@ -363,7 +363,7 @@ apply-returns-then-is_full-clause-found g t c =
 
 pub holds-returns-in_ok-text-in-Match-clause-truth : goal.holds-returns-in_ok-text-in-Match-clause-truth
 holds-returns-in_ok-text-in-Match-clause-truth g t c =
-    let base = base_of c.args.ground.now in
+    let base = base_of c.args.context.now in
     let n = here c.args.path.now c.args.value in
     IfOk-weaker c.matches.result _ _ (λ b e. e
     ∙ ap₂ (tested tests.is_match) c.in_ok-text-in-Match.ensures.left c.in_ok-text-in-Match.ensures.right
@@ -372,7 +372,7 @@ holds-returns-in_ok-text-in-Match-clause-truth g t c =
 
 pub holds-returns-in_ok-text-in-Search-clause-truth : goal.holds-returns-in_ok-text-in-Search-clause-truth
 holds-returns-in_ok-text-in-Search-clause-truth g t c =
-    let base = base_of c.args.ground.now in
+    let base = base_of c.args.context.now in
     let n = here c.args.path.now c.args.value in
     IfOk-weaker c.searches.result _ _ (λ b e. e
     ∙ ap₂ (tested tests.is_found) c.in_ok-text-in-Search.ensures.left c.in_ok-text-in-Search.ensures.right
@@ -382,7 +382,7 @@ holds-returns-in_ok-text-in-Search-clause-truth g t c =
 
 pub holds-returns-in_ok-left-in-Compare-clause-truth : goal.holds-returns-in_ok-left-in-Compare-clause-truth
 holds-returns-in_ok-left-in-Compare-clause-truth g t c =
-    let base = base_of c.args.ground.now in
+    let base = base_of c.args.context.now in
     let n = here c.args.path.now c.args.value in
     IfOk-weaker c.compare_kinds.result _ _ (λ b e. e
     ∙ ap₂ (compared c.in-Compare.operator) c.in_ok-left-in-Compare.ensures.left
@@ -397,8 +397,8 @@ holds-returns-in_ok-text-in-MatchRead-clause-truth g t c =
     IfOk-weaker c.matches_known.result _ _ (λ b e. e
     ∙ ap (λ o. tested tests.is_match o (Some (text (text_of c.in-MatchRead.known.text))))
     c.in_ok-text-in-MatchRead.ensures.value
-    ∙ sym (ap (λ l. is_true (base_of c.args.ground.now) l (here c.args.path.now c.args.value))
-    c.in-MatchRead.is ∙ true_match_known (base_of c.args.ground.now) (here c.args.path.now c.args.value)
+    ∙ sym (ap (λ l. is_true (base_of c.args.context.now) l (here c.args.path.now c.args.value))
+    c.in-MatchRead.is ∙ true_match_known (base_of c.args.context.now) (here c.args.path.now c.args.value)
     c.in-MatchRead.text c.in-MatchRead.known)) c.matches_known.ensures
 
 pub holds-returns-in_ok-text-in-SearchRead-clause-truth
@@ -407,8 +407,8 @@ holds-returns-in_ok-text-in-SearchRead-clause-truth g t c =
     IfOk-weaker c.searches_known.result _ _ (λ b e. e
     ∙ ap (λ o. tested tests.is_found o (Some (text (text_of c.in-SearchRead.known.text))))
     c.in_ok-text-in-SearchRead.ensures.value
-    ∙ sym (ap (λ l. is_true (base_of c.args.ground.now) l (here c.args.path.now c.args.value))
-    c.in-SearchRead.is ∙ true_search_known (base_of c.args.ground.now)
+    ∙ sym (ap (λ l. is_true (base_of c.args.context.now) l (here c.args.path.now c.args.value))
+    c.in-SearchRead.is ∙ true_search_known (base_of c.args.context.now)
     (here c.args.path.now c.args.value) c.in-SearchRead.text c.in-SearchRead.known))
     c.searches_known.ensures
 
@@ -418,21 +418,21 @@ holds-returns-in_ok-right-in-Xor-clause-truth g t c =
     let second = rw c.in_ok-left-in-Xor.ensures.path at c.in_ok-right-in-Xor.ensures.truth in
     c.exactly_one.ensures
     ∙ ap₂ exactly_one (c.in_ok-left-in-Xor.ensures.truth
-    ∙ ap (λ l. is_true (base_of c.args.ground.now) l n) c.deref-in-Xor.ensures)
-    (second ∙ ap (λ l. is_true (base_of c.args.ground.now) l n) c.deref-in-Xor-2.ensures)
-    ∙ sym (ap (λ l. is_true (base_of c.args.ground.now) l n) c.in-Xor.is
-    ∙ true_xor (base_of c.args.ground.now) n c.in-Xor.field-0 c.in-Xor.left c.in-Xor.field-2
+    ∙ ap (λ l. is_true (base_of c.args.context.now) l n) c.deref-in-Xor.ensures)
+    (second ∙ ap (λ l. is_true (base_of c.args.context.now) l n) c.deref-in-Xor-2.ensures)
+    ∙ sym (ap (λ l. is_true (base_of c.args.context.now) l n) c.in-Xor.is
+    ∙ true_xor (base_of c.args.context.now) n c.in-Xor.field-0 c.in-Xor.left c.in-Xor.field-2
     c.in-Xor.right)
 
 pub give-returns-in-Constant-clause-value : goal.give-returns-in-Constant-clause-value
 give-returns-in-Constant-clause-value g t c = ap Some c.literal.ensures
-    ∙ sym (ap (λ v. value_given (base_of c.args.ground.now) v (here c.args.path.now c.args.value))
-    c.in-Constant.is ∙ given_constant (base_of c.args.ground.now) (here c.args.path.now c.args.value)
+    ∙ sym (ap (λ v. value_given (base_of c.args.context.now) v (here c.args.path.now c.args.value))
+    c.in-Constant.is ∙ given_constant (base_of c.args.context.now) (here c.args.path.now c.args.value)
     c.in-Constant.constant)
 
 pub give-returns-in_ok-give-in-Length-clause-value : goal.give-returns-in_ok-give-in-Length-clause-value
 give-returns-in_ok-give-in-Length-clause-value g t c =
-    let base = base_of c.args.ground.now in
+    let base = base_of c.args.context.now in
     let n = here c.args.path.now c.args.value in
     IfOk-weaker c.length.result _ _ (λ k e. e
     ∙ ap length_value (c.in_ok-give-in-Length.ensures.value
@@ -442,14 +442,14 @@ give-returns-in_ok-give-in-Length-clause-value g t c =
 
 pub holds-returns-in_ok-answer-in-Test-clause-truth : goal.holds-returns-in_ok-answer-in-Test-clause-truth
 holds-returns-in_ok-answer-in-Test-clause-truth g t c =
-    let base = base_of c.args.ground.now in
+    let base = base_of c.args.context.now in
     let n = here c.args.path.now c.args.value in
     c.has_first.ensures (nodes_given base c.in-Test.nodes want.First n) c.in_ok-answer-in-Test.ensures.answer
     ∙ sym (ap (λ l. is_true base l n) c.in-Test.is ∙ true_test base n c.in-Test.nodes)
 
 pub give-returns-in_ok-ask-in-Single-clause-value : goal.give-returns-in_ok-ask-in-Single-clause-value
 give-returns-in_ok-ask-in-Single-clause-value g t c =
-    let base = base_of c.args.ground.now in
+    let base = base_of c.args.context.now in
     let n = here c.args.path.now c.args.value in
     c.operand.ensures.first (nodes_given base c.in-Single.nodes want.First n)
     c.in_ok-ask-in-Single.ensures.answer
@@ -457,7 +457,7 @@ give-returns-in_ok-ask-in-Single-clause-value g t c =
 
 pub give-returns-in_ok-ask-in-Count-clause-value : goal.give-returns-in_ok-ask-in-Count-clause-value
 give-returns-in_ok-ask-in-Count-clause-value g t c =
-    let base = base_of c.args.ground.now in
+    let base = base_of c.args.context.now in
     let n = here c.args.path.now c.args.value in
     c.operand-in-Count.ensures.count (nodes_given base c.in-Count.nodes want.Count n)
     c.in_ok-ask-in-Count.ensures.answer
@@ -465,7 +465,7 @@ give-returns-in_ok-ask-in-Count-clause-value g t c =
 
 pub give-returns-in_ok-ask-in-Only-clause-value : goal.give-returns-in_ok-ask-in-Only-clause-value
 give-returns-in_ok-ask-in-Only-clause-value g t c =
-    let base = base_of c.args.ground.now in
+    let base = base_of c.args.context.now in
     let n = here c.args.path.now c.args.value in
     c.operand-in-Only.ensures.only (nodes_given base c.in-Only.nodes want.Only n)
     c.in_ok-ask-in-Only.ensures.answer
@@ -473,7 +473,7 @@ give-returns-in_ok-ask-in-Only-clause-value g t c =
 
 pub ask-returns-in-Some-clause-answer : goal.ask-returns-in-Some-clause-answer
 ask-returns-in-Some-clause-answer g t c =
-    let base = base_of c.args.ground.now in
+    let base = base_of c.args.context.now in
     let n = here c.args.path.now c.args.value in
     let want = c.args.want in
     let nodes = nodes_here base n c.in-Here.segments c.as_slice.result.now want c.as_slice.ensures.value
@@ -485,11 +485,11 @@ ask-returns-in-Some-clause-answer g t c =
 pub ask-unreachable-requires : goal.ask-unreachable-requires
 ask-unreachable-requires g t c =
     not_taken g.V.Visit.put c.args.want _ _ _ c.in_ok-run-in-Here.ensures.found c.none_found-found.ensures
-    (c.into_answer.ensures.other.0 (ap is_some c.in-None.is))
+    (c.into_aggregate.ensures.other.0 (ap is_some c.in-None.is))
 
 pub ask-returns-in-Root-clause-answer : goal.ask-returns-in-Root-clause-answer
 ask-returns-in-Root-clause-answer g t c =
-    let base = base_of c.args.ground.now in
+    let base = base_of c.args.context.now in
     let n = here c.args.path.now c.args.value in
     ap (λ ns. tells c.args.want ns c.answer.result)
     (ap (λ q. nodes_given base q c.args.want n) c.in-Root.is
@@ -498,7 +498,7 @@ ask-returns-in-Root-clause-answer g t c =
 pub ask-returns-in_ok-answer-in-Distinct-clause-answer
     : goal.ask-returns-in_ok-answer-in-Distinct-clause-answer
 ask-returns-in_ok-answer-in-Distinct-clause-answer g t c =
-    let base = base_of c.args.ground.now in
+    let base = base_of c.args.context.now in
     let n = here c.args.path.now c.args.value in
     let want = c.args.want in
     let a = c.in_ok-answer-in-Distinct.answer in

@@ -77,7 +77,7 @@ decreases-all g l = weight (most size-Logical l.parts.now) l.value 8
 
 abbrev pub invariant-apply-loop-selector : goal.invariant-apply-loop-selector
 invariant-apply-loop-selector g l =
-    let root = base_of l.ground in
+    let root = base_of l.context in
     (l.path ≡ l.initial.path)
     × (plus (put_found g.V.Visit.put) (kept g.V.Visit.kept l.found)
     (reached root l.rest (picked_by root (drop l.selector-index l.selectors) (here l.path l.value)))
@@ -89,9 +89,9 @@ invariant-each_of-loop-child g l =
     (l.path ≡ l.initial.path)
     × (row_height l.rest ≤ row_height l.children)
     × (plus (put_found g.V.Visit.put) (kept g.V.Visit.kept l.found)
-    (flat_map (done (base_of l.ground) l.task) (row_kids (link_steps l.path) l.rest))
+    (flat_map (done (base_of l.context) l.task) (row_kids (link_steps l.path) l.rest))
     ≡ plus (put_found g.V.Visit.put) (kept g.V.Visit.kept l.initial.found)
-    (flat_map (done (base_of l.ground) l.task) (row_kids (link_steps l.initial.path) l.children)))
+    (flat_map (done (base_of l.context) l.task) (row_kids (link_steps l.initial.path) l.children)))
 
 abbrev pub decreases-each_of-loop-child : goal.decreases-each_of-loop-child
 decreases-each_of-loop-child g l = row_length l.rest
@@ -99,13 +99,13 @@ decreases-each_of-loop-child g l = row_length l.rest
 abbrev pub invariant-any-loop-part : goal.invariant-any-loop-part
 invariant-any-loop-part g l =
     (l.path ≡ l.initial.path)
-    × (list_any (λ p. is_true (base_of l.ground) p (here l.initial.path l.value))
+    × (list_any (λ p. is_true (base_of l.context) p (here l.initial.path l.value))
     (drop l.part-index l.parts)
-    ≡ list_any (λ p. is_true (base_of l.ground) p (here l.initial.path l.value)) l.parts)
+    ≡ list_any (λ p. is_true (base_of l.context) p (here l.initial.path l.value)) l.parts)
 
 abbrev pub invariant-all-loop-part : goal.invariant-all-loop-part
 invariant-all-loop-part g l =
     (l.path ≡ l.initial.path)
-    × (list_all (λ p. is_true (base_of l.ground) p (here l.initial.path l.value))
+    × (list_all (λ p. is_true (base_of l.context) p (here l.initial.path l.value))
     (drop l.part-index l.parts)
-    ≡ list_all (λ p. is_true (base_of l.ground) p (here l.initial.path l.value)) l.parts)
+    ≡ list_all (λ p. is_true (base_of l.context) p (here l.initial.path l.value)) l.parts)

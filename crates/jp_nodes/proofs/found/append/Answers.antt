@@ -6,8 +6,8 @@ use Rattle.jp_nodes.proofs.found.append.Goals as goal
 
 pub returns-clause-nodes : goal.returns-clause-nodes
 returns-clause-nodes g c = λ ns e. on_ok_weaker c.append.result
-    (λ h. ap taken h ∙ taken_plus g.V.Visit.put (g.V.Visit.kept c.in-Taker.taker) ns
-    ∙ ap (λ f. plus (put_found g.V.Visit.put) (kept g.V.Visit.kept f) ns) (sym c.in-Taker.is))
+    (λ h. ap taken h ∙ taken_plus g.V.Visit.put (g.V.Visit.kept c.in-Visitor.visitor) ns
+    ∙ ap (λ f. plus (put_found g.V.Visit.put) (kept g.V.Visit.kept f) ns) (sym c.in-Visitor.is))
     (c.append.ensures ns (taken_out g.V.Visit.put _ _ ns (e
     ∙ ap (λ f. plus (put_found g.V.Visit.put) (emptied_found g.V.Visit.emptied (kept g.V.Visit.kept f)) ns)
-    c.in-Taker.is)))
+    c.in-Visitor.is)))

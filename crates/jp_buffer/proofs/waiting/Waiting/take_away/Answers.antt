@@ -37,13 +37,15 @@ take_front-requires c =
 pub invariant_of-self : goal.invariant_of-self
 invariant_of-self c =
     (kept_behind c.args.count c.self.inside.bytes.items _ c.self.inside.spans.items _ c.self.invariant
-    (c.let_go.ensures ∙ c.take_front.ensures ∙ ap (λ n. drop n c.self.inside.bytes.items) (c.total_len-end.ensures
+    (c.let_go.ensures ∙ c.take_front.ensures
+    ∙ ap (λ n. drop n c.self.inside.bytes.items) (c.total_len-end.ensures
     ∙ ap bytes_of (c.split_at.ensures.front ∙ ap (take c.args.count) c.deref.ensures.value)))
     c.take_front-2.ensures).0
 
 pub returns : goal.returns
 returns c =
     (kept_behind c.args.count c.self.inside.bytes.items _ c.self.inside.spans.items _ c.self.invariant
-    (c.let_go.ensures ∙ c.take_front.ensures ∙ ap (λ n. drop n c.self.inside.bytes.items) (c.total_len-end.ensures
+    (c.let_go.ensures ∙ c.take_front.ensures
+    ∙ ap (λ n. drop n c.self.inside.bytes.items) (c.total_len-end.ensures
     ∙ ap bytes_of (c.split_at.ensures.front ∙ ap (take c.args.count) c.deref.ensures.value)))
     c.take_front-2.ensures).1 ∙ ap (drop c.args.count) c.self.view_is

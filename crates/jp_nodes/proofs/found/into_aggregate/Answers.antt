@@ -3,7 +3,7 @@ use Rattle.jp_doc.specs.Location.{location_of}
 use Rattle.jp_nodes.specs.Kept.{kept}
 use Rattle.jp_part.specs.Part.{part_value}
 use Rattle.jp_nodes.proofs.Telling.{first_tells, count_tells, only_tells, located_tells}
-use Rattle.jp_nodes.proofs.found.into_answer.Goals as goal
+use Rattle.jp_nodes.proofs.found.into_aggregate.Goals as goal
 
 pub returns-in-First-clause-answer : goal.returns-in-First-clause-answer
 returns-in-First-clause-answer g c = λ want ns h.

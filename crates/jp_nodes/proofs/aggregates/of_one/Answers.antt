@@ -1,5 +1,5 @@
 use Rattle.jp_nodes.proofs.Telling.{one_first, one_only, one_different}
-use Rattle.jp_nodes.proofs.answers.of_one.Goals as goal
+use Rattle.jp_nodes.proofs.aggregates.of_one.Goals as goal
 
 pub returns-in-First : goal.returns-in-First
 returns-in-First c = one_first c.args.want c.args.value c.in-First.is

@@ -4,7 +4,7 @@ use Rattle.jp_check.proofs.MakingSteps.{listed_more}
 use Rattle.jp_eval.specs.Rooted.{are_answers}
 use Rattle.jp_part.specs.Part.{part_value}
 use Rattle.jp_eval.proofs.Answered.{one_more}
-use Rattle.jp_eval.proofs.ground.Ground.with.Goals as goal
+use Rattle.jp_eval.proofs.context.Context.with.Goals as goal
 
 pub invariant_of-result : goal.invariant_of-result
 invariant_of-result c =

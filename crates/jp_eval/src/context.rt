@@ -6,37 +6,37 @@ ghost use Rattle.jp_eval.specs.Rooted.{are_answers};
 ghost use Rattle.jp_part.specs.Part.{part_value};
 
 use jp_compiled::{RootQuery, Want};
-use jp_nodes::answers::{Answer, is_told, of_one};
+use jp_nodes::aggregates::{Aggregate, is_told, of_one};
 use jp_part::Part;
 use std::alloc::{AllocError, Global};
 
 /// What a walk is given throughout: the document, and what the filters wanted of the `$` queries inside them,
 /// which is the same at every node.
 #[derive(Drop)]
-pub(crate) struct Ground<'v> {
+pub(crate) struct Context<'v> {
     pub(crate) alloc: Global,
     pub(crate) root: Part<'v>,
     /// The `$` queries that are answered.
     pub(crate) roots: &'v [RootQuery],
-    pub(crate) answers: Vec<Answer<'v>>,
+    pub(crate) answers: Vec<Aggregate<'v>>,
     ghost answered: { are_answers (part_value root) (roots_of roots.now) answers.items ≡ true },
 }
 
-impl<'v> Ground<'v> {
+impl<'v> Context<'v> {
     ghost use Rattle.std.specs.Prelude.{◌++◌, ◌∷◌, [], IfOk};
     ghost use Rattle.jp_compiled.specs.Compiled.{root_at, wanted_in};
     ghost use Rattle.jp_doc.specs.Location.{Node};
-    ghost use Rattle.jp_nodes.specs.Answers.{tells};
+    ghost use Rattle.jp_nodes.specs.Aggregates.{tells};
     ghost use Rattle.jp_eval.specs.Rooted.{is_answer};
     ghost use Rattle.jp_eval.specs.Nodelist.{nodelist};
     ghost use Rattle.jp_value.specs.RightTests.{tests};
 
     /// With no `$` query answered.
-    pub(crate) fn new(alloc: Global, root: Part<'v>) -> Ground<'v>
+    pub(crate) fn new(alloc: Global, root: Part<'v>) -> Context<'v>
         ensures root { part_value result.root ≡ part_value root.entry }
         ensures roots { result.roots.now ≡ [] }
     {
-        Ground {
+        Context {
             alloc,
             root,
             roots: &[],
@@ -49,22 +49,22 @@ impl<'v> Ground<'v> {
         self,
         roots: &'v [RootQuery],
         query: &RootQuery,
-        answer: Answer<'v>,
-    ) -> Result<Ground<'v>, AllocError>
+        answer: Aggregate<'v>,
+    ) -> Result<Context<'v>, AllocError>
         requires roots { roots.now ≡ self.roots.now ++ query.now ∷ [] }
         requires answer { is_answer (part_value self.root)
             (wanted_in (roots_of self.roots.now) query.now) answer ≡ true }
         ensures root { IfOk result (λ g. part_value g.root ≡ part_value self.entry.root) }
         ensures roots { IfOk result (λ g. g.roots.now ≡ roots.now) }
     {
-        let Ground {
+        let Context {
             alloc,
             root,
             roots: _,
             mut answers,
         } = self;
         answers.push(answer)?;
-        Ok(Ground {
+        Ok(Context {
             alloc,
             root,
             roots,
@@ -73,7 +73,7 @@ impl<'v> Ground<'v> {
     }
 
     /// What is told of the `$` query of a slot, or of `$` where there is none of which this is wanted.
-    pub(crate) fn answer(&self, slot: usize, want: Want) -> Answer<'v>
+    pub(crate) fn answer(&self, slot: usize, want: Want) -> Aggregate<'v>
         ensures { (n : Node) → tells want (nodelist tests (part_value self.now.root)
             (root_at (roots_of self.now.roots.now) slot want) n) result ≡ true }
     {

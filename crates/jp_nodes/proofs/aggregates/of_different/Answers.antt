@@ -1,10 +1,10 @@
 use Rattle.std.proofs.Common.{sym, ap, ◌∙◌}
 use Rattle.jp_compiled.specs.Compiled.{wanted_inside}
-use Rattle.jp_nodes.specs.Answers.{tells}
+use Rattle.jp_nodes.specs.Aggregates.{tells}
 use Rattle.jp_value.specs.Functions.{distinct}
-use Rattle.jp_nodes.specs.declared.answers.Answer.TheVariants.{Distinct}
+use Rattle.jp_nodes.specs.declared.aggregates.Aggregate.TheVariants.{Distinct}
 use Rattle.jp_nodes.proofs.Telling.{different_of_ones}
-use Rattle.jp_nodes.proofs.answers.of_different.Goals as goal
+use Rattle.jp_nodes.proofs.aggregates.of_different.Goals as goal
 
 pub returns-in-Distinct : goal.returns-in-Distinct
 returns-in-Distinct c = λ ns h.

@@ -1,8 +1,8 @@
 use Rattle.std.proofs.Common.{sym, ap, ◌∙◌}
 use Rattle.jp_compiled.specs.declared.query.Want.TheVariants.{First, Only}
-use Rattle.jp_nodes.specs.Answers.{tells}
+use Rattle.jp_nodes.specs.Aggregates.{tells}
 use Rattle.jp_nodes.proofs.Telling.{first_told, only_told}
-use Rattle.jp_nodes.proofs.answers.operand.Goals as goal
+use Rattle.jp_nodes.proofs.aggregates.operand.Goals as goal
 
 pub returns-in-First-clause-first : goal.returns-in-First-clause-first
 returns-in-First-clause-first c = λ ns h.

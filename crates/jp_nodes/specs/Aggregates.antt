@@ -9,11 +9,11 @@ use Rattle.jp_value.specs.Functions.{first_value, only_value}
 use Rattle.jp_nodes.specs.Different.{is_different}
 use Rattle.jp_nodes.specs.Kept.{alone_of, alone_value}
 use Rattle.jp_part.specs.Part.{part_value}
-use Rattle.jp_nodes.specs.declared.answers.Answer.{Answer}
-use Rattle.jp_nodes.specs.declared.answers.Answer.TheVariants.{First, Count, Only, Distinct}
+use Rattle.jp_nodes.specs.declared.aggregates.Aggregate.{Aggregate}
+use Rattle.jp_nodes.specs.declared.aggregates.Aggregate.TheVariants.{First, Count, Only, Distinct}
 
 -- an answer tells what is wanted of these nodes
-abbrev pub tells : Want → List Node → Answer → Bool
+abbrev pub tells : Want → List Node → Aggregate → Bool
 tells want.First ns (First o) = eq (option_map part_value o) (first_value ns)
 tells want.Count ns (Count n) = n == length ns
 tells want.Only ns (Only a) = eq (alone_value (alone_of a)) (only_value ns)
@@ -21,7 +21,7 @@ tells want.Distinct ns (Distinct d) = is_different d ns
 tells _ ns _ = false
 
 -- an answer to what is wanted, be it right or wrong
-abbrev pub is_of : Want → Answer → Bool
+abbrev pub is_of : Want → Aggregate → Bool
 is_of want.First (First o) = true
 is_of want.Count (Count n) = true
 is_of want.Only (Only a) = true
