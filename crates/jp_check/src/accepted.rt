@@ -5,7 +5,7 @@ ghost use Rattle.jp_tree.specs.View.{query_of};
 ghost use Rattle.std.specs.Prelude.{◌≡◌};
 ghost use Rattle.jp_check.specs.Known.{known_texts};
 ghost use Rattle.jp_check.specs.LiteralPatterns.{literal_patterns};
-ghost use Rattle.jp_compiled.specs.Compiled.{compiled_query};
+ghost use Rattle.jp_compiled.specs.Compiled.{compiled_query as meaning};
 ghost use Rattle.jp_check.specs.QuerySets.{query_set};
 ghost use Rattle.jp_check.specs.Verdict.{IsAccepted};
 
@@ -21,7 +21,7 @@ pub struct Plan {
     pub(crate) compiled: CompiledQuery,
     ghost accepted: { ∥ ((t : Text) × IsAccepted t (query_of query)) ∥₁ },
     ghost known: { known_texts patterns.items ≡ literal_patterns (query_of query) },
-    ghost made: { compiled_query compiled ≡ query_of query } by { query_set (compiled_query compiled) (query_of query) },
+    ghost made: { meaning compiled ≡ query_of query } by { query_set (meaning compiled) (query_of query) },
 }
 
 impl Plan {
@@ -39,7 +39,7 @@ impl Plan {
 
     /// The same query compiled, with its numbers, functions and literal patterns.
     pub fn compiled(&self) -> &CompiledQuery
-        ensures { compiled_query result.now ≡ planned_query self.now }
+        ensures { meaning result.now ≡ planned_query self.now }
     {
         &self.compiled
     }
