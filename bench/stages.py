@@ -16,12 +16,16 @@ import tools
 
 STAGES = [(name, re.compile(pattern)) for name, pattern in (
     ("the kernel reads or writes", r"ksys_(read|write)|vfs_(read|write)"),
-    ("values are let go", r"Value.*(Destruct|drop)|Node::destroy|Tree::destroy|Document\+Destruct"),
-    ("JSON is read", r"\bserde_json::(de|value|number)\b|\bjson::(reader|lexer|word|scratch|index)\b"),
-    ("numbers and arrays are tested", r"\bjp_doc::limits\b"),
-    ("lines are cut", r"\bjp_doc::lines\b|\bjp_run::gathering\b"),
+    ("a line is read flat",
+     r"\bjson::(tape|index|run|word|unescape|scratch)\b|\bsimdutf8\b|jp_flat::(reader|document)"),
+    ("it is seen to be plain", r"\bjp_flat::(nodes|digits)\b"),
+    ("a line is read as a tree",
+     r"\bserde_json::(de|value|number)\b|\bjson::(reader|lexer)\b|\bjp_doc::limits\b"),
+    ("lines are cut", r"\bjp_buffer\b|\bjp_doc::(lines|cutting)\b|\bjp_run::gathering\b"),
+    ("members in rising order", r"\bjp_flat::gather\b|\bFlatMembers::gather\b"),
     ("the text of lines", r"\bjp_output\b|\bserde_json::ser\b|\bjson::write|\bitoa\b"),
-    ("the walk", r"\bjp_(eval|nodes|trail|value|regexp)\b"),
+    ("patterns", r"\bjp_regexp\b"),
+    ("the walk", r"\bjp_(eval|nodes|trail|value|part|flat)\b"),
     ("the workers", r"\bjp_(answer|board)\b|map_vec|start_thread|\bclone3?\b"),
 )]
 OTHERS = "all else"
