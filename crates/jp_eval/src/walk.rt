@@ -1,16 +1,17 @@
 //! The walk of a query through a document, depth first, on one path.
 
-ghost use Rattle.std.specs.Prelude.{◌≡◌, [], ◌∷◌, option_to_list, IfOk, OnOk, IsTrue, true};
+ghost use Rattle.std.specs.Prelude.{◌≡◌, ◌≤◌, [], ◌∷◌, option_to_list, IfOk, OnOk, IsTrue, true};
 ghost use Rattle.std.specs.List.{flat_map, list_any, list_all};
+ghost use Rattle.jp_doc.specs.Height.{height};
 ghost use Rattle.jp_doc.specs.Location.{Location, node};
 ghost use Rattle.jp_trail.specs.Links.{link_steps};
 ghost use Rattle.jp_part.specs.Part.{part_value};
 ghost use Rattle.jp_value.specs.Kinds.{given_value};
 ghost use Rattle.jp_nodes.specs.Aggregates.{tells};
 ghost use Rattle.jp_nodes.specs.Kept.{kept, put_found, plus};
-ghost use Rattle.jp_nodes.specs.Kids.{row_kids};
+ghost use Rattle.jp_nodes.specs.Kids.{row_kids, row_height};
 ghost use Rattle.jp_nodes.specs.Links.{here};
-ghost use Rattle.jp_nodes.specs.Nodes.{children, descendants, items_at};
+ghost use Rattle.jp_nodes.specs.Nodes.{children, children_at, descendants, items_at};
 ghost use Rattle.jp_eval.specs.Base.{Base, base_of};
 ghost use Rattle.jp_eval.specs.Walk.{picked, picked_by, reached, is_true, value_given, nodes_given, done};
 
@@ -67,8 +68,10 @@ pub(crate) fn go<'v, V: Visit + Drop>(
     match task {
         Task::Run(rest) => run(context, rest, value, path, found),
         Task::Descend(selectors, rest) => {
-            apply(context, selectors, rest, value, path, found)?;
-            each_child(context, task, value, path, found)
+            let children = children_of(context.alloc, value)?;
+            let row = children.row();
+            apply_inside(context, selectors, rest, value, row, path, found)?;
+            each_of(context, task, row, path, found)
         }
         Task::Test(test, rest) => {
             if holds::<V>(context, test, value, path)? {
@@ -168,6 +171,59 @@ fn select<'v, V: Visit + Drop>(
         Selector::Filter(test) => {
             each_child(context, Task::Test(test, rest), value, path, found)
         }
+    }
+}
+
+/// Each selector at the value, whose children these are, and then the segments. They are listed once for all
+/// selectors, and for those that are walked after them.
+#[cycle(walk)]
+fn apply_inside<'v, V: Visit + Drop>(
+    context: &Context<'v>,
+    selectors: &'v [Selector],
+    rest: &'v [Segment],
+    value: Part<'v>,
+    row: Row<'_, 'v>,
+    path: &mut Trail<'v>,
+    found: &mut Found<'v, V>,
+) -> Result<(), AllocError>
+    requires nodes { (at : Location) → row_kids at row ≡ children_at at (part_value value) }
+    requires height { row_height row ≤ height (part_value value) }
+    ensures found { OnOk result (kept V.kept found.new
+        ≡ plus (put_found V.put) (kept V.kept found.old) (reached (base_of context.now) rest.now
+        (picked_by (base_of context.now) selectors.now (here path.old value.entry)))) }
+    ensures path { OnOk result (path.new ≡ path.old) }
+{
+    for selector in selectors {
+        if is_full(found) {
+            return Ok(());
+        }
+        select_inside(context, selector, rest, value, row, path, found)?;
+    }
+    Ok(())
+}
+
+/// One selector at the value, whose children these are, and then the segments.
+#[cycle(walk)]
+fn select_inside<'v, V: Visit + Drop>(
+    context: &Context<'v>,
+    selector: &'v Selector,
+    rest: &'v [Segment],
+    value: Part<'v>,
+    row: Row<'_, 'v>,
+    path: &mut Trail<'v>,
+    found: &mut Found<'v, V>,
+) -> Result<(), AllocError>
+    requires nodes { (at : Location) → row_kids at row ≡ children_at at (part_value value) }
+    requires height { row_height row ≤ height (part_value value) }
+    ensures found { OnOk result (kept V.kept found.new
+        ≡ plus (put_found V.put) (kept V.kept found.old) (reached (base_of context.now) rest.now
+        (picked (base_of context.now) selector.now (here path.old value.entry)))) }
+    ensures path { OnOk result (path.new ≡ path.old) }
+{
+    match selector {
+        Selector::Wild => each_of(context, Task::Run(rest), row, path, found),
+        Selector::Filter(test) => each_of(context, Task::Test(test, rest), row, path, found),
+        _ => select(context, selector, rest, value, path, found),
     }
 }
 

@@ -21,7 +21,7 @@ use Rattle.jp_value.specs.BoundsView.{bounds_value}
 use Rattle.jp_value.specs.Comparison.{compared}
 use Rattle.jp_value.specs.Functions.{tested, length_value}
 use Rattle.jp_value.specs.Functions.{exactly_one}
-use Rattle.jp_nodes.specs.Kids.{kids}
+use Rattle.jp_nodes.specs.Kids.{kids, row_kids}
 use Rattle.jp_nodes.specs.Nodes.{children, descendants, items_at, node_if_some}
 use Rattle.jp_value.specs.Literals.{written_value}
 use Rattle.jp_nodes.specs.Kept.{kept, put_found, plus}
@@ -42,6 +42,7 @@ use Rattle.jp_eval.proofs.CompiledParts.{nodes_root, nodes_distinct, true_xor}
 use Rattle.jp_eval.proofs.Places.{index_found, slice_found}
 use Rattle.jp_eval.proofs.WalkSteps.{back_up, here_further, link_further, over, applied, descended}
 use Rattle.jp_eval.proofs.WalkSteps.{any_further, any_found, all_further, all_found, none_at, one_at}
+use Rattle.jp_eval.specs.declared.walk.Task.TheVariants.{Run}
 use Rattle.jp_eval.proofs.walk.+walk.Goals as goal
 
 pub apply-loop-selector-preserved : goal.apply-loop-selector-preserved
@@ -57,6 +58,29 @@ apply-loop-selector-preserved g t c =
 
 pub apply-returns-clause-found : goal.apply-returns-clause-found
 apply-returns-clause-found g t c =
+    over (put_found g.V.Visit.put) (λ xs. reached (base_of c.args.context.now) c.args.rest.now
+    (picked_by (base_of c.args.context.now) xs (here c.loop-selector.path c.args.value)))
+    c.args.selectors.now c.loop-selector.selector-index _ _ _ (omega arith)
+    (reached-none (base_of c.args.context.now) c.args.rest.now) c.loop-selector.invariant.1
+
+pub apply_inside-loop-selector-preserved : goal.apply_inside-loop-selector-preserved
+apply_inside-loop-selector-preserved g t c =
+    let h : c.loop-selector.selector-index < length c.args.selectors.now = omega arith in
+    rw c.in_ok-select_inside.ensures.path (
+      c.loop-selector.invariant.0,
+      applied (put_found g.V.Visit.put) (base_of c.args.context.now)
+          c.args.selectors.now c.loop-selector.selector-index c.selector-item.result c.args.rest.now
+          (here c.loop-selector.path c.args.value) _ _ _ _ h c.selector-item.is
+          c.in_ok-select_inside.ensures.found c.loop-selector.invariant.1,
+    )
+
+pub apply_inside-returns-then-is_full-clause-found : goal.apply_inside-returns-then-is_full-clause-found
+apply_inside-returns-then-is_full-clause-found g t c =
+    full_enough (put_found g.V.Visit.put) _ _ _ _ (c.is_full.ensures c.if-is_full.true)
+    c.loop-selector.invariant.1
+
+pub apply_inside-returns-clause-found : goal.apply_inside-returns-clause-found
+apply_inside-returns-clause-found g t c =
     over (put_found g.V.Visit.put) (λ xs. reached (base_of c.args.context.now) c.args.rest.now
     (picked_by (base_of c.args.context.now) xs (here c.loop-selector.path c.args.value)))
     c.args.selectors.now c.loop-selector.selector-index _ _ _ (omega arith)
@@ -127,14 +151,19 @@ each_of-returns-clause-found g t c =
 pub go-returns-in-Run-clause-found : goal.go-returns-in-Run-clause-found
 go-returns-in-Run-clause-found g t c = rw c.in-Run.is c.run.ensures.found
 
-pub go-returns-in_ok-apply-in-Descend-clause-found : goal.go-returns-in_ok-apply-in-Descend-clause-found
-go-returns-in_ok-apply-in-Descend-clause-found g t c =
+pub go-returns-in_ok-apply_inside-in-Descend-clause-found
+    : goal.go-returns-in_ok-apply_inside-in-Descend-clause-found
+go-returns-in_ok-apply_inside-in-Descend-clause-found g t c =
     let base = base_of c.args.context.now in
     let xs = c.in-Descend.selectors.now in
     let rest = c.in-Descend.rest.now in
-    on_ok_weaker c.each_child.result (λ e. rw c.in-Descend.is (descended (put_found g.V.Visit.put) base xs
-    rest (here c.args.path.now c.args.value) _ _ _ c.in_ok-apply-in-Descend.ensures.found
-    (rw (c.in_ok-apply-in-Descend.ensures.path, c.in-Descend.is) at e))) c.each_child.ensures.found
+    let at = link_steps c.args.path.now in
+    let row : row_kids at c.row-row.result ≡ children (here c.args.path.now c.args.value) =
+    c.row-row.ensures.nodes at ∙ c.in_ok-children-in-Descend.ensures.nodes at in
+    on_ok_weaker c.each_of.result (λ e. rw c.in-Descend.is (descended (put_found g.V.Visit.put) base xs
+    rest (here c.args.path.now c.args.value) _ _ _ c.in_ok-apply_inside-in-Descend.ensures.found
+    (rw row at (rw (c.in_ok-apply_inside-in-Descend.ensures.path, c.in-Descend.is) at e))))
+    c.each_of.ensures.found
 
 pub go-returns-in_ok-run-in-Test-clause-found : goal.go-returns-in_ok-run-in-Test-clause-found
 go-returns-in_ok-run-in-Test-clause-found g t c =
@@ -297,6 +326,30 @@ select-returns-in-Filter-clause-found g t c =
     ∙ reached-filter (base_of c.args.context.now) c.args.rest.now
     (is_true (base_of c.args.context.now) c.in-Filter.test)
     (children (here c.args.path.now c.args.value))))) c.each_child-in-Filter.ensures.found
+
+pub select_inside-returns-in-Wild-clause-found : goal.select_inside-returns-in-Wild-clause-found
+select_inside-returns-in-Wild-clause-found g t c =
+    on_ok_weaker c.each_of.result (λ e. e
+    ∙ ap (λ ns. plus (put_found g.V.Visit.put) (kept g.V.Visit.kept c.args.found.now)
+    (flat_map (done (base_of c.args.context.now) (Run c.args.rest)) ns))
+    (c.requires.nodes (link_steps c.args.path.now))
+    ∙ ap (plus (put_found g.V.Visit.put) (kept g.V.Visit.kept c.args.found.now))
+    (sym (ap (reached (base_of c.args.context.now) c.args.rest.now)
+    (ap (λ x. picked (base_of c.args.context.now) x (here c.args.path.now c.args.value)) c.in-Wild.is
+    ∙ picked_wild (base_of c.args.context.now) (here c.args.path.now c.args.value))
+    ∙ reached-each (base_of c.args.context.now) c.args.rest.now
+    (children (here c.args.path.now c.args.value))))) c.each_of.ensures.found
+
+pub select_inside-returns-in-Filter-clause-found : goal.select_inside-returns-in-Filter-clause-found
+select_inside-returns-in-Filter-clause-found g t c =
+    on_ok_weaker c.each_of-in-Filter.result (λ e. (rw (c.requires.nodes (link_steps c.args.path.now)) at e)
+    ∙ ap (plus (put_found g.V.Visit.put) (kept g.V.Visit.kept c.args.found.now))
+    (sym (ap (reached (base_of c.args.context.now) c.args.rest.now)
+    (ap (λ x. picked (base_of c.args.context.now) x (here c.args.path.now c.args.value)) c.in-Filter.is
+    ∙ picked_filter (base_of c.args.context.now) (here c.args.path.now c.args.value) c.in-Filter.test)
+    ∙ reached-filter (base_of c.args.context.now) c.args.rest.now
+    (is_true (base_of c.args.context.now) c.in-Filter.test)
+    (children (here c.args.path.now c.args.value))))) c.each_of-in-Filter.ensures.found
 
 pub all-loop-part-preserved : goal.all-loop-part-preserved
 all-loop-part-preserved g t c =

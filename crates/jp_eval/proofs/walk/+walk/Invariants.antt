@@ -26,23 +26,31 @@ task_size (Test l rest) = max (size-Logical l.now) (most size-Segment rest.now)
 
 -- the size of what is left of the query, then the height of the value, then the rank of the function
 abbrev pub weight : ℕ → Part → ℕ → ℕ
-weight size p rank = 2000 * size + 8 * height (part_value p) + rank
+weight size p rank = 2000 * size + 16 * height (part_value p) + rank
 
 -- a descent at a value does not come back to it
 abbrev pub task_rank : Task → ℕ
-task_rank (Run rest) = 8
-task_rank (Descend xs rest) = 6
-task_rank (Test l rest) = 8
+task_rank (Run rest) = 9
+task_rank (Descend xs rest) = 7
+task_rank (Test l rest) = 9
 
 abbrev pub decreases-go : goal.decreases-go
 decreases-go g l = weight (task_size l.task) l.value (task_rank l.task)
 
 abbrev pub decreases-run : goal.decreases-run
-decreases-run g l = weight (most size-Segment l.segments.now) l.value 7
+decreases-run g l = weight (most size-Segment l.segments.now) l.value 8
 
 abbrev pub decreases-apply : goal.decreases-apply
 decreases-apply g l = weight (max (most size-Selector l.selectors.now) (most size-Segment l.rest.now))
     l.value 5
+
+abbrev pub decreases-apply_inside : goal.decreases-apply_inside
+decreases-apply_inside g l =
+    weight (max (most size-Selector l.selectors.now) (most size-Segment l.rest.now)) l.value 6
+
+abbrev pub decreases-select_inside : goal.decreases-select_inside
+decreases-select_inside g l =
+    weight (max (size-Selector l.selector.now) (most size-Segment l.rest.now)) l.value 5
 
 abbrev pub decreases-select : goal.decreases-select
 decreases-select g l = weight (max (size-Selector l.selector.now) (most size-Segment l.rest.now)) l.value
@@ -55,7 +63,7 @@ abbrev pub decreases-each_child : goal.decreases-each_child
 decreases-each_child g l = weight (task_size l.task) l.value 3
 
 abbrev pub decreases-each_of : goal.decreases-each_of
-decreases-each_of g l = 2000 * task_size l.task + 8 * row_height l.children + 1
+decreases-each_of g l = 2000 * task_size l.task + 16 * row_height l.children + 1
 
 abbrev pub decreases-ask : goal.decreases-ask
 decreases-ask g l = weight (size-Nodes l.nodes.now) l.value 7
@@ -77,6 +85,15 @@ decreases-all g l = weight (most size-Logical l.parts.now) l.value 8
 
 abbrev pub invariant-apply-loop-selector : goal.invariant-apply-loop-selector
 invariant-apply-loop-selector g l =
+    let root = base_of l.context in
+    (l.path ≡ l.initial.path)
+    × (plus (put_found g.V.Visit.put) (kept g.V.Visit.kept l.found)
+    (reached root l.rest (picked_by root (drop l.selector-index l.selectors) (here l.path l.value)))
+    ≡ plus (put_found g.V.Visit.put) (kept g.V.Visit.kept l.initial.found)
+    (reached root l.rest (picked_by root l.selectors (here l.initial.path l.value))))
+
+abbrev pub invariant-apply_inside-loop-selector : goal.invariant-apply_inside-loop-selector
+invariant-apply_inside-loop-selector g l =
     let root = base_of l.context in
     (l.path ≡ l.initial.path)
     × (plus (put_found g.V.Visit.put) (kept g.V.Visit.kept l.found)
