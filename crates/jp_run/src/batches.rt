@@ -26,7 +26,7 @@ use std::alloc::Global;
 use std::thread::Threads;
 
 /// How many bytes of lines a worker is started for: to answer them takes longer than to start a thread.
-const BYTES_EACH: usize = 65_536;
+const BYTES_EACH: usize = 16_384;
 
 /// How many pieces there are at least for each worker, where there are as many lines.
 const PIECES_EACH: u64 = 4;
@@ -226,7 +226,7 @@ fn answer_lines<R: Threads + Sync, K: Sink, G: Gate + Sync>(
     Ok(answer.faulty)
 }
 
-/// How many workers the lines are worth: as many as are set, but no more than one for each 65,536 bytes.
+/// How many workers the lines are worth: as many as are set, but no more than one for each 16,384 bytes.
 fn workers_for(settings: Settings, lines: &[LineRef<'_>]) -> u64
     ensures { AreWorkers result }
 {

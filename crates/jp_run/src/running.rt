@@ -63,7 +63,7 @@ impl Totals {
 /// selects.
 ///
 /// The query is read first. Then the source is read to its end, at most 65,536 bytes a call. As soon as
-/// `batch` documents have come they are answered by the workers, of whom there is one for each 65,536 bytes
+/// `batch` documents have come they are answered by the workers, of whom there is one for each 16,384 bytes
 /// of their lines at most, and written, and the sink is flushed, before the next read; the rest is at the
 /// end. The run stops at the first faulty line, unless the settings are to keep going: then a faulty line
 /// gives its fault line, and the totals count it.
