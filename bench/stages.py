@@ -18,7 +18,6 @@ STAGES = [(name, re.compile(pattern)) for name, pattern in (
     ("the kernel reads or writes", r"ksys_(read|write)|vfs_(read|write)"),
     ("a line is read flat",
      r"\bjson::(tape|index|run|word|unescape|scratch)\b|\bsimdutf8\b|jp_flat::(reader|document)"),
-    ("it is seen to be plain", r"\bjp_flat::(nodes|digits)\b"),
     ("a line is read as a tree",
      r"\bserde_json::(de|value|number)\b|\bjson::(reader|lexer)\b|\bjp_doc::limits\b"),
     ("lines are cut", r"\bjp_buffer\b|\bjp_doc::(lines|cutting)\b|\bjp_run::gathering\b"),
@@ -26,6 +25,8 @@ STAGES = [(name, re.compile(pattern)) for name, pattern in (
     ("the text of lines", r"\bjp_output\b|\bserde_json::ser\b|\bjson::write|\bitoa\b"),
     ("patterns", r"\bjp_regexp\b"),
     ("the walk", r"\bjp_(eval|nodes|trail|value|part|flat)\b"),
+    # Inlined into its caller: UTF-8, the places of tokens, and whether the line is plain.
+    ("reading that is inlined", r"\badd_line\b"),
     ("the workers", r"\bjp_(answer|board)\b|map_vec|start_thread|\bclone3?\b"),
 )]
 OTHERS = "all else"
