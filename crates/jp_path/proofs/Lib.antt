@@ -3,6 +3,7 @@ pub mod EscapedName
 pub mod IndexText
 pub mod LineSteps
 pub mod OfPath
+pub mod OnLiterals
 pub mod OwnNode
 pub mod Passing
 pub mod PathAccepted

@@ -16,6 +16,7 @@ use jp_syntax::{Query, QueryFault};
 use std::alloc::Global;
 
 /// The query of a path: one segment of one selector for each step.
+#[tactic(auto, unfolding(crate::proofs::OnLiterals::paths_on_literals))]
 fn path_queries()
     ensures two_steps { path_query (name (codes "a") ∷ index 12 ∷ [])
         ≡ tree.query_from Root (tree.child (tree.name (codes "a") ∷ []) ∷ tree.child
