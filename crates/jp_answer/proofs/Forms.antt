@@ -1,7 +1,7 @@
 -- The answer in either form: of lines that come in two parts, and of one line more.
 use Rattle.std.proofs.Common.{◌≡◌, ℕ, zero, suc, ◌+◌, ◌≤◌, Bool, true, false, List, [], ◌∷◌, ◌++◌}
 use Rattle.std.proofs.Common.{length, Option, Some, None, Result, Ok, Err, refl, ap, sym, ◌∙◌, arith}
-use Rattle.std.proofs.Common.{length-append}
+use Rattle.std.proofs.Common.{length-append, append-nil}
 use Rattle.std.proofs.Common.{append_assoc, cond, ◌<◌, ◌⊎◌, inl, inr, add-one, drop, get_or, map}
 use Rattle.std.proofs.Math.Seq.{drop-cons}
 use Rattle.std.specs.Prelude.{is_err}
@@ -248,3 +248,12 @@ module _ (k : Bool) (lines : List code.LineRef) (i : ℕ) (h : i < length lines)
 
   pub passed_fits : (n : ℕ) → passed_in k all ≡ n + 1 + passed_in k later → n + 1 ≤ length lines
   passed_fits n e = omega (arith, e, passed_few k all, length-map lines line_at)
+
+-- once no line is left, what was written is the answer
+pub answer_end : (k : Bool) (t : Tests) (q : Query) (all left : List Line) (written bytes : List ℕ)
+    → left ≡ [] → answer_in k t q all ≡ after written (answer_in k t q left) → bytes ≡ written
+    → answer_in k t q all ≡ record { bytes = bytes; stopped = None }
+answer_end k t q all left written bytes none e is =
+    e ∙ ap (λ (ls : List Line). after written (answer_in k t q ls)) none
+    ∙ ap (after written) (nothing_in t q k)
+    ∙ ap (λ bs. record { bytes = bs; stopped = None }) (append-nil written ∙ sym is)

@@ -9,7 +9,7 @@ use Rattle.jp_compiled.specs.contracts.query.Query as Ready
 use Rattle.jp_compiled.specs.contracts.known.KnownPattern as Known
 use Rattle.jp_tree.specs.contracts.tree.Query as Query
 use Rattle.jp_regexp.proofs.tree.CharSet.TheSendSync as sets
-use Rattle.jp_regexp.proofs.table.Table.TheSendSync as tables
+use Rattle.jp_regexp.proofs.dfa.Dfa.TheSendSync as dfas
 use Rattle.jp_compiled.proofs.query.Constant.TheSendSync as constants
 use Rattle.jp_compiled.proofs.query.Position.TheSendSync as positions
 use Rattle.jp_compiled.proofs.query.Slice.TheSendSync as slices
@@ -21,8 +21,8 @@ use Rattle.jp_tree.proofs.tree.Argument.TheLaws.TheKnot.{crosses as tree_crosses
 
 pub known_sync : IsSync Known.the_row
 known_sync = search (
-  tables.the_field_sync,
-  tables.the_field_send,
+  dfas.the_field_sync,
+  dfas.the_field_send,
   sets.the_field_sync,
   sets.the_field_send,
   crosses,
@@ -32,8 +32,8 @@ known_sync = search (
 
 pub ready_field : IsSync (Ready.the_field).row
 ready_field = search (
-  tables.the_field_sync,
-  tables.the_field_send,
+  dfas.the_field_sync,
+  dfas.the_field_send,
   sets.the_field_send,
   sets.the_field_sync,
   constants.the_field_sync,

@@ -16,8 +16,8 @@ ghost use Rattle.jp_answer.specs.Answered.{outcome_of};
 ghost use Rattle.jp_answer.specs.Form.{answer_in, stop_in, passed_in, given, fault_in};
 
 use crate::outcome::{DocStop, Outcome};
+use crate::pieces::{Pieces, Walk};
 use jp_buffer::LineRef;
-use jp_check::Plan;
 use jp_doc::{DocFault, Document};
 use jp_eval::{EvalFault, Evaluator, OpenFork};
 use jp_flat::FlatReader;
@@ -40,37 +40,28 @@ pub(crate) fn answer_lines<R: Threads + Sync>(
     rt: &R,
     alloc: Global,
     reader: &mut FlatReader,
-    plan: &Plan,
+    pieces: &Pieces,
     lines: &[LineRef<'_>],
-    keeps_going: bool,
-    splits: bool,
 ) -> Result<Outcome, AllocError>
     requires { length lines.now ≤ 4294967296 }
     ensures answer { IfOk result (λ a. (t : Tests) → AreRight t →
-        answer_in keeps_going t (planned_query plan.now) (map line_at lines.now) ≡ outcome_of a) }
-    ensures stopped { IfOk result (λ a. stop_in keeps_going (map line_at lines.now)
+        answer_in pieces.now.keeps_going t (planned_query pieces.now.plan.now) (map line_at lines.now)
+        ≡ outcome_of a) }
+    ensures stopped { IfOk result (λ a. stop_in pieces.now.keeps_going (map line_at lines.now)
         ≡ (outcome_of a).stopped) }
-    ensures passed { IfOk result (λ a. passed_in keeps_going (map line_at lines.now) ≡ a.faulty) }
+    ensures passed { IfOk result (λ a. passed_in pieces.now.keeps_going (map line_at lines.now)
+        ≡ a.faulty) }
 {
-    let mut evaluator = Evaluator::new(alloc, plan);
+    let mut evaluator = Evaluator::new(alloc, pieces.plan);
     let mut written = NodeLines::new(alloc);
     let mut faulty = 0;
     for line in lines {
-        let (more, fault) = add_line(
-            rt,
-            alloc,
-            reader,
-            &mut evaluator,
-            line,
-            keeps_going,
-            splits,
-            written,
-        )?;
+        let (more, fault) = add_line(rt, alloc, reader, &mut evaluator, pieces, line, written)?;
         written = more;
         let Some(fault) = fault else {
             continue;
         };
-        if !keeps_going {
+        if !pieces.keeps_going {
             let stop = DocStop {
                 line: line.number,
                 fault,
@@ -98,23 +89,22 @@ fn add_line<R: Threads + Sync>(
     alloc: Global,
     reader: &mut FlatReader,
     evaluator: &mut Evaluator<'_>,
+    pieces: &Pieces,
     line: &LineRef<'_>,
-    keeps_going: bool,
-    splits: bool,
     written: NodeLines,
 ) -> Result<(NodeLines, Option<DocFault>), AllocError>
     ensures lines { IfOk result (λ r. (t : Tests) → AreRight t → r.0.1 ≡ written.1
-        ++ given keeps_going t (evaluated_query evaluator.old) line.now.number
+        ++ given pieces.now.keeps_going t (evaluated_query evaluator.old) line.now.number
         (reading line.now.bytes.now)) }
     ensures fault { IfOk result (λ r. r.1 ≡ fault_in (reading line.now.bytes.now)) }
     ensures query { evaluated_query evaluator.new ≡ evaluated_query evaluator.old }
 {
-    let splits = splits && line.bytes.len() >= SPLIT_BYTES;
     let Some(document) = reader.read(line.bytes)? else {
-        return add_tree(rt, alloc, evaluator, line, keeps_going, splits, written);
+        return add_tree(rt, alloc, evaluator, pieces, line, written);
     };
     let root = Part::root_of_flat(&document);
-    let lines = with_nodes(rt, evaluator, line.number, root, splits, written)?;
+    let walk = walk_of(pieces, line);
+    let lines = with_nodes(rt, evaluator, line.number, root, walk, written)?;
     Ok((lines, None))
 }
 
@@ -123,13 +113,12 @@ fn add_tree<R: Threads + Sync>(
     rt: &R,
     alloc: Global,
     evaluator: &mut Evaluator<'_>,
+    pieces: &Pieces,
     line: &LineRef<'_>,
-    keeps_going: bool,
-    splits: bool,
     written: NodeLines,
 ) -> Result<(NodeLines, Option<DocFault>), AllocError>
     ensures lines { IfOk result (λ r. (t : Tests) → AreRight t → r.0.1 ≡ written.1
-        ++ given keeps_going t (evaluated_query evaluator.old) line.now.number
+        ++ given pieces.now.keeps_going t (evaluated_query evaluator.old) line.now.number
         (reading line.now.bytes.now)) }
     ensures fault { IfOk result (λ r. r.1 ≡ fault_in (reading line.now.bytes.now)) }
     ensures query { evaluated_query evaluator.new ≡ evaluated_query evaluator.old }
@@ -137,12 +126,13 @@ fn add_tree<R: Threads + Sync>(
     match Document::read(alloc, line.bytes) {
         Ok(document) => {
             let root = Part::root_of(&document);
-            let lines = with_nodes(rt, evaluator, line.number, root, splits, written)?;
+            let walk = walk_of(pieces, line);
+            let lines = with_nodes(rt, evaluator, line.number, root, walk, written)?;
             Ok((lines, None))
         }
         Err(DocFault::Memory) => Err(AllocError),
         Err(fault) => {
-            if !keeps_going {
+            if !pieces.keeps_going {
                 return Ok((written, Some(fault)));
             }
             let lines = with_fault(alloc, line.number, &fault, written)?;
@@ -151,13 +141,21 @@ fn add_tree<R: Threads + Sync>(
     }
 }
 
+/// How the document of a line is walked: a short line holds no list that is worth two threads.
+fn walk_of(pieces: &Pieces, line: &LineRef<'_>) -> Walk {
+    if line.bytes.len() < SPLIT_BYTES {
+        return Walk::Straight;
+    }
+    pieces.walk
+}
+
 /// The lines so far, and those of the nodes that the query selects in a document.
 fn with_nodes<R: Threads + Sync>(
     rt: &R,
     evaluator: &mut Evaluator<'_>,
     number: u64,
     root: Part<'_>,
-    splits: bool,
+    walk: Walk,
     written: NodeLines,
 ) -> Result<NodeLines, AllocError>
     ensures lines { IfOk result (λ w. (t : Tests) → AreRight t → w.1 ≡ written.1
@@ -166,29 +164,27 @@ fn with_nodes<R: Threads + Sync>(
 {
     let mut visitor = written;
     visitor.begin(number);
-    let Ok(written) = visited(rt, evaluator, root, splits, visitor) else {
+    let Ok(written) = visited(rt, evaluator, root, walk, visitor) else {
         return Err(AllocError);
     };
     Ok(written)
 }
 
-/// The visitor once it has taken the nodes, of which long lists are walked by halves at once where this is
-/// set.
+/// The visitor once it has taken the nodes.
 fn visited<R: Threads + Sync>(
     rt: &R,
     evaluator: &mut Evaluator<'_>,
     root: Part<'_>,
-    splits: bool,
+    walk: Walk,
     visitor: NodeLines,
 ) -> Result<NodeLines, EvalFault>
     ensures lines { IfOk result (λ w. (t : Tests) → AreRight t → w ≡ fold put_line visitor
         (document_nodes t (evaluated_query evaluator.old) (part_value root.entry))) }
     ensures query { evaluated_query evaluator.new ≡ evaluated_query evaluator.old }
 {
-    if splits {
-        evaluator.visit_part_split(rt, root, SPLIT_FLOOR, &OpenFork, visitor)
-    } else {
-        evaluator.visit_part(root, visitor)
+    match walk {
+        Walk::ByHalves => evaluator.visit_part_split(rt, root, SPLIT_FLOOR, &OpenFork, visitor),
+        Walk::Straight => evaluator.visit_part(root, visitor),
     }
 }
 

@@ -11,16 +11,24 @@ use jp_flat::FlatReader;
 use std::alloc::{AllocError, Global};
 use std::thread::Threads;
 
-/// Lines that are cut into pieces, the last perhaps shorter, the plan that answers them, and whether the
-/// answer keeps going after a faulty line.
+/// How a document is walked.
+#[derive(Clone, Copy, Drop)]
+pub(crate) enum Walk {
+    /// By one thread.
+    Straight,
+    /// A long list in it is cut into halves that are walked at once.
+    ByHalves,
+}
+
+/// Lines that are cut into pieces, the last perhaps shorter, and how they are answered: by which plan,
+/// whether the answer keeps going after a faulty line, and how a document is walked.
 #[derive(Clone, Copy, Drop)]
 pub(crate) struct Pieces<'a> {
     pub(crate) plan: &'a Plan,
     pub(crate) lines: &'a [LineRef<'a>],
     pub(crate) size: usize,
     pub(crate) keeps_going: bool,
-    /// Whether a long list in a document is cut into halves that are walked at once.
-    pub(crate) splits: bool,
+    pub(crate) walk: Walk,
     ghost in_range: { AreDocuments size × (length lines.now ≤ 4294967296) },
 }
 
@@ -33,7 +41,7 @@ impl Pieces<'_> {
         lines: &'a [LineRef<'a>],
         size: usize,
         keeps_going: bool,
-        splits: bool,
+        walk: Walk,
     ) -> Pieces<'a>
         requires size { AreDocuments size }
         requires lines { length lines.now ≤ 4294967296 }
@@ -45,7 +53,7 @@ impl Pieces<'_> {
             lines,
             size,
             keeps_going,
-            splits,
+            walk,
         }
     }
 
@@ -70,14 +78,6 @@ impl Pieces<'_> {
     {
         let (_, rest) = self.lines.split_at(piece as usize * self.size);
         let (lines, _) = rest.split_at(self.size.min(rest.len()));
-        answer_lines(
-            rt,
-            alloc,
-            reader,
-            self.plan,
-            lines,
-            self.keeps_going,
-            self.splits,
-        )
+        answer_lines(rt, alloc, reader, self, lines)
     }
 }

@@ -20,7 +20,7 @@ ghost use Rattle.jp_answer.specs.Worked.{IsWorked};
 use crate::gate::Gate;
 use crate::outcome::{Answer, Outcome, Whole};
 use crate::parts::{gather, join, passed, place};
-use crate::pieces::Pieces;
+use crate::pieces::{Pieces, Walk};
 use crate::worker::{Worker, work};
 use jp_board::{Board, BoardFault, Seat};
 use jp_buffer::{LineRef, refs_of};
@@ -118,7 +118,12 @@ pub fn answer_in_chunks<R: Threads + Sync, G: Gate + Sync>(
         answer_in keeps_going t (planned_query plan.now) (map line_at lines.now) ≡ outcome_of a) }
     ensures passed { IfOk result (λ a. passed_in keeps_going (map line_at lines.now) ≡ a.faulty) }
 {
-    let pieces = Pieces::new(plan, lines, piece as usize, keeps_going, workers > 1);
+    let walk = if workers > 1 {
+        Walk::ByHalves
+    } else {
+        Walk::Straight
+    };
+    let pieces = Pieces::new(plan, lines, piece as usize, keeps_going, walk);
     answer_pieces(rt, alloc, &pieces, workers, gate)
 }
 

@@ -6,7 +6,8 @@ use Rattle.std.proofs.lemmas.List.Sorted.{Contains-permutation}
 use Rattle.jp_board.specs.declared.view.View.{View}
 use Rattle.jp_board.specs.Events.{claim, report, look, split, join, May, LeadTo, first_state}
 use Rattle.jp_board.specs.Lawful.{IsLawful}
-use Rattle.jp_board.specs.Samples.{worked, claimed_twice, skipped, told_early, told_twice, risen, invented}
+use Rattle.jp_board.specs.inner.Samples.{worked, claimed_twice, skipped, told_early, told_twice, risen}
+use Rattle.jp_board.specs.inner.Samples.{invented}
 use Rattle.jp_board.specs.Together.{numbers_below}
 use Rattle.jp_board.specs.Views.{fresh, spent}
 use Rattle.jp_board.proofs.Lawfuls.{claim_below, next_le}

@@ -7,4 +7,4 @@ pub mod Steps
 pub mod Seats
 pub mod Tally
 pub mod Account
-pub mod Samples
+pub mod inner

@@ -23,9 +23,9 @@ pub struct Board {
 }
 
 impl Board {
-    const MOST_PIECES: u64 = 4_294_967_296;
+    const MAX_PIECES: u64 = 4_294_967_296;
 
-    const MOST_SEATS: u64 = 64;
+    const MAX_SEATS: u64 = 64;
 
     ghost use Rattle.jp_board.specs.Account.{SameAccount};
     ghost use Rattle.jp_board.specs.Lawful.{IsLeastOf};
@@ -42,7 +42,7 @@ impl Board {
         ensures too_many { IsErrOf result BoardFault.TooMany
             ↔ ((4294967296 < pieces) ⊎ (seats ≡ 0) ⊎ (64 < seats)) }
     {
-        if pieces > Board::MOST_PIECES || seats == 0 || seats > Board::MOST_SEATS {
+        if pieces > Board::MAX_PIECES || seats == 0 || seats > Board::MAX_SEATS {
             return Err(BoardFault::TooMany);
         }
         let Ok(dealt) = Vec::with_capacity(alloc, seats as usize) else {

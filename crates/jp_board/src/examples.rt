@@ -9,8 +9,8 @@ ghost use Rattle.jp_board.specs.Together.{all_claims, all_reports, all_looks};
 ghost use Rattle.jp_board.specs.Together.{times_told, seats_stood_for, numbers_below};
 ghost use Rattle.jp_board.specs.Views.{fresh, less_one, one_of, joined, spent};
 ghost use Rattle.jp_board.specs.Views.{with_claim, with_told, with_report, with_look, once_told};
-ghost use Rattle.jp_board.specs.Samples.{worked, told_twice, claimed_twice, skipped, told_early, risen};
-ghost use Rattle.jp_board.specs.Samples.{invented};
+ghost use Rattle.jp_board.specs.inner.Samples.{worked, told_twice, claimed_twice, skipped, told_early, risen};
+ghost use Rattle.jp_board.specs.inner.Samples.{invented};
 
 // What a seat knows after each kind of step, on a board of two pieces and three seats.
 

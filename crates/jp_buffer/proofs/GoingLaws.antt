@@ -6,7 +6,7 @@ use Rattle.jp_doc.specs.Lines.{Line}
 use Rattle.jp_doc.proofs.CutLaws.{cut_open, cut_first, numbered_first}
 use Rattle.jp_doc.proofs.FeedLaws.{open_piece, fed_ended}
 use Rattle.jp_buffer.specs.Buffered.{Buffered}
-use Rattle.jp_buffer.specs.Waiting.{Begins}
+use Rattle.jp_buffer.specs.inner.Waiting.{Begins}
 
 -- the lines that were added, and those that the rest adds, are the lines of the bytes
 pub record Goes (all out : List Line) (before count : ℕ) (bytes rest : List ℕ) : Type 0 where

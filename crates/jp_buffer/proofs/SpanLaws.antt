@@ -3,7 +3,7 @@ use Rattle.std.proofs.Common.{◌≡◌, ℕ, zero, suc, ◌+◌, ◌≤◌, Lis
 use Rattle.std.proofs.Common.{take, drop, length, arith, length-append, length-drop}
 use Rattle.std.proofs.lemmas.List.{take_all, take-append-le, drop-append-le, take-take, drop-take, drop-drop}
 use Rattle.std.proofs.lemmas.List.{nil_from_length, length-take-le}
-use Rattle.jp_buffer.specs.Waiting.{bytes_of, lines_in}
+use Rattle.jp_buffer.specs.inner.Waiting.{bytes_of, lines_in}
 use Rattle.jp_buffer.specs.declared.waiting.Span.{Span}
 
 pub lines_count : (bytes : List ℕ) (spans : List Span) → length (lines_in bytes spans) ≡ length spans

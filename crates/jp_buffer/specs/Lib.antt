@@ -1,3 +1,3 @@
 -- The definitions of `jp_buffer`.
 pub mod Buffered
-pub mod Waiting
+pub mod inner

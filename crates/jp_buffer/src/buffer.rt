@@ -3,7 +3,7 @@
 ghost use Rattle.std.specs.Prelude.{◌≡◌, ◌≤◌, ◌++◌, map, drop, length, IfOk, OnOk, OnErr};
 ghost use Rattle.jp_doc.specs.Feeding.{fed, fed_lines, finished, finished_lines};
 ghost use Rattle.jp_buffer.specs.Buffered.{line_at, nothing_buffered};
-ghost use Rattle.jp_buffer.specs.Waiting.{Begins};
+ghost use Rattle.jp_buffer.specs.inner.Waiting.{Begins};
 
 use crate::cutting::push_lines;
 use crate::line_ref::LineRef;

@@ -2,7 +2,7 @@
 
 ghost use Rattle.std.specs.Prelude.{◌≡◌, ◌+◌, ◌≤◌, ◌++◌, length, IfOk, OnOk, OnErr};
 ghost use Rattle.jp_doc.specs.Feeding.{cut, numbered};
-ghost use Rattle.jp_buffer.specs.Waiting.{Begins};
+ghost use Rattle.jp_buffer.specs.inner.Waiting.{Begins};
 
 use crate::waiting::Waiting;
 use jp_doc::first_line;

@@ -3,7 +3,7 @@
 ghost use Rattle.std.specs.Prelude.{◌≡◌, [], ◌∷◌, codes, take, drop};
 ghost use Rattle.jp_doc.specs.Feeding.{fed, fed_lines, finished_lines, nothing_fed};
 ghost use Rattle.jp_buffer.specs.Buffered.{nothing_buffered};
-ghost use Rattle.jp_buffer.specs.Waiting.{bytes_of, lines_in};
+ghost use Rattle.jp_buffer.specs.inner.Waiting.{bytes_of, lines_in};
 
 fn nothing_yet()
     ensures count { nothing_buffered.progress.count ≡ 0 }

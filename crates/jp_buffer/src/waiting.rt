@@ -4,7 +4,7 @@ ghost use Rattle.std.specs.Prelude.{◌≡◌, ◌+◌, ◌<◌, ◌≤◌, ◌^
 ghost use Rattle.std.specs.Prelude.{IfOk, OnOk, OnErr, vec_len};
 ghost use Rattle.jp_doc.specs.Feeding.{numbered};
 ghost use Rattle.jp_buffer.specs.Buffered.{line_at};
-ghost use Rattle.jp_buffer.specs.Waiting.{Begins, bytes_of};
+ghost use Rattle.jp_buffer.specs.inner.Waiting.{Begins, bytes_of};
 
 use crate::line_ref::LineRef;
 use jp_doc::is_blank_line;
@@ -32,7 +32,7 @@ pub(crate) struct Waiting {
 impl Model for Waiting {
     ghost use Rattle.std.specs.Prelude.{◌≡◌, List, length};
     ghost use Rattle.jp_doc.specs.Lines.{Line};
-    ghost use Rattle.jp_buffer.specs.Waiting.{bytes_of, lines_in};
+    ghost use Rattle.jp_buffer.specs.inner.Waiting.{bytes_of, lines_in};
 
     ghost Value = { List Line };
 

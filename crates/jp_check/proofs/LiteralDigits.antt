@@ -14,7 +14,7 @@ use Rattle.jp_tree.specs.Parts.{Each, IsOptional, absent, present}
 use Rattle.jp_tree.specs.Numbers as is
 use Rattle.jp_types.specs.Numbers.{Written, literal_number, position, digits_from, unsigned_digits}
 use Rattle.jp_types.specs.Numbers.{magnitude, is_fraction, is_in_range}
-use Rattle.jp_check.specs.Making.{is_readable}
+use Rattle.jp_check.specs.inner.Making.{is_readable}
 
 -- how a number literal is written; of an index nothing is said
 abbrev pub IsPlain : Written → Type 0

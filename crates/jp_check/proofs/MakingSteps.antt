@@ -3,7 +3,7 @@ use Rattle.std.proofs.Common.{arith, length-append, ◌≡◌, ℕ, ◌+◌, ◌
 use Rattle.std.proofs.Common.{get_or, drop, map, refl, sym, ap, ◌∙◌, append_assoc, append-nil}
 use Rattle.std.proofs.Math.Seq.{get_or-append_seam}
 use Rattle.std.proofs.lemmas.List.{at_drop_more, at_drop_all, map-append}
-use Rattle.jp_check.specs.Making.{Begins, Reads}
+use Rattle.jp_check.specs.inner.Making.{Begins, Reads}
 use Rattle.jp_tree.specs.Tree as tree
 use Rattle.jp_tree.specs.declared.tree.Start.TheVariants as start
 use Rattle.jp_compiled.specs.Compiled.{Wanted, wanted, where_wanted, root_at, wanted_in}

@@ -12,7 +12,7 @@ use Rattle.jp_tree.specs.Spelling as is
 use Rattle.jp_tokens.specs.Depth.{bracket_depth, max_depth}
 use Rattle.jp_types.specs.Numbers as numbers
 use Rattle.jp_types.specs.Numbers.{Written, is_fraction, is_in_range}
-use Rattle.jp_check.specs.Making.{is_readable}
+use Rattle.jp_check.specs.inner.Making.{is_readable}
 use Rattle.jp_check.proofs.Sound.{both}
 use Rattle.jp_check.proofs.LiteralDigits.{IsPlain, number_plain, plain_readable}
 

@@ -21,7 +21,7 @@ use Rattle.jp_types.specs.Functions.{function_named}
 use Rattle.jp_types.proofs.Levels.{call_level}
 use Rattle.jp_types.specs.Numbers.{argument_numbers, call_numbers}
 use Rattle.jp_types.specs.Typing.{argument_typed}
-use Rattle.jp_check.specs.Making.{IsSound, is_readable}
+use Rattle.jp_check.specs.inner.Making.{IsSound, is_readable}
 
 pub both : (a b : Bool) → (a && b) ≡ true → (a ≡ true) × (b ≡ true)
 both true true e = (refl, refl)

@@ -3,5 +3,4 @@ pub mod Plan
 pub mod LiteralPatterns
 pub mod Known
 pub mod Samples
-pub mod Making
-pub mod QuerySets
+pub mod inner

@@ -6,7 +6,7 @@ ghost use Rattle.std.specs.Prelude.{◌≡◌};
 ghost use Rattle.jp_check.specs.Known.{known_texts};
 ghost use Rattle.jp_check.specs.LiteralPatterns.{literal_patterns};
 ghost use Rattle.jp_compiled.specs.Compiled.{compiled_query as meaning};
-ghost use Rattle.jp_check.specs.QuerySets.{query_set};
+ghost use Rattle.jp_check.specs.inner.QuerySets.{query_set};
 ghost use Rattle.jp_check.specs.Verdict.{IsAccepted};
 
 use crate::known::Known;

@@ -5,7 +5,7 @@ ghost use Rattle.std.specs.List.{list_all};
 ghost use Rattle.std.specs.Str.{chars};
 ghost use Rattle.jp_tree.specs.View.{literal_of, slice_of, text_of};
 ghost use Rattle.jp_types.specs.Numbers as numbers;
-ghost use Rattle.jp_check.specs.Making.{is_readable};
+ghost use Rattle.jp_check.specs.inner.Making.{is_readable};
 ghost use Rattle.jp_compiled.specs.Compiled as compiled;
 
 use jp_compiled::{Constant, Number, Position, Slice};

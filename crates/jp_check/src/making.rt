@@ -15,7 +15,7 @@ ghost use Rattle.jp_compiled.specs.Compiled as compiled;
 ghost use Rattle.jp_compiled.specs.Compiled.{Wanted};
 ghost use Rattle.jp_check.specs.Known.{known_texts};
 ghost use Rattle.jp_check.specs.LiteralPatterns as literal;
-ghost use Rattle.jp_check.specs.Making.{Begins, Reads, Lists, IsSound};
+ghost use Rattle.jp_check.specs.inner.Making.{KeepsRoots, ReadsWith, AddsPatterns, IsSound};
 
 use crate::leaves::{make_constant, make_position, make_slice};
 use crate::patterns::{list_pattern, literal_text};
@@ -68,11 +68,10 @@ fn make_segments(
 ) -> Result<Vec<Segment>, AllocError>
     requires sound { IsSound (numbers.segments_numbers (tree.segments (view.segments_of segments.now)))
         (typing.segments_typed (tree.segments (view.segments_of segments.now))) }
-    ensures made { IfOk result (λ v. Reads (compiled.roots_of listed.new.roots.items)
+    ensures made { IfOk result (λ v. ReadsWith listed.new
         (λ all. map (compiled.segment_in all) v.items) (view.segments_of segments.now)) }
-    ensures roots { OnOk result (Begins (compiled.roots_of listed.old.roots.items)
-        (compiled.roots_of listed.new.roots.items)) }
-    ensures patterns { OnOk result (Lists listed.old.patterns.items listed.new.patterns.items
+    ensures roots { OnOk result (KeepsRoots listed.old listed.new) }
+    ensures patterns { OnOk result (AddsPatterns listed.old listed.new
         (literal.segments_patterns (tree.segments (view.segments_of segments.now)))) }
 {
     let mut made = Vec::with_capacity(alloc, segments.len())?;
@@ -92,11 +91,10 @@ fn make_selectors(
 ) -> Result<Vec<Selector>, AllocError>
     requires sound { IsSound (numbers.selectors_numbers (tree.selectors (view.selectors_of selectors.now)))
         (typing.selectors_typed (tree.selectors (view.selectors_of selectors.now))) }
-    ensures made { IfOk result (λ v. Reads (compiled.roots_of listed.new.roots.items)
+    ensures made { IfOk result (λ v. ReadsWith listed.new
         (λ all. map (compiled.selector_in all) v.items) (view.selectors_of selectors.now)) }
-    ensures roots { OnOk result (Begins (compiled.roots_of listed.old.roots.items)
-        (compiled.roots_of listed.new.roots.items)) }
-    ensures patterns { OnOk result (Lists listed.old.patterns.items listed.new.patterns.items
+    ensures roots { OnOk result (KeepsRoots listed.old listed.new) }
+    ensures patterns { OnOk result (AddsPatterns listed.old listed.new
         (literal.selectors_patterns (tree.selectors (view.selectors_of selectors.now)))) }
 {
     let mut made = Vec::with_capacity(alloc, selectors.len())?;
@@ -114,11 +112,10 @@ fn make_selector(
 ) -> Result<Selector, AllocError>
     requires sound { IsSound (numbers.selector_numbers (view.selector_of selector.now))
         (typing.selector_typed (view.selector_of selector.now)) }
-    ensures made { IfOk result (λ x. Reads (compiled.roots_of listed.new.roots.items)
+    ensures made { IfOk result (λ x. ReadsWith listed.new
         (λ all. compiled.selector_in all x) (view.selector_of selector.now)) }
-    ensures roots { OnOk result (Begins (compiled.roots_of listed.old.roots.items)
-        (compiled.roots_of listed.new.roots.items)) }
-    ensures patterns { OnOk result (Lists listed.old.patterns.items listed.new.patterns.items
+    ensures roots { OnOk result (KeepsRoots listed.old listed.new) }
+    ensures patterns { OnOk result (AddsPatterns listed.old listed.new
         (literal.selector_patterns (view.selector_of selector.now))) }
 {
     match selector {
@@ -144,11 +141,10 @@ fn make_logical(
 ) -> Result<Logical, AllocError>
     requires sound { IsSound (numbers.logical_numbers (view.logical_of logical.now))
         (typing.logical_typed (view.logical_of logical.now)) }
-    ensures made { IfOk result (λ l. Reads (compiled.roots_of listed.new.roots.items)
+    ensures made { IfOk result (λ l. ReadsWith listed.new
         (λ all. compiled.logical_in all l) (view.logical_of logical.now)) }
-    ensures roots { OnOk result (Begins (compiled.roots_of listed.old.roots.items)
-        (compiled.roots_of listed.new.roots.items)) }
-    ensures patterns { OnOk result (Lists listed.old.patterns.items listed.new.patterns.items
+    ensures roots { OnOk result (KeepsRoots listed.old listed.new) }
+    ensures patterns { OnOk result (AddsPatterns listed.old listed.new
         (literal.logical_patterns (view.logical_of logical.now))) }
 {
     match logical {
@@ -173,11 +169,10 @@ fn make_negation(
 ) -> Result<Logical, AllocError>
     requires sound { IsSound (numbers.logical_numbers (view.logical_of part.now))
         (typing.logical_typed (view.logical_of part.now)) }
-    ensures made { IfOk result (λ l. Reads (compiled.roots_of listed.new.roots.items)
+    ensures made { IfOk result (λ l. ReadsWith listed.new
         (λ all. compiled.logical_in all l) (tree.negation (view.logical_of part.now))) }
-    ensures roots { OnOk result (Begins (compiled.roots_of listed.old.roots.items)
-        (compiled.roots_of listed.new.roots.items)) }
-    ensures patterns { OnOk result (Lists listed.old.patterns.items listed.new.patterns.items
+    ensures roots { OnOk result (KeepsRoots listed.old listed.new) }
+    ensures patterns { OnOk result (AddsPatterns listed.old listed.new
         (literal.logical_patterns (view.logical_of part.now))) }
 {
     let part = make_logical(alloc, part, listed)?;
@@ -194,11 +189,10 @@ fn make_comparison(
 ) -> Result<Logical, AllocError>
     requires sound { IsSound (numbers.comparison_numbers (view.comparison_of comparison.now))
         (typing.comparison_typed (view.comparison_of comparison.now)) }
-    ensures made { IfOk result (λ l. Reads (compiled.roots_of listed.new.roots.items)
+    ensures made { IfOk result (λ l. ReadsWith listed.new
         (λ all. compiled.logical_in all l) (tree.comparing (view.comparison_of comparison.now))) }
-    ensures roots { OnOk result (Begins (compiled.roots_of listed.old.roots.items)
-        (compiled.roots_of listed.new.roots.items)) }
-    ensures patterns { OnOk result (Lists listed.old.patterns.items listed.new.patterns.items
+    ensures roots { OnOk result (KeepsRoots listed.old listed.new) }
+    ensures patterns { OnOk result (AddsPatterns listed.old listed.new
         (literal.comparison_patterns (view.comparison_of comparison.now))) }
 {
     let left = make_side(alloc, &comparison.left, listed)?;
@@ -215,11 +209,10 @@ fn make_parts(
 ) -> Result<Vec<Logical>, AllocError>
     requires sound { IsSound (numbers.logicals_numbers (tree.logicals (view.logicals_of parts.now)))
         (typing.logicals_typed (tree.logicals (view.logicals_of parts.now))) }
-    ensures made { IfOk result (λ v. Reads (compiled.roots_of listed.new.roots.items)
+    ensures made { IfOk result (λ v. ReadsWith listed.new
         (λ all. map (compiled.logical_in all) v.items) (view.logicals_of parts.now)) }
-    ensures roots { OnOk result (Begins (compiled.roots_of listed.old.roots.items)
-        (compiled.roots_of listed.new.roots.items)) }
-    ensures patterns { OnOk result (Lists listed.old.patterns.items listed.new.patterns.items
+    ensures roots { OnOk result (KeepsRoots listed.old listed.new) }
+    ensures patterns { OnOk result (AddsPatterns listed.old listed.new
         (literal.logicals_patterns (tree.logicals (view.logicals_of parts.now)))) }
 {
     let mut made = Vec::with_capacity(alloc, parts.len())?;
@@ -239,11 +232,10 @@ fn make_nodes(
 ) -> Result<Nodes, AllocError>
     requires sound { IsSound (numbers.query_numbers (query_of query.now))
         (typing.query_typed (query_of query.now)) }
-    ensures made { IfOk result (λ q. Reads (compiled.roots_of listed.new.roots.items)
+    ensures made { IfOk result (λ q. ReadsWith listed.new
         (λ all. compiled.nodes_in all q want) (compiled.queried (query_of query.now))) }
-    ensures roots { OnOk result (Begins (compiled.roots_of listed.old.roots.items)
-        (compiled.roots_of listed.new.roots.items)) }
-    ensures patterns { OnOk result (Lists listed.old.patterns.items listed.new.patterns.items
+    ensures roots { OnOk result (KeepsRoots listed.old listed.new) }
+    ensures patterns { OnOk result (AddsPatterns listed.old listed.new
         (literal.literal_patterns (query_of query.now))) }
 {
     let segments = make_segments(alloc, query.segments.as_slice(), listed)?;
@@ -262,11 +254,10 @@ fn make_nodes(
 fn make_side(alloc: Global, side: &Comparable, listed: &mut Listed) -> Result<Value, AllocError>
     requires sound { IsSound (numbers.comparable_numbers (view.comparable_of side.now))
         (typing.comparable_typed (view.comparable_of side.now)) }
-    ensures made { IfOk result (λ v. Reads (compiled.roots_of listed.new.roots.items)
+    ensures made { IfOk result (λ v. ReadsWith listed.new
         (λ all. compiled.value_in all v) (view.comparable_of side.now)) }
-    ensures roots { OnOk result (Begins (compiled.roots_of listed.old.roots.items)
-        (compiled.roots_of listed.new.roots.items)) }
-    ensures patterns { OnOk result (Lists listed.old.patterns.items listed.new.patterns.items
+    ensures roots { OnOk result (KeepsRoots listed.old listed.new) }
+    ensures patterns { OnOk result (AddsPatterns listed.old listed.new
         (literal.comparable_patterns (view.comparable_of side.now))) }
 {
     match side {
@@ -284,11 +275,10 @@ fn make_value(alloc: Global, argument: &Argument, listed: &mut Listed) -> Result
     requires sound { IsSound (numbers.argument_numbers (view.argument_of argument.now))
         (typing.argument_typed (view.argument_of argument.now)) }
     requires fits { typing.fits value_type (view.argument_of argument.now) ≡ true }
-    ensures made { IfOk result (λ v. Reads (compiled.roots_of listed.new.roots.items)
+    ensures made { IfOk result (λ v. ReadsWith listed.new
         (λ all. compiled.as_argument (compiled.value_in all v)) (view.argument_of argument.now)) }
-    ensures roots { OnOk result (Begins (compiled.roots_of listed.old.roots.items)
-        (compiled.roots_of listed.new.roots.items)) }
-    ensures patterns { OnOk result (Lists listed.old.patterns.items listed.new.patterns.items
+    ensures roots { OnOk result (KeepsRoots listed.old listed.new) }
+    ensures patterns { OnOk result (AddsPatterns listed.old listed.new
         (literal.argument_patterns (view.argument_of argument.now))) }
 {
     match argument {
@@ -312,11 +302,10 @@ fn make_argument_nodes(
     requires sound { IsSound (numbers.argument_numbers (view.argument_of argument.now))
         (typing.argument_typed (view.argument_of argument.now)) }
     requires fits { typing.fits nodes_type (view.argument_of argument.now) ≡ true }
-    ensures made { IfOk result (λ q. Reads (compiled.roots_of listed.new.roots.items)
+    ensures made { IfOk result (λ q. ReadsWith listed.new
         (λ all. compiled.source_argument (compiled.nodes_in all q want)) (view.argument_of argument.now)) }
-    ensures roots { OnOk result (Begins (compiled.roots_of listed.old.roots.items)
-        (compiled.roots_of listed.new.roots.items)) }
-    ensures patterns { OnOk result (Lists listed.old.patterns.items listed.new.patterns.items
+    ensures roots { OnOk result (KeepsRoots listed.old listed.new) }
+    ensures patterns { OnOk result (AddsPatterns listed.old listed.new
         (literal.argument_patterns (view.argument_of argument.now))) }
 {
     match argument {
@@ -339,12 +328,11 @@ fn make_distinct(
     requires sound { IsSound (numbers.call_numbers (view.call_of call.now))
         (typing.call_typed (view.call_of call.now)) }
     requires serves { typing.serves_as nodes_type (typing.type_of_call (view.call_of call.now)) ≡ true }
-    ensures made { IfOk result (λ q. Reads (compiled.roots_of listed.new.roots.items)
+    ensures made { IfOk result (λ q. ReadsWith listed.new
         (λ all. compiled.source_argument (compiled.nodes_in all q want))
         (tree.call_argument (view.call_of call.now))) }
-    ensures roots { OnOk result (Begins (compiled.roots_of listed.old.roots.items)
-        (compiled.roots_of listed.new.roots.items)) }
-    ensures patterns { OnOk result (Lists listed.old.patterns.items listed.new.patterns.items
+    ensures roots { OnOk result (KeepsRoots listed.old listed.new) }
+    ensures patterns { OnOk result (AddsPatterns listed.old listed.new
         (literal.call_patterns (view.call_of call.now))) }
 {
     let [argument] = call.arguments.as_slice() else {
@@ -363,11 +351,10 @@ fn make_value_call(alloc: Global, call: &Call, listed: &mut Listed) -> Result<Va
     requires sound { IsSound (numbers.call_numbers (view.call_of call.now))
         (typing.call_typed (view.call_of call.now)) }
     requires serves { typing.serves_as value_type (typing.type_of_call (view.call_of call.now)) ≡ true }
-    ensures made { IfOk result (λ v. Reads (compiled.roots_of listed.new.roots.items)
+    ensures made { IfOk result (λ v. ReadsWith listed.new
         (λ all. compiled.value_in all v) (tree.value_call (view.call_of call.now))) }
-    ensures roots { OnOk result (Begins (compiled.roots_of listed.old.roots.items)
-        (compiled.roots_of listed.new.roots.items)) }
-    ensures patterns { OnOk result (Lists listed.old.patterns.items listed.new.patterns.items
+    ensures roots { OnOk result (KeepsRoots listed.old listed.new) }
+    ensures patterns { OnOk result (AddsPatterns listed.old listed.new
         (literal.call_patterns (view.call_of call.now))) }
 {
     let [argument] = call.arguments.as_slice() else {
@@ -395,11 +382,10 @@ fn make_test_call(alloc: Global, call: &Call, listed: &mut Listed) -> Result<Log
     requires sound { IsSound (numbers.call_numbers (view.call_of call.now))
         (typing.call_typed (view.call_of call.now)) }
     requires serves { typing.serves_as logical_type (typing.type_of_call (view.call_of call.now)) ≡ true }
-    ensures made { IfOk result (λ l. Reads (compiled.roots_of listed.new.roots.items)
+    ensures made { IfOk result (λ l. ReadsWith listed.new
         (λ all. compiled.logical_in all l) (tree.test_call (view.call_of call.now))) }
-    ensures roots { OnOk result (Begins (compiled.roots_of listed.old.roots.items)
-        (compiled.roots_of listed.new.roots.items)) }
-    ensures patterns { OnOk result (Lists listed.old.patterns.items listed.new.patterns.items
+    ensures roots { OnOk result (KeepsRoots listed.old listed.new) }
+    ensures patterns { OnOk result (AddsPatterns listed.old listed.new
         (literal.call_patterns (view.call_of call.now))) }
 {
     let arguments = call.arguments.as_slice();
@@ -427,12 +413,11 @@ fn make_xor(
         (typing.arguments_typed (tree.arguments (view.arguments_of arguments.now))) }
     requires fit { typing.all_fit (logical_type ∷ logical_type ∷ [])
         (tree.arguments (view.arguments_of arguments.now)) ≡ true }
-    ensures made { IfOk result (λ l. Reads (compiled.roots_of listed.new.roots.items)
+    ensures made { IfOk result (λ l. ReadsWith listed.new
         (λ all. compiled.logical_in all l) (tree.test_call (tree.call (codes "xor")
         (tree.arguments (view.arguments_of arguments.now))))) }
-    ensures roots { OnOk result (Begins (compiled.roots_of listed.old.roots.items)
-        (compiled.roots_of listed.new.roots.items)) }
-    ensures patterns { OnOk result (Lists listed.old.patterns.items listed.new.patterns.items
+    ensures roots { OnOk result (KeepsRoots listed.old listed.new) }
+    ensures patterns { OnOk result (AddsPatterns listed.old listed.new
         (literal.arguments_patterns (tree.arguments (view.arguments_of arguments.now)))) }
 {
     let [left, right] = arguments else {
@@ -463,12 +448,11 @@ fn make_truth(
     requires sound { IsSound (numbers.argument_numbers (view.argument_of argument.now))
         (typing.argument_typed (view.argument_of argument.now)) }
     requires fits { typing.fits logical_type (view.argument_of argument.now) ≡ true }
-    ensures made { IfOk result (λ l. Reads (compiled.roots_of listed.new.roots.items)
+    ensures made { IfOk result (λ l. ReadsWith listed.new
         (λ all. compiled.truth_argument (compiled.form_of (view.argument_of argument.now))
         (compiled.logical_in all l.value)) (view.argument_of argument.now)) }
-    ensures roots { OnOk result (Begins (compiled.roots_of listed.old.roots.items)
-        (compiled.roots_of listed.new.roots.items)) }
-    ensures patterns { OnOk result (Lists listed.old.patterns.items listed.new.patterns.items
+    ensures roots { OnOk result (KeepsRoots listed.old listed.new) }
+    ensures patterns { OnOk result (AddsPatterns listed.old listed.new
         (literal.argument_patterns (view.argument_of argument.now))) }
 {
     match argument {
@@ -505,11 +489,10 @@ fn make_text_test(
         ⊎ (option_map function_of function ≡ Some functions.search_function) }
     ensures made { IfOk result (λ l. (name : Text)
         → option_map function_of function ≡ functions.function_named name
-        → Reads (compiled.roots_of listed.new.roots.items) (λ all. compiled.logical_in all l)
+        → ReadsWith listed.new (λ all. compiled.logical_in all l)
         (tree.test_call (tree.call name (tree.arguments (view.arguments_of arguments.now))))) }
-    ensures roots { OnOk result (Begins (compiled.roots_of listed.old.roots.items)
-        (compiled.roots_of listed.new.roots.items)) }
-    ensures patterns { OnOk result (Lists listed.old.patterns.items listed.new.patterns.items
+    ensures roots { OnOk result (KeepsRoots listed.old listed.new) }
+    ensures patterns { OnOk result (AddsPatterns listed.old listed.new
         (literal.second_text (tree.arguments (view.arguments_of arguments.now))
         ++ literal.arguments_patterns (tree.arguments (view.arguments_of arguments.now)))) }
 {

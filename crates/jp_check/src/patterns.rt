@@ -5,7 +5,7 @@ ghost use Rattle.std.specs.Str.{chars};
 ghost use Rattle.jp_tree.specs.View.{text_of};
 ghost use Rattle.jp_tree.specs.PartViews as view;
 ghost use Rattle.jp_check.specs.LiteralPatterns as literal;
-ghost use Rattle.jp_check.specs.Making.{Lists};
+ghost use Rattle.jp_check.specs.inner.Making.{Lists};
 
 use jp_compiled::KnownPattern;
 use jp_regexp::Pattern;
@@ -27,11 +27,11 @@ pub(crate) fn literal_text(argument: &Argument) -> Option<&str>
     }
 }
 
-/// The text, and the pattern that it is, if it is one, made ready for many texts.
+/// The text, and the pattern that it is, if it is one, compiled for many texts.
 fn read_pattern(alloc: Global, text: &str) -> Result<KnownPattern, AllocError>
     ensures { IfOk result (λ k. text_of k.text ≡ chars text.now) }
 {
-    let pattern = match Pattern::ready(alloc, text)? {
+    let pattern = match Pattern::compiled(alloc, text)? {
         Some(pattern) => Some(Arc::new(alloc, pattern)?),
         None => None,
     };

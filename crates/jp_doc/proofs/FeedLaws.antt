@@ -5,7 +5,7 @@ use Rattle.std.proofs.Math.ListN.{set}
 use Rattle.std.proofs.Math.Seq.{set-append_seam}
 use Rattle.std.proofs.lemmas.List.{map-append}
 use Rattle.std.specs.List.{concat}
-use Rattle.jp_doc.specs.Added.{Adds, Begins}
+use Rattle.jp_doc.specs.inner.Added.{Adds, Begins}
 use Rattle.jp_doc.specs.Feeding.{Cut, cut, has_line_feed, numbered, Progress, nothing_fed, fed, fed_lines}
 use Rattle.jp_doc.specs.Feeding.{lines_of_pieces, after_pieces}
 use Rattle.jp_doc.specs.Lines.{Line, line_of, all_lines, is_blank, lines, line_count}

@@ -7,7 +7,6 @@ pub mod Rising
 pub mod Document
 pub mod DocumentValue
 pub mod Feeding
-pub mod Limits
-pub mod Added
 pub mod Height
 pub mod FaultWords
+pub mod inner

@@ -6,7 +6,7 @@ ghost use Rattle.serde_json.specs.Written.{has_float, items_have_float, members_
 ghost use Rattle.jp_doc.specs.Json.{value_of, items_of, members_of};
 ghost use Rattle.jp_doc.specs.Reading.{fault_of, has_long_array, items_have_long_array};
 ghost use Rattle.jp_doc.specs.Reading.{members_have_long_array};
-ghost use Rattle.jp_doc.specs.Limits.{tested};
+ghost use Rattle.jp_doc.specs.inner.Limits.{tested};
 
 use crate::fault::DocFault;
 use serde_json::{Map, Value};

@@ -1,7 +1,7 @@
 //! Lines of bytes that come in pieces (JSON Lines).
 
 ghost use Rattle.std.specs.Prelude.{◌≡◌, ◌+◌, ◌≤◌, [], ◌∷◌, ◌++◌, false, length, map, IfOk, OnOk, OnErr};
-ghost use Rattle.jp_doc.specs.Added.{Adds, Begins, after_line};
+ghost use Rattle.jp_doc.specs.inner.Added.{Adds, Begins, after_line};
 ghost use Rattle.jp_doc.specs.Feeding.{cut, has_line_feed, numbered, nothing_fed, fed, fed_lines, finished};
 ghost use Rattle.jp_doc.specs.Feeding.{finished_lines};
 ghost use Rattle.jp_doc.specs.Lines.{line_of};

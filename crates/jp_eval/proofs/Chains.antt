@@ -8,11 +8,11 @@ use Rattle.jp_tree.specs.Tree as tree
 use Rattle.jp_compiled.specs.Compiled.{segment_in, segments_in, selector_in}
 use Rattle.jp_compiled.specs.declared.query.Segment.{Segment, out-Segment}
 use Rattle.jp_compiled.specs.declared.query.Selector.{Selector}
-use Rattle.jp_eval.specs.Base.{Base}
+use Rattle.jp_eval.specs.inner.Base.{Base}
 use Rattle.jp_nodes.specs.Nodes.{children, descendants}
 use Rattle.jp_eval.specs.Nodelist as spec
 use Rattle.jp_value.specs.RightTests.{tests}
-use Rattle.jp_eval.specs.Walk.{picked, picked_by, reached}
+use Rattle.jp_eval.specs.inner.Walk.{picked, picked_by, reached}
 use Rattle.jp_nodes.proofs.Descent.{descend}
 use Rattle.jp_eval.proofs.CompiledParts.{segment_is}
 

@@ -43,9 +43,9 @@ use Rattle.jp_compiled.specs.declared.query.Nodes.TheVariants as nod
 use Rattle.jp_trail.specs.Links.{link_steps}
 use Rattle.jp_trail.specs.declared.link.Link.{Link}
 use Rattle.jp_value.specs.Literals.{literal_value, written_value}
-use Rattle.jp_eval.specs.Rooted.{root_nodes}
-use Rattle.jp_eval.specs.Base.{Base}
-use Rattle.jp_nodes.specs.Links.{here}
+use Rattle.jp_eval.specs.inner.Rooted.{root_nodes}
+use Rattle.jp_eval.specs.inner.Base.{Base}
+use Rattle.jp_eval.specs.inner.Links.{here}
 use Rattle.jp_part.specs.Part.{part_value}
 use Rattle.jp_part.specs.declared.part.Part.{Part}
 use Rattle.jp_value.specs.Comparison.{compared}
@@ -54,7 +54,7 @@ use Rattle.jp_value.specs.Functions.{number_value, as_truth, as_nodes, exactly_o
 use Rattle.jp_eval.specs.Nodelist as spec
 use Rattle.jp_nodes.specs.Nodes.{child, children, items_at}
 use Rattle.jp_value.specs.RightTests.{tests}
-use Rattle.jp_eval.specs.Walk.{picked, reached, is_true, value_given, nodes_given}
+use Rattle.jp_eval.specs.inner.Walk.{picked, reached, is_true, value_given, nodes_given}
 
 pub segment_is : (roots : List Wanted) (s : Segment)
     → segment_in roots s ≡ tree.segment (out-Segment s).deep

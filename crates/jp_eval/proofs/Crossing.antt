@@ -13,7 +13,7 @@ use Rattle.jp_compiled.specs.contracts.query.Selector as Selector
 use Rattle.jp_compiled.specs.contracts.query.Logical as Logical
 use Rattle.jp_compiled.specs.contracts.query.RootQuery as RootQuery
 use Rattle.jp_regexp.proofs.tree.CharSet.TheSendSync as sets
-use Rattle.jp_regexp.proofs.table.Table.TheSendSync as tables
+use Rattle.jp_regexp.proofs.dfa.Dfa.TheSendSync as dfas
 use Rattle.jp_compiled.proofs.query.Constant.TheSendSync as constants
 use Rattle.jp_compiled.proofs.query.Position.TheSendSync as positions
 use Rattle.jp_compiled.proofs.query.Slice.TheSendSync as slices
@@ -33,18 +33,18 @@ use Rattle.jp_part.specs.contracts.items.Items as Items
 use Rattle.jp_part.specs.contracts.members.MemberRow as MemberRow
 use Rattle.jp_part.specs.contracts.tree.TreeMember as TreeMember
 use Rattle.jp_flat.specs.contracts.value.FlatMember as FlatMember
-use Rattle.jp_nodes.specs.contracts.row.Child as Child
-use Rattle.jp_nodes.specs.contracts.row.Row as Row
+use Rattle.jp_nodes.specs.contracts.children.Child as Child
+use Rattle.jp_eval.specs.contracts.row.Row as Row
 use Rattle.jp_eval.specs.contracts.walk.Task as Task
 use Rattle.jp_eval.specs.contracts.context.Context as Context
-use Rattle.jp_nodes.specs.contracts.different.Different as Different
-use Rattle.jp_nodes.specs.contracts.found.Alone as Alone
-use Rattle.jp_nodes.specs.contracts.aggregates.Aggregate as Aggregate
+use Rattle.jp_eval.specs.contracts.different.Different as Different
+use Rattle.jp_eval.specs.contracts.found.Alone as Alone
+use Rattle.jp_eval.specs.contracts.aggregates.Aggregate as Aggregate
 
 pub segment_sync : IsSync Segment.the_row
 segment_sync = search (
-  tables.the_field_sync,
-  tables.the_field_send,
+  dfas.the_field_sync,
+  dfas.the_field_send,
   sets.the_field_send,
   sets.the_field_sync,
   constants.the_field_sync,
@@ -59,8 +59,8 @@ segment_sync = search (
 
 pub selector_sync : IsSync Selector.the_row
 selector_sync = search (
-  tables.the_field_sync,
-  tables.the_field_send,
+  dfas.the_field_sync,
+  dfas.the_field_send,
   sets.the_field_send,
   sets.the_field_sync,
   constants.the_field_sync,
@@ -75,8 +75,8 @@ selector_sync = search (
 
 pub logical_sync : IsSync Logical.the_row
 logical_sync = search (
-  tables.the_field_sync,
-  tables.the_field_send,
+  dfas.the_field_sync,
+  dfas.the_field_send,
   sets.the_field_send,
   sets.the_field_sync,
   constants.the_field_sync,
@@ -91,8 +91,8 @@ logical_sync = search (
 
 pub root_sync : IsSync RootQuery.the_row
 root_sync = search (
-  tables.the_field_sync,
-  tables.the_field_send,
+  dfas.the_field_sync,
+  dfas.the_field_send,
   sets.the_field_send,
   sets.the_field_sync,
   constants.the_field_sync,

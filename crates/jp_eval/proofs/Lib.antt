@@ -1,3 +1,12 @@
+pub mod Keeping
+pub mod Parts
+pub mod Telling
+pub mod Differing
+pub mod SameLocations
+pub mod Gathered
+pub mod Rows
+pub mod BoundsWithin
+pub mod Slicing
 pub mod Through
 pub mod Leading
 pub mod Listed

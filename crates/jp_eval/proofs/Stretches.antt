@@ -7,14 +7,14 @@ use Rattle.std.specs.List.{filter, flat_map}
 use Rattle.jp_doc.specs.Location.{Location, Node}
 use Rattle.jp_compiled.specs.declared.query.Segment.{Segment}
 use Rattle.jp_compiled.specs.declared.query.Selector.{Selector}
-use Rattle.jp_eval.specs.Base.{Base}
+use Rattle.jp_eval.specs.inner.Base.{Base}
 use Rattle.jp_nodes.specs.Kids.{all_height}
-use Rattle.jp_eval.specs.Along.{done_along, done_along_all, highest}
-use Rattle.jp_nodes.specs.Kept.{plus}
-use Rattle.jp_eval.specs.Walk.{picked, picked_by, reached}
+use Rattle.jp_eval.specs.inner.Along.{done_along, done_along_all, highest}
+use Rattle.jp_eval.specs.inner.Kept.{plus}
+use Rattle.jp_eval.specs.inner.Walk.{picked, picked_by, reached}
 use Rattle.jp_eval.specs.declared.stretch.Stretch.{Stretch}
 use Rattle.jp_eval.proofs.Chains.{reached-append, reached-each, reached-filter, reached-none}
-use Rattle.jp_nodes.proofs.Keeping.{stepped}
+use Rattle.jp_eval.proofs.Keeping.{stepped}
 
 -- the segments from each child that a selector picks, and from each for which a test is true
 pub run_along : (base : Base) (ss : List Segment) (x : Selector) (n : Node) (ks ns : List Node) → ks ≡ ns

@@ -2,11 +2,11 @@
 
 ghost use Rattle.std.specs.Prelude.{◌≡◌, true};
 ghost use Rattle.jp_compiled.specs.Compiled.{roots_of};
-ghost use Rattle.jp_eval.specs.Rooted.{are_answers};
+ghost use Rattle.jp_eval.specs.inner.Rooted.{are_answers};
 ghost use Rattle.jp_part.specs.Part.{part_value};
 
+use crate::aggregates::{Aggregate, is_told, of_one};
 use jp_compiled::{RootQuery, Want};
-use jp_nodes::aggregates::{Aggregate, is_told, of_one};
 use jp_part::Part;
 use std::alloc::{AllocError, Global};
 
@@ -26,8 +26,8 @@ impl<'v> Context<'v> {
     ghost use Rattle.std.specs.Prelude.{◌++◌, ◌∷◌, [], IfOk};
     ghost use Rattle.jp_compiled.specs.Compiled.{root_at, wanted_in};
     ghost use Rattle.jp_doc.specs.Location.{Node};
-    ghost use Rattle.jp_nodes.specs.Aggregates.{tells};
-    ghost use Rattle.jp_eval.specs.Rooted.{is_answer};
+    ghost use Rattle.jp_eval.specs.inner.Aggregates.{tells};
+    ghost use Rattle.jp_eval.specs.inner.Rooted.{is_answer};
     ghost use Rattle.jp_eval.specs.Nodelist.{nodelist};
     ghost use Rattle.jp_value.specs.RightTests.{tests};
 

@@ -10,13 +10,13 @@ ghost use Rattle.jp_regexp.specs.Tests.{Tests, AreRight};
 
 use crate::evaluation::EvalFault;
 use crate::fork::{Cuts, Fork};
+use crate::found::{Found, into_visitor};
 use crate::roots::answer_roots;
 use crate::split::go_split;
 use crate::walk::{Task, run};
 use jp_check::Plan;
 use jp_doc::Document;
 use jp_nodes::Visit;
-use jp_nodes::found::{Found, into_visitor};
 use jp_part::Part;
 use jp_trail::{Room, Trail};
 use std::alloc::Global;

@@ -2,13 +2,18 @@
 //! or by halves of long lists at once.
 #![tactic(auto)]
 
+mod aggregates;
 mod context;
+mod different;
 mod evaluation;
 mod evaluator;
 mod examples;
 mod fork;
+mod found;
 pub mod laws;
 mod roots;
+mod row;
+mod slices;
 mod split;
 mod stretch;
 mod walk;

@@ -2,15 +2,15 @@
 
 ghost use Rattle.std.specs.Prelude.{◌≡◌, true, IfOk};
 ghost use Rattle.jp_compiled.specs.Compiled.{roots_of, wanted_in};
-ghost use Rattle.jp_eval.specs.Rooted.{is_answer};
+ghost use Rattle.jp_eval.specs.inner.Rooted.{is_answer};
 ghost use Rattle.jp_part.specs.Part.{part_value};
 
+use crate::aggregates::Aggregate;
 use crate::context::Context;
+use crate::found::{into_aggregate, none_found};
 use crate::walk::run;
 use jp_compiled::RootQuery;
 use jp_nodes::Visit;
-use jp_nodes::aggregates::Aggregate;
-use jp_nodes::found::{into_aggregate, none_found};
 use jp_part::Part;
 use jp_trail::Trail;
 use std::alloc::{AllocError, Global};

@@ -3,21 +3,23 @@
 ghost use Rattle.std.specs.Prelude.{◌≡◌, [], true, IfOk, OnOk, MatchOption};
 ghost use Rattle.std.specs.List.{All, flat_map};
 ghost use Rattle.std.specs.Thread.{IsSync};
-ghost use Rattle.jp_eval.specs.Base.{base_of};
-ghost use Rattle.jp_nodes.specs.Kept.{kept, put_found, plus, taken, is_taken};
-ghost use Rattle.jp_nodes.specs.Kids.{row_kids};
-ghost use Rattle.jp_eval.specs.Along.{done_along_all};
-ghost use Rattle.jp_nodes.specs.Links.{here};
-ghost use Rattle.jp_eval.specs.Walk.{done};
+ghost use Rattle.jp_eval.specs.inner.Base.{base_of};
+ghost use Rattle.jp_eval.specs.inner.Finding.{Finds};
+ghost use Rattle.jp_eval.specs.inner.Kept.{kept, put_found, plus, taken, is_taken};
+ghost use Rattle.jp_eval.specs.inner.Rows.{row_kids};
+ghost use Rattle.jp_eval.specs.inner.Along.{done_along_all};
+ghost use Rattle.jp_eval.specs.inner.Links.{here};
+ghost use Rattle.jp_eval.specs.inner.Walk.{done};
 ghost use Rattle.jp_trail.specs.Links.{link_steps};
 
 use crate::context::Context;
 use crate::fork::{Cuts, Fork};
+use crate::found::{Found, append, fresh, into_visitor, is_full};
+use crate::row::Row;
 use crate::stretch::{Stretch, stretches};
 use crate::walk::{Task, go, holds};
 use crate::wide::is_wide;
-use jp_nodes::found::{Found, append, fresh, into_visitor, is_full};
-use jp_nodes::{Row, Visit};
+use jp_nodes::Visit;
 use jp_part::Part;
 use jp_trail::{Link, Trail};
 use std::alloc::{AllocError, Global};
@@ -36,8 +38,7 @@ pub(crate) fn go_split<'v, R: Threads + Sync, F: Fork + Sync, V: Visit + Drop + 
     found: &mut Found<'v, V>,
 ) -> Result<(), AllocError>
     requires taken { is_taken (kept V.kept found.old) ≡ true }
-    ensures found { OnOk result (kept V.kept found.new
-        ≡ plus (put_found V.put) (kept V.kept found.old)
+    ensures found { OnOk result (Finds V.kept V.put found.old found.new
         (done (base_of context.now) task.entry (here path.old value.entry))) }
     ensures path { OnOk result (path.new ≡ path.old) }
 {
@@ -65,13 +66,12 @@ fn each_stretch<'v, R: Threads + Sync, F: Fork + Sync, V: Visit + Drop + Send>(
     found: &mut Found<'v, V>,
 ) -> Result<(), AllocError>
     requires taken { is_taken (kept V.kept found.old) ≡ true }
-    ensures found { OnOk result (kept V.kept found.new
-        ≡ plus (put_found V.put) (kept V.kept found.old)
+    ensures found { OnOk result (Finds V.kept V.put found.old found.new
         (done_along_all (base_of context.now) (link_steps path.old) stretches.now)) }
     ensures path { OnOk result (path.new ≡ path.old) }
 {
     for stretch in stretches {
-        let children = stretch.children.counted_row();
+        let children = Row::counted(&stretch.children);
         each_of(rt, fork, cuts, context, stretch.task, children, path, found)?;
     }
     Ok(())
@@ -90,8 +90,7 @@ fn each_of<'v, R: Threads + Sync, F: Fork + Sync, V: Visit + Drop + Send>(
     found: &mut Found<'v, V>,
 ) -> Result<(), AllocError>
     requires taken { is_taken (kept V.kept found.old) ≡ true }
-    ensures found { OnOk result (kept V.kept found.new
-        ≡ plus (put_found V.put) (kept V.kept found.old)
+    ensures found { OnOk result (Finds V.kept V.put found.old found.new
         (flat_map (done (base_of context.now) task.entry) (row_kids (link_steps path.old) children.entry))) }
     ensures path { OnOk result (path.new ≡ path.old) }
 {
@@ -172,8 +171,7 @@ fn one_by_one<'v, R: Threads + Sync, F: Fork + Sync, V: Visit + Drop + Send>(
     found: &mut Found<'v, V>,
 ) -> Result<(), AllocError>
     requires taken { is_taken (kept V.kept found.old) ≡ true }
-    ensures found { OnOk result (kept V.kept found.new
-        ≡ plus (put_found V.put) (kept V.kept found.old)
+    ensures found { OnOk result (Finds V.kept V.put found.old found.new
         (flat_map (done (base_of context.now) task.entry) (row_kids (link_steps path.old) children.entry))) }
     ensures path { OnOk result (path.new ≡ path.old) }
 {

@@ -7,20 +7,22 @@ ghost use Rattle.jp_doc.specs.Location.{Location, node};
 ghost use Rattle.jp_trail.specs.Links.{link_steps};
 ghost use Rattle.jp_part.specs.Part.{part_value};
 ghost use Rattle.jp_value.specs.Kinds.{given_value};
-ghost use Rattle.jp_nodes.specs.Aggregates.{tells};
-ghost use Rattle.jp_nodes.specs.Kept.{kept, put_found, plus};
-ghost use Rattle.jp_nodes.specs.Kids.{row_kids, row_height};
-ghost use Rattle.jp_nodes.specs.Links.{here};
+ghost use Rattle.jp_eval.specs.inner.Aggregates.{tells};
+ghost use Rattle.jp_eval.specs.inner.Finding.{Finds};
+ghost use Rattle.jp_eval.specs.inner.Rows.{row_kids, row_height};
+ghost use Rattle.jp_eval.specs.inner.Links.{here};
 ghost use Rattle.jp_nodes.specs.Nodes.{children, children_at, descendants, items_at};
-ghost use Rattle.jp_eval.specs.Base.{Base, base_of};
-ghost use Rattle.jp_eval.specs.Walk.{picked, picked_by, reached, is_true, value_given, nodes_given, done};
+ghost use Rattle.jp_eval.specs.inner.Base.{Base, base_of};
+ghost use Rattle.jp_eval.specs.inner.Walk.{picked, picked_by, reached, is_true, value_given, nodes_given};
+ghost use Rattle.jp_eval.specs.inner.Walk.{done};
 
+use crate::aggregates::{Aggregate, has_first, of_distinct, operand};
 use crate::context::Context;
+use crate::found::{Found, add, into_aggregate, is_full, none_found};
+use crate::row::Row;
+use crate::slices::sliced;
 use jp_compiled::{Logical, Nodes, Segment, Selector, Value as Giver, Want};
-use jp_nodes::aggregates::{Aggregate, has_first, of_distinct, operand};
-use jp_nodes::children::{children_of, sliced};
-use jp_nodes::found::{Found, add, into_aggregate, is_full, none_found};
-use jp_nodes::{Row, Visit};
+use jp_nodes::{Visit, children_of};
 use jp_part::{Kind, Part};
 use jp_trail::{Link, Trail};
 use jp_value::{
@@ -38,6 +40,13 @@ pub(crate) enum Task<'v> {
     Descend(&'v [Selector], &'v [Segment]),
     /// The segments, where the expression is true of the value.
     Test(&'v Logical, &'v [Segment]),
+}
+
+/// A value, and all its children in a row.
+#[derive(Clone, Copy)]
+struct Opened<'c, 'v> {
+    value: Part<'v>,
+    row: Row<'c, 'v>,
 }
 
 /// Whether the task finds nothing at the value, since it goes down, and nothing is inside.
@@ -60,8 +69,7 @@ pub(crate) fn go<'v, V: Visit + Drop>(
     path: &mut Trail<'v>,
     found: &mut Found<'v, V>,
 ) -> Result<(), AllocError>
-    ensures found { OnOk result (kept V.kept found.new
-        ≡ plus (put_found V.put) (kept V.kept found.old)
+    ensures found { OnOk result (Finds V.kept V.put found.old found.new
         (done (base_of context.now) task.entry (here path.old value.entry))) }
     ensures path { OnOk result (path.new ≡ path.old) }
 {
@@ -69,8 +77,8 @@ pub(crate) fn go<'v, V: Visit + Drop>(
         Task::Run(rest) => run(context, rest, value, path, found),
         Task::Descend(selectors, rest) => {
             let children = children_of(context.alloc, value)?;
-            let row = children.row();
-            apply_inside(context, selectors, rest, value, row, path, found)?;
+            let row = Row::all(&children);
+            apply_inside(context, selectors, rest, Opened { value, row }, path, found)?;
             each_of(context, task, row, path, found)
         }
         Task::Test(test, rest) => {
@@ -91,9 +99,8 @@ pub(crate) fn run<'v, V: Visit + Drop>(
     path: &mut Trail<'v>,
     found: &mut Found<'v, V>,
 ) -> Result<(), AllocError>
-    ensures found { OnOk result (kept V.kept found.new
-        ≡ plus (put_found V.put) (kept V.kept found.old) (reached (base_of context.now) segments.now
-        (here path.old value.entry ∷ []))) }
+    ensures found { OnOk result (Finds V.kept V.put found.old found.new
+        (reached (base_of context.now) segments.now (here path.old value.entry ∷ []))) }
     ensures path { OnOk result (path.new ≡ path.old) }
 {
     match segments.split_first() {
@@ -119,8 +126,8 @@ fn apply<'v, V: Visit + Drop>(
     path: &mut Trail<'v>,
     found: &mut Found<'v, V>,
 ) -> Result<(), AllocError>
-    ensures found { OnOk result (kept V.kept found.new
-        ≡ plus (put_found V.put) (kept V.kept found.old) (reached (base_of context.now) rest.now
+    ensures found { OnOk result (Finds V.kept V.put found.old found.new
+        (reached (base_of context.now) rest.now
         (picked_by (base_of context.now) selectors.now (here path.old value.entry)))) }
     ensures path { OnOk result (path.new ≡ path.old) }
 {
@@ -143,8 +150,8 @@ fn select<'v, V: Visit + Drop>(
     path: &mut Trail<'v>,
     found: &mut Found<'v, V>,
 ) -> Result<(), AllocError>
-    ensures found { OnOk result (kept V.kept found.new
-        ≡ plus (put_found V.put) (kept V.kept found.old) (reached (base_of context.now) rest.now
+    ensures found { OnOk result (Finds V.kept V.put found.old found.new
+        (reached (base_of context.now) rest.now
         (picked (base_of context.now) selector.now (here path.old value.entry)))) }
     ensures path { OnOk result (path.new ≡ path.old) }
 {
@@ -181,23 +188,22 @@ fn apply_inside<'v, V: Visit + Drop>(
     context: &Context<'v>,
     selectors: &'v [Selector],
     rest: &'v [Segment],
-    value: Part<'v>,
-    row: Row<'_, 'v>,
+    opened: Opened<'_, 'v>,
     path: &mut Trail<'v>,
     found: &mut Found<'v, V>,
 ) -> Result<(), AllocError>
-    requires nodes { (at : Location) → row_kids at row ≡ children_at at (part_value value) }
-    requires height { row_height row ≤ height (part_value value) }
-    ensures found { OnOk result (kept V.kept found.new
-        ≡ plus (put_found V.put) (kept V.kept found.old) (reached (base_of context.now) rest.now
-        (picked_by (base_of context.now) selectors.now (here path.old value.entry)))) }
+    requires nodes { (at : Location) → row_kids at opened.row ≡ children_at at (part_value opened.value) }
+    requires height { row_height opened.row ≤ height (part_value opened.value) }
+    ensures found { OnOk result (Finds V.kept V.put found.old found.new
+        (reached (base_of context.now) rest.now
+        (picked_by (base_of context.now) selectors.now (here path.old opened.entry.value)))) }
     ensures path { OnOk result (path.new ≡ path.old) }
 {
     for selector in selectors {
         if is_full(found) {
             return Ok(());
         }
-        select_inside(context, selector, rest, value, row, path, found)?;
+        select_inside(context, selector, rest, opened, path, found)?;
     }
     Ok(())
 }
@@ -208,22 +214,21 @@ fn select_inside<'v, V: Visit + Drop>(
     context: &Context<'v>,
     selector: &'v Selector,
     rest: &'v [Segment],
-    value: Part<'v>,
-    row: Row<'_, 'v>,
+    opened: Opened<'_, 'v>,
     path: &mut Trail<'v>,
     found: &mut Found<'v, V>,
 ) -> Result<(), AllocError>
-    requires nodes { (at : Location) → row_kids at row ≡ children_at at (part_value value) }
-    requires height { row_height row ≤ height (part_value value) }
-    ensures found { OnOk result (kept V.kept found.new
-        ≡ plus (put_found V.put) (kept V.kept found.old) (reached (base_of context.now) rest.now
-        (picked (base_of context.now) selector.now (here path.old value.entry)))) }
+    requires nodes { (at : Location) → row_kids at opened.row ≡ children_at at (part_value opened.value) }
+    requires height { row_height opened.row ≤ height (part_value opened.value) }
+    ensures found { OnOk result (Finds V.kept V.put found.old found.new
+        (reached (base_of context.now) rest.now
+        (picked (base_of context.now) selector.now (here path.old opened.entry.value)))) }
     ensures path { OnOk result (path.new ≡ path.old) }
 {
     match selector {
-        Selector::Wild => each_of(context, Task::Run(rest), row, path, found),
-        Selector::Filter(test) => each_of(context, Task::Test(test, rest), row, path, found),
-        _ => select(context, selector, rest, value, path, found),
+        Selector::Wild => each_of(context, Task::Run(rest), opened.row, path, found),
+        Selector::Filter(test) => each_of(context, Task::Test(test, rest), opened.row, path, found),
+        _ => select(context, selector, rest, opened.value, path, found),
     }
 }
 
@@ -237,8 +242,8 @@ fn at_place<'v, V: Visit + Drop>(
     path: &mut Trail<'v>,
     found: &mut Found<'v, V>,
 ) -> Result<(), AllocError>
-    ensures found { OnOk result (kept V.kept found.new
-        ≡ plus (put_found V.put) (kept V.kept found.old) (reached (base_of context.now) rest.now
+    ensures found { OnOk result (Finds V.kept V.put found.old found.new
+        (reached (base_of context.now) rest.now
         (items_at (here path.old value.entry) (option_to_list place)))) }
     ensures path { OnOk result (path.new ≡ path.old) }
 {
@@ -262,14 +267,12 @@ fn each_child<'v, V: Visit + Drop>(
     path: &mut Trail<'v>,
     found: &mut Found<'v, V>,
 ) -> Result<(), AllocError>
-    ensures found { OnOk result (kept V.kept found.new
-        ≡ plus (put_found V.put) (kept V.kept found.old)
-        (flat_map (done (base_of context.now) task.entry)
-        (children (here path.old value.entry)))) }
+    ensures found { OnOk result (Finds V.kept V.put found.old found.new
+        (flat_map (done (base_of context.now) task.entry) (children (here path.old value.entry)))) }
     ensures path { OnOk result (path.new ≡ path.old) }
 {
     let children = children_of(context.alloc, value)?;
-    each_of(context, task, children.row(), path, found)
+    each_of(context, task, Row::all(&children), path, found)
 }
 
 /// The task at each of these children, one after another.
@@ -281,8 +284,7 @@ fn each_of<'v, V: Visit + Drop>(
     path: &mut Trail<'v>,
     found: &mut Found<'v, V>,
 ) -> Result<(), AllocError>
-    ensures found { OnOk result (kept V.kept found.new
-        ≡ plus (put_found V.put) (kept V.kept found.old)
+    ensures found { OnOk result (Finds V.kept V.put found.old found.new
         (flat_map (done (base_of context.now) task.entry) (row_kids (link_steps path.old) children.entry))) }
     ensures path { OnOk result (path.new ≡ path.old) }
 {

@@ -1,9 +1,8 @@
-use jp_nodes::Children;
-use jp_nodes::children::children_of;
+use jp_nodes::named;
 use jp_part::Part;
 use std::alloc::{AllocError, Global};
 
-fn has_children(alloc: Global, value: Part<'_>) -> Result<bool, AllocError> {
-    let children: Children<'_> = children_of(alloc, value)?;
-    Ok(children.row().split_first().is_some())
+fn has_member<'v>(alloc: Global, value: Part<'v>, name: &'v str) -> Result<bool, AllocError> {
+    let children = named(alloc, value, name)?;
+    Ok(!children.is_empty())
 }

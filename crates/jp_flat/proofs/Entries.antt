@@ -20,7 +20,7 @@ use Rattle.jp_doc.proofs.OrderLaws.{text_order}
 use Rattle.jp_doc.proofs.RisingLaws.{utf8_put}
 use Rattle.jp_flat.specs.Flat.{json_or_null}
 use Rattle.jp_flat.specs.Members.{put_member, put_all, last_of, entries_of}
-use Rattle.jp_flat.specs.Plain.{is_plain, members_are_plain}
+use Rattle.jp_flat.specs.inner.Plain.{is_plain, members_are_plain}
 use Rattle.jp_flat.proofs.Numbers.{both}
 
 put_at : (o : Ordering) (k l : List ℕ) (d e : Data) (ms : Members) (rest : json.Members)

@@ -26,7 +26,7 @@ use Rattle.jp_doc.specs.DocumentValue.{whole_in}
 use Rattle.jp_flat.specs.Flat.{is_flat, value_at}
 use Rattle.jp_flat.specs.Value.{text_in, IsNoArray, IsNoObject}
 use Rattle.jp_flat.specs.Digits.{whole_value}
-use Rattle.jp_flat.specs.Plain.{is_plain, is_whole_text}
+use Rattle.jp_flat.specs.inner.Plain.{is_plain, is_whole_text}
 use Rattle.jp_flat.proofs.Numbers.{whole_text}
 use Rattle.jp_flat.proofs.PlainTokens.{some_token}
 use Rattle.jp_flat.proofs.Reading.{Flat, flat_of, read_of_flat, made_of, value_is}

@@ -17,7 +17,7 @@ use Rattle.std.specs.Prelude.{ℕ, encode_utf8_all}
 use Rattle.std.specs.Str.{chars}
 use Rattle.jp_doc.specs.Json.{Text, text_cmp, text_eq, Json, Members, no_members, add_member}
 use Rattle.jp_doc.specs.Location.{member_at}
-use Rattle.jp_flat.specs.Above.{IsAbove}
+use Rattle.jp_flat.specs.inner.Above.{IsAbove}
 use Rattle.jp_flat.specs.Gathered.{entry, onto, gathered, AreAbove, NamesRise}
 use Rattle.jp_flat.specs.Members.{put_all, last_of}
 use Rattle.jp_flat.specs.Value.{flat_value}

@@ -6,7 +6,7 @@ use Rattle.json.specs.Json as text
 use Rattle.serde_json.specs.Data.{Data}
 use Rattle.serde_json.specs.Read.{of_json, max_depth}
 use Rattle.jp_doc.specs.Json.{Json, null, json_of}
-use Rattle.jp_flat.specs.Plain.{is_plain}
+use Rattle.jp_flat.specs.inner.Plain.{is_plain}
 
 -- what the JSON crate reads from the front of the tokens, where it reads a value
 abbrev pub data_at : List Token → Option Data

@@ -5,7 +5,7 @@ ghost use Rattle.std.specs.Char.{is_ascii_digit};
 ghost use Rattle.std.specs.List.{list_all};
 ghost use Rattle.std.specs.Str.Parse.{digits_value};
 ghost use Rattle.jp_flat.specs.Digits.{whole_value};
-ghost use Rattle.jp_flat.specs.Plain.{are_digits, is_unsigned_text, is_minus_text, is_whole_text};
+ghost use Rattle.jp_flat.specs.inner.Plain.{are_digits, is_unsigned_text, is_minus_text, is_whole_text};
 
 fn all_digits(bytes: &[u8]) -> bool
     ensures { result ≡ list_all is_ascii_digit bytes.now }

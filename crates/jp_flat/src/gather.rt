@@ -4,7 +4,7 @@ ghost use Rattle.std.specs.Prelude.{◌≡◌, IsTrue, OnOk, IfOk, map, None};
 ghost use Rattle.std.specs.Str.{chars};
 ghost use Rattle.jp_doc.specs.Json.{Text, text_cmp, text_eq};
 ghost use Rattle.jp_doc.specs.Location.{member_at};
-ghost use Rattle.jp_flat.specs.Above.{IsAbove};
+ghost use Rattle.jp_flat.specs.inner.Above.{IsAbove};
 ghost use Rattle.jp_flat.specs.Gathered.{entry, gathered, NamesRise};
 ghost use Rattle.jp_flat.specs.Members.{last_of};
 ghost use Rattle.jp_flat.specs.Value.{entries};

@@ -3,7 +3,7 @@
 ghost use Rattle.std.specs.Prelude.{◌≡◌, ◌≤◌, List, ◌∷◌, map, false, MatchOption, IfSome};
 ghost use Rattle.json.specs.Tape.{node_token};
 ghost use Rattle.json.specs.Token.{Token};
-ghost use Rattle.jp_flat.specs.Plain.{is_plain_from};
+ghost use Rattle.jp_flat.specs.inner.Plain.{is_plain_from};
 
 use crate::digits::is_whole_text;
 use json::Node;

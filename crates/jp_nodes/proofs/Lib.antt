@@ -1,11 +1,2 @@
 pub mod Descent
-pub mod Keeping
-pub mod Parts
-pub mod Telling
 pub mod Taking
-pub mod Differing
-pub mod SameLocations
-pub mod Gathered
-pub mod Rows
-pub mod BoundsWithin
-pub mod Slicing

@@ -1,19 +1,16 @@
--- A step of a proof, which nobody has to believe who asks what a query selects: children of a value, and rows
--- of them.
-use Rattle.std.specs.Prelude.{ℕ, suc, ◌-◌, List, [], ◌∷◌, ◌++◌, length, map, take, max}
+-- What the calls for children give: the children of a value as its kinds lie, and how high they are.
+use Rattle.std.specs.Prelude.{ℕ, suc, List, [], ◌∷◌, ◌++◌, map, max}
 use Rattle.jp_doc.specs.Height.{height}
 use Rattle.jp_doc.specs.Json.{array, object, items}
 use Rattle.jp_doc.specs.Location.{Location, Node, node}
 use Rattle.jp_trail.specs.Links.{link_step}
 use Rattle.jp_part.specs.Inside.{item_values}
-use Rattle.jp_part.specs.Members.{members, list_entries, row_entries}
+use Rattle.jp_part.specs.Members.{members, list_entries}
 use Rattle.jp_part.specs.Part.{part_value}
 use Rattle.jp_nodes.specs.Nodes.{item_nodes, member_nodes}
-use Rattle.jp_nodes.specs.declared.row.Child.{Child}
-use Rattle.jp_nodes.specs.declared.row.Children.{Children}
-use Rattle.jp_nodes.specs.declared.row.Children.TheVariants.{Listed, Items, Members}
-use Rattle.jp_nodes.specs.declared.row.Row.{Row}
-use Rattle.jp_nodes.specs.declared.row.Row.TheVariants as row
+use Rattle.jp_nodes.specs.declared.children.Child.{Child}
+use Rattle.jp_nodes.specs.declared.children.Children.{Children}
+use Rattle.jp_nodes.specs.declared.children.Children.TheVariants.{Listed, Items, Members}
 
 -- the node of a child of the value at a location, and those of several
 abbrev pub kid : Location → Child → Node
@@ -37,19 +34,3 @@ abbrev pub all_height : Children → ℕ
 all_height (Listed v) = kids_height v.items
 all_height (Items i) = height (array (items (item_values i)))
 all_height (Members l) = height (object (members (list_entries l)))
-
--- the nodes of a row, how high the value is at least, and how many places the row has
-abbrev pub row_kids : Location → Row → List Node
-row_kids at (row.Listed cs) = kids at cs.now
-row_kids at (row.Items i first past) = item_nodes at first (items (take (past - first) (item_values i)))
-row_kids at (row.Members r) = member_nodes at (members (row_entries r))
-
-abbrev pub row_height : Row → ℕ
-row_height (row.Listed cs) = kids_height cs.now
-row_height (row.Items i first past) = height (array (items (item_values i)))
-row_height (row.Members r) = height (object (members (row_entries r)))
-
-abbrev pub row_length : Row → ℕ
-row_length (row.Listed cs) = length cs.now
-row_length (row.Items i first past) = past - first
-row_length (row.Members r) = length (row_entries r)

@@ -1,7 +1,4 @@
 pub mod Nodes
-pub mod Links
-pub mod Kept
-pub mod Different
+pub mod Samples
 pub mod Taken
-pub mod Aggregates
 pub mod Kids

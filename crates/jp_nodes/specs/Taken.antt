@@ -1,4 +1,4 @@
--- A step of a proof, which nobody has to believe who asks what a query selects: what visitors keep.
+-- What a visitor of locations keeps.
 use Rattle.std.specs.Prelude.{List, [], ◌∷◌, ◌++◌}
 use Rattle.jp_doc.specs.Location.{Location, Node}
 

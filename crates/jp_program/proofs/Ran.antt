@@ -7,7 +7,7 @@ use Rattle.jp_doc.specs.Lines.{lines}
 use Rattle.jp_answer.specs.Form.{passed_in}
 use Rattle.jp_run.specs.declared.fault.RunFault.{RunFault}
 use Rattle.jp_run.specs.declared.running.Totals.{Totals}
-use Rattle.jp_program.specs.Asked.{IsAsked, wanted_of}
+use Rattle.jp_program.specs.inner.Asked.{IsAsked, wanted_of}
 use Rattle.jp_program.specs.Outcome.{IsTaken, IsAnswered, IsPast}
 use Rattle.jp_program.specs.Wanted.{Wanted, WantsRun}
 use Rattle.jp_program.specs.declared.command_line.Asked.{Asked}

@@ -1,4 +1,4 @@
-pub mod Asked
 pub mod CommandLine
 pub mod Outcome
 pub mod Wanted
+pub mod inner

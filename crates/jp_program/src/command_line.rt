@@ -6,7 +6,7 @@ ghost use Rattle.clap.specs.Words.{app_of, found_of, rows_of, rule_of, new_app, 
 ghost use Rattle.jp_program.specs.CommandLine.{number_rule, flag_rule, query_rule, jp_app, said, refusals};
 ghost use Rattle.jp_program.specs.CommandLine.{with_version, with_numbers as numbers_of};
 ghost use Rattle.jp_program.specs.CommandLine.{with_query as query_of};
-ghost use Rattle.jp_program.specs.Asked.{IsAsked, IsNotAsked, wanted_of};
+ghost use Rattle.jp_program.specs.inner.Asked.{IsAsked, IsNotAsked, wanted_of};
 ghost use Rattle.jp_program.specs.Wanted.{Wanted as Wish, Says, SaysNumber, SaysFlag, AreSaid};
 
 use crate::version::VERSION;

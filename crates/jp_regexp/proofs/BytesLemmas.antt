@@ -9,9 +9,9 @@ use lib.Utf8.{encode, next}
 use Rattle.std.proofs.lemmas.Str.{encode_ascii}
 use lib.Dec.{ltb}
 use mathlib.Core.Bool.{cond}
-use Rattle.jp_regexp.specs.declared.table.State.{State}
+use Rattle.jp_regexp.specs.declared.dfa.State.{State}
 use Rattle.jp_regexp.specs.CharSets.{is_scalar}
-use Rattle.jp_regexp.specs.Steps.{IsCell, IsTableOf, cell_at, state_after, state_behind}
+use Rattle.jp_regexp.specs.inner.Dfa.{IsCell, IsDfaOf, cell_at, state_after, state_behind}
 use Rattle.jp_regexp.specs.Unrolled.{Unrolled}
 
 -- a byte that goes on with a character
@@ -85,7 +85,7 @@ module _ (cells : List ℕ) (count : ℕ) (full : length cells ≡ count * 256) 
   after_cell : (i b : ℕ) → i < count → b < 256 → state_after cells i b ≡ cell_at cells i b
   after_cell i b lt small = get_or_default cells (i * 256 + b) i 255 (omega arith)
 
-  module _ (p : Unrolled) (anew : Bool) (states : List State) (of : IsTableOf p anew states cells)
+  module _ (p : Unrolled) (unanchored : Bool) (states : List State) (of : IsDfaOf p unanchored states cells)
       (many : count ≡ length states) where
     stays_after : (n b : ℕ) → IsNext b → (n < count) ⊎ (count ≤ n) → state_after cells n b ≡ n
     stays_after n b is (inl lt) =
@@ -103,17 +103,17 @@ module _ (cells : List ℕ) (count : ℕ) (full : length cells ≡ count * 256) 
     pub reads_char : (i c : ℕ) → i < length states → IsTrue (is_scalar c) → c < 0x11_0000 →
         (rest : List ℕ) →
         (n : ℕ) × (state_behind cells i (encode c ++ rest) ≡ state_behind cells n rest)
-        × IsCell p anew states i c n
+        × IsCell p unanchored states i c n
     reads_char i c lt scalar small rest = by (cases_lt c 128) where
       Reads : Type 0
       Reads = (n : ℕ) × (state_behind cells i (encode c ++ rest) ≡ state_behind cells n rest)
-          × IsCell p anew states i c n
+          × IsCell p unanchored states i c n
 
       ascii : c < 128 → Reads
       ascii low = (
         state_after cells i c,
         ap (λ bytes. state_behind cells i (bytes ++ rest)) (is_ascii c low),
-        subst (IsCell p anew states i c) (sym (after_cell i c (omega arith) (omega arith)))
+        subst (IsCell p unanchored states i c) (sym (after_cell i c (omega arith) (omega arith)))
             (of.cell i c lt (omega arith) c scalar (inl (low, refl))),
       )
 
@@ -122,7 +122,7 @@ module _ (cells : List ℕ) (count : ℕ) (full : length cells ≡ count * 256) 
         state_after cells i l.lead,
         ap (λ bytes. state_behind cells i (bytes ++ rest)) l.splits
             ∙ stays_behind (state_after cells i l.lead) l.others rest l.all,
-        subst (IsCell p anew states i c) (sym (after_cell i l.lead (omega arith) l.high))
+        subst (IsCell p unanchored states i c) (sym (after_cell i l.lead (omega arith) l.high))
             (of.cell i l.lead lt l.high c scalar (inr (past, l.low))),
       )
 

@@ -12,8 +12,8 @@ use Rattle.jp_regexp.specs.Pattern.{Text, Pattern}
 use Rattle.jp_regexp.specs.Language.{Member}
 use Rattle.jp_regexp.specs.Held.{HasPart}
 use Rattle.jp_regexp.specs.Profile.{HasCounts}
-use Rattle.jp_regexp.specs.Unrolled.{unrolled, PlaceHas, SomePlaceHas}
-use Rattle.jp_regexp.specs.Walk.{advance, is_elem}
+use Rattle.jp_regexp.specs.Unrolled.{unrolled, PositionHas, SomePositionHas}
+use Rattle.jp_regexp.specs.inner.Simulation.{step, is_elem}
 use Rattle.jp_regexp.proofs.TermLemmas.{takes_step}
 
 -- ---- the characters of a text
@@ -35,12 +35,12 @@ reading_first bytes it utf8 e = record {
 
 module _ (text read : Text) (it next : Chars) (reading : IsReading text read it) where
   pub reading_more : (c : ℕ) → spells it (Some c) next → IsReading text (read ++ c ∷ []) next
-  reading_more c step = by reading.rest reading.splits reading.yields where
+  reading_more c stepped = by reading.rest reading.splits reading.yields where
     by : (rest : Text) → text ≡ read ++ rest → AlwaysYields spells (λ d. d) it rest
         → IsReading text (read ++ c ∷ []) next
-    by [] e y = absurd (y c next step)
+    by [] e y = absurd (y c next stepped)
     by (d ∷ rest) e y =
-        let g = y.1 c next step in
+        let g = y.1 c next stepped in
         record {
           rest = rest;
           splits = e ∙ ap (λ k. read ++ k ∷ rest) (sym g.0) ∙ sym (append_assoc read (c ∷ []) rest);
@@ -48,22 +48,22 @@ module _ (text read : Text) (it next : Chars) (reading : IsReading text read it)
         }
 
   pub reading_end : spells it None next → text ≡ read
-  reading_end step = by reading.rest reading.splits reading.yields where
+  reading_end stepped = by reading.rest reading.splits reading.yields where
     by : (rest : Text) → text ≡ read ++ rest → AlwaysYields spells (λ d. d) it rest → text ≡ read
     by [] e y = e ∙ append-nil read
-    by (d ∷ rest) e y = absurd (y.0 next step)
+    by (d ∷ rest) e y = absurd (y.0 next stepped)
 
 -- ---- what is left
 
-pub all_left : (p : Pattern) (u : Text) → SomePlaceHas p (0 ∷ []) u ↔ Member p u
+pub all_left : (p : Pattern) (u : Text) → SomePositionHas p (0 ∷ []) u ↔ Member p u
 all_left p u = (λ (k, (i, lt, e), m). first k i lt e m, λ m. (0, (0, omega arith, refl), m)) where
-  first : (k i : ℕ) → i < 1 → slice_index_or (0 ∷ []) i k ≡ k → PlaceHas p k u → Member p u
+  first : (k i : ℕ) → i < 1 → slice_index_or (0 ∷ []) i k ≡ k → PositionHas p k u → Member p u
   first k i lt e m =
       let z : i ≡ 0 = omega arith in
       let f : 0 ≡ k = subst (λ n. slice_index_or (0 ∷ []) n k ≡ k) z e in
-      subst (λ n. PlaceHas p n u) (sym f) m
+      subst (λ n. PositionHas p n u) (sym f) m
 
-pub none_left : (p : Pattern) (u : Text) → SomePlaceHas p [] u → ⊥
+pub none_left : (p : Pattern) (u : Text) → SomePositionHas p [] u → ⊥
 none_left p u (k, (i, lt, e), m) = omega arith
 
 module _ (p : Pattern) (L N Q : Text → Type 0) (read : Text) (c : ℕ) where
@@ -71,11 +71,11 @@ module _ (p : Pattern) (L N Q : Text → Type 0) (read : Text) (c : ℕ) where
   pub match_more : ((u : Text) → L u ↔ Member p (read ++ u))
       → ((t : Text) → N t ↔ (L (c ∷ t) ⊎ (IsTrue false × Q t))) →
       (u : Text) → N u ↔ Member p ((read ++ c ∷ []) ++ u)
-  match_more kept step u =
+  match_more kept stepped u =
       let e : (read ++ c ∷ []) ++ u ≡ read ++ (c ∷ u) = append_assoc read (c ∷ []) u in (
         λ h. subst (Member p) (sym e) (⊎_elim (λ g. (kept (c ∷ u)).0 g) (λ g. absurd (true≢false (sym g.0)))
-            ((step u).0 h)),
-        λ m. (step u).1 (inl ((kept (c ∷ u)).1 (subst (Member p) e m))),
+            ((stepped u).0 h)),
+        λ m. (stepped u).1 (inl ((kept (c ∷ u)).1 (subst (Member p) e m))),
       )
 
 -- ---- a part of the text
@@ -138,9 +138,9 @@ module _ (p : Pattern) where
     pub find_more : (L N : Text → Type 0) → ((u : Text) → L u ↔ BeganIn p read u) →
         ((t : Text) → N t ↔ (L (c ∷ t) ⊎ (IsTrue true × Member p t))) → (u : Text)
         → N u ↔ BeganIn p (read ++ c ∷ []) u
-    find_more L N kept step u = (
-      λ h. began_more u (⊎_elim (λ g. inl ((kept (c ∷ u)).0 g)) (λ g. inr g.1) ((step u).0 h)),
-      λ h. (step u).1 (⊎_elim (λ g. inl ((kept (c ∷ u)).1 g)) (λ g. inr (refl, g)) (more_began u h)),
+    find_more L N kept stepped u = (
+      λ h. began_more u (⊎_elim (λ g. inl ((kept (c ∷ u)).0 g)) (λ g. inr g.1) ((stepped u).0 h)),
+      λ h. (stepped u).1 (⊎_elim (λ g. inl ((kept (c ∷ u)).1 g)) (λ g. inr (refl, g)) (more_began u h)),
     )
 
     pub no_part_more : NoPartIn p read → (BeganIn p read [] → ⊥) → NoPartIn p (read ++ c ∷ [])
@@ -176,33 +176,33 @@ module _ (p : Pattern) where
       absurd (none (before ++ part) c after (sym e ∙ f ∙ sym (append_assoc before part (c ∷ after)))
       (before, part, refl, subst (Member p) (sym (append-nil part)) m))
 
--- ---- characters with which nothing begins, while nothing but the start is live
+-- ---- characters with which nothing begins, while nothing but the start is active
 
-pub first_left : (p q : Pattern) (places : List ℕ) → q ≡ p → places ≡ 0 ∷ [] → Member p []
-    → SomePlaceHas q places []
-first_left p q places same at m =
-    subst (λ r. SomePlaceHas r places []) (sym same) (subst (λ ps. SomePlaceHas p ps []) (sym at)
+pub first_left : (p q : Pattern) (positions : List ℕ) → q ≡ p → positions ≡ 0 ∷ [] → Member p []
+    → SomePositionHas q positions []
+first_left p q positions same at m =
+    subst (λ r. SomePositionHas r positions []) (sym same) (subst (λ ps. SomePositionHas p ps []) (sym at)
     ((all_left p []).1 m))
 
-module _ (p q : Pattern) (places : List ℕ) (read : Text) (same : q ≡ p) (at : places ≡ 0 ∷ [])
-    (kept : (u : Text) → SomePlaceHas q places u ↔ BeganIn p read u) where
-  at_first : (u : Text) → SomePlaceHas p (0 ∷ []) u ↔ BeganIn p read u
+module _ (p q : Pattern) (positions : List ℕ) (read : Text) (same : q ≡ p) (at : positions ≡ 0 ∷ [])
+    (kept : (u : Text) → SomePositionHas q positions u ↔ BeganIn p read u) where
+  at_first : (u : Text) → SomePositionHas p (0 ∷ []) u ↔ BeganIn p read u
   at_first =
-      subst (λ ps. (u : Text) → SomePlaceHas p ps u ↔ BeganIn p read u) at
-      (subst (λ r. (u : Text) → SomePlaceHas r places u ↔ BeganIn p read u) same kept)
+      subst (λ ps. (u : Text) → SomePositionHas p ps u ↔ BeganIn p read u) at
+      (subst (λ r. (u : Text) → SomePositionHas r positions u ↔ BeganIn p read u) same kept)
 
   pub not_at_first : (Member p [] → ⊥) → BeganIn p read [] → ⊥
   not_at_first none h = none ((all_left p []).0 ((at_first []).1 h))
 
-pub skip_left : (p : Pattern) (counts : HasCounts p) (read : Text) (c : ℕ) (q : Pattern) (places : List ℕ)
-    → q ≡ p → places ≡ 0 ∷ [] →
-    advance (is_elem []) c (unrolled p) 0 true ≡ []
-    → ((u : Text) → SomePlaceHas q places u ↔ BeganIn p read u) →
-    (u : Text) → SomePlaceHas q places u ↔ BeganIn p (read ++ c ∷ []) u
-skip_left p counts read c q places same at none kept =
-    let first = subst (λ ps. (u : Text) → SomePlaceHas p ps u ↔ BeganIn p read u) at
-    (subst (λ r. (u : Text) → SomePlaceHas r places u ↔ BeganIn p read u) same kept) in
-    let L : Text → Type 0 = λ u. SomePlaceHas p (0 ∷ []) u in
+pub skip_left : (p : Pattern) (counts : HasCounts p) (read : Text) (c : ℕ) (q : Pattern) (positions : List ℕ)
+    → q ≡ p → positions ≡ 0 ∷ [] →
+    step (is_elem []) c (unrolled p) 0 true ≡ []
+    → ((u : Text) → SomePositionHas q positions u ↔ BeganIn p read u) →
+    (u : Text) → SomePositionHas q positions u ↔ BeganIn p (read ++ c ∷ []) u
+skip_left p counts read c q positions same at none kept =
+    let first = subst (λ ps. (u : Text) → SomePositionHas p ps u ↔ BeganIn p read u) at
+    (subst (λ r. (u : Text) → SomePositionHas r positions u ↔ BeganIn p read u) same kept) in
+    let L : Text → Type 0 = λ u. SomePositionHas p (0 ∷ []) u in
     let more = find_more p read c L L first (takes_step p counts true [] tt c true [] (sym none)) in
-    subst (λ r. (u : Text) → SomePlaceHas r places u ↔ BeganIn p (read ++ c ∷ []) u) (sym same)
-    (subst (λ ps. (u : Text) → SomePlaceHas p ps u ↔ BeganIn p (read ++ c ∷ []) u) (sym at) more)
+    subst (λ r. (u : Text) → SomePositionHas r positions u ↔ BeganIn p (read ++ c ∷ []) u) (sym same)
+    (subst (λ ps. (u : Text) → SomePositionHas p ps u ↔ BeganIn p (read ++ c ∷ []) u) (sym at) more)

@@ -5,8 +5,8 @@ use Rattle.unicode.specs.declared.properties.GeneralCategory.{GeneralCategory}
 use Rattle.unicode.specs.declared.properties.GeneralCategory.TheVariants as is
 use Rattle.jp_regexp.specs.Pattern.{Text}
 use Rattle.jp_regexp.specs.CategoryNames.{IsCategoryName}
-use Rattle.jp_regexp.specs.Reading.{letters_named, marks_named, numbers_named, punctuation_named}
-use Rattle.jp_regexp.specs.Reading.{separators_named, symbols_named, others_named, categories_named}
+use Rattle.jp_regexp.specs.inner.Reading.{letters_named, marks_named, numbers_named, punctuation_named}
+use Rattle.jp_regexp.specs.inner.Reading.{separators_named, symbols_named, others_named, categories_named}
 
 letters_sound : (t : Text) (cs : List GeneralCategory) → letters_named t ≡ Some cs
     → IsCategoryName (76 ∷ t) cs

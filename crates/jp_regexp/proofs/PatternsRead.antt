@@ -13,8 +13,8 @@ use Rattle.jp_regexp.specs.Shape.{Shapes}
 use Rattle.jp_regexp.specs.Profile.{InProfile}
 use Rattle.jp_regexp.specs.Language.{Member, Matches}
 use Rattle.jp_regexp.specs.Samples.{IsNoPattern}
-use Rattle.jp_regexp.specs.Reading.{digits_at, count_at, after_comma_at, quantity_at, atom_at, piece_at}
-use Rattle.jp_regexp.specs.Reading.{prepend, pattern_at, read}
+use Rattle.jp_regexp.specs.inner.Reading.{digits_at, count_at, after_comma_at, quantity_at, atom_at, piece_at}
+use Rattle.jp_regexp.specs.inner.Reading.{prepend, pattern_at, read}
 use Rattle.jp_regexp.proofs.SetsRead.{differs, begins_piece, BeginsPiece, set_begins_piece, atom_set_whole}
 
 -- ---- quantities

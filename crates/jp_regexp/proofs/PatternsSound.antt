@@ -9,9 +9,11 @@ use Rattle.jp_regexp.specs.Pattern.{Text, CharSet, Pattern, empty, letter, group
 use Rattle.jp_regexp.specs.Quantity.{is_digit, IsCount, count, star, question, exactly, at_least, between}
 use Rattle.jp_regexp.specs.Shape.{IsPattern, last_branch, first_branch, no_piece, first_piece, IsPiece, once}
 use Rattle.jp_regexp.specs.Shape.{repeated, once_or_more, IsAtom, character, parentheses, Shapes}
-use Rattle.jp_regexp.specs.Reading.{Parse, Change, set_at, digits_at, count_at, close_count_at}
-use Rattle.jp_regexp.specs.Reading.{after_comma_at, after_least_at, quantity_at, close_group_at, atom_at}
-use Rattle.jp_regexp.specs.Reading.{with_quantity, piece_at, prepend, with_piece, pattern_at, if_whole, read}
+use Rattle.jp_regexp.specs.inner.Reading.{Parse, Change, set_at, digits_at, count_at, close_count_at}
+use Rattle.jp_regexp.specs.inner.Reading.{after_comma_at, after_least_at, quantity_at, close_group_at}
+use Rattle.jp_regexp.specs.inner.Reading.{atom_at}
+use Rattle.jp_regexp.specs.inner.Reading.{with_quantity, piece_at, prepend, with_piece, pattern_at, if_whole}
+use Rattle.jp_regexp.specs.inner.Reading.{read}
 use Rattle.jp_regexp.proofs.PatternsRead.{read_whole}
 use Rattle.jp_regexp.proofs.SetsSound.{using, Front, head, map_some, then_some, set_sound}
 

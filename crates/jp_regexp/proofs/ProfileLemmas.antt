@@ -3,13 +3,13 @@ use Rattle.std.proofs.Math.Logic.{∥∥₁_elim}
 use Rattle.std.proofs.Props.{props}
 use Rattle.std.proofs.Common.{ℕ, ◌≤◌, Some, None, Bool, List}
 use Rattle.jp_regexp.specs.Unrolled.{Unrolled}
-use Rattle.jp_regexp.specs.Alike.{AreClasses}
-use Rattle.jp_regexp.specs.declared.classes.Classes.{Classes}
-use Rattle.jp_regexp.specs.declared.marks.Marks.{Marks}
-use Rattle.jp_regexp.specs.Starts.{AreStarts}
-use Rattle.jp_regexp.specs.Steps.{IsTable}
-use Rattle.jp_regexp.specs.Walk.{Rises-prop}
-use Rattle.jp_regexp.specs.declared.table.Table.{Table}
+use Rattle.jp_regexp.specs.inner.Equivalence.{AreByteClasses}
+use Rattle.jp_regexp.specs.declared.byte_classes.ByteClasses.{ByteClasses}
+use Rattle.jp_regexp.specs.declared.byte_flags.ByteFlags.{ByteFlags}
+use Rattle.jp_regexp.specs.inner.Prefilter.{IsPrefilter}
+use Rattle.jp_regexp.specs.inner.Dfa.{IsDfa}
+use Rattle.jp_regexp.specs.inner.Simulation.{Rises-prop}
+use Rattle.jp_regexp.specs.declared.dfa.Dfa.{Dfa}
 use Rattle.jp_regexp.specs.Pattern.{Pattern, empty, letter, group, seq, either, repeat, plus}
 use Rattle.jp_regexp.specs.Profile.{InProfile, HasCounts, size}
 
@@ -32,12 +32,15 @@ kept_profile p h = ∥∥₁_elim h (profile_prop p) (λ of. of)
 pub kept_size : (p : Pattern) → ∥ InProfile p ∥₁ → size p ≤ 10_000
 kept_size p h = (kept_profile p h).size_fits
 
-pub kept_table : (p : Unrolled) (anew : Bool) (table : Table) → ∥ IsTable p anew table ∥₁ → IsTable p anew
-    table
-kept_table p anew table h = ∥∥₁_elim h (hlevel (props, Rises-prop)) (λ of. of)
+pub kept_dfa : (p : Unrolled) (unanchored : Bool) (dfa : Dfa) → ∥ IsDfa p unanchored dfa ∥₁ →
+    IsDfa p unanchored
+    dfa
+kept_dfa p unanchored dfa h = ∥∥₁_elim h (hlevel (props, Rises-prop)) (λ of. of)
 
-pub kept_starts : (cells : List ℕ) (marks : List Marks) → ∥ AreStarts cells marks ∥₁ → AreStarts cells marks
-kept_starts cells marks h = ∥∥₁_elim h (hlevel props) (λ of. of)
+pub kept_prefilter : (cells : List ℕ) (flags : List ByteFlags) → ∥ IsPrefilter cells flags ∥₁ →
+    IsPrefilter cells flags
+kept_prefilter cells flags h = ∥∥₁_elim h (hlevel props) (λ of. of)
 
-pub kept_classes : (p : Unrolled) (classes : Classes) → ∥ AreClasses p classes ∥₁ → AreClasses p classes
+pub kept_classes : (p : Unrolled) (classes : ByteClasses) → ∥ AreByteClasses p classes ∥₁ →
+    AreByteClasses p classes
 kept_classes p classes h = ∥∥₁_elim h (hlevel props) (λ of. of)

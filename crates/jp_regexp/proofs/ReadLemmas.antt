@@ -5,7 +5,7 @@ use Rattle.std.proofs.Common.{subst, inl, inr, arith}
 use Rattle.std.proofs.lemmas.Bool.{cases_Bool, and_parts, and_from, leb-true, le-leb}
 use Rattle.jp_regexp.specs.Pattern.{Text, Pattern}
 use Rattle.jp_regexp.specs.Profile.{depth, size, InProfile, IsPatternOf}
-use Rattle.jp_regexp.specs.Reading.{read, read_within}
+use Rattle.jp_regexp.specs.inner.Reading.{read, read_within}
 use Rattle.jp_regexp.proofs.PatternsRead.{read_whole}
 use Rattle.jp_regexp.proofs.PatternsSound.{read_sound}
 use Rattle.jp_regexp.proofs.RightTests.{has_counts, has_counts_sound, has_counts_whole}

@@ -7,7 +7,7 @@ use Rattle.jp_regexp.specs.Profile.{max_count, max_depth, max_size, depth, size,
 use Rattle.jp_regexp.specs.Profile.{InProfile}
 use Rattle.jp_regexp.specs.Language.{Matches, Found}
 use Rattle.jp_regexp.specs.Tests.{Tests, AreRight}
-use Rattle.jp_regexp.specs.Reading.{read}
+use Rattle.jp_regexp.specs.inner.Reading.{read}
 use Rattle.jp_regexp.proofs.PatternsRead.{read_whole}
 use Rattle.jp_regexp.proofs.PatternsSound.{read_sound}
 use Rattle.jp_regexp.proofs.Derivatives.{decide, decided}

@@ -6,18 +6,18 @@ use Rattle.std.proofs.lemmas.Bool.{cases_lt, lt-ltb, le-leb, or_left}
 use Rattle.std.proofs.lemmas.Str.{encodes-chars, scalars-chars}
 use Rattle.std.specs.Str.{chars, IsUtf8}
 use lib.Utf8.{encodes, scalar, scalars, scalar_cases}
-use Rattle.jp_regexp.specs.declared.table.State.{State}
+use Rattle.jp_regexp.specs.declared.dfa.State.{State}
 use Rattle.jp_regexp.specs.CharSets.{is_scalar}
 use Rattle.jp_regexp.specs.Held.{HasPart}
 use Rattle.jp_regexp.specs.Language.{Member}
 use Rattle.jp_regexp.specs.Pattern.{Text, Pattern}
 use Rattle.jp_regexp.specs.Profile.{HasCounts}
-use Rattle.jp_regexp.specs.Steps.{IsCell, IsTableOf, next_places, state_behind}
-use Rattle.jp_regexp.specs.Unrolled.{unrolled, SomePlaceHas, all_places}
+use Rattle.jp_regexp.specs.inner.Dfa.{IsCell, IsDfaOf, next_positions, state_behind}
+use Rattle.jp_regexp.specs.Unrolled.{unrolled, SomePositionHas, all_positions}
 use Rattle.jp_regexp.proofs.BytesLemmas.{reads_char, stuck}
 use Rattle.jp_regexp.proofs.FindLemmas.{BeganIn, NoPartIn, began_found, find_more, found_began, match_more}
 use Rattle.jp_regexp.proofs.FindLemmas.{began_first, no_part_first, no_part_more, none_left}
-use Rattle.jp_regexp.proofs.TableLemmas.{LeftAt, left_state, next_takes, start_left, state_accepts}
+use Rattle.jp_regexp.proofs.DfaLemmas.{LeftAt, left_state, next_takes, start_left, state_accepts}
 use Rattle.jp_regexp.proofs.TermLemmas.{accepted, next_rises, takes_step}
 
 both : (a b : Bool) → (a && b) ≡ true → (a ≡ true) × (b ≡ true)
@@ -55,12 +55,13 @@ pub record TellsMember (n : ℕ) (states : List State) (Is : Type 0) : Type 0 wh
 
 module _ (p : Pattern) (counts : HasCounts p) (states : List State) (cells : List ℕ) (first : State)
     (full : length cells ≡ length states * 256) where
-  accepts_at : (anew : Bool) → IsTableOf (unrolled p) anew states cells → (i : ℕ) → i < length states →
+  accepts_at : (unanchored : Bool) → IsDfaOf (unrolled p) unanchored states cells → (i : ℕ) →
+      i < length states →
       IsTrue (slice_index_or states i first).accepts ↔ LeftAt p states i first []
-  accepts_at anew of i lt =
-      state_accepts p counts anew states cells of i (slice_index_or states i first) first lt refl
+  accepts_at unanchored of i lt =
+      state_accepts p counts unanchored states cells of i (slice_index_or states i first) first lt refl
 
-  module _ (of : IsTableOf (unrolled p) true states cells)
+  module _ (of : IsDfaOf (unrolled p) true states cells)
       (closed : (slice_index_or states 0 first).accepts ≡ false) where
     -- where a part is found by a step, it ends there
     found_here : (read rest : Text) (i c : ℕ) → i < length states → IsCell (unrolled p) true states i c 254
@@ -68,28 +69,28 @@ module _ (p : Pattern) (counts : HasCounts p) (states : List State) (cells : Lis
         → HasPart p (read ++ c ∷ rest)
     found_here read rest i c lt cell kept =
         let from = slice_index_or states i first in
-        let live = next_places (unrolled p) from c in
+        let active = next_positions (unrolled p) from c in
         let state = of.known.each i first lt in
-        let has = (accepted p counts true live
-        (next_rises p c from.at_start from.live.items live refl) true
+        let has = (accepted p counts true active
+        (next_rises p c from.at_start from.active.items active refl) true
         (sym (cell.found first refl refl))).0 refl in
         let began = (find_more p read c (LeftAt p states i first)
-        (λ t. SomePlaceHas p (all_places true live) t) (kept first)
-        (takes_step p counts from.at_start from.live.items state.rises c true live refl) []).0 has in
+        (λ t. SomePositionHas p (all_positions true active) t) (kept first)
+        (takes_step p counts from.at_start from.active.items state.rises c true active refl) []).0 has in
         began_found p (read ++ c ∷ rest) (read ++ c ∷ []) rest (sym (append_assoc read (c ∷ []) rest)) began
 
-    is_unsettled : (i n c : ℕ) → n < 254 → IsCell (unrolled p) true states i c n →
+    has_no_match : (i n c : ℕ) → n < 254 → IsCell (unrolled p) true states i c n →
         (slice_index_or states n first).accepts ≡ false
-    is_unsettled i n c small cell = by (cases_lt 0 n) where
+    has_no_match i n c small cell = by (cases_lt 0 n) where
       by : (0 < n) ⊎ (n ≤ 0) → (slice_index_or states n first).accepts ≡ false
       by (inl some) =
-          of.known.unsettled n first some (cell.within small) (cell.follows first first small).start
+          of.known.no_match n first some (cell.within small) (cell.follows first first small).start
       by (inr none) =
           let zero : 0 ≡ n = omega arith in
           subst (λ k. (slice_index_or states k first).accepts ≡ false) zero closed
 
     module _ (read cs : Text) (c i : ℕ) (lt : i < length states)
-        (unsettled : (slice_index_or states i first).accepts ≡ false)
+        (no_match : (slice_index_or states i first).accepts ≡ false)
         (kept : (s : State) (u : Text) → LeftAt p states i s u ↔ BeganIn p read u)
         (none : NoPartIn p read) where
       abbrev FoundOn : ℕ → Type 0
@@ -103,11 +104,11 @@ module _ (p : Pattern) (counts : HasCounts p) (states : List State) (cells : Lis
       found_more n on cell (inl small) =
           subst (λ t. TellsFound (state_behind cells n (encodes cs)) (HasPart p t))
           (append_assoc read (c ∷ []) cs)
-          (on (cell.within small) (is_unsettled i n c small cell)
+          (on (cell.within small) (has_no_match i n c small cell)
           (λ s. find_more p read c (LeftAt p states i s) (LeftAt p states n s) (kept s)
           (next_takes p counts true states cells of i c n lt small cell s s))
           (no_part_more p read c none
-          (λ h. true≢false (sym ((accepts_at true of i lt).1 ((kept first []).1 h)) ∙ unsettled))))
+          (λ h. true≢false (sym ((accepts_at true of i lt).1 ((kept first []).1 h)) ∙ no_match))))
       found_more n on cell (inr past) =
           let same = stuck cells (length states) full n (omega (arith, of.few)) (encodes cs) in
           subst (λ m. TellsFound m (HasPart p (read ++ c ∷ cs))) (sym same) (record {
@@ -119,29 +120,30 @@ module _ (p : Pattern) (counts : HasCounts p) (states : List State) (cells : Lis
         (slice_index_or states i first).accepts ≡ false →
         ((s : State) (u : Text) → LeftAt p states i s u ↔ BeganIn p read u) → NoPartIn p read →
         TellsFound (state_behind cells i (encodes cs)) (HasPart p (read ++ cs))
-    tells_found read [] i scalar lt unsettled kept none =
+    tells_found read [] i scalar lt no_match kept none =
         record {
           found = λ e. absurd (omega (arith, of.few));
           none = λ small h. true≢false (sym ((accepts_at true of i lt).1 ((kept first []).1
-              (found_began p (read ++ []) read (append-nil read) none h))) ∙ unsettled);
+              (found_began p (read ++ []) read (append-nil read) none h))) ∙ no_match);
         }
-    tells_found read (c ∷ cs) i scalar lt unsettled kept none =
+    tells_found read (c ∷ cs) i scalar lt no_match kept none =
         let here = both _ _ scalar in
-        let step = reads_char cells (length states) full (unrolled p) true states of refl i c lt
+        let stepped = reads_char cells (length states) full (unrolled p) true states of refl i c lt
         (is_char c here.0) (is_small c here.0) (encodes cs) in
-        subst (λ n. TellsFound n (HasPart p (read ++ c ∷ cs))) (sym step.1)
-        (found_more read cs c i lt unsettled kept none step.0
-        (tells_found (read ++ c ∷ []) cs step.0 here.1) step.2 (cases_lt step.0 254))
+        subst (λ n. TellsFound n (HasPart p (read ++ c ∷ cs))) (sym stepped.1)
+        (found_more read cs c i lt no_match kept none stepped.0
+        (tells_found (read ++ c ∷ []) cs stepped.0 here.1) stepped.2 (cases_lt stepped.0 254))
 
-  module _ (of : IsTableOf (unrolled p) false states cells) where
+  module _ (of : IsDfaOf (unrolled p) false states cells) where
     -- where nothing is left, it is not in the language
-    dead_here : (read rest : Text) (i c : ℕ) → i < length states → IsCell (unrolled p) false states i c 254
+    inactive_here : (read rest : Text) (i c : ℕ) → i < length states →
+        IsCell (unrolled p) false states i c 254
         → ((s : State) (u : Text) → LeftAt p states i s u ↔ Member p (read ++ u))
         → Member p (read ++ c ∷ rest) → ⊥
-    dead_here read rest i c lt cell kept m =
+    inactive_here read rest i c lt cell kept m =
         let from = slice_index_or states i first in
         let state = of.known.each i first lt in
-        none_left p rest ((takes_step p counts from.at_start from.live.items state.rises c false []
+        none_left p rest ((takes_step p counts from.at_start from.active.items state.rises c false []
         (sym (cell.dead first refl refl)) rest).1 (inl ((kept first (c ∷ rest)).1 m)))
 
     module _ (read cs : Text) (c i : ℕ) (lt : i < length states)
@@ -163,7 +165,7 @@ module _ (p : Pattern) (counts : HasCounts p) (states : List State) (cells : Lis
       member_more n on cell (inr past) =
           let same = stuck cells (length states) full n (omega (arith, of.few)) (encodes cs) in
           subst (λ m. TellsMember m states (Member p (read ++ c ∷ cs))) (sym same) (record {
-            refused = λ e. dead_here read cs i c lt
+            refused = λ e. inactive_here read cs i c lt
                 (subst (IsCell (unrolled p) false states i c) e cell) kept;
             within = λ small. absurd (omega arith);
             accepts = λ s small. absurd (omega arith);
@@ -185,11 +187,12 @@ module _ (p : Pattern) (counts : HasCounts p) (states : List State) (cells : Lis
         }
     tells_member read (c ∷ cs) i scalar lt kept =
         let here = both _ _ scalar in
-        let step = reads_char cells (length states) full (unrolled p) false states of refl i c lt
+        let stepped = reads_char cells (length states) full (unrolled p) false states of refl i c lt
         (is_char c here.0) (is_small c here.0) (encodes cs) in
-        subst (λ n. TellsMember n states (Member p (read ++ c ∷ cs))) (sym step.1)
-        (member_more read cs c i lt kept step.0 (tells_member (read ++ c ∷ []) cs step.0 here.1) step.2
-        (cases_lt step.0 254))
+        subst (λ n. TellsMember n states (Member p (read ++ c ∷ cs))) (sym stepped.1)
+        (member_more read cs c i lt kept stepped.0 (tells_member (read ++ c ∷ []) cs stepped.0
+        here.1) stepped.2
+        (cases_lt stepped.0 254))
 
 -- ---- the same of the bytes of a text, from the start
 
@@ -203,18 +206,18 @@ module _ (p : Pattern) (counts : HasCounts p) (states : List State) (cells : Lis
   spelled : state_behind cells 0 (encodes (chars bytes)) ≡ n
   spelled = ap (state_behind cells 0) (encodes-chars bytes utf8) ∙ sym e
 
-  pub found_by : IsTableOf (unrolled p) true states cells → (s : State) → s ≡ slice_index_or states 0 s
+  pub found_by : IsDfaOf (unrolled p) true states cells → (s : State) → s ≡ slice_index_or states 0 s
       → s.accepts ≡ false → TellsFound n (HasPart p (chars bytes))
-  found_by of s at unsettled =
+  found_by of s at no_match =
       subst (λ k. TellsFound k (HasPart p (chars bytes))) spelled
-      (tells_found p counts states cells s full of (ap (λ x. x.accepts) (sym at) ∙ unsettled) [] (chars bytes)
-      0 (scalars-chars bytes utf8) some (ap (λ x. x.accepts) (sym at) ∙ unsettled)
+      (tells_found p counts states cells s full of (ap (λ x. x.accepts) (sym at) ∙ no_match) [] (chars bytes)
+      0 (scalars-chars bytes utf8) some (ap (λ x. x.accepts) (sym at) ∙ no_match)
       (λ d u. (
         λ h. (began_first p u).0 ((start_left p states of.known some d u).0 h),
         λ h. (start_left p states of.known some d u).1 ((began_first p u).1 h),
       )) (no_part_first p))
 
-  pub member_by : IsTableOf (unrolled p) false states cells → TellsMember n states (Member p (chars bytes))
+  pub member_by : IsDfaOf (unrolled p) false states cells → TellsMember n states (Member p (chars bytes))
   member_by of =
       subst (λ k. TellsMember k states (Member p (chars bytes))) spelled
       (tells_member p counts states cells (some_state states some) full of [] (chars bytes) 0
@@ -223,7 +226,7 @@ module _ (p : Pattern) (counts : HasCounts p) (states : List State) (cells : Lis
 
 -- where the start accepts, every text has a part
 pub found_at_once : (p : Pattern) (counts : HasCounts p) (states : List State) (cells : List ℕ)
-    (text : Text) → 0 < length states → IsTableOf (unrolled p) true states cells → (s : State)
+    (text : Text) → 0 < length states → IsDfaOf (unrolled p) true states cells → (s : State)
     → s ≡ slice_index_or states 0 s → s.accepts ≡ true → HasPart p text
 found_at_once p counts states cells text some of s at accepts =
     let here = (state_accepts p counts true states cells of 0 s s some at).0 accepts in

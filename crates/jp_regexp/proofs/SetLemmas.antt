@@ -1,5 +1,5 @@
--- One step on a set of places: what is left of it, that it rises, and how many places it has. The flag says
--- whether place 0 is in
+-- One step on a set of positions: what is left of it, that it rises, and how many positions it has. The flag
+-- says whether position 0 is in
 -- the set, and the list has the others.
 use Rattle.std.proofs.Common.{◌≡◌, ℕ, zero, suc, ◌+◌, ◌≤◌, ◌⊎◌, Bool, true, false, ◌&&◌, if◌then◌else◌}
 use Rattle.std.proofs.Common.{IsTrue, List, [], ◌∷◌, ◌++◌, length, refl, sym, subst, inl, inr, ⊎_elim, arith}
@@ -10,9 +10,9 @@ use Rattle.jp_regexp.specs.Pattern.{Text, Pattern}
 use Rattle.jp_regexp.specs.Profile.{HasCounts}
 use Rattle.jp_regexp.specs.CharSets.{in_set}
 use Rattle.jp_regexp.specs.Unrolled.{Unrolled, nothing, letter, seq, either, maybe, plus, unrolled, Has}
-use Rattle.jp_regexp.specs.Unrolled.{letters, After, PlaceHas, SomePlaceHas, all_places}
-use Rattle.jp_regexp.specs.Walk.{advance, Elem, is_elem, Rises}
-use Rattle.jp_regexp.proofs.StepLemmas.{After-within, Held, advance_within, advance_sound, advance_whole}
+use Rattle.jp_regexp.specs.Unrolled.{letters, After, PositionHas, SomePositionHas, all_positions}
+use Rattle.jp_regexp.specs.inner.Simulation.{step, Elem, is_elem, Rises}
+use Rattle.jp_regexp.proofs.StepLemmas.{After-within, Held, step_within, step_sound, step_whole}
 use Rattle.jp_regexp.proofs.UnrolledLemmas.{unrolled_whole, unrolled_sound}
 
 is_elem-Elem : (xs : List ℕ) (x : ℕ) → is_elem xs x ≡ true → Elem x xs
@@ -41,28 +41,28 @@ module _ (p : Pattern) (start : Bool) (xs : List ℕ) (t : Text) where
   abbrev pub Left : Type 0
   Left = Held (is_elem xs) (unrolled p) 0 start t
 
-  place : (k : ℕ) → After (unrolled p) k t → PlaceHas p k t
-  place zero m = absurd (let r = After-within (unrolled p) 0 t m in omega arith)
-  place (suc k) m = m
+  position : (k : ℕ) → After (unrolled p) k t → PositionHas p k t
+  position zero m = absurd (let r = After-within (unrolled p) 0 t m in omega arith)
+  position (suc k) m = m
 
-  first : (b : Bool) → IsTrue b → Elem 0 (all_places b xs)
+  first : (b : Bool) → IsTrue b → Elem 0 (all_positions b xs)
   first true h = inl refl
   first false h = absurd (true≢false (sym h))
 
-  other : (b : Bool) (k : ℕ) → Elem k xs → Elem k (all_places b xs)
+  other : (b : Bool) (k : ℕ) → Elem k xs → Elem k (all_positions b xs)
   other true k h = inr h
   other false k h = h
 
-  pub left_has : HasCounts p → Left → SomePlaceHas p (all_places start xs) t
+  pub left_has : HasCounts p → Left → SomePositionHas p (all_positions start xs) t
   left_has o (inl (f, m)) = (0, Elem-Contains _ 0 (first start f), unrolled_sound p t o m)
   left_has o (inr (k, l, m)) =
       let same : 0 + k ≡ k = omega arith in (
         k,
         Elem-Contains _ k (other start k (is_elem-Elem xs k (subst (λ n. IsTrue (is_elem xs n)) same l))),
-        place k m,
+        position k m,
       )
 
-  by_flag : (b : Bool) (k : ℕ) → Elem k (all_places b xs) → (IsTrue b × (k ≡ 0)) ⊎ Elem k xs
+  by_flag : (b : Bool) (k : ℕ) → Elem k (all_positions b xs) → (IsTrue b × (k ≡ 0)) ⊎ Elem k xs
   by_flag true k (inl e) = inl (refl, e)
   by_flag true k (inr h) = inr h
   by_flag false k h = inr h
@@ -74,31 +74,31 @@ module _ (p : Pattern) (start : Bool) (xs : List ℕ) (t : Text) where
     none low (y ∷ ys) h (inl e) = omega arith
     none low (y ∷ ys) h (inr l) = none y ys h.1 l
 
-  by_place : (k : ℕ) → Rises 0 xs → (IsTrue start × (k ≡ 0)) ⊎ Elem k xs → PlaceHas p k t → Left
-  by_place zero rises (inl f) m = inl (f.0, unrolled_whole p t m)
-  by_place zero rises (inr l) m = absurd (at_zero rises l)
-  by_place (suc k) rises (inl f) m = absurd (omega (arith, f.1))
-  by_place (suc k) rises (inr l) m =
+  by_position : (k : ℕ) → Rises 0 xs → (IsTrue start × (k ≡ 0)) ⊎ Elem k xs → PositionHas p k t → Left
+  by_position zero rises (inl f) m = inl (f.0, unrolled_whole p t m)
+  by_position zero rises (inr l) m = absurd (at_zero rises l)
+  by_position (suc k) rises (inl f) m = absurd (omega (arith, f.1))
+  by_position (suc k) rises (inr l) m =
       let same : suc k ≡ 0 + suc k = omega arith in
       inr (suc k, subst (λ n. IsTrue (is_elem xs n)) same (Elem-is_elem xs (suc k) l), m)
 
-  pub has_left : Rises 0 xs → SomePlaceHas p (all_places start xs) t → Left
-  has_left rises (k, l, m) = by_place k rises (by_flag start k (Contains-Elem _ k l)) m
+  pub has_left : Rises 0 xs → SomePositionHas p (all_positions start xs) t → Left
+  has_left rises (k, l, m) = by_position k rises (by_flag start k (Contains-Elem _ k l)) m
 
 module _ (p : Unrolled) (start : Bool) (xs : List ℕ) (c : ℕ) (anew : Bool) (t : Text) where
-  pub step_sound : Held (is_elem (advance (is_elem xs) c p 0 start)) p 0 anew t →
+  pub set_step_sound : Held (is_elem (step (is_elem xs) c p 0 start)) p 0 anew t →
       Held (is_elem xs) p 0 start (c ∷ t) ⊎ (IsTrue anew × Has p t)
-  step_sound (inl h) = inr h
-  step_sound (inr (k, l, m)) = inl (advance_sound (is_elem xs) c p 0 start k t (is_elem-Elem _ (0 + k) l) m)
+  set_step_sound (inl h) = inr h
+  set_step_sound (inr (k, l, m)) = inl (step_sound (is_elem xs) c p 0 start k t (is_elem-Elem _ (0 + k) l) m)
 
-  pub step_whole : Held (is_elem xs) p 0 start (c ∷ t) ⊎ (IsTrue anew × Has p t) →
-      Held (is_elem (advance (is_elem xs) c p 0 start)) p 0 anew t
-  step_whole (inl h) =
-      let r = advance_whole (is_elem xs) c p 0 start t h in
+  pub set_step_whole : Held (is_elem xs) p 0 start (c ∷ t) ⊎ (IsTrue anew × Has p t) →
+      Held (is_elem (step (is_elem xs) c p 0 start)) p 0 anew t
+  set_step_whole (inl h) =
+      let r = step_whole (is_elem xs) c p 0 start t h in
       inr (r.0, Elem-is_elem _ (0 + r.0) r.1, r.2)
-  step_whole (inr h) = inl h
+  set_step_whole (inr h) = inl h
 
--- ---- no place twice
+-- ---- no position twice
 
 Rises-append : (low mid : ℕ) (xs ys : List ℕ) → low ≤ mid → ((x : ℕ) → Elem x xs → x ≤ mid) → Rises low xs
     → Rises mid ys → Rises low (xs ++ ys)
@@ -107,24 +107,24 @@ Rises-append low mid [] (y ∷ ys) le f h k = (omega arith, k.1)
 Rises-append low mid (x ∷ xs) ys le f h k =
     (h.0, Rises-append x mid xs ys (f x (inl refl)) (λ z l. f z (inr l)) h.1 k)
 
-module _ (live : ℕ → Bool) (c : ℕ) where
+module _ (active : ℕ → Bool) (c : ℕ) where
   one_rises : (off : ℕ) (b : Bool) → Rises off (if b then (off + 1) ∷ [] else [])
   one_rises off true = (omega arith, tt)
   one_rises off false = tt
 
-  pub advance_rises : (p : Unrolled) (off : ℕ) (entered : Bool) → Rises off (advance live c p off entered)
-  advance_rises nothing off entered = tt
-  advance_rises (letter set) off entered = one_rises off (entered && in_set set c)
-  advance_rises (seq a b) off entered =
+  pub step_rises : (p : Unrolled) (off : ℕ) (entered : Bool) → Rises off (step active c p off entered)
+  step_rises nothing off entered = tt
+  step_rises (letter set) off entered = one_rises off (entered && in_set set c)
+  step_rises (seq a b) off entered =
       Rises-append off (off + letters a) _ _ (omega arith)
-      (λ x l. (advance_within live c a off entered x l).1)
-      (advance_rises a off entered) (advance_rises b (off + letters a) _)
-  advance_rises (either a b) off entered =
+      (λ x l. (step_within active c a off entered x l).1)
+      (step_rises a off entered) (step_rises b (off + letters a) _)
+  step_rises (either a b) off entered =
       Rises-append off (off + letters a) _ _ (omega arith)
-      (λ x l. (advance_within live c a off entered x l).1)
-      (advance_rises a off entered) (advance_rises b (off + letters a) _)
-  advance_rises (maybe a) off entered = advance_rises a off entered
-  advance_rises (plus a) off entered = advance_rises a off _
+      (λ x l. (step_within active c a off entered x l).1)
+      (step_rises a off entered) (step_rises b (off + letters a) _)
+  step_rises (maybe a) off entered = step_rises a off entered
+  step_rises (plus a) off entered = step_rises a off _
 
 rises_short : (xs : List ℕ) (low high : ℕ) → Rises low xs → ((x : ℕ) → Elem x xs → x ≤ high) → low ≤ high
     → low + length xs ≤ high
@@ -132,12 +132,12 @@ rises_short [] low high h f le = omega arith
 rises_short (x ∷ xs) low high h f le =
     omega (arith, rises_short xs x high h.1 (λ z l. f z (inr l)) (f x (inl refl)), h.0)
 
--- there are no more places than atoms of one character
-pub advance_few : (live : ℕ → Bool) (c : ℕ) (p : Unrolled) (start : Bool)
-    → length (advance live c p 0 start) ≤ letters p
-advance_few live c p start =
+-- there are no more positions than atoms of one character
+pub step_few : (active : ℕ → Bool) (c : ℕ) (p : Unrolled) (start : Bool)
+    → length (step active c p 0 start) ≤ letters p
+step_few active c p start =
     omega (
       arith,
-      rises_short (advance live c p 0 start) 0 (letters p) (advance_rises live c p 0 start)
-          (λ x l. let r = advance_within live c p 0 start x l in omega arith) (omega arith),
+      rises_short (step active c p 0 start) 0 (letters p) (step_rises active c p 0 start)
+          (λ x l. let r = step_within active c p 0 start x l in omega arith) (omega arith),
     )

@@ -11,9 +11,11 @@ use Rattle.jp_regexp.specs.CharSetShape.{bare, escaped, IsElement, single, span,
 use Rattle.jp_regexp.specs.CharSetShape.{none, last_hyphen, more, IsListing, first_hyphen, first_element}
 use Rattle.jp_regexp.specs.CharSetShape.{IsClass, listed, negated, IsCharSet, normal, escape, any, property}
 use Rattle.jp_regexp.specs.CharSetShape.{brackets}
-use Rattle.jp_regexp.specs.Reading.{single_at, name_at, category_at, inner_at, after_inner, escape_element_at}
-use Rattle.jp_regexp.specs.Reading.{element_at, elements_at, listing_at, class_at, escape_set_at, set_at}
-use Rattle.jp_regexp.specs.Reading.{atom_at, Parse}
+use Rattle.jp_regexp.specs.inner.Reading.{single_at, name_at, category_at, inner_at, after_inner}
+use Rattle.jp_regexp.specs.inner.Reading.{escape_element_at}
+use Rattle.jp_regexp.specs.inner.Reading.{element_at, elements_at, listing_at, class_at, escape_set_at}
+use Rattle.jp_regexp.specs.inner.Reading.{set_at}
+use Rattle.jp_regexp.specs.inner.Reading.{atom_at, Parse}
 
 false_of : (b : Bool) → (b ≡ true → ⊥) → b ≡ false
 false_of true h = absurd (h refl)

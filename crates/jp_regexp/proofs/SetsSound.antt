@@ -12,10 +12,10 @@ use Rattle.jp_regexp.specs.CharSetShape.{carriage_return, tab, itself, inside, o
 use Rattle.jp_regexp.specs.CharSetShape.{escaped, IsElement, single, span, categorical, AreElements, none}
 use Rattle.jp_regexp.specs.CharSetShape.{last_hyphen, more, IsListing, first_hyphen, first_element, listed}
 use Rattle.jp_regexp.specs.CharSetShape.{negated, IsCharSet, normal, escape, any, property, brackets}
-use Rattle.jp_regexp.specs.Reading.{categories_named, named, second_letter_at, single_value, single_at}
-use Rattle.jp_regexp.specs.Reading.{name_at, category_at, inner_at, range_from, after_inner}
-use Rattle.jp_regexp.specs.Reading.{escape_element_at, element_at, close_at, with_element, elements_at}
-use Rattle.jp_regexp.specs.Reading.{listing_at, class_at, escape_set_at, set_at}
+use Rattle.jp_regexp.specs.inner.Reading.{categories_named, named, second_letter_at, single_value, single_at}
+use Rattle.jp_regexp.specs.inner.Reading.{name_at, category_at, inner_at, range_from, after_inner}
+use Rattle.jp_regexp.specs.inner.Reading.{escape_element_at, element_at, close_at, with_element, elements_at}
+use Rattle.jp_regexp.specs.inner.Reading.{listing_at, class_at, escape_set_at, set_at}
 use Rattle.jp_regexp.proofs.NamesSound.{categories_sound}
 use Rattle.jp_regexp.proofs.SetsRead.{element_begins, BeginsElement}
 

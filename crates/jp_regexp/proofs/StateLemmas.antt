@@ -1,4 +1,4 @@
--- The states of a table, and its cells.
+-- The states of a DFA, and its cells.
 use Rattle.std.proofs.Common.{◌≡◌, ℕ, ◌+◌, ◌*◌, ◌<◌, ◌≤◌, ◌⊎◌, Bool, true, false, nat_lt, IsTrue}
 use Rattle.std.proofs.Common.{List, [], ◌∷◌, ◌++◌, length, slice_index_or, inl, inr, refl, sym, ap, ◌∙◌}
 use Rattle.std.proofs.Common.{subst}
@@ -7,17 +7,18 @@ use Rattle.std.proofs.lemmas.Grind.{get_or_default_zero}
 use Rattle.std.proofs.lemmas.Bool.{cases_lt, lt-ltb, or_left}
 use Rattle.std.proofs.Math.ListN.{get_or-append, get_or-eq_default}
 use Rattle.std.proofs.Math.Seq.{get_or-append_seam}
-use Rattle.jp_regexp.specs.declared.table.State.{State}
-use Rattle.jp_regexp.specs.declared.those.Those.{Those}
-use Rattle.jp_regexp.specs.declared.those.Those.TheVariants as those
-use Rattle.jp_regexp.specs.Alike.{Alike, AreOf}
+use Rattle.jp_regexp.specs.declared.dfa.State.{State}
+use Rattle.jp_regexp.specs.declared.candidate.Candidate.{Candidate}
+use Rattle.jp_regexp.specs.declared.candidate.Candidate.TheVariants as candidate
+use Rattle.jp_regexp.specs.inner.Equivalence.{Equivalent, AreOf}
 use Rattle.jp_regexp.specs.CharSets.{is_scalar}
-use Rattle.jp_regexp.specs.Steps.{AreStates, Follows, Grows, HasPlaces, IsCell, IsCellOf, IsState, IsTableOf}
-use Rattle.jp_regexp.specs.Steps.{cell_at, next_places}
+use Rattle.jp_regexp.specs.inner.Dfa.{AreStates, Follows, Grows, HasPositions, IsCell, IsCellOf, IsState}
+use Rattle.jp_regexp.specs.inner.Dfa.{IsDfaOf}
+use Rattle.jp_regexp.specs.inner.Dfa.{cell_at, next_positions}
 use Rattle.jp_regexp.specs.Unrolled.{Unrolled}
-use Rattle.jp_regexp.specs.Walk.{advance, is_elem, leaves, Rises}
-use Rattle.jp_regexp.specs.declared.reach.Reach.{Reach}
-use Rattle.jp_regexp.proofs.SetLemmas.{advance_rises}
+use Rattle.jp_regexp.specs.inner.Simulation.{step, is_elem, exits, Rises}
+use Rattle.jp_regexp.specs.declared.cursor.Cursor.{Cursor}
+use Rattle.jp_regexp.proofs.SetLemmas.{step_rises}
 
 -- a number that was read of a list
 pub first_is : (xs : List ℕ) (i x n : ℕ) → i < length xs → x ≡ slice_index_or xs i x → n ≡ x → n ≡
@@ -28,20 +29,20 @@ ascii_scalar : (c : ℕ) → c < 128 → IsTrue (is_scalar c)
 ascii_scalar c lt = or_left (nat_lt c 0xd800) _ (lt-ltb c 0xd800 (omega arith))
 
 module _ (p : Unrolled) where
-  -- a state of these places
-  pub state_with : (s : State) (live : List ℕ) → Rises 0 live → s.live.items ≡ live →
-      s.accepts ≡ leaves (is_elem live) p 0 s.at_start → IsState p s
-  state_with s live up e a =
+  -- a state of these positions
+  pub state_with : (s : State) (active : List ℕ) → Rises 0 active → s.active.items ≡ active →
+      s.accepts ≡ exits (is_elem active) p 0 s.at_start → IsState p s
+  state_with s active up e a =
       record {
         rises = subst (Rises 0) (sym e) up;
         accepts = a ∙ ap
-            (λ xs. leaves (is_elem xs) p 0 s.at_start) (sym e);
+            (λ xs. exits (is_elem xs) p 0 s.at_start) (sym e);
       }
 
   pub grows_more : (states new : List State) (s : State) → 0 < length states → AreStates p states → IsState p
       s → (s.at_start ≡ true → s.accepts ≡ false) →
       new ≡ states ++ s ∷ [] → Grows p states new
-  grows_more states new s some of one unsettled e = subst (Grows p states) (sym e) more where
+  grows_more states new s some of one no_match e = subst (Grows p states) (sym e) more where
     here : (i : ℕ) (d : State) → i < length states + 1 → (i < length states) ⊎ (length states ≤ i) →
         IsState p (slice_index_or (states ++ s ∷ []) i d)
     here i d h (inl lt) = subst (IsState p) (sym (get_or-append states (s ∷ []) d i lt)) (of.each i d lt)
@@ -50,50 +51,51 @@ module _ (p : Unrolled) where
         subst (λ n. IsState p (slice_index_or (states ++ s ∷ []) n d)) at
         (subst (IsState p) (sym (get_or-append_seam states s [] d)) one)
 
-    IsUnsettled : State → Type 0
-    IsUnsettled d = d.at_start ≡ true → d.accepts ≡ false
+    HasNoMatch : State → Type 0
+    HasNoMatch d = d.at_start ≡ true → d.accepts ≡ false
 
-    unsettled_here : (i : ℕ) (d : State) → 0 < i → i < length states + 1 →
-        (i < length states) ⊎ (length states ≤ i) → IsUnsettled (slice_index_or (states ++ s ∷ []) i d)
-    unsettled_here i d past h (inl lt) =
-        subst IsUnsettled (sym (get_or-append states (s ∷ []) d i lt)) (of.unsettled i d past lt)
-    unsettled_here i d past h (inr ge) =
+    no_match_here : (i : ℕ) (d : State) → 0 < i → i < length states + 1 →
+        (i < length states) ⊎ (length states ≤ i) → HasNoMatch (slice_index_or (states ++ s ∷ []) i d)
+    no_match_here i d past h (inl lt) =
+        subst HasNoMatch (sym (get_or-append states (s ∷ []) d i lt)) (of.no_match i d past lt)
+    no_match_here i d past h (inr ge) =
         let at : length states ≡ i = omega arith in
-        subst (λ n. IsUnsettled (slice_index_or (states ++ s ∷ []) n d)) at
-        (subst IsUnsettled (sym (get_or-append_seam states s [] d)) unsettled)
+        subst (λ n. HasNoMatch (slice_index_or (states ++ s ∷ []) n d)) at
+        (subst HasNoMatch (sym (get_or-append_seam states s [] d)) no_match)
 
     more : Grows p states (states ++ s ∷ [])
     more = record {
       states = record {
         each = λ i d lt. here i d (omega (arith, length-append states (s ∷ []))) (cases_lt i (length states));
-        unsettled = λ i d past lt. unsettled_here i d past (omega (arith, length-append states (s ∷ [])))
+        no_match = λ i d past lt. no_match_here i d past (omega (arith, length-append states (s ∷ [])))
             (cases_lt i (length states));
-        first = λ d lt. subst (λ t. HasPlaces t [] true) (sym (get_or-append states (s ∷ []) d 0 some))
+        first = λ d lt. subst (λ t. HasPositions t [] true) (sym (get_or-append states (s ∷ []) d 0 some))
             (of.first d some);
       };
       longer = omega (arith, length-append states (s ∷ []));
       same = λ i d lt. get_or-append states (s ∷ []) d i lt;
     }
 
-  module _ (anew : Bool) where
+  module _ (unanchored : Bool) where
     cell_kept : (states new : List State) → Grows p states new → (i column v : ℕ) → i < length states →
-        IsCellOf p anew states i column v → IsCellOf p anew new i column v
+        IsCellOf p unanchored states i column v → IsCellOf p unanchored new i column v
     cell_kept states new grows i column v lt of c scalar is =
         let old = of c scalar is in
         record {
           within = λ e. omega (arith, old.within e, grows.longer);
           follows = λ s t e.
-              subst (λ from. Follows p anew from c (slice_index_or new v t)) (sym (grows.same i s lt))
-              (subst (λ to. Follows p anew (slice_index_or states i s) c to)
+              subst (λ from. Follows p unanchored from c (slice_index_or new v t)) (sym (grows.same i s lt))
+              (subst (λ to. Follows p unanchored (slice_index_or states i s) c to)
               (sym (grows.same v t (old.within e)))
               (old.follows s t e));
-          found = λ s e a. subst (λ from. leaves (is_elem (next_places p from c)) p 0 true ≡ true)
+          found = λ s e a. subst (λ from. exits (is_elem (next_positions p from c)) p 0 true ≡ true)
               (sym (grows.same i s lt)) (old.found s e a);
-          dead = λ s e a. subst (λ from. next_places p from c ≡ []) (sym (grows.same i s lt))
+          dead = λ s e a. subst (λ from. next_positions p from c ≡ []) (sym (grows.same i s lt))
               (old.dead s e a);
         }
 
-    pub empty_cell : (states : List State) (i column v : ℕ) → v ≡ 255 → IsCellOf p anew states i column v
+    pub empty_cell : (states : List State) (i column v : ℕ) → v ≡ 255 →
+        IsCellOf p unanchored states i column v
     empty_cell states i column v z c scalar is =
         record {
           within = λ e. absurd (omega arith);
@@ -103,69 +105,73 @@ module _ (p : Unrolled) where
         }
 
     -- the cell of a character is that of each that is like it
-    pub cell_alike : (states : List State) (i v : ℕ) (those : Those) → Alike p those → (c d : ℕ) → AreOf
-        those c d →
-        IsCell p anew states i c v → IsCell p anew states i d v
-    cell_alike states i v those alike c d are of =
-        let same : (s : State) → next_places p (slice_index_or states i s) c
-        ≡ next_places p (slice_index_or states i s) d =
-        λ s. alike.reads c d are (is_elem (slice_index_or states i s).live.items) 0
+    pub cell_equivalent : (states : List State) (i v : ℕ) (candidate : Candidate) → Equivalent p candidate →
+        (c d : ℕ) → AreOf
+        candidate c d →
+        IsCell p unanchored states i c v → IsCell p unanchored states i d v
+    cell_equivalent states i v candidate equivalent c d are of =
+        let same : (s : State) → next_positions p (slice_index_or states i s) c
+        ≡ next_positions p (slice_index_or states i s) d =
+        λ s. equivalent.reads c d are (is_elem (slice_index_or states i s).active.items) 0
         (slice_index_or states i s).at_start in
         record {
           within = of.within;
           follows = λ s t e.
-              subst (λ live. HasPlaces (slice_index_or states v t) live anew) (same s) (of.follows s t e);
-          found = λ s e a. ap (λ live. leaves (is_elem live) p 0 true) (sym (same s)) ∙ of.found s e a;
+              subst (λ active. HasPositions (slice_index_or states v t) active unanchored) (same s)
+              (of.follows s t e);
+          found = λ s e a. ap (λ active. exits (is_elem active) p 0 true) (sym (same s)) ∙ of.found s e a;
           dead = λ s e a. sym (same s) ∙ of.dead s e a;
         }
 
     -- the column of a character of ASCII is its own
     pub cell_ascii : (states : List State) (i v code column : ℕ) → code ≡ column → column < 128 → IsCell p
-        anew states i code v →
-        IsCellOf p anew states i column v
+        unanchored states i code v →
+        IsCellOf p unanchored states i column v
     cell_ascii states i v code column e lt of c scalar (inl h) =
-        subst (λ n. IsCell p anew states i n v) (e ∙ h.1) of
+        subst (λ n. IsCell p unanchored states i n v) (e ∙ h.1) of
     cell_ascii states i v code column e lt of c scalar (inr h) = absurd (omega arith)
 
     -- the column of a character that is like another of ASCII
     pub cell_first : (states : List State) (i v first column : ℕ) → column < 128 → first < column →
-        Alike p (those.Both first column) → IsCellOf p anew states i first v → IsCellOf p anew states i
+        Equivalent p (candidate.Both first column) → IsCellOf p unanchored states i first v →
+        IsCellOf p unanchored states i
         column v
-    cell_first states i v first column lt below alike of =
+    cell_first states i v first column lt below equivalent of =
         let low : first < 128 = omega arith in
-        let one : IsCell p anew states i first v = of first (ascii_scalar first low) (inl (low, refl)) in
+        let one : IsCell p unanchored states i first v = of first (ascii_scalar first low)
+        (inl (low, refl)) in
         cell_ascii states i v column column refl lt
-        (cell_alike states i v (those.Both first column) alike first column (refl, refl) one)
+        (cell_equivalent states i v (candidate.Both first column) equivalent first column (refl, refl) one)
 
     -- the columns of all others
-    pub cell_past : (states : List State) (i v column : ℕ) → 192 ≤ column → Alike p those.PastAscii →
-        IsCell p anew states i 128 v → IsCellOf p anew states i column v
-    cell_past states i v column e alike of c scalar (inl h) = absurd (omega arith)
-    cell_past states i v column e alike of c scalar (inr h) =
-        cell_alike states i v those.PastAscii alike 128 c (refl, h.0, scalar) of
+    pub cell_past : (states : List State) (i v column : ℕ) → 192 ≤ column → Equivalent p candidate.PastAscii →
+        IsCell p unanchored states i 128 v → IsCellOf p unanchored states i column v
+    cell_past states i v column e equivalent of c scalar (inl h) = absurd (omega arith)
+    cell_past states i v column e equivalent of c scalar (inr h) =
+        cell_equivalent states i v candidate.PastAscii equivalent 128 c (refl, h.0, scalar) of
 
     -- each of them has the cell of the first
     pub cell_later : (states : List State) (i v column : ℕ) → 192 ≤ column →
-        IsCellOf p anew states i 192 v → IsCellOf p anew states i column v
+        IsCellOf p unanchored states i 192 v → IsCellOf p unanchored states i column v
     cell_later states i v column e of c scalar (inl h) = absurd (omega arith)
     cell_later states i v column e of c scalar (inr h) = of c scalar (inr (h.0, omega arith))
 
     module _ (states new : List State) (cells after : List ℕ) (from column v : ℕ)
         (known : from < length states)
         (next : length cells ≡ from * 256 + column) (grows : Grows p states new)
-        (table : IsTableOf p anew states cells)
-        (one : IsCellOf p anew new from column v)
+        (dfa : IsDfaOf p unanchored states cells)
+        (one : IsCellOf p unanchored new from column v)
         (stay : 128 ≤ column → column < 192 → v ≡ from) (in_row : column < 256) where
       cell_here : (i k : ℕ) → i < length new → k < 256 →
-          (i * 256 + k < length cells) ⊎ (length cells ≤ i * 256 + k) → IsCellOf p anew new i k
+          (i * 256 + k < length cells) ⊎ (length cells ≤ i * 256 + k) → IsCellOf p unanchored new i k
           (cell_at (cells ++ v ∷ []) i k)
       cell_here i k lt lo (inl h) =
           let old : i < length states = omega arith in
-          subst (IsCellOf p anew new i k) (sym (get_or-append cells (v ∷ []) 255 (i * 256 + k) h))
-          (cell_kept states new grows i k (cell_at cells i k) old (table.cell i k old lo))
+          subst (IsCellOf p unanchored new i k) (sym (get_or-append cells (v ∷ []) 255 (i * 256 + k) h))
+          (cell_kept states new grows i k (cell_at cells i k) old (dfa.cell i k old lo))
       cell_here i k lt lo (inr h) = last (cases_lt (from * 256 + column) (i * 256 + k)) where
         last : (from * 256 + column < i * 256 + k) ⊎ (i * 256 + k ≤ from * 256 + column) →
-            IsCellOf p anew new i k (cell_at (cells ++ v ∷ []) i k)
+            IsCellOf p unanchored new i k (cell_at (cells ++ v ∷ []) i k)
         last (inl past) =
             let end : length (cells ++ v ∷ []) ≤ i * 256 + k = omega (arith, length-append cells (v ∷ [])) in
             empty_cell new i k _ (get_or-eq_default (cells ++ v ∷ []) 255 end)
@@ -173,14 +179,15 @@ module _ (p : Unrolled) where
             let row : from ≡ i = omega arith in
             let same : column ≡ k = omega arith in
             let at : length cells ≡ i * 256 + k = omega arith in
-            subst (λ n. IsCellOf p anew new i k (slice_index_or (cells ++ v ∷ []) n 255)) at
-            (subst (IsCellOf p anew new i k) (sym (get_or-append_seam cells v [] 255))
-            (subst (λ n. IsCellOf p anew new n k v) row (subst (λ n. IsCellOf p anew new from n v) same one)))
+            subst (λ n. IsCellOf p unanchored new i k (slice_index_or (cells ++ v ∷ []) n 255)) at
+            (subst (IsCellOf p unanchored new i k) (sym (get_or-append_seam cells v [] 255))
+            (subst (λ n. IsCellOf p unanchored new n k v) row
+            (subst (λ n. IsCellOf p unanchored new from n v) same one)))
 
       stay_here : (i k : ℕ) → i * 256 + k < length cells + 1 → 128 ≤ k → k < 192 →
           (i * 256 + k < length cells) ⊎ (length cells ≤ i * 256 + k) → cell_at (cells ++ v ∷ []) i k ≡ i
       stay_here i k lt low high (inl h) =
-          get_or-append cells (v ∷ []) 255 (i * 256 + k) h ∙ table.stays i k h low high
+          get_or-append cells (v ∷ []) 255 (i * 256 + k) h ∙ dfa.stays i k h low high
       stay_here i k lt low high (inr h) =
           let row : from ≡ i = omega arith in
           let same : column ≡ k = omega arith in
@@ -188,8 +195,8 @@ module _ (p : Unrolled) where
           subst (λ n. slice_index_or (cells ++ v ∷ []) n 255 ≡ i) at
           (get_or-append_seam cells v [] 255 ∙ stay (omega arith) (omega arith) ∙ row)
 
-      pub table_more : length new ≤ 254 → after ≡ cells ++ v ∷ [] → IsTableOf p anew new after
-      table_more few e = subst (IsTableOf p anew new) (sym e) (record {
+      pub dfa_more : length new ≤ 254 → after ≡ cells ++ v ∷ [] → IsDfaOf p unanchored new after
+      dfa_more few e = subst (IsDfaOf p unanchored new) (sym e) (record {
         known = grows.states;
         few = few;
         cell = λ i k lt lo. cell_here i k lt lo (cases_lt (i * 256 + k) (length cells));
@@ -197,11 +204,12 @@ module _ (p : Unrolled) where
             (cases_lt (i * 256 + k) (length cells));
       })
 
--- the places behind a character rise
-pub reads_rises : (p : Unrolled) (c : ℕ) (places before after : List ℕ) (at : Reach) → before ≡ [] → at.past
+-- the positions behind a character rise
+pub reads_rises : (p : Unrolled) (c : ℕ) (positions before after : List ℕ) (at : Cursor) →
+    before ≡ [] → at.past
     ≡ 0 →
-    after ≡ before ++ advance (is_elem places) c p at.past at.entered → Rises 0 after
-reads_rises p c places before after at none first e =
-    subst (Rises 0) (sym (e ∙ ap (λ xs. xs ++ advance (is_elem places) c p at.past at.entered) none))
-    (subst (λ n. Rises n (advance (is_elem places) c p at.past at.entered)) first
-    (advance_rises (is_elem places) c p at.past at.entered))
+    after ≡ before ++ step (is_elem positions) c p at.past at.entered → Rises 0 after
+reads_rises p c positions before after at none first e =
+    subst (Rises 0) (sym (e ∙ ap (λ xs. xs ++ step (is_elem positions) c p at.past at.entered) none))
+    (subst (λ n. Rises n (step (is_elem positions) c p at.past at.entered)) first
+    (step_rises (is_elem positions) c p at.past at.entered))

@@ -6,12 +6,14 @@ use Rattle.std.specs.Prelude.{option_map, option_and_then}
 use Rattle.std.proofs.lemmas.Bool.{cases_Bool}
 use Rattle.jp_regexp.specs.Pattern.{Text, Element, Pattern, one, empty, either}
 use Rattle.jp_regexp.specs.Tree.{in_turn, before_last}
-use Rattle.jp_regexp.specs.Gives.{Fails}
+use Rattle.jp_regexp.specs.inner.Gives.{Fails}
 use Rattle.jp_regexp.specs.declared.fault.Fault.{Fault}
 use Rattle.jp_regexp.specs.declared.fault.Fault.TheVariants as faults
-use Rattle.jp_regexp.specs.Reading.{Parse, close_at, element_at, with_element, elements_at, elements_behind}
-use Rattle.jp_regexp.specs.Reading.{next_element_at, prepend, Turn, end, bar, piece, next_turn, after_turn}
-use Rattle.jp_regexp.specs.Reading.{pattern_within, behind_pieces, pattern_behind}
+use Rattle.jp_regexp.specs.inner.Reading.{Parse, close_at, element_at, with_element, elements_at}
+use Rattle.jp_regexp.specs.inner.Reading.{elements_behind}
+use Rattle.jp_regexp.specs.inner.Reading.{next_element_at, prepend, Turn, end, bar, piece, next_turn}
+use Rattle.jp_regexp.specs.inner.Reading.{after_turn}
+use Rattle.jp_regexp.specs.inner.Reading.{pattern_within, behind_pieces, pattern_behind}
 
 pub fails_map : {A B : Type 0} (f : A → B) (e : Fault) (o : Option A) → Fails e o → Fails e (option_map f o)
 fails_map f faults.Memory o h = tt

@@ -2,14 +2,14 @@
 use Rattle.std.proofs.Common.{◌≡◌, ℕ, zero, suc, ◌+◌, ◌-◌, ◌*◌, ◌≤◌, ◌<◌, Bool, true, false, ◌&&◌, ◌||◌}
 use Rattle.std.proofs.Common.{nat_le, List, [], ◌∷◌, map, drop, get_or, length, drop-cons, refl, sym, ap, ap₂}
 use Rattle.std.proofs.Common.{◌∙◌, subst, arith, IsTrue, mul-le-mul_right}
-use Rattle.jp_regexp.specs.declared.reach.Reach.{Reach}
+use Rattle.jp_regexp.specs.declared.cursor.Cursor.{Cursor}
 use Rattle.jp_regexp.specs.declared.parts.Part.{Part}
 use Rattle.jp_regexp.specs.Parts.{meaning, in_turn_of, unrolled_in, unrolled_in_turn, branches_before}
 use Rattle.jp_regexp.specs.Unrolled.{Unrolled, unrolled, nothing, seq, either, plus, counted, counted_on}
 use Rattle.jp_regexp.specs.Unrolled.{letters}
-use Rattle.jp_regexp.specs.Walk.{leaves, is_elem, Dead, IsAt, IsWalk, or_entered, entered_as}
+use Rattle.jp_regexp.specs.inner.Simulation.{exits, is_elem, Inactive, IsAt, IsWalk, or_entered, entered_as}
 use Rattle.jp_regexp.proofs.UnrolledLemmas.{letters-counted, letters-counted_on}
-use Rattle.jp_regexp.proofs.CopyLemmas.{counted-letters, counted-leaves, open-letters, open-leaves, skipped}
+use Rattle.jp_regexp.proofs.CopyLemmas.{counted-letters, counted-exits, open-letters, open-exits, skipped}
 use Rattle.jp_regexp.proofs.CopyLemmas.{skipped_on, letters-skipped, letters-skipped_on}
 
 or_assoc : (x y z : Bool) → ((x || y) || z) ≡ (x || (y || z))
@@ -42,30 +42,31 @@ branch_next parts q i part lt e =
     ap (λ ps. branches_before ps q) (drop-cons parts i part lt ∙ ap (λ x. x ∷ drop (suc i) parts) (sym e)
     ∙ ap (λ n. part ∷ drop n parts) back)
 
-module _ (places : List ℕ) where
-  pub nothing_walk : (x : Reach) → IsAt places x.past x.index → IsWalk places nothing x x
+module _ (positions : List ℕ) where
+  pub nothing_walk : (x : Cursor) → IsAt positions x.past x.index → IsWalk positions nothing x x
   nothing_walk x at = record { past = omega arith; entered = refl; stands = at }
 
-  pub seq_walk : (a b : Unrolled) (x y z : Reach) → IsWalk places a x y → IsWalk places b y z
-      → IsWalk places (seq a b) x z
+  pub seq_walk : (a b : Unrolled) (x y z : Cursor) → IsWalk positions a x y → IsWalk positions b y z
+      → IsWalk positions (seq a b) x z
   seq_walk a b x y z f g = record {
     past = omega (arith, f.past, g.past);
-    entered = g.entered ∙ ap₂ (λ n e. leaves (is_elem places) b n e) f.past f.entered;
+    entered = g.entered ∙ ap₂ (λ n e. exits (is_elem positions) b n e) f.past f.entered;
     stands = g.stands;
   }
 
-  pub either_walk : (a b : Unrolled) (x y z : Reach) → IsWalk places a x y
-      → IsWalk places b (entered_as x.entered y) z →
-      IsWalk places (either a b) x (or_entered y.entered z)
+  pub either_walk : (a b : Unrolled) (x y z : Cursor) → IsWalk positions a x y
+      → IsWalk positions b (entered_as x.entered y) z →
+      IsWalk positions (either a b) x (or_entered y.entered z)
   either_walk a b x y z f g = record {
     past = omega (arith, f.past, g.past);
-    entered = ap₂ (λ d e. d || e) f.entered (g.entered ∙ ap (λ n. leaves (is_elem places) b n x.entered)
+    entered = ap₂ (λ d e. d || e) f.entered (g.entered ∙ ap (λ n. exits (is_elem positions) b n x.entered)
         f.past);
     stands = g.stands;
   }
 
-  pub or_walk : (p : Unrolled) (b d : Bool) (x z : Reach) → IsWalk places p x (or_entered b (or_entered d z))
-      → IsWalk places p x (or_entered (b || d) z)
+  pub or_walk : (p : Unrolled) (b d : Bool) (x z : Cursor) →
+      IsWalk positions p x (or_entered b (or_entered d z))
+      → IsWalk positions p x (or_entered (b || d) z)
   or_walk p b d x z f = record {
     past = f.past;
     entered = or_assoc b d z.entered ∙ f.entered;
@@ -73,57 +74,59 @@ module _ (places : List ℕ) where
         f.stands;
   }
 
-  module _ (a : Unrolled) (least i : ℕ) (x y z : Reach) (f : IsWalk places a x y) where
-    pub copy_walk : (most : ℕ) → i < most → IsWalk places (counted (least - (i + 1)) (most - (i + 1)) a) y z →
-        IsWalk places (counted (least - i) (most - i) a) x (or_entered (nat_le least i && x.entered) z)
+  module _ (a : Unrolled) (least i : ℕ) (x y z : Cursor) (f : IsWalk positions a x y) where
+    pub copy_walk : (most : ℕ) → i < most → IsWalk positions
+        (counted (least - (i + 1)) (most - (i + 1)) a) y z →
+        IsWalk positions (counted (least - i) (most - i) a) x (or_entered (nat_le least i && x.entered) z)
     copy_walk most lt g = record {
       past = omega (arith, f.past, g.past, counted-letters a least i most lt);
       entered = ap (λ e. (nat_le least i && x.entered) || e)
-          (g.entered ∙ ap₂ (λ n e. leaves (is_elem places) (counted (least - (i + 1)) (most - (i + 1)) a) n e)
+          (g.entered ∙ ap₂ (λ n e. exits (is_elem positions)
+          (counted (least - (i + 1)) (most - (i + 1)) a) n e)
           f.past f.entered)
-          ∙ sym (counted-leaves a least i (is_elem places) x.past x.entered most lt);
+          ∙ sym (counted-exits a least i (is_elem positions) x.past x.entered most lt);
       stands = g.stands;
     }
 
-    pub copy_on_walk : i < least → IsWalk places (counted_on (least - (i + 1)) a) y z
-        → IsWalk places (counted_on (least - i) a) x z
+    pub copy_on_walk : i < least → IsWalk positions (counted_on (least - (i + 1)) a) y z
+        → IsWalk positions (counted_on (least - i) a) x z
     copy_on_walk lt g = record {
       past = omega (arith, f.past, g.past, open-letters a least i lt);
-      entered = g.entered ∙ ap₂ (λ n e. leaves (is_elem places) (counted_on (least - (i + 1)) a) n e) f.past
+      entered = g.entered ∙ ap₂ (λ n e. exits (is_elem positions) (counted_on (least - (i + 1)) a) n e) f.past
           f.entered
-          ∙ sym (open-leaves a least i (is_elem places) x.past x.entered lt);
+          ∙ sym (open-exits a least i (is_elem positions) x.past x.entered lt);
       stands = g.stands;
     }
 
-  module _ (a : Unrolled) (n least : ℕ) (x z : Reach) (none : x.entered ≡ false)
-      (dead : Dead (is_elem places) x.past (n * letters a)) where
+  module _ (a : Unrolled) (n least : ℕ) (x z : Cursor) (none : x.entered ≡ false)
+      (inactive : Inactive (is_elem positions) x.past (n * letters a)) where
     pub skip_walk : (most : ℕ) → n ≤ most
-        → IsWalk places (counted (least - n) (most - n) a) (record x { past = x.past + n * letters a }) z →
-        IsWalk places (counted least most a) x z
+        → IsWalk positions (counted (least - n) (most - n) a) (record x { past = x.past + n * letters a }) z →
+        IsWalk positions (counted least most a) x z
     skip_walk most le g = record {
       past = g.past ∙ letters-skipped a n least most x.past le;
-      entered = g.entered ∙ ap (λ e. leaves (is_elem places) (counted (least - n) (most - n) a)
+      entered = g.entered ∙ ap (λ e. exits (is_elem positions) (counted (least - n) (most - n) a)
           (x.past + n * letters a) e) none
-          ∙ sym (skipped (is_elem places) a n least most x.past le dead)
-          ∙ ap (λ e. leaves (is_elem places) (counted least most a) x.past e) (sym none);
+          ∙ sym (skipped (is_elem positions) a n least most x.past le inactive)
+          ∙ ap (λ e. exits (is_elem positions) (counted least most a) x.past e) (sym none);
       stands = g.stands;
     }
 
     pub skip_on_walk : n ≤ least
-        → IsWalk places (counted_on (least - n) a) (record x { past = x.past + n * letters a }) z →
-        IsWalk places (counted_on least a) x z
+        → IsWalk positions (counted_on (least - n) a) (record x { past = x.past + n * letters a }) z →
+        IsWalk positions (counted_on least a) x z
     skip_on_walk le g = record {
       past = g.past ∙ letters-skipped_on a n least x.past le;
-      entered = g.entered ∙ ap (λ e. leaves (is_elem places) (counted_on (least - n) a)
+      entered = g.entered ∙ ap (λ e. exits (is_elem positions) (counted_on (least - n) a)
           (x.past + n * letters a) e) none
-          ∙ sym (skipped_on (is_elem places) a n least x.past le dead)
-          ∙ ap (λ e. leaves (is_elem places) (counted_on least a) x.past e) (sym none);
+          ∙ sym (skipped_on (is_elem positions) a n least x.past le inactive)
+          ∙ ap (λ e. exits (is_elem positions) (counted_on least a) x.past e) (sym none);
       stands = g.stands;
     }
 
   -- the last copy of `{n,}`
-  pub last_walk : (a : Unrolled) (x y : Reach) → IsWalk places a x y
-      → IsWalk places (counted_on 0 a) x (or_entered x.entered y)
+  pub last_walk : (a : Unrolled) (x y : Cursor) → IsWalk positions a x y
+      → IsWalk positions (counted_on 0 a) x (or_entered x.entered y)
   last_walk a x y f = record {
     past = f.past;
     entered = ap (λ e. x.entered || e) f.entered;
@@ -132,7 +135,7 @@ module _ (places : List ℕ) where
   }
 
   -- a copy that may be repeated ends where one does
-  pub plus_walk : (a : Unrolled) (x y : Reach) → IsWalk places (plus a) x y → IsWalk places a x y
+  pub plus_walk : (a : Unrolled) (x y : Cursor) → IsWalk positions (plus a) x y → IsWalk positions a x y
   plus_walk a x y f = record { past = f.past; entered = f.entered; stands = f.stands }
 
 -- ---- the loops over the copies
@@ -173,38 +176,38 @@ pub not_entered : (b : Bool) (n : ℕ) → (IsTrue b → n ≡ 0) → 0 < n → 
 not_entered true n h lt = absurd (let e = h refl in omega arith)
 not_entered false n h lt = refl
 
-module _ (places : List ℕ) (a : Unrolled) (i n size least : ℕ) (x z : Reach) (e : size ≡ letters a)
+module _ (positions : List ℕ) (a : Unrolled) (i n size least : ℕ) (x z : Cursor) (e : size ≡ letters a)
     (none : x.entered ≡ false)
-    (dead : Dead (is_elem places) x.past (n * size)) where
-  behind : ℕ → Reach
+    (inactive : Inactive (is_elem positions) x.past (n * size)) where
+  behind : ℕ → Cursor
   behind s = record { past = x.past + n * s; index = x.index; entered = x.entered }
 
-  dead_letters : Dead (is_elem places) x.past (n * letters a)
-  dead_letters = subst (λ s. Dead (is_elem places) x.past (n * s)) e dead
+  inactive_letters : Inactive (is_elem positions) x.past (n * letters a)
+  inactive_letters = subst (λ s. Inactive (is_elem positions) x.past (n * s)) e inactive
 
   pub skip_copies : (most : ℕ) → n ≤ most - i →
-      IsWalk places (counted (least - (i + n)) (most - (i + n)) a)
+      IsWalk positions (counted (least - (i + n)) (most - (i + n)) a)
       (record { past = x.past + n * size; index = x.index; entered = x.entered }) z →
-      IsWalk places (counted (least - i) (most - i) a) x z
+      IsWalk positions (counted (least - i) (most - i) a) x z
   unfolding behind
   skip_copies most le w =
       let f : least - (i + n) ≡ least - i - n = omega arith in
       let g : most - (i + n) ≡ most - i - n = omega arith in
-      let v = subst (λ s. IsWalk places (counted (least - (i + n)) (most - (i + n)) a) (behind s) z) e w in
-      let u = subst (λ k. IsWalk places (counted k (most - (i + n)) a) (behind (letters a)) z) f v in
-      skip_walk places a n (least - i) x z none dead_letters (most - i) le
-      (subst (λ k. IsWalk places (counted (least - i - n) k a) (behind (letters a)) z) g u)
+      let v = subst (λ s. IsWalk positions (counted (least - (i + n)) (most - (i + n)) a) (behind s) z) e w in
+      let u = subst (λ k. IsWalk positions (counted k (most - (i + n)) a) (behind (letters a)) z) f v in
+      skip_walk positions a n (least - i) x z none inactive_letters (most - i) le
+      (subst (λ k. IsWalk positions (counted (least - i - n) k a) (behind (letters a)) z) g u)
 
   pub skip_copies_on : n ≤ least - i →
-      IsWalk places (counted_on (least - (i + n)) a)
+      IsWalk positions (counted_on (least - (i + n)) a)
       (record { past = x.past + n * size; index = x.index; entered = x.entered }) z →
-      IsWalk places (counted_on (least - i) a) x z
+      IsWalk positions (counted_on (least - i) a) x z
   unfolding behind
   skip_copies_on le w =
       let f : least - (i + n) ≡ least - i - n = omega arith in
-      let v = subst (λ s. IsWalk places (counted_on (least - (i + n)) a) (behind s) z) e w in
-      skip_on_walk places a n (least - i) x z none dead_letters le
-      (subst (λ k. IsWalk places (counted_on k a) (behind (letters a)) z) f v)
+      let v = subst (λ s. IsWalk positions (counted_on (least - (i + n)) a) (behind s) z) e w in
+      skip_on_walk positions a n (least - i) x z none inactive_letters le
+      (subst (λ k. IsWalk positions (counted_on k a) (behind (letters a)) z) f v)
 
 pub total_skipped : (a : Unrolled) (least most i n size here total : ℕ) → size ≡ letters a → n ≤ most - i →
     here + letters (counted (least - i) (most - i) a) ≡ total →

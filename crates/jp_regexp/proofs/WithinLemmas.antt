@@ -9,13 +9,16 @@ use Rattle.jp_regexp.specs.Profile.{max_count, depth}
 use Rattle.jp_regexp.specs.Quantity.{is_digit}
 use Rattle.jp_regexp.specs.declared.tree.Quantity.{Quantity}
 use Rattle.jp_regexp.specs.declared.tree.Quantity.TheVariants as quantities
-use Rattle.jp_regexp.specs.Reading.{Parse, Change, set_at, digits_at, count_at, close_count_at}
-use Rattle.jp_regexp.specs.Reading.{after_comma_at, after_least_at, quantity_at, close_group_at, atom_at}
-use Rattle.jp_regexp.specs.Reading.{with_quantity, piece_at, prepend, with_piece, pattern_at, if_whole, read}
-use Rattle.jp_regexp.specs.Reading.{with_quantity_of, digits_within, count_within, close_count_within}
-use Rattle.jp_regexp.specs.Reading.{after_comma_within, after_least_within, quantity_within, group_within}
-use Rattle.jp_regexp.specs.Reading.{atom_within, quantified_within, piece_within, piece, next_turn}
-use Rattle.jp_regexp.specs.Reading.{after_turn, pattern_within, read_within}
+use Rattle.jp_regexp.specs.inner.Reading.{Parse, Change, set_at, digits_at, count_at, close_count_at}
+use Rattle.jp_regexp.specs.inner.Reading.{after_comma_at, after_least_at, quantity_at, close_group_at}
+use Rattle.jp_regexp.specs.inner.Reading.{atom_at}
+use Rattle.jp_regexp.specs.inner.Reading.{with_quantity, piece_at, prepend, with_piece, pattern_at, if_whole}
+use Rattle.jp_regexp.specs.inner.Reading.{read}
+use Rattle.jp_regexp.specs.inner.Reading.{with_quantity_of, digits_within, count_within, close_count_within}
+use Rattle.jp_regexp.specs.inner.Reading.{after_comma_within, after_least_within, quantity_within}
+use Rattle.jp_regexp.specs.inner.Reading.{group_within}
+use Rattle.jp_regexp.specs.inner.Reading.{atom_within, quantified_within, piece_within, piece, next_turn}
+use Rattle.jp_regexp.specs.inner.Reading.{after_turn, pattern_within, read_within}
 use Rattle.jp_regexp.proofs.RightTests.{are_counts, has_counts}
 
 -- ---- a test on what was read

@@ -1,22 +1,22 @@
--- What a set of places of a pattern stands for.
+-- What a set of positions of a pattern stands for.
 use Rattle.std.specs.Prelude.{ℕ, Bool, List, ◌∷◌, ◌⊎◌, ◌↔◌, IsTrue}
 use Rattle.jp_regexp.specs.declared.terms.Terms.{Terms}
 use Rattle.jp_regexp.specs.Held.{pattern_of}
 use Rattle.jp_regexp.specs.Language.{Member}
 use Rattle.jp_regexp.specs.Pattern.{Text, Pattern}
-use Rattle.jp_regexp.specs.Unrolled.{SomePlaceHas, all_places}
+use Rattle.jp_regexp.specs.Unrolled.{SomePositionHas, all_positions}
 
 -- the pattern that is read by
 abbrev pub pattern_read_by : Terms → Pattern
 pattern_read_by terms = pattern_of terms.pattern.now
 
--- the places in the set
-abbrev pub places_of : Terms → List ℕ
-places_of terms = all_places terms.at_start terms.live.items
+-- the positions in the set
+abbrev pub positions_of : Terms → List ℕ
+positions_of terms = all_positions terms.at_start terms.active.items
 
 -- the text is among those that are left to read
 abbrev pub IsLeft : Terms → Text → Type 0
-IsLeft terms t = SomePlaceHas (pattern_read_by terms) (places_of terms) t
+IsLeft terms t = SomePositionHas (pattern_read_by terms) (positions_of terms) t
 
 -- what is left once c was read, with the whole language where anew
 abbrev pub TakesStep : (old : Terms) (c : ℕ) (anew : Bool) (new : Terms) → Type 0

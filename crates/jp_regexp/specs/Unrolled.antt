@@ -64,18 +64,17 @@ After (either a b) k t = After a k t ⊎ ((j : ℕ) × (k ≡ letters a + j) × 
 After (maybe a) k t = After a k t
 After (plus a) k t = Then (After a k) (Repeated (Has a) 0 None) t
 
--- The language of a place of the pattern, a number from 0 to the unrolled size: at place 0 nothing was read
--- yet, and at place k
--- the k-th atom of one character was just read.
-abbrev pub PlaceHas : Pattern → ℕ → Text → Type 0
-PlaceHas p zero t = Member p t
-PlaceHas p (suc k) t = After (unrolled p) (suc k) t
+-- The language of a position of the pattern, a number from 0 to the unrolled size: at position 0 nothing was
+-- read yet, and at position k the k-th atom of one character was just read.
+abbrev pub PositionHas : Pattern → ℕ → Text → Type 0
+PositionHas p zero t = Member p t
+PositionHas p (suc k) t = After (unrolled p) (suc k) t
 
--- place 0 where the flag is set, and these
-abbrev pub all_places : Bool → List ℕ → List ℕ
-all_places true places = 0 ∷ places
-all_places false places = places
+-- position 0 where the flag is set, and these
+abbrev pub all_positions : Bool → List ℕ → List ℕ
+all_positions true positions = 0 ∷ positions
+all_positions false positions = positions
 
--- the union of the languages of these places
-abbrev pub SomePlaceHas : Pattern → List ℕ → Text → Type 0
-SomePlaceHas p places t = (k : ℕ) × Contains places k × PlaceHas p k t
+-- the union of the languages of these positions
+abbrev pub SomePositionHas : Pattern → List ℕ → Text → Type 0
+SomePositionHas p positions t = (k : ℕ) × Contains positions k × PositionHas p k t

@@ -1,7 +1,7 @@
 //! The names of general categories.
 
 ghost use Rattle.std.specs.Prelude.{◌≡◌, option_map};
-ghost use Rattle.jp_regexp.specs.Reading as reading;
+ghost use Rattle.jp_regexp.specs.inner.Reading as reading;
 
 use unicode::properties::GeneralCategory;
 

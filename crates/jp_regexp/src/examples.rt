@@ -21,7 +21,7 @@ ghost use Rattle.jp_regexp.specs.Samples.{IsNoPattern};
 ghost use Rattle.jp_regexp.specs.Samples.{a_or_ab, once_a, some_ab, written_either};
 ghost use Rattle.jp_regexp.specs.Shape.{Shapes};
 ghost use Rattle.jp_regexp.specs.Unrolled.{maybe, nothing, plus as once_or_more, seq as then, unrolled};
-ghost use Rattle.jp_regexp.specs.Unrolled.{PlaceHas, SomePlaceHas};
+ghost use Rattle.jp_regexp.specs.Unrolled.{PositionHas, SomePositionHas};
 
 // Which tree a text spells.
 fn shapes()
@@ -176,20 +176,20 @@ fn written_out()
     ensures parentheses { unrolled (group (branch (letter_a ∷ []))) ≡ then once_a nothing }
 {}
 
-// What is left at the places of `a|ab`, and of `(ab)+`.
-fn places()
-    ensures start { PlaceHas a_or_ab 0 (codes "ab") }
-    ensures behind_first { PlaceHas a_or_ab 1 [] }
-    ensures nothing_behind_first { PlaceHas a_or_ab 1 (codes "b") → ⊥ }
-    ensures behind_second { PlaceHas a_or_ab 2 (codes "b") }
-    ensures not_complete { PlaceHas a_or_ab 2 [] → ⊥ }
-    ensures behind_third { PlaceHas a_or_ab 3 [] }
-    ensures no_fourth { (t : Text) → PlaceHas a_or_ab 4 t → ⊥ }
-    ensures repeated { PlaceHas some_ab 2 (codes "ab") }
-    ensures complete { PlaceHas some_ab 2 [] }
-    ensures begun { PlaceHas some_ab 1 (codes "bab") }
-    ensures left { SomePlaceHas a_or_ab (1 ∷ 2 ∷ []) (codes "b") }
-    ensures not_left { SomePlaceHas a_or_ab (1 ∷ 3 ∷ []) (codes "b") → ⊥ }
+// What is left at the positions of `a|ab`, and of `(ab)+`.
+fn positions()
+    ensures start { PositionHas a_or_ab 0 (codes "ab") }
+    ensures behind_first { PositionHas a_or_ab 1 [] }
+    ensures nothing_behind_first { PositionHas a_or_ab 1 (codes "b") → ⊥ }
+    ensures behind_second { PositionHas a_or_ab 2 (codes "b") }
+    ensures not_complete { PositionHas a_or_ab 2 [] → ⊥ }
+    ensures behind_third { PositionHas a_or_ab 3 [] }
+    ensures no_fourth { (t : Text) → PositionHas a_or_ab 4 t → ⊥ }
+    ensures repeated { PositionHas some_ab 2 (codes "ab") }
+    ensures complete { PositionHas some_ab 2 [] }
+    ensures begun { PositionHas some_ab 1 (codes "bab") }
+    ensures left { SomePositionHas a_or_ab (1 ∷ 2 ∷ []) (codes "b") }
+    ensures not_left { SomePositionHas a_or_ab (1 ∷ 3 ∷ []) (codes "b") → ⊥ }
 {}
 
 // Escapes, and the characters that stand for themselves.

@@ -1,29 +1,29 @@
 //! Patterns of I-Regexp (RFC 9485): what they are, their limits, and which texts they match.
 #![tactic(auto)]
 
-mod advance;
-mod alike;
+mod byte_classes;
+mod byte_flags;
+mod candidate;
 mod categories;
-mod classes;
+mod cursor;
+mod determinize;
+mod dfa;
+mod dfa_input;
+mod equivalence;
 mod examples;
+mod exit;
 mod fault;
 pub mod laws;
-mod leave;
-mod letters;
-mod marks;
 mod parts;
 mod pattern;
-mod reach;
+mod prefilter;
 mod read_counts;
 mod read_patterns;
 mod read_sets;
 mod sets;
-mod source;
-mod starts;
-mod states;
-mod table;
+mod step;
+mod step_sets;
 mod terms;
-mod those;
 mod tree;
 
 pub use pattern::Pattern;

@@ -3,31 +3,31 @@
 ghost use Rattle.std.specs.Prelude.{IsTrue, false, true};
 ghost use Rattle.jp_regexp.specs.Parts.{meaning, pattern_in, unrolled_in};
 ghost use Rattle.jp_regexp.specs.Profile.{InProfile};
-ghost use Rattle.jp_regexp.specs.Starts.{AreStarts};
-ghost use Rattle.jp_regexp.specs.Steps.{IsTable};
+ghost use Rattle.jp_regexp.specs.inner.Prefilter.{IsPrefilter};
+ghost use Rattle.jp_regexp.specs.inner.Dfa.{IsDfa};
 
-mod by_places;
-mod by_table;
+mod by_dfa;
+mod by_positions;
 mod matching;
 mod reading;
 
+use crate::dfa::Dfa;
 use crate::parts::Part;
-use crate::starts::Starts;
-use crate::table::Table;
+use crate::prefilter::Prefilter;
 
 /// An I-Regexp within the limits of this implementation (RFC 9485).
 #[derive(Drop)]
 pub struct Pattern {
     pub(crate) root: Part,
-    /// The steps by which a whole text is read; there are none but in a pattern that was made ready.
-    pub(crate) whole: Table,
-    /// The steps by which a part is looked for: after each the pattern may also begin anew.
-    pub(crate) part: Table,
-    /// Where a part may begin.
-    pub(crate) starts: Starts,
+    /// The DFA by which a whole text is read; it has states only in a pattern that was compiled.
+    pub(crate) whole: Dfa,
+    /// The unanchored DFA by which a part is looked for.
+    pub(crate) part: Dfa,
+    /// The prefilter of the unanchored DFA: where a match may begin.
+    pub(crate) prefilter: Prefilter,
     ghost sized: { IsTrue (meaning root).is_sized },
     ghost in_profile: { ∥ InProfile (pattern_in root) ∥₁ },
-    ghost whole_steps: { ∥ IsTable (unrolled_in root) false whole ∥₁ },
-    ghost part_steps: { ∥ IsTable (unrolled_in root) true part ∥₁ },
-    ghost right_starts: { ∥ AreStarts part.cells.items starts.marks.items ∥₁ },
+    ghost whole_steps: { ∥ IsDfa (unrolled_in root) false whole ∥₁ },
+    ghost part_steps: { ∥ IsDfa (unrolled_in root) true part ∥₁ },
+    ghost right_prefilter: { ∥ IsPrefilter part.cells.items prefilter.flags.items ∥₁ },
 }

@@ -1,10 +1,10 @@
 //! Reading a quantity, with counts up to the greatest.
 
 ghost use Rattle.std.specs.Prelude.{◌≡◌, ◌≤◌};
-ghost use Rattle.jp_regexp.specs.Gives.{Gives};
+ghost use Rattle.jp_regexp.specs.inner.Gives.{Gives};
 ghost use Rattle.jp_regexp.specs.Profile.{max_count};
 ghost use Rattle.jp_regexp.specs.Quantity.{is_digit};
-ghost use Rattle.jp_regexp.specs.Reading as reading;
+ghost use Rattle.jp_regexp.specs.inner.Reading as reading;
 
 use crate::fault::Fault;
 use crate::tree::Quantity;

@@ -1,8 +1,8 @@
 //! Reading patterns. Only parentheses go deeper, and no more of them than are left.
 
 ghost use Rattle.std.specs.Prelude.{◌≡◌, ◌∷◌, [], map, IfOk};
-ghost use Rattle.jp_regexp.specs.Gives.{Gives};
-ghost use Rattle.jp_regexp.specs.Reading as reading;
+ghost use Rattle.jp_regexp.specs.inner.Gives.{Gives};
+ghost use Rattle.jp_regexp.specs.inner.Reading as reading;
 ghost use Rattle.jp_regexp.specs.Pattern.{group};
 ghost use Rattle.jp_regexp.specs.Tree.{before_last, in_turn, node_of};
 
@@ -42,7 +42,7 @@ fn branches(alloc: Global, before: Vec<Node>, pieces: Vec<Node>) -> Result<Node,
 }
 
 #[cycle(read_patterns)]
-#[tactic(auto, unfolding(crate::specs::Reading::group_within))]
+#[tactic(auto, unfolding(crate::specs::inner::Reading::group_within))]
 fn group_at(alloc: Global, left: u32, turns: usize, text: &[char]) -> Result<(Node, &[char]), Fault>
     ensures { Gives (λ x. (node_of x.0, x.1.now)) result (reading.group_within (λ l. reading.pattern_within l
         turns) left text.now) }
@@ -58,7 +58,7 @@ fn group_at(alloc: Global, left: u32, turns: usize, text: &[char]) -> Result<(No
 }
 
 #[cycle(read_patterns)]
-#[tactic(auto, unfolding(crate::specs::Reading::atom_within))]
+#[tactic(auto, unfolding(crate::specs::inner::Reading::atom_within))]
 fn atom_at(alloc: Global, left: u32, turns: usize, text: &[char]) -> Result<(Node, &[char]), Fault>
     ensures { Gives (λ x. (node_of x.0, x.1.now)) result (reading.atom_within (λ l. reading.pattern_within l
         turns) left text.now) }
@@ -73,7 +73,7 @@ fn atom_at(alloc: Global, left: u32, turns: usize, text: &[char]) -> Result<(Nod
 }
 
 #[cycle(read_patterns)]
-#[tactic(auto, unfolding(crate::specs::Reading::piece_within))]
+#[tactic(auto, unfolding(crate::specs::inner::Reading::piece_within))]
 fn piece_at(alloc: Global, left: u32, turns: usize, text: &[char]) -> Result<(Node, &[char]), Fault>
     ensures { Gives (λ x. (node_of x.0, x.1.now)) result (reading.piece_within (λ l. reading.pattern_within l
         turns) left text.now) }
@@ -84,7 +84,7 @@ fn piece_at(alloc: Global, left: u32, turns: usize, text: &[char]) -> Result<(No
 }
 
 #[cycle(read_patterns)]
-#[tactic(auto, unfolding(crate::specs::Reading::next_turn))]
+#[tactic(auto, unfolding(crate::specs::inner::Reading::next_turn))]
 fn next_turn(
     alloc: Global,
     left: u32,
@@ -135,7 +135,7 @@ fn pattern_at(
 }
 
 /// The tree of the whole text, within the counts and the depth (RFC 9485, 3).
-#[tactic(auto, unfolding(crate::specs::Reading::read_within))]
+#[tactic(auto, unfolding(crate::specs::inner::Reading::read_within))]
 pub fn read(alloc: Global, text: &[char]) -> Result<Node, Fault>
     ensures { Gives node_of result (reading.read_within text.now) }
 {

@@ -2,8 +2,8 @@
 
 ghost use Rattle.std.specs.Prelude.{◌≡◌, [], ◌∷◌, map, option_map, IfOk};
 ghost use Rattle.jp_regexp.specs.CharSetShape.{is_class_normal, is_escaped, is_normal};
-ghost use Rattle.jp_regexp.specs.Gives.{Gives};
-ghost use Rattle.jp_regexp.specs.Reading as reading;
+ghost use Rattle.jp_regexp.specs.inner.Gives.{Gives};
+ghost use Rattle.jp_regexp.specs.inner.Reading as reading;
 ghost use Rattle.jp_regexp.specs.Tree.{element_of, set_of};
 
 use crate::categories::categories_named;
@@ -129,33 +129,30 @@ fn after_inner(low: char, text: &[char]) -> Result<(Element, &[char]), Fault>
     }
 }
 
+/// Behind `\p` or `\P`.
+fn category_element_at(
+    alloc: Global,
+    negated: bool,
+    text: &[char],
+) -> Result<(Element, &[char]), Fault>
+    ensures { Gives (λ x. (element_of x.0, x.1.now)) result (reading.category_element_at negated
+        text.now) }
+{
+    let (categories, rest) = category_at(alloc, text)?;
+    let element = Element::Category {
+        negated,
+        categories,
+    };
+    Ok((element, rest))
+}
+
 /// Behind a backslash.
 fn escape_element_at(alloc: Global, text: &[char]) -> Result<(Element, &[char]), Fault>
     ensures { Gives (λ x. (element_of x.0, x.1.now)) result (reading.escape_element_at text.now) }
 {
     match text {
-        ['p', more @ ..] => {
-            let (categories, rest) = category_at(alloc, more)?;
-            let negated = false;
-            Ok((
-                Element::Category {
-                    negated,
-                    categories,
-                },
-                rest,
-            ))
-        }
-        ['P', more @ ..] => {
-            let (categories, rest) = category_at(alloc, more)?;
-            let negated = true;
-            Ok((
-                Element::Category {
-                    negated,
-                    categories,
-                },
-                rest,
-            ))
-        }
+        ['p', more @ ..] => category_element_at(alloc, false, more),
+        ['P', more @ ..] => category_element_at(alloc, true, more),
         _ => {
             let (low, rest) = single_at(text)?;
             after_inner(low, rest)
@@ -260,33 +257,26 @@ fn class_at(alloc: Global, text: &[char]) -> Result<(CharSet, &[char]), Fault>
     }
 }
 
+/// Behind `\p` or `\P`.
+fn category_set_at(alloc: Global, negated: bool, text: &[char]) -> Result<(CharSet, &[char]), Fault>
+    ensures { Gives (λ x. (set_of x.0, x.1.now)) result (reading.category_set_at negated
+        text.now) }
+{
+    let (categories, rest) = category_at(alloc, text)?;
+    let set = CharSet::Category {
+        negated,
+        categories,
+    };
+    Ok((set, rest))
+}
+
 /// Behind a backslash.
 fn escape_set_at(alloc: Global, text: &[char]) -> Result<(CharSet, &[char]), Fault>
     ensures { Gives (λ x. (set_of x.0, x.1.now)) result (reading.escape_set_at text.now) }
 {
     match text {
-        ['p', more @ ..] => {
-            let (categories, rest) = category_at(alloc, more)?;
-            let negated = false;
-            Ok((
-                CharSet::Category {
-                    negated,
-                    categories,
-                },
-                rest,
-            ))
-        }
-        ['P', more @ ..] => {
-            let (categories, rest) = category_at(alloc, more)?;
-            let negated = true;
-            Ok((
-                CharSet::Category {
-                    negated,
-                    categories,
-                },
-                rest,
-            ))
-        }
+        ['p', more @ ..] => category_set_at(alloc, false, more),
+        ['P', more @ ..] => category_set_at(alloc, true, more),
         _ => {
             let (c, rest) = single_at(text)?;
             Ok((CharSet::Only(c), rest))

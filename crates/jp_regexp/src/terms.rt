@@ -1,37 +1,37 @@
-//! What is left to read of a pattern.
+//! What is left to read of a pattern: the state of the simulation of its position automaton.
 
 ghost use Rattle.std.specs.Prelude.{◌≡◌, ◌+◌, ◌≤◌, ◌↔◌, [], ◌∷◌, ◌++◌, IfOk, IsTrue, OnErr, OnOk, length};
 ghost use Rattle.std.specs.List.Sorted.{IsStrictlyIncreasing};
 ghost use Rattle.jp_regexp.specs.Held.{pattern_of};
 ghost use Rattle.jp_regexp.specs.Profile.{size};
 ghost use Rattle.jp_regexp.specs.Unrolled.{unrolled};
-ghost use Rattle.jp_regexp.specs.Walk.{advance, is_elem, leaves, Rises, Rises-prop};
+ghost use Rattle.jp_regexp.specs.inner.Simulation.{step, is_elem, exits, Rises, Rises-prop};
 
-use crate::advance::advance;
-use crate::leave::leave;
+use crate::cursor::Cursor;
+use crate::exit::exit;
 use crate::pattern::Pattern;
-use crate::reach::Reach;
+use crate::step::step;
 use std::alloc::{AllocError, Global};
 use std::mem;
 
-/// The texts that are left to read of a pattern, as a list of places, no two the same (RFC 9485, 4). A
-/// place is a number from 0 to the unrolled size: at 0 nothing was read yet, and at k the k-th atom of
+/// The texts that are left to read of a pattern, as a list of positions, no two the same (RFC 9485, 4). A
+/// position is a number from 0 to the unrolled size: at 0 nothing was read yet, and at k the k-th atom of
 /// one character of the pattern, with each repetition written out, was just read.
 #[derive(Drop)]
 pub struct Terms<'a> {
     pattern: &'a Pattern,
-    /// Whether place 0 is in the set.
+    /// Whether position 0 is in the set.
     at_start: bool,
-    /// The other places.
-    live: Vec<u32>,
-    /// Where the next step puts its places.
+    /// The other positions.
+    active: Vec<u32>,
+    /// Where the next step puts its positions.
     next: Vec<u32>,
-    ghost rising: { Rises 0 live.items } by { Rises-prop 0 live.items },
-    ghost few: { length live.items ≤ size (pattern_of pattern.now) },
+    ghost rising: { Rises 0 active.items } by { Rises-prop 0 active.items },
+    ghost few: { length active.items ≤ size (pattern_of pattern.now) },
 }
 
 impl Pattern {
-    ghost use Rattle.jp_regexp.specs.Terms.{places_of, pattern_read_by};
+    ghost use Rattle.jp_regexp.specs.Terms.{positions_of, pattern_read_by};
 
     /// What is left to read of the pattern before the first character: all of it.
     ///
@@ -40,20 +40,20 @@ impl Pattern {
     /// Memory ran out.
     pub fn start(&self, alloc: Global) -> Result<Terms<'_>, AllocError>
         ensures pattern { IfOk result (λ terms. pattern_read_by terms ≡ pattern_of self.now) }
-        ensures places { IfOk result (λ terms. places_of terms ≡ 0 ∷ []) }
+        ensures positions { IfOk result (λ terms. positions_of terms ≡ 0 ∷ []) }
     {
         let size = self.root.size() as usize;
         Ok(Terms {
             pattern: self,
             at_start: true,
-            live: Vec::with_capacity(alloc, size)?,
+            active: Vec::with_capacity(alloc, size)?,
             next: Vec::with_capacity(alloc, size)?,
         })
     }
 }
 
 impl<'a> Terms<'a> {
-    ghost use Rattle.jp_regexp.specs.Terms.{IsLeft, places_of, pattern_read_by, TakesStep};
+    ghost use Rattle.jp_regexp.specs.Terms.{IsLeft, positions_of, pattern_read_by, TakesStep};
 
     /// Reads a character; where `anew` says so, the pattern may also begin behind it.
     ///
@@ -63,7 +63,7 @@ impl<'a> Terms<'a> {
     pub fn step(&mut self, c: char, anew: bool) -> Result<(), AllocError>
         ensures pattern { pattern_read_by self.new ≡ pattern_read_by self.old }
         ensures ok { OnOk result (TakesStep self.old c anew self.new) }
-        ensures err { OnErr result (places_of self.new ≡ places_of self.old) }
+        ensures err { OnErr result (positions_of self.new ≡ positions_of self.old) }
     {
         self.read(c, anew)?;
         Ok(())
@@ -73,12 +73,12 @@ impl<'a> Terms<'a> {
     pub(crate) fn read(&mut self, c: char, anew: bool) -> Result<bool, AllocError>
         ensures pattern { pattern_read_by self.new ≡ pattern_read_by self.old }
         ensures ok { OnOk result (TakesStep self.old c anew self.new) }
-        ensures err { OnErr result (places_of self.new ≡ places_of self.old) }
+        ensures err { OnErr result (positions_of self.new ≡ positions_of self.old) }
         ensures accepted { IfOk result (λ b. IsTrue b ↔ IsLeft self.old []) }
     {
         self.next.clear();
-        let accepted = read_into(self.pattern, &self.live, self.at_start, c, &mut self.next)?;
-        mem::swap(&mut self.live, &mut self.next);
+        let accepted = read_into(self.pattern, &self.active, self.at_start, c, &mut self.next)?;
+        mem::swap(&mut self.active, &mut self.next);
         self.at_start = anew;
         Ok(accepted)
     }
@@ -87,50 +87,50 @@ impl<'a> Terms<'a> {
     pub fn accepts(&self) -> bool
         ensures { IsTrue result ↔ IsLeft self.now [] }
     {
-        let at = Reach::start(self.at_start);
-        leave(&self.pattern.root, &self.live, at).entered
+        let at = Cursor::start(self.at_start);
+        exit(&self.pattern.root, &self.active, at).entered
     }
 
-    /// How many places there are, at most the unrolled size and one.
+    /// How many positions there are, at most the unrolled size and one.
     pub fn len(&self) -> u64
-        ensures count { result ≡ length (places_of self.now) }
+        ensures count { result ≡ length (positions_of self.now) }
         ensures few { result ≤ size (pattern_read_by self.now) + 1 }
-        ensures distinct { IsStrictlyIncreasing (places_of self.now) }
+        ensures distinct { IsStrictlyIncreasing (positions_of self.now) }
     {
-        self.live.len() as u64 + u64::from(self.at_start)
+        self.active.len() as u64 + u64::from(self.at_start)
     }
 
-    /// Whether place 0 is the only one.
+    /// Whether position 0 is the only one.
     pub(crate) fn is_at_start(&self) -> bool
-        ensures { IsTrue result ↔ (places_of self.now ≡ 0 ∷ []) }
+        ensures { IsTrue result ↔ (positions_of self.now ≡ 0 ∷ []) }
     {
-        self.at_start && self.live.is_empty()
+        self.at_start && self.active.is_empty()
     }
 
     /// Whether no text is left to read.
     pub fn is_empty(&self) -> bool
-        ensures { IsTrue result ↔ (places_of self.now ≡ []) }
+        ensures { IsTrue result ↔ (positions_of self.now ≡ []) }
     {
-        !self.at_start && self.live.is_empty()
+        !self.at_start && self.active.is_empty()
     }
 }
 
-/// The places behind a character; whether the empty text was left before it.
+/// The positions behind a character; whether the empty text was left before it.
 fn read_into(
     pattern: &Pattern,
-    live: &[u32],
+    active: &[u32],
     at_start: bool,
     c: char,
     next: &mut Vec<u32>,
 ) -> Result<bool, AllocError>
-    requires { Rises 0 live.now }
-    ensures next { OnOk result (next.new.items ≡ next.old.items ++ advance (is_elem live.now) c (unrolled
+    requires { Rises 0 active.now }
+    ensures next { OnOk result (next.new.items ≡ next.old.items ++ step (is_elem active.now) c (unrolled
         (pattern_of
         pattern.now)) 0 at_start) }
-    ensures accepted { IfOk result (λ b. b ≡ leaves (is_elem live.now) (unrolled (pattern_of pattern.now))
+    ensures accepted { IfOk result (λ b. b ≡ exits (is_elem active.now) (unrolled (pattern_of pattern.now))
         0 at_start) }
 {
-    let at = Reach::start(at_start);
-    let end = advance(&pattern.root, live, c, at, next)?;
+    let at = Cursor::start(at_start);
+    let end = step(&pattern.root, active, c, at, next)?;
     Ok(end.entered)
 }

@@ -6,7 +6,7 @@ mod generated;
 #[cfg(test)]
 mod matching;
 #[cfg(test)]
-mod places;
+mod positions;
 #[cfg(test)]
 mod reading;
 #[cfg(test)]

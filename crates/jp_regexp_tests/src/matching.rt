@@ -173,7 +173,7 @@ fn row_of(row: &str) -> Option<(&str, (bool, bool), &str)> {
     Some((pattern, (whole == "yes", part == "yes"), text))
 }
 
-/// What the pattern says of the text, as it is read and made ready.
+/// What the pattern says of the text, as it is read and compiled.
 fn said_by_both(alloc: Global, pattern: &str, text: &str) -> Result<(bool, bool), Fail> {
     let both = both(alloc, pattern)?;
     answers(alloc, &both, text)

@@ -54,20 +54,20 @@ pub fn read(alloc: Global, text: &str) -> Result<Pattern, Fail> {
     }
 }
 
-/// The pattern as it is read, and made ready.
+/// The pattern as it is read, and compiled.
 pub fn both(alloc: Global, text: &str) -> Result<[Pattern; 2], Fail> {
-    match Pattern::ready(alloc, text)? {
-        Some(ready) => Ok([read(alloc, text)?, ready]),
+    match Pattern::compiled(alloc, text)? {
+        Some(compiled) => Ok([read(alloc, text)?, compiled]),
         None => Err("no pattern")?,
     }
 }
 
 /// Whether the whole text matches, and whether a part does: both patterns say the same.
 pub fn answers(alloc: Global, both: &[Pattern; 2], text: &str) -> Result<(bool, bool), Fail> {
-    let [read, ready] = both;
+    let [read, compiled] = both;
     let whole = read.matches(alloc, text)?;
     let part = read.found_in(alloc, text)?;
-    if ready.matches(alloc, text)? != whole || ready.found_in(alloc, text)? != part {
+    if compiled.matches(alloc, text)? != whole || compiled.found_in(alloc, text)? != part {
         return Err("another answer by tables")?;
     }
     Ok((whole, part))
@@ -92,7 +92,7 @@ fn says_empty_alone(alloc: Global, pattern: &Pattern) -> Result<bool, AllocError
 /// Whether neither call takes the text for a pattern.
 fn is_refused(alloc: Global, text: &str) -> Result<bool, AllocError> {
     let is_read = Pattern::read(alloc, text)?.is_some();
-    Ok(!is_read && Pattern::ready(alloc, text)?.is_none())
+    Ok(!is_read && Pattern::compiled(alloc, text)?.is_none())
 }
 
 /// The unrolled size of a pattern.

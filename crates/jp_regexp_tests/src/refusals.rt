@@ -15,16 +15,16 @@ fn is_right(alloc: Global, pattern: &Pattern) -> Result<bool, AllocError> {
     Ok(whole && part)
 }
 
-/// Whether the pattern is right, as it is read and made ready.
+/// Whether the pattern is right, as it is read and compiled.
 fn matched(alloc: Global) -> Result<bool, AllocError> {
     let Some(read) = Pattern::read(alloc, PATTERN)? else {
         return Ok(false);
     };
     let is_read_right = is_right(alloc, &read)?;
-    let Some(ready) = Pattern::ready(alloc, PATTERN)? else {
+    let Some(compiled) = Pattern::compiled(alloc, PATTERN)? else {
         return Ok(false);
     };
-    Ok(is_read_right && is_right(alloc, &ready)?)
+    Ok(is_read_right && is_right(alloc, &compiled)?)
 }
 
 fn match_or_none(alloc: Global) -> Option<bool> {

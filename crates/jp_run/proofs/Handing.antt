@@ -17,7 +17,7 @@ use Rattle.jp_answer.proofs.Forms.{formed_joined, nothing_in}
 use Rattle.jp_run.specs.declared.fault.RunFault.{RunFault}
 use Rattle.jp_run.specs.declared.fault.RunFault.TheVariants.{Query, Document, Read, Write, Limit}
 use Rattle.jp_run.specs.declared.fault.RunFault.TheVariants.{Memory, Settings}
-use Rattle.jp_run.specs.Ended.{HandingEnded, AnswerEnded}
+use Rattle.jp_run.specs.inner.Ended.{HandingEnded, AnswerEnded}
 use Rattle.jp_run.specs.Handed.{Handed, HandedFront}
 use Rattle.jp_run.specs.Written.{AppendsFront, IsPassedOn}
 

@@ -15,7 +15,7 @@ use Rattle.jp_answer.specs.Answered.{IsAnswerIn}
 use Rattle.jp_answer.specs.Form.{answer_in}
 use Rattle.jp_run.specs.declared.fault.RunFault.{RunFault}
 use Rattle.jp_run.specs.declared.fault.RunFault.TheVariants.{Query, Memory}
-use Rattle.jp_run.specs.Ended.{Ends, StreamEnded}
+use Rattle.jp_run.specs.inner.Ended.{Ends, StreamEnded}
 use Rattle.jp_run.specs.Handed.{Handed, HandedFront}
 use Rattle.jp_run.specs.Written.{AppendsFront}
 use Rattle.jp_run.proofs.Streaming.{ended_front}

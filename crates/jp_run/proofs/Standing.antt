@@ -8,7 +8,7 @@ use Rattle.jp_answer.specs.Form.{passed_in}
 use Rattle.jp_run.specs.declared.fault.RunFault.{RunFault}
 use Rattle.jp_answer.proofs.Forms.{passed_joined, passed_few}
 use Rattle.jp_run.specs.Batches.{in_batches, whole_batches}
-use Rattle.jp_run.specs.Ended.{AnswerEnded}
+use Rattle.jp_run.specs.inner.Ended.{AnswerEnded}
 use Rattle.jp_run.specs.Handed.{Handed}
 use Rattle.jp_run.proofs.Batching.{in_batches_is}
 use Rattle.jp_run.proofs.Handing.{handed_none, handed_both, ended_after, ended_more}

@@ -30,7 +30,7 @@ use Rattle.jp_run.specs.declared.gathering.Answered.{Answered}
 use Rattle.jp_run.specs.declared.running.Totals.{Totals}
 use Rattle.jp_run.specs.Batches.{documents_in, in_batches, whole_batches, left_over}
 use Rattle.jp_run.specs.Batches.{documents_before, batch_of, WasNotWhole}
-use Rattle.jp_run.specs.Ended.{Ends, InputFront, ReadEnded, AnswerEnded, RestEnded, StreamEnded}
+use Rattle.jp_run.specs.inner.Ended.{Ends, InputFront, ReadEnded, AnswerEnded, RestEnded, StreamEnded}
 use Rattle.jp_run.specs.Handed.{Handed, HandedFront}
 use Rattle.jp_run.proofs.Batching.{batches_fit, few_left, in_both, whole_both, left_both}
 use Rattle.jp_run.proofs.Handing.{handed_none, handed_both, handed_stopped, handed_front, front_more}

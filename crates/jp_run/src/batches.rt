@@ -8,7 +8,7 @@ ghost use Rattle.jp_check.specs.Plan.{planned_query};
 ghost use Rattle.jp_answer.specs.Form.{passed_in};
 ghost use Rattle.jp_answer.specs.Ranges.{AreWorkers, AreDocuments};
 ghost use Rattle.jp_run.specs.Batches.{in_batches, whole_batches, left_over};
-ghost use Rattle.jp_run.specs.Ended.{AnswerEnded, RestEnded};
+ghost use Rattle.jp_run.specs.inner.Ended.{AnswerEnded, RestEnded};
 ghost use Rattle.jp_run.specs.Handed.{Handed};
 ghost use Rattle.jp_run.specs.Limits.{max_lines};
 ghost use Rattle.jp_run.specs.Written.{IsPassedOn};

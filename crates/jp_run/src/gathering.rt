@@ -5,7 +5,7 @@ ghost use Rattle.std.specs.Prelude.{IsErrOf};
 ghost use Rattle.std.specs.Io.KnownBytes.{Consumes, IsAtEnd};
 ghost use Rattle.jp_doc.specs.Feeding.{fed, fed_lines, finished, finished_lines};
 ghost use Rattle.jp_run.specs.Counts.{counted};
-ghost use Rattle.jp_run.specs.Ended.{ReadEnded, LastEnded};
+ghost use Rattle.jp_run.specs.inner.Ended.{ReadEnded, LastEnded};
 ghost use Rattle.jp_run.specs.Limits.{max_lines};
 
 use crate::ends::Source;

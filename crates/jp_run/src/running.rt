@@ -15,7 +15,7 @@ ghost use Rattle.jp_answer.specs.Answer.{Answer};
 ghost use Rattle.jp_answer.specs.Answered.{IsAnswerIn};
 ghost use Rattle.jp_answer.specs.Form.{passed_in};
 ghost use Rattle.jp_run.specs.Batches.{documents_in, whole_batches, WasNotWhole};
-ghost use Rattle.jp_run.specs.Ended.{StreamEnded};
+ghost use Rattle.jp_run.specs.inner.Ended.{StreamEnded};
 ghost use Rattle.jp_run.specs.Handed.{Handed, IsHanded};
 ghost use Rattle.jp_run.specs.Limits.{max_reads, max_lines};
 ghost use Rattle.jp_run.specs.Written.{AppendsFront, IsPassedOn};

@@ -5,6 +5,12 @@ ghost use Rattle.jp_run.specs.Settings.{AreSettings};
 
 use crate::fault::RunFault;
 
+/// The greatest number of workers: a board has so many seats.
+const MAX_WORKERS: u64 = 64;
+
+/// The greatest number of documents of a piece and of a batch.
+const MAX_DOCUMENTS: u64 = 1_000_000;
+
 /// How many workers answer, how many documents are a piece, how many a batch, and which form the answer has.
 #[derive(Clone, Copy, Debug, PartialEq, Eq, Drop)]
 pub struct Settings {
@@ -32,9 +38,9 @@ impl Settings {
         ensures in_range { IsOk result ↔ AreSettings workers piece batch }
         ensures fault { OnErr result (IsErrOf result RunFault.Settings) }
     {
-        if !(1..=64).contains(&workers)
-            || !(1..=1_000_000).contains(&piece)
-            || !(1..=1_000_000).contains(&batch)
+        if !(1..=MAX_WORKERS).contains(&workers)
+            || !(1..=MAX_DOCUMENTS).contains(&piece)
+            || !(1..=MAX_DOCUMENTS).contains(&batch)
         {
             return Err(RunFault::Settings);
         }

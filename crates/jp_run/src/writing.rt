@@ -4,7 +4,7 @@ ghost use Rattle.std.specs.Prelude.{◌≡◌, false, true, None, OnOk, OnErr, I
 ghost use Rattle.std.specs.Io.KnownBytes.{Appends, Keeps};
 ghost use Rattle.jp_answer.specs.Answered.{outcome_of};
 ghost use Rattle.jp_output.specs.Chunks.{bytes_in};
-ghost use Rattle.jp_run.specs.Ended.{HandingEnded};
+ghost use Rattle.jp_run.specs.inner.Ended.{HandingEnded};
 ghost use Rattle.jp_run.specs.Written.{AppendsFront, IsPassedOn};
 
 use crate::ends::{Broken, Sink};

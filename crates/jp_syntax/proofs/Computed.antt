@@ -11,7 +11,8 @@ use Rattle.jp_tree.specs.Strings.{IsString, quoted}
 use Rattle.jp_tree.specs.Numbers.{IsInt, IsNumber}
 use Rattle.jp_tree.specs.Spelling.{Spells}
 use Rattle.jp_syntax.specs.Examples.{NoneSpells, AreInts, AreNoInts, AreNumbers, AreNoNumbers, NoneIsString}
-use Rattle.jp_tokens.specs.Reading.{Outcome, read, int_at, number_at, string_at}
+use Rattle.jp_tokens.specs.Reading.{Outcome, int_at, number_at, string_at}
+use Rattle.jp_syntax.specs.inner.Reading.{read}
 use Rattle.jp_syntax.proofs.ReadSound.{read_sound}
 use Rattle.jp_syntax.proofs.OneTree.{none_spelled}
 use Rattle.jp_tokens.proofs.Fronts.{Front}

@@ -1,5 +1,6 @@
-pub mod Arguments
 pub mod Computed
+pub mod Endings
+pub mod Following
 pub mod LiteralOnce
 pub mod LoneLiterals
 pub mod NotEmpty
@@ -10,5 +11,6 @@ pub mod PartsWhole
 pub mod Progress
 pub mod ReadSound
 pub mod ReadWhole
+pub mod StandingAlone
 pub mod StringLaws
 pub mod Top

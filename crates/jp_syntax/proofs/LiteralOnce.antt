@@ -10,9 +10,10 @@ use Rattle.jp_tree.specs.Tree as tree
 use Rattle.jp_tree.specs.Characters.{is_quote, is_digit, is_positive_digit, is_lower}
 use Rattle.jp_tree.specs.Spelling.{begins_with}
 use Rattle.jp_tokens.specs.Reading.{Reader, ◌>>=◌, skip, run_at, int_at, whole_at, number_at, literal_at}
-use Rattle.jp_tokens.specs.Reading.{operator_at, calls, begins_literal, lone_literal_at, argument_of}
-use Rattle.jp_tokens.specs.Reading.{argument_at, operand_at, right_at, basic_at, and_at, and_behind, or_at}
-use Rattle.jp_tokens.specs.Reading.{or_behind, logical_at, compared_behind}
+use Rattle.jp_tokens.specs.Reading.{operator_at, calls, begins_literal}
+use Rattle.jp_syntax.specs.inner.Reading.{lone_literal_at, argument_of, argument_at, operand_at, right_at}
+use Rattle.jp_syntax.specs.inner.Reading.{basic_at}
+use Rattle.jp_syntax.specs.inner.Reading.{and_at, and_behind, or_at, or_behind, logical_at, compared_behind}
 use Rattle.jp_tokens.proofs.Following.{differs}
 use Rattle.jp_syntax.proofs.LoneLiterals.{calls_no_literal, sided, lone_literal_whole}
 

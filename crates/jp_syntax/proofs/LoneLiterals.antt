@@ -17,10 +17,11 @@ use Rattle.jp_tree.specs.Spelling as is
 use Rattle.jp_tree.specs.Spelling.{begins_with, operator_text, IsFunctionName, function_name, LiteralIs}
 use Rattle.jp_tree.specs.Spelling.{QueryIs, CallIs, ComparableIs, PlainIs, BasicIs, AndIs, OrIs, LogicalIs}
 use Rattle.jp_tokens.specs.Reading.{skip, past, run_at, int_at, whole_at, number_at, mark_at, operator_at}
-use Rattle.jp_tokens.specs.Reading.{literal_at, calls, lone_literal_at}
+use Rattle.jp_tokens.specs.Reading.{literal_at, calls}
+use Rattle.jp_syntax.specs.inner.Reading.{lone_literal_at}
 use Rattle.jp_tokens.proofs.Fronts.{past_each}
-use Rattle.jp_tokens.proofs.Following.{Meets, Leaves, meets_behind, after_side, side_before_opening}
-use Rattle.jp_tokens.proofs.Following.{side_before_word}
+use Rattle.jp_tokens.proofs.Following.{Meets, Leaves, meets_behind, after_side, side_before_word}
+use Rattle.jp_syntax.proofs.Following.{side_before_opening}
 use Rattle.jp_tokens.proofs.LeavesRead.{literal_whole, positive_not_lower}
 use Rattle.jp_syntax.proofs.PartsWhole.{operator_skip, operator_meets}
 

@@ -3,7 +3,7 @@ use Rattle.std.proofs.Common.{◌≡◌, length, arith, Option, Some, None, refl
 use Rattle.std.proofs.lemmas.Option.{same_Some}
 use Rattle.jp_tree.specs.Tree.{Text, Query}
 use Rattle.jp_tree.specs.Spelling.{Spells}
-use Rattle.jp_tokens.specs.Reading.{read}
+use Rattle.jp_syntax.specs.inner.Reading.{read}
 use Rattle.jp_syntax.proofs.ReadSound.{read_sound}
 use Rattle.jp_syntax.proofs.ReadWhole.{read_whole}
 

@@ -12,7 +12,7 @@ use Rattle.jp_tree.specs.Numbers.{number}
 use Rattle.jp_tree.specs.Spelling as is
 use Rattle.jp_tree.specs.Spelling.{IsFunctionName, function_name, LiteralIs, QueryIs, CallIs, ComparableIs}
 use Rattle.jp_tree.specs.Spelling.{PlainIs, BasicIs, AndIs, OrIs, LogicalIs, begins_with}
-use Rattle.jp_tokens.specs.Reading.{as_test, is_side}
+use Rattle.jp_syntax.specs.inner.Reading.{as_test, is_side}
 use Rattle.jp_tokens.proofs.Following.{firm, differs}
 
 -- what a literal, a side by itself and a logical expression begin with

@@ -15,11 +15,12 @@ use Rattle.jp_tree.specs.Numbers.{IsInt}
 use Rattle.jp_tree.specs.Spelling as is
 use Rattle.jp_tree.specs.Spelling.{begins_with, operator_text, IsShorthand, BoundIs, StepIs, SelectorIs}
 use Rattle.jp_tree.specs.Spelling.{BracketedIs, SegmentIs, QueryIs}
-use Rattle.jp_tokens.specs.Reading.{Reader, Outcome, Turn, ◌>>=◌, taken, past, skip, all_of, next_item}
-use Rattle.jp_tokens.specs.Reading.{items_at, name_at, int_at, string_at, mark_at, begins_int, bound_at}
-use Rattle.jp_tokens.specs.Reading.{step_at, slice_at, index_or_slice, numbers_at, or_equal, operator_at}
-use Rattle.jp_tokens.specs.Reading.{selector_at, bracketed_at, named_at, descendant_at, dotted_at}
-use Rattle.jp_tokens.specs.Reading.{segment_behind, segments_at, query_at}
+use Rattle.jp_tokens.specs.Reading.{Reader, Outcome, Turn, ◌>>=◌, taken, past, skip, all_of, name_at, int_at}
+use Rattle.jp_tokens.specs.Reading.{string_at, mark_at, begins_int, bound_at, step_at, slice_at}
+use Rattle.jp_tokens.specs.Reading.{index_or_slice, numbers_at, or_equal, operator_at, named_at}
+use Rattle.jp_syntax.specs.inner.Reading.{next_item, items_at, selector_at, bracketed_at, descendant_at}
+use Rattle.jp_syntax.specs.inner.Reading.{dotted_at}
+use Rattle.jp_syntax.specs.inner.Reading.{segment_behind, segments_at, query_at}
 use Rattle.jp_tokens.proofs.Fronts.{given, bind_some, chosen, Front, run_whole, run_each, IsTurn, all_sound}
 use Rattle.jp_tokens.proofs.LeavesRead.{Itself, carried, name_sound, int_sound, string_sound, mark_sound}
 

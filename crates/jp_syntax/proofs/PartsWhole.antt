@@ -15,19 +15,21 @@ use Rattle.jp_tree.specs.Numbers.{IsInt, zero_int, positive_int, negative_int}
 use Rattle.jp_tree.specs.Spelling as is
 use Rattle.jp_tree.specs.Spelling.{begins_with, operator_text, IsShorthand, shorthand, BoundIs, StepIs}
 use Rattle.jp_tree.specs.Spelling.{SelectorIs, BracketedIs, SegmentIs, QueryIs}
-use Rattle.jp_tokens.specs.Reading.{Reader, Outcome, Turn, skip, all_of, next_item, items_at, int_at}
-use Rattle.jp_tokens.specs.Reading.{string_at, mark_at, begins_int, bound_at, step_at, slice_at}
-use Rattle.jp_tokens.specs.Reading.{index_or_slice, numbers_at, or_equal, operator_at, selector_at}
-use Rattle.jp_tokens.specs.Reading.{bracketed_at, named_at, descendant_at, dotted_at, segment_behind}
-use Rattle.jp_tokens.specs.Reading.{segments_at, query_at}
+use Rattle.jp_tokens.specs.Reading.{Reader, Outcome, Turn, skip, all_of, int_at, string_at, mark_at}
+use Rattle.jp_tokens.specs.Reading.{begins_int, bound_at, step_at, slice_at, index_or_slice, numbers_at}
+use Rattle.jp_tokens.specs.Reading.{or_equal, operator_at, named_at}
+use Rattle.jp_syntax.specs.inner.Reading.{next_item, items_at, selector_at, bracketed_at, descendant_at}
+use Rattle.jp_syntax.specs.inner.Reading.{dotted_at}
+use Rattle.jp_syntax.specs.inner.Reading.{segment_behind, segments_at, query_at}
 use Rattle.jp_syntax.proofs.NotEmpty.{after_some, segment_some}
-use Rattle.jp_tokens.proofs.Endings.{positive_is_digit}
+use Rattle.jp_syntax.proofs.Endings.{positive_is_digit}
 use Rattle.jp_tokens.proofs.Fronts.{past_each, starts, Steps, all_whole, star_good}
 use Rattle.jp_tokens.proofs.Following.{differs, firm, firm_append, skip_behind, Meets, Leaves, meets_behind}
-use Rattle.jp_tokens.proofs.Following.{meets_firm, among_all, after_selector, after_logical, after_basic}
-use Rattle.jp_tokens.proofs.Following.{after_side, begins_segment, after_bound, side_before_name}
-use Rattle.jp_tokens.proofs.Following.{side_before_segment, segment_before_name, bound_before_digit}
-use Rattle.jp_tokens.proofs.Following.{selector_in_logical, selector_in_bound}
+use Rattle.jp_tokens.proofs.Following.{meets_firm, among_all, after_side}
+use Rattle.jp_syntax.proofs.Following.{after_selector, after_logical, after_basic, begins_segment}
+use Rattle.jp_syntax.proofs.Following.{after_bound, side_before_name, side_before_segment}
+use Rattle.jp_syntax.proofs.Following.{segment_before_name, bound_before_digit, selector_in_logical}
+use Rattle.jp_syntax.proofs.Following.{selector_in_bound}
 use Rattle.jp_tokens.proofs.LeavesRead.{name_whole, int_whole, string_whole, int_firm, quote_firm}
 
 -- ---- operators

@@ -2,8 +2,10 @@
 use Rattle.std.proofs.Common.{ℕ, [], ◌∷◌}
 use Rattle.jp_tree.specs.Parts.{Behind, After}
 use Rattle.jp_tree.specs.Spelling.{SelectorIs, SegmentIs, ArgumentIs, BasicIs, AndIs, LogicalIs}
-use Rattle.jp_tokens.specs.Reading.{skip, next_item, next_basic, next_and, selector_at, argument_at}
-use Rattle.jp_tokens.specs.Reading.{segment_behind, basic_at, and_at, logical_at}
+use Rattle.jp_tokens.specs.Reading.{skip}
+use Rattle.jp_syntax.specs.inner.Reading.{next_item, next_basic, next_and, selector_at, argument_at}
+use Rattle.jp_syntax.specs.inner.Reading.{segment_behind}
+use Rattle.jp_syntax.specs.inner.Reading.{basic_at, and_at, logical_at}
 use Rattle.jp_syntax.proofs.NotEmpty.{after_some, segment_some}
 use Rattle.jp_syntax.proofs.Operands.{logical_firm}
 use Rattle.jp_syntax.proofs.PartsSound.{Closing, Nothing, next_sound, selector_sound, segment_sound}

@@ -16,12 +16,14 @@ use Rattle.jp_tree.specs.Spelling as is
 use Rattle.jp_tree.specs.Spelling.{begins_with, operator_text, joined, IsFunctionName, LiteralIs, QueryIs}
 use Rattle.jp_tree.specs.Spelling.{CallIs, ArgumentIs, ComparableIs, PlainIs, BasicIs, AndIs, OrIs}
 use Rattle.jp_tree.specs.Spelling.{LogicalIs, Spells}
-use Rattle.jp_tokens.specs.Reading.{Reader, Outcome, Turn, ◌>>=◌, taken, skip, all_of, items_at}
-use Rattle.jp_tokens.specs.Reading.{function_name_at, literal_at, mark_at, operator_at, calls}
-use Rattle.jp_tokens.specs.Reading.{lone_literal_at, as_test, is_side, argument_of, next_part, segments_at}
-use Rattle.jp_tokens.specs.Reading.{query_at, argument_at, arguments_at, call_at, operand_at, grouped_at}
-use Rattle.jp_tokens.specs.Reading.{tested_at, plain_at, right_at, compared_at, basic_at, and_at, or_at}
-use Rattle.jp_tokens.specs.Reading.{logical_at, read}
+use Rattle.jp_tokens.specs.Reading.{Reader, Outcome, Turn, ◌>>=◌, taken, skip, all_of, function_name_at}
+use Rattle.jp_tokens.specs.Reading.{literal_at, mark_at, operator_at, calls}
+use Rattle.jp_syntax.specs.inner.Reading.{items_at, lone_literal_at, as_test, is_side, argument_of, next_part}
+use Rattle.jp_syntax.specs.inner.Reading.{segments_at, query_at, argument_at, arguments_at, call_at}
+use Rattle.jp_syntax.specs.inner.Reading.{operand_at}
+use Rattle.jp_syntax.specs.inner.Reading.{grouped_at, tested_at, plain_at, right_at, compared_at, basic_at}
+use Rattle.jp_syntax.specs.inner.Reading.{and_at}
+use Rattle.jp_syntax.specs.inner.Reading.{or_at, logical_at, read}
 use Rattle.jp_tokens.proofs.Fronts.{given, chosen, Front, run_whole, run_each, IsTurn, all_sound}
 use Rattle.jp_tokens.proofs.Following.{firm}
 use Rattle.jp_tokens.proofs.LeavesRead.{carried, function_sound, literal_sound, mark_sound}

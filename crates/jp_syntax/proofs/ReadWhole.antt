@@ -14,16 +14,19 @@ use Rattle.jp_tree.specs.Spelling as is
 use Rattle.jp_tree.specs.Spelling.{begins_with, is_composite, operator_text, joined, IsFunctionName}
 use Rattle.jp_tree.specs.Spelling.{function_name, LiteralIs, QueryIs, CallIs, ArgumentIs, ComparableIs}
 use Rattle.jp_tree.specs.Spelling.{PlainIs, BasicIs, AndIs, OrIs, LogicalIs, Spells}
-use Rattle.jp_tokens.specs.Reading.{Reader, Outcome, Turn, ◌>>=◌, skip, all_of, items_at, function_name_at}
-use Rattle.jp_tokens.specs.Reading.{literal_at, mark_at, operator_at, calls, lone_literal_at, as_test}
-use Rattle.jp_tokens.specs.Reading.{is_side, argument_of, next_part, segments_at, query_at, argument_at}
-use Rattle.jp_tokens.specs.Reading.{arguments_at, call_at, operand_at, grouped_at, tested_at, plain_at}
-use Rattle.jp_tokens.specs.Reading.{right_at, compared_at, basic_at, and_at, or_at, logical_at, read}
+use Rattle.jp_tokens.specs.Reading.{Reader, Outcome, Turn, ◌>>=◌, skip, all_of, function_name_at, literal_at}
+use Rattle.jp_tokens.specs.Reading.{mark_at, operator_at, calls}
+use Rattle.jp_syntax.specs.inner.Reading.{items_at, lone_literal_at, as_test, is_side, argument_of, next_part}
+use Rattle.jp_syntax.specs.inner.Reading.{segments_at, query_at, argument_at, arguments_at, call_at}
+use Rattle.jp_syntax.specs.inner.Reading.{operand_at}
+use Rattle.jp_syntax.specs.inner.Reading.{grouped_at, tested_at, plain_at, right_at, compared_at, basic_at}
+use Rattle.jp_syntax.specs.inner.Reading.{and_at}
+use Rattle.jp_syntax.specs.inner.Reading.{or_at, logical_at, read}
 use Rattle.jp_tokens.proofs.Fronts.{past_each, starts, Steps, all_whole, star_good}
 use Rattle.jp_tokens.proofs.Following.{differs, firm, firm_some, skip_behind, Meets, meets_behind, meets_firm}
-use Rattle.jp_tokens.proofs.Following.{among_all, starts_wider, after_argument, after_logical, after_and}
-use Rattle.jp_tokens.proofs.Following.{after_basic, after_side, basic_in_side, argument_in_side}
-use Rattle.jp_tokens.proofs.Following.{argument_in_basic, argument_in_logical}
+use Rattle.jp_tokens.proofs.Following.{among_all, starts_wider, after_side}
+use Rattle.jp_syntax.proofs.Following.{after_argument, after_logical, after_and, after_basic, basic_in_side}
+use Rattle.jp_syntax.proofs.Following.{argument_in_side, argument_in_basic, argument_in_logical}
 use Rattle.jp_syntax.proofs.NotEmpty.{after_some}
 use Rattle.jp_tokens.proofs.LeavesRead.{function_whole, literal_whole, mark_whole}
 use Rattle.jp_syntax.proofs.Operands.{is_lead, leads, leads_firm, begins_front, literal_leads, literal_begins}

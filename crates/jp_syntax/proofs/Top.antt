@@ -11,7 +11,7 @@ use Rattle.jp_tree.specs.Tree as tree
 use Rattle.jp_tree.specs.View.{query_of}
 use Rattle.jp_tree.specs.Spelling.{Spells}
 use Rattle.jp_tokens.specs.Depth.{bracket_depth, max_depth}
-use Rattle.jp_tokens.specs.Reading.{read}
+use Rattle.jp_syntax.specs.inner.Reading.{read}
 use Rattle.jp_tokens.specs.Gives.{Gives}
 use Rattle.jp_syntax.proofs.ReadSound.{read_sound}
 use Rattle.jp_syntax.proofs.ReadWhole.{read_whole}

@@ -4,7 +4,7 @@
 //! `left` bounds how deep logical expressions stand inside each other.
 
 ghost use Rattle.std.specs.Prelude.{◌≡◌, ◌<◌, ◌⊎◌, ◌↔◌, length, option_map, IfOk, IfErr, IsErrOf};
-ghost use Rattle.jp_tokens.specs.Reading as reading;
+ghost use Rattle.jp_syntax.specs.inner.Reading as reading;
 ghost use Rattle.jp_tree.specs.Tree as tree;
 ghost use Rattle.jp_tree.specs.View.{query_of};
 ghost use Rattle.jp_tree.specs.PartViews.{argument_of, comparable_of, logical_of, selector_of, call_of};
@@ -14,10 +14,11 @@ ghost use Rattle.jp_tree.specs.Spelling.{Spells};
 ghost use Rattle.jp_tokens.specs.Depth.{bracket_depth, max_depth};
 ghost use Rattle.std.specs.Str.{chars};
 
+use crate::arguments::{compared_argument, opened_arguments, standing_argument};
+use crate::sides::{compared_at, tested_at};
 use jp_tokens::{
-    begins_literal, calls, compared_argument, compared_at, first_character, function_name_at,
-    inside_brackets, is_end, is_quote, is_too_deep, literal_at, mark_at, named_at, numbers_at,
-    opened_arguments, operator_at, skip, standing_argument, string_at, tested_at,
+    begins_literal, calls, first_character, function_name_at, inside_brackets, is_end, is_quote,
+    is_too_deep, literal_at, mark_at, named_at, numbers_at, operator_at, skip, string_at,
 };
 use jp_tree::made::{
     call_from, call_side, filter_selector, joined_all, joined_any, literal_argument, literal_side,
@@ -31,7 +32,7 @@ use std::alloc::Global;
 
 /// A selector (RFC 9535, 2.3).
 #[cycle(reader)]
-#[tactic(auto, unfolding(jp_tokens::specs::Reading::selector_at))]
+#[tactic(auto, unfolding(crate::specs::inner::Reading::selector_at))]
 fn selector_at(alloc: Global, left: usize, text: &str) -> Result<(Selector, &str), QueryFault>
     ensures { GivesFront selector_of result (reading.selector_at (reading.logical_at left) (chars text.now)) }
 {
@@ -52,7 +53,7 @@ fn selector_at(alloc: Global, left: usize, text: &str) -> Result<(Selector, &str
 
 /// A comma and another selector, or the end of the list.
 #[cycle(reader)]
-#[tactic(auto, unfolding(jp_tokens::specs::Reading::next_item))]
+#[tactic(auto, unfolding(crate::specs::inner::Reading::next_item))]
 fn next_selector(
     alloc: Global,
     left: usize,
@@ -95,7 +96,7 @@ fn selectors_from(
 
 /// Behind `[`.
 #[cycle(reader)]
-#[tactic(auto, unfolding(jp_tokens::specs::Reading::items_at))]
+#[tactic(auto, unfolding(crate::specs::inner::Reading::items_at))]
 fn bracketed_at(alloc: Global, left: usize, text: &str) -> Result<(Vec<Selector>, &str), QueryFault>
     ensures { GivesFront (λ xs. selectors_of xs.items) result
         (reading.bracketed_at (reading.logical_at left) (chars text.now)) }
@@ -106,7 +107,7 @@ fn bracketed_at(alloc: Global, left: usize, text: &str) -> Result<(Vec<Selector>
 
 /// Behind `..`.
 #[cycle(reader)]
-#[tactic(auto, unfolding(jp_tokens::specs::Reading::descendant_at))]
+#[tactic(auto, unfolding(crate::specs::inner::Reading::descendant_at))]
 fn descendant_at(alloc: Global, left: usize, text: &str) -> Result<(Segment, &str), QueryFault>
     ensures { GivesFront segment_of result
         (reading.descendant_at (reading.logical_at left) (chars text.now)) }
@@ -123,7 +124,7 @@ fn descendant_at(alloc: Global, left: usize, text: &str) -> Result<(Segment, &st
 
 /// Behind `.`.
 #[cycle(reader)]
-#[tactic(auto, unfolding(jp_tokens::specs::Reading::dotted_at))]
+#[tactic(auto, unfolding(crate::specs::inner::Reading::dotted_at))]
 fn dotted_at(alloc: Global, left: usize, text: &str) -> Result<(Segment, &str), QueryFault>
     ensures { GivesFront segment_of result (reading.dotted_at (reading.logical_at left) (chars text.now)) }
 {
@@ -136,7 +137,7 @@ fn dotted_at(alloc: Global, left: usize, text: &str) -> Result<(Segment, &str), 
 
 /// Another segment, or the end, before the blanks.
 #[cycle(reader)]
-#[tactic(auto, unfolding(jp_tokens::specs::Reading::segment_behind))]
+#[tactic(auto, unfolding(crate::specs::inner::Reading::segment_behind))]
 fn segment_behind<'a>(
     alloc: Global,
     left: usize,
@@ -183,7 +184,7 @@ fn segments_from(
 
 /// A query inside a filter (RFC 9535, 2.3.5.1).
 #[cycle(reader)]
-#[tactic(auto, unfolding(jp_tokens::specs::Reading::query_at))]
+#[tactic(auto, unfolding(crate::specs::inner::Reading::query_at))]
 fn query_at(alloc: Global, left: usize, text: &str) -> Result<(Query, &str), QueryFault>
     ensures { GivesFront query_of result (reading.query_at (reading.logical_at left) (chars text.now)) }
 {
@@ -221,7 +222,7 @@ fn argument_at(alloc: Global, left: usize, text: &str) -> Result<(Argument, &str
 
 /// A comma and another argument, or the end of the list.
 #[cycle(reader)]
-#[tactic(auto, unfolding(jp_tokens::specs::Reading::next_item))]
+#[tactic(auto, unfolding(crate::specs::inner::Reading::next_item))]
 fn next_argument(
     alloc: Global,
     left: usize,
@@ -264,7 +265,7 @@ fn arguments_from(
 
 /// Behind `(` and blanks.
 #[cycle(reader)]
-#[tactic(auto, unfolding(jp_tokens::specs::Reading::arguments_at, jp_tokens::specs::Reading::items_at))]
+#[tactic(auto, unfolding(crate::specs::inner::Reading::arguments_at, crate::specs::inner::Reading::items_at))]
 fn arguments_at(alloc: Global, left: usize, text: &str) -> Result<(Vec<Argument>, &str), QueryFault>
     ensures { GivesFront (λ xs. arguments_of xs.items) result
         (reading.arguments_at (reading.logical_at left) (chars text.now)) }
@@ -281,7 +282,7 @@ fn arguments_at(alloc: Global, left: usize, text: &str) -> Result<(Vec<Argument>
 
 /// A call of a function (RFC 9535, 2.4).
 #[cycle(reader)]
-#[tactic(auto, unfolding(jp_tokens::specs::Reading::call_at))]
+#[tactic(auto, unfolding(crate::specs::inner::Reading::call_at))]
 fn call_at(alloc: Global, left: usize, text: &str) -> Result<(Call, &str), QueryFault>
     ensures { GivesFront call_of result (reading.call_at (reading.logical_at left) (chars text.now)) }
 {
@@ -293,7 +294,7 @@ fn call_at(alloc: Global, left: usize, text: &str) -> Result<(Call, &str), Query
 
 /// A literal, a query or a call.
 #[cycle(reader)]
-#[tactic(auto, unfolding(jp_tokens::specs::Reading::operand_at))]
+#[tactic(auto, unfolding(crate::specs::inner::Reading::operand_at))]
 fn operand_at(alloc: Global, left: usize, text: &str) -> Result<(Comparable, &str), QueryFault>
     ensures { GivesFront comparable_of result
         (reading.operand_at (reading.logical_at left) (chars text.now)) }
@@ -318,7 +319,7 @@ fn operand_at(alloc: Global, left: usize, text: &str) -> Result<(Comparable, &st
 
 /// Behind `(`.
 #[cycle(reader)]
-#[tactic(auto, unfolding(jp_tokens::specs::Reading::grouped_at))]
+#[tactic(auto, unfolding(crate::specs::inner::Reading::grouped_at))]
 fn grouped_at(alloc: Global, left: usize, text: &str) -> Result<(Logical, &str), QueryFault>
     ensures { GivesFront logical_of result (reading.grouped_at (reading.logical_at left) (chars text.now)) }
 {
@@ -329,7 +330,7 @@ fn grouped_at(alloc: Global, left: usize, text: &str) -> Result<(Logical, &str),
 
 /// What `!` may stand before: parentheses, a query or a call.
 #[cycle(reader)]
-#[tactic(auto, unfolding(jp_tokens::specs::Reading::plain_at))]
+#[tactic(auto, unfolding(crate::specs::inner::Reading::plain_at))]
 fn plain_at(alloc: Global, left: usize, text: &str) -> Result<(Logical, &str), QueryFault>
     ensures { GivesFront logical_of result (reading.plain_at (reading.logical_at left) (chars text.now)) }
 {
@@ -345,7 +346,7 @@ fn plain_at(alloc: Global, left: usize, text: &str) -> Result<(Logical, &str), Q
 
 /// Behind the operator.
 #[cycle(reader)]
-#[tactic(auto, unfolding(jp_tokens::specs::Reading::right_at))]
+#[tactic(auto, unfolding(crate::specs::inner::Reading::right_at))]
 fn right_at(
     alloc: Global,
     left: usize,
@@ -362,7 +363,7 @@ fn right_at(
 
 /// A basic expression (RFC 9535, 2.3.5.1).
 #[cycle(reader)]
-#[tactic(auto, unfolding(jp_tokens::specs::Reading::basic_at))]
+#[tactic(auto, unfolding(crate::specs::inner::Reading::basic_at))]
 fn basic_at(alloc: Global, left: usize, text: &str) -> Result<(Logical, &str), QueryFault>
     ensures { GivesFront logical_of result (reading.basic_at (reading.logical_at left) (chars text.now)) }
 {
@@ -385,7 +386,7 @@ fn basic_at(alloc: Global, left: usize, text: &str) -> Result<(Logical, &str), Q
 
 /// Another part, or the end, before the blanks.
 #[cycle(reader)]
-#[tactic(auto, unfolding(jp_tokens::specs::Reading::next_part))]
+#[tactic(auto, unfolding(crate::specs::inner::Reading::next_part))]
 fn next_basic<'a>(
     alloc: Global,
     left: usize,
@@ -443,7 +444,7 @@ fn and_behind(
 
 /// Basic expressions with `&&` between.
 #[cycle(reader)]
-#[tactic(auto, unfolding(jp_tokens::specs::Reading::and_at))]
+#[tactic(auto, unfolding(crate::specs::inner::Reading::and_at))]
 fn and_at(alloc: Global, left: usize, text: &str) -> Result<(Logical, &str), QueryFault>
     ensures { GivesFront logical_of result (reading.and_at (reading.logical_at left) (chars text.now)) }
 {
@@ -453,7 +454,7 @@ fn and_at(alloc: Global, left: usize, text: &str) -> Result<(Logical, &str), Que
 
 /// Another part, or the end, before the blanks.
 #[cycle(reader)]
-#[tactic(auto, unfolding(jp_tokens::specs::Reading::next_part))]
+#[tactic(auto, unfolding(crate::specs::inner::Reading::next_part))]
 fn next_and<'a>(
     alloc: Global,
     left: usize,
@@ -511,7 +512,7 @@ fn or_behind(
 
 /// A logical expression in which others stand inside each other at most `left` deep.
 #[cycle(reader)]
-#[tactic(auto, unfolding(jp_tokens::specs::Reading::logical_at, jp_tokens::specs::Reading::or_at))]
+#[tactic(auto, unfolding(crate::specs::inner::Reading::logical_at, crate::specs::inner::Reading::or_at))]
 fn logical_at(alloc: Global, left: usize, text: &str) -> Result<(Logical, &str), QueryFault>
     ensures { GivesFront logical_of result (reading.logical_at left (chars text.now)) }
 {
@@ -524,7 +525,7 @@ fn logical_at(alloc: Global, left: usize, text: &str) -> Result<(Logical, &str),
 
 /// A logical expression that begins with a comparison, behind its left side and its operator.
 #[cycle(reader)]
-#[tactic(auto, unfolding(jp_tokens::specs::Reading::compared_behind))]
+#[tactic(auto, unfolding(crate::specs::inner::Reading::compared_behind))]
 fn compared_behind(
     alloc: Global,
     left: usize,
@@ -544,7 +545,7 @@ fn compared_behind(
 }
 
 /// The whole text.
-#[tactic(auto, unfolding(jp_tokens::specs::Reading::read))]
+#[tactic(auto, unfolding(crate::specs::inner::Reading::read))]
 fn read(alloc: Global, text: &str) -> Result<Query, QueryFault>
     ensures { Gives query_of result (reading.read (length text.now) (chars text.now)) }
 {

@@ -4,7 +4,7 @@ use Rattle.std.proofs.Common.{◌∙◌, [], ◌∷◌, ◌++◌, length}
 use Rattle.jp_tree.specs.Tree.{Text}
 use Rattle.jp_tokens.specs.Depth.{Place, outside, inside, passing, step, scan, count_of, open_brackets}
 use Rattle.jp_tokens.specs.Depth.{bracket_depth}
-use Rattle.jp_tokens.specs.DepthView.{place_of}
+use Rattle.jp_tokens.specs.inner.DepthView.{place_of}
 use Rattle.jp_tokens.specs.declared.depth.Quotes.{Quotes}
 use Rattle.jp_tokens.specs.declared.depth.Quotes.TheVariants.{Outside, Inside, Passing}
 use Rattle.jp_tokens.proofs.DepthLaws.{depth_from, depth_from_cons, open_no_deeper, depth_within_length}

@@ -1,10 +1,11 @@
--- What stands at the front of a text, and what may follow a part.
+-- What stands at the front of a text, and what may follow a side of a comparison.
 use Rattle.std.proofs.Common.{◌≡◌, ℕ, ◌<◌, Bool, true, false, not, cond, ◌||◌, ◌==◌, eqb, [], ◌∷◌, ◌++◌}
 use Rattle.std.proofs.Common.{length, refl, sym, ap, subst, ◌∙◌, arith, inl, inr}
+use Rattle.std.specs.Prelude.{IsTrue}
 use Rattle.std.specs.List.{AllByRecursion}
 use Rattle.std.proofs.lemmas.Bool.{eqb-true, ne_eqb, or_cases, not-true, both_ways}
 use Rattle.jp_tree.specs.Tree.{Text}
-use Rattle.jp_tree.specs.Characters.{is_blank, is_digit, is_name_character, is_function_character}
+use Rattle.jp_tree.specs.Characters.{is_blank, is_digit, is_function_character}
 use Rattle.jp_tree.specs.Numbers.{is_exponent_mark}
 use Rattle.jp_tree.specs.Parts.{IsBlank}
 use Rattle.jp_tokens.specs.Reading.{skip}
@@ -14,6 +15,10 @@ use Rattle.jp_tokens.proofs.Fronts.{past_each, starts}
 pub differs : (p : ℕ → Bool) (d : ℕ) → p d ≡ false → (c : ℕ) → p c ≡ true → eqb c d ≡ false
 differs p d nd c h = ne_eqb c d (λ e. let k : p d ≡ true = subst (λ (n : ℕ). p n ≡ true) e h in absurd
     (both_ways (p d) nd k))
+
+-- a class holds of no character that it does not hold of
+pub never_at : (p : ℕ → Bool) (n : ℕ) → p n ≡ false → (c : ℕ) → IsTrue (p c) → (c == n) ≡ true → ⊥
+never_at p n h c k e = let same = ap p (eqb-true c n e) in cc
 
 -- it begins, and not with a blank
 abbrev pub firm : Text → Bool
@@ -89,36 +94,11 @@ pub starts_wider : (p q : ℕ → Bool) → ((c : ℕ) → p c ≡ true → q c 
 starts_wider p q wider [] h = refl
 starts_wider p q wider (c ∷ u) h = wider c h
 
--- ---- what follows each part
+-- ---- what follows a side of a comparison
 
--- a selector: `,` or `]`
-abbrev pub after_selector : ℕ → Bool
-after_selector = among (44 ∷ 93 ∷ [])
-
--- an argument: `,` or `)`
-abbrev pub after_argument : ℕ → Bool
-after_argument = among (44 ∷ 41 ∷ [])
-
-abbrev pub after_logical : ℕ → Bool
-after_logical = among (41 ∷ 44 ∷ 93 ∷ [])
-
-abbrev pub after_and : ℕ → Bool
-after_and = among (124 ∷ 41 ∷ 44 ∷ 93 ∷ [])
-
-abbrev pub after_basic : ℕ → Bool
-after_basic = among (38 ∷ 124 ∷ 41 ∷ 44 ∷ 93 ∷ [])
-
--- a side: the same, or the first character of an operator
+-- the first character of an operator, of `&&` or `||`, or what closes a list or goes on with it
 abbrev pub after_side : ℕ → Bool
 after_side = among (61 ∷ 33 ∷ 60 ∷ 62 ∷ 38 ∷ 124 ∷ 41 ∷ 44 ∷ 93 ∷ [])
-
--- what a segment begins with
-abbrev pub begins_segment : ℕ → Bool
-begins_segment = among (46 ∷ 91 ∷ [])
-
--- a number in a slice: `:` too
-abbrev pub after_bound : ℕ → Bool
-after_bound = among (58 ∷ 44 ∷ 93 ∷ [])
 
 -- nothing of this class follows a side
 pub side_leaves : (q : ℕ → Bool) → q 32 ≡ false → q 9 ≡ false → q 10 ≡ false → q 13 ≡ false
@@ -126,10 +106,6 @@ pub side_leaves : (q : ℕ → Bool) → q 32 ≡ false → q 9 ≡ false → q 
     → Meets after_side u → Leaves q u
 side_leaves q a b c d h u m = stops after_side q (blank_all (λ c. q c ≡ false) a b c d)
     (among_all (λ c. q c ≡ false) (61 ∷ 33 ∷ 60 ∷ 62 ∷ 38 ∷ 124 ∷ 41 ∷ 44 ∷ 93 ∷ []) h) u m
-
-pub side_before_name : (u : Text) → Meets after_side u → Leaves is_name_character u
-side_before_name u m = side_leaves is_name_character refl refl refl refl
-    (refl, (refl, (refl, (refl, (refl, (refl, (refl, (refl, (refl, tt))))))))) u m
 
 pub side_before_word : (u : Text) → Meets after_side u → Leaves is_function_character u
 side_before_word u m = side_leaves is_function_character refl refl refl refl
@@ -146,45 +122,3 @@ side_before_mark u m = side_leaves is_exponent_mark refl refl refl refl
 pub side_before_point : (u : Text) → Meets after_side u → Leaves (λ c. eqb c 46) u
 side_before_point u m = side_leaves (λ c. eqb c 46) refl refl refl refl
     (refl, (refl, (refl, (refl, (refl, (refl, (refl, (refl, (refl, tt))))))))) u m
-
-pub side_before_opening : (u : Text) → Meets after_side u → Leaves (λ c. eqb c 40) u
-side_before_opening u m = side_leaves (λ c. eqb c 40) refl refl refl refl
-    (refl, (refl, (refl, (refl, (refl, (refl, (refl, (refl, (refl, tt))))))))) u m
-
-pub side_before_segment : (u : Text) → Meets after_side u → Leaves begins_segment (skip u)
-side_before_segment u m = starts_wider after_side (λ c. not (begins_segment c))
-    (among_all (λ c. not (begins_segment c) ≡ true) (61 ∷ 33 ∷ 60 ∷ 62 ∷ 38 ∷ 124 ∷ 41 ∷ 44 ∷ 93 ∷ [])
-    (refl, (refl, (refl, (refl, (refl, (refl, (refl, (refl, (refl, tt)))))))))) (skip u) m
-
-pub segment_before_name : (u : Text) → Meets begins_segment u → Leaves is_name_character u
-segment_before_name u m = stops begins_segment is_name_character (blank_all (λ c. is_name_character c ≡ false)
-    refl refl refl refl) (among_all (λ c. is_name_character c ≡ false) (46 ∷ 91 ∷ []) (refl, (refl, tt))) u m
-
-pub bound_before_digit : (u : Text) → Meets after_bound u → Leaves is_digit u
-bound_before_digit u m = stops after_bound is_digit (blank_all (λ c. is_digit c ≡ false) refl refl refl refl)
-    (among_all (λ c. is_digit c ≡ false) (58 ∷ 44 ∷ 93 ∷ []) (refl, (refl, (refl, tt)))) u m
-
-pub basic_in_side : (u : Text) → Meets after_basic u → Meets after_side u
-basic_in_side u m = starts_wider after_basic after_side
-    (among_all (λ c. after_side c ≡ true) (38 ∷ 124 ∷ 41 ∷ 44 ∷ 93 ∷ [])
-    (refl, (refl, (refl, (refl, (refl, tt)))))) (skip u) m
-
-pub argument_in_side : (u : Text) → Meets after_argument u → Meets after_side u
-argument_in_side u m = starts_wider after_argument after_side
-    (among_all (λ c. after_side c ≡ true) (44 ∷ 41 ∷ []) (refl, (refl, tt))) (skip u) m
-
-pub argument_in_basic : (u : Text) → Meets after_argument u → Meets after_basic u
-argument_in_basic u m = starts_wider after_argument after_basic
-    (among_all (λ c. after_basic c ≡ true) (44 ∷ 41 ∷ []) (refl, (refl, tt))) (skip u) m
-
-pub argument_in_logical : (u : Text) → Meets after_argument u → Meets after_logical u
-argument_in_logical u m = starts_wider after_argument after_logical (among_all (λ c. after_logical c ≡ true)
-    (44 ∷ 41 ∷ []) (refl, (refl, tt))) (skip u) m
-
-pub selector_in_logical : (u : Text) → Meets after_selector u → Meets after_logical u
-selector_in_logical u m = starts_wider after_selector after_logical (among_all (λ c. after_logical c ≡ true)
-    (44 ∷ 93 ∷ []) (refl, (refl, tt))) (skip u) m
-
-pub selector_in_bound : (u : Text) → Meets after_selector u → Meets after_bound u
-selector_in_bound u m = starts_wider after_selector after_bound
-    (among_all (λ c. after_bound c ≡ true) (44 ∷ 93 ∷ []) (refl, (refl, tt))) (skip u) m

@@ -1,7 +1,6 @@
 pub mod Cuts
 pub mod DepthLaws
 pub mod DepthScan
-pub mod Endings
 pub mod Following
 pub mod Fronts
 pub mod LeavesRead

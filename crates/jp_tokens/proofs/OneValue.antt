@@ -8,7 +8,7 @@ use Rattle.jp_tree.specs.Characters.{is_scalar, is_quote, is_bare, escaped, hex_
 use Rattle.jp_tree.specs.Characters.{is_high_surrogate, pair_value}
 use Rattle.jp_tree.specs.Parts.{Star, none, more}
 use Rattle.jp_tree.specs.Strings.{Piece, bare, escape, unicode, surrogates, HexIs, four, IsString, quoted}
-use Rattle.jp_tokens.proofs.Endings.{never_at}
+use Rattle.jp_tokens.proofs.Following.{never_at}
 
 -- a bare character is no backslash, and no quote
 pub bare_is_no_backslash : (quote c : ℕ) → IsTrue (is_bare quote c) → (c == 92) ≡ false

@@ -1,4 +1,4 @@
 pub mod Reading
 pub mod Gives
 pub mod Depth
-pub mod DepthView
+pub mod inner

@@ -3,7 +3,7 @@
 ghost use Rattle.std.specs.Prelude.{◌≡◌, ◌<◌, ◌↔◌, ℕ, IsTrue};
 ghost use Rattle.std.specs.Str.{chars};
 ghost use Rattle.jp_tokens.specs.Depth as depth;
-ghost use Rattle.jp_tokens.specs.DepthView.{place_of};
+ghost use Rattle.jp_tokens.specs.inner.DepthView.{place_of};
 
 /// The deepest nesting of brackets and parentheses that is read.
 const MAX_DEPTH: u64 = 64;

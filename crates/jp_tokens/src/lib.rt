@@ -2,28 +2,22 @@
 //! operators and literals, read from the left; and what is asked of a text as a whole.
 #![tactic(auto)]
 
-mod arguments;
 mod depth;
 mod literals;
 mod numbers;
 mod operators;
 mod shorthand;
-mod sides;
-mod singular;
 mod slices;
 mod strings;
 mod text;
 
-pub use arguments::{compared_argument, standing_argument};
 pub use depth::{bracket_depth, is_too_deep};
 pub use literals::{begins_literal, calls, literal_at};
 pub use operators::operator_at;
 pub use shorthand::named_at;
-pub use sides::{compared_at, tested_at};
-pub use singular::is_singular;
 pub use slices::numbers_at;
 pub use strings::string_at;
 pub use text::{
-    first_character, function_name_at, inside_brackets, is_end, is_quote, mark_at,
-    opened_arguments, skip,
+    begins_with, first_character, function_name_at, inside_brackets, is_end, is_quote, mark_at,
+    skip,
 };

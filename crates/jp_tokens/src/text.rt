@@ -146,13 +146,6 @@ pub fn inside_brackets(behind: &str) -> &str
     skip(behind)
 }
 
-/// Behind the parenthesis that follows a function's name: no blank stands before it (RFC 9535, 2.4).
-pub fn opened_arguments(text: &str) -> Result<&str, QueryFault>
-    ensures { ReadsRest result (reading.mark_at 40 (chars text.now)) }
-{
-    mark_at('(', text)
-}
-
 /// Whether nothing is left of the text, not even a blank: none may follow the last segment (RFC 9535, 2.1).
 pub fn is_end(text: &str) -> bool
     ensures { result ≡ (length (chars text.now) == 0) }
@@ -161,7 +154,7 @@ pub fn is_end(text: &str) -> bool
 }
 
 /// Whether the text begins with this character.
-pub(crate) fn begins_with(mark: char, text: &str) -> bool
+pub fn begins_with(mark: char, text: &str) -> bool
     ensures { result ≡ begins_with mark (chars text.now) }
 {
     match first_character(text) {

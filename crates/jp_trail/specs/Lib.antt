@@ -1,4 +1,4 @@
 pub mod Path
 pub mod Links
-pub mod Made
 pub mod Appended
+pub mod inner

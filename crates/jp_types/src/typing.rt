@@ -7,8 +7,7 @@ ghost use Rattle.jp_types.specs.Kinds.{kind_of, function_of};
 ghost use Rattle.jp_types.specs.Typing as typing;
 
 use crate::functions::{Function, Kind, function_named, parameters, result_type};
-use jp_tokens::is_singular;
-use jp_tree::{Argument, Call};
+use jp_tree::{Argument, Call, is_singular};
 
 /// The type of what a call gives, where its function is known.
 fn type_of_call(call: &Call) -> Option<Kind>

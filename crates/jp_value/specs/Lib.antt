@@ -9,4 +9,4 @@ pub mod Kinds
 pub mod BoundsView
 pub mod Places
 pub mod RightTests
-pub mod Texts
+pub mod inner

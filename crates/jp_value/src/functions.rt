@@ -1,5 +1,5 @@
 //! What the functions give: those of RFC 9535 (2.4.4 to 2.4.8), and `xor`, this project's own. Its other one,
-//! `distinct`, stands in `jp_nodes`.
+//! `distinct`, stands in `jp_eval`.
 
 ghost use Rattle.std.specs.Prelude.{◌≡◌, Some, length, option_map, IfOk};
 ghost use Rattle.std.specs.Str.{chars};
@@ -9,7 +9,7 @@ ghost use Rattle.jp_tree.specs.View.{text_of as characters};
 ghost use Rattle.jp_compiled.specs.Compiled.{constant_of};
 ghost use Rattle.jp_value.specs.Functions as spec;
 ghost use Rattle.jp_value.specs.Kinds.{given_value};
-ghost use Rattle.jp_value.specs.Texts.{text_in};
+ghost use Rattle.jp_value.specs.inner.Texts.{text_in};
 ghost use Rattle.jp_value.specs.Literals.{literal_value};
 ghost use Rattle.jp_value.specs.RightTests.{tests};
 

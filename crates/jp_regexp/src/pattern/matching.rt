@@ -33,9 +33,9 @@ impl Pattern {
     pub fn matches(&self, alloc: Global, text: &str) -> Result<bool, AllocError>
         ensures { IfOk result (λ b. IsTrue b ↔ Member (pattern_of self.now) (chars text.now)) }
     {
-        match self.matches_by_table(text) {
+        match self.matches_by_dfa(text) {
             Some(matches) => Ok(matches),
-            None => self.matches_by_places(alloc, text),
+            None => self.matches_by_positions(alloc, text),
         }
     }
 
@@ -48,9 +48,9 @@ impl Pattern {
     pub fn found_in(&self, alloc: Global, text: &str) -> Result<bool, AllocError>
         ensures { IfOk result (λ b. IsTrue b ↔ HasPart (pattern_of self.now) (chars text.now)) }
     {
-        match self.found_by_table(text) {
+        match self.found_by_dfa(text) {
             Some(found) => Ok(found),
-            None => self.found_by_places(alloc, text),
+            None => self.found_by_positions(alloc, text),
         }
     }
 }

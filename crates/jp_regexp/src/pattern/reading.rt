@@ -5,24 +5,24 @@ ghost use Rattle.std.specs.Str.{chars};
 ghost use Rattle.jp_regexp.specs.Held.{IsRead, pattern_of};
 ghost use Rattle.jp_regexp.specs.Parts.{meaning, unrolled_in};
 ghost use Rattle.jp_regexp.specs.Profile.{max_size};
-ghost use Rattle.jp_regexp.specs.Steps.{IsTable};
+ghost use Rattle.jp_regexp.specs.inner.Dfa.{IsDfa};
 ghost use Rattle.jp_regexp.specs.Unrolled.{letters};
 
-use crate::classes::make_classes;
+use crate::byte_classes::make_byte_classes;
+use crate::determinize::{MOST_STATES, make_dfa};
+use crate::dfa::Dfa;
+use crate::dfa_input::DfaInput;
 use crate::fault::Fault;
 use crate::parts::{Part, part_of};
 use crate::pattern::Pattern;
 use crate::pattern::matching::characters;
+use crate::prefilter::{Prefilter, make_prefilter};
 use crate::read_patterns;
-use crate::source::Source;
-use crate::starts::{Starts, make_starts};
-use crate::states::{MOST_STATES, make_table};
-use crate::table::Table;
 use std::alloc::{AllocError, Global};
 
 const MAX_SIZE: u32 = 10_000;
 
-/// How many states a table has at most, times the pattern's size: they are all made ahead.
+/// How many states a DFA has at most, times the pattern's size: they are all made ahead of time.
 const STATES_BY_SIZE: u32 = 8_000;
 
 impl Pattern {
@@ -45,81 +45,81 @@ impl Pattern {
                 if root.size() > MAX_SIZE {
                     return Ok(None);
                 }
-                let whole = Table::new(alloc);
-                let part = Table::new(alloc);
-                let starts = Starts::new(alloc);
+                let whole = Dfa::new(alloc);
+                let part = Dfa::new(alloc);
+                let prefilter = Prefilter::new(alloc);
                 Ok(Some(Pattern {
                     root,
                     whole,
                     part,
-                    starts,
+                    prefilter,
                 }))
             }
         }
     }
 
-    /// The same, made ready for many texts: the steps from character to character are looked up in tables,
-    /// which are made now.
+    /// The same, compiled for many texts: its position automaton is determinized now, and texts are matched
+    /// by the transition tables.
     ///
     /// # Errors
     ///
     /// Memory ran out.
-    pub fn ready(alloc: Global, text: &str) -> Result<Option<Pattern>, AllocError>
+    pub fn compiled(alloc: Global, text: &str) -> Result<Option<Pattern>, AllocError>
         ensures { IfOk result (λ read. IsRead (chars text.now) read) }
     {
         match Pattern::read(alloc, text)? {
             None => Ok(None),
-            Some(pattern) => Ok(Some(pattern.with_tables(alloc)?)),
+            Some(pattern) => Ok(Some(pattern.with_dfas(alloc)?)),
         }
     }
 
-    /// The same pattern with its tables.
-    fn with_tables(self, alloc: Global) -> Result<Pattern, AllocError>
+    /// The same pattern with its DFAs and its prefilter.
+    fn with_dfas(self, alloc: Global) -> Result<Pattern, AllocError>
         ensures { IfOk result (λ made. pattern_of made ≡ pattern_of self) }
     {
-        let (whole, part) = tables_of(alloc, &self.root)?;
-        let starts = make_starts(alloc, &part)?;
+        let (whole, part) = dfas_of(alloc, &self.root)?;
+        let prefilter = make_prefilter(alloc, &part)?;
         let Pattern {
             root,
             whole: _,
             part: _,
-            starts: _,
+            prefilter: _,
         } = self;
         Ok(Pattern {
             root,
             whole,
             part,
-            starts,
+            prefilter,
         })
     }
 }
 
-/// The tables of a pattern: of whole texts, and of parts that are looked for.
-fn tables_of(alloc: Global, root: &Part) -> Result<(Table, Table), AllocError>
+/// The DFAs of a pattern: of whole texts, and of parts that are looked for.
+fn dfas_of(alloc: Global, root: &Part) -> Result<(Dfa, Dfa), AllocError>
     requires sized { IsTrue (meaning root.now).is_sized }
     requires fits { letters (unrolled_in root.now) ≤ max_size }
-    ensures whole { IfOk result (λ made. IsTable (unrolled_in root.now) false made.0) }
-    ensures part { IfOk result (λ made. IsTable (unrolled_in root.now) true made.1) }
+    ensures whole { IfOk result (λ made. IsDfa (unrolled_in root.now) false made.0) }
+    ensures part { IfOk result (λ made. IsDfa (unrolled_in root.now) true made.1) }
 {
     let most = most_states(root.size());
-    let classes = make_classes(alloc, root)?;
-    let source = Source {
+    let classes = make_byte_classes(alloc, root)?;
+    let input = DfaInput {
         root,
         classes: &classes,
-        anew: false,
+        unanchored: false,
         most,
     };
-    let whole = make_table(alloc, source)?;
-    let source = Source {
+    let whole = make_dfa(alloc, input)?;
+    let input = DfaInput {
         root,
         classes: &classes,
-        anew: true,
+        unanchored: true,
         most,
     };
-    Ok((whole, make_table(alloc, source)?))
+    Ok((whole, make_dfa(alloc, input)?))
 }
 
-/// How many states a table of a pattern of this size has at most.
+/// How many states a DFA of a pattern of this size has at most.
 fn most_states(size: u32) -> usize
     ensures { result ≤ 254 }
 {

@@ -9,12 +9,13 @@ use Rattle.jp_answer.proofs.answering.answer_lines.Given as goal
 
 abbrev pub invariant-loop-line : goal.invariant-loop-line
 invariant-loop-line g l = record {
-  query : evaluated_query l.evaluator ≡ planned_query l.plan;
-  answer : (t : Tests) → AreRight t → answer_in l.keeps_going t (planned_query l.plan) (map line_at l.lines)
-      ≡ after l.written.1 (answer_in l.keeps_going t (planned_query l.plan)
+  query : evaluated_query l.evaluator ≡ planned_query l.pieces.plan.now;
+  answer : (t : Tests) → AreRight t → answer_in l.pieces.keeps_going t (planned_query l.pieces.plan.now)
+      (map line_at l.lines)
+      ≡ after l.written.1 (answer_in l.pieces.keeps_going t (planned_query l.pieces.plan.now)
       (map line_at (drop l.line-index l.lines)));
-  stopped : stop_in l.keeps_going (map line_at l.lines)
-      ≡ stop_in l.keeps_going (map line_at (drop l.line-index l.lines));
-  passed : passed_in l.keeps_going (map line_at l.lines)
-      ≡ l.faulty + passed_in l.keeps_going (map line_at (drop l.line-index l.lines));
+  stopped : stop_in l.pieces.keeps_going (map line_at l.lines)
+      ≡ stop_in l.pieces.keeps_going (map line_at (drop l.line-index l.lines));
+  passed : passed_in l.pieces.keeps_going (map line_at l.lines)
+      ≡ l.faulty + passed_in l.pieces.keeps_going (map line_at (drop l.line-index l.lines));
 }

@@ -1,5 +1,5 @@
 use Rattle.std.proofs.Common.{◌≡◌, ◌+◌, drop}
-use Rattle.jp_buffer.specs.Waiting.{bytes_of}
+use Rattle.jp_buffer.specs.inner.Waiting.{bytes_of}
 use Rattle.jp_buffer.proofs.waiting.total_len.Given as goal
 
 abbrev pub invariant-loop-span : goal.invariant-loop-span

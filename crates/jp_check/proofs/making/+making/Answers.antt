@@ -34,7 +34,7 @@ use Rattle.jp_types.specs.Numbers.{logicals_numbers, logical_numbers, selectors_
 use Rattle.jp_types.specs.Numbers.{segments_numbers, segment_numbers}
 use Rattle.jp_types.specs.Typing.{logicals_typed, logical_typed, selectors_typed, selector_typed}
 use Rattle.jp_types.specs.Typing.{segments_typed, segment_typed}
-use Rattle.jp_check.specs.Making.{IsSound}
+use Rattle.jp_check.specs.inner.Making.{IsSound}
 use Rattle.jp_check.proofs.Sound.{sound_at, argument_sound, first_fits, second_fits, two_fit}
 use Rattle.jp_check.proofs.Sound.{value_of_one, nodes_of_one, fitting}
 use Rattle.jp_types.specs.Numbers.{call_numbers}

@@ -5,7 +5,7 @@ use Rattle.serde_json.proofs.Views.{view-Array}
 use Rattle.serde_json.specs.View.{items_view}
 use Rattle.serde_json.specs.Written.{items_have_float}
 use Rattle.serde_json.specs.declared.value.Value.{Value}
-use Rattle.jp_doc.specs.Limits.{tested}
+use Rattle.jp_doc.specs.inner.Limits.{tested}
 use Rattle.jp_doc.specs.Json.{items_of, item_list}
 use Rattle.jp_doc.specs.Reading.{items_have_long_array}
 use Rattle.jp_doc.proofs.limits.+limits.Goals as goal

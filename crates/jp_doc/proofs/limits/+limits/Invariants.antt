@@ -1,7 +1,7 @@
 use Rattle.std.proofs.Common.{◌≡◌, ◌||◌, drop}
 use Rattle.serde_json.specs.View.{items_view, members_view}
 use Rattle.serde_json.specs.Written.{items_have_float, members_have_float}
-use Rattle.jp_doc.specs.Limits.{tested}
+use Rattle.jp_doc.specs.inner.Limits.{tested}
 use Rattle.jp_doc.specs.Json.{items_of, members_of}
 use Rattle.jp_doc.specs.Reading.{items_have_long_array, members_have_long_array}
 use Rattle.jp_doc.proofs.limits.+limits.Given as goal

@@ -3,12 +3,12 @@ use Rattle.std.specs.List.{fold}
 use Rattle.jp_part.specs.Part.{part_value}
 use Rattle.jp_check.specs.Plan.{planned_query}
 use Rattle.jp_compiled.specs.Compiled.{roots_of, segments_in}
-use Rattle.jp_eval.specs.Rooted.{root_nodes}
-use Rattle.jp_eval.specs.Base.{base_of}
+use Rattle.jp_eval.specs.inner.Rooted.{root_nodes}
+use Rattle.jp_eval.specs.inner.Base.{base_of}
 use Rattle.jp_eval.specs.Nodelist.{document_nodes}
 use Rattle.jp_value.specs.RightTests.{tests}
 use Rattle.jp_eval.proofs.Answering.{same_nodes}
-use Rattle.jp_nodes.proofs.Keeping.{taken_out, not_lost}
+use Rattle.jp_eval.proofs.Keeping.{taken_out, not_lost}
 use Rattle.jp_eval.proofs.CompiledParts.{from_root, started}
 use Rattle.jp_eval.proofs.evaluator.split_in.Goals as goal
 

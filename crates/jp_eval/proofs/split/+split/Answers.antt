@@ -3,19 +3,19 @@ use Rattle.std.proofs.lemmas.Result.{on_ok_weaker}
 use Rattle.std.specs.List.{flat_map}
 use Rattle.jp_doc.specs.Location.{Location, Node, node}
 use Rattle.jp_trail.specs.Links.{link_steps}
-use Rattle.jp_eval.specs.Base.{base_of}
-use Rattle.jp_nodes.specs.Kept.{kept, put_found, plus, taken, emptied_found}
-use Rattle.jp_nodes.specs.Kids.{row_kids, row_height}
-use Rattle.jp_eval.specs.Along.{done_along_all}
+use Rattle.jp_eval.specs.inner.Base.{base_of}
+use Rattle.jp_eval.specs.inner.Kept.{kept, put_found, plus, taken, emptied_found}
+use Rattle.jp_eval.specs.inner.Rows.{row_kids, row_height}
+use Rattle.jp_eval.specs.inner.Along.{done_along_all}
 use Rattle.jp_part.specs.Part.{part_value}
-use Rattle.jp_eval.specs.Walk.{done}
+use Rattle.jp_eval.specs.inner.Walk.{done}
 use denote.Param.{param}
 use denote.Param.Send.{IsSend, IsSync, param_send}
 use denote.Struct.Tuple.{tuple_name}
 use mir.Syntax.{named}
 use Rattle.jp_eval.proofs.Crossing.{captured_send}
-use Rattle.jp_nodes.proofs.Gathered.{kid_done, halves_joined}
-use Rattle.jp_nodes.proofs.Keeping.{ended, full_enough, nothing_found, not_lost, taken_on}
+use Rattle.jp_eval.proofs.Gathered.{kid_done, halves_joined}
+use Rattle.jp_eval.proofs.Keeping.{ended, full_enough, nothing_found, not_lost, taken_on}
 use Rattle.jp_eval.proofs.Stretches.{others_no_higher, stretch_done}
 use Rattle.jp_eval.proofs.WalkSteps.{back_up, link_further, over}
 use Rattle.jp_eval.proofs.split.+split.Lts-each_of as lts
@@ -35,7 +35,7 @@ each_stretch-loop-stretch-preserved g t c =
           (c.in_ok-each_of.ensures.found
           ∙ ap (λ ns. plus (put_found g.V.Visit.put) (kept g.V.Visit.kept c.loop-stretch.found)
           (flat_map (done (base_of c.args.context.now) c.stretch-item.result.task) ns))
-          (c.counted_row-children.ensures.nodes (link_steps c.loop-stretch.path)))
+          (c.counted-children.ensures.nodes (link_steps c.loop-stretch.path)))
           c.loop-stretch.invariant.2,
     )
 

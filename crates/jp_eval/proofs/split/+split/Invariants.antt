@@ -2,11 +2,11 @@ use Rattle.std.proofs.Common.{◌≡◌, ◌+◌, ◌*◌, ◌≤◌, ℕ, drop}
 use Rattle.std.specs.List.{flat_map}
 use Rattle.jp_doc.specs.Height.{height}
 use Rattle.jp_part.specs.Part.{part_value}
-use Rattle.jp_eval.specs.Base.{base_of}
-use Rattle.jp_nodes.specs.Kept.{kept, put_found, plus}
-use Rattle.jp_nodes.specs.Kids.{row_kids, row_height, row_length}
-use Rattle.jp_eval.specs.Along.{done_along_all, highest}
-use Rattle.jp_eval.specs.Walk.{done}
+use Rattle.jp_eval.specs.inner.Base.{base_of}
+use Rattle.jp_eval.specs.inner.Kept.{kept, put_found, plus}
+use Rattle.jp_eval.specs.inner.Rows.{row_kids, row_height, row_length}
+use Rattle.jp_eval.specs.inner.Along.{done_along_all, highest}
+use Rattle.jp_eval.specs.inner.Walk.{done}
 use Rattle.jp_trail.specs.Links.{link_steps}
 use Rattle.jp_eval.proofs.split.+split.Given as goal
 

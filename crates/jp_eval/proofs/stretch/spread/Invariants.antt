@@ -1,10 +1,10 @@
 use Rattle.std.proofs.Common.{◌≡◌, ◌≤◌, ◌++◌, drop}
 use Rattle.jp_doc.specs.Height.{height}
 use Rattle.jp_doc.specs.Location.{Location, node}
-use Rattle.jp_eval.specs.Base.{Base}
-use Rattle.jp_eval.specs.Along.{done_along_all, highest}
+use Rattle.jp_eval.specs.inner.Base.{Base}
+use Rattle.jp_eval.specs.inner.Along.{done_along_all, highest}
 use Rattle.jp_part.specs.Part.{part_value}
-use Rattle.jp_eval.specs.Walk.{picked_by, reached}
+use Rattle.jp_eval.specs.inner.Walk.{picked_by, reached}
 use Rattle.jp_eval.proofs.stretch.spread.Given as goal
 
 abbrev pub invariant-loop-selector : goal.invariant-loop-selector

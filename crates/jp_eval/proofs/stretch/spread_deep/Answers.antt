@@ -2,7 +2,7 @@ use Rattle.std.proofs.Common.{ap}
 use Rattle.std.specs.List.{flat_map}
 use Rattle.jp_doc.specs.Location.{node}
 use Rattle.jp_part.specs.Part.{part_value}
-use Rattle.jp_eval.specs.Walk.{done}
+use Rattle.jp_eval.specs.inner.Walk.{done}
 use Rattle.jp_eval.specs.declared.walk.Task.TheVariants.{Descend}
 use Rattle.jp_eval.proofs.Chains.{reached-descend}
 use Rattle.jp_eval.proofs.Stretches.{deep_spread, highest_more}

@@ -9,7 +9,7 @@ use Rattle.jp_value.specs.BoundsView.{bounds_value}
 use Rattle.jp_nodes.specs.Nodes.{child, items_at}
 use Rattle.jp_value.specs.Literals.{written_value}
 use Rattle.jp_part.specs.Part.{part_value}
-use Rattle.jp_eval.specs.Walk.{picked, is_true}
+use Rattle.jp_eval.specs.inner.Walk.{picked, is_true}
 use Rattle.jp_eval.proofs.Places.{index_found, slice_found}
 use Rattle.jp_eval.proofs.CompiledParts.{picked_name, picked_wild, picked_index, picked_slice, picked_filter}
 use Rattle.jp_eval.proofs.Stretches.{run_along, test_along}

@@ -3,7 +3,7 @@ use Rattle.std.specs.List.{flat_map}
 use Rattle.jp_doc.specs.Location.{node}
 use Rattle.jp_nodes.specs.Nodes.{descendants}
 use Rattle.jp_part.specs.Part.{part_value}
-use Rattle.jp_eval.specs.Walk.{picked_by, reached, done}
+use Rattle.jp_eval.specs.inner.Walk.{picked_by, reached, done}
 use Rattle.jp_eval.proofs.Chains.{reached-plain, reached-deep}
 use Rattle.jp_eval.proofs.stretch.stretches.Goals as goal
 

@@ -15,25 +15,26 @@ use Rattle.jp_types.specs.Numbers.{whole_number}
 use Rattle.jp_tree.specs.View.{text_of}
 use Rattle.jp_compiled.specs.Compiled.{position_text, wanted_inside}
 use Rattle.jp_compiled.specs.declared.query.Want.TheVariants as want
-use Rattle.jp_nodes.specs.Aggregates.{tells}
-use Rattle.jp_eval.specs.Base.{base_of}
+use Rattle.jp_eval.specs.inner.Aggregates.{tells}
+use Rattle.jp_eval.specs.inner.Base.{base_of}
 use Rattle.jp_value.specs.BoundsView.{bounds_value}
 use Rattle.jp_value.specs.Comparison.{compared}
 use Rattle.jp_value.specs.Functions.{tested, length_value}
 use Rattle.jp_value.specs.Functions.{exactly_one}
-use Rattle.jp_nodes.specs.Kids.{kids, row_kids}
+use Rattle.jp_nodes.specs.Kids.{kids}
+use Rattle.jp_eval.specs.inner.Rows.{row_kids}
 use Rattle.jp_nodes.specs.Nodes.{children, descendants, items_at, node_if_some}
 use Rattle.jp_value.specs.Literals.{written_value}
-use Rattle.jp_nodes.specs.Kept.{kept, put_found, plus}
-use Rattle.jp_nodes.specs.Links.{here}
+use Rattle.jp_eval.specs.inner.Kept.{kept, put_found, plus}
+use Rattle.jp_eval.specs.inner.Links.{here}
 use Rattle.jp_trail.specs.Links.{link_steps}
 use Rattle.jp_part.specs.Part.{part_value}
 use Rattle.jp_value.specs.RightTests.{tests}
-use Rattle.jp_eval.specs.Walk.{picked, picked_by, reached, is_true, value_given, nodes_given, done}
+use Rattle.jp_eval.specs.inner.Walk.{picked, picked_by, reached, is_true, value_given, nodes_given, done}
 use Rattle.jp_eval.proofs.Chains.{reached-none, reached-end, reached-each, reached-filter, reached-plain}
 use Rattle.jp_eval.proofs.Chains.{reached-deep}
-use Rattle.jp_nodes.proofs.Gathered.{kid_done}
-use Rattle.jp_nodes.proofs.Keeping.{plus-one, ended, nothing_found, full_enough, not_taken}
+use Rattle.jp_eval.proofs.Gathered.{kid_done}
+use Rattle.jp_eval.proofs.Keeping.{plus-one, ended, nothing_found, full_enough, not_taken}
 use Rattle.jp_eval.proofs.CompiledParts.{picked_name, picked_wild, picked_index, picked_slice, picked_filter}
 use Rattle.jp_eval.proofs.CompiledParts.{true_any, true_all, true_not, true_compare, true_test, true_match}
 use Rattle.jp_eval.proofs.CompiledParts.{true_search, true_match_known, true_search_known, given_constant}
@@ -70,7 +71,7 @@ apply_inside-loop-selector-preserved g t c =
       c.loop-selector.invariant.0,
       applied (put_found g.V.Visit.put) (base_of c.args.context.now)
           c.args.selectors.now c.loop-selector.selector-index c.selector-item.result c.args.rest.now
-          (here c.loop-selector.path c.args.value) _ _ _ _ h c.selector-item.is
+          (here c.loop-selector.path c.args.opened.value) _ _ _ _ h c.selector-item.is
           c.in_ok-select_inside.ensures.found c.loop-selector.invariant.1,
     )
 
@@ -82,7 +83,7 @@ apply_inside-returns-then-is_full-clause-found g t c =
 pub apply_inside-returns-clause-found : goal.apply_inside-returns-clause-found
 apply_inside-returns-clause-found g t c =
     over (put_found g.V.Visit.put) (λ xs. reached (base_of c.args.context.now) c.args.rest.now
-    (picked_by (base_of c.args.context.now) xs (here c.loop-selector.path c.args.value)))
+    (picked_by (base_of c.args.context.now) xs (here c.loop-selector.path c.args.opened.value)))
     c.args.selectors.now c.loop-selector.selector-index _ _ _ (omega arith)
     (reached-none (base_of c.args.context.now) c.args.rest.now) c.loop-selector.invariant.1
 
@@ -158,8 +159,8 @@ go-returns-in_ok-apply_inside-in-Descend-clause-found g t c =
     let xs = c.in-Descend.selectors.now in
     let rest = c.in-Descend.rest.now in
     let at = link_steps c.args.path.now in
-    let row : row_kids at c.row-row.result ≡ children (here c.args.path.now c.args.value) =
-    c.row-row.ensures.nodes at ∙ c.in_ok-children-in-Descend.ensures.nodes at in
+    let row : row_kids at c.all-row.result ≡ children (here c.args.path.now c.args.value) =
+    c.all-row.ensures.nodes at ∙ c.in_ok-children-in-Descend.ensures.nodes at in
     on_ok_weaker c.each_of.result (λ e. rw c.in-Descend.is (descended (put_found g.V.Visit.put) base xs
     rest (here c.args.path.now c.args.value) _ _ _ c.in_ok-apply_inside-in-Descend.ensures.found
     (rw row at (rw (c.in_ok-apply_inside-in-Descend.ensures.path, c.in-Descend.is) at e))))
@@ -335,21 +336,21 @@ select_inside-returns-in-Wild-clause-found g t c =
     (c.requires.nodes (link_steps c.args.path.now))
     ∙ ap (plus (put_found g.V.Visit.put) (kept g.V.Visit.kept c.args.found.now))
     (sym (ap (reached (base_of c.args.context.now) c.args.rest.now)
-    (ap (λ x. picked (base_of c.args.context.now) x (here c.args.path.now c.args.value)) c.in-Wild.is
-    ∙ picked_wild (base_of c.args.context.now) (here c.args.path.now c.args.value))
+    (ap (λ x. picked (base_of c.args.context.now) x (here c.args.path.now c.args.opened.value)) c.in-Wild.is
+    ∙ picked_wild (base_of c.args.context.now) (here c.args.path.now c.args.opened.value))
     ∙ reached-each (base_of c.args.context.now) c.args.rest.now
-    (children (here c.args.path.now c.args.value))))) c.each_of.ensures.found
+    (children (here c.args.path.now c.args.opened.value))))) c.each_of.ensures.found
 
 pub select_inside-returns-in-Filter-clause-found : goal.select_inside-returns-in-Filter-clause-found
 select_inside-returns-in-Filter-clause-found g t c =
     on_ok_weaker c.each_of-in-Filter.result (λ e. (rw (c.requires.nodes (link_steps c.args.path.now)) at e)
     ∙ ap (plus (put_found g.V.Visit.put) (kept g.V.Visit.kept c.args.found.now))
     (sym (ap (reached (base_of c.args.context.now) c.args.rest.now)
-    (ap (λ x. picked (base_of c.args.context.now) x (here c.args.path.now c.args.value)) c.in-Filter.is
-    ∙ picked_filter (base_of c.args.context.now) (here c.args.path.now c.args.value) c.in-Filter.test)
+    (ap (λ x. picked (base_of c.args.context.now) x (here c.args.path.now c.args.opened.value)) c.in-Filter.is
+    ∙ picked_filter (base_of c.args.context.now) (here c.args.path.now c.args.opened.value) c.in-Filter.test)
     ∙ reached-filter (base_of c.args.context.now) c.args.rest.now
     (is_true (base_of c.args.context.now) c.in-Filter.test)
-    (children (here c.args.path.now c.args.value))))) c.each_of-in-Filter.ensures.found
+    (children (here c.args.path.now c.args.opened.value))))) c.each_of-in-Filter.ensures.found
 
 pub all-loop-part-preserved : goal.all-loop-part-preserved
 all-loop-part-preserved g t c =

@@ -7,13 +7,13 @@ use Rattle.jp_compiled.specs.declared.query.Selector.{size-Selector}
 use Rattle.jp_compiled.specs.declared.query.Logical.{size-Logical}
 use Rattle.jp_compiled.specs.declared.query.Value.{size-Value}
 use Rattle.jp_compiled.specs.declared.query.Nodes.{size-Nodes}
-use Rattle.jp_eval.specs.Base.{base_of}
-use Rattle.jp_nodes.specs.Kept.{kept, put_found, plus}
-use Rattle.jp_nodes.specs.Links.{here}
+use Rattle.jp_eval.specs.inner.Base.{base_of}
+use Rattle.jp_eval.specs.inner.Kept.{kept, put_found, plus}
+use Rattle.jp_eval.specs.inner.Links.{here}
 use Rattle.jp_trail.specs.Links.{link_steps}
-use Rattle.jp_nodes.specs.Kids.{row_kids, row_height, row_length}
+use Rattle.jp_eval.specs.inner.Rows.{row_kids, row_height, row_length}
 use Rattle.jp_part.specs.Part.{part_value}
-use Rattle.jp_eval.specs.Walk.{picked_by, reached, is_true, done}
+use Rattle.jp_eval.specs.inner.Walk.{picked_by, reached, is_true, done}
 use Rattle.jp_part.specs.declared.part.Part.{Part}
 use Rattle.jp_eval.specs.declared.walk.Task.{Task}
 use Rattle.jp_eval.specs.declared.walk.Task.TheVariants.{Run, Descend, Test}
@@ -46,11 +46,11 @@ decreases-apply g l = weight (max (most size-Selector l.selectors.now) (most siz
 
 abbrev pub decreases-apply_inside : goal.decreases-apply_inside
 decreases-apply_inside g l =
-    weight (max (most size-Selector l.selectors.now) (most size-Segment l.rest.now)) l.value 6
+    weight (max (most size-Selector l.selectors.now) (most size-Segment l.rest.now)) l.opened.value 6
 
 abbrev pub decreases-select_inside : goal.decreases-select_inside
 decreases-select_inside g l =
-    weight (max (size-Selector l.selector.now) (most size-Segment l.rest.now)) l.value 5
+    weight (max (size-Selector l.selector.now) (most size-Segment l.rest.now)) l.opened.value 5
 
 abbrev pub decreases-select : goal.decreases-select
 decreases-select g l = weight (max (size-Selector l.selector.now) (most size-Segment l.rest.now)) l.value
@@ -97,9 +97,9 @@ invariant-apply_inside-loop-selector g l =
     let root = base_of l.context in
     (l.path ≡ l.initial.path)
     × (plus (put_found g.V.Visit.put) (kept g.V.Visit.kept l.found)
-    (reached root l.rest (picked_by root (drop l.selector-index l.selectors) (here l.path l.value)))
+    (reached root l.rest (picked_by root (drop l.selector-index l.selectors) (here l.path l.opened.value)))
     ≡ plus (put_found g.V.Visit.put) (kept g.V.Visit.kept l.initial.found)
-    (reached root l.rest (picked_by root l.selectors (here l.initial.path l.value))))
+    (reached root l.rest (picked_by root l.selectors (here l.initial.path l.opened.value))))
 
 abbrev pub invariant-each_of-loop-child : goal.invariant-each_of-loop-child
 invariant-each_of-loop-child g l =

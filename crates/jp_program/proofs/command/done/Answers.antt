@@ -1,5 +1,5 @@
 use Rattle.std.proofs.Common.{◌≡◌, true, Some}
-use Rattle.jp_program.specs.Asked.{wanted_of}
+use Rattle.jp_program.specs.inner.Asked.{wanted_of}
 use Rattle.jp_program.proofs.Ran.{wants_of, finished_ok, past_ok}
 use Rattle.jp_program.proofs.Told.{told_stop, stops}
 use Rattle.jp_program.proofs.command.done.Goals as goal

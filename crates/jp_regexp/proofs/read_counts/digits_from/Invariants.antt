@@ -1,6 +1,6 @@
 use Rattle.std.proofs.Common.{◌≡◌, ◌≤◌, length}
 use Rattle.jp_regexp.specs.Profile.{max_count}
-use Rattle.jp_regexp.specs.Reading.{digits_within}
+use Rattle.jp_regexp.specs.inner.Reading.{digits_within}
 use Rattle.jp_regexp.proofs.read_counts.digits_from.Given as goal
 
 abbrev pub invariant-loop-rest : goal.invariant-loop-rest

@@ -2,7 +2,7 @@ use Rattle.std.proofs.Common.{◌≡◌, ◌+◌, ◌-◌, ◌++◌, ◌∷◌, 
 use Rattle.std.proofs.lemmas.List.{map-append}
 use Rattle.std.proofs.lemmas.Result.{err_from_is_err_and}
 use Rattle.jp_regexp.specs.Tree.{node_of}
-use Rattle.jp_regexp.specs.Reading.{pattern_within, pattern_behind}
+use Rattle.jp_regexp.specs.inner.Reading.{pattern_within, pattern_behind}
 use Rattle.jp_regexp.proofs.NodeLemmas.{node_pieces}
 use Rattle.jp_regexp.proofs.TurnLemmas.{pattern_fails, pattern_ends, pattern_bar, pattern_piece, pattern_over}
 use Rattle.jp_regexp.proofs.read_patterns.+read_patterns.Goals as goal

@@ -1,5 +1,5 @@
 use Rattle.std.proofs.Common.{◌≡◌, ◌-◌, ◌+◌, ◌*◌, map}
-use Rattle.jp_regexp.specs.Reading.{pattern_within, pattern_behind}
+use Rattle.jp_regexp.specs.inner.Reading.{pattern_within, pattern_behind}
 use Rattle.jp_regexp.specs.Tree.{node_of}
 use Rattle.jp_regexp.proofs.read_patterns.+read_patterns.Given as goal
 

@@ -2,7 +2,7 @@ use Rattle.std.proofs.Common.{suc, length, ap, add-one, List}
 use Rattle.std.specs.Prelude.{option_map}
 use Rattle.std.proofs.lemmas.Result.{err_from_is_err_and}
 use Rattle.jp_regexp.specs.Pattern.{Text, Element, CharSet}
-use Rattle.jp_regexp.specs.Reading.{listing_at}
+use Rattle.jp_regexp.specs.inner.Reading.{listing_at}
 use Rattle.jp_regexp.proofs.TurnLemmas.{fails_map}
 use Rattle.jp_regexp.proofs.read_sets.class_of.Goals as goal
 

@@ -2,7 +2,7 @@ use Rattle.std.proofs.Common.{◌∷◌, [], map, ap, ◌∙◌}
 use Rattle.std.proofs.lemmas.List.{map-append}
 use Rattle.std.proofs.lemmas.Result.{err_from_is_err_and}
 use Rattle.jp_regexp.specs.Tree.{element_of}
-use Rattle.jp_regexp.specs.Reading.{elements_behind}
+use Rattle.jp_regexp.specs.inner.Reading.{elements_behind}
 use Rattle.jp_regexp.proofs.TurnLemmas.{element_fails, element_ends, element_last, element_more}
 use Rattle.jp_regexp.proofs.read_sets.elements_from.Goals as goal
 

@@ -1,5 +1,5 @@
 use Rattle.std.proofs.Common.{◌≡◌, ◌-◌, map}
-use Rattle.jp_regexp.specs.Reading.{elements_behind}
+use Rattle.jp_regexp.specs.inner.Reading.{elements_behind}
 use Rattle.jp_regexp.specs.Tree.{element_of}
 use Rattle.jp_regexp.proofs.read_sets.elements_from.Given as goal
 

@@ -4,8 +4,8 @@ use Rattle.jp_regexp.proofs.ProfileLemmas.{kept_size}
 use Rattle.jp_regexp.proofs.TermLemmas.{at_most_size}
 use Rattle.jp_regexp.proofs.terms.read_into.Goals as goal
 
-pub advance-requires-clause-fits : goal.advance-requires-clause-fits
-advance-requires-clause-fits c =
+pub step-requires-clause-fits : goal.step-requires-clause-fits
+step-requires-clause-fits c =
     let p = pattern_of c.args.pattern.now in
     let h = at_most_size p (kept_size p c.args.pattern.now.in_profile) in
     omega (arith, ap (λ r. r.past) c.start-at.ensures, h)

@@ -1,5 +1,5 @@
 use Rattle.jp_tree.specs.Spelling.{LogicalIs}
-use Rattle.jp_syntax.proofs.Arguments as law
+use Rattle.jp_syntax.proofs.StandingAlone as law
 use Rattle.jp_syntax.proofs.laws.arguments_stand_alone.Goals as goal
 
 pub returns-clause-query : goal.returns-clause-query

@@ -1,4 +1,4 @@
-use Rattle.jp_tokens.proofs.Endings as law
+use Rattle.jp_syntax.proofs.Endings as law
 use Rattle.jp_syntax.proofs.laws.ends_in_no_blank.Goals as goal
 
 pub returns : goal.returns

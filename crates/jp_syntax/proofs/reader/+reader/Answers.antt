@@ -2,9 +2,10 @@ use Rattle.std.proofs.Common.{ap, sym, ◌∙◌, refl, rules}
 use Rattle.std.specs.Prelude.{option_map}
 use Rattle.std.specs.Str.{chars}
 use Rattle.std.proofs.lemmas.Result.{err_from_is_err_and}
-use Rattle.jp_tokens.specs.Reading.{skip, logical_at, next_and, next_basic, segment_behind, next_item}
-use Rattle.jp_tokens.specs.Reading.{selector_at, literal_at, operator_at, argument_at, compared_behind}
-use Rattle.jp_tokens.specs.Reading.{all_of}
+use Rattle.jp_tokens.specs.Reading.{skip, literal_at, operator_at, all_of}
+use Rattle.jp_syntax.specs.inner.Reading.{logical_at, next_and, next_basic, segment_behind, next_item}
+use Rattle.jp_syntax.specs.inner.Reading.{selector_at}
+use Rattle.jp_syntax.specs.inner.Reading.{argument_at, compared_behind}
 use Rattle.jp_tree.specs.Tree as tree
 use Rattle.jp_tree.specs.View.{literal_of}
 use Rattle.jp_tree.specs.PartViews.{selectors_of, segments_of, arguments_of, logicals_of, selector_of}

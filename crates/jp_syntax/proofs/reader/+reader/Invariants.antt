@@ -2,8 +2,10 @@ use Rattle.std.proofs.Common.{◌≡◌, ◌+◌, ◌*◌, length}
 use Rattle.std.specs.Str.{chars}
 use denote.Text.{Utf8}
 use denote.Shadow.{shadow}
-use Rattle.jp_tokens.specs.Reading.{skip, logical_at, next_and, next_basic, segment_behind, next_item}
-use Rattle.jp_tokens.specs.Reading.{selector_at, argument_at, all_of}
+use Rattle.jp_tokens.specs.Reading.{skip, all_of}
+use Rattle.jp_syntax.specs.inner.Reading.{logical_at, next_and, next_basic, segment_behind, next_item}
+use Rattle.jp_syntax.specs.inner.Reading.{selector_at}
+use Rattle.jp_syntax.specs.inner.Reading.{argument_at}
 use Rattle.jp_tree.specs.PartViews.{selectors_of, segments_of, arguments_of, logicals_of}
 use Rattle.jp_syntax.proofs.reader.+reader.Given as goal
 

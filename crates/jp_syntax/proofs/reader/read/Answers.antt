@@ -1,5 +1,5 @@
 use Rattle.std.proofs.Common.{◌∙◌, sym, refl}
-use Rattle.jp_tokens.specs.Reading.{read}
+use Rattle.jp_syntax.specs.inner.Reading.{read}
 use Rattle.jp_syntax.proofs.reader.read.Goals as goal
 
 pub returns-then-not-is_end : goal.returns-then-not-is_end

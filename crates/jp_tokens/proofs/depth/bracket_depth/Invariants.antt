@@ -1,6 +1,6 @@
 use Rattle.std.proofs.Common.{◌≡◌}
 use Rattle.jp_tokens.specs.Depth as depth
-use Rattle.jp_tokens.specs.DepthView.{place_of}
+use Rattle.jp_tokens.specs.inner.DepthView.{place_of}
 use Rattle.jp_tokens.proofs.depth.bracket_depth.Given as goal
 
 abbrev pub invariant-loop-c : goal.invariant-loop-c

@@ -1,5 +1,5 @@
 use Rattle.std.proofs.Common.{◌∙◌, ap, arith, take, drop, length}
-use Rattle.jp_buffer.specs.Waiting.{bytes_of}
+use Rattle.jp_buffer.specs.inner.Waiting.{bytes_of}
 use Rattle.jp_buffer.proofs.SpanLaws.{lines_count, bytes_parts, kept_behind}
 use Rattle.jp_buffer.proofs.waiting.Waiting.take_away.Goals as goal
 

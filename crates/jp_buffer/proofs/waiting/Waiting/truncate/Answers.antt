@@ -1,5 +1,5 @@
 use Rattle.std.proofs.Common.{◌∙◌, ap, arith, take, length}
-use Rattle.jp_buffer.specs.Waiting.{bytes_of}
+use Rattle.jp_buffer.specs.inner.Waiting.{bytes_of}
 use Rattle.jp_buffer.proofs.SpanLaws.{lines_count, bytes_parts, kept_front}
 use Rattle.jp_buffer.proofs.waiting.Waiting.truncate.Goals as goal
 

@@ -2,7 +2,7 @@ use Rattle.std.proofs.Common.{rules, arith}
 use Rattle.std.proofs.Common.{◌≡◌, ℕ, ◌+◌, ◌∷◌, Vec, Global, true≢false, ap, sym, ◌∙◌, subst}
 use Rattle.std.proofs.lemmas.Grind.{common_steps}
 use Rattle.std.proofs.Math.ListN.{set}
-use Rattle.jp_doc.specs.Added.{Adds}
+use Rattle.jp_doc.specs.inner.Added.{Adds}
 use Rattle.jp_doc.specs.Feeding.{Progress, cut, numbered}
 use Rattle.jp_doc.specs.Lines.{is_blank}
 use Rattle.jp_doc.specs.declared.line.Line as code

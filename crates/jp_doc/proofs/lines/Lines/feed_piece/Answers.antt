@@ -1,6 +1,6 @@
 use Rattle.std.proofs.Common.{◌≡◌, ◌++◌, OnOk, arith, ap, sym, ◌∙◌, subst}
 use Rattle.std.proofs.lemmas.Grind.{common_steps}
-use Rattle.jp_doc.specs.Added.{Adds}
+use Rattle.jp_doc.specs.inner.Added.{Adds}
 use Rattle.jp_doc.specs.Feeding.{Progress}
 use Rattle.jp_doc.proofs.CutLaws.{feedless_both}
 use Rattle.jp_doc.proofs.FeedLaws.{open_piece, fed_ended, begins_kept}

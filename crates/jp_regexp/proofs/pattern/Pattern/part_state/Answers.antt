@@ -1,12 +1,12 @@
 use Rattle.std.proofs.Common.{arith}
 use Rattle.std.proofs.lemmas.Grind.{common_steps}
-use Rattle.jp_regexp.proofs.ProfileLemmas.{kept_starts}
+use Rattle.jp_regexp.proofs.ProfileLemmas.{kept_prefilter}
 use Rattle.jp_regexp.proofs.pattern.Pattern.part_state.Goals as goal
 
-pub behind_starts-requires-clause-right : goal.behind_starts-requires-clause-right
-behind_starts-requires-clause-right c =
+pub behind_prefiltered-requires-clause-right : goal.behind_prefiltered-requires-clause-right
+behind_prefiltered-requires-clause-right c =
     let self = c.args.self.now in
-    kept_starts self.part.cells.items self.starts.marks.items self.right_starts
+    kept_prefilter self.part.cells.items self.prefilter.flags.items self.right_prefilter
 
 pub returns-then-is_empty : goal.returns-then-is_empty
 returns-then-is_empty c = grind (arith, common_steps)

@@ -3,8 +3,8 @@ use Rattle.std.specs.Str.{chars}
 use Rattle.jp_regexp.specs.Profile.{size, InProfile, IsPatternOf}
 use Rattle.jp_regexp.specs.Tree.{node_of}
 use Rattle.jp_regexp.specs.Parts.{pattern_in}
-use Rattle.jp_regexp.proofs.StartLemmas.{no_starts}
-use Rattle.jp_regexp.proofs.TableLemmas.{no_table}
+use Rattle.jp_regexp.proofs.PrefilterLemmas.{no_prefilter}
+use Rattle.jp_regexp.proofs.DfaLemmas.{no_dfa}
 use Rattle.jp_regexp.proofs.ReadLemmas.{is_pattern, no_pattern, too_large, size_is, size_over}
 use Rattle.jp_regexp.proofs.pattern.Pattern.read.Goals as goal
 
@@ -46,10 +46,10 @@ invariant_of-result c =
       sized = c.in_ok-root-in-Ok.ensures.sized;
       in_profile = ∣ subst InProfile (sym c.in_ok-root-in-Ok.ensures.same)
           (is_pattern (chars c.args.text.now) p read (subst (λ n. n ≤ 10_000) same fits)).in_profile ∣₁;
-      whole_steps = ∣ no_table (pattern_in root) false c.new-whole.result c.new-whole.ensures.states
+      whole_steps = ∣ no_dfa (pattern_in root) false c.new-whole.result c.new-whole.ensures.states
           c.new-whole.ensures.cells ∣₁;
-      part_steps = ∣ no_table (pattern_in root) true c.new-part.result c.new-part.ensures.states
+      part_steps = ∣ no_dfa (pattern_in root) true c.new-part.result c.new-part.ensures.states
           c.new-part.ensures.cells ∣₁;
-      right_starts = ∣ no_starts c.new-part.result.cells.items c.new-starts.result.marks.items
-          c.new-starts.ensures ∣₁;
+      right_prefilter = ∣ no_prefilter c.new-part.result.cells.items c.new-prefilter.result.flags.items
+          c.new-prefilter.ensures ∣₁;
     }

@@ -1,0 +1,3 @@
+-- Working files of `jp_check`, which private clauses alone cite: nobody has to believe them.
+pub mod Making
+pub mod QuerySets

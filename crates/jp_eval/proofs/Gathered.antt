@@ -1,0 +1,60 @@
+-- Children that are gathered, and that are walked in halves.
+use Rattle.std.proofs.Common.{◌≡◌, ℕ, zero, suc, ◌≤◌, List, [], ◌∷◌, ◌++◌, take}
+use Rattle.std.proofs.Common.{drop, sym, ap, ◌∙◌, subst, arith}
+use Rattle.std.proofs.lemmas.List.{map-append}
+use Rattle.std.proofs.lemmas.List.Concat.{flat_map-append}
+use Rattle.std.specs.List.{flat_map}
+use Rattle.jp_doc.specs.Height.{height}
+use Rattle.jp_doc.specs.Location.{Location, Node}
+use Rattle.jp_part.specs.Part.{part_value}
+use Rattle.jp_eval.specs.inner.Kept.{plus}
+use Rattle.jp_nodes.specs.Kids.{kid, kids, kids_height}
+use Rattle.jp_nodes.specs.declared.children.Child.{Child}
+use Rattle.jp_eval.proofs.Keeping.{plus-append, stepped}
+
+height-push : (cs : List Child) (c : Child) (m : ℕ) → kids_height cs ≤ m
+    → suc (height (part_value c.part)) ≤ m → kids_height (cs ++ c ∷ []) ≤ m
+height-push [] c m h d = omega arith
+height-push (x ∷ cs) c m h d = let p = height-push cs c m (omega arith) d in omega arith
+
+-- one more child is no higher
+pub gathered_height : (cs more : List Child) (c : Child) (m : ℕ) → more ≡ cs ++ c ∷ []
+    → kids_height cs ≤ m → suc (height (part_value c.part)) ≤ m → kids_height more ≤ m
+gathered_height cs more c m e h d = subst (λ l. kids_height l ≤ m) (sym e) (height-push cs c m h d)
+
+-- one more child
+pub one_more : (at : Location) (cs more : List Child) (c : Child) (n : Node) → more ≡ cs ++ c ∷ []
+    → kid at c ≡ n → kids at more ≡ kids at cs ++ n ∷ []
+one_more at cs more c n e is = ap (kids at) e ∙ map-append (kid at) cs (c ∷ [])
+    ∙ ap (λ k. kids at cs ++ k ∷ []) is
+
+-- ---- halves
+
+pub front_height : (m : ℕ) (cs : List Child) → kids_height (take m cs) ≤ kids_height cs
+front_height zero cs = omega arith
+front_height (suc m) [] = omega arith
+front_height (suc m) (c ∷ cs) = let h = front_height m cs in omega arith
+
+pub back_height : (m : ℕ) (cs : List Child) → kids_height (drop m cs) ≤ kids_height cs
+back_height zero cs = omega arith
+back_height (suc m) [] = omega arith
+back_height (suc m) (c ∷ cs) = let h = back_height m cs in omega arith
+
+-- one half and then the other
+pub halves_joined : {K : Type 0} (put : K → Node → K) (f : Node → List Node) (left right all : List Node)
+    (k mid last : K) → left ++ right ≡ all → mid ≡ plus put k (flat_map f left)
+    → last ≡ plus put mid (flat_map f right) → last ≡ plus put k (flat_map f all)
+halves_joined put f left right all k mid last e first second =
+    second ∙ ap (λ j. plus put j (flat_map f right)) first
+    ∙ sym (plus-append put k (flat_map f left) (flat_map f right))
+    ∙ ap (plus put k) (sym (flat_map-append f left right) ∙ ap (flat_map f) e)
+
+-- ---- children, one by one
+
+pub kid_done : {K : Type 0} (put : K → Node → K) (f : Node → List Node) (n : Node)
+    (left others : List Node) (k mid start : K) (all : List Node) → left ≡ n ∷ others
+    → mid ≡ plus put k (f n) → plus put k (flat_map f left) ≡ plus put start all
+    → plus put mid (flat_map f others) ≡ plus put start all
+kid_done put f n left others k mid start all first e inv =
+    stepped put k mid (f n) (flat_map f others) all start e
+    (sym (ap (λ ns. plus put k (flat_map f ns)) first) ∙ inv)

@@ -1,0 +1,11 @@
+-- Working files of `jp_eval`, which private clauses alone cite: nobody has to believe them.
+pub mod Aggregates
+pub mod Along
+pub mod Base
+pub mod Different
+pub mod Kept
+pub mod Links
+pub mod Rooted
+pub mod Rows
+pub mod Walk
+pub mod Finding

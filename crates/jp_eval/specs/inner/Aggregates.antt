@@ -1,0 +1,29 @@
+-- A step of a proof, which nobody has to believe who asks what a query selects: what a filter is told of
+-- nodes.
+use Rattle.std.specs.Prelude.{Bool, true, false, ◌==◌, List, length, option_map}
+use Rattle.jp_doc.specs.Location.{Node}
+use Rattle.jp_compiled.specs.declared.query.Want.{Want}
+use Rattle.jp_compiled.specs.declared.query.Want.TheVariants as want
+use Rattle.jp_value.specs.Comparison.{eq}
+use Rattle.jp_value.specs.Functions.{first_value, only_value}
+use Rattle.jp_eval.specs.inner.Different.{is_different}
+use Rattle.jp_eval.specs.inner.Kept.{alone_of, alone_value}
+use Rattle.jp_part.specs.Part.{part_value}
+use Rattle.jp_eval.specs.declared.aggregates.Aggregate.{Aggregate}
+use Rattle.jp_eval.specs.declared.aggregates.Aggregate.TheVariants.{First, Count, Only, Distinct}
+
+-- an answer tells what is wanted of these nodes
+abbrev pub tells : Want → List Node → Aggregate → Bool
+tells want.First ns (First o) = eq (option_map part_value o) (first_value ns)
+tells want.Count ns (Count n) = n == length ns
+tells want.Only ns (Only a) = eq (alone_value (alone_of a)) (only_value ns)
+tells want.Distinct ns (Distinct d) = is_different d ns
+tells _ ns _ = false
+
+-- an answer to what is wanted, be it right or wrong
+abbrev pub is_of : Want → Aggregate → Bool
+is_of want.First (First o) = true
+is_of want.Count (Count n) = true
+is_of want.Only (Only a) = true
+is_of want.Distinct (Distinct d) = true
+is_of _ _ = false

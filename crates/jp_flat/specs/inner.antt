@@ -1,0 +1,3 @@
+-- Working files of `jp_flat`, which private clauses alone cite: nobody has to believe them.
+pub mod Above
+pub mod Plain

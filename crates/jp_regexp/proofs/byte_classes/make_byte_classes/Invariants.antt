@@ -1,0 +1,10 @@
+use Rattle.std.proofs.Common.{◌≡◌, length}
+use Rattle.jp_regexp.specs.inner.Equivalence.{AreFirst}
+use Rattle.jp_regexp.specs.Parts.{unrolled_in}
+use Rattle.jp_regexp.proofs.byte_classes.make_byte_classes.Given as goal
+
+abbrev pub invariant-loop-code : goal.invariant-loop-code
+invariant-loop-code l = record {
+  many : length l.first.items ≡ l.code;
+  right : AreFirst (unrolled_in l.root) l.first.items;
+}

@@ -1,0 +1,7 @@
+-- Working files of `jp_regexp`, which private clauses alone cite: nobody has to believe them.
+pub mod Dfa
+pub mod Equivalence
+pub mod Gives
+pub mod Prefilter
+pub mod Reading
+pub mod Simulation

@@ -1,0 +1,25 @@
+//! What a DFA is made of.
+
+ghost use Rattle.std.specs.Prelude.{◌≤◌, IsTrue};
+ghost use Rattle.jp_regexp.specs.inner.Equivalence.{AreByteClasses};
+ghost use Rattle.jp_regexp.specs.Parts.{meaning, unrolled_in};
+ghost use Rattle.jp_regexp.specs.Profile.{max_size};
+ghost use Rattle.jp_regexp.specs.Unrolled.{letters};
+
+use crate::byte_classes::ByteClasses;
+use crate::parts::Part;
+
+/// What a DFA is made of.
+#[derive(Clone, Copy)]
+pub struct DfaInput<'a> {
+    pub root: &'a Part,
+    pub classes: &'a ByteClasses,
+    /// Whether a match may begin behind each character, and not at the start alone.
+    pub unanchored: bool,
+    /// How many states there are at most.
+    pub most: usize,
+    ghost sized: { IsTrue (meaning root.now).is_sized },
+    ghost fits: { letters (unrolled_in root.now) ≤ max_size },
+    ghost equivalent: { ∥ AreByteClasses (unrolled_in root.now) classes.now ∥₁ },
+    ghost room: { most ≤ 254 },
+}

@@ -1,8 +1,0 @@
-//! Characters that are compared.
-
-/// Two characters, or all that are not of ASCII.
-#[derive(Clone, Copy)]
-pub enum Those {
-    Both(char, char),
-    PastAscii,
-}

@@ -1,7 +1,0 @@
-use Rattle.std.proofs.Common.{refl, sym}
-use Rattle.jp_tokens.specs.Reading.{tested_at}
-use Rattle.jp_tokens.proofs.sides.tested_at.Goals as goal
-
-pub returns-in-Some : goal.returns-in-Some
-unfolding tested_at
-returns-in-Some c = rw (sym c.as_test.ensures, c.in-Some.is) refl

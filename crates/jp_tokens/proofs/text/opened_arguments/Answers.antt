@@ -1,5 +1,0 @@
-use Rattle.std.proofs.Common.{rules}
-use Rattle.jp_tokens.proofs.text.opened_arguments.Goals as goal
-
-pub returns : goal.returns
-returns c = search rules
