@@ -16,7 +16,7 @@ use Rattle.jp_compiled.proofs.query.Slice.TheSendSync as slices
 use Rattle.jp_compiled.proofs.query.Want.TheSendSync as wants
 use Rattle.jp_compiled.proofs.query.Form.TheSendSync as forms
 use Rattle.jp_compiled.proofs.query.Logical.TheLaws.TheKnot.{crosses as ready_crosses}
-use Rattle.jp_regexp.proofs.parts.Part.TheLaws.TheKnot.{crosses as pattern_crosses}
+use Rattle.jp_regexp.proofs.expressions.Expression.TheLaws.TheKnot.{crosses as pattern_crosses}
 use Rattle.jp_tree.proofs.tree.Argument.TheLaws.TheKnot.{crosses as tree_crosses}
 
 pub known_sync : IsSync Known.the_row

@@ -19,7 +19,7 @@ use Rattle.jp_compiled.proofs.query.Position.TheSendSync as positions
 use Rattle.jp_compiled.proofs.query.Slice.TheSendSync as slices
 use Rattle.jp_compiled.proofs.query.Form.TheSendSync as forms
 use Rattle.jp_compiled.proofs.query.Logical.TheLaws.TheKnot.{crosses as ready_crosses}
-use Rattle.jp_regexp.proofs.parts.Part.TheLaws.TheKnot.{crosses as pattern_crosses}
+use Rattle.jp_regexp.proofs.expressions.Expression.TheLaws.TheKnot.{crosses as pattern_crosses}
 use Rattle.jp_trail.proofs.link.Link.TheSendSync as links
 use Rattle.std.proofs.MapsCrossing.{crosses as map_crosses}
 use Rattle.serde_json.proofs.number.Number.TheSendSync as numbers

@@ -8,19 +8,19 @@ use Rattle.jp_regexp.specs.declared.tree.CharSet.{CharSet as HeldSet}
 use Rattle.jp_regexp.specs.declared.tree.CharSet.TheVariants as held
 use Rattle.jp_regexp.specs.declared.tree.Element.{Element as HeldElement}
 use Rattle.jp_regexp.specs.Tree.{element_of, set_of}
-use Rattle.jp_regexp.specs.declared.parts.Part.{Part}
+use Rattle.jp_regexp.specs.declared.expressions.Expression.{Expression}
 use Rattle.jp_regexp.specs.declared.candidate.Candidate.{Candidate}
 use Rattle.jp_regexp.specs.declared.candidate.Candidate.TheVariants as candidate
 use Rattle.jp_regexp.specs.inner.Equivalence.{Equivalent, EquivalentInAll, IsAscii, EquivalentInSet}
 use Rattle.jp_regexp.specs.CharSets.{in_element, is_scalar}
-use Rattle.jp_regexp.specs.Parts.{before_last_of, in_turn_of, meaning, pattern_in, unrolled_in}
+use Rattle.jp_regexp.specs.Expressions.{before_last_of, in_turn_of, meaning, pattern_in, unrolled_in}
 use Rattle.jp_regexp.specs.Pattern.{CharSet, Element, Pattern}
 use Rattle.jp_regexp.specs.Unrolled.{Unrolled, counted, counted_on, letter, letters, maybe, nothing, plus}
 use Rattle.jp_regexp.specs.Unrolled.{seq, unrolled}
 use Rattle.jp_regexp.specs.Unrolled as u
 use Rattle.jp_regexp.specs.inner.Simulation.{exits}
-use Rattle.jp_regexp.specs.declared.parts.Part.TheVariants.{Pieces, Branches, Repeat}
-use Rattle.jp_regexp.proofs.MeaningLemmas.{part_pieces, part_branches, part_repeat}
+use Rattle.jp_regexp.specs.declared.expressions.Expression.TheVariants.{Pieces, Branches, Repeat}
+use Rattle.jp_regexp.proofs.MeaningLemmas.{expression_pieces, expression_branches, expression_repeat}
 
 module _ (candidate : Candidate) where
   equivalent_nothing : Equivalent nothing candidate
@@ -79,66 +79,74 @@ module _ (candidate : Candidate) where
   equivalent_repeat p one least None = equivalent_counted_on (unrolled p) one least
   equivalent_repeat p one least (Some most) = equivalent_counted (unrolled p) one least most
 
-  -- the first of the parts, and the others
-  first_equivalent : (part : Part) (parts : List Part) → EquivalentInAll (part ∷ parts) candidate →
-      Equivalent (unrolled_in part)
+  -- the first of the expressions, and the others
+  first_equivalent : (expression : Expression) (expressions : List Expression) →
+      EquivalentInAll (expression ∷ expressions) candidate →
+      Equivalent (unrolled_in expression)
       candidate
-  first_equivalent part parts of = of.each 0 part (omega arith)
+  first_equivalent expression expressions of = of.each 0 expression (omega arith)
 
-  others_equivalent : (part : Part) (parts : List Part) → EquivalentInAll (part ∷ parts) candidate →
-      EquivalentInAll parts candidate
-  others_equivalent part parts of = record { each = λ k x lt. of.each (suc k) x (omega arith) }
+  others_equivalent : (expression : Expression) (expressions : List Expression) →
+      EquivalentInAll (expression ∷ expressions) candidate →
+      EquivalentInAll expressions candidate
+  others_equivalent expression expressions of = record { each = λ k x lt. of.each (suc k) x (omega arith) }
 
-  pub equivalent_turn : (parts : List Part) → EquivalentInAll parts candidate → Equivalent
-      (unrolled (in_turn_of (map meaning parts))) candidate
+  pub equivalent_turn : (expressions : List Expression) → EquivalentInAll expressions candidate → Equivalent
+      (unrolled (in_turn_of (map meaning expressions))) candidate
   equivalent_turn [] of = equivalent_nothing
-  equivalent_turn (part ∷ parts) of =
-      equivalent_seq (unrolled_in part) (unrolled (in_turn_of (map meaning parts)))
-      (first_equivalent part parts of)
-      (equivalent_turn parts (others_equivalent part parts of))
+  equivalent_turn (expression ∷ expressions) of =
+      equivalent_seq (unrolled_in expression) (unrolled (in_turn_of (map meaning expressions)))
+      (first_equivalent expression expressions of)
+      (equivalent_turn expressions (others_equivalent expression expressions of))
 
-  pub equivalent_before : (parts : List Part) (q : Pattern) → EquivalentInAll parts candidate →
+  pub equivalent_before : (expressions : List Expression) (q : Pattern) →
+      EquivalentInAll expressions candidate →
       Equivalent (unrolled q) candidate →
-      Equivalent (unrolled (before_last_of (map meaning parts) q)) candidate
+      Equivalent (unrolled (before_last_of (map meaning expressions) q)) candidate
   equivalent_before [] q of last = last
-  equivalent_before (part ∷ parts) q of last =
-      equivalent_either (unrolled_in part) (unrolled (before_last_of (map meaning parts) q))
-      (first_equivalent part parts of)
-      (equivalent_before parts q (others_equivalent part parts of) last)
+  equivalent_before (expression ∷ expressions) q of last =
+      equivalent_either (unrolled_in expression) (unrolled (before_last_of (map meaning expressions) q))
+      (first_equivalent expression expressions of)
+      (equivalent_before expressions q (others_equivalent expression expressions of) last)
 
-  -- ---- parts of each kind
+  -- ---- expressions of each kind
 
   pub equivalent_as : (p q : Pattern) → p ≡ q → Equivalent (unrolled q) candidate →
       Equivalent (unrolled p) candidate
   equivalent_as p q e of = subst (λ r. Equivalent (unrolled r) candidate) (sym e) of
 
-  pub equivalent_pieces : (part : Part) (n : ℕ) (pieces : Vec Part Global) (xs : List Part) → part ≡ Pieces n
+  pub equivalent_pieces : (expression : Expression) (n : ℕ) (pieces : Vec Expression Global)
+      (xs : List Expression) → expression ≡ Pieces n
       pieces → xs ≡ pieces.items →
-      EquivalentInAll xs candidate → Equivalent (unrolled_in part) candidate
-  equivalent_pieces part n pieces xs is items of =
-      equivalent_as (pattern_in part) (in_turn_of (map meaning pieces.items))
-      (ap pattern_in is ∙ ap (λ m. m.pattern) (part_pieces n pieces))
+      EquivalentInAll xs candidate → Equivalent (unrolled_in expression) candidate
+  equivalent_pieces expression n pieces xs is items of =
+      equivalent_as (pattern_in expression) (in_turn_of (map meaning pieces.items))
+      (ap pattern_in is ∙ ap (λ m. m.pattern) (expression_pieces n pieces))
       (equivalent_turn pieces.items (subst (λ ys. EquivalentInAll ys candidate) items of))
 
-  pub equivalent_branches : (part : Part) (n : ℕ) (before : Vec Part Global) (last : Box Part Global)
-      (xs : List Part) (x : Part) →
-      part ≡ Branches n before last → xs ≡ before.items → x ≡ last.value →
+  pub equivalent_branches : (expression : Expression) (n : ℕ) (before : Vec Expression Global)
+      (last : Box Expression Global)
+      (xs : List Expression) (x : Expression) →
+      expression ≡ Branches n before last → xs ≡ before.items → x ≡ last.value →
       EquivalentInAll xs candidate → Equivalent
       (unrolled_in x) candidate →
-      Equivalent (unrolled_in part) candidate
-  equivalent_branches part n before last xs x is items value of one =
-      equivalent_as (pattern_in part) (before_last_of (map meaning before.items) (pattern_in last.value))
-      (ap pattern_in is ∙ ap (λ m. m.pattern) (part_branches n before last))
+      Equivalent (unrolled_in expression) candidate
+  equivalent_branches expression n before last xs x is items value of one =
+      equivalent_as (pattern_in expression)
+      (before_last_of (map meaning before.items) (pattern_in last.value))
+      (ap pattern_in is ∙ ap (λ m. m.pattern) (expression_branches n before last))
       (equivalent_before before.items (pattern_in last.value)
       (subst (λ ys. EquivalentInAll ys candidate) items of)
       (subst (λ y. Equivalent (unrolled_in y) candidate) value one))
 
-  pub equivalent_copies : (part : Part) (n least : ℕ) (most : Option ℕ) (atom : Box Part Global) (x : Part) →
-      part ≡ Repeat n least most atom → x ≡ atom.value → Equivalent (unrolled_in x) candidate → Equivalent
-      (unrolled_in part) candidate
-  equivalent_copies part n least most atom x is value one =
-      equivalent_as (pattern_in part) (Pattern.repeat least most (pattern_in atom.value))
-      (ap pattern_in is ∙ ap (λ m. m.pattern) (part_repeat n least most atom))
+  pub equivalent_copies : (expression : Expression) (n least : ℕ) (most : Option ℕ)
+      (atom : Box Expression Global) (x : Expression) →
+      expression ≡ Repeat n least most atom → x ≡ atom.value → Equivalent (unrolled_in x) candidate →
+      Equivalent
+      (unrolled_in expression) candidate
+  equivalent_copies expression n least most atom x is value one =
+      equivalent_as (pattern_in expression) (Pattern.repeat least most (pattern_in atom.value))
+      (ap pattern_in is ∙ ap (λ m. m.pattern) (expression_repeat n least most atom))
       (equivalent_repeat (pattern_in atom.value) (subst (λ y. Equivalent (unrolled_in y) candidate) value
       one) least most)
 

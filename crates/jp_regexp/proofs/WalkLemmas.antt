@@ -1,10 +1,10 @@
--- A walk over a part, from the walks over its parts.
+-- A walk over an expression, from the walks over its expressions.
 use Rattle.std.proofs.Common.{◌≡◌, ℕ, zero, suc, ◌+◌, ◌-◌, ◌*◌, ◌≤◌, ◌<◌, Bool, true, false, ◌&&◌, ◌||◌}
 use Rattle.std.proofs.Common.{nat_le, List, [], ◌∷◌, map, drop, get_or, length, drop-cons, refl, sym, ap, ap₂}
 use Rattle.std.proofs.Common.{◌∙◌, subst, arith, IsTrue, mul-le-mul_right}
 use Rattle.jp_regexp.specs.declared.cursor.Cursor.{Cursor}
-use Rattle.jp_regexp.specs.declared.parts.Part.{Part}
-use Rattle.jp_regexp.specs.Parts.{meaning, in_turn_of, unrolled_in, unrolled_in_turn, branches_before}
+use Rattle.jp_regexp.specs.declared.expressions.Expression.{Expression}
+use Rattle.jp_regexp.specs.Expressions.{meaning, in_turn_of, unrolled_in, unrolled_in_turn, branches_before}
 use Rattle.jp_regexp.specs.Unrolled.{Unrolled, unrolled, nothing, seq, either, plus, counted, counted_on}
 use Rattle.jp_regexp.specs.Unrolled.{letters}
 use Rattle.jp_regexp.specs.inner.Simulation.{exits, is_elem, Inactive, IsAt, IsWalk, or_entered, entered_as}
@@ -16,31 +16,38 @@ or_assoc : (x y z : Bool) → ((x || y) || z) ≡ (x || (y || z))
 or_assoc true y z = refl
 or_assoc false y z = refl
 
-pub drop_none : (parts : List Part) (i : ℕ) → length parts ≤ i → drop i parts ≡ []
+pub drop_none : (expressions : List Expression) (i : ℕ) → length expressions ≤ i → drop i expressions ≡ []
 drop_none [] zero le = refl
 drop_none [] (suc i) le = refl
-drop_none (x ∷ parts) zero le = absurd (omega arith)
-drop_none (x ∷ parts) (suc i) le = drop_none parts i (omega arith)
+drop_none (x ∷ expressions) zero le = absurd (omega arith)
+drop_none (x ∷ expressions) (suc i) le = drop_none expressions i (omega arith)
 
--- one part more of a list
-one_more : (parts : List Part) (i : ℕ) (part : Part) → i < length parts → part ≡ get_or parts i part →
-    map meaning (drop i parts) ≡ meaning part ∷ map meaning (drop (i + 1) parts)
-one_more parts i part lt e =
+-- one expression more of a list
+one_more : (expressions : List Expression) (i : ℕ) (expression : Expression) → i < length expressions →
+    expression ≡ get_or expressions i expression →
+    map meaning (drop i expressions) ≡ meaning expression ∷ map meaning (drop (i + 1) expressions)
+one_more expressions i expression lt e =
     let back : suc i ≡ i + 1 = omega arith in
-    ap (map meaning) (drop-cons parts i part lt ∙ ap (λ x. x ∷ drop (suc i) parts) (sym e)
-    ∙ ap (λ n. part ∷ drop n parts) back)
+    ap (map meaning) (drop-cons expressions i expression lt ∙ ap (λ x. x ∷ drop (suc i) expressions) (sym e)
+    ∙ ap (λ n. expression ∷ drop n expressions) back)
 
-pub piece_next : (parts : List Part) (i : ℕ) (part : Part) → i < length parts → part ≡ get_or parts i part →
-    unrolled_in_turn (drop i parts) ≡ seq (unrolled_in part) (unrolled_in_turn (drop (i + 1) parts))
-piece_next parts i part lt e = ap (λ ms. unrolled (in_turn_of ms)) (one_more parts i part lt e)
+pub piece_next : (expressions : List Expression) (i : ℕ) (expression : Expression) → i < length expressions →
+    expression ≡ get_or expressions i expression →
+    unrolled_in_turn (drop i expressions)
+    ≡ seq (unrolled_in expression) (unrolled_in_turn (drop (i + 1) expressions))
+piece_next expressions i expression lt e =
+    ap (λ ms. unrolled (in_turn_of ms)) (one_more expressions i expression lt e)
 
-pub branch_next : (parts : List Part) (q : Unrolled) (i : ℕ) (part : Part) → i < length parts
-    → part ≡ get_or parts i part →
-    branches_before (drop i parts) q ≡ either (unrolled_in part) (branches_before (drop (i + 1) parts) q)
-branch_next parts q i part lt e =
+pub branch_next : (expressions : List Expression) (q : Unrolled) (i : ℕ) (expression : Expression) →
+    i < length expressions
+    → expression ≡ get_or expressions i expression →
+    branches_before (drop i expressions) q
+    ≡ either (unrolled_in expression) (branches_before (drop (i + 1) expressions) q)
+branch_next expressions q i expression lt e =
     let back : suc i ≡ i + 1 = omega arith in
-    ap (λ ps. branches_before ps q) (drop-cons parts i part lt ∙ ap (λ x. x ∷ drop (suc i) parts) (sym e)
-    ∙ ap (λ n. part ∷ drop n parts) back)
+    ap (λ ps. branches_before ps q) (drop-cons expressions i expression lt
+    ∙ ap (λ x. x ∷ drop (suc i) expressions) (sym e)
+    ∙ ap (λ n. expression ∷ drop n expressions) back)
 
 module _ (positions : List ℕ) where
   pub nothing_walk : (x : Cursor) → IsAt positions x.past x.index → IsWalk positions nothing x x

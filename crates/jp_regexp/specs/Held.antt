@@ -4,7 +4,7 @@ use Rattle.jp_regexp.specs.declared.pattern.Pattern.{Pattern as HeldPattern}
 use Rattle.jp_regexp.specs.Pattern.{Text, Pattern}
 use Rattle.jp_regexp.specs.Language.{Member}
 use Rattle.jp_regexp.specs.Profile.{IsPatternOf}
-use Rattle.jp_regexp.specs.Parts.{pattern_in}
+use Rattle.jp_regexp.specs.Expressions.{pattern_in}
 
 -- the pattern that was read (RFC 9485, 3)
 abbrev pub pattern_of : HeldPattern → Pattern

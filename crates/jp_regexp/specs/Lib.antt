@@ -1,9 +1,9 @@
 pub mod CategoryNames
 pub mod CharSetShape
 pub mod CharSets
+pub mod Expressions
 pub mod Held
 pub mod Language
-pub mod Parts
 pub mod Pattern
 pub mod Profile
 pub mod Quantity

@@ -2,12 +2,12 @@
 
 ghost use Rattle.std.specs.Prelude.{◌≤◌, IfOk};
 ghost use Rattle.jp_regexp.specs.inner.Equivalence.{Equivalent, AreByteClasses};
-ghost use Rattle.jp_regexp.specs.Parts.{unrolled_in};
+ghost use Rattle.jp_regexp.specs.Expressions.{unrolled_in};
 ghost use Rattle.jp_regexp.specs.declared.candidate.Candidate.TheVariants as candidate;
 
 use crate::candidate::Candidate;
 use crate::equivalence::are_equivalent;
-use crate::parts::Part;
+use crate::expressions::Expression;
 use std::alloc::{AllocError, Global};
 
 /// Which characters are equivalent to a pattern, as columns of a DFA see them.
@@ -24,7 +24,7 @@ pub struct ByteClasses {
 /// # Errors
 ///
 /// Memory ran out.
-pub fn make_byte_classes(alloc: Global, root: &Part) -> Result<ByteClasses, AllocError>
+pub fn make_byte_classes(alloc: Global, root: &Expression) -> Result<ByteClasses, AllocError>
     ensures { IfOk result (λ classes. AreByteClasses (unrolled_in root.now) classes) }
 {
     let mut first = Vec::new(alloc);
@@ -36,7 +36,7 @@ pub fn make_byte_classes(alloc: Global, root: &Part) -> Result<ByteClasses, Allo
 }
 
 /// The representative of the class of the one before, or of the class of 0, where this one is equivalent.
-fn first_equivalent(root: &Part, first: &[u8], code: u8) -> u8
+fn first_equivalent(root: &Expression, first: &[u8], code: u8) -> u8
     ensures first { result ≤ code }
     ensures equivalent { Equivalent (unrolled_in root.now) (candidate.Both result code) }
 {

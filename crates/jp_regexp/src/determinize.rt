@@ -4,7 +4,7 @@
 ghost use Rattle.std.specs.Prelude.{◌≡◌, ◌+◌, ◌*◌, ◌<◌, ◌≤◌, [], true, IfOk, IfSome, OnOk, IsTrue, length};
 ghost use Rattle.std.specs.Prelude.{slice_index_or};
 ghost use Rattle.jp_regexp.specs.CharSets.{is_scalar};
-ghost use Rattle.jp_regexp.specs.Parts.{unrolled_in};
+ghost use Rattle.jp_regexp.specs.Expressions.{unrolled_in};
 ghost use Rattle.jp_regexp.specs.inner.Dfa.{AreStates, Grows, HasPositions, IsCell, IsCellOf, IsDfa, IsDfaOf};
 
 use crate::dfa::{
@@ -14,7 +14,7 @@ use crate::dfa_input::DfaInput;
 use std::alloc::{AllocError, Global};
 
 /// How many states a DFA has at most: their numbers are below the other cells.
-pub const MOST_STATES: usize = 254;
+pub const MAX_STATES: usize = 254;
 
 /// Whether the state has these positions and no others.
 fn has_positions(state: &State, active: &[u32], at_start: bool) -> bool
@@ -141,7 +141,7 @@ pub fn make_dfa(alloc: Global, input: DfaInput<'_>) -> Result<Dfa, AllocError>
     let mut states = Vec::new(alloc);
     let mut cells = Vec::new(alloc);
     states.push(state_of(input.root, Vec::new(alloc), true))?;
-    for i in 0..MOST_STATES {
+    for i in 0..MAX_STATES {
         if i >= states.len() {
             break;
         }

@@ -2,14 +2,14 @@
 
 ghost use Rattle.std.specs.Prelude.{◌≡◌, ◌+◌, ◌*◌, ◌<◌, ◌≤◌, [], true, false, drop, IfOk, IfSome, IsTrue};
 ghost use Rattle.std.specs.Prelude.{length};
-ghost use Rattle.jp_regexp.specs.Parts.{meaning, unrolled_in};
+ghost use Rattle.jp_regexp.specs.Expressions.{meaning, unrolled_in};
 ghost use Rattle.jp_regexp.specs.Profile.{max_size};
 ghost use Rattle.jp_regexp.specs.Unrolled.{letters};
 ghost use Rattle.jp_regexp.specs.inner.Simulation.{step, is_elem, exits, Rises};
 
 use crate::cursor::Cursor;
 use crate::exit::exit;
-use crate::parts::Part;
+use crate::expressions::Expression;
 use crate::prefilter::Prefilter;
 use crate::step::step;
 use std::alloc::{AllocError, Global};
@@ -185,7 +185,7 @@ impl Dfa {
 }
 
 /// The state of these positions.
-pub fn state_of(root: &Part, active: Vec<u32>, at_start: bool) -> State
+pub fn state_of(root: &Expression, active: Vec<u32>, at_start: bool) -> State
     requires sized { IsTrue (meaning root.now).is_sized }
     requires fits { letters (unrolled_in root.now) ≤ max_size }
     requires rises { Rises 0 active.items }
@@ -204,7 +204,7 @@ pub fn state_of(root: &Part, active: Vec<u32>, at_start: bool) -> State
 /// The positions behind a character.
 pub fn positions_behind(
     alloc: Global,
-    root: &Part,
+    root: &Expression,
     state: &State,
     c: char,
 ) -> Result<Vec<u32>, AllocError>

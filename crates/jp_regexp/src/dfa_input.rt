@@ -2,17 +2,17 @@
 
 ghost use Rattle.std.specs.Prelude.{◌≤◌, IsTrue};
 ghost use Rattle.jp_regexp.specs.inner.Equivalence.{AreByteClasses};
-ghost use Rattle.jp_regexp.specs.Parts.{meaning, unrolled_in};
+ghost use Rattle.jp_regexp.specs.Expressions.{meaning, unrolled_in};
 ghost use Rattle.jp_regexp.specs.Profile.{max_size};
 ghost use Rattle.jp_regexp.specs.Unrolled.{letters};
 
 use crate::byte_classes::ByteClasses;
-use crate::parts::Part;
+use crate::expressions::Expression;
 
 /// What a DFA is made of.
 #[derive(Clone, Copy)]
 pub struct DfaInput<'a> {
-    pub root: &'a Part,
+    pub root: &'a Expression,
     pub classes: &'a ByteClasses,
     /// Whether a match may begin behind each character, and not at the start alone.
     pub unanchored: bool,

@@ -2,38 +2,38 @@
 
 ghost use Rattle.std.specs.Prelude.{◌≡◌, ℕ, ◌<◌, IsTrue, length, slice_index_or};
 ghost use Rattle.jp_regexp.specs.inner.Equivalence.{EquivalentInAll, Equivalent, IsAscii, EquivalentInSet};
-ghost use Rattle.jp_regexp.specs.Parts.{unrolled_in};
+ghost use Rattle.jp_regexp.specs.Expressions.{unrolled_in};
 ghost use Rattle.jp_regexp.specs.Tree.{element_of, set_of};
 
 use crate::candidate::Candidate;
-use crate::parts::Part;
+use crate::expressions::Expression;
 use crate::sets::in_set;
 use crate::tree::{CharSet, Element};
 
-/// Whether each set of characters of the part holds all characters of the candidate or none of them.
+/// Whether each set of characters of the expression holds all characters of the candidate or none of them.
 #[cycle(are_equivalent)]
-pub fn are_equivalent(part: &Part, candidate: Candidate) -> bool
-    ensures { IsTrue result → Equivalent (unrolled_in part.now) candidate }
+pub fn are_equivalent(expression: &Expression, candidate: Candidate) -> bool
+    ensures { IsTrue result → Equivalent (unrolled_in expression.now) candidate }
 {
-    match part {
-        Part::Set(set) => are_equivalent_in_set(set, candidate),
-        Part::Group { sub, .. } => are_equivalent(sub, candidate),
-        Part::Pieces { pieces, .. } => are_equivalent_in_all(pieces, candidate),
-        Part::Branches { before, last, .. } => {
+    match expression {
+        Expression::Set(set) => are_equivalent_in_set(set, candidate),
+        Expression::Group { sub, .. } => are_equivalent(sub, candidate),
+        Expression::Pieces { pieces, .. } => are_equivalent_in_all(pieces, candidate),
+        Expression::Branches { before, last, .. } => {
             are_equivalent_in_all(before, candidate) && are_equivalent(last, candidate)
         }
-        Part::Repeat { atom, .. } => are_equivalent(atom, candidate),
-        Part::Plus { atom, .. } => are_equivalent(atom, candidate),
+        Expression::Repeat { atom, .. } => are_equivalent(atom, candidate),
+        Expression::Plus { atom, .. } => are_equivalent(atom, candidate),
     }
 }
 
-/// The same of each of the parts.
+/// The same of each of the expressions.
 #[cycle(are_equivalent)]
-fn are_equivalent_in_all(parts: &[Part], candidate: Candidate) -> bool
-    ensures { IsTrue result → EquivalentInAll parts.now candidate }
+fn are_equivalent_in_all(expressions: &[Expression], candidate: Candidate) -> bool
+    ensures { IsTrue result → EquivalentInAll expressions.now candidate }
 {
-    for part in parts {
-        if !are_equivalent(part, candidate) {
+    for expression in expressions {
+        if !are_equivalent(expression, candidate) {
             return false;
         }
     }

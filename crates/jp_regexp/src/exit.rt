@@ -1,15 +1,16 @@
-//! Whether the end of a part is reached without reading: its start is reached and it is nullable, or one of
-//! its last positions is active.
+//! Whether the end of an expression is reached without reading: its start is reached and it is nullable, or
+//! one of its last positions is active.
 
 ghost use Rattle.std.specs.Prelude.{◌≡◌, ◌+◌, ◌<◌, ◌≤◌, ◌&&◌, ◌||◌, nat_le, map, IsTrue};
-ghost use Rattle.jp_regexp.specs.Parts.{all_sized, meaning, branches_before, unrolled_in, unrolled_in_turn};
-ghost use Rattle.jp_regexp.specs.Parts.{unrolled_repeat};
+ghost use Rattle.jp_regexp.specs.Expressions.{all_sized, meaning, branches_before, unrolled_in};
+ghost use Rattle.jp_regexp.specs.Expressions.{unrolled_in_turn};
+ghost use Rattle.jp_regexp.specs.Expressions.{unrolled_repeat};
 ghost use Rattle.jp_regexp.specs.Profile.{max_size};
 ghost use Rattle.jp_regexp.specs.Unrolled.{counted, counted_on, letters, nothing};
 ghost use Rattle.jp_regexp.specs.inner.Simulation.{IsAt, IsWalk, IsWalkBefore};
 
 use crate::cursor::{Cursor, behind_set, idle_copies, passed};
-use crate::parts::Part;
+use crate::expressions::Expression;
 
 /// Whether the least number of copies is done where the walk has reached the next.
 pub fn may_stop(done: u32, least: u32, entered: bool) -> bool
@@ -24,39 +25,39 @@ pub fn either(a: bool, b: bool) -> bool
     a || b
 }
 
-/// The cursor behind the part; it is entered where the end of the part is reached.
+/// The cursor behind the expression; it is entered where the end of the expression is reached.
 #[cycle(exit)]
-pub fn exit(part: &Part, active: &[u32], at: Cursor) -> Cursor
-    requires sized { IsTrue (meaning part.now).is_sized }
-    requires fits { at.past + letters (unrolled_in part.now) ≤ max_size }
+pub fn exit(expression: &Expression, active: &[u32], at: Cursor) -> Cursor
+    requires sized { IsTrue (meaning expression.now).is_sized }
+    requires fits { at.past + letters (unrolled_in expression.now) ≤ max_size }
     requires stands { IsAt active.now at.past at.index }
-    ensures { IsWalk active.now (unrolled_in part.now) at result }
+    ensures { IsWalk active.now (unrolled_in expression.now) at result }
 {
-    if let Some(behind) = passed(active, at, part.size()) {
+    if let Some(behind) = passed(active, at, expression.size()) {
         return behind;
     }
-    match part {
-        Part::Set(_) => behind_set(active, at),
-        Part::Group { sub, .. } => exit(sub, active, at),
-        Part::Pieces { size, pieces } => exit_in_turn(pieces, active, at, at.past + *size),
-        Part::Branches { before, last, .. } => {
+    match expression {
+        Expression::Set(_) => behind_set(active, at),
+        Expression::Group { sub, .. } => exit(sub, active, at),
+        Expression::Pieces { size, pieces } => exit_in_turn(pieces, active, at, at.past + *size),
+        Expression::Branches { before, last, .. } => {
             let others = exit_before(before, active, at);
             let behind = exit(last, active, others.with_entered(at.entered));
             behind.with_entered(either(others.entered, behind.entered))
         }
-        Part::Repeat {
+        Expression::Repeat {
             least,
             most,
             atom,
             ..
         } => exit_repeated(atom, active, at, *least, *most),
-        Part::Plus { atom, .. } => exit(atom, active, at),
+        Expression::Plus { atom, .. } => exit(atom, active, at),
     }
 }
 
 /// Behind the pieces, which end at this number of positions.
 #[cycle(exit)]
-fn exit_in_turn(pieces: &[Part], active: &[u32], at: Cursor, end: u32) -> Cursor
+fn exit_in_turn(pieces: &[Expression], active: &[u32], at: Cursor, end: u32) -> Cursor
     requires sized { IsTrue (all_sized (map meaning pieces.now)) }
     requires ends { end ≡ at.past + letters (unrolled_in_turn pieces.now) }
     requires fits { end ≤ max_size }
@@ -75,7 +76,7 @@ fn exit_in_turn(pieces: &[Part], active: &[u32], at: Cursor, end: u32) -> Cursor
 
 /// Behind branches that others follow; whether the end of one of them is reached.
 #[cycle(exit)]
-fn exit_before(branches: &[Part], active: &[u32], at: Cursor) -> Cursor
+fn exit_before(branches: &[Expression], active: &[u32], at: Cursor) -> Cursor
     requires sized { IsTrue (all_sized (map meaning branches.now)) }
     requires fits { at.past + letters (branches_before branches.now nothing) ≤ max_size }
     requires stands { IsAt active.now at.past at.index }
@@ -91,7 +92,13 @@ fn exit_before(branches: &[Part], active: &[u32], at: Cursor) -> Cursor
 
 /// Behind the copies of a repetition.
 #[cycle(exit)]
-fn exit_repeated(atom: &Part, active: &[u32], at: Cursor, least: u32, most: Option<u32>) -> Cursor
+fn exit_repeated(
+    atom: &Expression,
+    active: &[u32],
+    at: Cursor,
+    least: u32,
+    most: Option<u32>,
+) -> Cursor
     requires sized { IsTrue (meaning atom.now).is_sized }
     requires some { 0 < letters (unrolled_in atom.now) }
     requires fits { at.past + letters (unrolled_repeat least most atom.now) ≤ max_size }
@@ -106,7 +113,7 @@ fn exit_repeated(atom: &Part, active: &[u32], at: Cursor, least: u32, most: Opti
 
 /// Behind the copies of `{least,most}`.
 #[cycle(exit)]
-fn exit_counted(atom: &Part, active: &[u32], at: Cursor, least: u32, most: u32) -> Cursor
+fn exit_counted(atom: &Expression, active: &[u32], at: Cursor, least: u32, most: u32) -> Cursor
     requires sized { IsTrue (meaning atom.now).is_sized }
     requires some { 0 < letters (unrolled_in atom.now) }
     requires fits { at.past + letters (counted least most (unrolled_in atom.now)) ≤ max_size }
@@ -134,7 +141,7 @@ fn exit_counted(atom: &Part, active: &[u32], at: Cursor, least: u32, most: u32) 
 
 /// Behind the copies of `{least,}`.
 #[cycle(exit)]
-fn exit_counted_on(atom: &Part, active: &[u32], at: Cursor, least: u32) -> Cursor
+fn exit_counted_on(atom: &Expression, active: &[u32], at: Cursor, least: u32) -> Cursor
     requires sized { IsTrue (meaning atom.now).is_sized }
     requires some { 0 < letters (unrolled_in atom.now) }
     requires fits { at.past + letters (counted_on least (unrolled_in atom.now)) ≤ max_size }

@@ -1,7 +1,7 @@
 //! A pattern that was read.
 
 ghost use Rattle.std.specs.Prelude.{IsTrue, false, true};
-ghost use Rattle.jp_regexp.specs.Parts.{meaning, pattern_in, unrolled_in};
+ghost use Rattle.jp_regexp.specs.Expressions.{meaning, pattern_in, unrolled_in};
 ghost use Rattle.jp_regexp.specs.Profile.{InProfile};
 ghost use Rattle.jp_regexp.specs.inner.Prefilter.{IsPrefilter};
 ghost use Rattle.jp_regexp.specs.inner.Dfa.{IsDfa};
@@ -12,13 +12,13 @@ mod matching;
 mod reading;
 
 use crate::dfa::Dfa;
-use crate::parts::Part;
+use crate::expressions::Expression;
 use crate::prefilter::Prefilter;
 
 /// An I-Regexp within the limits of this implementation (RFC 9485).
 #[derive(Drop)]
 pub struct Pattern {
-    pub(crate) root: Part,
+    pub(crate) root: Expression,
     /// The DFA by which a whole text is read; it has states only in a pattern that was compiled.
     pub(crate) whole: Dfa,
     /// The unanchored DFA by which a part is looked for.

@@ -10,10 +10,10 @@ use crate::dfa::{Dfa, STRIDE};
 use std::alloc::{AllocError, Global};
 
 /// How many pairs of states are compared at most.
-const MOST_PAIRS: usize = 256;
+const MAX_PAIRS: usize = 256;
 
 /// How many characters of ASCII may be flagged at that of the three bytes where the fewest are.
-const MOST_FLAGGED: usize = 16;
+const MAX_FLAGGED: usize = 16;
 
 /// The flags of each byte, or none where they would tell too little.
 #[derive(Drop)]
@@ -133,7 +133,7 @@ fn pairs_behind_two(
 {
     let mut pairs = Vec::new(alloc);
     for pair in ones {
-        if pairs.len() > MOST_PAIRS {
+        if pairs.len() > MAX_PAIRS {
             return Ok(None);
         }
         add_behind(dfa, *pair, &mut pairs)?;
@@ -193,5 +193,5 @@ fn tell_enough(flags: &[ByteFlags]) -> bool
     let first = ascii.iter().filter(|one| one.first != 0).count();
     let second = ascii.iter().filter(|one| one.second != 0).count();
     let third = ascii.iter().filter(|one| one.third != 0).count();
-    first.min(second).min(third) <= MOST_FLAGGED
+    first.min(second).min(third) <= MAX_FLAGGED
 }

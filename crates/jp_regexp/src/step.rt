@@ -1,67 +1,69 @@
-//! A step of the simulation: which positions a character leads to, from the start of a part where that is
-//! reached, and from its active positions. A step goes over the tree once.
+//! A step of the simulation: which positions a character leads to, from the start of an expression where that
+//! is reached, and from its active positions. A step goes over the tree once.
 
 ghost use Rattle.std.specs.Prelude.{◌≡◌, ◌+◌, ◌<◌, ◌≤◌, ◌||◌, false, map, IfOk, IsTrue};
-ghost use Rattle.jp_regexp.specs.Parts.{all_sized, meaning, branches_before, unrolled_in, unrolled_in_turn};
-ghost use Rattle.jp_regexp.specs.Parts.{unrolled_repeat};
+ghost use Rattle.jp_regexp.specs.Expressions.{all_sized, meaning, branches_before, unrolled_in};
+ghost use Rattle.jp_regexp.specs.Expressions.{unrolled_in_turn};
+ghost use Rattle.jp_regexp.specs.Expressions.{unrolled_repeat};
 ghost use Rattle.jp_regexp.specs.Profile.{max_size};
 ghost use Rattle.jp_regexp.specs.Unrolled.{counted, counted_on, letters, nothing, plus};
 ghost use Rattle.jp_regexp.specs.inner.Simulation.{is_elem, exits, IsAt, IsStep, IsStepBefore};
 
 use crate::cursor::{Cursor, behind_set, idle_copies, passed};
 use crate::exit::{either, exit, may_stop};
-use crate::parts::Part;
+use crate::expressions::Expression;
 use crate::step_sets::{step_set, step_set_copies};
 use std::alloc::AllocError;
 
-/// The cursor behind the part; the positions of the part that are read next are put behind the others.
+/// The cursor behind the expression; the positions of the expression that are read next are put behind the
+/// others.
 ///
 /// # Errors
 ///
 /// Memory ran out.
 #[cycle(step)]
 pub fn step(
-    part: &Part,
+    expression: &Expression,
     active: &[u32],
     c: char,
     at: Cursor,
     out: &mut Vec<u32>,
 ) -> Result<Cursor, AllocError>
-    requires sized { IsTrue (meaning part.now).is_sized }
-    requires fits { at.past + letters (unrolled_in part.now) ≤ max_size }
+    requires sized { IsTrue (meaning expression.now).is_sized }
+    requires fits { at.past + letters (unrolled_in expression.now) ≤ max_size }
     requires stands { IsAt active.now at.past at.index }
-    ensures { IfOk result (λ end. IsStep active.now c (unrolled_in part.now) at end out.old.items
+    ensures { IfOk result (λ end. IsStep active.now c (unrolled_in expression.now) at end out.old.items
         out.new.items) }
 {
-    if let Some(behind) = passed(active, at, part.size()) {
+    if let Some(behind) = passed(active, at, expression.size()) {
         return Ok(behind);
     }
-    match part {
-        Part::Set(set) => Ok(step_set(set, active, c, at, out)?),
-        Part::Group { sub, .. } => Ok(step(sub, active, c, at, out)?),
-        Part::Pieces { size, pieces } => {
+    match expression {
+        Expression::Set(set) => Ok(step_set(set, active, c, at, out)?),
+        Expression::Group { sub, .. } => Ok(step(sub, active, c, at, out)?),
+        Expression::Pieces { size, pieces } => {
             let end = at.past + *size;
             Ok(step_in_turn(pieces, active, c, at, end, out)?)
         }
-        Part::Branches { before, last, .. } => {
+        Expression::Branches { before, last, .. } => {
             let others = step_before(before, active, c, at, out)?;
             let behind = step(last, active, c, others.with_entered(at.entered), out)?;
             Ok(behind.with_entered(either(others.entered, behind.entered)))
         }
-        Part::Repeat {
+        Expression::Repeat {
             least,
             most,
             atom,
             ..
         } => Ok(step_repeated(atom, active, c, at, *least, *most, out)?),
-        Part::Plus { atom, .. } => Ok(step_plus(atom, active, c, at, out)?),
+        Expression::Plus { atom, .. } => Ok(step_plus(atom, active, c, at, out)?),
     }
 }
 
 /// Behind the pieces, which end at this number of positions.
 #[cycle(step)]
 fn step_in_turn(
-    pieces: &[Part],
+    pieces: &[Expression],
     active: &[u32],
     c: char,
     at: Cursor,
@@ -88,7 +90,7 @@ fn step_in_turn(
 /// Behind branches that others follow; whether the end of one of them is reached.
 #[cycle(step)]
 fn step_before(
-    branches: &[Part],
+    branches: &[Expression],
     active: &[u32],
     c: char,
     at: Cursor,
@@ -110,7 +112,7 @@ fn step_before(
 /// Behind the copies of a repetition.
 #[cycle(step)]
 fn step_repeated(
-    atom: &Part,
+    atom: &Expression,
     active: &[u32],
     c: char,
     at: Cursor,
@@ -129,7 +131,7 @@ fn step_repeated(
         return Ok(step_counted_on(atom, active, c, at, least, out)?);
     };
     match atom {
-        Part::Set(set) => Ok(step_set_copies(set, active, c, at, least, most, out)?),
+        Expression::Set(set) => Ok(step_set_copies(set, active, c, at, least, most, out)?),
         _ => Ok(step_counted(atom, active, c, at, least, most, out)?),
     }
 }
@@ -137,7 +139,7 @@ fn step_repeated(
 /// Behind the copies of `{least,most}`.
 #[cycle(step)]
 fn step_counted(
-    atom: &Part,
+    atom: &Expression,
     active: &[u32],
     c: char,
     at: Cursor,
@@ -174,7 +176,7 @@ fn step_counted(
 /// Behind the copies of `{least,}`.
 #[cycle(step)]
 fn step_counted_on(
-    atom: &Part,
+    atom: &Expression,
     active: &[u32],
     c: char,
     at: Cursor,
@@ -209,7 +211,7 @@ fn step_counted_on(
 /// Behind a copy that may be repeated: its start is reached again where its end is.
 #[cycle(step)]
 fn step_plus(
-    atom: &Part,
+    atom: &Expression,
     active: &[u32],
     c: char,
     at: Cursor,
@@ -226,7 +228,7 @@ fn step_plus(
 }
 
 /// Whether the start of a copy that may be repeated is reached.
-fn is_entered_again(atom: &Part, active: &[u32], at: Cursor) -> bool
+fn is_entered_again(atom: &Expression, active: &[u32], at: Cursor) -> bool
     requires sized { IsTrue (meaning atom.now).is_sized }
     requires fits { at.past + letters (unrolled_in atom.now) ≤ max_size }
     requires stands { IsAt active.now at.past at.index }

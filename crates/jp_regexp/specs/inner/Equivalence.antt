@@ -2,11 +2,11 @@
 -- contract names it.
 use Rattle.std.specs.Prelude.{◌≡◌, ℕ, ◌<◌, ◌≤◌, Bool, true, List, IsTrue, length, slice_index_or}
 use Rattle.jp_regexp.specs.declared.byte_classes.ByteClasses.{ByteClasses}
-use Rattle.jp_regexp.specs.declared.parts.Part.{Part}
+use Rattle.jp_regexp.specs.declared.expressions.Expression.{Expression}
 use Rattle.jp_regexp.specs.declared.candidate.Candidate.{Candidate}
 use Rattle.jp_regexp.specs.declared.candidate.Candidate.TheVariants as candidate
 use Rattle.jp_regexp.specs.CharSets.{in_set, is_scalar}
-use Rattle.jp_regexp.specs.Parts.{unrolled_in}
+use Rattle.jp_regexp.specs.Expressions.{unrolled_in}
 use Rattle.jp_regexp.specs.Pattern.{CharSet, Element}
 use Rattle.jp_regexp.specs.Unrolled.{Unrolled}
 use Rattle.jp_regexp.specs.inner.Simulation.{step}
@@ -25,9 +25,10 @@ pub record Equivalent (p : Unrolled) (candidate : Candidate) : Type 0 where
   pub reads : (c d : ℕ) → AreOf candidate c d → (active : ℕ → Bool) (off : ℕ) (entered : Bool) →
       step active c p off entered ≡ step active d p off entered
 
--- each of the parts
-pub record EquivalentInAll (parts : List Part) (candidate : Candidate) : Type 0 where
-  pub each : (k : ℕ) (part : Part) → k < length parts → Equivalent (unrolled_in (slice_index_or parts k part))
+-- each of the expressions
+pub record EquivalentInAll (expressions : List Expression) (candidate : Candidate) : Type 0 where
+  pub each : (k : ℕ) (expression : Expression) → k < length expressions →
+      Equivalent (unrolled_in (slice_index_or expressions k expression))
       candidate
 
 -- an element of a class that holds ASCII characters alone

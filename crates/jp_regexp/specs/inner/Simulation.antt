@@ -5,8 +5,8 @@ use Rattle.std.specs.Prelude.{◌∷◌, ◌++◌, ⊤, nat_eq, nat_le, nat_lt, 
 use Rattle.std.specs.Prelude.{slice_index_or}
 use Rattle.std.specs.Coded.{×_prop, Unit-prop, le_prop}
 use Rattle.jp_regexp.specs.declared.cursor.Cursor.{Cursor}
-use Rattle.jp_regexp.specs.declared.parts.Part.{Part}
-use Rattle.jp_regexp.specs.Parts.{branches_before}
+use Rattle.jp_regexp.specs.declared.expressions.Expression.{Expression}
+use Rattle.jp_regexp.specs.Expressions.{branches_before}
 use Rattle.jp_regexp.specs.Pattern.{CharSet}
 use Rattle.jp_regexp.specs.CharSets.{in_set}
 use Rattle.jp_regexp.specs.Unrolled.{Unrolled, nothing, letter, seq, either, maybe, plus, letters}
@@ -100,15 +100,15 @@ abbrev pub entered_as : Bool → Cursor → Cursor
 entered_as b at = record { past = at.past; index = at.index; entered = b }
 
 -- where a walk over branches leads that others follow
-pub record IsWalkBefore (positions : List ℕ) (parts : List Part) (old new : Cursor) : Type 0 where
-  pub past : new.past ≡ old.past + letters (branches_before parts nothing)
+pub record IsWalkBefore (positions : List ℕ) (expressions : List Expression) (old new : Cursor) : Type 0 where
+  pub past : new.past ≡ old.past + letters (branches_before expressions nothing)
   pub stands : IsAt positions new.past new.index
   pub leads : (q : Unrolled) (r : Cursor) → IsWalk positions q (entered_as old.entered new) r →
-      IsWalk positions (branches_before parts q) old (or_entered new.entered r)
+      IsWalk positions (branches_before expressions q) old (or_entered new.entered r)
 
 -- the same, and which positions of them are read next by c
-pub record IsStepBefore (positions : List ℕ) (c : ℕ) (parts : List Part) (old new : Cursor)
+pub record IsStepBefore (positions : List ℕ) (c : ℕ) (expressions : List Expression) (old new : Cursor)
     (before after : List ℕ) : Type 0 where
-  pub walk : IsWalkBefore positions parts old new
+  pub walk : IsWalkBefore positions expressions old new
   pub reads : (q : Unrolled) → after ++ step (is_elem positions) c q new.past old.entered
-      ≡ before ++ step (is_elem positions) c (branches_before parts q) old.past old.entered
+      ≡ before ++ step (is_elem positions) c (branches_before expressions q) old.past old.entered

@@ -3,17 +3,17 @@
 ghost use Rattle.std.specs.Prelude.{◌≡◌, ◌≤◌, IfOk, IsTrue, false, true};
 ghost use Rattle.std.specs.Str.{chars};
 ghost use Rattle.jp_regexp.specs.Held.{IsRead, pattern_of};
-ghost use Rattle.jp_regexp.specs.Parts.{meaning, unrolled_in};
+ghost use Rattle.jp_regexp.specs.Expressions.{meaning, unrolled_in};
 ghost use Rattle.jp_regexp.specs.Profile.{max_size};
 ghost use Rattle.jp_regexp.specs.inner.Dfa.{IsDfa};
 ghost use Rattle.jp_regexp.specs.Unrolled.{letters};
 
 use crate::byte_classes::make_byte_classes;
-use crate::determinize::{MOST_STATES, make_dfa};
+use crate::determinize::{MAX_STATES, make_dfa};
 use crate::dfa::Dfa;
 use crate::dfa_input::DfaInput;
+use crate::expressions::{Expression, expression_of};
 use crate::fault::Fault;
-use crate::parts::{Part, part_of};
 use crate::pattern::Pattern;
 use crate::pattern::matching::characters;
 use crate::prefilter::{Prefilter, make_prefilter};
@@ -41,7 +41,7 @@ impl Pattern {
             Err(Fault::Memory) => Err(AllocError),
             Err(Fault::NoPattern) => Ok(None),
             Ok(node) => {
-                let root = part_of(alloc, node)?;
+                let root = expression_of(alloc, node)?;
                 if root.size() > MAX_SIZE {
                     return Ok(None);
                 }
@@ -95,7 +95,7 @@ impl Pattern {
 }
 
 /// The DFAs of a pattern: of whole texts, and of parts that are looked for.
-fn dfas_of(alloc: Global, root: &Part) -> Result<(Dfa, Dfa), AllocError>
+fn dfas_of(alloc: Global, root: &Expression) -> Result<(Dfa, Dfa), AllocError>
     requires sized { IsTrue (meaning root.now).is_sized }
     requires fits { letters (unrolled_in root.now) ≤ max_size }
     ensures whole { IfOk result (λ made. IsDfa (unrolled_in root.now) false made.0) }
@@ -123,5 +123,5 @@ fn dfas_of(alloc: Global, root: &Part) -> Result<(Dfa, Dfa), AllocError>
 fn most_states(size: u32) -> usize
     ensures { result ≤ 254 }
 {
-    (STATES_BY_SIZE / size.max(1)).min(MOST_STATES as u32) as usize
+    (STATES_BY_SIZE / size.max(1)).min(MAX_STATES as u32) as usize
 }

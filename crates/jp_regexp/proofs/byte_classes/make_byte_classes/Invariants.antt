@@ -1,6 +1,6 @@
 use Rattle.std.proofs.Common.{◌≡◌, length}
 use Rattle.jp_regexp.specs.inner.Equivalence.{AreFirst}
-use Rattle.jp_regexp.specs.Parts.{unrolled_in}
+use Rattle.jp_regexp.specs.Expressions.{unrolled_in}
 use Rattle.jp_regexp.proofs.byte_classes.make_byte_classes.Given as goal
 
 abbrev pub invariant-loop-code : goal.invariant-loop-code

@@ -1,5 +1,5 @@
 use Rattle.std.proofs.Common.{arith}
-use Rattle.jp_regexp.specs.Parts.{unrolled_in}
+use Rattle.jp_regexp.specs.Expressions.{unrolled_in}
 use Rattle.jp_regexp.proofs.StateLemmas.{dfa_more}
 use Rattle.jp_regexp.proofs.determinize.add_row.Goals as goal
 

@@ -1,5 +1,5 @@
 use Rattle.std.proofs.Common.{◌≡◌, ◌+◌, ◌*◌, ◌<◌, ◌≤◌, length}
-use Rattle.jp_regexp.specs.Parts.{unrolled_in}
+use Rattle.jp_regexp.specs.Expressions.{unrolled_in}
 use Rattle.jp_regexp.specs.inner.Dfa.{IsDfaOf}
 use Rattle.jp_regexp.proofs.determinize.add_row.Given as goal
 

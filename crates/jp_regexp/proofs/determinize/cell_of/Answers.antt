@@ -1,6 +1,6 @@
 use Rattle.std.proofs.Common.{arith, ap, ◌∙◌, sym}
 use Rattle.std.proofs.lemmas.Grind.{common_steps}
-use Rattle.jp_regexp.specs.Parts.{unrolled_in}
+use Rattle.jp_regexp.specs.Expressions.{unrolled_in}
 use Rattle.jp_regexp.specs.inner.Simulation.{is_elem, exits}
 use Rattle.jp_regexp.proofs.StateLemmas.{grows_more, state_with}
 use Rattle.jp_regexp.proofs.determinize.cell_of.Goals as goal

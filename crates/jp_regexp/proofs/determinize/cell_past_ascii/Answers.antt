@@ -1,5 +1,5 @@
 use Rattle.std.proofs.Common.{arith}
-use Rattle.jp_regexp.specs.Parts.{unrolled_in}
+use Rattle.jp_regexp.specs.Expressions.{unrolled_in}
 use Rattle.jp_regexp.proofs.ProfileLemmas.{kept_classes}
 use Rattle.jp_regexp.proofs.StateLemmas.{cell_past}
 use Rattle.jp_regexp.proofs.determinize.cell_past_ascii.Goals as goal

@@ -1,6 +1,6 @@
 use Rattle.std.proofs.Common.{◌+◌, ◌*◌, ◌<◌, length, sym, subst, arith}
 use Rattle.std.proofs.lemmas.Grind.{get_or_default_zero}
-use Rattle.jp_regexp.specs.Parts.{unrolled_in}
+use Rattle.jp_regexp.specs.Expressions.{unrolled_in}
 use Rattle.jp_regexp.specs.inner.Dfa.{IsCellOf}
 use Rattle.jp_regexp.specs.inner.Equivalence.{Equivalent}
 use Rattle.jp_regexp.specs.declared.candidate.Candidate.TheVariants as candidate

@@ -1,5 +1,5 @@
 use Rattle.std.proofs.Common.{ap}
-use Rattle.jp_regexp.specs.Parts.{unrolled_in}
+use Rattle.jp_regexp.specs.Expressions.{unrolled_in}
 use Rattle.jp_regexp.proofs.StateLemmas.{reads_rises}
 use Rattle.jp_regexp.proofs.dfa.positions_behind.Goals as goal
 

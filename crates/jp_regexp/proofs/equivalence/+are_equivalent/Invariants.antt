@@ -1,9 +1,11 @@
 use Rattle.std.proofs.Common.{ℕ, ◌<◌, slice_index_or}
-use Rattle.jp_regexp.specs.declared.parts.Part.{Part}
+use Rattle.jp_regexp.specs.declared.expressions.Expression.{Expression}
 use Rattle.jp_regexp.specs.inner.Equivalence.{Equivalent}
-use Rattle.jp_regexp.specs.Parts.{unrolled_in}
+use Rattle.jp_regexp.specs.Expressions.{unrolled_in}
 use Rattle.jp_regexp.proofs.equivalence.+are_equivalent.Given as goal
 
-abbrev pub invariant-are_equivalent_in_all-loop-part : goal.invariant-are_equivalent_in_all-loop-part
-invariant-are_equivalent_in_all-loop-part l =
-    (k : ℕ) (x : Part) → k < l.part-index → Equivalent (unrolled_in (slice_index_or l.parts k x)) l.candidate
+abbrev pub invariant-are_equivalent_in_all-loop-expression
+    : goal.invariant-are_equivalent_in_all-loop-expression
+invariant-are_equivalent_in_all-loop-expression l =
+    (k : ℕ) (x : Expression) → k < l.expression-index →
+    Equivalent (unrolled_in (slice_index_or l.expressions k x)) l.candidate

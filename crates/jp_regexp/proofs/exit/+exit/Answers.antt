@@ -1,8 +1,8 @@
 use Rattle.std.proofs.Common.{rules, ◌≡◌, ◌+◌, ◌-◌, ◌*◌, ◌≤◌, ◌||◌, drop, refl, sym, ap, ◌∙◌, subst, arith}
 use Rattle.std.proofs.lemmas.Grind.{common_steps}
-use Rattle.jp_regexp.specs.declared.parts.Part.{the_lemmas}
+use Rattle.jp_regexp.specs.declared.expressions.Expression.{the_lemmas}
 use Rattle.jp_regexp.specs.Tree.{set_of}
-use Rattle.jp_regexp.specs.Parts.{pattern_in, branches_before, unrolled_in, unrolled_in_turn}
+use Rattle.jp_regexp.specs.Expressions.{pattern_in, branches_before, unrolled_in, unrolled_in_turn}
 use Rattle.jp_regexp.specs.Unrolled.{Unrolled, counted, counted_on, letters, nothing}
 use Rattle.jp_regexp.specs.inner.Simulation.{IsAt, IsWalk, or_entered, entered_as}
 use Rattle.jp_regexp.proofs.KindLemmas.{exact, set_same, known_pieces, known_branches, known_repeat}
@@ -15,36 +15,36 @@ use Rattle.jp_regexp.proofs.WalkLemmas.{total_skipped_on}
 use Rattle.jp_regexp.proofs.CopyLemmas.{counted-letters, open-letters}
 use Rattle.jp_regexp.proofs.exit.+exit.Goals as goal
 
--- ---- a part
+-- ---- an expression
 
 pub exit-passed-requires-clause-fits : goal.exit-passed-requires-clause-fits
 exit-passed-requires-clause-fits t c =
-    let e = exact c.size.result (pattern_in c.args.part.now) c.size.ensures
+    let e = exact c.size.result (pattern_in c.args.expression.now) c.size.ensures
     (omega (arith, c.requires.fits)) in
     omega (arith, e, c.requires.fits)
 
 pub exit-returns-in-Some : goal.exit-returns-in-Some
 exit-returns-in-Some t c =
-    let e = exact c.size.result (pattern_in c.args.part.now) c.size.ensures
+    let e = exact c.size.result (pattern_in c.args.expression.now) c.size.ensures
     (omega (arith, c.requires.fits)) in
-    c.in-Some.ensures.passed.walk (unrolled_in c.args.part.now) (sym e)
+    c.in-Some.ensures.passed.walk (unrolled_in c.args.expression.now) (sym e)
 
 pub exit-returns-in-Set : goal.exit-returns-in-Set
 exit-returns-in-Set t c =
     subst (λ p. IsWalk c.args.active.now p c.args.at c.behind_set.result)
-    (set_same c.args.part.now c.in-Set.field-0 c.in-Set.is)
+    (set_same c.args.expression.now c.in-Set.field-0 c.in-Set.is)
     (c.behind_set.ensures (set_of c.in-Set.field-0))
 
 pub exit-overflow_add-at : goal.exit-overflow_add-at
 exit-overflow_add-at t c =
-    let k = known_pieces c.args.part.now c.in-Pieces.size c.in-Pieces.pieces c.in-Pieces.pieces.items
+    let k = known_pieces c.args.expression.now c.in-Pieces.size c.in-Pieces.pieces c.in-Pieces.pieces.items
     c.in-Pieces.is refl c.requires.sized (omega (arith, c.requires.fits)) in
     omega (arith, k.size, ap letters k.same, c.requires.fits)
 
 pub exit-exit_in_turn-requires : goal.exit-exit_in_turn-requires
 exit-exit_in_turn-requires t c = (
   search (rules, the_lemmas),
-  let k = known_pieces c.args.part.now c.in-Pieces.size c.in-Pieces.pieces c.deref-in-Pieces.result.now
+  let k = known_pieces c.args.expression.now c.in-Pieces.size c.in-Pieces.pieces c.deref-in-Pieces.result.now
       c.in-Pieces.is c.deref-in-Pieces.ensures.value c.requires.sized (omega (arith, c.requires.fits)) in (
         k.sized,
         (
@@ -57,7 +57,7 @@ exit-exit_in_turn-requires t c = (
 pub exit-exit_before-others-requires : goal.exit-exit_before-others-requires
 exit-exit_before-others-requires t c = (
   search (rules, the_lemmas),
-  let k = known_branches c.args.part.now c.in-Branches.size c.in-Branches.before c.in-Branches.last
+  let k = known_branches c.args.expression.now c.in-Branches.size c.in-Branches.before c.in-Branches.last
       c.deref-in-Branches.result.now c.in-Branches.last.value c.in-Branches.is
       c.deref-in-Branches.ensures.value refl c.requires.sized in
       (k.all_sized, (omega (arith, k.size, c.requires.fits), c.requires.stands)),
@@ -66,7 +66,7 @@ exit-exit_before-others-requires t c = (
 pub exit-exit-behind-requires : goal.exit-exit-behind-requires
 exit-exit-behind-requires t c = (
   search (rules, the_lemmas),
-  let k = known_branches c.args.part.now c.in-Branches.size c.in-Branches.before c.in-Branches.last
+  let k = known_branches c.args.expression.now c.in-Branches.size c.in-Branches.before c.in-Branches.last
       c.deref-in-Branches.result.now c.deref-in-Branches-2.result.now c.in-Branches.is
       c.deref-in-Branches.ensures.value c.deref-in-Branches-2.ensures c.requires.sized in
       let e = ap (λ r. r.past) c.with_entered.ensures in (
@@ -82,7 +82,7 @@ exit-exit-behind-requires t c = (
 pub exit-returns-in-Branches : goal.exit-returns-in-Branches
 exit-returns-in-Branches t c =
     let active = c.args.active.now in
-    let k = known_branches c.args.part.now c.in-Branches.size c.in-Branches.before c.in-Branches.last
+    let k = known_branches c.args.expression.now c.in-Branches.size c.in-Branches.before c.in-Branches.last
     c.deref-in-Branches.result.now c.deref-in-Branches-2.result.now c.in-Branches.is
     c.deref-in-Branches.ensures.value c.deref-in-Branches-2.ensures c.requires.sized in
     let last = unrolled_in c.deref-in-Branches-2.result.now in
@@ -98,7 +98,8 @@ exit-returns-in-Branches t c =
 pub exit-exit_repeated-requires : goal.exit-exit_repeated-requires
 exit-exit_repeated-requires t c = (
   search (rules, the_lemmas),
-  let k = known_repeat c.args.part.now c.in-Repeat.size c.in-Repeat.least c.in-Repeat.most c.in-Repeat.atom
+  let k = known_repeat c.args.expression.now c.in-Repeat.size c.in-Repeat.least c.in-Repeat.most
+      c.in-Repeat.atom
       c.deref-in-Repeat.result.now c.size.result c.in-Repeat.is c.deref-in-Repeat.ensures c.requires.sized
       c.size.ensures c.in_default.ensures.entered in
       (k.sized, (k.some, (omega (arith, ap letters k.same, c.requires.fits), c.requires.stands))),

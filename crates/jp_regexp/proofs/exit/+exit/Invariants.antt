@@ -1,6 +1,6 @@
 use Rattle.std.proofs.Common.{◌≡◌, ◌+◌, ◌-◌, ◌≤◌, drop}
 use Rattle.jp_regexp.specs.declared.cursor.Cursor.{Cursor}
-use Rattle.jp_regexp.specs.Parts.{branches_before, unrolled_in, unrolled_in_turn}
+use Rattle.jp_regexp.specs.Expressions.{branches_before, unrolled_in, unrolled_in_turn}
 use Rattle.jp_regexp.specs.Unrolled.{Unrolled, counted, counted_on, letters, nothing}
 use Rattle.jp_regexp.specs.inner.Simulation.{IsAt, IsWalk, or_entered, entered_as}
 use Rattle.jp_regexp.proofs.exit.+exit.Given as goal

@@ -1,8 +1,9 @@
 use Rattle.std.proofs.Common.{rules, ◌≡◌, ◌+◌, ◌-◌, ◌*◌, ◌≤◌, false, ◌||◌, ◌++◌, append-nil, drop, refl, sym}
 use Rattle.std.proofs.Common.{ap, ◌∙◌, subst, arith}
-use Rattle.jp_regexp.specs.declared.parts.Part.{the_lemmas}
+use Rattle.jp_regexp.specs.declared.expressions.Expression.{the_lemmas}
 use Rattle.jp_regexp.proofs.UnrolledLemmas.{letters-counted}
-use Rattle.jp_regexp.specs.Parts.{pattern_in, branches_before, unrolled_in, unrolled_in_turn, unrolled_repeat}
+use Rattle.jp_regexp.specs.Expressions.{pattern_in, branches_before, unrolled_in, unrolled_in_turn}
+use Rattle.jp_regexp.specs.Expressions.{unrolled_repeat}
 use Rattle.jp_regexp.specs.Unrolled.{Unrolled, counted, counted_on, letters, nothing}
 use Rattle.jp_regexp.specs.inner.Simulation.{step, is_elem, exits, IsAt, IsStep, IsWalk, or_entered}
 use Rattle.jp_regexp.specs.inner.Simulation.{entered_as}
@@ -19,41 +20,41 @@ use Rattle.jp_regexp.proofs.ReadsLemmas.{end_reads, passed_reads, seq_reads, eit
 use Rattle.jp_regexp.proofs.ReadsLemmas.{copy_on_reads, skip_reads, skip_on_reads}
 use Rattle.jp_regexp.proofs.StepLemmas.{exits_again}
 
--- ---- a part
+-- ---- an expression
 
 pub step-passed-requires-clause-fits : goal.step-passed-requires-clause-fits
 step-passed-requires-clause-fits t c =
-    let e = exact c.size.result (pattern_in c.args.part.now) c.size.ensures
+    let e = exact c.size.result (pattern_in c.args.expression.now) c.size.ensures
     (omega (arith, c.requires.fits)) in
     omega (arith, e, c.requires.fits)
 
 pub step-returns-in-Some : goal.step-returns-in-Some
 step-returns-in-Some t c =
-    let e = exact c.size.result (pattern_in c.args.part.now) c.size.ensures
+    let e = exact c.size.result (pattern_in c.args.expression.now) c.size.ensures
     (omega (arith, c.requires.fits)) in
     record {
-      walk = c.in-Some.ensures.passed.walk (unrolled_in c.args.part.now) (sym e);
+      walk = c.in-Some.ensures.passed.walk (unrolled_in c.args.expression.now) (sym e);
       reads = sym (append-nil c.args.out.now.items)
           ∙ ap (λ xs. c.args.out.now.items ++ xs)
-          (sym (c.in-Some.ensures.passed.reads (unrolled_in c.args.part.now) c.args.c (sym e)));
+          (sym (c.in-Some.ensures.passed.reads (unrolled_in c.args.expression.now) c.args.c (sym e)));
     }
 
 pub step-returns-in_ok-step_set-in-Set : goal.step-returns-in_ok-step_set-in-Set
 step-returns-in_ok-step_set-in-Set t c =
     subst (λ p. IsStep c.args.active.now c.args.c p c.args.at c.in_ok-step_set-in-Set.field-0
     c.args.out.now.items c.step_set.new.out.items)
-    (set_same c.args.part.now c.in-Set.set c.in-Set.is) c.in_ok-step_set-in-Set.ensures
+    (set_same c.args.expression.now c.in-Set.set c.in-Set.is) c.in_ok-step_set-in-Set.ensures
 
 pub step-overflow_add-end : goal.step-overflow_add-end
 step-overflow_add-end t c =
-    let k = known_pieces c.args.part.now c.in-Pieces.size c.in-Pieces.pieces c.in-Pieces.pieces.items
+    let k = known_pieces c.args.expression.now c.in-Pieces.size c.in-Pieces.pieces c.in-Pieces.pieces.items
     c.in-Pieces.is refl c.requires.sized (omega (arith, c.requires.fits)) in
     omega (arith, k.size, ap letters k.same, c.requires.fits)
 
 pub step-step_in_turn-requires : goal.step-step_in_turn-requires
 step-step_in_turn-requires t c = (
   search (rules, the_lemmas),
-  let k = known_pieces c.args.part.now c.in-Pieces.size c.in-Pieces.pieces c.deref-in-Pieces.result.now
+  let k = known_pieces c.args.expression.now c.in-Pieces.size c.in-Pieces.pieces c.deref-in-Pieces.result.now
       c.in-Pieces.is c.deref-in-Pieces.ensures.value c.requires.sized (omega (arith, c.requires.fits)) in (
         k.sized,
         (
@@ -66,7 +67,7 @@ step-step_in_turn-requires t c = (
 pub step-step_before-requires : goal.step-step_before-requires
 step-step_before-requires t c = (
   search (rules, the_lemmas),
-  let k = known_branches c.args.part.now c.in-Branches.size c.in-Branches.before c.in-Branches.last
+  let k = known_branches c.args.expression.now c.in-Branches.size c.in-Branches.before c.in-Branches.last
       c.deref-in-Branches.result.now c.in-Branches.last.value c.in-Branches.is
       c.deref-in-Branches.ensures.value refl c.requires.sized in
       (k.all_sized, (omega (arith, k.size, c.requires.fits), c.requires.stands)),
@@ -75,7 +76,7 @@ step-step_before-requires t c = (
 pub step-step-requires-in-Branches : goal.step-step-requires-in-Branches
 step-step-requires-in-Branches t c = (
   search (rules, the_lemmas),
-  let k = known_branches c.args.part.now c.in-Branches.size c.in-Branches.before c.in-Branches.last
+  let k = known_branches c.args.expression.now c.in-Branches.size c.in-Branches.before c.in-Branches.last
       c.deref-in-Branches.result.now c.deref-in-Branches-2.result.now c.in-Branches.is
       c.deref-in-Branches.ensures.value c.deref-in-Branches-2.ensures c.requires.sized in
       let e = ap (λ r. r.past) c.with_entered.ensures in (
@@ -91,7 +92,7 @@ step-step-requires-in-Branches t c = (
 pub step-returns-in_ok-behind-in-Branches : goal.step-returns-in_ok-behind-in-Branches
 step-returns-in_ok-behind-in-Branches t c =
     let active = c.args.active.now in
-    let k = known_branches c.args.part.now c.in-Branches.size c.in-Branches.before c.in-Branches.last
+    let k = known_branches c.args.expression.now c.in-Branches.size c.in-Branches.before c.in-Branches.last
     c.deref-in-Branches.result.now c.deref-in-Branches-2.result.now c.in-Branches.is
     c.deref-in-Branches.ensures.value c.deref-in-Branches-2.ensures c.requires.sized in
     let last = unrolled_in c.deref-in-Branches-2.result.now in
@@ -114,7 +115,8 @@ step-returns-in_ok-behind-in-Branches t c =
 pub step-step_repeated-requires : goal.step-step_repeated-requires
 step-step_repeated-requires t c = (
   search (rules, the_lemmas),
-  let k = known_repeat c.args.part.now c.in-Repeat.size c.in-Repeat.least c.in-Repeat.most c.in-Repeat.atom
+  let k = known_repeat c.args.expression.now c.in-Repeat.size c.in-Repeat.least c.in-Repeat.most
+      c.in-Repeat.atom
       c.deref-in-Repeat.result.now c.size.result c.in-Repeat.is c.deref-in-Repeat.ensures c.requires.sized
       c.size.ensures c.in_default.ensures.entered in
       (k.sized, (k.some, (omega (arith, ap letters k.same, c.requires.fits), c.requires.stands))),

@@ -2,7 +2,7 @@ use Rattle.std.proofs.Common.{◌≡◌, ◌≤◌, min, sym, ap, ◌∙◌, sub
 use Rattle.std.specs.Str.{chars}
 use Rattle.jp_regexp.specs.Profile.{size, InProfile, IsPatternOf}
 use Rattle.jp_regexp.specs.Tree.{node_of}
-use Rattle.jp_regexp.specs.Parts.{pattern_in}
+use Rattle.jp_regexp.specs.Expressions.{pattern_in}
 use Rattle.jp_regexp.proofs.PrefilterLemmas.{no_prefilter}
 use Rattle.jp_regexp.proofs.DfaLemmas.{no_dfa}
 use Rattle.jp_regexp.proofs.ReadLemmas.{is_pattern, no_pattern, too_large, size_is, size_over}

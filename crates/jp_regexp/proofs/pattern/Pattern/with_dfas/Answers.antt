@@ -1,6 +1,6 @@
 use Rattle.std.proofs.Common.{arith}
 use Rattle.std.proofs.lemmas.Grind.{common_steps}
-use Rattle.jp_regexp.specs.Parts.{pattern_in}
+use Rattle.jp_regexp.specs.Expressions.{pattern_in}
 use Rattle.jp_regexp.proofs.ProfileLemmas.{kept_size}
 use Rattle.jp_regexp.proofs.UnrolledLemmas.{letters-unrolled}
 use Rattle.jp_regexp.proofs.pattern.Pattern.with_dfas.Goals as goal
