@@ -24,7 +24,7 @@ STAGES = [(name, re.compile(pattern)) for name, pattern in (
     ("members in rising order", r"\bjp_flat::gather\b|\bFlatMembers::gather\b"),
     ("the text of lines", r"\bjp_output\b|\bserde_json::ser\b|\bjson::write|\bitoa\b"),
     ("patterns", r"\bjp_regexp\b"),
-    ("the walk", r"\bjp_(eval|nodes|trail|value|part|flat)\b"),
+    ("the walk", r"\bjp_(eval|nodes|path_stack|value|part|flat)\b"),
     # Inlined into its caller: UTF-8, the places of tokens, and whether the line is plain.
     ("reading that is inlined", r"\badd_line\b"),
     ("the workers", r"\bjp_(answer|board)\b|map_vec|start_thread|\bclone3?\b"),

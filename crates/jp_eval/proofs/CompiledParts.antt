@@ -40,8 +40,8 @@ use Rattle.jp_compiled.specs.declared.query.Value.{Value}
 use Rattle.jp_compiled.specs.declared.query.Value.TheVariants as val
 use Rattle.jp_compiled.specs.declared.query.Nodes.{Nodes}
 use Rattle.jp_compiled.specs.declared.query.Nodes.TheVariants as nod
-use Rattle.jp_trail.specs.Links.{link_steps}
-use Rattle.jp_trail.specs.declared.link.Link.{Link}
+use Rattle.jp_path_stack.specs.Links.{link_steps}
+use Rattle.jp_path_stack.specs.declared.link.Link.{Link}
 use Rattle.jp_value.specs.Literals.{literal_value, written_value}
 use Rattle.jp_eval.specs.inner.Rooted.{root_nodes}
 use Rattle.jp_eval.specs.inner.Base.{Base}

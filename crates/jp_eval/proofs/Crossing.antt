@@ -20,12 +20,12 @@ use Rattle.jp_compiled.proofs.query.Slice.TheSendSync as slices
 use Rattle.jp_compiled.proofs.query.Form.TheSendSync as forms
 use Rattle.jp_compiled.proofs.query.Logical.TheLaws.TheKnot.{crosses as ready_crosses}
 use Rattle.jp_regexp.proofs.expressions.Expression.TheLaws.TheKnot.{crosses as pattern_crosses}
-use Rattle.jp_trail.proofs.link.Link.TheSendSync as links
+use Rattle.jp_path_stack.proofs.link.Link.TheSendSync as links
 use Rattle.std.proofs.MapsCrossing.{crosses as map_crosses}
 use Rattle.serde_json.proofs.number.Number.TheSendSync as numbers
 use Rattle.serde_json.proofs.value.Value.TheLaws.TheKnot.{crosses as value_crosses}
 use Rattle.serde_json.specs.contracts.value.Value as Value
-use Rattle.jp_trail.specs.contracts.link.Link as Link
+use Rattle.jp_path_stack.specs.contracts.link.Link as Link
 use Rattle.jp_eval.proofs.fork.Cuts.TheSendSync as cuts
 use Rattle.jp_eval.specs.contracts.fork.Cuts as Cuts
 use Rattle.jp_part.specs.contracts.part.Part as Part

@@ -6,13 +6,13 @@ ghost use Rattle.jp_eval.specs.inner.Different.{IsDifferent};
 ghost use Rattle.jp_value.specs.Functions.{first_value, only_value, distinct, first_ones, same_location};
 ghost use Rattle.jp_eval.specs.inner.Kept.{put_first, alone_of, alone_value};
 ghost use Rattle.jp_part.specs.Part.{part_value};
-ghost use Rattle.jp_trail.specs.Links.{link_steps};
+ghost use Rattle.jp_path_stack.specs.Links.{link_steps};
 
 use crate::found::Alone;
 use jp_doc::Location;
 use jp_nodes::location;
 use jp_part::Part;
-use jp_trail::Trail;
+use jp_path_stack::PathStack;
 use std::alloc::{AllocError, Global};
 
 /// Where nodes are, and the value of the first.
@@ -49,7 +49,7 @@ pub(crate) fn none_located<'v>(alloc: Global) -> Located<'v>
 /// `AllocError` if a growth was refused.
 pub(crate) fn locate<'v>(
     alloc: Global,
-    path: &Trail<'v>,
+    path: &PathStack<'v>,
     value: Part<'v>,
     located: &mut Located<'v>,
 ) -> Result<(), AllocError>

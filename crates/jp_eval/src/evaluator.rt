@@ -18,7 +18,7 @@ use jp_check::Plan;
 use jp_doc::Document;
 use jp_nodes::Visit;
 use jp_part::Part;
-use jp_trail::{Room, Trail};
+use jp_path_stack::{PathStack, Scratch};
 use std::alloc::Global;
 use std::mem;
 use std::thread::Threads;
@@ -30,7 +30,7 @@ use std::thread::Threads;
 pub struct Evaluator<'p> {
     alloc: Global,
     plan: &'p Plan,
-    room: Room,
+    scratch: Scratch,
 }
 
 impl<'p> Evaluator<'p> {
@@ -43,7 +43,7 @@ impl<'p> Evaluator<'p> {
         Evaluator {
             alloc,
             plan,
-            room: Room::new(alloc),
+            scratch: Scratch::new(alloc),
         }
     }
 
@@ -82,7 +82,7 @@ impl<'p> Evaluator<'p> {
             (document_nodes tests (evaluated_query self.old) (part_value root.entry))) }
         ensures query { evaluated_query self.new ≡ evaluated_query self.old }
     {
-        visit_in(self.alloc, self.plan, root, &mut self.room, visitor)
+        visit_in(self.alloc, self.plan, root, &mut self.scratch, visitor)
     }
 
     /// The same as `visit`, where a list of children that the query's own segments walk, and that has at
@@ -131,16 +131,25 @@ impl<'p> Evaluator<'p> {
     {
         let cuts = Cuts::from_floor(floor);
         let (alloc, plan) = (self.alloc, self.plan);
-        split_in(rt, fork, cuts, alloc, plan, root, &mut self.room, visitor)
+        split_in(
+            rt,
+            fork,
+            cuts,
+            alloc,
+            plan,
+            root,
+            &mut self.scratch,
+            visitor,
+        )
     }
 }
 
-/// Hands the nodes to the visitor, with this room for the text of the path.
+/// Hands the nodes to the visitor, with this scratch memory for the text of the path.
 fn visit_in<V: Visit + Drop>(
     alloc: Global,
     plan: &Plan,
     root: Part<'_>,
-    room: &mut Room,
+    scratch: &mut Scratch,
     visitor: V,
 ) -> Result<V, EvalFault>
     ensures { IfOk result (λ t. (tests : Tests) → AreRight tests →
@@ -149,7 +158,7 @@ fn visit_in<V: Visit + Drop>(
 {
     let compiled = plan.compiled();
     let context = answer_roots::<V>(alloc, root, compiled.roots.as_slice())?;
-    let mut path = Trail::with_room(alloc, mem::replace(room, Room::new(alloc)));
+    let mut path = PathStack::with_scratch(alloc, mem::replace(scratch, Scratch::new(alloc)));
     let mut found = Found::Visitor(visitor);
     run(
         &context,
@@ -158,7 +167,7 @@ fn visit_in<V: Visit + Drop>(
         &mut path,
         &mut found,
     )?;
-    *room = path.into_room();
+    *scratch = path.into_scratch();
     match into_visitor(found) {
         Some(visitor) => Ok(visitor),
         None => unreachable!(),
@@ -173,7 +182,7 @@ fn split_in<R: Threads + Sync, F: Fork + Sync, V: Visit + Drop + Send>(
     alloc: Global,
     plan: &Plan,
     root: Part<'_>,
-    room: &mut Room,
+    scratch: &mut Scratch,
     visitor: V,
 ) -> Result<V, EvalFault>
     ensures { IfOk result (λ t. (tests : Tests) → AreRight tests →
@@ -182,11 +191,11 @@ fn split_in<R: Threads + Sync, F: Fork + Sync, V: Visit + Drop + Send>(
 {
     let compiled = plan.compiled();
     let context = answer_roots::<V>(alloc, root, compiled.roots.as_slice())?;
-    let mut path = Trail::with_room(alloc, mem::replace(room, Room::new(alloc)));
+    let mut path = PathStack::with_scratch(alloc, mem::replace(scratch, Scratch::new(alloc)));
     let mut found = Found::Visitor(visitor);
     let task = Task::Run(compiled.segments.as_slice());
     go_split(rt, fork, cuts, &context, task, root, &mut path, &mut found)?;
-    *room = path.into_room();
+    *scratch = path.into_scratch();
     match into_visitor(found) {
         Some(visitor) => Ok(visitor),
         None => unreachable!(),

@@ -15,7 +15,7 @@ use crate::different::{Located, each_once, locate, none_located};
 use jp_compiled::Want;
 use jp_nodes::Visit;
 use jp_part::Part;
-use jp_trail::Trail;
+use jp_path_stack::PathStack;
 use std::alloc::{AllocError, Global};
 
 /// What is kept of the nodes that a walk finds.
@@ -63,7 +63,7 @@ pub(crate) fn is_full<V: Visit + Drop>(found: &Found<'_, V>) -> bool
 /// `AllocError` if a growth was refused, or where there are more nodes than a `u64` counts.
 pub(crate) fn add<'v, V: Visit + Drop>(
     alloc: Global,
-    path: &mut Trail<'v>,
+    path: &mut PathStack<'v>,
     value: Part<'v>,
     found: &mut Found<'v, V>,
 ) -> Result<(), AllocError>

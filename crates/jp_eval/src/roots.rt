@@ -12,7 +12,7 @@ use crate::walk::run;
 use jp_compiled::RootQuery;
 use jp_nodes::Visit;
 use jp_part::Part;
-use jp_trail::Trail;
+use jp_path_stack::PathStack;
 use std::alloc::{AllocError, Global};
 
 /// What the filters want of these `$` queries, each found with the answers of those before it.
@@ -40,7 +40,7 @@ fn answer<'v, V: Visit + Drop>(
     ensures { IfOk result (λ a. is_answer (part_value context.now.root)
         (wanted_in (roots_of context.now.roots.now) query.now) a ≡ true) }
 {
-    let mut path = Trail::new(context.alloc);
+    let mut path = PathStack::new(context.alloc);
     let mut found = none_found::<'v, V>(context.alloc, query.want);
     run(
         context,

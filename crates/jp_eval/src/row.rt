@@ -9,7 +9,7 @@ ghost use Rattle.jp_part.specs.Part.{part_value};
 
 use jp_nodes::{Child, Children};
 use jp_part::{Items, MemberRow};
-use jp_trail::Link;
+use jp_path_stack::Link;
 
 /// Children that stand one behind another.
 #[derive(Clone, Copy)]

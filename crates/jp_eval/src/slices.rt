@@ -17,7 +17,7 @@ ghost use Rattle.jp_nodes.specs.Nodes.{child, items_at};
 
 use jp_nodes::Child;
 use jp_part::{Inside, Items, Part};
-use jp_trail::Link;
+use jp_path_stack::Link;
 use jp_value::{Bounds, first_place, place_after};
 use std::alloc::{AllocError, Global};
 

@@ -10,7 +10,7 @@ ghost use Rattle.jp_eval.specs.inner.Rows.{row_kids};
 ghost use Rattle.jp_eval.specs.inner.Along.{done_along_all};
 ghost use Rattle.jp_eval.specs.inner.Links.{here};
 ghost use Rattle.jp_eval.specs.inner.Walk.{done};
-ghost use Rattle.jp_trail.specs.Links.{link_steps};
+ghost use Rattle.jp_path_stack.specs.Links.{link_steps};
 
 use crate::context::Context;
 use crate::fork::{Cuts, Fork};
@@ -21,7 +21,7 @@ use crate::walk::{Task, go, holds};
 use crate::wide::is_wide;
 use jp_nodes::Visit;
 use jp_part::Part;
-use jp_trail::{Link, Trail};
+use jp_path_stack::{Link, PathStack};
 use std::alloc::{AllocError, Global};
 use std::thread::{Threads, join};
 
@@ -34,7 +34,7 @@ pub(crate) fn go_split<'v, R: Threads + Sync, F: Fork + Sync, V: Visit + Drop + 
     context: &Context<'v>,
     task: Task<'v>,
     value: Part<'v>,
-    path: &mut Trail<'v>,
+    path: &mut PathStack<'v>,
     found: &mut Found<'v, V>,
 ) -> Result<(), AllocError>
     requires taken { is_taken (kept V.kept found.old) ≡ true }
@@ -62,7 +62,7 @@ fn each_stretch<'v, R: Threads + Sync, F: Fork + Sync, V: Visit + Drop + Send>(
     cuts: Cuts,
     context: &Context<'v>,
     stretches: &[Stretch<'v>],
-    path: &mut Trail<'v>,
+    path: &mut PathStack<'v>,
     found: &mut Found<'v, V>,
 ) -> Result<(), AllocError>
     requires taken { is_taken (kept V.kept found.old) ≡ true }
@@ -86,7 +86,7 @@ fn each_of<'v, R: Threads + Sync, F: Fork + Sync, V: Visit + Drop + Send>(
     context: &Context<'v>,
     task: Task<'v>,
     children: Row<'_, 'v>,
-    path: &mut Trail<'v>,
+    path: &mut PathStack<'v>,
     found: &mut Found<'v, V>,
 ) -> Result<(), AllocError>
     requires taken { is_taken (kept V.kept found.old) ≡ true }
@@ -147,7 +147,7 @@ fn half<'v, R: Threads + Sync, F: Fork + Sync, V: Visit + Drop + Send>(
     ensures { IfOk result (λ t. taken (V.kept t) ≡ plus (put_found V.put) (taken (V.kept visitor))
         (flat_map (done (base_of context.now) task.entry) (row_kids (link_steps at.now) children.entry))) }
 {
-    let mut path = trail_of(context.alloc, at)?;
+    let mut path = path_stack_of(context.alloc, at)?;
     let mut found = Found::Visitor(visitor);
     each_of(
         rt, fork, cuts, context, task, children, &mut path, &mut found,
@@ -167,7 +167,7 @@ fn one_by_one<'v, R: Threads + Sync, F: Fork + Sync, V: Visit + Drop + Send>(
     context: &Context<'v>,
     task: Task<'v>,
     children: Row<'_, 'v>,
-    path: &mut Trail<'v>,
+    path: &mut PathStack<'v>,
     found: &mut Found<'v, V>,
 ) -> Result<(), AllocError>
     requires taken { is_taken (kept V.kept found.old) ≡ true }
@@ -193,7 +193,7 @@ fn settled<'v, V: Visit + Drop>(
     context: &Context<'v>,
     task: Task<'v>,
     value: Part<'v>,
-    path: &mut Trail<'v>,
+    path: &mut PathStack<'v>,
 ) -> Result<Option<Task<'v>>, AllocError>
     ensures task { IfOk result (λ o. MatchOption o
         (done (base_of context.now) task.entry (here path.old value.entry) ≡ [])
@@ -215,13 +215,13 @@ fn settled<'v, V: Visit + Drop>(
     }
 }
 
-/// A trail of its own, of these links.
-fn trail_of<'v>(alloc: Global, links: &[Link<'v>]) -> Result<Trail<'v>, AllocError>
+/// A path stack of its own, of these links.
+fn path_stack_of<'v>(alloc: Global, links: &[Link<'v>]) -> Result<PathStack<'v>, AllocError>
     ensures { IfOk result (λ t. t ≡ links.now) }
 {
-    let mut trail = Trail::new(alloc);
+    let mut path_stack = PathStack::new(alloc);
     for link in links {
-        trail.push(*link)?;
+        path_stack.push(*link)?;
     }
-    Ok(trail)
+    Ok(path_stack)
 }

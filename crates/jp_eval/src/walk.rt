@@ -4,7 +4,7 @@ ghost use Rattle.std.specs.Prelude.{◌≡◌, ◌≤◌, [], ◌∷◌, option_
 ghost use Rattle.std.specs.List.{flat_map, list_any, list_all};
 ghost use Rattle.jp_doc.specs.Height.{height};
 ghost use Rattle.jp_doc.specs.Location.{Location, node};
-ghost use Rattle.jp_trail.specs.Links.{link_steps};
+ghost use Rattle.jp_path_stack.specs.Links.{link_steps};
 ghost use Rattle.jp_part.specs.Part.{part_value};
 ghost use Rattle.jp_value.specs.Kinds.{given_value};
 ghost use Rattle.jp_eval.specs.inner.Aggregates.{tells};
@@ -24,7 +24,7 @@ use crate::slices::sliced;
 use jp_compiled::{Logical, Nodes, Segment, Selector, Value as Giver, Want};
 use jp_nodes::{Visit, children_of};
 use jp_part::{Kind, Part};
-use jp_trail::{Link, Trail};
+use jp_path_stack::{Link, PathStack};
 use jp_value::{
     bounds_of, compare_kinds, exactly_one, length, literal, matches, matches_known, place,
     searches, searches_known,
@@ -66,7 +66,7 @@ pub(crate) fn go<'v, V: Visit + Drop>(
     context: &Context<'v>,
     task: Task<'v>,
     value: Part<'v>,
-    path: &mut Trail<'v>,
+    path: &mut PathStack<'v>,
     found: &mut Found<'v, V>,
 ) -> Result<(), AllocError>
     ensures found { OnOk result (Finds V.kept V.put found.old found.new
@@ -96,7 +96,7 @@ pub(crate) fn run<'v, V: Visit + Drop>(
     context: &Context<'v>,
     segments: &'v [Segment],
     value: Part<'v>,
-    path: &mut Trail<'v>,
+    path: &mut PathStack<'v>,
     found: &mut Found<'v, V>,
 ) -> Result<(), AllocError>
     ensures found { OnOk result (Finds V.kept V.put found.old found.new
@@ -123,7 +123,7 @@ fn apply<'v, V: Visit + Drop>(
     selectors: &'v [Selector],
     rest: &'v [Segment],
     value: Part<'v>,
-    path: &mut Trail<'v>,
+    path: &mut PathStack<'v>,
     found: &mut Found<'v, V>,
 ) -> Result<(), AllocError>
     ensures found { OnOk result (Finds V.kept V.put found.old found.new
@@ -147,7 +147,7 @@ fn select<'v, V: Visit + Drop>(
     selector: &'v Selector,
     rest: &'v [Segment],
     value: Part<'v>,
-    path: &mut Trail<'v>,
+    path: &mut PathStack<'v>,
     found: &mut Found<'v, V>,
 ) -> Result<(), AllocError>
     ensures found { OnOk result (Finds V.kept V.put found.old found.new
@@ -189,7 +189,7 @@ fn apply_inside<'v, V: Visit + Drop>(
     selectors: &'v [Selector],
     rest: &'v [Segment],
     opened: Opened<'_, 'v>,
-    path: &mut Trail<'v>,
+    path: &mut PathStack<'v>,
     found: &mut Found<'v, V>,
 ) -> Result<(), AllocError>
     requires nodes { (at : Location) → row_kids at opened.row ≡ children_at at (part_value opened.value) }
@@ -215,7 +215,7 @@ fn select_inside<'v, V: Visit + Drop>(
     selector: &'v Selector,
     rest: &'v [Segment],
     opened: Opened<'_, 'v>,
-    path: &mut Trail<'v>,
+    path: &mut PathStack<'v>,
     found: &mut Found<'v, V>,
 ) -> Result<(), AllocError>
     requires nodes { (at : Location) → row_kids at opened.row ≡ children_at at (part_value opened.value) }
@@ -239,7 +239,7 @@ fn at_place<'v, V: Visit + Drop>(
     place: Option<u32>,
     rest: &'v [Segment],
     value: Part<'v>,
-    path: &mut Trail<'v>,
+    path: &mut PathStack<'v>,
     found: &mut Found<'v, V>,
 ) -> Result<(), AllocError>
     ensures found { OnOk result (Finds V.kept V.put found.old found.new
@@ -264,7 +264,7 @@ fn each_child<'v, V: Visit + Drop>(
     context: &Context<'v>,
     task: Task<'v>,
     value: Part<'v>,
-    path: &mut Trail<'v>,
+    path: &mut PathStack<'v>,
     found: &mut Found<'v, V>,
 ) -> Result<(), AllocError>
     ensures found { OnOk result (Finds V.kept V.put found.old found.new
@@ -281,7 +281,7 @@ fn each_of<'v, V: Visit + Drop>(
     context: &Context<'v>,
     task: Task<'v>,
     children: Row<'_, 'v>,
-    path: &mut Trail<'v>,
+    path: &mut PathStack<'v>,
     found: &mut Found<'v, V>,
 ) -> Result<(), AllocError>
     ensures found { OnOk result (Finds V.kept V.put found.old found.new
@@ -310,7 +310,7 @@ pub(crate) fn holds<'v, V: Visit + Drop>(
     context: &Context<'v>,
     test: &'v Logical,
     value: Part<'v>,
-    path: &mut Trail<'v>,
+    path: &mut PathStack<'v>,
 ) -> Result<bool, AllocError>
     ensures truth { IfOk result (λ b. b ≡ is_true (base_of context.now) test.now
         (here path.old value.entry)) }
@@ -357,7 +357,7 @@ fn any<'v, V: Visit + Drop>(
     context: &Context<'v>,
     parts: &'v [Logical],
     value: Part<'v>,
-    path: &mut Trail<'v>,
+    path: &mut PathStack<'v>,
 ) -> Result<bool, AllocError>
     ensures truth { IfOk result (λ b. b ≡ list_any
         (λ l. is_true (base_of context.now) l (here path.old value.entry)) parts.now) }
@@ -376,7 +376,7 @@ fn all<'v, V: Visit + Drop>(
     context: &Context<'v>,
     parts: &'v [Logical],
     value: Part<'v>,
-    path: &mut Trail<'v>,
+    path: &mut PathStack<'v>,
 ) -> Result<bool, AllocError>
     ensures truth { IfOk result (λ b. b ≡ list_all
         (λ l. is_true (base_of context.now) l (here path.old value.entry)) parts.now) }
@@ -397,7 +397,7 @@ fn give_both<'v, V: Visit + Drop>(
     left: &'v Giver,
     right: &'v Giver,
     value: Part<'v>,
-    path: &mut Trail<'v>,
+    path: &mut PathStack<'v>,
 ) -> Result<(Option<Kind<'v>>, Option<Kind<'v>>), AllocError>
     ensures left { IfOk result (λ o. given_value o.0
         ≡ value_given (base_of context.now) left.now (here path.old value.entry)) }
@@ -416,7 +416,7 @@ fn give<'v, V: Visit + Drop>(
     context: &Context<'v>,
     giver: &'v Giver,
     value: Part<'v>,
-    path: &mut Trail<'v>,
+    path: &mut PathStack<'v>,
 ) -> Result<Option<Kind<'v>>, AllocError>
     ensures value { IfOk result (λ o. given_value o
         ≡ value_given (base_of context.now) giver.now (here path.old value.entry)) }
@@ -438,7 +438,7 @@ fn ask<'v, V: Visit + Drop>(
     want: Want,
     nodes: &'v Nodes,
     value: Part<'v>,
-    path: &mut Trail<'v>,
+    path: &mut PathStack<'v>,
 ) -> Result<Aggregate<'v>, AllocError>
     ensures answer { IfOk result (λ a. tells want
         (nodes_given (base_of context.now) nodes.now want (here path.old value.entry)) a ≡ true) }

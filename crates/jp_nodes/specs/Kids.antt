@@ -3,7 +3,7 @@ use Rattle.std.specs.Prelude.{ℕ, suc, List, [], ◌∷◌, ◌++◌, map, max}
 use Rattle.jp_doc.specs.Height.{height}
 use Rattle.jp_doc.specs.Json.{array, object, items}
 use Rattle.jp_doc.specs.Location.{Location, Node, node}
-use Rattle.jp_trail.specs.Links.{link_step}
+use Rattle.jp_path_stack.specs.Links.{link_step}
 use Rattle.jp_part.specs.Inside.{item_values}
 use Rattle.jp_part.specs.Members.{members, list_entries}
 use Rattle.jp_part.specs.Part.{part_value}

@@ -9,7 +9,7 @@ ghost use Rattle.jp_nodes.specs.Kids.{kids, kids_height, all_kids, all_height};
 ghost use Rattle.jp_nodes.specs.Nodes.{child, children_at, items_at};
 
 use jp_part::{Inside, Items, MemberList, Part};
-use jp_trail::Link;
+use jp_path_stack::Link;
 use std::alloc::{AllocError, Global};
 
 /// A child, and the link to it.

@@ -2,13 +2,13 @@
 
 ghost use Rattle.std.specs.Prelude.{◌≡◌, map, IfOk};
 ghost use Rattle.jp_doc.specs.Location.{step_of, location_of};
-ghost use Rattle.jp_trail.specs.Links.{link_step, link_steps};
+ghost use Rattle.jp_path_stack.specs.Links.{link_step, link_steps};
 ghost use Rattle.jp_nodes.specs.Taken.{put_location};
 
 use crate::visit::Visit;
 use jp_doc::{Location, Step};
 use jp_part::Part;
-use jp_trail::{Link, Trail};
+use jp_path_stack::{Link, PathStack};
 use std::alloc::{AllocError, Global};
 
 /// Where each node is.
@@ -35,10 +35,10 @@ impl Visit for Locations {
     fn node(
         &mut self,
         alloc: Global,
-        trail: &mut Trail<'_>,
+        path_stack: &mut PathStack<'_>,
         _value: Part<'_>,
     ) -> Result<(), AllocError> {
-        self.locations.push(location(alloc, trail.links())?)?;
+        self.locations.push(location(alloc, path_stack.links())?)?;
         Ok(())
     }
 

@@ -4,10 +4,10 @@ ghost use Rattle.std.specs.Prelude.{◌≡◌, List, IsTrue, OnOk};
 ghost use Rattle.std.specs.List.{fold};
 ghost use Rattle.jp_doc.specs.Location.{Node, node};
 ghost use Rattle.jp_part.specs.Part.{part_value};
-ghost use Rattle.jp_trail.specs.Links.{link_steps};
+ghost use Rattle.jp_path_stack.specs.Links.{link_steps};
 
 use jp_part::Part;
-use jp_trail::Trail;
+use jp_path_stack::PathStack;
 use std::alloc::{AllocError, Global};
 
 /// What takes the nodes that a walk finds, one after another.
@@ -26,18 +26,18 @@ pub trait Visit {
     /// What an empty visitor of the same kind keeps.
     ghost emptied: { Kept → Kept };
 
-    /// Takes the node at the trail, whose value is this one.
+    /// Takes the node at the path stack, whose value is this one.
     ///
-    /// `AllocError` if a growth was refused. The trail is as before, whatever the answer.
+    /// `AllocError` if a growth was refused. The path stack is as before, whatever the answer.
     fn node(
         &mut self,
         alloc: Global,
-        trail: &mut Trail<'_>,
+        path_stack: &mut PathStack<'_>,
         value: Part<'_>,
     ) -> Result<(), AllocError>
         ensures kept { OnOk result (kept self.new
-            ≡ put (kept self.old) (node (link_steps trail.old) (part_value value.entry))) }
-        ensures trail { trail.new ≡ trail.old };
+            ≡ put (kept self.old) (node (link_steps path_stack.old) (part_value value.entry))) }
+        ensures path_stack { path_stack.new ≡ path_stack.old };
 
     /// Whether a further node would change nothing.
     fn is_full(&self) -> bool

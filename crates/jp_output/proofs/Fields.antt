@@ -14,7 +14,7 @@ use Rattle.json.specs.Print.{escape_letter, escape_byte, escape, quoted}
 use Rattle.serde_json.specs.Data as crate_data
 use Rattle.serde_json.specs.Written.{number_text, compact_text, items_text, members_text, comma_if}
 use Rattle.jp_doc.specs.Location.{Step, name, index, Location}
-use Rattle.jp_trail.specs.Path.{escaped, hex_digit, step_text, path_text}
+use Rattle.jp_path_stack.specs.Path.{escaped, hex_digit, step_text, path_text}
 use Rattle.jp_doc.specs.Json.{data_of}
 use Rattle.jp_doc.specs.Location.{Node}
 use Rattle.jp_doc.specs.declared.fault.DocFault.{DocFault}

@@ -3,7 +3,7 @@ use Rattle.std.specs.Prelude.{ℕ, List, [], ◌∷◌, ◌++◌, decimal, encod
 use Rattle.serde_json.specs.Written.{compact_text}
 use Rattle.jp_doc.specs.Json.{Json, data_of}
 use Rattle.jp_doc.specs.Location.{Location, Node}
-use Rattle.jp_trail.specs.Path.{path_text}
+use Rattle.jp_path_stack.specs.Path.{path_text}
 
 -- the compact text that the JSON crate writes for a value (RFC 8259)
 abbrev pub value_text : Json → List ℕ

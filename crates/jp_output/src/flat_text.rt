@@ -5,7 +5,7 @@ ghost use Rattle.jp_doc.specs.Json.{Items, array, object, whole};
 ghost use Rattle.jp_flat.specs.Gathered.{gathered};
 ghost use Rattle.jp_flat.specs.Value.{flat_value, items_value, members_value};
 ghost use Rattle.jp_output.specs.OutputLine.{value_text};
-ghost use Rattle.jp_trail.specs.Appended.{Extends};
+ghost use Rattle.jp_path_stack.specs.Appended.{Extends};
 ghost use Rattle.serde_json.specs.Written.{comma_if};
 
 use crate::scalar_text::{append_null, append_quoted, append_truth};
@@ -13,17 +13,17 @@ use jp_flat::{FlatItems, FlatMember, FlatMembers, FlatValue, Kind};
 use std::alloc::{AllocError, Global};
 
 /// How many members there is room for at first where they are gathered.
-const ROOM: usize = 16;
+const INITIAL_CAPACITY: usize = 16;
 
 /// Appends the compact text of a value.
 ///
-/// Texts that need escapes are made in the room. The members of each object are gathered in a list, since
-/// they are written in rising order of their names.
+/// Texts that need escapes are made in the scratch buffer. The members of each object are gathered in a list,
+/// since they are written in rising order of their names.
 #[cycle(append_flat)]
 pub(crate) fn append_flat(
     alloc: Global,
     value: FlatValue<'_>,
-    room: &mut Vec<u8>,
+    scratch: &mut Vec<u8>,
     out: &mut Vec<u8>,
 ) -> Result<(), AllocError>
     ensures ok { OnOk result (out.new.items ≡ out.old.items ++ value_text (flat_value value.entry)) }
@@ -33,13 +33,13 @@ pub(crate) fn append_flat(
         Kind::Null => append_null(out),
         Kind::Truth(truth) => append_truth(truth, out),
         Kind::Whole(_) => append_digits(value, out),
-        Kind::Text(text) => append_quoted(alloc, text, room, out),
+        Kind::Text(text) => append_quoted(alloc, text, scratch, out),
         Kind::Array => match value.items() {
-            Some(items) => append_items(alloc, items, room, out),
+            Some(items) => append_items(alloc, items, scratch, out),
             None => unreachable!(),
         },
         Kind::Object => match value.members() {
-            Some(members) => append_members(alloc, members, room, out),
+            Some(members) => append_members(alloc, members, scratch, out),
             None => unreachable!(),
         },
     }
@@ -73,7 +73,7 @@ fn append_comma(later: bool, out: &mut Vec<u8>) -> Result<(), AllocError>
 fn append_items(
     alloc: Global,
     items: FlatItems<'_>,
-    room: &mut Vec<u8>,
+    scratch: &mut Vec<u8>,
     out: &mut Vec<u8>,
 ) -> Result<(), AllocError>
     requires { (vs : Items) × (items_value items ≡ array vs) }
@@ -85,7 +85,7 @@ fn append_items(
     let mut left = items;
     while let Some((item, others)) = left.split_first() {
         append_comma(later, out)?;
-        append_flat(alloc, item, room, out)?;
+        append_flat(alloc, item, scratch, out)?;
         later = true;
         left = others;
     }
@@ -98,15 +98,15 @@ fn append_items(
 fn append_members(
     alloc: Global,
     members: FlatMembers<'_>,
-    room: &mut Vec<u8>,
+    scratch: &mut Vec<u8>,
     out: &mut Vec<u8>,
 ) -> Result<(), AllocError>
     ensures ok { OnOk result (out.new.items ≡ out.old.items ++ value_text (members_value members.entry)) }
     ensures kept { Extends out.old.items out.new.items }
 {
-    let mut list = Vec::with_capacity(alloc, ROOM)?;
+    let mut list = Vec::with_capacity(alloc, INITIAL_CAPACITY)?;
     members.gather(&mut list)?;
-    append_list(alloc, list.as_slice(), room, out)
+    append_list(alloc, list.as_slice(), scratch, out)
 }
 
 /// Appends members as they are listed, between braces.
@@ -114,7 +114,7 @@ fn append_members(
 fn append_list(
     alloc: Global,
     list: &[FlatMember<'_>],
-    room: &mut Vec<u8>,
+    scratch: &mut Vec<u8>,
     out: &mut Vec<u8>,
 ) -> Result<(), AllocError>
     ensures ok { OnOk result (out.new.items ≡ out.old.items ++ value_text (object (gathered list.now))) }
@@ -124,9 +124,9 @@ fn append_list(
     let mut later = false;
     for member in list {
         append_comma(later, out)?;
-        append_quoted(alloc, member.name, room, out)?;
+        append_quoted(alloc, member.name, scratch, out)?;
         out.push(b':')?;
-        append_flat(alloc, member.value, room, out)?;
+        append_flat(alloc, member.value, scratch, out)?;
         later = true;
     }
     out.push(b'}')?;

@@ -3,8 +3,8 @@
 ghost use Rattle.std.specs.Prelude.{◌≡◌, ◌++◌, []};
 ghost use Rattle.std.specs.Prelude.{IfOk, OnOk, OnErr};
 ghost use Rattle.jp_part.specs.Part.{part_value};
-ghost use Rattle.jp_trail.specs.Appended.{Extends};
-ghost use Rattle.jp_trail.specs.Links.{link_steps};
+ghost use Rattle.jp_path_stack.specs.Appended.{Extends};
+ghost use Rattle.jp_path_stack.specs.Links.{link_steps};
 ghost use Rattle.jp_output.specs.Chunks.{bytes_in};
 ghost use Rattle.jp_output.specs.OutputLine.{line_text};
 
@@ -15,7 +15,7 @@ use crate::value_text::append_value;
 use jp_doc::DocFault;
 use jp_nodes::Visit;
 use jp_part::Part;
-use jp_trail::Trail;
+use jp_path_stack::PathStack;
 use std::alloc::{AllocError, Global};
 use std::marker::Model;
 use std::mem;
@@ -23,12 +23,12 @@ use std::mem;
 /// Takes nodes as the output lines of a document with a number, behind those of the documents before it.
 ///
 /// Its meaning is that number and the bytes of all lines so far. A node takes no allocation but the growth of
-/// what is written, since the room that its value's text is made in is used again, and a list of members for
-/// each object of a flat document. The lines of a visitor that is appended stay where they are.
+/// what is written, since the scratch buffer that its value's text is made in is used again, and a list of
+/// members for each object of a flat document. The lines of a visitor that is appended stay where they are.
 #[derive(Drop)]
 pub struct NodeLines {
     number: u64,
-    room: Vec<u8>,
+    scratch: Vec<u8>,
     /// The lines before those of `out`.
     before: Vec<Vec<u8>>,
     out: Vec<u8>,
@@ -54,7 +54,7 @@ impl NodeLines {
     {
         NodeLines {
             number: 0,
-            room: Vec::new(alloc),
+            scratch: Vec::new(alloc),
             before: Vec::new(alloc),
             out: Vec::new(alloc),
         }
@@ -112,15 +112,15 @@ impl Visit for NodeLines {
     fn node(
         &mut self,
         alloc: Global,
-        trail: &mut Trail<'_>,
+        path_stack: &mut PathStack<'_>,
         value: Part<'_>,
     ) -> Result<(), AllocError> {
         write_node(
             alloc,
             self.number,
-            trail,
+            path_stack,
             value,
-            &mut self.room,
+            &mut self.scratch,
             &mut self.out,
         )
     }
@@ -132,7 +132,7 @@ impl Visit for NodeLines {
     fn fresh(&self, alloc: Global) -> Self {
         NodeLines {
             number: self.number,
-            room: Vec::new(alloc),
+            scratch: Vec::new(alloc),
             before: Vec::new(alloc),
             out: Vec::new(alloc),
         }
@@ -161,24 +161,24 @@ fn append_all(
     append_chunks(before, chunks)
 }
 
-/// Appends the output line of the node at the trail, with room for its value's text.
+/// Appends the output line of the node at the path stack, with a scratch buffer for its value's text.
 ///
 /// After an `AllocError`, which says that a growth was refused, `out` is as before.
 fn write_node(
     alloc: Global,
     number: u64,
-    trail: &mut Trail<'_>,
+    path_stack: &mut PathStack<'_>,
     value: Part<'_>,
-    room: &mut Vec<u8>,
+    scratch: &mut Vec<u8>,
     out: &mut Vec<u8>,
 ) -> Result<(), AllocError>
-    ensures same { trail.new ≡ trail.old }
+    ensures same { path_stack.new ≡ path_stack.old }
     ensures ok { OnOk result (out.new.items
-        ≡ out.old.items ++ line_text number (link_steps trail.old) (part_value value.entry)) }
+        ≡ out.old.items ++ line_text number (link_steps path_stack.old) (part_value value.entry)) }
     ensures err { OnErr result (out.new.items ≡ out.old.items) }
 {
     let before = out.len();
-    match append_parts(alloc, number, trail, value, room, out) {
+    match append_parts(alloc, number, path_stack, value, scratch, out) {
         Ok(()) => Ok(()),
         Err(error) => {
             out.truncate(before);
@@ -191,20 +191,20 @@ fn write_node(
 fn append_parts(
     alloc: Global,
     number: u64,
-    trail: &mut Trail<'_>,
+    path_stack: &mut PathStack<'_>,
     value: Part<'_>,
-    room: &mut Vec<u8>,
+    scratch: &mut Vec<u8>,
     out: &mut Vec<u8>,
 ) -> Result<(), AllocError>
-    ensures same { trail.new ≡ trail.old }
+    ensures same { path_stack.new ≡ path_stack.old }
     ensures ok { OnOk result (out.new.items
-        ≡ out.old.items ++ line_text number (link_steps trail.old) (part_value value.entry)) }
+        ≡ out.old.items ++ line_text number (link_steps path_stack.old) (part_value value.entry)) }
     ensures kept { Extends out.old.items out.new.items }
 {
     append_number(number, out)?;
-    trail.append_path(out)?;
+    path_stack.append_path(out)?;
     out.push(b'\t')?;
-    append_value(alloc, value, room, out)?;
+    append_value(alloc, value, scratch, out)?;
     out.push(b'\n')?;
     Ok(())
 }

@@ -4,7 +4,7 @@ ghost use Rattle.std.specs.Prelude.{◌≡◌, ◌++◌, IsTrue, OnOk, encode_ut
 ghost use Rattle.std.specs.Str.{chars};
 ghost use Rattle.json.specs.Print.{token_text, escape, quoted};
 ghost use Rattle.json.specs.Token as spec;
-ghost use Rattle.jp_trail.specs.Appended.{Extends};
+ghost use Rattle.jp_path_stack.specs.Appended.{Extends};
 
 use json::Writer;
 use std::alloc::{AllocError, Global};
@@ -30,11 +30,11 @@ pub(crate) fn append_truth(truth: bool, out: &mut Vec<u8>) -> Result<(), AllocEr
 
 /// Appends a text between quotes, with the shortest escapes (RFC 8259, 7).
 ///
-/// One that needs no escape is copied; of another the text is made in the room.
+/// One that needs no escape is copied; of another the text is made in the scratch buffer.
 pub(crate) fn append_quoted(
     alloc: Global,
     text: &str,
-    room: &mut Vec<u8>,
+    scratch: &mut Vec<u8>,
     out: &mut Vec<u8>,
 ) -> Result<(), AllocError>
     ensures ok { OnOk result (out.new.items ≡ out.old.items ++ quoted (encode_utf8_all (chars text.now))) }
@@ -43,8 +43,8 @@ pub(crate) fn append_quoted(
     if is_bare(text.as_bytes()) {
         return append_bare(text, out);
     }
-    make_quoted(alloc, text, room)?;
-    out.extend_from_slice(room.as_slice())
+    make_quoted(alloc, text, scratch)?;
+    out.extend_from_slice(scratch.as_slice())
 }
 
 /// Whether no byte needs an escape.
@@ -71,13 +71,13 @@ fn append_bare(text: &str, out: &mut Vec<u8>) -> Result<(), AllocError>
     Ok(())
 }
 
-/// Makes a text between quotes in the room, by way of the JSON crate's writer.
-fn make_quoted(alloc: Global, text: &str, room: &mut Vec<u8>) -> Result<(), AllocError>
-    ensures { OnOk result (room.new.items ≡ quoted text.now) }
+/// Makes a text between quotes in the scratch buffer, by way of the JSON crate's writer.
+fn make_quoted(alloc: Global, text: &str, scratch: &mut Vec<u8>) -> Result<(), AllocError>
+    ensures { OnOk result (scratch.new.items ≡ quoted text.now) }
 {
-    room.clear();
-    let mut writer = Writer::new(mem::replace(room, Vec::new(alloc)));
+    scratch.clear();
+    let mut writer = Writer::new(mem::replace(scratch, Vec::new(alloc)));
     let written = writer.string(text);
-    *room = writer.into_inner();
+    *scratch = writer.into_inner();
     written
 }

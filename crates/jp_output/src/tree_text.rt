@@ -3,7 +3,7 @@
 ghost use Rattle.std.specs.Prelude.{◌≡◌, ◌++◌, ◌∷◌, [], false, OnOk};
 ghost use Rattle.json.specs.Token.{number};
 ghost use Rattle.json.specs.Tree.{json_tokens, items_tokens, members_tokens};
-ghost use Rattle.jp_trail.specs.Appended.{Extends};
+ghost use Rattle.jp_path_stack.specs.Appended.{Extends};
 ghost use Rattle.serde_json.specs.Find.{is_float};
 ghost use Rattle.serde_json.specs.View.{view, number_view, items_view, members_view};
 ghost use Rattle.serde_json.specs.Written.{has_float, items_have_float, members_have_float, compact_text};
@@ -17,14 +17,14 @@ use std::alloc::{AllocError, Global};
 use std::mem;
 
 /// Appends the compact text of a value whose numbers are whole, with no allocation but the growth of `out`
-/// and of the room.
+/// and of the scratch buffer.
 ///
-/// Texts, arrays and objects are made in the room: the JSON crate's writer, which they go through, clears as
-/// many bytes as it is given, so it is not given `out`.
+/// Texts, arrays and objects are made in the scratch buffer: the JSON crate's writer, which they go through,
+/// clears as many bytes as it is given, so it is not given `out`.
 pub(crate) fn append_tree(
     alloc: Global,
     value: &Value,
-    room: &mut Vec<u8>,
+    scratch: &mut Vec<u8>,
     out: &mut Vec<u8>,
 ) -> Result<(), AllocError>
     requires { has_float (view value.now) ≡ false }
@@ -36,8 +36,8 @@ pub(crate) fn append_tree(
         Value::Bool(truth) => append_truth(*truth, out),
         Value::Number(number) => append_number(number, out),
         _ => {
-            make_text(alloc, value, room)?;
-            out.extend_from_slice(room.as_slice())
+            make_text(alloc, value, scratch)?;
+            out.extend_from_slice(scratch.as_slice())
         }
     }
 }
@@ -56,15 +56,15 @@ fn append_number(whole: &Number, out: &mut Vec<u8>) -> Result<(), AllocError>
     }
 }
 
-/// Makes the compact text in the room, by way of the JSON crate's writer.
-fn make_text(alloc: Global, value: &Value, room: &mut Vec<u8>) -> Result<(), AllocError>
+/// Makes the compact text in the scratch buffer, by way of the JSON crate's writer.
+fn make_text(alloc: Global, value: &Value, scratch: &mut Vec<u8>) -> Result<(), AllocError>
     requires { has_float (view value.now) ≡ false }
-    ensures { OnOk result (room.new.items ≡ compact_text (view value.now)) }
+    ensures { OnOk result (scratch.new.items ≡ compact_text (view value.now)) }
 {
-    room.clear();
-    let mut writer = Writer::new(mem::replace(room, Vec::new(alloc)));
+    scratch.clear();
+    let mut writer = Writer::new(mem::replace(scratch, Vec::new(alloc)));
     let written = write(value, &mut writer);
-    *room = writer.into_inner();
+    *scratch = writer.into_inner();
     written
 }
 

@@ -3,25 +3,25 @@
 ghost use Rattle.std.specs.Prelude.{◌≡◌, ◌++◌, OnOk};
 ghost use Rattle.jp_part.specs.Part.{part_value};
 ghost use Rattle.jp_output.specs.OutputLine.{value_text};
-ghost use Rattle.jp_trail.specs.Appended.{Extends};
+ghost use Rattle.jp_path_stack.specs.Appended.{Extends};
 
 use crate::flat_text::append_flat;
 use crate::tree_text::append_tree;
 use jp_part::Part;
 use std::alloc::{AllocError, Global};
 
-/// Appends the compact text of a value (RFC 8259), with room for pieces of it.
+/// Appends the compact text of a value (RFC 8259), with a scratch buffer for pieces of it.
 pub(crate) fn append_value(
     alloc: Global,
     value: Part<'_>,
-    room: &mut Vec<u8>,
+    scratch: &mut Vec<u8>,
     out: &mut Vec<u8>,
 ) -> Result<(), AllocError>
     ensures ok { OnOk result (out.new.items ≡ out.old.items ++ value_text (part_value value.entry)) }
     ensures kept { Extends out.old.items out.new.items }
 {
     match value {
-        Part::Tree(tree) => append_tree(alloc, tree.value, room, out),
-        Part::Flat(flat) => append_flat(alloc, flat, room, out),
+        Part::Tree(tree) => append_tree(alloc, tree.value, scratch, out),
+        Part::Flat(flat) => append_flat(alloc, flat, scratch, out),
     }
 }

@@ -12,7 +12,7 @@ use jp_flat::{FlatMember, FlatMembers};
 use std::alloc::{AllocError, Global};
 
 /// How many members there is room for at first where they are gathered.
-const ROOM: usize = 16;
+const INITIAL_CAPACITY: usize = 16;
 
 /// The members of an object.
 #[derive(Clone, Copy)]
@@ -60,7 +60,7 @@ impl<'v> Members<'v> {
         match self {
             Members::Tree(members) => Ok(MemberList::Tree(members.gather(alloc)?)),
             Members::Flat(members) => {
-                let mut list = Vec::with_capacity(alloc, ROOM)?;
+                let mut list = Vec::with_capacity(alloc, INITIAL_CAPACITY)?;
                 members.gather(&mut list)?;
                 Ok(MemberList::Flat(list))
             }

@@ -12,7 +12,7 @@ use Rattle.jp_check.specs.declared.accepted.Plan.{Plan}
 use Rattle.jp_check.specs.Plan.{planned_query}
 use Rattle.jp_check.specs.Verdict.{IsAccepted}
 use Rattle.jp_eval.specs.Nodelist.{document_nodes}
-use Rattle.jp_trail.specs.Path.{path_text}
+use Rattle.jp_path_stack.specs.Path.{path_text}
 use Rattle.jp_path.specs.PathQuery.{path_query, AreSteps}
 use Rattle.jp_path.proofs.PathSpelled.{path_spelled}
 use Rattle.jp_path.proofs.PathAccepted.{path_accepted, path_accepted_only, query_selects}

@@ -14,7 +14,7 @@ use Rattle.jp_types.specs.Numbers.{segments_numbers, is_fraction, is_in_range, m
 use Rattle.jp_types.specs.Typing.{segments_typed}
 use Rattle.jp_check.specs.Verdict.{IsAccepted}
 use Rattle.jp_check.proofs.Verdicts.{accepts, accepts_only}
-use Rattle.jp_trail.specs.Path.{path_text}
+use Rattle.jp_path_stack.specs.Path.{path_text}
 use Rattle.jp_path.specs.PathQuery.{step_segment, path_query, AreIndexes, AreSteps}
 use Rattle.jp_path.proofs.OwnNode.{own_node}
 use Rattle.jp_path.proofs.IndexText.{decimal_magnitude}

@@ -10,7 +10,7 @@ use Rattle.jp_regexp.specs.Tests.{Tests}
 use Rattle.jp_check.specs.Verdict.{IsAccepted}
 use Rattle.jp_eval.specs.Nodelist.{document_nodes}
 use Rattle.jp_eval.proofs.Listed.{listed_where_it_stands}
-use Rattle.jp_trail.specs.Path.{path_text}
+use Rattle.jp_path_stack.specs.Path.{path_text}
 use Rattle.jp_path.specs.PathQuery.{AreSteps}
 use Rattle.jp_path.proofs.PathAccepted.{text_selects}
 

@@ -14,7 +14,7 @@ ghost use Rattle.jp_tree.specs.Tree.{Query};
 ghost use Rattle.jp_tree.specs.Spelling.{Spells};
 ghost use Rattle.jp_tokens.specs.Depth.{bracket_depth};
 ghost use Rattle.jp_check.specs.Verdict.{IsAccepted};
-ghost use Rattle.jp_trail.specs.Path.{path_text};
+ghost use Rattle.jp_path_stack.specs.Path.{path_text};
 ghost use Rattle.jp_path.specs.PathQuery.{path_query, AreIndexes, AreSteps};
 
 /// The query of a path selects just the node at its location, in every document that has one there.

@@ -14,7 +14,7 @@ ghost use Rattle.jp_regexp.specs.Tests.{Tests};
 ghost use Rattle.jp_check.specs.Verdict.{IsAccepted};
 ghost use Rattle.jp_check.specs.Plan.{planned_query};
 ghost use Rattle.jp_eval.specs.Nodelist.{document_nodes};
-ghost use Rattle.jp_trail.specs.Path.{path_text};
+ghost use Rattle.jp_path_stack.specs.Path.{path_text};
 ghost use Rattle.jp_path.specs.PathQuery.{path_query, step_selector, step_segment, IsStep, AreSteps};
 
 use itoa::Buffer;

@@ -5,7 +5,7 @@ use jp_flat::FlatReader;
 use jp_nodes::Visit;
 use jp_output::NodeLines;
 use jp_part::Part;
-use jp_trail::Trail;
+use jp_path_stack::PathStack;
 use std::alloc::{AllocError, Global};
 use std::test::Fail;
 
@@ -60,7 +60,7 @@ const ROWS: [(&str, &str); 20] = [
 pub(crate) fn line_of(alloc: Global, value: Part<'_>) -> Result<Vec<u8>, AllocError> {
     let mut lines = NodeLines::new(alloc);
     lines.begin(7);
-    lines.node(alloc, &mut Trail::new(alloc), value)?;
+    lines.node(alloc, &mut PathStack::new(alloc), value)?;
     lines.into_bytes(alloc)
 }
 

@@ -1,9 +1,9 @@
--- A step of a proof, which nobody has to believe who asks what a query selects: the node that a trail leads
--- to.
+-- A step of a proof, which nobody has to believe who asks what a query selects: the node that a path stack
+-- leads to.
 use Rattle.std.specs.Prelude.{List}
 use Rattle.jp_doc.specs.Location.{Node, node}
-use Rattle.jp_trail.specs.Links.{link_steps}
-use Rattle.jp_trail.specs.declared.link.Link.{Link}
+use Rattle.jp_path_stack.specs.Links.{link_steps}
+use Rattle.jp_path_stack.specs.declared.link.Link.{Link}
 use Rattle.jp_part.specs.Part.{part_value}
 use Rattle.jp_part.specs.declared.part.Part.{Part}
 

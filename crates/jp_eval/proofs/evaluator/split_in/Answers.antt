@@ -21,7 +21,7 @@ returns g c =
     let at_root = c.in_ok-context.ensures.root in
     let nodes =
     from_root (base_of context) compiled.segments c.as_slice-2.result.now c.args.root
-    c.with_room-path.result c.as_slice-2.ensures.value c.with_room-path.ensures
+    c.with_scratch-path.result c.as_slice-2.ensures.value c.with_scratch-path.ensures
     (sym c.in_ok-context.ensures.root)
     ∙ ap₂ (λ v rs. root_nodes v (segments_in (roots_of rs) compiled.segments.items)) at_root
     (c.in_ok-context.ensures.roots ∙ c.as_slice.ensures.value)

@@ -2,7 +2,7 @@ use Rattle.std.proofs.Common.{◌≡◌, ◌<◌, ◌≤◌, List, length, is_so
 use Rattle.std.proofs.lemmas.Result.{on_ok_weaker}
 use Rattle.std.specs.List.{flat_map}
 use Rattle.jp_doc.specs.Location.{Location, Node, node}
-use Rattle.jp_trail.specs.Links.{link_steps}
+use Rattle.jp_path_stack.specs.Links.{link_steps}
 use Rattle.jp_eval.specs.inner.Base.{base_of}
 use Rattle.jp_eval.specs.inner.Kept.{kept, put_found, plus, taken, emptied_found}
 use Rattle.jp_eval.specs.inner.Rows.{row_kids, row_height}

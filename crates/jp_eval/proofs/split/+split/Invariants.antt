@@ -7,7 +7,7 @@ use Rattle.jp_eval.specs.inner.Kept.{kept, put_found, plus}
 use Rattle.jp_eval.specs.inner.Rows.{row_kids, row_height, row_length}
 use Rattle.jp_eval.specs.inner.Along.{done_along_all, highest}
 use Rattle.jp_eval.specs.inner.Walk.{done}
-use Rattle.jp_trail.specs.Links.{link_steps}
+use Rattle.jp_path_stack.specs.Links.{link_steps}
 use Rattle.jp_eval.proofs.split.+split.Given as goal
 
 -- how high the value is, then how many cuts are left, then the rank of the function

@@ -27,7 +27,7 @@ use Rattle.jp_nodes.specs.Nodes.{children, descendants, items_at, node_if_some}
 use Rattle.jp_value.specs.Literals.{written_value}
 use Rattle.jp_eval.specs.inner.Kept.{kept, put_found, plus}
 use Rattle.jp_eval.specs.inner.Links.{here}
-use Rattle.jp_trail.specs.Links.{link_steps}
+use Rattle.jp_path_stack.specs.Links.{link_steps}
 use Rattle.jp_part.specs.Part.{part_value}
 use Rattle.jp_value.specs.RightTests.{tests}
 use Rattle.jp_eval.specs.inner.Walk.{picked, picked_by, reached, is_true, value_given, nodes_given, done}

@@ -10,7 +10,7 @@ use Rattle.jp_compiled.specs.declared.query.Nodes.{size-Nodes}
 use Rattle.jp_eval.specs.inner.Base.{base_of}
 use Rattle.jp_eval.specs.inner.Kept.{kept, put_found, plus}
 use Rattle.jp_eval.specs.inner.Links.{here}
-use Rattle.jp_trail.specs.Links.{link_steps}
+use Rattle.jp_path_stack.specs.Links.{link_steps}
 use Rattle.jp_eval.specs.inner.Rows.{row_kids, row_height, row_length}
 use Rattle.jp_part.specs.Part.{part_value}
 use Rattle.jp_eval.specs.inner.Walk.{picked_by, reached, is_true, done}

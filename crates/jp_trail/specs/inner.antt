@@ -1,2 +1,0 @@
--- Working files of `jp_trail`, which private clauses alone cite: nobody has to believe them.
-pub mod Made
