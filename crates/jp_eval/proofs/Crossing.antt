@@ -30,11 +30,11 @@ use Rattle.jp_eval.proofs.fork.Cuts.TheSendSync as cuts
 use Rattle.jp_eval.specs.contracts.fork.Cuts as Cuts
 use Rattle.jp_part.specs.contracts.part.Part as Part
 use Rattle.jp_part.specs.contracts.items.Items as Items
-use Rattle.jp_part.specs.contracts.members.MemberRow as MemberRow
+use Rattle.jp_part.specs.contracts.members.MemberRange as MemberRange
 use Rattle.jp_part.specs.contracts.tree.TreeMember as TreeMember
 use Rattle.jp_flat.specs.contracts.value.FlatMember as FlatMember
 use Rattle.jp_nodes.specs.contracts.children.Child as Child
-use Rattle.jp_eval.specs.contracts.row.Row as Row
+use Rattle.jp_eval.specs.contracts.child_range.ChildRange as ChildRange
 use Rattle.jp_eval.specs.contracts.walk.Task as Task
 use Rattle.jp_eval.specs.contracts.context.Context as Context
 use Rattle.jp_eval.specs.contracts.different.Different as Different
@@ -127,11 +127,11 @@ tree_member a = search (value_sync, crosses, sendable) depth 60 fits 20000
 flat_member : (a : NamedLft) → IsSync (FlatMember.the_row a)
 flat_member a = search (crosses, sendable) depth 60 fits 20000
 
-member_row_field : (a b : NamedLft) → IsSync (MemberRow.the_field a b).row
-member_row_field a b = search (tree_member, flat_member, crosses, sendable) depth 60 fits 20000
+member_range_field : (a b : NamedLft) → IsSync (MemberRange.the_field a b).row
+member_range_field a b = search (tree_member, flat_member, crosses, sendable) depth 60 fits 20000
 
-pub row_sync : (a b : NamedLft) → IsSync (Row.the_row a b)
-row_sync a b = search (items_field, member_row_field, child_sync, crosses, sendable) depth 60 fits 20000
+pub range_sync : (a b : NamedLft) → IsSync (ChildRange.the_row a b)
+range_sync a b = search (items_field, member_range_field, child_sync, crosses, sendable) depth 60 fits 20000
 
 pub task_sync : (a : NamedLft) → IsSync (Task.the_row a)
 task_sync a = search (segment_sync, selector_sync, logical_sync, crosses, sendable) depth 60 fits 20000
@@ -149,13 +149,14 @@ answer_sync a = search (part_sync, alone_field, different_field, crosses, sendab
 pub ground_sync : (a : NamedLft) → IsSync (Context.the_row a)
 ground_sync a = search (part_field, root_sync, answer_sync, crosses, sendable) depth 60 fits 20000
 
--- what a half is given: the fork, the runtime, the cuts, the context, the task, the row, the links, a visitor
+-- what a half is given: the fork, the runtime, the cuts, the context, the task, the range, the links, a
+-- visitor
 abbrev pub captured : (F R V : RattleType) (f r c : NamedLft) (g gv t tv s sc sv l lv : NamedLft)
     → List RattleType
 captured F R V f r c g gv t tv s sc sv l lv =
     ShrRef f.mir f.lft F ∷ ShrRef r.mir r.lft R ∷ ShrRef c.mir c.lft Cuts.the_row
     ∷ ShrRef g.mir g.lft (Context.the_row gv) ∷ ShrRef t.mir t.lft (Task.the_row tv)
-    ∷ ShrRef s.mir s.lft (Row.the_row sc sv) ∷ ShrSlice l.mir l.lft (Link.the_row lv) ∷ V ∷ []
+    ∷ ShrRef s.mir s.lft (ChildRange.the_row sc sv) ∷ ShrSlice l.mir l.lft (Link.the_row lv) ∷ V ∷ []
 
 pub captured_send : (name : Sym) (F R V : RattleType) (f r c : NamedLft)
     (g gv t tv s sc sv l lv : NamedLft) → IsSync F → IsSync R → IsSend V
@@ -174,7 +175,7 @@ captured_send name F R V f r c g gv t tv s sc sv l lv fs rs vs =
             (
               shr_send t.mir t.lft _ (task_sync tv),
               (
-                shr_send s.mir s.lft _ (row_sync sc sv),
+                shr_send s.mir s.lft _ (range_sync sc sv),
                 (shr_slice_send l.mir l.lft _ (links.the_sync lv), (vs, tt)),
               ),
             ),

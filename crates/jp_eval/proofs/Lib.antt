@@ -4,7 +4,7 @@ pub mod Telling
 pub mod Differing
 pub mod SameLocations
 pub mod Gathered
-pub mod Rows
+pub mod ChildRanges
 pub mod BoundsWithin
 pub mod Slicing
 pub mod Through
@@ -17,5 +17,5 @@ pub mod WalkSteps
 pub mod Places
 pub mod CompiledParts
 pub mod Answered
-pub mod Stretches
+pub mod WorkItems
 mod Crossing

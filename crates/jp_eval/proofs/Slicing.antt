@@ -18,7 +18,7 @@ use Rattle.jp_value.specs.Slice.{Bounds, meets_rising, meets_falling, is_multipl
 use Rattle.jp_value.specs.Slice.{numbers_down, RisesFrom, FallsBelow}
 use Rattle.jp_value.proofs.Order.{filtered_rises, filtered_falls}
 use Rattle.jp_nodes.specs.Nodes.{child, items_at}
-use Rattle.jp_eval.proofs.Rows.{take_none}
+use Rattle.jp_eval.proofs.ChildRanges.{take_none}
 
 -- ---- items at places
 

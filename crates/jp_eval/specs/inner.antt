@@ -2,10 +2,10 @@
 pub mod Aggregates
 pub mod Along
 pub mod Base
+pub mod ChildRanges
 pub mod Different
 pub mod Kept
 pub mod Links
 pub mod Rooted
-pub mod Rows
 pub mod Walk
 pub mod Finding

@@ -3,6 +3,7 @@
 #![tactic(auto)]
 
 mod aggregates;
+mod child_range;
 mod context;
 mod different;
 mod evaluation;
@@ -12,12 +13,11 @@ mod fork;
 mod found;
 pub mod laws;
 mod roots;
-mod row;
 mod slices;
 mod split;
-mod stretch;
 mod walk;
 mod wide;
+mod work_items;
 
 pub use evaluation::{EvalFault, evaluate, evaluate_split, visit_nodes};
 pub use evaluator::Evaluator;

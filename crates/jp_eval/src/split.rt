@@ -6,19 +6,19 @@ ghost use Rattle.std.specs.Thread.{IsSync};
 ghost use Rattle.jp_eval.specs.inner.Base.{base_of};
 ghost use Rattle.jp_eval.specs.inner.Finding.{Finds};
 ghost use Rattle.jp_eval.specs.inner.Kept.{kept, put_found, plus, taken, is_taken};
-ghost use Rattle.jp_eval.specs.inner.Rows.{row_kids};
+ghost use Rattle.jp_eval.specs.inner.ChildRanges.{range_nodes};
 ghost use Rattle.jp_eval.specs.inner.Along.{done_along_all};
 ghost use Rattle.jp_eval.specs.inner.Links.{here};
 ghost use Rattle.jp_eval.specs.inner.Walk.{done};
 ghost use Rattle.jp_path_stack.specs.Links.{link_steps};
 
+use crate::child_range::ChildRange;
 use crate::context::Context;
 use crate::fork::{Cuts, Fork};
 use crate::found::{Found, append, fresh, into_visitor, is_full};
-use crate::row::Row;
-use crate::stretch::{Stretch, stretches};
 use crate::walk::{Task, go, holds};
 use crate::wide::is_wide;
+use crate::work_items::{WorkItem, work_items};
 use jp_nodes::Visit;
 use jp_part::Part;
 use jp_path_stack::{Link, PathStack};
@@ -48,31 +48,48 @@ pub(crate) fn go_split<'v, R: Threads + Sync, F: Fork + Sync, V: Visit + Drop + 
     let Some(further) = settled::<V>(context, task, value, path)? else {
         return Ok(());
     };
-    match stretches(context.alloc, further, value)? {
-        Some(stretches) => each_stretch(rt, fork, cuts, context, stretches.as_slice(), path, found),
+    match work_items(context.alloc, further, value)? {
+        Some(work_items) => each_work_item(
+            rt,
+            fork,
+            cuts,
+            context,
+            work_items.as_slice(),
+            path,
+            found,
+        ),
         None => go(context, further, value, path, found),
     }
 }
 
 /// Each of these tasks along its children.
 #[cycle(split)]
-fn each_stretch<'v, R: Threads + Sync, F: Fork + Sync, V: Visit + Drop + Send>(
+fn each_work_item<'v, R: Threads + Sync, F: Fork + Sync, V: Visit + Drop + Send>(
     rt: &R,
     fork: &F,
     cuts: Cuts,
     context: &Context<'v>,
-    stretches: &[Stretch<'v>],
+    work_items: &[WorkItem<'v>],
     path: &mut PathStack<'v>,
     found: &mut Found<'v, V>,
 ) -> Result<(), AllocError>
     requires taken { is_taken (kept V.kept found.old) ≡ true }
     ensures found { OnOk result (Finds V.kept V.put found.old found.new
-        (done_along_all (base_of context.now) (link_steps path.old) stretches.now)) }
+        (done_along_all (base_of context.now) (link_steps path.old) work_items.now)) }
     ensures path { OnOk result (path.new ≡ path.old) }
 {
-    for stretch in stretches {
-        let children = Row::counted(&stretch.children);
-        each_of(rt, fork, cuts, context, stretch.task, children, path, found)?;
+    for work_item in work_items {
+        let children = ChildRange::counted(&work_item.children);
+        each_of(
+            rt,
+            fork,
+            cuts,
+            context,
+            work_item.task,
+            children,
+            path,
+            found,
+        )?;
     }
     Ok(())
 }
@@ -85,13 +102,13 @@ fn each_of<'v, R: Threads + Sync, F: Fork + Sync, V: Visit + Drop + Send>(
     cuts: Cuts,
     context: &Context<'v>,
     task: Task<'v>,
-    children: Row<'_, 'v>,
+    children: ChildRange<'_, 'v>,
     path: &mut PathStack<'v>,
     found: &mut Found<'v, V>,
 ) -> Result<(), AllocError>
     requires taken { is_taken (kept V.kept found.old) ≡ true }
-    ensures found { OnOk result (Finds V.kept V.put found.old found.new
-        (flat_map (done (base_of context.now) task.entry) (row_kids (link_steps path.old) children.entry))) }
+    ensures found { OnOk result (Finds V.kept V.put found.old found.new (flat_map
+        (done (base_of context.now) task.entry) (range_nodes (link_steps path.old) children.entry))) }
     ensures path { OnOk result (path.new ≡ path.old) }
 {
     if cuts.left == 0 || !children.has(cuts.floor.max(2)) {
@@ -112,7 +129,7 @@ fn each_of<'v, R: Threads + Sync, F: Fork + Sync, V: Visit + Drop + Send>(
             ensures { IfOk result (λ t. taken (V.kept t)
                 ≡ plus (put_found V.put) (taken (V.kept mine))
                 (flat_map (done (base_of context.entry.now) task.entry)
-                (row_kids (link_steps at.entry.now) left.entry))) }
+                (range_nodes (link_steps at.entry.now) left.entry))) }
         {
             fork.half(0);
             half(rt, fork, further, context, task, left, at, mine)
@@ -122,7 +139,7 @@ fn each_of<'v, R: Threads + Sync, F: Fork + Sync, V: Visit + Drop + Send>(
             ensures { IfOk result (λ t. taken (V.kept t)
                 ≡ plus (put_found V.put) (taken (V.kept other))
                 (flat_map (done (base_of context.entry.now) task.entry)
-                (row_kids (link_steps at.entry.now) right.entry))) }
+                (range_nodes (link_steps at.entry.now) right.entry))) }
         {
             fork.half(1);
             half(rt, fork, further, context, task, right, at, other)
@@ -140,12 +157,12 @@ fn half<'v, R: Threads + Sync, F: Fork + Sync, V: Visit + Drop + Send>(
     cuts: Cuts,
     context: &Context<'v>,
     task: Task<'v>,
-    children: Row<'_, 'v>,
+    children: ChildRange<'_, 'v>,
     at: &[Link<'v>],
     visitor: V,
 ) -> Result<V, AllocError>
     ensures { IfOk result (λ t. taken (V.kept t) ≡ plus (put_found V.put) (taken (V.kept visitor))
-        (flat_map (done (base_of context.now) task.entry) (row_kids (link_steps at.now) children.entry))) }
+        (flat_map (done (base_of context.now) task.entry) (range_nodes (link_steps at.now) children.entry))) }
 {
     let mut path = path_stack_of(context.alloc, at)?;
     let mut found = Found::Visitor(visitor);
@@ -166,13 +183,13 @@ fn one_by_one<'v, R: Threads + Sync, F: Fork + Sync, V: Visit + Drop + Send>(
     cuts: Cuts,
     context: &Context<'v>,
     task: Task<'v>,
-    children: Row<'_, 'v>,
+    children: ChildRange<'_, 'v>,
     path: &mut PathStack<'v>,
     found: &mut Found<'v, V>,
 ) -> Result<(), AllocError>
     requires taken { is_taken (kept V.kept found.old) ≡ true }
-    ensures found { OnOk result (Finds V.kept V.put found.old found.new
-        (flat_map (done (base_of context.now) task.entry) (row_kids (link_steps path.old) children.entry))) }
+    ensures found { OnOk result (Finds V.kept V.put found.old found.new (flat_map
+        (done (base_of context.now) task.entry) (range_nodes (link_steps path.old) children.entry))) }
     ensures path { OnOk result (path.new ≡ path.old) }
 {
     let mut rest = children;

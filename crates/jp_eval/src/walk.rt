@@ -9,7 +9,7 @@ ghost use Rattle.jp_part.specs.Part.{part_value};
 ghost use Rattle.jp_value.specs.Kinds.{given_value};
 ghost use Rattle.jp_eval.specs.inner.Aggregates.{tells};
 ghost use Rattle.jp_eval.specs.inner.Finding.{Finds};
-ghost use Rattle.jp_eval.specs.inner.Rows.{row_kids, row_height};
+ghost use Rattle.jp_eval.specs.inner.ChildRanges.{range_nodes, range_height};
 ghost use Rattle.jp_eval.specs.inner.Links.{here};
 ghost use Rattle.jp_nodes.specs.Nodes.{children, children_at, descendants, items_at};
 ghost use Rattle.jp_eval.specs.inner.Base.{Base, base_of};
@@ -17,9 +17,9 @@ ghost use Rattle.jp_eval.specs.inner.Walk.{picked, picked_by, reached, is_true, 
 ghost use Rattle.jp_eval.specs.inner.Walk.{done};
 
 use crate::aggregates::{Aggregate, has_first, of_distinct, operand};
+use crate::child_range::ChildRange;
 use crate::context::Context;
 use crate::found::{Found, add, into_aggregate, is_full, none_found};
-use crate::row::Row;
 use crate::slices::sliced;
 use jp_compiled::{Logical, Nodes, Segment, Selector, Value as Giver, Want};
 use jp_nodes::{Visit, children_of};
@@ -42,11 +42,11 @@ pub(crate) enum Task<'v> {
     Test(&'v Logical, &'v [Segment]),
 }
 
-/// A value, and all its children in a row.
+/// A value, and the range of all its children.
 #[derive(Clone, Copy)]
 struct Opened<'c, 'v> {
     value: Part<'v>,
-    row: Row<'c, 'v>,
+    range: ChildRange<'c, 'v>,
 }
 
 /// Whether the task finds nothing at the value, since it goes down, and nothing is inside.
@@ -77,9 +77,16 @@ pub(crate) fn go<'v, V: Visit + Drop>(
         Task::Run(rest) => run(context, rest, value, path, found),
         Task::Descend(selectors, rest) => {
             let children = children_of(context.alloc, value)?;
-            let row = Row::all(&children);
-            apply_inside(context, selectors, rest, Opened { value, row }, path, found)?;
-            each_of(context, task, row, path, found)
+            let range = ChildRange::all(&children);
+            apply_inside(
+                context,
+                selectors,
+                rest,
+                Opened { value, range },
+                path,
+                found,
+            )?;
+            each_of(context, task, range, path, found)
         }
         Task::Test(test, rest) => {
             if holds::<V>(context, test, value, path)? {
@@ -172,7 +179,7 @@ fn select<'v, V: Visit + Drop>(
         Selector::Slice(slice) => {
             let bounds = bounds_of(slice, value.item_count());
             let children = sliced(context.alloc, value, bounds)?;
-            let children = Row::Listed(children.as_slice());
+            let children = ChildRange::Listed(children.as_slice());
             each_of(context, Task::Run(rest), children, path, found)
         }
         Selector::Filter(test) => {
@@ -192,8 +199,9 @@ fn apply_inside<'v, V: Visit + Drop>(
     path: &mut PathStack<'v>,
     found: &mut Found<'v, V>,
 ) -> Result<(), AllocError>
-    requires nodes { (at : Location) → row_kids at opened.row ≡ children_at at (part_value opened.value) }
-    requires height { row_height opened.row ≤ height (part_value opened.value) }
+    requires nodes { (at : Location) → range_nodes at opened.range
+        ≡ children_at at (part_value opened.value) }
+    requires height { range_height opened.range ≤ height (part_value opened.value) }
     ensures found { OnOk result (Finds V.kept V.put found.old found.new
         (reached (base_of context.now) rest.now
         (picked_by (base_of context.now) selectors.now (here path.old opened.entry.value)))) }
@@ -218,16 +226,23 @@ fn select_inside<'v, V: Visit + Drop>(
     path: &mut PathStack<'v>,
     found: &mut Found<'v, V>,
 ) -> Result<(), AllocError>
-    requires nodes { (at : Location) → row_kids at opened.row ≡ children_at at (part_value opened.value) }
-    requires height { row_height opened.row ≤ height (part_value opened.value) }
+    requires nodes { (at : Location) → range_nodes at opened.range
+        ≡ children_at at (part_value opened.value) }
+    requires height { range_height opened.range ≤ height (part_value opened.value) }
     ensures found { OnOk result (Finds V.kept V.put found.old found.new
         (reached (base_of context.now) rest.now
         (picked (base_of context.now) selector.now (here path.old opened.entry.value)))) }
     ensures path { OnOk result (path.new ≡ path.old) }
 {
     match selector {
-        Selector::Wild => each_of(context, Task::Run(rest), opened.row, path, found),
-        Selector::Filter(test) => each_of(context, Task::Test(test, rest), opened.row, path, found),
+        Selector::Wild => each_of(context, Task::Run(rest), opened.range, path, found),
+        Selector::Filter(test) => each_of(
+            context,
+            Task::Test(test, rest),
+            opened.range,
+            path,
+            found,
+        ),
         _ => select(context, selector, rest, opened.value, path, found),
     }
 }
@@ -272,7 +287,7 @@ fn each_child<'v, V: Visit + Drop>(
     ensures path { OnOk result (path.new ≡ path.old) }
 {
     let children = children_of(context.alloc, value)?;
-    each_of(context, task, Row::all(&children), path, found)
+    each_of(context, task, ChildRange::all(&children), path, found)
 }
 
 /// The task at each of these children, one after another.
@@ -280,12 +295,12 @@ fn each_child<'v, V: Visit + Drop>(
 fn each_of<'v, V: Visit + Drop>(
     context: &Context<'v>,
     task: Task<'v>,
-    children: Row<'_, 'v>,
+    children: ChildRange<'_, 'v>,
     path: &mut PathStack<'v>,
     found: &mut Found<'v, V>,
 ) -> Result<(), AllocError>
-    ensures found { OnOk result (Finds V.kept V.put found.old found.new
-        (flat_map (done (base_of context.now) task.entry) (row_kids (link_steps path.old) children.entry))) }
+    ensures found { OnOk result (Finds V.kept V.put found.old found.new (flat_map
+        (done (base_of context.now) task.entry) (range_nodes (link_steps path.old) children.entry))) }
     ensures path { OnOk result (path.new ≡ path.old) }
 {
     let mut rest = children;

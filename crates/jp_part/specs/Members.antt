@@ -5,8 +5,8 @@ use Rattle.jp_doc.specs.Json.{Text, Json, value_of, Members, no_members, add_mem
 use Rattle.jp_flat.specs.Gathered.{entry}
 use Rattle.jp_part.specs.declared.members.MemberList.{MemberList}
 use Rattle.jp_part.specs.declared.members.MemberList.TheVariants as all
-use Rattle.jp_part.specs.declared.members.MemberRow.{MemberRow}
-use Rattle.jp_part.specs.declared.members.MemberRow.TheVariants.{Tree, Flat}
+use Rattle.jp_part.specs.declared.members.MemberRange.{MemberRange}
+use Rattle.jp_part.specs.declared.members.MemberRange.TheVariants.{Tree, Flat}
 use Rattle.jp_part.specs.declared.tree.TreeMember.{TreeMember}
 
 -- names and values, as the members of an object
@@ -17,11 +17,11 @@ members (e ∷ es) = add_member e.0 e.1 (members es)
 abbrev pub tree_entry : TreeMember → Text × Json
 tree_entry m = (chars m.name.now, value_of m.value.value.now)
 
--- the members of a list, and of a row of them
+-- the members of a list, and of a range of them
 abbrev pub list_entries : MemberList → List (Text × Json)
 list_entries (all.Tree v) = map tree_entry v.items
 list_entries (all.Flat v) = map entry v.items
 
-abbrev pub row_entries : MemberRow → List (Text × Json)
-row_entries (Tree s) = map tree_entry s.now
-row_entries (Flat s) = map entry s.now
+abbrev pub range_entries : MemberRange → List (Text × Json)
+range_entries (Tree s) = map tree_entry s.now
+range_entries (Flat s) = map entry s.now

@@ -8,6 +8,6 @@ mod part;
 mod tree;
 
 pub use items::Items;
-pub use members::{Member, MemberList, MemberRow, Members};
+pub use members::{Member, MemberList, MemberRange, Members};
 pub use part::{Inside, Kind, Part};
 pub use tree::{TreeItems, TreeMember, TreeMembers, TreeValue};

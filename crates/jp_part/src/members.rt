@@ -3,7 +3,7 @@
 ghost use Rattle.std.specs.Prelude.{◌≡◌, ◌++◌, [], ◌∷◌, length, IfOk, MatchOption};
 ghost use Rattle.std.specs.Str.{chars};
 ghost use Rattle.jp_part.specs.Inside.{members_in};
-ghost use Rattle.jp_part.specs.Members.{members, list_entries, row_entries};
+ghost use Rattle.jp_part.specs.Members.{members, list_entries, range_entries};
 ghost use Rattle.jp_part.specs.Part.{part_value};
 
 use crate::part::Part;
@@ -34,7 +34,7 @@ pub enum MemberList<'v> {
 
 /// Members that stand one behind another in a list.
 #[derive(Clone, Copy)]
-pub enum MemberRow<'c, 'v> {
+pub enum MemberRange<'c, 'v> {
     /// Of a tree.
     Tree(&'c [TreeMember<'v>]),
     /// Of a flat document.
@@ -70,64 +70,64 @@ impl<'v> Members<'v> {
 
 impl<'v> MemberList<'v> {
     /// All of them.
-    pub fn row(&self) -> MemberRow<'_, 'v>
-        ensures { row_entries result ≡ list_entries self.now }
+    pub fn range(&self) -> MemberRange<'_, 'v>
+        ensures { range_entries result ≡ list_entries self.now }
     {
         match self {
-            MemberList::Tree(list) => MemberRow::Tree(list.as_slice()),
-            MemberList::Flat(list) => MemberRow::Flat(list.as_slice()),
+            MemberList::Tree(list) => MemberRange::Tree(list.as_slice()),
+            MemberList::Flat(list) => MemberRange::Flat(list.as_slice()),
         }
     }
 }
 
-impl<'c, 'v> MemberRow<'c, 'v> {
+impl<'c, 'v> MemberRange<'c, 'v> {
     /// How many there are.
     pub fn len(self) -> usize
-        ensures { result ≡ length (row_entries self.entry) }
+        ensures { result ≡ length (range_entries self.entry) }
     {
         match self {
-            MemberRow::Tree(row) => row.len(),
-            MemberRow::Flat(row) => row.len(),
+            MemberRange::Tree(range) => range.len(),
+            MemberRange::Flat(range) => range.len(),
         }
     }
 
     /// The first half, and the second. No clause says that they are equally long.
-    pub fn halves(self) -> (MemberRow<'c, 'v>, MemberRow<'c, 'v>)
-        ensures { row_entries result.0 ++ row_entries result.1 ≡ row_entries self.entry }
+    pub fn halves(self) -> (MemberRange<'c, 'v>, MemberRange<'c, 'v>)
+        ensures { range_entries result.0 ++ range_entries result.1 ≡ range_entries self.entry }
     {
         match self {
-            MemberRow::Tree(row) => {
-                let (left, right) = row.split_at(row.len() / 2);
-                (MemberRow::Tree(left), MemberRow::Tree(right))
+            MemberRange::Tree(range) => {
+                let (left, right) = range.split_at(range.len() / 2);
+                (MemberRange::Tree(left), MemberRange::Tree(right))
             }
-            MemberRow::Flat(row) => {
-                let (left, right) = row.split_at(row.len() / 2);
-                (MemberRow::Flat(left), MemberRow::Flat(right))
+            MemberRange::Flat(range) => {
+                let (left, right) = range.split_at(range.len() / 2);
+                (MemberRange::Flat(left), MemberRange::Flat(right))
             }
         }
     }
 
     /// The first, and those behind it.
-    pub fn split_first(self) -> Option<(Member<'v>, MemberRow<'c, 'v>)>
-        ensures { MatchOption result (row_entries self.entry ≡ [])
-            (λ p. row_entries self.entry
-            ≡ (chars p.0.name.now, part_value p.0.value) ∷ row_entries p.1) }
+    pub fn split_first(self) -> Option<(Member<'v>, MemberRange<'c, 'v>)>
+        ensures { MatchOption result (range_entries self.entry ≡ [])
+            (λ p. range_entries self.entry
+            ≡ (chars p.0.name.now, part_value p.0.value) ∷ range_entries p.1) }
     {
         match self {
-            MemberRow::Tree(row) => match row.split_first() {
+            MemberRange::Tree(range) => match range.split_first() {
                 None => None,
                 Some((first, others)) => {
                     let TreeMember { name, value } = *first;
                     let value = Part::Tree(value);
-                    Some((Member { name, value }, MemberRow::Tree(others)))
+                    Some((Member { name, value }, MemberRange::Tree(others)))
                 }
             },
-            MemberRow::Flat(row) => match row.split_first() {
+            MemberRange::Flat(range) => match range.split_first() {
                 None => None,
                 Some((first, others)) => {
                     let FlatMember { name, value } = *first;
                     let value = Part::Flat(value);
-                    Some((Member { name, value }, MemberRow::Flat(others)))
+                    Some((Member { name, value }, MemberRange::Flat(others)))
                 }
             },
         }

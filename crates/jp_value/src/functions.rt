@@ -58,7 +58,7 @@ fn length_of(alloc: Global, kind: Kind<'_>) -> Result<Option<Kind<'_>>, AllocErr
         Kind::Array(items) => Ok(Some(Kind::Whole(items.count() as i128))),
         Kind::Object(members) => {
             let members = members.gather(alloc)?;
-            Ok(Some(Kind::Whole(members.row().len() as i128)))
+            Ok(Some(Kind::Whole(members.range().len() as i128)))
         }
         Kind::Null => Ok(None),
         Kind::Truth(_) => Ok(None),

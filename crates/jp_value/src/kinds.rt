@@ -3,12 +3,12 @@
 ghost use Rattle.std.specs.Prelude.{◌≡◌, IfOk};
 ghost use Rattle.jp_doc.specs.Json.{items};
 ghost use Rattle.jp_part.specs.Inside.{item_values, kind_value, members_in};
-ghost use Rattle.jp_part.specs.Members.{members, row_entries};
+ghost use Rattle.jp_part.specs.Members.{members, range_entries};
 ghost use Rattle.jp_value.specs.Comparison as spec;
 ghost use Rattle.jp_value.specs.Kinds.{given_value};
 
 use crate::comparison::{is_text_below, same_text};
-use jp_part::{Items, Kind, MemberRow, Members};
+use jp_part::{Items, Kind, MemberRange, Members};
 use jp_tree::Operator;
 use std::alloc::{AllocError, Global};
 
@@ -56,22 +56,22 @@ fn same_members(alloc: Global, left: Members<'_>, right: Members<'_>) -> Result<
 {
     let left = left.gather(alloc)?;
     let right = right.gather(alloc)?;
-    let ones = left.row();
-    let others = right.row();
+    let ones = left.range();
+    let others = right.range();
     if ones.len() != others.len() {
         return Ok(false);
     }
-    same_rows(alloc, ones, others)
+    same_ranges(alloc, ones, others)
 }
 
 #[cycle(same_kind)]
-fn same_rows(
+fn same_ranges(
     alloc: Global,
-    left: MemberRow<'_, '_>,
-    right: MemberRow<'_, '_>,
+    left: MemberRange<'_, '_>,
+    right: MemberRange<'_, '_>,
 ) -> Result<bool, AllocError>
-    ensures { IfOk result (λ b. b ≡ spec.same_members (members (row_entries left.entry))
-        (members (row_entries right.entry))) }
+    ensures { IfOk result (λ b. b ≡ spec.same_members (members (range_entries left.entry))
+        (members (range_entries right.entry))) }
 {
     let mut ones = left;
     let mut others = right;

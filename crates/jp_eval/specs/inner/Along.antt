@@ -5,16 +5,16 @@ use Rattle.jp_doc.specs.Location.{Location, Node}
 use Rattle.jp_nodes.specs.Kids.{all_kids, all_height}
 use Rattle.jp_eval.specs.inner.Base.{Base}
 use Rattle.jp_eval.specs.inner.Walk.{done}
-use Rattle.jp_eval.specs.declared.stretch.Stretch.{Stretch}
+use Rattle.jp_eval.specs.declared.work_items.WorkItem.{WorkItem}
 
 -- what the task finds at the children, and what several find one after another
-abbrev pub done_along : Base → Location → Stretch → List Node
+abbrev pub done_along : Base → Location → WorkItem → List Node
 done_along base at s = flat_map (done base s.task) (all_kids at s.children)
 
-abbrev pub done_along_all : Base → Location → List Stretch → List Node
+abbrev pub done_along_all : Base → Location → List WorkItem → List Node
 done_along_all base at ss = flat_map (done_along base at) ss
 
 -- how high a value is at least that has the children of all of them
-abbrev pub highest : List Stretch → ℕ
+abbrev pub highest : List WorkItem → ℕ
 highest [] = 0
 highest (s ∷ ss) = max (all_height s.children) (highest ss)

@@ -5,7 +5,7 @@ use Rattle.jp_doc.specs.Location.{Location, Node, node}
 use Rattle.jp_path_stack.specs.Links.{link_steps}
 use Rattle.jp_eval.specs.inner.Base.{base_of}
 use Rattle.jp_eval.specs.inner.Kept.{kept, put_found, plus, taken, emptied_found}
-use Rattle.jp_eval.specs.inner.Rows.{row_kids, row_height}
+use Rattle.jp_eval.specs.inner.ChildRanges.{range_nodes, range_height}
 use Rattle.jp_eval.specs.inner.Along.{done_along_all}
 use Rattle.jp_part.specs.Part.{part_value}
 use Rattle.jp_eval.specs.inner.Walk.{done}
@@ -16,42 +16,43 @@ use mir.Syntax.{named}
 use Rattle.jp_eval.proofs.Crossing.{captured_send}
 use Rattle.jp_eval.proofs.Gathered.{kid_done, halves_joined}
 use Rattle.jp_eval.proofs.Keeping.{ended, full_enough, nothing_found, not_lost, taken_on}
-use Rattle.jp_eval.proofs.Stretches.{others_no_higher, stretch_done}
+use Rattle.jp_eval.proofs.WorkItems.{others_no_higher, work_item_done}
 use Rattle.jp_eval.proofs.WalkSteps.{back_up, link_further, over}
 use Rattle.jp_eval.proofs.split.+split.Lts-each_of as lts
 use Rattle.jp_eval.proofs.split.+split.Goals as goal
 
-pub each_stretch-loop-stretch-preserved : goal.each_stretch-loop-stretch-preserved
-each_stretch-loop-stretch-preserved g t c =
-    let ss = c.args.stretches.now in
-    let i = c.loop-stretch.stretch-index in
+pub each_work_item-loop-work_item-preserved : goal.each_work_item-loop-work_item-preserved
+each_work_item-loop-work_item-preserved g t c =
+    let ss = c.args.work_items.now in
+    let i = c.loop-work_item.work_item-index in
     let h : i < length ss = omega arith in
     let e = others_no_higher ss i in
     rw c.in_ok-each_of.ensures.path (
-      c.loop-stretch.invariant.0,
-      omega (arith, e, c.loop-stretch.invariant.1),
-      stretch_done (put_found g.V.Visit.put) (base_of c.args.context.now) (link_steps c.loop-stretch.path) ss
-          i c.stretch-item.result _ _ _ _ h c.stretch-item.is
+      c.loop-work_item.invariant.0,
+      omega (arith, e, c.loop-work_item.invariant.1),
+      work_item_done (put_found g.V.Visit.put) (base_of c.args.context.now) (link_steps c.loop-work_item.path)
+          ss i c.work_item-item.result _ _ _ _ h c.work_item-item.is
           (c.in_ok-each_of.ensures.found
-          ∙ ap (λ ns. plus (put_found g.V.Visit.put) (kept g.V.Visit.kept c.loop-stretch.found)
-          (flat_map (done (base_of c.args.context.now) c.stretch-item.result.task) ns))
-          (c.counted-children.ensures.nodes (link_steps c.loop-stretch.path)))
-          c.loop-stretch.invariant.2,
+          ∙ ap (λ ns. plus (put_found g.V.Visit.put) (kept g.V.Visit.kept c.loop-work_item.found)
+          (flat_map (done (base_of c.args.context.now) c.work_item-item.result.task) ns))
+          (c.counted-children.ensures.nodes (link_steps c.loop-work_item.path)))
+          c.loop-work_item.invariant.2,
     )
 
-pub each_stretch-each_of-requires-clause-taken : goal.each_stretch-each_of-requires-clause-taken
-each_stretch-each_of-requires-clause-taken g t c κs within =
-    taken_on g.V.Visit.put _ _ _ _ c.loop-stretch.invariant.2 c.requires.taken
+pub each_work_item-each_of-requires-clause-taken : goal.each_work_item-each_of-requires-clause-taken
+each_work_item-each_of-requires-clause-taken g t c κs within =
+    taken_on g.V.Visit.put _ _ _ _ c.loop-work_item.invariant.2 c.requires.taken
 
 pub one_by_one-go_split-requires-clause-taken : goal.one_by_one-go_split-requires-clause-taken
 one_by_one-go_split-requires-clause-taken g t c κs within =
     taken_on g.V.Visit.put _ _ _ _ c.loop-child.invariant.2 c.requires.taken
 
-pub each_stretch-returns-clause-found : goal.each_stretch-returns-clause-found
-each_stretch-returns-clause-found g t c =
+pub each_work_item-returns-clause-found : goal.each_work_item-returns-clause-found
+each_work_item-returns-clause-found g t c =
     over (put_found g.V.Visit.put)
-    (λ xs. done_along_all (base_of c.args.context.now) (link_steps c.loop-stretch.path) xs)
-    c.args.stretches.now c.loop-stretch.stretch-index _ _ _ (omega arith) refl c.loop-stretch.invariant.2
+    (λ xs. done_along_all (base_of c.args.context.now) (link_steps c.loop-work_item.path) xs)
+    c.args.work_items.now c.loop-work_item.work_item-index _ _ _ (omega arith) refl
+    c.loop-work_item.invariant.2
 
 pub one_by_one-loop-child-preserved : goal.one_by_one-loop-child-preserved
 one_by_one-loop-child-preserved g t c =
@@ -85,7 +86,7 @@ pub half-returns : goal.half-returns
 half-returns g t c =
     c.in-Some.ensures.visitor ∙ c.in_ok-each_of.ensures.found
     ∙ ap (λ ls. plus (put_found g.V.Visit.put) (taken (g.V.Visit.kept c.args.visitor))
-    (flat_map (done (base_of c.args.context.now) c.args.task) (row_kids (link_steps ls) c.args.children)))
+    (flat_map (done (base_of c.args.context.now) c.args.task) (range_nodes (link_steps ls) c.args.children)))
     c.in_ok-path.ensures
 
 pub half-unreachable-requires : goal.half-unreachable-requires
@@ -99,16 +100,16 @@ go_split-returns-in_default-clause-found g t c =
 
 pub each_of-join-first-requires-after_bounds : goal.each_of-join-first-requires-after_bounds
 each_of-join-first-requires-after_bounds g t c κs within =
-    let front : row_height c.halves.result.0 ≤ row_height c.args.children = c.halves.ensures.left in
-    let back : row_height c.halves.result.1 ≤ row_height c.args.children = c.halves.ensures.right in
+    let front : range_height c.halves.result.0 ≤ range_height c.args.children = c.halves.ensures.left in
+    let back : range_height c.halves.result.1 ≤ range_height c.args.children = c.halves.ensures.right in
     ((search rules, search rules), (search rules, search rules))
 
 pub each_of-returns-clause-found : goal.each_of-returns-clause-found
 each_of-returns-clause-found g t c =
     let put = put_found g.V.Visit.put in
     let f = done (base_of c.args.context.now) c.args.task in
-    let left : Location → List Node = λ at. row_kids at c.halves.result.0 in
-    let right : Location → List Node = λ at. row_kids at c.halves.result.1 in
+    let left : Location → List Node = λ at. range_nodes at c.halves.result.0 in
+    let right : Location → List Node = λ at. range_nodes at c.halves.result.1 in
     let at = link_steps c.args.path.now in
     let before = kept g.V.Visit.kept c.args.found.now in
     let first : taken (g.V.Visit.kept c.in_ok-first.field-0)

@@ -4,7 +4,7 @@ use Rattle.jp_doc.specs.Height.{height}
 use Rattle.jp_part.specs.Part.{part_value}
 use Rattle.jp_eval.specs.inner.Base.{base_of}
 use Rattle.jp_eval.specs.inner.Kept.{kept, put_found, plus}
-use Rattle.jp_eval.specs.inner.Rows.{row_kids, row_height, row_length}
+use Rattle.jp_eval.specs.inner.ChildRanges.{range_nodes, range_height, range_length}
 use Rattle.jp_eval.specs.inner.Along.{done_along_all, highest}
 use Rattle.jp_eval.specs.inner.Walk.{done}
 use Rattle.jp_path_stack.specs.Links.{link_steps}
@@ -17,41 +17,41 @@ weight height cuts rank = 16 * height + 4 * cuts + rank
 abbrev pub decreases-go_split : goal.decreases-go_split
 decreases-go_split g l = weight (height (part_value l.value)) l.cuts.left 15
 
-abbrev pub decreases-each_stretch : goal.decreases-each_stretch
-decreases-each_stretch g l = weight (highest l.stretches.now) l.cuts.left 14
+abbrev pub decreases-each_work_item : goal.decreases-each_work_item
+decreases-each_work_item g l = weight (highest l.work_items.now) l.cuts.left 14
 
 abbrev pub decreases-each_of : goal.decreases-each_of
-decreases-each_of g l = weight (row_height l.children) l.cuts.left 10
+decreases-each_of g l = weight (range_height l.children) l.cuts.left 10
 
 abbrev pub decreases-each_of-join+arg2 : goal.decreases-each_of-join+arg2
-decreases-each_of-join+arg2 g l = weight (row_height l.left) l.further.left 13
+decreases-each_of-join+arg2 g l = weight (range_height l.left) l.further.left 13
 
 abbrev pub decreases-each_of-join+arg3 : goal.decreases-each_of-join+arg3
-decreases-each_of-join+arg3 g l = weight (row_height l.right) l.further.left 13
+decreases-each_of-join+arg3 g l = weight (range_height l.right) l.further.left 13
 
 abbrev pub decreases-half : goal.decreases-half
-decreases-half g l = weight (row_height l.children) l.cuts.left 12
+decreases-half g l = weight (range_height l.children) l.cuts.left 12
 
 abbrev pub decreases-one_by_one : goal.decreases-one_by_one
-decreases-one_by_one g l = weight (row_height l.children) l.cuts.left 7
+decreases-one_by_one g l = weight (range_height l.children) l.cuts.left 7
 
-abbrev pub invariant-each_stretch-loop-stretch : goal.invariant-each_stretch-loop-stretch
-invariant-each_stretch-loop-stretch g l =
+abbrev pub invariant-each_work_item-loop-work_item : goal.invariant-each_work_item-loop-work_item
+invariant-each_work_item-loop-work_item g l =
     (l.path ≡ l.initial.path)
-    × (highest (drop l.stretch-index l.stretches) ≤ highest l.stretches)
+    × (highest (drop l.work_item-index l.work_items) ≤ highest l.work_items)
     × (plus (put_found g.V.Visit.put) (kept g.V.Visit.kept l.found)
-    (done_along_all (base_of l.context) (link_steps l.path) (drop l.stretch-index l.stretches))
+    (done_along_all (base_of l.context) (link_steps l.path) (drop l.work_item-index l.work_items))
     ≡ plus (put_found g.V.Visit.put) (kept g.V.Visit.kept l.initial.found)
-    (done_along_all (base_of l.context) (link_steps l.initial.path) l.stretches))
+    (done_along_all (base_of l.context) (link_steps l.initial.path) l.work_items))
 
 abbrev pub invariant-one_by_one-loop-child : goal.invariant-one_by_one-loop-child
 invariant-one_by_one-loop-child g l =
     (l.path ≡ l.initial.path)
-    × (row_height l.rest ≤ row_height l.children)
+    × (range_height l.rest ≤ range_height l.children)
     × (plus (put_found g.V.Visit.put) (kept g.V.Visit.kept l.found)
-    (flat_map (done (base_of l.context) l.task) (row_kids (link_steps l.path) l.rest))
+    (flat_map (done (base_of l.context) l.task) (range_nodes (link_steps l.path) l.rest))
     ≡ plus (put_found g.V.Visit.put) (kept g.V.Visit.kept l.initial.found)
-    (flat_map (done (base_of l.context) l.task) (row_kids (link_steps l.initial.path) l.children)))
+    (flat_map (done (base_of l.context) l.task) (range_nodes (link_steps l.initial.path) l.children)))
 
 abbrev pub decreases-one_by_one-loop-child : goal.decreases-one_by_one-loop-child
-decreases-one_by_one-loop-child g l = row_length l.rest
+decreases-one_by_one-loop-child g l = range_length l.rest

@@ -22,7 +22,7 @@ use Rattle.jp_value.specs.Comparison.{compared}
 use Rattle.jp_value.specs.Functions.{tested, length_value}
 use Rattle.jp_value.specs.Functions.{exactly_one}
 use Rattle.jp_nodes.specs.Kids.{kids}
-use Rattle.jp_eval.specs.inner.Rows.{row_kids}
+use Rattle.jp_eval.specs.inner.ChildRanges.{range_nodes}
 use Rattle.jp_nodes.specs.Nodes.{children, descendants, items_at, node_if_some}
 use Rattle.jp_value.specs.Literals.{written_value}
 use Rattle.jp_eval.specs.inner.Kept.{kept, put_found, plus}
@@ -159,11 +159,11 @@ go-returns-in_ok-apply_inside-in-Descend-clause-found g t c =
     let xs = c.in-Descend.selectors.now in
     let rest = c.in-Descend.rest.now in
     let at = link_steps c.args.path.now in
-    let row : row_kids at c.all-row.result ≡ children (here c.args.path.now c.args.value) =
-    c.all-row.ensures.nodes at ∙ c.in_ok-children-in-Descend.ensures.nodes at in
+    let range : range_nodes at c.all-range.result ≡ children (here c.args.path.now c.args.value) =
+    c.all-range.ensures.nodes at ∙ c.in_ok-children-in-Descend.ensures.nodes at in
     on_ok_weaker c.each_of.result (λ e. rw c.in-Descend.is (descended (put_found g.V.Visit.put) base xs
     rest (here c.args.path.now c.args.value) _ _ _ c.in_ok-apply_inside-in-Descend.ensures.found
-    (rw row at (rw (c.in_ok-apply_inside-in-Descend.ensures.path, c.in-Descend.is) at e))))
+    (rw range at (rw (c.in_ok-apply_inside-in-Descend.ensures.path, c.in-Descend.is) at e))))
     c.each_of.ensures.found
 
 pub go-returns-in_ok-run-in-Test-clause-found : goal.go-returns-in_ok-run-in-Test-clause-found

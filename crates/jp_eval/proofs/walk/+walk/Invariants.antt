@@ -11,7 +11,7 @@ use Rattle.jp_eval.specs.inner.Base.{base_of}
 use Rattle.jp_eval.specs.inner.Kept.{kept, put_found, plus}
 use Rattle.jp_eval.specs.inner.Links.{here}
 use Rattle.jp_path_stack.specs.Links.{link_steps}
-use Rattle.jp_eval.specs.inner.Rows.{row_kids, row_height, row_length}
+use Rattle.jp_eval.specs.inner.ChildRanges.{range_nodes, range_height, range_length}
 use Rattle.jp_part.specs.Part.{part_value}
 use Rattle.jp_eval.specs.inner.Walk.{picked_by, reached, is_true, done}
 use Rattle.jp_part.specs.declared.part.Part.{Part}
@@ -63,7 +63,7 @@ abbrev pub decreases-each_child : goal.decreases-each_child
 decreases-each_child g l = weight (task_size l.task) l.value 3
 
 abbrev pub decreases-each_of : goal.decreases-each_of
-decreases-each_of g l = 2000 * task_size l.task + 16 * row_height l.children + 1
+decreases-each_of g l = 2000 * task_size l.task + 16 * range_height l.children + 1
 
 abbrev pub decreases-ask : goal.decreases-ask
 decreases-ask g l = weight (size-Nodes l.nodes.now) l.value 7
@@ -104,14 +104,14 @@ invariant-apply_inside-loop-selector g l =
 abbrev pub invariant-each_of-loop-child : goal.invariant-each_of-loop-child
 invariant-each_of-loop-child g l =
     (l.path ≡ l.initial.path)
-    × (row_height l.rest ≤ row_height l.children)
+    × (range_height l.rest ≤ range_height l.children)
     × (plus (put_found g.V.Visit.put) (kept g.V.Visit.kept l.found)
-    (flat_map (done (base_of l.context) l.task) (row_kids (link_steps l.path) l.rest))
+    (flat_map (done (base_of l.context) l.task) (range_nodes (link_steps l.path) l.rest))
     ≡ plus (put_found g.V.Visit.put) (kept g.V.Visit.kept l.initial.found)
-    (flat_map (done (base_of l.context) l.task) (row_kids (link_steps l.initial.path) l.children)))
+    (flat_map (done (base_of l.context) l.task) (range_nodes (link_steps l.initial.path) l.children)))
 
 abbrev pub decreases-each_of-loop-child : goal.decreases-each_of-loop-child
-decreases-each_of-loop-child g l = row_length l.rest
+decreases-each_of-loop-child g l = range_length l.rest
 
 abbrev pub invariant-any-loop-part : goal.invariant-any-loop-part
 invariant-any-loop-part g l =

@@ -17,5 +17,5 @@ pub returns-in_ok-members-in-Object : goal.returns-in_ok-members-in-Object
 returns-in_ok-members-in-Object c =
     let n : to_z w128 c.len.result ≡ pos c.len.result = omega (arith, ints) in
     rw n (object_length (members_in c.in-Object.members) (list_entries c.in_ok-members-in-Object.members)
-    c.len.result c.in_ok-members-in-Object.ensures (c.len.ensures ∙ ap length c.row.ensures)
+    c.len.result c.in_ok-members-in-Object.ensures (c.len.ensures ∙ ap length c.range.ensures)
     ∙ sym (ap (λ k. length_value (Some (kind_value k))) c.in-Object.is))

@@ -2,7 +2,7 @@ use Rattle.std.proofs.Common.{◌≡◌, ◌+◌, ◌*◌, ◌≤◌, length}
 use Rattle.jp_doc.specs.Height.{height, items_height, members_height}
 use Rattle.jp_doc.specs.Json.{items}
 use Rattle.jp_part.specs.Inside.{item_values, kind_value, members_in}
-use Rattle.jp_part.specs.Members.{members, row_entries}
+use Rattle.jp_part.specs.Members.{members, range_entries}
 use Rattle.jp_value.specs.Comparison.{same_items, same_members}
 use Rattle.jp_value.proofs.kinds.+same_kind.Given as goal
 
@@ -16,8 +16,8 @@ decreases-same_items l = 3 * items_height (items (item_values l.left)) + 1
 abbrev pub decreases-same_members : goal.decreases-same_members
 decreases-same_members l = 3 * members_height (members_in l.left) + 2
 
-abbrev pub decreases-same_rows : goal.decreases-same_rows
-decreases-same_rows l = 3 * members_height (members (row_entries l.left)) + 1
+abbrev pub decreases-same_ranges : goal.decreases-same_ranges
+decreases-same_ranges l = 3 * members_height (members (range_entries l.left)) + 1
 
 abbrev pub invariant-same_items-loop-one : goal.invariant-same_items-loop-one
 invariant-same_items-loop-one l =
@@ -28,11 +28,11 @@ invariant-same_items-loop-one l =
 abbrev pub decreases-same_items-loop-one : goal.decreases-same_items-loop-one
 decreases-same_items-loop-one l = length (item_values l.ones)
 
-abbrev pub invariant-same_rows-loop-one : goal.invariant-same_rows-loop-one
-invariant-same_rows-loop-one l =
-    (members_height (members (row_entries l.ones)) ≤ members_height (members (row_entries l.left)))
-    × (same_members (members (row_entries l.ones)) (members (row_entries l.others))
-    ≡ same_members (members (row_entries l.left)) (members (row_entries l.right)))
+abbrev pub invariant-same_ranges-loop-one : goal.invariant-same_ranges-loop-one
+invariant-same_ranges-loop-one l =
+    (members_height (members (range_entries l.ones)) ≤ members_height (members (range_entries l.left)))
+    × (same_members (members (range_entries l.ones)) (members (range_entries l.others))
+    ≡ same_members (members (range_entries l.left)) (members (range_entries l.right)))
 
-abbrev pub decreases-same_rows-loop-one : goal.decreases-same_rows-loop-one
-decreases-same_rows-loop-one l = length (row_entries l.ones)
+abbrev pub decreases-same_ranges-loop-one : goal.decreases-same_ranges-loop-one
+decreases-same_ranges-loop-one l = length (range_entries l.ones)

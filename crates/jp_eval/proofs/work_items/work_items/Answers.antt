@@ -5,7 +5,7 @@ use Rattle.jp_nodes.specs.Nodes.{descendants}
 use Rattle.jp_part.specs.Part.{part_value}
 use Rattle.jp_eval.specs.inner.Walk.{picked_by, reached, done}
 use Rattle.jp_eval.proofs.Chains.{reached-plain, reached-deep}
-use Rattle.jp_eval.proofs.stretch.stretches.Goals as goal
+use Rattle.jp_eval.proofs.work_items.work_items.Goals as goal
 
 pub returns-in_ok-spread_deep-in-Some-clause-nodes : goal.returns-in_ok-spread_deep-in-Some-clause-nodes
 returns-in_ok-spread_deep-in-Some-clause-nodes c = λ base at.

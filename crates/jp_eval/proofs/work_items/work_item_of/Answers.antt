@@ -12,8 +12,8 @@ use Rattle.jp_part.specs.Part.{part_value}
 use Rattle.jp_eval.specs.inner.Walk.{picked, is_true}
 use Rattle.jp_eval.proofs.Places.{index_found, slice_found}
 use Rattle.jp_eval.proofs.CompiledParts.{picked_name, picked_wild, picked_index, picked_slice, picked_filter}
-use Rattle.jp_eval.proofs.Stretches.{run_along, test_along}
-use Rattle.jp_eval.proofs.stretch.stretch_of.Goals as goal
+use Rattle.jp_eval.proofs.WorkItems.{run_along, test_along}
+use Rattle.jp_eval.proofs.work_items.work_item_of.Goals as goal
 
 pub returns-in_ok-named-in-Name-clause-nodes : goal.returns-in_ok-named-in-Name-clause-nodes
 returns-in_ok-named-in-Name-clause-nodes c = λ base at.

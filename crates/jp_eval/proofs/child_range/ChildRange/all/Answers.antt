@@ -4,8 +4,8 @@ use Rattle.jp_part.specs.Inside.{item_values}
 use Rattle.jp_part.proofs.Short.{items_are_few}
 use Rattle.jp_nodes.specs.Kids.{all_kids}
 use Rattle.jp_nodes.specs.Nodes.{item_nodes}
-use Rattle.jp_eval.proofs.Rows.{take_enough}
-use Rattle.jp_eval.proofs.row.Row.all.Goals as goal
+use Rattle.jp_eval.proofs.ChildRanges.{take_enough}
+use Rattle.jp_eval.proofs.child_range.ChildRange.all.Goals as goal
 
 pub returns-in-Items-clause-nodes : goal.returns-in-Items-clause-nodes
 returns-in-Items-clause-nodes c = λ at.

@@ -1,12 +1,12 @@
 use Rattle.std.proofs.Common.{◌+◌, ◌-◌, ◌≤◌, ◌/◌, ◌++◌, take, ◌∙◌, ap, sym, arith}
 use Rattle.jp_doc.specs.Json.{items}
 use Rattle.jp_part.specs.Inside.{item_values}
-use Rattle.jp_eval.specs.inner.Rows.{row_kids}
+use Rattle.jp_eval.specs.inner.ChildRanges.{range_nodes}
 use Rattle.jp_nodes.specs.Nodes.{item_nodes}
 use Rattle.jp_eval.proofs.Gathered.{front_height, back_height}
-use Rattle.jp_eval.proofs.Rows.{halves_of_items, others_height, halves_of_members, front_members}
-use Rattle.jp_eval.proofs.Rows.{back_members}
-use Rattle.jp_eval.proofs.row.Row.halves.Goals as goal
+use Rattle.jp_eval.proofs.ChildRanges.{halves_of_items, others_height, halves_of_members, front_members}
+use Rattle.jp_eval.proofs.ChildRanges.{back_members}
+use Rattle.jp_eval.proofs.child_range.ChildRange.halves.Goals as goal
 
 pub returns-in-Listed-clause-left : goal.returns-in-Listed-clause-left
 returns-in-Listed-clause-left c =
@@ -26,7 +26,7 @@ returns-in-Items-clause-nodes c = λ at.
     (items (take (c.in-Items.past - (c.in-Items.first + c.saturating_sub-half.result / 2)) xs)))
     c.skip.ensures
     ∙ halves_of_items at c.in-Items.first (c.saturating_sub-half.result / 2) c.in-Items.past
-    (item_values c.in-Items.items) half ∙ sym (ap (row_kids at) c.in-Items.is)
+    (item_values c.in-Items.items) half ∙ sym (ap (range_nodes at) c.in-Items.is)
 
 pub returns-in-Items-clause-right : goal.returns-in-Items-clause-right
 returns-in-Items-clause-right c =
@@ -35,7 +35,7 @@ returns-in-Items-clause-right c =
 
 pub returns-in-Members-clause-nodes : goal.returns-in-Members-clause-nodes
 returns-in-Members-clause-nodes c = λ at. halves_of_members at _ _ _ c.halves.ensures
-    ∙ sym (ap (row_kids at) c.in-Members.is)
+    ∙ sym (ap (range_nodes at) c.in-Members.is)
 
 pub returns-in-Members-clause-left : goal.returns-in-Members-clause-left
 returns-in-Members-clause-left c = rw c.in-Members.is (front_members _ _ _ c.halves.ensures)

@@ -21,17 +21,17 @@ use std::alloc::{AllocError, Global};
 
 /// A task at each of some children of a value.
 #[derive(Drop)]
-pub(crate) struct Stretch<'v> {
+pub(crate) struct WorkItem<'v> {
     pub(crate) task: Task<'v>,
     pub(crate) children: Children<'v>,
 }
 
 /// What a task comes to at the value, or nothing where it goes no further down, or where a test decides.
-pub(crate) fn stretches<'v>(
+pub(crate) fn work_items<'v>(
     alloc: Global,
     task: Task<'v>,
     value: Part<'v>,
-) -> Result<Option<Vec<Stretch<'v>>>, AllocError>
+) -> Result<Option<Vec<WorkItem<'v>>>, AllocError>
     ensures nodes { IfOk result (λ o. IfSome o (λ v. (base : Base) (at : Location) →
         done_along_all base at v.items ≡ done base task.entry (node at (part_value value.entry)))) }
     ensures height { IfOk result (λ o. IfSome o (λ v. highest v.items ≤ height (part_value value.entry))) }
@@ -59,18 +59,18 @@ fn spread_deep<'v>(
     selectors: &'v [Selector],
     rest: &'v [Segment],
     value: Part<'v>,
-) -> Result<Vec<Stretch<'v>>, AllocError>
+) -> Result<Vec<WorkItem<'v>>, AllocError>
     ensures nodes { IfOk result (λ v. (base : Base) (at : Location) → done_along_all base at v.items
         ≡ reached base rest.now (flat_map (picked_by base selectors.now)
         (descendants (node at (part_value value.entry))))) }
     ensures height { IfOk result (λ v. highest v.items ≤ height (part_value value.entry)) }
 {
-    let mut stretches = spread(alloc, selectors, rest, value)?;
-    stretches.push(Stretch {
+    let mut work_items = spread(alloc, selectors, rest, value)?;
+    work_items.push(WorkItem {
         task: Task::Descend(selectors, rest),
         children: children_of(alloc, value)?,
     })?;
-    Ok(stretches)
+    Ok(work_items)
 }
 
 /// Each selector at the value, and then the segments.
@@ -79,25 +79,25 @@ fn spread<'v>(
     selectors: &'v [Selector],
     rest: &'v [Segment],
     value: Part<'v>,
-) -> Result<Vec<Stretch<'v>>, AllocError>
+) -> Result<Vec<WorkItem<'v>>, AllocError>
     ensures nodes { IfOk result (λ v. (base : Base) (at : Location) → done_along_all base at v.items
         ≡ reached base rest.now (picked_by base selectors.now (node at (part_value value.entry)))) }
     ensures height { IfOk result (λ v. highest v.items ≤ height (part_value value.entry)) }
 {
-    let mut stretches = Vec::new(alloc);
+    let mut work_items = Vec::new(alloc);
     for selector in selectors {
-        stretches.push(stretch_of(alloc, selector, rest, value)?)?;
+        work_items.push(work_item_of(alloc, selector, rest, value)?)?;
     }
-    Ok(stretches)
+    Ok(work_items)
 }
 
 /// One selector at the value, and then the segments.
-fn stretch_of<'v>(
+fn work_item_of<'v>(
     alloc: Global,
     selector: &'v Selector,
     rest: &'v [Segment],
     value: Part<'v>,
-) -> Result<Stretch<'v>, AllocError>
+) -> Result<WorkItem<'v>, AllocError>
     ensures nodes { IfOk result (λ s. (base : Base) (at : Location) → done_along base at s
         ≡ reached base rest.now (picked base selector.now (node at (part_value value.entry)))) }
     ensures height { IfOk result (λ s. all_height s.children ≤ height (part_value value.entry)) }
@@ -105,14 +105,14 @@ fn stretch_of<'v>(
     match selector {
         Selector::Name(name) => {
             let children = Children::Listed(named(alloc, value, name.as_str())?);
-            Ok(Stretch {
+            Ok(WorkItem {
                 task: Task::Run(rest),
                 children,
             })
         }
         Selector::Wild => {
             let children = children_of(alloc, value)?;
-            Ok(Stretch {
+            Ok(WorkItem {
                 task: Task::Run(rest),
                 children,
             })
@@ -123,7 +123,7 @@ fn stretch_of<'v>(
                 value,
                 place(index.value, value.item_count()),
             )?);
-            Ok(Stretch {
+            Ok(WorkItem {
                 task: Task::Run(rest),
                 children,
             })
@@ -134,14 +134,14 @@ fn stretch_of<'v>(
                 value,
                 bounds_of(slice, value.item_count()),
             )?);
-            Ok(Stretch {
+            Ok(WorkItem {
                 task: Task::Run(rest),
                 children,
             })
         }
         Selector::Filter(test) => {
             let children = children_of(alloc, value)?;
-            Ok(Stretch {
+            Ok(WorkItem {
                 task: Task::Test(test, rest),
                 children,
             })

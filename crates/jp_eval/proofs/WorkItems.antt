@@ -12,7 +12,7 @@ use Rattle.jp_nodes.specs.Kids.{all_height}
 use Rattle.jp_eval.specs.inner.Along.{done_along, done_along_all, highest}
 use Rattle.jp_eval.specs.inner.Kept.{plus}
 use Rattle.jp_eval.specs.inner.Walk.{picked, picked_by, reached}
-use Rattle.jp_eval.specs.declared.stretch.Stretch.{Stretch}
+use Rattle.jp_eval.specs.declared.work_items.WorkItem.{WorkItem}
 use Rattle.jp_eval.proofs.Chains.{reached-append, reached-each, reached-filter, reached-none}
 use Rattle.jp_eval.proofs.Keeping.{stepped}
 
@@ -37,12 +37,12 @@ selector_left base ss xs i x n h is =
     ∙ ap (λ y. reached base ss (picked base y n ++ picked_by base (drop (i + 1) xs) n)) (sym is)
     ∙ reached-append base ss (picked base x n) (picked_by base (drop (i + 1) xs) n)
 
--- one stretch more
-pub stretch_more : (base : Base) (at : Location) (done more : List Stretch) (s : Stretch)
+-- one work item more
+pub work_item_more : (base : Base) (at : Location) (done more : List WorkItem) (s : WorkItem)
     (found left rest all : List Node) → more ≡ done ++ s ∷ [] → done_along base at s ≡ found
     → left ≡ found ++ rest → done_along_all base at done ++ left ≡ all
     → done_along_all base at more ++ rest ≡ all
-stretch_more base at done more s found left rest all e is first inv =
+work_item_more base at done more s found left rest all e is first inv =
     ap (λ l. done_along_all base at l ++ rest) e
     ∙ ap (λ l. l ++ rest) (flat_map-append (done_along base at) done (s ∷ [])
     ∙ ap (λ l. done_along_all base at done ++ l) (append-nil (done_along base at s) ∙ is))
@@ -51,7 +51,7 @@ stretch_more base at done more s found left rest all e is first inv =
 
 -- no selector is left
 pub all_spread : (base : Base) (at : Location) (ss : List Segment) (xs : List Selector) (i : ℕ) (n : Node)
-    (done : List Stretch) (all : List Node) → length xs ≤ i
+    (done : List WorkItem) (all : List Node) → length xs ≤ i
     → done_along_all base at done ++ reached base ss (picked_by base (drop i xs) n) ≡ all
     → done_along_all base at done ≡ all
 all_spread base at ss xs i n done all h inv =
@@ -59,8 +59,8 @@ all_spread base at ss xs i n done all h inv =
     ∙ ap (λ l. done_along_all base at done ++ l)
     (sym (at_drop_all (λ ys. reached base ss (picked_by base ys n)) xs i h ∙ reached-none base ss)) ∙ inv
 
--- the last stretch, which goes on below
-pub deep_spread : (base : Base) (at : Location) (done more : List Stretch) (s : Stretch)
+-- the last work item, which goes on below
+pub deep_spread : (base : Base) (at : Location) (done more : List WorkItem) (s : WorkItem)
     (found below all : List Node) → more ≡ done ++ s ∷ [] → done_along_all base at done ≡ found
     → done_along base at s ≡ below → all ≡ found ++ below → done_along_all base at more ≡ all
 deep_spread base at done more s found below all e first second is =
@@ -68,35 +68,35 @@ deep_spread base at done more s found below all e first second is =
     ∙ ap (λ l. done_along_all base at done ++ l) (append-nil (done_along base at s) ∙ second)
     ∙ ap (λ l. l ++ below) first ∙ sym is
 
-height-push : (ss : List Stretch) (s : Stretch) (m : ℕ) → highest ss ≤ m → all_height s.children ≤ m
+height-push : (ss : List WorkItem) (s : WorkItem) (m : ℕ) → highest ss ≤ m → all_height s.children ≤ m
     → highest (ss ++ s ∷ []) ≤ m
 height-push [] s m h d = omega arith
 height-push (x ∷ ss) s m h d = let p = height-push ss s m (omega arith) d in omega arith
 
--- one more stretch is no higher
-pub highest_more : (ss more : List Stretch) (s : Stretch) (m : ℕ) → more ≡ ss ++ s ∷ [] → highest ss ≤ m
+-- one more work item is no higher
+pub highest_more : (ss more : List WorkItem) (s : WorkItem) (m : ℕ) → more ≡ ss ++ s ∷ [] → highest ss ≤ m
     → all_height s.children ≤ m → highest more ≤ m
 highest_more ss more s m e h d = subst (λ l. highest l ≤ m) (sym e) (height-push ss s m h d)
 
 next : (i : ℕ) → suc i + 1 ≡ suc (i + 1)
 next i = omega arith
 
-drop_none : (i : ℕ) → drop {A = Stretch} i [] ≡ []
+drop_none : (i : ℕ) → drop {A = WorkItem} i [] ≡ []
 drop_none zero = refl
 drop_none (suc i) = refl
 
 -- those that are left are no higher
-pub others_no_higher : (ss : List Stretch) (i : ℕ) → highest (drop (i + 1) ss) ≤ highest (drop i ss)
+pub others_no_higher : (ss : List WorkItem) (i : ℕ) → highest (drop (i + 1) ss) ≤ highest (drop i ss)
 others_no_higher [] i = rw (drop_none (i + 1), drop_none i) (omega arith)
 others_no_higher (s ∷ ss) zero = omega arith
 others_no_higher (s ∷ ss) (suc i) = rw (next i) (others_no_higher ss i)
 
-pub stretch_done : {K : Type 0} (put : K → Node → K) (base : Base) (at : Location) (ss : List Stretch)
-    (i : ℕ) (s : Stretch) (k mid start : K) (all : List Node) → i < length ss → s ≡ get_or ss i s
+pub work_item_done : {K : Type 0} (put : K → Node → K) (base : Base) (at : Location) (ss : List WorkItem)
+    (i : ℕ) (s : WorkItem) (k mid start : K) (all : List Node) → i < length ss → s ≡ get_or ss i s
     → mid ≡ plus put k (done_along base at s)
     → plus put k (done_along_all base at (drop i ss)) ≡ plus put start all
     → plus put mid (done_along_all base at (drop (i + 1) ss)) ≡ plus put start all
-stretch_done put base at ss i s k mid start all h is e inv =
+work_item_done put base at ss i s k mid start all h is e inv =
     let others = done_along_all base at (drop (i + 1) ss) in
     let first : done_along_all base at (drop i ss) ≡ done_along base at s ++ others =
     at_drop_more (done_along_all base at) ss i s h ∙ ap (λ t. done_along base at t ++ others) (sym is) in
