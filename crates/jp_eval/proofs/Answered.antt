@@ -58,44 +58,44 @@ module _ (root : Json) where
   answers_it want.Distinct ss a h = h
 
   -- An answer to a query tells what is wanted of it, or the query stands for `$` where this is wanted.
-  abbrev Told : Want → Wanted → Aggregate → Type 0
-  Told v w a = ((is_of v a ≡ true) × (tells v (root_nodes root (where_wanted v w)) a ≡ true))
+  abbrev ResultOf : Want → Wanted → Aggregate → Type 0
+  ResultOf v w a = ((is_of v a ≡ true) × (tells v (root_nodes root (where_wanted v w)) a ≡ true))
       ⊎ ((is_of v a ≡ false) × (where_wanted v w ≡ tree.no_segments))
 
-  told : (v : Want) (w : Wanted) (a : Aggregate) → is_answer root w a ≡ true → Told v w a
-  told want.First (first_of ss) (answer.First x) h = inl (refl, h)
-  told want.Count (first_of ss) (answer.First x) h = inr (refl, refl)
-  told want.Only (first_of ss) (answer.First x) h = inr (refl, refl)
-  told want.Distinct (first_of ss) (answer.First x) h = inr (refl, refl)
-  told v (first_of ss) (answer.Count x) h = absurd cc
-  told v (first_of ss) (answer.Only x) h = absurd cc
-  told v (first_of ss) (answer.Distinct x) h = absurd cc
-  told v (count_of ss) (answer.First x) h = absurd cc
-  told want.First (count_of ss) (answer.Count x) h = inr (refl, refl)
-  told want.Count (count_of ss) (answer.Count x) h = inl (refl, h)
-  told want.Only (count_of ss) (answer.Count x) h = inr (refl, refl)
-  told want.Distinct (count_of ss) (answer.Count x) h = inr (refl, refl)
-  told v (count_of ss) (answer.Only x) h = absurd cc
-  told v (count_of ss) (answer.Distinct x) h = absurd cc
-  told v (only_of ss) (answer.First x) h = absurd cc
-  told v (only_of ss) (answer.Count x) h = absurd cc
-  told want.First (only_of ss) (answer.Only x) h = inr (refl, refl)
-  told want.Count (only_of ss) (answer.Only x) h = inr (refl, refl)
-  told want.Only (only_of ss) (answer.Only x) h = inl (refl, h)
-  told want.Distinct (only_of ss) (answer.Only x) h = inr (refl, refl)
-  told v (only_of ss) (answer.Distinct x) h = absurd cc
-  told v (distinct_of ss) (answer.First x) h = absurd cc
-  told v (distinct_of ss) (answer.Count x) h = absurd cc
-  told v (distinct_of ss) (answer.Only x) h = absurd cc
-  told want.First (distinct_of ss) (answer.Distinct x) h = inr (refl, refl)
-  told want.Count (distinct_of ss) (answer.Distinct x) h = inr (refl, refl)
-  told want.Only (distinct_of ss) (answer.Distinct x) h = inr (refl, refl)
-  told want.Distinct (distinct_of ss) (answer.Distinct x) h = inl (refl, h)
+  result_of : (v : Want) (w : Wanted) (a : Aggregate) → is_answer root w a ≡ true → ResultOf v w a
+  result_of want.First (first_of ss) (answer.First x) h = inl (refl, h)
+  result_of want.Count (first_of ss) (answer.First x) h = inr (refl, refl)
+  result_of want.Only (first_of ss) (answer.First x) h = inr (refl, refl)
+  result_of want.Distinct (first_of ss) (answer.First x) h = inr (refl, refl)
+  result_of v (first_of ss) (answer.Count x) h = absurd cc
+  result_of v (first_of ss) (answer.Only x) h = absurd cc
+  result_of v (first_of ss) (answer.Distinct x) h = absurd cc
+  result_of v (count_of ss) (answer.First x) h = absurd cc
+  result_of want.First (count_of ss) (answer.Count x) h = inr (refl, refl)
+  result_of want.Count (count_of ss) (answer.Count x) h = inl (refl, h)
+  result_of want.Only (count_of ss) (answer.Count x) h = inr (refl, refl)
+  result_of want.Distinct (count_of ss) (answer.Count x) h = inr (refl, refl)
+  result_of v (count_of ss) (answer.Only x) h = absurd cc
+  result_of v (count_of ss) (answer.Distinct x) h = absurd cc
+  result_of v (only_of ss) (answer.First x) h = absurd cc
+  result_of v (only_of ss) (answer.Count x) h = absurd cc
+  result_of want.First (only_of ss) (answer.Only x) h = inr (refl, refl)
+  result_of want.Count (only_of ss) (answer.Only x) h = inr (refl, refl)
+  result_of want.Only (only_of ss) (answer.Only x) h = inl (refl, h)
+  result_of want.Distinct (only_of ss) (answer.Only x) h = inr (refl, refl)
+  result_of v (only_of ss) (answer.Distinct x) h = absurd cc
+  result_of v (distinct_of ss) (answer.First x) h = absurd cc
+  result_of v (distinct_of ss) (answer.Count x) h = absurd cc
+  result_of v (distinct_of ss) (answer.Only x) h = absurd cc
+  result_of want.First (distinct_of ss) (answer.Distinct x) h = inr (refl, refl)
+  result_of want.Count (distinct_of ss) (answer.Distinct x) h = inr (refl, refl)
+  result_of want.Only (distinct_of ss) (answer.Distinct x) h = inr (refl, refl)
+  result_of want.Distinct (distinct_of ss) (answer.Distinct x) h = inl (refl, h)
 
-  pub told_where : (v : Want) (w : Wanted) (a : Aggregate) → is_answer root w a ≡ true → is_of v a ≡ true
+  pub result_where : (v : Want) (w : Wanted) (a : Aggregate) → is_answer root w a ≡ true → is_of v a ≡ true
       → tells v (root_nodes root (where_wanted v w)) a ≡ true
-  told_where v w a h is =
-      elim (told v w a h) as (λ t. tells v (root_nodes root (where_wanted v w)) a ≡ true) [
+  result_where v w a h is =
+      elim (result_of v w a h) as (λ t. tells v (root_nodes root (where_wanted v w)) a ≡ true) [
         | inl t ↦ t.1
         | inr n ↦ let clash = n.0 in absurd cc
       ]
@@ -103,7 +103,7 @@ module _ (root : Json) where
   none_where : (v : Want) (w : Wanted) (a : Aggregate) → is_answer root w a ≡ true → is_of v a ≡ false
       → where_wanted v w ≡ tree.no_segments
   none_where v w a h is =
-      elim (told v w a h) as (λ t. where_wanted v w ≡ tree.no_segments) [
+      elim (result_of v w a h) as (λ t. where_wanted v w ≡ tree.no_segments) [
         | inl t ↦ let clash = t.0 in absurd cc
         | inr n ↦ n.1
       ]
@@ -114,12 +114,12 @@ module _ (root : Json) where
       → tells v (root_nodes root (where_wanted v w)) a ≡ true
   of_root v w a e h = ap (λ ss. tells v (root_nodes root ss) a) e ∙ h
 
-  pub told_else : (v : Want) (w : Wanted) (a b : Aggregate) → is_answer root w a ≡ true → is_of v a ≡ false
+  pub result_else : (v : Want) (w : Wanted) (a b : Aggregate) → is_answer root w a ≡ true → is_of v a ≡ false
       → tells v (root_nodes root tree.no_segments) b ≡ true
       → tells v (root_nodes root (where_wanted v w)) b ≡ true
-  told_else v w a b h is one = of_root v w b (none_where v w a h is) one
+  result_else v w a b h is one = of_root v w b (none_where v w a h is) one
 
-  pub told_none : (v : Want) (w : Wanted) (b : Aggregate) → w ≡ wanted v tree.no_segments
+  pub result_none : (v : Want) (w : Wanted) (b : Aggregate) → w ≡ wanted v tree.no_segments
       → tells v (root_nodes root tree.no_segments) b ≡ true
       → tells v (root_nodes root (where_wanted v w)) b ≡ true
-  told_none v w b e one = of_root v w b (ap (where_wanted v) e ∙ where_none v) one
+  result_none v w b e one = of_root v w b (ap (where_wanted v) e ∙ where_none v) one

@@ -8,34 +8,34 @@ use Rattle.jp_doc.specs.Height.{height}
 use Rattle.jp_doc.specs.Location.{Location, Node}
 use Rattle.jp_part.specs.Part.{part_value}
 use Rattle.jp_eval.specs.inner.Kept.{plus}
-use Rattle.jp_nodes.specs.Kids.{kid, kids, kids_height}
+use Rattle.jp_nodes.specs.ChildNodes.{child_node, listed_nodes, children_height}
 use Rattle.jp_nodes.specs.declared.children.Child.{Child}
 use Rattle.jp_eval.proofs.Keeping.{plus-append, stepped}
 
-height-push : (cs : List Child) (c : Child) (m : ℕ) → kids_height cs ≤ m
-    → suc (height (part_value c.part)) ≤ m → kids_height (cs ++ c ∷ []) ≤ m
+height-push : (cs : List Child) (c : Child) (m : ℕ) → children_height cs ≤ m
+    → suc (height (part_value c.part)) ≤ m → children_height (cs ++ c ∷ []) ≤ m
 height-push [] c m h d = omega arith
 height-push (x ∷ cs) c m h d = let p = height-push cs c m (omega arith) d in omega arith
 
 -- one more child is no higher
 pub gathered_height : (cs more : List Child) (c : Child) (m : ℕ) → more ≡ cs ++ c ∷ []
-    → kids_height cs ≤ m → suc (height (part_value c.part)) ≤ m → kids_height more ≤ m
-gathered_height cs more c m e h d = subst (λ l. kids_height l ≤ m) (sym e) (height-push cs c m h d)
+    → children_height cs ≤ m → suc (height (part_value c.part)) ≤ m → children_height more ≤ m
+gathered_height cs more c m e h d = subst (λ l. children_height l ≤ m) (sym e) (height-push cs c m h d)
 
 -- one more child
 pub one_more : (at : Location) (cs more : List Child) (c : Child) (n : Node) → more ≡ cs ++ c ∷ []
-    → kid at c ≡ n → kids at more ≡ kids at cs ++ n ∷ []
-one_more at cs more c n e is = ap (kids at) e ∙ map-append (kid at) cs (c ∷ [])
-    ∙ ap (λ k. kids at cs ++ k ∷ []) is
+    → child_node at c ≡ n → listed_nodes at more ≡ listed_nodes at cs ++ n ∷ []
+one_more at cs more c n e is = ap (listed_nodes at) e ∙ map-append (child_node at) cs (c ∷ [])
+    ∙ ap (λ k. listed_nodes at cs ++ k ∷ []) is
 
 -- ---- halves
 
-pub front_height : (m : ℕ) (cs : List Child) → kids_height (take m cs) ≤ kids_height cs
+pub front_height : (m : ℕ) (cs : List Child) → children_height (take m cs) ≤ children_height cs
 front_height zero cs = omega arith
 front_height (suc m) [] = omega arith
 front_height (suc m) (c ∷ cs) = let h = front_height m cs in omega arith
 
-pub back_height : (m : ℕ) (cs : List Child) → kids_height (drop m cs) ≤ kids_height cs
+pub back_height : (m : ℕ) (cs : List Child) → children_height (drop m cs) ≤ children_height cs
 back_height zero cs = omega arith
 back_height (suc m) [] = omega arith
 back_height (suc m) (c ∷ cs) = let h = back_height m cs in omega arith
@@ -51,10 +51,10 @@ halves_joined put f left right all k mid last e first second =
 
 -- ---- children, one by one
 
-pub kid_done : {K : Type 0} (put : K → Node → K) (f : Node → List Node) (n : Node)
+pub child_node_done : {K : Type 0} (put : K → Node → K) (f : Node → List Node) (n : Node)
     (left others : List Node) (k mid start : K) (all : List Node) → left ≡ n ∷ others
     → mid ≡ plus put k (f n) → plus put k (flat_map f left) ≡ plus put start all
     → plus put mid (flat_map f others) ≡ plus put start all
-kid_done put f n left others k mid start all first e inv =
+child_node_done put f n left others k mid start all first e inv =
     stepped put k mid (f n) (flat_map f others) all start e
     (sym (ap (λ ns. plus put k (flat_map f ns)) first) ∙ inv)

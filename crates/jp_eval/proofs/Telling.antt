@@ -58,13 +58,13 @@ differs d ns h =
 
 -- what the answers tell
 
-pub first_told : (o : Option Part) (ns : List Node) → tells want.First ns (answer.First o) ≡ true
+pub first_result : (o : Option Part) (ns : List Node) → tells want.First ns (answer.First o) ≡ true
     → option_map part_value o ≡ first_value ns
-first_told o ns h = eq_is _ _ h
+first_result o ns h = eq_is _ _ h
 
-pub only_told : (a : code.Alone) (ns : List Node) → tells want.Only ns (answer.Only a) ≡ true
+pub only_result : (a : code.Alone) (ns : List Node) → tells want.Only ns (answer.Only a) ≡ true
     → alone_value (alone_of a) ≡ only_value ns
-only_told a ns h = eq_is _ _ h
+only_result a ns h = eq_is _ _ h
 
 -- what is told of one node
 

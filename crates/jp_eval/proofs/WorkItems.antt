@@ -8,7 +8,7 @@ use Rattle.jp_doc.specs.Location.{Location, Node}
 use Rattle.jp_compiled.specs.declared.query.Segment.{Segment}
 use Rattle.jp_compiled.specs.declared.query.Selector.{Selector}
 use Rattle.jp_eval.specs.inner.Base.{Base}
-use Rattle.jp_nodes.specs.Kids.{all_height}
+use Rattle.jp_nodes.specs.ChildNodes.{all_height}
 use Rattle.jp_eval.specs.inner.Along.{done_along, done_along_all, highest}
 use Rattle.jp_eval.specs.inner.Kept.{plus}
 use Rattle.jp_eval.specs.inner.Walk.{picked, picked_by, reached}

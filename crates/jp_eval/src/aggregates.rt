@@ -45,7 +45,7 @@ pub(crate) fn of_one(want: Want, value: Part<'_>) -> Aggregate<'_>
 }
 
 /// Whether the answer is of the kind that is wanted, be it right or wrong.
-pub(crate) fn is_told(want: Want, answer: Aggregate<'_>) -> bool
+pub(crate) fn is_result_of(want: Want, answer: Aggregate<'_>) -> bool
     ensures { result ≡ is_of want answer.entry }
 {
     match (want, answer) {

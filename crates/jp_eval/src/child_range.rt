@@ -3,7 +3,7 @@
 ghost use Rattle.std.specs.Prelude.{◌≡◌, ◌≤◌, ◌<◌, [], ◌∷◌, ◌++◌, suc, nat_le, IfSome, MatchOption};
 ghost use Rattle.jp_doc.specs.Height.{height};
 ghost use Rattle.jp_doc.specs.Location.{Location};
-ghost use Rattle.jp_nodes.specs.Kids.{kid, all_kids, all_height};
+ghost use Rattle.jp_nodes.specs.ChildNodes.{child_node, child_nodes, all_height};
 ghost use Rattle.jp_eval.specs.inner.ChildRanges.{range_nodes, range_height, range_length};
 ghost use Rattle.jp_part.specs.Part.{part_value};
 
@@ -25,7 +25,7 @@ pub(crate) enum ChildRange<'c, 'v> {
 impl<'c, 'v> ChildRange<'c, 'v> {
     /// All of these children.
     pub(crate) fn all(children: &'c Children<'v>) -> ChildRange<'c, 'v>
-        ensures nodes { (at : Location) → range_nodes at result ≡ all_kids at children.now }
+        ensures nodes { (at : Location) → range_nodes at result ≡ child_nodes at children.now }
         ensures height { range_height result ≤ all_height children.now }
     {
         match children {
@@ -37,7 +37,7 @@ impl<'c, 'v> ChildRange<'c, 'v> {
 
     /// All of these children, where items are counted, so that the range can tell how long it is.
     pub(crate) fn counted(children: &'c Children<'v>) -> ChildRange<'c, 'v>
-        ensures nodes { (at : Location) → range_nodes at result ≡ all_kids at children.now }
+        ensures nodes { (at : Location) → range_nodes at result ≡ child_nodes at children.now }
         ensures height { range_height result ≤ all_height children.now }
     {
         match children {
@@ -88,7 +88,7 @@ impl<'c, 'v> ChildRange<'c, 'v> {
     /// The first, and those behind it.
     pub(crate) fn split_first(self) -> Option<(Child<'v>, ChildRange<'c, 'v>)>
         ensures nodes { (at : Location) → MatchOption result (range_nodes at self.entry ≡ [])
-            (λ p. range_nodes at self.entry ≡ kid at p.0 ∷ range_nodes at p.1) }
+            (λ p. range_nodes at self.entry ≡ child_node at p.0 ∷ range_nodes at p.1) }
         ensures child { IfSome result (λ p. suc (height (part_value p.0.part)) ≤ range_height self.entry) }
         ensures height { IfSome result (λ p. range_height p.1 ≤ range_height self.entry) }
         ensures fewer { IfSome result (λ p. range_length p.1 < range_length self.entry) }

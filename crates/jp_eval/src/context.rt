@@ -5,7 +5,7 @@ ghost use Rattle.jp_compiled.specs.Compiled.{roots_of};
 ghost use Rattle.jp_eval.specs.inner.Rooted.{are_answers};
 ghost use Rattle.jp_part.specs.Part.{part_value};
 
-use crate::aggregates::{Aggregate, is_told, of_one};
+use crate::aggregates::{Aggregate, is_result_of, of_one};
 use jp_compiled::{RootQuery, Want};
 use jp_part::Part;
 use std::alloc::{AllocError, Global};
@@ -80,7 +80,7 @@ impl<'v> Context<'v> {
         let Some(answer) = self.answers.get(slot) else {
             return of_one(want, self.root);
         };
-        if is_told(want, *answer) {
+        if is_result_of(want, *answer) {
             *answer
         } else {
             of_one(want, self.root)

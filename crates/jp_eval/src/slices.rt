@@ -12,7 +12,7 @@ ghost use Rattle.jp_part.specs.Part.{part_value};
 ghost use Rattle.jp_value.specs.BoundsView.{bounds_value};
 ghost use Rattle.jp_value.specs.Places.{AreWithin};
 ghost use Rattle.jp_value.specs.Slice.{slice_indexes};
-ghost use Rattle.jp_nodes.specs.Kids.{kids, kids_height};
+ghost use Rattle.jp_nodes.specs.ChildNodes.{listed_nodes, children_height};
 ghost use Rattle.jp_nodes.specs.Nodes.{child, items_at};
 
 use jp_nodes::Child;
@@ -30,10 +30,10 @@ pub(crate) fn sliced<'v>(
     bounds: Bounds,
 ) -> Result<Vec<Child<'v>>, AllocError>
     requires { AreWithin (bounds_value bounds) (item_count (part_value value)) }
-    ensures nodes { IfOk result (λ v. (at : Location) → kids at v.items
+    ensures nodes { IfOk result (λ v. (at : Location) → listed_nodes at v.items
         ≡ items_at (node at (part_value value.entry))
         (slice_indexes (bounds_value bounds) (item_count (part_value value.entry)))) }
-    ensures height { IfOk result (λ v. kids_height v.items ≤ height (part_value value.entry)) }
+    ensures height { IfOk result (λ v. children_height v.items ≤ height (part_value value.entry)) }
 {
     match value.inside() {
         Inside::Items(items) => {
@@ -54,11 +54,11 @@ pub(crate) fn sliced<'v>(
 fn rising<'v>(alloc: Global, items: Items<'v>, bounds: Bounds) -> Result<Vec<Child<'v>>, AllocError>
     requires within { AreWithin (bounds_value bounds) (length (item_values items)) }
     requires rises { pos 0 <ℤ bounds.step }
-    ensures nodes { IfOk result (λ v. (at : Location) → kids at v.items
+    ensures nodes { IfOk result (λ v. (at : Location) → listed_nodes at v.items
         ≡ items_at (node at (array (items_of (item_values items.entry))))
         (slice_indexes (bounds_value bounds) (length (item_values items.entry)))) }
     ensures height { IfOk result (λ v.
-        kids_height v.items ≤ height (array (items_of (item_values items.entry)))) }
+        children_height v.items ≤ height (array (items_of (item_values items.entry)))) }
 {
     let mut children = Vec::new(alloc);
     let mut left = items;
@@ -84,11 +84,11 @@ fn add_next<'v>(
     ensures behind { IfOk result (λ behind. (vs : List Json) → item_values left.entry ≡ drop passed vs
         → item_values behind ≡ drop (place + 1) vs) }
     ensures nodes { OnOk result ((vs : List Json) → item_values left.entry ≡ drop passed vs
-        → (at : Location) → kids at children.new.items
-        ≡ kids at children.old.items ++ child (index place) (node at (array (items_of vs)))) }
+        → (at : Location) → listed_nodes at children.new.items
+        ≡ listed_nodes at children.old.items ++ child (index place) (node at (array (items_of vs)))) }
     ensures height { OnOk result ((vs : List Json) → item_values left.entry ≡ drop passed vs
-        → kids_height children.new.items
-        ≤ max (kids_height children.old.items) (height (array (items_of vs)))) }
+        → children_height children.new.items
+        ≤ max (children_height children.old.items) (height (array (items_of vs)))) }
 {
     let ahead = left.skip(place - passed);
     let Some((part, behind)) = ahead.split_first() else {
@@ -109,11 +109,11 @@ fn falling<'v>(
 ) -> Result<Vec<Child<'v>>, AllocError>
     requires within { AreWithin (bounds_value bounds) (length (item_values items)) }
     requires falls { bounds.step <ℤ pos 0 }
-    ensures nodes { IfOk result (λ v. (at : Location) → kids at v.items
+    ensures nodes { IfOk result (λ v. (at : Location) → listed_nodes at v.items
         ≡ items_at (node at (array (items_of (item_values items.entry))))
         (slice_indexes (bounds_value bounds) (length (item_values items.entry)))) }
     ensures height { IfOk result (λ v.
-        kids_height v.items ≤ height (array (items_of (item_values items.entry)))) }
+        children_height v.items ≤ height (array (items_of (item_values items.entry)))) }
 {
     let mut children = Vec::new(alloc);
     let Some(highest) = first_place(bounds) else {
@@ -164,11 +164,11 @@ fn add_item<'v>(
     requires within { lowest ≤ place }
     ensures nodes { OnOk result ((v : Json)
         → option_map part_value (slice_get items.now (place - lowest)) ≡ item_of place v
-        → (at : Location) → kids at children.new.items
-        ≡ kids at children.old.items ++ child (index place) (node at v)) }
+        → (at : Location) → listed_nodes at children.new.items
+        ≡ listed_nodes at children.old.items ++ child (index place) (node at v)) }
     ensures height { OnOk result ((v : Json)
         → option_map part_value (slice_get items.now (place - lowest)) ≡ item_of place v
-        → kids_height children.new.items ≤ max (kids_height children.old.items) (height v)) }
+        → children_height children.new.items ≤ max (children_height children.old.items) (height v)) }
 {
     if let Some(part) = items.get((place - lowest) as usize) {
         children.push(Child {

@@ -5,7 +5,7 @@ ghost use Rattle.std.specs.List.{flat_map};
 ghost use Rattle.jp_doc.specs.Height.{height};
 ghost use Rattle.jp_doc.specs.Location.{Location, node};
 ghost use Rattle.jp_eval.specs.inner.Base.{Base};
-ghost use Rattle.jp_nodes.specs.Kids.{all_height};
+ghost use Rattle.jp_nodes.specs.ChildNodes.{all_height};
 ghost use Rattle.jp_eval.specs.inner.Along.{done_along, done_along_all, highest};
 ghost use Rattle.jp_nodes.specs.Nodes.{descendants};
 ghost use Rattle.jp_part.specs.Part.{part_value};

@@ -1,4 +1,4 @@
 pub mod Nodes
 pub mod Samples
 pub mod Taken
-pub mod Kids
+pub mod ChildNodes

@@ -5,7 +5,7 @@ ghost use Rattle.std.specs.Str.{chars};
 ghost use Rattle.jp_doc.specs.Height.{height};
 ghost use Rattle.jp_doc.specs.Location.{Location, node, name};
 ghost use Rattle.jp_part.specs.Part.{part_value};
-ghost use Rattle.jp_nodes.specs.Kids.{kids, kids_height, all_kids, all_height};
+ghost use Rattle.jp_nodes.specs.ChildNodes.{listed_nodes, children_height, child_nodes, all_height};
 ghost use Rattle.jp_nodes.specs.Nodes.{child, children_at, items_at};
 
 use jp_part::{Inside, Items, MemberList, Part};
@@ -37,7 +37,7 @@ pub enum Children<'v> {
 /// `AllocError` if a growth was refused.
 pub fn children_of<'v>(alloc: Global, value: Part<'v>) -> Result<Children<'v>, AllocError>
     ensures nodes { IfOk result (λ c. (at : Location)
-        → all_kids at c ≡ children_at at (part_value value.entry)) }
+        → child_nodes at c ≡ children_at at (part_value value.entry)) }
     ensures height { IfOk result (λ c. all_height c ≤ height (part_value value.entry)) }
 {
     match value.inside() {
@@ -52,8 +52,8 @@ pub fn children_of<'v>(alloc: Global, value: Part<'v>) -> Result<Children<'v>, A
 /// `AllocError` if a growth was refused.
 pub fn named<'v>(alloc: Global, value: Part<'v>, key: &'v str) -> Result<Vec<Child<'v>>, AllocError>
     ensures nodes { IfOk result (λ v. (at : Location)
-        → kids at v.items ≡ child (name (chars key.now)) (node at (part_value value.entry))) }
-    ensures height { IfOk result (λ v. kids_height v.items ≤ height (part_value value.entry)) }
+        → listed_nodes at v.items ≡ child (name (chars key.now)) (node at (part_value value.entry))) }
+    ensures height { IfOk result (λ v. children_height v.items ≤ height (part_value value.entry)) }
 {
     let mut children = Vec::new(alloc);
     if let Some(part) = value.member(key) {
@@ -74,8 +74,8 @@ pub fn placed<'v>(
     place: Option<u32>,
 ) -> Result<Vec<Child<'v>>, AllocError>
     ensures nodes { IfOk result (λ v. (at : Location)
-        → kids at v.items ≡ items_at (node at (part_value value.entry)) (option_to_list place)) }
-    ensures height { IfOk result (λ v. kids_height v.items ≤ height (part_value value.entry)) }
+        → listed_nodes at v.items ≡ items_at (node at (part_value value.entry)) (option_to_list place)) }
+    ensures height { IfOk result (λ v. children_height v.items ≤ height (part_value value.entry)) }
 {
     let mut children = Vec::new(alloc);
     let Some(place) = place else {

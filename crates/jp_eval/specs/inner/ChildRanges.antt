@@ -5,19 +5,19 @@ use Rattle.jp_doc.specs.Json.{array, object, items}
 use Rattle.jp_doc.specs.Location.{Location, Node}
 use Rattle.jp_part.specs.Inside.{item_values}
 use Rattle.jp_part.specs.Members.{members, range_entries}
-use Rattle.jp_nodes.specs.Kids.{kids, kids_height}
+use Rattle.jp_nodes.specs.ChildNodes.{listed_nodes, children_height}
 use Rattle.jp_nodes.specs.Nodes.{item_nodes, member_nodes}
 use Rattle.jp_eval.specs.declared.child_range.ChildRange.{ChildRange}
 use Rattle.jp_eval.specs.declared.child_range.ChildRange.TheVariants as range
 
 -- the nodes of a range, how high the value is at least, and how many places the range has
 abbrev pub range_nodes : Location → ChildRange → List Node
-range_nodes at (range.Listed cs) = kids at cs.now
+range_nodes at (range.Listed cs) = listed_nodes at cs.now
 range_nodes at (range.Items i first past) = item_nodes at first (items (take (past - first) (item_values i)))
 range_nodes at (range.Members r) = member_nodes at (members (range_entries r))
 
 abbrev pub range_height : ChildRange → ℕ
-range_height (range.Listed cs) = kids_height cs.now
+range_height (range.Listed cs) = children_height cs.now
 range_height (range.Items i first past) = height (array (items (item_values i)))
 range_height (range.Members r) = height (object (members (range_entries r)))
 

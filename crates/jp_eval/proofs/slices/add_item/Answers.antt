@@ -6,7 +6,7 @@ use Rattle.jp_doc.specs.Height.{height}
 use Rattle.jp_doc.specs.Location.{index}
 use Rattle.jp_part.specs.Part.{part_value}
 use Rattle.jp_part.proofs.Lists.{of_child}
-use Rattle.jp_nodes.specs.Kids.{kids}
+use Rattle.jp_nodes.specs.ChildNodes.{listed_nodes}
 use Rattle.jp_nodes.specs.Nodes.{node_if_some}
 use Rattle.jp_eval.proofs.Gathered.{gathered_height, one_more}
 use Rattle.jp_eval.proofs.slices.add_item.Goals as goal
@@ -18,7 +18,8 @@ returns-in_ok-push-clause-nodes c = λ v is at.
     let some = ap (option_map part_value) (ap Some c.in-Some.ensures.lookup.1
     ∙ sym (slice_get-get_or c.args.items.now k c.in-Some.part.now lt)) ∙ is in
     one_more at c.args.children.now.items c.push.new.self.items _ _ c.in_ok-push.ensures.items refl
-    ∙ ap (λ o. kids at c.args.children.now.items ++ node_if_some (at ++ index c.args.place ∷ []) o) some
+    ∙ ap (λ o. listed_nodes at c.args.children.now.items ++ node_if_some (at ++ index c.args.place ∷ []) o)
+    some
 
 pub returns-in_ok-push-clause-height : goal.returns-in_ok-push-clause-height
 returns-in_ok-push-clause-height c = λ v is.
@@ -35,5 +36,5 @@ returns-in_default-clause-nodes c = λ v is at.
     let k = c.args.place - c.args.lowest in
     let none = ap (option_map part_value) (sym (slice_get_past c.args.items.now k
     c.in_default.ensures.lookup.3)) ∙ is in
-    sym (ap (λ o. kids at c.args.children.now.items ++ node_if_some (at ++ index c.args.place ∷ []) o)
-    (sym none) ∙ append-nil (kids at c.args.children.now.items))
+    sym (ap (λ o. listed_nodes at c.args.children.now.items ++ node_if_some (at ++ index c.args.place ∷ []) o)
+    (sym none) ∙ append-nil (listed_nodes at c.args.children.now.items))

@@ -6,7 +6,7 @@ use Rattle.jp_doc.specs.Location.{index}
 use Rattle.jp_part.proofs.Lists.{drop_enough, drop_more, of_child}
 use Rattle.jp_part.specs.Inside.{item_values}
 use Rattle.jp_part.specs.Part.{part_value}
-use Rattle.jp_nodes.specs.Kids.{kids}
+use Rattle.jp_nodes.specs.ChildNodes.{listed_nodes}
 use Rattle.jp_nodes.specs.Nodes.{node_if_some}
 use Rattle.jp_eval.proofs.Gathered.{gathered_height, one_more}
 use Rattle.jp_eval.proofs.Slicing.{ahead, first_ahead, none_ahead}
@@ -22,8 +22,8 @@ pub returns-in_default-clause-nodes : goal.returns-in_default-clause-nodes
 returns-in_default-clause-nodes c = λ vs is at.
     let none = sym (ahead c.args.passed c.args.place vs _ c.requires.further is) ∙ sym c.skip-ahead.ensures
     ∙ c.in_default.ensures in
-    sym (ap (λ o. kids at c.args.children.now.items ++ node_if_some (at ++ index c.args.place ∷ []) o)
-    (sym (none_ahead c.args.place vs none)) ∙ append-nil (kids at c.args.children.now.items))
+    sym (ap (λ o. listed_nodes at c.args.children.now.items ++ node_if_some (at ++ index c.args.place ∷ []) o)
+    (sym (none_ahead c.args.place vs none)) ∙ append-nil (listed_nodes at c.args.children.now.items))
 
 pub returns-clause-behind : goal.returns-clause-behind
 returns-clause-behind c = λ vs is.
@@ -36,7 +36,7 @@ returns-clause-nodes c = λ vs is at.
     let first = sym (ahead c.args.passed c.args.place vs _ c.requires.further is) ∙ sym c.skip-ahead.ensures
     ∙ c.in-Some.ensures in
     one_more at c.args.children.now.items c.push.new.self.items _ _ c.in_ok-push.ensures.items refl
-    ∙ ap (λ o. kids at c.args.children.now.items ++ node_if_some (at ++ index c.args.place ∷ []) o)
+    ∙ ap (λ o. listed_nodes at c.args.children.now.items ++ node_if_some (at ++ index c.args.place ∷ []) o)
     (first_ahead c.args.place vs _ _ first)
 
 pub returns-clause-height : goal.returns-clause-height

@@ -12,7 +12,7 @@ use Rattle.jp_part.specs.Part.{part_value}
 use Rattle.jp_value.specs.BoundsView.{bounds_value}
 use Rattle.jp_value.specs.Places.{IfPlace, IsPlace, from_place}
 use Rattle.jp_value.specs.Slice.{slice_indexes}
-use Rattle.jp_nodes.specs.Kids.{kids}
+use Rattle.jp_nodes.specs.ChildNodes.{listed_nodes}
 use Rattle.jp_nodes.specs.Nodes.{items_at}
 use Rattle.jp_eval.proofs.BoundsWithin.{within_more}
 use Rattle.jp_eval.proofs.Slicing.{above_lower, up_to_upper, step_down, further_down, added}
@@ -89,7 +89,8 @@ loop-next-preserved c =
       λ at. let n = node at (array (items all)) in
           added bounds (length all) place c.place_after-next.result n _ _ _
           (c.in_ok-add_item.ensures.nodes (array (items all)) found at) indexes
-          (subst (λ o. (kids at c.loop-next.children.items ++ items_at n (from_place bounds (length all) o))
+          (subst (λ o. (listed_nodes at c.loop-next.children.items ++ items_at n
+          (from_place bounds (length all) o))
           ≡ items_at n (slice_indexes bounds (length all))) c.in-Some-next.is (c.loop-next.invariant.2 at)),
       omega (arith, high, c.loop-next.invariant.3),
     )

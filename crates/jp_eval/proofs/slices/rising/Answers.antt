@@ -6,7 +6,7 @@ use Rattle.jp_part.specs.Inside.{item_values}
 use Rattle.jp_value.specs.BoundsView.{bounds_value}
 use Rattle.jp_value.specs.Places.{IfPlace, from_place}
 use Rattle.jp_value.specs.Slice.{slice_indexes}
-use Rattle.jp_nodes.specs.Kids.{kids}
+use Rattle.jp_nodes.specs.ChildNodes.{listed_nodes}
 use Rattle.jp_nodes.specs.Nodes.{items_at}
 use Rattle.jp_eval.proofs.BoundsWithin.{within_more}
 use Rattle.jp_eval.proofs.Slicing.{in_reach, further_on, added}
@@ -40,7 +40,8 @@ loop-next-preserved c =
       λ at. let n = node at (array (items all)) in
           added bounds (length all) c.in-Some.place c.place_after-next.result n _ _ _
           (c.in_ok-left.ensures.nodes all c.loop-next.invariant.1 at) indexes
-          (subst (λ o. (kids at c.loop-next.children.items ++ items_at n (from_place bounds (length all) o))
+          (subst (λ o. (listed_nodes at c.loop-next.children.items ++ items_at n
+          (from_place bounds (length all) o))
           ≡ items_at n (slice_indexes bounds (length all))) c.in-Some.is (c.loop-next.invariant.3 at)),
       omega (arith, high, c.loop-next.invariant.4),
     )

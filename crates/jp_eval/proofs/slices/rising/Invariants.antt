@@ -2,7 +2,7 @@ use Rattle.std.proofs.Common.{◌≡◌, ◌≤◌, ◌++◌, length, drop, IfSo
 use Rattle.jp_doc.specs.Height.{height}
 use Rattle.jp_doc.specs.Json.{array, items}
 use Rattle.jp_doc.specs.Location.{Location, node}
-use Rattle.jp_nodes.specs.Kids.{kids, kids_height}
+use Rattle.jp_nodes.specs.ChildNodes.{listed_nodes, children_height}
 use Rattle.jp_nodes.specs.Nodes.{items_at}
 use Rattle.jp_part.specs.Inside.{item_values}
 use Rattle.jp_value.specs.BoundsView.{bounds_value}
@@ -17,10 +17,10 @@ invariant-loop-next l =
     IfPlace bounds l.next
     × (item_values l.left ≡ drop l.passed all)
     × IfSome l.next (λ place. l.passed ≤ place)
-    × ((at : Location) → kids at l.children.items
+    × ((at : Location) → listed_nodes at l.children.items
     ++ items_at (node at (array (items all))) (from_place bounds (length all) l.next)
     ≡ items_at (node at (array (items all))) (slice_indexes bounds (length all)))
-    × (kids_height l.children.items ≤ height (array (items all)))
+    × (children_height l.children.items ≤ height (array (items all)))
 
 abbrev pub decreases-loop-next : goal.decreases-loop-next
 decreases-loop-next l =

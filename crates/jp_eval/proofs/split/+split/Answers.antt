@@ -14,7 +14,7 @@ use denote.Param.Send.{IsSend, IsSync, param_send}
 use denote.Struct.Tuple.{tuple_name}
 use mir.Syntax.{named}
 use Rattle.jp_eval.proofs.Crossing.{captured_send}
-use Rattle.jp_eval.proofs.Gathered.{kid_done, halves_joined}
+use Rattle.jp_eval.proofs.Gathered.{child_node_done, halves_joined}
 use Rattle.jp_eval.proofs.Keeping.{ended, full_enough, nothing_found, not_lost, taken_on}
 use Rattle.jp_eval.proofs.WorkItems.{others_no_higher, work_item_done}
 use Rattle.jp_eval.proofs.WalkSteps.{back_up, link_further, over}
@@ -61,7 +61,7 @@ one_by_one-loop-child-preserved g t c =
     rw p (
       c.loop-child.invariant.0,
       omega (arith, c.in-Some.ensures.height, c.loop-child.invariant.1),
-      kid_done (put_found g.V.Visit.put) (done (base_of c.args.context.now) c.args.task) _ _ _ _ _ _ _
+      child_node_done (put_found g.V.Visit.put) (done (base_of c.args.context.now) c.args.task) _ _ _ _ _ _ _
           (c.in-Some.ensures.nodes (link_steps c.loop-child.path))
           (c.in_ok-go_split.ensures.found
           ∙ ap (λ s. plus (put_found g.V.Visit.put) (kept g.V.Visit.kept c.loop-child.found)

@@ -21,7 +21,7 @@ use Rattle.jp_value.specs.BoundsView.{bounds_value}
 use Rattle.jp_value.specs.Comparison.{compared}
 use Rattle.jp_value.specs.Functions.{tested, length_value}
 use Rattle.jp_value.specs.Functions.{exactly_one}
-use Rattle.jp_nodes.specs.Kids.{kids}
+use Rattle.jp_nodes.specs.ChildNodes.{listed_nodes}
 use Rattle.jp_eval.specs.inner.ChildRanges.{range_nodes}
 use Rattle.jp_nodes.specs.Nodes.{children, descendants, items_at, node_if_some}
 use Rattle.jp_value.specs.Literals.{written_value}
@@ -33,7 +33,7 @@ use Rattle.jp_value.specs.RightTests.{tests}
 use Rattle.jp_eval.specs.inner.Walk.{picked, picked_by, reached, is_true, value_given, nodes_given, done}
 use Rattle.jp_eval.proofs.Chains.{reached-none, reached-end, reached-each, reached-filter, reached-plain}
 use Rattle.jp_eval.proofs.Chains.{reached-deep}
-use Rattle.jp_eval.proofs.Gathered.{kid_done}
+use Rattle.jp_eval.proofs.Gathered.{child_node_done}
 use Rattle.jp_eval.proofs.Keeping.{plus-one, ended, nothing_found, full_enough, not_taken}
 use Rattle.jp_eval.proofs.CompiledParts.{picked_name, picked_wild, picked_index, picked_slice, picked_filter}
 use Rattle.jp_eval.proofs.CompiledParts.{true_any, true_all, true_not, true_compare, true_test, true_match}
@@ -117,7 +117,7 @@ each_of-loop-child-preserved g t c =
     rw p (
       c.loop-child.invariant.0,
       omega (arith, c.in-Some.ensures.height, c.loop-child.invariant.1),
-      kid_done (put_found g.V.Visit.put) (done (base_of c.args.context.now) c.args.task) _ _ _ _ _ _ _
+      child_node_done (put_found g.V.Visit.put) (done (base_of c.args.context.now) c.args.task) _ _ _ _ _ _ _
           (c.in-Some.ensures.nodes (link_steps c.loop-child.path))
           (c.in_ok-go.ensures.found
           ∙ ap (λ s. plus (put_found g.V.Visit.put) (kept g.V.Visit.kept c.loop-child.found)
@@ -130,7 +130,7 @@ pub each_of-loop-child-preserved-then-is_idle : goal.each_of-loop-child-preserve
 each_of-loop-child-preserved-then-is_idle g t c = (
   c.loop-child.invariant.0,
   omega (arith, c.in-Some.ensures.height, c.loop-child.invariant.1),
-  kid_done (put_found g.V.Visit.put) (done (base_of c.args.context.now) c.args.task) _ _ _ _ _ _ _
+  child_node_done (put_found g.V.Visit.put) (done (base_of c.args.context.now) c.args.task) _ _ _ _ _ _ _
       (c.in-Some.ensures.nodes (link_steps c.loop-child.path))
       (nothing_found (put_found g.V.Visit.put) _ _
       (c.is_idle.ensures c.if-is_idle.true (base_of c.args.context.now) _))
@@ -311,7 +311,7 @@ select-returns-in_ok-children-in-Slice-clause-found g t c =
     on_ok_weaker c.each_of.result (λ e. e
     ∙ ap (plus (put_found g.V.Visit.put) (kept g.V.Visit.kept c.args.found.now))
     (ap (flat_map (λ k. reached base c.args.rest.now (k ∷ [])))
-    (ap (kids (link_steps c.args.path.now)) c.as_slice.ensures.value
+    (ap (listed_nodes (link_steps c.args.path.now)) c.as_slice.ensures.value
     ∙ c.in_ok-children-in-Slice.ensures.nodes (link_steps c.args.path.now) ∙ ap (items_at n) picks)
     ∙ sym (reached-each base c.args.rest.now _) ∙ ap (reached base c.args.rest.now)
     (sym (ap (λ x. picked base x n) c.in-Slice.is ∙ picked_slice base n c.in-Slice.slice))))

@@ -13,24 +13,24 @@ use Rattle.jp_nodes.specs.declared.children.Children.{Children}
 use Rattle.jp_nodes.specs.declared.children.Children.TheVariants.{Listed, Items, Members}
 
 -- the node of a child of the value at a location, and those of several
-abbrev pub kid : Location → Child → Node
-kid at c = node (at ++ link_step c.link ∷ []) (part_value c.part)
+abbrev pub child_node : Location → Child → Node
+child_node at c = node (at ++ link_step c.link ∷ []) (part_value c.part)
 
-abbrev pub kids : Location → List Child → List Node
-kids at cs = map (kid at) cs
+abbrev pub listed_nodes : Location → List Child → List Node
+listed_nodes at cs = map (child_node at) cs
 
 -- how high a value is at least that has these children
-abbrev pub kids_height : List Child → ℕ
-kids_height [] = 0
-kids_height (c ∷ cs) = max (suc (height (part_value c.part))) (kids_height cs)
+abbrev pub children_height : List Child → ℕ
+children_height [] = 0
+children_height (c ∷ cs) = max (suc (height (part_value c.part))) (children_height cs)
 
 -- the nodes of some children of a value, and how high the value is at least
-abbrev pub all_kids : Location → Children → List Node
-all_kids at (Listed v) = kids at v.items
-all_kids at (Items i) = item_nodes at 0 (items (item_values i))
-all_kids at (Members l) = member_nodes at (members (list_entries l))
+abbrev pub child_nodes : Location → Children → List Node
+child_nodes at (Listed v) = listed_nodes at v.items
+child_nodes at (Items i) = item_nodes at 0 (items (item_values i))
+child_nodes at (Members l) = member_nodes at (members (list_entries l))
 
 abbrev pub all_height : Children → ℕ
-all_height (Listed v) = kids_height v.items
+all_height (Listed v) = children_height v.items
 all_height (Items i) = height (array (items (item_values i)))
 all_height (Members l) = height (object (members (list_entries l)))
