@@ -3,6 +3,7 @@ use Rattle.std.proofs.Common.{◌≡◌, ℕ, zero, suc, ◌+◌, ◌≤◌, Lis
 use Rattle.std.proofs.Common.{take, drop, length, arith, length-append, length-drop}
 use Rattle.std.proofs.lemmas.List.{take_all, take-append-le, drop-append-le, take-take, drop-take, drop-drop}
 use Rattle.std.proofs.lemmas.List.{nil_from_length, length-take-le}
+use Rattle.jp_buffer.specs.Buffered.{total_bytes}
 use Rattle.jp_buffer.specs.inner.Waiting.{bytes_of, lines_in}
 use Rattle.jp_buffer.specs.declared.waiting.Span.{Span}
 
@@ -90,4 +91,13 @@ added_line bytes out line spans more n h e f = (
     h,
   ),
   ap (λ l. lines_in l more) e ∙ ap (λ ss. lines_in (bytes ++ line) ss) f ∙ lines_push bytes line spans n h,
+)
+
+pub total_in : (bytes : List ℕ) (spans : List Span) → length bytes ≡ bytes_of spans
+    → total_bytes (lines_in bytes spans) ≡ bytes_of spans
+total_in bytes [] e = refl
+total_in bytes (s ∷ ss) e = omega (
+  arith,
+  length-take-le s.len bytes (omega (arith, e)),
+  total_in (drop s.len bytes) ss (omega (arith, e, length-drop s.len bytes)),
 )

@@ -1,5 +1,5 @@
 -- Lines that wait in a buffer, and how far the lines of their stream have come.
-use Rattle.std.specs.Prelude.{List, []}
+use Rattle.std.specs.Prelude.{ℕ, ◌+◌, List, [], ◌∷◌, length}
 use Rattle.jp_doc.specs.Feeding.{Progress, nothing_fed}
 use Rattle.jp_doc.specs.Lines.{Line}
 use Rattle.jp_buffer.specs.declared.line_ref.LineRef.{LineRef}
@@ -7,6 +7,11 @@ use Rattle.jp_buffer.specs.declared.line_ref.LineRef.{LineRef}
 -- the line that a `LineRef` of `src/` stands for
 abbrev pub line_at : LineRef → Line
 line_at l = (l.number, l.bytes.now)
+
+-- how many bytes lines have together, without their line feeds
+abbrev pub total_bytes : List Line → ℕ
+total_bytes [] = 0
+total_bytes (l ∷ ls) = length l.1 + total_bytes ls
 
 -- how far the lines have come, and those of them that wait, in order
 pub record Buffered : Type 0 where

@@ -2,15 +2,16 @@
 
 ghost use Rattle.std.specs.Prelude.{◌≡◌, ◌≤◌, ◌++◌, map, drop, length, IfOk, OnOk, OnErr};
 ghost use Rattle.jp_doc.specs.Feeding.{fed, fed_lines, finished, finished_lines};
-ghost use Rattle.jp_buffer.specs.Buffered.{line_at, nothing_buffered};
+ghost use Rattle.jp_buffer.specs.Buffered.{line_at, nothing_buffered, total_bytes};
 ghost use Rattle.jp_buffer.specs.inner.Waiting.{Begins};
 
 use crate::cutting::push_lines;
 use crate::line_ref::LineRef;
-use crate::waiting::{LONG_LINE, Waiting};
+use crate::waiting::{LONG_LINE, WaitingLines};
 use jp_doc::first_line;
 use std::alloc::{AllocError, Global};
 use std::marker::Model;
+use std::mem;
 
 /// The lines of a stream that wait for their answer, and the line that is not ended yet.
 ///
@@ -19,7 +20,7 @@ use std::marker::Model;
 /// counted, and take no memory.
 #[derive(Drop)]
 pub struct LineBuffer {
-    waiting: Waiting,
+    waiting: WaitingLines,
     /// The bytes of the line that is not ended yet.
     open_line: Vec<u8>,
     /// How many lines have ended, blank ones too.
@@ -47,7 +48,7 @@ impl LineBuffer {
         ensures { result ≡ nothing_buffered }
     {
         LineBuffer {
-            waiting: Waiting::new(alloc),
+            waiting: WaitingLines::new(alloc),
             open_line: Vec::new(alloc),
             count: 0,
         }
@@ -65,6 +66,25 @@ impl LineBuffer {
         ensures { result ≡ length self.now.lines }
     {
         self.waiting.len()
+    }
+
+    /// How many bytes the lines that wait have together, without their line feeds.
+    pub fn total_bytes(&self) -> usize
+        ensures { result ≡ total_bytes self.now.lines }
+    {
+        self.waiting.total_bytes()
+    }
+
+    /// Hands out the lines that wait, and has these wait in their place.
+    ///
+    /// So the lines of one part of a stream can be answered while the next ones come in, and two buffers are
+    /// used in turn.
+    pub fn exchange(&mut self, lines: &mut WaitingLines)
+        ensures out { lines.new ≡ self.old.lines }
+        ensures within { self.new.lines ≡ lines.old }
+        ensures progress { self.new.progress ≡ self.old.progress }
+    {
+        mem::swap(&mut self.waiting, lines);
     }
 
     /// Adds the lines that the piece completes, without those that are blank.

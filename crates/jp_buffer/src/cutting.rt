@@ -4,7 +4,7 @@ ghost use Rattle.std.specs.Prelude.{◌≡◌, ◌+◌, ◌≤◌, ◌++◌, len
 ghost use Rattle.jp_doc.specs.Feeding.{cut, numbered};
 ghost use Rattle.jp_buffer.specs.inner.Waiting.{Begins};
 
-use crate::waiting::Waiting;
+use crate::waiting::WaitingLines;
 use jp_doc::first_line;
 use std::alloc::AllocError;
 
@@ -13,7 +13,7 @@ use std::alloc::AllocError;
 pub(crate) fn push_lines<'b>(
     before: u64,
     bytes: &'b [u8],
-    waiting: &mut Waiting,
+    waiting: &mut WaitingLines,
 ) -> Result<(u64, &'b [u8]), AllocError>
     requires { before ≤ 4294967296 }
     ensures lines { OnOk result

@@ -2,7 +2,7 @@
 
 ghost use Rattle.std.specs.Prelude.{◌≡◌, [], ◌∷◌, codes, take, drop};
 ghost use Rattle.jp_doc.specs.Feeding.{fed, fed_lines, finished_lines, nothing_fed};
-ghost use Rattle.jp_buffer.specs.Buffered.{nothing_buffered};
+ghost use Rattle.jp_buffer.specs.Buffered.{nothing_buffered, total_bytes};
 ghost use Rattle.jp_buffer.specs.inner.Waiting.{bytes_of, lines_in};
 
 fn nothing_yet()
@@ -11,6 +11,11 @@ fn nothing_yet()
     ensures lines { nothing_buffered.lines ≡ [] }
     ensures first_feed { fed_lines nothing_buffered.progress (codes "a\n\nb") ≡ (1, codes "a") ∷ [] }
     ensures last_line { finished_lines (fed nothing_fed (codes "a\n\nb")) ≡ (3, codes "b") ∷ [] }
+{}
+
+fn bytes_of_lines()
+    ensures none { total_bytes [] ≡ 0 }
+    ensures two { total_bytes ((1, codes "ab") ∷ (4, codes "c") ∷ []) ≡ 3 }
 {}
 
 fn lines_one_behind_another()

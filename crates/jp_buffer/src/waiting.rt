@@ -3,7 +3,7 @@
 ghost use Rattle.std.specs.Prelude.{◌≡◌, ◌+◌, ◌<◌, ◌≤◌, ◌^◌, [], ◌∷◌, ◌++◌, map, take, drop, length};
 ghost use Rattle.std.specs.Prelude.{IfOk, OnOk, OnErr, vec_len};
 ghost use Rattle.jp_doc.specs.Feeding.{numbered};
-ghost use Rattle.jp_buffer.specs.Buffered.{line_at};
+ghost use Rattle.jp_buffer.specs.Buffered.{line_at, total_bytes};
 ghost use Rattle.jp_buffer.specs.inner.Waiting.{Begins, bytes_of};
 
 use crate::line_ref::LineRef;
@@ -21,15 +21,18 @@ struct Span {
     len: usize,
 }
 
-/// The lines that wait for their answer.
+/// Lines that wait for their answer, whose bytes stand in one buffer.
+///
+/// A line takes no allocation of its own: its bytes go behind those of the lines before it, into memory that
+/// is used again once lines are taken away; after lines of over 1,000,000 bytes it is let go.
 #[derive(Drop)]
-pub(crate) struct Waiting {
+pub struct WaitingLines {
     /// The bytes of the lines, one behind another, and no others.
     bytes: Vec<u8>,
     spans: Vec<Span>,
 }
 
-impl Model for Waiting {
+impl Model for WaitingLines {
     ghost use Rattle.std.specs.Prelude.{◌≡◌, List, length};
     ghost use Rattle.jp_doc.specs.Lines.{Line};
     ghost use Rattle.jp_buffer.specs.inner.Waiting.{bytes_of, lines_in};
@@ -41,22 +44,29 @@ impl Model for Waiting {
     ghost invariant = { λ w. length w.bytes.items ≡ bytes_of w.spans.items };
 }
 
-impl Waiting {
+impl WaitingLines {
     /// No lines. It takes no memory.
-    pub(crate) fn new(alloc: Global) -> Waiting
+    pub fn new(alloc: Global) -> WaitingLines
         ensures { result ≡ [] }
     {
-        Waiting {
+        WaitingLines {
             bytes: Vec::new(alloc),
             spans: Vec::new(alloc),
         }
     }
 
-    /// How many lines wait.
-    pub(crate) fn len(&self) -> usize
+    /// How many lines there are.
+    pub fn len(&self) -> usize
         ensures { result ≡ length self.now }
     {
         self.spans.len()
+    }
+
+    /// How many bytes the lines have together, without their line feeds.
+    pub fn total_bytes(&self) -> usize
+        ensures { result ≡ total_bytes self.now }
+    {
+        self.bytes.len()
     }
 
     /// Adds a line that is given in two parts, unless it is blank.
@@ -87,7 +97,7 @@ impl Waiting {
     }
 
     /// The lines, in order. `AllocError` if the list was refused its memory.
-    pub(crate) fn lines(&self, alloc: Global) -> Result<Vec<LineRef<'_>>, AllocError>
+    pub fn lines(&self, alloc: Global) -> Result<Vec<LineRef<'_>>, AllocError>
         ensures { IfOk result (λ lines. map line_at lines.items ≡ self.now) }
     {
         let mut lines = Vec::with_capacity(alloc, self.spans.len())?;
@@ -110,6 +120,13 @@ impl Waiting {
         let end = total_len(kept);
         self.bytes.truncate(end);
         self.spans.truncate(count);
+    }
+
+    /// Takes all lines away. Their memory is used again, but for that of long lines.
+    pub fn clear(&mut self)
+        ensures { self.new ≡ [] }
+    {
+        self.take_away(self.len());
     }
 
     /// Takes so many lines away from the front, and lets their memory go where they are long.

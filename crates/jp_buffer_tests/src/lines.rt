@@ -1,7 +1,7 @@
 //! Lines that come in pieces, and are taken away.
 
 use crate::calls::{are, feed, finish, take_away, wait};
-use jp_buffer::{LineBuffer, LineRef, refs_of};
+use jp_buffer::{LineBuffer, LineRef, WaitingLines, refs_of};
 use jp_doc::Line;
 use std::alloc::{AllocError, Global};
 use std::test::Fail;
@@ -168,5 +168,28 @@ fn lines_with_their_own_bytes(rt: HostRuntime) -> Result<(), Fail> {
     };
     let shown = format!(in rt.alloc(); "{line:?}")?;
     assert_eq!(rt; shown.as_str(), "LineRef { number: 3, bytes: [91, 93] }");
+    Ok(())
+}
+
+/// The lines that wait are handed out, and those that come then wait in their place.
+#[test]
+fn lines_handed_out(rt: HostRuntime) -> Result<(), Fail> {
+    let mut buffer = LineBuffer::new(rt.alloc());
+    let mut part = WaitingLines::new(rt.alloc());
+    let fed = feed(&mut buffer, b"[1]\n\n[2, 3]\n[4")?;
+    assert!(rt; fed && buffer.total_bytes() == 9);
+    buffer.exchange(&mut part);
+    let first: [(u64, &[u8]); 2] = [(1, b"[1]"), (3, b"[2, 3]")];
+    assert!(rt; part.len() == 2 && part.total_bytes() == 9);
+    assert!(rt; are(&first, &part.lines(rt.alloc())?));
+    assert!(rt; buffer.len() == 0 && buffer.total_bytes() == 0 && buffer.count() == 3);
+    let ended = finish(&mut buffer)?;
+    let last: [(u64, &[u8]); 1] = [(4, b"[4")];
+    assert!(rt; ended && wait(rt.alloc(), &last, &buffer)?);
+    part.clear();
+    assert!(rt; part.len() == 0 && part.total_bytes() == 0);
+    buffer.exchange(&mut part);
+    assert!(rt; buffer.len() == 0);
+    assert!(rt; are(&last, &part.lines(rt.alloc())?));
     Ok(())
 }

@@ -1,6 +1,6 @@
 use Rattle.std.proofs.Common.{◌++◌, ◌∷◌, [], ◌∙◌, ap}
 use Rattle.jp_buffer.proofs.SpanLaws.{added_line}
-use Rattle.jp_buffer.proofs.waiting.Waiting.append.Goals as goal
+use Rattle.jp_buffer.proofs.waiting.WaitingLines.append.Goals as goal
 
 pub invariant_of-self : goal.invariant_of-self
 invariant_of-self c =

@@ -1,7 +1,7 @@
 use Rattle.std.proofs.Common.{◌∙◌, ap, arith, take, drop, length}
 use Rattle.jp_buffer.specs.inner.Waiting.{bytes_of}
 use Rattle.jp_buffer.proofs.SpanLaws.{lines_count, bytes_parts, kept_behind}
-use Rattle.jp_buffer.proofs.waiting.Waiting.take_away.Goals as goal
+use Rattle.jp_buffer.proofs.waiting.WaitingLines.take_away.Goals as goal
 
 pub split_at-requires : goal.split_at-requires
 split_at-requires c =

@@ -1,6 +1,6 @@
 use Rattle.std.proofs.Common.{◌∙◌, sym, ap, length}
 use Rattle.jp_buffer.proofs.SpanLaws.{lines_count}
-use Rattle.jp_buffer.proofs.waiting.Waiting.len.Goals as goal
+use Rattle.jp_buffer.proofs.waiting.WaitingLines.len.Goals as goal
 
 pub returns : goal.returns
 returns c =

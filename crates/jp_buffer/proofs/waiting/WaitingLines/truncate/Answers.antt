@@ -1,7 +1,7 @@
 use Rattle.std.proofs.Common.{◌∙◌, ap, arith, take, length}
 use Rattle.jp_buffer.specs.inner.Waiting.{bytes_of}
 use Rattle.jp_buffer.proofs.SpanLaws.{lines_count, bytes_parts, kept_front}
-use Rattle.jp_buffer.proofs.waiting.Waiting.truncate.Goals as goal
+use Rattle.jp_buffer.proofs.waiting.WaitingLines.truncate.Goals as goal
 
 pub split_at-requires : goal.split_at-requires
 split_at-requires c =
