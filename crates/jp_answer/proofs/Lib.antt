@@ -6,4 +6,4 @@ pub mod Placing
 pub mod Settling
 pub mod Streams
 pub mod Tending
-mod PlanCrosses
+pub mod PlanCrosses

@@ -109,7 +109,7 @@ fn named<'a>(alloc: Global) -> Result<Command<'a>, AllocError>
 fn with_numbers<'a>(alloc: Global, command: Command<'a>) -> Result<Command<'a>, AllocError>
     ensures { IfOk result (λ r. app_of r ≡ numbers_of (app_of command.entry)) }
 {
-    let workers = "How many threads work at once, 1 to 64";
+    let workers = "How many threads answer at once, 1 to 64";
     let piece = "How many documents a thread takes at a time, 1 to 1000000";
     let batch = "How many documents are answered and written together, 1 to 1000000";
     let command = command.arg(number(alloc, "workers", "4", workers))?;

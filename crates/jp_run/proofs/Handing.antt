@@ -1,6 +1,6 @@
 -- Answers that are handed out one after another.
 use Rattle.std.proofs.Common.{◌≡◌, ℕ, ◌+◌, Bool, true, false, inl, inr, List, [], ◌++◌, length, take}
-use Rattle.std.proofs.Common.{Option, Some}
+use Rattle.std.proofs.Common.{Option, Some, IfOk}
 use Rattle.std.proofs.Common.{None, Result, Ok, Err, IfErr, OnOk, IsErrAnd, refl, sym, ◌∙◌, ap, subst, arith}
 use Rattle.std.proofs.Common.{append-nil, length-append}
 use Rattle.std.proofs.Math.Seq.{take-length, take-append-add}
@@ -32,6 +32,19 @@ pub told_so : {T : Type 0} (r : Result T RunFault) (P R : RunFault → Type 0) �
     → IfErr r P → IfErr r R
 told_so (Ok x) P R h p = tt
 told_so (Err f) P R h p = h f p
+
+pub ok_so : {T E : Type 0} (r : Result T E) (P R : T → Type 0) → ((x : T) → P x → R x) → IfOk r P → IfOk r R
+ok_so (Ok x) P R h p = h x p
+ok_so (Err f) P R h p = tt
+
+-- what a call says that has returned this
+pub from_ok : {T E : Type 0} (r : Result T E) (x : T) (P : T → Type 0) → r ≡ Ok x → IfOk r P → P x
+from_ok (Ok y) x P e h = let same : y ≡ x = cc in subst P same h
+from_ok (Err f) x P e h = absurd (cc)
+
+pub on_ok : {T E P : Type 0} (r : Result T E) (x : T) → r ≡ Ok x → OnOk r P → P
+on_ok (Ok y) x e h = h
+on_ok (Err f) x e h = absurd (cc)
 
 -- a fact that holds anyway
 pub at_ok : {T E P : Type 0} (r : Result T E) → P → OnOk r P

@@ -1,8 +1,11 @@
 pub mod Batching
 pub mod Chunks
+pub mod Going
 pub mod Handed
 pub mod Handing
+pub mod Holding
 pub mod Numbering
+pub mod Pieces
 pub mod Runs
 pub mod Standing
 pub mod Streaming

@@ -11,12 +11,12 @@ use Rattle.std.specs.List.{enumerate_from}
 use Rattle.std.proofs.lemmas.List.Sums.{length-filter, count_by-le-length}
 use Rattle.std.proofs.lemmas.List.FromFn.{length-enumerate_from}
 use Rattle.std.specs.Io.KnownBytes.{Consumes, IsAtEnd}
-use Rattle.std.proofs.KnownBytes.{Consumes-nil, Consumes-trans, Consumes-kept}
+use Rattle.std.proofs.KnownBytes.{Consumes-nil}
 use Rattle.jp_doc.specs.Lines.{Line, lines, line_count, is_blank, all_lines}
-use Rattle.jp_doc.specs.Feeding.{Cut, cut, numbered, last_line, Progress, nothing_fed, fed, fed_lines}
+use Rattle.jp_doc.specs.Feeding.{cut, numbered, last_line, Progress, nothing_fed, fed, fed_lines}
 use Rattle.jp_doc.specs.Feeding.{finished, finished_lines}
 use Rattle.jp_doc.specs.declared.fault.DocFault.{DocFault}
-use Rattle.jp_doc.proofs.CutLaws.{cut_both, lines_cut, lines_both, numbered_both}
+use Rattle.jp_doc.proofs.CutLaws.{lines_cut, lines_both, numbered_both}
 use Rattle.jp_tree.specs.Tree as tree
 use Rattle.jp_regexp.proofs.RightTests.{right_tests}
 use Rattle.jp_answer.specs.Answer.{Answer}
@@ -30,12 +30,13 @@ use Rattle.jp_run.specs.declared.gathering.Answered.{Answered}
 use Rattle.jp_run.specs.declared.running.Totals.{Totals}
 use Rattle.jp_run.specs.Batches.{documents_in, in_batches, whole_batches, left_over}
 use Rattle.jp_run.specs.Batches.{documents_before, batch_of, WasNotWhole}
-use Rattle.jp_run.specs.inner.Ended.{Ends, InputFront, ReadEnded, AnswerEnded, RestEnded, StreamEnded}
+use Rattle.jp_run.specs.inner.Ended.{Ends, InputFront, AnswerEnded, RestEnded, StreamEnded}
 use Rattle.jp_run.specs.Handed.{Handed, HandedFront}
 use Rattle.jp_run.proofs.Batching.{batches_fit, few_left, in_both, whole_both, left_both}
 use Rattle.jp_run.proofs.Handing.{handed_none, handed_both, handed_stopped, handed_front, front_more}
 use Rattle.jp_run.proofs.Handing.{front_after}
 use Rattle.jp_run.proofs.Numbering.{before_fault}
+use Rattle.jp_run.proofs.Pieces.{lines_twice}
 
 -- what bytes that begin with these say
 known : (P : List ℕ → Type 0) (old now : Option (List ℕ)) (bytes : List ℕ) → Consumes old now bytes
@@ -65,19 +66,9 @@ no_stop true ls s e = absurd (cc)
 
 -- lines of bytes that come in two parts
 
-documents_both : (bytes piece : List ℕ) → documents_in (bytes ++ piece)
+pub documents_both : (bytes piece : List ℕ) → documents_in (bytes ++ piece)
     ≡ documents_in bytes ++ fed_lines (fed nothing_fed bytes) piece
-documents_both bytes piece = ap (λ (c : Cut). numbered 1 c.ended) (cut_both bytes piece)
-    ∙ numbered_both 1 ((fed nothing_fed bytes).count + 1) (cut bytes).ended
-    (cut ((cut bytes).open_line ++ piece)).ended (omega arith)
-
-fed_both : (bytes piece : List ℕ) → fed nothing_fed (bytes ++ piece) ≡ fed (fed nothing_fed bytes) piece
-fed_both bytes piece =
-    let later : Cut = cut ((cut bytes).open_line ++ piece) in
-    let counts : 0 + length ((cut bytes).ended ++ later.ended) ≡ 0 + length (cut bytes).ended
-    + length later.ended = omega (arith, length-append (cut bytes).ended later.ended) in
-    ap (λ (c : Cut). record { count = 0 + length c.ended; open_line = c.open_line }) (cut_both bytes piece)
-    ∙ ap (λ k. record { count = k; open_line = later.open_line }) counts
+documents_both bytes piece = lines_twice nothing_fed bytes piece
 
 -- the lines of more bytes go on from the documents that had come
 lines_more : (bytes rest : List ℕ) → (more : List Line) × (lines (bytes ++ rest) ≡ documents_in bytes ++ more)
@@ -99,7 +90,7 @@ count_whole bytes = omega (
   length-append (cut bytes).ended (last_line (cut bytes).open_line),
 )
 
-count_below : (bytes : List ℕ) → (fed nothing_fed bytes).count ≤ line_count bytes
+pub count_below : (bytes : List ℕ) → (fed nothing_fed bytes).count ≤ line_count bytes
 count_below bytes = omega (
   arith,
   ap length (lines_cut bytes),
@@ -158,27 +149,7 @@ module _ (going : Bool) (q : tree.Query) (batch : ℕ) (some : 0 < batch) where
             (sym (take-nil (in_batches batch (documents_in [])))) (handed_none going q s);
       }
 
-  pub grown : (a b c s u : Option (List ℕ)) (p next : Progress) (kept all : List Line)
-      (answered same : Answered) (last n : ℕ) (buffer : List ℕ)
-      → Stands going q batch a b s u p kept answered → Consumes b c (take n buffer)
-      → (n ≤ length buffer) × (last ≡ n)
-      → next ≡ fed p (take n buffer) → all ≡ kept ++ fed_lines p (take n buffer) → same ≡ answered
-      → Grown going q batch a c s u next all same last
-  grown a b c s u p next kept all answered same last n buffer st h sizes e f k =
-      let piece : List ℕ = take n buffer in record {
-        bytes = st.bytes;
-        piece = piece;
-        consumed = Consumes-trans a b c st.bytes piece st.consumed h;
-        is_last = sizes.1 ∙ sym (length-take-le n buffer sizes.0);
-        progress = e ∙ ap (λ p. fed p piece) st.progress ∙ sym (fed_both st.bytes piece);
-        lines = f ∙ ap (λ l. l ++ fed_lines p piece) st.left
-            ∙ ap (λ p. left_over batch (documents_in st.bytes) ++ fed_lines p piece) st.progress;
-        counted = ap (λ (n : Answered). n.lines) k ∙ st.counted;
-        passed = ap (λ (n : Answered). n.faulty) k ∙ st.passed;
-        handed = st.handed;
-      }
-
-  grown_documents : (bytes piece : List ℕ) → documents_in bytes ++ fed_lines (fed nothing_fed bytes) piece
+  pub grown_documents : (bytes piece : List ℕ) → documents_in bytes ++ fed_lines (fed nothing_fed bytes) piece
       ≡ whole_batches batch (documents_in bytes)
       ++ (left_over batch (documents_in bytes) ++ fed_lines (fed nothing_fed bytes) piece)
   grown_documents bytes piece =
@@ -243,21 +214,6 @@ module _ (going : Bool) (q : tree.Query) (batch : ℕ) (some : 0 < batch) where
             ∙ sym (whole_both batch first later some) ∙ sym (ap (whole_batches batch) both))
             (handed_both going q (whole_batches batch first) (whole_batches batch all) None s u v g.handed h);
       }
-
-  -- where it stands after a read whose batches are answered
-  pub stands_then : (a b c s u v : Option (List ℕ)) (p next last : Progress) (kept all rest : List Line)
-      (answered same more : Answered) (size n : ℕ) (buffer : List ℕ)
-      → Stands going q batch a b s u p kept answered → Consumes b c (take n buffer)
-      → (n ≤ length buffer) × (size ≡ n)
-      → next ≡ fed p (take n buffer) → all ≡ kept ++ fed_lines p (take n buffer) → same ≡ answered
-      → Handed going q (whole_batches batch all) None u v → rest ≡ left_over batch all
-      → more.lines ≡ same.lines + in_batches batch all
-      → more.faulty ≡ same.faulty + passed_in going (whole_batches batch all) → last ≡ next
-      → Stands going q batch a c s v last rest more
-  stands_then a b c s u v p next last kept all rest answered same more size n buffer st h sizes e f k g i j
-      m l =
-      stands_next a c s u v next last all rest same more size
-      (grown a b c s u p next kept all answered same size n buffer st h sizes e f k) g i j m l
 
   pub stands_few : (a b s u : Option (List ℕ)) (p : Progress) (kept : List Line) (answered : Answered)
       (most : ℕ)
@@ -336,33 +292,6 @@ module _ (going : Bool) (q : tree.Query) (batch : ℕ) (some : 0 < batch) where
   ended_front e Memory h = h
   ended_front e (Query fault) h = absurd h
   ended_front e Settings h = absurd h
-
-  -- a read that failed, or that came to a limit
-  pub read_ended : (e : Ends) (mid : Option (List ℕ)) (p : Progress) (kept : List Line) (answered : Answered)
-      (f : RunFault) → Stands going q batch e.source_old mid e.sink_old e.sink_new p kept answered
-      → ReadEnded p e.source_failed mid e.source_new f → StreamEnded going q batch e f
-  read_ended e mid p kept answered Read st h =
-      (h.0, st.bytes, Consumes-kept e.source_old mid e.source_new st.bytes st.consumed h.1, st.handed)
-  read_ended e mid p kept answered Limit st h = (
-    inr (
-      st.bytes ++ h.0,
-      Consumes-trans e.source_old mid e.source_new st.bytes h.0 st.consumed h.1,
-      omega (
-        arith,
-        h.2,
-        ap (λ (p : Progress). (fed p h.0).count) st.progress,
-        ap (λ (p : Progress). p.count) (fed_both st.bytes h.0),
-        count_below (st.bytes ++ h.0),
-      ),
-    ),
-    stands_front e.source_old mid e.sink_old e.sink_new p kept answered st,
-  )
-  read_ended e mid p kept answered Memory st h = stands_front e.source_old mid e.sink_old e.sink_new p kept
-      answered st
-  read_ended e mid p kept answered (Query fault) st h = absurd h
-  read_ended e mid p kept answered (Document line fault) st h = absurd h
-  read_ended e mid p kept answered Write st h = absurd h
-  read_ended e mid p kept answered Settings st h = absurd h
 
   -- the first faulty line of those that were read last
   not_whole : (before bytes : List ℕ) (last number : ℕ) (fault : DocFault) (back more : List Line)

@@ -1,2 +1,4 @@
 -- Working files of `jp_run`, which private clauses alone cite: nobody has to believe them.
 pub mod Ended
+pub mod Holding
+pub mod Reading

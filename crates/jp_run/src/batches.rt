@@ -1,14 +1,18 @@
 //! Lines that are answered in batches, each handed to the sink, and passed on, before the next begins.
 
-ghost use Rattle.std.specs.Prelude.{◌≡◌, ◌+◌, ◌≤◌, ◌++◌, false, true, None, map, length, take, drop, IfOk};
-ghost use Rattle.std.specs.Prelude.{OnOk, IfErr};
+ghost use Rattle.std.specs.Prelude.{◌≡◌, ◌+◌, ◌<◌, ◌≤◌, ◌++◌, false, true, None, map, length, take, drop};
+ghost use Rattle.std.specs.Prelude.{List, IfOk, OnOk, IfErr};
 ghost use Rattle.jp_buffer.specs.Buffered.{line_at};
+ghost use Rattle.jp_doc.specs.Lines.{Line};
 ghost use Rattle.jp_doc.specs.Feeding.{finished, finished_lines};
+ghost use Rattle.jp_regexp.specs.Tests.{Tests, AreRight};
 ghost use Rattle.jp_check.specs.Plan.{planned_query};
-ghost use Rattle.jp_answer.specs.Form.{passed_in};
+ghost use Rattle.jp_answer.specs.Answered.{outcome_of};
+ghost use Rattle.jp_answer.specs.Form.{answer_in, passed_in};
 ghost use Rattle.jp_answer.specs.Ranges.{AreWorkers, AreDocuments};
-ghost use Rattle.jp_run.specs.Batches.{in_batches, whole_batches, left_over};
+ghost use Rattle.jp_run.specs.Batches.{in_batches, whole_batches};
 ghost use Rattle.jp_run.specs.inner.Ended.{AnswerEnded, RestEnded};
+ghost use Rattle.jp_run.specs.inner.Holding.{IsHeld, KeptFew, KeptSome};
 ghost use Rattle.jp_run.specs.Handed.{Handed};
 ghost use Rattle.jp_run.specs.Limits.{max_lines};
 ghost use Rattle.jp_run.specs.Written.{IsPassedOn};
@@ -19,10 +23,10 @@ use crate::gathering::{Pending, take_last};
 use crate::running::Totals;
 use crate::settings::Settings;
 use crate::writing::hand_out;
-use jp_answer::{Gate, answer_in_chunks};
-use jp_buffer::{LineBuffer, LineRef};
+use jp_answer::{Gate, Outcome, answer_in_chunks};
+use jp_buffer::{LineBuffer, LineRef, WaitingLines};
 use jp_check::Plan;
-use std::alloc::Global;
+use std::alloc::{AllocError, Global};
 use std::thread::Threads;
 
 /// How many bytes of lines a worker is started for: to answer them takes longer than to start a thread.
@@ -31,7 +35,8 @@ const BYTES_EACH: usize = 16_384;
 /// How many pieces there are at least for each worker, where there are as many lines.
 const PIECES_EACH: u64 = 4;
 
-/// Answers the lines of the whole batches that have come, and takes them away.
+/// Answers the lines of the whole batches that have come, hands the answers out, and takes the lines away.
+/// What is held of the first batch has not stopped.
 pub(crate) fn answer_batches<R: Threads + Sync, K: Sink, G: Gate + Sync>(
     rt: &R,
     alloc: Global,
@@ -42,28 +47,80 @@ pub(crate) fn answer_batches<R: Threads + Sync, K: Sink, G: Gate + Sync>(
     sink: &mut K,
 ) -> Result<(), RunFault>
     requires working { K.failed sink.old ≡ false }
-    requires few { pending.old.answered.lines + length pending.old.buffer.lines ≤ 4294967296 }
-    requires few_faulty { pending.old.answered.faulty ≤ pending.old.answered.lines }
-    ensures handed { OnOk result (Handed settings.keeps_going (planned_query plan.now)
-        (whole_batches settings.batch pending.old.buffer.lines) None
-        (K.contents sink.old) (K.contents sink.new)) }
-    ensures left { OnOk result (pending.new.buffer.lines
-        ≡ left_over settings.batch pending.old.buffer.lines) }
-    ensures answered { OnOk result (pending.new.answered.lines
-        ≡ pending.old.answered.lines + in_batches settings.batch pending.old.buffer.lines) }
-    ensures passed { OnOk result (pending.new.answered.faulty ≡ pending.old.answered.faulty
-        + passed_in settings.keeps_going
-        (whole_batches settings.batch pending.old.buffer.lines)) }
+    requires going_on { (outcome_of pending.old.held.answer).stopped ≡ None }
+    requires not_whole { pending.old.held.count < settings.batch }
+    requires few { pending.old.answered.lines + (pending.old.held.count
+        + length pending.old.buffer.lines) ≤ 4294967296 }
+    requires few_faulty { (pending.old.answered.faulty ≤ pending.old.answered.lines)
+        × (pending.old.held.answer.faulty ≤ pending.old.held.count) }
+    ensures kept { (held : List Line) → IsHeld settings.keeps_going (planned_query plan.now) held
+        pending.old.held → OnOk result (KeptFew settings.keeps_going (planned_query plan.now) settings.batch
+        (held ++ pending.old.buffer.lines) (K.contents sink.old) (K.contents sink.new)
+        pending.old.answered pending.new.answered pending.new.held pending.new.buffer.lines) }
     ensures progress { OnOk result (pending.new.buffer.progress ≡ pending.old.buffer.progress) }
     ensures working { OnOk result (K.failed sink.new ≡ false) }
     ensures passed_on { K.flushed sink.old ≡ true → IsPassedOn (K.flushed sink.new) (K.failed sink.new) }
-    ensures fault { IfErr result (AnswerEnded settings.keeps_going (planned_query plan.now)
-        pending.old.buffer.lines
+    ensures fault { (held : List Line) → IsHeld settings.keeps_going (planned_query plan.now) held
+        pending.old.held → IfErr result (AnswerEnded settings.keeps_going (planned_query plan.now)
+        (held ++ pending.old.buffer.lines)
         (K.failed sink.new) (K.contents sink.old) (K.contents sink.new)) }
 {
+    complete_batch(rt, alloc, plan, settings, gate, pending, sink)?;
+    if pending.held.count > 0 {
+        return Ok(());
+    }
     let (count, faulty) = answer_waiting(rt, alloc, plan, settings, gate, &pending.buffer, sink)?;
     pending.answered.lines += count as u64;
     pending.answered.faulty += faulty;
+    pending.buffer.take_away(count);
+    Ok(())
+}
+
+/// Answers the lines that make the batch whole of which an answer is held, where they have come, and hands
+/// the answer to the batch out.
+fn complete_batch<R: Threads + Sync, K: Sink, G: Gate + Sync>(
+    rt: &R,
+    alloc: Global,
+    plan: &Plan,
+    settings: Settings,
+    gate: &G,
+    pending: &mut Pending,
+    sink: &mut K,
+) -> Result<(), RunFault>
+    requires working { K.failed sink.old ≡ false }
+    requires going_on { (outcome_of pending.old.held.answer).stopped ≡ None }
+    requires not_whole { pending.old.held.count < settings.batch }
+    requires few { pending.old.answered.lines + (pending.old.held.count
+        + length pending.old.buffer.lines) ≤ 4294967296 }
+    requires few_faulty { (pending.old.answered.faulty ≤ pending.old.answered.lines)
+        × (pending.old.held.answer.faulty ≤ pending.old.held.count) }
+    ensures kept { (held : List Line) → IsHeld settings.keeps_going (planned_query plan.now) held
+        pending.old.held → OnOk result (KeptSome settings.keeps_going (planned_query plan.now) settings.batch
+        (held ++ pending.old.buffer.lines) (K.contents sink.old) (K.contents sink.new)
+        pending.old.answered pending.new.answered pending.new.held pending.new.buffer.lines) }
+    ensures few { OnOk result (pending.new.answered.lines
+        + length pending.new.buffer.lines ≤ 4294967296) }
+    ensures few_faulty { OnOk result (pending.new.answered.faulty ≤ pending.new.answered.lines) }
+    ensures progress { OnOk result (pending.new.buffer.progress ≡ pending.old.buffer.progress) }
+    ensures working { OnOk result (K.failed sink.new ≡ false) }
+    ensures passed_on { K.flushed sink.old ≡ true → IsPassedOn (K.flushed sink.new) (K.failed sink.new) }
+    ensures fault { (held : List Line) → IsHeld settings.keeps_going (planned_query plan.now) held
+        pending.old.held → IfErr result (AnswerEnded settings.keeps_going (planned_query plan.now)
+        (held ++ pending.old.buffer.lines)
+        (K.failed sink.new) (K.contents sink.old) (K.contents sink.new)) }
+{
+    let batch = settings.batch as usize;
+    let held = pending.held.count;
+    if held == 0 || held + pending.buffer.len() < batch {
+        return Ok(());
+    }
+    let count = batch - held;
+    let more = answer_front(rt, alloc, plan, settings, gate, &pending.buffer, count)?;
+    pending.held.put(count, more)?;
+    hand_out(sink, &pending.held.answer)?;
+    pending.answered.lines += settings.batch;
+    pending.answered.faulty += pending.held.answer.faulty;
+    pending.held.clear();
     pending.buffer.take_away(count);
     Ok(())
 }
@@ -79,35 +136,85 @@ pub(crate) fn answer_rest<R: Threads + Sync, K: Sink, G: Gate + Sync>(
     sink: &mut K,
 ) -> Result<Totals, RunFault>
     requires working { K.failed sink.old ≡ false }
+    requires going_on { (outcome_of pending.old.held.answer).stopped ≡ None }
     requires few_lines { pending.old.buffer.progress.count ≤ max_lines }
-    requires few { pending.old.answered.lines + length pending.old.buffer.lines ≤ 4294967295 }
-    requires few_faulty { pending.old.answered.faulty ≤ pending.old.answered.lines }
-    ensures handed { OnOk result (Handed settings.keeps_going (planned_query plan.now)
-        (pending.old.buffer.lines ++ finished_lines pending.old.buffer.progress) None
+    requires few { pending.old.answered.lines + (pending.old.held.count
+        + length pending.old.buffer.lines) ≤ 4294967295 }
+    requires few_faulty { (pending.old.answered.faulty ≤ pending.old.answered.lines)
+        × (pending.old.held.answer.faulty ≤ pending.old.held.count) }
+    ensures handed { (held : List Line) → IsHeld settings.keeps_going (planned_query plan.now) held
+        pending.old.held → OnOk result (Handed settings.keeps_going (planned_query plan.now)
+        ((held ++ pending.old.buffer.lines) ++ finished_lines pending.old.buffer.progress) None
         (K.contents sink.old) (K.contents sink.new)) }
     ensures lines { IfOk result (λ totals. totals.lines ≡ (finished pending.old.buffer.progress).count) }
     ensures documents { IfOk result (λ totals. totals.documents ≡ pending.old.answered.lines
-        + length (pending.old.buffer.lines ++ finished_lines pending.old.buffer.progress)) }
+        + (pending.old.held.count
+        + length (pending.old.buffer.lines ++ finished_lines pending.old.buffer.progress))) }
     ensures passed { IfOk result (λ totals. totals.faulty ≡ pending.old.answered.faulty
-        + passed_in settings.keeps_going
-        (pending.old.buffer.lines ++ finished_lines pending.old.buffer.progress)) }
+        + (pending.old.held.answer.faulty + passed_in settings.keeps_going
+        (pending.old.buffer.lines ++ finished_lines pending.old.buffer.progress))) }
     ensures few_lines { IfOk result (λ totals. totals.lines ≤ max_lines) }
     ensures flushed { OnOk result (K.flushed sink.new ≡ true) }
     ensures working { OnOk result (K.failed sink.new ≡ false) }
     ensures passed_on { K.flushed sink.old ≡ true → IsPassedOn (K.flushed sink.new) (K.failed sink.new) }
-    ensures fault { IfErr result (RestEnded settings.keeps_going (planned_query plan.now)
-        (pending.old.buffer.lines ++ finished_lines pending.old.buffer.progress)
+    ensures fault { (held : List Line) → IsHeld settings.keeps_going (planned_query plan.now) held
+        pending.old.held → IfErr result (RestEnded settings.keeps_going (planned_query plan.now)
+        ((held ++ pending.old.buffer.lines) ++ finished_lines pending.old.buffer.progress)
         (finished pending.old.buffer.progress).count
         (K.failed sink.new) (K.contents sink.old) (K.contents sink.new)) }
 {
-    let lines = take_last(pending)?;
-    let waiting = pending.buffer.lines(alloc)?;
-    let faulty = answer_lines(rt, alloc, plan, settings, gate, &waiting, sink)?;
+    let lines = take_last(&mut pending.buffer)?;
+    let count = pending.buffer.len();
+    let more = answer_front(rt, alloc, plan, settings, gate, &pending.buffer, count)?;
+    pending.held.put(count, more)?;
+    hand_out(sink, &pending.held.answer)?;
     Ok(Totals {
         lines,
-        documents: pending.answered.lines + waiting.len() as u64,
-        faulty: pending.answered.faulty + faulty,
+        documents: pending.answered.lines + pending.held.count as u64,
+        faulty: pending.answered.faulty + pending.held.answer.faulty,
     })
+}
+
+/// The answer to so many lines at the front of those that wait.
+fn answer_front<R: Threads + Sync, G: Gate + Sync>(
+    rt: &R,
+    alloc: Global,
+    plan: &Plan,
+    settings: Settings,
+    gate: &G,
+    buffer: &LineBuffer,
+    count: usize,
+) -> Result<Outcome, AllocError>
+    requires within { count ≤ length buffer.now.lines }
+    requires few { count ≤ 4294967296 }
+    ensures answer { IfOk result (λ a. (t : Tests) → AreRight t → answer_in settings.keeps_going t
+        (planned_query plan.now) (take count buffer.now.lines) ≡ outcome_of a) }
+    ensures passed { IfOk result (λ a. passed_in settings.keeps_going (take count buffer.now.lines)
+        ≡ a.faulty) }
+    ensures few { IfOk result (λ a. a.faulty ≤ count) }
+{
+    let lines = buffer.lines(alloc)?;
+    let (front, _) = lines.split_at(count);
+    answer_to(rt, alloc, plan, settings, gate, front)
+}
+
+/// The answer to the lines of a part.
+pub(crate) fn answer_part<R: Threads + Sync, G: Gate + Sync>(
+    rt: &R,
+    alloc: Global,
+    plan: &Plan,
+    settings: Settings,
+    gate: &G,
+    part: &WaitingLines,
+) -> Result<Outcome, AllocError>
+    requires { length part.now ≤ 4294967296 }
+    ensures answer { IfOk result (λ a. (t : Tests) → AreRight t → answer_in settings.keeps_going t
+        (planned_query plan.now) part.now ≡ outcome_of a) }
+    ensures passed { IfOk result (λ a. passed_in settings.keeps_going part.now ≡ a.faulty) }
+    ensures few { IfOk result (λ a. a.faulty ≤ length part.now) }
+{
+    let lines = part.lines(alloc)?;
+    answer_to(rt, alloc, plan, settings, gate, &lines)
 }
 
 /// Answers the whole batches of the lines that wait. Gives how many lines these were, and how many faulty
@@ -218,12 +325,38 @@ fn answer_lines<R: Threads + Sync, K: Sink, G: Gate + Sync>(
         (map line_at lines.now)
         (K.failed sink.new) (K.contents sink.old) (K.contents sink.new)) }
 {
-    let workers = workers_for(settings, lines);
-    let piece = piece_for(settings, workers, lines.len());
-    let keeps_going = settings.keeps_going;
-    let answer = answer_in_chunks(rt, alloc, plan, lines, workers, piece, keeps_going, gate)?;
+    let answer = answer_to(rt, alloc, plan, settings, gate, lines)?;
     hand_out(sink, &answer)?;
     Ok(answer.faulty)
+}
+
+/// The answer to some lines, by as many workers as they are worth.
+fn answer_to<R: Threads + Sync, G: Gate + Sync>(
+    rt: &R,
+    alloc: Global,
+    plan: &Plan,
+    settings: Settings,
+    gate: &G,
+    lines: &[LineRef<'_>],
+) -> Result<Outcome, AllocError>
+    requires { length lines.now ≤ 4294967296 }
+    ensures answer { IfOk result (λ a. (t : Tests) → AreRight t → answer_in settings.keeps_going t
+        (planned_query plan.now) (map line_at lines.now) ≡ outcome_of a) }
+    ensures passed { IfOk result (λ a. passed_in settings.keeps_going (map line_at lines.now) ≡ a.faulty) }
+    ensures few { IfOk result (λ a. a.faulty ≤ length lines.now) }
+{
+    let workers = workers_for(settings, lines);
+    let piece = piece_for(settings, workers, lines.len());
+    answer_in_chunks(
+        rt,
+        alloc,
+        plan,
+        lines,
+        workers,
+        piece,
+        settings.keeps_going,
+        gate,
+    )
 }
 
 /// How many workers the lines are worth: as many as are set, but no more than one for each 16,384 bytes.

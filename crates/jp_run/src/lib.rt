@@ -1,6 +1,7 @@
 //! The answer to a collection of documents, one on a line: from the bytes that come in to those that go out.
 #![tactic(auto)]
 
+mod ahead;
 mod answers;
 mod batches;
 mod checking;
@@ -8,6 +9,7 @@ mod ends;
 mod examples;
 mod fault;
 mod gathering;
+mod held;
 mod running;
 mod settings;
 mod std_ends;

@@ -20,20 +20,20 @@ ghost use Rattle.jp_run.specs.Handed.{Handed, IsHanded};
 ghost use Rattle.jp_run.specs.Limits.{max_reads, max_lines};
 ghost use Rattle.jp_run.specs.Written.{AppendsFront, IsPassedOn};
 
+use crate::ahead::read_on;
 use crate::batches::{answer_batches, answer_rest};
 use crate::ends::{Sink, Source};
 use crate::fault::RunFault;
-use crate::gathering::{Answered, Pending, read_lines};
+use crate::gathering::{Answered, Pending, Reads};
+use crate::held::Held;
 use crate::settings::Settings;
+use crate::writing::tell_stop;
 use jp_answer::Gate;
-use jp_buffer::LineBuffer;
+use jp_buffer::{LineBuffer, WaitingLines};
 use jp_check::{Plan, plan};
 use jp_syntax::QueryFault;
 use std::alloc::Global;
 use std::thread::Threads;
-
-/// The number of bytes that one call of `read` is asked for.
-const READ_SIZE: usize = 65_536;
 
 /// The greatest number of calls of `read`.
 const MAX_READS: u64 = 1 << 40;
@@ -63,9 +63,9 @@ impl Totals {
 /// selects.
 ///
 /// The query is read first. Then the source is read to its end, at most 65,536 bytes a call. As soon as
-/// `batch` documents have come they are answered by the workers, of whom there is one for each 16,384 bytes
-/// of their lines at most, and written, and the sink is flushed, before the next read; the rest is at the
-/// end. The run stops at the first faulty line, unless the settings are to keep going: then a faulty line
+/// `batch` documents have come their answer is written, and the sink is flushed, before the next read; the
+/// rest is at the end. They are answered by the workers, of whom there is one for each 16,384 bytes of their
+/// lines at most; where the lines of a batch are long, by parts, while the calling thread reads on. The run stops at the first faulty line, unless the settings are to keep going: then a faulty line
 /// gives its fault line, and the totals count it.
 /// Neither end has failed before, and the counts of the source are at most 2^62.
 ///
@@ -198,19 +198,30 @@ fn stream<R: Threads + Sync, S: Source, K: Sink, G: Gate + Sync>(
         })) }
     ensures few { S.reads source.new ≤ S.reads source.old + max_reads }
 {
-    let mut buffer = vec![in alloc; 0u8; READ_SIZE]?;
-    let chunk = buffer.as_mut_slice();
+    let mut reads = Reads::new(alloc, MAX_READS)?;
     let mut pending = Pending {
         buffer: LineBuffer::new(alloc),
+        part: WaitingLines::new(alloc),
+        held: Held::new(alloc),
         answered: Answered {
             lines: 0,
             faulty: 0,
         },
     };
-    for _turn in 0..MAX_READS {
-        let n = read_lines(source, chunk, &mut pending)?;
+    while reads.left > 0 {
+        let ended = read_on(
+            rt,
+            alloc,
+            plan,
+            settings,
+            gate,
+            source,
+            &mut reads,
+            &mut pending,
+        )?;
+        tell_stop(sink, &pending.held.answer)?;
         answer_batches(rt, alloc, plan, settings, gate, &mut pending, sink)?;
-        if n == 0 {
+        if ended {
             return answer_rest(rt, alloc, plan, settings, gate, &mut pending, sink);
         }
     }
