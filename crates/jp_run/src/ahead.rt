@@ -28,9 +28,9 @@ use std::thread::{Threads, join_mut};
 /// How many bytes of lines are a part for one worker.
 const PART_BYTES: usize = 131_072;
 
-/// Reads on until the batch is whole, a part of it has come, or the input has ended, and answers the part that
-/// came before, if there is one: beside the reading, where there is more than one worker. The answer is held.
-/// Gives whether the input has ended.
+/// Reads on until the batch is whole, a part of it has come, or the input has ended, and answers the part
+/// that came before, if there is one: beside the reading, where there is more than one worker. The answer is
+/// held. Gives whether the input has ended.
 pub(crate) fn read_on<R: Threads + Sync, S: Source, G: Gate + Sync>(
     rt: &R,
     alloc: Global,

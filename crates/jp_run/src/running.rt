@@ -65,8 +65,9 @@ impl Totals {
 /// The query is read first. Then the source is read to its end, at most 65,536 bytes a call. As soon as
 /// `batch` documents have come their answer is written, and the sink is flushed, before the next read; the
 /// rest is at the end. They are answered by the workers, of whom there is one for each 16,384 bytes of their
-/// lines at most; where the lines of a batch are long, by parts, while the calling thread reads on. The run stops at the first faulty line, unless the settings are to keep going: then a faulty line
-/// gives its fault line, and the totals count it.
+/// lines at most; where the lines of a batch are long, by parts, while the calling thread reads on. The run
+/// stops at the first faulty line, unless the settings are to keep going: then a faulty line gives its fault
+/// line, and the totals count it.
 /// Neither end has failed before, and the counts of the source are at most 2^62.
 ///
 /// What is flushed when: each batch's lines as soon as they are written, also those before a faulty line and

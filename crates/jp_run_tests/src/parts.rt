@@ -111,7 +111,8 @@ fn faulty_lines_of_two_parts(rt: HostRuntime) -> Result<(), Fail> {
     Ok(())
 }
 
-/// The first part has the faulty line, so what follows the second one is not read: seven reads hold six lines.
+/// The first part has the faulty line, so what follows the second one is not read: seven reads hold six
+/// lines.
 #[test]
 fn a_faulty_part_ends_the_run(rt: HostRuntime) -> Result<(), Fail> {
     let text = eight(rt.alloc(), true)?;
