@@ -1,3 +1,5 @@
 pub mod Trees
 pub mod Lists
 pub mod Short
+pub mod Emptiness
+pub mod InLine

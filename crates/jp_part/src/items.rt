@@ -46,8 +46,18 @@ impl<'v> Items<'v> {
         }
     }
 
-    /// Those behind the first so many. It goes over these.
+    /// Those behind the first so many. Of a flat document it goes over these.
     pub fn skip(self, count: u32) -> Items<'v>
+        ensures { item_values result ≡ drop count (item_values self.entry) }
+    {
+        match self {
+            Items::Tree(items) => Items::Tree(items.skip(count as usize)),
+            Items::Flat(_) => self.skip_over(count),
+        }
+    }
+
+    /// The same, item by item.
+    fn skip_over(self, count: u32) -> Items<'v>
         ensures { item_values result ≡ drop count (item_values self.entry) }
     {
         let mut left = self;

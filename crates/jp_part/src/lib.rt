@@ -4,6 +4,7 @@
 mod examples;
 mod items;
 mod members;
+mod names;
 mod part;
 mod tree;
 

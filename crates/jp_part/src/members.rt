@@ -1,7 +1,8 @@
 //! Members of an object, in either form.
 
-ghost use Rattle.std.specs.Prelude.{◌≡◌, ◌++◌, [], ◌∷◌, length, IfOk, MatchOption};
+ghost use Rattle.std.specs.Prelude.{◌≡◌, ◌↔◌, ◌++◌, [], ◌∷◌, length, IfOk, IsTrue, MatchOption};
 ghost use Rattle.std.specs.Str.{chars};
+ghost use Rattle.jp_doc.specs.Json.{no_members};
 ghost use Rattle.jp_part.specs.Inside.{members_in};
 ghost use Rattle.jp_part.specs.Members.{members, list_entries, range_entries};
 ghost use Rattle.jp_part.specs.Part.{part_value};
@@ -51,6 +52,19 @@ pub struct Member<'v> {
 }
 
 impl<'v> Members<'v> {
+    /// Whether there is none.
+    pub fn is_empty(self) -> bool
+        ensures { IsTrue result ↔ (members_in self.entry ≡ no_members) }
+    {
+        match self {
+            Members::Tree(members) => members.len() == 0,
+            Members::Flat(members) => match members.split_first() {
+                None => true,
+                Some(_) => false,
+            },
+        }
+    }
+
     /// The members in rising order of their names, each name once.
     ///
     /// `AllocError` if a growth was refused.

@@ -15,7 +15,7 @@ ghost use Rattle.jp_part.specs.Inside.{kind_value, IsInside, IsScalar};
 ghost use Rattle.jp_part.specs.Part.{part_value};
 
 use crate::items::Items;
-use crate::members::Members;
+use crate::members::{MemberRange, Members};
 use crate::tree::{TreeItems, TreeMembers, TreeValue};
 use jp_doc::Document;
 use jp_flat::{FlatDocument, FlatValue};
@@ -56,6 +56,8 @@ pub enum Kind<'v> {
     Array(Items<'v>),
     /// An object, of these members.
     Object(Members<'v>),
+    /// An object, of these members, which are listed.
+    Listed(MemberRange<'v, 'v>),
 }
 
 fn whole(number: &Number) -> i128

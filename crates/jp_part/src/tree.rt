@@ -1,7 +1,7 @@
 //! Values of the JSON crate's tree.
 
 ghost use Rattle.std.specs.Prelude.{◌≡◌, ◌≤◌, length, option_map, Some, IfOk, MatchOption, map};
-ghost use Rattle.std.specs.Prelude.{[], ◌∷◌};
+ghost use Rattle.std.specs.Prelude.{[], ◌∷◌, drop};
 ghost use Rattle.std.specs.List.{All};
 ghost use Rattle.std.specs.Str.{chars};
 ghost use Rattle.jp_doc.specs.DocumentValue.{IsDocumentValue};
@@ -80,12 +80,31 @@ impl<'v> TreeItems<'v> {
             Some((value, items)) => Some((TreeValue { value }, TreeItems { items })),
         }
     }
+
+    /// Those behind the first so many.
+    pub(crate) fn skip(self, count: usize) -> TreeItems<'v>
+        ensures { map (λ v. value_of v) result.items.now
+            ≡ drop count (map (λ v. value_of v) self.entry.items.now) }
+    {
+        if count > self.items.len() {
+            return TreeItems { items: &[] };
+        }
+        let (_, items) = self.items.split_at(count);
+        TreeItems { items }
+    }
 }
 
 impl<'v> TreeMembers<'v> {
     ghost use Rattle.serde_json.specs.View.{members_view};
     ghost use Rattle.jp_doc.specs.Json.{members_of};
     ghost use Rattle.jp_part.specs.Members.{members, tree_entry};
+
+    /// How many there are.
+    pub fn len(self) -> usize
+        ensures { result ≡ length self.entry.members.now.entries }
+    {
+        self.members.len()
+    }
 
     /// The members, one behind another in rising order of their names.
     pub(crate) fn gather(self, alloc: Global) -> Result<Vec<TreeMember<'v>>, AllocError>

@@ -8,7 +8,7 @@ use Rattle.jp_part.proofs.Lists.{list_back}
 use Rattle.jp_value.specs.Comparison.{same, same_members}
 use Rattle.jp_value.specs.Functions.{length_value, number_value, member_count}
 
-members_counted : (es : List (Text × Json)) → member_count (members es) ≡ length es
+pub members_counted : (es : List (Text × Json)) → member_count (members es) ≡ length es
 members_counted [] = refl
 members_counted (e ∷ es) = ap (λ n. suc n) (members_counted es)
 

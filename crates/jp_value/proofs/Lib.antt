@@ -10,3 +10,5 @@ pub mod Within
 pub mod OnLiterals
 pub mod FirstOnes
 pub mod SamePlaces
+pub mod Apart
+pub mod TreeObjects

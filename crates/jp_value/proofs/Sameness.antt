@@ -70,7 +70,7 @@ mutual
       let f : vs ≡ ws = equal_items vs ws p.1 in
       cc
 
-  equal_members : (ms ns : Members) → same_members ms ns ≡ true → ms ≡ ns
+  pub equal_members : (ms ns : Members) → same_members ms ns ≡ true → ms ≡ ns
   equal_members no_members no_members h = refl
   equal_members no_members (add_member l w ns) h = absurd cc
   equal_members (add_member k v ms) no_members h = absurd cc

@@ -10,7 +10,7 @@ ghost use Rattle.jp_doc.specs.Json.{text_eq, text_cmp, value_of, whole_of, items
 ghost use Rattle.jp_value.specs.Comparison as spec;
 ghost use Rattle.jp_value.specs.Operands.{operand_value, HasWholeNumbers, IsPlain};
 
-use jp_tree::Operator;
+use jp_part::TreeMembers;
 use serde_json::{Map, Number, Value};
 
 /// A comparable value, or nothing.
@@ -109,6 +109,14 @@ fn same_members(left: &Map<String, Value>, right: &Map<String, Value>) -> bool
     others.next().is_none()
 }
 
+/// Whether two objects of a document have the same members. They lie there in order, so it takes no memory.
+pub(crate) fn same_entries(left: TreeMembers<'_>, right: TreeMembers<'_>) -> bool
+    ensures { result ≡ spec.same_members (members_of (members_view left.entry.members.now.entries))
+        (members_of (members_view right.entry.members.now.entries)) }
+{
+    same_members(left.members, right.members)
+}
+
 /// The same operand, where what is lent is an array or an object.
 fn plain(operand: Operand<'_>) -> Operand<'_>
     requires { HasWholeNumbers operand }
@@ -175,20 +183,4 @@ pub fn less(left: Operand<'_>, right: Operand<'_>) -> bool
     ensures { result ≡ spec.lt (operand_value left.entry) (operand_value right.entry) }
 {
     less_plain(plain(left), plain(right))
-}
-
-/// Whether the comparison is true.
-pub fn compare(operator: Operator, left: Operand<'_>, right: Operand<'_>) -> bool
-    requires left { HasWholeNumbers left }
-    requires right { HasWholeNumbers right }
-    ensures { result ≡ spec.compared operator (operand_value left.entry) (operand_value right.entry) }
-{
-    match operator {
-        Operator::Eq => equal(left, right),
-        Operator::Ne => !equal(left, right),
-        Operator::Lt => less(left, right),
-        Operator::Le => less(left, right) || equal(left, right),
-        Operator::Gt => less(right, left),
-        Operator::Ge => less(right, left) || equal(right, left),
-    }
 }

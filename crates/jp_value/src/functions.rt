@@ -4,7 +4,7 @@
 ghost use Rattle.std.specs.Prelude.{◌≡◌, Some, length, option_map, IfOk};
 ghost use Rattle.std.specs.Str.{chars};
 ghost use Rattle.jp_doc.specs.Json as json;
-ghost use Rattle.jp_part.specs.Inside.{kind_value};
+ghost use Rattle.jp_part.specs.Inside.{kind_value, members_in};
 ghost use Rattle.jp_tree.specs.View.{text_of as characters};
 ghost use Rattle.jp_compiled.specs.Compiled.{constant_of};
 ghost use Rattle.jp_value.specs.Functions as spec;
@@ -14,7 +14,7 @@ ghost use Rattle.jp_value.specs.Literals.{literal_value};
 ghost use Rattle.jp_value.specs.RightTests.{tests};
 
 use jp_compiled::{Constant, KnownPattern};
-use jp_part::Kind;
+use jp_part::{Kind, Members};
 use jp_regexp::Pattern;
 use std::alloc::{AllocError, Global};
 
@@ -39,7 +39,8 @@ fn count_characters(text: &str) -> usize
 /// The number of scalar values of a text, of items of an array, or of members of an object, and nothing of
 /// anything else (RFC 9535, 2.4.4).
 ///
-/// It takes memory only for an object, whose members are gathered. `AllocError` if a growth was refused.
+/// It takes memory only for an object of a flat document, whose members are gathered. `AllocError` if a growth
+/// was refused.
 pub fn length(alloc: Global, given: Option<Kind<'_>>) -> Result<Option<Kind<'_>>, AllocError>
     ensures { IfOk result (λ n. given_value n ≡ spec.length_value (given_value given.entry)) }
 {
@@ -56,13 +57,24 @@ fn length_of(alloc: Global, kind: Kind<'_>) -> Result<Option<Kind<'_>>, AllocErr
     match kind {
         Kind::Text(text) => Ok(Some(Kind::Whole(count_characters(text) as i128))),
         Kind::Array(items) => Ok(Some(Kind::Whole(items.count() as i128))),
-        Kind::Object(members) => {
-            let members = members.gather(alloc)?;
-            Ok(Some(Kind::Whole(members.range().len() as i128)))
-        }
+        Kind::Object(members) => Ok(Some(Kind::Whole(count_members(alloc, members)? as i128))),
+        Kind::Listed(members) => Ok(Some(Kind::Whole(members.len() as i128))),
         Kind::Null => Ok(None),
         Kind::Truth(_) => Ok(None),
         Kind::Whole(_) => Ok(None),
+    }
+}
+
+/// How many members an object has.
+fn count_members(alloc: Global, members: Members<'_>) -> Result<usize, AllocError>
+    ensures { IfOk result (λ n. n ≡ spec.member_count (members_in members.entry)) }
+{
+    match members {
+        Members::Tree(members) => Ok(members.len()),
+        Members::Flat(_) => {
+            let list = members.gather(alloc)?;
+            Ok(list.range().len())
+        }
     }
 }
 

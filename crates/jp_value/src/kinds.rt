@@ -7,7 +7,7 @@ ghost use Rattle.jp_part.specs.Members.{members, range_entries};
 ghost use Rattle.jp_value.specs.Comparison as spec;
 ghost use Rattle.jp_value.specs.Kinds.{given_value};
 
-use crate::comparison::{is_text_below, same_text};
+use crate::comparison::{is_text_below, same_entries, same_text};
 use jp_part::{Items, Kind, MemberRange, Members};
 use jp_tree::Operator;
 use std::alloc::{AllocError, Global};
@@ -24,6 +24,9 @@ fn same_kind(alloc: Global, left: Kind<'_>, right: Kind<'_>) -> Result<bool, All
         (Kind::Text(x), Kind::Text(y)) => Ok(same_text(x, y)),
         (Kind::Array(x), Kind::Array(y)) => same_items(alloc, x, y),
         (Kind::Object(x), Kind::Object(y)) => same_members(alloc, x, y),
+        (Kind::Object(x), Kind::Listed(y)) => same_as_listed(alloc, x, y),
+        (Kind::Listed(x), Kind::Object(y)) => same_as_object(alloc, x, y),
+        (Kind::Listed(x), Kind::Listed(y)) => same_ranges(alloc, x, y),
         _ => Ok(false),
     }
 }
@@ -50,18 +53,62 @@ fn same_items(alloc: Global, left: Items<'_>, right: Items<'_>) -> Result<bool, 
     Ok(others.split_first().is_none())
 }
 
+/// Of two objects in a line the one with fewer members there is listed first: no member of the other is
+/// listed where one of its names tells them apart. Two of a tree are compared member by member.
 #[cycle(same_kind)]
 fn same_members(alloc: Global, left: Members<'_>, right: Members<'_>) -> Result<bool, AllocError>
     ensures { IfOk result (λ b. b ≡ spec.same_members (members_in left.entry) (members_in right.entry)) }
 {
-    let left = left.gather(alloc)?;
-    let right = right.gather(alloc)?;
-    let ones = left.range();
-    let others = right.range();
-    if ones.len() != others.len() {
+    if let (Members::Tree(left), Members::Tree(right)) = (left, right) {
+        return Ok(same_entries(left, right));
+    }
+    if left.is_empty() {
+        return Ok(right.is_empty());
+    }
+    if right.is_empty() {
         return Ok(false);
     }
-    same_ranges(alloc, ones, others)
+    if left.is_shorter(right) {
+        let left = left.gather(alloc)?;
+        same_as_object(alloc, left.range(), right)
+    } else {
+        let right = right.gather(alloc)?;
+        same_as_listed(alloc, left, right.range())
+    }
+}
+
+/// Whether an object's members are those of a list.
+#[cycle(same_kind)]
+fn same_as_listed(
+    alloc: Global,
+    left: Members<'_>,
+    right: MemberRange<'_, '_>,
+) -> Result<bool, AllocError>
+    ensures { IfOk result (λ b. b ≡ spec.same_members (members_in left.entry)
+        (members (range_entries right.entry))) }
+{
+    if left.has_other_name(right) {
+        return Ok(false);
+    }
+    let left = left.gather(alloc)?;
+    same_ranges(alloc, left.range(), right)
+}
+
+/// The same the other way round.
+#[cycle(same_kind)]
+fn same_as_object(
+    alloc: Global,
+    left: MemberRange<'_, '_>,
+    right: Members<'_>,
+) -> Result<bool, AllocError>
+    ensures { IfOk result (λ b. b ≡ spec.same_members (members (range_entries left.entry))
+        (members_in right.entry)) }
+{
+    if right.has_other_name(left) {
+        return Ok(false);
+    }
+    let right = right.gather(alloc)?;
+    same_ranges(alloc, left, right.range())
 }
 
 #[cycle(same_kind)]
@@ -73,6 +120,9 @@ fn same_ranges(
     ensures { IfOk result (λ b. b ≡ spec.same_members (members (range_entries left.entry))
         (members (range_entries right.entry))) }
 {
+    if left.len() != right.len() {
+        return Ok(false);
+    }
     let mut ones = left;
     let mut others = right;
     while let Some((one, behind)) = ones.split_first() {

@@ -10,7 +10,7 @@ pub mod laws;
 mod numbers;
 mod slice;
 
-pub use comparison::{Operand, compare, equal, less};
+pub use comparison::{Operand, equal, less};
 pub use functions::{
     exactly_one, length, literal, matches, matches_known, searches, searches_known,
 };

@@ -1,8 +1,8 @@
-use Rattle.std.proofs.Common.{◌≡◌, length, Some, sym, ap, ◌∙◌, arith, pos, to_z}
+use Rattle.std.proofs.Common.{◌≡◌, Some, refl, sym, ap, ◌∙◌, arith, pos, to_z}
 use Rattle.std.specs.Int.{w128}
 use Rattle.std.proofs.lemmas.Int.{ints}
-use Rattle.jp_part.specs.Inside.{item_values, members_in, kind_value}
-use Rattle.jp_part.specs.Members.{list_entries}
+use Rattle.jp_part.specs.Inside.{item_values, kind_value}
+use Rattle.jp_part.specs.Members.{members, range_entries}
 use Rattle.jp_value.specs.Functions.{length_value}
 use Rattle.jp_value.proofs.Lengths.{array_length, object_length}
 use Rattle.jp_value.proofs.functions.length_of.Goals as goal
@@ -13,9 +13,8 @@ returns-in-Array c =
     rw n (array_length (item_values c.in-Array.items) c.count.result c.count.ensures.count
     ∙ sym (ap (λ k. length_value (Some (kind_value k))) c.in-Array.is))
 
-pub returns-in_ok-members-in-Object : goal.returns-in_ok-members-in-Object
-returns-in_ok-members-in-Object c =
+pub returns-in-Listed : goal.returns-in-Listed
+returns-in-Listed c =
     let n : to_z w128 c.len.result ≡ pos c.len.result = omega (arith, ints) in
-    rw n (object_length (members_in c.in-Object.members) (list_entries c.in_ok-members-in-Object.members)
-    c.len.result c.in_ok-members-in-Object.ensures (c.len.ensures ∙ ap length c.range.ensures)
-    ∙ sym (ap (λ k. length_value (Some (kind_value k))) c.in-Object.is))
+    rw n (object_length (members (range_entries c.in-Listed.members)) (range_entries c.in-Listed.members)
+    c.len.result refl c.len.ensures ∙ sym (ap (λ k. length_value (Some (kind_value k))) c.in-Listed.is))

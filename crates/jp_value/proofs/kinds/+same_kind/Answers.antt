@@ -1,16 +1,25 @@
-use Rattle.std.proofs.Common.{◌≡◌, length, ap, ap₂, ◌∙◌, sym, arith}
-use Rattle.jp_part.specs.Members.{list_entries}
-use Rattle.jp_value.specs.Comparison.{same_members}
+use Rattle.std.proofs.Common.{arith}
+use Rattle.jp_part.specs.Inside.{members_in}
+use Rattle.jp_part.specs.Members.{range_entries}
+use Rattle.jp_value.proofs.Apart.{apart, apart_too, some_beside_none}
 use Rattle.jp_value.proofs.Lengths.{unequally_many}
 use Rattle.jp_value.proofs.kinds.+same_kind.Goals as goal
 
-pub same_members-returns-then-len : goal.same_members-returns-then-len
-same_members-returns-then-len t c =
-    let left = c.in_ok-left in
-    let right = c.in_ok-right in
-    let l : c.len.result ≡ length (list_entries left.left) = c.len.ensures ∙ ap length c.range-ones.ensures in
-    let r : c.len-2.result ≡ length (list_entries right.right) =
-    c.len-2.ensures ∙ ap length c.range-others.ensures in
-    unequally_many (list_entries left.left) (list_entries right.right)
-    (λ is. grind (arith, l, r, is, c.if-len.true))
-    ∙ sym (ap₂ same_members left.ensures right.ensures)
+pub same_ranges-returns-then-len : goal.same_ranges-returns-then-len
+same_ranges-returns-then-len t c =
+    unequally_many (range_entries c.args.left) (range_entries c.args.right)
+    (λ is. grind (arith, c.len.ensures, c.len-2.ensures, is, c.if-len.true))
+
+pub same_as_listed-returns-then-has_other_name : goal.same_as_listed-returns-then-has_other_name
+same_as_listed-returns-then-has_other_name t c =
+    let other = c.has_other_name.ensures c.if-has_other_name.true in apart other.0 _ _ other.1 other.2
+
+pub same_as_object-returns-then-has_other_name : goal.same_as_object-returns-then-has_other_name
+same_as_object-returns-then-has_other_name t c =
+    let other = c.has_other_name.ensures c.if-has_other_name.true in apart_too other.0 _ _ other.1 other.2
+
+pub same_members-returns-then-is_empty-2 : goal.same_members-returns-then-is_empty-2
+same_members-returns-then-is_empty-2 t c =
+    some_beside_none (members_in c.args.left) (members_in c.args.right)
+    (λ e. let is = c.is_empty.ensures.1 e in let not = c.if-is_empty.false in absurd cc)
+    (c.is_empty-2.ensures.0 c.if-is_empty-2.true)

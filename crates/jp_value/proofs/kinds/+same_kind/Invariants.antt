@@ -8,16 +8,22 @@ use Rattle.jp_value.proofs.kinds.+same_kind.Given as goal
 
 -- how high the left value is, then the rank of the function
 abbrev pub decreases-same_kind : goal.decreases-same_kind
-decreases-same_kind l = 3 * height (kind_value l.left)
+decreases-same_kind l = 4 * height (kind_value l.left)
 
 abbrev pub decreases-same_items : goal.decreases-same_items
-decreases-same_items l = 3 * items_height (items (item_values l.left)) + 1
+decreases-same_items l = 4 * items_height (items (item_values l.left)) + 1
 
 abbrev pub decreases-same_members : goal.decreases-same_members
-decreases-same_members l = 3 * members_height (members_in l.left) + 2
+decreases-same_members l = 4 * members_height (members_in l.left) + 3
+
+abbrev pub decreases-same_as_listed : goal.decreases-same_as_listed
+decreases-same_as_listed l = 4 * members_height (members_in l.left) + 2
+
+abbrev pub decreases-same_as_object : goal.decreases-same_as_object
+decreases-same_as_object l = 4 * members_height (members (range_entries l.left)) + 2
 
 abbrev pub decreases-same_ranges : goal.decreases-same_ranges
-decreases-same_ranges l = 3 * members_height (members (range_entries l.left)) + 1
+decreases-same_ranges l = 4 * members_height (members (range_entries l.left)) + 1
 
 abbrev pub invariant-same_items-loop-one : goal.invariant-same_items-loop-one
 invariant-same_items-loop-one l =
