@@ -1,6 +1,6 @@
 -- What is told of `$` queries.
 use Rattle.std.proofs.Common.{◌≡◌, ◌⊎◌, inl, inr, ℕ, zero, suc, ◌<◌, ◌≤◌, true, false, ◌&&◌, List, []}
-use Rattle.std.proofs.Common.{◌∷◌, ◌++◌, length, get_or, refl, ap, ◌∙◌, arith}
+use Rattle.std.proofs.Common.{◌∷◌, ◌++◌, length, map, get_or, refl, ap, ◌∙◌, arith}
 use Rattle.jp_doc.specs.Json.{Json}
 use Rattle.jp_tree.specs.Tree as tree
 use Rattle.jp_compiled.specs.Compiled.{Wanted, first_of, count_of, only_of, distinct_of, wanted, where_wanted}
@@ -10,9 +10,10 @@ use Rattle.jp_eval.specs.inner.Aggregates.{tells, is_of}
 use Rattle.jp_eval.specs.inner.Rooted.{is_answer, are_answers, root_nodes}
 use Rattle.jp_eval.specs.declared.aggregates.Aggregate.{Aggregate}
 use Rattle.jp_eval.specs.declared.aggregates.Aggregate.TheVariants as answer
+use Rattle.jp_eval.specs.declared.root_answer.RootAnswer.{RootAnswer}
 use Rattle.jp_eval.proofs.Telling.{both}
 
-where_none : (v : Want) → where_wanted v (wanted v tree.no_segments) ≡ tree.no_segments
+pub where_none : (v : Want) → where_wanted v (wanted v tree.no_segments) ≡ tree.no_segments
 where_none want.First = refl
 where_none want.Count = refl
 where_none want.Only = refl
@@ -100,7 +101,7 @@ module _ (root : Json) where
         | inr n ↦ let clash = n.0 in absurd cc
       ]
 
-  none_where : (v : Want) (w : Wanted) (a : Aggregate) → is_answer root w a ≡ true → is_of v a ≡ false
+  pub none_where : (v : Want) (w : Wanted) (a : Aggregate) → is_answer root w a ≡ true → is_of v a ≡ false
       → where_wanted v w ≡ tree.no_segments
   none_where v w a h is =
       elim (result_of v w a h) as (λ t. where_wanted v w ≡ tree.no_segments) [
@@ -108,18 +109,18 @@ module _ (root : Json) where
         | inr n ↦ n.1
       ]
 
-  -- what is told of the root alone, where no other query stands
-  of_root : (v : Want) (w : Wanted) (a : Aggregate) → where_wanted v w ≡ tree.no_segments
-      → tells v (root_nodes root tree.no_segments) a ≡ true
-      → tells v (root_nodes root (where_wanted v w)) a ≡ true
-  of_root v w a e h = ap (λ ss. tells v (root_nodes root ss) a) e ∙ h
+-- an answer of the list, among all that is known
+pub answer_among : (xs : List RootAnswer) (i : ℕ) (x : RootAnswer) → i < length xs → x ≡ get_or xs i x
+    → x.answer ≡ get_or (map (λ known. known.answer) xs) i x.answer
+answer_among [] i x h is = absurd (omega arith)
+answer_among (y ∷ ys) zero x h is = ap (λ known. known.answer) is
+answer_among (y ∷ ys) (suc i) x h is = answer_among ys i x (omega arith) is
 
-  pub result_else : (v : Want) (w : Wanted) (a b : Aggregate) → is_answer root w a ≡ true → is_of v a ≡ false
-      → tells v (root_nodes root tree.no_segments) b ≡ true
-      → tells v (root_nodes root (where_wanted v w)) b ≡ true
-  result_else v w a b h is one = of_root v w b (none_where v w a h is) one
+pub as_many : (xs : List RootAnswer) → length (map (λ (known : RootAnswer). known.answer) xs) ≡ length xs
+as_many [] = refl
+as_many (x ∷ xs) = ap (λ n. suc n) (as_many xs)
 
-  pub result_none : (v : Want) (w : Wanted) (b : Aggregate) → w ≡ wanted v tree.no_segments
-      → tells v (root_nodes root tree.no_segments) b ≡ true
-      → tells v (root_nodes root (where_wanted v w)) b ≡ true
-  result_none v w b e one = of_root v w b (ap (where_wanted v) e ∙ where_none v) one
+pub and_one : (xs : List RootAnswer) (x : RootAnswer) → map (λ (known : RootAnswer). known.answer) (xs ++ x ∷ [])
+    ≡ map (λ known. known.answer) xs ++ x.answer ∷ []
+and_one [] x = refl
+and_one (y ∷ ys) x = ap (λ l. y.answer ∷ l) (and_one ys x)

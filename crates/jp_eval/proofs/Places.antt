@@ -1,9 +1,12 @@
 -- Where the places of slices lie.
-use Rattle.std.proofs.Common.{◌≡◌, ℕ, ℤ, pos, negsuc, Bool, true, false, cond, List, [], Option}
-use Rattle.std.proofs.Common.{refl, ap, ap₂, ◌∙◌, arith}
+use Rattle.std.proofs.Common.{◌≡◌, ℕ, zero, suc, ◌≤◌, ℤ, pos, negsuc, Bool, true, false, cond, List, [], ◌∷◌}
+use Rattle.std.proofs.Common.{◌++◌, length, Option, None, if◌then◌else◌, refl, sym, ap, ap₂, ◌∙◌, arith}
 use Rattle.std.specs.Prelude.{nat_lt}
 use Rattle.std.proofs.lemmas.Bool.Decides.{nat_tests}
-use Rattle.jp_doc.specs.Json.{Json, null, truth, whole, text, array, object}
+use Rattle.jp_doc.specs.Json.{Json, null, truth, whole, text, array, object, Items, no_items, add_item}
+use Rattle.jp_doc.specs.Json.{item_list}
+use Rattle.jp_doc.specs.Location.{Location, node, index, item_at}
+use Rattle.jp_nodes.specs.Nodes.{items_at, node_if_some}
 use Rattle.jp_eval.specs.Nodelist.{index_places, slice_places}
 use Rattle.jp_value.specs.Index.{place_of}
 use Rattle.jp_flat.specs.Value.{item_count}
@@ -48,3 +51,33 @@ pub slice_found : (v : Json) (first past step : Option ℤ) (len : ℕ) (b : Bou
     → slice_indexes b (item_count v) ≡ slice_places first past step v
 slice_found v first past step len b same e = ap (λ c. slice_indexes c (item_count v)) (e
     ∙ ap (slice_bounds first past step) same) ∙ slice_level first past step v
+
+-- ---- an index that is not from the end
+
+no_item : (vs : Items) (i : ℕ) → length (item_list vs) ≤ i → item_at i vs ≡ None
+no_item no_items i h = refl
+no_item (add_item v vs) zero h = absurd (omega arith)
+no_item (add_item v vs) (suc i) h = no_item vs i (omega arith)
+
+item_or_none : (at : Location) (vs : Items) (i : ℕ) (b : Bool) → nat_lt i (length (item_list vs)) ≡ b
+    → items_at (node at (array vs)) (i ∷ []) ≡ items_at (node at (array vs)) (if b then i ∷ [] else [])
+item_or_none at vs i true h = refl
+item_or_none at vs i false h =
+    let past : length (item_list vs) ≤ i = grind (arith, nat_tests) in
+    ap (λ o. node_if_some (at ++ index i ∷ []) o ++ []) (no_item vs i past)
+
+-- the item at its place, be there one or not
+pub free_place : (at : Location) (v : Json) (i : ℕ)
+    → items_at (node at v) (i ∷ []) ≡ items_at (node at v) (index_places (pos i) v)
+free_place at null i = refl
+free_place at (truth b) i = refl
+free_place at (whole z) i = refl
+free_place at (text t) i = refl
+free_place at (array vs) i = item_or_none at vs i (nat_lt i (length (item_list vs))) refl
+free_place at (object ms) i = refl
+
+none_far : (i len : ℕ) → len ≤ i → place_of (pos i) len ≡ []
+none_far i len h = let t : nat_lt i len ≡ false = grind (arith, nat_tests) in rw t refl
+
+pub far_place : (v : Json) (i : ℕ) → item_count v ≤ i → index_places (pos i) v ≡ []
+far_place v i h = sym (index_level (pos i) v) ∙ none_far i (item_count v) h

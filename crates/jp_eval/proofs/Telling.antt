@@ -8,13 +8,14 @@ use Rattle.jp_doc.specs.Json.{Json}
 use Rattle.jp_doc.specs.Location.{Location, Node, node}
 use Rattle.jp_compiled.specs.declared.query.Want.{Want}
 use Rattle.jp_compiled.specs.declared.query.Want.TheVariants as want
-use Rattle.jp_eval.specs.inner.Aggregates.{tells}
+use Rattle.jp_eval.specs.inner.Aggregates.{tells, told}
 use Rattle.jp_value.specs.Comparison.{eq}
 use Rattle.jp_eval.specs.inner.Different.{IsDifferent, is_different}
 use Rattle.jp_value.specs.Functions.{first_value, only_value, distinct}
 use Rattle.jp_eval.specs.inner.Kept.{Kept, alone_of, alone_value, put_found, plus, none_kept}
 use Rattle.jp_eval.specs.inner.Kept.{taken, first, count, only, located}
 use Rattle.jp_part.specs.Part.{part_value}
+use Rattle.jp_eval.specs.declared.aggregates.Aggregate.{Aggregate}
 use Rattle.jp_eval.specs.declared.aggregates.Aggregate.TheVariants as answer
 use Rattle.jp_eval.specs.declared.different.Different.{Different}
 use Rattle.jp_eval.specs.declared.found.Alone as code
@@ -24,7 +25,7 @@ use Rattle.jp_eval.proofs.Differing.{differs_again}
 use Rattle.jp_eval.proofs.Parts.{alone_in, kept_all}
 use Rattle.jp_value.proofs.Sameness.{same_is_equal, self_same}
 
-eq_is : (a b : Option Json) → eq a b ≡ true → a ≡ b
+pub eq_is : (a b : Option Json) → eq a b ≡ true → a ≡ b
 eq_is None None h = refl
 eq_is None (Some w) h = absurd cc
 eq_is (Some v) None h = absurd cc
@@ -34,7 +35,7 @@ itself : (a : Option Json) → eq a a ≡ true
 itself None = refl
 itself (Some v) = self_same v
 
-is_eq : (a b : Option Json) → a ≡ b → eq a b ≡ true
+pub is_eq : (a b : Option Json) → a ≡ b → eq a b ≡ true
 is_eq a b e = ap (eq a) (sym e) ∙ itself a
 
 is_count : (n m : ℕ) → n ≡ m → (n == m) ≡ true
@@ -65,6 +66,19 @@ first_result o ns h = eq_is _ _ h
 pub only_result : (a : code.Alone) (ns : List Node) → tells want.Only ns (answer.Only a) ≡ true
     → alone_value (alone_of a) ≡ only_value ns
 only_result a ns h = eq_is _ _ h
+
+-- the value that is told
+pub told_first : (a : Aggregate) (ns : List Node) → tells want.First ns a ≡ true → told a ≡ first_value ns
+told_first (answer.First o) ns h = first_result o ns h
+told_first (answer.Count n) ns h = absurd cc
+told_first (answer.Only a) ns h = absurd cc
+told_first (answer.Distinct d) ns h = absurd cc
+
+pub told_only : (a : Aggregate) (ns : List Node) → tells want.Only ns a ≡ true → told a ≡ only_value ns
+told_only (answer.First o) ns h = absurd cc
+told_only (answer.Count n) ns h = absurd cc
+told_only (answer.Only a) ns h = only_result a ns h
+told_only (answer.Distinct d) ns h = absurd cc
 
 -- what is told of one node
 

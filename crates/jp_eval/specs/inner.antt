@@ -6,6 +6,8 @@ pub mod ChildRanges
 pub mod Different
 pub mod Kept
 pub mod Links
+pub mod Opened
 pub mod Rooted
+pub mod RootAnswers
 pub mod Walk
 pub mod Finding

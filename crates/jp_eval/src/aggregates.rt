@@ -4,7 +4,8 @@ ghost use Rattle.std.specs.Prelude.{◌≡◌, ◌∷◌, [], List, Some, is_som
 ghost use Rattle.jp_compiled.specs.Compiled.{wanted_inside};
 ghost use Rattle.jp_compiled.specs.declared.query.Want.TheVariants.{First, Count, Only};
 ghost use Rattle.jp_doc.specs.Location.{Location, Node, node};
-ghost use Rattle.jp_eval.specs.inner.Aggregates.{tells, is_of};
+ghost use Rattle.jp_eval.specs.inner.Aggregates.{tells, is_of, told};
+ghost use Rattle.jp_value.specs.Kinds.{given_value};
 ghost use Rattle.jp_value.specs.Functions.{number_value, first_value, only_value, distinct};
 ghost use Rattle.jp_eval.specs.inner.Kept.{alone_of, alone_value};
 ghost use Rattle.jp_part.specs.Inside.{kind_value};
@@ -97,6 +98,7 @@ pub(crate) fn has_first(answer: Aggregate<'_>) -> bool
 
 /// The value of the first node, the number of nodes, or the value of the only one, as it was wanted.
 pub(crate) fn operand(answer: Aggregate<'_>) -> Option<Kind<'_>>
+    ensures told { given_value result ≡ told answer.entry }
     ensures first { (ns : List Node) → tells First ns answer.entry ≡ true
         → option_map kind_value result ≡ first_value ns }
     ensures count { (ns : List Node) → tells Count ns answer.entry ≡ true

@@ -1,13 +1,14 @@
 //! What a walk is given throughout.
 
-ghost use Rattle.std.specs.Prelude.{◌≡◌, true};
+ghost use Rattle.std.specs.Prelude.{◌≡◌, true, map};
 ghost use Rattle.jp_compiled.specs.Compiled.{roots_of};
 ghost use Rattle.jp_eval.specs.inner.Rooted.{are_answers};
 ghost use Rattle.jp_part.specs.Part.{part_value};
 
 use crate::aggregates::{Aggregate, is_result_of, of_one};
-use jp_compiled::{RootQuery, Want};
-use jp_part::Part;
+use crate::root_answer::RootAnswer;
+use jp_compiled::{Nodes, RootQuery, Value as Giver, Want};
+use jp_part::{Kind, Part};
 use std::alloc::{AllocError, Global};
 
 /// What a walk is given throughout: the document, and what the filters wanted of the `$` queries inside them,
@@ -18,15 +19,21 @@ pub(crate) struct Context<'v> {
     pub(crate) root: Part<'v>,
     /// The `$` queries that are answered.
     pub(crate) roots: &'v [RootQuery],
-    pub(crate) answers: Vec<Aggregate<'v>>,
-    ghost answered: { are_answers (part_value root) (roots_of roots.now) answers.items ≡ true },
+    pub(crate) answers: Vec<RootAnswer<'v>>,
+    ghost answered: { are_answers (part_value root) (roots_of roots.now)
+        (map (λ known. known.answer) answers.items) ≡ true },
 }
 
 impl<'v> Context<'v> {
-    ghost use Rattle.std.specs.Prelude.{◌++◌, ◌∷◌, [], IfOk};
+    ghost use Rattle.std.specs.Prelude.{◌++◌, ◌∷◌, [], IfOk, IfSome, MatchOption};
     ghost use Rattle.jp_compiled.specs.Compiled.{root_at, wanted_in};
     ghost use Rattle.jp_doc.specs.Location.{Node};
-    ghost use Rattle.jp_eval.specs.inner.Aggregates.{tells};
+    ghost use Rattle.jp_tree.specs.Tree.{query, no_segments};
+    ghost use Rattle.jp_tree.specs.declared.tree.Start.TheVariants as start;
+    ghost use Rattle.jp_eval.specs.inner.Aggregates.{tells, told};
+    ghost use Rattle.jp_eval.specs.inner.Base.{base_of};
+    ghost use Rattle.jp_eval.specs.inner.Walk.{value_given};
+    ghost use Rattle.jp_value.specs.Kinds.{given_value};
     ghost use Rattle.jp_eval.specs.inner.Rooted.{is_answer};
     ghost use Rattle.jp_eval.specs.Nodelist.{nodelist};
     ghost use Rattle.jp_value.specs.RightTests.{tests};
@@ -49,11 +56,11 @@ impl<'v> Context<'v> {
         self,
         roots: &'v [RootQuery],
         query: &RootQuery,
-        answer: Aggregate<'v>,
+        answer: RootAnswer<'v>,
     ) -> Result<Context<'v>, AllocError>
         requires roots { roots.now ≡ self.roots.now ++ query.now ∷ [] }
         requires answer { is_answer (part_value self.root)
-            (wanted_in (roots_of self.roots.now) query.now) answer ≡ true }
+            (wanted_in (roots_of self.roots.now) query.now) answer.answer ≡ true }
         ensures root { IfOk result (λ g. part_value g.root ≡ part_value self.entry.root) }
         ensures roots { IfOk result (λ g. g.roots.now ≡ roots.now) }
     {
@@ -77,13 +84,46 @@ impl<'v> Context<'v> {
         ensures { (n : Node) → tells want (nodelist tests (part_value self.now.root)
             (root_at (roots_of self.now.roots.now) slot want) n) result ≡ true }
     {
-        let Some(answer) = self.answers.get(slot) else {
-            return of_one(want, self.root);
-        };
-        if is_result_of(want, *answer) {
-            *answer
+        match self.answered(slot, want) {
+            Some(known) => known.answer,
+            None => of_one(want, self.root),
+        }
+    }
+
+    /// What is known of the `$` query of a slot, where there is one of which this is wanted.
+    fn answered(&self, slot: usize, want: Want) -> Option<&RootAnswer<'v>>
+        ensures { MatchOption result
+            (root_at (roots_of self.now.roots.now) slot want ≡ query start.Root no_segments)
+            (λ known. (n : Node) → tells want (nodelist tests (part_value self.now.root)
+            (root_at (roots_of self.now.roots.now) slot want) n) known.now.answer ≡ true) }
+    {
+        let known = self.answers.get(slot)?;
+        if is_result_of(want, known.answer) {
+            Some(known)
         } else {
-            of_one(want, self.root)
+            None
+        }
+    }
+
+    /// The value that is kept of the `$` query which gives it, or its length, if it is kept.
+    pub(crate) fn given(&self, giver: &Giver) -> Option<Option<Kind<'_>>>
+        ensures { IfSome result (λ o. (n : Node) → given_value o ≡ value_given (base_of self.now) giver.now n) }
+    {
+        match giver {
+            Giver::Length(of) => self.known(of)?.length(),
+            _ => Some(self.known(giver)?.value()),
+        }
+    }
+
+    /// What is known of the `$` query that gives a value.
+    fn known(&self, giver: &Giver) -> Option<&RootAnswer<'v>>
+        ensures { IfSome result (λ known. (n : Node)
+            → told known.now.answer ≡ value_given (base_of self.now) giver.now n) }
+    {
+        match giver {
+            Giver::Single(Nodes::Root(slot)) => self.answered(*slot, Want::First),
+            Giver::Only(Nodes::Root(slot)) => self.answered(*slot, Want::Only),
+            _ => None,
         }
     }
 }

@@ -8,6 +8,7 @@ ghost use Rattle.jp_eval.specs.Nodelist.{document_nodes};
 ghost use Rattle.jp_part.specs.Part.{part_value};
 ghost use Rattle.jp_regexp.specs.Tests.{Tests, AreRight};
 
+use crate::asked::{Asked, asked_by};
 use crate::evaluation::EvalFault;
 use crate::fork::{Cuts, Fork};
 use crate::found::{Found, into_visitor};
@@ -30,6 +31,7 @@ use std::thread::Threads;
 pub struct Evaluator<'p> {
     alloc: Global,
     plan: &'p Plan,
+    asked: Asked,
     scratch: Scratch,
 }
 
@@ -43,6 +45,7 @@ impl<'p> Evaluator<'p> {
         Evaluator {
             alloc,
             plan,
+            asked: asked_by(plan.compiled()),
             scratch: Scratch::new(alloc),
         }
     }
@@ -82,7 +85,8 @@ impl<'p> Evaluator<'p> {
             (document_nodes tests (evaluated_query self.old) (part_value root.entry))) }
         ensures query { evaluated_query self.new ≡ evaluated_query self.old }
     {
-        visit_in(self.alloc, self.plan, root, &mut self.scratch, visitor)
+        let (alloc, plan, asked) = (self.alloc, self.plan, self.asked);
+        visit_in(alloc, plan, asked, root, &mut self.scratch, visitor)
     }
 
     /// The same as `visit`, where a list of children that the query's own segments walk, and that has at
@@ -130,13 +134,14 @@ impl<'p> Evaluator<'p> {
         ensures query { evaluated_query self.new ≡ evaluated_query self.old }
     {
         let cuts = Cuts::from_floor(floor);
-        let (alloc, plan) = (self.alloc, self.plan);
+        let (alloc, plan, asked) = (self.alloc, self.plan, self.asked);
         split_in(
             rt,
             fork,
             cuts,
             alloc,
             plan,
+            asked,
             root,
             &mut self.scratch,
             visitor,
@@ -148,6 +153,7 @@ impl<'p> Evaluator<'p> {
 fn visit_in<V: Visit + Drop>(
     alloc: Global,
     plan: &Plan,
+    asked: Asked,
     root: Part<'_>,
     scratch: &mut Scratch,
     visitor: V,
@@ -157,7 +163,7 @@ fn visit_in<V: Visit + Drop>(
         (document_nodes tests (planned_query plan.now) (part_value root.entry))) }
 {
     let compiled = plan.compiled();
-    let context = answer_roots::<V>(alloc, root, compiled.roots.as_slice())?;
+    let context = answer_roots::<V>(alloc, root, compiled.roots.as_slice(), asked)?;
     let mut path = PathStack::with_scratch(alloc, mem::replace(scratch, Scratch::new(alloc)));
     let mut found = Found::Visitor(visitor);
     run(
@@ -181,6 +187,7 @@ fn split_in<R: Threads + Sync, F: Fork + Sync, V: Visit + Drop + Send>(
     cuts: Cuts,
     alloc: Global,
     plan: &Plan,
+    asked: Asked,
     root: Part<'_>,
     scratch: &mut Scratch,
     visitor: V,
@@ -190,7 +197,7 @@ fn split_in<R: Threads + Sync, F: Fork + Sync, V: Visit + Drop + Send>(
         (document_nodes tests (planned_query plan.now) (part_value root.entry))) }
 {
     let compiled = plan.compiled();
-    let context = answer_roots::<V>(alloc, root, compiled.roots.as_slice())?;
+    let context = answer_roots::<V>(alloc, root, compiled.roots.as_slice(), asked)?;
     let mut path = PathStack::with_scratch(alloc, mem::replace(scratch, Scratch::new(alloc)));
     let mut found = Found::Visitor(visitor);
     let task = Task::Run(compiled.segments.as_slice());

@@ -3,6 +3,7 @@
 #![tactic(auto)]
 
 mod aggregates;
+mod asked;
 mod child_range;
 mod context;
 mod different;
@@ -11,7 +12,9 @@ mod evaluator;
 mod examples;
 mod fork;
 mod found;
+mod index;
 pub mod laws;
+mod root_answer;
 mod roots;
 mod slices;
 mod split;

@@ -6,8 +6,10 @@ ghost use Rattle.jp_eval.specs.inner.Rooted.{is_answer};
 ghost use Rattle.jp_part.specs.Part.{part_value};
 
 use crate::aggregates::Aggregate;
+use crate::asked::Asked;
 use crate::context::Context;
 use crate::found::{into_aggregate, none_found};
+use crate::root_answer::RootAnswer;
 use crate::walk::run;
 use jp_compiled::RootQuery;
 use jp_nodes::Visit;
@@ -20,6 +22,7 @@ pub(crate) fn answer_roots<'v, V: Visit + Drop>(
     alloc: Global,
     root: Part<'v>,
     roots: &'v [RootQuery],
+    asked: Asked,
 ) -> Result<Context<'v>, AllocError>
     ensures root { IfOk result (λ g. part_value g.root ≡ part_value root.entry) }
     ensures roots { IfOk result (λ g. g.roots.now ≡ roots.now) }
@@ -27,7 +30,8 @@ pub(crate) fn answer_roots<'v, V: Visit + Drop>(
     let mut context = Context::new(alloc, root);
     for (slot, query) in roots.iter().enumerate() {
         let answer = answer::<V>(&context, query)?;
-        context = context.with(&roots[..slot + 1], query, answer)?;
+        let known = RootAnswer::new(alloc, answer, asked)?;
+        context = context.with(&roots[..slot + 1], query, known)?;
     }
     Ok(context)
 }

@@ -7,7 +7,7 @@ ghost use Rattle.jp_eval.specs.inner.Base.{base_of};
 ghost use Rattle.jp_eval.specs.inner.Finding.{Finds};
 ghost use Rattle.jp_eval.specs.inner.Kept.{kept, put_found, plus, taken, is_taken};
 ghost use Rattle.jp_eval.specs.inner.ChildRanges.{range_nodes};
-ghost use Rattle.jp_eval.specs.inner.Along.{done_along_all};
+ghost use Rattle.jp_eval.specs.inner.Along.{done_by};
 ghost use Rattle.jp_eval.specs.inner.Links.{here};
 ghost use Rattle.jp_eval.specs.inner.Walk.{done};
 ghost use Rattle.jp_path_stack.specs.Links.{link_steps};
@@ -18,7 +18,7 @@ use crate::fork::{Cuts, Fork};
 use crate::found::{Found, append, fresh, into_visitor, is_full};
 use crate::walk::{Task, go, holds};
 use crate::wide::is_wide;
-use crate::work_items::{WorkItem, work_items};
+use crate::work_items::{WorkItems, work_items};
 use jp_nodes::Visit;
 use jp_part::Part;
 use jp_path_stack::{Link, PathStack};
@@ -48,16 +48,8 @@ pub(crate) fn go_split<'v, R: Threads + Sync, F: Fork + Sync, V: Visit + Drop + 
     let Some(further) = settled::<V>(context, task, value, path)? else {
         return Ok(());
     };
-    match work_items(context.alloc, further, value)? {
-        Some(work_items) => each_work_item(
-            rt,
-            fork,
-            cuts,
-            context,
-            work_items.as_slice(),
-            path,
-            found,
-        ),
+    match work_items(further, value) {
+        Some(work_items) => each_work_item(rt, fork, cuts, context, work_items, path, found),
         None => go(context, further, value, path, found),
     }
 }
@@ -69,16 +61,17 @@ fn each_work_item<'v, R: Threads + Sync, F: Fork + Sync, V: Visit + Drop + Send>
     fork: &F,
     cuts: Cuts,
     context: &Context<'v>,
-    work_items: &[WorkItem<'v>],
+    work_items: WorkItems<'v>,
     path: &mut PathStack<'v>,
     found: &mut Found<'v, V>,
 ) -> Result<(), AllocError>
     requires taken { is_taken (kept V.kept found.old) ≡ true }
     ensures found { OnOk result (Finds V.kept V.put found.old found.new
-        (done_along_all (base_of context.now) (link_steps path.old) work_items.now)) }
+        (done_by (base_of context.now) (link_steps path.old) work_items.entry)) }
     ensures path { OnOk result (path.new ≡ path.old) }
 {
-    for work_item in work_items {
+    let mut left = work_items;
+    while let Some((work_item, others)) = left.next(context.alloc)? {
         let children = ChildRange::counted(&work_item.children);
         each_of(
             rt,
@@ -90,6 +83,7 @@ fn each_work_item<'v, R: Threads + Sync, F: Fork + Sync, V: Visit + Drop + Send>
             path,
             found,
         )?;
+        left = others;
     }
     Ok(())
 }

@@ -1,17 +1,17 @@
 //! The walk of a query through a document, depth first, on one path.
 
-ghost use Rattle.std.specs.Prelude.{◌≡◌, ◌≤◌, [], ◌∷◌, option_to_list, IfOk, OnOk, IsTrue, true};
+ghost use Rattle.std.specs.Prelude.{◌≡◌, [], ◌∷◌, option_to_list, IfOk, OnOk, IsTrue, true};
 ghost use Rattle.std.specs.List.{flat_map, list_any, list_all};
-ghost use Rattle.jp_doc.specs.Height.{height};
 ghost use Rattle.jp_doc.specs.Location.{Location, node};
 ghost use Rattle.jp_path_stack.specs.Links.{link_steps};
 ghost use Rattle.jp_part.specs.Part.{part_value};
 ghost use Rattle.jp_value.specs.Kinds.{given_value};
 ghost use Rattle.jp_eval.specs.inner.Aggregates.{tells};
 ghost use Rattle.jp_eval.specs.inner.Finding.{Finds};
-ghost use Rattle.jp_eval.specs.inner.ChildRanges.{range_nodes, range_height};
+ghost use Rattle.jp_eval.specs.inner.ChildRanges.{range_nodes};
+ghost use Rattle.jp_eval.specs.inner.Opened.{AreChildren};
 ghost use Rattle.jp_eval.specs.inner.Links.{here};
-ghost use Rattle.jp_nodes.specs.Nodes.{children, children_at, descendants, items_at};
+ghost use Rattle.jp_nodes.specs.Nodes.{children, descendants, items_at};
 ghost use Rattle.jp_eval.specs.inner.Base.{Base, base_of};
 ghost use Rattle.jp_eval.specs.inner.Walk.{picked, picked_by, reached, is_true, value_given, nodes_given};
 ghost use Rattle.jp_eval.specs.inner.Walk.{done};
@@ -20,14 +20,15 @@ use crate::aggregates::{Aggregate, has_first, of_distinct, operand};
 use crate::child_range::ChildRange;
 use crate::context::Context;
 use crate::found::{Found, add, into_aggregate, is_full, none_found};
+use crate::index::place_in;
 use crate::slices::sliced;
 use jp_compiled::{Logical, Nodes, Segment, Selector, Value as Giver, Want};
 use jp_nodes::{Visit, children_of};
 use jp_part::{Kind, Part};
 use jp_path_stack::{Link, PathStack};
 use jp_value::{
-    bounds_of, compare_kinds, exactly_one, length, literal, matches, matches_known, place,
-    searches, searches_known,
+    bounds_of, compare_kinds, exactly_one, length, literal, matches, matches_known, searches,
+    searches_known,
 };
 use std::alloc::AllocError;
 
@@ -42,11 +43,11 @@ pub(crate) enum Task<'v> {
     Test(&'v Logical, &'v [Segment]),
 }
 
-/// A value, and the range of all its children.
+/// A value, with the range of all its children where they are listed already.
 #[derive(Clone, Copy)]
-struct Opened<'c, 'v> {
+pub(crate) struct Opened<'c, 'v> {
     value: Part<'v>,
-    range: ChildRange<'c, 'v>,
+    range: Option<ChildRange<'c, 'v>>,
 }
 
 /// Whether the task finds nothing at the value, since it goes down, and nothing is inside.
@@ -78,14 +79,12 @@ pub(crate) fn go<'v, V: Visit + Drop>(
         Task::Descend(selectors, rest) => {
             let children = children_of(context.alloc, value)?;
             let range = ChildRange::all(&children);
-            apply_inside(
-                context,
-                selectors,
-                rest,
-                Opened { value, range },
-                path,
-                found,
-            )?;
+            // They are listed once, for the selectors and to go down.
+            let opened = Opened {
+                value,
+                range: Some(range),
+            };
+            apply(context, selectors, rest, opened, path, found)?;
             each_of(context, task, range, path, found)
         }
         Task::Test(test, rest) => {
@@ -117,7 +116,8 @@ pub(crate) fn run<'v, V: Visit + Drop>(
             if segment.deep {
                 go(context, Task::Descend(selectors, rest), value, path, found)
             } else {
-                apply(context, selectors, rest, value, path, found)
+                let opened = Opened { value, range: None };
+                apply(context, selectors, rest, opened, path, found)
             }
         }
     }
@@ -129,20 +129,21 @@ fn apply<'v, V: Visit + Drop>(
     context: &Context<'v>,
     selectors: &'v [Selector],
     rest: &'v [Segment],
-    value: Part<'v>,
+    opened: Opened<'_, 'v>,
     path: &mut PathStack<'v>,
     found: &mut Found<'v, V>,
 ) -> Result<(), AllocError>
+    requires opened { AreChildren opened }
     ensures found { OnOk result (Finds V.kept V.put found.old found.new
         (reached (base_of context.now) rest.now
-        (picked_by (base_of context.now) selectors.now (here path.old value.entry)))) }
+        (picked_by (base_of context.now) selectors.now (here path.old opened.entry.value)))) }
     ensures path { OnOk result (path.new ≡ path.old) }
 {
     for selector in selectors {
         if is_full(found) {
             return Ok(());
         }
-        select(context, selector, rest, value, path, found)?;
+        select(context, selector, rest, opened, path, found)?;
     }
     Ok(())
 }
@@ -153,15 +154,17 @@ fn select<'v, V: Visit + Drop>(
     context: &Context<'v>,
     selector: &'v Selector,
     rest: &'v [Segment],
-    value: Part<'v>,
+    opened: Opened<'_, 'v>,
     path: &mut PathStack<'v>,
     found: &mut Found<'v, V>,
 ) -> Result<(), AllocError>
+    requires opened { AreChildren opened }
     ensures found { OnOk result (Finds V.kept V.put found.old found.new
         (reached (base_of context.now) rest.now
-        (picked (base_of context.now) selector.now (here path.old value.entry)))) }
+        (picked (base_of context.now) selector.now (here path.old opened.entry.value)))) }
     ensures path { OnOk result (path.new ≡ path.old) }
 {
+    let value = opened.value;
     match selector {
         Selector::Name(name) => {
             if let Some(child) = value.member(name.as_str()) {
@@ -171,9 +174,9 @@ fn select<'v, V: Visit + Drop>(
             }
             Ok(())
         }
-        Selector::Wild => each_child(context, Task::Run(rest), value, path, found),
+        Selector::Wild => each_child(context, Task::Run(rest), opened, path, found),
         Selector::Index(index) => {
-            let place = place(index.value, value.item_count());
+            let place = place_in(index.value, value);
             at_place(context, place, rest, value, path, found)
         }
         Selector::Slice(slice) => {
@@ -183,67 +186,8 @@ fn select<'v, V: Visit + Drop>(
             each_of(context, Task::Run(rest), children, path, found)
         }
         Selector::Filter(test) => {
-            each_child(context, Task::Test(test, rest), value, path, found)
+            each_child(context, Task::Test(test, rest), opened, path, found)
         }
-    }
-}
-
-/// Each selector at the value, whose children these are, and then the segments. They are listed once for all
-/// selectors, and for those that are walked after them.
-#[cycle(walk)]
-fn apply_inside<'v, V: Visit + Drop>(
-    context: &Context<'v>,
-    selectors: &'v [Selector],
-    rest: &'v [Segment],
-    opened: Opened<'_, 'v>,
-    path: &mut PathStack<'v>,
-    found: &mut Found<'v, V>,
-) -> Result<(), AllocError>
-    requires nodes { (at : Location) → range_nodes at opened.range
-        ≡ children_at at (part_value opened.value) }
-    requires height { range_height opened.range ≤ height (part_value opened.value) }
-    ensures found { OnOk result (Finds V.kept V.put found.old found.new
-        (reached (base_of context.now) rest.now
-        (picked_by (base_of context.now) selectors.now (here path.old opened.entry.value)))) }
-    ensures path { OnOk result (path.new ≡ path.old) }
-{
-    for selector in selectors {
-        if is_full(found) {
-            return Ok(());
-        }
-        select_inside(context, selector, rest, opened, path, found)?;
-    }
-    Ok(())
-}
-
-/// One selector at the value, whose children these are, and then the segments.
-#[cycle(walk)]
-fn select_inside<'v, V: Visit + Drop>(
-    context: &Context<'v>,
-    selector: &'v Selector,
-    rest: &'v [Segment],
-    opened: Opened<'_, 'v>,
-    path: &mut PathStack<'v>,
-    found: &mut Found<'v, V>,
-) -> Result<(), AllocError>
-    requires nodes { (at : Location) → range_nodes at opened.range
-        ≡ children_at at (part_value opened.value) }
-    requires height { range_height opened.range ≤ height (part_value opened.value) }
-    ensures found { OnOk result (Finds V.kept V.put found.old found.new
-        (reached (base_of context.now) rest.now
-        (picked (base_of context.now) selector.now (here path.old opened.entry.value)))) }
-    ensures path { OnOk result (path.new ≡ path.old) }
-{
-    match selector {
-        Selector::Wild => each_of(context, Task::Run(rest), opened.range, path, found),
-        Selector::Filter(test) => each_of(
-            context,
-            Task::Test(test, rest),
-            opened.range,
-            path,
-            found,
-        ),
-        _ => select(context, selector, rest, opened.value, path, found),
     }
 }
 
@@ -278,15 +222,19 @@ fn at_place<'v, V: Visit + Drop>(
 fn each_child<'v, V: Visit + Drop>(
     context: &Context<'v>,
     task: Task<'v>,
-    value: Part<'v>,
+    opened: Opened<'_, 'v>,
     path: &mut PathStack<'v>,
     found: &mut Found<'v, V>,
 ) -> Result<(), AllocError>
-    ensures found { OnOk result (Finds V.kept V.put found.old found.new
-        (flat_map (done (base_of context.now) task.entry) (children (here path.old value.entry)))) }
+    requires opened { AreChildren opened }
+    ensures found { OnOk result (Finds V.kept V.put found.old found.new (flat_map
+        (done (base_of context.now) task.entry) (children (here path.old opened.entry.value)))) }
     ensures path { OnOk result (path.new ≡ path.old) }
 {
-    let children = children_of(context.alloc, value)?;
+    if let Some(children) = opened.range {
+        return each_of(context, task, children, path, found);
+    }
+    let children = children_of(context.alloc, opened.value)?;
     each_of(context, task, ChildRange::all(&children), path, found)
 }
 
@@ -407,13 +355,13 @@ fn all<'v, V: Visit + Drop>(
 
 /// The two values that stand there, or nothing.
 #[cycle(walk)]
-fn give_both<'v, V: Visit + Drop>(
-    context: &Context<'v>,
+fn give_both<'c, 'v, V: Visit + Drop>(
+    context: &'c Context<'v>,
     left: &'v Giver,
     right: &'v Giver,
     value: Part<'v>,
     path: &mut PathStack<'v>,
-) -> Result<(Option<Kind<'v>>, Option<Kind<'v>>), AllocError>
+) -> Result<(Option<Kind<'c>>, Option<Kind<'c>>), AllocError>
     ensures left { IfOk result (λ o. given_value o.0
         ≡ value_given (base_of context.now) left.now (here path.old value.entry)) }
     ensures right { IfOk result (λ o. given_value o.1
@@ -425,18 +373,21 @@ fn give_both<'v, V: Visit + Drop>(
     Ok((left, right))
 }
 
-/// The value that stands there, or nothing.
+/// The value that stands there, or nothing. What is kept of `$` queries is not found again.
 #[cycle(walk)]
-fn give<'v, V: Visit + Drop>(
-    context: &Context<'v>,
+fn give<'c, 'v, V: Visit + Drop>(
+    context: &'c Context<'v>,
     giver: &'v Giver,
     value: Part<'v>,
     path: &mut PathStack<'v>,
-) -> Result<Option<Kind<'v>>, AllocError>
+) -> Result<Option<Kind<'c>>, AllocError>
     ensures value { IfOk result (λ o. given_value o
         ≡ value_given (base_of context.now) giver.now (here path.old value.entry)) }
     ensures path { OnOk result (path.new ≡ path.old) }
 {
+    if let Some(given) = context.given(giver) {
+        return Ok(given);
+    }
     match giver {
         Giver::Constant(constant) => Ok(Some(literal(constant))),
         Giver::Single(nodes) => Ok(operand(ask::<V>(context, Want::First, nodes, value, path)?)),

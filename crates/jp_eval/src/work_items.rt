@@ -1,22 +1,21 @@
 //! What a task at a value leads to: further tasks, each along a list of its children.
 
-ghost use Rattle.std.specs.Prelude.{◌≡◌, ◌≤◌, IfOk, IfSome};
-ghost use Rattle.std.specs.List.{flat_map};
+ghost use Rattle.std.specs.Prelude.{◌≡◌, ◌≤◌, ◌<◌, ◌++◌, ◌∷◌, [], IfOk, IfSome, MatchOption};
 ghost use Rattle.jp_doc.specs.Height.{height};
 ghost use Rattle.jp_doc.specs.Location.{Location, node};
 ghost use Rattle.jp_eval.specs.inner.Base.{Base};
 ghost use Rattle.jp_nodes.specs.ChildNodes.{all_height};
-ghost use Rattle.jp_eval.specs.inner.Along.{done_along, done_along_all, highest};
-ghost use Rattle.jp_nodes.specs.Nodes.{descendants};
+ghost use Rattle.jp_eval.specs.inner.Along.{done_along, done_by, items_left};
 ghost use Rattle.jp_part.specs.Part.{part_value};
-ghost use Rattle.jp_eval.specs.inner.Walk.{picked, picked_by, reached, done};
+ghost use Rattle.jp_eval.specs.inner.Walk.{picked, reached, done};
 
+use crate::index::place_in;
 use crate::slices::sliced;
 use crate::walk::Task;
 use jp_compiled::{Segment, Selector};
 use jp_nodes::{Children, children_of, named, placed};
 use jp_part::Part;
-use jp_value::{bounds_of, place};
+use jp_value::bounds_of;
 use std::alloc::{AllocError, Global};
 
 /// A task at each of some children of a value.
@@ -26,69 +25,99 @@ pub(crate) struct WorkItem<'v> {
     pub(crate) children: Children<'v>,
 }
 
-/// What a task comes to at the value, or nothing where it goes no further down, or where a test decides.
-pub(crate) fn work_items<'v>(
-    alloc: Global,
-    task: Task<'v>,
+/// What is left of a task at a value. Its work items come one after another, so that no more than one list of
+/// children is held at a time.
+#[derive(Clone, Copy)]
+pub(crate) struct WorkItems<'v> {
     value: Part<'v>,
-) -> Result<Option<Vec<WorkItem<'v>>>, AllocError>
-    ensures nodes { IfOk result (λ o. IfSome o (λ v. (base : Base) (at : Location) →
-        done_along_all base at v.items ≡ done base task.entry (node at (part_value value.entry)))) }
-    ensures height { IfOk result (λ o. IfSome o (λ v. highest v.items ≤ height (part_value value.entry))) }
+    /// The selectors that are left.
+    selectors: &'v [Selector],
+    /// What is applied, behind these, at each descendant.
+    below: Option<&'v [Selector]>,
+    rest: &'v [Segment],
+}
+
+/// What a task comes to at the value, or nothing where it goes no further down, or where a test decides.
+pub(crate) fn work_items<'v>(task: Task<'v>, value: Part<'v>) -> Option<WorkItems<'v>>
+    ensures nodes { IfSome result (λ w. (base : Base) (at : Location) →
+        done_by base at w ≡ done base task.entry (node at (part_value value.entry))) }
+    ensures height { IfSome result (λ w. height (part_value w.value) ≡ height (part_value value.entry)) }
 {
     match task {
         Task::Run(segments) => match segments.split_first() {
-            None => Ok(None),
-            Some((segment, rest)) => {
-                let selectors = segment.selectors.as_slice();
-                if segment.deep {
-                    Ok(Some(spread_deep(alloc, selectors, rest, value)?))
-                } else {
-                    Ok(Some(spread(alloc, selectors, rest, value)?))
-                }
-            }
+            None => None,
+            Some((segment, rest)) => Some(of_segment(segment, rest, value)),
         },
-        Task::Descend(selectors, rest) => Ok(Some(spread_deep(alloc, selectors, rest, value)?)),
-        Task::Test(_, _) => Ok(None),
+        Task::Descend(selectors, rest) => Some(WorkItems {
+            value,
+            selectors,
+            below: Some(selectors),
+            rest,
+        }),
+        Task::Test(_, _) => None,
     }
 }
 
-/// The selectors at the value and at each descendant, and then the segments.
-fn spread_deep<'v>(
-    alloc: Global,
-    selectors: &'v [Selector],
-    rest: &'v [Segment],
-    value: Part<'v>,
-) -> Result<Vec<WorkItem<'v>>, AllocError>
-    ensures nodes { IfOk result (λ v. (base : Base) (at : Location) → done_along_all base at v.items
-        ≡ reached base rest.now (flat_map (picked_by base selectors.now)
-        (descendants (node at (part_value value.entry))))) }
-    ensures height { IfOk result (λ v. highest v.items ≤ height (part_value value.entry)) }
+/// What a segment comes to at the value, with those behind it.
+fn of_segment<'v>(segment: &'v Segment, rest: &'v [Segment], value: Part<'v>) -> WorkItems<'v>
+    ensures nodes { (base : Base) (at : Location) → done_by base at result
+        ≡ reached base (segment.now ∷ rest.now) (node at (part_value value.entry) ∷ []) }
+    ensures height { height (part_value result.value) ≡ height (part_value value.entry) }
 {
-    let mut work_items = spread(alloc, selectors, rest, value)?;
-    work_items.push(WorkItem {
-        task: Task::Descend(selectors, rest),
-        children: children_of(alloc, value)?,
-    })?;
-    Ok(work_items)
+    let selectors = segment.selectors.as_slice();
+    if segment.deep {
+        WorkItems {
+            value,
+            selectors,
+            below: Some(selectors),
+            rest,
+        }
+    } else {
+        WorkItems {
+            value,
+            selectors,
+            below: None,
+            rest,
+        }
+    }
 }
 
-/// Each selector at the value, and then the segments.
-fn spread<'v>(
-    alloc: Global,
-    selectors: &'v [Selector],
-    rest: &'v [Segment],
-    value: Part<'v>,
-) -> Result<Vec<WorkItem<'v>>, AllocError>
-    ensures nodes { IfOk result (λ v. (base : Base) (at : Location) → done_along_all base at v.items
-        ≡ reached base rest.now (picked_by base selectors.now (node at (part_value value.entry)))) }
-    ensures height { IfOk result (λ v. highest v.items ≤ height (part_value value.entry)) }
-{
-    let mut work_items = Vec::new(alloc);
-    for selector in selectors {
-        work_items.push(work_item_of(alloc, selector, rest, value)?)?;
+impl<'v> WorkItems<'v> {
+    /// The next work item, and what is left behind it.
+    ///
+    /// `AllocError` if a growth was refused.
+    pub(crate) fn next(
+        self,
+        alloc: Global,
+    ) -> Result<Option<(WorkItem<'v>, WorkItems<'v>)>, AllocError>
+        ensures nodes { IfOk result (λ o. (base : Base) (at : Location) → MatchOption o
+            (done_by base at self.entry ≡ [])
+            (λ p. done_by base at self.entry ≡ done_along base at p.0 ++ done_by base at p.1)) }
+        ensures height { IfOk result (λ o. IfSome o
+            (λ p. all_height p.0.children ≤ height (part_value self.entry.value))) }
+        ensures value { IfOk result (λ o. IfSome o
+            (λ p. height (part_value p.1.value) ≡ height (part_value self.entry.value))) }
+        ensures fewer { IfOk result (λ o. IfSome o (λ p. items_left p.1 < items_left self.entry)) }
+    {
+        if let Some((selector, selectors)) = self.selectors.split_first() {
+            let work_item = work_item_of(alloc, selector, self.rest, self.value)?;
+            return Ok(Some((work_item, WorkItems { selectors, ..self })));
+        }
+        let Some(selectors) = self.below else {
+            return Ok(None);
+        };
+        let work_item = WorkItem {
+            task: Task::Descend(selectors, self.rest),
+            children: children_of(alloc, self.value)?,
+        };
+        Ok(Some((
+            work_item,
+            WorkItems {
+                below: None,
+                ..self
+            },
+        )))
     }
-    Ok(work_items)
 }
 
 /// One selector at the value, and then the segments.
@@ -118,11 +147,8 @@ fn work_item_of<'v>(
             })
         }
         Selector::Index(index) => {
-            let children = Children::Listed(placed(
-                alloc,
-                value,
-                place(index.value, value.item_count()),
-            )?);
+            let place = place_in(index.value, value);
+            let children = Children::Listed(placed(alloc, value, place)?);
             Ok(WorkItem {
                 task: Task::Run(rest),
                 children,

@@ -1,7 +1,7 @@
 //! What queries select where long lists are cut into halves that are walked at once.
 
 use crate::forks::{Counting, Meeting};
-use jp_check::plan;
+use jp_check::{Plan, plan};
 use jp_doc::{Document, Location, Step};
 use jp_eval::{Evaluator, OpenFork, evaluate, evaluate_split};
 use jp_flat::FlatReader;
@@ -10,6 +10,7 @@ use jp_part::Part;
 use jp_path::write_path;
 use std::alloc::Global;
 use std::test::Fail;
+use std::thread::Threads;
 
 /// A query, a document and the paths of the nodes that it selects there, in each line.
 const ROWS: &str =
@@ -130,6 +131,58 @@ fn sixty_four_walks(rt: HostRuntime) -> Result<(), Fail> {
     for _time in 0..200u8 {
         let fork = Counting::new();
         let found = evaluate_split(&rt, alloc, &plan, &document, 2, &fork)?;
+        assert_eq!(rt; found.len(), 256);
+        assert_eq!(rt; fork.begun(), (63, 63));
+    }
+    Ok(())
+}
+
+/// Where the nodes are that a plan selects in a line, which is read flat, by halves that the fork counts.
+fn found_flat<R: Threads + Sync>(
+    rt: &R,
+    alloc: Global,
+    plan: &Plan,
+    line: &str,
+    floor: u64,
+    fork: &Counting,
+) -> Result<Vec<Location>, Fail> {
+    let mut reader = FlatReader::new(alloc);
+    let Some(document) = reader.read(line.as_bytes())? else {
+        return Err(Fail::from("not flat"));
+    };
+    let root = Part::root_of_flat(&document);
+    let none = Locations {
+        locations: Vec::new(alloc),
+    };
+    let mut evaluator = Evaluator::new(alloc, plan);
+    let found = evaluator.visit_part_split(rt, root, floor, fork, none)?;
+    Ok(found.locations)
+}
+
+/// A flat list is cut as a tree's is.
+#[test]
+fn sixty_four_flat_walks(rt: HostRuntime) -> Result<(), Fail> {
+    let alloc = rt.alloc();
+    let plan = plan(alloc, "$[*]")?;
+    let line = numbers(alloc, 256)?;
+    for _time in 0..200u8 {
+        let fork = Counting::new();
+        let found = found_flat(&rt, alloc, &plan, line.as_str(), 2, &fork)?;
+        assert_eq!(rt; found.len(), 256);
+        assert_eq!(rt; fork.begun(), (63, 63));
+    }
+    Ok(())
+}
+
+/// Members of a flat object are cut too, into halves that are as long as one another.
+#[test]
+fn sixty_four_walks_of_flat_members(rt: HostRuntime) -> Result<(), Fail> {
+    let alloc = rt.alloc();
+    let plan = plan(alloc, "$.*")?;
+    let line = members(alloc, 256)?;
+    for _time in 0..200u8 {
+        let fork = Counting::new();
+        let found = found_flat(&rt, alloc, &plan, line.as_str(), 4, &fork)?;
         assert_eq!(rt; found.len(), 256);
         assert_eq!(rt; fork.begun(), (63, 63));
     }

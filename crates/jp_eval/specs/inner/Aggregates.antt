@@ -1,11 +1,12 @@
 -- A step of a proof, which nobody has to believe who asks what a query selects: what a filter is told of
 -- nodes.
-use Rattle.std.specs.Prelude.{Bool, true, false, ◌==◌, List, length, option_map}
+use Rattle.std.specs.Prelude.{Bool, true, false, ◌==◌, List, length, Option, Some, None, option_map}
+use Rattle.jp_doc.specs.Json.{Json}
 use Rattle.jp_doc.specs.Location.{Node}
 use Rattle.jp_compiled.specs.declared.query.Want.{Want}
 use Rattle.jp_compiled.specs.declared.query.Want.TheVariants as want
 use Rattle.jp_value.specs.Comparison.{eq}
-use Rattle.jp_value.specs.Functions.{first_value, only_value}
+use Rattle.jp_value.specs.Functions.{first_value, only_value, number_value}
 use Rattle.jp_eval.specs.inner.Different.{is_different}
 use Rattle.jp_eval.specs.inner.Kept.{alone_of, alone_value}
 use Rattle.jp_part.specs.Part.{part_value}
@@ -27,3 +28,10 @@ is_of want.Count (Count n) = true
 is_of want.Only (Only a) = true
 is_of want.Distinct (Distinct d) = true
 is_of _ _ = false
+
+-- the value of the first, the number, or the value of the only one: whichever the answer has
+abbrev pub told : Aggregate → Option Json
+told (First o) = option_map part_value o
+told (Count n) = Some (number_value n)
+told (Only a) = alone_value (alone_of a)
+told (Distinct d) = None

@@ -40,7 +40,8 @@ use Rattle.jp_eval.proofs.CompiledParts.{true_any, true_all, true_not, true_comp
 use Rattle.jp_eval.proofs.CompiledParts.{true_search, true_match_known, true_search_known, given_constant}
 use Rattle.jp_eval.proofs.CompiledParts.{given_single, given_length, given_count, given_only, nodes_here}
 use Rattle.jp_eval.proofs.CompiledParts.{nodes_root, nodes_distinct, true_xor}
-use Rattle.jp_eval.proofs.Places.{index_found, slice_found}
+use Rattle.jp_eval.proofs.Places.{slice_found}
+use Rattle.jp_eval.specs.Nodelist.{index_places}
 use Rattle.jp_eval.proofs.WalkSteps.{back_up, here_further, link_further, over, applied, descended}
 use Rattle.jp_eval.proofs.WalkSteps.{any_further, any_found, all_further, all_found, none_at, one_at}
 use Rattle.jp_eval.specs.declared.walk.Task.TheVariants.{Run}
@@ -53,35 +54,12 @@ apply-loop-selector-preserved g t c =
       c.loop-selector.invariant.0,
       applied (put_found g.V.Visit.put) (base_of c.args.context.now)
           c.args.selectors.now c.loop-selector.selector-index c.selector-item.result c.args.rest.now
-          (here c.loop-selector.path c.args.value) _ _ _ _ h c.selector-item.is c.in_ok-select.ensures.found
+          (here c.loop-selector.path c.args.opened.value) _ _ _ _ h c.selector-item.is c.in_ok-select.ensures.found
           c.loop-selector.invariant.1,
     )
 
 pub apply-returns-clause-found : goal.apply-returns-clause-found
 apply-returns-clause-found g t c =
-    over (put_found g.V.Visit.put) (λ xs. reached (base_of c.args.context.now) c.args.rest.now
-    (picked_by (base_of c.args.context.now) xs (here c.loop-selector.path c.args.value)))
-    c.args.selectors.now c.loop-selector.selector-index _ _ _ (omega arith)
-    (reached-none (base_of c.args.context.now) c.args.rest.now) c.loop-selector.invariant.1
-
-pub apply_inside-loop-selector-preserved : goal.apply_inside-loop-selector-preserved
-apply_inside-loop-selector-preserved g t c =
-    let h : c.loop-selector.selector-index < length c.args.selectors.now = omega arith in
-    rw c.in_ok-select_inside.ensures.path (
-      c.loop-selector.invariant.0,
-      applied (put_found g.V.Visit.put) (base_of c.args.context.now)
-          c.args.selectors.now c.loop-selector.selector-index c.selector-item.result c.args.rest.now
-          (here c.loop-selector.path c.args.opened.value) _ _ _ _ h c.selector-item.is
-          c.in_ok-select_inside.ensures.found c.loop-selector.invariant.1,
-    )
-
-pub apply_inside-returns-then-is_full-clause-found : goal.apply_inside-returns-then-is_full-clause-found
-apply_inside-returns-then-is_full-clause-found g t c =
-    full_enough (put_found g.V.Visit.put) _ _ _ _ (c.is_full.ensures c.if-is_full.true)
-    c.loop-selector.invariant.1
-
-pub apply_inside-returns-clause-found : goal.apply_inside-returns-clause-found
-apply_inside-returns-clause-found g t c =
     over (put_found g.V.Visit.put) (λ xs. reached (base_of c.args.context.now) c.args.rest.now
     (picked_by (base_of c.args.context.now) xs (here c.loop-selector.path c.args.opened.value)))
     c.args.selectors.now c.loop-selector.selector-index _ _ _ (omega arith)
@@ -151,20 +129,6 @@ each_of-returns-clause-found g t c =
 
 pub go-returns-in-Run-clause-found : goal.go-returns-in-Run-clause-found
 go-returns-in-Run-clause-found g t c = rw c.in-Run.is c.run.ensures.found
-
-pub go-returns-in_ok-apply_inside-in-Descend-clause-found
-    : goal.go-returns-in_ok-apply_inside-in-Descend-clause-found
-go-returns-in_ok-apply_inside-in-Descend-clause-found g t c =
-    let base = base_of c.args.context.now in
-    let xs = c.in-Descend.selectors.now in
-    let rest = c.in-Descend.rest.now in
-    let at = link_steps c.args.path.now in
-    let range : range_nodes at c.all-range.result ≡ children (here c.args.path.now c.args.value) =
-    c.all-range.ensures.nodes at ∙ c.in_ok-children-in-Descend.ensures.nodes at in
-    on_ok_weaker c.each_of.result (λ e. rw c.in-Descend.is (descended (put_found g.V.Visit.put) base xs
-    rest (here c.args.path.now c.args.value) _ _ _ c.in_ok-apply_inside-in-Descend.ensures.found
-    (rw range at (rw (c.in_ok-apply_inside-in-Descend.ensures.path, c.in-Descend.is) at e))))
-    c.each_of.ensures.found
 
 pub go-returns-in_ok-run-in-Test-clause-found : goal.go-returns-in_ok-run-in-Test-clause-found
 go-returns-in_ok-run-in-Test-clause-found g t c =
@@ -242,23 +206,23 @@ run-returns-else-segment-clause-found g t c =
 
 pub select-run-requires : goal.select-run-requires
 select-run-requires g t c =
-    let below : height (part_value c.in-Some.child) < height (part_value c.args.value) =
+    let below : height (part_value c.in-Some.child) < height (part_value c.args.opened.value) =
     c.in-Some.ensures.below in
     search rules
 
 pub select-returns-in_default-clause-found : goal.select-returns-in_default-clause-found
 select-returns-in_default-clause-found g t c =
-    let none : None ≡ member_of (text_of c.in-Name.name) (part_value c.args.value) =
-    c.in_default.ensures.value ∙ ap (λ k. member_of (chars k) (part_value c.args.value))
+    let none : None ≡ member_of (text_of c.in-Name.name) (part_value c.args.opened.value) =
+    c.in_default.ensures.value ∙ ap (λ k. member_of (chars k) (part_value c.args.opened.value))
     c.as_str.ensures.value in
     nothing_found (put_found g.V.Visit.put) _ _ (ap (reached (base_of c.args.context.now) c.args.rest.now)
-    (ap (λ x. picked (base_of c.args.context.now) x (here c.args.path.now c.args.value)) c.in-Name.is
-    ∙ picked_name (base_of c.args.context.now) (here c.args.path.now c.args.value) c.in-Name.name
+    (ap (λ x. picked (base_of c.args.context.now) x (here c.args.path.now c.args.opened.value)) c.in-Name.is
+    ∙ picked_name (base_of c.args.context.now) (here c.args.path.now c.args.opened.value) c.in-Name.name
     ∙ ap (node_if_some _) (sym none)) ∙ reached-none (base_of c.args.context.now) c.args.rest.now)
 
 pub select-returns-in_ok-run-in-Name-clause-found : goal.select-returns-in_ok-run-in-Name-clause-found
 select-returns-in_ok-run-in-Name-clause-found g t c =
-    let some = c.in-Some.ensures.value ∙ ap (λ k. member_of (chars k) (part_value c.args.value))
+    let some = c.in-Some.ensures.value ∙ ap (λ k. member_of (chars k) (part_value c.args.opened.value))
     c.as_str.ensures.value in
     c.in_ok-run-in-Name.ensures.found
     ∙ ap (λ ns. plus (put_found g.V.Visit.put) (kept g.V.Visit.kept c.args.found.now)
@@ -267,8 +231,8 @@ select-returns-in_ok-run-in-Name-clause-found g t c =
     c.in_ok-push-in-Name.ensures.ok
     ∙ ap (λ k. node (link_steps c.args.path.now ++ name (chars k) ∷ []) (part_value c.in-Some.child))
     c.as_str-in-Some.ensures.value)
-    ∙ sym (ap (λ x. picked (base_of c.args.context.now) x (here c.args.path.now c.args.value)) c.in-Name.is
-    ∙ picked_name (base_of c.args.context.now) (here c.args.path.now c.args.value) c.in-Name.name
+    ∙ sym (ap (λ x. picked (base_of c.args.context.now) x (here c.args.path.now c.args.opened.value)) c.in-Name.is
+    ∙ picked_name (base_of c.args.context.now) (here c.args.path.now c.args.opened.value) c.in-Name.name
     ∙ ap (node_if_some _) (sym some)))
 
 pub select-returns-in-Wild-clause-found : goal.select-returns-in-Wild-clause-found
@@ -276,33 +240,30 @@ select-returns-in-Wild-clause-found g t c =
     on_ok_weaker c.each_child.result (λ e. e
     ∙ ap (plus (put_found g.V.Visit.put) (kept g.V.Visit.kept c.args.found.now))
     (sym (ap (reached (base_of c.args.context.now) c.args.rest.now)
-    (ap (λ x. picked (base_of c.args.context.now) x (here c.args.path.now c.args.value)) c.in-Wild.is
-    ∙ picked_wild (base_of c.args.context.now) (here c.args.path.now c.args.value))
+    (ap (λ x. picked (base_of c.args.context.now) x (here c.args.path.now c.args.opened.value)) c.in-Wild.is
+    ∙ picked_wild (base_of c.args.context.now) (here c.args.path.now c.args.opened.value))
     ∙ reached-each (base_of c.args.context.now) c.args.rest.now
-    (children (here c.args.path.now c.args.value))))) c.each_child.ensures.found
+    (children (here c.args.path.now c.args.opened.value))))) c.each_child.ensures.found
 
 pub select-returns-in-Index-clause-found : goal.select-returns-in-Index-clause-found
 select-returns-in-Index-clause-found g t c =
+    let base = base_of c.args.context.now in
+    let n = here c.args.path.now c.args.opened.value in
     let f : SFits w64 c.in-Index.index.value = search rules in
-    let placed = simp to_z-of_z at c.place-place.ensures in
+    let placed = simp to_z-of_z at (c.place_in-place.ensures (link_steps c.args.path.now)) in
     on_ok_weaker c.at_place.result (λ e. e
-    ∙ ap (λ ps. plus (put_found g.V.Visit.put) (kept g.V.Visit.kept c.args.found.now)
-    (reached (base_of c.args.context.now) c.args.rest.now (items_at (here c.args.path.now c.args.value)
-    ps)))
-    (placed ∙ index_found (part_value c.args.value) (whole_number (position_text c.in-Index.index))
-    c.in-Index.index.value c.item_count.result c.in-Index.index.read c.item_count.ensures.count)
     ∙ ap (λ ns. plus (put_found g.V.Visit.put) (kept g.V.Visit.kept c.args.found.now)
-    (reached (base_of c.args.context.now) c.args.rest.now ns))
-    (sym (ap (λ x. picked (base_of c.args.context.now) x (here c.args.path.now c.args.value))
-    c.in-Index.is ∙ picked_index (base_of c.args.context.now) (here c.args.path.now c.args.value)
-    c.in-Index.index))) c.at_place.ensures.found
+    (reached base c.args.rest.now ns))
+    (placed ∙ ap (λ z. items_at n (index_places z (part_value c.args.opened.value))) c.in-Index.index.read
+    ∙ sym (ap (λ x. picked base x n) c.in-Index.is ∙ picked_index base n c.in-Index.index)))
+    c.at_place.ensures.found
 
 pub select-returns-in_ok-children-in-Slice-clause-found :
     goal.select-returns-in_ok-children-in-Slice-clause-found
 select-returns-in_ok-children-in-Slice-clause-found g t c =
     let base = base_of c.args.context.now in
-    let n = here c.args.path.now c.args.value in
-    let picks = slice_found (part_value c.args.value)
+    let n = here c.args.path.now c.args.opened.value in
+    let picks = slice_found (part_value c.args.opened.value)
     (written_value (option_map position_text c.in-Slice.slice.first))
     (written_value (option_map position_text c.in-Slice.slice.past))
     (written_value (option_map position_text c.in-Slice.slice.step)) c.item_count-in-Slice.result
@@ -322,35 +283,11 @@ select-returns-in-Filter-clause-found g t c =
     on_ok_weaker c.each_child-in-Filter.result (λ e. e
     ∙ ap (plus (put_found g.V.Visit.put) (kept g.V.Visit.kept c.args.found.now))
     (sym (ap (reached (base_of c.args.context.now) c.args.rest.now)
-    (ap (λ x. picked (base_of c.args.context.now) x (here c.args.path.now c.args.value)) c.in-Filter.is
-    ∙ picked_filter (base_of c.args.context.now) (here c.args.path.now c.args.value) c.in-Filter.test)
-    ∙ reached-filter (base_of c.args.context.now) c.args.rest.now
-    (is_true (base_of c.args.context.now) c.in-Filter.test)
-    (children (here c.args.path.now c.args.value))))) c.each_child-in-Filter.ensures.found
-
-pub select_inside-returns-in-Wild-clause-found : goal.select_inside-returns-in-Wild-clause-found
-select_inside-returns-in-Wild-clause-found g t c =
-    on_ok_weaker c.each_of.result (λ e. e
-    ∙ ap (λ ns. plus (put_found g.V.Visit.put) (kept g.V.Visit.kept c.args.found.now)
-    (flat_map (done (base_of c.args.context.now) (Run c.args.rest)) ns))
-    (c.requires.nodes (link_steps c.args.path.now))
-    ∙ ap (plus (put_found g.V.Visit.put) (kept g.V.Visit.kept c.args.found.now))
-    (sym (ap (reached (base_of c.args.context.now) c.args.rest.now)
-    (ap (λ x. picked (base_of c.args.context.now) x (here c.args.path.now c.args.opened.value)) c.in-Wild.is
-    ∙ picked_wild (base_of c.args.context.now) (here c.args.path.now c.args.opened.value))
-    ∙ reached-each (base_of c.args.context.now) c.args.rest.now
-    (children (here c.args.path.now c.args.opened.value))))) c.each_of.ensures.found
-
-pub select_inside-returns-in-Filter-clause-found : goal.select_inside-returns-in-Filter-clause-found
-select_inside-returns-in-Filter-clause-found g t c =
-    on_ok_weaker c.each_of-in-Filter.result (λ e. (rw (c.requires.nodes (link_steps c.args.path.now)) at e)
-    ∙ ap (plus (put_found g.V.Visit.put) (kept g.V.Visit.kept c.args.found.now))
-    (sym (ap (reached (base_of c.args.context.now) c.args.rest.now)
     (ap (λ x. picked (base_of c.args.context.now) x (here c.args.path.now c.args.opened.value)) c.in-Filter.is
     ∙ picked_filter (base_of c.args.context.now) (here c.args.path.now c.args.opened.value) c.in-Filter.test)
     ∙ reached-filter (base_of c.args.context.now) c.args.rest.now
     (is_true (base_of c.args.context.now) c.in-Filter.test)
-    (children (here c.args.path.now c.args.opened.value))))) c.each_of-in-Filter.ensures.found
+    (children (here c.args.path.now c.args.opened.value))))) c.each_child-in-Filter.ensures.found
 
 pub all-loop-part-preserved : goal.all-loop-part-preserved
 all-loop-part-preserved g t c =
@@ -562,3 +499,19 @@ ask-returns-in_ok-answer-in-Distinct-clause-answer g t c =
     ap (λ ns. tells want ns c.of_distinct.result)
     (ap (λ q. nodes_given base q want n) c.in-Distinct.is ∙ sym (nodes_distinct base n nodes want))
     ∙ c.of_distinct.ensures (nodes_given base nodes.value (wanted_inside want) n) inner
+
+pub go-returns-in_ok-apply-in-Descend-clause-found : goal.go-returns-in_ok-apply-in-Descend-clause-found
+go-returns-in_ok-apply-in-Descend-clause-found g t c =
+    let base = base_of c.args.context.now in
+    let xs = c.in-Descend.selectors.now in
+    let rest = c.in-Descend.rest.now in
+    let at = link_steps c.args.path.now in
+    let range : range_nodes at c.all-range.result ≡ children (here c.args.path.now c.args.value) =
+    c.all-range.ensures.nodes at ∙ c.in_ok-children-in-Descend.ensures.nodes at in
+    on_ok_weaker c.each_of.result (λ e. rw c.in-Descend.is (descended (put_found g.V.Visit.put) base xs
+    rest (here c.args.path.now c.args.value) _ _ _ c.in_ok-apply-in-Descend.ensures.found
+    (rw range at (rw (c.in_ok-apply-in-Descend.ensures.path, c.in-Descend.is) at e))))
+    c.each_of.ensures.found
+
+pub give-returns-in-Some-clause-value : goal.give-returns-in-Some-clause-value
+give-returns-in-Some-clause-value g t c = c.in-Some.ensures (here c.args.path.now c.args.value)

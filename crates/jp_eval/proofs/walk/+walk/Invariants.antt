@@ -42,25 +42,17 @@ decreases-run g l = weight (most size-Segment l.segments.now) l.value 8
 
 abbrev pub decreases-apply : goal.decreases-apply
 decreases-apply g l = weight (max (most size-Selector l.selectors.now) (most size-Segment l.rest.now))
-    l.value 5
-
-abbrev pub decreases-apply_inside : goal.decreases-apply_inside
-decreases-apply_inside g l =
-    weight (max (most size-Selector l.selectors.now) (most size-Segment l.rest.now)) l.opened.value 6
-
-abbrev pub decreases-select_inside : goal.decreases-select_inside
-decreases-select_inside g l =
-    weight (max (size-Selector l.selector.now) (most size-Segment l.rest.now)) l.opened.value 5
+    l.opened.value 6
 
 abbrev pub decreases-select : goal.decreases-select
-decreases-select g l = weight (max (size-Selector l.selector.now) (most size-Segment l.rest.now)) l.value
-    4
+decreases-select g l = weight (max (size-Selector l.selector.now) (most size-Segment l.rest.now))
+    l.opened.value 5
 
 abbrev pub decreases-at_place : goal.decreases-at_place
 decreases-at_place g l = weight (most size-Segment l.rest.now) l.value 2
 
 abbrev pub decreases-each_child : goal.decreases-each_child
-decreases-each_child g l = weight (task_size l.task) l.value 3
+decreases-each_child g l = weight (task_size l.task) l.opened.value 3
 
 abbrev pub decreases-each_of : goal.decreases-each_of
 decreases-each_of g l = 2000 * task_size l.task + 16 * range_height l.children + 1
@@ -85,15 +77,6 @@ decreases-all g l = weight (most size-Logical l.parts.now) l.value 8
 
 abbrev pub invariant-apply-loop-selector : goal.invariant-apply-loop-selector
 invariant-apply-loop-selector g l =
-    let root = base_of l.context in
-    (l.path ≡ l.initial.path)
-    × (plus (put_found g.V.Visit.put) (kept g.V.Visit.kept l.found)
-    (reached root l.rest (picked_by root (drop l.selector-index l.selectors) (here l.path l.value)))
-    ≡ plus (put_found g.V.Visit.put) (kept g.V.Visit.kept l.initial.found)
-    (reached root l.rest (picked_by root l.selectors (here l.initial.path l.value))))
-
-abbrev pub invariant-apply_inside-loop-selector : goal.invariant-apply_inside-loop-selector
-invariant-apply_inside-loop-selector g l =
     let root = base_of l.context in
     (l.path ≡ l.initial.path)
     × (plus (put_found g.V.Visit.put) (kept g.V.Visit.kept l.found)

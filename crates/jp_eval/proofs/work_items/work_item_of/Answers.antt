@@ -10,7 +10,8 @@ use Rattle.jp_nodes.specs.Nodes.{child, items_at}
 use Rattle.jp_value.specs.Literals.{written_value}
 use Rattle.jp_part.specs.Part.{part_value}
 use Rattle.jp_eval.specs.inner.Walk.{picked, is_true}
-use Rattle.jp_eval.proofs.Places.{index_found, slice_found}
+use Rattle.jp_eval.proofs.Places.{slice_found}
+use Rattle.jp_eval.specs.Nodelist.{index_places}
 use Rattle.jp_eval.proofs.CompiledParts.{picked_name, picked_wild, picked_index, picked_slice, picked_filter}
 use Rattle.jp_eval.proofs.WorkItems.{run_along, test_along}
 use Rattle.jp_eval.proofs.work_items.work_item_of.Goals as goal
@@ -32,11 +33,10 @@ pub returns-in_ok-placed-in-Index-clause-nodes : goal.returns-in_ok-placed-in-In
 returns-in_ok-placed-in-Index-clause-nodes c = λ base at.
     let n = node at (part_value c.args.value) in
     let f : SFits w64 c.in-Index.index.value = search rules in
-    let placed = simp to_z-of_z at c.place.ensures in
+    let placed = simp to_z-of_z at (c.place_in-place.ensures at) in
     run_along base c.args.rest.now c.args.selector.now n _ _
-    (c.in_ok-placed-in-Index.ensures.nodes at ∙ ap (items_at n) (placed
-    ∙ index_found (part_value c.args.value) (whole_number (position_text c.in-Index.index))
-    c.in-Index.index.value c.item_count.result c.in-Index.index.read c.item_count.ensures.count))
+    (c.in_ok-placed-in-Index.ensures.nodes at ∙ placed
+    ∙ ap (λ z. items_at n (index_places z (part_value c.args.value))) c.in-Index.index.read)
     (ap (λ x. picked base x n) c.in-Index.is ∙ picked_index base n c.in-Index.index)
 
 pub returns-in_ok-sliced-in-Slice-clause-nodes : goal.returns-in_ok-sliced-in-Slice-clause-nodes

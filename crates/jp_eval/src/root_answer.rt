@@ -1,0 +1,108 @@
+//! What is known of a `$` query inside a filter, once a document.
+
+ghost use Rattle.std.specs.Prelude.{◌≡◌, IfOk, IfSome, true};
+ghost use Rattle.jp_eval.specs.inner.Aggregates.{told};
+ghost use Rattle.jp_eval.specs.inner.RootAnswers.{is_length, are_members};
+ghost use Rattle.jp_part.specs.Inside.{members_in};
+ghost use Rattle.jp_part.specs.Members.{members as in_order, list_entries};
+ghost use Rattle.jp_value.specs.Functions.{length_value};
+ghost use Rattle.jp_value.specs.Kinds.{given_value};
+
+use crate::aggregates::{Aggregate, operand};
+use crate::asked::Asked;
+use jp_part::{Kind, MemberList, Members};
+use jp_value::length;
+use std::alloc::{AllocError, Global};
+
+/// The answer to a `$` query, with what each node would ask of its value again.
+#[derive(Drop)]
+pub(crate) struct RootAnswer<'v> {
+    /// The answer.
+    pub(crate) answer: Aggregate<'v>,
+    /// What `length` gives of the value, where the query asks for such lengths.
+    length: Option<Option<Kind<'v>>>,
+    /// The members of the value in order, where it is a flat object, and the query compares such values. In a
+    /// tree they lie so.
+    members: Option<MemberList<'v>>,
+    ghost length_is: { is_length length answer ≡ true },
+    ghost members_are: { are_members members answer ≡ true },
+}
+
+impl<'v> RootAnswer<'v> {
+    /// The answer, with what is asked of such values.
+    ///
+    /// `AllocError` if a growth was refused.
+    pub(crate) fn new(
+        alloc: Global,
+        answer: Aggregate<'v>,
+        asked: Asked,
+    ) -> Result<RootAnswer<'v>, AllocError>
+        ensures { IfOk result (λ r. r.answer ≡ answer.entry) }
+    {
+        let length = length_of(alloc, answer, asked)?;
+        let members = members_of(alloc, answer, asked)?;
+        Ok(RootAnswer {
+            answer,
+            length,
+            members,
+        })
+    }
+
+    /// The value, whose members are listed where they are kept.
+    pub(crate) fn value(&self) -> Option<Kind<'_>>
+        ensures { given_value result ≡ told self.now.answer }
+    {
+        match &self.members {
+            Some(members) => Some(Kind::Listed(members.range())),
+            None => operand(self.answer),
+        }
+    }
+
+    /// The length of the value, where it is kept.
+    pub(crate) fn length(&self) -> Option<Option<Kind<'v>>>
+        ensures { IfSome result (λ n. given_value n ≡ length_value (told self.now.answer)) }
+    {
+        self.length
+    }
+}
+
+/// The length of an answer's value, where such are asked for.
+fn length_of<'v>(
+    alloc: Global,
+    answer: Aggregate<'v>,
+    asked: Asked,
+) -> Result<Option<Option<Kind<'v>>>, AllocError>
+    ensures { IfOk result (λ n. is_length n answer.entry ≡ true) }
+{
+    if !asked.length {
+        return Ok(None);
+    }
+    Ok(Some(length(alloc, operand(answer))?))
+}
+
+/// The members of an answer's value, where such are compared, and don't lie in order.
+fn members_of<'v>(
+    alloc: Global,
+    answer: Aggregate<'v>,
+    asked: Asked,
+) -> Result<Option<MemberList<'v>>, AllocError>
+    ensures { IfOk result (λ l. are_members l answer.entry ≡ true) }
+{
+    if !asked.comparison {
+        return Ok(None);
+    }
+    match operand(answer) {
+        Some(Kind::Object(members)) => listed(alloc, members),
+        _ => Ok(None),
+    }
+}
+
+/// The members of a flat object.
+fn listed<'v>(alloc: Global, members: Members<'v>) -> Result<Option<MemberList<'v>>, AllocError>
+    ensures { IfOk result (λ o. IfSome o (λ l. members_in members.entry ≡ in_order (list_entries l))) }
+{
+    match members {
+        Members::Tree(_) => Ok(None),
+        Members::Flat(_) => Ok(Some(members.gather(alloc)?)),
+    }
+}
