@@ -163,8 +163,10 @@ impl<'d> FlatValue<'d> {
         }
     }
 
-    /// How many nodes the value has: at least as many as there are values inside of it.
-    pub fn node_count(self) -> usize {
+    /// How many nodes the value has: at least as many as it has items, where it is an array.
+    pub fn node_count(self) -> usize
+        ensures { item_count (flat_value self.entry) ≤ result }
+    {
         after(self.nodes, self.at).saturating_sub(self.at)
     }
 
