@@ -23,10 +23,9 @@ use Rattle.jp_doc.specs.Json.{item_list, json_of, items_of, members_of}
 use Rattle.jp_doc.specs.Reading.{max_items, has_long_array, items_have_long_array, members_have_long_array}
 use Rattle.jp_doc.specs.Rising.{IsRising, ItemsRise, MembersRise, NamesAreUtf8}
 use Rattle.jp_doc.proofs.RisingLaws.{rise_put, utf8_put}
-use Rattle.jp_flat.specs.Flat.{max_tokens}
-use Rattle.jp_flat.specs.Value.{item_count}
-use Rattle.jp_flat.specs.inner.Plain.{is_whole_text, is_plain_from, is_plain, items_are_plain}
+use Rattle.jp_flat.specs.inner.Plain.{max_tokens, is_whole_text, is_plain_from, is_plain, items_are_plain}
 use Rattle.jp_flat.specs.inner.Plain.{members_are_plain}
+use Rattle.jp_flat.specs.Value.{item_count}
 use Rattle.jp_flat.proofs.Good.{is_whole, is_good, items_are_good, members_are_good}
 use Rattle.jp_flat.proofs.Numbers.{both, both_back, whole_text}
 

@@ -2,7 +2,7 @@
 
 ghost use Rattle.std.specs.Prelude.{◌≡◌, true, Ok, IfOk, IfSome};
 ghost use Rattle.jp_doc.specs.Reading.{reading};
-ghost use Rattle.jp_flat.specs.Flat.{is_flat};
+ghost use Rattle.jp_flat.specs.inner.Plain.{is_flat};
 
 use crate::nodes::are_plain;
 use crate::value::FlatValue;

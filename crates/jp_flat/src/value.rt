@@ -5,7 +5,7 @@ ghost use Rattle.std.specs.Prelude.{IfSome};
 ghost use Rattle.json.specs.Json.{Json, value};
 ghost use Rattle.json.specs.Tape.{node_token, Linked};
 ghost use Rattle.json.specs.Token.{Token, begin_array, begin_object};
-ghost use Rattle.jp_flat.specs.Flat.{is_flat};
+ghost use Rattle.jp_flat.specs.inner.Plain.{is_flat};
 
 use crate::digits::whole_number;
 use json::Node;
