@@ -6,11 +6,9 @@ ghost use Rattle.jp_flat.specs.Document.{document_value};
 
 use crate::document::FlatDocument;
 use bumpalo::Bump;
+use jp_doc::LONG_LINE;
 use json::Scratch;
 use std::alloc::{AllocError, Global};
-
-/// The bytes of a line behind which the buffers are let go: 1 MB.
-const LONG_LINE: usize = 1_000_000;
 
 /// Reads lines, in buffers that are kept from line to line: where no line before was as long, they grow, and
 /// else a line takes no memory. After a line of over 1,000,000 bytes they are let go, by `release` or once the
@@ -46,8 +44,8 @@ impl FlatReader {
         FlatDocument::read(line, &mut self.scratch, &self.arena)
     }
 
-    /// Lets go of the nodes of the last line, and of all memory after a long one. A reading begins with it. Who
-    /// reads a line as a tree calls it before, so that the memory of both is not held at once.
+    /// Lets go of the nodes of the last line, and of all memory after a long one. A reading begins with it.
+    /// Who reads a line as a tree calls it before, so that the memory of both is not held at once.
     pub fn release(&mut self) {
         if self.was_long {
             self.scratch = Scratch::new(self.alloc);

@@ -1,5 +1,5 @@
 -- What the quick reading of a line lets through: a working file, which nobody has to believe.
-use Rattle.std.specs.Prelude.{ℕ, suc, ◌-◌, ◌^◌, Bool, true, false, not, ◌&&◌, ◌||◌, ◌==◌, nat_lt, nat_le}
+use Rattle.std.specs.Prelude.{ℕ, suc, ◌+◌, ◌-◌, ◌^◌, Bool, true, false, not, ◌&&◌, ◌||◌, ◌==◌, nat_lt, nat_le}
 use Rattle.std.specs.Prelude.{List, [], ◌∷◌, Option, Some, None}
 use Rattle.std.specs.Prelude.{length, drop, slice_index, if◌then◌else◌}
 use Rattle.std.specs.Char.{is_ascii_digit}
@@ -10,6 +10,7 @@ use Rattle.json.specs.Token.{Token}
 use Rattle.json.specs.Json as text
 use Rattle.json.specs.Tree.{json_tokens}
 use Rattle.serde_json.specs.Read.{max_depth}
+use Rattle.jp_doc.specs.Reading.{max_items}
 
 -- some digits, of which the first is no zero before others
 abbrev pub are_digits : List ℕ → Bool
@@ -64,7 +65,7 @@ abbrev mutual
 
 -- the greatest number of tokens: those of an array of the greatest number of items, and its brackets
 abbrev pub max_tokens : ℕ
-max_tokens = 16777218
+max_tokens = max_items + 2
 
 abbrev pub is_small : Option (text.Json × List Token) → Bool
 is_small None = false
