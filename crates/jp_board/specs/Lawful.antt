@@ -1,6 +1,7 @@
 -- The lawful states of a board: what holds between any two steps, in whatever order the callers take them.
 use Rattle.std.specs.Prelude.{◌≡◌, ℕ, ◌+◌, ◌<◌, ◌≤◌, ◌⊎◌, min, List, [], length, All, Contains, IsPermutation}
 use Rattle.jp_board.specs.Events.{BoardState}
+use Rattle.jp_board.specs.Limits.{max_pieces, max_seats}
 use Rattle.jp_board.specs.declared.view.View.{View}
 use Rattle.jp_board.specs.Together.{all_claims, all_reports, all_looks, times_told, seats_stood_for}
 use Rattle.jp_board.specs.Together.{numbers_below}
@@ -29,8 +30,8 @@ pub record IsMark (pieces least : ℕ) (reports looks : List ℕ) : Type 0 where
 
 -- the numbers of pieces and seats, the two words of the board, and the views of all seats
 pub record Lawful (pieces made next least : ℕ) (views : List View) : Type 0 where
-  -- there are at most 4294967296 pieces and 64 seats
-  pub in_range : (pieces ≤ 4294967296) × (made ≤ 64)
+  -- there are not too many pieces and seats
+  pub in_range : (pieces ≤ max_pieces) × (made ≤ max_seats)
   -- the views stand for the seats that were made
   pub seats : seats_stood_for views ≡ made
   -- each view is lawful

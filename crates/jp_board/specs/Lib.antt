@@ -2,6 +2,7 @@ pub mod Views
 pub mod Together
 pub mod Events
 pub mod Lawful
+pub mod Limits
 pub mod Rule
 pub mod Steps
 pub mod Seats

@@ -1,6 +1,7 @@
 //! The board and its calls.
 ghost use Rattle.std.specs.Prelude.{◌≡◌, ◌<◌, ◌≤◌, ◌⊎◌, ◌↔◌, ◌∷◌, [], map, All, Contains, IfSome, IfNone};
 ghost use Rattle.std.specs.Prelude.{IfOk, IfErr, IsErrOf, IsOk, None, vec_len};
+ghost use Rattle.jp_board.specs.Limits.{max_pieces, max_seats};
 
 use crate::fault::{BoardFault, CloseFault};
 use crate::rule::{Claim, Gather, Look, Report};
@@ -18,13 +19,15 @@ pub struct Board {
     made: u64,
     ghost counts: { (table.shared.table_id.words ≡ 2) × (table.shared.table_id.slots ≡ 0) },
     ghost key_is: { table.shared.key ≡ (pieces, made) },
-    pub ghost few_pieces: { pieces ≤ 4294967296 },
-    pub ghost some_seat: { (0 < made) × (made ≤ 64) },
+    pub ghost few_pieces: { pieces ≤ max_pieces },
+    pub ghost some_seat: { (0 < made) × (made ≤ max_seats) },
 }
 
 impl Board {
+    /// The greatest number of pieces: the word `next` counts them, and is far from where 64 bits end.
     const MAX_PIECES: u64 = 4_294_967_296;
 
+    /// The greatest number of seats: `next` counts one more for each.
     const MAX_SEATS: u64 = 64;
 
     ghost use Rattle.jp_board.specs.Account.{SameAccount};
@@ -40,7 +43,7 @@ impl Board {
         ensures seats { IfOk result (λ r. All (IsSeatOf r.0) r.1.items) }
         ensures fresh { IfOk result (λ r. All (IsFresh pieces seats) r.1.items) }
         ensures too_many { IsErrOf result BoardFault.TooMany
-            ↔ ((4294967296 < pieces) ⊎ (seats ≡ 0) ⊎ (64 < seats)) }
+            ↔ ((max_pieces < pieces) ⊎ (seats ≡ 0) ⊎ (max_seats < seats)) }
     {
         if pieces > Board::MAX_PIECES || seats == 0 || seats > Board::MAX_SEATS {
             return Err(BoardFault::TooMany);

@@ -4,13 +4,14 @@ ghost use Rattle.std.specs.Prelude.{◌≡◌, ℕ, ◌+◌, ◌<◌, ◌≤◌,
 ghost use Rattle.jp_board.specs.declared.view.View.{View};
 ghost use Rattle.jp_board.specs.Events.{BoardState, Event, Happens, LeadTo, IsReached, first_state};
 ghost use Rattle.jp_board.specs.Lawful.{IsLawful};
+ghost use Rattle.jp_board.specs.Limits.{max_pieces, max_seats};
 ghost use Rattle.jp_board.specs.Tally.{Tallies};
 ghost use Rattle.jp_board.specs.Together.{all_claims, all_reports, times_told};
 
 /// The first state of a board is lawful.
 #[tactic(auto, using(crate::proofs::Parts::first_lawful))]
 pub fn first_state_is_lawful()
-    ensures { (pieces made : ℕ) → pieces ≤ 4294967296 → made ≤ 64
+    ensures { (pieces made : ℕ) → pieces ≤ max_pieces → made ≤ max_seats
         → IsLawful pieces made (first_state pieces made) }
 {}
 
@@ -22,7 +23,7 @@ pub fn events_keep_lawful()
     ensures some { (pieces made : ℕ) (es : List Event) (s t : BoardState) → IsLawful pieces made s
         → LeadTo es s t
         → IsLawful pieces made t }
-    ensures reached { (pieces made : ℕ) (s : BoardState) → pieces ≤ 4294967296 → made ≤ 64
+    ensures reached { (pieces made : ℕ) (s : BoardState) → pieces ≤ max_pieces → made ≤ max_seats
         → IsReached pieces made s
         → IsLawful pieces made s }
 {}
@@ -30,7 +31,7 @@ pub fn events_keep_lawful()
 /// In a lawful state the word `next` is at most the number of pieces and 64 more, so that no claim makes it
 /// wrap; and `least` is at most the number of pieces.
 pub fn words_in_range()
-    ensures next { (pieces made : ℕ) (s : BoardState) → IsLawful pieces made s → s.next ≤ pieces + 64 }
+    ensures next { (pieces made : ℕ) (s : BoardState) → IsLawful pieces made s → s.next ≤ pieces + max_seats }
     ensures least { (pieces made : ℕ) (s : BoardState) → IsLawful pieces made s → s.least ≤ pieces }
 {}
 

@@ -1,14 +1,14 @@
 //! The lines of a stream that wait for their answer, and the line that is not ended yet.
 
 ghost use Rattle.std.specs.Prelude.{◌≡◌, ◌≤◌, ◌++◌, map, drop, length, IfOk, OnOk, OnErr};
-ghost use Rattle.jp_doc.specs.Feeding.{fed, fed_lines, finished, finished_lines};
+ghost use Rattle.jp_doc.specs.Feeding.{fed, fed_lines, finished, finished_lines, max_lines};
 ghost use Rattle.jp_buffer.specs.Buffered.{line_at, nothing_buffered, total_bytes};
 ghost use Rattle.jp_buffer.specs.inner.Waiting.{Begins};
 
 use crate::cutting::push_lines;
 use crate::line_ref::LineRef;
-use crate::waiting::{LONG_LINE, WaitingLines};
-use jp_doc::first_line;
+use crate::waiting::WaitingLines;
+use jp_doc::{LONG_LINE, first_line};
 use std::alloc::{AllocError, Global};
 use std::marker::Model;
 use std::mem;
@@ -91,7 +91,7 @@ impl LineBuffer {
     ///
     /// `AllocError` if a growth was refused: then nothing has changed, and the piece can be fed again.
     pub fn feed(&mut self, piece: &[u8]) -> Result<(), AllocError>
-        requires { self.old.progress.count ≤ 4294967295 }
+        requires { self.old.progress.count ≤ max_lines }
         ensures lines { OnOk result (self.new.lines
             ≡ self.old.lines ++ fed_lines self.old.progress piece.now) }
         ensures progress { OnOk result (self.new.progress ≡ fed self.old.progress piece.now) }
@@ -110,7 +110,7 @@ impl LineBuffer {
     ///
     /// `AllocError` if a growth was refused: then nothing has changed.
     pub fn finish(&mut self) -> Result<(), AllocError>
-        requires { self.old.progress.count ≤ 4294967295 }
+        requires { self.old.progress.count ≤ max_lines }
         ensures lines { OnOk result (self.new.lines
             ≡ self.old.lines ++ finished_lines self.old.progress) }
         ensures progress { OnOk result (self.new.progress ≡ finished self.old.progress) }
@@ -145,7 +145,7 @@ impl LineBuffer {
 
     /// As `feed`, but an `Err` may leave more behind the lines that wait.
     fn feed_piece(&mut self, piece: &[u8]) -> Result<(), AllocError>
-        requires { self.old.progress.count ≤ 4294967295 }
+        requires { self.old.progress.count ≤ max_lines }
         ensures lines { OnOk result (self.new.lines
             ≡ self.old.lines ++ fed_lines self.old.progress piece.now) }
         ensures progress { OnOk result (self.new.progress ≡ fed self.old.progress piece.now) }

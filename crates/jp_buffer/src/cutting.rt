@@ -1,7 +1,7 @@
 //! Bytes that are cut into lines, behind those that wait.
 
 ghost use Rattle.std.specs.Prelude.{◌≡◌, ◌+◌, ◌≤◌, ◌++◌, length, IfOk, OnOk, OnErr};
-ghost use Rattle.jp_doc.specs.Feeding.{cut, numbered};
+ghost use Rattle.jp_doc.specs.Feeding.{cut, numbered, max_lines};
 ghost use Rattle.jp_buffer.specs.inner.Waiting.{Begins};
 
 use crate::waiting::WaitingLines;
@@ -15,7 +15,7 @@ pub(crate) fn push_lines<'b>(
     bytes: &'b [u8],
     waiting: &mut WaitingLines,
 ) -> Result<(u64, &'b [u8]), AllocError>
-    requires { before ≤ 4294967296 }
+    requires { before ≤ max_lines + 1 }
     ensures lines { OnOk result
         (waiting.new ≡ waiting.old ++ numbered (before + 1) (cut bytes.now).ended) }
     ensures count { IfOk result (λ r. r.0 ≡ before + length (cut bytes.now).ended) }

@@ -7,12 +7,9 @@ ghost use Rattle.jp_buffer.specs.Buffered.{line_at, total_bytes};
 ghost use Rattle.jp_buffer.specs.inner.Waiting.{Begins, bytes_of};
 
 use crate::line_ref::LineRef;
-use jp_doc::is_blank_line;
+use jp_doc::{LONG_LINE, is_blank_line};
 use std::alloc::{AllocError, Global};
 use std::marker::Model;
-
-/// The bytes of a line behind which memory is let go: 1 MB.
-pub(crate) const LONG_LINE: usize = 1_000_000;
 
 /// A line of the buffer, which begins where the one before it ends.
 #[derive(Clone, Copy)]

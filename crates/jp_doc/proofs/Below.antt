@@ -1,5 +1,5 @@
 -- A child is less high than its value.
-use Rattle.std.proofs.Common.{◌≡◌, ℕ, zero, suc, ◌<◌, Option, Some, Bool, true, false, cond, IfSome, arith}
+use Rattle.std.proofs.Common.{ℕ, zero, suc, ◌<◌, Option, Some, Bool, true, false, cond, IfSome, arith}
 use Rattle.jp_doc.specs.Json.{Text, text_eq, Json, null, truth, whole, text, array, object, Items, no_items}
 use Rattle.jp_doc.specs.Json.{add_item, Members, no_members, add_member}
 use Rattle.jp_doc.specs.Location.{Step, name, index, member_at, item_at, member_of, item_of, child_at}

@@ -35,6 +35,11 @@ pub record Progress : Type 0 where
   pub count : ℕ
   pub open_line : List ℕ
 
+-- how many lines may have ended before a piece or the end comes: far fewer than 64 bits can count, so that no
+-- piece has as many as would make the count wrap
+abbrev pub max_lines : ℕ
+max_lines = 4294967295
+
 -- before the first piece
 abbrev pub nothing_fed : Progress
 nothing_fed = record { count = 0; open_line = [] }

@@ -13,16 +13,10 @@ ghost use Rattle.jp_doc.specs.Reading.{max_line, document_from, reading};
 ghost use Rattle.jp_doc.specs.Rising.{IsRising};
 
 use crate::fault::DocFault;
-use crate::limits::fault_within;
+use crate::limits::{MAX_ITEMS, MAX_LINE, fault_within};
 use crate::location::Step;
 use serde_json::{Category, Error, Value};
 use std::alloc::Global;
-
-/// The greatest number of bytes in a line.
-const MAX_LINE: usize = 268_435_456;
-
-/// The greatest number of items in an array.
-const MAX_ITEMS: usize = 16_777_216;
 
 /// A JSON value that was read from a line.
 ///

@@ -131,7 +131,7 @@ pub fn values_inside()
 /// What is true of every value of a document.
 pub fn values_of_documents()
     ensures whole_numbers { (v : Value) → IsDocumentValue v → has_float (view v) ≡ false }
-    ensures short_arrays { (v : Value) → IsDocumentValue v → has_long_array 16777216 (value_of v) ≡ false }
+    ensures short_arrays { (v : Value) → IsDocumentValue v → has_long_array max_items (value_of v) ≡ false }
     ensures nesting { (v : Value) → IsDocumentValue v → depth (view v) ≤ 127 }
     ensures rising_names { (v : Value) → IsDocumentValue v → IsRising (value_of v) }
 {}

@@ -1,4 +1,4 @@
-//! What may be wrong with a value that was read from a line.
+//! Limits of lines and documents, and what may be wrong with a value that was read from a line.
 
 ghost use Rattle.std.specs.Prelude.{◌≡◌};
 ghost use Rattle.serde_json.specs.View.{view, items_view, members_view};
@@ -10,6 +10,17 @@ ghost use Rattle.jp_doc.specs.inner.Limits.{tested};
 
 use crate::fault::DocFault;
 use serde_json::{Map, Value};
+
+/// The greatest number of bytes in a line. A reader may set limits (RFC 8259, 9): under this one a place in a
+/// line has 32 bits.
+pub const MAX_LINE: usize = 268_435_456;
+
+/// The greatest number of items in an array: under this limit an index has 32 bits, from the end too.
+pub const MAX_ITEMS: usize = 16_777_216;
+
+/// The number of bytes of a line behind which those who keep buffers let them go: 1 MB, so that one long line
+/// does not hold its memory as long as short ones follow.
+pub const LONG_LINE: usize = 1_000_000;
 
 /// What is wrong with a value, however deep: `NotWhole` if some number is no whole number of 64 bits, or else
 /// `LongArray` if some array has more than `limit` items.

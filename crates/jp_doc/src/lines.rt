@@ -3,7 +3,7 @@
 ghost use Rattle.std.specs.Prelude.{◌≡◌, ◌+◌, ◌≤◌, [], ◌∷◌, ◌++◌, false, length, map, IfOk, OnOk, OnErr};
 ghost use Rattle.jp_doc.specs.inner.Added.{Adds, Begins, after_line};
 ghost use Rattle.jp_doc.specs.Feeding.{cut, has_line_feed, numbered, nothing_fed, fed, fed_lines, finished};
-ghost use Rattle.jp_doc.specs.Feeding.{finished_lines};
+ghost use Rattle.jp_doc.specs.Feeding.{finished_lines, max_lines};
 ghost use Rattle.jp_doc.specs.Lines.{line_of};
 
 use crate::cutting::{first_line, is_blank_line};
@@ -62,7 +62,7 @@ impl Lines {
     ///
     /// `AllocError` if a growth was refused: then nothing has changed, and the piece can be fed again.
     pub fn feed(&mut self, piece: &[u8], out: &mut Vec<Line>) -> Result<(), AllocError>
-        requires { self.old.count ≤ 4294967295 }
+        requires { self.old.count ≤ max_lines }
         ensures lines { OnOk result (map line_of out.new.items
             ≡ map line_of out.old.items ++ fed_lines self.old piece.now) }
         ensures progress { OnOk result (self.new ≡ fed self.old piece.now) }
@@ -84,7 +84,7 @@ impl Lines {
     ///
     /// `AllocError` if a growth was refused: then nothing has changed.
     pub fn finish(&mut self, out: &mut Vec<Line>) -> Result<(), AllocError>
-        requires { self.old.count ≤ 4294967295 }
+        requires { self.old.count ≤ max_lines }
         ensures lines { OnOk result (map line_of out.new.items
             ≡ map line_of out.old.items ++ finished_lines self.old) }
         ensures progress { OnOk result (self.new ≡ finished self.old) }
@@ -104,7 +104,7 @@ impl Lines {
 
     /// As `feed`, but an `Err` may leave more behind the lines of `out` and behind the open line.
     fn feed_piece(&mut self, piece: &[u8], out: &mut Vec<Line>) -> Result<(), AllocError>
-        requires { self.old.count ≤ 4294967295 }
+        requires { self.old.count ≤ max_lines }
         ensures lines { OnOk result (Adds out.old.items out.new.items (fed_lines self.old piece.now)) }
         ensures progress { OnOk result (self.new ≡ fed self.old piece.now) }
         ensures more_lines { OnErr result (Begins out.old.items out.new.items) }
@@ -122,7 +122,7 @@ impl Lines {
     /// Ends the open line, and adds it and the lines that end in the bytes after it. An `Err` may leave more
     /// behind the lines of `out`.
     fn end_line(&mut self, after: &[u8], out: &mut Vec<Line>) -> Result<(), AllocError>
-        requires { self.old.count ≤ 4294967295 }
+        requires { self.old.count ≤ max_lines }
         ensures lines { OnOk result (Adds out.old.items out.new.items
             (numbered (self.old.count + 1) (self.old.open_line ∷ (cut after.now).ended))) }
         ensures progress { OnOk result (self.new ≡ after_line self.old (cut after.now)) }
@@ -154,7 +154,7 @@ fn push_lines<'b>(
     bytes: &'b [u8],
     out: &mut Vec<Line>,
 ) -> Result<(u64, &'b [u8]), AllocError>
-    requires { before ≤ 4294967296 }
+    requires { before ≤ max_lines + 1 }
     ensures lines { OnOk result
         (Adds out.old.items out.new.items (numbered (before + 1) (cut bytes.now).ended)) }
     ensures count { IfOk result (λ r. r.0 ≡ before + length (cut bytes.now).ended) }

@@ -18,9 +18,9 @@ use Rattle.serde_json.specs.Data.{Data, array, Items, no_items, item}
 use Rattle.serde_json.specs.Read.{of_json, of_items, max_depth}
 use Rattle.jp_doc.specs.Json as json
 use Rattle.jp_doc.specs.Json.{json_of, items_of, members_of}
-use Rattle.jp_flat.specs.Flat.{is_flat, max_tokens, value_at}
+use Rattle.jp_flat.specs.Flat.{value_at}
+use Rattle.jp_flat.specs.inner.Plain.{is_flat, max_tokens, is_plain, items_are_plain}
 use Rattle.jp_doc.specs.Reading.{max_items}
-use Rattle.jp_flat.specs.inner.Plain.{is_plain, items_are_plain}
 use Rattle.jp_flat.specs.Value.{item_count}
 use Rattle.jp_flat.proofs.Good.{is_good}
 use Rattle.std.proofs.lemmas.Bool.{leb-true}

@@ -21,9 +21,9 @@ use Rattle.serde_json.specs.Data.{no_members}
 use Rattle.serde_json.specs.Read.{of_json, max_depth}
 use Rattle.jp_doc.specs.Json as json
 use Rattle.jp_doc.specs.Json.{Text, Json, json_of, members_of}
-use Rattle.jp_flat.specs.Flat.{data_at, is_flat, max_tokens, value_at, json_or_null}
+use Rattle.jp_flat.specs.Flat.{data_at, value_at, json_or_null}
+use Rattle.jp_flat.specs.inner.Plain.{is_flat, max_tokens, is_plain, members_are_plain}
 use Rattle.jp_flat.specs.Members.{entries_of, entries_read, entries_at, put_all}
-use Rattle.jp_flat.specs.inner.Plain.{is_plain, members_are_plain}
 use Rattle.jp_flat.specs.Value.{members_value, entries}
 use Rattle.jp_flat.specs.declared.value.FlatMembers.{FlatMembers}
 use Rattle.jp_flat.proofs.Entries.{all_put}

@@ -23,9 +23,9 @@ use Rattle.jp_doc.specs.Json.{item_list, json_of, items_of, members_of}
 use Rattle.jp_doc.specs.Reading.{max_items, has_long_array, items_have_long_array, members_have_long_array}
 use Rattle.jp_doc.specs.Rising.{IsRising, ItemsRise, MembersRise, NamesAreUtf8}
 use Rattle.jp_doc.proofs.RisingLaws.{rise_put, utf8_put}
-use Rattle.jp_flat.specs.Flat.{max_tokens}
-use Rattle.jp_flat.specs.inner.Plain.{is_whole_text, is_plain_from, is_plain, items_are_plain}
+use Rattle.jp_flat.specs.inner.Plain.{max_tokens, is_whole_text, is_plain_from, is_plain, items_are_plain}
 use Rattle.jp_flat.specs.inner.Plain.{members_are_plain}
+use Rattle.jp_flat.specs.Value.{item_count}
 use Rattle.jp_flat.proofs.Good.{is_whole, is_good, items_are_good, members_are_good}
 use Rattle.jp_flat.proofs.Numbers.{both, both_back, whole_text}
 
@@ -133,6 +133,7 @@ pub record Made (j : text.Json) : Type 0 where
   pub found : Data
   pub made : of_json j ≡ Some found
   pub plain : is_good found ≡ true
+  pub few : item_count (json_of found) ≤ length (json_tokens j)
   pub rising : IsRising (json_of found)
 
 record MadeItems (js : text.Items) : Type 0 where
@@ -169,23 +170,27 @@ record MadeMembers (ms : text.Members) (old : Members) : Type 0 where
 mutual
   -- the tokens are as many at most as an array may have items
   pub make : (j : text.Json) → length (json_tokens j) ≤ max_tokens → is_plain j ≡ true → Made j
-  make text.null few p = record { found = null; made = refl; plain = refl; rising = tt }
-  make (text.boolean b) few p = record { found = boolean b; made = refl; plain = refl; rising = tt }
+  make text.null few p = record { found = null; made = refl; plain = refl; few = omega arith; rising = tt }
+  make (text.boolean b) few p =
+      record { found = boolean b; made = refl; plain = refl; few = omega arith; rising = tt }
   make (text.number s) few p =
       let w = whole_text s p in
       record {
         found = number w.number;
         made = ap (option_map number) w.read;
         plain = w.whole;
+        few = omega arith;
         rising = tt;
       }
-  make (text.string s) few p = record { found = string s; made = refl; plain = p; rising = tt }
+  make (text.string s) few p =
+      record { found = string s; made = refl; plain = p; few = omega arith; rising = tt }
   make (text.array js) few p =
       let m = make_items js (omega arith) p in
       record {
         found = array m.found;
         made = ap (option_map array) m.made;
         plain = both_back _ _ (le-leb _ max_items (omega (arith, m.few))) m.plain;
+        few = omega (arith, m.few);
         rising = m.rising;
       }
   make (text.object ms) few p =
@@ -194,6 +199,7 @@ mutual
         found = object m.found;
         made = ap (option_map object) m.made;
         plain = m.after.plain;
+        few = omega arith;
         rising = m.after.rising;
       }
 

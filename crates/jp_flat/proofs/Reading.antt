@@ -17,8 +17,8 @@ use Rattle.serde_json.specs.Read.{of_json, read, max_depth}
 use Rattle.jp_doc.specs.Json.{json_of}
 use Rattle.jp_doc.specs.Reading.{max_line, document_from, reading}
 use Rattle.jp_doc.proofs.ReadLaws.{reading_read}
-use Rattle.jp_flat.specs.Flat.{data_at, is_flat, is_small, max_tokens, value_at, json_or_null}
-use Rattle.jp_flat.specs.inner.Plain.{is_plain_from, is_plain}
+use Rattle.jp_flat.specs.Flat.{data_at, value_at, json_or_null}
+use Rattle.jp_flat.specs.inner.Plain.{is_flat, is_small, max_tokens, is_plain_from, is_plain}
 use Rattle.jp_flat.proofs.Good.{is_good}
 use Rattle.jp_flat.proofs.Numbers.{both, both_back}
 use Rattle.jp_flat.proofs.PlainTokens.{plain_tokens, Made, make, whole_numbers, short_arrays}

@@ -23,10 +23,10 @@ use Rattle.serde_json.specs.Read.{of_json, of_items, of_members, max_depth}
 use Rattle.jp_doc.specs.Json as json
 use Rattle.jp_doc.specs.Json.{Json, json_of, items_of, members_of}
 use Rattle.jp_doc.specs.DocumentValue.{whole_in}
-use Rattle.jp_flat.specs.Flat.{is_flat, value_at}
+use Rattle.jp_flat.specs.Flat.{value_at}
+use Rattle.jp_flat.specs.inner.Plain.{is_flat, is_plain, is_whole_text}
 use Rattle.jp_flat.specs.Value.{text_in, IsNoArray, IsNoObject}
 use Rattle.jp_flat.specs.Digits.{whole_value}
-use Rattle.jp_flat.specs.inner.Plain.{is_plain, is_whole_text}
 use Rattle.jp_flat.proofs.Numbers.{whole_text}
 use Rattle.jp_flat.proofs.PlainTokens.{some_token}
 use Rattle.jp_flat.proofs.Reading.{Flat, flat_of, read_of_flat, made_of, value_is}

@@ -2,19 +2,18 @@
 
 ghost use Rattle.std.specs.Prelude.{◌≡◌, true, Ok, IfOk, IfSome};
 ghost use Rattle.jp_doc.specs.Reading.{reading};
-ghost use Rattle.jp_flat.specs.Flat.{is_flat};
+ghost use Rattle.jp_flat.specs.inner.Plain.{is_flat};
 
 use crate::nodes::are_plain;
 use crate::value::FlatValue;
 use bumpalo::Bump;
+use jp_doc::{MAX_ITEMS, MAX_LINE};
 use json::{Error, Scratch, Tape};
 use std::alloc::AllocError;
 
-/// The greatest number of bytes in a line.
-const MAX_LINE: usize = 268_435_456;
-
-/// The greatest number of nodes: those of an array of the greatest number of items, and its brackets.
-const MAX_NODES: usize = 16_777_218;
+/// The greatest number of nodes: those of an array of the greatest number of items, and its brackets. So no
+/// array is too long, and none has to be counted.
+const MAX_NODES: usize = MAX_ITEMS + 2;
 
 /// A document as a flat list of nodes, which lie in the buffers of a reader and borrow from the line.
 #[derive(Drop)]

@@ -6,7 +6,8 @@ ghost use Rattle.json.specs.Token.{begin_array, end_array, end_object, number, k
 ghost use Rattle.jp_doc.specs.Json.{null, truth, whole, text, array, object};
 ghost use Rattle.jp_doc.specs.Json.{no_items, add_item, no_members, add_member};
 ghost use Rattle.jp_flat.specs.Digits.{whole_value};
-ghost use Rattle.jp_flat.specs.Flat.{is_flat, value_at};
+ghost use Rattle.jp_flat.specs.Flat.{value_at};
+ghost use Rattle.jp_flat.specs.inner.Plain.{is_flat};
 ghost use Rattle.jp_flat.specs.Gathered.{AreAbove, NamesRise};
 ghost use Rattle.jp_flat.specs.Members.{put_member, put_all, last_of, entries_at};
 ghost use Rattle.jp_flat.specs.Value.{text_in, item_count, IsNoArray, IsNoObject};

@@ -6,14 +6,13 @@ ghost use Rattle.jp_flat.specs.Document.{document_value};
 
 use crate::document::FlatDocument;
 use bumpalo::Bump;
+use jp_doc::LONG_LINE;
 use json::Scratch;
 use std::alloc::{AllocError, Global};
 
-/// The bytes of a line behind which the buffers are let go: 1 MB.
-const LONG_LINE: usize = 1_000_000;
-
 /// Reads lines, in buffers that are kept from line to line: where no line before was as long, they grow, and
-/// else a line takes no memory. After a line of over 1,000,000 bytes they are let go, once the next is read.
+/// else a line takes no memory. After a line of over 1,000,000 bytes they are let go, by `release` or once the
+/// next line is read.
 #[derive(Drop)]
 pub struct FlatReader {
     alloc: Global,
@@ -40,20 +39,21 @@ impl FlatReader {
     pub fn read<'a>(&'a mut self, line: &'a [u8]) -> Result<Option<FlatDocument<'a>>, AllocError>
         ensures { IfOk result (λ o. IfSome o (λ d. reading line.now ≡ Ok (document_value d))) }
     {
-        self.begin(line.len());
+        self.release();
+        self.was_long = line.len() > LONG_LINE;
         FlatDocument::read(line, &mut self.scratch, &self.arena)
     }
 
-    /// Makes room for a line of so many bytes: in the buffers that there are, or in new ones after a long
-    /// line.
-    fn begin(&mut self, length: usize) {
+    /// Lets go of the nodes of the last line, and of all memory after a long one. A reading begins with it.
+    /// Who reads a line as a tree calls it before, so that the memory of both is not held at once.
+    pub fn release(&mut self) {
         if self.was_long {
             self.scratch = Scratch::new(self.alloc);
             self.arena = Bump::new(self.alloc);
+            self.was_long = false;
         } else {
             // An error says that nodes of an earlier line are still kept, which stays so.
             let _ = self.arena.reset();
         }
-        self.was_long = length > LONG_LINE;
     }
 }

@@ -5,7 +5,8 @@ ghost use Rattle.std.specs.Prelude.{IfSome};
 ghost use Rattle.json.specs.Json.{Json, value};
 ghost use Rattle.json.specs.Tape.{node_token, Linked};
 ghost use Rattle.json.specs.Token.{Token, begin_array, begin_object};
-ghost use Rattle.jp_flat.specs.Flat.{is_flat};
+ghost use Rattle.jp_doc.specs.Reading.{max_items};
+ghost use Rattle.jp_flat.specs.inner.Plain.{is_flat};
 
 use crate::digits::whole_number;
 use json::Node;
@@ -163,8 +164,10 @@ impl<'d> FlatValue<'d> {
         }
     }
 
-    /// How many nodes the value has: at least as many as there are values inside of it.
-    pub fn node_count(self) -> usize {
+    /// How many nodes the value has: at least as many as it has items, where it is an array.
+    pub fn node_count(self) -> usize
+        ensures { item_count (flat_value self.entry) ≤ result }
+    {
         after(self.nodes, self.at).saturating_sub(self.at)
     }
 
@@ -200,7 +203,7 @@ impl<'d> FlatValue<'d> {
     /// How many items the array has, and 0 of any other value. It goes over them.
     pub fn item_count(self) -> u32
         ensures count { result ≡ item_count (flat_value self.entry) }
-        ensures short { result ≤ 16777216 }
+        ensures short { result ≤ max_items }
     {
         match self.items() {
             Some(items) => items.count(),
@@ -272,7 +275,7 @@ impl<'d> FlatItems<'d> {
     /// How many these are. It goes over them.
     pub fn count(self) -> u32
         ensures count { result ≡ item_count (items_value self.entry) }
-        ensures short { result ≤ 16777216 }
+        ensures short { result ≤ max_items }
     {
         let mut count = 0;
         let mut left = self;

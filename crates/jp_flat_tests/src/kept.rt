@@ -47,26 +47,9 @@ fn a_line_after_one_that_is_left(rt: HostRuntime) -> Result<(), Fail> {
     let mut reader = FlatReader::new(rt.alloc());
     for _ in 0..3 {
         assert!(rt; reader.read(b"[1,2.5]")?.is_none());
+        reader.release();
         assert!(rt; is_read_alike(rt.alloc(), &mut reader, b"[1,{\"b\":2,\"a\":[3]}]")?);
         assert!(rt; reader.read(b"[1,{\"b\":2")?.is_none());
     }
-    Ok(())
-}
-
-/// Whether a line is read flat so many times.
-fn reads_again(reader: &mut FlatReader, line: &[u8], times: u32) -> Result<bool, Fail> {
-    for _ in 0..times {
-        if reader.read(line)?.is_none() {
-            return Ok(false);
-        }
-    }
-    Ok(true)
-}
-
-#[test]
-fn one_line_many_times(rt: HostRuntime) -> Result<(), Fail> {
-    let mut reader = FlatReader::new(rt.alloc());
-    let line = b"{\"id\":1234567890123456789,\"name\":\"x\\ty\",\"tags\":[\"p\",{\"q\":null}]}";
-    assert!(rt; reads_again(&mut reader, line, 10_000)?);
     Ok(())
 }

@@ -46,3 +46,25 @@ fn a_flat_document(rt: HostRuntime) {
     let turns = (turn(&mut reader, rt.alloc()), turn(&mut reader, rt.alloc()));
     assert!(rt; matches!(turns, (Some(true), Some(true) | None) | (None, Some(true))));
 }
+
+/// Whether a line is read flat 1,000 times, where one reading may be refused memory.
+fn reads_again(reader: &mut FlatReader, line: &[u8]) -> bool {
+    let mut was_refused = false;
+    for _ in 0..1_000 {
+        match reader.read(line) {
+            Ok(Some(_)) => {}
+            Err(_) if !was_refused => was_refused = true,
+            _ => return false,
+        }
+    }
+    true
+}
+
+/// `scripts/sweep` says how often memory may grow here: for the first of each line alone. The second line has
+/// no room where the nodes of the first lay.
+#[test]
+fn many_lines(rt: HostRuntime) {
+    let mut reader = FlatReader::new(rt.alloc());
+    let line = b"{\"id\":1234567890123456789,\"name\":\"x\\ty\",\"tags\":[\"p\",{\"q\":null}]}";
+    assert!(rt; reads_again(&mut reader, b"[1]") && reads_again(&mut reader, line));
+}

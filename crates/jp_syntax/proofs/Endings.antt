@@ -8,7 +8,6 @@ use Rattle.jp_tree.specs.Tree.{Text}
 use Rattle.jp_tree.specs.Tree as tree
 use Rattle.jp_tree.specs.Characters.{is_blank, is_digit, is_positive_digit, is_name_character}
 use Rattle.jp_tree.specs.Parts.{Each, Star, none, more, Behind, behind}
-use Rattle.jp_tree.specs.Numbers.{digits}
 use Rattle.jp_tree.specs.Spelling as sp
 use Rattle.jp_tokens.proofs.Following.{never_at}
 

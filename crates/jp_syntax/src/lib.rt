@@ -2,6 +2,7 @@
 #![tactic(auto)]
 
 mod arguments;
+mod connective;
 mod examples;
 pub mod laws;
 mod reader;

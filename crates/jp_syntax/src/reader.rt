@@ -15,15 +15,16 @@ ghost use Rattle.jp_tokens.specs.Depth.{bracket_depth, max_depth};
 ghost use Rattle.std.specs.Str.{chars};
 
 use crate::arguments::{compared_argument, opened_arguments, standing_argument};
+use crate::connective::Connective;
 use crate::sides::{compared_at, tested_at};
 use jp_tokens::{
     begins_literal, calls, first_character, function_name_at, inside_brackets, is_end, is_quote,
     is_too_deep, literal_at, mark_at, named_at, numbers_at, operator_at, skip, string_at,
 };
 use jp_tree::made::{
-    call_from, call_side, filter_selector, joined_all, joined_any, literal_argument, literal_side,
-    name_selector, negation, one_argument, one_logical, one_selector, push_argument, push_logical,
-    push_segment, push_selector, query_from, query_side, segment_from, wildcard,
+    call_from, call_side, filter_selector, literal_argument, literal_side, name_selector, negation,
+    one_argument, one_logical, one_selector, push_argument, push_logical, push_segment,
+    push_selector, query_from, query_side, segment_from, wildcard,
 };
 use jp_tree::{
     Argument, Call, Comparable, Logical, Operator, Query, QueryFault, Segment, Selector, Start,
@@ -384,41 +385,61 @@ fn basic_at(alloc: Global, left: usize, text: &str) -> Result<(Logical, &str), Q
     }
 }
 
+/// A part of a logical expression whose parts this connective joins.
+#[cycle(reader)]
+fn part_at(
+    alloc: Global,
+    left: usize,
+    connective: Connective,
+    text: &str,
+) -> Result<(Logical, &str), QueryFault>
+    ensures { GivesFront logical_of result
+        (reading.part_at (reading.logical_at left) connective (chars text.now)) }
+{
+    match connective {
+        Connective::And => basic_at(alloc, left, text),
+        Connective::Or => and_at(alloc, left, text),
+    }
+}
+
 /// Another part, or the end, before the blanks.
 #[cycle(reader)]
 #[tactic(auto, unfolding(crate::specs::inner::Reading::next_part))]
-fn next_basic<'a>(
+fn next_part<'a>(
     alloc: Global,
     left: usize,
+    connective: Connective,
     whole: &'a str,
     text: &'a str,
 ) -> Result<(Option<Logical>, &'a str), QueryFault>
-    ensures { GivesFront (option_map logical_of) result
-        (reading.next_basic (reading.logical_at left) (chars whole.now) (chars text.now)) }
+    ensures { GivesFront (option_map logical_of) result (reading.next_part (reading.mark_of connective)
+        (reading.part_at (reading.logical_at left) connective) (chars whole.now) (chars text.now)) }
 {
+    let mark = connective.mark();
     match first_character(text) {
-        Some(('&', more)) => {
-            let (logical, rest) = basic_at(alloc, left, skip(mark_at('&', more)?))?;
+        Some((c, more)) if c == mark => {
+            let (logical, rest) = part_at(alloc, left, connective, skip(mark_at(mark, more)?))?;
             Ok((Some(logical), rest))
         }
         _ => Ok((None, whole)),
     }
 }
 
-/// The parts of `&&` behind those that are found.
+/// The parts behind those that are found.
 #[cycle(reader)]
-fn basics_from(
+fn parts_from(
     alloc: Global,
     left: usize,
+    connective: Connective,
     mut found: Vec<Logical>,
     text: &str,
 ) -> Result<(Vec<Logical>, &str), QueryFault>
-    ensures { GivesFront (λ xs. logicals_of xs.items) result
-        (reading.basics_behind (reading.logical_at left) (logicals_of found.items) (chars text.now)) }
+    ensures { GivesFront (λ xs. logicals_of xs.items) result (reading.parts_behind connective
+        (reading.part_at (reading.logical_at left) connective) (logicals_of found.items) (chars text.now)) }
 {
     let mut rest = text;
     loop {
-        let (next, after) = next_basic(alloc, left, rest, skip(rest))?;
+        let (next, after) = next_part(alloc, left, connective, rest, skip(rest))?;
         rest = after;
         match next {
             None => return Ok((found, rest)),
@@ -427,19 +448,20 @@ fn basics_from(
     }
 }
 
-/// Behind the first part of `&&`.
+/// Behind the first part.
 #[cycle(reader)]
-fn and_behind(
+fn joined_behind(
     alloc: Global,
     left: usize,
+    connective: Connective,
     first: Logical,
     text: &str,
 ) -> Result<(Logical, &str), QueryFault>
-    ensures { GivesFront logical_of result
-        (reading.and_behind (reading.logical_at left) (logical_of first) (chars text.now)) }
+    ensures { GivesFront logical_of result (reading.joined_behind connective
+        (reading.part_at (reading.logical_at left) connective) (logical_of first) (chars text.now)) }
 {
-    let (parts, rest) = basics_from(alloc, left, one_logical(alloc, first)?, text)?;
-    Ok((joined_all(parts), rest))
+    let (parts, rest) = parts_from(alloc, left, connective, one_logical(alloc, first)?, text)?;
+    Ok((connective.join(parts), rest))
 }
 
 /// Basic expressions with `&&` between.
@@ -449,65 +471,7 @@ fn and_at(alloc: Global, left: usize, text: &str) -> Result<(Logical, &str), Que
     ensures { GivesFront logical_of result (reading.and_at (reading.logical_at left) (chars text.now)) }
 {
     let (first, rest) = basic_at(alloc, left, text)?;
-    and_behind(alloc, left, first, rest)
-}
-
-/// Another part, or the end, before the blanks.
-#[cycle(reader)]
-#[tactic(auto, unfolding(crate::specs::inner::Reading::next_part))]
-fn next_and<'a>(
-    alloc: Global,
-    left: usize,
-    whole: &'a str,
-    text: &'a str,
-) -> Result<(Option<Logical>, &'a str), QueryFault>
-    ensures { GivesFront (option_map logical_of) result
-        (reading.next_and (reading.logical_at left) (chars whole.now) (chars text.now)) }
-{
-    match first_character(text) {
-        Some(('|', more)) => {
-            let (logical, rest) = and_at(alloc, left, skip(mark_at('|', more)?))?;
-            Ok((Some(logical), rest))
-        }
-        _ => Ok((None, whole)),
-    }
-}
-
-/// The parts of `||` behind those that are found.
-#[cycle(reader)]
-fn ands_from(
-    alloc: Global,
-    left: usize,
-    mut found: Vec<Logical>,
-    text: &str,
-) -> Result<(Vec<Logical>, &str), QueryFault>
-    ensures { GivesFront (λ xs. logicals_of xs.items) result
-        (reading.ands_behind (reading.logical_at left) (logicals_of found.items) (chars text.now)) }
-{
-    let mut rest = text;
-    loop {
-        let (next, after) = next_and(alloc, left, rest, skip(rest))?;
-        rest = after;
-        match next {
-            None => return Ok((found, rest)),
-            Some(item) => push_logical(&mut found, item)?,
-        }
-    }
-}
-
-/// Behind the first part of `||`.
-#[cycle(reader)]
-fn or_behind(
-    alloc: Global,
-    left: usize,
-    first: Logical,
-    text: &str,
-) -> Result<(Logical, &str), QueryFault>
-    ensures { GivesFront logical_of result
-        (reading.or_behind (reading.logical_at left) (logical_of first) (chars text.now)) }
-{
-    let (parts, rest) = ands_from(alloc, left, one_logical(alloc, first)?, text)?;
-    Ok((joined_any(parts), rest))
+    joined_behind(alloc, left, Connective::And, first, rest)
 }
 
 /// A logical expression in which others stand inside each other at most `left` deep.
@@ -520,7 +484,7 @@ fn logical_at(alloc: Global, left: usize, text: &str) -> Result<(Logical, &str),
         return Err(QueryFault::Syntax);
     }
     let (first, rest) = and_at(alloc, left - 1, text)?;
-    or_behind(alloc, left - 1, first, rest)
+    joined_behind(alloc, left - 1, Connective::Or, first, rest)
 }
 
 /// A logical expression that begins with a comparison, behind its left side and its operator.
@@ -540,8 +504,8 @@ fn compared_behind(
         return Err(QueryFault::Syntax);
     }
     let (first, rest) = right_at(alloc, left - 1, side, op, text)?;
-    let (first, rest) = and_behind(alloc, left - 1, first, rest)?;
-    or_behind(alloc, left - 1, first, rest)
+    let (first, rest) = joined_behind(alloc, left - 1, Connective::And, first, rest)?;
+    joined_behind(alloc, left - 1, Connective::Or, first, rest)
 }
 
 /// The whole text.

@@ -1,6 +1,6 @@
 -- What the quick reading of a line lets through: a working file, which nobody has to believe.
-use Rattle.std.specs.Prelude.{ℕ, suc, ◌-◌, ◌^◌, Bool, true, false, not, ◌&&◌, ◌||◌, ◌==◌, nat_lt, nat_le}
-use Rattle.std.specs.Prelude.{List, [], ◌∷◌}
+use Rattle.std.specs.Prelude.{ℕ, suc, ◌+◌, ◌-◌, ◌^◌, Bool, true, false, not, ◌&&◌, ◌||◌, ◌==◌, nat_lt, nat_le}
+use Rattle.std.specs.Prelude.{List, [], ◌∷◌, Option, Some, None}
 use Rattle.std.specs.Prelude.{length, drop, slice_index, if◌then◌else◌}
 use Rattle.std.specs.Char.{is_ascii_digit}
 use Rattle.std.specs.List.{list_all}
@@ -8,6 +8,9 @@ use Rattle.std.specs.Str.{is_utf8}
 use Rattle.std.specs.Str.Parse.{digits_value}
 use Rattle.json.specs.Token.{Token}
 use Rattle.json.specs.Json as text
+use Rattle.json.specs.Tree.{json_tokens}
+use Rattle.serde_json.specs.Read.{max_depth}
+use Rattle.jp_doc.specs.Reading.{max_items}
 
 -- some digits, of which the first is no zero before others
 abbrev pub are_digits : List ℕ → Bool
@@ -59,3 +62,15 @@ abbrev mutual
   pub members_are_plain : text.Members → Bool
   members_are_plain text.no_members = true
   members_are_plain (text.member k j ms) = is_utf8 k && (is_plain j && members_are_plain ms)
+
+-- the greatest number of tokens: those of an array of the greatest number of items, and its brackets
+abbrev pub max_tokens : ℕ
+max_tokens = max_items + 2
+
+abbrev pub is_small : Option (text.Json × List Token) → Bool
+is_small None = false
+is_small (Some p) = nat_le (length (json_tokens p.0)) max_tokens && is_plain p.0
+
+-- a value begins here, which is plain and has few enough tokens
+abbrev pub is_flat : List Token → Bool
+is_flat ts = is_small (text.value max_depth ts)

@@ -12,6 +12,8 @@ use Rattle.jp_tree.specs.Tree as tree
 use Rattle.jp_tree.specs.Characters.{is_quote}
 use Rattle.jp_tree.specs.Singular.{is_singular}
 use Rattle.jp_tree.specs.Spelling.{joined, begins_with}
+use Rattle.jp_syntax.specs.declared.connective.Connective.{Connective}
+use Rattle.jp_syntax.specs.declared.connective.Connective.TheVariants.{And, Or}
 use Rattle.jp_tokens.specs.Reading.{Outcome, Reader, Turn, ◌>>=◌, skip, mark_at, all_of, function_name_at}
 use Rattle.jp_tokens.specs.Reading.{string_at, literal_at, numbers_at, operator_at, calls, named_at}
 
@@ -70,6 +72,25 @@ next_part mark part whole [] = Some (None, whole)
 next_part mark part whole (c ∷ t) =
     if c == mark then (mark_at mark t >>= λ u. part (skip u) >>= λ r. Some (Some r.0, r.1))
     else Some (None, whole)
+
+-- the character of which a connective is two, and what it makes of its parts
+abbrev pub mark_of : Connective → ℕ
+mark_of And = 38
+mark_of Or = 124
+
+abbrev pub whole_of : Connective → tree.Logicals → tree.Logical
+whole_of And = tree.all
+whole_of Or = tree.any
+
+-- the parts behind those that are found
+abbrev pub parts_behind : Connective → Reader tree.Logical → List tree.Logical → Reader (List tree.Logical)
+parts_behind by part found t = all_of (λ u. next_part (mark_of by) part u (skip u)) found t
+
+-- behind the first part
+abbrev pub joined_behind : Connective → Reader tree.Logical → tree.Logical → Reader tree.Logical
+joined_behind by part first t =
+    parts_behind by part (first ∷ []) t >>= λ parts.
+    Some (joined (whole_of by) parts.0, parts.1)
 
 -- a side by itself
 unfoldable pub tested_at : tree.Comparable → Reader tree.Logical
@@ -193,37 +214,24 @@ module _ (inner : Reader tree.Logical) where
       else if c == 40 then grouped_at t
       else (operand_at (c ∷ t) >>= λ r. compared_at r.0 r.1 (operator_at (skip r.1)))
 
-  abbrev pub next_basic : Text → Text → Turn tree.Logical
-  next_basic whole t = next_part 38 basic_at whole t
-
-  -- the parts of `&&` behind those that are found
-  abbrev pub basics_behind : List tree.Logical → Reader (List tree.Logical)
-  basics_behind found t = all_of (λ u. next_basic u (skip u)) found t
-
-  -- behind the first part
+  -- behind the first part of `&&`
   abbrev pub and_behind : tree.Logical → Reader tree.Logical
-  and_behind first t =
-      basics_behind (first ∷ []) t >>= λ parts.
-      Some (joined tree.all parts.0, parts.1)
+  and_behind first t = joined_behind And basic_at first t
 
   unfoldable pub and_at : Reader tree.Logical
   and_at t = basic_at t >>= λ first. and_behind first.0 first.1
 
-  abbrev pub next_and : Text → Text → Turn tree.Logical
-  next_and whole t = next_part 124 and_at whole t
-
-  -- the parts of `||` behind those that are found
-  abbrev pub ands_behind : List tree.Logical → Reader (List tree.Logical)
-  ands_behind found t = all_of (λ u. next_and u (skip u)) found t
-
-  -- behind the first part
+  -- behind the first part of `||`
   abbrev pub or_behind : tree.Logical → Reader tree.Logical
-  or_behind first t =
-      ands_behind (first ∷ []) t >>= λ parts.
-      Some (joined tree.any parts.0, parts.1)
+  or_behind first t = joined_behind Or and_at first t
 
   unfoldable pub or_at : Reader tree.Logical
   or_at t = and_at t >>= λ first. or_behind first.0 first.1
+
+  -- what a connective stands between
+  abbrev pub part_at : Connective → Reader tree.Logical
+  part_at And = basic_at
+  part_at Or = and_at
 
 -- a logical expression in which logical expressions stand inside each other at most so many deep
 unfoldable pub logical_at : ℕ → Reader tree.Logical

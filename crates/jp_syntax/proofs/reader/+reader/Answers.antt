@@ -1,19 +1,20 @@
-use Rattle.std.proofs.Common.{ap, sym, ◌∙◌, refl, rules}
+use Rattle.std.proofs.Common.{ℕ, ap, sym, ◌∙◌, refl, rules}
 use Rattle.std.specs.Prelude.{option_map}
 use Rattle.std.specs.Str.{chars}
 use Rattle.std.proofs.lemmas.Result.{err_from_is_err_and}
-use Rattle.jp_tokens.specs.Reading.{skip, literal_at, operator_at, all_of}
-use Rattle.jp_syntax.specs.inner.Reading.{logical_at, next_and, next_basic, segment_behind, next_item}
+use Rattle.jp_tokens.specs.Reading.{Turn, skip, literal_at, operator_at, all_of}
+use Rattle.jp_syntax.specs.declared.connective.Connective.{Connective}
+use Rattle.jp_syntax.specs.inner.Reading.{logical_at, mark_of, part_at, next_part, segment_behind, next_item}
 use Rattle.jp_syntax.specs.inner.Reading.{selector_at}
 use Rattle.jp_syntax.specs.inner.Reading.{argument_at, compared_behind}
 use Rattle.jp_tree.specs.Tree as tree
+use Rattle.jp_tree.specs.Tree.{Text}
 use Rattle.jp_tree.specs.View.{literal_of}
 use Rattle.jp_tree.specs.PartViews.{selectors_of, segments_of, arguments_of, logicals_of, selector_of}
 use Rattle.jp_tree.specs.PartViews.{segment_of, argument_of, logical_of}
 use Rattle.jp_tokens.proofs.Turns.{still_fails, turn_fails, turn_ends, turn_goes, turn_shortens}
 use Rattle.jp_syntax.proofs.LiteralOnce.{argument_other, argument_alone, argument_none, argument_compared}
-use Rattle.jp_syntax.proofs.Progress.{selectors_get_on, arguments_get_on, segments_get_on, basics_get_on}
-use Rattle.jp_syntax.proofs.Progress.{ands_get_on}
+use Rattle.jp_syntax.proofs.Progress.{selectors_get_on, arguments_get_on, segments_get_on, parts_get_on}
 use Rattle.jp_syntax.proofs.reader.+reader.Goals as goal
 
 pub selectors_from-returns-in_err-next : goal.selectors_from-returns-in_err-next
@@ -120,74 +121,47 @@ segments_from-loop-found-preserved t c = (
       (ap (λ o. option_map segment_of o) c.in-Some.is)),
 )
 
-pub basics_from-returns-in_err-next : goal.basics_from-returns-in_err-next
-basics_from-returns-in_err-next t c =
+-- a turn of the loop over parts
+abbrev part_turn : Connective → ℕ → Text → Turn tree.Logical
+part_turn by n u = next_part (mark_of by) (part_at (logical_at n) by) u (skip u)
+
+pub parts_from-returns-in_err-next : goal.parts_from-returns-in_err-next
+parts_from-returns-in_err-next t c =
     let p = err_from_is_err_and c.from_residual.result c.from_residual.ensures.1 in
-    rw (p.1, p.2) (turn_fails (λ u. next_basic (logical_at c.args.left) u (skip u))
-    (basics_get_on c.args.left) (all_of (λ u. next_basic (logical_at c.args.left) u (skip u))
-    (logicals_of c.args.found.items) (chars c.args.text.now)) (logicals_of c.loop-found.found.items)
-    (chars c.loop-found.rest.now) c.loop-found.invariant.1 c.in_err-next.field-0.0
-    (rw (← c.skip.ensures) c.in_err-next.ensures))
-
-pub basics_from-returns-in-None : goal.basics_from-returns-in-None
-basics_from-returns-in-None t c = turn_ends (λ u. next_basic (logical_at c.args.left) u (skip u))
-    (basics_get_on c.args.left) (all_of (λ u. next_basic (logical_at c.args.left) u (skip u))
-    (logicals_of c.args.found.items) (chars c.args.text.now)) (logicals_of c.loop-found.found.items)
-    (chars c.loop-found.rest.now) c.loop-found.invariant.1 _ (chars c.in_ok-next.after.now)
-    (rw (← c.skip.ensures) c.in_ok-next.ensures) (ap (λ o. option_map logical_of o) c.in-None.is)
-
-pub basics_from-loop-found-smaller : goal.basics_from-loop-found-smaller
-basics_from-loop-found-smaller t c = turn_shortens (λ u. next_basic (logical_at c.args.left) u (skip u))
-    (basics_get_on c.args.left) (chars c.loop-found.rest.now) _ _ (chars c.in_ok-next.after.now)
-    (rw (← c.skip.ensures) c.in_ok-next.ensures) (ap (λ o. option_map logical_of o) c.in-Some.is)
-
-pub basics_from-loop-found-preserved : goal.basics_from-loop-found-preserved
-basics_from-loop-found-preserved t c = (
-  search rules,
-  rw c.in_ok-push_logical-in-Some.ensures
-      (turn_goes (λ u. next_basic (logical_at c.args.left) u (skip u)) (basics_get_on c.args.left)
-      (all_of (λ u. next_basic (logical_at c.args.left) u (skip u)) (logicals_of c.args.found.items)
-      (chars c.args.text.now)) (logicals_of c.loop-found.found.items) (chars c.loop-found.rest.now)
-      c.loop-found.invariant.1 _ _ (chars c.in_ok-next.after.now) (rw (← c.skip.ensures) c.in_ok-next.ensures)
-      (ap (λ o. option_map logical_of o) c.in-Some.is)),
-)
-
-pub ands_from-returns-in_err-next : goal.ands_from-returns-in_err-next
-ands_from-returns-in_err-next t c =
-    let p = err_from_is_err_and c.from_residual.result c.from_residual.ensures.1 in
-    rw (p.1, p.2) (turn_fails (λ u. next_and (logical_at c.args.left) u (skip u)) (ands_get_on c.args.left)
-    (all_of (λ u. next_and (logical_at c.args.left) u (skip u)) (logicals_of c.args.found.items)
+    rw (p.1, p.2) (turn_fails (part_turn c.args.connective c.args.left)
+    (parts_get_on c.args.left c.args.connective)
+    (all_of (part_turn c.args.connective c.args.left) (logicals_of c.args.found.items)
     (chars c.args.text.now)) (logicals_of c.loop-found.found.items) (chars c.loop-found.rest.now)
     c.loop-found.invariant.1 c.in_err-next.field-0.0 (rw (← c.skip.ensures) c.in_err-next.ensures))
 
-pub ands_from-returns-in-None : goal.ands_from-returns-in-None
-ands_from-returns-in-None t c = turn_ends (λ u. next_and (logical_at c.args.left) u (skip u))
-    (ands_get_on c.args.left) (all_of (λ u. next_and (logical_at c.args.left) u (skip u))
-    (logicals_of c.args.found.items) (chars c.args.text.now)) (logicals_of c.loop-found.found.items)
-    (chars c.loop-found.rest.now) c.loop-found.invariant.1 _ (chars c.in_ok-next.after.now)
+pub parts_from-returns-in-None : goal.parts_from-returns-in-None
+parts_from-returns-in-None t c = turn_ends (part_turn c.args.connective c.args.left)
+    (parts_get_on c.args.left c.args.connective)
+    (all_of (part_turn c.args.connective c.args.left) (logicals_of c.args.found.items)
+    (chars c.args.text.now)) (logicals_of c.loop-found.found.items) (chars c.loop-found.rest.now)
+    c.loop-found.invariant.1 _ (chars c.in_ok-next.after.now)
     (rw (← c.skip.ensures) c.in_ok-next.ensures) (ap (λ o. option_map logical_of o) c.in-None.is)
 
-pub ands_from-loop-found-smaller : goal.ands_from-loop-found-smaller
-ands_from-loop-found-smaller t c = turn_shortens (λ u. next_and (logical_at c.args.left) u (skip u))
-    (ands_get_on c.args.left) (chars c.loop-found.rest.now) _ _ (chars c.in_ok-next.after.now)
+pub parts_from-loop-found-smaller : goal.parts_from-loop-found-smaller
+parts_from-loop-found-smaller t c = turn_shortens (part_turn c.args.connective c.args.left)
+    (parts_get_on c.args.left c.args.connective) (chars c.loop-found.rest.now) _ _
+    (chars c.in_ok-next.after.now)
     (rw (← c.skip.ensures) c.in_ok-next.ensures) (ap (λ o. option_map logical_of o) c.in-Some.is)
 
-pub ands_from-loop-found-preserved : goal.ands_from-loop-found-preserved
-ands_from-loop-found-preserved t c = (
+pub parts_from-loop-found-preserved : goal.parts_from-loop-found-preserved
+parts_from-loop-found-preserved t c = (
   search rules,
   rw c.in_ok-push_logical-in-Some.ensures
-      (turn_goes (λ u. next_and (logical_at c.args.left) u (skip u)) (ands_get_on c.args.left)
-      (all_of (λ u. next_and (logical_at c.args.left) u (skip u)) (logicals_of c.args.found.items)
+      (turn_goes (part_turn c.args.connective c.args.left) (parts_get_on c.args.left c.args.connective)
+      (all_of (part_turn c.args.connective c.args.left) (logicals_of c.args.found.items)
       (chars c.args.text.now)) (logicals_of c.loop-found.found.items) (chars c.loop-found.rest.now)
       c.loop-found.invariant.1 _ _ (chars c.in_ok-next.after.now) (rw (← c.skip.ensures) c.in_ok-next.ensures)
       (ap (λ o. option_map logical_of o) c.in-Some.is)),
 )
 
-pub and_behind-returns : goal.and_behind-returns
-and_behind-returns t c = rw (← c.in_ok-one_logical.ensures, c.in_ok-parts.ensures, c.joined_all.ensures) refl
-
-pub or_behind-returns : goal.or_behind-returns
-or_behind-returns t c = rw (← c.in_ok-one_logical.ensures, c.in_ok-parts.ensures, c.joined_any.ensures) refl
+pub joined_behind-returns : goal.joined_behind-returns
+joined_behind-returns t c =
+    rw (← c.in_ok-one_logical.ensures, c.in_ok-parts.ensures, c.join.ensures) refl
 
 pub argument_at-returns-in_err-logical : goal.argument_at-returns-in_err-logical
 argument_at-returns-in_err-logical t c =

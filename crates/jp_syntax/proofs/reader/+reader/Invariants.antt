@@ -1,34 +1,35 @@
-use Rattle.std.proofs.Common.{◌≡◌, ◌+◌, ◌*◌, length}
+use Rattle.std.proofs.Common.{◌≡◌, ℕ, ◌+◌, ◌*◌, length}
 use Rattle.std.specs.Str.{chars}
 use denote.Text.{Utf8}
 use denote.Shadow.{shadow}
 use Rattle.jp_tokens.specs.Reading.{skip, all_of}
-use Rattle.jp_syntax.specs.inner.Reading.{logical_at, next_and, next_basic, segment_behind, next_item}
+use Rattle.jp_syntax.specs.declared.connective.Connective.{Connective}
+use Rattle.jp_syntax.specs.declared.connective.Connective.TheVariants.{And, Or}
+use Rattle.jp_syntax.specs.inner.Reading.{logical_at, part_at, parts_behind, segment_behind, next_item}
 use Rattle.jp_syntax.specs.inner.Reading.{selector_at}
 use Rattle.jp_syntax.specs.inner.Reading.{argument_at}
 use Rattle.jp_tree.specs.PartViews.{selectors_of, segments_of, arguments_of, logicals_of}
 use Rattle.jp_syntax.proofs.reader.+reader.Given as goal
 
-abbrev pub decreases-or_behind : goal.decreases-or_behind
-decreases-or_behind l = 50 * l.left + 40
+-- what stands between parts that `&&` joins goes above those
+abbrev above : Connective → ℕ
+above And = 0
+above Or = 5
 
-abbrev pub decreases-ands_from : goal.decreases-ands_from
-decreases-ands_from l = 50 * l.left + 39
+abbrev pub decreases-joined_behind : goal.decreases-joined_behind
+decreases-joined_behind l = 50 * l.left + 37 + above l.connective
 
-abbrev pub decreases-next_and : goal.decreases-next_and
-decreases-next_and l = 50 * l.left + 38
+abbrev pub decreases-parts_from : goal.decreases-parts_from
+decreases-parts_from l = 50 * l.left + 36 + above l.connective
+
+abbrev pub decreases-next_part : goal.decreases-next_part
+decreases-next_part l = 50 * l.left + 35 + above l.connective
+
+abbrev pub decreases-part_at : goal.decreases-part_at
+decreases-part_at l = 50 * l.left + 34 + above l.connective
 
 abbrev pub decreases-and_at : goal.decreases-and_at
-decreases-and_at l = 50 * l.left + 37
-
-abbrev pub decreases-and_behind : goal.decreases-and_behind
-decreases-and_behind l = 50 * l.left + 36
-
-abbrev pub decreases-basics_from : goal.decreases-basics_from
-decreases-basics_from l = 50 * l.left + 35
-
-abbrev pub decreases-next_basic : goal.decreases-next_basic
-decreases-next_basic l = 50 * l.left + 34
+decreases-and_at l = 50 * l.left + 38
 
 abbrev pub decreases-basic_at : goal.decreases-basic_at
 decreases-basic_at l = 50 * l.left + 33
@@ -111,16 +112,11 @@ invariant-segments_from-loop-found l = shadow (Utf8 l.rest)
     (chars l.fn.text) ≡ all_of (λ u. segment_behind (logical_at l.left) u (skip u))
     (segments_of l.found.items) (chars l.rest))
 
-abbrev pub invariant-basics_from-loop-found : goal.invariant-basics_from-loop-found
-invariant-basics_from-loop-found l = shadow (Utf8 l.rest)
-    × (all_of (λ u. next_basic (logical_at l.left) u (skip u)) (logicals_of l.fn.found.items)
-    (chars l.fn.text) ≡ all_of (λ u. next_basic (logical_at l.left) u (skip u)) (logicals_of l.found.items)
-    (chars l.rest))
-
-abbrev pub invariant-ands_from-loop-found : goal.invariant-ands_from-loop-found
-invariant-ands_from-loop-found l = shadow (Utf8 l.rest)
-    × (all_of (λ u. next_and (logical_at l.left) u (skip u)) (logicals_of l.fn.found.items) (chars l.fn.text)
-    ≡ all_of (λ u. next_and (logical_at l.left) u (skip u)) (logicals_of l.found.items) (chars l.rest))
+abbrev pub invariant-parts_from-loop-found : goal.invariant-parts_from-loop-found
+invariant-parts_from-loop-found l = shadow (Utf8 l.rest)
+    × (parts_behind l.connective (part_at (logical_at l.left) l.connective) (logicals_of l.fn.found.items)
+    (chars l.fn.text) ≡ parts_behind l.connective (part_at (logical_at l.left) l.connective)
+    (logicals_of l.found.items) (chars l.rest))
 
 abbrev pub decreases-selectors_from-loop-found : goal.decreases-selectors_from-loop-found
 decreases-selectors_from-loop-found l = length (chars l.rest)
@@ -131,8 +127,5 @@ decreases-arguments_from-loop-found l = length (chars l.rest)
 abbrev pub decreases-segments_from-loop-found : goal.decreases-segments_from-loop-found
 decreases-segments_from-loop-found l = length (chars l.rest)
 
-abbrev pub decreases-basics_from-loop-found : goal.decreases-basics_from-loop-found
-decreases-basics_from-loop-found l = length (chars l.rest)
-
-abbrev pub decreases-ands_from-loop-found : goal.decreases-ands_from-loop-found
-decreases-ands_from-loop-found l = length (chars l.rest)
+abbrev pub decreases-parts_from-loop-found : goal.decreases-parts_from-loop-found
+decreases-parts_from-loop-found l = length (chars l.rest)

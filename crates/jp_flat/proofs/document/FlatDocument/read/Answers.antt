@@ -1,6 +1,6 @@
 use Rattle.std.proofs.Common.{◌≤◌, length, arith}
 use Rattle.jp_doc.specs.Reading.{max_line}
-use Rattle.jp_flat.specs.Flat.{max_tokens}
+use Rattle.jp_flat.specs.inner.Plain.{max_tokens}
 use Rattle.jp_flat.proofs.Reading.{read_tape}
 use Rattle.jp_flat.proofs.document.FlatDocument.read.Goals as goal
 

@@ -5,7 +5,8 @@ use Rattle.json.specs.Tape.{node_token}
 use Rattle.json.specs.Token.{begin_object}
 use Rattle.json.specs.declared.tape.Node.{Node}
 use Rattle.json.specs.declared.tape.Node.TheVariants.{Object}
-use Rattle.jp_flat.specs.Flat.{is_flat, value_at}
+use Rattle.jp_flat.specs.Flat.{value_at}
+use Rattle.jp_flat.specs.inner.Plain.{is_flat}
 use Rattle.jp_flat.specs.Value.{tokens_of}
 use Rattle.jp_flat.proofs.Shapes.{within, node_tells, no_object}
 use Rattle.jp_flat.proofs.value.FlatValue.members.Goals as goal
