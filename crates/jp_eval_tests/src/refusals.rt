@@ -5,7 +5,10 @@
 
 use jp_check::plan;
 use jp_doc::{Document, Location, Step};
-use jp_eval::{OpenFork, evaluate, evaluate_split};
+use jp_eval::{Evaluator, OpenFork, evaluate, evaluate_split};
+use jp_flat::FlatReader;
+use jp_nodes::Locations;
+use jp_part::Part;
 use jp_syntax::QueryFault;
 use std::alloc::Global;
 use std::thread::Threads;
@@ -62,5 +65,73 @@ fn an_evaluation_by_halves(rt: HostRuntime) {
         evaluated_by_halves(&rt, rt.alloc()),
         evaluated_by_halves(&rt, rt.alloc()),
     );
+    assert!(rt; matches!(turns, (Some(true), Some(true) | None) | (None, Some(true))));
+}
+
+/// Whether the query selects so many nodes in the line, which is read flat.
+fn selected_flat(alloc: Global, query: &str, line: &[u8], wanted: usize) -> Option<bool> {
+    let plan = match plan(alloc, query) {
+        Ok(plan) => plan,
+        Err(QueryFault::Memory) => return None,
+        Err(_) => return Some(false),
+    };
+    let mut reader = FlatReader::new(alloc);
+    let Some(document) = reader.read(line).ok()? else {
+        return Some(false);
+    };
+    let none = Locations {
+        locations: Vec::new(alloc),
+    };
+    let mut evaluator = Evaluator::new(alloc, &plan);
+    let found = evaluator
+        .visit_part(Part::root_of_flat(&document), none)
+        .ok()?;
+    Some(found.locations.len() == wanted)
+}
+
+/// Both turns of a query over a line that is read flat.
+fn flat_turns(
+    alloc: Global,
+    query: &str,
+    line: &[u8],
+    wanted: usize,
+) -> (Option<bool>, Option<bool>) {
+    (
+        selected_flat(alloc, query, line, wanted),
+        selected_flat(alloc, query, line, wanted),
+    )
+}
+
+#[test]
+fn a_flat_equality(rt: HostRuntime) {
+    let line =
+        b"{\"big\":{\"b\":1,\"a\":[{\"d\":2,\"c\":3}]},\"list\":[{\"a\":[{\"c\":3,\"d\":2}],\"b\":1},{}]}";
+    let turns = flat_turns(rt.alloc(), "$.list[?@==$.big]", line, 1);
+    assert!(rt; matches!(turns, (Some(true), Some(true) | None) | (None, Some(true))));
+}
+
+#[test]
+fn a_flat_length(rt: HostRuntime) {
+    let line = b"{\"big\":{\"b\":1,\"a\":2},\"list\":[{\"d\":1,\"c\":2},{\"x\":1}]}";
+    let turns = flat_turns(rt.alloc(), "$.list[?length(@)==length($.big)]", line, 1);
+    assert!(rt; matches!(turns, (Some(true), Some(true) | None) | (None, Some(true))));
+}
+
+#[test]
+fn a_flat_slice_up(rt: HostRuntime) {
+    let turns = flat_turns(rt.alloc(), "$[1::2]", b"[0,1,2,3,4]", 2);
+    assert!(rt; matches!(turns, (Some(true), Some(true) | None) | (None, Some(true))));
+}
+
+#[test]
+fn a_flat_slice_down(rt: HostRuntime) {
+    let turns = flat_turns(rt.alloc(), "$[::-2]", b"[0,1,2,3,4]", 3);
+    assert!(rt; matches!(turns, (Some(true), Some(true) | None) | (None, Some(true))));
+}
+
+#[test]
+fn a_flat_descent(rt: HostRuntime) {
+    let line = b"{\"a\":{\"b\":{\"a\":1}},\"c\":[{\"a\":2}]}";
+    let turns = flat_turns(rt.alloc(), "$..a", line, 3);
     assert!(rt; matches!(turns, (Some(true), Some(true) | None) | (None, Some(true))));
 }
