@@ -13,9 +13,13 @@ pub record Meaning : Type 0 where
   pub pattern : Pattern
   pub is_sized : Bool
 
+-- the greatest number of 32 bits, which stands for each size that is as great or greater
+abbrev pub greatest_size : ℕ
+greatest_size = 4_294_967_295
+
 -- the number is the unrolled size, or the greatest number where that is more (RFC 9485, 8)
 abbrev pub is_size : ℕ → Pattern → Bool
-is_size n p = nat_eq n (min (size p) 4_294_967_295)
+is_size n p = nat_eq n (min (size p) greatest_size)
 
 -- a branch of these pieces (RFC 9485, 3: branch)
 abbrev pub in_turn_of : List Meaning → Pattern

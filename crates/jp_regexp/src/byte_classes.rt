@@ -24,7 +24,7 @@ pub struct ByteClasses {
 /// # Errors
 ///
 /// Memory ran out.
-pub fn make_byte_classes(alloc: Global, root: &Expression) -> Result<ByteClasses, AllocError>
+pub(crate) fn make_byte_classes(alloc: Global, root: &Expression) -> Result<ByteClasses, AllocError>
     ensures { IfOk result (λ classes. AreByteClasses (unrolled_in root.now) classes) }
 {
     let mut first = Vec::new(alloc);

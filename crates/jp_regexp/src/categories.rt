@@ -6,7 +6,7 @@ ghost use Rattle.jp_regexp.specs.inner.Reading as reading;
 use unicode::properties::GeneralCategory;
 
 /// The categories of a name (RFC 9485, 3: IsCategory).
-pub fn categories_named(name: &[char]) -> Option<&'static [GeneralCategory]>
+pub(crate) fn categories_named(name: &[char]) -> Option<&'static [GeneralCategory]>
     ensures { option_map (λ x. x.now) result ≡ reading.categories_named name.now }
 {
     match name {
@@ -21,6 +21,7 @@ pub fn categories_named(name: &[char]) -> Option<&'static [GeneralCategory]>
     }
 }
 
+/// Behind `L`: letters.
 fn letters_named(second: &[char]) -> Option<&'static [GeneralCategory]>
     ensures { option_map (λ x. x.now) result ≡ reading.letters_named second.now }
 {
@@ -41,6 +42,7 @@ fn letters_named(second: &[char]) -> Option<&'static [GeneralCategory]>
     }
 }
 
+/// Behind `M`: marks.
 fn marks_named(second: &[char]) -> Option<&'static [GeneralCategory]>
     ensures { option_map (λ x. x.now) result ≡ reading.marks_named second.now }
 {
@@ -57,6 +59,7 @@ fn marks_named(second: &[char]) -> Option<&'static [GeneralCategory]>
     }
 }
 
+/// Behind `N`: numbers.
 fn numbers_named(second: &[char]) -> Option<&'static [GeneralCategory]>
     ensures { option_map (λ x. x.now) result ≡ reading.numbers_named second.now }
 {
@@ -73,6 +76,7 @@ fn numbers_named(second: &[char]) -> Option<&'static [GeneralCategory]>
     }
 }
 
+/// Behind `P`: punctuation.
 fn punctuation_named(second: &[char]) -> Option<&'static [GeneralCategory]>
     ensures { option_map (λ x. x.now) result ≡ reading.punctuation_named second.now }
 {
@@ -97,6 +101,7 @@ fn punctuation_named(second: &[char]) -> Option<&'static [GeneralCategory]>
     }
 }
 
+/// Behind `Z`: separators.
 fn separators_named(second: &[char]) -> Option<&'static [GeneralCategory]>
     ensures { option_map (λ x. x.now) result ≡ reading.separators_named second.now }
 {
@@ -113,6 +118,7 @@ fn separators_named(second: &[char]) -> Option<&'static [GeneralCategory]>
     }
 }
 
+/// Behind `S`: symbols.
 fn symbols_named(second: &[char]) -> Option<&'static [GeneralCategory]>
     ensures { option_map (λ x. x.now) result ≡ reading.symbols_named second.now }
 {
@@ -131,6 +137,7 @@ fn symbols_named(second: &[char]) -> Option<&'static [GeneralCategory]>
     }
 }
 
+/// Behind `C`: others.
 fn others_named(second: &[char]) -> Option<&'static [GeneralCategory]>
     ensures { option_map (λ x. x.now) result ≡ reading.others_named second.now }
 {

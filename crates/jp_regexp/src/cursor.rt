@@ -19,7 +19,7 @@ pub struct Cursor {
 
 impl Cursor {
     /// Before the first position, reached or not.
-    pub fn start(entered: bool) -> Cursor
+    pub(crate) fn start(entered: bool) -> Cursor
         ensures { result ≡ record { past = 0; index = 0; entered = entered } }
     {
         Cursor {
@@ -30,13 +30,14 @@ impl Cursor {
     }
 
     /// The same point, reached or not.
-    pub fn with_entered(self, entered: bool) -> Cursor
+    pub(crate) fn with_entered(self, entered: bool) -> Cursor
         ensures { result ≡ entered_as entered self }
     {
         Cursor { entered, ..self }
     }
 }
 
+/// Whether the next active position, at this index of the list, is at most `end`.
 fn is_active_up_to(active: &[u32], index: usize, end: u32) -> bool
     ensures { result ≡ is_active_up_to active.now index end }
 {
@@ -45,7 +46,7 @@ fn is_active_up_to(active: &[u32], index: usize, end: u32) -> bool
 
 /// Behind a part of so many positions, where the walk need not enter it: nothing reached it, and none of
 /// its positions is active.
-pub fn passed(active: &[u32], at: Cursor, size: u32) -> Option<Cursor>
+pub(crate) fn passed(active: &[u32], at: Cursor, size: u32) -> Option<Cursor>
     requires fits { at.past + size ≤ max_size }
     requires stands { IsAt active.now at.past at.index }
     ensures passed { IfSome result (IsPassed active.now size at) }
@@ -68,7 +69,7 @@ pub fn passed(active: &[u32], at: Cursor, size: u32) -> Option<Cursor>
 }
 
 /// Behind a set of characters.
-pub fn behind_set(active: &[u32], at: Cursor) -> Cursor
+pub(crate) fn behind_set(active: &[u32], at: Cursor) -> Cursor
     requires fits { at.past < max_size }
     requires stands { IsAt active.now at.past at.index }
     ensures { (set : CharSet) → IsWalk active.now (letter set) at result }
@@ -90,7 +91,7 @@ pub fn behind_set(active: &[u32], at: Cursor) -> Cursor
 }
 
 /// How many of the next copies the walk need not enter.
-pub fn idle_copies(active: &[u32], at: Cursor, size: u32, copies: u32) -> u32
+pub(crate) fn idle_copies(active: &[u32], at: Cursor, size: u32, copies: u32) -> u32
     requires some { 0 < size }
     requires fits { at.past + copies * size ≤ max_size }
     requires stands { IsAt active.now at.past at.index }

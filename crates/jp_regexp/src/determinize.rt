@@ -8,13 +8,11 @@ ghost use Rattle.jp_regexp.specs.Expressions.{unrolled_in};
 ghost use Rattle.jp_regexp.specs.inner.Dfa.{AreStates, Grows, HasPositions, IsCell, IsCellOf, IsDfa, IsDfaOf};
 
 use crate::dfa::{
-    CONTINUATION, Dfa, MATCH_OR_DEAD, PAST_ASCII, QUIT, STRIDE, State, positions_behind, state_of,
+    CONTINUATION, Dfa, MATCH_OR_DEAD, MAX_STATES, PAST_ASCII, QUIT, STRIDE, State,
+    positions_behind, state_of,
 };
 use crate::dfa_input::DfaInput;
 use std::alloc::{AllocError, Global};
-
-/// How many states a DFA has at most: their numbers are below the other cells.
-pub const MAX_STATES: usize = 254;
 
 /// Whether the state has these positions and no others.
 fn has_positions(state: &State, active: &[u32], at_start: bool) -> bool
@@ -47,12 +45,12 @@ fn cell_of(
 ) -> Result<u8, AllocError>
     requires states { AreStates (unrolled_in input.root.now) states.old.items }
     requires known { from < length states.old.items }
-    requires few { length states.old.items ≤ 254 }
+    requires few { length states.old.items ≤ MAX_STATES }
     ensures grows { IfOk result (λ cell. Grows (unrolled_in input.entry.root.now) states.old.items
         states.new.items) }
     ensures cell { IfOk result (λ cell. IsCell (unrolled_in input.entry.root.now) input.entry.unanchored
         states.new.items from c cell) }
-    ensures few { IfOk result (λ cell. length states.new.items ≤ 254) }
+    ensures few { IfOk result (λ cell. length states.new.items ≤ MAX_STATES) }
 {
     let next = positions_behind(alloc, input.root, &states[from], c)?;
     if let Some(n) = find_state(states, &next, input.unanchored) {
@@ -80,15 +78,15 @@ fn column_cell(
     column: usize,
 ) -> Result<u8, AllocError>
     requires known { from < length states.old.items }
-    requires next { length cells.now ≡ from * 256 + column }
-    requires column { column < 256 }
+    requires next { length cells.now ≡ from * STRIDE + column }
+    requires column { column < STRIDE }
     requires dfa { IsDfaOf (unrolled_in input.root.now) input.unanchored states.old.items cells.now }
     ensures grows { IfOk result (λ cell. Grows (unrolled_in input.entry.root.now) states.old.items
         states.new.items) }
     ensures cell { IfOk result (λ cell. IsCellOf (unrolled_in input.entry.root.now) input.entry.unanchored
         states.new.items from column cell) }
-    ensures stays { 128 ≤ column → column < 192 → IfOk result (λ cell. cell ≡ from) }
-    ensures few { IfOk result (λ cell. length states.new.items ≤ 254) }
+    ensures stays { CONTINUATION ≤ column → column < PAST_ASCII → IfOk result (λ cell. cell ≡ from) }
+    ensures few { IfOk result (λ cell. length states.new.items ≤ MAX_STATES) }
 {
     if column > PAST_ASCII {
         return Ok(cells[from * STRIDE + PAST_ASCII]);
@@ -116,12 +114,12 @@ fn cell_past_ascii(
 ) -> Result<u8, AllocError>
     requires states { AreStates (unrolled_in input.root.now) states.old.items }
     requires known { from < length states.old.items }
-    requires few { length states.old.items ≤ 254 }
+    requires few { length states.old.items ≤ MAX_STATES }
     ensures grows { IfOk result (λ cell. Grows (unrolled_in input.entry.root.now) states.old.items
         states.new.items) }
     ensures cell { IfOk result (λ cell. IsCellOf (unrolled_in input.entry.root.now) input.entry.unanchored
-        states.new.items from 192 cell) }
-    ensures few { IfOk result (λ cell. length states.new.items ≤ 254) }
+        states.new.items from PAST_ASCII cell) }
+    ensures few { IfOk result (λ cell. length states.new.items ≤ MAX_STATES) }
 {
     if input.classes.past_ascii {
         Ok(cell_of(alloc, input, states, from, '\u{80}')?)
@@ -135,7 +133,7 @@ fn cell_past_ascii(
 /// # Errors
 ///
 /// Memory ran out.
-pub fn make_dfa(alloc: Global, input: DfaInput<'_>) -> Result<Dfa, AllocError>
+pub(crate) fn make_dfa(alloc: Global, input: DfaInput<'_>) -> Result<Dfa, AllocError>
     ensures { IfOk result (λ dfa. IsDfa (unrolled_in input.entry.root.now) input.entry.unanchored dfa) }
 {
     let mut states = Vec::new(alloc);
@@ -159,9 +157,9 @@ fn add_row(
     from: usize,
 ) -> Result<(), AllocError>
     requires known { from < length states.old.items }
-    requires next { length cells.old.items ≡ from * 256 }
+    requires next { length cells.old.items ≡ from * STRIDE }
     requires dfa { IsDfaOf (unrolled_in input.root.now) input.unanchored states.old.items cells.old.items }
-    ensures next { OnOk result (length cells.new.items ≡ from * 256 + 256) }
+    ensures next { OnOk result (length cells.new.items ≡ from * STRIDE + STRIDE) }
     ensures longer { OnOk result (length states.old.items ≤ length states.new.items) }
     ensures dfa { OnOk result (IsDfaOf (unrolled_in input.entry.root.now) input.entry.unanchored
         states.new.items cells.new.items) }

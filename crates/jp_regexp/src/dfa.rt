@@ -15,20 +15,24 @@ use crate::step::step;
 use std::alloc::{AllocError, Global};
 
 /// How many cells of the transition table a state has: one for each byte of a text.
-pub const STRIDE: usize = 256;
+pub(crate) const STRIDE: usize = 256;
+
+/// How many states a DFA has at most. A cell of the table is one byte, so that all of them have 65,024 bytes:
+/// the number of a state is a byte, and the two greatest bytes are the cells that lead to no state.
+pub(crate) const MAX_STATES: usize = 254;
 
 /// The cell of a step that is not in the table: the DFA quits there, and the text is matched by positions.
-pub const QUIT: u8 = 255;
+pub(crate) const QUIT: u8 = 255;
 
 /// The cell of a step behind which the answer is known: of the unanchored DFA a match state, since a part was
 /// found, and of the one for whole texts the dead state, since no text is left.
-pub const MATCH_OR_DEAD: u8 = 254;
+pub(crate) const MATCH_OR_DEAD: u8 = 254;
 
 /// The first continuation byte of UTF-8; those below it are the characters of ASCII.
-pub const CONTINUATION: usize = 128;
+pub(crate) const CONTINUATION: usize = 128;
 
 /// The first byte of UTF-8 that a character that is not of ASCII begins with.
-pub const PAST_ASCII: usize = 192;
+pub(crate) const PAST_ASCII: usize = 192;
 
 /// A set of positions of a pattern.
 #[derive(Drop)]
@@ -63,7 +67,7 @@ pub struct Walk {
 impl State {
     /// Whether the answer is known behind a step that leads here: with position 0 it is a match, without it
     /// nothing is left.
-    pub fn is_match_or_dead(&self) -> bool
+    pub(crate) fn is_match_or_dead(&self) -> bool
         ensures found { IsTrue result → self.now.at_start ≡ true → self.now.accepts ≡ true }
         ensures dead { IsTrue result → self.now.at_start ≡ false → self.now.active.items ≡ [] }
         ensures no_match { result ≡ false → self.now.at_start ≡ true → self.now.accepts ≡ false }
@@ -82,7 +86,7 @@ impl Dfa {
     ghost use Rattle.jp_regexp.specs.inner.Prefilter.{IsPrefilter};
 
     /// A DFA without states.
-    pub fn new(alloc: Global) -> Dfa
+    pub(crate) fn new(alloc: Global) -> Dfa
         ensures states { result.states.items ≡ [] }
         ensures cells { result.cells.items ≡ [] }
     {
@@ -94,10 +98,10 @@ impl Dfa {
 
     /// The number of the state behind a character, `MATCH_OR_DEAD`, or `QUIT` where the step is not in the
     /// table.
-    pub fn next(&self, state: usize, c: char) -> u8
-        requires { state < 256 }
+    pub(crate) fn next(&self, state: usize, c: char) -> u8
+        requires { state < STRIDE }
         ensures scalar { IsTrue (is_scalar c) }
-        ensures cell { result < 255 → cell_at self.now.cells.items state (column_of c) ≡ result }
+        ensures cell { result < QUIT → cell_at self.now.cells.items state (column_of c) ≡ result }
     {
         let column = if c < '\u{80}' { c as usize } else { PAST_ASCII };
         let index = state * STRIDE + column;
@@ -109,7 +113,7 @@ impl Dfa {
     }
 
     /// The number of the state behind a byte; where a state has no cells, it stays.
-    pub fn after(&self, state: u8, byte: u8) -> u8
+    pub(crate) fn after(&self, state: u8, byte: u8) -> u8
         ensures { result ≡ state_after self.now.cells.items state byte }
     {
         let index = usize::from(state) * STRIDE + usize::from(byte);
@@ -121,8 +125,8 @@ impl Dfa {
     }
 
     /// The number of the state that these bytes lead to from the start.
-    pub fn behind(&self, bytes: &[u8]) -> u8
-        requires full { length self.now.cells.items ≡ length self.now.states.items * 256 }
+    pub(crate) fn behind(&self, bytes: &[u8]) -> u8
+        requires full { length self.now.cells.items ≡ length self.now.states.items * STRIDE }
         ensures { result ≡ state_behind self.now.cells.items 0 bytes.now }
     {
         let mut state = 0u8;
@@ -137,8 +141,8 @@ impl Dfa {
     }
 
     /// The same, where a prefilter tells which bytes may be passed.
-    pub fn behind_prefiltered(&self, prefilter: &Prefilter, bytes: &[u8]) -> u8
-        requires full { length self.now.cells.items ≡ length self.now.states.items * 256 }
+    pub(crate) fn behind_prefiltered(&self, prefilter: &Prefilter, bytes: &[u8]) -> u8
+        requires full { length self.now.cells.items ≡ length self.now.states.items * STRIDE }
         requires some { 0 < length self.now.states.items }
         requires all { length prefilter.now.flags.items ≡ 256 }
         requires right { IsPrefilter self.now.cells.items prefilter.now.flags.items }
@@ -158,7 +162,7 @@ impl Dfa {
 
     /// Reads on until the start state is met again, or the answer is known.
     fn walk(&self, bytes: &[u8]) -> Walk
-        requires full { length self.now.cells.items ≡ length self.now.states.items * 256 }
+        requires full { length self.now.cells.items ≡ length self.now.states.items * STRIDE }
         requires some { 0 < length self.now.states.items }
         ensures within { result.read ≤ length bytes.now }
         ensures moves { 0 < length bytes.now → result.state ≡ 0 → 0 < result.read }
@@ -185,7 +189,7 @@ impl Dfa {
 }
 
 /// The state of these positions.
-pub fn state_of(root: &Expression, active: Vec<u32>, at_start: bool) -> State
+pub(crate) fn state_of(root: &Expression, active: Vec<u32>, at_start: bool) -> State
     requires sized { IsTrue (meaning root.now).is_sized }
     requires fits { letters (unrolled_in root.now) ≤ max_size }
     requires rises { Rises 0 active.items }
@@ -202,7 +206,7 @@ pub fn state_of(root: &Expression, active: Vec<u32>, at_start: bool) -> State
 }
 
 /// The positions behind a character.
-pub fn positions_behind(
+pub(crate) fn positions_behind(
     alloc: Global,
     root: &Expression,
     state: &State,

@@ -5,6 +5,7 @@ ghost use Rattle.jp_regexp.specs.inner.Equivalence.{AreByteClasses};
 ghost use Rattle.jp_regexp.specs.Expressions.{meaning, unrolled_in};
 ghost use Rattle.jp_regexp.specs.Profile.{max_size};
 ghost use Rattle.jp_regexp.specs.Unrolled.{letters};
+ghost use Rattle.jp_regexp.specs.declared.dfa.TheConstants.{MAX_STATES};
 
 use crate::byte_classes::ByteClasses;
 use crate::expressions::Expression;
@@ -21,5 +22,5 @@ pub struct DfaInput<'a> {
     ghost sized: { IsTrue (meaning root.now).is_sized },
     ghost fits: { letters (unrolled_in root.now) ≤ max_size },
     ghost equivalent: { ∥ AreByteClasses (unrolled_in root.now) classes.now ∥₁ },
-    ghost room: { most ≤ 254 },
+    ghost room: { most ≤ MAX_STATES },
 }

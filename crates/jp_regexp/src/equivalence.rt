@@ -12,7 +12,7 @@ use crate::tree::{CharSet, Element};
 
 /// Whether each set of characters of the expression holds all characters of the candidate or none of them.
 #[cycle(are_equivalent)]
-pub fn are_equivalent(expression: &Expression, candidate: Candidate) -> bool
+pub(crate) fn are_equivalent(expression: &Expression, candidate: Candidate) -> bool
     ensures { IsTrue result → Equivalent (unrolled_in expression.now) candidate }
 {
     match expression {
@@ -40,6 +40,7 @@ fn are_equivalent_in_all(expressions: &[Expression], candidate: Candidate) -> bo
     true
 }
 
+/// Whether the set holds all characters of the candidate or none, as far as its text tells.
 fn are_equivalent_in_set(set: &CharSet, candidate: Candidate) -> bool
     ensures { IsTrue result → EquivalentInSet (set_of set.now) candidate }
 {
@@ -61,6 +62,7 @@ fn tells_none_past_ascii(set: &CharSet) -> bool
     }
 }
 
+/// Whether each element holds characters of ASCII alone.
 fn are_all_ascii(elements: &[Element]) -> bool
     ensures { IsTrue result → (k : ℕ) (x : Element) → k < length elements.now
         → IsAscii (element_of (slice_index_or elements.now k x)) }
@@ -73,6 +75,7 @@ fn are_all_ascii(elements: &[Element]) -> bool
     true
 }
 
+/// Whether the element holds characters of ASCII alone, as far as its text tells.
 fn is_ascii(element: &Element) -> bool
     ensures { IsTrue result → IsAscii (element_of element.now) }
 {

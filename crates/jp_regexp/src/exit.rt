@@ -13,13 +13,14 @@ use crate::cursor::{Cursor, behind_set, idle_copies, passed};
 use crate::expressions::Expression;
 
 /// Whether the least number of copies is done where the walk has reached the next.
-pub fn may_stop(done: u32, least: u32, entered: bool) -> bool
+pub(crate) fn may_stop(done: u32, least: u32, entered: bool) -> bool
     ensures { result ≡ (nat_le least done && entered) }
 {
     least <= done && entered
 }
 
-pub fn either(a: bool, b: bool) -> bool
+/// `||` that looks at both.
+pub(crate) fn either(a: bool, b: bool) -> bool
     ensures { result ≡ (a || b) }
 {
     a || b
@@ -27,7 +28,7 @@ pub fn either(a: bool, b: bool) -> bool
 
 /// The cursor behind the expression; it is entered where the end of the expression is reached.
 #[cycle(exit)]
-pub fn exit(expression: &Expression, active: &[u32], at: Cursor) -> Cursor
+pub(crate) fn exit(expression: &Expression, active: &[u32], at: Cursor) -> Cursor
     requires sized { IsTrue (meaning expression.now).is_sized }
     requires fits { at.past + letters (unrolled_in expression.now) ≤ max_size }
     requires stands { IsAt active.now at.past at.index }

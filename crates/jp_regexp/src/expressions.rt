@@ -45,7 +45,7 @@ pub enum Expression {
 
 impl Expression {
     /// The unrolled size, or the greatest number where it is more (RFC 9485, 8).
-    pub fn size(&self) -> u32
+    pub(crate) fn size(&self) -> u32
         requires { IsTrue (meaning self.now).is_sized }
         ensures { result ≡ min (size (pattern_in self.now)) u32.MAX }
     {
@@ -60,6 +60,7 @@ impl Expression {
     }
 }
 
+/// The sizes of the expressions together, at most `u32::MAX`.
 fn size_of_all(expressions: &[Expression]) -> u32
     requires { IsTrue (all_sized (map meaning expressions.now)) }
     ensures { result ≡ min (sizes (map meaning expressions.now)) u32.MAX }
@@ -71,6 +72,7 @@ fn size_of_all(expressions: &[Expression]) -> u32
     total
 }
 
+/// How many copies of its atom a repetition unrolls to, at most `u32::MAX`.
 fn copies(least: u32, most: Option<u32>) -> u32
     ensures { result ≡ min (copies least most) u32.MAX }
 {
@@ -82,7 +84,7 @@ fn copies(least: u32, most: Option<u32>) -> u32
 
 /// The tree with its sizes.
 #[cycle(expression_of)]
-pub fn expression_of(alloc: Global, node: Node) -> Result<Expression, AllocError>
+pub(crate) fn expression_of(alloc: Global, node: Node) -> Result<Expression, AllocError>
     ensures same { IfOk result (λ expression. pattern_in expression ≡ node_of node) }
     ensures sized { IfOk result (λ expression. IsTrue (meaning expression).is_sized) }
 {
@@ -132,6 +134,7 @@ pub fn expression_of(alloc: Global, node: Node) -> Result<Expression, AllocError
     }
 }
 
+/// The same of several trees.
 #[cycle(expression_of)]
 fn expressions_of(alloc: Global, nodes: Vec<Node>) -> Result<Vec<Expression>, AllocError>
     ensures same { IfOk result (λ expressions. patterns_in expressions.items ≡ map node_of nodes.items) }

@@ -32,7 +32,7 @@ impl Prefilter {
     ghost use Rattle.jp_regexp.specs.inner.Dfa.{state_behind};
 
     /// No flags.
-    pub fn new(alloc: Global) -> Prefilter
+    pub(crate) fn new(alloc: Global) -> Prefilter
         ensures { result.flags.items ≡ [] }
     {
         Prefilter {
@@ -41,7 +41,7 @@ impl Prefilter {
     }
 
     /// How many bytes may be passed from the start: the same state is reached without them.
-    pub fn find(&self, bytes: &[u8]) -> usize
+    pub(crate) fn find(&self, bytes: &[u8]) -> usize
         requires { length self.now.flags.items ≡ 256 }
         ensures within { result ≤ length bytes.now }
         ensures same { (cells : List ℕ) → IsPrefilter cells self.now.flags.items →
@@ -72,7 +72,7 @@ impl Prefilter {
 /// # Errors
 ///
 /// Memory ran out.
-pub fn make_prefilter(alloc: Global, dfa: &Dfa) -> Result<Prefilter, AllocError>
+pub(crate) fn make_prefilter(alloc: Global, dfa: &Dfa) -> Result<Prefilter, AllocError>
     ensures { IfOk result (λ prefilter. IsPrefilter dfa.now.cells.items prefilter.flags.items) }
 {
     let ones = pairs_behind_one(alloc, dfa)?;
@@ -156,6 +156,7 @@ fn add_behind(dfa: &Dfa, pair: Pair, pairs: &mut Vec<Pair>) -> Result<(), AllocE
     Ok(())
 }
 
+/// The flags of a byte, by the pairs behind one byte and behind two.
 fn flags_of(dfa: &Dfa, ones: &[Pair], twos: &[Pair], byte: u8) -> ByteFlags
     ensures { AreFlagsOf dfa.now.cells.items ones.now twos.now byte result }
 {
@@ -166,6 +167,7 @@ fn flags_of(dfa: &Dfa, ones: &[Pair], twos: &[Pair], byte: u8) -> ByteFlags
     }
 }
 
+/// The flag as a bit.
 fn flag_if(flagged: bool) -> u8
     ensures bit { result ≤ 1 }
     ensures none { result ≡ 0 → flagged ≡ false }

@@ -9,8 +9,10 @@ ghost use Rattle.jp_regexp.specs.inner.Reading as reading;
 use crate::fault::Fault;
 use crate::tree::Quantity;
 
+/// The greatest count, a limit of this implementation (RFC 9485, 8).
 const MAX_COUNT: u32 = 1_000;
 
+/// A digit of a count.
 fn is_digit(c: char) -> bool
     ensures { result ≡ is_digit c }
 {
@@ -36,6 +38,7 @@ fn digits_from(number: u32, text: &[char]) -> Result<(u32, &[char]), Fault>
     Ok((number, rest))
 }
 
+/// A count.
 fn count_at(text: &[char]) -> Result<(u32, &[char]), Fault>
     ensures { Gives (λ x. (x.0, x.1.now)) result (reading.count_within text.now) }
 {
@@ -45,6 +48,7 @@ fn count_at(text: &[char]) -> Result<(u32, &[char]), Fault>
     }
 }
 
+/// Behind both counts.
 fn close_count_at(least: u32, most: u32, text: &[char]) -> Result<(Quantity, &[char]), Fault>
     ensures { Gives (λ x. (x.0, x.1.now)) result (reading.close_count_within least most text.now) }
 {
@@ -54,6 +58,7 @@ fn close_count_at(least: u32, most: u32, text: &[char]) -> Result<(Quantity, &[c
     }
 }
 
+/// Behind the comma.
 fn after_comma_at(least: u32, text: &[char]) -> Result<(Quantity, &[char]), Fault>
     ensures { Gives (λ x. (x.0, x.1.now)) result (reading.after_comma_within least text.now) }
 {
@@ -66,6 +71,7 @@ fn after_comma_at(least: u32, text: &[char]) -> Result<(Quantity, &[char]), Faul
     }
 }
 
+/// Behind the first count.
 fn after_least_at(least: u32, text: &[char]) -> Result<(Quantity, &[char]), Fault>
     ensures { Gives (λ x. (x.0, x.1.now)) result (reading.after_least_within least text.now) }
 {
@@ -77,7 +83,7 @@ fn after_least_at(least: u32, text: &[char]) -> Result<(Quantity, &[char]), Faul
 }
 
 /// The quantity behind an atom, and the rest (RFC 9485, 3: quantifier).
-pub fn quantity_at(text: &[char]) -> Result<(Quantity, &[char]), Fault>
+pub(crate) fn quantity_at(text: &[char]) -> Result<(Quantity, &[char]), Fault>
     ensures { Gives (λ x. (x.0, x.1.now)) result (reading.quantity_within text.now) }
 {
     match text {

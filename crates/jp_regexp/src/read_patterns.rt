@@ -12,8 +12,10 @@ use crate::read_sets::set_at;
 use crate::tree::{Node, Quantity, Turn};
 use std::alloc::{AllocError, Global};
 
+/// How many parentheses may stand inside each other, a limit of this implementation (RFC 9485, 8).
 const MAX_DEPTH: u32 = 64;
 
+/// The atom with its quantity.
 fn quantified(alloc: Global, atom: Node, quantity: Quantity) -> Result<Node, AllocError>
     ensures { IfOk result (λ n. node_of n ≡ reading.with_quantity_of quantity (node_of atom)) }
 {
@@ -27,12 +29,14 @@ fn quantified(alloc: Global, atom: Node, quantity: Quantity) -> Result<Node, All
     })
 }
 
+/// What stands in parentheses.
 fn group(alloc: Global, inside: Node) -> Result<Node, AllocError>
     ensures { IfOk result (λ n. node_of n ≡ group (node_of inside)) }
 {
     Ok(Node::Group(Box::new(alloc, inside)?))
 }
 
+/// Branches, of which the pieces are the last.
 fn branches(alloc: Global, before: Vec<Node>, pieces: Vec<Node>) -> Result<Node, AllocError>
     ensures { IfOk result (λ n. node_of n ≡ before_last (map node_of before.items) (in_turn (map node_of
         pieces.items))) }
@@ -41,6 +45,7 @@ fn branches(alloc: Global, before: Vec<Node>, pieces: Vec<Node>) -> Result<Node,
     Ok(Node::Branches { before, last })
 }
 
+/// Behind `(`, with so many parentheses left (RFC 9485, 3: atom).
 #[cycle(read_patterns)]
 #[tactic(auto, unfolding(crate::specs::inner::Reading::group_within))]
 fn group_at(alloc: Global, left: u32, turns: usize, text: &[char]) -> Result<(Node, &[char]), Fault>
@@ -57,6 +62,7 @@ fn group_at(alloc: Global, left: u32, turns: usize, text: &[char]) -> Result<(No
     }
 }
 
+/// An atom (RFC 9485, 3: atom).
 #[cycle(read_patterns)]
 #[tactic(auto, unfolding(crate::specs::inner::Reading::atom_within))]
 fn atom_at(alloc: Global, left: u32, turns: usize, text: &[char]) -> Result<(Node, &[char]), Fault>
@@ -72,6 +78,7 @@ fn atom_at(alloc: Global, left: u32, turns: usize, text: &[char]) -> Result<(Nod
     }
 }
 
+/// An atom and its quantity (RFC 9485, 3: piece).
 #[cycle(read_patterns)]
 #[tactic(auto, unfolding(crate::specs::inner::Reading::piece_within))]
 fn piece_at(alloc: Global, left: u32, turns: usize, text: &[char]) -> Result<(Node, &[char]), Fault>
@@ -83,6 +90,7 @@ fn piece_at(alloc: Global, left: u32, turns: usize, text: &[char]) -> Result<(No
     Ok((quantified(alloc, atom, quantity)?, rest))
 }
 
+/// The next piece, or a bar, or the end.
 #[cycle(read_patterns)]
 #[tactic(auto, unfolding(crate::specs::inner::Reading::next_turn))]
 fn next_turn(
@@ -136,7 +144,7 @@ fn pattern_at(
 
 /// The tree of the whole text, within the counts and the depth (RFC 9485, 3).
 #[tactic(auto, unfolding(crate::specs::inner::Reading::read_within))]
-pub fn read(alloc: Global, text: &[char]) -> Result<Node, Fault>
+pub(crate) fn read(alloc: Global, text: &[char]) -> Result<Node, Fault>
     ensures { Gives node_of result (reading.read_within text.now) }
 {
     let (root, rest) = pattern_at(alloc, MAX_DEPTH, text.len() + 1, text)?;

@@ -12,6 +12,7 @@ use crate::tree::{CharSet, Element};
 use std::alloc::{AllocError, Global};
 use unicode::properties::GeneralCategory;
 
+/// What stands for itself behind a backslash (RFC 9485, 3: SingleCharEsc).
 fn is_escaped(c: char) -> bool
     ensures { result ≡ is_escaped c }
 {
@@ -21,6 +22,7 @@ fn is_escaped(c: char) -> bool
     )
 }
 
+/// What stands for itself (RFC 9485, 3: NormalChar).
 fn is_normal(c: char) -> bool
     ensures { result ≡ is_normal c }
 {
@@ -30,12 +32,14 @@ fn is_normal(c: char) -> bool
     )
 }
 
+/// What stands for itself in a class (RFC 9485, 3: CCchar).
 fn is_class_normal(c: char) -> bool
     ensures { result ≡ is_class_normal c }
 {
     !matches!(c, '-' | '[' | '\\' | ']')
 }
 
+/// What the character behind a backslash stands for.
 fn single_value(c: char) -> Option<char>
     ensures { result ≡ reading.single_value c }
 {
@@ -48,6 +52,7 @@ fn single_value(c: char) -> Option<char>
     }
 }
 
+/// Behind a backslash (RFC 9485, 3: SingleCharEsc).
 fn single_at(text: &[char]) -> Result<(char, &[char]), Fault>
     ensures { Gives (λ x. (x.0, x.1.now)) result (reading.single_at text.now) }
 {
@@ -60,12 +65,14 @@ fn single_at(text: &[char]) -> Result<(char, &[char]), Fault>
     }
 }
 
+/// A copy of the categories.
 fn copied(alloc: Global, categories: &[GeneralCategory]) -> Result<Vec<GeneralCategory>, AllocError>
     ensures { IfOk result (λ all. all.items ≡ categories.now) }
 {
     categories.iter().copied().collect(alloc)
 }
 
+/// The categories of a name (RFC 9485, 3: IsCategory).
 fn named(alloc: Global, name: &[char]) -> Result<Vec<GeneralCategory>, Fault>
     ensures { Gives (λ x. x.items) result (reading.categories_named name.now) }
 {
@@ -100,6 +107,7 @@ fn category_at(alloc: Global, text: &[char]) -> Result<(Vec<GeneralCategory>, &[
     }
 }
 
+/// One end of a range, whose first character was read.
 fn inner_from(c: char, text: &[char]) -> Result<(char, &[char]), Fault>
     ensures { Gives (λ x. (x.0, x.1.now)) result (reading.inner_at (c ∷ text.now)) }
 {
@@ -160,6 +168,7 @@ fn escape_element_at(alloc: Global, text: &[char]) -> Result<(Element, &[char]),
     }
 }
 
+/// An element of a class, whose first character was read (RFC 9485, 3: CCE1).
 fn element_from(alloc: Global, c: char, text: &[char]) -> Result<(Element, &[char]), Fault>
     ensures { Gives (λ x. (element_of x.0, x.1.now)) result (reading.element_at (c ∷ text.now)) }
 {
@@ -213,6 +222,7 @@ fn elements_from(
     Err(Fault::NoPattern)
 }
 
+/// A list of one element.
 fn one(alloc: Global, element: Element) -> Result<Vec<Element>, AllocError>
     ensures { IfOk result (λ all. all.items ≡ element ∷ []) }
 {
@@ -221,6 +231,7 @@ fn one(alloc: Global, element: Element) -> Result<Vec<Element>, AllocError>
     Ok(all)
 }
 
+/// The elements of a class, up to its bracket.
 fn listing_at(alloc: Global, turns: usize, text: &[char]) -> Result<(Vec<Element>, &[char]), Fault>
     ensures { Gives (λ x. (map element_of x.0.items, x.1.now)) result (reading.listing_at turns text.now) }
 {
@@ -285,7 +296,7 @@ fn escape_set_at(alloc: Global, text: &[char]) -> Result<(CharSet, &[char]), Fau
 }
 
 /// A normal character, an escape, `.`, a category or a class, and the rest (RFC 9485, 3: atom).
-pub fn set_at(alloc: Global, text: &[char]) -> Result<(CharSet, &[char]), Fault>
+pub(crate) fn set_at(alloc: Global, text: &[char]) -> Result<(CharSet, &[char]), Fault>
     ensures { Gives (λ x. (set_of x.0, x.1.now)) result (reading.set_at text.now) }
 {
     match text {

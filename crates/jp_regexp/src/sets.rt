@@ -9,12 +9,14 @@ ghost use Rattle.jp_regexp.specs.Tree.{element_of, set_of};
 use crate::tree::{CharSet, Element};
 use unicode::properties::GeneralCategory;
 
+/// The answer, or its opposite.
 fn negated_if(negated: bool, holds: bool) -> bool
     ensures { result ≡ negated_if negated holds }
 {
     if negated { !holds } else { holds }
 }
 
+/// Whether the category is one of these.
 fn is_among(category: GeneralCategory, categories: &[GeneralCategory]) -> bool
     ensures { result ≡ list_any (general_category_eq category) categories.now }
 {
@@ -26,12 +28,14 @@ fn is_among(category: GeneralCategory, categories: &[GeneralCategory]) -> bool
     false
 }
 
+/// Whether the general category of the character is one of these.
 fn in_categories(categories: &[GeneralCategory], c: char) -> bool
     ensures { result ≡ in_categories categories.now c }
 {
     is_among(GeneralCategory::for_char(c), categories)
 }
 
+/// Whether the character is in the element.
 fn in_element(element: &Element, c: char) -> bool
     ensures { result ≡ in_element c (element_of element.now) }
 {
@@ -45,6 +49,7 @@ fn in_element(element: &Element, c: char) -> bool
     }
 }
 
+/// Whether the character is in some element.
 fn in_some_element(elements: &[Element], c: char) -> bool
     ensures { result ≡ list_any (in_element c) (map element_of elements.now) }
 {
@@ -57,7 +62,7 @@ fn in_some_element(elements: &[Element], c: char) -> bool
 }
 
 /// Whether the character is in the set (RFC 9485, 4).
-pub fn in_set(set: &CharSet, c: char) -> bool
+pub(crate) fn in_set(set: &CharSet, c: char) -> bool
     ensures { result ≡ in_set (set_of set.now) c }
 {
     match set {

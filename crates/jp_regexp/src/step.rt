@@ -22,7 +22,7 @@ use std::alloc::AllocError;
 ///
 /// Memory ran out.
 #[cycle(step)]
-pub fn step(
+pub(crate) fn step(
     expression: &Expression,
     active: &[u32],
     c: char,

@@ -17,7 +17,7 @@ use std::alloc::AllocError;
 /// # Errors
 ///
 /// Memory ran out.
-pub fn step_set(
+pub(crate) fn step_set(
     set: &CharSet,
     active: &[u32],
     c: char,
@@ -33,6 +33,7 @@ pub fn step_set(
     Ok(behind_set(active, at))
 }
 
+/// Puts down the position of the set, where it is entered and holds the character.
 fn read_set(set: &CharSet, c: char, at: Cursor, out: &mut Vec<u32>) -> Result<(), AllocError>
     requires fits { at.past < max_size }
     ensures { OnOk result (out.new.items ≡ out.old.items ++ reads_set (set_of set.now) c at) }
@@ -52,7 +53,7 @@ fn read_set(set: &CharSet, c: char, at: Cursor, out: &mut Vec<u32>) -> Result<()
 /// # Errors
 ///
 /// Memory ran out.
-pub fn step_set_copies(
+pub(crate) fn step_set_copies(
     set: &CharSet,
     active: &[u32],
     c: char,
@@ -86,6 +87,7 @@ pub fn step_set_copies(
     Ok(here.with_entered(either(left, here.entered)))
 }
 
+/// The same, where it is known whether the set holds the character.
 fn read_known(has: bool, at: Cursor, out: &mut Vec<u32>) -> Result<(), AllocError>
     requires fits { at.past < max_size }
     ensures { OnOk result (out.new.items ≡ out.old.items ++ read_if has at) }

@@ -3,6 +3,8 @@ use Rattle.std.specs.Prelude.{◌≡◌, ℕ, ◌+◌, ◌*◌, ◌<◌, ◌≤�
 use Rattle.std.specs.Prelude.{length, IsTrue, slice_index_or, if◌then◌else◌}
 use Rattle.jp_regexp.specs.declared.dfa.State.{State}
 use Rattle.jp_regexp.specs.declared.dfa.Dfa.{Dfa}
+use Rattle.jp_regexp.specs.declared.dfa.TheConstants.{STRIDE, MAX_STATES, QUIT, MATCH_OR_DEAD, CONTINUATION}
+use Rattle.jp_regexp.specs.declared.dfa.TheConstants.{PAST_ASCII}
 use Rattle.jp_regexp.specs.CharSets.{is_scalar}
 use Rattle.jp_regexp.specs.Unrolled.{Unrolled}
 use Rattle.jp_regexp.specs.inner.Simulation.{step, is_elem, exits, Rises}
@@ -38,29 +40,29 @@ next_positions p from c = step (is_elem from.active.items) c p 0 from.at_start
 abbrev pub Follows : Unrolled → Bool → State → ℕ → State → Type 0
 Follows p unanchored from c to = HasPositions to (next_positions p from c) unanchored
 
--- What a cell of a state and a character holds is the number of the next state, if it is below 254. It is 254
--- only where a part is found by the step, or, of a whole text, nothing is left behind it.
+-- What a cell of a state and a character holds is the number of the next state, if it is below `MAX_STATES`. It
+-- is `MATCH_OR_DEAD` only where a part is found by the step, or, of a whole text, nothing is left behind it.
 pub record IsCell (p : Unrolled) (unanchored : Bool) (states : List State) (i c cell : ℕ) : Type 0 where
-  pub within : cell < 254 → cell < length states
-  pub follows : (s t : State) → cell < 254 →
+  pub within : cell < MAX_STATES → cell < length states
+  pub follows : (s t : State) → cell < MAX_STATES →
       Follows p unanchored (slice_index_or states i s) c (slice_index_or states cell t)
-  pub found : (s : State) → cell ≡ 254 → unanchored ≡ true →
+  pub found : (s : State) → cell ≡ MATCH_OR_DEAD → unanchored ≡ true →
       exits (is_elem (next_positions p (slice_index_or states i s) c)) p 0 true ≡ true
-  pub dead : (s : State) → cell ≡ 254 → unanchored ≡ false →
+  pub dead : (s : State) → cell ≡ MATCH_OR_DEAD → unanchored ≡ false →
       next_positions p (slice_index_or states i s) c ≡ []
 
 -- a character of ASCII has a column, by its code, and each other one those of the bytes that it may begin
 -- with
 abbrev pub IsColumnOf : ℕ → ℕ → Type 0
-IsColumnOf c column = ((c < 128) × (column ≡ c)) ⊎ ((128 ≤ c) × (192 ≤ column))
+IsColumnOf c column = ((c < CONTINUATION) × (column ≡ c)) ⊎ ((CONTINUATION ≤ c) × (PAST_ASCII ≤ column))
 
 -- the first of them
 abbrev pub column_of : ℕ → ℕ
-column_of c = if nat_lt c 128 then c else 192
+column_of c = if nat_lt c CONTINUATION then c else PAST_ASCII
 
 -- the cell of a state and a column
 abbrev pub cell_at : List ℕ → ℕ → ℕ → ℕ
-cell_at cells i column = slice_index_or cells (i * 256 + column) 255
+cell_at cells i column = slice_index_or cells (i * STRIDE + column) QUIT
 
 -- what is in the cell is right for each character of the column
 abbrev pub IsCellOf : Unrolled → Bool → List State → ℕ → ℕ → ℕ → Type 0
@@ -70,20 +72,21 @@ IsCellOf p unanchored states i column cell =
 -- each filled cell is what a step gives, and by continuation bytes a state stays
 pub record IsDfaOf (p : Unrolled) (unanchored : Bool) (states : List State) (cells : List ℕ) : Type 0 where
   pub known : AreStates p states
-  pub few : length states ≤ 254
-  pub cell : (i column : ℕ) → i < length states → column < 256 →
+  pub few : length states ≤ MAX_STATES
+  pub cell : (i column : ℕ) → i < length states → column < STRIDE →
       IsCellOf p unanchored states i column (cell_at cells i column)
-  pub stays : (i column : ℕ) → i * 256 + column < length cells → 128 ≤ column → column < 192 →
+  pub stays : (i column : ℕ) → i * STRIDE + column < length cells → CONTINUATION ≤ column
+      → column < PAST_ASCII →
       cell_at cells i column ≡ i
 
 -- the same with all cells of each state
 pub record IsDfa (p : Unrolled) (unanchored : Bool) (dfa : Dfa) : Type 0 where
   pub steps : IsDfaOf p unanchored dfa.states.items dfa.cells.items
-  pub full : length dfa.cells.items ≡ length dfa.states.items * 256
+  pub full : length dfa.cells.items ≡ length dfa.states.items * STRIDE
 
 -- the number behind a state's by a byte; where there are no cells, it stays
 abbrev pub state_after : List ℕ → ℕ → ℕ → ℕ
-state_after cells s b = slice_index_or cells (s * 256 + b) s
+state_after cells s b = slice_index_or cells (s * STRIDE + b) s
 
 -- the number behind a state's by these bytes
 abbrev pub state_behind : List ℕ → ℕ → List ℕ → ℕ

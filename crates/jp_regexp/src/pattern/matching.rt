@@ -10,7 +10,7 @@ use crate::pattern::Pattern;
 use std::alloc::{AllocError, Global};
 
 /// The characters of a text.
-pub fn characters(alloc: Global, text: &str) -> Result<Vec<char>, AllocError>
+pub(crate) fn characters(alloc: Global, text: &str) -> Result<Vec<char>, AllocError>
     ensures { IfOk result (λ v. v.items ≡ chars text.now) }
 {
     text.chars().collect(alloc)

@@ -9,8 +9,8 @@ ghost use Rattle.jp_regexp.specs.inner.Dfa.{IsDfa};
 ghost use Rattle.jp_regexp.specs.Unrolled.{letters};
 
 use crate::byte_classes::make_byte_classes;
-use crate::determinize::{MAX_STATES, make_dfa};
-use crate::dfa::Dfa;
+use crate::determinize::make_dfa;
+use crate::dfa::{Dfa, MAX_STATES};
 use crate::dfa_input::DfaInput;
 use crate::expressions::{Expression, expression_of};
 use crate::fault::Fault;
@@ -20,6 +20,7 @@ use crate::prefilter::{Prefilter, make_prefilter};
 use crate::read_patterns;
 use std::alloc::{AllocError, Global};
 
+/// The greatest unrolled size, a limit of this implementation (RFC 9485, 8).
 const MAX_SIZE: u32 = 10_000;
 
 /// How many states a DFA has at most, times the pattern's size: they are all made ahead of time.
@@ -121,7 +122,7 @@ fn dfas_of(alloc: Global, root: &Expression) -> Result<(Dfa, Dfa), AllocError>
 
 /// How many states a DFA of a pattern of this size has at most.
 fn most_states(size: u32) -> usize
-    ensures { result ≤ 254 }
+    ensures { result ≤ MAX_STATES }
 {
     (STATES_BY_SIZE / size.max(1)).min(MAX_STATES as u32) as usize
 }
