@@ -116,7 +116,10 @@ def measure(case, arguments, paths, others, room):
     for _ in range(arguments.rounds):
         for program in programs:
             if not program.slow:
-                program.keep(Run(program.words, source, os.devnull, os.path.join(room, "notes")))
+                timed = Run(program.words, source, os.devnull, os.path.join(room, "notes"))
+                if timed.status != 0:
+                    tools.refuse("%s ends with status %d on the case %s" % (program.name, timed.status, name))
+                program.keep(timed)
     return {program.name: program.best for program in programs}, os.path.getsize(source) / 1e6
 
 

@@ -1,9 +1,15 @@
-# Completion of jp in bash: its options. A query is written by hand.
+# Completion of jp in bash: its options, and else file names. A query is written by hand.
 _jp() {
+    local word=${COMP_WORDS[COMP_CWORD]}
     case ${COMP_WORDS[COMP_CWORD - 1]} in
-        --workers | --piece | --batch) return ;;
+        --workers | --piece | --batch)
+            compopt +o default
+            return
+            ;;
     esac
+    if [[ $word != -* ]]; then return; fi
     local options='--workers --piece --batch --check --keep-going --help --version'
-    mapfile -t COMPREPLY < <(compgen -W "$options" -- "${COMP_WORDS[COMP_CWORD]}")
+    mapfile -t COMPREPLY < <(compgen -W "$options" -- "$word")
 }
-complete -F _jp jp
+# Where the function offers nothing, as behind < and >, bash completes file names.
+complete -o default -F _jp jp

@@ -98,7 +98,7 @@ fn a_check_reads_nothing(rt: HostRuntime) -> Result<(), Fail> {
     Ok(())
 }
 
-/// The program's name, its version, and the toolchain that it was proved with, in one line.
+/// The program's name, its version, and the logic that it was proved with, in one line.
 #[test]
 fn the_version_is_told(rt: HostRuntime) -> Result<(), Fail> {
     for word in &["--version", "-V"] {
@@ -107,7 +107,7 @@ fn the_version_is_told(rt: HostRuntime) -> Result<(), Fail> {
         assert_eq!(rt; left.notes.as_slice(), "".as_bytes());
         let text = str::from_utf8(&left.output)?;
         assert!(rt; text.starts_with("jp 0."));
-        assert!(rt; text.contains(" (proved with rattle-kit-"));
+        assert!(rt; text.contains(" (proved with logic "));
         assert!(rt; text.ends_with(")\n"));
         assert_eq!(rt; text.lines().count(), 1);
     }
