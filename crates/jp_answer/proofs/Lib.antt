@@ -4,6 +4,7 @@ pub mod Joining
 pub mod OnLiterals
 pub mod Placing
 pub mod Settling
+pub mod Stopping
 pub mod Streams
 pub mod Tending
 pub mod PlanCrosses

@@ -1,13 +1,13 @@
 -- What each step of a worker does to what it has done.
 use Rattle.std.proofs.Common.{◌≡◌, ◌≢◌, refl, inl, inr, ℕ, ◌+◌, ◌-◌, ◌<◌, List, [], ◌∷◌, ◌++◌, Option, Some}
 use Rattle.std.proofs.Common.{None, option_map, Result, Ok, Err, Bool, true, false, Contains, sym, subst}
-use Rattle.std.proofs.Common.{⊎_elim, arith}
+use Rattle.std.proofs.Common.{⊎_elim, arith, ap, max, All, ◌≤◌}
 use Rattle.std.specs.Prelude.{⊤, OnOk, IsSome, is_some, is_err}
 use mathlib.Core.Logic.{dite, ◌⊎◌}
 use native.Mathlib.Decide.{ℕ_discrete}
 use Rattle.std.proofs.lemmas.List.{map-append}
 use Rattle.std.proofs.lemmas.List.Elements.{All-nil, All-push, Contains-push, Contains-push_cases}
-use Rattle.std.proofs.lemmas.List.Elements.{Contains-append_left}
+use Rattle.std.proofs.lemmas.List.Elements.{Contains-append_left, All-head, All-tail}
 use Rattle.jp_answer.specs.Pieces.{IsFaulty, IsPieceAnswer}
 use Rattle.jp_answer.specs.Worked.{pieces_of, AreSound, IsTended, AreTended, OthersAreTended}
 use Rattle.jp_answer.specs.declared.outcome.Outcome.{Outcome}
@@ -150,5 +150,37 @@ at_ok (Ok x) failed is fine h = h
 at_ok (Err e) failed is fine h = absurd (cc)
 
 -- the place from which the next claim is above all earlier ones
-pub floor_above : (claims : List ℕ) (x : ℕ) → Contains claims x → (x + 1 ≡ 0) ⊎ Contains claims (x + 1 - 1)
-floor_above claims x h = let e : x ≡ x + 1 - 1 = omega arith in inr (subst (Contains claims) e h)
+pub next_above : List ℕ → ℕ
+next_above [] = 0
+next_above (x ∷ xs) = max (x + 1) (next_above xs)
+
+next_within : (claims : List ℕ) (i : ℕ) → All (λ x. x < i) claims → next_above claims ≤ i
+unfolding next_above
+next_within [] i rises = omega arith
+next_within (x ∷ claims) i rises = omega (
+  arith,
+  All-head (λ x. x < i) x claims rises,
+  next_within claims i (All-tail (λ x. x < i) x claims rises),
+)
+
+next_push : (claims : List ℕ) (i : ℕ) → i < next_above (claims ++ i ∷ [])
+unfolding next_above
+next_push [] i = omega arith
+next_push (x ∷ claims) i = omega (arith, next_push claims i)
+
+-- each claim brings the end nearer
+pub nearer : (claims now : List ℕ) (i pieces : ℕ) → All (λ x. x < i) claims → i < pieces
+    → now ≡ claims ++ i ∷ [] → pieces - next_above now < pieces - next_above claims
+nearer claims now i pieces rises within is = omega (
+  arith,
+  next_within claims i rises,
+  next_push claims i,
+  ap next_above is,
+)
+
+-- the same claims and reports
+pub sound_same : (p : Pieces) (claims reports more told : List ℕ) (parts : List PieceAnswer) → more ≡ claims
+    → told ≡ reports → AreSound p claims reports parts → AreSound p more told parts
+sound_same p claims reports more told parts e f s =
+    subst (λ (l : List ℕ). AreSound p l told parts) (sym e)
+    (subst (λ (l : List ℕ). AreSound p claims l parts) (sym f) s)

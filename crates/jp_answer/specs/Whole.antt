@@ -1,5 +1,6 @@
 -- The answer that keeps going after a faulty line.
-use Rattle.std.specs.Prelude.{ℕ, ◌+◌, Bool, List, ◌++◌, length, Result, Ok, Err, is_err}
+use Rattle.std.specs.Prelude.{◌≡◌, ℕ, ◌+◌, Bool, List, [], ◌++◌, length, Option, Some, None}
+use Rattle.std.specs.Prelude.{Result, Ok, Err, is_err}
 use Rattle.std.specs.List.{flat_map, filter}
 use Rattle.jp_doc.specs.Json.{Json}
 use Rattle.jp_doc.specs.Lines.{Line, lines}
@@ -42,6 +43,12 @@ stream_whole tests q bytes = whole tests q (lines bytes)
 -- one answer after another
 abbrev pub both : Whole → Whole → Whole
 both a b = record { bytes = a.bytes ++ b.bytes; faulty = a.faulty + b.faulty }
+
+-- the bytes that it has behind those of the answer that stops so: none where that doesn't stop, else first
+-- the fault line of the line that stopped it
+abbrev pub FollowsStop : Option (ℕ × DocFault) → List ℕ → Type 0
+FollowsStop None rest = rest ≡ []
+FollowsStop (Some stop) rest = (more : List ℕ) × (rest ≡ fault_line stop.0 stop.1 ++ more)
 
 -- what a `Whole` of `src/` stands for
 abbrev pub whole_of : code.Whole → Whole

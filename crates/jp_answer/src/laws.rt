@@ -13,7 +13,7 @@ ghost use Rattle.jp_answer.specs.Answered.{IsAnswerIn, IsAnswerTo};
 ghost use Rattle.jp_answer.specs.Faults.{first_fault};
 ghost use Rattle.jp_answer.specs.Form.{answer_in};
 ghost use Rattle.jp_answer.specs.Streams.{AreWholeLines, line_feeds, AreBlocks, placed_blocks, in_turn};
-ghost use Rattle.jp_answer.specs.Whole.{both, whole, stream_whole};
+ghost use Rattle.jp_answer.specs.Whole.{both, whole, stream_whole, FollowsStop};
 
 /// The answer to lines and further lines is the answer to the first where that has stopped, and else its
 /// bytes and then the answer to the further lines. So it is the same in whatever pieces the lines are taken.
@@ -71,4 +71,15 @@ pub fn forms()
     ensures bytes { (t : Tests) (q : Query) (ls : List Line) → (answer_in true t q ls).bytes
         ≡ (whole t q ls).bytes }
     ensures end { (t : Tests) (q : Query) (ls : List Line) → (answer_in true t q ls).stopped ≡ None }
+{}
+
+/// The two forms agree up to the first faulty line: the bytes of the answer that keeps going are those of the
+/// answer, and then nothing where that has not stopped, else a rest that begins with the fault line of the
+/// line that stopped it. So of an answer that keeps going, what stands before that fault line is the answer.
+pub fn stops_before()
+    ensures lines { (t : Tests) (q : Query) (ls : List Line) → (rest : List ℕ)
+        × ((whole t q ls).bytes ≡ (answer t q ls).bytes ++ rest) × FollowsStop (answer t q ls).stopped rest }
+    ensures streams { (t : Tests) (q : Query) (bytes : List ℕ) → (rest : List ℕ)
+        × ((stream_whole t q bytes).bytes ≡ (stream_answer t q bytes).bytes ++ rest)
+        × FollowsStop (stream_answer t q bytes).stopped rest }
 {}

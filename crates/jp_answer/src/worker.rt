@@ -1,9 +1,10 @@
 //! A worker, which claims pieces until none is left.
 
-ghost use Rattle.std.specs.Prelude.{◌≡◌, ◌*◌, ◌<◌, [], length, Contains, OnOk};
+ghost use Rattle.std.specs.Prelude.{◌≡◌, ◌*◌, ◌<◌, [], true, List, length, Contains, OnOk};
 ghost use Rattle.jp_board.specs.Seats.{IsSeatOf, IsFresh, view_of, pieces_of as pieces_of_board, made_of};
 ghost use Rattle.jp_answer.specs.Pieces.{AreAllPieces};
 ghost use Rattle.jp_answer.specs.Worked.{AreSound, AreTended, OthersAreTended, IsWorked};
+ghost use Rattle.jp_answer.specs.declared.worker.PieceAnswer.{PieceAnswer as Part};
 
 use crate::gate::Gate;
 use crate::outcome::Outcome;
@@ -47,10 +48,8 @@ pub(crate) fn work<R: Threads + Sync, G: Gate>(
     let mut reader = FlatReader::new(alloc);
     let mut parts = Vec::new(alloc);
     let mut wanted = false;
-    // No later claim is lower, so the loop ends.
-    let mut floor = 0;
+    // Each claim is above the earlier ones, so the loop ends.
     while let Some(piece) = board.claim(&mut seat) {
-        floor = piece + 1;
         if !wanted {
             wanted = tend(
                 rt,
@@ -73,8 +72,7 @@ pub(crate) fn work<R: Threads + Sync, G: Gate>(
     }
 }
 
-/// Looks at the mark, and unless it is lower, takes the piece. Where the answer keeps going there is no mark
-/// to look at.
+/// Leaves the piece where the mark is lower. Else answers it, and reports it where its answer has stopped.
 fn tend<R: Threads + Sync, G: Gate>(
     rt: &R,
     alloc: Global,
@@ -97,39 +95,9 @@ fn tend<R: Threads + Sync, G: Gate>(
     ensures tended { OnOk result (AreTended (view_of seat.new).claims (view_of seat.new).looks
         parts.new.items) }
 {
-    if pieces.keeps_going {
-        return take(rt, alloc, reader, pieces, board, gate, seat, piece, parts);
-    }
-    let mark = board.look(seat);
-    if mark < piece {
+    if is_left(pieces, board, seat, piece) {
         return Ok(());
     }
-    take(rt, alloc, reader, pieces, board, gate, seat, piece, parts)
-}
-
-/// Answers the piece, and reports it where its answer has stopped.
-fn take<R: Threads + Sync, G: Gate>(
-    rt: &R,
-    alloc: Global,
-    reader: &mut FlatReader,
-    pieces: &Pieces,
-    board: &Board,
-    gate: &G,
-    seat: &mut Seat,
-    piece: u64,
-    parts: &mut Vec<PieceAnswer>,
-) -> Result<(), AllocError>
-    requires seat { IsSeatOf board.now seat.old × Contains (view_of seat.old).claims piece }
-    requires piece { piece * pieces.now.size < length pieces.now.lines.now }
-    requires sound { AreSound pieces.now (view_of seat.old).claims (view_of seat.old).reports
-        parts.old.items }
-    requires tended { OthersAreTended piece (view_of seat.old).claims (view_of seat.old).looks
-        parts.old.items }
-    ensures seat { IsSeatOf board.now seat.new × ((view_of seat.new).claims ≡ (view_of seat.old).claims) }
-    ensures sound { AreSound pieces.now (view_of seat.new).claims (view_of seat.new).reports parts.new.items }
-    ensures tended { OnOk result (AreTended (view_of seat.new).claims (view_of seat.new).looks
-        parts.new.items) }
-{
     gate.pass(piece);
     let answer = pieces.answer(rt, alloc, reader, piece)?;
     let stopped = answer.stopped.is_some();
@@ -138,4 +106,23 @@ fn take<R: Threads + Sync, G: Gate>(
         board.report(seat, piece);
     }
     Ok(())
+}
+
+/// Whether the mark is lower than the piece. Where the answer keeps going there is no mark to look at.
+fn is_left(pieces: &Pieces, board: &Board, seat: &mut Seat, piece: u64) -> bool
+    requires { IsSeatOf board.now seat.old }
+    ensures seat { IsSeatOf board.now seat.new × ((view_of seat.new).claims ≡ (view_of seat.old).claims)
+        × ((view_of seat.new).reports ≡ (view_of seat.old).reports) }
+    ensures others { (parts : List Part) → OthersAreTended piece (view_of seat.old).claims
+        (view_of seat.old).looks parts → OthersAreTended piece (view_of seat.new).claims
+        (view_of seat.new).looks parts }
+    ensures left { (parts : List Part) → OthersAreTended piece (view_of seat.old).claims
+        (view_of seat.old).looks parts → result ≡ true → AreTended (view_of seat.new).claims
+        (view_of seat.new).looks parts }
+{
+    if pieces.keeps_going {
+        return false;
+    }
+    let mark = board.look(seat);
+    mark < piece
 }

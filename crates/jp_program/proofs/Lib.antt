@@ -1,3 +1,4 @@
+mod OneWish
 mod Ran
 mod Saying
 mod Told

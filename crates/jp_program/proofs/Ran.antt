@@ -45,22 +45,34 @@ module _ (words : List Text) (w : Wanted) (wants : WantsRun words w) (input old 
       → OnOk r (IsToldIn w.keeps_going w.query None input old new)
       → IfOk r (λ totals. IfSome input (λ bytes. totals.faulty ≡ passed_in w.keeps_going (lines bytes)))
       → (w.keeps_going ≡ false → IfOk r (λ totals. totals.faulty ≡ 0))
+      → OnOk r (IsAtEnd rest) → OnOk r (flushed ≡ true)
+      → OnOk r ((source_failed ≡ false) × (sink_failed ≡ false))
       → IfOk r (λ totals. 0 < totals.faulty → (x : Wanted) × WantsRun words x × (x.keeps_going ≡ true)
-      × IsPast x.query input old new)
-  past_by false is (Ok totals) told faulty none = λ lt. absurd (omega (arith, lt, none is))
-  past_by true is (Ok totals) told faulty none = λ lt. (
+      × IsPast x.query input old new × IsAtEnd rest × (flushed ≡ true)
+      × (source_failed ≡ false) × (sink_failed ≡ false))
+  past_by false is (Ok totals) told faulty none end passed working =
+      λ lt. absurd (omega (arith, lt, none is))
+  past_by true is (Ok totals) told faulty none end passed working = λ lt. (
     w,
     wants,
     is,
     past w.query input old new totals.faulty
         (subst (λ g. IsToldIn g w.query None input old new) is told)
         (subst (λ g. IfSome input (λ bytes. totals.faulty ≡ passed_in g (lines bytes))) is faulty) lt,
+    end,
+    passed,
+    working.0,
+    working.1,
   )
-  past_by going is (Err fault) told faulty none = tt
+  past_by going is (Err fault) told faulty none end passed working = tt
 
   pub past_ok : (r : Result Totals RunFault) → OnOk r (IsToldIn w.keeps_going w.query None input old new)
       → IfOk r (λ totals. IfSome input (λ bytes. totals.faulty ≡ passed_in w.keeps_going (lines bytes)))
       → (w.keeps_going ≡ false → IfOk r (λ totals. totals.faulty ≡ 0))
+      → OnOk r (IsAtEnd rest) → OnOk r (flushed ≡ true)
+      → OnOk r ((source_failed ≡ false) × (sink_failed ≡ false))
       → IfOk r (λ totals. 0 < totals.faulty → (x : Wanted) × WantsRun words x × (x.keeps_going ≡ true)
-      × IsPast x.query input old new)
-  past_ok r told faulty none = past_by w.keeps_going refl r told faulty none
+      × IsPast x.query input old new × IsAtEnd rest × (flushed ≡ true)
+      × (source_failed ≡ false) × (sink_failed ≡ false))
+  past_ok r told faulty none end passed working =
+      past_by w.keeps_going refl r told faulty none end passed working

@@ -1,7 +1,8 @@
 -- What a run has told still holds once its sink is flushed, and says what its status says.
 use Rattle.std.proofs.Common.{◌≡◌, ◌∙◌, ℕ, ◌<◌, ◌⊎◌, inl, inr, Bool, true, false, List, [], ◌∷◌, ◌++◌, length}
 use Rattle.std.proofs.Common.{cond, Option, Some, None, IfSome, Result, Ok, Err, refl, ap, sym}
-use Rattle.std.proofs.Common.{arith}
+use Rattle.std.proofs.Common.{arith, subst}
+use Rattle.std.proofs.KnownBytes.{Keeps-refl}
 use Rattle.std.specs.Prelude.{is_err}
 use Rattle.std.specs.List.{filter}
 use Rattle.std.specs.Io.KnownBytes.{Appends, Keeps}
@@ -32,6 +33,15 @@ kept None new after bytes a k = tt
 kept (Some x) None after bytes a k = absurd a
 kept (Some x) (Some y) None bytes a k = absurd k
 kept (Some x) (Some y) (Some z) bytes a k = k ∙ a
+
+pub kept_same : {A : Type 0} (contents : A → Option (List ℕ)) (old new : A) → new ≡ old
+    → Keeps (contents old) (contents new)
+kept_same contents old new e =
+    subst (λ s. Keeps (contents old) (contents s)) (sym e) (Keeps-refl (contents old))
+
+pub kept_from : {A : Type 0} (contents : A → Option (List ℕ)) (old new after : A) → new ≡ old
+    → Keeps (contents new) (contents after) → Keeps (contents old) (contents after)
+kept_from contents old new after e k = subst (λ s. Keeps (contents s) (contents after)) e k
 
 pub answered_kept : (text : Text) (stopped : Option (ℕ × DocFault)) (input old new after : Option (List ℕ))
     → IsAnswered text stopped input old new → Keeps new after → IsAnswered text stopped input old after
@@ -178,6 +188,21 @@ settings_of Write e = absurd (omega arith)
 settings_of Limit e = absurd (omega arith)
 settings_of Memory e = absurd (omega arith)
 settings_of Settings e = refl
+
+-- a refused query ends in its fault or in want of memory
+pub never_both : {T P : Type 0} (x : T) (f g : RunFault) → ◌≡◌ {A = Result T RunFault} (Ok x) (Err f)
+    ⊎ ◌≡◌ {A = Result T RunFault} (Ok x) (Err g) → P
+never_both x f g (inl e) = absurd (cc)
+never_both x f g (inr e) = absurd (cc)
+
+fault_same : {T : Type 0} (f g : RunFault) → ◌≡◌ {A = Result T RunFault} (Err f) (Err g) → f ≡ g
+fault_same f g e = cc
+
+pub status_so : {T : Type 0} (fault : RunFault) (f : QueryFault) (status : ℕ) → status ≡ status_of fault
+    → ◌≡◌ {A = Result T RunFault} (Err fault) (Err (Query f))
+    ⊎ ◌≡◌ {A = Result T RunFault} (Err fault) (Err Memory) → (status ≡ 2) ⊎ (status ≡ 5)
+status_so fault f status s (inl e) = inl (s ∙ ap status_of (fault_same fault (Query f) e))
+status_so fault f status s (inr e) = inr (s ∙ ap status_of (fault_same fault Memory e))
 
 pub of_two : {A B C : Type 0} → (A → C) → (B → C) → A ⊎ B → C
 of_two f g (inl a) = f a

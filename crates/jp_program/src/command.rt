@@ -61,8 +61,8 @@ pub fn program<R: Threads + AllocGlobal + Sync, S: Source, K: Sink, N: Sink>(
     ensures query { result ≡ 2 → (f : Refusal) × (w : Wish) × Wants (texts words.now) w
         × IsVerdict w.query (Err f) × (source.new ≡ source.old) × (sink.new ≡ sink.old) }
     // 3: the lines of the documents before the first faulty line were written, and no read followed the one
-    // that completed its batch; or to keep going was asked for, and the answer that does was written and has
-    // passed faulty lines.
+    // that completed its batch; or to keep going was asked for, and the answer that does was written and
+    // passed on, it has passed faulty lines, and neither end has failed.
     ensures document { result ≡ 3 → ((line : ℕ) × (fault : Fault) × (w : Wish)
         × WantsRun (texts words.now) w × (w.keeps_going ≡ false)
         × IsAnswered w.query (Some (line, fault)) (S.remaining source.old) (K.contents sink.old)
@@ -70,7 +70,9 @@ pub fn program<R: Threads + AllocGlobal + Sync, S: Source, K: Sink, N: Sink>(
         × (bytes : List ℕ) × Consumes (S.remaining source.old) (S.remaining source.new) bytes
         × WasNotWhole w.batch line bytes (S.last source.new))
         ⊎ ((w : Wish) × WantsRun (texts words.now) w × (w.keeps_going ≡ true)
-        × IsPast w.query (S.remaining source.old) (K.contents sink.old) (K.contents sink.new)) }
+        × IsPast w.query (S.remaining source.old) (K.contents sink.old) (K.contents sink.new)
+        × IsAtEnd (S.remaining source.new) × (K.flushed sink.new ≡ true)
+        × (S.failed source.new ≡ false) × (K.failed sink.new ≡ false)) }
     // 4: a front of the wanted answer was written, and the source has failed, the sink has, or a limit was
     // passed.
     ensures failed { result ≡ 4 → (w : Wish) × WantsRun (texts words.now) w
@@ -80,13 +82,21 @@ pub fn program<R: Threads + AllocGlobal + Sync, S: Source, K: Sink, N: Sink>(
         ⊎ (K.failed sink.new ≡ true)
         ⊎ AreAllReads (S.reads source.old) (S.reads source.new)
         ⊎ AreTooManyLines (S.remaining source.old) (S.remaining source.new)) }
-    // 5: nothing was written, or a front of the wanted answer.
-    ensures memory { result ≡ 5 → Keeps (K.contents sink.old) (K.contents sink.new)
+    // 5: nothing was read or written, or a front of the wanted answer was written.
+    ensures memory { result ≡ 5
+        → ((source.new ≡ source.old) × Keeps (K.contents sink.old) (K.contents sink.new))
         ⊎ ((w : Wish) × WantsRun (texts words.now) w
         × IsFront w (S.remaining source.old) (K.contents sink.old) (K.contents sink.new)) }
     // 64: the words are wrong, or a number is out of its range, and nothing was read or written.
     ensures command_line { result ≡ 64 → IsWrong (texts words.now)
         × (source.new ≡ source.old) × (sink.new ≡ sink.old) }
+    // A query that is refused ends with 2, or with 5 for want of memory, and nothing was read or written.
+    ensures refused { (f : Refusal) (w : Wish) → Wants (texts words.now) w → IsVerdict w.query (Err f)
+        → ((result ≡ 2) ⊎ (result ≡ 5)) × (source.new ≡ source.old)
+        × Keeps (K.contents sink.old) (K.contents sink.new) }
+    // A check reads and writes nothing, whatever its status.
+    ensures check { (w : Wish) → WantsCheck (texts words.now) w
+        → (source.new ≡ source.old) × Keeps (K.contents sink.old) (K.contents sink.new) }
     // After a fault the sink holds nothing back: it was flushed, or one of its calls has failed.
     ensures passed_on { (result ≡ 3) ⊎ (result ≡ 4) ⊎ (result ≡ 5)
         → IsPassedOn (K.flushed sink.new) (K.failed sink.new) }
@@ -125,8 +135,15 @@ fn done<R: Threads + AllocGlobal + Sync, S: Source, K: Sink>(
         × (S.failed source.new ≡ false) × (K.failed sink.new ≡ false))) }
     ensures past { IfOk result (λ totals. 0 < totals.faulty → (w : Wish)
         × WantsRun (texts words.now) w × (w.keeps_going ≡ true)
-        × IsPast w.query (S.remaining source.old) (K.contents sink.old) (K.contents sink.new)) }
+        × IsPast w.query (S.remaining source.old) (K.contents sink.old) (K.contents sink.new)
+        × IsAtEnd (S.remaining source.new) × (K.flushed sink.new ≡ true)
+        × (S.failed source.new ≡ false) × (K.failed sink.new ≡ false)) }
     ensures passed_on { IfOk result (λ totals. 0 < totals.faulty → K.flushed sink.new ≡ true) }
+    ensures refused { (f : Refusal) (w : Wish) → Wants (texts words.now) w → IsVerdict w.query (Err f)
+        → (IsErrOf result (RunFault.Query f) ⊎ IsErrOf result RunFault.Memory)
+        × (source.new ≡ source.old) × (sink.new ≡ sink.old) }
+    ensures check { (w : Wish) → WantsCheck (texts words.now) w
+        → (source.new ≡ source.old) × (sink.new ≡ sink.old) }
     ensures query { (f : Refusal) → IsErrOf result (RunFault.Query f) → (w : Wish) × Wants (texts words.now) w
         × IsVerdict w.query (Err f) × (source.new ≡ source.old) × (sink.new ≡ sink.old) }
     ensures settings { IsErrOf result RunFault.Settings → IsWrong (texts words.now)
@@ -148,7 +165,7 @@ fn done<R: Threads + AllocGlobal + Sync, S: Source, K: Sink>(
         × IsFront w (S.remaining source.old) (K.contents sink.old) (K.contents sink.new)
         × (AreAllReads (S.reads source.old) (S.reads source.new)
         ⊎ AreTooManyLines (S.remaining source.old) (S.remaining source.new)) }
-    ensures memory { IsErrOf result RunFault.Memory → (sink.new ≡ sink.old)
+    ensures memory { IsErrOf result RunFault.Memory → ((source.new ≡ source.old) × (sink.new ≡ sink.old))
         ⊎ ((w : Wish) × WantsRun (texts words.now) w
         × IsFront w (S.remaining source.old) (K.contents sink.old) (K.contents sink.new)) }
 {

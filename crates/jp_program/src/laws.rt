@@ -1,8 +1,8 @@
 //! Laws of the definitions, each the contract of a function that does nothing.
 
-ghost use Rattle.std.specs.Prelude.{◌∷◌, ℕ, List, [], false};
+ghost use Rattle.std.specs.Prelude.{◌≡◌, ◌∷◌, ℕ, List, [], false};
 ghost use Rattle.std.specs.Str.{chars};
-ghost use Rattle.jp_program.specs.Wanted.{Wants};
+ghost use Rattle.jp_program.specs.Wanted.{Wanted, Wants};
 
 /// A command line that is a query alone, which begins with `$` as each query does: the words are taken, they
 /// want a run of that very query, and the rest is as by default. So they do whatever the program is called.
@@ -15,4 +15,10 @@ pub fn query_alone()
       piece = 64;
       batch = 4096;
     }) }
+{}
+
+/// Words want one thing: one query, a check of it or a run, one form of the answer, and one choice of
+/// settings.
+pub fn one_wish()
+    ensures { (words : List (List ℕ)) (v w : Wanted) → Wants words v → Wants words w → v ≡ w }
 {}

@@ -21,7 +21,7 @@ use Rattle.jp_tree.specs.Tree as tree
 use Rattle.jp_regexp.proofs.RightTests.{right_tests}
 use Rattle.jp_answer.specs.Answer.{Answer}
 use Rattle.jp_answer.specs.Faults.{first_fault}
-use Rattle.jp_answer.specs.Form.{stop_in, passed_in}
+use Rattle.jp_answer.specs.Form.{answer_in, stop_in, passed_in}
 use Rattle.jp_answer.proofs.Forms.{stop_so, passed_joined, passed_few, passed_none}
 use Rattle.jp_run.specs.declared.fault.RunFault.{RunFault}
 use Rattle.jp_run.specs.declared.fault.RunFault.TheVariants.{Query, Document, Read, Write, Limit}
@@ -29,9 +29,9 @@ use Rattle.jp_run.specs.declared.fault.RunFault.TheVariants.{Memory, Settings}
 use Rattle.jp_run.specs.declared.gathering.Answered.{Answered}
 use Rattle.jp_run.specs.declared.running.Totals.{Totals}
 use Rattle.jp_run.specs.Batches.{documents_in, in_batches, whole_batches, left_over}
-use Rattle.jp_run.specs.Batches.{documents_before, batch_of, WasNotWhole}
-use Rattle.jp_run.specs.inner.Ended.{Ends, InputFront, AnswerEnded, RestEnded, StreamEnded}
-use Rattle.jp_run.specs.Handed.{Handed, HandedFront}
+use Rattle.jp_run.specs.Batches.{documents_before, batch_of, WasNotWhole, but_last, batches_before}
+use Rattle.jp_run.specs.inner.Ended.{Ends, InputFront, BatchesOut, AnswerEnded, RestEnded, StreamEnded}
+use Rattle.jp_run.specs.Handed.{Handed, HandedFront, HandedFirst}
 use Rattle.jp_run.proofs.Batching.{batches_fit, few_left, in_both, whole_both, left_both}
 use Rattle.jp_run.proofs.Handing.{handed_none, handed_both, handed_stopped, handed_front, front_more}
 use Rattle.jp_run.proofs.Handing.{front_after}
@@ -293,6 +293,10 @@ module _ (going : Bool) (q : tree.Query) (batch : ℕ) (some : 0 < batch) where
   ended_front e (Query fault) h = absurd h
   ended_front e Settings h = absurd h
 
+  none_cut : (bytes : List ℕ) (last : ℕ) → last ≡ 0 → but_last last bytes ≡ bytes
+  none_cut bytes last e = ap (λ n. take n bytes) {x = length bytes - last} {y = length bytes}
+      (omega (arith, e)) ∙ take-length bytes
+
   -- the first faulty line of those that were read last
   not_whole : (before bytes : List ℕ) (last number : ℕ) (fault : DocFault) (back more : List Line)
       → take (length bytes - last) bytes ≡ before
@@ -310,6 +314,17 @@ module _ (going : Bool) (q : tree.Query) (batch : ℕ) (some : 0 < batch) where
       let below : k + 1 ≤ m / batch + 1 = omega (arith, le-div k m batch some low) in
       subst (λ l. length (documents_in l) < batch_of batch number (lines bytes) * batch) (sym e)
       (omega (arith, few_left batch first some, mul-le-mul_right {m = k + 1} {n = m / batch + 1} batch below))
+
+  -- the answer to lines was handed out, and then a front of that to others
+  first_out : (ls rest : List Line) (s u v : Option (List ℕ)) (first : List Line) → first ≡ ls
+      → Handed going q ls None s u → HandedFront going q rest u v → HandedFirst going q first s v
+  first_out ls rest s u v first e h front =
+      let beyond = front right_tests.0 right_tests.1 in record {
+        between = u;
+        handed = subst (λ (l : List Line). Handed going q l None s u) (sym e) h;
+        more = take beyond.0 (answer_in going right_tests.0 q rest).bytes;
+        appended = beyond.2;
+      }
 
   handed_stop : (ls : List Line) (s : ℕ × DocFault) (a b : Option (List ℕ))
       → Handed going q ls (Some s) a b → stop_in going ls ≡ Some s
@@ -354,6 +369,15 @@ module _ (going : Bool) (q : tree.Query) (batch : ℕ) (some : 0 < batch) where
         (subst (λ (l : List Line). HandedFront going q l e.sink_old e.sink_new) (sym all_documents)
         (front_after going q first_lines all e.sink_old u e.sink_new g.handed h))
 
+    batches_out : HandedFront going q all u e.sink_new → BatchesOut going q batch e
+    batches_out h = (
+      g.bytes ++ g.piece,
+      g.consumed,
+      first_out (whole_batches batch (documents_in g.bytes)) all e.sink_old u e.sink_new
+          (batches_before batch (g.bytes ++ g.piece) e.last)
+          (ap (λ l. whole_batches batch (documents_in l)) last_cut) g.handed h,
+    )
+
     batch_stopped : (line : ℕ) (fault : DocFault) → Handed going q all (Some (line, fault)) u e.sink_new
         → StreamEnded going q batch e (Document line fault)
     unfolding first_lines
@@ -378,7 +402,7 @@ module _ (going : Bool) (q : tree.Query) (batch : ℕ) (some : 0 < batch) where
     pub batch_ended : (f : RunFault) → AnswerEnded going q all e.sink_failed u e.sink_new f
         → StreamEnded going q batch e f
     batch_ended (Document line fault) h = batch_stopped line fault h
-    batch_ended Write h = (h.0, batch_front h.1)
+    batch_ended Write h = (h.0, batch_front h.1, batches_out h.1)
     batch_ended Memory h = batch_front h
     batch_ended (Query fault) h = absurd h
     batch_ended Read h = absurd h
@@ -493,8 +517,17 @@ module _ (going : Bool) (q : tree.Query) (batch : ℕ) (some : 0 < batch) where
     ),
     never_going (kept ++ finished_lines p) (line, fault) u e.sink_new h,
   )
-  rest_ended e u p kept answered Write st end none h =
-      (h.0, rest_front e.source_old e.source_new e.sink_old u e.sink_new p kept answered st end h.1)
+  rest_ended e u p kept answered Write st end none h = (
+    h.0,
+    rest_front e.source_old e.source_new e.sink_old u e.sink_new p kept answered st end h.1,
+    (
+      st.bytes,
+      st.consumed,
+      first_out (whole_batches batch (documents_in st.bytes)) (kept ++ finished_lines p) e.sink_old u
+          e.sink_new (batches_before batch st.bytes e.last)
+          (ap (λ l. whole_batches batch (documents_in l)) (none_cut st.bytes e.last none)) st.handed h.1,
+    ),
+  )
   rest_ended e u p kept answered Limit st end none h = (
     inr (
       st.bytes,

@@ -28,7 +28,15 @@ documents_before number ls = length (filter (λ l. nat_lt l.0 number) ls)
 abbrev pub batch_of : ℕ → ℕ → List Line → ℕ
 batch_of batch number ls = documents_before number ls / batch + 1
 
+-- the bytes less so many at their end
+abbrev pub but_last : ℕ → List ℕ → List ℕ
+but_last last bytes = take (length bytes - last) bytes
+
 -- The bytes less so many at their end hold the line's end of too few documents for that batch.
 abbrev pub WasNotWhole : ℕ → ℕ → List ℕ → ℕ → Type 0
-WasNotWhole batch number bytes last = length (documents_in (take (length bytes - last) bytes))
+WasNotWhole batch number bytes last = length (documents_in (but_last last bytes))
     < batch_of batch number (lines bytes) * batch
+
+-- the whole batches among the documents whose line's end is in the bytes less so many at their end
+abbrev pub batches_before : ℕ → List ℕ → ℕ → List Line
+batches_before batch bytes last = whole_batches batch (documents_in (but_last last bytes))

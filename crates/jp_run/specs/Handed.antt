@@ -1,5 +1,5 @@
 -- The answer to lines, in either form, handed to a sink.
-use Rattle.std.specs.Prelude.{◌≡◌, ℕ, Bool, List, Option}
+use Rattle.std.specs.Prelude.{◌≡◌, ℕ, Bool, List, Option, None}
 use Rattle.std.specs.Io.KnownBytes.{Appends}
 use Rattle.jp_doc.specs.Lines.{Line}
 use Rattle.jp_doc.specs.declared.fault.DocFault.{DocFault}
@@ -23,8 +23,21 @@ abbrev pub HandedFront : Bool → Query → List Line → Option (List ℕ) → 
 HandedFront keeps_going q ls old new = (t : Tests) → AreRight t
     → AppendsFront old new (answer_in keeps_going t q ls).bytes
 
+-- the answer to the lines was handed out, all of it, and perhaps more bytes behind it
+pub record HandedFirst (keeps_going : Bool) (q : Query) (ls : List Line) (old new : Option (List ℕ)) : Type 0
+  where
+    pub between : Option (List ℕ)
+    pub handed : Handed keeps_going q ls None old between
+    pub more : List ℕ
+    pub appended : Appends between new more
+
 -- the text is accepted, and the answer to the lines of the query that it spells was handed out
 abbrev pub IsHanded : Bool → Text → List Line → Option (ℕ × DocFault) → Option (List ℕ) → Option (List ℕ)
     → Type 0
 IsHanded keeps_going text ls stop old new = (q : Query) × IsAccepted text q
     × Handed keeps_going q ls stop old new
+
+-- the same, and perhaps more bytes were handed out behind it
+abbrev pub IsHandedFirst : Bool → Text → List Line → Option (List ℕ) → Option (List ℕ) → Type 0
+IsHandedFirst keeps_going text ls old new = (q : Query) × IsAccepted text q
+    × HandedFirst keeps_going q ls old new

@@ -14,9 +14,9 @@ ghost use Rattle.jp_check.specs.Verdict.{IsAccepted, IsVerdict};
 ghost use Rattle.jp_answer.specs.Answer.{Answer};
 ghost use Rattle.jp_answer.specs.Answered.{IsAnswerIn};
 ghost use Rattle.jp_answer.specs.Form.{passed_in};
-ghost use Rattle.jp_run.specs.Batches.{documents_in, whole_batches, WasNotWhole};
+ghost use Rattle.jp_run.specs.Batches.{documents_in, whole_batches, WasNotWhole, batches_before};
 ghost use Rattle.jp_run.specs.inner.Ended.{StreamEnded};
-ghost use Rattle.jp_run.specs.Handed.{Handed, IsHanded};
+ghost use Rattle.jp_run.specs.Handed.{Handed, IsHanded, IsHandedFirst};
 ghost use Rattle.jp_run.specs.Limits.{max_reads, max_lines};
 ghost use Rattle.jp_run.specs.Written.{AppendsFront, IsPassedOn};
 
@@ -81,7 +81,8 @@ impl Totals {
 /// written, and there was no read after the one that completed its batch.
 /// - [`RunFault::Read`] only where the source failed: exactly the lines of the whole batches among the
 /// documents whose line's end was read were written.
-/// - [`RunFault::Write`] only where the sink failed: a front of the answer was written.
+/// - [`RunFault::Write`] only where the sink failed: a front of the answer was written, with all lines of the
+/// batches that were whole before the last read.
 /// - [`RunFault::Limit`] only after 2^40 calls of `read`, or past 4,294,967,295 lines: a front of the answer
 /// was written.
 /// - [`RunFault::Memory`] where a growth of memory was refused: a front of the answer was written.
@@ -145,6 +146,13 @@ pub fn run<R: Threads + Sync, S: Source, K: Sink, G: Gate + Sync>(
         (whole_batches settings.now.batch (documents_in bytes)) None
         (K.contents sink.old) (K.contents sink.new) }
     ensures write { IsErrOf result RunFault.Write → K.failed sink.new ≡ true }
+    // Where the sink failed, the lines of the whole batches among the documents whose line's end came before
+    // the last call of `read` are written, all of them: a batch is written before the read behind it.
+    ensures no_read_between { IsErrOf result RunFault.Write → (bytes : List ℕ)
+        × Consumes (S.remaining source.old) (S.remaining source.new) bytes
+        × IsHandedFirst settings.now.keeps_going (chars query.now)
+        (batches_before settings.now.batch bytes (S.last source.new))
+        (K.contents sink.old) (K.contents sink.new) }
     ensures limit { IsErrOf result RunFault.Limit → (S.reads source.new ≡ S.reads source.old + max_reads)
         ⊎ ((input : List ℕ) × Consumes (S.remaining source.old) (S.remaining source.new) input
         × (max_lines < line_count input)) }

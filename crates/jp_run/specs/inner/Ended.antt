@@ -9,8 +9,8 @@ use Rattle.jp_answer.specs.Answer.{Answer}
 use Rattle.jp_run.specs.declared.fault.RunFault.{RunFault}
 use Rattle.jp_run.specs.declared.fault.RunFault.TheVariants.{Query, Document, Read, Write, Limit}
 use Rattle.jp_run.specs.declared.fault.RunFault.TheVariants.{Memory, Settings}
-use Rattle.jp_run.specs.Batches.{documents_in, whole_batches, WasNotWhole}
-use Rattle.jp_run.specs.Handed.{Handed, HandedFront}
+use Rattle.jp_run.specs.Batches.{documents_in, whole_batches, WasNotWhole, batches_before}
+use Rattle.jp_run.specs.Handed.{Handed, HandedFront, HandedFirst}
 use Rattle.jp_run.specs.Limits.{max_reads, max_lines}
 use Rattle.jp_run.specs.Written.{AppendsFront}
 
@@ -79,6 +79,11 @@ pub record Ends : Type 0 where
 abbrev pub InputFront : Bool → tree.Query → Ends → Type 0
 InputFront going q e = IfSome e.source_old (λ input. HandedFront going q (lines input) e.sink_old e.sink_new)
 
+-- the answer to the whole batches that had come before the last read was handed out
+abbrev pub BatchesOut : Bool → tree.Query → ℕ → Ends → Type 0
+BatchesOut going q batch e = (bytes : List ℕ) × Consumes e.source_old e.source_new bytes
+    × HandedFirst going q (batches_before batch bytes e.last) e.sink_old e.sink_new
+
 -- a run with batches of this size
 abbrev pub StreamEnded : Bool → tree.Query → ℕ → Ends → RunFault → Type 0
 StreamEnded going q batch e (Document line fault) =
@@ -88,7 +93,7 @@ StreamEnded going q batch e (Document line fault) =
 StreamEnded going q batch e Read = (e.source_failed ≡ true) × (bytes : List ℕ)
     × Consumes e.source_old e.source_new bytes
     × Handed going q (whole_batches batch (documents_in bytes)) None e.sink_old e.sink_new
-StreamEnded going q batch e Write = (e.sink_failed ≡ true) × InputFront going q e
+StreamEnded going q batch e Write = (e.sink_failed ≡ true) × InputFront going q e × BatchesOut going q batch e
 StreamEnded going q batch e Limit = ((e.reads_new ≡ e.reads_old + max_reads) ⊎ ((bytes : List ℕ)
     × Consumes e.source_old e.source_new bytes × (max_lines < line_count bytes))) × InputFront going q e
 StreamEnded going q batch e Memory = InputFront going q e

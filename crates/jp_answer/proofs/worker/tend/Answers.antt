@@ -1,21 +1,71 @@
-use Rattle.std.proofs.Common.{sym, subst}
+use Rattle.std.proofs.Common.{ℕ, [], ◌∷◌, ◌++◌, List, Contains, sym, subst}
 use Rattle.jp_board.specs.declared.view.View.{View}
 use Rattle.jp_board.specs.Seats.{view_of}
-use Rattle.jp_answer.specs.Worked.{AreTended, OthersAreTended}
-use Rattle.jp_answer.proofs.Tending.{tended_left, others_looked}
+use Rattle.jp_answer.specs.Worked.{AreSound, AreTended}
+use Rattle.jp_answer.proofs.Tending.{is_faulty, not_faulty, sound_part, sound_stop, tended_part, sound_same}
 use Rattle.jp_answer.proofs.worker.tend.Goals as goal
 
-pub returns-then-mark-piece-clause-tended : goal.returns-then-mark-piece-clause-tended
-returns-then-mark-piece-clause-tended g c =
-    let v = view_of c.args.seat.now in
-    subst (λ (w : View). AreTended w.claims w.looks c.args.parts.now.items)
-    (sym {A = View} c.look-mark.ensures.look)
-    (tended_left v.claims v.looks c.args.parts.now.items c.args.piece c.look-mark.result c.requires.tended
-    c.if-mark-piece.true)
+pub returns-then-is_left-clause-sound : goal.returns-then-is_left-clause-sound
+returns-then-is_left-clause-sound g c = sound_same c.args.pieces.now _ _ _ _ c.args.parts.now.items
+    c.is_left.ensures.seat.1 c.is_left.ensures.seat.2 c.requires.sound
 
-pub take-requires-2-clause-tended : goal.take-requires-2-clause-tended
-take-requires-2-clause-tended g c κs within =
-    let v = view_of c.args.seat.now in
-    subst (λ (w : View). OthersAreTended c.args.piece w.claims w.looks c.args.parts.now.items)
-    (sym {A = View} c.look-mark.ensures.look)
-    (others_looked v.claims v.looks c.args.parts.now.items c.args.piece c.look-mark.result c.requires.tended)
+pub returns-then-is_left-clause-tended : goal.returns-then-is_left-clause-tended
+returns-then-is_left-clause-tended g c =
+    c.is_left.ensures.left c.args.parts.now.items c.requires.tended c.if-is_left.true
+
+pub returns-in_err-answer-clause-sound : goal.returns-in_err-answer-clause-sound
+returns-in_err-answer-clause-sound g c = sound_same c.args.pieces.now _ _ _ _ c.args.parts.now.items
+    c.is_left.ensures.seat.1 c.is_left.ensures.seat.2 c.requires.sound
+
+pub returns-in_err-push-clause-sound : goal.returns-in_err-push-clause-sound
+returns-in_err-push-clause-sound g c = subst
+    (AreSound c.args.pieces.now (view_of c.is_left.new.seat).claims (view_of c.is_left.new.seat).reports)
+    (sym c.in_err-push.ensures.items)
+    (sound_same c.args.pieces.now _ _ _ _ c.args.parts.now.items
+    c.is_left.ensures.seat.1 c.is_left.ensures.seat.2 c.requires.sound)
+
+pub returns-then-stopped-clause-sound : goal.returns-then-stopped-clause-sound
+returns-then-stopped-clause-sound g c =
+    let p = c.args.pieces.now in
+    let v = view_of c.is_left.new.seat in
+    let x = c.args.piece in
+    let a = c.in_ok-answer.answer in
+    let r = c.in_ok-answer.ensures in
+    subst (λ (w : View). AreSound p w.claims w.reports c.push.new.self.items)
+    (sym {A = View} c.report.ensures.report)
+    (subst (AreSound p v.claims (v.reports ++ x ∷ [])) (sym c.in_ok-push.ensures.items)
+    (sound_stop p v.claims v.reports c.args.parts.now.items x a
+    (sound_same p _ _ _ _ c.args.parts.now.items c.is_left.ensures.seat.1 c.is_left.ensures.seat.2
+    c.requires.sound)
+    (subst (λ (l : List ℕ). Contains l x) (sym c.is_left.ensures.seat.1) c.requires.seat.1) r
+    (is_faulty p x a r c.if-stopped.ensures)))
+
+pub returns-then-stopped-clause-tended : goal.returns-then-stopped-clause-tended
+returns-then-stopped-clause-tended g c =
+    let v = view_of c.is_left.new.seat in
+    subst (λ (w : View). AreTended w.claims w.looks c.push.new.self.items)
+    (sym {A = View} c.report.ensures.report)
+    (subst (AreTended v.claims v.looks) (sym c.in_ok-push.ensures.items)
+    (tended_part v.claims v.looks c.args.parts.now.items c.args.piece c.in_ok-answer.answer
+    (c.is_left.ensures.others c.args.parts.now.items c.requires.tended)))
+
+pub returns-else-stopped-clause-sound : goal.returns-else-stopped-clause-sound
+returns-else-stopped-clause-sound g c =
+    let p = c.args.pieces.now in
+    let v = view_of c.is_left.new.seat in
+    let x = c.args.piece in
+    let a = c.in_ok-answer.answer in
+    let r = c.in_ok-answer.ensures in
+    subst (AreSound p v.claims v.reports) (sym c.in_ok-push.ensures.items)
+    (sound_part p v.claims v.reports c.args.parts.now.items x a
+    (sound_same p _ _ _ _ c.args.parts.now.items c.is_left.ensures.seat.1 c.is_left.ensures.seat.2
+    c.requires.sound)
+    (subst (λ (l : List ℕ). Contains l x) (sym c.is_left.ensures.seat.1) c.requires.seat.1) r
+    (not_faulty p x a r c.if-stopped.ensures))
+
+pub returns-else-stopped-clause-tended : goal.returns-else-stopped-clause-tended
+returns-else-stopped-clause-tended g c =
+    let v = view_of c.is_left.new.seat in
+    subst (AreTended v.claims v.looks) (sym c.in_ok-push.ensures.items)
+    (tended_part v.claims v.looks c.args.parts.now.items c.args.piece c.in_ok-answer.answer
+    (c.is_left.ensures.others c.args.parts.now.items c.requires.tended))

@@ -1,8 +1,8 @@
-use Rattle.std.proofs.Common.{sym, subst, Contains}
+use Rattle.std.proofs.Common.{◌∙◌, sym, subst, ap}
 use Rattle.jp_board.specs.declared.view.View.{View}
 use Rattle.jp_board.specs.Seats.{view_of}
 use Rattle.jp_answer.specs.Worked.{AreSound, AreTended, OthersAreTended}
-use Rattle.jp_answer.proofs.Tending.{sound_claim, tended_claim, at_ok, floor_above}
+use Rattle.jp_answer.proofs.Tending.{sound_claim, tended_claim, at_ok, nearer}
 use Rattle.jp_answer.proofs.worker.work.Goals as goal
 
 pub tend-requires-clause-sound : goal.tend-requires-clause-sound
@@ -23,11 +23,8 @@ tend-requires-clause-tended g c κs within =
 
 pub loop-piece-preserved-then-not-wanted : goal.loop-piece-preserved-then-not-wanted
 loop-piece-preserved-then-not-wanted g c =
-    let claims = (view_of c.tend.new.seat).claims in
     record {
       seat = c.tend.ensures.seat.0;
-      floor = floor_above claims c.in-Some.piece (subst (λ l. Contains l c.in-Some.piece)
-          (sym c.tend.ensures.seat.1) c.in-Some.ensures.mine);
       sound = c.tend.ensures.sound;
       tended = λ fine. at_ok c.tend.result c.is_err-wanted.result c.is_err-wanted.ensures.value fine
           c.tend.ensures.tended;
@@ -39,13 +36,24 @@ loop-piece-preserved g c =
     let parts = c.loop-piece.parts.items in
     record {
       seat = c.in-Some.ensures.seat;
-      floor = floor_above (view_of c.claim.new.seat).claims c.in-Some.piece c.in-Some.ensures.mine;
       sound = subst (λ (w : View). AreSound c.args.pieces.now w.claims w.reports parts)
           (sym {A = View} c.in-Some.ensures.claimed)
           (sound_claim c.args.pieces.now v.claims v.reports parts c.in-Some.piece
           c.loop-piece.invariant.sound);
       tended = λ fine. let wanted = c.if-not-wanted.false in absurd (cc);
     }
+
+pub loop-piece-smaller-then-not-wanted : goal.loop-piece-smaller-then-not-wanted
+loop-piece-smaller-then-not-wanted g c =
+    nearer (view_of c.loop-piece.seat).claims (view_of c.tend.new.seat).claims c.in-Some.piece _
+    c.in-Some.ensures.rises c.in-Some.ensures.within
+    (c.tend.ensures.seat.1 ∙ ap (λ (w : View). w.claims) c.in-Some.ensures.claimed)
+
+pub loop-piece-smaller : goal.loop-piece-smaller
+loop-piece-smaller g c =
+    nearer (view_of c.loop-piece.seat).claims (view_of c.claim.new.seat).claims c.in-Some.piece _
+    c.in-Some.ensures.rises c.in-Some.ensures.within
+    (ap (λ (w : View). w.claims) c.in-Some.ensures.claimed)
 
 pub returns-clause-worked : goal.returns-clause-worked
 returns-clause-worked g c =

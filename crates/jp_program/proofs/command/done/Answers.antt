@@ -1,5 +1,7 @@
-use Rattle.std.proofs.Common.{◌≡◌, true, Some}
-use Rattle.jp_program.specs.inner.Asked.{wanted_of}
+use Rattle.std.proofs.Common.{◌≡◌, true, Some, inr, refl, subst}
+use Rattle.jp_run.proofs.Runs.{not_both, refused_so}
+use Rattle.jp_program.specs.inner.Asked.{wanted_of, IsAsked}
+use Rattle.jp_program.proofs.OneWish.{not_shown, not_asked, not_checked, verdict_so}
 use Rattle.jp_program.proofs.Ran.{wants_of, finished_ok, past_ok}
 use Rattle.jp_program.proofs.Told.{told_stop, stops}
 use Rattle.jp_program.proofs.command.done.Goals as goal
@@ -12,10 +14,9 @@ returns-in-Query-2-clause-finished g c = finished_ok _ (wanted_of c.in-Query.wan
 
 pub returns-in-Query-2-clause-past : goal.returns-in-Query-2-clause-past
 returns-in-Query-2-clause-past g c = past_ok _ (wanted_of c.in-Query.wanted)
-    (wants_of _ _ _ c.in-Query.is c.in_ok-text.ensures.asked c.if-wanted.false) _ _ _
-    (g.S.Source.remaining c.run.new.source) (g.K.Sink.flushed c.run.new.sink)
-    (g.S.Source.failed c.run.new.source) (g.K.Sink.failed c.run.new.sink) c.run.result
-    c.run.ensures.answer c.run.ensures.faulty c.run.ensures.none_passed
+    (wants_of _ _ _ c.in-Query.is c.in_ok-text.ensures.asked c.if-wanted.false) _ _ _ _ _ _ _
+    c.run.result c.run.ensures.answer c.run.ensures.faulty c.run.ensures.none_passed c.run.ensures.end
+    c.run.ensures.flushed c.run.ensures.still_working
 
 pub returns-in-Query-2-clause-query : goal.returns-in-Query-2-clause-query
 returns-in-Query-2-clause-query g c = λ f e.
@@ -38,3 +39,42 @@ returns-in-Query-2-clause-document g c = λ line fault e.
       read.1,
       read.2,
     )
+
+pub returns-in_err-text-clause-refused : goal.returns-in_err-text-clause-refused
+returns-in_err-text-clause-refused g c = λ f w wants v. (
+  inr (not_asked _ w _ _ c.from_residual.ensures.1 c.in_err-text.ensures.fault wants),
+  refl,
+  refl,
+)
+
+pub returns-in-Show-clause-refused : goal.returns-in-Show-clause-refused
+returns-in-Show-clause-refused g c = λ f w wants v. not_shown _ w wants
+    (subst (IsAsked _) c.in-Show.is c.in_ok-text.ensures.asked)
+
+pub returns-in-Show-clause-check : goal.returns-in-Show-clause-check
+returns-in-Show-clause-check g c = λ w wants. not_shown _ w wants.0
+    (subst (IsAsked _) c.in-Show.is c.in_ok-text.ensures.asked)
+
+pub returns-in_err-check_query-in-Query-clause-refused :
+    goal.returns-in_err-check_query-in-Query-clause-refused
+returns-in_err-check_query-in-Query-clause-refused g c = λ f w wants v. (
+  refused_so _ f _ _ c.from_residual-in_err-check_query-in-Query.ensures.1
+      c.in_err-check_query-in-Query.ensures.fault
+      (verdict_so _ _ _ w f c.in-Query.is c.in_ok-text.ensures.asked wants v),
+  refl,
+  refl,
+)
+
+pub returns-in_ok-check_query-in-Query-clause-refused :
+    goal.returns-in_ok-check_query-in-Query-clause-refused
+returns-in_ok-check_query-in-Query-clause-refused g c = λ f w wants v.
+    let taken = c.in_ok-check_query-in-Query.ensures.ok in
+    not_both _ taken.0 f taken.1 (verdict_so _ _ _ w f c.in-Query.is c.in_ok-text.ensures.asked wants v)
+
+pub returns-in-Query-2-clause-refused : goal.returns-in-Query-2-clause-refused
+returns-in-Query-2-clause-refused g c = λ f w wants v. c.run.ensures.refused f
+    (verdict_so _ _ _ w f c.in-Query.is c.in_ok-text.ensures.asked wants v)
+
+pub returns-in-Query-2-clause-check : goal.returns-in-Query-2-clause-check
+returns-in-Query-2-clause-check g c = λ w wants.
+    not_checked _ _ _ w c.in-Query.is c.in_ok-text.ensures.asked wants c.if-wanted.false

@@ -1,7 +1,7 @@
-use Rattle.std.proofs.Common.{◌∙◌, Err, Some, inl, inr, ap, sym, subst}
-use Rattle.std.specs.Io.KnownBytes.{Keeps}
+use Rattle.std.proofs.Common.{◌∙◌, Err, Some, inl, inr, ap, sym}
 use Rattle.jp_program.proofs.Told.{query_of, document_of, end_of, memory_of, of_two, of_three}
-use Rattle.jp_program.proofs.Told.{answered_kept, front_kept, cut_kept}
+use Rattle.jp_program.proofs.Told.{answered_kept, front_kept, cut_kept, kept_from, kept_same}
+use Rattle.jp_program.proofs.Told.{never_both, status_so}
 use Rattle.jp_program.proofs.command.program.Goals as goal
 
 pub returns-in-Err-clause-query : goal.returns-in-Err-clause-query
@@ -40,7 +40,19 @@ returns-in-Err-clause-failed g c = λ e.
 pub returns-in-Err-clause-memory : goal.returns-in-Err-clause-memory
 returns-in-Err-clause-memory g c = λ e.
     let kept = c.pass_on_after.ensures.kept in of_two
-    (λ same. inl (subst (λ s. Keeps (g.K.Sink.contents s) (g.K.Sink.contents c.pass_on_after.new.sink)) same
-    kept))
+    (λ same. inl (same.0, kept_from g.K.Sink.contents _ _ _ same.1 kept))
     (λ d. inr (d.0, d.1, front_kept d.0 _ _ _ _ d.2 kept))
     (c.in-Err.ensures.memory (ap Err (memory_of c.in-Err.fault (sym c.status-in-Err.ensures ∙ e))))
+
+pub returns-in-Err-clause-refused : goal.returns-in-Err-clause-refused
+returns-in-Err-clause-refused g c = λ f w wants v.
+    let same = c.in-Err.ensures.refused f w wants v in (
+      status_so c.in-Err.fault f c.status-in-Err.result c.status-in-Err.ensures same.0,
+      same.1,
+      kept_from g.K.Sink.contents _ _ _ same.2 c.pass_on_after.ensures.kept,
+    )
+
+pub returns-in-Err-clause-check : goal.returns-in-Err-clause-check
+returns-in-Err-clause-check g c = λ w wants.
+    let same = c.in-Err.ensures.check w wants in
+    (same.0, kept_from g.K.Sink.contents _ _ _ same.1 c.pass_on_after.ensures.kept)

@@ -1,6 +1,6 @@
 use Rattle.std.proofs.Common.{refl}
 use Rattle.jp_check.specs.Plan.{planned_query}
-use Rattle.jp_run.specs.declared.fault.RunFault.TheVariants.{Document, Read, Limit}
+use Rattle.jp_run.specs.declared.fault.RunFault.TheVariants.{Document, Read, Write, Limit}
 use Rattle.jp_run.proofs.Runs.{not_both, refused_so, at_fault, accepted_ok, answer_known, answer_ok}
 use Rattle.jp_run.proofs.Runs.{front_err}
 use Rattle.jp_run.proofs.running.run.Goals as goal
@@ -47,6 +47,14 @@ pub returns-clause-read : goal.returns-clause-read
 returns-clause-read g c = λ e.
     let h = at_fault c.stream.result Read _ e c.stream.ensures.fault in
     (h.0, h.1, h.2, (planned_query c.in_ok-plan.plan, c.in_ok-plan.ensures.ok, h.3))
+
+pub returns-clause-write : goal.returns-clause-write
+returns-clause-write g c = λ e. (at_fault c.stream.result Write _ e c.stream.ensures.fault).0
+
+pub returns-clause-no_read_between : goal.returns-clause-no_read_between
+returns-clause-no_read_between g c = λ e.
+    let h = at_fault c.stream.result Write _ e c.stream.ensures.fault in
+    (h.2.0, h.2.1, (planned_query c.in_ok-plan.plan, c.in_ok-plan.ensures.ok, h.2.2))
 
 pub returns-clause-limit : goal.returns-clause-limit
 returns-clause-limit g c = λ e. (at_fault c.stream.result Limit _ e c.stream.ensures.fault).0

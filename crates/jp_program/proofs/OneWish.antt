@@ -1,0 +1,92 @@
+-- Words want one thing, and what is asked for is that.
+use Rattle.std.proofs.Common.{◌≡◌, ◌∙◌, ℕ, ◌⊎◌, inl, inr, Bool, true, false, List, [], Option, Some, refl}
+use Rattle.std.proofs.Common.{sym, Result, Ok, Err, IsErrAnd, ap, subst, length, unwrap_or, codes, arith}
+use Rattle.std.specs.Str.{chars}
+use Rattle.std.specs.Str.Parse.{digits_value, without_leading_plus}
+use Rattle.clap.specs.Walk.{Text, Row}
+use Rattle.clap.specs.Kinds.{Kinds, IsAmong}
+use Rattle.clap.specs.declared.error.kind.ErrorKind.{ErrorKind}
+use Rattle.jp_tree.specs.declared.fault.QueryFault.{QueryFault}
+use Rattle.jp_check.specs.Verdict.{IsVerdict}
+use Rattle.jp_run.specs.declared.fault.RunFault.{RunFault}
+use Rattle.jp_run.specs.declared.fault.RunFault.TheVariants.{Memory}
+use Rattle.jp_program.specs.CommandLine.{said, refusals, AsksToShow}
+use Rattle.jp_program.specs.Wanted.{Wanted, SaysNumber, SaysFlag, flag_text, Wants, WantsCheck, IsWrong}
+use Rattle.jp_program.specs.inner.Asked.{IsAsked, IsNotAsked, wanted_of}
+use Rattle.jp_program.specs.declared.command_line.Asked.{Asked}
+use Rattle.jp_program.specs.declared.command_line.Asked.TheVariants.{Query}
+use Rattle.jp_program.specs.declared.command_line.Wanted as code
+
+same_some : {A : Type 0} (x y : A) → ◌≡◌ (Some x) (Some y) → x ≡ y
+same_some x y e = cc
+
+-- what is said of an option is one thing
+
+flag_same : (b d : Bool) → ◌≡◌ (Some (flag_text b)) (Some (flag_text d)) → b ≡ d
+flag_same true true e = refl
+flag_same false false e = refl
+flag_same true false e = absurd (omega (arith, ap (λ (o : Option Text). length (unwrap_or o [])) e))
+flag_same false true e = absurd (omega (arith, ap (λ (o : Option Text). length (unwrap_or o [])) e))
+
+number_same : (name : Text) (rows : List Row) (m n : ℕ) → SaysNumber name rows m → SaysNumber name rows n
+    → m ≡ n
+number_same name rows m n a b = sym a.3
+    ∙ ap (λ t. digits_value 10 (without_leading_plus t)) (same_some a.0 b.0 (sym a.1 ∙ b.1)) ∙ b.3
+
+pub one_wish : (words : List Text) (v w : Wanted) → Wants words v → Wants words w → v ≡ w
+one_wish words v w a b =
+    ap (λ (q : List ℕ). record v { query = q }) (same_some v.query w.query (sym a.1.query ∙ b.1.query))
+    ∙ ap (λ (c : Bool). record v { query = w.query; check = c })
+    (flag_same v.check w.check (sym a.1.check ∙ b.1.check))
+    ∙ ap (λ (k : Bool). record v { query = w.query; check = w.check; keeps_going = k })
+    (flag_same v.keeps_going w.keeps_going (sym a.1.keeps_going ∙ b.1.keeps_going))
+    ∙ ap (λ (n : ℕ). record w { workers = n; piece = v.piece; batch = v.batch })
+    (number_same (codes "workers") (said words) v.workers w.workers a.1.settings.0 b.1.settings.0)
+    ∙ ap (λ (n : ℕ). record w { piece = n; batch = v.batch })
+    (number_same (codes "piece") (said words) v.piece w.piece a.1.settings.1 b.1.settings.1)
+    ∙ ap (λ (n : ℕ). record w { batch = n })
+    (number_same (codes "batch") (said words) v.batch w.batch a.1.settings.2 b.1.settings.2)
+
+-- words that want something ask to be shown nothing, and are not wrong
+
+among_none : (kind : ErrorKind) (kinds : Kinds) → kinds ≡ [] → IsAmong kind kinds → ⊥
+among_none kind kinds e h = subst (IsAmong kind) e h
+
+pub not_shown : {P : Type 0} (words : List Text) (w : Wanted) → Wants words w → AsksToShow words → P
+not_shown words w a (inl h) = absurd (among_none _ (refusals words) a.0 h)
+not_shown words w a (inr h) = absurd (among_none _ (refusals words) a.0 h)
+
+not_wrong : {P : Type 0} (words : List Text) (w : Wanted) → Wants words w → IsWrong words → P
+not_wrong words w a (inl h) = absurd (among_none h.0 (refusals words) a.0 h.1)
+not_wrong words w a (inr h) = absurd (h.1 w a.1)
+
+-- where nothing is asked for, memory was wanted
+memory_so : (words : List Text) (w : Wanted) (fault : RunFault) → Wants words w → IsNotAsked words fault
+    → fault ≡ Memory
+memory_so words w fault a (inl h) = not_wrong words w a h.1
+memory_so words w fault a (inr e) = e
+
+err_of : {T E : Type 0} (r : Result T E) (e : E) → IsErrAnd r (λ f. f ≡ e) → r ≡ Err e
+err_of (Ok x) e h = absurd h
+err_of (Err f) e h = ap Err h
+
+pub not_asked : {T : Type 0} (words : List Text) (w : Wanted) (fault : RunFault) (r : Result T RunFault)
+    → IsErrAnd r (λ e. e ≡ fault) → IsNotAsked words fault → Wants words w → r ≡ Err Memory
+not_asked words w fault r h none a = err_of r fault h ∙ ap Err (memory_so words w fault a none)
+
+-- what was asked for is what is wanted
+
+module _ (words : List Text) (a : Asked) (v : code.Wanted) (w : Wanted) where
+  asked_is : a ≡ Query v → IsAsked words a → Wants words w → w ≡ wanted_of v
+  asked_is e asked wants = one_wish words w (wanted_of v) wants (subst (IsAsked words) e asked)
+
+  pub not_checked : {P : Type 0} → a ≡ Query v → IsAsked words a → WantsCheck words w → v.check ≡ false → P
+  not_checked e asked wants off =
+      let same : w ≡ wanted_of v = asked_is e asked wants.0 in
+      let on : true ≡ false = sym wants.1 ∙ ap (λ (x : Wanted). x.check) same ∙ off in absurd (cc)
+
+module _ (words : List Text) (a : Asked) (v : code.Wanted) (w : Wanted) (f : QueryFault) where
+  pub verdict_so : a ≡ Query v → IsAsked words a → Wants words w → IsVerdict w.query (Err f)
+      → IsVerdict (chars v.query.now) (Err f)
+  verdict_so e asked wants =
+      subst (λ (x : Wanted). IsVerdict x.query (Err f)) (asked_is words a v w e asked wants)
