@@ -11,8 +11,8 @@ use json::Scratch;
 use std::alloc::{AllocError, Global};
 
 /// Reads lines, in buffers that are kept from line to line: where no line before was as long, they grow, and
-/// else a line takes no memory. After a line of over 1,000,000 bytes they are let go, by `release` or once the
-/// next line is read.
+/// else a line takes no memory. After a line of over 1,000,000 bytes they are let go, by `release` or once
+/// the next line is read.
 #[derive(Drop)]
 pub struct FlatReader {
     alloc: Global,

@@ -40,8 +40,9 @@ next_positions p from c = step (is_elem from.active.items) c p 0 from.at_start
 abbrev pub Follows : Unrolled → Bool → State → ℕ → State → Type 0
 Follows p unanchored from c to = HasPositions to (next_positions p from c) unanchored
 
--- What a cell of a state and a character holds is the number of the next state, if it is below `MAX_STATES`. It
--- is `MATCH_OR_DEAD` only where a part is found by the step, or, of a whole text, nothing is left behind it.
+-- What a cell of a state and a character holds is the number of the next state, if it is below `MAX_STATES`.
+-- It is `MATCH_OR_DEAD` only where a part is found by the step, or, of a whole text, nothing is left behind
+-- it.
 pub record IsCell (p : Unrolled) (unanchored : Bool) (states : List State) (i c cell : ℕ) : Type 0 where
   pub within : cell < MAX_STATES → cell < length states
   pub follows : (s t : State) → cell < MAX_STATES →
