@@ -27,6 +27,7 @@ use Rattle.serde_json.proofs.value.Value.TheLaws.TheKnot.{crosses as value_cross
 use Rattle.serde_json.specs.contracts.value.Value as Value
 use Rattle.jp_path_stack.specs.contracts.link.Link as Link
 use Rattle.jp_eval.proofs.fork.Cuts.TheSendSync as cuts
+use Rattle.jp_eval.proofs.root_answer.Length.TheSendSync as lengths
 use Rattle.jp_eval.specs.contracts.fork.Cuts as Cuts
 use Rattle.jp_part.specs.contracts.part.Part as Part
 use Rattle.jp_part.specs.contracts.items.Items as Items
@@ -37,6 +38,7 @@ use Rattle.jp_nodes.specs.contracts.children.Child as Child
 use Rattle.jp_eval.specs.contracts.child_range.ChildRange as ChildRange
 use Rattle.jp_eval.specs.contracts.walk.Task as Task
 use Rattle.jp_eval.specs.contracts.context.Context as Context
+use Rattle.jp_eval.specs.contracts.root_answer.RootAnswer as RootAnswer
 use Rattle.jp_eval.specs.contracts.different.Different as Different
 use Rattle.jp_eval.specs.contracts.found.Alone as Alone
 use Rattle.jp_eval.specs.contracts.aggregates.Aggregate as Aggregate
@@ -146,8 +148,11 @@ answer_sync : (a : NamedLft) → IsSync (Aggregate.the_row a)
 answer_sync a = search (part_sync, alone_field, different_field, crosses, sendable) depth 60 fits
     20000
 
+known_sync : (a : NamedLft) → IsSync (RootAnswer.the_row a)
+known_sync a = search (answer_sync, lengths.the_field_sync, flat_member, crosses, sendable) depth 60 fits 20000
+
 pub ground_sync : (a : NamedLft) → IsSync (Context.the_row a)
-ground_sync a = search (part_field, root_sync, answer_sync, crosses, sendable) depth 60 fits 20000
+ground_sync a = search (part_field, root_sync, known_sync, crosses, sendable) depth 60 fits 20000
 
 -- what a half is given: the fork, the runtime, the cuts, the context, the task, the range, the links, a
 -- visitor

@@ -18,4 +18,5 @@ pub mod Places
 pub mod CompiledParts
 pub mod Answered
 pub mod WorkItems
+pub mod Rooting
 mod Crossing

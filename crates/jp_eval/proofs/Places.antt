@@ -2,7 +2,10 @@
 use Rattle.std.proofs.Common.{◌≡◌, ℕ, zero, suc, ◌≤◌, ℤ, pos, negsuc, Bool, true, false, cond, List, [], ◌∷◌}
 use Rattle.std.proofs.Common.{◌++◌, length, Option, None, if◌then◌else◌, refl, sym, ap, ap₂, ◌∙◌, arith}
 use Rattle.std.specs.Prelude.{nat_lt}
+use Rattle.std.specs.Prelude.{◌≤ℤ◌, ◌<ℤ◌}
 use Rattle.std.proofs.lemmas.Bool.Decides.{nat_tests}
+use Rattle.std.proofs.lemmas.Int.{ints}
+use lib.IntN.{nat_abs}
 use Rattle.jp_doc.specs.Json.{Json, null, truth, whole, text, array, object, Items, no_items, add_item}
 use Rattle.jp_doc.specs.Json.{item_list}
 use Rattle.jp_doc.specs.Location.{Location, node, index, item_at}
@@ -81,3 +84,16 @@ none_far i len h = let t : nat_lt i len ≡ false = grind (arith, nat_tests) in 
 
 pub far_place : (v : Json) (i : ℕ) → item_count v ≤ i → index_places (pos i) v ≡ []
 far_place v i h = sym (index_level (pos i) v) ∙ none_far i (item_count v) h
+
+-- the same of a number that is not negative, and of one that is above all places
+pub place_or_none : (at : Location) (v : Json) (z : ℤ) → pos 0 ≤ℤ z
+    → items_at (node at v) (nat_abs z ∷ []) ≡ items_at (node at v) (index_places z v)
+place_or_none at v (pos i) low = free_place at v i
+place_or_none at v (negsuc i) low = absurd (omega (arith, ints, low))
+
+pub none_above : (at : Location) (v : Json) (z : ℤ) → item_count v ≤ 16777216 → pos 0 ≤ℤ z
+    → pos 4294967295 <ℤ z → [] ≡ items_at (node at v) (index_places z v)
+none_above at v (pos i) few low high =
+    let past : item_count v ≤ i = omega (arith, ints, few, high) in
+    sym (ap (items_at (node at v)) (far_place v i past))
+none_above at v (negsuc i) few low high = absurd (omega (arith, ints, low))

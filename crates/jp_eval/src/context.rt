@@ -33,6 +33,7 @@ impl<'v> Context<'v> {
     ghost use Rattle.jp_eval.specs.inner.Aggregates.{tells, told};
     ghost use Rattle.jp_eval.specs.inner.Base.{base_of};
     ghost use Rattle.jp_eval.specs.inner.Walk.{value_given};
+    ghost use Rattle.jp_value.specs.Functions.{length_value};
     ghost use Rattle.jp_value.specs.Kinds.{given_value};
     ghost use Rattle.jp_eval.specs.inner.Rooted.{is_answer};
     ghost use Rattle.jp_eval.specs.Nodelist.{nodelist};
@@ -97,7 +98,9 @@ impl<'v> Context<'v> {
             (λ known. (n : Node) → tells want (nodelist tests (part_value self.now.root)
             (root_at (roots_of self.now.roots.now) slot want) n) known.now.answer ≡ true) }
     {
-        let known = self.answers.get(slot)?;
+        let Some(known) = self.answers.get(slot) else {
+            return None;
+        };
         if is_result_of(want, known.answer) {
             Some(known)
         } else {
@@ -110,8 +113,29 @@ impl<'v> Context<'v> {
         ensures { IfSome result (λ o. (n : Node) → given_value o ≡ value_given (base_of self.now) giver.now n) }
     {
         match giver {
-            Giver::Length(of) => self.known(of)?.length(),
-            _ => Some(self.known(giver)?.value()),
+            Giver::Length(of) => self.known_length(of),
+            _ => self.known_value(giver),
+        }
+    }
+
+    /// The length of the value of the `$` query that gives it, if it is kept.
+    fn known_length(&self, giver: &Giver) -> Option<Option<Kind<'_>>>
+        ensures { IfSome result (λ o. (n : Node)
+            → given_value o ≡ length_value (value_given (base_of self.now) giver.now n)) }
+    {
+        match self.known(giver) {
+            Some(known) => known.length(),
+            None => None,
+        }
+    }
+
+    /// The value of the `$` query that gives it.
+    fn known_value(&self, giver: &Giver) -> Option<Option<Kind<'_>>>
+        ensures { IfSome result (λ o. (n : Node) → given_value o ≡ value_given (base_of self.now) giver.now n) }
+    {
+        match self.known(giver) {
+            Some(known) => Some(known.value()),
+            None => None,
         }
     }
 

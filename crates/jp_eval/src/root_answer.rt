@@ -1,16 +1,18 @@
 //! What is known of a `$` query inside a filter, once a document.
 
-ghost use Rattle.std.specs.Prelude.{◌≡◌, IfOk, IfSome, true};
+ghost use Rattle.std.specs.Prelude.{◌≡◌, IfOk, IfSome, map, true};
+ghost use Rattle.jp_flat.specs.Gathered.{entry};
+ghost use Rattle.jp_part.specs.Inside.{members_in};
+ghost use Rattle.jp_part.specs.Members.{members as in_order};
 ghost use Rattle.jp_eval.specs.inner.Aggregates.{told};
 ghost use Rattle.jp_eval.specs.inner.RootAnswers.{is_length, are_members};
-ghost use Rattle.jp_part.specs.Inside.{members_in};
-ghost use Rattle.jp_part.specs.Members.{members as in_order, list_entries};
 ghost use Rattle.jp_value.specs.Functions.{length_value};
 ghost use Rattle.jp_value.specs.Kinds.{given_value};
 
 use crate::aggregates::{Aggregate, operand};
 use crate::asked::Asked;
-use jp_part::{Kind, MemberList, Members};
+use jp_flat::FlatMember;
+use jp_part::{Kind, MemberList, MemberRange, Members};
 use jp_value::length;
 use std::alloc::{AllocError, Global};
 
@@ -19,13 +21,23 @@ use std::alloc::{AllocError, Global};
 pub(crate) struct RootAnswer<'v> {
     /// The answer.
     pub(crate) answer: Aggregate<'v>,
-    /// What `length` gives of the value, where the query asks for such lengths.
-    length: Option<Option<Kind<'v>>>,
+    length: Length,
     /// The members of the value in order, where it is a flat object, and the query compares such values. In a
     /// tree they lie so.
-    members: Option<MemberList<'v>>,
+    members: Option<Vec<FlatMember<'v>>>,
     ghost length_is: { is_length length answer ≡ true },
     ghost members_are: { are_members members answer ≡ true },
+}
+
+/// What `length` gives of a value.
+#[derive(Clone, Copy)]
+pub(crate) enum Length {
+    /// It was not asked for.
+    Unknown,
+    /// Nothing.
+    Nothing,
+    /// This number.
+    Number(i128),
 }
 
 impl<'v> RootAnswer<'v> {
@@ -53,7 +65,7 @@ impl<'v> RootAnswer<'v> {
         ensures { given_value result ≡ told self.now.answer }
     {
         match &self.members {
-            Some(members) => Some(Kind::Listed(members.range())),
+            Some(members) => Some(Kind::Listed(MemberRange::Flat(members.as_slice()))),
             None => operand(self.answer),
         }
     }
@@ -62,22 +74,26 @@ impl<'v> RootAnswer<'v> {
     pub(crate) fn length(&self) -> Option<Option<Kind<'v>>>
         ensures { IfSome result (λ n. given_value n ≡ length_value (told self.now.answer)) }
     {
-        self.length
+        match self.length {
+            Length::Unknown => None,
+            Length::Nothing => Some(None),
+            Length::Number(number) => Some(Some(Kind::Whole(number))),
+        }
     }
 }
 
 /// The length of an answer's value, where such are asked for.
-fn length_of<'v>(
-    alloc: Global,
-    answer: Aggregate<'v>,
-    asked: Asked,
-) -> Result<Option<Option<Kind<'v>>>, AllocError>
+fn length_of(alloc: Global, answer: Aggregate<'_>, asked: Asked) -> Result<Length, AllocError>
     ensures { IfOk result (λ n. is_length n answer.entry ≡ true) }
 {
     if !asked.length {
-        return Ok(None);
+        return Ok(Length::Unknown);
     }
-    Ok(Some(length(alloc, operand(answer))?))
+    match length(alloc, operand(answer))? {
+        None => Ok(Length::Nothing),
+        Some(Kind::Whole(number)) => Ok(Length::Number(number)),
+        Some(_) => Ok(Length::Unknown),
+    }
 }
 
 /// The members of an answer's value, where such are compared, and don't lie in order.
@@ -85,7 +101,7 @@ fn members_of<'v>(
     alloc: Global,
     answer: Aggregate<'v>,
     asked: Asked,
-) -> Result<Option<MemberList<'v>>, AllocError>
+) -> Result<Option<Vec<FlatMember<'v>>>, AllocError>
     ensures { IfOk result (λ l. are_members l answer.entry ≡ true) }
 {
     if !asked.comparison {
@@ -98,11 +114,17 @@ fn members_of<'v>(
 }
 
 /// The members of a flat object.
-fn listed<'v>(alloc: Global, members: Members<'v>) -> Result<Option<MemberList<'v>>, AllocError>
-    ensures { IfOk result (λ o. IfSome o (λ l. members_in members.entry ≡ in_order (list_entries l))) }
+fn listed<'v>(
+    alloc: Global,
+    members: Members<'v>,
+) -> Result<Option<Vec<FlatMember<'v>>>, AllocError>
+    ensures { IfOk result (λ o. IfSome o (λ l. members_in members.entry ≡ in_order (map entry l.items))) }
 {
     match members {
         Members::Tree(_) => Ok(None),
-        Members::Flat(_) => Ok(Some(members.gather(alloc)?)),
+        Members::Flat(_) => match members.gather(alloc)? {
+            MemberList::Flat(list) => Ok(Some(list)),
+            MemberList::Tree(_) => Ok(None),
+        },
     }
 }

@@ -6,7 +6,7 @@ use Rattle.jp_path_stack.specs.Links.{link_steps}
 use Rattle.jp_eval.specs.inner.Base.{base_of}
 use Rattle.jp_eval.specs.inner.Kept.{kept, put_found, plus, taken, emptied_found}
 use Rattle.jp_eval.specs.inner.ChildRanges.{range_nodes, range_height}
-use Rattle.jp_eval.specs.inner.Along.{done_along_all}
+use Rattle.jp_eval.specs.inner.Along.{done_by}
 use Rattle.jp_part.specs.Part.{part_value}
 use Rattle.jp_eval.specs.inner.Walk.{done}
 use denote.Param.{param}
@@ -16,26 +16,23 @@ use mir.Syntax.{named}
 use Rattle.jp_eval.proofs.Crossing.{captured_send}
 use Rattle.jp_eval.proofs.Gathered.{child_node_done, halves_joined}
 use Rattle.jp_eval.proofs.Keeping.{ended, full_enough, nothing_found, not_lost, taken_on}
-use Rattle.jp_eval.proofs.WorkItems.{others_no_higher, work_item_done}
-use Rattle.jp_eval.proofs.WalkSteps.{back_up, link_further, over}
+use Rattle.jp_eval.proofs.WorkItems.{work_item_done}
+use Rattle.jp_eval.proofs.WalkSteps.{back_up, link_further}
 use Rattle.jp_eval.proofs.split.+split.Lts-each_of as lts
 use Rattle.jp_eval.proofs.split.+split.Goals as goal
 
 pub each_work_item-loop-work_item-preserved : goal.each_work_item-loop-work_item-preserved
 each_work_item-loop-work_item-preserved g t c =
-    let ss = c.args.work_items.now in
-    let i = c.loop-work_item.work_item-index in
-    let h : i < length ss = omega arith in
-    let e = others_no_higher ss i in
+    let base = base_of c.args.context.now in
+    let at = link_steps c.loop-work_item.path in
     rw c.in_ok-each_of.ensures.path (
       c.loop-work_item.invariant.0,
-      omega (arith, e, c.loop-work_item.invariant.1),
-      work_item_done (put_found g.V.Visit.put) (base_of c.args.context.now) (link_steps c.loop-work_item.path)
-          ss i c.work_item-item.result _ _ _ _ h c.work_item-item.is
+      c.in-Some.ensures.value ∙ c.loop-work_item.invariant.1,
+      work_item_done (put_found g.V.Visit.put) _ _ _ _ (done_by base at c.in-Some.others) _ _
+          (c.in-Some.ensures.nodes base at)
           (c.in_ok-each_of.ensures.found
           ∙ ap (λ ns. plus (put_found g.V.Visit.put) (kept g.V.Visit.kept c.loop-work_item.found)
-          (flat_map (done (base_of c.args.context.now) c.work_item-item.result.task) ns))
-          (c.counted-children.ensures.nodes (link_steps c.loop-work_item.path)))
+          (flat_map (done base c.in-Some.work_item.task) ns)) (c.counted-children.ensures.nodes at))
           c.loop-work_item.invariant.2,
     )
 
@@ -49,10 +46,10 @@ one_by_one-go_split-requires-clause-taken g t c κs within =
 
 pub each_work_item-returns-clause-found : goal.each_work_item-returns-clause-found
 each_work_item-returns-clause-found g t c =
-    over (put_found g.V.Visit.put)
-    (λ xs. done_along_all (base_of c.args.context.now) (link_steps c.loop-work_item.path) xs)
-    c.args.work_items.now c.loop-work_item.work_item-index _ _ _ (omega arith) refl
-    c.loop-work_item.invariant.2
+    ended (put_found g.V.Visit.put) _ _ _
+    (ap (plus (put_found g.V.Visit.put) (kept g.V.Visit.kept c.loop-work_item.found))
+    (sym (c.in_default.ensures.nodes (base_of c.args.context.now) (link_steps c.loop-work_item.path)))
+    ∙ c.loop-work_item.invariant.2)
 
 pub one_by_one-loop-child-preserved : goal.one_by_one-loop-child-preserved
 one_by_one-loop-child-preserved g t c =

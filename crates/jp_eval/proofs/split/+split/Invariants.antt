@@ -1,11 +1,11 @@
-use Rattle.std.proofs.Common.{◌≡◌, ◌+◌, ◌*◌, ◌≤◌, ℕ, drop}
+use Rattle.std.proofs.Common.{◌≡◌, ◌+◌, ◌*◌, ◌≤◌, ℕ}
 use Rattle.std.specs.List.{flat_map}
 use Rattle.jp_doc.specs.Height.{height}
 use Rattle.jp_part.specs.Part.{part_value}
 use Rattle.jp_eval.specs.inner.Base.{base_of}
 use Rattle.jp_eval.specs.inner.Kept.{kept, put_found, plus}
 use Rattle.jp_eval.specs.inner.ChildRanges.{range_nodes, range_height, range_length}
-use Rattle.jp_eval.specs.inner.Along.{done_along_all, highest}
+use Rattle.jp_eval.specs.inner.Along.{done_by, items_left}
 use Rattle.jp_eval.specs.inner.Walk.{done}
 use Rattle.jp_path_stack.specs.Links.{link_steps}
 use Rattle.jp_eval.proofs.split.+split.Given as goal
@@ -18,7 +18,7 @@ abbrev pub decreases-go_split : goal.decreases-go_split
 decreases-go_split g l = weight (height (part_value l.value)) l.cuts.left 15
 
 abbrev pub decreases-each_work_item : goal.decreases-each_work_item
-decreases-each_work_item g l = weight (highest l.work_items.now) l.cuts.left 14
+decreases-each_work_item g l = weight (height (part_value l.work_items.value)) l.cuts.left 14
 
 abbrev pub decreases-each_of : goal.decreases-each_of
 decreases-each_of g l = weight (range_height l.children) l.cuts.left 10
@@ -38,11 +38,14 @@ decreases-one_by_one g l = weight (range_height l.children) l.cuts.left 7
 abbrev pub invariant-each_work_item-loop-work_item : goal.invariant-each_work_item-loop-work_item
 invariant-each_work_item-loop-work_item g l =
     (l.path ≡ l.initial.path)
-    × (highest (drop l.work_item-index l.work_items) ≤ highest l.work_items)
+    × (height (part_value l.left.value) ≡ height (part_value l.work_items.value))
     × (plus (put_found g.V.Visit.put) (kept g.V.Visit.kept l.found)
-    (done_along_all (base_of l.context) (link_steps l.path) (drop l.work_item-index l.work_items))
+    (done_by (base_of l.context) (link_steps l.path) l.left)
     ≡ plus (put_found g.V.Visit.put) (kept g.V.Visit.kept l.initial.found)
-    (done_along_all (base_of l.context) (link_steps l.initial.path) l.work_items))
+    (done_by (base_of l.context) (link_steps l.initial.path) l.work_items))
+
+abbrev pub decreases-each_work_item-loop-work_item : goal.decreases-each_work_item-loop-work_item
+decreases-each_work_item-loop-work_item g l = items_left l.left
 
 abbrev pub invariant-one_by_one-loop-child : goal.invariant-one_by_one-loop-child
 invariant-one_by_one-loop-child g l =

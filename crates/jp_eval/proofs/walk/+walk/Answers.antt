@@ -266,8 +266,8 @@ select-returns-in_ok-children-in-Slice-clause-found g t c =
     let picks = slice_found (part_value c.args.opened.value)
     (written_value (option_map position_text c.in-Slice.slice.first))
     (written_value (option_map position_text c.in-Slice.slice.past))
-    (written_value (option_map position_text c.in-Slice.slice.step)) c.item_count-in-Slice.result
-    (bounds_value c.bounds_of-bounds.result) c.item_count-in-Slice.ensures.count
+    (written_value (option_map position_text c.in-Slice.slice.step)) c.item_count.result
+    (bounds_value c.bounds_of-bounds.result) c.item_count.ensures.count
     c.bounds_of-bounds.ensures.bounds in
     on_ok_weaker c.each_of.result (λ e. e
     ∙ ap (plus (put_found g.V.Visit.put) (kept g.V.Visit.kept c.args.found.now))

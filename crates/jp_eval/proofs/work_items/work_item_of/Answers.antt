@@ -47,8 +47,8 @@ returns-in_ok-sliced-in-Slice-clause-nodes c = λ base at.
     (slice_found (part_value c.args.value)
     (written_value (option_map position_text c.in-Slice.slice.first))
     (written_value (option_map position_text c.in-Slice.slice.past))
-    (written_value (option_map position_text c.in-Slice.slice.step)) c.item_count-in-Slice.result
-    (bounds_value c.bounds_of.result) c.item_count-in-Slice.ensures.count c.bounds_of.ensures.bounds))
+    (written_value (option_map position_text c.in-Slice.slice.step)) c.item_count.result
+    (bounds_value c.bounds_of.result) c.item_count.ensures.count c.bounds_of.ensures.bounds))
     (ap (λ x. picked base x n) c.in-Slice.is ∙ picked_slice base n c.in-Slice.slice)
 
 pub returns-in_ok-children-in-Filter-clause-nodes : goal.returns-in_ok-children-in-Filter-clause-nodes
