@@ -63,8 +63,7 @@ fn the_same_for_all_batches(rt: HostRuntime) {
     }
 }
 
-/// What is written, and passed on too, before a call that fails: no run knows beforehand which that is, so
-/// before each call.
+/// What is written, and passed on too, once a call has failed: the batches that were whole before it.
 #[test]
 fn a_failing_read_leaves_whole_batches(rt: HostRuntime) {
     for call in 1..=21u64 {

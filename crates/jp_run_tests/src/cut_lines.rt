@@ -37,17 +37,18 @@ const ROWS: [(&[u8], &[u8], u64, u64); 5] = [
     (b"", b"", 0, 0),
 ];
 
-/// What a run of `$..a` ends with, in batches of two.
+/// What a run of `$..a` ends with, by so many workers, in batches of that size.
 fn run_of<R: Threads + Sync, S: Source>(
     rt: &R,
     alloc: Global,
     workers: u64,
+    batch: u64,
     source: &mut S,
 ) -> Result<(Totals, Vec<u8>), RunFault>
     requires working { S.failed source.old ≡ false }
     requires few { (S.reads source.old ≤ 2 ^ 62) × (S.given source.old ≤ 2 ^ 62) }
 {
-    let settings = Settings::new(workers, 1, 2)?;
+    let settings = Settings::new(workers, 1, batch)?;
     let mut sink = Holds::new(Vec::new(alloc), ROOM, ROOM);
     let totals = run(rt, alloc, source, &mut sink, "$..a", &settings, &OpenGate)?;
     Ok((totals, sink.bytes))
@@ -73,7 +74,7 @@ fn lines_of_whole_reads(rt: HostRuntime) {
     for (input, answer, lines, documents) in ROWS {
         for workers in WORKERS {
             let mut source = FromReader::new(input);
-            let end = run_of(&rt, rt.alloc(), workers, &mut source);
+            let end = run_of(&rt, rt.alloc(), workers, 2, &mut source);
             assert!(rt; is_row(&end, answer, lines, documents));
         }
     }
@@ -84,7 +85,7 @@ fn one_byte_a_read(rt: HostRuntime) {
     for (input, answer, lines, documents) in ROWS {
         for workers in WORKERS {
             let mut source = OneByte::new(input, 0);
-            let end = run_of(&rt, rt.alloc(), workers, &mut source);
+            let end = run_of(&rt, rt.alloc(), workers, 2, &mut source);
             assert!(rt; is_row(&end, answer, lines, documents));
         }
     }
@@ -98,7 +99,8 @@ fn push_blanks(count: usize, out: &mut String) -> Result<(), AllocError> {
     Ok(())
 }
 
-/// A line of 300 kB, which no read of 65,536 bytes holds, between two short ones.
+/// A line of 300 kB, which no read of 65,536 bytes holds, between two short ones. In a large batch it is a
+/// part, for one worker or two.
 fn long_line(alloc: Global) -> Result<String, AllocError> {
     let mut text = String::new(alloc);
     text.push_str("{\"a\":1}\n{\"a\":[")?;
@@ -111,9 +113,11 @@ fn long_line(alloc: Global) -> Result<String, AllocError> {
 fn a_line_over_many_reads(rt: HostRuntime) -> Result<(), Fail> {
     let text = long_line(rt.alloc())?;
     for workers in WORKERS {
-        let mut source = FromReader::new(text.as_bytes());
-        let end = run_of(&rt, rt.alloc(), workers, &mut source);
-        assert!(rt; is_row(&end, b"1\t$['a']\t1\n2\t$['a']\t[7]\n3\t$['a']\t3\n", 3, 3));
+        for batch in [2u64, 4_096] {
+            let mut source = FromReader::new(text.as_bytes());
+            let end = run_of(&rt, rt.alloc(), workers, batch, &mut source);
+            assert!(rt; is_row(&end, b"1\t$['a']\t1\n2\t$['a']\t[7]\n3\t$['a']\t3\n", 3, 3));
+        }
     }
     Ok(())
 }

@@ -3,7 +3,7 @@
 ghost use Rattle.std.specs.Prelude.{◌≡◌, Some, false, ◌<◌};
 
 use jp_run::{Broken, Sink, Source};
-use std::io::{self, ErrorKind, Write};
+use std::io::{self, ErrorKind, Read, Write};
 
 /// Hands out one byte a call, and fails once, at the call of this number from 1.
 #[derive(Drop)]
@@ -79,6 +79,29 @@ impl Source for OneByte<'_> {
 
     fn failed(&self) -> bool {
         self.failed
+    }
+}
+
+/// A reader of bytes in memory, of which so many calls pass, and then one fails.
+#[derive(Drop)]
+pub(crate) struct FailsAfter<'a> {
+    rest: &'a [u8],
+    passing: u64,
+}
+
+impl<'a> FailsAfter<'a> {
+    pub(crate) fn new(rest: &'a [u8], passing: u64) -> FailsAfter<'a> {
+        FailsAfter { rest, passing }
+    }
+}
+
+impl Read for FailsAfter<'_> {
+    fn read(&mut self, buf: &mut [u8]) -> io::Result<usize> {
+        if self.passing == 0 {
+            return Err(ErrorKind::ConnectionReset.into());
+        }
+        self.passing -= 1;
+        self.rest.read(buf)
     }
 }
 

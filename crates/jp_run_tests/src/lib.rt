@@ -18,6 +18,8 @@ mod hostile;
 #[cfg(test)]
 mod keep_going;
 #[cfg(test)]
+mod long_lines;
+#[cfg(test)]
 mod parts;
 #[cfg(test)]
 mod refusals;

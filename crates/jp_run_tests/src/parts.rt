@@ -1,67 +1,35 @@
 //! Batches whose lines are answered by parts, as they come.
 
-use crate::fakes::Holds;
+use crate::fakes::{FailsAfter, Holds};
+use crate::long_lines::{long_answer, long_lines};
 use jp_doc::DocFault;
 use jp_run::{FromReader, OpenGate, RunFault, Settings, Source, Totals, run};
-use std::alloc::{AllocError, Global};
+use std::alloc::Global;
 use std::test::Fail;
 use std::thread::Threads;
 
 /// More bytes than any of these runs writes.
 const ROOM: usize = 1_000_000;
 
-/// So many bytes a line that two lines are a part for one worker.
-const LINE_BYTES: usize = 70_000;
-
 /// More documents than the inputs have.
-const BATCH: u64 = 100;
+const BATCH: u64 = 1_000;
 
-/// Eight lines, of which these two hold no document.
+/// The lines that hold no document, where there are such.
 const FAULTY: [u64; 2] = [2, 5];
 
-/// Whether the line is one of these two.
-fn is_faulty(number: u64) -> bool {
-    FAULTY.contains(&number)
-}
+/// More reads than the inputs take.
+const ALL_READS: u64 = 1_000;
 
-/// Eight long lines, each with its number in an array, but for faulty ones if there are to be any.
-fn eight(alloc: Global, with_faults: bool) -> Result<String, AllocError> {
-    let mut text = String::new(alloc);
-    for number in 1..=8u64 {
-        if with_faults && is_faulty(number) {
-            text.push('{')?;
-        } else {
-            text.push_str(&format!(in alloc; "[{number}]")?)?;
-        }
-        for _blank in 0..LINE_BYTES {
-            text.push(' ')?;
-        }
-        text.push('\n')?;
-    }
-    Ok(text)
-}
-
-/// The lines of `$[0]`, with a fault line in the place of each faulty one if there are any.
-fn answer(alloc: Global, with_faults: bool) -> Result<String, AllocError> {
-    let mut text = String::new(alloc);
-    for number in 1..=8u64 {
-        if with_faults && is_faulty(number) {
-            text.push_str(&format!(in alloc; "{number}\t!\tunreadable\n")?)?;
-        } else {
-            text.push_str(&format!(in alloc; "{number}\t$[0]\t{number}\n")?)?;
-        }
-    }
-    Ok(text)
-}
-
-/// A run of `$[0]` over the text. Gives its end, what it wrote, and how often it read.
+/// A run of `$[0]` over the text, of whose reads so many pass. Gives its end, what it wrote, and how often it
+/// read.
 fn run_of<R: Threads + Sync>(
     rt: &R,
     alloc: Global,
     text: &str,
     settings: &Settings,
+    passing: u64,
 ) -> (Result<Totals, RunFault>, Vec<u8>, u64) {
-    let mut source = FromReader::new(text.as_bytes());
+    let mut source = FromReader::new(FailsAfter::new(text.as_bytes(), passing));
     let mut sink = Holds::new(Vec::new(alloc), ROOM, ROOM);
     let end = run(
         rt,
@@ -75,57 +43,131 @@ fn run_of<R: Threads + Sync>(
     (end, sink.bytes, source.reads())
 }
 
+/// Whether a run finished over so many lines, so many of them faulty.
+fn is_finished(end: &Result<Totals, RunFault>, count: u64, faulty: u64) -> bool {
+    match end {
+        Ok(found) => (found.lines, found.documents, found.faulty) == (count, count, faulty),
+        Err(_) => false,
+    }
+}
+
+/// With 64 workers a part has 8 MB, so no part comes of eight lines.
 #[test]
 fn the_same_by_parts(rt: HostRuntime) -> Result<(), Fail> {
-    let text = eight(rt.alloc(), false)?;
-    let wanted = answer(rt.alloc(), false)?;
+    let text = long_lines(rt.alloc(), 8, &[])?;
+    let wanted = long_answer(rt.alloc(), 8, &[])?;
     for workers in [1u64, 2, 64] {
         let settings = Settings::new(workers, 64, BATCH)?;
-        let (end, bytes, _) = run_of(&rt, rt.alloc(), &text, &settings);
-        let totals = Totals {
-            lines: 8,
-            documents: 8,
-            faulty: 0,
-        };
-        assert!(rt; matches!(end, Ok(found) if found == totals));
-        assert!(rt; bytes.as_slice() == wanted.as_bytes());
+        let (end, bytes, _) = run_of(&rt, rt.alloc(), &text, &settings, ALL_READS);
+        assert!(rt; is_finished(&end, 8, 0) && bytes.as_slice() == wanted.as_bytes());
+    }
+    Ok(())
+}
+
+/// Of 130 lines the first 120 are a part for 64 workers.
+#[test]
+fn a_part_for_many_workers(rt: HostRuntime) -> Result<(), Fail> {
+    let text = long_lines(rt.alloc(), 130, &FAULTY)?;
+    let wanted = long_answer(rt.alloc(), 130, &FAULTY)?;
+    let settings = Settings::new(64, 64, BATCH)?.keep_going();
+    let (end, bytes, _) = run_of(&rt, rt.alloc(), &text, &settings, ALL_READS);
+    assert!(rt; is_finished(&end, 130, 2) && bytes.as_slice() == wanted.as_bytes());
+    Ok(())
+}
+
+/// Batches of three and of five of the eight lines have several parts each, for one worker.
+#[test]
+fn several_batches_of_several_parts(rt: HostRuntime) -> Result<(), Fail> {
+    let text = long_lines(rt.alloc(), 8, &FAULTY)?;
+    let wanted = long_answer(rt.alloc(), 8, &FAULTY)?;
+    for batch in [3u64, 5] {
+        for workers in [1u64, 2, 4] {
+            let settings = Settings::new(workers, 64, batch)?.keep_going();
+            let (end, bytes, _) = run_of(&rt, rt.alloc(), &text, &settings, ALL_READS);
+            assert!(rt; is_finished(&end, 8, 2) && bytes.as_slice() == wanted.as_bytes());
+        }
     }
     Ok(())
 }
 
 #[test]
 fn faulty_lines_of_two_parts(rt: HostRuntime) -> Result<(), Fail> {
-    let text = eight(rt.alloc(), true)?;
-    let wanted = answer(rt.alloc(), true)?;
+    let text = long_lines(rt.alloc(), 8, &FAULTY)?;
+    let wanted = long_answer(rt.alloc(), 8, &FAULTY)?;
     for workers in [1u64, 2, 64] {
         let settings = Settings::new(workers, 64, BATCH)?.keep_going();
-        let (end, bytes, _) = run_of(&rt, rt.alloc(), &text, &settings);
-        let totals = Totals {
-            lines: 8,
-            documents: 8,
-            faulty: 2,
-        };
-        assert!(rt; matches!(end, Ok(found) if found == totals));
-        assert!(rt; bytes.as_slice() == wanted.as_bytes());
+        let (end, bytes, _) = run_of(&rt, rt.alloc(), &text, &settings, ALL_READS);
+        assert!(rt; is_finished(&end, 8, 2) && bytes.as_slice() == wanted.as_bytes());
     }
     Ok(())
 }
 
-/// The first part has the faulty line, so what follows the second one is not read: seven reads hold six
-/// lines.
-#[test]
-fn a_faulty_part_ends_the_run(rt: HostRuntime) -> Result<(), Fail> {
-    let text = eight(rt.alloc(), true)?;
-    let settings = Settings::new(1, 64, BATCH)?;
-    let (end, bytes, reads) = run_of(&rt, rt.alloc(), &text, &settings);
-    let is_second = matches!(
+/// Workers, lines, and the read that is the last. The first part has the faulty line 2: two lines for one
+/// worker, which come with read 3, four for two and eight for four, with read 5 and read 9. It is answered
+/// beside the reads up to as many lines more, which read 5, 9 and 18 bring.
+const LAST_READS: [(u64, u64, u64); 3] = [(1, 8, 5), (2, 8, 9), (4, 16, 18)];
+
+/// Whether a run ended at the second line, and wrote what the first gives.
+fn is_second(end: &Result<Totals, RunFault>, bytes: &[u8]) -> bool {
+    let stopped = matches!(
         end,
         Err(RunFault::Document {
             line: 2,
             fault: DocFault::Unreadable
         })
     );
-    assert!(rt; is_second && bytes.as_slice() == b"1\t$[0]\t1\n".as_slice());
-    assert!(rt; reads < 7);
+    stopped && bytes == b"1\t$[0]\t1\n".as_slice()
+}
+
+#[test]
+fn a_faulty_part_ends_the_run(rt: HostRuntime) -> Result<(), Fail> {
+    for (workers, count, last) in LAST_READS {
+        let text = long_lines(rt.alloc(), count, &FAULTY)?;
+        let settings = Settings::new(workers, 64, BATCH)?;
+        let (end, bytes, reads) = run_of(&rt, rt.alloc(), &text, &settings, ALL_READS);
+        assert!(rt; is_second(&end, &bytes), "{workers} workers");
+        assert_eq!(rt; reads, last);
+    }
+    Ok(())
+}
+
+/// A read that fails beside a part is told, and not the part's faulty line; nothing of the batch is written.
+#[test]
+fn a_read_fails_beside_a_faulty_part(rt: HostRuntime) -> Result<(), Fail> {
+    for (workers, count, last) in LAST_READS {
+        let text = long_lines(rt.alloc(), count, &FAULTY)?;
+        let settings = Settings::new(workers, 64, BATCH)?;
+        for passing in 0..last {
+            let (end, bytes, reads) = run_of(&rt, rt.alloc(), &text, &settings, passing);
+            let is_read = matches!(end, Err(RunFault::Read)) && bytes.is_empty();
+            assert!(rt;
+                is_read && reads == passing + 1,
+                "{workers} workers, {passing} reads"
+            );
+        }
+        let (end, bytes, _) = run_of(&rt, rt.alloc(), &text, &settings, last);
+        assert!(rt; is_second(&end, &bytes), "{workers} workers");
+    }
+    Ok(())
+}
+
+/// Eight lines come with read 9, and read 10 finds the end. Where the run keeps going each of them may fail
+/// beside a part, or behind some.
+#[test]
+fn a_read_fails_beside_a_part_that_keeps_going(rt: HostRuntime) -> Result<(), Fail> {
+    let text = long_lines(rt.alloc(), 8, &FAULTY)?;
+    for workers in [1u64, 2] {
+        let settings = Settings::new(workers, 64, BATCH)?.keep_going();
+        for passing in 0..10u64 {
+            let (end, bytes, reads) = run_of(&rt, rt.alloc(), &text, &settings, passing);
+            let is_read = matches!(end, Err(RunFault::Read)) && bytes.is_empty();
+            assert!(rt;
+                is_read && reads == passing + 1,
+                "{workers} workers, {passing} reads"
+            );
+        }
+        let (end, _, _) = run_of(&rt, rt.alloc(), &text, &settings, 10);
+        assert!(rt; is_finished(&end, 8, 2));
+    }
     Ok(())
 }

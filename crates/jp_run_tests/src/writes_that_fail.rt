@@ -1,9 +1,9 @@
 //! Each write failing in turn.
 
-ghost use Rattle.std.specs.Prelude.{◌<◌};
+ghost use Rattle.std.specs.Prelude.{◌≡◌, ◌<◌, false};
 
-use crate::fakes::Holds;
-use jp_run::{FromReader, OpenGate, RunFault, Settings};
+use crate::fakes::{Holds, OneByte};
+use jp_run::{FromReader, OpenGate, RunFault, Settings, Source};
 use std::alloc::Global;
 use std::test::Fail;
 use std::thread::Threads;
@@ -55,6 +55,49 @@ fn each_write(rt: HostRuntime) -> Result<(), Fail> {
                 "{most} a call, {room} in all"
             );
         }
+    }
+    Ok(())
+}
+
+/// How often a run over bytes that come one by one reads, whose sink fails: none where it does not tell so,
+/// or wrote something else than the front of the output.
+fn reads_until<R: Threads + Sync>(
+    rt: &R,
+    alloc: Global,
+    mut sink: Holds,
+    batch: u64,
+    written: usize,
+) -> Result<Option<u64>, RunFault>
+    requires { sink.failed ≡ false }
+{
+    let settings = Settings::new(2, 1, batch)?;
+    let mut source = OneByte::new(INPUT, 0);
+    let end = jp_run::run(
+        rt,
+        alloc,
+        &mut source,
+        &mut sink,
+        "$.a",
+        &settings,
+        &OpenGate,
+    );
+    let (front, _) = OUTPUT.split_at(written.min(OUTPUT.len()));
+    let tells = matches!(end, Err(RunFault::Write)) && sink.bytes.as_slice() == front;
+    Ok(if tells { Some(source.reads()) } else { None })
+}
+
+/// The first line has 8 bytes with its line feed, and the second document ends with byte 20. So a batch of
+/// one is whole with read 8, a batch of two with read 20, and one of ten never: then read 21 finds the end.
+/// No read follows before the batch is written, or before it is passed on.
+#[test]
+fn no_read_before_a_batch_is_out(rt: HostRuntime) -> Result<(), Fail> {
+    for (batch, reads, written) in [(1u64, 8u64, 11usize), (2, 20, 25), (10, 21, 25)] {
+        let full = Holds::new(Vec::new(rt.alloc()), 3, 0);
+        let until = reads_until(&rt, rt.alloc(), full, batch, 0)?;
+        assert!(rt; until == Some(reads), "a write fails, batch {batch}");
+        let stuck = Holds::new(Vec::new(rt.alloc()), 3, 100).without_flush();
+        let until = reads_until(&rt, rt.alloc(), stuck, batch, written)?;
+        assert!(rt; until == Some(reads), "a flush fails, batch {batch}");
     }
     Ok(())
 }
