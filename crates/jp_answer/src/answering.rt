@@ -100,6 +100,8 @@ fn add_line<R: Threads + Sync>(
     ensures query { evaluated_query evaluator.new ≡ evaluated_query evaluator.old }
 {
     let Some(document) = reader.read(line.bytes)? else {
+        // So the tree does not stand beside what was read of the line.
+        reader.release();
         return add_tree(rt, alloc, evaluator, pieces, line, written);
     };
     let root = Part::root_of_flat(&document);

@@ -6,7 +6,7 @@ ghost use Rattle.jp_eval.specs.inner.Rooted.{are_answers};
 ghost use Rattle.jp_part.specs.Part.{part_value};
 
 use crate::aggregates::{Aggregate, is_result_of, of_one};
-use crate::root_answer::RootAnswer;
+use crate::root_answer::{Length, RootAnswer};
 use jp_compiled::{Nodes, RootQuery, Value as Giver, Want};
 use jp_part::{Kind, Part};
 use std::alloc::{AllocError, Global};
@@ -32,8 +32,8 @@ impl<'v> Context<'v> {
     ghost use Rattle.jp_tree.specs.declared.tree.Start.TheVariants as start;
     ghost use Rattle.jp_eval.specs.inner.Aggregates.{tells, told};
     ghost use Rattle.jp_eval.specs.inner.Base.{base_of};
-    ghost use Rattle.jp_eval.specs.inner.Walk.{value_given};
-    ghost use Rattle.jp_value.specs.Functions.{length_value};
+    ghost use Rattle.jp_eval.specs.inner.Walk.{value_given, nodes_given};
+    ghost use Rattle.jp_eval.specs.inner.RootAnswers.{IsLength};
     ghost use Rattle.jp_value.specs.Kinds.{given_value};
     ghost use Rattle.jp_eval.specs.inner.Rooted.{is_answer};
     ghost use Rattle.jp_eval.specs.Nodelist.{nodelist};
@@ -113,19 +113,22 @@ impl<'v> Context<'v> {
         ensures { IfSome result (λ o. (n : Node) → given_value o ≡ value_given (base_of self.now) giver.now n) }
     {
         match giver {
-            Giver::Length(of) => self.known_length(of),
+            Giver::Length(of) => match self.known_length(of) {
+                Length::Unknown => None,
+                Length::Nothing => Some(None),
+                Length::Number(number) => Some(Some(Kind::Whole(number))),
+            },
             _ => self.known_value(giver),
         }
     }
 
     /// The length of the value of the `$` query that gives it, if it is kept.
-    fn known_length(&self, giver: &Giver) -> Option<Option<Kind<'_>>>
-        ensures { IfSome result (λ o. (n : Node)
-            → given_value o ≡ length_value (value_given (base_of self.now) giver.now n)) }
+    fn known_length(&self, giver: &Giver) -> Length
+        ensures { (n : Node) → IsLength result (value_given (base_of self.now) giver.now n) }
     {
         match self.known(giver) {
-            Some(known) => known.length(),
-            None => None,
+            Some(known) => known.length,
+            None => Length::Unknown,
         }
     }
 
@@ -145,8 +148,19 @@ impl<'v> Context<'v> {
             → told known.now.answer ≡ value_given (base_of self.now) giver.now n) }
     {
         match giver {
-            Giver::Single(Nodes::Root(slot)) => self.answered(*slot, Want::First),
-            Giver::Only(Nodes::Root(slot)) => self.answered(*slot, Want::Only),
+            Giver::Single(nodes) => self.known_nodes(nodes, Want::First),
+            Giver::Only(nodes) => self.known_nodes(nodes, Want::Only),
+            _ => None,
+        }
+    }
+
+    /// What is known of the nodes, where they are those of a `$` query of which this is wanted.
+    fn known_nodes(&self, nodes: &Nodes, want: Want) -> Option<&RootAnswer<'v>>
+        ensures { IfSome result (λ known. (n : Node) → tells want
+            (nodes_given (base_of self.now) nodes.now want n) known.now.answer ≡ true) }
+    {
+        match nodes {
+            Nodes::Root(slot) => self.answered(*slot, want),
             _ => None,
         }
     }

@@ -2,11 +2,11 @@
 
 ghost use Rattle.std.specs.Prelude.{◌≡◌, IfOk, IfSome, map, true};
 ghost use Rattle.jp_flat.specs.Gathered.{entry};
-ghost use Rattle.jp_part.specs.Inside.{members_in};
+ghost use Rattle.jp_doc.specs.Json.{object};
+ghost use Rattle.jp_part.specs.Inside.{kind_value, members_in};
 ghost use Rattle.jp_part.specs.Members.{members as in_order};
 ghost use Rattle.jp_eval.specs.inner.Aggregates.{told};
 ghost use Rattle.jp_eval.specs.inner.RootAnswers.{is_length, are_members};
-ghost use Rattle.jp_value.specs.Functions.{length_value};
 ghost use Rattle.jp_value.specs.Kinds.{given_value};
 
 use crate::aggregates::{Aggregate, operand};
@@ -21,7 +21,8 @@ use std::alloc::{AllocError, Global};
 pub(crate) struct RootAnswer<'v> {
     /// The answer.
     pub(crate) answer: Aggregate<'v>,
-    length: Length,
+    /// What `length` gives of its value.
+    pub(crate) length: Length,
     /// The members of the value in order, where it is a flat object, and the query compares such values. In a
     /// tree they lie so.
     members: Option<Vec<FlatMember<'v>>>,
@@ -29,10 +30,10 @@ pub(crate) struct RootAnswer<'v> {
     ghost members_are: { are_members members answer ≡ true },
 }
 
-/// What `length` gives of a value.
+/// What `length` gives of a value, where that is kept.
 #[derive(Clone, Copy)]
 pub(crate) enum Length {
-    /// It was not asked for.
+    /// It is not kept.
     Unknown,
     /// Nothing.
     Nothing,
@@ -69,17 +70,6 @@ impl<'v> RootAnswer<'v> {
             None => operand(self.answer),
         }
     }
-
-    /// The length of the value, where it is kept.
-    pub(crate) fn length(&self) -> Option<Option<Kind<'v>>>
-        ensures { IfSome result (λ n. given_value n ≡ length_value (told self.now.answer)) }
-    {
-        match self.length {
-            Length::Unknown => None,
-            Length::Nothing => Some(None),
-            Length::Number(number) => Some(Some(Kind::Whole(number))),
-        }
-    }
 }
 
 /// The length of an answer's value, where such are asked for.
@@ -108,13 +98,24 @@ fn members_of<'v>(
         return Ok(None);
     }
     match operand(answer) {
-        Some(Kind::Object(members)) => listed(alloc, members),
+        Some(value) => listed(alloc, value),
+        None => Ok(None),
+    }
+}
+
+/// The members of a value, where it is a flat object.
+fn listed<'v>(alloc: Global, value: Kind<'v>) -> Result<Option<Vec<FlatMember<'v>>>, AllocError>
+    ensures { IfOk result (λ o. IfSome o (λ l.
+        kind_value value.entry ≡ object (in_order (map entry l.items)))) }
+{
+    match value {
+        Kind::Object(members) => gathered(alloc, members),
         _ => Ok(None),
     }
 }
 
 /// The members of a flat object.
-fn listed<'v>(
+fn gathered<'v>(
     alloc: Global,
     members: Members<'v>,
 ) -> Result<Option<Vec<FlatMember<'v>>>, AllocError>

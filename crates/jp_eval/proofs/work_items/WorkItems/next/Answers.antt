@@ -2,6 +2,7 @@ use Rattle.std.proofs.Common.{◌≡◌, ◌++◌, [], append_assoc, append-nil,
 use Rattle.std.proofs.lemmas.List.{nil_from_length}
 use Rattle.std.specs.List.{flat_map}
 use Rattle.jp_doc.specs.Location.{node}
+use Rattle.jp_nodes.specs.ChildNodes.{child_nodes}
 use Rattle.jp_part.specs.Part.{part_value}
 use Rattle.jp_eval.specs.inner.Along.{done_below}
 use Rattle.jp_eval.specs.inner.Walk.{done, picked_by, reached}
@@ -34,4 +35,4 @@ returns-clause-nodes c = λ base at.
     ∙ ap (λ o. done_below base c.args.self.rest o n) c.in-Some-below.is
     ∙ ap (flat_map (done base task)) (sym (c.in_ok-children_of.ensures.nodes at))
     ∙ sym (append-nil _)
-    ∙ ap (λ l. _ ++ l) (sym (no_selector base c.args.self.rest.now c.args.self.selectors.now n [] none))
+    ∙ ap (λ l. flat_map (done base task) (child_nodes at c.in_ok-children_of.field-0) ++ l) (sym (no_selector base c.args.self.rest.now c.args.self.selectors.now n [] none))
