@@ -15,6 +15,7 @@ ghost use Rattle.jp_program.specs.Outcome.{IsStatus, IsTaken, IsAnswered, IsPast
 ghost use Rattle.jp_program.specs.Outcome.{AreAllReads, AreTooManyLines};
 ghost use Rattle.jp_program.specs.Wanted.{Wanted as Wish, Wants, WantsCheck, WantsRun, IsWrong};
 
+use crate::advice::tell_of_words;
 use crate::command_line::{Asked, Wanted, read_words};
 use jp_run::{OpenGate, RunFault, Sink, Source, Totals, check_query, run, write_all};
 use std::alloc::{AllocError, AllocGlobal, Global};
@@ -110,7 +111,7 @@ pub fn program<R: Threads + AllocGlobal + Sync, S: Source, K: Sink, N: Sink>(
         }
         Err(fault) => {
             pass_on_after(sink, &fault);
-            tell(rt.alloc(), notes, &fault);
+            tell_of_words(rt.alloc(), notes, words, &fault);
             fault.status()
         }
     }
@@ -230,7 +231,7 @@ fn tell_faulty<N: Sink>(alloc: Global, notes: &mut N, faulty: u64)
 }
 
 /// Writes a line, or that memory was wanted for it, where the notes have not failed before.
-fn note<N: Sink>(notes: &mut N, line: Result<String, AllocError>)
+pub(crate) fn note<N: Sink>(notes: &mut N, line: Result<String, AllocError>)
     ensures untouched { N.failed notes.old ≡ true → notes.new ≡ notes.old }
 {
     if notes.failed() {

@@ -84,7 +84,7 @@ pub(crate) fn read_words<'a>(alloc: Global, words: &'a [&'a str]) -> Result<Aske
 }
 
 /// What the words say of each option.
-fn matches<'a>(alloc: Global, words: &'a [&'a str]) -> Result<ArgMatches<'a>, Error>
+pub(crate) fn matches<'a>(alloc: Global, words: &'a [&'a str]) -> Result<ArgMatches<'a>, Error>
     ensures said { IfOk result (λ m. rows_of (found_of m) ≡ said (texts words.entry.now)) }
     ensures fault { FailsBy (refusals (texts words.entry.now)) result }
 {

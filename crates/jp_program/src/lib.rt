@@ -1,6 +1,7 @@
 //! What the command `jp` does, over any source, any sink and any place for notes.
 #![tactic(auto)]
 
+mod advice;
 mod command;
 mod command_line;
 mod examples;

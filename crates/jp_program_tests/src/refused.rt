@@ -53,7 +53,39 @@ fn command_lines_are_refused(rt: HostRuntime) -> Result<(), Fail> {
         let left = run_words(&rt, words, b"[]\n");
         assert_eq!(rt; left.status, 64);
         assert_eq!(rt; left.output.as_slice(), "".as_bytes());
-        assert_eq!(rt; left.notes.as_slice(), "jp: command line\n".as_bytes());
+        assert!(rt; left.notes.starts_with(b"jp: command line\njp: "));
+        assert!(rt; left.notes.ends_with(b"\n"));
+    }
+    Ok(())
+}
+
+/// Words, each with the line that helps.
+const ADVICE: [(&[&str], &[u8]); 5] = [
+    (&["jp"], b"jp: there is no query; try jp --help\n"),
+    (
+        &["jp", "$", "file"],
+        b"jp: unexpected argument 'file' found; a file is given by <\n",
+    ),
+    (
+        &["jp", "--worker", "8", "$"],
+        b"jp: unexpected argument '--worker' found; a similar argument exists: '--workers'\n",
+    ),
+    (
+        &["jp", "-w", "8", "$"],
+        b"jp: unexpected argument '-w' found; try jp --help\n",
+    ),
+    (
+        &["jp", "--workers", "65", "$"],
+        b"jp: a number is out of its range; try jp --help\n",
+    ),
+];
+
+#[test]
+fn what_helps_is_told(rt: HostRuntime) -> Result<(), Fail> {
+    for (words, told) in &ADVICE {
+        let left = run_words(&rt, *words, b"");
+        let line = left.notes.strip_prefix(b"jp: command line\n");
+        assert_eq!(rt; line, Some(*told));
     }
     Ok(())
 }

@@ -1,0 +1,60 @@
+//! What helps where a command line is refused.
+
+ghost use Rattle.std.specs.Prelude.{◌≡◌, true};
+
+use crate::command::{note, tell};
+use crate::command_line::matches;
+use clap::error::ErrorKind;
+use jp_run::{RunFault, Sink};
+use std::alloc::{AllocError, Global};
+
+/// Tells a fault in one line. Behind that of a command line a further one says what is wrong with the words,
+/// or what to do; where memory for it is refused there is none.
+pub(crate) fn tell_of_words<N: Sink>(alloc: Global, notes: &mut N, words: &[&str], fault: &RunFault)
+    ensures untouched { N.failed notes.old ≡ true → notes.new ≡ notes.old }
+{
+    tell(alloc, notes, fault);
+    if let RunFault::Settings = fault {
+        if let Ok(line) = advice(alloc, words) {
+            note(notes, Ok(line));
+        }
+    }
+}
+
+/// The line that helps.
+fn advice(alloc: Global, words: &[&str]) -> Result<String, AllocError> {
+    match matches(alloc, words) {
+        Ok(_) => format!(in alloc; "jp: a number is out of its range; try jp --help\n"),
+        Err(error) => {
+            let text = format!(in alloc; "{error}")?;
+            advice_by(alloc, error.kind(), &text)
+        }
+    }
+}
+
+/// The line, by what the reader of the words says: its first line, and its tip where that names an option.
+fn advice_by(alloc: Global, kind: ErrorKind, text: &str) -> Result<String, AllocError> {
+    let said = said_in(text);
+    match (kind, tip_in(text)) {
+        (ErrorKind::MissingRequiredArgument, _) => {
+            format!(in alloc; "jp: there is no query; try jp --help\n")
+        }
+        (_, Some(tip)) if tip.starts_with("a similar") => format!(in alloc; "jp: {said}; {tip}\n"),
+        (ErrorKind::UnknownArgument, None) => format!(in alloc;
+            "jp: {said}; a file is given by <\n"
+        ),
+        (_, _) => format!(in alloc; "jp: {said}; try jp --help\n"),
+    }
+}
+
+/// The first line, without what stands before it.
+fn said_in(text: &str) -> &str {
+    let line = text.lines().next().unwrap_or("");
+    line.strip_prefix("error: ").unwrap_or(line)
+}
+
+/// The first tip.
+fn tip_in(text: &str) -> Option<&str> {
+    let (_, rest) = text.split_once("  tip: ")?;
+    rest.lines().next()
+}
