@@ -2,7 +2,7 @@
 use Rattle.std.proofs.Common.{◌≡◌, ℕ, zero, suc, ◌+◌, ◌-◌, ◌≤◌, List, [], ◌∷◌, ◌++◌, length, take, drop}
 use Rattle.std.proofs.Common.{refl, ap, ◌∙◌, subst, arith, add-zero}
 use Rattle.jp_doc.specs.Height.{items_height, members_height}
-use Rattle.jp_doc.specs.Json.{Text, Json, array, object, items}
+use Rattle.jp_doc.specs.Json.{Text, Json, items}
 use Rattle.jp_doc.specs.Location.{Location, node, index, name}
 use Rattle.jp_part.specs.Members.{members}
 use Rattle.jp_nodes.specs.Nodes.{item_nodes, member_nodes}

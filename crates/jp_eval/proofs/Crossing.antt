@@ -148,8 +148,13 @@ answer_sync : (a : NamedLft) → IsSync (Aggregate.the_row a)
 answer_sync a = search (part_sync, alone_field, different_field, crosses, sendable) depth 60 fits
     20000
 
+answer_field : (a : NamedLft) → IsSync (Aggregate.the_field a).row
+answer_field a = search (part_sync, part_field, alone_field, different_field, crosses, sendable) depth 60
+    fits 20000
+
 known_sync : (a : NamedLft) → IsSync (RootAnswer.the_row a)
-known_sync a = search (answer_sync, lengths.the_field_sync, flat_member, crosses, sendable) depth 60 fits 20000
+known_sync a = search (answer_field, lengths.the_field_sync, flat_member, crosses, sendable) depth 60
+    fits 20000
 
 pub ground_sync : (a : NamedLft) → IsSync (Context.the_row a)
 ground_sync a = search (part_field, root_sync, known_sync, crosses, sendable) depth 60 fits 20000

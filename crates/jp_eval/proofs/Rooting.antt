@@ -1,5 +1,5 @@
 -- What is kept of the values of `$` queries.
-use Rattle.std.proofs.Common.{◌≡◌, ℕ, true, List, map, Option, Some, None, IfSome, Vec, Global, refl, sym, ap}
+use Rattle.std.proofs.Common.{◌≡◌, true, map, Option, Some, None, IfSome, Vec, Global, refl, sym, ap}
 use Rattle.std.proofs.Common.{◌∙◌}
 use Rattle.std.specs.Prelude.{MatchOption}
 use Rattle.jp_doc.specs.Json.{Json, object}

@@ -34,7 +34,7 @@ const NOTHING_SEEN: Totals = Totals {
 /// in one line; a failure to write it, or the help, is passed over.
 ///
 /// The status is 0 where the run finished, or the help, the version or a check was asked for; 2 where the
-/// query is refused; 3 where a line holds no document, also where the answer has gone on past it; 4 where
+/// query is refused; 3 where a line is faulty, also where the answer has gone on past it; 4 where
 /// reading or writing failed, or a limit was passed; 5 where a growth of memory was refused; 64 where the
 /// command line is refused.
 pub fn program<R: Threads + AllocGlobal + Sync, S: Source, K: Sink, N: Sink>(

@@ -26,10 +26,10 @@ the node's normalized path, a tab, the node's value. No other tab stands in it: 
 A QUERY that begins with - is given behind --. Beside the functions of RFC 9535 it may call two of our own:
 xor(A, B), exactly one of the two is true, and distinct(NODES), the nodes with each location once.
 
-The first line that holds no document ends the run. With --keep-going it gives a line of its own instead: its
+The first faulty line ends the run. With --keep-going it gives a line of its own instead: its
 number, a tab, !, a tab, what is wrong with it.
 
-Status: 0 finished, whether or not anything was selected; 2 the query is refused; 3 a line holds no document;
+Status: 0 finished, whether or not anything was selected; 2 the query is refused; 3 a line is faulty;
 4 reading or writing failed, or a limit was passed; 5 out of memory; 64 the command line is refused.
 
 Examples:

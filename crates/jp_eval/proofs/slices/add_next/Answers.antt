@@ -1,10 +1,9 @@
-use Rattle.std.proofs.Common.{◌≡◌, ◌+◌, ◌++◌, [], ◌∷◌, drop, List, append-nil, ap, sym, ◌∙◌, refl, arith}
+use Rattle.std.proofs.Common.{◌+◌, ◌++◌, [], ◌∷◌, append-nil, ap, sym, ◌∙◌, refl, arith}
 use Rattle.jp_doc.proofs.Below.{item_below}
 use Rattle.jp_doc.specs.Height.{height}
 use Rattle.jp_doc.specs.Json.{Json, array, items}
 use Rattle.jp_doc.specs.Location.{index}
 use Rattle.jp_part.proofs.Lists.{drop_enough, drop_more, of_child}
-use Rattle.jp_part.specs.Inside.{item_values}
 use Rattle.jp_part.specs.Part.{part_value}
 use Rattle.jp_nodes.specs.ChildNodes.{listed_nodes}
 use Rattle.jp_nodes.specs.Nodes.{node_if_some}

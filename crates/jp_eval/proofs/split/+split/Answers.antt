@@ -1,4 +1,4 @@
-use Rattle.std.proofs.Common.{◌≡◌, ◌<◌, ◌≤◌, List, length, is_some, refl, sym, ap, ◌∙◌, arith, rules}
+use Rattle.std.proofs.Common.{◌≡◌, ◌≤◌, List, is_some, sym, ap, ◌∙◌, arith, rules}
 use Rattle.std.proofs.lemmas.Result.{on_ok_weaker}
 use Rattle.std.specs.List.{flat_map}
 use Rattle.jp_doc.specs.Location.{Location, Node, node}
@@ -25,11 +25,63 @@ pub each_work_item-loop-work_item-preserved : goal.each_work_item-loop-work_item
 each_work_item-loop-work_item-preserved g t c =
     let base = base_of c.args.context.now in
     let at = link_steps c.loop-work_item.path in
+    let nodes = rw c.in-Some.is at (c.in_ok-work_item.ensures.nodes base at) in
+    let value = rw c.in-Some.is at c.in_ok-work_item.ensures.value in
     rw c.in_ok-each_of.ensures.path (
       c.loop-work_item.invariant.0,
-      c.in-Some.ensures.value ∙ c.loop-work_item.invariant.1,
-      work_item_done (put_found g.V.Visit.put) _ _ _ _ (done_by base at c.in-Some.others) _ _
-          (c.in-Some.ensures.nodes base at)
+      value ∙ c.loop-work_item.invariant.1,
+      work_item_done (put_found g.V.Visit.put) _ _ _ _ (done_by base at c.in-Some.others) _ _ nodes
+          (c.in_ok-each_of.ensures.found
+          ∙ ap (λ ns. plus (put_found g.V.Visit.put) (kept g.V.Visit.kept c.loop-work_item.found)
+          (flat_map (done base c.in-Some.work_item.task) ns)) (c.counted-children.ensures.nodes at))
+          c.loop-work_item.invariant.2,
+    )
+
+pub each_work_item-loop-work_item-preserved-in_ok-each_of :
+    goal.each_work_item-loop-work_item-preserved-in_ok-each_of
+each_work_item-loop-work_item-preserved-in_ok-each_of g t c =
+    let base = base_of c.args.context.now in
+    let at = link_steps c.loop-work_item.path in
+    let nodes = rw c.in-Some.is at (c.in_ok-work_item.ensures.nodes base at) in
+    let value = rw c.in-Some.is at c.in_ok-work_item.ensures.value in
+    rw c.in_ok-each_of.ensures.path (
+      c.loop-work_item.invariant.0,
+      value ∙ c.loop-work_item.invariant.1,
+      work_item_done (put_found g.V.Visit.put) _ _ _ _ (done_by base at c.in-Some.others) _ _ nodes
+          (c.in_ok-each_of.ensures.found
+          ∙ ap (λ ns. plus (put_found g.V.Visit.put) (kept g.V.Visit.kept c.loop-work_item.found)
+          (flat_map (done base c.in-Some.work_item.task) ns)) (c.counted-children.ensures.nodes at))
+          c.loop-work_item.invariant.2,
+    )
+
+pub each_work_item-loop-work_item-preserved-in_ok-each_of-2 :
+    goal.each_work_item-loop-work_item-preserved-in_ok-each_of-2
+each_work_item-loop-work_item-preserved-in_ok-each_of-2 g t c =
+    let base = base_of c.args.context.now in
+    let at = link_steps c.loop-work_item.path in
+    let nodes = rw c.in-Some.is at (c.in_ok-work_item.ensures.nodes base at) in
+    let value = rw c.in-Some.is at c.in_ok-work_item.ensures.value in
+    rw c.in_ok-each_of.ensures.path (
+      c.loop-work_item.invariant.0,
+      value ∙ c.loop-work_item.invariant.1,
+      work_item_done (put_found g.V.Visit.put) _ _ _ _ (done_by base at c.in-Some.others) _ _ nodes
+          (c.in_ok-each_of.ensures.found
+          ∙ ap (λ ns. plus (put_found g.V.Visit.put) (kept g.V.Visit.kept c.loop-work_item.found)
+          (flat_map (done base c.in-Some.work_item.task) ns)) (c.counted-children.ensures.nodes at))
+          c.loop-work_item.invariant.2,
+    )
+
+pub each_work_item-loop-work_item-preserved-in_ok-each_of-3 :
+    goal.each_work_item-loop-work_item-preserved-in_ok-each_of-3
+each_work_item-loop-work_item-preserved-in_ok-each_of-3 g t c =
+    let base = base_of c.args.context.now in
+    let at = link_steps c.loop-work_item.path in
+    let nodes = rw c.in-Some.is at (c.in_ok-work_item.ensures.nodes base at) in
+    let value = rw c.in-Some.is at c.in_ok-work_item.ensures.value in
+    rw c.in_ok-each_of.ensures.path (
+      c.loop-work_item.invariant.0,
+      value ∙ c.loop-work_item.invariant.1,
+      work_item_done (put_found g.V.Visit.put) _ _ _ _ (done_by base at c.in-Some.others) _ _ nodes
           (c.in_ok-each_of.ensures.found
           ∙ ap (λ ns. plus (put_found g.V.Visit.put) (kept g.V.Visit.kept c.loop-work_item.found)
           (flat_map (done base c.in-Some.work_item.task) ns)) (c.counted-children.ensures.nodes at))
@@ -46,9 +98,10 @@ one_by_one-go_split-requires-clause-taken g t c κs within =
 
 pub each_work_item-returns-clause-found : goal.each_work_item-returns-clause-found
 each_work_item-returns-clause-found g t c =
+    let none = rw c.in_default.is at (c.in_ok-work_item.ensures.nodes (base_of c.args.context.now)
+    (link_steps c.loop-work_item.path)) in
     ended (put_found g.V.Visit.put) _ _ _
-    (ap (plus (put_found g.V.Visit.put) (kept g.V.Visit.kept c.loop-work_item.found))
-    (sym (c.in_default.ensures.nodes (base_of c.args.context.now) (link_steps c.loop-work_item.path)))
+    (ap (plus (put_found g.V.Visit.put) (kept g.V.Visit.kept c.loop-work_item.found)) (sym none)
     ∙ c.loop-work_item.invariant.2)
 
 pub one_by_one-loop-child-preserved : goal.one_by_one-loop-child-preserved

@@ -11,7 +11,6 @@ use Rattle.std.specs.Str.{chars}
 use Rattle.jp_doc.specs.Height.{height}
 use Rattle.jp_doc.specs.Json.{text}
 use Rattle.jp_doc.specs.Location.{node, name, member_of}
-use Rattle.jp_types.specs.Numbers.{whole_number}
 use Rattle.jp_tree.specs.View.{text_of}
 use Rattle.jp_compiled.specs.Compiled.{position_text, wanted_inside}
 use Rattle.jp_compiled.specs.declared.query.Want.TheVariants as want
@@ -44,7 +43,6 @@ use Rattle.jp_eval.proofs.Places.{slice_found}
 use Rattle.jp_eval.specs.Nodelist.{index_places}
 use Rattle.jp_eval.proofs.WalkSteps.{back_up, here_further, link_further, over, applied, descended}
 use Rattle.jp_eval.proofs.WalkSteps.{any_further, any_found, all_further, all_found, none_at, one_at}
-use Rattle.jp_eval.specs.declared.walk.Task.TheVariants.{Run}
 use Rattle.jp_eval.proofs.walk.+walk.Goals as goal
 
 pub apply-loop-selector-preserved : goal.apply-loop-selector-preserved

@@ -3,7 +3,6 @@ use mir.Val.{SFits}
 use Rattle.std.proofs.lemmas.Int.{to_z-of_z}
 use Rattle.std.specs.Str.{chars}
 use Rattle.jp_doc.specs.Location.{node, name}
-use Rattle.jp_types.specs.Numbers.{whole_number}
 use Rattle.jp_compiled.specs.Compiled.{position_text}
 use Rattle.jp_value.specs.BoundsView.{bounds_value}
 use Rattle.jp_nodes.specs.Nodes.{child, items_at}

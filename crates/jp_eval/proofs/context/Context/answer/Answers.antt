@@ -1,5 +1,4 @@
 use Rattle.std.proofs.Common.{[], ap, ◌∙◌}
-use Rattle.jp_compiled.specs.Compiled.{root_at, roots_of}
 use Rattle.jp_part.specs.Part.{part_value}
 use Rattle.jp_value.specs.RightTests.{tests}
 use Rattle.jp_eval.specs.Nodelist.{nodelist}
