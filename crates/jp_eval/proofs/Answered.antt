@@ -120,7 +120,8 @@ pub as_many : (xs : List RootAnswer) → length (map (λ (known : RootAnswer). k
 as_many [] = refl
 as_many (x ∷ xs) = ap (λ n. suc n) (as_many xs)
 
-pub and_one : (xs : List RootAnswer) (x : RootAnswer) → map (λ (known : RootAnswer). known.answer) (xs ++ x ∷ [])
+pub and_one : (xs : List RootAnswer) (x : RootAnswer)
+    → map (λ (known : RootAnswer). known.answer) (xs ++ x ∷ [])
     ≡ map (λ known. known.answer) xs ++ x.answer ∷ []
 and_one [] x = refl
 and_one (y ∷ ys) x = ap (λ l. y.answer ∷ l) (and_one ys x)

@@ -110,7 +110,8 @@ impl<'v> Context<'v> {
 
     /// The value that is kept of the `$` query which gives it, or its length, if it is kept.
     pub(crate) fn given(&self, giver: &Giver) -> Option<Option<Kind<'_>>>
-        ensures { IfSome result (λ o. (n : Node) → given_value o ≡ value_given (base_of self.now) giver.now n) }
+        ensures { IfSome result (λ o. (n : Node)
+            → given_value o ≡ value_given (base_of self.now) giver.now n) }
     {
         match giver {
             Giver::Length(of) => match self.known_length(of) {
@@ -134,7 +135,8 @@ impl<'v> Context<'v> {
 
     /// The value of the `$` query that gives it.
     fn known_value(&self, giver: &Giver) -> Option<Option<Kind<'_>>>
-        ensures { IfSome result (λ o. (n : Node) → given_value o ≡ value_given (base_of self.now) giver.now n) }
+        ensures { IfSome result (λ o. (n : Node)
+            → given_value o ≡ value_given (base_of self.now) giver.now n) }
     {
         match self.known(giver) {
             Some(known) => Some(known.value()),

@@ -11,7 +11,8 @@ use Rattle.jp_part.specs.Inside.{members_inside}
 use Rattle.jp_part.specs.Members.{members}
 use Rattle.jp_part.proofs.Emptiness.{inside}
 
-some_if : (b : Bool) (v : Json) (o : Option Json) → is_some o ≡ true → is_some (if b then Some v else o) ≡ true
+some_if : (b : Bool) (v : Json) (o : Option Json) → is_some o ≡ true
+    → is_some (if b then Some v else o) ≡ true
 some_if true v o h = refl
 some_if false v o h = h
 
@@ -26,7 +27,8 @@ found_if true k v es h = some_last k es (Some v) refl
 found_if false k v es h = h
 
 -- the name of the first is found, and what is found behind it
-pub first_found : (k : Text) (v : Json) (es : List (Text × Json)) → is_some (last_of k ((k, v) ∷ es) None) ≡ true
+pub first_found : (k : Text) (v : Json) (es : List (Text × Json))
+    → is_some (last_of k ((k, v) ∷ es) None) ≡ true
 first_found k v es = some_last k es _ (ap (λ b. is_some (if b then Some v else None)) (same_text k))
 
 pub found_behind : (k : Text) (e : Text × Json) (es : List (Text × Json))

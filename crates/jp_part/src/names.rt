@@ -58,7 +58,8 @@ fn is_longer(members: FlatMembers<'_>, count: usize) -> bool {
 
 /// Whether some name is none of the list.
 fn has_name_beyond(flat: FlatMembers<'_>, list: &[FlatMember<'_>]) -> bool
-    ensures { IsTrue result → (k : Text) × IsTrue (is_some (member_at k (members_in (Members.Flat flat.entry))))
+    ensures { IsTrue result → (k : Text)
+        × IsTrue (is_some (member_at k (members_in (Members.Flat flat.entry))))
         × (member_at k (members (map entry list.now)) ≡ None) }
 {
     let mut left = flat;

@@ -39,8 +39,9 @@ fn count_characters(text: &str) -> usize
 /// The number of scalar values of a text, of items of an array, or of members of an object, and nothing of
 /// anything else (RFC 9535, 2.4.4).
 ///
-/// It takes memory only for an object of a flat document, whose members are gathered. `AllocError` if a growth
-/// was refused.
+/// It takes memory only for an object of a flat document, whose members are gathered.
+///
+/// `AllocError` if a growth was refused.
 pub fn length(alloc: Global, given: Option<Kind<'_>>) -> Result<Option<Kind<'_>>, AllocError>
     ensures { IfOk result (λ n. given_value n ≡ spec.length_value (given_value given.entry)) }
 {

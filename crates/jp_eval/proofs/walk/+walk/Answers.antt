@@ -52,7 +52,8 @@ apply-loop-selector-preserved g t c =
       c.loop-selector.invariant.0,
       applied (put_found g.V.Visit.put) (base_of c.args.context.now)
           c.args.selectors.now c.loop-selector.selector-index c.selector-item.result c.args.rest.now
-          (here c.loop-selector.path c.args.opened.value) _ _ _ _ h c.selector-item.is c.in_ok-select.ensures.found
+          (here c.loop-selector.path c.args.opened.value) _ _ _ _ h c.selector-item.is
+          c.in_ok-select.ensures.found
           c.loop-selector.invariant.1,
     )
 
@@ -229,7 +230,8 @@ select-returns-in_ok-run-in-Name-clause-found g t c =
     c.in_ok-push-in-Name.ensures.ok
     ∙ ap (λ k. node (link_steps c.args.path.now ++ name (chars k) ∷ []) (part_value c.in-Some.child))
     c.as_str-in-Some.ensures.value)
-    ∙ sym (ap (λ x. picked (base_of c.args.context.now) x (here c.args.path.now c.args.opened.value)) c.in-Name.is
+    ∙ sym (ap (λ x. picked (base_of c.args.context.now) x (here c.args.path.now c.args.opened.value))
+    c.in-Name.is
     ∙ picked_name (base_of c.args.context.now) (here c.args.path.now c.args.opened.value) c.in-Name.name
     ∙ ap (node_if_some _) (sym some)))
 

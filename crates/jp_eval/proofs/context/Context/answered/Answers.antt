@@ -51,7 +51,8 @@ returns-else-is_result_of c =
     let is : known ≡ get_or xs c.args.slot known = search rules in
     let among : c.args.slot < length (map (λ (one : RootAnswer). one.answer) xs) =
     omega (arith, as_many xs, within) in
-    ap (query start.Root) (none_where root want (get_or roots c.args.slot (wanted want no_segments)) known.answer
+    ap (query start.Root) (none_where root want (get_or roots c.args.slot (wanted want no_segments))
+    known.answer
     (answer_at root roots (map (λ one. one.answer) xs) c.args.slot (wanted want no_segments) known.answer
     context.answered among (answer_among xs c.args.slot known within is))
     (sym c.is_result_of.ensures ∙ c.if-is_result_of.false))

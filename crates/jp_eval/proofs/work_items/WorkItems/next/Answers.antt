@@ -35,4 +35,5 @@ returns-clause-nodes c = λ base at.
     ∙ ap (λ o. done_below base c.args.self.rest o n) c.in-Some-below.is
     ∙ ap (flat_map (done base task)) (sym (c.in_ok-children_of.ensures.nodes at))
     ∙ sym (append-nil _)
-    ∙ ap (λ l. flat_map (done base task) (child_nodes at c.in_ok-children_of.field-0) ++ l) (sym (no_selector base c.args.self.rest.now c.args.self.selectors.now n [] none))
+    ∙ ap (λ l. flat_map (done base task) (child_nodes at c.in_ok-children_of.field-0) ++ l)
+    (sym (no_selector base c.args.self.rest.now c.args.self.selectors.now n [] none))
