@@ -8,7 +8,7 @@ _jp() {
             ;;
     esac
     if [[ $word != -* ]]; then return; fi
-    local options='--workers --piece --batch --check --keep-going --help --version'
+    local options='--workers --piece --batch --check --keep-going --explain --help --version'
     mapfile -t COMPREPLY < <(compgen -W "$options" -- "$word")
 }
 # Where the function offers nothing, as behind < and >, bash completes file names.

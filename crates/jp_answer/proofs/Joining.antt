@@ -8,7 +8,9 @@ use Rattle.jp_doc.specs.declared.fault.DocFault.{DocFault}
 use Rattle.jp_tree.specs.Tree.{Query}
 use Rattle.jp_regexp.specs.Tests.{Tests}
 use Rattle.jp_answer.specs.Faults.{fault_or, first_fault}
-use Rattle.jp_answer.specs.Answer.{Answer, after, line_answer, document_lines, answer, joined, unless_stopped}
+use Rattle.jp_output.specs.OutputForm.{OutputForm}
+use Rattle.jp_answer.specs.Answer.{Answer, after, line_answer, document_bytes, answer_as, joined}
+use Rattle.jp_answer.specs.Answer.{unless_stopped}
 
 pub after_joined_by : (bytes : List ℕ) (stop : Option (ℕ × DocFault)) (a b : Answer)
     → after bytes (unless_stopped stop a b) ≡ unless_stopped stop (after bytes a) b
@@ -16,22 +18,23 @@ after_joined_by bytes None a b = ap (λ all. record { bytes = all; stopped = b.s
     (append_assoc bytes a.bytes b.bytes))
 after_joined_by bytes (Some stop) a b = refl
 
-module _ (t : Tests) (q : Query) where
-  line_joined : (number : ℕ) (r : Result Json DocFault) (a b : Answer)
-      → line_answer t q number r (joined a b) ≡ joined (line_answer t q number r a) b
-  line_joined number (Ok root) a b = after_joined_by (document_lines t q number root) a.stopped a b
-  line_joined number (Err fault) a b = refl
+module _ (form : OutputForm) (t : Tests) (q : Query) where
+  line_joined : (l : Line) (r : Result Json DocFault) (a b : Answer)
+      → line_answer form t q l r (joined a b) ≡ joined (line_answer form t q l r a) b
+  line_joined l (Ok root) a b = after_joined_by (document_bytes form t q l root) a.stopped a b
+  line_joined l (Err fault) a b = refl
 
-  pub pieces_joined : (a b : List Line) → answer t q (a ++ b) ≡ joined (answer t q a) (answer t q b)
+  pub pieces_joined : (a b : List Line) → answer_as form t q (a ++ b)
+      ≡ joined (answer_as form t q a) (answer_as form t q b)
   pieces_joined [] b = refl
-  pieces_joined (l ∷ ls) b = ap (line_answer t q l.0 (reading l.1)) (pieces_joined ls b)
-      ∙ line_joined l.0 (reading l.1) (answer t q ls) (answer t q b)
+  pieces_joined (l ∷ ls) b = ap (line_answer form t q l (reading l.1)) (pieces_joined ls b)
+      ∙ line_joined l (reading l.1) (answer_as form t q ls) (answer_as form t q b)
 
-  fault_of : (number : ℕ) (r : Result Json DocFault) (a : Answer) (others : Option (ℕ × DocFault))
-      → a.stopped ≡ others → (line_answer t q number r a).stopped ≡ fault_or number r others
-  fault_of number (Ok root) a others e = e
-  fault_of number (Err fault) a others e = refl
+  fault_of : (l : Line) (r : Result Json DocFault) (a : Answer) (others : Option (ℕ × DocFault))
+      → a.stopped ≡ others → (line_answer form t q l r a).stopped ≡ fault_or l.0 r others
+  fault_of l (Ok root) a others e = e
+  fault_of l (Err fault) a others e = refl
 
-  pub stops_so : (ls : List Line) → (answer t q ls).stopped ≡ first_fault ls
+  pub stops_so : (ls : List Line) → (answer_as form t q ls).stopped ≡ first_fault ls
   stops_so [] = refl
-  stops_so (l ∷ ls) = fault_of l.0 (reading l.1) (answer t q ls) (first_fault ls) (stops_so ls)
+  stops_so (l ∷ ls) = fault_of l (reading l.1) (answer_as form t q ls) (first_fault ls) (stops_so ls)

@@ -1,5 +1,5 @@
 pub mod AnswerFields
-pub mod Forms
+pub mod OnFaults
 pub mod Joining
 pub mod OnLiterals
 pub mod Placing
@@ -7,4 +7,4 @@ pub mod Settling
 pub mod Stopping
 pub mod Streams
 pub mod Tending
-pub mod PlanCrosses
+pub mod QueryCrosses

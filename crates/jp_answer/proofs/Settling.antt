@@ -1,7 +1,7 @@
 -- What the workers did together, and the answer that their parts give.
-use Rattle.std.proofs.Common.{◌≡◌, refl, ℕ, zero, suc, ◌+◌, ◌*◌, ◌<◌, ◌≤◌, inl, inr, Bool, List, [], ◌∷◌}
+use Rattle.std.proofs.Common.{◌≡◌, refl, ℕ, zero, suc, ◌+◌, ◌*◌, ◌<◌, ◌≤◌, inl, inr, List, [], ◌∷◌}
 use Rattle.std.proofs.Common.{◌++◌, length, take, drop, map, flat_map, Option, Some, None, Result, Ok, Err}
-use Rattle.std.proofs.Common.{true, false}
+use Rattle.std.proofs.Common.{false}
 use Rattle.std.proofs.Common.{All, Contains, sym, ap, subst, ⊎_elim, ◌∙◌, arith, add-zero, zero-add}
 use Rattle.std.proofs.Common.{append-nil}
 use Rattle.std.specs.Prelude.{IsSome, IfOk, min, vec_len}
@@ -18,7 +18,7 @@ use Rattle.jp_buffer.specs.Buffered.{line_at}
 use Rattle.jp_doc.specs.Lines.{Line}
 use Rattle.jp_doc.specs.declared.fault.DocFault.{DocFault}
 use Rattle.jp_buffer.specs.declared.line_ref.LineRef as code
-use Rattle.jp_check.specs.Plan.{planned_query}
+use Rattle.jp_compiled.specs.Compiled.{compiled_query}
 use Rattle.jp_regexp.specs.Tests.{Tests, AreRight}
 use Rattle.jp_board.specs.declared.seat.Seat.{Seat}
 use Rattle.jp_board.specs.declared.view.View.{View}
@@ -28,7 +28,10 @@ use Rattle.jp_board.specs.Together.{all_claims, all_reports, all_looks, times_to
 use Rattle.jp_answer.specs.Answer as answers
 use Rattle.jp_answer.specs.Answer.{joined, unless_stopped}
 use Rattle.jp_answer.specs.Answered.{outcome_of}
-use Rattle.jp_answer.specs.Form.{answer_in, stop_in, passed_in}
+use Rattle.jp_answer.specs.OnFault.{answer_by, stop_in, passed_in}
+use Rattle.jp_output.specs.OutputForm.{OutputForm}
+use Rattle.jp_answer.specs.declared.on_fault.OnFault.{OnFault}
+use Rattle.jp_answer.specs.declared.on_fault.OnFault.TheVariants.{Stop, KeepGoing}
 use Rattle.jp_answer.specs.Pieces.{piece_lines, AreAllPieces, IsFaulty, IsPieceAnswer}
 use Rattle.jp_answer.specs.Placed.{StandsAt, IsPlaced, ComeFrom, nothing, joined_all, passed_all, ArePlaced}
 use Rattle.jp_answer.specs.Worked.{pieces_of, AreTended, IsTended, IsWorked}
@@ -37,7 +40,7 @@ use Rattle.jp_answer.specs.declared.pieces.Pieces.{Pieces}
 use Rattle.jp_answer.specs.declared.worker.PieceAnswer.{PieceAnswer}
 use Rattle.jp_answer.specs.declared.worker.Worker.{Worker}
 use Rattle.jp_board.proofs.Tallying.{claims_below, claims_all}
-use Rattle.jp_answer.proofs.Forms.{formed_joined, nothing_in, passed_joined, passed_none, passed_few}
+use Rattle.jp_answer.proofs.OnFaults.{formed_joined, nothing_in, passed_joined, passed_none, passed_few}
 use Rattle.jp_answer.proofs.Joining.{after_joined_by}
 
 -- an answer is joined to others
@@ -84,10 +87,10 @@ with_nothing None a e = ap (λ bs. record { bytes = bs; stopped = None }) (appen
     ∙ ap (λ s. record { bytes = a.bytes; stopped = s }) (sym e)
 with_nothing (Some s) a e = refl
 
-module _ (p : Pieces) where
+module _ (form : OutputForm) (p : Pieces) where
   -- the answer to lines, in the form that is asked for
   abbrev to_lines : Tests → List Line → answers.Answer
-  to_lines t ls = answer_in p.keeps_going t (planned_query p.plan.now) ls
+  to_lines t ls = answer_by form p.on_fault t (compiled_query p.query.now) ls
 
   -- the lines from a piece on
   abbrev lines_from : ℕ → List Line
@@ -134,14 +137,15 @@ module _ (p : Pieces) where
       ∙ joined_assoc (outcome_of b) (joined_all os) (to_lines t (lines_from (x + 1 + length os)))
       ∙ ap (joined (outcome_of b)) (joined_pieces t os (x + 1) (one_later t x (Some b) os each))
       ∙ ap (λ (c : answers.Answer). joined c (to_lines t (lines_from (x + 1)))) here
-      ∙ sym (formed_joined t (planned_query p.plan.now) p.keeps_going (piece_lines p x) (lines_from (x + 1)))
+      ∙ sym (formed_joined form t (compiled_query p.query.now) p.on_fault (piece_lines p x)
+      (lines_from (x + 1)))
       ∙ ap (to_lines t) (sym (cut_piece x))
 
   from_start : lines_from 0 ≡ map line_at p.lines.now
   from_start = ap (λ n. map line_at (drop n p.lines.now)) (zero-mul p.size)
 
   -- the answer to all lines is that of what stands there
-  pub placed_answer : (placed : List (Option Outcome)) → ArePlaced p placed → (t : Tests) → AreRight t
+  pub placed_answer : (placed : List (Option Outcome)) → ArePlaced form p placed → (t : Tests) → AreRight t
       → to_lines t (map line_at p.lines.now) ≡ joined_all placed
   placed_answer placed h t right =
       let all = joined_all placed in
@@ -158,7 +162,7 @@ module _ (p : Pieces) where
       let none : lines_from (0 + length placed) ≡ [] = ap (λ n. lines_from n) (zero-add (length placed))
       ∙ ap (map line_at) (drop_of_length-le p.lines.now long) in
       ap (λ ls. joined all (to_lines t ls)) none
-      ∙ ap (joined all) (nothing_in t (planned_query p.plan.now) p.keeps_going)
+      ∙ ap (joined all) (nothing_in form t (compiled_query p.query.now) p.on_fault)
       ∙ with_nothing all.stopped all refl)
       (λ (f : (x : ℕ) × (x < length placed) × IsFaulty p x).
       let (a, at, is) = h.each f.0 f.1 in
@@ -168,20 +172,20 @@ module _ (p : Pieces) where
   -- the same of the faulty lines that are passed
   abbrev PassedFrom : ℕ → List (Option Outcome) → Type 0
   PassedFrom x placed = (k : ℕ) → k < length placed → (a : Outcome) × StandsAt placed k a
-      × (passed_in p.keeps_going (piece_lines p (x + k)) ≡ a.faulty)
+      × (passed_in p.on_fault (piece_lines p (x + k)) ≡ a.faulty)
 
   passed_later : (x : ℕ) (o : Option Outcome) (os : List (Option Outcome)) → PassedFrom x (o ∷ os)
       → PassedFrom (x + 1) os
   passed_later x o os each k h =
       let (a, at, is) = each (suc k) (omega arith) in
       let e : x + suc k ≡ x + 1 + k = omega arith in
-      (a, at, subst (λ n. passed_in p.keeps_going (piece_lines p n) ≡ a.faulty) e is)
+      (a, at, subst (λ n. passed_in p.on_fault (piece_lines p n) ≡ a.faulty) e is)
 
   passed_pieces : (placed : List (Option Outcome)) (x : ℕ) → PassedFrom x placed
-      → passed_all placed + passed_in p.keeps_going (lines_from (x + length placed))
-      ≡ passed_in p.keeps_going (lines_from x)
-  passed_pieces [] x each = zero-add (passed_in p.keeps_going (lines_from (x + 0)))
-      ∙ ap (λ n. passed_in p.keeps_going (lines_from n)) (add-zero x)
+      → passed_all placed + passed_in p.on_fault (lines_from (x + length placed))
+      ≡ passed_in p.on_fault (lines_from x)
+  passed_pieces [] x each = zero-add (passed_in p.on_fault (lines_from (x + 0)))
+      ∙ ap (λ n. passed_in p.on_fault (lines_from n)) (add-zero x)
   passed_pieces (None ∷ os) x each = let (a, at, is) = each 0 (omega arith) in absurd (cc)
   passed_pieces (Some b ∷ os) x each =
       let (a, at, is) = each 0 (omega arith) in
@@ -191,44 +195,44 @@ module _ (p : Pieces) where
         arith,
         ap (λ (o : Outcome). o.faulty) same,
         is,
-        ap (λ n. passed_in p.keeps_going (piece_lines p n)) (add-zero x),
-        ap (λ n. passed_in p.keeps_going (lines_from n)) e,
+        ap (λ n. passed_in p.on_fault (piece_lines p n)) (add-zero x),
+        ap (λ n. passed_in p.on_fault (lines_from n)) e,
         passed_pieces os (x + 1) (passed_later x (Some b) os each),
-        passed_joined p.keeps_going (piece_lines p x) (lines_from (x + 1)),
-        ap (passed_in p.keeps_going) (cut_piece x),
+        passed_joined p.on_fault (piece_lines p x) (lines_from (x + 1)),
+        ap (passed_in p.on_fault) (cut_piece x),
       )
 
   -- an answer that passes faulty lines ends at no piece
-  none_passed : (k : Bool) (some rest : List Line) → IsSome (stop_in k some) → passed_in k rest ≡ 0
-  none_passed false some rest h = refl
-  none_passed true some rest h = absurd (cc)
+  none_passed : (k : OnFault) (some rest : List Line) → IsSome (stop_in k some) → passed_in k rest ≡ 0
+  none_passed Stop some rest h = refl
+  none_passed KeepGoing some rest h = absurd (cc)
 
-  pub placed_passed : (placed : List (Option Outcome)) → ArePlaced p placed
-      → passed_in p.keeps_going (map line_at p.lines.now) ≡ passed_all placed
+  pub placed_passed : (placed : List (Option Outcome)) → ArePlaced form p placed
+      → passed_in p.on_fault (map line_at p.lines.now) ≡ passed_all placed
   placed_passed placed h =
-      let rest = passed_in p.keeps_going (lines_from (0 + length placed)) in
-      let whole : passed_all placed + rest ≡ passed_in p.keeps_going (map line_at p.lines.now) =
+      let rest = passed_in p.on_fault (lines_from (0 + length placed)) in
+      let whole : passed_all placed + rest ≡ passed_in p.on_fault (map line_at p.lines.now) =
       passed_pieces placed 0 (λ k lt. let (a, at, is) = h.each k lt in (
         a,
         at,
-        subst (λ n. passed_in p.keeps_going (piece_lines p n) ≡ a.faulty) (sym (zero-add k)) is.passed,
-      )) ∙ ap (passed_in p.keeps_going) from_start in
+        subst (λ n. passed_in p.on_fault (piece_lines p n) ≡ a.faulty) (sym (zero-add k)) is.passed,
+      )) ∙ ap (passed_in p.on_fault) from_start in
       let none : rest ≡ 0 = ⊎_elim
       (λ (long : length p.lines.now ≤ length placed * p.size).
-      ap (λ n. passed_in p.keeps_going (lines_from n)) (zero-add (length placed))
-      ∙ ap (λ ls. passed_in p.keeps_going (map line_at ls)) (drop_of_length-le p.lines.now long)
-      ∙ passed_none p.keeps_going)
+      ap (λ n. passed_in p.on_fault (lines_from n)) (zero-add (length placed))
+      ∙ ap (λ ls. passed_in p.on_fault (map line_at ls)) (drop_of_length-le p.lines.now long)
+      ∙ passed_none p.on_fault)
       (λ (f : (x : ℕ) × (x < length placed) × IsFaulty p x).
-      none_passed p.keeps_going (piece_lines p f.0) (lines_from (0 + length placed)) f.2)
+      none_passed p.on_fault (piece_lines p f.0) (lines_from (0 + length placed)) f.2)
       h.enough in
       omega (arith, whole, none)
 
-  pub placed_few : (placed : List (Option Outcome)) → ArePlaced p placed
+  pub placed_few : (placed : List (Option Outcome)) → ArePlaced form p placed
       → passed_all placed ≤ length p.lines.now
   placed_few placed h = omega (
     arith,
     placed_passed placed h,
-    passed_few p.keeps_going (map line_at p.lines.now),
+    passed_few p.on_fault (map line_at p.lines.now),
     length-map p.lines.now line_at,
   )
 
@@ -260,38 +264,39 @@ tended_right looks more xs ys x (inl has) = inl (has_right xs ys x has)
 tended_right looks more xs ys x (inr (mark, seen, below)) = inr
     (mark, Contains-append_right looks more mark seen, below)
 
-pub told_some : (p : Pieces) (ws : List Worker) → All (IsWorked p) ws → 0 < length ws
+pub told_some : (form : OutputForm) (p : Pieces) (ws : List Worker) → All (IsWorked form p) ws → 0 < length ws
     → 0 < times_told (views_of ws)
-told_some p [] h long = absurd (omega arith)
-told_some p (w ∷ ws) h long =
-    let told = (All-head (IsWorked p) w ws h).told in
+told_some form p [] h long = absurd (omega arith)
+told_some form p (w ∷ ws) h long =
+    let told = (All-head (IsWorked form p) w ws h).told in
     let c = sum_by-cons (λ (v : View). v.told) (view_of w.seat) (views_of ws) in
     omega arith
 
 -- what is proved of the parts of all workers, which have claimed, reported and seen these
-pub record AllAreSound (p : Pieces) (claims reports looks : List ℕ) (parts : List PieceAnswer) : Type 0 where
-  pub right : All (λ part. IsPieceAnswer p part.piece part.answer) parts
+pub record AllAreSound (form : OutputForm) (p : Pieces) (claims reports looks : List ℕ)
+    (parts : List PieceAnswer) : Type 0 where
+  pub right : All (λ part. IsPieceAnswer form p part.piece part.answer) parts
   pub faulty : (x : ℕ) → Contains reports x → IsFaulty p x
   pub tended : AreTended claims looks parts
 
-pub together : (p : Pieces) (ws : List Worker) → All (IsWorked p) ws
+pub together : (form : OutputForm) (p : Pieces) (ws : List Worker) → All (IsWorked form p) ws
     → All (λ (w : Worker). w.wanted ≡ false) ws
-    → AllAreSound p (all_claims (views_of ws)) (all_reports (views_of ws)) (all_looks (views_of ws))
+    → AllAreSound form p (all_claims (views_of ws)) (all_reports (views_of ws)) (all_looks (views_of ws))
     (parts_of ws)
-together p [] h fine = record {
-  right = All-nil (λ (q : PieceAnswer). IsPieceAnswer p q.piece q.answer);
+together form p [] h fine = record {
+  right = All-nil (λ (q : PieceAnswer). IsPieceAnswer form p q.piece q.answer);
   faulty = λ x c. let lt = c.1 in absurd (omega arith);
   tended = λ x c. let lt = c.1 in absurd (omega arith);
 }
-together p (w ∷ ws) h fine =
+together form p (w ∷ ws) h fine =
     let v = view_of w.seat in
     let vs = views_of ws in
-    let first = All-head (IsWorked p) w ws h in
-    let others = together p ws (All-tail (IsWorked p) w ws h) (All-tail (λ (w : Worker). w.wanted
+    let first = All-head (IsWorked form p) w ws h in
+    let others = together form p ws (All-tail (IsWorked form p) w ws h) (All-tail (λ (w : Worker). w.wanted
     ≡ false) w ws fine) in
     let done = first.tended (All-head (λ (w : Worker). w.wanted ≡ false) w ws fine) in
     record {
-      right = All-append (λ (q : PieceAnswer). IsPieceAnswer p q.piece q.answer) w.parts.items
+      right = All-append (λ (q : PieceAnswer). IsPieceAnswer form p q.piece q.answer) w.parts.items
           (parts_of ws) first.sound.right others.right;
       faulty = λ x c. ⊎_elim (λ here. (first.sound.stopped x here).1) (others.faulty x)
           (Contains-append_cases v.reports (all_reports vs) x c);
@@ -302,11 +307,12 @@ together p (w ∷ ws) h fine =
     }
 
 -- each piece up to the final mark has a part
-pub each_has : (p : Pieces) (pieces claimed least : ℕ) (views : List View) (parts : List PieceAnswer)
+pub each_has : (form : OutputForm) (p : Pieces) (pieces claimed least : ℕ) (views : List View)
+    (parts : List PieceAnswer)
     → Tallies pieces claimed least views → 0 < times_told views
-    → AllAreSound p (all_claims views) (all_reports views) (all_looks views) parts → (x : ℕ) → x < pieces
+    → AllAreSound form p (all_claims views) (all_reports views) (all_looks views) parts → (x : ℕ) → x < pieces
     → x ≤ least → Contains (pieces_of parts) x
-each_has p pieces claimed least views parts t told s x within under =
+each_has form p pieces claimed least views parts t told s x within under =
     ⊎_elim
     (λ (has : Contains (pieces_of parts) x). has)
     (λ (k : (mark : ℕ) × Contains (all_looks views) mark × (mark < x)).
@@ -314,20 +320,21 @@ each_has p pieces claimed least views parts t told s x within under =
     absurd (omega arith))
     (s.tended x (claims_all pieces claimed least x views t told within))
 
-pub placed_so : (p : Pieces) (pieces claimed least : ℕ) (views : List View) (parts : List PieceAnswer)
+pub placed_so : (form : OutputForm) (p : Pieces) (pieces claimed least : ℕ) (views : List View)
+    (parts : List PieceAnswer)
     (placed : List (Option Outcome)) (n : ℕ) → AreAllPieces p pieces
     → Tallies pieces claimed least views → 0 < times_told views
-    → AllAreSound p (all_claims views) (all_reports views) (all_looks views) parts
+    → AllAreSound form p (all_claims views) (all_reports views) (all_looks views) parts
     → n ≡ min (least + 1) pieces → length placed ≡ n → ((x : ℕ) → x < n → Contains (pieces_of parts) x
     → IsPlaced placed x) → ComeFrom parts placed
-    → ArePlaced p placed
-placed_so p pieces claimed least views parts placed n cut t told s e len filled from = record {
+    → ArePlaced form p placed
+placed_so form p pieces claimed least views parts placed n cut t told s e len filled from = record {
   each = λ x below.
-      let has = each_has p pieces claimed least views parts t told s x (omega arith) (omega arith) in
+      let has = each_has form p pieces claimed least views parts t told s x (omega arith) (omega arith) in
       let (a, at) = filled x (omega arith) has in (
         a,
         at,
-        All-contains (λ (q : PieceAnswer). IsPieceAnswer p q.piece q.answer) parts
+        All-contains (λ (q : PieceAnswer). IsPieceAnswer form p q.piece q.answer) parts
             (record { piece = x; answer = a }) s.right (from x a at),
       );
   enough = ⊎_elim
@@ -341,53 +348,57 @@ placed_so p pieces claimed least views parts placed n cut t told s e len filled 
 }
 
 -- an answer stands at each place
-pub each_some : (p : Pieces) (placed : List (Option Outcome)) → ArePlaced p placed
+pub each_some : (form : OutputForm) (p : Pieces) (placed : List (Option Outcome)) → ArePlaced form p placed
     → All (λ (o : Option Outcome). IsSome o) placed
-each_some p placed h k d below =
+each_some form p placed h k d below =
     let (a, at, is) = h.each k below in
     subst IsSome (sym (get_or_from_slice_get placed k (Some a) d at)) refl
 
 -- the same of the workers, their seats and their parts
-pub all_placed : (p : Pieces) (pieces claimed least : ℕ) (ws : List Worker) (seats : List Seat)
+pub all_placed : (form : OutputForm) (p : Pieces) (pieces claimed least : ℕ) (ws : List Worker)
+    (seats : List Seat)
     (parts : List PieceAnswer) (placed : List (Option Outcome)) (n : ℕ)
-    → 0 < length ws → All (IsWorked p) ws → All (λ (w : Worker). w.wanted ≡ false) ws
+    → 0 < length ws → All (IsWorked form p) ws → All (λ (w : Worker). w.wanted ≡ false) ws
     → seats ≡ map (λ w. w.seat) ws → parts ≡ parts_of ws
     → AreAllPieces p pieces → Tallies pieces claimed least (map view_of seats)
     → n ≡ min (least + 1) pieces → length placed ≡ n
     → ((x : ℕ) → x < n → Contains (pieces_of parts) x → IsPlaced placed x) → ComeFrom parts placed
-    → ArePlaced p placed
-all_placed p pieces claimed least ws seats parts placed n some worked fine of_seats of_parts cut tally e
+    → ArePlaced form p placed
+all_placed form p pieces claimed least ws seats parts placed n some worked fine of_seats of_parts cut tally e
     len filled from =
     let t : Tallies pieces claimed least (views_of ws) = subst (λ
     (ss : List Seat). Tallies pieces claimed least (map view_of ss)) of_seats tally in
-    placed_so p pieces claimed least (views_of ws) (parts_of ws) placed n cut t
-    (told_some p ws worked some) (together p ws worked fine) e len
+    placed_so form p pieces claimed least (views_of ws) (parts_of ws) placed n cut t
+    (told_some form p ws worked some) (together form p ws worked fine) e len
     (subst (λ (ps : List PieceAnswer). (x : ℕ) → x < n → Contains (pieces_of ps) x
     → IsPlaced placed x) of_parts filled)
     (subst (λ (ps : List PieceAnswer). ComeFrom ps placed) of_parts from)
 
-pub placed_ok : {E : Type 0} (p : Pieces) (pieces claimed least : ℕ) (ws : List Worker) (seats : List Seat)
+pub placed_ok : {E : Type 0} (form : OutputForm) (p : Pieces) (pieces claimed least : ℕ) (ws : List Worker)
+    (seats : List Seat)
     (parts : List PieceAnswer) (n : ℕ) (r : Result (Vec (Option Outcome) Global) E)
-    → 0 < length ws → All (IsWorked p) ws → All (λ (w : Worker). w.wanted ≡ false) ws
+    → 0 < length ws → All (IsWorked form p) ws → All (λ (w : Worker). w.wanted ≡ false) ws
     → seats ≡ map (λ w. w.seat) ws → parts ≡ parts_of ws
     → AreAllPieces p pieces → Tallies pieces claimed least (map view_of seats)
     → n ≡ min (least + 1) pieces → IfOk r (λ v. vec_len v ≡ n)
     → IfOk r (λ v. (x : ℕ) → x < n → Contains (pieces_of parts) x → IsPlaced v.items x)
     → IfOk r (λ v. ComeFrom parts v.items)
-    → IfOk r (λ v. ArePlaced p v.items)
-placed_ok p pieces claimed least ws seats parts n (Ok v) some worked fine of_seats of_parts cut tally e len
-    filled from =
-    all_placed p pieces claimed least ws seats parts v.items n some worked fine of_seats of_parts cut tally e
-    (sym v.ok.0 ∙ len) filled from
-placed_ok p pieces claimed least ws seats parts n (Err e) some worked fine of_seats of_parts cut tally k len
-    filled from = tt
+    → IfOk r (λ v. ArePlaced form p v.items)
+placed_ok form p pieces claimed least ws seats parts n (Ok v) some worked fine of_seats of_parts cut tally e
+    len filled from =
+    all_placed form p pieces claimed least ws seats parts v.items n some worked fine of_seats of_parts cut
+    tally
+    e (sym v.ok.0 ∙ len) filled from
+placed_ok form p pieces claimed least ws seats parts n (Err e) some worked fine of_seats of_parts cut tally k
+    len filled from = tt
 
 -- what is joined is the answer, and passes as many faulty lines
-pub ok_joined : {E : Type 0} (p : Pieces) (placed : List (Option Outcome)) (r : Result Outcome E)
-    → ArePlaced p placed → IfOk r (λ a. outcome_of a ≡ joined_all placed)
-    → IfOk r (λ a. (t : Tests) → AreRight t → to_lines p t (map line_at p.lines.now) ≡ outcome_of a)
-ok_joined p placed (Ok a) h e = λ t right. placed_answer p placed h t right ∙ sym e
-ok_joined p placed (Err e) h k = tt
+pub ok_joined : {E : Type 0} (form : OutputForm) (p : Pieces) (placed : List (Option Outcome))
+    (r : Result Outcome E)
+    → ArePlaced form p placed → IfOk r (λ a. outcome_of a ≡ joined_all placed)
+    → IfOk r (λ a. (t : Tests) → AreRight t → to_lines form p t (map line_at p.lines.now) ≡ outcome_of a)
+ok_joined form p placed (Ok a) h e = λ t right. placed_answer form p placed h t right ∙ sym e
+ok_joined form p placed (Err e) h k = tt
 
 pub ok_passed : {E : Type 0} (n m : ℕ) (r : Result Outcome E) → n ≡ m → IfOk r (λ a. a.faulty ≡ m)
     → IfOk r (λ a. n ≡ a.faulty)

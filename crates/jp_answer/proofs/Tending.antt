@@ -8,6 +8,7 @@ use native.Mathlib.Decide.{ℕ_discrete}
 use Rattle.std.proofs.lemmas.List.{map-append}
 use Rattle.std.proofs.lemmas.List.Elements.{All-nil, All-push, Contains-push, Contains-push_cases}
 use Rattle.std.proofs.lemmas.List.Elements.{Contains-append_left, All-head, All-tail}
+use Rattle.jp_output.specs.OutputForm.{OutputForm}
 use Rattle.jp_answer.specs.Pieces.{IsFaulty, IsPieceAnswer}
 use Rattle.jp_answer.specs.Worked.{pieces_of, AreSound, IsTended, AreTended, OthersAreTended}
 use Rattle.jp_answer.specs.declared.outcome.Outcome.{Outcome}
@@ -43,18 +44,19 @@ none_mapped : {X Y : Type 0} (f : X → Y) (o : Option X) → false ≡ is_some 
 none_mapped f None e h = cc
 none_mapped f (Some x) e h = cc
 
-module _ (p : Pieces) where
-  pub is_faulty : (x : ℕ) (a : Outcome) → IsPieceAnswer p x a → true ≡ is_some a.stopped → IsFaulty p x
+module _ (form : OutputForm) (p : Pieces) where
+  pub is_faulty : (x : ℕ) (a : Outcome) → IsPieceAnswer form p x a → true ≡ is_some a.stopped → IsFaulty p x
   is_faulty x a r e = subst IsSome (sym r.stopped) (some_mapped (λ (s : DocStop).
       (s.line, s.fault)) a.stopped e)
 
-  pub not_faulty : (x : ℕ) (a : Outcome) → IsPieceAnswer p x a → false ≡ is_some a.stopped → IsFaulty p x → ⊥
+  pub not_faulty : (x : ℕ) (a : Outcome) → IsPieceAnswer form p x a → false ≡ is_some a.stopped → IsFaulty p x
+      → ⊥
   not_faulty x a r e f = none_mapped (λ (s : DocStop). (s.line, s.fault)) a.stopped e
       (subst IsSome r.stopped f)
 
-  pub sound_none : AreSound p [] [] []
+  pub sound_none : AreSound form p [] [] []
   sound_none = record {
-    right = All-nil (λ (q : PieceAnswer). IsPieceAnswer p q.piece q.answer);
+    right = All-nil (λ (q : PieceAnswer). IsPieceAnswer form p q.piece q.answer);
     claimed = λ x h. h;
     stopped = λ x h. let lt = h.1 in absurd (omega arith);
     reported = λ x h f. h;
@@ -62,7 +64,7 @@ module _ (p : Pieces) where
 
   -- one more piece is claimed
   pub sound_claim : (claims reports : List ℕ) (parts : List PieceAnswer) (x : ℕ)
-      → AreSound p claims reports parts → AreSound p (claims ++ x ∷ []) reports parts
+      → AreSound form p claims reports parts → AreSound form p (claims ++ x ∷ []) reports parts
   sound_claim claims reports parts x s = record {
     right = s.right;
     claimed = λ y h. Contains-append_left claims (x ∷ []) y (s.claimed y h);
@@ -72,10 +74,12 @@ module _ (p : Pieces) where
 
   -- one more piece is answered, and has not stopped
   pub sound_part : (claims reports : List ℕ) (parts : List PieceAnswer) (x : ℕ) (a : Outcome)
-      → AreSound p claims reports parts → Contains claims x
-      → IsPieceAnswer p x a → (IsFaulty p x → ⊥) → AreSound p claims reports (parts ++ part x a ∷ [])
+      → AreSound form p claims reports parts → Contains claims x
+      → IsPieceAnswer form p x a → (IsFaulty p x → ⊥)
+      → AreSound form p claims reports (parts ++ part x a ∷ [])
   sound_part claims reports parts x a s mine right plain = record {
-    right = All-push (λ (q : PieceAnswer). IsPieceAnswer p q.piece q.answer) parts (part x a) s.right right;
+    right = All-push (λ (q : PieceAnswer). IsPieceAnswer form p q.piece q.answer) parts (part x a) s.right
+        right;
     claimed = λ y h. ⊎_elim (s.claimed y) (λ (e : x ≡ y). subst (Contains claims) e mine) (has_cases parts
         (part x a) y h);
     stopped = λ y h. let old = s.stopped y h in (still_has parts (part x a) y old.0, old.1);
@@ -85,10 +89,12 @@ module _ (p : Pieces) where
 
   -- one more piece is answered, has stopped, and is reported
   pub sound_stop : (claims reports : List ℕ) (parts : List PieceAnswer) (x : ℕ) (a : Outcome)
-      → AreSound p claims reports parts → Contains claims x
-      → IsPieceAnswer p x a → IsFaulty p x → AreSound p claims (reports ++ x ∷ []) (parts ++ part x a ∷ [])
+      → AreSound form p claims reports parts → Contains claims x
+      → IsPieceAnswer form p x a → IsFaulty p x
+      → AreSound form p claims (reports ++ x ∷ []) (parts ++ part x a ∷ [])
   sound_stop claims reports parts x a s mine right faulty = record {
-    right = All-push (λ (q : PieceAnswer). IsPieceAnswer p q.piece q.answer) parts (part x a) s.right right;
+    right = All-push (λ (q : PieceAnswer). IsPieceAnswer form p q.piece q.answer) parts (part x a) s.right
+        right;
     claimed = λ y h. ⊎_elim (s.claimed y) (λ (e : x ≡ y). subst (Contains claims) e mine) (has_cases parts
         (part x a) y h);
     stopped = λ y h. ⊎_elim
@@ -179,8 +185,9 @@ nearer claims now i pieces rises within is = omega (
 )
 
 -- the same claims and reports
-pub sound_same : (p : Pieces) (claims reports more told : List ℕ) (parts : List PieceAnswer) → more ≡ claims
-    → told ≡ reports → AreSound p claims reports parts → AreSound p more told parts
-sound_same p claims reports more told parts e f s =
-    subst (λ (l : List ℕ). AreSound p l told parts) (sym e)
-    (subst (λ (l : List ℕ). AreSound p claims l parts) (sym f) s)
+pub sound_same : (form : OutputForm) (p : Pieces) (claims reports more told : List ℕ)
+    (parts : List PieceAnswer) → more ≡ claims
+    → told ≡ reports → AreSound form p claims reports parts → AreSound form p more told parts
+sound_same form p claims reports more told parts e f s =
+    subst (λ (l : List ℕ). AreSound form p l told parts) (sym e)
+    (subst (λ (l : List ℕ). AreSound form p claims l parts) (sym f) s)

@@ -8,6 +8,7 @@ use Rattle.jp_doc.specs.declared.fault.DocFault.{DocFault}
 use Rattle.jp_tree.specs.Tree.{Query}
 use Rattle.jp_regexp.specs.Tests.{Tests}
 use Rattle.jp_eval.specs.Nodelist.{document_nodes}
+use Rattle.jp_output.specs.OutputForm.{OutputForm, node_lines}
 use Rattle.jp_output.specs.OutputLine.{node_line}
 
 -- the bytes, and the first faulty line with its fault, if there is one
@@ -15,23 +16,33 @@ pub record Answer : Type 0 where
   pub bytes : List ℕ
   pub stopped : Option (ℕ × DocFault)
 
--- the output lines of the nodes that a query selects in a document with this number
-abbrev pub document_lines : Tests → Query → ℕ → Json → List ℕ
-document_lines tests q number root = flat_map (node_line number) (document_nodes tests q root)
-
 -- bytes, and then an answer
 abbrev pub after : List ℕ → Answer → Answer
 after bytes a = record { bytes = bytes ++ a.bytes; stopped = a.stopped }
 
--- A line's answer, and then the answer to the others: a faulty line ends it.
-abbrev pub line_answer : Tests → Query → ℕ → Result Json DocFault → Answer → Answer
-line_answer tests q number (Ok root) others = after (document_lines tests q number root) others
-line_answer tests q number (Err fault) others = record { bytes = []; stopped = Some (number, fault) }
+-- In a form, of a query:
+module _ (form : OutputForm) (tests : Tests) (q : Query) where
+  -- what is said of the document of a line
+  abbrev pub document_bytes : Line → Json → List ℕ
+  document_bytes l root = form.of_document l (document_nodes tests q root)
 
--- the answer to numbered lines: the output lines of the documents before the first faulty line, in order
+  -- A line's answer, and then the answer to the others: a faulty line ends it.
+  abbrev pub line_answer : Line → Result Json DocFault → Answer → Answer
+  line_answer l (Ok root) others = after (document_bytes l root) others
+  line_answer l (Err fault) others = record { bytes = []; stopped = Some (l.0, fault) }
+
+  -- the answer to numbered lines: what is said of the documents before the first faulty line, in order
+  abbrev pub answer_as : List Line → Answer
+  answer_as [] = record { bytes = []; stopped = None }
+  answer_as (l ∷ ls) = line_answer l (reading l.1) (answer_as ls)
+
+-- in the form of output lines: those of the nodes that a query selects in a document with this number
+abbrev pub document_lines : Tests → Query → ℕ → Json → List ℕ
+document_lines tests q number root = flat_map (node_line number) (document_nodes tests q root)
+
+-- the answer to numbered lines
 abbrev pub answer : Tests → Query → List Line → Answer
-answer tests q [] = record { bytes = []; stopped = None }
-answer tests q (l ∷ ls) = line_answer tests q l.0 (reading l.1) (answer tests q ls)
+answer tests q ls = answer_as node_lines tests q ls
 
 -- the answer to a byte stream
 abbrev pub stream_answer : Tests → Query → List ℕ → Answer

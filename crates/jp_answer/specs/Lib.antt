@@ -1,7 +1,7 @@
 pub mod Answer
 pub mod Answered
 pub mod Faults
-pub mod Form
+pub mod OnFault
 pub mod Pieces
 pub mod Placed
 pub mod Ranges

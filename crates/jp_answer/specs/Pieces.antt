@@ -2,10 +2,11 @@
 use Rattle.std.specs.Prelude.{◌≡◌, ℕ, ◌*◌, ◌<◌, ◌≤◌, List, length, take, drop, map, IsSome}
 use Rattle.jp_buffer.specs.Buffered.{line_at}
 use Rattle.jp_doc.specs.Lines.{Line}
-use Rattle.jp_check.specs.Plan.{planned_query}
+use Rattle.jp_compiled.specs.Compiled.{compiled_query}
 use Rattle.jp_regexp.specs.Tests.{Tests, AreRight}
+use Rattle.jp_output.specs.OutputForm.{OutputForm}
 use Rattle.jp_answer.specs.Answered.{outcome_of}
-use Rattle.jp_answer.specs.Form.{answer_in, stop_in, passed_in}
+use Rattle.jp_answer.specs.OnFault.{answer_by, stop_in, passed_in}
 use Rattle.jp_answer.specs.declared.outcome.Outcome.{Outcome}
 use Rattle.jp_answer.specs.declared.pieces.Pieces.{Pieces}
 
@@ -20,11 +21,11 @@ pub record AreAllPieces (p : Pieces) (n : ℕ) : Type 0 where
 
 -- the answer to the piece ends at a faulty line
 abbrev pub IsFaulty : Pieces → ℕ → Type 0
-IsFaulty p x = IsSome (stop_in p.keeps_going (piece_lines p x))
+IsFaulty p x = IsSome (stop_in p.on_fault (piece_lines p x))
 
--- this is the answer to the piece
-pub record IsPieceAnswer (p : Pieces) (x : ℕ) (a : Outcome) : Type 0 where
-  pub answer : (t : Tests) → AreRight t → answer_in p.keeps_going t (planned_query p.plan.now)
+-- this is the answer to the piece in a form
+pub record IsPieceAnswer (form : OutputForm) (p : Pieces) (x : ℕ) (a : Outcome) : Type 0 where
+  pub answer : (t : Tests) → AreRight t → answer_by form p.on_fault t (compiled_query p.query.now)
       (piece_lines p x) ≡ outcome_of a
-  pub stopped : stop_in p.keeps_going (piece_lines p x) ≡ (outcome_of a).stopped
-  pub passed : passed_in p.keeps_going (piece_lines p x) ≡ a.faulty
+  pub stopped : stop_in p.on_fault (piece_lines p x) ≡ (outcome_of a).stopped
+  pub passed : passed_in p.on_fault (piece_lines p x) ≡ a.faulty

@@ -1,6 +1,7 @@
 -- The answers to pieces, each at its number.
 use Rattle.std.specs.Prelude.{◌≡◌, ℕ, ◌+◌, ◌*◌, ◌<◌, ◌≤◌, ◌⊎◌, List, [], ◌∷◌, length, Option, Some, None}
 use Rattle.std.specs.Prelude.{Contains, slice_get}
+use Rattle.jp_output.specs.OutputForm.{OutputForm}
 use Rattle.jp_answer.specs.Answer.{Answer, joined}
 use Rattle.jp_answer.specs.Answered.{outcome_of}
 use Rattle.jp_answer.specs.Pieces.{IsFaulty, IsPieceAnswer}
@@ -39,7 +40,7 @@ passed_all (Some a ∷ placed) = a.faulty + passed_all placed
 
 -- what stands there are the answers to the first pieces, and these are all or one of them ends at a faulty
 -- line
-pub record ArePlaced (p : Pieces) (placed : List (Option Outcome)) : Type 0 where
-  pub each : (x : ℕ) → x < length placed → (a : Outcome) × StandsAt placed x a × IsPieceAnswer p x a
+pub record ArePlaced (form : OutputForm) (p : Pieces) (placed : List (Option Outcome)) : Type 0 where
+  pub each : (x : ℕ) → x < length placed → (a : Outcome) × StandsAt placed x a × IsPieceAnswer form p x a
   pub enough : (length p.lines.now ≤ length placed * p.size) ⊎ ((x : ℕ) × (x < length placed)
       × IsFaulty p x)

@@ -9,21 +9,22 @@ use Rattle.jp_doc.specs.declared.fault.DocFault.{DocFault}
 use Rattle.jp_tree.specs.Tree.{Query}
 use Rattle.jp_regexp.specs.Tests.{Tests}
 use Rattle.jp_output.specs.FaultLine.{fault_line}
-use Rattle.jp_answer.specs.Answer.{document_lines}
-use Rattle.jp_answer.specs.declared.outcome.Whole as code
+use Rattle.jp_output.specs.OutputForm.{OutputForm, node_lines}
+use Rattle.jp_answer.specs.Answer.{document_bytes}
 
 -- the bytes, and the number of faulty lines
 pub record Whole : Type 0 where
   pub bytes : List ℕ
   pub faulty : ℕ
 
--- the output lines of a line's document, or the fault line of a faulty one
-abbrev pub lines_or_fault : Tests → Query → ℕ → Result Json DocFault → List ℕ
-lines_or_fault tests q number (Ok root) = document_lines tests q number root
-lines_or_fault tests q number (Err fault) = fault_line number fault
+-- in a form: what is said of a line's document, or of a faulty line
+module _ (form : OutputForm) (tests : Tests) (q : Query) where
+  abbrev pub document_or_fault : Line → Result Json DocFault → List ℕ
+  document_or_fault l (Ok root) = document_bytes form tests q l root
+  document_or_fault l (Err fault) = form.of_fault l.0 fault
 
-abbrev pub line_bytes : Tests → Query → Line → List ℕ
-line_bytes tests q l = lines_or_fault tests q l.0 (reading l.1)
+  abbrev pub line_bytes : Line → List ℕ
+  line_bytes l = document_or_fault l (reading l.1)
 
 -- the line holds no document
 abbrev pub is_faulty : Line → Bool
@@ -33,8 +34,12 @@ abbrev pub faulty_lines : List Line → ℕ
 faulty_lines ls = length (filter is_faulty ls)
 
 -- the answer to numbered lines: over all of them in order, and how many are faulty
+abbrev pub whole_as : OutputForm → Tests → Query → List Line → Whole
+whole_as form tests q ls = record { bytes = flat_map (line_bytes form tests q) ls; faulty = faulty_lines ls }
+
+-- the same in the form of output lines and fault lines
 abbrev pub whole : Tests → Query → List Line → Whole
-whole tests q ls = record { bytes = flat_map (line_bytes tests q) ls; faulty = faulty_lines ls }
+whole tests q ls = whole_as node_lines tests q ls
 
 -- the answer to a byte stream
 abbrev pub stream_whole : Tests → Query → List ℕ → Whole
@@ -49,7 +54,3 @@ both a b = record { bytes = a.bytes ++ b.bytes; faulty = a.faulty + b.faulty }
 abbrev pub FollowsStop : Option (ℕ × DocFault) → List ℕ → Type 0
 FollowsStop None rest = rest ≡ []
 FollowsStop (Some stop) rest = (more : List ℕ) × (rest ≡ fault_line stop.0 stop.1 ++ more)
-
--- what a `Whole` of `src/` stands for
-abbrev pub whole_of : code.Whole → Whole
-whole_of w = record { bytes = w.bytes.items; faulty = w.faulty }

@@ -2,6 +2,7 @@
 -- have seen.
 use Rattle.std.specs.Prelude.{◌≡◌, ◌≢◌, ℕ, ◌<◌, ◌⊎◌, false, List, map, All, Contains}
 use Rattle.jp_board.specs.Seats.{view_of, WasTold}
+use Rattle.jp_output.specs.OutputForm.{OutputForm}
 use Rattle.jp_answer.specs.Pieces.{IsFaulty, IsPieceAnswer}
 use Rattle.jp_answer.specs.declared.pieces.Pieces.{Pieces}
 use Rattle.jp_answer.specs.declared.worker.PieceAnswer.{PieceAnswer}
@@ -13,8 +14,9 @@ pieces_of parts = map (λ part. part.piece) parts
 
 -- each part is the answer to a piece that was claimed, and a piece is reported exactly where its part has
 -- stopped
-pub record AreSound (p : Pieces) (claims reports : List ℕ) (parts : List PieceAnswer) : Type 0 where
-  pub right : All (λ part. IsPieceAnswer p part.piece part.answer) parts
+pub record AreSound (form : OutputForm) (p : Pieces) (claims reports : List ℕ) (parts : List PieceAnswer) :
+    Type 0 where
+  pub right : All (λ part. IsPieceAnswer form p part.piece part.answer) parts
   pub claimed : (x : ℕ) → Contains (pieces_of parts) x → Contains claims x
   pub stopped : (x : ℕ) → Contains reports x → Contains (pieces_of parts) x × IsFaulty p x
   pub reported : (x : ℕ) → Contains (pieces_of parts) x → IsFaulty p x → Contains reports x
@@ -32,7 +34,7 @@ OthersAreTended piece claims looks parts = (x : ℕ) → Contains claims x → x
 
 -- What a worker promises of what it hands back: it was told that no piece is left; its parts are sound; and
 -- unless it wanted memory, it has tended each piece that it claimed.
-pub record IsWorked (p : Pieces) (w : Worker) : Type 0 where
+pub record IsWorked (form : OutputForm) (p : Pieces) (w : Worker) : Type 0 where
   pub told : WasTold w.seat
-  pub sound : AreSound p (view_of w.seat).claims (view_of w.seat).reports w.parts.items
+  pub sound : AreSound form p (view_of w.seat).claims (view_of w.seat).reports w.parts.items
   pub tended : w.wanted ≡ false → AreTended (view_of w.seat).claims (view_of w.seat).looks w.parts.items

@@ -1,78 +1,102 @@
 //! The answer to numbered lines, on one thread.
 
-ghost use Rattle.std.specs.Prelude.{◌≡◌, ◌≢◌, ◌≤◌, ◌++◌, IfOk, length, map};
+ghost use Rattle.std.specs.Prelude.{◌≡◌, ◌≢◌, ◌≤◌, ◌++◌, ℕ, List, IfOk, length, map};
+ghost use Rattle.std.specs.List.{fold};
 ghost use Rattle.jp_buffer.specs.Buffered.{line_at};
+ghost use Rattle.jp_doc.specs.Location.{Node};
 ghost use Rattle.jp_doc.specs.Reading.{reading};
 ghost use Rattle.jp_part.specs.Part.{part_value};
-ghost use Rattle.jp_check.specs.Plan.{planned_query};
+ghost use Rattle.jp_compiled.specs.Compiled.{compiled_query};
 ghost use Rattle.jp_eval.specs.Evaluated.{evaluated_query};
 ghost use Rattle.jp_eval.specs.Nodelist.{document_nodes};
-ghost use Rattle.jp_output.specs.OutputLine.{put_line};
-ghost use Rattle.std.specs.List.{fold};
 ghost use Rattle.jp_regexp.specs.Tests.{Tests, AreRight};
-ghost use Rattle.jp_output.specs.FaultLine.{fault_line};
-ghost use Rattle.jp_answer.specs.Answer.{document_lines};
+ghost use Rattle.jp_answer.specs.Answer.{document_bytes};
 ghost use Rattle.jp_answer.specs.Answered.{outcome_of};
-ghost use Rattle.jp_answer.specs.Form.{answer_in, stop_in, passed_in, given, fault_in};
+ghost use Rattle.jp_answer.specs.OnFault.{answer_by, stop_in, passed_in, given, fault_in};
+ghost use Rattle.jp_answer.specs.declared.on_fault.OnFault.TheVariants.{Stop, KeepGoing};
 
+use crate::crew::Crew;
+use crate::on_fault::OnFault;
 use crate::outcome::{DocStop, Outcome};
-use crate::pieces::{Pieces, Walk};
+use crate::pieces::Pieces;
 use jp_buffer::LineRef;
+use jp_compiled::Query;
 use jp_doc::{DocFault, Document};
-use jp_eval::{EvalFault, Evaluator, OpenFork};
+use jp_eval::{EvalFault, Evaluator, OpenFork, Visit};
 use jp_flat::FlatReader;
-use jp_output::NodeLines;
+use jp_output::Form;
 use jp_part::Part;
 use std::alloc::{AllocError, Global};
 use std::thread::Threads;
 
-/// How many members a list has at least whose halves are walked at once.
+/// How many members a list has at least whose halves are walked at once. A half starts a thread of its own,
+/// for which fewer are too few.
 const SPLIT_FLOOR: u64 = 4096;
 
 /// How long a line is at least that may hold such a list: each member takes two bytes or more.
 const SPLIT_BYTES: usize = 8192;
 
-/// The answer to lines, each read and evaluated in turn. A faulty line ends it, or gives its fault line
-/// where the answer keeps going.
+/// What a worker answers lines with, from piece to piece.
+#[derive(Drop)]
+pub(crate) struct Tools<'q> {
+    reader: FlatReader,
+    pub(crate) evaluator: Evaluator<'q>,
+}
+
+impl<'q> Tools<'q> {
+    /// Tools for this query. They take no memory.
+    pub(crate) fn new(alloc: Global, query: &'q Query) -> Tools<'q>
+        ensures { evaluated_query result.evaluator ≡ compiled_query query.now }
+    {
+        Tools {
+            reader: FlatReader::new(alloc),
+            evaluator: Evaluator::new(alloc, query),
+        }
+    }
+}
+
+/// The answer to lines in a form, each read and evaluated in turn, by tools for their query. A faulty line
+/// ends it, or is told and counted where the answer keeps going.
 ///
 /// `AllocError` if a growth was refused.
-pub(crate) fn answer_lines<R: Threads + Sync>(
-    rt: &R,
-    alloc: Global,
-    reader: &mut FlatReader,
+pub(crate) fn answer_lines<R: Threads + Sync, G, F: Form + Drop + Send>(
+    crew: &Crew<R, G>,
     pieces: &Pieces,
+    tools: &mut Tools<'_>,
     lines: &[LineRef<'_>],
 ) -> Result<Outcome, AllocError>
-    requires { length lines.now ≤ 4294967296 }
-    ensures answer { IfOk result (λ a. (t : Tests) → AreRight t →
-        answer_in pieces.now.keeps_going t (planned_query pieces.now.plan.now) (map line_at lines.now)
-        ≡ outcome_of a) }
-    ensures stopped { IfOk result (λ a. stop_in pieces.now.keeps_going (map line_at lines.now)
+    requires few { length lines.now ≤ 4294967296 }
+    requires query { evaluated_query tools.old.evaluator ≡ compiled_query pieces.now.query.now }
+    ensures answer { IfOk result (λ a. (t : Tests) → AreRight t → answer_by F.says pieces.now.on_fault t
+        (compiled_query pieces.now.query.now) (map line_at lines.now) ≡ outcome_of a) }
+    ensures stopped { IfOk result (λ a. stop_in pieces.now.on_fault (map line_at lines.now)
         ≡ (outcome_of a).stopped) }
-    ensures passed { IfOk result (λ a. passed_in pieces.now.keeps_going (map line_at lines.now)
+    ensures passed { IfOk result (λ a. passed_in pieces.now.on_fault (map line_at lines.now)
         ≡ a.faulty) }
+    ensures query { evaluated_query tools.new.evaluator ≡ evaluated_query tools.old.evaluator }
 {
-    let mut evaluator = Evaluator::new(alloc, pieces.plan);
-    let mut written = NodeLines::new(alloc);
+    let mut written = F::new(crew.alloc);
     let mut faulty = 0;
     for line in lines {
-        let (more, fault) = add_line(rt, alloc, reader, &mut evaluator, pieces, line, written)?;
+        let (more, fault) = add_line(crew, pieces, tools, line, written)?;
         written = more;
         let Some(fault) = fault else {
             continue;
         };
-        if !pieces.keeps_going {
-            let stop = DocStop {
-                line: line.number,
-                fault,
-            };
-            return Ok(Outcome {
-                chunks: written.into_chunks()?,
-                faulty,
-                stopped: Some(stop),
-            });
+        match pieces.on_fault {
+            OnFault::Stop => {
+                let stop = DocStop {
+                    line: line.number,
+                    fault,
+                };
+                return Ok(Outcome {
+                    chunks: written.into_chunks()?,
+                    faulty,
+                    stopped: Some(stop),
+                });
+            }
+            OnFault::KeepGoing => faulty += 1,
         }
-        faulty += 1;
     }
     let chunks = written.into_chunks()?;
     Ok(Outcome {
@@ -82,105 +106,144 @@ pub(crate) fn answer_lines<R: Threads + Sync>(
     })
 }
 
-/// The lines so far and what a line gives, and what is wrong with it, if anything. The line is read flat
-/// where it is plain, and as a tree where it is not: the tree's reading alone tells faults.
-fn add_line<R: Threads + Sync>(
-    rt: &R,
-    alloc: Global,
-    reader: &mut FlatReader,
-    evaluator: &mut Evaluator<'_>,
+/// What was written so far and what a line gives, and what is wrong with it, if anything. The line is read
+/// flat where it is plain, and as a tree where it is not: the tree's reading alone tells faults.
+fn add_line<R: Threads + Sync, G, F: Form + Drop + Send>(
+    crew: &Crew<R, G>,
     pieces: &Pieces,
+    tools: &mut Tools<'_>,
     line: &LineRef<'_>,
-    written: NodeLines,
-) -> Result<(NodeLines, Option<DocFault>), AllocError>
-    ensures lines { IfOk result (λ r. (t : Tests) → AreRight t → r.0.1 ≡ written.1
-        ++ given pieces.now.keeps_going t (evaluated_query evaluator.old) line.now.number
-        (reading line.now.bytes.now)) }
+    written: F,
+) -> Result<(F, Option<DocFault>), AllocError>
+    ensures lines { IfOk result (λ r. (t : Tests) → AreRight t → F.written r.0
+        ≡ F.written written ++ given F.says pieces.now.on_fault t
+        (evaluated_query tools.old.evaluator) (line_at line.now) (reading line.now.bytes.now)) }
     ensures fault { IfOk result (λ r. r.1 ≡ fault_in (reading line.now.bytes.now)) }
-    ensures query { evaluated_query evaluator.new ≡ evaluated_query evaluator.old }
+    ensures query { evaluated_query tools.new.evaluator ≡ evaluated_query tools.old.evaluator }
 {
-    let Some(document) = reader.read(line.bytes)? else {
+    let Some(document) = tools.reader.read(line.bytes)? else {
         // So the tree does not stand beside what was read of the line.
-        reader.release();
-        return add_tree(rt, alloc, evaluator, pieces, line, written);
+        tools.reader.release();
+        return add_tree(crew, pieces, &mut tools.evaluator, line, written);
     };
     let root = Part::root_of_flat(&document);
     let walk = walk_of(pieces, line);
-    let lines = with_nodes(rt, evaluator, line.number, root, walk, written)?;
-    Ok((lines, None))
+    let more = with_nodes(crew.rt, &mut tools.evaluator, line, (root, walk), written)?;
+    Ok((more, None))
 }
 
 /// The same, where the line is read as a tree.
-fn add_tree<R: Threads + Sync>(
-    rt: &R,
-    alloc: Global,
-    evaluator: &mut Evaluator<'_>,
+fn add_tree<R: Threads + Sync, G, F: Form + Drop + Send>(
+    crew: &Crew<R, G>,
     pieces: &Pieces,
+    evaluator: &mut Evaluator<'_>,
     line: &LineRef<'_>,
-    written: NodeLines,
-) -> Result<(NodeLines, Option<DocFault>), AllocError>
-    ensures lines { IfOk result (λ r. (t : Tests) → AreRight t → r.0.1 ≡ written.1
-        ++ given pieces.now.keeps_going t (evaluated_query evaluator.old) line.now.number
-        (reading line.now.bytes.now)) }
+    written: F,
+) -> Result<(F, Option<DocFault>), AllocError>
+    ensures lines { IfOk result (λ r. (t : Tests) → AreRight t → F.written r.0
+        ≡ F.written written ++ given F.says pieces.now.on_fault t
+        (evaluated_query evaluator.old) (line_at line.now) (reading line.now.bytes.now)) }
     ensures fault { IfOk result (λ r. r.1 ≡ fault_in (reading line.now.bytes.now)) }
     ensures query { evaluated_query evaluator.new ≡ evaluated_query evaluator.old }
 {
-    match Document::read(alloc, line.bytes) {
+    match Document::read(crew.alloc, line.bytes) {
         Ok(document) => {
             let root = Part::root_of(&document);
             let walk = walk_of(pieces, line);
-            let lines = with_nodes(rt, evaluator, line.number, root, walk, written)?;
-            Ok((lines, None))
+            let more = with_nodes(crew.rt, evaluator, line, (root, walk), written)?;
+            Ok((more, None))
         }
         Err(DocFault::Memory) => Err(AllocError),
         Err(fault) => {
-            if !pieces.keeps_going {
-                return Ok((written, Some(fault)));
-            }
-            let lines = with_fault(alloc, line.number, &fault, written)?;
-            Ok((lines, Some(fault)))
+            let more = with_fault(crew.alloc, pieces.on_fault, line.number, &fault, written)?;
+            Ok((more, Some(fault)))
         }
     }
+}
+
+/// What was written so far, and what is said of a faulty line.
+fn with_fault<F: Form + Drop>(
+    alloc: Global,
+    on_fault: OnFault,
+    number: u64,
+    fault: &DocFault,
+    written: F,
+) -> Result<F, AllocError>
+    requires { fault.now ≢ DocFault.Memory }
+    ensures going { on_fault ≡ KeepGoing → IfOk result (λ w. F.written w
+        ≡ F.written written ++ F.says.of_fault number fault.now) }
+    ensures stopping { on_fault ≡ Stop → IfOk result (λ w. F.written w
+        ≡ F.written written) }
+{
+    let mut more = written;
+    match on_fault {
+        OnFault::Stop => {}
+        OnFault::KeepGoing => more.push_fault(alloc, number, fault)?,
+    }
+    Ok(more)
+}
+
+/// How a document is walked.
+#[derive(Clone, Copy, Drop)]
+enum Walk {
+    /// By one thread.
+    Straight,
+    /// A long list in it is cut into halves that are walked at once.
+    ByHalves,
 }
 
 /// How the document of a line is walked: a short line holds no list that is worth two threads.
 fn walk_of(pieces: &Pieces, line: &LineRef<'_>) -> Walk {
-    if line.bytes.len() < SPLIT_BYTES {
-        return Walk::Straight;
+    // One worker starts no thread, so it walks straight (README, Why so).
+    if pieces.workers > 1 && line.bytes.len() >= SPLIT_BYTES {
+        Walk::ByHalves
+    } else {
+        Walk::Straight
     }
-    pieces.walk
 }
 
-/// The lines so far, and those of the nodes that the query selects in a document.
-fn with_nodes<R: Threads + Sync>(
+/// What was written so far, and what is said of the document of a line, of which the query selects nodes.
+fn with_nodes<R: Threads + Sync, F: Form + Drop + Send>(
     rt: &R,
     evaluator: &mut Evaluator<'_>,
-    number: u64,
-    root: Part<'_>,
-    walk: Walk,
-    written: NodeLines,
-) -> Result<NodeLines, AllocError>
-    ensures lines { IfOk result (λ w. (t : Tests) → AreRight t → w.1 ≡ written.1
-        ++ document_lines t (evaluated_query evaluator.old) number (part_value root.entry)) }
+    line: &LineRef<'_>,
+    walked: (Part<'_>, Walk),
+    written: F,
+) -> Result<F, AllocError>
+    ensures lines { IfOk result (λ w. (t : Tests) → AreRight t → F.written w
+        ≡ F.written written ++ document_bytes F.says t (evaluated_query evaluator.old)
+        (line_at line.now) (part_value walked.entry.0)) }
     ensures query { evaluated_query evaluator.new ≡ evaluated_query evaluator.old }
 {
+    let (root, walk) = walked;
     let mut visitor = written;
-    visitor.begin(number);
-    let Ok(written) = visited(rt, evaluator, root, walk, visitor) else {
+    visitor.begin(line.number);
+    let Ok(more) = visited(rt, evaluator, root, walk, visitor) else {
         return Err(AllocError);
     };
-    Ok(written)
+    end_line(line, more)
+}
+
+/// What was written once a line has ended that had begun, and whose document was visited.
+fn end_line<F: Form + Drop>(line: &LineRef<'_>, visited: F) -> Result<F, AllocError>
+    ensures { IfOk result (λ w. (begun : F) (before : List ℕ) (ns : List Node)
+        → F.HasBegun begun line.now.number before → F.kept visited ≡ fold F.put (F.kept begun) ns
+        → F.written w ≡ before ++ F.says.of_document (line_at line.now) ns) }
+{
+    let mut more = visited;
+    more.end(line.bytes)?;
+    Ok(more)
 }
 
 /// The visitor once it has taken the nodes.
-fn visited<R: Threads + Sync>(
+fn visited<R: Threads + Sync, V: Visit + Drop + Send>(
     rt: &R,
     evaluator: &mut Evaluator<'_>,
     root: Part<'_>,
     walk: Walk,
-    visitor: NodeLines,
-) -> Result<NodeLines, EvalFault>
-    ensures lines { IfOk result (λ w. (t : Tests) → AreRight t → w ≡ fold put_line visitor
+    visitor: V,
+) -> Result<V, EvalFault>
+    ensures nodes { IfOk result (λ w. (t : Tests) → AreRight t → V.kept w ≡ fold V.put (V.kept visitor)
         (document_nodes t (evaluated_query evaluator.old) (part_value root.entry))) }
     ensures query { evaluated_query evaluator.new ≡ evaluated_query evaluator.old }
 {
@@ -188,20 +251,4 @@ fn visited<R: Threads + Sync>(
         Walk::ByHalves => evaluator.visit_part_split(rt, root, SPLIT_FLOOR, &OpenFork, visitor),
         Walk::Straight => evaluator.visit_part(root, visitor),
     }
-}
-
-/// The lines so far, and the fault line of a faulty line.
-fn with_fault(
-    alloc: Global,
-    number: u64,
-    fault: &DocFault,
-    written: NodeLines,
-) -> Result<NodeLines, AllocError>
-    requires { fault.now ≢ DocFault.Memory }
-    ensures { IfOk result (λ w. w.1 ≡ written.1 ++ fault_line number fault.now) }
-{
-    let mut lines = written;
-    lines.begin(number);
-    lines.push_fault(alloc, fault)?;
-    Ok(lines)
 }

@@ -1,18 +1,19 @@
 //! Laws of the definitions, each the contract of a function that does nothing.
 
-ghost use Rattle.std.specs.Prelude.{◌≡◌, ◌+◌, ◌++◌, ℕ, Bool, true, false, None, List, length, map};
+ghost use Rattle.std.specs.Prelude.{◌≡◌, ◌+◌, ◌++◌, ℕ, None, List, length, map};
 ghost use Rattle.std.specs.List.{concat};
 ghost use Rattle.jp_doc.specs.Json.{Json};
 ghost use Rattle.jp_doc.specs.Lines.{Line, lines, line_count};
-ghost use Rattle.jp_tree.specs.Tree.{Text, Query};
+ghost use Rattle.jp_tree.specs.Tree.{Query};
 ghost use Rattle.jp_regexp.specs.Tests.{Tests};
 ghost use Rattle.jp_eval.specs.Nodelist.{document_nodes};
 ghost use Rattle.jp_output.specs.Fields.{times, AreLinesOfThree};
-ghost use Rattle.jp_answer.specs.Answer.{Answer, answer, joined, document_lines, stream_answer};
-ghost use Rattle.jp_answer.specs.Answered.{IsAnswerIn, IsAnswerTo};
+ghost use Rattle.jp_answer.specs.Answer.{answer, joined, document_lines, stream_answer};
 ghost use Rattle.jp_answer.specs.Faults.{first_fault};
-ghost use Rattle.jp_answer.specs.Form.{answer_in};
+ghost use Rattle.jp_answer.specs.OnFault.{answer_in};
 ghost use Rattle.jp_answer.specs.Streams.{AreWholeLines, line_feeds, AreBlocks, placed_blocks, in_turn};
+ghost use Rattle.jp_answer.specs.declared.on_fault.OnFault.{OnFault};
+ghost use Rattle.jp_answer.specs.declared.on_fault.OnFault.TheVariants.{KeepGoing};
 ghost use Rattle.jp_answer.specs.Whole.{both, whole, stream_whole, FollowsStop};
 
 /// The answer to lines and further lines is the answer to the first where that has stopped, and else its
@@ -45,10 +46,10 @@ pub fn streams()
         ≡ joined (stream_answer t q a) (stream_answer t q (line_feeds (line_count a) ++ b)) }
     ensures whole { (t : Tests) (q : Query) (a b : List ℕ) → AreWholeLines a → stream_whole t q (a ++ b)
         ≡ both (stream_whole t q a) (stream_whole t q (line_feeds (line_count a) ++ b)) }
-    ensures either { (k : Bool) (t : Tests) (q : Query) (a b : List ℕ) → AreWholeLines a
+    ensures either { (k : OnFault) (t : Tests) (q : Query) (a b : List ℕ) → AreWholeLines a
         → answer_in k t q (lines (a ++ b))
         ≡ joined (answer_in k t q (lines a)) (answer_in k t q (lines (line_feeds (line_count a) ++ b))) }
-    ensures blocks { (k : Bool) (t : Tests) (q : Query) (bs : List (List ℕ)) → AreBlocks bs
+    ensures blocks { (k : OnFault) (t : Tests) (q : Query) (bs : List (List ℕ)) → AreBlocks bs
         → answer_in k t q (lines (concat bs))
         ≡ in_turn (map (λ b. answer_in k t q (lines b)) (placed_blocks 0 bs)) }
     ensures count { (a b : List ℕ) → AreWholeLines a → line_count (a ++ b) ≡ line_count a + line_count b }
@@ -57,20 +58,17 @@ pub fn streams()
 /// The bytes of an answer, in either form, are lines of three fields, one after another: two tabs in each,
 /// and one line feed, its last byte. A document has as many of them as nodes.
 pub fn three_fields()
-    ensures answer { (k : Bool) (t : Tests) (q : Query) (ls : List Line)
+    ensures answer { (k : OnFault) (t : Tests) (q : Query) (ls : List Line)
         → AreLinesOfThree (answer_in k t q ls).bytes }
     ensures one_each { (t : Tests) (q : Query) (number : ℕ) (root : Json)
         → times 10 (document_lines t q number root) ≡ length (document_nodes t q root) }
 {}
 
-/// The two forms of an answer: the one that does not keep going is the answer, and the other has the bytes of
-/// the whole one and never stops.
+/// The answer that keeps going has the bytes of the whole one, and never stops.
 pub fn forms()
-    ensures stops { (text : Text) (input : List ℕ) (a : Answer) → IsAnswerIn false text input a
-        → IsAnswerTo text input a }
-    ensures bytes { (t : Tests) (q : Query) (ls : List Line) → (answer_in true t q ls).bytes
+    ensures bytes { (t : Tests) (q : Query) (ls : List Line) → (answer_in KeepGoing t q ls).bytes
         ≡ (whole t q ls).bytes }
-    ensures end { (t : Tests) (q : Query) (ls : List Line) → (answer_in true t q ls).stopped ≡ None }
+    ensures end { (t : Tests) (q : Query) (ls : List Line) → (answer_in KeepGoing t q ls).stopped ≡ None }
 {}
 
 /// The two forms agree up to the first faulty line: the bytes of the answer that keeps going are those of the

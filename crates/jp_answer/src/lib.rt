@@ -2,15 +2,19 @@
 #![tactic(auto)]
 
 mod answering;
+mod crew;
 mod examples;
 mod gate;
 pub mod laws;
+mod on_fault;
 mod outcome;
 mod parts;
 mod pieces;
 mod worker;
 mod workers;
 
+pub use crew::{Crew, Cutting};
 pub use gate::{Gate, OpenGate};
-pub use outcome::{Answer, DocStop, Outcome, Whole};
-pub use workers::{answer, answer_all, answer_in_chunks};
+pub use on_fault::OnFault;
+pub use outcome::{DocStop, Outcome};
+pub use workers::answer_in_chunks;

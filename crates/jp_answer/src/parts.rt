@@ -63,6 +63,7 @@ fn put(placed: &mut Vec<Option<Outcome>>, part: PieceAnswer)
     ensures { placed.new.items ≡ slice_set placed.old.items part.piece (Some part.answer) }
 {
     let at = part.piece as usize;
+    // What was answered above the mark, before that was known, has no place and is let go.
     if at < placed.len() {
         placed[at] = Some(part.answer);
     }
@@ -72,6 +73,7 @@ fn put(placed: &mut Vec<Option<Outcome>>, part: PieceAnswer)
 fn no_answers(alloc: Global, count: usize) -> Result<Vec<Option<Outcome>>, AllocError>
     ensures { IfOk result (λ v. v.items ≡ replicate count None) }
 {
+    // All places at once: their number is known.
     let mut places = Vec::with_capacity(alloc, count)?;
     for _place in 0..count {
         places.push(None)?;

@@ -1,59 +1,53 @@
 //! Lines that are cut into pieces.
 
 ghost use Rattle.std.specs.Prelude.{◌≡◌, ◌*◌, ◌<◌, ◌≤◌, length, IfOk};
-ghost use Rattle.jp_answer.specs.Ranges.{AreDocuments};
+ghost use Rattle.jp_answer.specs.Ranges.{AreWorkers, AreDocuments};
 
-use crate::answering::answer_lines;
+use crate::answering::{Tools, answer_lines};
+use crate::crew::{Crew, Cutting};
+use crate::on_fault::OnFault;
 use crate::outcome::Outcome;
 use jp_buffer::LineRef;
-use jp_check::Plan;
-use jp_flat::FlatReader;
+use jp_compiled::Query;
+use jp_output::Form;
 use std::alloc::{AllocError, Global};
 use std::thread::Threads;
 
-/// How a document is walked.
-#[derive(Clone, Copy, Drop)]
-pub(crate) enum Walk {
-    /// By one thread.
-    Straight,
-    /// A long list in it is cut into halves that are walked at once.
-    ByHalves,
-}
-
-/// Lines that are cut into pieces, the last perhaps shorter, and how they are answered: by which plan,
-/// whether the answer keeps going after a faulty line, and how a document is walked.
+/// Lines that are cut into pieces, the last perhaps shorter, and how they are answered: by which query,
+/// what is done where a line is faulty, and by how many workers at most.
 #[derive(Clone, Copy, Drop)]
 pub(crate) struct Pieces<'a> {
-    pub(crate) plan: &'a Plan,
+    pub(crate) query: &'a Query,
     pub(crate) lines: &'a [LineRef<'a>],
     pub(crate) size: usize,
-    pub(crate) keeps_going: bool,
-    pub(crate) walk: Walk,
+    pub(crate) on_fault: OnFault,
+    pub(crate) workers: u64,
     ghost in_range: { AreDocuments size × (length lines.now ≤ 4294967296) },
+    ghost few_workers: { AreWorkers workers },
 }
 
 impl Pieces<'_> {
+    ghost use Rattle.jp_compiled.specs.Compiled.{compiled_query};
+    ghost use Rattle.jp_eval.specs.Evaluated.{evaluated_query};
     ghost use Rattle.jp_answer.specs.Pieces.{AreAllPieces, IsPieceAnswer};
 
-    /// The lines, cut into pieces of that size.
+    /// The lines, cut up so.
     pub(crate) fn new<'a>(
-        plan: &'a Plan,
+        query: &'a Query,
         lines: &'a [LineRef<'a>],
-        size: usize,
-        keeps_going: bool,
-        walk: Walk,
+        cutting: Cutting,
+        on_fault: OnFault,
     ) -> Pieces<'a>
-        requires size { AreDocuments size }
         requires lines { length lines.now ≤ 4294967296 }
-        ensures pieces { (result.plan.now ≡ plan.now) × (result.lines.now ≡ lines.now)
-            × (result.size ≡ size) × (result.keeps_going ≡ keeps_going) }
+        ensures pieces { (result.query.now ≡ query.now) × (result.lines.now ≡ lines.now)
+            × (result.size ≡ cutting.piece) × (result.on_fault ≡ on_fault) }
     {
         Pieces {
-            plan,
+            query,
             lines,
-            size,
-            keeps_going,
-            walk,
+            size: cutting.piece as usize,
+            on_fault,
+            workers: cutting.workers,
         }
     }
 
@@ -65,19 +59,27 @@ impl Pieces<'_> {
         self.lines.len().div_ceil(self.size) as u64
     }
 
-    /// The answer to a piece.
-    pub(crate) fn answer<R: Threads + Sync>(
+    /// How many workers have work: no more than there are pieces, but one at least.
+    pub(crate) fn at_work(&self) -> u64
+        ensures { AreWorkers result }
+    {
+        self.workers.min(self.count().max(1))
+    }
+
+    /// The answer to a piece in a form, by tools for its query.
+    pub(crate) fn answer<R: Threads + Sync, G, F: Form + Drop + Send>(
         &self,
-        rt: &R,
-        alloc: Global,
-        reader: &mut FlatReader,
+        crew: &Crew<R, G>,
+        tools: &mut Tools<'_>,
         piece: u64,
     ) -> Result<Outcome, AllocError>
-        requires { piece * self.now.size < length self.now.lines.now }
-        ensures { IfOk result (IsPieceAnswer self.now piece) }
+        requires within { piece * self.now.size < length self.now.lines.now }
+        requires query { evaluated_query tools.old.evaluator ≡ compiled_query self.now.query.now }
+        ensures answer { IfOk result (IsPieceAnswer F.says self.now piece) }
+        ensures query { evaluated_query tools.new.evaluator ≡ evaluated_query tools.old.evaluator }
     {
         let (_, rest) = self.lines.split_at(piece as usize * self.size);
         let (lines, _) = rest.split_at(self.size.min(rest.len()));
-        answer_lines(rt, alloc, reader, self, lines)
+        answer_lines::<R, G, F>(crew, self, tools, lines)
     }
 }

@@ -1,17 +1,22 @@
 //! A worker, which claims pieces until none is left.
 
 ghost use Rattle.std.specs.Prelude.{◌≡◌, ◌*◌, ◌<◌, [], true, List, length, Contains, OnOk};
+ghost use Rattle.jp_compiled.specs.Compiled.{compiled_query};
+ghost use Rattle.jp_eval.specs.Evaluated.{evaluated_query};
 ghost use Rattle.jp_board.specs.Seats.{IsSeatOf, IsFresh, view_of, pieces_of as pieces_of_board, made_of};
 ghost use Rattle.jp_answer.specs.Pieces.{AreAllPieces};
 ghost use Rattle.jp_answer.specs.Worked.{AreSound, AreTended, OthersAreTended, IsWorked};
 ghost use Rattle.jp_answer.specs.declared.worker.PieceAnswer.{PieceAnswer as Part};
 
+use crate::answering::Tools;
+use crate::crew::Crew;
 use crate::gate::Gate;
+use crate::on_fault::OnFault;
 use crate::outcome::Outcome;
 use crate::pieces::Pieces;
 use jp_board::{Board, Seat};
-use jp_flat::FlatReader;
-use std::alloc::{AllocError, Global};
+use jp_output::Form;
+use std::alloc::AllocError;
 use std::thread::Threads;
 
 /// The answer to one piece.
@@ -31,40 +36,46 @@ pub(crate) struct Worker {
     pub(crate) wanted: bool,
 }
 
+/// What a worker has before it while it works: its seat, its tools, and the parts that it has answered.
+#[derive(Drop)]
+struct Desk<'q> {
+    seat: Seat,
+    tools: Tools<'q>,
+    parts: Vec<PieceAnswer>,
+}
+
 /// Claims pieces until none is left, and tends each.
-pub(crate) fn work<R: Threads + Sync, G: Gate>(
-    rt: &R,
-    alloc: Global,
+pub(crate) fn work<R: Threads + Sync, G: Gate, F: Form + Drop + Send>(
+    crew: &Crew<R, G>,
     pieces: &Pieces,
     board: &Board,
-    gate: &G,
-    mut seat: Seat,
+    seat: Seat,
 ) -> Worker
     requires seat { IsSeatOf board.now seat × IsFresh (pieces_of_board board.now) (made_of board.now) seat }
     requires pieces { AreAllPieces pieces.now (pieces_of_board board.now) }
     ensures seat { IsSeatOf board.now result.seat }
-    ensures worked { IsWorked pieces.now result }
+    ensures worked { IsWorked F.says pieces.now result }
 {
-    let mut reader = FlatReader::new(alloc);
-    let mut parts = Vec::new(alloc);
+    // The tools are for all lines of this worker's, and no longer: a reader's arena can't cross to another
+    // thread (README, Why so).
+    let mut desk = Desk {
+        seat,
+        tools: Tools::new(crew.alloc, pieces.query),
+        parts: Vec::new(crew.alloc),
+    };
     let mut wanted = false;
     // Each claim is above the earlier ones, so the loop ends.
-    while let Some(piece) = board.claim(&mut seat) {
+    while let Some(piece) = board.claim(&mut desk.seat) {
+        // After a refused growth it only claims, so that it is told in the end that none is left.
         if !wanted {
-            wanted = tend(
-                rt,
-                alloc,
-                &mut reader,
-                pieces,
-                board,
-                gate,
-                &mut seat,
-                piece,
-                &mut parts,
-            )
-            .is_err();
+            wanted = tend::<R, G, F>(crew, pieces, board, &mut desk, piece).is_err();
         }
     }
+    let Desk {
+        seat,
+        tools: _,
+        parts,
+    } = desk;
     Worker {
         seat,
         parts,
@@ -73,37 +84,38 @@ pub(crate) fn work<R: Threads + Sync, G: Gate>(
 }
 
 /// Leaves the piece where the mark is lower. Else answers it, and reports it where its answer has stopped.
-fn tend<R: Threads + Sync, G: Gate>(
-    rt: &R,
-    alloc: Global,
-    reader: &mut FlatReader,
+fn tend<R: Threads + Sync, G: Gate, F: Form + Drop + Send>(
+    crew: &Crew<R, G>,
     pieces: &Pieces,
     board: &Board,
-    gate: &G,
-    seat: &mut Seat,
+    desk: &mut Desk<'_>,
     piece: u64,
-    parts: &mut Vec<PieceAnswer>,
 ) -> Result<(), AllocError>
-    requires seat { IsSeatOf board.now seat.old × Contains (view_of seat.old).claims piece }
+    requires seat { IsSeatOf board.now desk.old.seat × Contains (view_of desk.old.seat).claims piece }
     requires piece { piece * pieces.now.size < length pieces.now.lines.now }
-    requires sound { AreSound pieces.now (view_of seat.old).claims (view_of seat.old).reports
-        parts.old.items }
-    requires tended { OthersAreTended piece (view_of seat.old).claims (view_of seat.old).looks
-        parts.old.items }
-    ensures seat { IsSeatOf board.now seat.new × ((view_of seat.new).claims ≡ (view_of seat.old).claims) }
-    ensures sound { AreSound pieces.now (view_of seat.new).claims (view_of seat.new).reports parts.new.items }
-    ensures tended { OnOk result (AreTended (view_of seat.new).claims (view_of seat.new).looks
-        parts.new.items) }
+    requires query { evaluated_query desk.old.tools.evaluator ≡ compiled_query pieces.now.query.now }
+    requires sound { AreSound F.says pieces.now (view_of desk.old.seat).claims (view_of desk.old.seat).reports
+        desk.old.parts.items }
+    requires tended { OthersAreTended piece (view_of desk.old.seat).claims (view_of desk.old.seat).looks
+        desk.old.parts.items }
+    ensures seat { IsSeatOf board.now desk.new.seat
+        × ((view_of desk.new.seat).claims ≡ (view_of desk.old.seat).claims) }
+    ensures query { evaluated_query desk.new.tools.evaluator ≡ evaluated_query desk.old.tools.evaluator }
+    ensures sound { AreSound F.says pieces.now (view_of desk.new.seat).claims (view_of desk.new.seat).reports
+        desk.new.parts.items }
+    ensures tended { OnOk result (AreTended (view_of desk.new.seat).claims (view_of desk.new.seat).looks
+        desk.new.parts.items) }
 {
-    if is_left(pieces, board, seat, piece) {
+    if is_left(pieces, board, &mut desk.seat, piece) {
         return Ok(());
     }
-    gate.pass(piece);
-    let answer = pieces.answer(rt, alloc, reader, piece)?;
+    crew.gate.pass(piece);
+    let answer = pieces.answer::<R, G, F>(crew, &mut desk.tools, piece)?;
     let stopped = answer.stopped.is_some();
-    parts.push(PieceAnswer { piece, answer })?;
+    // Kept before it is reported: where this growth is refused no report says that the part is there.
+    desk.parts.push(PieceAnswer { piece, answer })?;
     if stopped {
-        board.report(seat, piece);
+        board.report(&mut desk.seat, piece);
     }
     Ok(())
 }
@@ -120,9 +132,9 @@ fn is_left(pieces: &Pieces, board: &Board, seat: &mut Seat, piece: u64) -> bool
         (view_of seat.old).looks parts → result ≡ true → AreTended (view_of seat.new).claims
         (view_of seat.new).looks parts }
 {
-    if pieces.keeps_going {
-        return false;
+    match pieces.on_fault {
+        // Nothing ends that answer, so its workers neither look nor report (README, Why so).
+        OnFault::KeepGoing => false,
+        OnFault::Stop => board.look(seat) < piece,
     }
-    let mark = board.look(seat);
-    mark < piece
 }

@@ -48,6 +48,7 @@ impl Board {
         if pieces > Board::MAX_PIECES || seats == 0 || seats > Board::MAX_SEATS {
             return Err(BoardFault::TooMany);
         }
+        // Before there is a table, so that nothing can be refused while its seats are dealt.
         let Ok(dealt) = Vec::with_capacity(alloc, seats as usize) else {
             return Err(BoardFault::Memory);
         };
@@ -77,6 +78,7 @@ impl Board {
         ensures told { IfNone result (WasTold seat.new) }
         ensures again { WasTold seat.old → (result ≡ None) × (seat.new ≡ seat.old) }
     {
+        // No further step, since `next` counts one more for each seat, and no more than one.
         if seat.told {
             return None;
         }

@@ -122,6 +122,7 @@ impl LineBuffer {
         let number = self.count + 1;
         self.waiting.push(number, &self.open_line, &[])?;
         self.open_line.clear();
+        // So that one long line does not hold its memory for the rest of the stream.
         self.open_line.shrink_to(LONG_LINE);
         self.count = number;
         Ok(())
@@ -159,6 +160,8 @@ impl LineBuffer {
         let number = self.count + 1;
         self.waiting.push(number, &self.open_line, line)?;
         let (count, rest) = push_lines(number, after, &mut self.waiting)?;
+        // Last: a refusal before this leaves the open line, and `feed` takes back what was put behind those
+        // that wait.
         put_instead(&mut self.open_line, rest)?;
         self.count = count;
         Ok(())
@@ -171,6 +174,7 @@ fn put_instead(place: &mut Vec<u8>, bytes: &[u8]) -> Result<(), AllocError>
     ensures ok { OnOk result (place.new.items ≡ bytes.now) }
     ensures same { OnErr result (place.new.items ≡ place.old.items) }
 {
+    // Before anything is let go, so that a refusal leaves the bytes as they were.
     place.reserve(bytes.len())?;
     place.clear();
     place.shrink_to(bytes.len().max(LONG_LINE));

@@ -32,6 +32,7 @@ impl<'b> LineRef<'b> {
 pub fn refs_of<'b>(alloc: Global, lines: &'b [Line]) -> Result<Vec<LineRef<'b>>, AllocError>
     ensures { IfOk result (λ refs. map line_at refs.items ≡ map line_of lines.now) }
 {
+    // Their number is known, so the list takes one allocation.
     let mut refs = Vec::with_capacity(alloc, lines.len())?;
     for line in lines {
         refs.push(LineRef::of(line))?;

@@ -97,6 +97,7 @@ impl WaitingLines {
     pub fn lines(&self, alloc: Global) -> Result<Vec<LineRef<'_>>, AllocError>
         ensures { IfOk result (λ lines. map line_at lines.items ≡ self.now) }
     {
+        // Their number is known, so the list takes one allocation.
         let mut lines = Vec::with_capacity(alloc, self.spans.len())?;
         let mut rest = self.bytes.as_slice();
         for span in &self.spans {
@@ -177,6 +178,7 @@ fn take_front<T: Copy>(items: &mut Vec<T>, count: usize)
     requires { count ≤ vec_len items.old }
     ensures { items.new.items ≡ drop count items.old.items }
 {
+    // Most reads take nothing away: what waits is not moved for that.
     if count == 0 {
         return;
     }
@@ -189,6 +191,7 @@ fn take_front<T: Copy>(items: &mut Vec<T>, count: usize)
 fn let_go(bytes: &mut Vec<u8>, taken: usize, count: usize)
     ensures { bytes.new.items ≡ bytes.old.items }
 {
+    // By their mean length, so that many short lines keep the memory that they share.
     if taken / LONG_LINE > count {
         bytes.shrink_to(LONG_LINE);
     }

@@ -9,6 +9,7 @@ use Rattle.jp_tree.specs.declared.tree.Start.TheVariants as start
 use Rattle.jp_compiled.specs.Compiled.{Wanted, wanted, where_wanted, root_at, wanted_in}
 use Rattle.jp_compiled.specs.Compiled.{roots_behind, roots_of}
 use Rattle.jp_compiled.specs.Compiled.{segments_in}
+use Rattle.jp_compiled.proofs.RootsListed.{listed_more}
 use Rattle.jp_compiled.specs.declared.query.Want.{Want}
 use Rattle.jp_compiled.specs.declared.query.Want.TheVariants as want
 use Rattle.jp_compiled.specs.declared.query.RootQuery.{RootQuery}
@@ -45,13 +46,6 @@ module _ {X Y T : Type 0} (view : List Wanted → Y → T) (of : X → T) (xs : 
       → Reads now (λ all. map (view all) made) (map of xs)
   made_all made now past inv = λ all g. sym (append-nil (map (view all) made))
       ∙ ap (λ ts. map (view all) made ++ ts) (sym (at_drop_all (map of) xs i past)) ∙ inv all g
-
--- one `$` query more
-pub listed_more : (before : List Wanted) (rs : List RootQuery) (r : RootQuery)
-    → roots_behind before (rs ++ r ∷ []) ≡ roots_behind before rs ++ wanted_in (roots_behind before rs) r
-    ∷ []
-listed_more before [] r = refl
-listed_more before (q ∷ rs) r = listed_more (before ++ wanted_in before q ∷ []) rs r
 
 listed_length : (before : List Wanted) (rs : List RootQuery) → length (roots_behind before rs)
     ≡ length before + length rs

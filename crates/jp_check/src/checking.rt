@@ -51,6 +51,7 @@ pub fn check(alloc: Global, query: Query) -> Result<Plan, QueryFault>
     ensures ok { IfOk result (λ p. verdict_of (query_of query) ≡ Ok (query_of query)) }
     ensures fault { IfErr result (λ f. f ≢ QueryFault.Memory → verdict_of (query_of query) ≡ Err f) }
 {
+    // First, since what compiles it has no answer for other shapes (README, Why so).
     verdict(&query)?;
     let (compiled, patterns) = make_query(alloc, &query)?;
     Ok(Plan {

@@ -74,6 +74,7 @@ fn make_segments(
     ensures patterns { OnOk result (AddsPatterns listed.old listed.new
         (literal.segments_patterns (tree.segments (view.segments_of segments.now)))) }
 {
+    // Their number is known, so the list takes one allocation.
     let mut made = Vec::with_capacity(alloc, segments.len())?;
     for segment in segments {
         let selectors = make_selectors(alloc, segment.selectors.as_slice(), listed)?;
@@ -97,6 +98,7 @@ fn make_selectors(
     ensures patterns { OnOk result (AddsPatterns listed.old listed.new
         (literal.selectors_patterns (tree.selectors (view.selectors_of selectors.now)))) }
 {
+    // Their number is known, so the list takes one allocation.
     let mut made = Vec::with_capacity(alloc, selectors.len())?;
     for selector in selectors {
         made.push(make_selector(alloc, selector, listed)?)?;
@@ -215,6 +217,7 @@ fn make_parts(
     ensures patterns { OnOk result (AddsPatterns listed.old listed.new
         (literal.logicals_patterns (tree.logicals (view.logicals_of parts.now)))) }
 {
+    // Their number is known, so the list takes one allocation.
     let mut made = Vec::with_capacity(alloc, parts.len())?;
     for part in parts {
         made.push(make_logical(alloc, part, listed)?)?;
@@ -318,6 +321,8 @@ fn make_argument_nodes(
 
 /// A call that gives nodes.
 #[cycle(making)]
+// Not inlined, since the frame of what calls it is needed once a bracket and would hold this one's values
+// too.
 #[inline(never)]
 fn make_distinct(
     alloc: Global,
@@ -377,6 +382,8 @@ fn make_value_call(alloc: Global, call: &Call, listed: &mut Listed) -> Result<Va
 
 /// A call that gives true or false.
 #[cycle(making)]
+// Not inlined, since the frame of what calls it is needed once a bracket and would hold this one's values
+// too.
 #[inline(never)]
 fn make_test_call(alloc: Global, call: &Call, listed: &mut Listed) -> Result<Logical, AllocError>
     requires sound { IsSound (numbers.call_numbers (view.call_of call.now))
@@ -403,6 +410,8 @@ fn make_test_call(alloc: Global, call: &Call, listed: &mut Listed) -> Result<Log
 
 /// `xor` of two arguments.
 #[cycle(making)]
+// Not inlined, since the frame of what calls it is needed once a bracket and would hold this one's values
+// too.
 #[inline(never)]
 fn make_xor(
     alloc: Global,
@@ -474,6 +483,8 @@ fn make_truth(
 
 /// `match` or `search` of a text and a pattern.
 #[cycle(making)]
+// Not inlined, since the frame of what calls it is needed once a bracket and would hold this one's values
+// too.
 #[inline(never)]
 fn make_text_test(
     alloc: Global,

@@ -49,6 +49,7 @@ pub(crate) fn list_pattern(
     ensures listed { OnOk result (Lists patterns.old.items patterns.new.items (chars text.now ∷ [])) }
 {
     let known = read_pattern(alloc, text)?;
+    // Read once, and shared by its place in the tree and by the list (README, Why so).
     patterns.push(known.share(alloc)?)?;
     Ok(known)
 }

@@ -1,2 +1,3 @@
 pub mod CompiledViews
 pub mod PatternSets
+pub mod RootsListed

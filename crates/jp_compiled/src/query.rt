@@ -133,6 +133,7 @@ pub enum Logical {
     Xor(Form, Box<Logical>, Form, Box<Logical>),
 }
 
+// `@.a` and `(@.a)` are two spellings with two trees (README, Why so).
 /// How an argument that is true or false is written.
 #[derive(Clone, Copy, Debug, PartialEq, Eq)]
 pub enum Form {

@@ -45,6 +45,8 @@ fn long_within(value: &Value, limit: usize) -> Result<bool, DocFault>
         Value::Null | Value::Bool(_) | Value::String(_) => Ok(false),
         Value::Number(number) if number.is_f64() => Err(DocFault::NotWhole),
         Value::Number(_) => Ok(false),
+        // The items first: a number that is not whole is told before a long array, wherever it stands
+        // (README, Why so).
         Value::Array(items) => Ok(long_within_items(items, limit)? || items.len() > limit),
         Value::Object(members) => long_within_members(members, limit),
     }

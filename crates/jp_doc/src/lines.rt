@@ -132,6 +132,7 @@ impl Lines {
         let (at, number) = (out.len(), self.count + 1);
         let is_blank = is_blank_line(&self.open_line);
         if !is_blank {
+            // Its place is taken now, and the open line moves there once no growth can be refused any more.
             let bytes = Vec::new(self.alloc);
             out.push(Line { number, bytes })?;
         }

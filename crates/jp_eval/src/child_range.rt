@@ -30,6 +30,8 @@ impl<'c, 'v> ChildRange<'c, 'v> {
     {
         match children {
             Children::Listed(children) => ChildRange::Listed(children.as_slice()),
+            // Not counted: to count a flat array takes a walk, and this range is only gone over from the
+            // front.
             Children::Items(items) => ChildRange::Items(*items, 0, u32::MAX),
             Children::Members(members) => ChildRange::Members(members.range()),
         }
@@ -71,6 +73,8 @@ impl<'c, 'v> ChildRange<'c, 'v> {
                 (ChildRange::Listed(left), ChildRange::Listed(right))
             }
             ChildRange::Items(items, first, past) => {
+                // Two places cut the items: none is listed, and each is looked up as the walk comes to it
+                // (README, Why so).
                 let half = past.saturating_sub(first) / 2;
                 let middle = first + half;
                 (

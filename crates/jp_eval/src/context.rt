@@ -19,6 +19,7 @@ pub(crate) struct Context<'v> {
     pub(crate) root: Part<'v>,
     /// The `$` queries that are answered.
     pub(crate) roots: &'v [RootQuery],
+    // Lent from the document, so that the compiler lets none outlive it (README, Why so).
     pub(crate) answers: Vec<RootAnswer<'v>>,
     ghost answered: { are_answers (part_value root) (roots_of roots.now)
         (map (λ known. known.answer) answers.items) ≡ true },
@@ -87,6 +88,7 @@ impl<'v> Context<'v> {
     {
         match self.answered(slot, want) {
             Some(known) => known.answer,
+            // `root_at` gives `$` of such a slot, so that nothing has to be required of slots.
             None => of_one(want, self.root),
         }
     }

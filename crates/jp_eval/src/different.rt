@@ -99,6 +99,8 @@ fn count_locations(locations: Vec<Location>) -> u64
 fn count_different<T: Ord + Drop>(mut items: Vec<T>) -> usize
     ensures { result ≡ length (first_ones T.PartialEq.eq items.items) }
 {
+    // Sorted, so that equal ones stand side by side: to look for each among the others would take `n * n`
+    // steps.
     items.sort_unstable();
     items.dedup();
     items.len()

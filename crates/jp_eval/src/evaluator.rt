@@ -2,20 +2,20 @@
 
 ghost use Rattle.std.specs.Prelude.{◌≡◌, IfOk};
 ghost use Rattle.std.specs.List.{fold};
-ghost use Rattle.jp_check.specs.Plan.{planned_query};
+ghost use Rattle.jp_compiled.specs.Compiled.{compiled_query};
 ghost use Rattle.jp_doc.specs.Document.{document_value};
 ghost use Rattle.jp_eval.specs.Nodelist.{document_nodes};
 ghost use Rattle.jp_part.specs.Part.{part_value};
 ghost use Rattle.jp_regexp.specs.Tests.{Tests, AreRight};
 
 use crate::asked::{Asked, asked_by};
-use crate::evaluation::EvalFault;
+use crate::fault::EvalFault;
 use crate::fork::{Cuts, Fork};
 use crate::found::{Found, into_visitor};
 use crate::roots::answer_roots;
 use crate::split::go_split;
 use crate::walk::{Task, run};
-use jp_check::Plan;
+use jp_compiled::Query;
 use jp_doc::Document;
 use jp_nodes::Visit;
 use jp_part::Part;
@@ -24,28 +24,29 @@ use std::alloc::Global;
 use std::mem;
 use std::thread::Threads;
 
-/// Evaluates a plan on one document after another.
+/// Evaluates a compiled query on one document after another.
 ///
 /// The memory that the text of a path took is kept for the next document.
 #[derive(Drop)]
 pub struct Evaluator<'p> {
     alloc: Global,
-    plan: &'p Plan,
+    query: &'p Query,
     asked: Asked,
+    // All that is kept from document to document (README, Why so).
     scratch: Scratch,
 }
 
 impl<'p> Evaluator<'p> {
     ghost use Rattle.jp_eval.specs.Evaluated.{evaluated_query};
 
-    /// Of this plan. It takes no memory.
-    pub fn new(alloc: Global, plan: &'p Plan) -> Evaluator<'p>
-        ensures { evaluated_query result ≡ planned_query plan.now }
+    /// Of this query. It takes no memory.
+    pub fn new(alloc: Global, query: &'p Query) -> Evaluator<'p>
+        ensures { evaluated_query result ≡ compiled_query query.now }
     {
         Evaluator {
             alloc,
-            plan,
-            asked: asked_by(plan.compiled()),
+            query,
+            asked: asked_by(query),
             scratch: Scratch::new(alloc),
         }
     }
@@ -85,8 +86,8 @@ impl<'p> Evaluator<'p> {
             (document_nodes tests (evaluated_query self.old) (part_value root.entry))) }
         ensures query { evaluated_query self.new ≡ evaluated_query self.old }
     {
-        let (alloc, plan, asked) = (self.alloc, self.plan, self.asked);
-        visit_in(alloc, plan, asked, root, &mut self.scratch, visitor)
+        let (alloc, query, asked) = (self.alloc, self.query, self.asked);
+        visit_in(alloc, query, asked, root, &mut self.scratch, visitor)
     }
 
     /// The same as `visit`, where a list of children that the query's own segments walk, and that has at
@@ -134,13 +135,13 @@ impl<'p> Evaluator<'p> {
         ensures query { evaluated_query self.new ≡ evaluated_query self.old }
     {
         let cuts = Cuts::from_floor(floor);
-        let (alloc, plan, asked) = (self.alloc, self.plan, self.asked);
+        let (alloc, query, asked) = (self.alloc, self.query, self.asked);
         split_in(
             rt,
             fork,
             cuts,
             alloc,
-            plan,
+            query,
             asked,
             root,
             &mut self.scratch,
@@ -152,7 +153,7 @@ impl<'p> Evaluator<'p> {
 /// Hands the nodes to the visitor, with this scratch memory for the text of the path.
 fn visit_in<V: Visit + Drop>(
     alloc: Global,
-    plan: &Plan,
+    query: &Query,
     asked: Asked,
     root: Part<'_>,
     scratch: &mut Scratch,
@@ -160,20 +161,21 @@ fn visit_in<V: Visit + Drop>(
 ) -> Result<V, EvalFault>
     ensures { IfOk result (λ t. (tests : Tests) → AreRight tests →
         V.kept t ≡ fold V.put (V.kept visitor)
-        (document_nodes tests (planned_query plan.now) (part_value root.entry))) }
+        (document_nodes tests (compiled_query query.now) (part_value root.entry))) }
 {
-    let compiled = plan.compiled();
-    let context = answer_roots::<V>(alloc, root, compiled.roots.as_slice(), asked)?;
+    let context = answer_roots::<V>(alloc, root, query.roots.as_slice(), asked)?;
+    // A walk that ends in want of memory drops the scratch: the next document begins with an empty one.
     let mut path = PathStack::with_scratch(alloc, mem::replace(scratch, Scratch::new(alloc)));
     let mut found = Found::Visitor(visitor);
     run(
         &context,
-        compiled.segments.as_slice(),
+        query.segments.as_slice(),
         root,
         &mut path,
         &mut found,
     )?;
     *scratch = path.into_scratch();
+    // The walk began with the visitor, so it ends with it (README, Why so).
     match into_visitor(found) {
         Some(visitor) => Ok(visitor),
         None => unreachable!(),
@@ -186,7 +188,7 @@ fn split_in<R: Threads + Sync, F: Fork + Sync, V: Visit + Drop + Send>(
     fork: &F,
     cuts: Cuts,
     alloc: Global,
-    plan: &Plan,
+    query: &Query,
     asked: Asked,
     root: Part<'_>,
     scratch: &mut Scratch,
@@ -194,13 +196,12 @@ fn split_in<R: Threads + Sync, F: Fork + Sync, V: Visit + Drop + Send>(
 ) -> Result<V, EvalFault>
     ensures { IfOk result (λ t. (tests : Tests) → AreRight tests →
         V.kept t ≡ fold V.put (V.kept visitor)
-        (document_nodes tests (planned_query plan.now) (part_value root.entry))) }
+        (document_nodes tests (compiled_query query.now) (part_value root.entry))) }
 {
-    let compiled = plan.compiled();
-    let context = answer_roots::<V>(alloc, root, compiled.roots.as_slice(), asked)?;
+    let context = answer_roots::<V>(alloc, root, query.roots.as_slice(), asked)?;
     let mut path = PathStack::with_scratch(alloc, mem::replace(scratch, Scratch::new(alloc)));
     let mut found = Found::Visitor(visitor);
-    let task = Task::Run(compiled.segments.as_slice());
+    let task = Task::Run(query.segments.as_slice());
     go_split(rt, fork, cuts, &context, task, root, &mut path, &mut found)?;
     *scratch = path.into_scratch();
     match into_visitor(found) {

@@ -21,6 +21,8 @@ use std::alloc::{AllocError, Global};
 /// What is kept of the nodes that a walk finds.
 #[derive(Drop)]
 pub(crate) enum Found<'v, V: Drop> {
+    // One enum for the caller's visitor and for all that filters want: two visitors in one recursion can't be
+    // had (README, Why so).
     /// What the caller keeps.
     Visitor(V),
     /// The value of the first.
@@ -54,6 +56,7 @@ pub(crate) fn is_full<V: Visit + Drop>(found: &Found<'_, V>) -> bool
         Found::Count(_) => false,
         Found::Only(Alone::Several) => true,
         Found::Only(Alone::None | Alone::One(_)) => false,
+        // A further node may be another one, so there is no end before the last.
         Found::Distinct(_) => false,
     }
 }

@@ -18,6 +18,7 @@ pub(crate) fn place_in(index: i64, value: Part<'_>) -> Option<u32>
     if index < 0 {
         return place(index, value.item_count());
     }
+    // A place has 32 bits, and no array has so many items.
     if index > i64::from(u32::MAX) {
         return None;
     }

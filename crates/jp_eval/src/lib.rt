@@ -1,5 +1,5 @@
-//! What a query selects in a document (RFC 9535, 2.1.2): the walk of a plan through a document, on one thread
-//! or by halves of long lists at once.
+//! What a query selects in a document (RFC 9535, 2.1.2): the walk of a compiled query through a document, on
+//! one thread or by halves of long lists at once.
 #![tactic(auto)]
 
 mod aggregates;
@@ -7,9 +7,9 @@ mod asked;
 mod child_range;
 mod context;
 mod different;
-mod evaluation;
 mod evaluator;
 mod examples;
+mod fault;
 mod fork;
 mod found;
 mod index;
@@ -22,8 +22,8 @@ mod walk;
 mod wide;
 mod work_items;
 
-pub use evaluation::{EvalFault, evaluate, evaluate_split, visit_nodes};
 pub use evaluator::Evaluator;
+pub use fault::EvalFault;
 pub use fork::{Fork, OpenFork};
 pub use jp_nodes::Visit;
 pub use jp_value::{Bounds, Operand, equal, less, slice_bounds};

@@ -52,6 +52,8 @@ impl<'v> RootAnswer<'v> {
     ) -> Result<RootAnswer<'v>, AllocError>
         ensures { IfOk result (λ r. r.answer ≡ answer.entry) }
     {
+        // Found once a document, since a filter asks at each node: a line takes time in proportion to its
+        // length.
         let length = length_of(alloc, answer, asked)?;
         let members = members_of(alloc, answer, asked)?;
         Ok(RootAnswer {

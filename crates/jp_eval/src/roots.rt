@@ -28,6 +28,8 @@ pub(crate) fn answer_roots<'v, V: Visit + Drop>(
     ensures roots { IfOk result (λ g. g.roots.now ≡ roots.now) }
 {
     let mut context = Context::new(alloc, root);
+    // Those inside of others stand before them, so that no walk of one stands inside another walk
+    // (README, Why so).
     for (slot, query) in roots.iter().enumerate() {
         let answer = answer::<V>(&context, query)?;
         let known = RootAnswer::new(alloc, answer, asked)?;

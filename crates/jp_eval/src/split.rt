@@ -42,6 +42,7 @@ pub(crate) fn go_split<'v, R: Threads + Sync, F: Fork + Sync, V: Visit + Drop + 
         (done (base_of context.now) task.entry (here path.old value.entry))) }
     ensures path { OnOk result (path.new ≡ path.old) }
 {
+    // Without a long list inside it is the other walk's, which has no threads to start (README, Why so).
     if cuts.left == 0 || !is_wide(value, cuts.floor) {
         return go(context, task, value, path, found);
     }
@@ -105,6 +106,7 @@ fn each_of<'v, R: Threads + Sync, F: Fork + Sync, V: Visit + Drop + Send>(
         (done (base_of context.now) task.entry) (range_nodes (link_steps path.old) children.entry))) }
     ensures path { OnOk result (path.new ≡ path.old) }
 {
+    // `Cuts` has a floor of 2 or more, but no field says so: one child has no two smaller halves.
     if cuts.left == 0 || !children.has(cuts.floor.max(2)) {
         return one_by_one(rt, fork, cuts, context, task, children, path, found);
     }
@@ -113,6 +115,7 @@ fn each_of<'v, R: Threads + Sync, F: Fork + Sync, V: Visit + Drop + Send>(
         left: cuts.left - 1,
     };
     let (left, right) = children.halves();
+    // A path stack and a visitor for each half, and the visitors are joined in order (README, Why so).
     let mine = fresh(found, context.alloc);
     let other = fresh(found, context.alloc);
     let at = path.links();

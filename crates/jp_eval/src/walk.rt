@@ -257,6 +257,7 @@ fn each_of<'v, V: Visit + Drop>(
             return Ok(());
         }
         rest = others;
+        // Most nodes that a descent comes to are scalars: they cost no link and no list of children.
         if is_idle(task, child.part) {
             continue;
         }
@@ -279,6 +280,7 @@ pub(crate) fn holds<'v, V: Visit + Drop>(
         (here path.old value.entry)) }
     ensures path { OnOk result (path.new ≡ path.old) }
 {
+    // No visitor is at hand here: `V` is for the cycle, which takes no call at another type (README, Why so).
     match test {
         Logical::Any(parts) => any::<V>(context, parts.as_slice(), value, path),
         Logical::All(parts) => all::<V>(context, parts.as_slice(), value, path),
@@ -308,6 +310,7 @@ pub(crate) fn holds<'v, V: Visit + Drop>(
             searches_known(context.alloc, text, known)
         }
         Logical::Xor(_, left, _, right) => {
+            // Both are always asked (README, Why so).
             let left = holds::<V>(context, left, value, path)?;
             let right = holds::<V>(context, right, value, path)?;
             Ok(exactly_one(left, right))
@@ -410,6 +413,7 @@ fn ask<'v, V: Visit + Drop>(
         (nodes_given (base_of context.now) nodes.now want (here path.old value.entry)) a ≡ true) }
     ensures path { OnOk result (path.new ≡ path.old) }
 {
+    // One function asks for each want, here and of `$` queries alike (README, Why so).
     match nodes {
         Nodes::Here(segments) => {
             let mut found = none_found::<'v, V>(context.alloc, want);

@@ -3,10 +3,11 @@
 
 use jp_check::plan;
 use jp_doc::Document;
-use jp_eval::{Evaluator, evaluate};
+use jp_eval::Evaluator;
 use jp_flat::FlatReader;
 use jp_nodes::Locations;
 use jp_part::Part;
+use jp_select::evaluate;
 use std::alloc::Global;
 use std::test::Fail;
 
@@ -52,7 +53,7 @@ fn counted(alloc: Global, query: &str, line: &str) -> Result<(usize, usize), Fai
             let none = Locations {
                 locations: Vec::new(alloc),
             };
-            let mut evaluator = Evaluator::new(alloc, &plan);
+            let mut evaluator = Evaluator::new(alloc, plan.compiled());
             let found = evaluator.visit_part(Part::root_of_flat(&document), none)?;
             found.locations.len()
         }

@@ -5,10 +5,11 @@
 
 use jp_check::plan;
 use jp_doc::{Document, Location, Step};
-use jp_eval::{Evaluator, OpenFork, evaluate, evaluate_split};
+use jp_eval::{Evaluator, OpenFork};
 use jp_flat::FlatReader;
 use jp_nodes::Locations;
 use jp_part::Part;
+use jp_select::{evaluate, evaluate_split};
 use jp_syntax::QueryFault;
 use std::alloc::Global;
 use std::thread::Threads;
@@ -82,7 +83,7 @@ fn selected_flat(alloc: Global, query: &str, line: &[u8], wanted: usize) -> Opti
     let none = Locations {
         locations: Vec::new(alloc),
     };
-    let mut evaluator = Evaluator::new(alloc, &plan);
+    let mut evaluator = Evaluator::new(alloc, plan.compiled());
     let found = evaluator
         .visit_part(Part::root_of_flat(&document), none)
         .ok()?;

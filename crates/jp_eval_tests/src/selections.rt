@@ -3,11 +3,12 @@
 
 use jp_check::plan;
 use jp_doc::{Document, Location, Step};
-use jp_eval::{Bounds, Evaluator, Operand, equal, evaluate, less, slice_bounds};
+use jp_eval::{Bounds, Evaluator, Operand, equal, less, slice_bounds};
 use jp_flat::FlatReader;
 use jp_nodes::Locations;
 use jp_part::Part;
 use jp_path::write_path;
+use jp_select::evaluate;
 use std::alloc::Global;
 use std::test::Fail;
 
@@ -115,7 +116,10 @@ fn selected_flat(alloc: Global, query: &str, document: &str) -> Result<String, F
     let none = Locations {
         locations: Vec::new(alloc),
     };
-    let found = Evaluator::new(alloc, &plan).visit_part(Part::root_of_flat(&document), none)?;
+    let found = Evaluator::new(alloc, plan.compiled()).visit_part(
+        Part::root_of_flat(&document),
+        none,
+    )?;
     paths(alloc, found.locations.as_slice())
 }
 

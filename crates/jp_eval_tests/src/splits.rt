@@ -3,11 +3,12 @@
 use crate::forks::{Counting, Meeting};
 use jp_check::{Plan, plan};
 use jp_doc::{Document, Location, Step};
-use jp_eval::{Evaluator, OpenFork, evaluate, evaluate_split};
+use jp_eval::{Evaluator, OpenFork};
 use jp_flat::FlatReader;
 use jp_nodes::Locations;
 use jp_part::Part;
 use jp_path::write_path;
+use jp_select::{evaluate, evaluate_split};
 use std::alloc::Global;
 use std::test::Fail;
 use std::thread::Threads;
@@ -85,7 +86,7 @@ fn flat_rows(rt: HostRuntime) -> Result<(), Fail> {
             let none = Locations {
                 locations: Vec::new(alloc),
             };
-            let mut evaluator = Evaluator::new(alloc, &plan);
+            let mut evaluator = Evaluator::new(alloc, plan.compiled());
             let found = evaluator.visit_part_split(&rt, root, floor, &OpenFork, none)?;
             let paths = paths(alloc, found.locations.as_slice())?;
             assert_eq!(rt; paths.as_str(), wanted, "{row}");
@@ -154,7 +155,7 @@ fn found_flat<R: Threads + Sync>(
     let none = Locations {
         locations: Vec::new(alloc),
     };
-    let mut evaluator = Evaluator::new(alloc, plan);
+    let mut evaluator = Evaluator::new(alloc, plan.compiled());
     let found = evaluator.visit_part_split(rt, root, floor, fork, none)?;
     Ok(found.locations)
 }

@@ -1,6 +1,7 @@
-use jp_answer::{Answer, OpenGate, answer};
-use jp_check::Plan;
-use jp_doc::Line;
+use jp_answer::{Crew, Cutting, OnFault, OpenGate, Outcome, answer_in_chunks};
+use jp_buffer::LineRef;
+use jp_compiled::Query;
+use jp_output::NodeLines;
 use std::alloc::{AllocError, Global};
 use std::thread::Threads;
 
@@ -8,11 +9,21 @@ use std::thread::Threads;
 fn by_workers<R: Threads + Sync>(
     rt: &R,
     alloc: Global,
-    plan: &Plan,
-    lines: &[Line],
-) -> Option<Result<Answer, AllocError>> {
+    query: &Query,
+    lines: &[LineRef<'_>],
+) -> Option<Result<Outcome, AllocError>> {
     if lines.len() > 4_294_967_296 {
         return None;
     }
-    Some(answer(rt, alloc, plan, lines, 4, 64, &OpenGate))
+    let gate = OpenGate;
+    let crew = Crew {
+        rt,
+        alloc,
+        gate: &gate,
+    };
+    let cutting = Cutting {
+        workers: 4,
+        piece: 64,
+    };
+    Some(answer_in_chunks::<R, OpenGate, NodeLines>(&crew, query, lines, cutting, OnFault::Stop))
 }

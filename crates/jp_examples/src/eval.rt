@@ -1,8 +1,13 @@
-use jp_check::Plan;
+use jp_compiled::Query;
 use jp_doc::{Document, Location};
-use jp_eval::{EvalFault, evaluate};
+use jp_eval::{EvalFault, Evaluator};
+use jp_nodes::Locations;
 use std::alloc::Global;
 
-fn selected(alloc: Global, plan: &Plan, document: &Document) -> Result<Vec<Location>, EvalFault> {
-    evaluate(alloc, plan, document)
+fn selected(alloc: Global, query: &Query, document: &Document) -> Result<Vec<Location>, EvalFault> {
+    let none = Locations {
+        locations: Vec::new(alloc),
+    };
+    let visitor = Evaluator::new(alloc, query).visit(document, none)?;
+    Ok(visitor.locations)
 }

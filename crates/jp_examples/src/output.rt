@@ -1,7 +1,8 @@
 use jp_check::Plan;
 use jp_doc::Document;
-use jp_eval::{EvalFault, visit_nodes};
+use jp_eval::EvalFault;
 use jp_output::NodeLines;
+use jp_select::visit_nodes;
 use std::alloc::Global;
 
 fn lines(

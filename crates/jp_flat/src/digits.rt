@@ -85,6 +85,7 @@ fn parse_digits(digits: &[u8]) -> u64
 {
     match fast_float::parse_u64(digits) {
         Ok(number) => number,
+        // No number of a flat document is so: that it fits was tested when its line was read.
         Err(_) => 0,
     }
 }

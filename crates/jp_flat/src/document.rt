@@ -39,6 +39,7 @@ impl<'a> FlatDocument<'a> {
         if line.len() > MAX_LINE {
             return Ok(None);
         }
+        // `basic` tells no place of a fault, for which nobody asks: `Document::read` tells faults.
         let Ok(text) = simdutf8::basic::from_utf8(line) else {
             return Ok(None);
         };

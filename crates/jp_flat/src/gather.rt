@@ -38,6 +38,7 @@ fn is_above(before: Option<&str>, name: &str) -> bool
 }
 
 /// A member's name.
+// A field, with a clause: a call for it would be one more at each member.
 #[inline(always)]
 fn name_of<'d>(member: FlatMember<'d>) -> &'d str
     ensures { result.now ≡ member.entry.name.now }

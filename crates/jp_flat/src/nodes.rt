@@ -8,10 +8,11 @@ ghost use Rattle.jp_flat.specs.inner.Plain.{is_plain_from};
 use crate::digits::is_whole_text;
 use json::Node;
 
-/// The most brackets that are open at once.
+/// The most brackets that are open at once: as many as `Document::read` takes, and one fewer than the tape.
 const MAX_LEVEL: u32 = 127;
 
 /// A text, which is in UTF-8 by its type.
+// The same text, with a clause: a call for it would be one more at each text of a line.
 #[inline(always)]
 fn known_text(text: &str) -> &str
     ensures { result.now ≡ text.now }
@@ -21,6 +22,7 @@ fn known_text(text: &str) -> &str
 
 /// How many brackets are open behind the node, where so many are open before it, or `None` where the node is
 /// not plain.
+// Each node of each line passes through it.
 #[inline(always)]
 fn level_after(node: &Node<'_>, level: u32) -> Option<u32>
     requires { level ≤ 127 }

@@ -12,6 +12,7 @@ use crate::digits::whole_number;
 use json::Node;
 
 /// The node at a place, and `Null` behind the last.
+// Each step of a cursor looks at a node so.
 #[inline(always)]
 fn node_at<'d>(nodes: &[Node<'d>], at: usize) -> Node<'d>
     ensures { at < length nodes.now
@@ -25,6 +26,7 @@ fn node_at<'d>(nodes: &[Node<'d>], at: usize) -> Node<'d>
 }
 
 /// The place behind the value that begins at this one.
+// Each step of a cursor passes a value so.
 #[inline(always)]
 fn after(nodes: &[Node<'_>], at: usize) -> usize
     requires within { at < length nodes.now }

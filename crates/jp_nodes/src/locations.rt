@@ -73,6 +73,7 @@ fn step(alloc: Global, link: Link<'_>) -> Result<Step, AllocError>
 pub fn location(alloc: Global, links: &[Link<'_>]) -> Result<Location, AllocError>
     ensures { IfOk result (λ l. location_of l ≡ link_steps links.now) }
 {
+    // Their number is known, so the list takes one allocation.
     let mut steps = Vec::with_capacity(alloc, links.len())?;
     for link in links {
         steps.push(step(alloc, *link)?)?;

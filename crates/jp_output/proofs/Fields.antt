@@ -15,15 +15,16 @@ use Rattle.serde_json.specs.Data as crate_data
 use Rattle.serde_json.specs.Written.{number_text, compact_text, items_text, members_text, comma_if}
 use Rattle.jp_doc.specs.Location.{Step, name, index, Location}
 use Rattle.jp_path_stack.specs.Path.{escaped, hex_digit, step_text, path_text}
-use Rattle.jp_doc.specs.Json.{data_of}
+use Rattle.jp_doc.specs.Json.{Json, null, truth, whole, text, array, object, data_of}
 use Rattle.jp_doc.specs.Location.{Node}
 use Rattle.jp_doc.specs.declared.fault.DocFault.{DocFault}
 use Rattle.jp_doc.specs.declared.fault.DocFault.TheVariants.{LongLine, Unreadable, NotWhole, LongArray}
 use Rattle.jp_doc.specs.declared.fault.DocFault.TheVariants.{Memory}
 use Rattle.jp_doc.specs.FaultWords.{fault_words}
 use Rattle.jp_output.specs.FaultLine.{fault_line}
-use Rattle.jp_output.specs.Fields.{times, HasThreeFields, AreLinesOfThree}
-use Rattle.jp_output.specs.OutputLine.{node_line}
+use Rattle.jp_output.specs.Fields.{times, HasThreeFields, AreLinesOfThree, IsOneLine}
+use Rattle.jp_output.specs.OutputLine.{node_line, value_line}
+use Rattle.jp_output.specs.UnquotedText.{unquoted_byte, unquoted_text, text_line}
 
 -- no byte is below the space
 abbrev pub IsField : List ℕ → Type 0
@@ -284,3 +285,42 @@ nodes_counted number (n ∷ ns) = omega (
   (node_fields number n).line_feeds,
   nodes_counted number ns,
 )
+
+-- lines of one field: of values and of texts
+
+one_line : (field : List ℕ) → IsField field → IsOneLine (field ++ 10 ∷ [])
+one_line field h = record {
+  line_feeds = omega (
+    arith,
+    times_both 10 field (10 ∷ []),
+    field_lacks 10 field (omega arith) h,
+    times_first 10 10 [],
+    times_none 10,
+  );
+  ends = (field, refl);
+}
+
+pub value_one_line : (n : Node) → IsOneLine (value_line n)
+value_one_line n = one_line (compact_text (data_of n.value)) (compact_field (data_of n.value))
+
+unquoted_byte_field : (x : ℕ) → IsField (unquoted_byte x)
+unquoted_byte_field x =
+    either IsField (x == 34) (34 ∷ []) (escape_byte x) (λ _. written (34 ∷ []) refl) (λ _. escape_field x)
+
+unquoted_field : (v : Json) → IsField (unquoted_text v)
+unquoted_field (text s) = field_each unquoted_byte unquoted_byte_field (encode_utf8_all s)
+unquoted_field null = compact_field (data_of null)
+unquoted_field (truth b) = compact_field (data_of (truth b))
+unquoted_field (whole z) = compact_field (data_of (whole z))
+unquoted_field (array vs) = compact_field (data_of (array vs))
+unquoted_field (object ms) = compact_field (data_of (object ms))
+
+pub text_one_line : (n : Node) → IsOneLine (text_line n)
+text_one_line n = one_line (unquoted_text n.value) (unquoted_field n.value)
+
+-- and as many as nodes
+module _ (line : Node → List ℕ) (h : (n : Node) → IsOneLine (line n)) where
+  pub lines_counted : (ns : List Node) → times 10 (flat_map line ns) ≡ length ns
+  lines_counted [] = times_none 10
+  lines_counted (n ∷ ns) =
+      omega (arith, times_both 10 (line n) (flat_map line ns), (h n).line_feeds, lines_counted ns)

@@ -1,6 +1,8 @@
 pub mod Fields
 pub mod FlatTexts
+pub mod LinesWithNodes
 pub mod OnLiterals
 pub mod PathBytes
-pub mod Taken
+pub mod ThirdFields
+pub mod UnquotedTexts
 pub mod Written

@@ -1,6 +1,7 @@
--- Lines of three fields, which tabs divide.
-use Rattle.std.specs.Prelude.{◌≡◌, ℕ, ◌==◌, List, [], ◌∷◌, ◌++◌}
-use Rattle.std.specs.List.{AllByRecursion, concat, count_by}
+-- Lines, and their fields, which tabs divide.
+use Rattle.std.specs.Prelude.{◌≡◌, ℕ, ◌==◌, Bool, List, [], ◌∷◌, ◌++◌}
+use Rattle.std.specs.List.{AllByRecursion, after_first, before_first, concat, count_by, flat_map}
+use Rattle.jp_doc.specs.Lines.{all_lines}
 
 -- how often a byte stands among these
 abbrev pub times : ℕ → List ℕ → ℕ
@@ -15,3 +16,19 @@ pub record HasThreeFields (line : List ℕ) : Type 0 where
 -- such lines, one after another
 abbrev pub AreLinesOfThree : List ℕ → Type 0
 AreLinesOfThree bytes = (ls : List (List ℕ)) × AllByRecursion HasThreeFields ls × (concat ls ≡ bytes)
+
+-- one line: there is one line feed, which is the last byte
+pub record IsOneLine (line : List ℕ) : Type 0 where
+  pub line_feeds : times 10 line ≡ 1
+  pub ends : (front : List ℕ) × (line ≡ front ++ 10 ∷ [])
+
+abbrev pub is_tab : ℕ → Bool
+is_tab b = b == 9
+
+-- what stands between the second tab of a line and the next one, or its end
+abbrev pub third_field : List ℕ → List ℕ
+third_field line = before_first is_tab (after_first is_tab (after_first is_tab line))
+
+-- the third field of each line, and a line feed: what `cut -f3` gives of lines that have one
+abbrev pub third_fields : List ℕ → List ℕ
+third_fields bytes = flat_map (λ line. third_field line ++ 10 ∷ []) (all_lines bytes)

@@ -1,4 +1,8 @@
 pub mod Chunks
 pub mod FaultLine
 pub mod Fields
+pub mod InputLine
+pub mod OutputForm
 pub mod OutputLine
+pub mod UnquotedText
+pub mod inner

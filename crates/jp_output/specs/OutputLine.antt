@@ -20,3 +20,11 @@ node_line number n = line_text number n.location n.value
 -- The lines of documents so far, with the number of the last one: what a further node of it does to them.
 abbrev pub put_line : ℕ × List ℕ → Node → ℕ × List ℕ
 put_line (number, bytes) n = (number, bytes ++ node_line number n)
+
+-- the value's text and a line feed
+abbrev pub value_line : Node → List ℕ
+value_line n = value_text n.value ++ 10 ∷ []
+
+-- What each node gives, one after another: what a further node does to the bytes so far.
+abbrev pub put_bytes : (Node → List ℕ) → List ℕ → Node → List ℕ
+put_bytes of_node bytes n = bytes ++ of_node n

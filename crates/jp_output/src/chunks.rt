@@ -5,7 +5,8 @@ ghost use Rattle.jp_output.specs.Chunks.{bytes_in};
 
 use std::alloc::{AllocError, Global};
 
-/// How many bytes at most are copied, where they could stand in a chunk of their own.
+/// How many bytes at most are copied, where they could stand in a chunk of their own: so that there are few
+/// calls of `write` (README, Why so).
 pub(crate) const COPIED: usize = 4096;
 
 /// Appends a chunk, unless it is empty. The bytes of a short one go to the last chunk, if there is one.
@@ -53,6 +54,7 @@ pub fn join_chunks(alloc: Global, chunks: Vec<Vec<u8>>) -> Result<Vec<u8>, Alloc
         return Ok(Vec::new(alloc));
     };
     let mut bytes = first;
+    // Once, and for no more: nothing is appended behind.
     bytes.reserve_exact(all.saturating_sub(bytes.len()))?;
     for chunk in rest {
         bytes.extend_from_slice(chunk.as_slice())?;

@@ -3,12 +3,14 @@
 ghost use Rattle.std.specs.Prelude.{◌≡◌, ℕ, [], ◌∷◌, ◌++◌, codes, pos, negsuc, true, false, Vec};
 ghost use Rattle.std.specs.declared.alloc.Global.{Global};
 ghost use Rattle.jp_doc.specs.Json.{null, truth, whole, text, array, object, items, no_members, add_member};
-ghost use Rattle.jp_doc.specs.Location.{name, index};
+ghost use Rattle.jp_doc.specs.Location.{Node, name, index, node};
 ghost use Rattle.jp_doc.specs.declared.fault.DocFault.TheVariants.{LongLine, Unreadable, NotWhole, LongArray};
 ghost use Rattle.jp_output.specs.Chunks.{bytes_in};
 ghost use Rattle.jp_output.specs.FaultLine.{fault_line};
-ghost use Rattle.jp_output.specs.Fields.{times, HasThreeFields};
-ghost use Rattle.jp_output.specs.OutputLine.{line_text};
+ghost use Rattle.jp_output.specs.Fields.{times, HasThreeFields, IsOneLine, third_field, third_fields};
+ghost use Rattle.jp_output.specs.OutputForm.{node_lines, value_lines, text_lines, input_lines};
+ghost use Rattle.jp_output.specs.OutputLine.{line_text, value_line};
+ghost use Rattle.jp_output.specs.UnquotedText.{unquoted_text, text_line};
 
 /// Output lines: the document's number, the path and the value's compact text, with tabs between.
 #[tactic(auto, unfolding(crate::proofs::OnLiterals::lines_on_literals))]
@@ -60,6 +62,51 @@ fn three_fields()
     ensures two_fields { ¬ HasThreeFields (codes "1" ++ 9 ∷ codes "$" ++ 10 ∷ []) }
     ensures line_feed_within { ¬ HasThreeFields (9 ∷ 10 ∷ 9 ∷ 10 ∷ []) }
     ensures not_ended { ¬ HasThreeFields (9 ∷ 9 ∷ 10 ∷ 97 ∷ []) }
+{}
+
+/// Third fields: of a line with three, with four and with one; and of two lines that are the same.
+fn third()
+    ensures of_three { third_field (codes "1" ++ 9 ∷ codes "$" ++ 9 ∷ codes "2") ≡ codes "2" }
+    ensures of_four { third_field (codes "1" ++ 9 ∷ codes "$" ++ 9 ∷ codes "2" ++ 9 ∷ codes "3") ≡ codes "2" }
+    ensures of_one { third_field (codes "1") ≡ [] }
+    ensures twice { third_fields (codes "1" ++ 9 ∷ codes "$" ++ 9 ∷ codes "2" ++ 10 ∷ codes "1" ++ 9 ∷
+        codes "$" ++ 9 ∷ codes "2" ++ 10 ∷ []) ≡ codes "2" ++ 10 ∷ codes "2" ++ 10 ∷ [] }
+{}
+
+/// Values and texts on lines of their own. A text within an array keeps its quotes.
+#[tactic(auto, unfolding(crate::proofs::OnLiterals::lines_on_literals))]
+fn values_and_texts()
+    ensures value { value_line (node (name (codes "a") ∷ []) (text (codes "a\"b")))
+        ≡ codes "\"a\\\"b\"" ++ 10 ∷ [] }
+    ensures text { text_line (node (name (codes "a") ∷ []) (text (codes "a\"b"))) ≡ codes "a\"b" ++ 10 ∷ [] }
+    ensures backslash { unquoted_text (text (codes "a\\\"b")) ≡ codes "a\\\\\"b" }
+    ensures line_feed { text_line (node [] (text (codes "a" ++ 10 ∷ codes "b"))) ≡ codes "a\\nb" ++ 10 ∷ [] }
+    ensures control { unquoted_text (text (31 ∷ [])) ≡ codes "\\u001f" }
+    ensures empty_text { text_line (node [] (text [])) ≡ 10 ∷ [] }
+    ensures text_in_utf8 { unquoted_text (text (128512 ∷ [])) ≡ 240 ∷ 159 ∷ 152 ∷ 128 ∷ [] }
+    ensures number { text_line (node [] (whole (negsuc 4))) ≡ codes "-5" ++ 10 ∷ [] }
+    ensures in_an_array { unquoted_text (array (items (text (codes "a") ∷ []))) ≡ codes "[\"a\"]" }
+    ensures within { ¬ IsOneLine (10 ∷ 97 ∷ 10 ∷ []) }
+    ensures not_ended { ¬ IsOneLine (10 ∷ 97 ∷ []) }
+{}
+
+/// The forms of line 3, with two nodes that are the same: the line ends with a carriage return.
+#[tactic(auto, unfolding(crate::proofs::OnLiterals::lines_on_literals))]
+fn forms()
+    ensures nodes { node_lines.of_document (3, codes "7" ++ 13 ∷ []) (node [] (text (codes "7")) ∷ [])
+        ≡ codes "3" ++ 9 ∷ codes "$" ++ 9 ∷ codes "\"7\"" ++ 10 ∷ [] }
+    ensures values { value_lines.of_document (3, codes "7" ++ 13 ∷ [])
+        (node [] (text (codes "7")) ∷ node [] (text (codes "7")) ∷ [])
+        ≡ codes "\"7\"" ++ 10 ∷ codes "\"7\"" ++ 10 ∷ [] }
+    ensures texts { text_lines.of_document (3, codes "7" ++ 13 ∷ [])
+        (node [] (text (codes "7")) ∷ node [] (text (codes "7")) ∷ [])
+        ≡ codes "7" ++ 10 ∷ codes "7" ++ 10 ∷ [] }
+    ensures lines { (n : Node) → input_lines.of_document (3, codes "7" ++ 13 ∷ []) (n ∷ n ∷ [])
+        ≡ codes "7" ++ 13 ∷ 10 ∷ [] }
+    ensures no_node { input_lines.of_document (3, codes "7" ++ 13 ∷ []) [] ≡ [] }
+    ensures faulty_value { value_lines.of_fault 3 Unreadable ≡ [] }
+    ensures faulty_text { text_lines.of_fault 3 Unreadable ≡ [] }
+    ensures faulty_line { input_lines.of_fault 3 Unreadable ≡ [] }
 {}
 
 /// Bytes in chunks: of none, of one, and of three, where one stands twice.

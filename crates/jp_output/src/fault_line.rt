@@ -16,6 +16,7 @@ use std::alloc::{AllocError, Global};
 /// The fault is not `Memory`, which is no fault of the line. After an `AllocError`, which says that a growth
 /// was refused, `out` is as before. No other memory is taken.
 pub fn write_fault(
+    // Not used: no memory is taken but the growth of `out` (README, Why so).
     _alloc: Global,
     number: u64,
     fault: &DocFault,

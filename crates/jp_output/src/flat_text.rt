@@ -12,7 +12,8 @@ use crate::scalar_text::{append_null, append_quoted, append_truth};
 use jp_flat::{FlatItems, FlatMember, FlatMembers, FlatValue, Kind};
 use std::alloc::{AllocError, Global};
 
-/// How many members there is room for at first where they are gathered.
+/// How many members there is room for at first where they are gathered: the list of an object of no more than
+/// these grows no further.
 const INITIAL_CAPACITY: usize = 16;
 
 /// Appends the compact text of a value.

@@ -1,12 +1,16 @@
 //! Laws of the definitions, each the contract of a function that does nothing.
 
-ghost use Rattle.std.specs.Prelude.{◌≡◌, ℕ, List, ◌++◌, length};
+ghost use Rattle.std.specs.Prelude.{◌≡◌, ◌≢◌, ◌↔◌, ℕ, List, [], ◌∷◌, ◌++◌, length};
 ghost use Rattle.std.specs.List.{fold, flat_map};
-ghost use Rattle.jp_doc.specs.Location.{Node};
+ghost use Rattle.jp_doc.specs.Json.{Text, text};
+ghost use Rattle.jp_doc.specs.Lines.{Line};
+ghost use Rattle.jp_doc.specs.Location.{Location, Node, node};
 ghost use Rattle.jp_doc.specs.declared.fault.DocFault.{DocFault};
 ghost use Rattle.jp_output.specs.FaultLine.{fault_line};
-ghost use Rattle.jp_output.specs.Fields.{times, HasThreeFields, AreLinesOfThree};
-ghost use Rattle.jp_output.specs.OutputLine.{node_line, put_line};
+ghost use Rattle.jp_output.specs.Fields.{times, HasThreeFields, AreLinesOfThree, IsOneLine, third_fields};
+ghost use Rattle.jp_output.specs.OutputForm.{node_lines, value_lines, text_lines, input_lines};
+ghost use Rattle.jp_output.specs.OutputLine.{node_line, put_line, value_line};
+ghost use Rattle.jp_output.specs.UnquotedText.{text_line};
 
 /// An output line has three fields, of whatever node, and so has a fault line: two tabs, and one line feed,
 /// which is the last byte. So the lines of several nodes can be cut at line feeds and each line at its tabs,
@@ -20,8 +24,36 @@ pub fn three_fields()
 {}
 
 /// The lines that a visitor writes of several nodes are those of each in turn, behind what stood there.
-#[tactic(auto, using(crate::proofs::Taken::lines_fold))]
+#[tactic(auto, using(crate::specs::inner::Taken::lines_fold))]
 pub fn lines_of_nodes()
     ensures { (number : ℕ) (bytes : List ℕ) (ns : List Node) → fold put_line (number, bytes) ns
         ≡ (number, bytes ++ flat_map (node_line number) ns) }
+{}
+
+/// The form of values has the third fields of the form of output lines, of whatever nodes, in their order and
+/// each as often, as `cut -f3` gives them. Each is one line, and there are as many as nodes.
+pub fn values_are_third_fields()
+    ensures third { (l : Line) (ns : List Node) → value_lines.of_document l ns
+        ≡ third_fields (node_lines.of_document l ns) }
+    ensures one_line { (n : Node) → IsOneLine (value_line n) }
+    ensures one_each { (l : Line) (ns : List Node) → times 10 (value_lines.of_document l ns) ≡ length ns }
+{}
+
+/// In the form of texts each value is one line, and different texts have different lines, wherever they
+/// stand. There are as many lines as nodes.
+pub fn texts_read_back()
+    ensures different { (at from : Location) (s t : Text)
+        → text_line (node at (text s)) ≡ text_line (node from (text t)) → s ≡ t }
+    ensures one_line { (n : Node) → IsOneLine (text_line n) }
+    ensures one_each { (l : Line) (ns : List Node) → times 10 (text_lines.of_document l ns) ≡ length ns }
+{}
+
+/// The form of input lines has the line, once, of a document of which a node is selected, and nothing of
+/// another: so it has the lines whose numbers stand in the form of output lines.
+pub fn lines_with_nodes()
+    ensures once { (l : Line) (ns : List Node) → ns ≢ []
+        → input_lines.of_document l ns ≡ l.1 ++ 10 ∷ [] }
+    ensures none { (l : Line) → input_lines.of_document l [] ≡ [] }
+    ensures same_lines { (l : Line) (ns : List Node) → (input_lines.of_document l ns ≡ [])
+        ↔ (node_lines.of_document l ns ≡ []) }
 {}

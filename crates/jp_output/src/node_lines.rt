@@ -8,8 +8,10 @@ ghost use Rattle.jp_path_stack.specs.Links.{link_steps};
 ghost use Rattle.jp_output.specs.Chunks.{bytes_in};
 ghost use Rattle.jp_output.specs.OutputLine.{line_text};
 
-use crate::chunks::{COPIED, append_chunks, join_chunks, push_chunk};
+use crate::chunks::join_chunks;
 use crate::fault_line::write_fault;
+use crate::form::Form;
+use crate::output_buffer::OutputBuffer;
 use crate::output_line::append_number;
 use crate::value_text::append_value;
 use jp_doc::DocFault;
@@ -18,7 +20,6 @@ use jp_part::Part;
 use jp_path_stack::PathStack;
 use std::alloc::{AllocError, Global};
 use std::marker::Model;
-use std::mem;
 
 /// Takes nodes as the output lines of a document with a number, behind those of the documents before it.
 ///
@@ -29,18 +30,16 @@ use std::mem;
 pub struct NodeLines {
     number: u64,
     scratch: Vec<u8>,
-    /// The lines before those of `out`.
-    before: Vec<Vec<u8>>,
-    out: Vec<u8>,
+    lines: OutputBuffer,
 }
 
 impl Model for NodeLines {
-    ghost use Rattle.std.specs.Prelude.{ℕ, List, ◌++◌};
-    ghost use Rattle.jp_output.specs.Chunks.{bytes_in};
+    ghost use Rattle.std.specs.Prelude.{ℕ, List};
+    ghost use Rattle.jp_output.specs.inner.Buffered.{buffered};
 
     ghost Value = { ℕ × List ℕ };
 
-    ghost view = { λ t. (t.number, bytes_in t.before.items ++ t.out.items) };
+    ghost view = { λ t. (t.number, buffered t.lines) };
 }
 
 impl NodeLines {
@@ -55,8 +54,7 @@ impl NodeLines {
         NodeLines {
             number: 0,
             scratch: Vec::new(alloc),
-            before: Vec::new(alloc),
-            out: Vec::new(alloc),
+            lines: OutputBuffer::new(alloc),
         }
     }
 
@@ -75,16 +73,14 @@ impl NodeLines {
         ensures ok { OnOk result (self.new ≡ (self.old.0, self.old.1 ++ fault_line self.old.0 fault.now)) }
         ensures err { OnErr result (self.new ≡ self.old) }
     {
-        write_fault(alloc, self.number, fault, &mut self.out)
+        write_fault(alloc, self.number, fault, &mut self.lines.out)
     }
 
     /// The bytes of all lines, in chunks as they were written. `AllocError` if a growth was refused.
     pub fn into_chunks(self) -> Result<Vec<Vec<u8>>, AllocError>
         ensures { IfOk result (λ chunks. bytes_in chunks.items ≡ self.1) }
     {
-        let mut chunks = self.before;
-        push_chunk(&mut chunks, self.out)?;
-        Ok(chunks)
+        self.lines.into_chunks()
     }
 
     /// The bytes of all lines. `AllocError` if a growth was refused.
@@ -121,7 +117,7 @@ impl Visit for NodeLines {
             path_stack,
             value,
             &mut self.scratch,
-            &mut self.out,
+            &mut self.lines.out,
         )
     }
 
@@ -133,32 +129,55 @@ impl Visit for NodeLines {
         NodeLines {
             number: self.number,
             scratch: Vec::new(alloc),
-            before: Vec::new(alloc),
-            out: Vec::new(alloc),
+            lines: OutputBuffer::new(alloc),
         }
     }
 
     fn append(&mut self, other: Self) -> Result<(), AllocError> {
-        append_all(&mut self.before, &mut self.out, other.before, other.out)?;
-        Ok(())
+        self.lines.append(other.lines)
     }
 }
 
-/// Appends chunks and a last one to those before `out` and to `out`.
-fn append_all(
-    before: &mut Vec<Vec<u8>>,
-    out: &mut Vec<u8>,
-    chunks: Vec<Vec<u8>>,
-    last: Vec<u8>,
-) -> Result<(), AllocError>
-    ensures { OnOk result (bytes_in before.new.items ++ out.new.items
-        ≡ (bytes_in before.old.items ++ out.old.items) ++ (bytes_in chunks.items ++ last.items)) }
-{
-    if chunks.is_empty() && last.len() <= COPIED {
-        return out.extend_from_slice(last.as_slice());
+impl Form for NodeLines {
+    ghost use Rattle.std.specs.Prelude.{◌≡◌};
+    ghost use Rattle.jp_output.specs.OutputForm.{node_lines};
+    ghost use Rattle.jp_output.specs.inner.Taken.{lines_written};
+
+    ghost says = { node_lines };
+
+    ghost written = { λ lines. lines.1 };
+
+    ghost HasBegun = { λ lines number before. lines ≡ (number, before) };
+
+    ghost ended = { λ lines line. lines.1 };
+
+    fn new(alloc: Global) -> Self {
+        NodeLines::new(alloc)
     }
-    push_chunk(before, mem::replace(out, last))?;
-    append_chunks(before, chunks)
+
+    fn begin(&mut self, number: u64) {
+        self.begin(number);
+    }
+
+    fn end(&mut self, _line: &[u8]) -> Result<(), AllocError> {
+        Ok(())
+    }
+
+    fn push_fault(
+        &mut self,
+        alloc: Global,
+        number: u64,
+        fault: &DocFault,
+    ) -> Result<(), AllocError> {
+        self.begin(number);
+        self.push_fault(alloc, fault)
+    }
+
+    fn into_chunks(self) -> Result<Vec<Vec<u8>>, AllocError> {
+        self.into_chunks()
+    }
+
+    ghost writes = { lines_written };
 }
 
 /// Appends the output line of the node at the path stack, with a scratch buffer for its value's text.
@@ -177,6 +196,7 @@ fn write_node(
         ≡ out.old.items ++ line_text number (link_steps path_stack.old) (part_value value.entry)) }
     ensures err { OnErr result (out.new.items ≡ out.old.items) }
 {
+    // Written straight to the output, and cut off again where memory is refused (README, Why so).
     let before = out.len();
     match append_parts(alloc, number, path_stack, value, scratch, out) {
         Ok(()) => Ok(()),

@@ -12,7 +12,8 @@ use crate::tree::{TreeMember, TreeMembers};
 use jp_flat::{FlatMember, FlatMembers};
 use std::alloc::{AllocError, Global};
 
-/// How many members there is room for at first where they are gathered.
+/// How many members there is room for at first where they are gathered: the list of an object of no more than
+/// these grows no further.
 const INITIAL_CAPACITY: usize = 16;
 
 /// The members of an object.

@@ -64,6 +64,8 @@ fn has_name_beyond(flat: FlatMembers<'_>, list: &[FlatMember<'_>]) -> bool
 {
     let mut left = flat;
     while let Some((member, others)) = left.split_first() {
+        // The search by halves is quick, but no clause says what it finds: only where it finds none is the
+        // whole list gone over.
         if !is_found(member.name, list) && is_missing(member.name, list) {
             return true;
         }

@@ -24,6 +24,7 @@ use serde_json::{Number, Value};
 /// A value of a document.
 #[derive(Clone, Copy)]
 pub enum Part<'v> {
+    // An enum, and no trait, which would put a parameter into each type above (README, Why so).
     /// Of a tree.
     Tree(TreeValue<'v>),
     /// Of a flat document.
@@ -64,6 +65,7 @@ fn whole(number: &Number) -> i128
     requires { is_float (number_view number.now) ≡ false }
     ensures { result ≡ whole_of (number_view number.now) }
 {
+    // Its condition says that it is whole, so there is always one.
     number.as_i128().unwrap_or(0)
 }
 

@@ -111,6 +111,7 @@ impl<'v> TreeMembers<'v> {
         ensures { IfOk result (λ v. members_of (members_view self.entry.members.now.entries)
             ≡ members (map tree_entry v.items)) }
     {
+        // Their number is known, so the list takes one allocation.
         let mut list = Vec::with_capacity(alloc, self.members.len())?;
         for (name, value) in self.members.iter() {
             list.push(TreeMember {

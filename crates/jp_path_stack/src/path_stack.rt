@@ -35,6 +35,7 @@ impl Scratch {
 /// A path's text is made when it is asked for, and kept while its links stay.
 #[derive(Drop)]
 pub struct PathStack<'v> {
+    // Eight lie within the path stack, so that the walk of most documents takes no memory for links.
     links: SmallVec<Link<'v>, 8>,
     /// The text of the first links, without the path's `$`.
     text: Vec<u8>,
@@ -157,6 +158,7 @@ fn make_one(link: Link<'_>, text: &mut Vec<u8>, starts: &mut Vec<usize>) -> Resu
     ensures text_kept { OnErr result (text.new.items ≡ text.old.items) }
     ensures starts_kept { OnErr result (starts.new.items ≡ starts.old.items) }
 {
+    // Before the text is made, so that nothing can be refused once it stands.
     starts.reserve(1)?;
     let start = text.len();
     match append_link(link, text) {

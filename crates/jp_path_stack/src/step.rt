@@ -58,6 +58,7 @@ fn append_escaped(name: &str, out: &mut Vec<u8>) -> Result<(), AllocError>
     ensures ok { OnOk result (out.new.items ≡ out.old.items ++ flat_map escaped name.now) }
     ensures kept { Extends out.old.items out.new.items }
 {
+    // Most names have no escape: they are copied at once, and not byte by byte.
     if is_bare(name.as_bytes()) {
         return out.extend_from_slice(name.as_bytes());
     }

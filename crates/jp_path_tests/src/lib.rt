@@ -4,6 +4,8 @@
 #[cfg(test)]
 mod forms;
 #[cfg(test)]
+mod output_forms;
+#[cfg(test)]
 mod queries;
 #[cfg(test)]
 mod refusals;

@@ -2,9 +2,10 @@
 
 use jp_check::{Plan, plan};
 use jp_doc::{Document, Location, Step};
-use jp_eval::{Evaluator, evaluate, visit_nodes};
+use jp_eval::Evaluator;
 use jp_output::{NodeLines, join_chunks};
 use jp_path::{path_plan, query_of, write_path};
+use jp_select::{evaluate, visit_nodes};
 use jp_syntax::{bracket_depth, read_query};
 use std::alloc::{AllocError, Global};
 use std::test::Fail;
@@ -149,7 +150,7 @@ fn lines_in_chunks(rt: HostRuntime) -> Result<(), Fail> {
 fn one_evaluator_for_two_documents(rt: HostRuntime) -> Result<(), Fail> {
     let alloc = rt.alloc();
     let plan = plan(alloc, "$.a[?@==$.b]")?;
-    let mut evaluator = Evaluator::new(alloc, &plan);
+    let mut evaluator = Evaluator::new(alloc, plan.compiled());
     let mut lines = NodeLines::new(alloc);
     for (number, text) in [(1, "{\"a\":[1,2,1],\"b\":1}"), (2, "{\"a\":[1,2],\"b\":2}")] {
         let document = Document::read(alloc, text.as_bytes())?;

@@ -4,9 +4,10 @@
 //! growth is refused at most, so one of the two answers.
 
 use crate::forms::line_of;
+use crate::output_forms::written;
 use jp_doc::{Document, Location, Step};
 use jp_flat::FlatReader;
-use jp_output::{append_chunks, join_chunks, push_chunk};
+use jp_output::{InputLines, TextLines, ValueLines, append_chunks, join_chunks, push_chunk};
 use jp_part::Part;
 use jp_path::{path_plan, query_of, write_line, write_path};
 use std::alloc::{AllocError, Global};
@@ -64,6 +65,28 @@ fn flat_line_or_none(alloc: Global) -> Option<bool> {
     flat_line(alloc).ok()
 }
 
+/// The value of a flat text twice, the text, and its line.
+fn flat_forms(alloc: Global) -> Result<bool, AllocError> {
+    let line = b"\"a\\\"\\n\"";
+    let mut reader = FlatReader::new(alloc);
+    let Some(document) = reader.read(line)? else {
+        return Ok(false);
+    };
+    let root = Part::root_of_flat(&document);
+    let values = written::<ValueLines>(alloc, line, root, 2)?;
+    let texts = written::<TextLines>(alloc, line, root, 1)?;
+    let lines = written::<InputLines>(alloc, line, root, 1)?;
+    Ok(
+        values.as_slice() == b"\"a\\\"\\n\"\n\"a\\\"\\n\"\n".as_slice()
+            && texts.as_slice() == b"a\"\\n\n".as_slice()
+            && lines.as_slice() == b"\"a\\\"\\n\"\n".as_slice(),
+    )
+}
+
+fn flat_forms_or_none(alloc: Global) -> Option<bool> {
+    flat_forms(alloc).ok()
+}
+
 /// A long chunk, a short one and a long one: two chunks, since the short one goes to the first.
 fn joined(alloc: Global) -> Result<bool, AllocError> {
     let mut chunks = Vec::new(alloc);
@@ -102,5 +125,14 @@ fn an_output_line(rt: HostRuntime) {
 #[test]
 fn the_line_of_a_flat_value(rt: HostRuntime) {
     let turns = (flat_line_or_none(rt.alloc()), flat_line_or_none(rt.alloc()));
+    assert!(rt; matches!(turns, (Some(true), Some(true) | None) | (None, Some(true))));
+}
+
+#[test]
+fn forms_of_a_flat_text(rt: HostRuntime) {
+    let turns = (
+        flat_forms_or_none(rt.alloc()),
+        flat_forms_or_none(rt.alloc()),
+    );
     assert!(rt; matches!(turns, (Some(true), Some(true) | None) | (None, Some(true))));
 }

@@ -40,6 +40,8 @@ one_wish words v w a b =
     (flag_same v.check w.check (sym a.1.check ∙ b.1.check))
     ∙ ap (λ (k : Bool). record v { query = w.query; check = w.check; keeps_going = k })
     (flag_same v.keeps_going w.keeps_going (sym a.1.keeps_going ∙ b.1.keeps_going))
+    ∙ ap (λ (x : Bool). record w { explain = x; workers = v.workers; piece = v.piece; batch = v.batch })
+    (flag_same v.explain w.explain (sym a.1.explain ∙ b.1.explain))
     ∙ ap (λ (n : ℕ). record w { workers = n; piece = v.piece; batch = v.batch })
     (number_same (codes "workers") (said words) v.workers w.workers a.1.settings.0 b.1.settings.0)
     ∙ ap (λ (n : ℕ). record w { piece = n; batch = v.batch })

@@ -4,7 +4,7 @@ use Rattle.std.proofs.Common.{Result, Ok, Err, IfOk, OnOk, refl, subst, arith}
 use Rattle.std.specs.Io.KnownBytes.{IsAtEnd}
 use Rattle.clap.specs.Walk.{Text}
 use Rattle.jp_doc.specs.Lines.{lines}
-use Rattle.jp_answer.specs.Form.{passed_in}
+use Rattle.jp_run.specs.Answered.{passed_in}
 use Rattle.jp_run.specs.declared.fault.RunFault.{RunFault}
 use Rattle.jp_run.specs.declared.running.Totals.{Totals}
 use Rattle.jp_program.specs.inner.Asked.{IsAsked, wanted_of}

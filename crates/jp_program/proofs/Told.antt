@@ -15,13 +15,13 @@ use Rattle.jp_tree.specs.Tree.{Text}
 use Rattle.jp_tree.specs.declared.fault.QueryFault.{QueryFault}
 use Rattle.jp_regexp.specs.Tests.{Tests}
 use Rattle.jp_answer.specs.Answer.{Answer, answer, after, line_answer, document_lines}
-use Rattle.jp_answer.specs.Answered.{IsAnswerIn}
-use Rattle.jp_answer.specs.Form.{passed_in}
+use Rattle.jp_output.specs.OutputForm.{node_lines}
+use Rattle.jp_run.specs.Answered.{IsAnswerIn, passed_in}
 use Rattle.jp_run.specs.Status.{status_of}
 use Rattle.jp_run.specs.declared.fault.RunFault.{RunFault}
 use Rattle.jp_run.specs.declared.fault.RunFault.TheVariants.{Query, Document, Read, Write, Limit}
 use Rattle.jp_run.specs.declared.fault.RunFault.TheVariants.{Memory, Settings}
-use Rattle.jp_answer.specs.Whole.{whole, lines_or_fault, is_faulty, faulty_lines}
+use Rattle.jp_answer.specs.Whole.{whole, document_or_fault, is_faulty, faulty_lines}
 use Rattle.jp_program.specs.Outcome.{IsAnswered, IsPast, IsFront, IsCutShort}
 use Rattle.jp_program.specs.Wanted.{Wanted}
 
@@ -79,8 +79,8 @@ module _ (t : Tests) (q : tree.Query) where
   agree_by : (l : Line) (ls : List Line) (r : Result Json DocFault)
       → length (cond (is_err r) (l ∷ filter is_faulty ls) (filter is_faulty ls)) ≡ 0
       → (faulty_lines ls ≡ 0 → answer t q ls ≡ record { bytes = (whole t q ls).bytes; stopped = None })
-      → line_answer t q l.0 r (answer t q ls)
-      ≡ record { bytes = lines_or_fault t q l.0 r ++ (whole t q ls).bytes; stopped = None }
+      → line_answer node_lines t q l r (answer t q ls)
+      ≡ record { bytes = document_or_fault node_lines t q l r ++ (whole t q ls).bytes; stopped = None }
   agree_by l ls (Ok root) e h = ap (after (document_lines t q l.0 root)) (h e)
   agree_by l ls (Err f) e h = absurd (omega (arith, e))
 

@@ -7,7 +7,7 @@ use Rattle.jp_tree.specs.Tree.{Text, Query}
 use Rattle.jp_regexp.specs.Tests.{Tests, AreRight}
 use Rattle.jp_check.specs.Verdict.{IsAccepted}
 use Rattle.jp_answer.specs.Answer.{Answer}
-use Rattle.jp_answer.specs.Answered.{IsAnswerTo, IsAnswerIn}
+use Rattle.jp_run.specs.Answered.{IsAnswerTo, IsAnswerIn}
 use Rattle.jp_answer.specs.Whole.{Whole, stream_whole}
 use Rattle.jp_run.specs.Batches.{documents_in, whole_batches}
 use Rattle.jp_run.specs.Handed.{IsHanded}

@@ -6,11 +6,13 @@ use Rattle.clap.specs.Walk.{Text, Row, first_of, one_of}
 use Rattle.jp_run.specs.Settings.{AreSettings}
 use Rattle.jp_program.specs.CommandLine.{said, refusals, IsRefused}
 
--- the query's text in scalar values, whether it is only checked, the form of the answer, and the settings
+-- the query's text in scalar values, whether it is only checked, the form of the answer, whether a refusal is
+-- to be explained, and the settings
 pub record Wanted : Type 0 where
   pub query : List ℕ
   pub check : Bool
   pub keeps_going : Bool
+  pub explain : Bool
   pub workers : ℕ
   pub piece : ℕ
   pub batch : ℕ
@@ -39,6 +41,7 @@ pub record Says (rows : List Row) (w : Wanted) : Type 0 where
   pub query : option_map chars (first_of (codes "query") rows) ≡ Some w.query
   pub check : SaysFlag (codes "check") rows w.check
   pub keeps_going : SaysFlag (codes "keep-going") rows w.keeps_going
+  pub explain : SaysFlag (codes "explain") rows w.explain
   pub settings : AreSaid rows w.workers w.piece w.batch
 
 -- the words are taken, and want this

@@ -1,28 +1,46 @@
-//! What helps where a command line is refused.
+//! What helps where a command line or a query is refused.
 
 ghost use Rattle.std.specs.Prelude.{◌≡◌, true};
 
 use crate::command::{note, tell};
-use crate::command_line::matches;
+use crate::command_line::{Asked, matches, read_words};
 use clap::error::ErrorKind;
+use jp_explain::{explain, write_mark};
 use jp_run::{RunFault, Sink};
 use std::alloc::{AllocError, Global};
 
 /// Tells a fault in one line. Behind that of a command line a further one says what is wrong with the words,
-/// or what to do; where memory for it is refused there is none.
+/// or what to do; behind that of a query three show where it went wrong, if the words ask for them. Where
+/// memory for them is refused there are none.
 pub(crate) fn tell_of_words<N: Sink>(alloc: Global, notes: &mut N, words: &[&str], fault: &RunFault)
     ensures untouched { N.failed notes.old ≡ true → notes.new ≡ notes.old }
 {
     tell(alloc, notes, fault);
-    if let RunFault::Settings = fault {
-        if let Ok(line) = advice(alloc, words) {
-            note(notes, Ok(line));
-        }
+    let more = match fault {
+        RunFault::Settings => advice(alloc, words).ok(),
+        RunFault::Query(_) => explanation(alloc, words).unwrap_or(None),
+        _ => None,
+    };
+    if let Some(lines) = more {
+        note(notes, Ok(lines));
+    }
+}
+
+/// The lines that show where the wanted query went wrong; none where the words do not ask for them.
+fn explanation(alloc: Global, words: &[&str]) -> Result<Option<String>, RunFault> {
+    match read_words(alloc, words)? {
+        Asked::Query(wanted) if wanted.explain => match explain(alloc, wanted.query)? {
+            Some(explanation) => Ok(Some(write_mark(alloc, wanted.query, &explanation)?)),
+            None => Ok(None),
+        },
+        _ => Ok(None),
     }
 }
 
 /// The line that helps.
 fn advice(alloc: Global, words: &[&str]) -> Result<String, AllocError> {
+    // A second reading of the words, so that the contracts of the first need not speak of texts
+    // (README, Why so).
     match matches(alloc, words) {
         Ok(_) => format!(in alloc; "jp: a number is out of its range; try jp --help\n"),
         Err(error) => {

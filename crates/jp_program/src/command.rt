@@ -21,7 +21,7 @@ use jp_run::{OpenGate, RunFault, Sink, Source, Totals, check_query, run, write_a
 use std::alloc::{AllocError, AllocGlobal, Global};
 use std::thread::Threads;
 
-/// What no run has seen.
+/// What no run has seen: the totals of a check, and of the help.
 const NOTHING_SEEN: Totals = Totals {
     lines: 0,
     documents: 0,
@@ -211,6 +211,7 @@ fn pass_on_after<K: Sink>(sink: &mut K, fault: &RunFault)
     match fault {
         RunFault::Query(_) | RunFault::Settings => {}
         _ => {
+            // A failure of this is passed over: it is the run's fault that is told (README, Why so).
             let _ = sink.flush();
         }
     }

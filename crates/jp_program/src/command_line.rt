@@ -55,6 +55,8 @@ pub(crate) struct Wanted<'a> {
     pub(crate) query: &'a str,
     /// Only whether the query is accepted.
     pub(crate) check: bool,
+    /// Whether a refusal is to be explained.
+    pub(crate) explain: bool,
     pub(crate) settings: Settings,
 }
 
@@ -117,14 +119,17 @@ fn with_numbers<'a>(alloc: Global, command: Command<'a>) -> Result<Command<'a>, 
     command.arg(number(alloc, "batch", "4096", batch))
 }
 
-/// The command, with the query, whether it is only checked, and whether faulty lines are passed.
+/// The command, with the query, whether it is only checked, whether faulty lines are passed, and whether a
+/// refusal is to be explained.
 fn with_query<'a>(alloc: Global, command: Command<'a>) -> Result<Command<'a>, AllocError>
     ensures { IfOk result (λ r. app_of r ≡ query_of (app_of command.entry)) }
 {
     let check = "Read nothing, and say only whether QUERY is accepted";
     let keep_going = "Write a line for each faulty line too, and go on";
+    let explain = "Say where a refused query went wrong, in lines behind its fault";
     let command = command.arg(flag(alloc, "check", check))?;
     let command = command.arg(flag(alloc, "keep-going", keep_going))?;
+    let command = command.arg(flag(alloc, "explain", explain))?;
     command.arg(query(alloc))
 }
 
@@ -171,10 +176,12 @@ fn wanted_by<'a>(matches: &ArgMatches<'a>) -> Option<Wanted<'a>>
     let query = matches.get_str("query")?;
     let check = flag_by(matches, "check")?;
     let keep_going = flag_by(matches, "keep-going")?;
+    let explain = flag_by(matches, "explain")?;
     let settings = settings_by(matches, keep_going)?;
     Some(Wanted {
         query,
         check,
+        explain,
         settings,
     })
 }
@@ -210,5 +217,6 @@ fn flag_by(matches: &ArgMatches<'_>, name: &str) -> Option<bool>
     ensures some { IfSome result (SaysFlag name.now (rows_of (found_of matches.now))) }
     ensures none { IsNone result → (b : Bool) → SaysFlag name.now (rows_of (found_of matches.now)) b → ⊥ }
 {
+    // Not `get_flag`, of which no clause says what a text that is neither gives (README, Why so).
     matches.get_one::<bool>(name)
 }

@@ -11,6 +11,7 @@ pub fn query_alone()
       query = chars (36 ∷ rest);
       check = false;
       keeps_going = false;
+      explain = false;
       workers = 4;
       piece = 64;
       batch = 4096;

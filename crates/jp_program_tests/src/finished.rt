@@ -20,6 +20,19 @@ fn a_query_alone_runs(rt: HostRuntime) -> Result<(), Fail> {
 }
 
 #[test]
+fn an_accepted_query_needs_no_explanation(rt: HostRuntime) -> Result<(), Fail> {
+    let left = run_words(&rt, &["jp", "--explain", "$.a"], INPUT);
+    assert_eq!(rt; left.status, 0);
+    assert_eq!(rt; left.output.as_slice(), OUTPUT);
+    assert_eq!(rt; left.notes.as_slice(), "".as_bytes());
+    let left = run_words(&rt, &["jp", "--check", "--explain", "$.a"], b"{");
+    assert_eq!(rt; left.status, 0);
+    assert_eq!(rt; left.output.as_slice(), "".as_bytes());
+    assert_eq!(rt; left.notes.as_slice(), "".as_bytes());
+    Ok(())
+}
+
+#[test]
 fn options_stand_before_or_behind(rt: HostRuntime) -> Result<(), Fail> {
     let all: [&[&str]; 4] = [
         &[
@@ -58,6 +71,7 @@ const TAUGHT: &str = "\
 --batch
 --check
 --keep-going
+--explain
 QUERY
 [default: 4]
 [default: 64]

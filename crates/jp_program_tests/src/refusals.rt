@@ -66,3 +66,35 @@ fn a_refused_command_line(rt: HostRuntime) {
     let turns = (refused(&rt), refused(&rt));
     assert!(rt; matches!(turns, (Some(true), Some(true) | None) | (None, Some(true))));
 }
+
+/// What the program notes of a refused query has room in such an array.
+const LONG_ROOM: usize = 100;
+
+/// A query that is refused, and explained where there is memory for that too.
+fn explained<R: Threads + AllocGlobal + Sync>(rt: &R) -> Option<bool> {
+    let input: &[u8] = b"{";
+    let (mut output, mut notes) = ([0u8; ROOM], [0u8; LONG_ROOM]);
+    let mut source = FromReader::new(input);
+    let mut sink = FromWriter::new(output.as_mut_slice());
+    let mut told = FromWriter::new(notes.as_mut_slice());
+    match program(
+        rt,
+        &["jp", "--explain", "$.a b"],
+        &mut source,
+        &mut sink,
+        &mut told,
+    ) {
+        2 if notes.starts_with(b"jp: query: syntax\n$.a b\n    ^\nexpected . or [: ") => {
+            Some(output == [0u8; ROOM])
+        }
+        2 if notes.starts_with(b"jp: query: syntax\n\0") => None,
+        2 | 5 if notes.starts_with(b"jp: memory\n\0") => None,
+        _ => Some(false),
+    }
+}
+
+#[test]
+fn an_explained_query(rt: HostRuntime) {
+    let turns = (explained(&rt), explained(&rt));
+    assert!(rt; matches!(turns, (Some(true), Some(true) | None) | (None, Some(true))));
+}

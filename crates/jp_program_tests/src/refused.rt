@@ -28,9 +28,43 @@ fn queries_are_refused(rt: HostRuntime) -> Result<(), Fail> {
     Ok(())
 }
 
+/// Queries, each with what `--explain` tells of it.
+const EXPLAINED: [(&str, &[u8]); 4] = [
+    (
+        "$.items[?length(@.tags)]",
+        b"jp: query: type\n$.items[?length(@.tags)]\n         ^\n\
+          length() gives a value: compare it with something\n",
+    ),
+    (
+        "$.a b",
+        b"jp: query: syntax\n$.a b\n    ^\nexpected . or [: no blank ends a query\n",
+    ),
+    (
+        "$.\u{9b}-",
+        b"jp: query: syntax\n$.\\u009b-\n        ^\nexpected . or [, or the end\n",
+    ),
+    ("", b"jp: query: syntax\n\n^\nexpected $\n"),
+];
+
+#[test]
+fn refusals_are_explained(rt: HostRuntime) -> Result<(), Fail> {
+    for (query, told) in &EXPLAINED {
+        for words in &[
+            ["jp", "--explain", "--workers=2", "--", *query],
+            ["jp", "--check", "--explain", "--", *query],
+        ] {
+            let left = run_words(&rt, words, b"{");
+            assert_eq!(rt; left.status, 2);
+            assert_eq!(rt; left.output.as_slice(), "".as_bytes());
+            assert_eq!(rt; left.notes.as_slice(), *told);
+        }
+    }
+    Ok(())
+}
+
 #[test]
 fn command_lines_are_refused(rt: HostRuntime) -> Result<(), Fail> {
-    let all: [&[&str]; 16] = [
+    let all: [&[&str]; 17] = [
         &["jp"],
         &["jp", "$", "$"],
         &["jp", "-q"],
@@ -46,6 +80,7 @@ fn command_lines_are_refused(rt: HostRuntime) -> Result<(), Fail> {
         &["jp", "--batch", "0", "$"],
         &["jp", "--batch", "1000001", "$"],
         &["jp", "--check"],
+        &["jp", "--explain", "--explain", "$"],
         // The command line is tested before the query.
         &["jp", "--batch", "0", "$["],
     ];

@@ -41,6 +41,8 @@ fn first_equivalent(root: &Expression, first: &[u8], code: u8) -> u8
     ensures equivalent { Equivalent (unrolled_in root.now) (candidate.Both result code) }
 {
     let before = first.last().copied().unwrap_or(0);
+    // These two and no others are tried: most characters are equivalent to the one before, or, as 0, in no
+    // set.
     for other in [before, 0] {
         if other < code
             && are_equivalent(root, Candidate::Both(char::from(other), char::from(code)))

@@ -27,6 +27,7 @@ fn find_state(states: &[State], active: &[u32], at_start: bool) -> Option<usize>
     ensures found { IfSome result (λ n. (d : State) → HasPositions (slice_index_or states.now n d) active.now
         at_start) }
 {
+    // One after another, for there are 254 at most.
     for (i, state) in states.iter().enumerate() {
         if has_positions(state, active, at_start) {
             return Some(i);
@@ -60,6 +61,7 @@ fn cell_of(
     if state.is_match_or_dead() {
         return Ok(MATCH_OR_DEAD);
     }
+    // Full: a text that takes this step is matched by positions.
     if states.len() >= input.most {
         return Ok(QUIT);
     }

@@ -132,6 +132,8 @@ impl Dfa {
         let mut state = 0u8;
         for byte in bytes {
             let index = usize::from(state) * STRIDE + usize::from(*byte);
+            // `QUIT` and `MATCH_OR_DEAD` are above the number of every state, so one test tells them and ends
+            // the walk.
             if index >= self.cells.len() {
                 return state;
             }

@@ -9,10 +9,11 @@ use crate::byte_flags::ByteFlags;
 use crate::dfa::{Dfa, STRIDE};
 use std::alloc::{AllocError, Global};
 
-/// How many pairs of states are compared at most.
+/// How many pairs of states are compared at most, each at every byte, while the pattern is compiled.
 const MAX_PAIRS: usize = 256;
 
-/// How many characters of ASCII may be flagged at that of the three bytes where the fewest are.
+/// How many characters of ASCII may be flagged at that of the three bytes where the fewest are: with more,
+/// too few bytes are passed for the flags to be worth their look.
 const MAX_FLAGGED: usize = 16;
 
 /// The flags of each byte, or none where they would tell too little.
@@ -47,6 +48,7 @@ impl Prefilter {
         ensures same { (cells : List ℕ) → IsPrefilter cells self.now.flags.items →
             state_behind cells 0 bytes.now ≡ state_behind cells 0 (drop result bytes.now) }
     {
+        // Three bytes in a row: one alone would be that of a match too often (README, Why so).
         let mut one = 0u8;
         let mut two = 0u8;
         for (i, byte) in bytes.iter().enumerate() {

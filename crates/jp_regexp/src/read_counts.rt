@@ -9,7 +9,8 @@ ghost use Rattle.jp_regexp.specs.inner.Reading as reading;
 use crate::fault::Fault;
 use crate::tree::Quantity;
 
-/// The greatest count, a limit of this implementation (RFC 9485, 8).
+/// The greatest count, a limit of this implementation (RFC 9485, 8): counts within counts multiply, up to the
+/// greatest unrolled size.
 const MAX_COUNT: u32 = 1_000;
 
 /// A digit of a count.

@@ -12,7 +12,8 @@ use crate::read_sets::set_at;
 use crate::tree::{Node, Quantity, Turn};
 use std::alloc::{AllocError, Global};
 
-/// How many parentheses may stand inside each other, a limit of this implementation (RFC 9485, 8).
+/// How many parentheses may stand inside each other, a limit of this implementation (RFC 9485, 8): it bounds
+/// the frames of all that goes over a pattern.
 const MAX_DEPTH: u32 = 64;
 
 /// The atom with its quantity.

@@ -46,6 +46,7 @@ impl Pattern {
         Ok(Terms {
             pattern: self,
             at_start: true,
+            // There are never more positions than that, so no step takes memory.
             active: Vec::with_capacity(alloc, size)?,
             next: Vec::with_capacity(alloc, size)?,
         })

@@ -1,5 +1,6 @@
 -- Where a run stands once it has read on, and once what was read is answered.
-use Rattle.std.proofs.Common.{◌≡◌, ℕ, ◌+◌, ◌<◌, ◌≤◌, Bool, false, List, ◌++◌, length, Option, None, inr, sym, ◌∙◌, ap}
+use Rattle.std.proofs.Common.{◌≡◌, ℕ, ◌+◌, ◌<◌, ◌≤◌, false, List, ◌++◌, length, Option, None, inr, sym}
+use Rattle.std.proofs.Common.{◌∙◌, ap}
 use Rattle.std.proofs.Common.{subst, arith, append_assoc, length-take-le, length-append, length-drop}
 use Rattle.std.specs.Io.KnownBytes.{Consumes}
 use Rattle.std.proofs.KnownBytes.{Consumes-trans}
@@ -7,12 +8,12 @@ use Rattle.jp_doc.specs.Lines.{Line}
 use Rattle.jp_doc.specs.Feeding.{Progress, nothing_fed, fed, fed_lines, has_line_feed}
 use Rattle.jp_doc.proofs.CutLaws.{open_feedless}
 use Rattle.jp_tree.specs.Tree as tree
-use Rattle.jp_answer.specs.Form.{passed_in}
-use Rattle.jp_answer.proofs.Forms.{passed_few, passed_joined}
+use Rattle.jp_answer.specs.OnFault.{Manner, passed_in}
+use Rattle.jp_answer.proofs.OnFaults.{passed_few, passed_joined}
 use Rattle.jp_run.specs.declared.fault.RunFault.{RunFault}
 use Rattle.jp_run.specs.declared.fault.RunFault.TheVariants.{Query, Document, Read, Write, Limit}
 use Rattle.jp_run.specs.declared.fault.RunFault.TheVariants.{Memory, Settings}
-use Rattle.jp_run.specs.declared.gathering.Answered.{Answered}
+use Rattle.jp_run.specs.declared.stream.Answered.{Answered}
 use Rattle.jp_run.specs.declared.held.Held.{Held}
 use Rattle.jp_run.specs.Batches.{documents_in, in_batches, whole_batches, left_over}
 use Rattle.jp_run.specs.Handed.{Handed}
@@ -25,7 +26,7 @@ use Rattle.jp_run.proofs.Pieces.{fed_twice, lines_twice}
 use Rattle.jp_run.proofs.Streaming.{Stands, Grown, documents_both, grown_documents, count_below, stands_next}
 use Rattle.jp_run.proofs.Streaming.{stands_front, stands_few, grown_few}
 
-module _ (going : Bool) (q : tree.Query) (batch : ℕ) (some : 0 < batch) where
+module _ (going : Manner) (q : tree.Query) (batch : ℕ) (some : 0 < batch) where
   module _ (a b s u : Option (List ℕ)) (p : Progress) (kept : List Line) (answered : Answered)
       (st : Stands going q batch a b s u p kept answered) where
     pub open_so : has_line_feed p.open_line ≡ false
@@ -53,7 +54,8 @@ module _ (going : Bool) (q : tree.Query) (batch : ℕ) (some : 0 < batch) where
       left_on = left_is batch some (documents_in (st.bytes ++ before)) done (kept ++ fed_lines p before)
           documents_on (whole_whole batch (documents_in st.bytes) some) few
 
-      count_on : in_batches batch (documents_in (st.bytes ++ before)) ≡ in_batches batch (documents_in st.bytes)
+      count_on : in_batches batch (documents_in (st.bytes ++ before)) ≡ in_batches batch (documents_in
+          st.bytes)
       unfolding done
       count_on = count_is batch some (documents_in (st.bytes ++ before)) done (kept ++ fed_lines p before)
           documents_on (whole_whole batch (documents_in st.bytes) some) few
@@ -80,10 +82,11 @@ module _ (going : Bool) (q : tree.Query) (batch : ℕ) (some : 0 < batch) where
           lines = rd.lines ∙ ap (λ l. kept ++ l) (lines_twice p rd.before rd.piece)
               ∙ sym (append_assoc kept (fed_lines p rd.before) (fed_lines mid rd.piece))
               ∙ ap (λ l. l ++ fed_lines mid rd.piece) (sym (left_on rd.before rd.not_enough))
-              ∙ ap (λ p. left_over batch (documents_in (st.bytes ++ rd.before)) ++ fed_lines p rd.piece) mid_is;
+              ∙ ap (λ p. left_over batch (documents_in (st.bytes ++ rd.before)) ++ fed_lines p rd.piece)
+              mid_is;
           counted = ap (λ (n : Answered). n.lines) k ∙ st.counted ∙ sym (count_on rd.before rd.not_enough);
           passed = ap (λ (n : Answered). n.faulty) k ∙ st.passed
-              ∙ ap (passed_in going) (sym (whole_on rd.before rd.not_enough));
+              ∙ ap (passed_in going.on_fault) (sym (whole_on rd.before rd.not_enough));
           handed = subst (λ (l : List Line). Handed going q l None s u)
               (sym (whole_on rd.before rd.not_enough)) st.handed;
         }
@@ -120,7 +123,8 @@ module _ (going : Bool) (q : tree.Query) (batch : ℕ) (some : 0 < batch) where
   reads_ended e mid p kept answered Write st h = absurd h
   reads_ended e mid p kept answered Settings st h = absurd h
 
-  pub grown_same : (a c s u v : Option (List ℕ)) (p : Progress) (all : List Line) (answered : Answered) (n : ℕ)
+  pub grown_same : (a c s u v : Option (List ℕ)) (p : Progress) (all : List Line) (answered : Answered) (n :
+      ℕ)
       → Grown going q batch a c s u p all answered n → v ≡ u → Grown going q batch a c s v p all answered n
   grown_same a c s u v p all answered n g e =
       subst (λ (u : Option (List ℕ)). Grown going q batch a c s u p all answered n) (sym e) g
@@ -138,20 +142,20 @@ module _ (going : Bool) (q : tree.Query) (batch : ℕ) (some : 0 < batch) where
       (subst (λ (l : List Line). Handed going q l None u v) (sym whole) k.0.handed)
       (sym (left_is batch some all k.0.done rest k.0.cut k.0.whole k.1))
       (omega (arith, k.0.lines, count_is batch some all k.0.done rest k.0.cut k.0.whole k.1))
-      (k.0.faulty ∙ ap (λ l. answered.faulty + passed_in going l) (sym whole)) e
+      (k.0.faulty ∙ ap (λ l. answered.faulty + passed_in going.on_fault l) (sym whole)) e
 
 -- where a run stands between its turns: the answer to the first of the lines that are kept is held
-pub record Goes (going : Bool) (q : tree.Query) (batch : ℕ) (old now sink_old sink_now : Option (List ℕ))
+pub record Goes (going : Manner) (q : tree.Query) (batch : ℕ) (old now sink_old sink_now : Option (List ℕ))
     (p : Progress) (waiting : List Line) (h : Held) (answered : Answered) : Type 0 where
   pub held : List Line
   pub is_held : IsHeld going q held h
   pub stands : Stands going q batch old now sink_old sink_now p (held ++ waiting) answered
 
-pub held_few : (going : Bool) (q : tree.Query) (held : List Line) (h : Held) → IsHeld going q held h
+pub held_few : (going : Manner) (q : tree.Query) (held : List Line) (h : Held) → IsHeld going q held h
     → h.answer.faulty ≤ h.count
-held_few going q held h is = omega (arith, is.counted, is.passed, passed_few going held)
+held_few going q held h is = omega (arith, is.counted, is.passed, passed_few going.on_fault held)
 
-module _ (going : Bool) (q : tree.Query) (batch : ℕ) (some : 0 < batch) where
+module _ (going : Manner) (q : tree.Query) (batch : ℕ) (some : 0 < batch) where
   pub goes_kept : (a c s u v : Option (List ℕ)) (p next : Progress) (all waiting : List Line)
       (answered more : Answered) (n : ℕ) (h : Held) → Grown going q batch a c s u p all answered n
       → KeptFew going q batch all u v answered more h waiting → next ≡ p
@@ -196,7 +200,8 @@ module _ (going : Bool) (q : tree.Query) (batch : ℕ) (some : 0 < batch) where
   )
 
 -- the same of all lines that are left
-module _ (going : Bool) (q : tree.Query) (held waiting fin : List Line) (h : Held) (is : IsHeld going q held h)
+module _ (going : Manner) (q : tree.Query) (held waiting fin : List Line) (h : Held) (is : IsHeld going q
+    held h)
   where
     pub count_all : h.count + length (waiting ++ fin) ≡ length ((held ++ waiting) ++ fin)
     count_all = omega (
@@ -207,11 +212,12 @@ module _ (going : Bool) (q : tree.Query) (held waiting fin : List Line) (h : Hel
       length-append (held ++ waiting) fin,
     )
 
-    pub passed_all : h.answer.faulty + passed_in going (waiting ++ fin) ≡ passed_in going ((held ++ waiting) ++ fin)
+    pub passed_all : h.answer.faulty + passed_in going.on_fault (waiting ++ fin) ≡ passed_in going.on_fault
+        ((held ++ waiting) ++ fin)
     passed_all = omega (
       arith,
       is.passed,
-      passed_joined going held waiting,
-      passed_joined going waiting fin,
-      passed_joined going (held ++ waiting) fin,
+      passed_joined going.on_fault held waiting,
+      passed_joined going.on_fault waiting fin,
+      passed_joined going.on_fault (held ++ waiting) fin,
     )

@@ -1,7 +1,9 @@
 -- An answer that is held until its batch is whole.
-use Rattle.std.proofs.Common.{◌≡◌, ℕ, ◌+◌, ◌*◌, ◌/◌, ◌<◌, ◌≤◌, ◌⊎◌, inl, inr, Bool, List, [], ◌++◌, length, take}
+use Rattle.std.proofs.Common.{◌≡◌, ℕ, ◌+◌, ◌*◌, ◌/◌, ◌<◌, ◌≤◌, ◌⊎◌, inl, inr, Bool, List, [], ◌++◌, length}
+use Rattle.std.proofs.Common.{take}
 use Rattle.std.proofs.Common.{drop, Option, None, refl, sym, ◌∙◌, ap, subst, arith, append_assoc}
 use Rattle.std.proofs.Common.{append-nil, length-append, length-drop, length-take-le, take-append-drop}
+use Rattle.std.proofs.Common.{Result, Ok, Err, IfOk}
 use Rattle.std.proofs.Math.Seq.{take-nil, take-length, drop-length, take-append_seam, drop-append_seam}
 use Rattle.std.specs.Io.KnownBytes.{Appends}
 use Rattle.jp_doc.specs.Feeding.{Progress}
@@ -10,10 +12,12 @@ use Rattle.jp_tree.specs.Tree.{Query}
 use Rattle.jp_regexp.specs.Tests.{Tests, AreRight}
 use Rattle.jp_answer.specs.Answer.{Answer, joined}
 use Rattle.jp_answer.specs.Answered.{outcome_of}
-use Rattle.jp_answer.specs.Form.{answer_in, passed_in}
+use Rattle.jp_answer.specs.OnFault.{Manner, manner, answer_by, passed_in}
+use Rattle.jp_output.specs.OutputForm.{OutputForm}
+use Rattle.jp_answer.specs.declared.on_fault.OnFault.{OnFault}
 use Rattle.jp_answer.specs.declared.outcome.Outcome.{Outcome}
-use Rattle.jp_answer.proofs.Forms.{formed_joined, nothing_in, passed_joined, passed_none}
-use Rattle.jp_run.specs.declared.gathering.Answered.{Answered}
+use Rattle.jp_answer.proofs.OnFaults.{formed_joined, nothing_in, passed_joined, passed_none, passed_few}
+use Rattle.jp_run.specs.declared.stream.Answered.{Answered}
 use Rattle.jp_run.specs.declared.held.Held.{Held}
 use Rattle.jp_run.specs.Batches.{in_batches, whole_batches, left_over}
 use Rattle.jp_run.specs.Handed.{Handed}
@@ -21,7 +25,7 @@ use Rattle.jp_run.specs.inner.Ended.{HandingEnded, AnswerEnded, RestEnded}
 use Rattle.jp_run.specs.declared.fault.RunFault.{RunFault}
 use Rattle.jp_run.specs.declared.fault.RunFault.TheVariants.{Query as Refused, Document, Read, Write, Limit}
 use Rattle.jp_run.specs.declared.fault.RunFault.TheVariants.{Memory, Settings}
-use Rattle.jp_run.specs.inner.Holding.{IsHeld, ReadOn, Kept, KeptSome, KeptFew}
+use Rattle.jp_run.specs.inner.Holding.{IsAnswerOf, IsHeld, ReadOn, Kept, KeptSome, KeptFew}
 use Rattle.jp_run.specs.inner.Reading.{HasRead, ReadOnEnded}
 use Rattle.jp_run.proofs.Batching.{batches_fit, few_left, in_batches_is, whole_both}
 use Rattle.jp_run.proofs.Handing.{handed_none, handed_both, handing_done, ended_handing, ended_more}
@@ -54,7 +58,8 @@ module _ (batch : ℕ) (some : 0 < batch) (all done rest : List Line) (cut : all
   left_is = ap (λ k. drop k all) count_is ∙ ap (drop (length done)) cut ∙ drop-append_seam done rest
 
 -- so many whole batches are whole
-pub whole_so : (batch k : ℕ) (xs : List Line) → 0 < batch → length xs ≡ k * batch → whole_batches batch xs ≡ xs
+pub whole_so : (batch k : ℕ) (xs : List Line) → 0 < batch → length xs ≡ k * batch → whole_batches batch xs ≡
+    xs
 whole_so batch k xs some e =
     ap (λ n. take n xs) (in_batches_is batch k xs some (omega (arith, e)) (omega (arith, e, some)) ∙ sym e)
     ∙ take-length xs
@@ -70,34 +75,53 @@ none_whole batch xs some few = omega (
   in_batches_is batch 0 xs some (omega arith) (omega (arith, few)),
 )
 
-module _ (going : Bool) (q : Query) where
+-- an answer, where memory sufficed
+pub answer_so : {E : Type 0} (going : Manner) (q : Query) (ls : List Line) (r : Result Outcome E)
+    → IfOk r (λ a. (t : Tests) → AreRight t → answer_by going.form going.on_fault t q ls ≡ outcome_of a)
+    → IfOk r (λ a. passed_in going.on_fault ls ≡ a.faulty) → IfOk r (IsAnswerOf going q ls)
+answer_so going q ls (Ok a) is passed = record {
+  is = is;
+  passed = passed;
+  few = omega (arith, passed, passed_few going.on_fault ls);
+}
+answer_so going q ls (Err e) is passed = tt
+
+-- the same by what is done where a line is faulty
+pub in_manner : {E : Type 0} (form : OutputForm) (done meant : OnFault) (q : Query) (ls : List Line)
+    (r : Result Outcome E) → done ≡ meant → IfOk r (IsAnswerOf (manner form done) q ls)
+    → IfOk r (IsAnswerOf (manner form meant) q ls)
+in_manner form done meant q ls r e h = subst (λ (k : OnFault). IfOk r (IsAnswerOf (manner form k) q ls)) e h
+
+module _ (going : Manner) (q : Query) where
   pub held_nothing : (h : Held) → h.count ≡ 0
       → outcome_of h.answer ≡ record { bytes = []; stopped = None } → h.answer.faulty ≡ 0
       → IsHeld going q [] h
   held_nothing h e f k = record {
     counted = e;
-    is = λ t right. nothing_in t q going ∙ sym f;
-    passed = k ∙ sym (passed_none going);
+    is = λ t right. nothing_in going.form t q going.on_fault ∙ sym f;
+    passed = k ∙ sym (passed_none going.on_fault);
   }
 
   pub held_more : (ls part : List Line) (h next : Held) (more : Outcome) → IsHeld going q ls h
-      → ((t : Tests) → AreRight t → answer_in going t q part ≡ outcome_of more)
-      → passed_in going part ≡ more.faulty → next.count ≡ h.count + length part
+      → ((t : Tests) → AreRight t → answer_by going.form going.on_fault t q part ≡ outcome_of more)
+      → passed_in going.on_fault part ≡ more.faulty → next.count ≡ h.count + length part
       → outcome_of next.answer ≡ joined (outcome_of h.answer) (outcome_of more)
       → next.answer.faulty ≡ h.answer.faulty + more.faulty → IsHeld going q (ls ++ part) next
   held_more ls part h next more held is passed e f k = record {
     counted = omega (arith, e, held.counted, length-append ls part);
-    is = λ t right. formed_joined t q going ls part
-        ∙ ap (λ (a : Answer). joined a (answer_in going t q part)) (held.is t right)
+    is = λ t right. formed_joined going.form t q going.on_fault ls part
+        ∙ ap (λ (a : Answer). joined a (answer_by going.form going.on_fault t q part)) (held.is t right)
         ∙ ap (joined (outcome_of h.answer)) (is t right) ∙ sym f;
-    passed = omega (arith, k, held.passed, passed, passed_joined going ls part);
+    passed = omega (arith, k, held.passed, passed, passed_joined going.on_fault ls part);
   }
 
   -- the answer to lines at the front of those that wait, put behind what is held
   module _ (held waiting : List Line) (count : ℕ) (h next : Held) (more : Outcome)
       (is : IsHeld going q held h) (fits : count ≤ length waiting)
-      (answered : (t : Tests) → AreRight t → answer_in going t q (take count waiting) ≡ outcome_of more)
-      (passed : passed_in going (take count waiting) ≡ more.faulty) (e : next.count ≡ h.count + count)
+      (answered : (t : Tests) → AreRight t → answer_by going.form going.on_fault t q (take count waiting) ≡
+      outcome_of more)
+      (passed : passed_in going.on_fault (take count waiting) ≡ more.faulty) (e : next.count ≡ h.count +
+      count)
       (f : outcome_of next.answer ≡ joined (outcome_of h.answer) (outcome_of more))
       (k : next.answer.faulty ≡ h.answer.faulty + more.faulty) where
     pub front_held : IsHeld going q (held ++ take count waiting) next
@@ -135,7 +159,7 @@ module _ (going : Bool) (q : Query) where
       whole = take-nil (in_batches {A = Line} batch []);
       handed = handed_none going q u;
       lines = omega arith;
-      faulty = omega (arith, passed_none going);
+      faulty = omega (arith, passed_none going.on_fault);
     }
 
     pub same_some : (held waiting : List Line) (u : Option (List ℕ)) (n : Answered) (h : Held)
@@ -206,7 +230,7 @@ module _ (going : Bool) (q : Query) where
 
       kept_more : Handed going q (whole_batches batch w) None u v
           → r.lines ≡ m.lines + in_batches batch w
-          → r.faulty ≡ m.faulty + passed_in going (whole_batches batch w)
+          → r.faulty ≡ m.faulty + passed_in going.on_fault (whole_batches batch w)
           → Kept going q batch all s v n r h left
       kept_more handed e f =
           let more : List Line = whole_batches batch w in
@@ -233,7 +257,7 @@ module _ (going : Bool) (q : Query) where
               length-append k.done more,
               length-take-le (in_batches batch w) w (batches_fit batch w),
             );
-            faulty = omega (arith, f, k.faulty, passed_joined going k.done more);
+            faulty = omega (arith, f, k.faulty, passed_joined going.on_fault k.done more);
           }
 
       few_more : length (k.held ++ left) < batch
@@ -247,7 +271,7 @@ module _ (going : Bool) (q : Query) where
 
       pub more_few : Handed going q (whole_batches batch w) None u v
           → r.lines ≡ m.lines + in_batches batch w
-          → r.faulty ≡ m.faulty + passed_in going (whole_batches batch w)
+          → r.faulty ≡ m.faulty + passed_in going.on_fault (whole_batches batch w)
           → KeptFew going q batch all s v n r h left
       unfolding kept_more
       more_few handed e f = (kept_more handed e f, few_more)
@@ -258,7 +282,7 @@ module _ (going : Bool) (q : Query) where
           (ended_after going q k.done w failed s u v f k.handed h)
 
 -- once the lines that waited are answered, and further ones were read behind them
-module _ (going : Bool) (q : Query) (batch wanted : ℕ) (held ls part none : List Line) (h next : Held)
+module _ (going : Manner) (q : Query) (batch wanted : ℕ) (held ls part none : List Line) (h next : Held)
     (more : Outcome) (is : IsHeld going q held h) (out : part ≡ ls) (empty : none ≡ []) where
   behind_none : held ++ ls ≡ (held ++ part) ++ none
   behind_none = ap (λ l. held ++ l) (sym out) ∙ sym (append-nil (held ++ part))
@@ -266,8 +290,8 @@ module _ (going : Bool) (q : Query) (batch wanted : ℕ) (held ls part none : Li
 
   pub read_held : (a b : Option (List ℕ)) (last : ℕ) (p same ended : Progress) (waiting : List Line)
       → same ≡ p → h.count + length part + wanted ≡ batch
-      → ((t : Tests) → AreRight t → answer_in going t q part ≡ outcome_of more)
-      → passed_in going part ≡ more.faulty → next.count ≡ h.count + length part
+      → ((t : Tests) → AreRight t → answer_by going.form going.on_fault t q part ≡ outcome_of more)
+      → passed_in going.on_fault part ≡ more.faulty → next.count ≡ h.count + length part
       → outcome_of next.answer ≡ joined (outcome_of h.answer) (outcome_of more)
       → next.answer.faulty ≡ h.answer.faulty + more.faulty
       → HasRead wanted a b last same ended none waiting
@@ -289,10 +313,11 @@ module _ (going : Bool) (q : Query) (batch wanted : ℕ) (held ls part none : Li
       (omega (arith, sum, is.counted, length-append held part)) behind_none same failed a b f ended)
 
 -- what is left at the end of the input
-pub rest_is : (held waiting fin all : List Line) → all ≡ waiting ++ fin → held ++ all ≡ (held ++ waiting) ++ fin
+pub rest_is : (held waiting fin all : List Line) → all ≡ waiting ++ fin → held ++ all ≡ (held ++ waiting) ++
+    fin
 rest_is held waiting fin all e = ap (λ l. held ++ l) e ∙ sym (append_assoc held waiting fin)
 
-module _ (going : Bool) (q : Query) (ls : List Line) (count : ℕ) (failed : Bool) where
+module _ (going : Manner) (q : Query) (ls : List Line) (count : ℕ) (failed : Bool) where
   pub rest_answer : (a b : Option (List ℕ)) (f : RunFault) → AnswerEnded going q ls failed a b f
       → RestEnded going q ls count failed a b f
   rest_answer a b (Document line fault) h = h

@@ -1,6 +1,7 @@
 -- Bytes that are fed in two pieces, and reads one after another.
 use Rattle.std.proofs.Common.{◌≡◌, ℕ, ◌+◌, ◌<◌, Bool, false, List, [], ◌++◌, length, Option, sym, ◌∙◌}
 use Rattle.std.proofs.Common.{ap, subst, arith, append_assoc, append-nil, length-append, add-zero}
+use Rattle.std.proofs.Common.{Result, Ok, Err, IsErrAnd}
 use Rattle.std.specs.Io.KnownBytes.{Consumes}
 use Rattle.std.proofs.KnownBytes.{Consumes-nil, Consumes-trans, Consumes-kept}
 use Rattle.jp_doc.specs.Lines.{Line}
@@ -10,9 +11,11 @@ use Rattle.jp_run.specs.declared.fault.RunFault.{RunFault}
 use Rattle.jp_run.specs.declared.fault.RunFault.TheVariants.{Query, Document, Read, Write, Limit}
 use Rattle.jp_run.specs.declared.fault.RunFault.TheVariants.{Memory, Settings}
 use Rattle.jp_run.specs.inner.Ended.{ReadEnded}
-use Rattle.jp_run.specs.inner.Reading.{HasRead, ReadOnEnded}
+use Rattle.jp_run.specs.declared.incoming.Incoming.{Incoming}
+use Rattle.jp_run.specs.inner.Reading.{HasRead, ReadOnEnded, Source, HasReadOn}
 
-pub lines_twice : (p : Progress) (a b : List ℕ) → fed_lines p (a ++ b) ≡ fed_lines p a ++ fed_lines (fed p a) b
+pub lines_twice : (p : Progress) (a b : List ℕ) → fed_lines p (a ++ b) ≡ fed_lines p a ++ fed_lines (fed p
+    a) b
 lines_twice p a b =
     let front : List ℕ = p.open_line ++ a in
     ap (λ l. numbered (p.count + 1) (cut l).ended) (sym (append_assoc p.open_line a b))
@@ -28,7 +31,8 @@ fed_twice p a b =
     + length later.ended = omega (arith, length-append (cut front).ended later.ended) in
     ap (λ l. record { count = p.count + length (cut l).ended; open_line = (cut l).open_line })
     (sym (append_assoc p.open_line a b))
-    ∙ ap (λ (c : Cut). record { count = p.count + length c.ended; open_line = c.open_line }) (cut_both front b)
+    ∙ ap (λ (c : Cut). record { count = p.count + length c.ended; open_line = c.open_line }) (cut_both front
+    b)
     ∙ ap (λ k. record { count = k; open_line = later.open_line }) counts
 
 nothing_cut : (p : Progress) → has_line_feed p.open_line ≡ false
@@ -145,3 +149,21 @@ module _ (wanted batch : ℕ) (held ls kept : List Line) (sum : length held + wa
   ended_behind failed a b (Document line fault) h = absurd h
   ended_behind failed a b Write h = absurd h
   ended_behind failed a b Settings h = absurd h
+
+-- a read that failed, behind others
+pub failed_so : (wanted : ℕ) (s : Source) (before after : Incoming) (r : Result Bool RunFault)
+    (fault : RunFault) → IsErrAnd r (λ f. f ≡ fault)
+    → ReadOnEnded wanted before.buffer.progress before.buffer.lines s.failed s.old s.new fault
+    → s.reads_new + after.left ≡ s.reads_old + before.left → after.left < before.left
+    → HasReadOn wanted s before after r
+failed_so wanted s before after (Ok x) fault h ended reads fewer = absurd h
+failed_so wanted s before after (Err f) fault h ended reads fewer = record {
+  read = tt;
+  end = tt;
+  working = tt;
+  few_lines = tt;
+  fault = subst (ReadOnEnded wanted before.buffer.progress before.buffer.lines s.failed s.old s.new) (sym h)
+      ended;
+  reads = reads;
+  fewer_left = fewer;
+}

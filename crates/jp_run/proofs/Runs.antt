@@ -1,6 +1,7 @@
 -- What a run has done, in terms of its query's text.
-use Rattle.std.proofs.Common.{◌≡◌, ℕ, ◌<◌, List, Option, Some, None, Bool, IfSome, ◌⊎◌, inl, inr, Result, Ok}
-use Rattle.std.proofs.Common.{Err, IfErr, OnOk, OnErr, IsErrAnd, ◌∙◌, ap, subst}
+use Rattle.std.proofs.Common.{◌≡◌, ℕ, ◌<◌, List, Option, Some, None, Bool, true, false, IfSome, ◌⊎◌, inl}
+use Rattle.std.proofs.Common.{inr, Result, Ok}
+use Rattle.std.proofs.Common.{Err, IfErr, OnOk, OnErr, IsErrAnd, ◌∙◌, ap, subst, sym}
 use Rattle.std.specs.Io.KnownBytes.{Appends}
 use Rattle.jp_doc.specs.Lines.{lines}
 use Rattle.jp_doc.specs.declared.fault.DocFault.{DocFault}
@@ -11,8 +12,9 @@ use Rattle.jp_regexp.proofs.RightTests.{right_tests}
 use Rattle.jp_check.specs.Verdict.{IsAccepted, IsVerdict}
 use Rattle.jp_check.proofs.OneVerdict.{one_verdict}
 use Rattle.jp_answer.specs.Answer.{Answer}
-use Rattle.jp_answer.specs.Answered.{IsAnswerIn}
-use Rattle.jp_answer.specs.Form.{answer_in}
+use Rattle.jp_run.specs.Answered.{IsAnswerIn, in_lines, on_fault_of}
+use Rattle.jp_answer.specs.OnFault.{answer_in}
+use Rattle.jp_answer.specs.declared.on_fault.OnFault.TheVariants.{Stop}
 use Rattle.jp_run.specs.declared.fault.RunFault.{RunFault}
 use Rattle.jp_run.specs.declared.fault.RunFault.TheVariants.{Query, Memory}
 use Rattle.jp_run.specs.inner.Ended.{Ends, StreamEnded}
@@ -30,6 +32,16 @@ pub not_both : {P : Type 0} (text : Text) (q : tree.Query) (f : QueryFault) → 
     → IsVerdict text (Err f) → P
 not_both text q f h g = let e : ◌≡◌ {A = Result tree.Query QueryFault} (Ok q) (Err f) =
     one_verdict text (Ok q) (Err f) h g in absurd cc
+
+-- the query that is walked is the one that was accepted
+pub spelled : (text : Text) (q accepted : tree.Query) → q ≡ accepted → IsAccepted text accepted
+    → IsAccepted text q
+spelled text q accepted e h = subst (IsAccepted text) (sym e) h
+
+-- an answer that keeps going does not stop
+pub not_going : (keeps_going : Bool) → keeps_going ≡ true → on_fault_of keeps_going ≡ Stop → ⊥
+not_going true on off = cc
+not_going false on off = cc
 
 -- a refused text ends in want of memory or in its fault
 err_of : {T E : Type 0} (r : Result T E) (e : E) → IsErrAnd r (λ f. f ≡ e) → r ≡ Err e
@@ -60,35 +72,37 @@ accepted_ok text q accepted (Err f) = tt
 module _ (going : Bool) (text : Text) (q : tree.Query) (accepted : IsAccepted text q) where
   -- the answer that was handed out is that to the text
   pub answer_known : (stop : Option (ℕ × DocFault)) (known s u : Option (List ℕ))
-      → IfSome known (λ input. Handed going q (lines input) stop s u)
+      → IfSome known (λ input. Handed (in_lines going) q (lines input) stop s u)
       → IfSome known (λ input. (a : Answer) × IsAnswerIn going text input a × (a.stopped ≡ stop)
       × Appends s u a.bytes)
   answer_known stop None s u h = tt
   answer_known stop (Some input) s u h = (h.whole, (q, accepted, h.is), h.stopped, h.appended)
 
   pub answer_ok : {T : Type 0} (r : Result T RunFault) (known s u : Option (List ℕ))
-      → OnOk r (IfSome known (λ input. Handed going q (lines input) None s u))
+      → OnOk r (IfSome known (λ input. Handed (in_lines going) q (lines input) None s u))
       → OnOk r (IfSome known (λ input. (a : Answer) × IsAnswerIn going text input a × (a.stopped ≡ None)
       × Appends s u a.bytes))
   answer_ok (Ok x) known s u h = answer_known None known s u h
   answer_ok (Err f) known s u h = tt
 
   answer_is : (input : List ℕ) (b : Answer) → IsAnswerIn going text input b
-      → answer_in going right_tests.0 q (lines input) ≡ b
+      → answer_in (on_fault_of going) right_tests.0 q (lines input) ≡ b
   answer_is input b h =
       let same : q ≡ h.0 = same_ok q h.0 (one_verdict text (Ok q) (Ok h.0) accepted h.1) in
-      ap (λ q. answer_in going right_tests.0 q (lines input)) same ∙ h.2 right_tests.0 right_tests.1
+      ap (λ q. answer_in (on_fault_of going) right_tests.0 q (lines input)) same ∙ h.2 right_tests.0
+      right_tests.1
 
-  front_known : (known s u : Option (List ℕ)) → IfSome known (λ input. HandedFront going q (lines input) s u)
+  front_known : (known s u : Option (List ℕ)) → IfSome known (λ input. HandedFront (in_lines going) q (lines
+      input) s u)
       → IfSome known (λ input. (b : Answer) → IsAnswerIn going text input b → AppendsFront s u b.bytes)
   front_known None s u h = tt
   front_known (Some input) s u h = λ b is. subst (λ (b : Answer). AppendsFront s u b.bytes)
       (answer_is input b is) (h right_tests.0 right_tests.1)
 
   pub front_err : {T : Type 0} (r : Result T RunFault) (batch : ℕ) (some : 0 < batch) (e : Ends)
-      → IfErr r (StreamEnded going q batch e)
+      → IfErr r (StreamEnded (in_lines going) q batch e)
       → OnErr r (IfSome e.source_old (λ input. (b : Answer) → IsAnswerIn going text input b
       → AppendsFront e.sink_old e.sink_new b.bytes))
   front_err (Ok x) batch some e h = tt
   front_err (Err f) batch some e h = front_known e.source_old e.sink_old e.sink_new
-      (ended_front going q batch some e f h)
+      (ended_front (in_lines going) q batch some e f h)

@@ -4,9 +4,9 @@ use Rattle.std.proofs.Common.{None, sym, ◌∙◌, ap, subst, arith, take-appen
 use Rattle.std.proofs.Common.{length-append, length-drop, zero-mul, take-add, drop-drop}
 use Rattle.jp_doc.specs.Lines.{Line}
 use Rattle.jp_tree.specs.Tree.{Query}
-use Rattle.jp_answer.specs.Form.{passed_in}
+use Rattle.jp_answer.specs.OnFault.{Manner, passed_in}
 use Rattle.jp_run.specs.declared.fault.RunFault.{RunFault}
-use Rattle.jp_answer.proofs.Forms.{passed_joined, passed_few}
+use Rattle.jp_answer.proofs.OnFaults.{passed_joined, passed_few}
 use Rattle.jp_run.specs.Batches.{in_batches, whole_batches}
 use Rattle.jp_run.specs.inner.Ended.{AnswerEnded}
 use Rattle.jp_run.specs.Handed.{Handed}
@@ -14,14 +14,14 @@ use Rattle.jp_run.proofs.Batching.{in_batches_is}
 use Rattle.jp_run.proofs.Handing.{handed_none, handed_both, ended_after, ended_more}
 
 -- so many batches are answered, and these lines are left
-pub record Partly (going : Bool) (q : Query) (batch : ℕ) (all rest : List Line)
+pub record Partly (going : Manner) (q : Query) (batch : ℕ) (all rest : List Line)
     (old now : Option (List ℕ)) : Type 0 where
   pub batches : ℕ
   pub left : rest ≡ drop (batches * batch) all
   pub fit : batches * batch ≤ length all
   pub handed : Handed going q (take (batches * batch) all) None old now
 
-module _ (going : Bool) (q : Query) (batch : ℕ) (all : List Line) where
+module _ (going : Manner) (q : Query) (batch : ℕ) (all : List Line) where
   pub partly_start : (a : Option (List ℕ)) → Partly going q batch all all a a
   partly_start a = record {
     batches = 0;
@@ -90,39 +90,42 @@ module _ (going : Bool) (q : Query) (batch : ℕ) (all : List Line) where
   -- how many faulty lines were passed in the batches
   pub partly_passed : (rest : List Line) (a b : Option (List ℕ)) → Partly going q batch all rest a b
       → 0 < batch → length rest < batch → (n : ℕ)
-      → passed_in going all ≡ n + passed_in going rest → n ≡ passed_in going (whole_batches batch all)
+      → passed_in going.on_fault all ≡ n + passed_in going.on_fault rest → n ≡ passed_in going.on_fault
+      (whole_batches batch all)
   partly_passed rest a b p some few n e = omega (
     arith,
     e,
-    ap (passed_in going) (partly_rest rest a b p some few),
-    passed_joined going (whole_batches batch all) rest,
+    ap (passed_in going.on_fault) (partly_rest rest a b p some few),
+    passed_joined going.on_fault (whole_batches batch all) rest,
   )
 
   pub partly_few : (rest : List Line) (a b : Option (List ℕ)) → Partly going q batch all rest a b
       → 0 < batch → length rest < batch → (n : ℕ)
-      → passed_in going all ≡ n + passed_in going rest → n + length rest ≤ length all
+      → passed_in going.on_fault all ≡ n + passed_in going.on_fault rest → n + length rest ≤ length all
   partly_few rest a b p some few n e = omega (
     arith,
     partly_passed rest a b p some few n e,
-    passed_few going (whole_batches batch all),
+    passed_few going.on_fault (whole_batches batch all),
     ap length (partly_rest rest a b p some few),
     length-append (whole_batches batch all) rest,
   )
 
 -- one batch more was passed
-pub passed_next : (going : Bool) (all rest front left : List Line) (batch n m : ℕ)
-    → passed_in going all ≡ n + passed_in going rest → front ≡ take batch rest → left ≡ drop batch rest
-    → m ≡ passed_in going front → passed_in going all ≡ n + m + passed_in going left
+pub passed_next : (going : Manner) (all rest front left : List Line) (batch n m : ℕ)
+    → passed_in going.on_fault all ≡ n + passed_in going.on_fault rest → front ≡ take batch rest → left ≡
+    drop batch rest
+    → m ≡ passed_in going.on_fault front → passed_in going.on_fault all ≡ n + m + passed_in going.on_fault
+    left
 passed_next going all rest front left batch n m e f h k = omega (
   arith,
   e,
   k,
-  ap (passed_in going) f,
-  ap (passed_in going) h,
-  ap (passed_in going) (take-append-drop batch rest),
-  passed_joined going (take batch rest) (drop batch rest),
+  ap (passed_in going.on_fault) f,
+  ap (passed_in going.on_fault) h,
+  ap (passed_in going.on_fault) (take-append-drop batch rest),
+  passed_joined going.on_fault (take batch rest) (drop batch rest),
 )
 
-pub passed_within : (going : Bool) (all left : List Line) (n m : ℕ)
-    → passed_in going all ≡ n + m + passed_in going left → n + m ≤ length all
-passed_within going all left n m e = omega (arith, e, passed_few going all)
+pub passed_within : (going : Manner) (all left : List Line) (n m : ℕ)
+    → passed_in going.on_fault all ≡ n + m + passed_in going.on_fault left → n + m ≤ length all
+passed_within going all left n m e = omega (arith, e, passed_few going.on_fault all)

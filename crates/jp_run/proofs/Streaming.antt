@@ -1,5 +1,5 @@
 -- Where a run stands: what was read of its input, and what was answered of it.
-use Rattle.std.proofs.Common.{◌≡◌, ℕ, ◌+◌, ◌-◌, ◌*◌, ◌/◌, ◌<◌, ◌≤◌, not, Bool, true, false, List, []}
+use Rattle.std.proofs.Common.{◌≡◌, ℕ, ◌+◌, ◌-◌, ◌*◌, ◌/◌, ◌<◌, ◌≤◌, not, List, []}
 use Rattle.std.proofs.Common.{◌++◌, length, take, Option, Some, None, IfSome, inr, refl, sym, ◌∙◌, ap}
 use Rattle.std.proofs.Common.{subst, arith}
 use Rattle.std.proofs.Common.{append_assoc, append-nil, length-append, length-drop, take-append-drop}
@@ -21,12 +21,14 @@ use Rattle.jp_tree.specs.Tree as tree
 use Rattle.jp_regexp.proofs.RightTests.{right_tests}
 use Rattle.jp_answer.specs.Answer.{Answer}
 use Rattle.jp_answer.specs.Faults.{first_fault}
-use Rattle.jp_answer.specs.Form.{answer_in, stop_in, passed_in}
-use Rattle.jp_answer.proofs.Forms.{stop_so, passed_joined, passed_few, passed_none}
+use Rattle.jp_answer.specs.OnFault.{Manner, answer_by, stop_in, passed_in}
+use Rattle.jp_answer.specs.declared.on_fault.OnFault.{OnFault}
+use Rattle.jp_answer.specs.declared.on_fault.OnFault.TheVariants.{Stop, KeepGoing}
+use Rattle.jp_answer.proofs.OnFaults.{stop_so, passed_joined, passed_few, passed_none}
 use Rattle.jp_run.specs.declared.fault.RunFault.{RunFault}
 use Rattle.jp_run.specs.declared.fault.RunFault.TheVariants.{Query, Document, Read, Write, Limit}
 use Rattle.jp_run.specs.declared.fault.RunFault.TheVariants.{Memory, Settings}
-use Rattle.jp_run.specs.declared.gathering.Answered.{Answered}
+use Rattle.jp_run.specs.declared.stream.Answered.{Answered}
 use Rattle.jp_run.specs.declared.running.Totals.{Totals}
 use Rattle.jp_run.specs.Batches.{documents_in, in_batches, whole_batches, left_over}
 use Rattle.jp_run.specs.Batches.{documents_before, batch_of, WasNotWhole, but_last, batches_before}
@@ -55,14 +57,14 @@ known_all P (Some xs) (Some ys) bytes h e p = subst P
 
 -- an answer that stops does not keep going, and stops at the first faulty line
 
-stop_first : (going : Bool) (ls : List Line) (s : ℕ × DocFault) → stop_in going ls ≡ Some s
+stop_first : (going : OnFault) (ls : List Line) (s : ℕ × DocFault) → stop_in going ls ≡ Some s
     → first_fault ls ≡ Some s
-stop_first false ls s e = e
-stop_first true ls s e = absurd (cc)
+stop_first Stop ls s e = e
+stop_first KeepGoing ls s e = absurd (cc)
 
-no_stop : (going : Bool) (ls : List Line) (s : ℕ × DocFault) → stop_in going ls ≡ Some s → going ≡ false
-no_stop false ls s e = refl
-no_stop true ls s e = absurd (cc)
+no_stop : (going : OnFault) (ls : List Line) (s : ℕ × DocFault) → stop_in going ls ≡ Some s → going ≡ Stop
+no_stop Stop ls s e = refl
+no_stop KeepGoing ls s e = absurd (cc)
 
 -- lines of bytes that come in two parts
 
@@ -105,18 +107,18 @@ few_documents bytes =
     omega (arith, length-filter p all, count_by-le-length p all, length-enumerate_from 1 (cut bytes).ended)
 
 -- so much was read, whose whole batches are answered and handed out; the rest of its lines are kept
-pub record Stands (going : Bool) (q : tree.Query) (batch : ℕ) (old now sink_old sink_now : Option (List ℕ))
+pub record Stands (going : Manner) (q : tree.Query) (batch : ℕ) (old now sink_old sink_now : Option (List ℕ))
     (p : Progress) (kept : List Line) (answered : Answered) : Type 0 where
   pub bytes : List ℕ
   pub consumed : Consumes old now bytes
   pub progress : p ≡ fed nothing_fed bytes
   pub left : kept ≡ left_over batch (documents_in bytes)
   pub counted : answered.lines ≡ in_batches batch (documents_in bytes)
-  pub passed : answered.faulty ≡ passed_in going (whole_batches batch (documents_in bytes))
+  pub passed : answered.faulty ≡ passed_in going.on_fault (whole_batches batch (documents_in bytes))
   pub handed : Handed going q (whole_batches batch (documents_in bytes)) None sink_old sink_now
 
 -- one piece more was read, and nothing of it is answered yet
-pub record Grown (going : Bool) (q : tree.Query) (batch : ℕ) (old now sink_old sink_now : Option (List ℕ))
+pub record Grown (going : Manner) (q : tree.Query) (batch : ℕ) (old now sink_old sink_now : Option (List ℕ))
     (p : Progress) (kept : List Line) (answered : Answered) (last : ℕ) : Type 0 where
   pub bytes : List ℕ
   pub piece : List ℕ
@@ -125,10 +127,10 @@ pub record Grown (going : Bool) (q : tree.Query) (batch : ℕ) (old now sink_old
   pub progress : p ≡ fed nothing_fed (bytes ++ piece)
   pub lines : kept ≡ left_over batch (documents_in bytes) ++ fed_lines (fed nothing_fed bytes) piece
   pub counted : answered.lines ≡ in_batches batch (documents_in bytes)
-  pub passed : answered.faulty ≡ passed_in going (whole_batches batch (documents_in bytes))
+  pub passed : answered.faulty ≡ passed_in going.on_fault (whole_batches batch (documents_in bytes))
   pub handed : Handed going q (whole_batches batch (documents_in bytes)) None sink_old sink_now
 
-module _ (going : Bool) (q : tree.Query) (batch : ℕ) (some : 0 < batch) where
+module _ (going : Manner) (q : tree.Query) (batch : ℕ) (some : 0 < batch) where
   pub stands_start : (a s : Option (List ℕ)) (p : Progress) (kept : List Line) (answered : Answered)
       → p ≡ nothing_fed → kept ≡ [] → answered ≡ record { lines = 0; faulty = 0 }
       → Stands going q batch a a s s p kept answered
@@ -143,8 +145,8 @@ module _ (going : Bool) (q : tree.Query) (batch : ℕ) (some : 0 < batch) where
         progress = e;
         left = f ∙ sym (drop-nil (in_batches batch (documents_in [])));
         counted = ap (λ (n : Answered). n.lines) h ∙ sym none;
-        passed = ap (λ (n : Answered). n.faulty) h ∙ sym (passed_none going)
-            ∙ ap (passed_in going) (sym (take-nil (in_batches batch (documents_in []))));
+        passed = ap (λ (n : Answered). n.faulty) h ∙ sym (passed_none going.on_fault)
+            ∙ ap (passed_in going.on_fault) (sym (take-nil (in_batches batch (documents_in []))));
         handed = subst (λ (l : List Line). Handed going q l None s s)
             (sym (take-nil (in_batches batch (documents_in [])))) (handed_none going q s);
       }
@@ -179,7 +181,7 @@ module _ (going : Bool) (q : tree.Query) (batch : ℕ) (some : 0 < batch) where
       (answered more : Answered) (n : ℕ) → Grown going q batch a c s u p all answered n
       → Handed going q (whole_batches batch all) None u v → kept ≡ left_over batch all
       → more.lines ≡ answered.lines + in_batches batch all
-      → more.faulty ≡ answered.faulty + passed_in going (whole_batches batch all) → next ≡ p
+      → more.faulty ≡ answered.faulty + passed_in going.on_fault (whole_batches batch all) → next ≡ p
       → Stands going q batch a c s v next kept more
   stands_next a c s u v p next all kept answered more n g h e f m k =
       let first : List Line = documents_in g.bytes in
@@ -203,11 +205,11 @@ module _ (going : Bool) (q : tree.Query) (batch : ℕ) (some : 0 < batch) where
           arith,
           m,
           g.passed,
-          ap (λ l. passed_in going (whole_batches batch l)) g.lines,
-          ap (passed_in going) (whole_both batch first later some),
-          passed_joined going (whole_batches batch first)
+          ap (λ l. passed_in going.on_fault (whole_batches batch l)) g.lines,
+          ap (passed_in going.on_fault) (whole_both batch first later some),
+          passed_joined going.on_fault (whole_batches batch first)
               (whole_batches batch (left_over batch first ++ later)),
-          ap (λ l. passed_in going (whole_batches batch l)) both,
+          ap (λ l. passed_in going.on_fault (whole_batches batch l)) both,
         );
         handed = subst (λ (l : List Line). Handed going q l None s v)
             (ap (λ l. whole_batches batch first ++ whole_batches batch l) g.lines
@@ -238,7 +240,7 @@ module _ (going : Bool) (q : tree.Query) (batch : ℕ) (some : 0 < batch) where
         arith,
         g.passed,
         g.counted,
-        passed_few going (whole_batches batch first),
+        passed_few going.on_fault (whole_batches batch first),
         length-take-le (in_batches batch first) first (batches_fit batch first),
       )
 
@@ -249,7 +251,7 @@ module _ (going : Bool) (q : tree.Query) (batch : ℕ) (some : 0 < batch) where
         arith,
         st.passed,
         st.counted,
-        passed_few going (whole_batches batch all),
+        passed_few going.on_fault (whole_batches batch all),
         length-take-le (in_batches batch all) all (batches_fit batch all),
       )
 
@@ -322,23 +324,23 @@ module _ (going : Bool) (q : tree.Query) (batch : ℕ) (some : 0 < batch) where
       let beyond = front right_tests.0 right_tests.1 in record {
         between = u;
         handed = subst (λ (l : List Line). Handed going q l None s u) (sym e) h;
-        more = take beyond.0 (answer_in going right_tests.0 q rest).bytes;
+        more = take beyond.0 (answer_by going.form going.on_fault right_tests.0 q rest).bytes;
         appended = beyond.2;
       }
 
   handed_stop : (ls : List Line) (s : ℕ × DocFault) (a b : Option (List ℕ))
-      → Handed going q ls (Some s) a b → stop_in going ls ≡ Some s
-  handed_stop ls s a b h = sym (stop_so right_tests.0 q going ls)
+      → Handed going q ls (Some s) a b → stop_in going.on_fault ls ≡ Some s
+  handed_stop ls s a b h = sym (stop_so going.form right_tests.0 q going.on_fault ls)
       ∙ ap (λ (r : Answer). r.stopped) (h.is right_tests.0 right_tests.1) ∙ h.stopped
 
   first_fault_of : (ls : List Line) (number : ℕ) (fault : DocFault) (a b : Option (List ℕ))
       → Handed going q ls (Some (number, fault)) a b → first_fault ls ≡ Some (number, fault)
-  first_fault_of ls number fault a b h = stop_first going ls (number, fault)
+  first_fault_of ls number fault a b h = stop_first going.on_fault ls (number, fault)
       (handed_stop ls (number, fault) a b h)
 
   never_going : (ls : List Line) (s : ℕ × DocFault) (a b : Option (List ℕ))
-      → Handed going q ls (Some s) a b → going ≡ false
-  never_going ls s a b h = no_stop going ls s (handed_stop ls s a b h)
+      → Handed going q ls (Some s) a b → going.on_fault ≡ Stop
+  never_going ls s a b h = no_stop going.on_fault ls s (handed_stop ls s a b h)
 
   -- a batch that was not answered to its end
   module _ (e : Ends) (u : Option (List ℕ)) (p : Progress) (all : List Line) (answered : Answered)
@@ -459,21 +461,22 @@ module _ (going : Bool) (q : tree.Query) (batch : ℕ) (some : 0 < batch) where
           ),
         )
 
-    rest_passed : (faulty : ℕ) → faulty ≡ answered.faulty + passed_in going (kept ++ finished_lines p)
-        → IfSome a (λ input. faulty ≡ passed_in going (lines input))
+    rest_passed : (faulty : ℕ) → faulty ≡ answered.faulty + passed_in going.on_fault (kept ++ finished_lines
+        p)
+        → IfSome a (λ input. faulty ≡ passed_in going.on_fault (lines input))
     unfolding first_batches
-    rest_passed faulty e = known_all (λ input. faulty ≡ passed_in going (lines input)) a c st.bytes
+    rest_passed faulty e = known_all (λ input. faulty ≡ passed_in going.on_fault (lines input)) a c st.bytes
         st.consumed end (omega (
           arith,
           e,
           st.passed,
-          ap (passed_in going) lines_are,
-          passed_joined going first_batches (kept ++ finished_lines p),
+          ap (passed_in going.on_fault) lines_are,
+          passed_joined going.on_fault first_batches (kept ++ finished_lines p),
         ))
 
     pub faulty_ok : {E : Type 0} (r : Result Totals E)
-        → IfOk r (λ t. t.faulty ≡ answered.faulty + passed_in going (kept ++ finished_lines p))
-        → IfOk r (λ t. IfSome a (λ input. t.faulty ≡ passed_in going (lines input)))
+        → IfOk r (λ t. t.faulty ≡ answered.faulty + passed_in going.on_fault (kept ++ finished_lines p))
+        → IfOk r (λ t. IfSome a (λ input. t.faulty ≡ passed_in going.on_fault (lines input)))
     faulty_ok (Ok t) h = rest_passed t.faulty h
     faulty_ok (Err f) h = tt
 
@@ -543,9 +546,9 @@ module _ (going : Bool) (q : tree.Query) (batch : ℕ) (some : 0 < batch) where
   rest_ended e u p kept answered Settings st end none h = absurd h
 
 -- an answer that does not keep going passes no faulty line
-pub none_ok : (going : Bool) (before after : List Line) (n : ℕ) (r : Result Totals RunFault)
+pub none_ok : (going : OnFault) (before after : List Line) (n : ℕ) (r : Result Totals RunFault)
     → n ≡ passed_in going before → IfOk r (λ totals. totals.faulty ≡ n + passed_in going after)
-    → going ≡ false → IfOk r (λ totals. totals.faulty ≡ 0)
-none_ok false before after n (Ok totals) e h off = omega (arith, e, h)
-none_ok false before after n (Err fault) e h off = tt
-none_ok true before after n r e h off = absurd (cc)
+    → going ≡ Stop → IfOk r (λ totals. totals.faulty ≡ 0)
+none_ok Stop before after n (Ok totals) e h off = omega (arith, e, h)
+none_ok Stop before after n (Err fault) e h off = tt
+none_ok KeepGoing before after n r e h off = absurd (cc)

@@ -1,4 +1,4 @@
--- The answer to lines, in either form, handed to a sink.
+-- The answer to lines, in some manner, handed to a sink.
 use Rattle.std.specs.Prelude.{◌≡◌, ℕ, Bool, List, Option, None}
 use Rattle.std.specs.Io.KnownBytes.{Appends}
 use Rattle.jp_doc.specs.Lines.{Line}
@@ -7,27 +7,28 @@ use Rattle.jp_tree.specs.Tree.{Text, Query}
 use Rattle.jp_regexp.specs.Tests.{Tests, AreRight}
 use Rattle.jp_check.specs.Verdict.{IsAccepted}
 use Rattle.jp_answer.specs.Answer.{Answer}
-use Rattle.jp_answer.specs.Form.{answer_in}
+use Rattle.jp_answer.specs.OnFault.{Manner, answer_by}
+use Rattle.jp_run.specs.Answered.{in_lines}
 use Rattle.jp_run.specs.Written.{AppendsFront}
 
 -- the answer to the lines stops so, and its bytes were appended
-pub record Handed (keeps_going : Bool) (q : Query) (ls : List Line) (stop : Option (ℕ × DocFault))
+pub record Handed (going : Manner) (q : Query) (ls : List Line) (stop : Option (ℕ × DocFault))
     (old new : Option (List ℕ)) : Type 0 where
   pub whole : Answer
-  pub is : (t : Tests) → AreRight t → answer_in keeps_going t q ls ≡ whole
+  pub is : (t : Tests) → AreRight t → answer_by going.form going.on_fault t q ls ≡ whole
   pub stopped : whole.stopped ≡ stop
   pub appended : Appends old new whole.bytes
 
 -- a front of the bytes of the answer to the lines was appended
-abbrev pub HandedFront : Bool → Query → List Line → Option (List ℕ) → Option (List ℕ) → Type 0
-HandedFront keeps_going q ls old new = (t : Tests) → AreRight t
-    → AppendsFront old new (answer_in keeps_going t q ls).bytes
+abbrev pub HandedFront : Manner → Query → List Line → Option (List ℕ) → Option (List ℕ) → Type 0
+HandedFront going q ls old new = (t : Tests) → AreRight t
+    → AppendsFront old new (answer_by going.form going.on_fault t q ls).bytes
 
 -- the answer to the lines was handed out, all of it, and perhaps more bytes behind it
-pub record HandedFirst (keeps_going : Bool) (q : Query) (ls : List Line) (old new : Option (List ℕ)) : Type 0
+pub record HandedFirst (going : Manner) (q : Query) (ls : List Line) (old new : Option (List ℕ)) : Type 0
   where
     pub between : Option (List ℕ)
-    pub handed : Handed keeps_going q ls None old between
+    pub handed : Handed going q ls None old between
     pub more : List ℕ
     pub appended : Appends between new more
 
@@ -35,9 +36,9 @@ pub record HandedFirst (keeps_going : Bool) (q : Query) (ls : List Line) (old ne
 abbrev pub IsHanded : Bool → Text → List Line → Option (ℕ × DocFault) → Option (List ℕ) → Option (List ℕ)
     → Type 0
 IsHanded keeps_going text ls stop old new = (q : Query) × IsAccepted text q
-    × Handed keeps_going q ls stop old new
+    × Handed (in_lines keeps_going) q ls stop old new
 
 -- the same, and perhaps more bytes were handed out behind it
 abbrev pub IsHandedFirst : Bool → Text → List Line → Option (List ℕ) → Option (List ℕ) → Type 0
 IsHandedFirst keeps_going text ls old new = (q : Query) × IsAccepted text q
-    × HandedFirst keeps_going q ls old new
+    × HandedFirst (in_lines keeps_going) q ls old new

@@ -5,14 +5,17 @@ ghost use Rattle.jp_doc.specs.Lines.{line_of};
 ghost use Rattle.jp_check.specs.Plan.{planned_query};
 ghost use Rattle.jp_regexp.specs.Tests.{Tests, AreRight};
 ghost use Rattle.jp_answer.specs.Answer.{answer as answer_to};
-ghost use Rattle.jp_answer.specs.Answered.{answer_of};
 ghost use Rattle.jp_answer.specs.Ranges.{AreWorkers, AreDocuments};
-ghost use Rattle.jp_answer.specs.Whole.{whole, whole_of};
+ghost use Rattle.jp_answer.specs.Whole.{whole};
+ghost use Rattle.jp_run.specs.Answered.{answer_of, whole_of};
 
 use crate::fault::RunFault;
-use jp_answer::{Answer, Gate, Whole};
+use crate::outcome::{Answer, Whole};
+use jp_answer::{Crew, Cutting, Gate, OnFault, answer_in_chunks};
+use jp_buffer::refs_of;
 use jp_check::Plan;
 use jp_doc::Line;
+use jp_output::{NodeLines, join_chunks};
 use std::alloc::Global;
 use std::thread::Threads;
 
@@ -42,7 +45,20 @@ pub fn answer<R: Threads + Sync, G: Gate + Sync>(
         answer_to t (planned_query plan.now) (map line_of lines.now) ≡ answer_of a) }
     ensures fault { OnErr result (IsErrOf result RunFault.Memory) }
 {
-    Ok(jp_answer::answer(rt, alloc, plan, lines, workers, piece, gate)?)
+    let crew = Crew { rt, alloc, gate };
+    let cutting = Cutting { workers, piece };
+    let lines = refs_of(alloc, lines)?;
+    let answer = answer_in_chunks::<R, G, NodeLines>(
+        &crew,
+        plan.compiled(),
+        &lines,
+        cutting,
+        OnFault::Stop,
+    )?;
+    Ok(Answer {
+        bytes: join_chunks(alloc, answer.chunks)?,
+        stopped: answer.stopped,
+    })
 }
 
 /// The answer that keeps going, by at most that many workers, as `answer` has them: a faulty line gives its
@@ -71,5 +87,18 @@ pub fn answer_all<R: Threads + Sync, G: Gate + Sync>(
         whole t (planned_query plan.now) (map line_of lines.now) ≡ whole_of w) }
     ensures fault { OnErr result (IsErrOf result RunFault.Memory) }
 {
-    Ok(jp_answer::answer_all(rt, alloc, plan, lines, workers, piece, gate)?)
+    let crew = Crew { rt, alloc, gate };
+    let cutting = Cutting { workers, piece };
+    let lines = refs_of(alloc, lines)?;
+    let answer = answer_in_chunks::<R, G, NodeLines>(
+        &crew,
+        plan.compiled(),
+        &lines,
+        cutting,
+        OnFault::KeepGoing,
+    )?;
+    Ok(Whole {
+        bytes: join_chunks(alloc, answer.chunks)?,
+        faulty: answer.faulty,
+    })
 }

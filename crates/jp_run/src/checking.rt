@@ -25,6 +25,7 @@ pub fn check_query(alloc: Global, query: &str) -> Result<(), RunFault>
     ensures too_deep { IsErrOf result (RunFault.Query QueryFault.TooDeep)
         ↔ (max_depth < bracket_depth (chars query.now)) }
 {
+    // The plan is freed here, so that no crate above does it: that took a minute of proof (README, Why so).
     plan_of(alloc, query)?;
     Ok(())
 }

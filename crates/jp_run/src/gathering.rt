@@ -1,105 +1,56 @@
 //! The lines of a source, as its bytes come in.
 
-ghost use Rattle.std.specs.Prelude.{◌≡◌, ◌+◌, ◌<◌, ◌≤◌, ◌^◌, ◌++◌, false, true, take, length, IfOk, OnOk};
-ghost use Rattle.std.specs.Prelude.{OnErr, IfErr, IsErrOf, vec_len};
+ghost use Rattle.std.specs.Prelude.{◌≡◌, ◌+◌, ◌<◌, ◌≤◌, ◌++◌, false, take, length, IfOk, OnOk};
+ghost use Rattle.std.specs.Prelude.{OnErr, IfErr, IsErrOf};
 ghost use Rattle.std.specs.Io.KnownBytes.{Consumes, IsAtEnd};
-ghost use Rattle.jp_doc.specs.Feeding.{fed, fed_lines, finished, finished_lines, has_line_feed};
+ghost use Rattle.jp_doc.specs.Feeding.{fed, fed_lines, finished, finished_lines};
 ghost use Rattle.jp_run.specs.Counts.{counted};
 ghost use Rattle.jp_run.specs.inner.Ended.{ReadEnded, LastEnded};
-ghost use Rattle.jp_run.specs.inner.Reading.{HasRead, ReadOnEnded};
+ghost use Rattle.jp_run.specs.inner.Reading.{MayRead, HasReadOn};
 ghost use Rattle.jp_run.specs.Limits.{max_lines};
 
 use crate::ends::Source;
 use crate::fault::RunFault;
-use crate::held::Held;
-use jp_buffer::{LineBuffer, WaitingLines};
-use std::alloc::{AllocError, Global};
+use crate::incoming::{Enough, Incoming};
+use jp_buffer::LineBuffer;
 
-/// The greatest number of lines.
+/// The greatest number of lines: with the one that the end may complete there are as many as a board takes
+/// pieces.
 const MAX_LINES: u64 = 4_294_967_295;
-
-/// The number of bytes that one call of `read` is asked for.
-const READ_SIZE: usize = 65_536;
-
-/// The lines that have come and are not written, and how far the answer has come.
-#[derive(Drop)]
-pub(crate) struct Pending {
-    /// The lines that wait for their answer.
-    pub(crate) buffer: LineBuffer,
-    /// What takes the lines of a part while it is answered.
-    pub(crate) part: WaitingLines,
-    /// The answer to the lines of the batch before those that wait.
-    pub(crate) held: Held,
-    pub(crate) answered: Answered,
-}
-
-/// What has been answered and written.
-#[derive(Clone, Copy, Drop)]
-pub(crate) struct Answered {
-    /// How many lines, but for blank ones.
-    pub(crate) lines: u64,
-    /// How many faulty lines the answer has passed.
-    pub(crate) faulty: u64,
-}
-
-/// What a source is read into, and how many calls of `read` are left.
-#[derive(Drop)]
-pub(crate) struct Reads {
-    scratch: Vec<u8>,
-    pub(crate) left: u64,
-    ghost not_empty: { 0 < vec_len scratch },
-}
-
-/// How much is read before the lines that have come are answered: so many lines, or so many bytes of them.
-#[derive(Clone, Copy, Drop)]
-pub(crate) struct Enough {
-    pub(crate) lines: usize,
-    pub(crate) bytes: usize,
-}
-
-impl Reads {
-    /// So many calls, of 65,536 bytes each.
-    pub(crate) fn new(alloc: Global, left: u64) -> Result<Reads, AllocError>
-        ensures { IfOk result (λ r. r.left ≡ left) }
-    {
-        let scratch = vec![in alloc; 0u8; READ_SIZE]?;
-        Ok(Reads { scratch, left })
-    }
-}
 
 /// Reads until enough lines have come, the input has ended, or no call is left. Gives whether it has ended.
 pub(crate) fn read_part<S: Source>(
     source: &mut S,
-    reads: &mut Reads,
-    buffer: &mut LineBuffer,
+    incoming: &mut Incoming,
     enough: Enough,
 ) -> Result<bool, RunFault>
-    requires working { S.failed source.old ≡ false }
-    requires few_lines { buffer.old.progress.count ≤ max_lines }
-    requires open { has_line_feed buffer.old.progress.open_line ≡ false }
-    requires few_reads { S.reads source.old + reads.old.left < 2 ^ 64 }
-    requires some_left { 0 < reads.old.left }
-    requires not_enough { length buffer.old.lines < enough.lines }
-    ensures read { OnOk result (HasRead enough.lines (S.remaining source.old) (S.remaining source.new)
-        (S.last source.new) buffer.old.progress buffer.new.progress buffer.old.lines buffer.new.lines) }
-    ensures end { IfOk result (λ ended. ended ≡ true → IsAtEnd (S.remaining source.new)
-        × (S.last source.new ≡ 0)) }
-    ensures working { OnOk result (S.failed source.new ≡ false) }
-    ensures few_lines { OnOk result (buffer.new.progress.count ≤ max_lines) }
-    ensures fault { IfErr result (ReadOnEnded enough.lines buffer.old.progress buffer.old.lines
-        (S.failed source.new) (S.remaining source.old) (S.remaining source.new)) }
-    ensures reads { S.reads source.new + reads.new.left ≡ S.reads source.old + reads.old.left }
-    ensures fewer_left { reads.new.left < reads.old.left }
+    requires { MayRead enough.lines (S.failed source.old) (S.reads source.old) incoming.old }
+    ensures { HasReadOn enough.lines (record {
+      old = S.remaining source.old;
+      new = S.remaining source.new;
+      last = S.last source.new;
+      failed = S.failed source.new;
+      reads_old = S.reads source.old;
+      reads_new = S.reads source.new;
+    }) incoming.old incoming.new result }
 {
-    reads.left -= 1;
-    let mut n = read_lines(source, reads.scratch.as_mut_slice(), buffer)?;
+    incoming.left -= 1;
+    let mut n = read_lines(
+        source,
+        incoming.scratch.as_mut_slice(),
+        &mut incoming.buffer,
+    )?;
     while n > 0
-        && reads.left > 0
-        && buffer.len() < enough.lines
-        && buffer.total_bytes() < enough.bytes
+        && incoming.left > 0
+        && incoming.buffer.len() < enough.lines
+        && incoming.buffer.total_bytes() < enough.bytes
     {
-        reads.left -= 1;
-        n = read_lines(source, reads.scratch.as_mut_slice(), buffer)?;
+        incoming.left -= 1;
+        n = read_lines(
+            source,
+            incoming.scratch.as_mut_slice(),
+            &mut incoming.buffer,
+        )?;
     }
     Ok(n == 0)
 }
@@ -135,6 +86,7 @@ fn read_lines<S: Source>(
     };
     let (piece, _) = scratch.split_at(n);
     buffer.feed(piece)?;
+    // Tested before the lines of this read are answered (README, Why so).
     within_limit(buffer)?;
     Ok(n)
 }

@@ -44,6 +44,7 @@ impl Held {
             (outcome_of self.new.answer ≡ joined (outcome_of self.old.answer) (outcome_of more)) }
         ensures passed { self.new.answer.faulty ≡ self.old.answer.faulty + more.faulty }
     {
+        // First what has to stand also where the growth below is refused.
         self.count += count;
         self.answer.faulty += more.faulty;
         self.answer.stopped = more.stopped;

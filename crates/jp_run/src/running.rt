@@ -10,10 +10,10 @@ ghost use Rattle.jp_tree.specs.Tree.{Query};
 ghost use Rattle.jp_tree.specs.declared.fault.QueryFault.{QueryFault as Refusal};
 ghost use Rattle.jp_tokens.specs.Depth.{bracket_depth, max_depth};
 ghost use Rattle.jp_check.specs.Plan.{planned_query};
+ghost use Rattle.jp_compiled.specs.Compiled.{compiled_query};
 ghost use Rattle.jp_check.specs.Verdict.{IsAccepted, IsVerdict};
 ghost use Rattle.jp_answer.specs.Answer.{Answer};
-ghost use Rattle.jp_answer.specs.Answered.{IsAnswerIn};
-ghost use Rattle.jp_answer.specs.Form.{passed_in};
+ghost use Rattle.jp_run.specs.Answered.{IsAnswerIn, manner_in, passed_in};
 ghost use Rattle.jp_run.specs.Batches.{documents_in, whole_batches, WasNotWhole, batches_before};
 ghost use Rattle.jp_run.specs.inner.Ended.{StreamEnded};
 ghost use Rattle.jp_run.specs.Handed.{Handed, IsHanded, IsHandedFirst};
@@ -24,18 +24,19 @@ use crate::ahead::read_on;
 use crate::batches::{answer_batches, answer_rest};
 use crate::ends::{Sink, Source};
 use crate::fault::RunFault;
-use crate::gathering::{Answered, Pending, Reads};
-use crate::held::Held;
+use crate::job::Job;
 use crate::settings::Settings;
+use crate::stream::Stream;
 use crate::writing::tell_stop;
-use jp_answer::Gate;
-use jp_buffer::{LineBuffer, WaitingLines};
+use jp_answer::{Crew, Gate};
 use jp_check::{Plan, plan};
+use jp_output::{Form, NodeLines};
 use jp_syntax::QueryFault;
 use std::alloc::Global;
 use std::thread::Threads;
 
-/// The greatest number of calls of `read`.
+/// The greatest number of calls of `read`: of 65,536 bytes each they are 2^56 bytes, so that no count of 64
+/// bits stops.
 const MAX_READS: u64 = 1 << 40;
 
 /// What a finished run has seen.
@@ -165,36 +166,38 @@ pub fn run<R: Threads + Sync, S: Source, K: Sink, G: Gate + Sync>(
     ensures few { S.reads source.new ≤ S.reads source.old + max_reads }
 {
     let plan = plan_of(alloc, query)?;
-    stream(rt, alloc, &plan, *settings, gate, source, sink)
+    let job = Job {
+        crew: Crew { rt, alloc, gate },
+        query: plan.compiled(),
+        settings: *settings,
+    };
+    answer_stream::<R, S, K, G, NodeLines>(&job, source, sink)
 }
 
 /// Reads a source to its end, and answers each batch as soon as it has come.
-fn stream<R: Threads + Sync, S: Source, K: Sink, G: Gate + Sync>(
-    rt: &R,
-    alloc: Global,
-    plan: &Plan,
-    settings: Settings,
-    gate: &G,
+fn answer_stream<R: Threads + Sync, S: Source, K: Sink, G: Gate + Sync, F: Form + Drop + Send>(
+    job: &Job<R, G>,
     source: &mut S,
     sink: &mut K,
 ) -> Result<Totals, RunFault>
     requires working { (S.failed source.old ≡ false) × (K.failed sink.old ≡ false) }
     requires few { S.reads source.old ≤ 2 ^ 62 }
-    ensures handed { OnOk result (IfSome (S.remaining source.old) (λ input.
-        Handed settings.keeps_going (planned_query plan.now) (lines input) None
-        (K.contents sink.old) (K.contents sink.new))) }
+    ensures handed { OnOk result (IfSome (S.remaining source.old) (λ input. Handed (manner_in F.says
+        job.now.settings.keeps_going) (compiled_query job.now.query.now) (lines input) None (K.contents
+        sink.old) (K.contents sink.new))) }
     ensures counts { IfOk result (λ totals. IfSome (S.remaining source.old)
         (λ input. (totals.lines ≡ line_count input) × (totals.documents ≡ length (lines input)))) }
     ensures passed { IfOk result (λ totals. IfSome (S.remaining source.old)
-        (λ input. totals.faulty ≡ passed_in settings.keeps_going (lines input))) }
-    ensures none_passed { settings.keeps_going ≡ false → IfOk result (λ totals. totals.faulty ≡ 0) }
+        (λ input. totals.faulty ≡ passed_in job.now.settings.keeps_going (lines input))) }
+    ensures none_passed { job.now.settings.keeps_going ≡ false → IfOk result (λ totals. totals.faulty ≡ 0) }
     ensures few_lines { IfOk result (λ totals. totals.lines ≤ max_lines) }
     ensures end { OnOk result (IsAtEnd (S.remaining source.new)) }
     ensures flushed { OnOk result (K.flushed sink.new ≡ true) }
     ensures still_working { OnOk result ((S.failed source.new ≡ false) × (K.failed sink.new ≡ false)) }
     ensures passed_on { K.flushed sink.old ≡ true → IsPassedOn (K.flushed sink.new) (K.failed sink.new) }
-    ensures fault { IfErr result (StreamEnded settings.keeps_going (planned_query plan.now)
-        settings.batch (record {
+    ensures fault { IfErr result (StreamEnded (manner_in F.says job.now.settings.keeps_going)
+        (compiled_query job.now.query.now)
+        job.now.settings.batch (record {
           source_old = S.remaining source.old;
           source_new = S.remaining source.new;
           reads_old = S.reads source.old;
@@ -207,33 +210,18 @@ fn stream<R: Threads + Sync, S: Source, K: Sink, G: Gate + Sync>(
         })) }
     ensures few { S.reads source.new ≤ S.reads source.old + max_reads }
 {
-    let mut reads = Reads::new(alloc, MAX_READS)?;
-    let mut pending = Pending {
-        buffer: LineBuffer::new(alloc),
-        part: WaitingLines::new(alloc),
-        held: Held::new(alloc),
-        answered: Answered {
-            lines: 0,
-            faulty: 0,
-        },
-    };
-    while reads.left > 0 {
-        let ended = read_on(
-            rt,
-            alloc,
-            plan,
-            settings,
-            gate,
-            source,
-            &mut reads,
-            &mut pending,
-        )?;
-        tell_stop(sink, &pending.held.answer)?;
-        answer_batches(rt, alloc, plan, settings, gate, &mut pending, sink)?;
+    let mut stream = Stream::new(job.crew.alloc, MAX_READS)?;
+    while stream.incoming.left > 0 {
+        let ended = read_on::<R, S, G, F>(job, source, &mut stream)?;
+        // A part with a faulty line ends the run without the reads that its batch still lacks
+        // (README, Why so).
+        tell_stop(sink, &stream.held.answer)?;
+        answer_batches::<R, K, G, F>(job, &mut stream, sink)?;
         if ended {
-            return answer_rest(rt, alloc, plan, settings, gate, &mut pending, sink);
+            return answer_rest::<R, K, G, F>(job, &mut stream, sink);
         }
     }
+    // What the last read completed was answered in the loop (README, Why so).
     Err(RunFault::Limit)
 }
 

@@ -4,11 +4,13 @@ ghost use Rattle.std.specs.Prelude.{◌≡◌, ◌↔◌, false, true, IsOk, IfO
 ghost use Rattle.jp_run.specs.Settings.{AreSettings};
 
 use crate::fault::RunFault;
+use jp_answer::OnFault;
 
 /// The greatest number of workers: a board has so many seats.
 const MAX_WORKERS: u64 = 64;
 
-/// The greatest number of documents of a piece and of a batch.
+/// The greatest number of documents of a piece and of a batch: a batch's lines and its answer are held in
+/// memory.
 const MAX_DOCUMENTS: u64 = 1_000_000;
 
 /// How many workers answer, how many documents are a piece, how many a batch, and which form the answer has.
@@ -26,6 +28,8 @@ pub struct Settings {
 }
 
 impl Settings {
+    ghost use Rattle.jp_run.specs.Answered.{on_fault_of};
+
     /// The settings, which take no memory. The answer ends at the first faulty line.
     ///
     /// # Errors
@@ -50,6 +54,17 @@ impl Settings {
             batch,
             keeps_going: false,
         })
+    }
+
+    /// What is done where a line is faulty.
+    pub(crate) fn on_fault(&self) -> OnFault
+        ensures { result ≡ on_fault_of self.now.keeps_going }
+    {
+        if self.keeps_going {
+            OnFault::KeepGoing
+        } else {
+            OnFault::Stop
+        }
     }
 
     /// The same settings, but for an answer that keeps going after a faulty line. It takes no memory.

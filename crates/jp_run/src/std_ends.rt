@@ -46,6 +46,7 @@ impl<R: Read> Source for FromReader<R> {
     ghost failed = { λ s. s.failed };
 
     fn read(&mut self, buf: &mut [u8]) -> Result<usize, Broken> {
+        // The counts of the trait stop and do not wrap, so that no call has to be forbidden.
         self.reads = self.reads.saturating_add(1);
         match self.reader.read(buf) {
             Ok(n) => {

@@ -70,6 +70,8 @@ pub(crate) fn hand_out<K: Sink>(sink: &mut K, answer: &Outcome) -> Result<(), Ru
     if write_chunks(sink, &answer.chunks).is_err() {
         return Err(RunFault::Write);
     }
+    // Before the faulty line is told, so that no sink holds its batch back; one function, so that its own
+    // clauses refuse each wrong order (README, Why so).
     pass_on(sink)?;
     if let Some(stop) = answer.stopped {
         return Err(RunFault::Document {

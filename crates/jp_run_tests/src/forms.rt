@@ -2,11 +2,11 @@
 
 ghost use Rattle.std.specs.Prelude.{◌<◌};
 
-use jp_answer::{OpenGate, answer_all};
 use jp_check::{Plan, plan};
 use jp_doc::{DocFault, Document, Line};
 use jp_eval::Evaluator;
 use jp_output::NodeLines;
+use jp_run::{OpenGate, answer_all};
 use std::alloc::{AllocError, Global};
 use std::test::Fail;
 
@@ -139,7 +139,7 @@ fn lines(alloc: Global, count: u64) -> Result<Vec<Line>, AllocError> {
 
 /// The answer of a plan that each line's tree gives, and how many lines are faulty.
 fn by_trees(alloc: Global, plan: &Plan, lines: &[Line]) -> Result<(Vec<u8>, u64), Fail> {
-    let mut evaluator = Evaluator::new(alloc, plan);
+    let mut evaluator = Evaluator::new(alloc, plan.compiled());
     let mut written = NodeLines::new(alloc);
     let mut faulty = 0u64;
     for line in lines {

@@ -515,6 +515,7 @@ fn read(alloc: Global, text: &str) -> Result<Query, QueryFault>
 {
     match first_character(text) {
         Some(('$', more)) => {
+            // Each level of a logical expression takes a character, so the text's length is levels enough.
             let (segments, rest) = segments_from(alloc, text.len(), Vec::new(alloc), more)?;
             if !is_end(rest) {
                 return Err(QueryFault::Syntax);
@@ -545,6 +546,7 @@ pub fn read_query(alloc: Global, text: &str) -> Result<Query, QueryFault>
     ensures faults { IfErr result (λ e. (e ≡ QueryFault.TooDeep) ⊎ (e
         ≡ QueryFault.Syntax) ⊎ (e ≡ QueryFault.Memory)) }
 {
+    // Before anything is read, so that it takes no memory to tell.
     if is_too_deep(text) {
         return Err(QueryFault::TooDeep);
     }

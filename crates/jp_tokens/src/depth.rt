@@ -5,7 +5,8 @@ ghost use Rattle.std.specs.Str.{chars};
 ghost use Rattle.jp_tokens.specs.Depth as depth;
 ghost use Rattle.jp_tokens.specs.inner.DepthView.{place_of};
 
-/// The deepest nesting of brackets and parentheses that is read.
+/// The deepest nesting of brackets and parentheses that is read: it bounds the frames of all that goes over a
+/// query.
 const MAX_DEPTH: u64 = 64;
 
 /// Where a scan stands, beside the count of open brackets.

@@ -9,6 +9,8 @@ pub enum Start {
     Current,
 }
 
+// The types that hold each other have no `Debug`, which a check keeps much of, and no `Clone`
+// (README, Why so).
 /// A query: where it starts, and its segments in order.
 #[cycle(tree)]
 #[derive(PartialEq, Eq, Drop)]

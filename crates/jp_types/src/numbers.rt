@@ -11,7 +11,7 @@ use crate::faults::Faults;
 use crate::written::position;
 use jp_tree::{Literal, Slice};
 
-/// The most digits of a number literal.
+/// The most digits of a number literal: with any sign it fits 128 bits.
 const MAX_DIGITS: usize = 38;
 
 /// Whether a number literal has a fraction or an exponent.

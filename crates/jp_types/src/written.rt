@@ -12,6 +12,7 @@ fn magnitude(text: &str) -> Option<u128>
 {
     let mut number: u128 = 0;
     for c in text.chars() {
+        // Below it one digit more still fits 127 bits.
         if number >= 10_000_000_000_000_000_000_000_000_000_000_000_000 {
             return None;
         }

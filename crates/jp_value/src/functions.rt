@@ -180,6 +180,7 @@ fn is_match(alloc: Global, text: &str, known: &KnownPattern) -> Result<bool, All
 fn is_match_read(alloc: Global, text: &str, pattern_text: &str) -> Result<bool, AllocError>
     ensures { IfOk result (λ b. b ≡ tests.is_match (chars text.now) (chars pattern_text.now)) }
 {
+    // Read anew at each node, also where it is the text of a literal (README, Why so).
     match Pattern::read(alloc, pattern_text)? {
         Some(pattern) => pattern.matches(alloc, text),
         None => Ok(false),

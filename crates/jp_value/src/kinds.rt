@@ -68,6 +68,7 @@ fn same_members(alloc: Global, left: Members<'_>, right: Members<'_>) -> Result<
     if right.is_empty() {
         return Ok(false);
     }
+    // So an object beside a much wider one costs no more than itself (README, Why so).
     if left.is_shorter(right) {
         let left = left.gather(alloc)?;
         same_as_object(alloc, left.range(), right)
@@ -183,6 +184,7 @@ pub fn compare_kinds(
         Operator::Eq => is_equal(alloc, left, right),
         Operator::Ne => Ok(!is_equal(alloc, left, right)?),
         Operator::Lt => Ok(is_less(left, right)),
+        // `<` before `==`: it takes no memory, and goes into no value.
         Operator::Le => Ok(is_less(left, right) || is_equal(alloc, left, right)?),
         Operator::Gt => Ok(is_less(right, left)),
         Operator::Ge => Ok(is_less(right, left) || is_equal(alloc, right, left)?),

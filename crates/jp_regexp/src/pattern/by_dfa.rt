@@ -33,6 +33,7 @@ impl Pattern {
         if dfa.states.is_empty() {
             return None;
         }
+        // The empty part is found, which no cell can tell.
         if dfa.states[0].accepts {
             return Some(true);
         }

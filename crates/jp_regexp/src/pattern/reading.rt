@@ -20,10 +20,12 @@ use crate::prefilter::{Prefilter, make_prefilter};
 use crate::read_patterns;
 use std::alloc::{AllocError, Global};
 
-/// The greatest unrolled size, a limit of this implementation (RFC 9485, 8).
+/// The greatest unrolled size, a limit of this implementation (RFC 9485, 8): a match keeps so many positions
+/// at most, and one more.
 const MAX_SIZE: u32 = 10_000;
 
-/// How many states a DFA has at most, times the pattern's size: they are all made ahead of time.
+/// How many states a DFA has at most, times the pattern's size: they are all made ahead of time, so this
+/// bounds the time that it takes to compile a pattern (README, Why so).
 const STATES_BY_SIZE: u32 = 8_000;
 
 impl Pattern {

@@ -1,11 +1,13 @@
 -- A working file, which nobody has to believe: what stands after each fault of a run's parts, for private
 -- clauses alone.
-use Rattle.std.specs.Prelude.{◌≡◌, ℕ, ◌+◌, ◌<◌, ◌⊎◌, Bool, true, List, Option, Some, None, IfSome, false}
+use Rattle.std.specs.Prelude.{◌≡◌, ℕ, ◌+◌, ◌<◌, ◌⊎◌, Bool, true, List, Option, Some, None, IfSome}
 use Rattle.std.specs.Io.KnownBytes.{Appends, Consumes, Keeps}
 use Rattle.jp_doc.specs.Lines.{Line, lines, line_count}
 use Rattle.jp_doc.specs.Feeding.{Progress, fed}
 use Rattle.jp_tree.specs.Tree as tree
 use Rattle.jp_answer.specs.Answer.{Answer}
+use Rattle.jp_answer.specs.OnFault.{Manner}
+use Rattle.jp_answer.specs.declared.on_fault.OnFault.TheVariants.{Stop}
 use Rattle.jp_run.specs.declared.fault.RunFault.{RunFault}
 use Rattle.jp_run.specs.declared.fault.RunFault.TheVariants.{Query, Document, Read, Write, Limit}
 use Rattle.jp_run.specs.declared.fault.RunFault.TheVariants.{Memory, Settings}
@@ -47,7 +49,7 @@ HandingEnded a failed old new Memory = ⊥
 HandingEnded a failed old new Settings = ⊥
 
 -- the answer to lines in a form, handed to a sink
-abbrev pub AnswerEnded : Bool → tree.Query → List Line → Bool → Option (List ℕ) → Option (List ℕ) → RunFault
+abbrev pub AnswerEnded : Manner → tree.Query → List Line → Bool → Option (List ℕ) → Option (List ℕ) → RunFault
     → Type 0
 AnswerEnded going q ls failed old new (Document line fault) = Handed going q ls (Some (line, fault)) old new
 AnswerEnded going q ls failed old new Write = (failed ≡ true) × HandedFront going q ls old new
@@ -58,7 +60,8 @@ AnswerEnded going q ls failed old new Limit = ⊥
 AnswerEnded going q ls failed old new Settings = ⊥
 
 -- the same, where there were so many lines in all
-abbrev pub RestEnded : Bool → tree.Query → List Line → ℕ → Bool → Option (List ℕ) → Option (List ℕ) → RunFault
+abbrev pub RestEnded : Manner → tree.Query → List Line → ℕ → Bool → Option (List ℕ) → Option (List ℕ) →
+    RunFault
     → Type 0
 RestEnded going q ls count failed old new Limit = (max_lines < count) × HandedFront going q ls old new
 RestEnded going q ls count failed old new fault = AnswerEnded going q ls failed old new fault
@@ -76,20 +79,20 @@ pub record Ends : Type 0 where
   pub sink_failed : Bool
 
 -- a front of the answer to the whole input was appended
-abbrev pub InputFront : Bool → tree.Query → Ends → Type 0
+abbrev pub InputFront : Manner → tree.Query → Ends → Type 0
 InputFront going q e = IfSome e.source_old (λ input. HandedFront going q (lines input) e.sink_old e.sink_new)
 
 -- the answer to the whole batches that had come before the last read was handed out
-abbrev pub BatchesOut : Bool → tree.Query → ℕ → Ends → Type 0
+abbrev pub BatchesOut : Manner → tree.Query → ℕ → Ends → Type 0
 BatchesOut going q batch e = (bytes : List ℕ) × Consumes e.source_old e.source_new bytes
     × HandedFirst going q (batches_before batch bytes e.last) e.sink_old e.sink_new
 
 -- a run with batches of this size
-abbrev pub StreamEnded : Bool → tree.Query → ℕ → Ends → RunFault → Type 0
+abbrev pub StreamEnded : Manner → tree.Query → ℕ → Ends → RunFault → Type 0
 StreamEnded going q batch e (Document line fault) =
     IfSome e.source_old (λ input. Handed going q (lines input) (Some (line, fault)) e.sink_old e.sink_new)
     × ((bytes : List ℕ) × Consumes e.source_old e.source_new bytes × WasNotWhole batch line bytes e.last)
-    × (going ≡ false)
+    × (going.on_fault ≡ Stop)
 StreamEnded going q batch e Read = (e.source_failed ≡ true) × (bytes : List ℕ)
     × Consumes e.source_old e.source_new bytes
     × Handed going q (whole_batches batch (documents_in bytes)) None e.sink_old e.sink_new

@@ -1,79 +1,85 @@
 use Rattle.std.proofs.Common.{◌∙◌, sym, ap, inl, inr, arith, drop, map, drop_of_length-le}
 use Rattle.jp_buffer.specs.Buffered.{line_at}
 use Rattle.std.proofs.lemmas.Grind.{common_steps}
-use Rattle.jp_check.specs.Plan.{planned_query}
+use Rattle.jp_compiled.specs.Compiled.{compiled_query}
 use Rattle.jp_eval.specs.Evaluated.{evaluated_query}
 use Rattle.jp_output.specs.Chunks.{bytes_in}
-use Rattle.jp_answer.proofs.Forms.{answer_more, answer_last, stop_more, stop_last, passed_more, passed_one}
-use Rattle.jp_answer.proofs.Forms.{passed_fits, answer_end}
+use Rattle.jp_answer.proofs.OnFaults.{answer_more, answer_last, stop_more, stop_last, passed_more, passed_one}
+use Rattle.jp_answer.proofs.OnFaults.{passed_fits, answer_end}
 use Rattle.jp_answer.proofs.answering.answer_lines.Goals as goal
 
 pub loop-line-preserved-in_default : goal.loop-line-preserved-in_default
 loop-line-preserved-in_default g c =
-    let k = c.args.pieces.now.keeps_going in
+    let form = g.F.Form.says in
+    let bytes = g.F.Form.written in
+    let k = c.args.pieces.now.on_fault in
     let lines = c.args.lines.now in
     let kept = c.loop-line.invariant in
     let none = sym c.in_ok-more.ensures.fault ∙ c.in_default.is in
     record {
       query = c.in_ok-more.ensures.query ∙ kept.query;
-      answer = λ t right. answer_more k lines c.loop-line.line-index c.loop-line-test.true t
-          (planned_query c.args.pieces.now.plan.now) (evaluated_query c.loop-line.evaluator)
-          c.loop-line.written.1
-          c.in_ok-more.more.1 kept.query (kept.answer t right)
+      answer = λ t right. answer_more k lines c.loop-line.line-index c.loop-line-test.true form t
+          (compiled_query c.args.pieces.now.query.now) (evaluated_query c.loop-line.tools.evaluator)
+          (bytes c.loop-line.written)
+          (bytes c.in_ok-more.more) kept.query (kept.answer t right)
           (c.in_ok-more.ensures.lines t right) (inr none);
       stopped = stop_more k lines c.loop-line.line-index c.loop-line-test.true kept.stopped (inr none);
       passed = passed_more k lines c.loop-line.line-index c.loop-line-test.true c.loop-line.faulty kept.passed
           none;
     }
 
-pub returns-then-not-pieces-clause-answer : goal.returns-then-not-pieces-clause-answer
-returns-then-not-pieces-clause-answer g c = λ t right. answer_last
-    c.args.pieces.now.keeps_going c.args.lines.now c.loop-line.line-index c.loop-line-test.true t
-    (planned_query c.args.pieces.now.plan.now) (evaluated_query c.loop-line.evaluator) c.loop-line.written.1
-    (bytes_in c.in_ok-into_chunks.field-0.items) c.in-Some.fault c.loop-line.invariant.query
+pub returns-in-Stop-clause-answer : goal.returns-in-Stop-clause-answer
+returns-in-Stop-clause-answer g c = λ t right. answer_last
+    c.args.pieces.now.on_fault c.args.lines.now c.loop-line.line-index c.loop-line-test.true g.F.Form.says t
+    (compiled_query c.args.pieces.now.query.now) (evaluated_query c.loop-line.tools.evaluator)
+    (g.F.Form.written c.loop-line.written)
+    (bytes_in c.in_ok-into_chunks-in-Stop.field-0.items) c.in-Some.fault c.loop-line.invariant.query
     (c.loop-line.invariant.answer t right)
-    (c.in_ok-into_chunks.ensures ∙ c.in_ok-more.ensures.lines t right) c.if-not-pieces.true
+    (c.in_ok-into_chunks-in-Stop.ensures ∙ c.in_ok-more.ensures.lines t right) c.in-Stop.is
     (sym c.in_ok-more.ensures.fault ∙ c.in-Some.is)
 
-pub returns-then-not-pieces-clause-stopped : goal.returns-then-not-pieces-clause-stopped
-returns-then-not-pieces-clause-stopped g c = stop_last c.args.pieces.now.keeps_going c.args.lines.now
+pub returns-in-Stop-clause-stopped : goal.returns-in-Stop-clause-stopped
+returns-in-Stop-clause-stopped g c = stop_last c.args.pieces.now.on_fault c.args.lines.now
     c.loop-line.line-index c.loop-line-test.true c.in-Some.fault
-    c.loop-line.invariant.stopped c.if-not-pieces.true (sym c.in_ok-more.ensures.fault ∙ c.in-Some.is)
+    c.loop-line.invariant.stopped c.in-Stop.is (sym c.in_ok-more.ensures.fault ∙ c.in-Some.is)
 
 pub overflow_add-faulty : goal.overflow_add-faulty
 overflow_add-faulty g c = omega (
   arith,
-  passed_fits c.args.pieces.now.keeps_going c.args.lines.now c.loop-line.line-index
+  passed_fits c.args.pieces.now.on_fault c.args.lines.now c.loop-line.line-index
       c.loop-line-test.true c.loop-line.faulty
-      (passed_one c.args.pieces.now.keeps_going c.args.lines.now c.loop-line.line-index
+      (passed_one c.args.pieces.now.on_fault c.args.lines.now c.loop-line.line-index
       c.loop-line-test.true c.loop-line.faulty c.in-Some.fault c.loop-line.invariant.passed
-      c.if-not-pieces.false (sym c.in_ok-more.ensures.fault ∙ c.in-Some.is)),
-  c.requires,
+      c.in-KeepGoing.is (sym c.in_ok-more.ensures.fault ∙ c.in-Some.is)),
+  c.requires.few,
 )
 
 pub loop-line-preserved : goal.loop-line-preserved
 loop-line-preserved g c =
-    let k = c.args.pieces.now.keeps_going in
+    let form = g.F.Form.says in
+    let bytes = g.F.Form.written in
+    let k = c.args.pieces.now.on_fault in
     let lines = c.args.lines.now in
     let kept = c.loop-line.invariant in
     let found = sym c.in_ok-more.ensures.fault ∙ c.in-Some.is in
     record {
       query = c.in_ok-more.ensures.query ∙ kept.query;
-      answer = λ t right. answer_more k lines c.loop-line.line-index c.loop-line-test.true t
-          (planned_query c.args.pieces.now.plan.now) (evaluated_query c.loop-line.evaluator)
-          c.loop-line.written.1
-          c.in_ok-more.more.1 kept.query (kept.answer t right)
-          (c.in_ok-more.ensures.lines t right) (inl c.if-not-pieces.false);
+      answer = λ t right. answer_more k lines c.loop-line.line-index c.loop-line-test.true form t
+          (compiled_query c.args.pieces.now.query.now) (evaluated_query c.loop-line.tools.evaluator)
+          (bytes c.loop-line.written)
+          (bytes c.in_ok-more.more) kept.query (kept.answer t right)
+          (c.in_ok-more.ensures.lines t right) (inl c.in-KeepGoing.is);
       stopped = stop_more k lines c.loop-line.line-index c.loop-line-test.true kept.stopped
-          (inl c.if-not-pieces.false);
+          (inl c.in-KeepGoing.is);
       passed = passed_one k lines c.loop-line.line-index c.loop-line-test.true c.loop-line.faulty
-          c.in-Some.fault kept.passed c.if-not-pieces.false found;
+          c.in-Some.fault kept.passed c.in-KeepGoing.is found;
     }
 
 pub returns-clause-answer : goal.returns-clause-answer
-returns-clause-answer g c = λ t right. answer_end c.args.pieces.now.keeps_going t
-    (planned_query c.args.pieces.now.plan.now) (map line_at c.args.lines.now)
-    (map line_at (drop c.loop-line.line-index c.args.lines.now)) c.loop-line.written.1
+returns-clause-answer g c = λ t right. answer_end g.F.Form.says c.args.pieces.now.on_fault t
+    (compiled_query c.args.pieces.now.query.now) (map line_at c.args.lines.now)
+    (map line_at (drop c.loop-line.line-index c.args.lines.now))
+    (g.F.Form.written c.loop-line.written)
     (bytes_in c.in_ok-chunks.chunks.items)
     (ap (map line_at) (drop_of_length-le c.args.lines.now c.loop-line-test.false))
     (c.loop-line.invariant.answer t right) c.in_ok-chunks.ensures

@@ -1,21 +1,23 @@
 use Rattle.std.proofs.Common.{◌≡◌, ◌+◌, drop, map}
 use Rattle.jp_buffer.specs.Buffered.{line_at}
-use Rattle.jp_check.specs.Plan.{planned_query}
+use Rattle.jp_compiled.specs.Compiled.{compiled_query}
 use Rattle.jp_eval.specs.Evaluated.{evaluated_query}
 use Rattle.jp_regexp.specs.Tests.{Tests, AreRight}
 use Rattle.jp_answer.specs.Answer.{after}
-use Rattle.jp_answer.specs.Form.{answer_in, stop_in, passed_in}
+use Rattle.jp_answer.specs.OnFault.{answer_by, stop_in, passed_in}
 use Rattle.jp_answer.proofs.answering.answer_lines.Given as goal
 
 abbrev pub invariant-loop-line : goal.invariant-loop-line
 invariant-loop-line g l = record {
-  query : evaluated_query l.evaluator ≡ planned_query l.pieces.plan.now;
-  answer : (t : Tests) → AreRight t → answer_in l.pieces.keeps_going t (planned_query l.pieces.plan.now)
+  query : evaluated_query l.tools.evaluator ≡ compiled_query l.pieces.query.now;
+  answer : (t : Tests) → AreRight t → answer_by g.F.Form.says l.pieces.on_fault t
+      (compiled_query l.pieces.query.now)
       (map line_at l.lines)
-      ≡ after l.written.1 (answer_in l.pieces.keeps_going t (planned_query l.pieces.plan.now)
+      ≡ after (g.F.Form.written l.written) (answer_by g.F.Form.says l.pieces.on_fault t
+      (compiled_query l.pieces.query.now)
       (map line_at (drop l.line-index l.lines)));
-  stopped : stop_in l.pieces.keeps_going (map line_at l.lines)
-      ≡ stop_in l.pieces.keeps_going (map line_at (drop l.line-index l.lines));
-  passed : passed_in l.pieces.keeps_going (map line_at l.lines)
-      ≡ l.faulty + passed_in l.pieces.keeps_going (map line_at (drop l.line-index l.lines));
+  stopped : stop_in l.pieces.on_fault (map line_at l.lines)
+      ≡ stop_in l.pieces.on_fault (map line_at (drop l.line-index l.lines));
+  passed : passed_in l.pieces.on_fault (map line_at l.lines)
+      ≡ l.faulty + passed_in l.pieces.on_fault (map line_at (drop l.line-index l.lines));
 }

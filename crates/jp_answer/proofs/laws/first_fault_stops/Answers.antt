@@ -1,5 +1,6 @@
+use Rattle.jp_output.specs.OutputForm.{node_lines}
 use Rattle.jp_answer.proofs.Joining.{stops_so}
 use Rattle.jp_answer.proofs.laws.first_fault_stops.Goals as goal
 
 pub returns : goal.returns
-returns c = stops_so
+returns c = stops_so node_lines

@@ -1,29 +1,31 @@
 use Rattle.std.proofs.Common.{◌++◌, ap, ◌∙◌}
 use Rattle.jp_answer.specs.Answer.{answer}
-use Rattle.jp_answer.specs.Form.{answer_in}
+use Rattle.jp_answer.specs.OnFault.{answer_in}
 use Rattle.jp_answer.specs.Whole.{whole}
 use Rattle.jp_doc.specs.Lines.{lines, line_count}
+use Rattle.jp_output.specs.OutputForm.{node_lines}
 use Rattle.jp_answer.specs.Streams.{line_feeds}
-use Rattle.jp_answer.proofs.Forms.{formed_joined, whole_joined, nothing_in}
+use Rattle.jp_answer.proofs.OnFaults.{formed_joined, whole_joined, nothing_in}
 use Rattle.jp_answer.proofs.Joining.{pieces_joined}
 use Rattle.jp_answer.proofs.Streams.{lines_both, count_both, blocks_answered}
 use Rattle.jp_answer.proofs.laws.streams.Goals as goal
 
 pub returns-clause-answer : goal.returns-clause-answer
 returns-clause-answer c = λ t q a b h. ap (answer t q) (lines_both a b h)
-    ∙ pieces_joined t q (lines a) (lines (line_feeds (line_count a) ++ b))
+    ∙ pieces_joined node_lines t q (lines a) (lines (line_feeds (line_count a) ++ b))
 
 pub returns-clause-whole : goal.returns-clause-whole
 returns-clause-whole c = λ t q a b h. ap (whole t q) (lines_both a b h)
-    ∙ whole_joined t q (lines a) (lines (line_feeds (line_count a) ++ b))
+    ∙ whole_joined node_lines t q (lines a) (lines (line_feeds (line_count a) ++ b))
 
 pub returns-clause-either : goal.returns-clause-either
 returns-clause-either c = λ k t q a b h. ap (answer_in k t q) (lines_both a b h)
-    ∙ formed_joined t q k (lines a) (lines (line_feeds (line_count a) ++ b))
+    ∙ formed_joined node_lines t q k (lines a) (lines (line_feeds (line_count a) ++ b))
 
 pub returns-clause-blocks : goal.returns-clause-blocks
 returns-clause-blocks c =
-    λ k t q bs h. blocks_answered (answer_in k t q) (nothing_in t q k) (formed_joined t q k) bs h
+    λ k t q bs h. blocks_answered (answer_in k t q) (nothing_in node_lines t q k) (formed_joined node_lines
+    t q k) bs h
 
 pub returns-clause-count : goal.returns-clause-count
 returns-clause-count c = count_both

@@ -14,7 +14,8 @@ close-mark-requires-clause-seats g c =
     c.in_ok-done.ensures.seats)
 
 pub returns : goal.returns
-returns g c = placed_ok c.args.pieces.now c.count-count.result c.close-mark.ensures.0 c.close-mark.result
+returns g c = placed_ok g.F.Form.says c.args.pieces.now c.count-count.result c.close-mark.ensures.0
+    c.close-mark.result
     c.in_ok-done.done.items c.in_ok-seats.seats.items c.in_ok-seats.parts.items c.min.result c.place.result
     (omega (arith, c.in_ok-done.ensures.len, c.in_ok-board.ensures.len, c.at_work.ensures.0))
     c.in_ok-done.ensures.worked c.in_ok-seats.ensures.wanted c.in_ok-seats.ensures.seats

@@ -1,8 +1,7 @@
 use Rattle.std.proofs.Common.{is_some, sym, ap, ap₂, ◌∙◌}
 use Rattle.std.specs.List.{fold}
 use Rattle.jp_part.specs.Part.{part_value}
-use Rattle.jp_check.specs.Plan.{planned_query}
-use Rattle.jp_compiled.specs.Compiled.{roots_of, segments_in}
+use Rattle.jp_compiled.specs.Compiled.{compiled_query, roots_of, segments_in}
 use Rattle.jp_eval.specs.inner.Rooted.{root_nodes}
 use Rattle.jp_eval.specs.inner.Base.{base_of}
 use Rattle.jp_eval.specs.Nodelist.{document_nodes}
@@ -14,10 +13,10 @@ use Rattle.jp_eval.proofs.evaluator.visit_in.Goals as goal
 
 pub returns : goal.returns
 returns g c =
-    let compiled = c.compiled-compiled.result.now in
+    let compiled = c.args.query.now in
     let context = c.in_ok-context.context in
     let value = part_value c.args.root in
-    let query = planned_query c.args.plan.now in
+    let query = compiled_query compiled in
     let at_root = c.in_ok-context.ensures.root in
     let nodes =
     from_root (base_of context) compiled.segments c.as_slice-2.result.now c.args.root
@@ -25,8 +24,7 @@ returns g c =
     (sym c.in_ok-context.ensures.root)
     ∙ ap₂ (λ v rs. root_nodes v (segments_in (roots_of rs) compiled.segments.items)) at_root
     (c.in_ok-context.ensures.roots ∙ c.as_slice.ensures.value)
-    ∙ started compiled.start (segments_in (roots_of compiled.roots.items) compiled.segments.items) value
-    ∙ ap (λ q. document_nodes tests q value) c.compiled-compiled.ensures in
+    ∙ started compiled.start (segments_in (roots_of compiled.roots.items) compiled.segments.items) value in
     λ t right. taken_out g.V.Visit.put _ _ _ (c.in-Some.ensures.visitor ∙ c.in_ok-run.ensures.found)
     ∙ ap (fold g.V.Visit.put (g.V.Visit.kept c.args.visitor)) (nodes ∙ same_nodes t query value right)
 

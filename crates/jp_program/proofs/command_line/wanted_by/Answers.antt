@@ -26,5 +26,6 @@ returns-clause-some c =
       check = c.in_ok-check.ensures.some;
       keeps_going = subst (SaysFlag (codes "keep-going") (rows_of found)) (sym c.in_ok-settings.ensures.form)
           c.in_ok-keep_going.ensures.some;
+      explain = c.in_ok-explain.ensures.some;
       settings = c.in_ok-settings.ensures.some;
     }

@@ -11,6 +11,7 @@ returns c = (
     query = refl;
     check = refl;
     keeps_going = refl;
+    explain = refl;
     settings = (
       (56 ∷ [], refl, (omega arith, (omega arith, tt)), refl),
       (50 ∷ [], refl, (omega arith, (omega arith, tt)), refl),

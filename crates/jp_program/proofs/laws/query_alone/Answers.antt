@@ -11,6 +11,7 @@ returns c = λ name rest. (
     query = refl;
     check = refl;
     keeps_going = refl;
+    explain = refl;
     settings = (
       (52 ∷ [], refl, (omega arith, (omega arith, tt)), refl),
       (54 ∷ 52 ∷ [], refl, (omega arith, (omega arith, (omega arith, tt))), refl),

@@ -4,6 +4,7 @@ use Rattle.std.proofs.lemmas.Grind.{common_steps}
 use Rattle.std.proofs.lemmas.List.{take-map, drop-map, length-map, drop-drop}
 use Rattle.jp_buffer.specs.Buffered.{line_at}
 use Rattle.jp_buffer.specs.declared.line_ref.LineRef as code
+use Rattle.jp_run.specs.Answered.{manner_in}
 use Rattle.jp_run.proofs.Handing.{told}
 use Rattle.jp_run.proofs.Standing.{partly_start, partly_more, partly_ended, partly_count, partly_handed}
 use Rattle.jp_run.proofs.Standing.{partly_passed, partly_few, passed_next, passed_within}
@@ -28,7 +29,7 @@ loop-done-init g c = record {
 pub returns-in_err-faulty-clause-fault : goal.returns-in_err-faulty-clause-fault
 returns-in_err-faulty-clause-fault g c = told _ _ _ c.from_residual.ensures.1
     (partly_ended _ _ _ _ _ _ _ _ _ _ _ c.loop-done.invariant.partly
-    (front_is c.args.settings.batch c.loop-done.done c.args.lines.now _ c.batch_at-front.ensures)
+    (front_is c.args.job.now.settings.batch c.loop-done.done c.args.lines.now _ c.batch_at-front.ensures)
     c.in_err-faulty.ensures.fault)
 
 pub loop-done-preserved : goal.loop-done-preserved
@@ -44,24 +45,26 @@ loop-done-preserved g c = record {
         length-map c.args.lines.now line_at,
         length-drop c.loop-done.done (map line_at c.args.lines.now),
       ))
-      (front_is c.args.settings.batch c.loop-done.done c.args.lines.now _ c.batch_at-front.ensures)
-      (sym (drop-drop c.args.settings.batch c.loop-done.done (map line_at c.args.lines.now)))
+      (front_is c.args.job.now.settings.batch c.loop-done.done c.args.lines.now _ c.batch_at-front.ensures)
+      (sym (drop-drop c.args.job.now.settings.batch c.loop-done.done (map line_at c.args.lines.now)))
       c.in_ok-faulty.ensures.handed;
-  passed = (passed_next c.args.settings.keeps_going _ _ _ _ c.args.settings.batch _ _
+  passed = (passed_next (manner_in g.F.Form.says c.args.job.now.settings.keeps_going) _ _ _ _
+      c.args.job.now.settings.batch _ _
       c.loop-done.invariant.passed
-      (front_is c.args.settings.batch c.loop-done.done c.args.lines.now _ c.batch_at-front.ensures)
-      (sym (drop-drop c.args.settings.batch c.loop-done.done (map line_at c.args.lines.now)))
+      (front_is c.args.job.now.settings.batch c.loop-done.done c.args.lines.now _ c.batch_at-front.ensures)
+      (sym (drop-drop c.args.job.now.settings.batch c.loop-done.done (map line_at c.args.lines.now)))
       c.in_ok-faulty.ensures.passed);
 }
 
 pub overflow_add-faulty : goal.overflow_add-faulty
 overflow_add-faulty g c = omega (
   arith,
-  passed_within c.args.settings.keeps_going _ _ _ _
-      (passed_next c.args.settings.keeps_going _ _ _ _ c.args.settings.batch _ _
+  passed_within (manner_in g.F.Form.says c.args.job.now.settings.keeps_going) _ _ _ _
+      (passed_next (manner_in g.F.Form.says c.args.job.now.settings.keeps_going) _ _ _ _
+      c.args.job.now.settings.batch _ _
       c.loop-done.invariant.passed
-      (front_is c.args.settings.batch c.loop-done.done c.args.lines.now _ c.batch_at-front.ensures)
-      (sym (drop-drop c.args.settings.batch c.loop-done.done (map line_at c.args.lines.now)))
+      (front_is c.args.job.now.settings.batch c.loop-done.done c.args.lines.now _ c.batch_at-front.ensures)
+      (sym (drop-drop c.args.job.now.settings.batch c.loop-done.done (map line_at c.args.lines.now)))
       c.in_ok-faulty.ensures.passed),
   length-map c.args.lines.now line_at,
   c.requires.few,
@@ -69,7 +72,7 @@ overflow_add-faulty g c = omega (
 
 pub returns-clause-passed : goal.returns-clause-passed
 returns-clause-passed g c = partly_passed _ _ _ _ _ _ _ c.loop-done.invariant.partly
-    c.args.settings.in_range.2.0
+    c.args.job.now.settings.in_range.2.0
     (omega (
       arith,
       c.loop-done.invariant.within,
@@ -82,7 +85,7 @@ returns-clause-passed g c = partly_passed _ _ _ _ _ _ _ c.loop-done.invariant.pa
 pub returns-clause-few : goal.returns-clause-few
 returns-clause-few g c = omega (
   arith,
-  partly_few _ _ _ _ _ _ _ c.loop-done.invariant.partly c.args.settings.in_range.2.0
+  partly_few _ _ _ _ _ _ _ c.loop-done.invariant.partly c.args.job.now.settings.in_range.2.0
       (omega (
         arith,
         c.loop-done.invariant.within,
@@ -99,7 +102,7 @@ returns-clause-few g c = omega (
 pub returns-clause-count : goal.returns-clause-count
 returns-clause-count g c = omega (
   arith,
-  partly_count _ _ _ _ _ _ _ c.loop-done.invariant.partly c.args.settings.in_range.2.0
+  partly_count _ _ _ _ _ _ _ c.loop-done.invariant.partly c.args.job.now.settings.in_range.2.0
       (omega (
         arith,
         c.loop-done.invariant.within,
@@ -114,7 +117,7 @@ returns-clause-count g c = omega (
 
 pub returns-clause-handed : goal.returns-clause-handed
 returns-clause-handed g c = partly_handed _ _ _ _ _ _ _ c.loop-done.invariant.partly
-    c.args.settings.in_range.2.0
+    c.args.job.now.settings.in_range.2.0
     (omega (
       arith,
       c.loop-done.invariant.within,

@@ -1,22 +1,27 @@
-use Rattle.std.proofs.Common.{ℕ, ◌-◌, ◌≤◌, inl, inr, refl, arith, ap, length, length-append}
+use Rattle.std.proofs.Common.{ℕ, ◌-◌, ◌≤◌, inl, inr, refl, arith, ap, length, length-append, length-take-le}
 use Rattle.std.proofs.lemmas.List.{nil_from_length}
-use Rattle.jp_check.specs.Plan.{planned_query}
+use Rattle.std.proofs.KnownBytes.{Appends-nil}
+use Rattle.jp_compiled.specs.Compiled.{compiled_query}
+use Rattle.jp_run.specs.Answered.{manner_in}
 use Rattle.jp_run.proofs.Handing.{told}
 use Rattle.jp_run.proofs.Holding.{held_nothing, same_some, whole_some, front_held, front_ended, front_handed}
 use Rattle.jp_run.proofs.batches.complete_batch.Goals as goal
-use Rattle.jp_run.proofs.batches.complete_batch.Goals.{then-held-eq0-via-then-held-eq0, then-held-eq0-via-else-held-eq0+then-held-len}
+use Rattle.jp_run.proofs.batches.complete_batch.Goals.{then-held-eq0-via-then-held-eq0}
+use Rattle.jp_run.proofs.batches.complete_batch.Goals.{then-held-eq0-via-else-held-eq0+then-held-len}
 
 pub returns-then-held-eq0-clause-kept : goal.returns-then-held-eq0-clause-kept
 returns-then-held-eq0-clause-kept g c = λ held is.
-    same_some c.args.settings.keeps_going (planned_query c.args.plan.now) c.args.settings.batch
-    c.args.settings.in_range.2.0 held c.args.pending.now.buffer.lines _ _ _ is c.requires.going_on
+    same_some (manner_in g.F.Form.says c.args.job.now.settings.keeps_going) (compiled_query
+    c.args.job.now.query.now) c.args.job.now.settings.batch
+    c.args.job.now.settings.in_range.2.0 held c.args.stream.now.incoming.buffer.lines _ _ _ is
+    c.requires.going_on
     (elim c.then-held-eq0.branch [
       | then-held-eq0-via-then-held-eq0 w ↦
           inl (nil_from_length held (omega (arith, is.counted, w.if-held-eq0.true)))
       | then-held-eq0-via-else-held-eq0+then-held-len w ↦ inr (omega (
         arith,
         is.counted,
-        length-append held c.args.pending.now.buffer.lines,
+        length-append held c.args.stream.now.incoming.buffer.lines,
         w.len.ensures,
         w.if-held-len.true,
       ))
@@ -27,29 +32,30 @@ overflow_sub-count g c = omega (arith, c.requires.not_whole)
 
 pub returns-in_err-hand_out-clause-fault : goal.returns-in_err-hand_out-clause-fault
 returns-in_err-hand_out-clause-fault g c = λ held is. told _ _ _ c.from_residual-in_err-hand_out.ensures.1
-    (front_ended c.args.settings.keeps_going (planned_query c.args.plan.now) held
-    c.args.pending.now.buffer.lines (c.args.settings.batch - c.args.pending.now.held.count)
-    c.args.pending.now.held c.put.new.self c.in_ok-more.more is
-    (omega (arith, c.if-held-len.false, c.len.ensures)) c.in_ok-more.ensures.answer
+    (front_ended (manner_in g.F.Form.says c.args.job.now.settings.keeps_going) (compiled_query
+    c.args.job.now.query.now) held
+    c.args.stream.now.incoming.buffer.lines (c.args.job.now.settings.batch - c.args.stream.now.held.count)
+    c.args.stream.now.held c.put.new.self c.in_ok-more.more is
+    (omega (arith, c.if-held-len.false, c.len.ensures)) c.in_ok-more.ensures.is
     c.in_ok-more.ensures.passed c.in_ok-put.ensures.count
     (c.in_ok-put.ensures.answer c.requires.going_on) c.in_ok-put.ensures.passed _ _ _ _
     c.in_err-hand_out.ensures.fault)
 
 pub returns-clause-kept : goal.returns-clause-kept
 returns-clause-kept g c = λ held is.
-    let count : ℕ = c.args.settings.batch - c.args.pending.now.held.count in
-    let waiting = c.args.pending.now.buffer.lines in
-    let k = c.args.settings.keeps_going in
-    let q = planned_query c.args.plan.now in
+    let count : ℕ = c.args.job.now.settings.batch - c.args.stream.now.held.count in
+    let waiting = c.args.stream.now.incoming.buffer.lines in
+    let k = manner_in g.F.Form.says c.args.job.now.settings.keeps_going in
+    let q = compiled_query c.args.job.now.query.now in
     let fits : count ≤ length waiting = omega (arith, c.if-held-len.false, c.len.ensures) in
-    whole_some k q c.args.settings.batch c.args.settings.in_range.2.0 held waiting
+    whole_some k q c.args.job.now.settings.batch c.args.job.now.settings.in_range.2.0 held waiting
     c.take_away.new.self.lines count _ _ _ _ c.put.new.self c.clear.new.self
     (omega (arith, is.counted, c.requires.not_whole)) fits
-    (front_held k q held waiting count c.args.pending.now.held c.put.new.self c.in_ok-more.more is fits
-    c.in_ok-more.ensures.answer c.in_ok-more.ensures.passed c.in_ok-put.ensures.count
+    (front_held k q held waiting count c.args.stream.now.held c.put.new.self c.in_ok-more.more is fits
+    c.in_ok-more.ensures.is c.in_ok-more.ensures.passed c.in_ok-put.ensures.count
     (c.in_ok-put.ensures.answer c.requires.going_on) c.in_ok-put.ensures.passed)
-    (front_handed k q held waiting count c.args.pending.now.held c.put.new.self c.in_ok-more.more is fits
-    c.in_ok-more.ensures.answer c.in_ok-more.ensures.passed c.in_ok-put.ensures.count
+    (front_handed k q held waiting count c.args.stream.now.held c.put.new.self c.in_ok-more.more is fits
+    c.in_ok-more.ensures.is c.in_ok-more.ensures.passed c.in_ok-put.ensures.count
     (c.in_ok-put.ensures.answer c.requires.going_on) c.in_ok-put.ensures.passed _ _
     c.in_ok-hand_out.ensures.whole c.in_ok-hand_out.ensures.ok)
     refl refl (held_nothing k q c.clear.new.self c.clear.ensures.count c.clear.ensures.answer
@@ -63,4 +69,10 @@ returns-clause-few_faulty g c = omega (
   c.requires.not_whole,
   c.in_ok-put.ensures.passed,
   c.in_ok-more.ensures.few,
+  length-take-le (c.args.job.now.settings.batch - c.args.stream.now.held.count)
+      c.args.stream.now.incoming.buffer.lines (omega (arith, c.if-held-len.false, c.len.ensures)),
 )
+
+pub returns-in_err-put-clause-fault : goal.returns-in_err-put-clause-fault
+returns-in_err-put-clause-fault g c = λ held is. told _ _ _ c.from_residual-in_err-put.ensures.1
+    (λ t right. (0, omega arith, Appends-nil _))

@@ -1,19 +1,19 @@
 use Rattle.std.proofs.Common.{refl}
-use Rattle.jp_check.specs.Plan.{planned_query}
+use Rattle.jp_compiled.specs.Compiled.{compiled_query}
 use Rattle.jp_run.specs.declared.fault.RunFault.TheVariants.{Document, Read, Write, Limit}
 use Rattle.jp_run.proofs.Runs.{not_both, refused_so, at_fault, accepted_ok, answer_known, answer_ok}
-use Rattle.jp_run.proofs.Runs.{front_err}
+use Rattle.jp_run.proofs.Runs.{front_err, not_going, spelled}
 use Rattle.jp_run.proofs.running.run.Goals as goal
 
 pub returns-in_err-plan-clause-refused : goal.returns-in_err-plan-clause-refused
 returns-in_err-plan-clause-refused g c =
     λ f v. (refused_so _ f _ _ c.from_residual.ensures.1 c.in_err-plan.ensures.fault v, refl, refl)
 
-pub stream-requires-clause-working : goal.stream-requires-clause-working
-stream-requires-clause-working g c = λ κs outlives. c.requires.working
+pub answer_stream-requires-clause-working : goal.answer_stream-requires-clause-working
+answer_stream-requires-clause-working g c = λ κs outlives. c.requires.working
 
-pub stream-requires-clause-few : goal.stream-requires-clause-few
-stream-requires-clause-few g c = λ κs outlives. c.requires.few.0
+pub answer_stream-requires-clause-few : goal.answer_stream-requires-clause-few
+answer_stream-requires-clause-few g c = λ κs outlives. c.requires.few.0
 
 pub returns-clause-accepted : goal.returns-clause-accepted
 returns-clause-accepted g c = accepted_ok _ _ c.in_ok-plan.ensures.ok _
@@ -22,46 +22,67 @@ pub returns-clause-refused : goal.returns-clause-refused
 returns-clause-refused g c = λ f v. not_both _ _ f c.in_ok-plan.ensures.ok v
 
 pub returns-clause-answer : goal.returns-clause-answer
-returns-clause-answer g c = answer_ok _ _ _ c.in_ok-plan.ensures.ok _ _ _ _ c.stream.ensures.handed
+returns-clause-answer g c = answer_ok c.args.settings.now.keeps_going _ _ (spelled _ _ _ c.compiled.ensures
+    c.in_ok-plan.ensures.ok) _ _ _ _ c.answer_stream.ensures.handed
 
 pub returns-clause-counts : goal.returns-clause-counts
-returns-clause-counts g c = c.stream.ensures.counts
+returns-clause-counts g c = c.answer_stream.ensures.counts
 
 pub returns-clause-document : goal.returns-clause-document
-returns-clause-document g c = λ line fault e. answer_known _ _ _ c.in_ok-plan.ensures.ok _ _ _ _
-    (at_fault _ (Document line fault) _ e c.stream.ensures.fault).0
+returns-clause-document g c = λ line fault e. answer_known c.args.settings.now.keeps_going _ _ (spelled _ _
+    _ c.compiled.ensures c.in_ok-plan.ensures.ok) _ _ _ _
+    (at_fault _ (Document line fault) _ e c.answer_stream.ensures.fault).0
 
 pub returns-clause-no_later_read : goal.returns-clause-no_later_read
 returns-clause-no_later_read g c = λ line fault e.
-    let h = at_fault c.stream.result (Document line fault) _ e c.stream.ensures.fault in (h.1.0, h.1.1, h.1.2)
+    let h = at_fault c.answer_stream.result (Document line fault) _ e c.answer_stream.ensures.fault in
+    (h.1.0, h.1.1, h.1.2)
 
 pub returns-clause-goes_on : goal.returns-clause-goes_on
 returns-clause-goes_on g c = λ on line fault e.
-    let h = at_fault c.stream.result (Document line fault) _ e c.stream.ensures.fault in
-    let off = h.2 in absurd (cc)
+    let h = at_fault c.answer_stream.result (Document line fault) _ e c.answer_stream.ensures.fault in
+    not_going _ on h.2
 
 pub returns-clause-faulty : goal.returns-clause-faulty
-returns-clause-faulty g c = c.stream.ensures.passed
+returns-clause-faulty g c = c.answer_stream.ensures.passed
 
 pub returns-clause-read : goal.returns-clause-read
 returns-clause-read g c = λ e.
-    let h = at_fault c.stream.result Read _ e c.stream.ensures.fault in
-    (h.0, h.1, h.2, (planned_query c.in_ok-plan.plan, c.in_ok-plan.ensures.ok, h.3))
+    let h = at_fault c.answer_stream.result Read _ e c.answer_stream.ensures.fault in (
+      h.0,
+      h.1,
+      h.2,
+      (
+        compiled_query c.compiled.result.now,
+        spelled _ _ _ c.compiled.ensures
+            c.in_ok-plan.ensures.ok,
+        h.3,
+      ),
+    )
 
 pub returns-clause-write : goal.returns-clause-write
-returns-clause-write g c = λ e. (at_fault c.stream.result Write _ e c.stream.ensures.fault).0
+returns-clause-write g c = λ e. (at_fault c.answer_stream.result Write _ e c.answer_stream.ensures.fault).0
 
 pub returns-clause-no_read_between : goal.returns-clause-no_read_between
 returns-clause-no_read_between g c = λ e.
-    let h = at_fault c.stream.result Write _ e c.stream.ensures.fault in
-    (h.2.0, h.2.1, (planned_query c.in_ok-plan.plan, c.in_ok-plan.ensures.ok, h.2.2))
+    let h = at_fault c.answer_stream.result Write _ e c.answer_stream.ensures.fault in (
+      h.2.0,
+      h.2.1,
+      (
+        compiled_query c.compiled.result.now,
+        spelled _ _ _ c.compiled.ensures
+            c.in_ok-plan.ensures.ok,
+        h.2.2,
+      ),
+    )
 
 pub returns-clause-limit : goal.returns-clause-limit
-returns-clause-limit g c = λ e. (at_fault c.stream.result Limit _ e c.stream.ensures.fault).0
+returns-clause-limit g c = λ e. (at_fault c.answer_stream.result Limit _ e c.answer_stream.ensures.fault).0
 
 pub returns-clause-front : goal.returns-clause-front
-returns-clause-front g c = front_err _ _ _ c.in_ok-plan.ensures.ok c.stream.result _
-    c.args.settings.now.in_range.2.0 _ c.stream.ensures.fault
+returns-clause-front g c = front_err c.args.settings.now.keeps_going _ _ (spelled _ _ _ c.compiled.ensures
+    c.in_ok-plan.ensures.ok) c.answer_stream.result _
+    c.args.settings.now.in_range.2.0 _ c.answer_stream.ensures.fault
 
 pub returns-clause-few : goal.returns-clause-few
-returns-clause-few g c = c.stream.ensures.few
+returns-clause-few g c = c.answer_stream.ensures.few

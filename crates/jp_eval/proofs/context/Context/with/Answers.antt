@@ -1,6 +1,6 @@
 use Rattle.std.proofs.Common.{[], map, ap, ap₂, ◌∙◌}
 use Rattle.jp_compiled.specs.Compiled.{roots_of, wanted_in}
-use Rattle.jp_check.proofs.MakingSteps.{listed_more}
+use Rattle.jp_compiled.proofs.RootsListed.{listed_more}
 use Rattle.jp_eval.specs.inner.Rooted.{are_answers}
 use Rattle.jp_part.specs.Part.{part_value}
 use Rattle.jp_eval.proofs.Answered.{one_more, and_one}

@@ -1,0 +1,39 @@
+-- That a compiled query may be shared among threads, and pieces with it.
+use denote.Param.Send.{IsSync, sendable}
+use Rattle.std.proofs.Crossing.{crosses}
+use Rattle.jp_answer.specs.contracts.pieces.Pieces as Pieces
+use Rattle.jp_buffer.proofs.line_ref.LineRef.TheSendSync as lines
+use denote.Ref.{NamedLft}
+use Rattle.jp_compiled.specs.contracts.query.Query as Query
+use Rattle.jp_regexp.proofs.tree.CharSet.TheSendSync as sets
+use Rattle.jp_regexp.proofs.dfa.Dfa.TheSendSync as dfas
+use Rattle.jp_compiled.proofs.query.Constant.TheSendSync as constants
+use Rattle.jp_compiled.proofs.query.Position.TheSendSync as positions
+use Rattle.jp_compiled.proofs.query.Slice.TheSendSync as slices
+use Rattle.jp_compiled.proofs.query.Want.TheSendSync as wants
+use Rattle.jp_compiled.proofs.query.Form.TheSendSync as forms
+use Rattle.jp_compiled.proofs.query.Logical.TheLaws.TheKnot.{crosses as query_crosses}
+use Rattle.jp_regexp.proofs.expressions.Expression.TheLaws.TheKnot.{crosses as pattern_crosses}
+
+query_field : IsSync (Query.the_field).row
+query_field = search (
+  dfas.the_field_sync,
+  dfas.the_field_send,
+  sets.the_field_send,
+  sets.the_field_sync,
+  constants.the_field_sync,
+  positions.the_field_sync,
+  slices.the_field_sync,
+  wants.the_field_sync,
+  forms.the_field_sync,
+  crosses,
+  pattern_crosses,
+  query_crosses,
+  sendable,
+) depth 60 fits 20000
+
+pub query_sync : IsSync Query.the_row
+query_sync = search (query_field, sendable) depth 60 fits 20000
+
+pub pieces_sync : (a : NamedLft) → IsSync (Pieces.the_row a)
+pieces_sync a = search (query_sync, lines.the_sync, crosses, sendable) depth 60 fits 20000

@@ -1,0 +1,39 @@
+-- Lines without control characters.
+use Rattle.std.proofs.Common.{◌≡◌, ℕ, Bool, true, false, not, List, [], ◌∷◌, ◌++◌, refl, ap, ◌∙◌}
+use Rattle.std.proofs.Common.{Result, Ok, Err}
+use Rattle.std.specs.Prelude.{String, replicate, IfOk, OnOk, is_ok, if◌then◌else◌}
+use Rattle.std.specs.declared.alloc.Global.{Global}
+use Rattle.std.specs.Str.{chars, IsUtf8}
+use Rattle.std.specs.List.{list_all}
+use Rattle.std.proofs.lemmas.List.Folds.{list_all-append}
+use Rattle.std.proofs.Math.Utf8.{encode, scalars}
+use Rattle.jp_tree.specs.Tree.{Text}
+use Rattle.jp_tree.specs.View.{text_of}
+use Rattle.jp_tokens.proofs.Cuts.{pushed}
+use Rattle.jp_explain.specs.Picture.{is_control, is_shown, IsPicture}
+
+all_pushed : (p : ℕ → Bool) (xs : List ℕ) (c : ℕ) → list_all p xs ≡ true → p c ≡ true
+    → list_all p (xs ++ c ∷ []) ≡ true
+all_pushed p xs c h k = list_all-append p xs (c ∷ []) ∙ rw (h, k) refl
+
+shown_by : {X E : Type 0} (r : Result X E) (old new : List ℕ) (c : ℕ)
+    → OnOk r (chars new ≡ chars old ++ c ∷ [])
+    → new ≡ (if is_ok r then old ++ encode c else old) → is_control c ≡ false → is_shown (chars old) ≡ true
+    → is_shown (chars new) ≡ true
+shown_by (Ok x) old new c more e k h =
+    ap is_shown more ∙ all_pushed (λ d. not (is_control d)) (chars old) c h (ap not k)
+shown_by (Err x) old new c more e k h = ap (λ t. is_shown (chars t)) e ∙ h
+
+-- one more character that is none of control
+pub shown_pushed : {X E : Type 0} (r : Result X E) (old new : List ℕ) (c : ℕ) → IsUtf8 old
+    → scalars (c ∷ []) ≡ true → new ≡ (if is_ok r then old ++ encode c else old) → is_control c ≡ false
+    → is_shown (chars old) ≡ true → is_shown (chars new) ≡ true
+shown_pushed r old new c u s e k h = shown_by r old new c (pushed r old new c u s e) e k h
+
+-- the three lines
+pub pictured : {E : Type 0} (r : Result (String Global) E) (line : Text) (column : ℕ) (words : Text)
+    → is_shown line ≡ true
+    → IfOk r (λ s. text_of s ≡ line ++ (10 ∷ (replicate column 32 ++ (94 ∷ 10 ∷ words))))
+    → IfOk r (λ s. IsPicture (text_of s))
+pictured (Ok s) line column words shown value = (line, column, words, shown, value)
+pictured (Err e) line column words shown value = tt

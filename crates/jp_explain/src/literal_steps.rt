@@ -1,0 +1,266 @@
+//! The steps of a scan through numbers, texts in quotes and words (RFC 9535, 2.3.1 and 2.3.5.1).
+
+use crate::expected::{behind_literal, behind_number};
+use crate::functions::{WORDS, is_literal, may_begin, may_call, parameter, takes_literal};
+use crate::place::{Called, Form, Number, NumberOf, Open, Part, Place, Quoted, Side, Unit, Word};
+use crate::reason::{Expected, Reason, Rule};
+use crate::scanner::{Halt, Scanner};
+use jp_types::function_named;
+
+/// How far from zero an index or a number of a slice may be (RFC 9535, 2.1).
+const MAX_INDEX: u64 = 9_007_199_254_740_991;
+
+/// How many digits a number literal may have.
+const MAX_DIGITS: u64 = 38;
+
+/// The size of a number with one more digit.
+fn grown(what: NumberOf, size: u64, c: char) -> u64 {
+    match what {
+        NumberOf::Literal(_) => size.saturating_add(1),
+        _ => size
+            .saturating_mul(10)
+            .saturating_add(c.to_digit(10).unwrap_or(0) as u64),
+    }
+}
+
+fn is_in_range(what: NumberOf, size: u64) -> bool {
+    match what {
+        NumberOf::Literal(_) => size <= MAX_DIGITS,
+        _ => size <= MAX_INDEX,
+    }
+}
+
+/// The place where such a number begins, and the rule for its size.
+fn number_place(what: NumberOf) -> (Place, Rule) {
+    match what {
+        NumberOf::Literal(side) => (Place::Operand(side), Rule::LiteralRange),
+        NumberOf::Index => (Place::Selector, Rule::IndexRange),
+        NumberOf::Past => (Place::Past, Rule::IndexRange),
+        NumberOf::Step => (Place::Step, Rule::IndexRange),
+    }
+}
+
+fn is_function_character(c: char) -> bool {
+    c.is_ascii_lowercase() || c == '_' || c.is_ascii_digit()
+}
+
+/// The unit and the count of its digits behind one digit more, or nothing where none is written so.
+fn digits_after(unit: Unit, count: u8, c: char) -> Option<(Unit, u8)> {
+    if !c.is_ascii_hexdigit() {
+        return None;
+    }
+    match (unit, count, c) {
+        (Unit::Scalar, 0, 'd' | 'D') => Some((Unit::Lead, 1)),
+        (Unit::Lead, _, '0'..='7') => Some((Unit::Scalar, 2)),
+        (Unit::Lead, _, '8' | '9' | 'a' | 'b' | 'A' | 'B') => Some((Unit::High, 2)),
+        (Unit::Lead, _, _) => None,
+        (Unit::Low, 0, 'd' | 'D') | (Unit::Low, 1, 'c'..='f' | 'C'..='F') => {
+            Some((Unit::Low, count.saturating_add(1)))
+        }
+        (Unit::Low, 0 | 1, _) => None,
+        _ => Some((unit, count.saturating_add(1))),
+    }
+}
+
+/// Where the scan stands behind so many digits of the unit.
+fn behind_digits(unit: Unit, count: u8) -> Part {
+    match (unit, count) {
+        (_, 0..=3) => Part::Digits(unit, count),
+        (Unit::High, _) => Part::Half,
+        _ => Part::Bare,
+    }
+}
+
+/// Where the scan stands in quotes behind one character more, which does not end them; or nothing where it
+/// may not stand there.
+fn part_after(part: Part, quote: char, c: char) -> Option<Part> {
+    match part {
+        Part::Bare if c == '\\' => Some(Part::Escape),
+        Part::Bare if c >= ' ' => Some(Part::Bare),
+        Part::Bare => None,
+        Part::Escape if c == 'u' => Some(Part::Digits(Unit::Scalar, 0)),
+        Part::Escape if c == quote || matches!(c, 'b' | 'f' | 'n' | 'r' | 't' | '/' | '\\') => {
+            Some(Part::Bare)
+        }
+        Part::Escape => None,
+        Part::Digits(unit, count) => {
+            let (unit, count) = digits_after(unit, count, c)?;
+            Some(behind_digits(unit, count))
+        }
+        Part::Half if c == '\\' => Some(Part::HalfEscape),
+        Part::HalfEscape if c == 'u' => Some(Part::Digits(Unit::Low, 0)),
+        Part::Half | Part::HalfEscape => None,
+    }
+}
+
+impl Scanner {
+    /// At the first character of a number.
+    pub(crate) fn number_start(&mut self, what: NumberOf, at: usize, c: char) -> Result<(), Halt> {
+        let (form, size) = match c {
+            '-' => (Form::Minus, 0),
+            '0' => (Form::Zero, 1),
+            _ => (Form::Digits, grown(what, 0, c)),
+        };
+        self.go(Place::Number(Number {
+            what,
+            form,
+            start: at,
+            size,
+        }))
+    }
+
+    pub(crate) fn number(&mut self, number: Number, at: usize, c: char) -> Result<(), Halt> {
+        if c.is_ascii_digit() {
+            return self.digit(number, at, c);
+        }
+        match (number.form, number.what, c) {
+            (Form::Minus, _, _) => Err(self.unexpected(at)),
+            (_, NumberOf::Literal(side), '.' | 'e' | 'E') => {
+                Err(self.against(number.start, Place::Operand(side), Rule::Whole))
+            }
+            _ => {
+                self.place = behind_number(number.what);
+                self.behind(at, c)
+            }
+        }
+    }
+
+    fn digit(&mut self, number: Number, at: usize, c: char) -> Result<(), Halt> {
+        let form = match (number.form, number.what, c) {
+            (Form::Minus, NumberOf::Literal(_), '0') => Form::Zero,
+            (Form::Minus, _, '0') | (Form::Zero, _, _) => return Err(self.unexpected(at)),
+            _ => Form::Digits,
+        };
+        let size = grown(number.what, number.size, c);
+        if !is_in_range(number.what, size) {
+            let (place, rule) = number_place(number.what);
+            return Err(self.against(number.start, place, rule));
+        }
+        self.go(Place::Number(Number {
+            form,
+            size,
+            ..number
+        }))
+    }
+
+    pub(crate) fn quoted(&mut self, quoted: Quoted, at: usize, c: char) -> Result<(), Halt> {
+        match quoted.part {
+            Part::Bare if c == quoted.quote => self.go(behind_quotes(quoted.literal)),
+            _ => match part_after(quoted.part, quoted.quote, c) {
+                Some(part) => self.go(Place::Quoted(Quoted { part, ..quoted })),
+                None => Err(self.unexpected(at)),
+            },
+        }
+    }
+
+    /// At the first letter of a word.
+    pub(crate) fn word_start(&mut self, side: Side, at: usize, c: char) -> Result<(), Halt> {
+        self.word.clear();
+        self.front.clear();
+        self.letter(
+            Word {
+                side,
+                start: at,
+                lost: None,
+            },
+            at,
+            c,
+        )
+    }
+
+    pub(crate) fn word(&mut self, word: Word, at: usize, c: char) -> Result<(), Halt> {
+        if is_function_character(c) {
+            self.letter(word, at, c)
+        } else if c == '(' {
+            self.call(word, at)
+        } else if takes_literal(word.side) && is_literal(self.word.as_str()) {
+            self.place = behind_literal(word.side);
+            self.behind(at, c)
+        } else {
+            Err(self.word_halt(word, at))
+        }
+    }
+
+    /// Whether some word that may stand there goes on by the letter.
+    fn goes_on(&self, side: Side, c: char) -> bool {
+        let opens = self.may_open();
+        for word in &WORDS {
+            if let Some(rest) = word.strip_prefix(self.front.as_str()) {
+                if rest.starts_with(c) && may_begin(side, opens, word) {
+                    return true;
+                }
+            }
+        }
+        false
+    }
+
+    fn letter(&mut self, word: Word, at: usize, c: char) -> Result<(), Halt> {
+        self.word.push(c)?;
+        let lost = match word.lost {
+            None if self.goes_on(word.side, c) => {
+                self.front.push(c)?;
+                None
+            }
+            None => Some(at),
+            lost => lost,
+        };
+        self.go(Place::Word(Word { lost, ..word }))
+    }
+
+    /// A word that has ended and is none, at the last place where one could still stand.
+    pub(crate) fn word_halt(&mut self, word: Word, at: usize) -> Halt {
+        if matches!(word.side, Side::Nodes) && is_literal(self.word.as_str()) {
+            return self.wrong_argument(at);
+        }
+        if self.front.is_empty() {
+            self.place = Place::Operand(word.side);
+        }
+        if is_literal(self.front.as_str()) {
+            self.place = behind_literal(word.side);
+        }
+        let mark = word.lost.unwrap_or(at);
+        if function_named(self.front.as_str()).is_some() {
+            return Halt::At(mark, Reason::Expected(Expected::Arguments));
+        }
+        self.unexpected(mark)
+    }
+
+    /// At the parenthesis behind a word.
+    fn call(&mut self, word: Word, at: usize) -> Result<(), Halt> {
+        let place = Place::Operand(word.side);
+        let Some(function) = function_named(self.word.as_str()) else {
+            return Err(self.against(word.start, place, Rule::NoFunction));
+        };
+        if !may_call(word.side, function) {
+            return Err(match word.side {
+                Side::Negated => self.against(word.start, place, Rule::Compared(function)),
+                Side::Right => self.against(word.start, place, Rule::Alone(function)),
+                _ => self.wrong_argument(at),
+            });
+        }
+        if !self.may_open() {
+            return Err(self.against(word.start, place, Rule::TooDeep));
+        }
+        let call = Called {
+            function,
+            side: word.side,
+            start: word.start,
+        };
+        self.opens(
+            at,
+            Open::Call {
+                call,
+                second: false,
+            },
+            Place::Argument(parameter(function)),
+        )
+    }
+}
+
+/// The place behind a text in quotes.
+fn behind_quotes(literal: Option<Side>) -> Place {
+    match literal {
+        Some(side) => behind_literal(side),
+        None => Place::SelectorEnd,
+    }
+}

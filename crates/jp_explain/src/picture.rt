@@ -1,0 +1,109 @@
+//! A query with its mark, as a terminal shows it.
+
+ghost use Rattle.std.specs.Prelude.{IfOk};
+ghost use Rattle.jp_tree.specs.View.{text_of};
+ghost use Rattle.jp_explain.specs.Picture.{IsPicture};
+
+use crate::explanation::Explanation;
+use crate::line::{Line, columns};
+use std::alloc::{AllocError, Global};
+
+/// How many columns of a query are shown.
+const COLUMNS: usize = 70;
+
+/// How many of them before the mark, and behind it, where the query is cut, each without its `..`.
+const COLUMNS_BEFORE: usize = 35;
+
+const COLUMNS_BEHIND: usize = 31;
+
+/// The columns that are set aside for it, so that none takes no room at all.
+fn room(c: char) -> usize {
+    columns(c).max(1)
+}
+
+/// Whether the whole text has room.
+fn has_room(text: &str) -> bool {
+    let mut taken = 0usize;
+    for c in text.chars() {
+        taken = taken.saturating_add(room(c));
+    }
+    taken <= COLUMNS
+}
+
+/// Behind how many characters that is shown begins which stands before the mark.
+fn first_shown(text: &str, mark: usize) -> usize {
+    let mut taken = 0usize;
+    for c in text.chars().take(mark) {
+        taken = taken.saturating_add(room(c));
+    }
+    let mut first = 0;
+    for (at, c) in text.chars().take(mark).enumerate() {
+        if taken <= COLUMNS_BEFORE {
+            break;
+        }
+        taken = taken.saturating_sub(room(c));
+        first = at.saturating_add(1);
+    }
+    first
+}
+
+/// Shows what stands before the mark, and gives the column of the mark.
+fn push_before(
+    line: &mut Line,
+    text: &str,
+    first: usize,
+    mark: usize,
+) -> Result<usize, AllocError> {
+    let mut column = 0usize;
+    if first > 0 {
+        line.push_gap()?;
+        column = 2;
+    }
+    for c in text.chars().take(mark).skip(first) {
+        line.push_shown(c)?;
+        column = column.saturating_add(columns(c));
+    }
+    Ok(column)
+}
+
+/// Shows what stands behind the mark, as far as it has room.
+fn push_behind(line: &mut Line, text: &str, mark: usize, limit: usize) -> Result<(), AllocError> {
+    let mut taken = 0usize;
+    for c in text.chars().skip(mark) {
+        taken = taken.saturating_add(room(c));
+        if taken > limit {
+            return line.push_gap();
+        }
+        line.push_shown(c)?;
+    }
+    Ok(())
+}
+
+/// Three lines for a terminal: the query, a caret under the mark, and what is to be said of it.
+///
+/// Control characters, and characters that change how others stand, are shown as escapes. A query of more
+/// than 70 columns is cut on both sides of the mark, with `..` in the place of what is left out.
+///
+/// # Errors
+///
+/// `AllocError` where a growth of memory was refused.
+pub fn write_mark(
+    alloc: Global,
+    query: &str,
+    explanation: &Explanation,
+) -> Result<String, AllocError>
+    // No control character of the query is shown, and so no line feed.
+    ensures { IfOk result (λ s. IsPicture (text_of s)) }
+{
+    let mark = explanation.mark;
+    let (first, limit) = if has_room(query) {
+        (0, COLUMNS)
+    } else {
+        (first_shown(query, mark), COLUMNS_BEHIND)
+    };
+    let mut line = Line::new(alloc);
+    let column = push_before(&mut line, query, first, mark)?;
+    push_behind(&mut line, query, mark, limit)?;
+    let words = format!(in alloc; "{}\n", explanation.reason)?;
+    line.with_caret(alloc, column, words.as_str())
+}

@@ -1,0 +1,6 @@
+pub mod Fronts
+pub mod Places
+pub mod Signs
+pub mod Order
+pub mod Texts
+pub mod OnLiterals

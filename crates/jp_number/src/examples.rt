@@ -1,0 +1,41 @@
+//! Worked examples of the definitions.
+
+ghost use Rattle.std.specs.Prelude.{◌≡◌, codes, pos, negsuc};
+ghost use Rattle.std.specs.declared.cmp.Ordering.TheVariants.{Less, Equal, Greater};
+ghost use Rattle.jp_number.specs.Number.{whole, written, top, bottom, order};
+
+/// The value of a text as a fraction.
+#[tactic(auto, unfolding(crate::proofs::OnLiterals::numbers_on_literals))]
+fn values()
+    ensures fraction { (top (written (codes "-12.50")) ≡ negsuc 1249)
+        × (bottom (written (codes "-12.50")) ≡ 100) }
+    ensures exponent { (top (written (codes "1E+2")) ≡ pos 100) × (bottom (written (codes "1E+2")) ≡ 1) }
+    ensures negative_exponent { (top (written (codes "1.2e-4")) ≡ pos 12)
+        × (bottom (written (codes "1.2e-4")) ≡ 100000) }
+    ensures minus_zero { (top (written (codes "-0")) ≡ pos 0) × (bottom (written (codes "-0")) ≡ 1) }
+    ensures whole_number { (top (whole (negsuc 6)) ≡ negsuc 6) × (bottom (whole (negsuc 6)) ≡ 1) }
+{}
+
+/// Texts of one value.
+#[tactic(auto, unfolding(crate::proofs::OnLiterals::numbers_on_literals))]
+fn equal_numbers()
+    ensures fraction_of_zeros { order (written (codes "1.0")) (whole (pos 1)) ≡ Equal }
+    ensures exponent { order (written (codes "1E+2")) (written (codes "100")) ≡ Equal }
+    ensures minus_zero { order (written (codes "-0")) (written (codes "0.0")) ≡ Equal }
+    ensures zeros_behind { order (written (codes "9.90")) (written (codes "9.9")) ≡ Equal }
+    ensures zeros_before { order (written (codes "0.00012")) (written (codes "1.2e-4")) ≡ Equal }
+    ensures above_64_bits { order (written (codes "18446744073709551616"))
+        (written (codes "1.8446744073709551616e19")) ≡ Equal }
+{}
+
+/// Texts of two values, which a float may not tell apart.
+#[tactic(auto, unfolding(crate::proofs::OnLiterals::numbers_on_literals))]
+fn different_numbers()
+    ensures tenths { order (written (codes "0.1")) (written (codes "0.11")) ≡ Less }
+    ensures twenty_digits { order (written (codes "0.10000000000000000001")) (written (codes "0.1"))
+        ≡ Greater }
+    ensures negative { order (written (codes "-2.5e1")) (written (codes "-24.999")) ≡ Less }
+    ensures tiny { order (written (codes "1e-400")) (written (codes "1e-399")) ≡ Less }
+    ensures above_minus_zero { order (written (codes "-0")) (written (codes "1e-9")) ≡ Less }
+    ensures beside_a_whole_number { order (whole (pos 10)) (written (codes "9.99")) ≡ Greater }
+{}

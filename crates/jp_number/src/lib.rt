@@ -1,0 +1,10 @@
+//! JSON numbers (RFC 8259, 6): whole ones and ones by their text, compared by their values exactly.
+#![tactic(auto)]
+
+mod digits;
+mod examples;
+pub mod laws;
+mod number;
+mod size;
+
+pub use number::Number;

@@ -1,0 +1,90 @@
+-- The third fields of output lines.
+use Rattle.std.proofs.Common.{◌≡◌, ℕ, ◌+◌, ◌<◌, ◌==◌, not, false, cond, List, [], ◌∷◌, ◌++◌, refl}
+use Rattle.std.proofs.Common.{ap, ◌∙◌, arith, append_assoc, length, take, drop, decimal, flat_map}
+use Rattle.std.proofs.Common.{encode_utf8_all, if◌then◌else◌}
+use Rattle.std.proofs.lemmas.Bool.{ne_eqb}
+use Rattle.std.proofs.Math.Seq.{drop-append-add}
+use Rattle.std.proofs.lemmas.List.{take_all}
+use Rattle.std.specs.List.{AllByRecursion, after_first, before_first, position_or_len}
+use Rattle.jp_doc.specs.Json.{data_of}
+use Rattle.jp_doc.specs.Lines.{all_lines, onto_first}
+use Rattle.jp_doc.specs.Location.{Node}
+use Rattle.jp_path_stack.specs.Path.{path_text}
+use Rattle.jp_output.specs.Fields.{is_tab, third_field, third_fields}
+use Rattle.jp_output.specs.OutputLine.{node_line, value_line, value_text}
+use Rattle.jp_output.proofs.Fields.{IsField, decimal_field, path_field, compact_field}
+
+-- none of the bytes is this one
+abbrev Lacks : ℕ → List ℕ → Type 0
+Lacks b xs = AllByRecursion (λ c. (c == b) ≡ false) xs
+
+lacks_both : (b : ℕ) (xs ys : List ℕ) → Lacks b xs → Lacks b ys → Lacks b (xs ++ ys)
+lacks_both b [] ys h g = g
+lacks_both b (x ∷ xs) ys h g = (h.0, lacks_both b xs ys h.1 g)
+
+field_without : (b : ℕ) (xs : List ℕ) → b < 32 → IsField xs → Lacks b xs
+field_without b [] low h = tt
+field_without b (x ∷ xs) low h = (ne_eqb x b (λ e. omega (arith, e, h.0)), field_without b xs low h.1)
+
+-- the first line, and the first field
+
+first_line : (front rest : List ℕ) → Lacks 10 front → all_lines (front ++ 10 ∷ rest) ≡ front ∷ all_lines rest
+first_line [] rest h = refl
+first_line (b ∷ bs) rest h =
+    let more = all_lines (bs ++ 10 ∷ rest) in
+    ap (λ t. if t then [] ∷ more else onto_first b more) h.0 ∙ ap (onto_first b) (first_line bs rest h.1)
+
+tab_behind : (front rest : List ℕ) → Lacks 9 front → position_or_len is_tab (front ++ 9 ∷ rest) ≡ length front
+tab_behind [] rest h = refl
+tab_behind (b ∷ bs) rest h =
+    ap (λ t. cond (not t) (1 + position_or_len is_tab (bs ++ 9 ∷ rest)) 0) h.0
+    ∙ omega (arith, tab_behind bs rest h.1)
+
+no_tab : (xs : List ℕ) → Lacks 9 xs → position_or_len is_tab xs ≡ length xs
+no_tab [] h = refl
+no_tab (b ∷ bs) h =
+    ap (λ t. cond (not t) (1 + position_or_len is_tab bs) 0) h.0 ∙ omega (arith, no_tab bs h.1)
+
+after_tab : (front rest : List ℕ) → Lacks 9 front → after_first is_tab (front ++ 9 ∷ rest) ≡ rest
+after_tab front rest h = ap (λ n. drop (n + 1) (front ++ 9 ∷ rest)) (tab_behind front rest h)
+    ∙ drop-append-add front (9 ∷ rest) 1
+
+module _ (x y z : List ℕ) (hx : IsField x) (hy : IsField y) (hz : IsField z) where
+  abbrev front : List ℕ
+  front = x ++ 9 ∷ (y ++ 9 ∷ z)
+
+  third_is : third_field front ≡ z
+  third_is =
+      ap (λ l. before_first is_tab (after_first is_tab l))
+      (after_tab x (y ++ 9 ∷ z) (field_without 9 x (omega arith) hx))
+      ∙ ap (before_first is_tab) (after_tab y z (field_without 9 y (omega arith) hy))
+      ∙ ap (λ n. take n z) (no_tab z (field_without 9 z (omega arith) hz))
+      ∙ take_all (length z) z (omega arith)
+
+  no_line_feed : Lacks 10 front
+  no_line_feed =
+      lacks_both 10 x (9 ∷ (y ++ 9 ∷ z)) (field_without 10 x (omega arith) hx) (
+        refl,
+        lacks_both 10 y (9 ∷ z) (field_without 10 y (omega arith) hy)
+            (refl, field_without 10 z (omega arith) hz),
+      )
+
+  regroup : (rest : List ℕ) → (x ++ (9 ∷ y ++ (9 ∷ z ++ 10 ∷ []))) ++ rest ≡ front ++ 10 ∷ rest
+  regroup rest = simp append_assoc
+
+  third_more : (rest : List ℕ)
+      → third_fields ((x ++ (9 ∷ y ++ (9 ∷ z ++ 10 ∷ []))) ++ rest) ≡ (z ++ 10 ∷ []) ++ third_fields rest
+  third_more rest =
+      ap third_fields (regroup rest)
+      ∙ ap (λ (ls : List (List ℕ)). flat_map (λ (line : List ℕ). third_field line ++ 10 ∷ []) ls)
+      (first_line front rest no_line_feed)
+      ∙ ap (λ (t : List ℕ). (t ++ 10 ∷ []) ++ third_fields rest) third_is
+
+pub values_of_lines : (number : ℕ) (ns : List Node)
+    → third_fields (flat_map (node_line number) ns) ≡ flat_map value_line ns
+values_of_lines number [] = refl
+values_of_lines number (n ∷ ns) =
+    third_more (decimal number) (encode_utf8_all (path_text n.location)) (value_text n.value)
+    (decimal_field number) (path_field n.location) (compact_field (data_of n.value))
+    (flat_map (node_line number) ns)
+    ∙ ap (λ (t : List ℕ). value_line n ++ t) (values_of_lines number ns)

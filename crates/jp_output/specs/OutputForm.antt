@@ -1,0 +1,34 @@
+-- A form of the answer: what it says of a line.
+use Rattle.std.specs.Prelude.{ℕ, List, []}
+use Rattle.std.specs.List.{flat_map}
+use Rattle.jp_doc.specs.Lines.{Line}
+use Rattle.jp_doc.specs.Location.{Node}
+use Rattle.jp_doc.specs.declared.fault.DocFault.{DocFault}
+use Rattle.jp_output.specs.FaultLine.{fault_line}
+use Rattle.jp_output.specs.InputLine.{input_line}
+use Rattle.jp_output.specs.OutputLine.{node_line, value_line}
+use Rattle.jp_output.specs.UnquotedText.{text_line}
+
+-- the bytes for a line's document, of which these nodes are selected, and for a faulty line with this number
+pub record OutputForm : Type 0 where
+  pub of_document : Line → List Node → List ℕ
+  pub of_fault : ℕ → DocFault → List ℕ
+
+-- the form of output lines: one for each node, and a fault line for a faulty line
+abbrev pub node_lines : OutputForm
+node_lines = record {
+  of_document = λ l ns. flat_map (node_line l.0) ns;
+  of_fault = fault_line;
+}
+
+-- the form of values: the compact text of each, on a line of its own; nothing for a faulty line
+abbrev pub value_lines : OutputForm
+value_lines = record { of_document = λ _ ns. flat_map value_line ns; of_fault = λ _ _. [] }
+
+-- the same, where a text stands without its quotes
+abbrev pub text_lines : OutputForm
+text_lines = record { of_document = λ _ ns. flat_map text_line ns; of_fault = λ _ _. [] }
+
+-- the form of input lines: each line that has a node which is selected, as it came
+abbrev pub input_lines : OutputForm
+input_lines = record { of_document = λ l ns. input_line l.1 ns; of_fault = λ _ _. [] }

@@ -1,0 +1,3 @@
+-- Working files of `jp_output`, which proofs and private clauses alone cite: nobody has to believe them.
+pub mod Buffered
+pub mod Taken

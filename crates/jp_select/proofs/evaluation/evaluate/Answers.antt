@@ -1,0 +1,17 @@
+use Rattle.std.proofs.Common.{ap, ◌∙◌, [], map}
+use Rattle.std.specs.List.{fold}
+use Rattle.jp_doc.specs.Document.{document_value}
+use Rattle.jp_doc.specs.Location.{location_of}
+use Rattle.jp_check.specs.Plan.{planned_query}
+use Rattle.jp_eval.specs.Nodelist.{document_nodes}
+use Rattle.jp_nodes.specs.Taken.{put_location}
+use Rattle.jp_nodes.proofs.Taking.{locations_fold}
+use Rattle.jp_select.proofs.evaluation.evaluate.Goals as goal
+
+pub returns : goal.returns
+returns c = record {
+  nodes = λ t right.
+      let ns = document_nodes t (planned_query c.args.plan.now) (document_value c.args.document.now) in
+      c.in_ok-visitor.ensures t right ∙ ap (λ xs. fold put_location (map location_of xs) ns)
+      c.new.ensures.items ∙ locations_fold [] ns;
+}

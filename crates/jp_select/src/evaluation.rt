@@ -1,0 +1,85 @@
+//! The nodes that a plan's query selects in a document.
+
+ghost use Rattle.std.specs.Prelude.{◌≡◌, map, IfOk};
+ghost use Rattle.std.specs.List.{fold};
+ghost use Rattle.jp_doc.specs.Document.{document_value};
+ghost use Rattle.jp_doc.specs.Location.{location_of};
+ghost use Rattle.jp_regexp.specs.Tests.{Tests, AreRight};
+ghost use Rattle.jp_check.specs.Plan.{planned_query};
+ghost use Rattle.jp_eval.specs.Nodelist.{document_nodes};
+
+use jp_check::Plan;
+use jp_doc::{Document, Location};
+use jp_eval::{EvalFault, Evaluator, Fork};
+use jp_nodes::{Locations, Visit};
+use std::alloc::Global;
+use std::thread::Threads;
+
+/// Hands the nodes that a query selects in a document to the visitor, in the order of its nodelist (RFC 9535,
+/// 2.1.2), as long as one more would change something, and gives the visitor back: a node that is selected
+/// more than once comes as often.
+///
+/// # Errors
+///
+/// [`EvalFault::Memory`] where a growth of memory was refused.
+pub fn visit_nodes<V: Visit + Drop>(
+    alloc: Global,
+    plan: &Plan,
+    document: &Document,
+    visitor: V,
+) -> Result<V, EvalFault>
+    ensures { IfOk result (λ t. (tests : Tests) → AreRight tests →
+        V.kept t ≡ fold V.put (V.kept visitor)
+        (document_nodes tests (planned_query plan.now) (document_value document.now))) }
+{
+    Evaluator::new(alloc, plan.compiled()).visit(document, visitor)
+}
+
+/// The locations of the nodes that a query selects in a document, in the order of its nodelist (RFC 9535,
+/// 2.1.2): a node that is selected more than once stands there as often.
+///
+/// # Errors
+///
+/// [`EvalFault::Memory`] where a growth of memory was refused.
+pub fn evaluate(alloc: Global, plan: &Plan, document: &Document) -> Result<Vec<Location>, EvalFault>
+    ensures nodes { IfOk result (λ found. (t : Tests) → AreRight t →
+        map location_of found.items ≡ map (λ n. n.location)
+        (document_nodes t (planned_query plan.now) (document_value document.now))) }
+{
+    let none = Locations {
+        locations: Vec::new(alloc),
+    };
+    let visitor = visit_nodes(alloc, plan, document, none)?;
+    Ok(visitor.locations)
+}
+
+/// The same as `evaluate`, where a list of children that the query's own segments walk, and that has at least
+/// `floor` members, is cut into halves that are walked at once, and so is a half. A floor under 2 counts as
+/// 2. What lies within six cuts is walked whole, so that there are at most 64 walks at once.
+///
+/// The fork is told of each half by the thread that walks it. A half whose thread can't be started is walked
+/// on the other's.
+///
+/// # Errors
+///
+/// [`EvalFault::Memory`] where a growth of memory was refused.
+pub fn evaluate_split<R: Threads + Sync, F: Fork + Sync>(
+    rt: &R,
+    alloc: Global,
+    plan: &Plan,
+    document: &Document,
+    floor: u64,
+    fork: &F,
+) -> Result<Vec<Location>, EvalFault>
+    ensures nodes { IfOk result (λ found. (t : Tests) → AreRight t →
+        map location_of found.items ≡ map (λ n. n.location)
+        (document_nodes t (planned_query plan.now) (document_value document.now))) }
+{
+    let none = Locations {
+        locations: Vec::new(alloc),
+    };
+    let visitor = Evaluator::new(alloc, plan.compiled()).visit_split(
+        rt, document, floor, fork, none,
+    )?;
+    Ok(visitor.locations)
+}
