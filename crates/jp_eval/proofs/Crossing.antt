@@ -28,7 +28,6 @@ use Rattle.serde_json.specs.contracts.value.Value as Value
 use Rattle.jp_path_stack.specs.contracts.link.Link as Link
 use Rattle.jp_eval.proofs.fork.Cuts.TheSendSync as cuts
 use Rattle.jp_eval.proofs.root_answer.Length.TheSendSync as lengths
-use Rattle.jp_eval.specs.contracts.fork.Cuts as Cuts
 use Rattle.jp_part.specs.contracts.part.Part as Part
 use Rattle.jp_part.specs.contracts.items.Items as Items
 use Rattle.jp_part.specs.contracts.members.MemberRange as MemberRange
@@ -38,6 +37,7 @@ use Rattle.jp_nodes.specs.contracts.children.Child as Child
 use Rattle.jp_eval.specs.contracts.child_range.ChildRange as ChildRange
 use Rattle.jp_eval.specs.contracts.walk.Task as Task
 use Rattle.jp_eval.specs.contracts.context.Context as Context
+use Rattle.jp_eval.specs.contracts.split.Splitting as Splitting
 use Rattle.jp_eval.specs.contracts.root_answer.RootAnswer as RootAnswer
 use Rattle.jp_eval.specs.contracts.different.Different as Different
 use Rattle.jp_eval.specs.contracts.found.Alone as Alone
@@ -159,37 +159,28 @@ known_sync a = search (answer_field, lengths.the_field_sync, flat_member, crosse
 pub ground_sync : (a : NamedLft) → IsSync (Context.the_row a)
 ground_sync a = search (part_field, root_sync, known_sync, crosses, sendable) depth 60 fits 20000
 
--- what a half is given: the fork, the runtime, the cuts, the context, the task, the range, the links, a
--- visitor
-abbrev pub captured : (F R V : RattleType) (f r c : NamedLft) (g gv t tv s sc sv l lv : NamedLft)
-    → List RattleType
-captured F R V f r c g gv t tv s sc sv l lv =
-    ShrRef f.mir f.lft F ∷ ShrRef r.mir r.lft R ∷ ShrRef c.mir c.lft Cuts.the_row
-    ∷ ShrRef g.mir g.lft (Context.the_row gv) ∷ ShrRef t.mir t.lft (Task.the_row tv)
+pub splitting_sync : (a v : NamedLft) (R F : RattleType) → IsSync R → IsSync F
+    → IsSync (Splitting.the_row a v R F)
+splitting_sync a v R F r f = search (ground_sync, cuts.the_field_sync, crosses, sendable) depth 60 fits 20000
+
+-- what a half is given: what the walk is given throughout, the task, the range, the links, a visitor
+abbrev pub captured : (R F V : RattleType) (g ga gv t tv s sc sv l lv : NamedLft) → List RattleType
+captured R F V g ga gv t tv s sc sv l lv =
+    ShrRef g.mir g.lft (Splitting.the_row ga gv R F) ∷ ShrRef t.mir t.lft (Task.the_row tv)
     ∷ ShrRef s.mir s.lft (ChildRange.the_row sc sv) ∷ ShrSlice l.mir l.lft (Link.the_row lv) ∷ V ∷ []
 
-pub captured_send : (name : Sym) (F R V : RattleType) (f r c : NamedLft)
-    (g gv t tv s sc sv l lv : NamedLft) → IsSync F → IsSync R → IsSend V
-    → IsSend (TupleAt name (captured F R V f r c g gv t tv s sc sv l lv))
-captured_send name F R V f r c g gv t tv s sc sv l lv fs rs vs =
-    let rows = captured F R V f r c g gv t tv s sc sv l lv in
+pub captured_send : (name : Sym) (R F V : RattleType) (g ga gv t tv s sc sv l lv : NamedLft) → IsSync R
+    → IsSync F → IsSend V → IsSend (TupleAt name (captured R F V g ga gv t tv s sc sv l lv))
+captured_send name R F V g ga gv t tv s sc sv l lv rs fs vs =
+    let rows = captured R F V g ga gv t tv s sc sv l lv in
     recorded_send (field_at name rows).row _ _ (type_at name rows).to_one
     (struct_send (shape (type_at name rows)) (
-      shr_send f.mir f.lft F fs,
+      shr_send g.mir g.lft _ (splitting_sync ga gv R F rs fs),
       (
-        shr_send r.mir r.lft R rs,
+        shr_send t.mir t.lft _ (task_sync tv),
         (
-          shr_send c.mir c.lft _ cuts.the_sync,
-          (
-            shr_send g.mir g.lft _ (ground_sync gv),
-            (
-              shr_send t.mir t.lft _ (task_sync tv),
-              (
-                shr_send s.mir s.lft _ (range_sync sc sv),
-                (shr_slice_send l.mir l.lft _ (links.the_sync lv), (vs, tt)),
-              ),
-            ),
-          ),
+          shr_send s.mir s.lft _ (range_sync sc sv),
+          (shr_slice_send l.mir l.lft _ (links.the_sync lv), (vs, tt)),
         ),
       ),
     ))

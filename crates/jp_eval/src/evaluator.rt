@@ -13,7 +13,7 @@ use crate::fault::EvalFault;
 use crate::fork::{Cuts, Fork};
 use crate::found::{Found, into_visitor};
 use crate::roots::answer_roots;
-use crate::split::go_split;
+use crate::split::{Splitting, go_split};
 use crate::walk::{Task, run};
 use jp_compiled::Query;
 use jp_doc::Document;
@@ -202,7 +202,13 @@ fn split_in<R: Threads + Sync, F: Fork + Sync, V: Visit + Drop + Send>(
     let mut path = PathStack::with_scratch(alloc, mem::replace(scratch, Scratch::new(alloc)));
     let mut found = Found::Visitor(visitor);
     let task = Task::Run(query.segments.as_slice());
-    go_split(rt, fork, cuts, &context, task, root, &mut path, &mut found)?;
+    let splitting = Splitting {
+        rt,
+        fork,
+        context: &context,
+        cuts,
+    };
+    go_split(&splitting, task, root, &mut path, &mut found)?;
     *scratch = path.into_scratch();
     match into_visitor(found) {
         Some(visitor) => Ok(visitor),

@@ -25,13 +25,21 @@ use jp_path_stack::{Link, PathStack};
 use std::alloc::{AllocError, Global};
 use std::thread::{Threads, join};
 
+/// What a walk by halves is given throughout. A half is given the same, with one cut fewer left.
+#[derive(Drop)]
+pub(crate) struct Splitting<'a, 'v, R, F> {
+    /// What starts threads.
+    pub(crate) rt: &'a R,
+    /// What is told of each half.
+    pub(crate) fork: &'a F,
+    pub(crate) context: &'a Context<'v>,
+    pub(crate) cuts: Cuts,
+}
+
 /// The task at the value, where a list inside of it may be cut.
 #[cycle(split)]
 pub(crate) fn go_split<'v, R: Threads + Sync, F: Fork + Sync, V: Visit + Drop + Send>(
-    rt: &R,
-    fork: &F,
-    cuts: Cuts,
-    context: &Context<'v>,
+    splitting: &Splitting<'_, 'v, R, F>,
     task: Task<'v>,
     value: Part<'v>,
     path: &mut PathStack<'v>,
@@ -39,9 +47,11 @@ pub(crate) fn go_split<'v, R: Threads + Sync, F: Fork + Sync, V: Visit + Drop + 
 ) -> Result<(), AllocError>
     requires taken { is_taken (kept V.kept found.old) ≡ true }
     ensures found { OnOk result (Finds V.kept V.put found.old found.new
-        (done (base_of context.now) task.entry (here path.old value.entry))) }
+        (done (base_of splitting.now.context.now) task.entry (here path.old value.entry))) }
     ensures path { OnOk result (path.new ≡ path.old) }
 {
+    let context = splitting.context;
+    let cuts = splitting.cuts;
     // Without a long list inside it is the other walk's, which has no threads to start (README, Why so).
     if cuts.left == 0 || !is_wide(value, cuts.floor) {
         return go(context, task, value, path, found);
@@ -50,7 +60,7 @@ pub(crate) fn go_split<'v, R: Threads + Sync, F: Fork + Sync, V: Visit + Drop + 
         return Ok(());
     };
     match work_items(further, value) {
-        Some(work_items) => each_work_item(rt, fork, cuts, context, work_items, path, found),
+        Some(work_items) => each_work_item(splitting, work_items, path, found),
         None => go(context, further, value, path, found),
     }
 }
@@ -58,32 +68,20 @@ pub(crate) fn go_split<'v, R: Threads + Sync, F: Fork + Sync, V: Visit + Drop + 
 /// Each of these tasks along its children.
 #[cycle(split)]
 fn each_work_item<'v, R: Threads + Sync, F: Fork + Sync, V: Visit + Drop + Send>(
-    rt: &R,
-    fork: &F,
-    cuts: Cuts,
-    context: &Context<'v>,
+    splitting: &Splitting<'_, 'v, R, F>,
     work_items: WorkItems<'v>,
     path: &mut PathStack<'v>,
     found: &mut Found<'v, V>,
 ) -> Result<(), AllocError>
     requires taken { is_taken (kept V.kept found.old) ≡ true }
     ensures found { OnOk result (Finds V.kept V.put found.old found.new
-        (done_by (base_of context.now) (link_steps path.old) work_items.entry)) }
+        (done_by (base_of splitting.now.context.now) (link_steps path.old) work_items.entry)) }
     ensures path { OnOk result (path.new ≡ path.old) }
 {
     let mut left = work_items;
-    while let Some((work_item, others)) = left.next(context.alloc)? {
+    while let Some((work_item, others)) = left.next(splitting.context.alloc)? {
         let children = ChildRange::counted(&work_item.children);
-        each_of(
-            rt,
-            fork,
-            cuts,
-            context,
-            work_item.task,
-            children,
-            path,
-            found,
-        )?;
+        each_of(splitting, work_item.task, children, path, found)?;
         left = others;
     }
     Ok(())
@@ -92,10 +90,7 @@ fn each_work_item<'v, R: Threads + Sync, F: Fork + Sync, V: Visit + Drop + Send>
 /// The task at each of these children, of which halves are walked at once where they are many.
 #[cycle(split)]
 fn each_of<'v, R: Threads + Sync, F: Fork + Sync, V: Visit + Drop + Send>(
-    rt: &R,
-    fork: &F,
-    cuts: Cuts,
-    context: &Context<'v>,
+    splitting: &Splitting<'_, 'v, R, F>,
     task: Task<'v>,
     children: ChildRange<'_, 'v>,
     path: &mut PathStack<'v>,
@@ -103,43 +98,48 @@ fn each_of<'v, R: Threads + Sync, F: Fork + Sync, V: Visit + Drop + Send>(
 ) -> Result<(), AllocError>
     requires taken { is_taken (kept V.kept found.old) ≡ true }
     ensures found { OnOk result (Finds V.kept V.put found.old found.new (flat_map
-        (done (base_of context.now) task.entry) (range_nodes (link_steps path.old) children.entry))) }
+        (done (base_of splitting.now.context.now) task.entry)
+        (range_nodes (link_steps path.old) children.entry))) }
     ensures path { OnOk result (path.new ≡ path.old) }
 {
+    let cuts = splitting.cuts;
     // `Cuts` has a floor of 2 or more, but no field says so: one child has no two smaller halves.
     if cuts.left == 0 || !children.has(cuts.floor.max(2)) {
-        return one_by_one(rt, fork, cuts, context, task, children, path, found);
+        return one_by_one(splitting, task, children, path, found);
     }
-    let further = Cuts {
-        floor: cuts.floor,
-        left: cuts.left - 1,
+    let further = Splitting {
+        cuts: Cuts {
+            left: cuts.left - 1,
+            ..cuts
+        },
+        ..*splitting
     };
     let (left, right) = children.halves();
     // A path stack and a visitor for each half, and the visitors are joined in order (README, Why so).
-    let mine = fresh(found, context.alloc);
-    let other = fresh(found, context.alloc);
+    let mine = fresh(found, splitting.context.alloc);
+    let other = fresh(found, splitting.context.alloc);
     let at = path.links();
     let (first, second) = join(
-        rt,
+        splitting.rt,
         || -> Result<V, AllocError>
             requires { IsSync R.row × IsSync F.row }
             ensures { IfOk result (λ t. taken (V.kept t)
                 ≡ plus (put_found V.put) (taken (V.kept mine))
-                (flat_map (done (base_of context.entry.now) task.entry)
+                (flat_map (done (base_of further.entry.context.now) task.entry)
                 (range_nodes (link_steps at.entry.now) left.entry))) }
         {
-            fork.half(0);
-            half(rt, fork, further, context, task, left, at, mine)
+            further.fork.half(0);
+            half(&further, task, left, at, mine)
         },
         || -> Result<V, AllocError>
             requires { IsSync R.row × IsSync F.row }
             ensures { IfOk result (λ t. taken (V.kept t)
                 ≡ plus (put_found V.put) (taken (V.kept other))
-                (flat_map (done (base_of context.entry.now) task.entry)
+                (flat_map (done (base_of further.entry.context.now) task.entry)
                 (range_nodes (link_steps at.entry.now) right.entry))) }
         {
-            fork.half(1);
-            half(rt, fork, further, context, task, right, at, other)
+            further.fork.half(1);
+            half(&further, task, right, at, other)
         },
     );
     append(found, first?)?;
@@ -149,23 +149,19 @@ fn each_of<'v, R: Threads + Sync, F: Fork + Sync, V: Visit + Drop + Send>(
 /// The task at each of the children of a half, for a visitor of its own.
 #[cycle(split)]
 fn half<'v, R: Threads + Sync, F: Fork + Sync, V: Visit + Drop + Send>(
-    rt: &R,
-    fork: &F,
-    cuts: Cuts,
-    context: &Context<'v>,
+    splitting: &Splitting<'_, 'v, R, F>,
     task: Task<'v>,
     children: ChildRange<'_, 'v>,
     at: &[Link<'v>],
     visitor: V,
 ) -> Result<V, AllocError>
     ensures { IfOk result (λ t. taken (V.kept t) ≡ plus (put_found V.put) (taken (V.kept visitor))
-        (flat_map (done (base_of context.now) task.entry) (range_nodes (link_steps at.now) children.entry))) }
+        (flat_map (done (base_of splitting.now.context.now) task.entry)
+        (range_nodes (link_steps at.now) children.entry))) }
 {
-    let mut path = path_stack_of(context.alloc, at)?;
+    let mut path = path_stack_of(splitting.context.alloc, at)?;
     let mut found = Found::Visitor(visitor);
-    each_of(
-        rt, fork, cuts, context, task, children, &mut path, &mut found,
-    )?;
+    each_of(splitting, task, children, &mut path, &mut found)?;
     match into_visitor(found) {
         Some(visitor) => Ok(visitor),
         None => unreachable!(),
@@ -175,10 +171,7 @@ fn half<'v, R: Threads + Sync, F: Fork + Sync, V: Visit + Drop + Send>(
 /// The task at each of these children, one after another.
 #[cycle(split)]
 fn one_by_one<'v, R: Threads + Sync, F: Fork + Sync, V: Visit + Drop + Send>(
-    rt: &R,
-    fork: &F,
-    cuts: Cuts,
-    context: &Context<'v>,
+    splitting: &Splitting<'_, 'v, R, F>,
     task: Task<'v>,
     children: ChildRange<'_, 'v>,
     path: &mut PathStack<'v>,
@@ -186,7 +179,8 @@ fn one_by_one<'v, R: Threads + Sync, F: Fork + Sync, V: Visit + Drop + Send>(
 ) -> Result<(), AllocError>
     requires taken { is_taken (kept V.kept found.old) ≡ true }
     ensures found { OnOk result (Finds V.kept V.put found.old found.new (flat_map
-        (done (base_of context.now) task.entry) (range_nodes (link_steps path.old) children.entry))) }
+        (done (base_of splitting.now.context.now) task.entry)
+        (range_nodes (link_steps path.old) children.entry))) }
     ensures path { OnOk result (path.new ≡ path.old) }
 {
     let mut rest = children;
@@ -195,7 +189,7 @@ fn one_by_one<'v, R: Threads + Sync, F: Fork + Sync, V: Visit + Drop + Send>(
             return Ok(());
         }
         path.push(child.link)?;
-        go_split(rt, fork, cuts, context, task, child.part, path, found)?;
+        go_split(splitting, task, child.part, path, found)?;
         path.pop();
         rest = others;
     }

@@ -23,7 +23,7 @@ use Rattle.jp_eval.proofs.split.+split.Goals as goal
 
 pub each_work_item-loop-work_item-preserved : goal.each_work_item-loop-work_item-preserved
 each_work_item-loop-work_item-preserved g t c =
-    let base = base_of c.args.context.now in
+    let base = base_of c.args.splitting.now.context.now in
     let at = link_steps c.loop-work_item.path in
     let nodes = rw c.in-Some.is at (c.in_ok-work_item.ensures.nodes base at) in
     let value = rw c.in-Some.is at c.in_ok-work_item.ensures.value in
@@ -40,7 +40,7 @@ each_work_item-loop-work_item-preserved g t c =
 pub each_work_item-loop-work_item-preserved-in_ok-each_of :
     goal.each_work_item-loop-work_item-preserved-in_ok-each_of
 each_work_item-loop-work_item-preserved-in_ok-each_of g t c =
-    let base = base_of c.args.context.now in
+    let base = base_of c.args.splitting.now.context.now in
     let at = link_steps c.loop-work_item.path in
     let nodes = rw c.in-Some.is at (c.in_ok-work_item.ensures.nodes base at) in
     let value = rw c.in-Some.is at c.in_ok-work_item.ensures.value in
@@ -57,7 +57,7 @@ each_work_item-loop-work_item-preserved-in_ok-each_of g t c =
 pub each_work_item-loop-work_item-preserved-in_ok-each_of-2 :
     goal.each_work_item-loop-work_item-preserved-in_ok-each_of-2
 each_work_item-loop-work_item-preserved-in_ok-each_of-2 g t c =
-    let base = base_of c.args.context.now in
+    let base = base_of c.args.splitting.now.context.now in
     let at = link_steps c.loop-work_item.path in
     let nodes = rw c.in-Some.is at (c.in_ok-work_item.ensures.nodes base at) in
     let value = rw c.in-Some.is at c.in_ok-work_item.ensures.value in
@@ -74,7 +74,7 @@ each_work_item-loop-work_item-preserved-in_ok-each_of-2 g t c =
 pub each_work_item-loop-work_item-preserved-in_ok-each_of-3 :
     goal.each_work_item-loop-work_item-preserved-in_ok-each_of-3
 each_work_item-loop-work_item-preserved-in_ok-each_of-3 g t c =
-    let base = base_of c.args.context.now in
+    let base = base_of c.args.splitting.now.context.now in
     let at = link_steps c.loop-work_item.path in
     let nodes = rw c.in-Some.is at (c.in_ok-work_item.ensures.nodes base at) in
     let value = rw c.in-Some.is at c.in_ok-work_item.ensures.value in
@@ -98,7 +98,8 @@ one_by_one-go_split-requires-clause-taken g t c κs within =
 
 pub each_work_item-returns-clause-found : goal.each_work_item-returns-clause-found
 each_work_item-returns-clause-found g t c =
-    let none = rw c.in_default.is at (c.in_ok-work_item.ensures.nodes (base_of c.args.context.now)
+    let base = base_of c.args.splitting.now.context.now in
+    let none = rw c.in_default.is at (c.in_ok-work_item.ensures.nodes base
     (link_steps c.loop-work_item.path)) in
     ended (put_found g.V.Visit.put) _ _ _
     (ap (plus (put_found g.V.Visit.put) (kept g.V.Visit.kept c.loop-work_item.found)) (sym none)
@@ -106,16 +107,17 @@ each_work_item-returns-clause-found g t c =
 
 pub one_by_one-loop-child-preserved : goal.one_by_one-loop-child-preserved
 one_by_one-loop-child-preserved g t c =
+    let base = base_of c.args.splitting.now.context.now in
     let p : c.pop.new.self ≡ c.loop-child.path = back_up _ _ _ _ _ c.in_ok-push.ensures.ok
     c.in_ok-go_split.ensures.path c.pop.ensures in
     rw p (
       c.loop-child.invariant.0,
       omega (arith, c.in-Some.ensures.height, c.loop-child.invariant.1),
-      child_node_done (put_found g.V.Visit.put) (done (base_of c.args.context.now) c.args.task) _ _ _ _ _ _ _
+      child_node_done (put_found g.V.Visit.put) (done base c.args.task) _ _ _ _ _ _ _
           (c.in-Some.ensures.nodes (link_steps c.loop-child.path))
           (c.in_ok-go_split.ensures.found
           ∙ ap (λ s. plus (put_found g.V.Visit.put) (kept g.V.Visit.kept c.loop-child.found)
-          (done (base_of c.args.context.now) c.args.task (node s (part_value c.in-Some.child.part))))
+          (done base c.args.task (node s (part_value c.in-Some.child.part))))
           (link_further c.loop-child.path c.push.new.self _ c.in_ok-push.ensures.ok))
           c.loop-child.invariant.2,
     )
@@ -127,16 +129,18 @@ one_by_one-returns-then-is_full-clause-found g t c =
 
 pub one_by_one-returns-clause-found : goal.one_by_one-returns-clause-found
 one_by_one-returns-clause-found g t c =
+    let base = base_of c.args.splitting.now.context.now in
     ended (put_found g.V.Visit.put) _ _ _
     (ap (λ ns. plus (put_found g.V.Visit.put) (kept g.V.Visit.kept c.loop-child.found)
-    (flat_map (done (base_of c.args.context.now) c.args.task) ns))
+    (flat_map (done base c.args.task) ns))
     (sym (c.in_default.ensures.nodes (link_steps c.loop-child.path))) ∙ c.loop-child.invariant.2)
 
 pub half-returns : goal.half-returns
 half-returns g t c =
+    let base = base_of c.args.splitting.now.context.now in
     c.in-Some.ensures.visitor ∙ c.in_ok-each_of.ensures.found
     ∙ ap (λ ls. plus (put_found g.V.Visit.put) (taken (g.V.Visit.kept c.args.visitor))
-    (flat_map (done (base_of c.args.context.now) c.args.task) (range_nodes (link_steps ls) c.args.children)))
+    (flat_map (done base c.args.task) (range_nodes (link_steps ls) c.args.children)))
     c.in_ok-path.ensures
 
 pub half-unreachable-requires : goal.half-unreachable-requires
@@ -157,7 +161,7 @@ each_of-join-first-requires-after_bounds g t c κs within =
 pub each_of-returns-clause-found : goal.each_of-returns-clause-found
 each_of-returns-clause-found g t c =
     let put = put_found g.V.Visit.put in
-    let f = done (base_of c.args.context.now) c.args.task in
+    let f = done (base_of c.args.splitting.now.context.now) c.args.task in
     let left : Location → List Node = λ at. range_nodes at c.halves.result.0 in
     let right : Location → List Node = λ at. range_nodes at c.halves.result.1 in
     let at = link_steps c.args.path.now in
@@ -186,7 +190,7 @@ each_of-join-first-requires-send-F g t c κs within =
     let r : IsSync (param 0 g.row.R) = search rules in
     let f : IsSync (param 1 g.row.F) = search rules in
     let v : IsSend (param 2 g.row.V) = search rules in
-    let sent = captured_send (tuple_name 8) (param 1 g.row.F) (param 0 g.row.R) (param 2 g.row.V)
+    let sent = captured_send (tuple_name 5) (param 0 g.row.R) (param 1 g.row.F) (param 2 g.row.V)
     (record { mir = named 6; lft = κs.1.1.1.1.1.1.0 })
     (record { mir = named 7; lft = κs.1.1.1.1.1.1.1.0 })
     (record { mir = named 8; lft = κs.1.1.1.1.1.1.1.1.0 })
@@ -196,12 +200,7 @@ each_of-join-first-requires-send-F g t c κs within =
     (record { mir = named 12; lft = κs.1.1.1.1.1.1.1.1.1.1.1.1.0 })
     (record { mir = named 13; lft = κs.1.1.1.1.1.1.1.1.1.1.1.1.1.0 })
     (record { mir = named 14; lft = κs.1.1.1.1.1.1.1.1.1.1.1.1.1.1.0 })
-    (record { mir = named 15; lft = κs.1.1.1.1.1.1.1.1.1.1.1.1.1.1.1.0 })
-    (record { mir = named 16; lft = κs.1.1.1.1.1.1.1.1.1.1.1.1.1.1.1.1.0 })
-    (record { mir = named 17; lft = κs.1.1.1.1.1.1.1.1.1.1.1.1.1.1.1.1.1.0 }) f r v in
+    (record { mir = named 15; lft = κs.1.1.1.1.1.1.1.1.1.1.1.1.1.1.1.0 }) r f v in
     param_send 1 (lts.arg-6-1 g.row.R g.row.F g.row.V g.R.laws g.F.laws g.V.laws g.R.Threads-dict
     g.F.Fork-dict g.V.Visit-dict g.V.Destruct-dict κs)
-    (record {
-      owned = sent.owned;
-      leaving = λ k x w. (tt, (tt, (tt, (tt, (tt, (tt, (tt, (tt, tt))))))));
-    })
+    (record { owned = sent.owned; leaving = λ k x w. (tt, (tt, (tt, (tt, (tt, tt))))) })

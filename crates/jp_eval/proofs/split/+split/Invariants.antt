@@ -15,34 +15,34 @@ abbrev pub weight : ℕ → ℕ → ℕ → ℕ
 weight height cuts rank = 16 * height + 4 * cuts + rank
 
 abbrev pub decreases-go_split : goal.decreases-go_split
-decreases-go_split g l = weight (height (part_value l.value)) l.cuts.left 15
+decreases-go_split g l = weight (height (part_value l.value)) l.splitting.now.cuts.left 15
 
 abbrev pub decreases-each_work_item : goal.decreases-each_work_item
-decreases-each_work_item g l = weight (height (part_value l.work_items.value)) l.cuts.left 14
+decreases-each_work_item g l = weight (height (part_value l.work_items.value)) l.splitting.now.cuts.left 14
 
 abbrev pub decreases-each_of : goal.decreases-each_of
-decreases-each_of g l = weight (range_height l.children) l.cuts.left 10
+decreases-each_of g l = weight (range_height l.children) l.splitting.now.cuts.left 10
 
 abbrev pub decreases-each_of-join+arg2 : goal.decreases-each_of-join+arg2
-decreases-each_of-join+arg2 g l = weight (range_height l.left) l.further.left 13
+decreases-each_of-join+arg2 g l = weight (range_height l.left) l.further.cuts.left 13
 
 abbrev pub decreases-each_of-join+arg3 : goal.decreases-each_of-join+arg3
-decreases-each_of-join+arg3 g l = weight (range_height l.right) l.further.left 13
+decreases-each_of-join+arg3 g l = weight (range_height l.right) l.further.cuts.left 13
 
 abbrev pub decreases-half : goal.decreases-half
-decreases-half g l = weight (range_height l.children) l.cuts.left 12
+decreases-half g l = weight (range_height l.children) l.splitting.now.cuts.left 12
 
 abbrev pub decreases-one_by_one : goal.decreases-one_by_one
-decreases-one_by_one g l = weight (range_height l.children) l.cuts.left 7
+decreases-one_by_one g l = weight (range_height l.children) l.splitting.now.cuts.left 7
 
 abbrev pub invariant-each_work_item-loop-work_item : goal.invariant-each_work_item-loop-work_item
 invariant-each_work_item-loop-work_item g l =
     (l.path ≡ l.initial.path)
     × (height (part_value l.left.value) ≡ height (part_value l.work_items.value))
     × (plus (put_found g.V.Visit.put) (kept g.V.Visit.kept l.found)
-    (done_by (base_of l.context) (link_steps l.path) l.left)
+    (done_by (base_of l.splitting.context.now) (link_steps l.path) l.left)
     ≡ plus (put_found g.V.Visit.put) (kept g.V.Visit.kept l.initial.found)
-    (done_by (base_of l.context) (link_steps l.initial.path) l.work_items))
+    (done_by (base_of l.splitting.context.now) (link_steps l.initial.path) l.work_items))
 
 abbrev pub decreases-each_work_item-loop-work_item : goal.decreases-each_work_item-loop-work_item
 decreases-each_work_item-loop-work_item g l = items_left l.left
@@ -52,9 +52,10 @@ invariant-one_by_one-loop-child g l =
     (l.path ≡ l.initial.path)
     × (range_height l.rest ≤ range_height l.children)
     × (plus (put_found g.V.Visit.put) (kept g.V.Visit.kept l.found)
-    (flat_map (done (base_of l.context) l.task) (range_nodes (link_steps l.path) l.rest))
+    (flat_map (done (base_of l.splitting.context.now) l.task) (range_nodes (link_steps l.path) l.rest))
     ≡ plus (put_found g.V.Visit.put) (kept g.V.Visit.kept l.initial.found)
-    (flat_map (done (base_of l.context) l.task) (range_nodes (link_steps l.initial.path) l.children)))
+    (flat_map (done (base_of l.splitting.context.now) l.task)
+    (range_nodes (link_steps l.initial.path) l.children)))
 
 abbrev pub decreases-one_by_one-loop-child : goal.decreases-one_by_one-loop-child
 decreases-one_by_one-loop-child g l = range_length l.rest
