@@ -1,13 +1,14 @@
 -- A form of the answer: what it says of a line.
 use Rattle.std.specs.Prelude.{ℕ, List, []}
 use Rattle.std.specs.List.{flat_map}
+use Rattle.jp_doc.specs.Json.{Json}
 use Rattle.jp_doc.specs.Lines.{Line}
 use Rattle.jp_doc.specs.Location.{Node}
 use Rattle.jp_doc.specs.declared.fault.DocFault.{DocFault}
 use Rattle.jp_output.specs.FaultLine.{fault_line}
 use Rattle.jp_output.specs.InputLine.{input_line}
-use Rattle.jp_output.specs.OutputLine.{node_line, value_line}
-use Rattle.jp_output.specs.UnquotedText.{text_line}
+use Rattle.jp_output.specs.OutputLine.{node_line, line_of, value_text}
+use Rattle.jp_output.specs.UnquotedText.{unquoted_text}
 
 -- the bytes for a line's document, of which these nodes are selected, and for a faulty line with this number
 pub record OutputForm : Type 0 where
@@ -21,13 +22,17 @@ node_lines = record {
   of_fault = fault_line;
 }
 
--- the form of values: the compact text of each, on a line of its own; nothing for a faulty line
-abbrev pub value_lines : OutputForm
-value_lines = record { of_document = λ _ ns. flat_map value_line ns; of_fault = λ _ _. [] }
+-- the text of each value, in some way of writing values, on a line of its own; nothing for a faulty line
+abbrev pub lines_of : (Json → List ℕ) → OutputForm
+lines_of text = record { of_document = λ _ ns. flat_map (line_of text) ns; of_fault = λ _ _. [] }
 
--- the same, where a text stands without its quotes
+-- the form of values: their compact texts
+abbrev pub value_lines : OutputForm
+value_lines = lines_of value_text
+
+-- the form of texts: the same, where a text stands without its quotes
 abbrev pub text_lines : OutputForm
-text_lines = record { of_document = λ _ ns. flat_map text_line ns; of_fault = λ _ _. [] }
+text_lines = lines_of unquoted_text
 
 -- the form of input lines: each line that has a node which is selected, as it came
 abbrev pub input_lines : OutputForm

@@ -21,9 +21,12 @@ node_line number n = line_text number n.location n.value
 abbrev pub put_line : ℕ × List ℕ → Node → ℕ × List ℕ
 put_line (number, bytes) n = (number, bytes ++ node_line number n)
 
--- the value's text and a line feed
+-- the value's text, in some way of writing values, and a line feed
+abbrev pub line_of : (Json → List ℕ) → Node → List ℕ
+line_of text n = text n.value ++ 10 ∷ []
+
 abbrev pub value_line : Node → List ℕ
-value_line n = value_text n.value ++ 10 ∷ []
+value_line = line_of value_text
 
 -- What each node gives, one after another: what a further node does to the bytes so far.
 abbrev pub put_bytes : (Node → List ℕ) → List ℕ → Node → List ℕ
