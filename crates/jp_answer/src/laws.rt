@@ -8,9 +8,10 @@ ghost use Rattle.jp_tree.specs.Tree.{Query};
 ghost use Rattle.jp_regexp.specs.Tests.{Tests};
 ghost use Rattle.jp_eval.specs.Nodelist.{document_nodes};
 ghost use Rattle.jp_output.specs.Fields.{times, AreLinesOfThree};
+ghost use Rattle.jp_output.specs.OutputForm.{OutputForm};
 ghost use Rattle.jp_answer.specs.Answer.{answer, joined, document_lines, stream_answer};
 ghost use Rattle.jp_answer.specs.Faults.{first_fault};
-ghost use Rattle.jp_answer.specs.OnFault.{answer_in};
+ghost use Rattle.jp_answer.specs.OnFault.{answer_in, answer_by};
 ghost use Rattle.jp_answer.specs.Streams.{AreWholeLines, line_feeds, AreBlocks, placed_blocks, in_turn};
 ghost use Rattle.jp_answer.specs.declared.on_fault.OnFault.{OnFault};
 ghost use Rattle.jp_answer.specs.declared.on_fault.OnFault.TheVariants.{KeepGoing};
@@ -36,7 +37,8 @@ pub fn whole_pieces()
 {}
 
 /// A stream that is cut between two lines: the answer to whole lines and what follows them is that to the
-/// lines, and then that to as many line feeds as there are lines, followed by the rest; in either form.
+/// lines, and then that to as many line feeds as there are lines, followed by the rest; in every form, whether
+/// or not it keeps going.
 ///
 /// So a large file can be answered in blocks, each by a process of its own that is given as many line feeds
 /// first as the blocks before it have lines: the answers one after another, each number kept, are the answer
@@ -46,12 +48,12 @@ pub fn streams()
         ≡ joined (stream_answer t q a) (stream_answer t q (line_feeds (line_count a) ++ b)) }
     ensures whole { (t : Tests) (q : Query) (a b : List ℕ) → AreWholeLines a → stream_whole t q (a ++ b)
         ≡ both (stream_whole t q a) (stream_whole t q (line_feeds (line_count a) ++ b)) }
-    ensures either { (k : OnFault) (t : Tests) (q : Query) (a b : List ℕ) → AreWholeLines a
-        → answer_in k t q (lines (a ++ b))
-        ≡ joined (answer_in k t q (lines a)) (answer_in k t q (lines (line_feeds (line_count a) ++ b))) }
-    ensures blocks { (k : OnFault) (t : Tests) (q : Query) (bs : List (List ℕ)) → AreBlocks bs
-        → answer_in k t q (lines (concat bs))
-        ≡ in_turn (map (λ b. answer_in k t q (lines b)) (placed_blocks 0 bs)) }
+    ensures either { (f : OutputForm) (k : OnFault) (t : Tests) (q : Query) (a b : List ℕ)
+        → AreWholeLines a → answer_by f k t q (lines (a ++ b))
+        ≡ joined (answer_by f k t q (lines a)) (answer_by f k t q (lines (line_feeds (line_count a) ++ b))) }
+    ensures blocks { (f : OutputForm) (k : OnFault) (t : Tests) (q : Query) (bs : List (List ℕ))
+        → AreBlocks bs → answer_by f k t q (lines (concat bs))
+        ≡ in_turn (map (λ b. answer_by f k t q (lines b)) (placed_blocks 0 bs)) }
     ensures count { (a b : List ℕ) → AreWholeLines a → line_count (a ++ b) ≡ line_count a + line_count b }
 {}
 

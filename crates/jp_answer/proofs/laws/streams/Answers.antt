@@ -1,6 +1,6 @@
 use Rattle.std.proofs.Common.{◌++◌, ap, ◌∙◌}
 use Rattle.jp_answer.specs.Answer.{answer}
-use Rattle.jp_answer.specs.OnFault.{answer_in}
+use Rattle.jp_answer.specs.OnFault.{answer_by}
 use Rattle.jp_answer.specs.Whole.{whole}
 use Rattle.jp_doc.specs.Lines.{lines, line_count}
 use Rattle.jp_output.specs.OutputForm.{node_lines}
@@ -19,13 +19,12 @@ returns-clause-whole c = λ t q a b h. ap (whole t q) (lines_both a b h)
     ∙ whole_joined node_lines t q (lines a) (lines (line_feeds (line_count a) ++ b))
 
 pub returns-clause-either : goal.returns-clause-either
-returns-clause-either c = λ k t q a b h. ap (answer_in k t q) (lines_both a b h)
-    ∙ formed_joined node_lines t q k (lines a) (lines (line_feeds (line_count a) ++ b))
+returns-clause-either c = λ f k t q a b h. ap (answer_by f k t q) (lines_both a b h)
+    ∙ formed_joined f t q k (lines a) (lines (line_feeds (line_count a) ++ b))
 
 pub returns-clause-blocks : goal.returns-clause-blocks
 returns-clause-blocks c =
-    λ k t q bs h. blocks_answered (answer_in k t q) (nothing_in node_lines t q k) (formed_joined node_lines
-    t q k) bs h
+    λ f k t q bs h. blocks_answered (answer_by f k t q) (nothing_in f t q k) (formed_joined f t q k) bs h
 
 pub returns-clause-count : goal.returns-clause-count
 returns-clause-count c = count_both
