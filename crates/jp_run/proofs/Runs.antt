@@ -12,10 +12,11 @@ use Rattle.jp_regexp.proofs.RightTests.{right_tests}
 use Rattle.jp_check.specs.Verdict.{IsAccepted, IsVerdict}
 use Rattle.jp_check.proofs.OneVerdict.{one_verdict}
 use Rattle.jp_answer.specs.Answer.{Answer}
-use Rattle.jp_run.specs.Answered.{IsAnswerIn, in_lines, on_fault_of}
-use Rattle.jp_answer.specs.OnFault.{answer_in}
+use Rattle.jp_run.specs.Answered.{IsAnswerBy, manner_by, on_fault_of}
+use Rattle.jp_answer.specs.OnFault.{Manner, answer_by}
 use Rattle.jp_answer.specs.declared.on_fault.OnFault.TheVariants.{Stop}
 use Rattle.jp_run.specs.declared.fault.RunFault.{RunFault}
+use Rattle.jp_run.specs.declared.output.Output.{Output}
 use Rattle.jp_run.specs.declared.fault.RunFault.TheVariants.{Query, Memory}
 use Rattle.jp_run.specs.inner.Ended.{Ends, StreamEnded}
 use Rattle.jp_run.specs.Handed.{Handed, HandedFront}
@@ -69,40 +70,52 @@ pub accepted_ok : {T : Type 0} (text : Text) (q : tree.Query) → IsAccepted tex
 accepted_ok text q accepted (Ok x) = (q, accepted)
 accepted_ok text q accepted (Err f) = tt
 
-module _ (going : Bool) (text : Text) (q : tree.Query) (accepted : IsAccepted text q) where
+module _ (going : Manner) (text : Text) (q : tree.Query) (accepted : IsAccepted text q) where
   -- the answer that was handed out is that to the text
   pub answer_known : (stop : Option (ℕ × DocFault)) (known s u : Option (List ℕ))
-      → IfSome known (λ input. Handed (in_lines going) q (lines input) stop s u)
-      → IfSome known (λ input. (a : Answer) × IsAnswerIn going text input a × (a.stopped ≡ stop)
+      → IfSome known (λ input. Handed going q (lines input) stop s u)
+      → IfSome known (λ input. (a : Answer) × IsAnswerBy going text input a × (a.stopped ≡ stop)
       × Appends s u a.bytes)
   answer_known stop None s u h = tt
   answer_known stop (Some input) s u h = (h.whole, (q, accepted, h.is), h.stopped, h.appended)
 
   pub answer_ok : {T : Type 0} (r : Result T RunFault) (known s u : Option (List ℕ))
-      → OnOk r (IfSome known (λ input. Handed (in_lines going) q (lines input) None s u))
-      → OnOk r (IfSome known (λ input. (a : Answer) × IsAnswerIn going text input a × (a.stopped ≡ None)
+      → OnOk r (IfSome known (λ input. Handed going q (lines input) None s u))
+      → OnOk r (IfSome known (λ input. (a : Answer) × IsAnswerBy going text input a × (a.stopped ≡ None)
       × Appends s u a.bytes))
   answer_ok (Ok x) known s u h = answer_known None known s u h
   answer_ok (Err f) known s u h = tt
 
-  answer_is : (input : List ℕ) (b : Answer) → IsAnswerIn going text input b
-      → answer_in (on_fault_of going) right_tests.0 q (lines input) ≡ b
+  answer_is : (input : List ℕ) (b : Answer) → IsAnswerBy going text input b
+      → answer_by going.form going.on_fault right_tests.0 q (lines input) ≡ b
   answer_is input b h =
       let same : q ≡ h.0 = same_ok q h.0 (one_verdict text (Ok q) (Ok h.0) accepted h.1) in
-      ap (λ q. answer_in (on_fault_of going) right_tests.0 q (lines input)) same ∙ h.2 right_tests.0
+      ap (λ q. answer_by going.form going.on_fault right_tests.0 q (lines input)) same ∙ h.2 right_tests.0
       right_tests.1
 
-  front_known : (known s u : Option (List ℕ)) → IfSome known (λ input. HandedFront (in_lines going) q (lines
-      input) s u)
-      → IfSome known (λ input. (b : Answer) → IsAnswerIn going text input b → AppendsFront s u b.bytes)
+  front_known : (known s u : Option (List ℕ)) → IfSome known (λ input. HandedFront going q (lines input) s u)
+      → IfSome known (λ input. (b : Answer) → IsAnswerBy going text input b → AppendsFront s u b.bytes)
   front_known None s u h = tt
   front_known (Some input) s u h = λ b is. subst (λ (b : Answer). AppendsFront s u b.bytes)
       (answer_is input b is) (h right_tests.0 right_tests.1)
 
   pub front_err : {T : Type 0} (r : Result T RunFault) (batch : ℕ) (some : 0 < batch) (e : Ends)
-      → IfErr r (StreamEnded (in_lines going) q batch e)
-      → OnErr r (IfSome e.source_old (λ input. (b : Answer) → IsAnswerIn going text input b
+      → IfErr r (StreamEnded going q batch e)
+      → OnErr r (IfSome e.source_old (λ input. (b : Answer) → IsAnswerBy going text input b
       → AppendsFront e.sink_old e.sink_new b.bytes))
   front_err (Ok x) batch some e h = tt
   front_err (Err f) batch some e h = front_known e.source_old e.sink_old e.sink_new
-      (ended_front (in_lines going) q batch some e f h)
+      (ended_front going q batch some e f h)
+
+-- what holds of an answer in a form holds of the settings that name it
+module _ (output named : Output) (is : output ≡ named) (keeps_going : Bool) (q : tree.Query) where
+  pub handed_in : {T : Type 0} (r : Result T RunFault) (known s u : Option (List ℕ))
+      → OnOk r (IfSome known (λ input. Handed (manner_by named keeps_going) q (lines input) None s u))
+      → OnOk r (IfSome known (λ input. Handed (manner_by output keeps_going) q (lines input) None s u))
+  handed_in r known s u = subst (λ o. OnOk r (IfSome known
+      (λ input. Handed (manner_by o keeps_going) q (lines input) None s u))) (sym is)
+
+  pub ended_in : {T : Type 0} (r : Result T RunFault) (batch : ℕ) (e : Ends)
+      → IfErr r (StreamEnded (manner_by named keeps_going) q batch e)
+      → IfErr r (StreamEnded (manner_by output keeps_going) q batch e)
+  ended_in r batch e = subst (λ o. IfErr r (StreamEnded (manner_by o keeps_going) q batch e)) (sym is)

@@ -5,11 +5,13 @@ use Rattle.jp_tree.specs.Tree.{Text, Query}
 use Rattle.jp_regexp.specs.Tests.{Tests, AreRight}
 use Rattle.jp_check.specs.Verdict.{IsAccepted}
 use Rattle.jp_answer.specs.Answer.{Answer, stream_answer}
-use Rattle.jp_output.specs.OutputForm.{OutputForm, node_lines}
-use Rattle.jp_answer.specs.OnFault.{Manner, manner, answer_in, passed_in as lines_passed}
+use Rattle.jp_output.specs.OutputForm.{OutputForm}
+use Rattle.jp_answer.specs.OnFault.{Manner, manner, answer_by, passed_in as lines_passed}
 use Rattle.jp_answer.specs.declared.on_fault.OnFault.{OnFault}
 use Rattle.jp_answer.specs.declared.on_fault.OnFault.TheVariants.{Stop, KeepGoing}
 use Rattle.jp_answer.specs.Whole.{Whole}
+use Rattle.jp_run.specs.Forms.{form_of}
+use Rattle.jp_run.specs.declared.output.Output.{Output}
 use Rattle.jp_run.specs.declared.outcome.Answer as stopping
 use Rattle.jp_run.specs.declared.outcome.Whole as going_on
 
@@ -18,12 +20,12 @@ abbrev pub on_fault_of : Bool → OnFault
 on_fault_of false = Stop
 on_fault_of true = KeepGoing
 
--- in a form, and in that of output lines
+-- in a form, and in the one of the settings
 abbrev pub manner_in : OutputForm → Bool → Manner
 manner_in form keeps_going = manner form (on_fault_of keeps_going)
 
-abbrev pub in_lines : Bool → Manner
-in_lines keeps_going = manner_in node_lines keeps_going
+abbrev pub manner_by : Output → Bool → Manner
+manner_by output keeps_going = manner_in (form_of output) keeps_going
 
 -- how many faulty lines the answer passes
 abbrev pub passed_in : Bool → List Line → ℕ
@@ -34,10 +36,10 @@ abbrev pub IsAnswerTo : Text → List ℕ → Answer → Type 0
 IsAnswerTo text input a = (q : Query) × IsAccepted text q
     × ((t : Tests) → AreRight t → stream_answer t q input ≡ a)
 
--- the same of the answer in either form: with `false` it is `IsAnswerTo`
-abbrev pub IsAnswerIn : Bool → Text → List ℕ → Answer → Type 0
-IsAnswerIn keeps_going text input a = (q : Query) × IsAccepted text q
-    × ((t : Tests) → AreRight t → answer_in (on_fault_of keeps_going) t q (lines input) ≡ a)
+-- the same of the answer in some manner
+abbrev pub IsAnswerBy : Manner → Text → List ℕ → Answer → Type 0
+IsAnswerBy going text input a = (q : Query) × IsAccepted text q
+    × ((t : Tests) → AreRight t → answer_by going.form going.on_fault t q (lines input) ≡ a)
 
 -- what an `Answer` of `src/` stands for
 abbrev pub answer_of : stopping.Answer → Answer

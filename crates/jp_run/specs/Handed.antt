@@ -8,7 +8,6 @@ use Rattle.jp_regexp.specs.Tests.{Tests, AreRight}
 use Rattle.jp_check.specs.Verdict.{IsAccepted}
 use Rattle.jp_answer.specs.Answer.{Answer}
 use Rattle.jp_answer.specs.OnFault.{Manner, answer_by}
-use Rattle.jp_run.specs.Answered.{in_lines}
 use Rattle.jp_run.specs.Written.{AppendsFront}
 
 -- the answer to the lines stops so, and its bytes were appended
@@ -33,12 +32,10 @@ pub record HandedFirst (going : Manner) (q : Query) (ls : List Line) (old new : 
     pub appended : Appends between new more
 
 -- the text is accepted, and the answer to the lines of the query that it spells was handed out
-abbrev pub IsHanded : Bool → Text → List Line → Option (ℕ × DocFault) → Option (List ℕ) → Option (List ℕ)
-    → Type 0
-IsHanded keeps_going text ls stop old new = (q : Query) × IsAccepted text q
-    × Handed (in_lines keeps_going) q ls stop old new
+abbrev pub IsHandedBy : Manner → Text → List Line → Option (ℕ × DocFault) → Option (List ℕ)
+    → Option (List ℕ) → Type 0
+IsHandedBy going text ls stop old new = (q : Query) × IsAccepted text q × Handed going q ls stop old new
 
 -- the same, and perhaps more bytes were handed out behind it
-abbrev pub IsHandedFirst : Bool → Text → List Line → Option (List ℕ) → Option (List ℕ) → Type 0
-IsHandedFirst keeps_going text ls old new = (q : Query) × IsAccepted text q
-    × HandedFirst (in_lines keeps_going) q ls old new
+abbrev pub IsHandedFirstBy : Manner → Text → List Line → Option (List ℕ) → Option (List ℕ) → Type 0
+IsHandedFirstBy going text ls old new = (q : Query) × IsAccepted text q × HandedFirst going q ls old new

@@ -1,6 +1,7 @@
 pub mod Answered
 pub mod Batches
 pub mod Counts
+pub mod Forms
 pub mod Handed
 pub mod Limits
 pub mod Written

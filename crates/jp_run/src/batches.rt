@@ -22,6 +22,7 @@ use crate::job::Job;
 use crate::running::Totals;
 use crate::settings::Settings;
 use crate::stream::Stream;
+use crate::telling::tell_gate;
 use crate::writing::hand_out;
 use jp_answer::{Cutting, Gate, Outcome, answer_in_chunks};
 use jp_buffer::{LineBuffer, LineRef, WaitingLines};
@@ -312,7 +313,9 @@ fn answer_to<R: Threads + Sync, G: Gate + Sync, F: Form + Drop + Send>(
 {
     let cutting = cutting_for(&job.settings, lines);
     let on_fault = job.settings.on_fault();
-    answer_in_chunks::<R, G, F>(&job.crew, job.query, lines, cutting, on_fault)
+    let answer = answer_in_chunks::<R, G, F>(&job.crew, job.query, lines, cutting, on_fault);
+    tell_gate(job.crew.alloc, job.crew.gate, lines, &answer);
+    answer
 }
 
 /// How these lines are cut up: among as many workers as are set, but no more than one for each 16,384 bytes,

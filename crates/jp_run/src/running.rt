@@ -13,10 +13,10 @@ ghost use Rattle.jp_check.specs.Plan.{planned_query};
 ghost use Rattle.jp_compiled.specs.Compiled.{compiled_query};
 ghost use Rattle.jp_check.specs.Verdict.{IsAccepted, IsVerdict};
 ghost use Rattle.jp_answer.specs.Answer.{Answer};
-ghost use Rattle.jp_run.specs.Answered.{IsAnswerIn, manner_in, passed_in};
+ghost use Rattle.jp_run.specs.Answered.{IsAnswerBy, manner_in, manner_by, passed_in};
 ghost use Rattle.jp_run.specs.Batches.{documents_in, whole_batches, WasNotWhole, batches_before};
 ghost use Rattle.jp_run.specs.inner.Ended.{StreamEnded};
-ghost use Rattle.jp_run.specs.Handed.{Handed, IsHanded, IsHandedFirst};
+ghost use Rattle.jp_run.specs.Handed.{Handed, IsHandedBy, IsHandedFirstBy};
 ghost use Rattle.jp_run.specs.Limits.{max_reads, max_lines};
 ghost use Rattle.jp_run.specs.Written.{AppendsFront, IsPassedOn};
 
@@ -25,12 +25,13 @@ use crate::batches::{answer_batches, answer_rest};
 use crate::ends::{Sink, Source};
 use crate::fault::RunFault;
 use crate::job::Job;
+use crate::output::Output;
 use crate::settings::Settings;
 use crate::stream::Stream;
 use crate::writing::tell_stop;
 use jp_answer::{Crew, Gate};
 use jp_check::{Plan, plan};
-use jp_output::{Form, NodeLines};
+use jp_output::{Form, InputLines, NodeLines, TextLines, ValueLines};
 use jp_syntax::QueryFault;
 use std::alloc::Global;
 use std::thread::Threads;
@@ -60,15 +61,15 @@ impl Totals {
     }
 }
 
-/// Runs a query over all documents of the source, one on a line, and writes the lines of the nodes that it
-/// selects.
+/// Runs a query over all documents of the source, one on a line, and writes what it selects, in the form of
+/// the settings.
 ///
 /// The query is read first. Then the source is read to its end, at most 65,536 bytes a call. As soon as
 /// `batch` documents have come their answer is written, and the sink is flushed, before the next read; the
 /// rest is at the end. They are answered by the workers, of whom there is one for each 16,384 bytes of their
 /// lines at most; where the lines of a batch are long, by parts, while the calling thread reads on. The run
-/// stops at the first faulty line, unless the settings are to keep going: then a faulty line gives its fault
-/// line, and the totals count it.
+/// stops at the first faulty line, unless the settings are to keep going: then the totals count it, and it
+/// gives what the form has for it, which for nodes is its fault line and else nothing.
 /// Neither end has failed before, and the counts of the source are at most 2^62.
 ///
 /// What is flushed when: each batch's lines as soon as they are written, also those before a faulty line and
@@ -102,7 +103,7 @@ pub fn run<R: Threads + Sync, S: Source, K: Sink, G: Gate + Sync>(
     // end has failed.
     ensures accepted { OnOk result ((q : Query) × IsAccepted (chars query.now) q) }
     ensures answer { OnOk result (IfSome (S.remaining source.old) (λ input. (a : Answer)
-        × IsAnswerIn settings.now.keeps_going (chars query.now) input a
+        × IsAnswerBy (manner_by settings.now.output settings.now.keeps_going) (chars query.now) input a
         × (a.stopped ≡ None) × Appends (K.contents sink.old) (K.contents sink.new) a.bytes)) }
     ensures counts { IfOk result (λ totals. IfSome (S.remaining source.old)
         (λ input. (totals.lines ≡ line_count input) × (totals.documents ≡ length (lines input)))) }
@@ -131,7 +132,7 @@ pub fn run<R: Threads + Sync, S: Source, K: Sink, G: Gate + Sync>(
     // The first faulty line and its fault are told, and all before it was written.
     ensures document { (line : ℕ) (fault : Fault) → IsErrOf result (RunFault.Document line fault)
         → IfSome (S.remaining source.old) (λ input. (a : Answer)
-        × IsAnswerIn settings.now.keeps_going (chars query.now) input a
+        × IsAnswerBy (manner_by settings.now.output settings.now.keeps_going) (chars query.now) input a
         × (a.stopped ≡ Some (line, fault)) × Appends (K.contents sink.old) (K.contents sink.new) a.bytes) }
     // An answer that keeps going tells no faulty line so.
     ensures goes_on { settings.now.keeps_going ≡ true → (line : ℕ) (fault : Fault)
@@ -143,7 +144,7 @@ pub fn run<R: Threads + Sync, S: Source, K: Sink, G: Gate + Sync>(
     // The lines of the whole batches among the documents whose line's end was read are written, and no more.
     ensures read { IsErrOf result RunFault.Read → (S.failed source.new ≡ true) × (bytes : List ℕ)
         × Consumes (S.remaining source.old) (S.remaining source.new) bytes
-        × IsHanded settings.now.keeps_going (chars query.now)
+        × IsHandedBy (manner_by settings.now.output settings.now.keeps_going) (chars query.now)
         (whole_batches settings.now.batch (documents_in bytes)) None
         (K.contents sink.old) (K.contents sink.new) }
     ensures write { IsErrOf result RunFault.Write → K.failed sink.new ≡ true }
@@ -151,7 +152,7 @@ pub fn run<R: Threads + Sync, S: Source, K: Sink, G: Gate + Sync>(
     // the last call of `read` are written, all of them: a batch is written before the read behind it.
     ensures no_read_between { IsErrOf result RunFault.Write → (bytes : List ℕ)
         × Consumes (S.remaining source.old) (S.remaining source.new) bytes
-        × IsHandedFirst settings.now.keeps_going (chars query.now)
+        × IsHandedFirstBy (manner_by settings.now.output settings.now.keeps_going) (chars query.now)
         (batches_before settings.now.batch bytes (S.last source.new))
         (K.contents sink.old) (K.contents sink.new) }
     ensures limit { IsErrOf result RunFault.Limit → (S.reads source.new ≡ S.reads source.old + max_reads)
@@ -161,7 +162,7 @@ pub fn run<R: Threads + Sync, S: Source, K: Sink, G: Gate + Sync>(
     ensures settings { IsErrOf result RunFault.Settings → ⊥ }
     // Whatever the fault, a front of the answer was written.
     ensures front { OnErr result (IfSome (S.remaining source.old) (λ input. (a : Answer)
-        → IsAnswerIn settings.now.keeps_going (chars query.now) input a
+        → IsAnswerBy (manner_by settings.now.output settings.now.keeps_going) (chars query.now) input a
         → AppendsFront (K.contents sink.old) (K.contents sink.new) a.bytes)) }
     ensures few { S.reads source.new ≤ S.reads source.old + max_reads }
 {
@@ -171,10 +172,54 @@ pub fn run<R: Threads + Sync, S: Source, K: Sink, G: Gate + Sync>(
         query: plan.compiled(),
         settings: *settings,
     };
-    answer_stream::<R, S, K, G, NodeLines>(&job, source, sink)
+    answer_in_form(&job, source, sink)
 }
 
-/// Reads a source to its end, and answers each batch as soon as it has come.
+/// Reads a source to its end, and answers each batch as soon as it has come, in the form that is wanted.
+fn answer_in_form<R: Threads + Sync, S: Source, K: Sink, G: Gate + Sync>(
+    job: &Job<R, G>,
+    source: &mut S,
+    sink: &mut K,
+) -> Result<Totals, RunFault>
+    requires working { (S.failed source.old ≡ false) × (K.failed sink.old ≡ false) }
+    requires few { S.reads source.old ≤ 2 ^ 62 }
+    ensures handed { OnOk result (IfSome (S.remaining source.old) (λ input. Handed (manner_by job.now.settings.output
+        job.now.settings.keeps_going) (compiled_query job.now.query.now) (lines input) None (K.contents
+        sink.old) (K.contents sink.new))) }
+    ensures counts { IfOk result (λ totals. IfSome (S.remaining source.old)
+        (λ input. (totals.lines ≡ line_count input) × (totals.documents ≡ length (lines input)))) }
+    ensures passed { IfOk result (λ totals. IfSome (S.remaining source.old)
+        (λ input. totals.faulty ≡ passed_in job.now.settings.keeps_going (lines input))) }
+    ensures none_passed { job.now.settings.keeps_going ≡ false → IfOk result (λ totals. totals.faulty ≡ 0) }
+    ensures few_lines { IfOk result (λ totals. totals.lines ≤ max_lines) }
+    ensures end { OnOk result (IsAtEnd (S.remaining source.new)) }
+    ensures flushed { OnOk result (K.flushed sink.new ≡ true) }
+    ensures still_working { OnOk result ((S.failed source.new ≡ false) × (K.failed sink.new ≡ false)) }
+    ensures passed_on { K.flushed sink.old ≡ true → IsPassedOn (K.flushed sink.new) (K.failed sink.new) }
+    ensures fault { IfErr result (StreamEnded (manner_by job.now.settings.output job.now.settings.keeps_going)
+        (compiled_query job.now.query.now)
+        job.now.settings.batch (record {
+          source_old = S.remaining source.old;
+          source_new = S.remaining source.new;
+          reads_old = S.reads source.old;
+          reads_new = S.reads source.new;
+          last = S.last source.new;
+          source_failed = S.failed source.new;
+          sink_old = K.contents sink.old;
+          sink_new = K.contents sink.new;
+          sink_failed = K.failed sink.new;
+        })) }
+    ensures few { S.reads source.new ≤ S.reads source.old + max_reads }
+{
+    match job.settings.output {
+        Output::Nodes => answer_stream::<R, S, K, G, NodeLines>(job, source, sink),
+        Output::Values => answer_stream::<R, S, K, G, ValueLines>(job, source, sink),
+        Output::Texts => answer_stream::<R, S, K, G, TextLines>(job, source, sink),
+        Output::Lines => answer_stream::<R, S, K, G, InputLines>(job, source, sink),
+    }
+}
+
+/// Reads a source to its end, and answers each batch as soon as it has come, in some form.
 fn answer_stream<R: Threads + Sync, S: Source, K: Sink, G: Gate + Sync, F: Form + Drop + Send>(
     job: &Job<R, G>,
     source: &mut S,

@@ -4,6 +4,7 @@ ghost use Rattle.std.specs.Prelude.{◌≡◌, ◌↔◌, false, true, IsOk, IfO
 ghost use Rattle.jp_run.specs.Settings.{AreSettings};
 
 use crate::fault::RunFault;
+use crate::output::Output;
 use jp_answer::OnFault;
 
 /// The greatest number of workers: a board has so many seats.
@@ -13,7 +14,8 @@ const MAX_WORKERS: u64 = 64;
 /// memory.
 const MAX_DOCUMENTS: u64 = 1_000_000;
 
-/// How many workers answer, how many documents are a piece, how many a batch, and which form the answer has.
+/// How many workers answer, how many documents are a piece, how many a batch, whether the answer keeps going,
+/// and which form it has.
 #[derive(Clone, Copy, Debug, PartialEq, Eq, Drop)]
 pub struct Settings {
     /// The number of workers, 1 to 64.
@@ -24,13 +26,16 @@ pub struct Settings {
     pub batch: u64,
     /// Whether the answer keeps going after a faulty line.
     pub keeps_going: bool,
+    /// What is written.
+    pub output: Output,
     pub ghost in_range: { AreSettings workers piece batch },
 }
 
 impl Settings {
     ghost use Rattle.jp_run.specs.Answered.{on_fault_of};
 
-    /// The settings, which take no memory. The answer ends at the first faulty line.
+    /// The settings, which take no memory. The answer ends at the first faulty line, and has a line for each
+    /// node.
     ///
     /// # Errors
     ///
@@ -39,6 +44,7 @@ impl Settings {
     pub fn new(workers: u64, piece: u64, batch: u64) -> Result<Settings, RunFault>
         ensures settings { IfOk result (λ s. (s.workers ≡ workers) × (s.piece ≡ piece) × (s.batch ≡ batch)) }
         ensures ends { IfOk result (λ s. s.keeps_going ≡ false) }
+        ensures nodes { IfOk result (λ s. s.output ≡ Output.Nodes) }
         ensures in_range { IsOk result ↔ AreSettings workers piece batch }
         ensures fault { OnErr result (IsErrOf result RunFault.Settings) }
     {
@@ -53,6 +59,7 @@ impl Settings {
             piece,
             batch,
             keeps_going: false,
+            output: Output::Nodes,
         })
     }
 
@@ -70,7 +77,7 @@ impl Settings {
     /// The same settings, but for an answer that keeps going after a faulty line. It takes no memory.
     pub fn keep_going(self) -> Settings
         ensures same { (result.workers ≡ self.workers) × (result.piece ≡ self.piece)
-            × (result.batch ≡ self.batch) }
+            × (result.batch ≡ self.batch) × (result.output ≡ self.output) }
         ensures going { result.keeps_going ≡ true }
     {
         Settings {
@@ -78,6 +85,22 @@ impl Settings {
             piece: self.piece,
             batch: self.batch,
             keeps_going: true,
+            output: self.output,
+        }
+    }
+
+    /// The same settings, but for an answer in this form. It takes no memory.
+    pub fn with_output(self, output: Output) -> Settings
+        ensures same { (result.workers ≡ self.workers) × (result.piece ≡ self.piece)
+            × (result.batch ≡ self.batch) × (result.keeps_going ≡ self.keeps_going) }
+        ensures output { result.output ≡ output }
+    {
+        Settings {
+            workers: self.workers,
+            piece: self.piece,
+            batch: self.batch,
+            keeps_going: self.keeps_going,
+            output,
         }
     }
 }

@@ -20,11 +20,15 @@ mod keep_going;
 #[cfg(test)]
 mod long_lines;
 #[cfg(test)]
+mod output_forms;
+#[cfg(test)]
 mod parts;
 #[cfg(test)]
 mod refusals;
 #[cfg(test)]
 mod runs;
+#[cfg(test)]
+mod telling;
 #[cfg(test)]
 mod thousand;
 #[cfg(test)]

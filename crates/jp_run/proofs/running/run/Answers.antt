@@ -1,19 +1,26 @@
 use Rattle.std.proofs.Common.{refl}
 use Rattle.jp_compiled.specs.Compiled.{compiled_query}
 use Rattle.jp_run.specs.declared.fault.RunFault.TheVariants.{Document, Read, Write, Limit}
+use Rattle.jp_answer.specs.OnFault.{Manner}
+use Rattle.jp_run.specs.Answered.{manner_by}
+use Rattle.jp_run.specs.declared.settings.Settings.{Settings}
 use Rattle.jp_run.proofs.Runs.{not_both, refused_so, at_fault, accepted_ok, answer_known, answer_ok}
 use Rattle.jp_run.proofs.Runs.{front_err, not_going, spelled}
 use Rattle.jp_run.proofs.running.run.Goals as goal
+
+-- how the answer is written
+abbrev going : Settings → Manner
+going s = manner_by s.output s.keeps_going
 
 pub returns-in_err-plan-clause-refused : goal.returns-in_err-plan-clause-refused
 returns-in_err-plan-clause-refused g c =
     λ f v. (refused_so _ f _ _ c.from_residual.ensures.1 c.in_err-plan.ensures.fault v, refl, refl)
 
-pub answer_stream-requires-clause-working : goal.answer_stream-requires-clause-working
-answer_stream-requires-clause-working g c = λ κs outlives. c.requires.working
+pub answer_in_form-requires-clause-working : goal.answer_in_form-requires-clause-working
+answer_in_form-requires-clause-working g c = λ κs outlives. c.requires.working
 
-pub answer_stream-requires-clause-few : goal.answer_stream-requires-clause-few
-answer_stream-requires-clause-few g c = λ κs outlives. c.requires.few.0
+pub answer_in_form-requires-clause-few : goal.answer_in_form-requires-clause-few
+answer_in_form-requires-clause-few g c = λ κs outlives. c.requires.few.0
 
 pub returns-clause-accepted : goal.returns-clause-accepted
 returns-clause-accepted g c = accepted_ok _ _ c.in_ok-plan.ensures.ok _
@@ -22,33 +29,33 @@ pub returns-clause-refused : goal.returns-clause-refused
 returns-clause-refused g c = λ f v. not_both _ _ f c.in_ok-plan.ensures.ok v
 
 pub returns-clause-answer : goal.returns-clause-answer
-returns-clause-answer g c = answer_ok c.args.settings.now.keeps_going _ _ (spelled _ _ _ c.compiled.ensures
-    c.in_ok-plan.ensures.ok) _ _ _ _ c.answer_stream.ensures.handed
+returns-clause-answer g c = answer_ok (going c.args.settings.now) _ _ (spelled _ _ _ c.compiled.ensures
+    c.in_ok-plan.ensures.ok) _ _ _ _ c.answer_in_form.ensures.handed
 
 pub returns-clause-counts : goal.returns-clause-counts
-returns-clause-counts g c = c.answer_stream.ensures.counts
+returns-clause-counts g c = c.answer_in_form.ensures.counts
 
 pub returns-clause-document : goal.returns-clause-document
-returns-clause-document g c = λ line fault e. answer_known c.args.settings.now.keeps_going _ _ (spelled _ _
+returns-clause-document g c = λ line fault e. answer_known (going c.args.settings.now) _ _ (spelled _ _
     _ c.compiled.ensures c.in_ok-plan.ensures.ok) _ _ _ _
-    (at_fault _ (Document line fault) _ e c.answer_stream.ensures.fault).0
+    (at_fault _ (Document line fault) _ e c.answer_in_form.ensures.fault).0
 
 pub returns-clause-no_later_read : goal.returns-clause-no_later_read
 returns-clause-no_later_read g c = λ line fault e.
-    let h = at_fault c.answer_stream.result (Document line fault) _ e c.answer_stream.ensures.fault in
+    let h = at_fault c.answer_in_form.result (Document line fault) _ e c.answer_in_form.ensures.fault in
     (h.1.0, h.1.1, h.1.2)
 
 pub returns-clause-goes_on : goal.returns-clause-goes_on
 returns-clause-goes_on g c = λ on line fault e.
-    let h = at_fault c.answer_stream.result (Document line fault) _ e c.answer_stream.ensures.fault in
+    let h = at_fault c.answer_in_form.result (Document line fault) _ e c.answer_in_form.ensures.fault in
     not_going _ on h.2
 
 pub returns-clause-faulty : goal.returns-clause-faulty
-returns-clause-faulty g c = c.answer_stream.ensures.passed
+returns-clause-faulty g c = c.answer_in_form.ensures.passed
 
 pub returns-clause-read : goal.returns-clause-read
 returns-clause-read g c = λ e.
-    let h = at_fault c.answer_stream.result Read _ e c.answer_stream.ensures.fault in (
+    let h = at_fault c.answer_in_form.result Read _ e c.answer_in_form.ensures.fault in (
       h.0,
       h.1,
       h.2,
@@ -61,11 +68,11 @@ returns-clause-read g c = λ e.
     )
 
 pub returns-clause-write : goal.returns-clause-write
-returns-clause-write g c = λ e. (at_fault c.answer_stream.result Write _ e c.answer_stream.ensures.fault).0
+returns-clause-write g c = λ e. (at_fault c.answer_in_form.result Write _ e c.answer_in_form.ensures.fault).0
 
 pub returns-clause-no_read_between : goal.returns-clause-no_read_between
 returns-clause-no_read_between g c = λ e.
-    let h = at_fault c.answer_stream.result Write _ e c.answer_stream.ensures.fault in (
+    let h = at_fault c.answer_in_form.result Write _ e c.answer_in_form.ensures.fault in (
       h.2.0,
       h.2.1,
       (
@@ -77,12 +84,12 @@ returns-clause-no_read_between g c = λ e.
     )
 
 pub returns-clause-limit : goal.returns-clause-limit
-returns-clause-limit g c = λ e. (at_fault c.answer_stream.result Limit _ e c.answer_stream.ensures.fault).0
+returns-clause-limit g c = λ e. (at_fault c.answer_in_form.result Limit _ e c.answer_in_form.ensures.fault).0
 
 pub returns-clause-front : goal.returns-clause-front
-returns-clause-front g c = front_err c.args.settings.now.keeps_going _ _ (spelled _ _ _ c.compiled.ensures
-    c.in_ok-plan.ensures.ok) c.answer_stream.result _
-    c.args.settings.now.in_range.2.0 _ c.answer_stream.ensures.fault
+returns-clause-front g c = front_err (going c.args.settings.now) _ _ (spelled _ _ _ c.compiled.ensures
+    c.in_ok-plan.ensures.ok) c.answer_in_form.result _
+    c.args.settings.now.in_range.2.0 _ c.answer_in_form.ensures.fault
 
 pub returns-clause-few : goal.returns-clause-few
-returns-clause-few g c = c.answer_stream.ensures.few
+returns-clause-few g c = c.answer_in_form.ensures.few

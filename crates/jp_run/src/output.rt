@@ -1,0 +1,15 @@
+//! Which form an answer has.
+
+/// What is written of a document and of the nodes that are selected in it.
+#[derive(Clone, Copy, Debug, PartialEq, Eq, Drop)]
+pub enum Output {
+    /// A line for each node: the document's number, a tab, the node's normalized path (RFC 9535, 2.7), a tab,
+    /// and its value's compact text. A faulty line has its fault line.
+    Nodes,
+    /// A line for each node: its value's compact text (RFC 8259). A faulty line has none.
+    Values,
+    /// The same, but a text stands without its two quotes, and with `"` in place of `\"`.
+    Texts,
+    /// The document's line as it came, where at least one node is selected. A faulty line has none.
+    Lines,
+}

@@ -1,0 +1,112 @@
+//! Runs in the forms of values, texts and lines, however they are cut up.
+
+use crate::fakes::{Holds, OneByte};
+use jp_run::{OpenGate, Output, RunFault, Settings, Totals, run};
+use std::alloc::Global;
+use std::test::Fail;
+use std::thread::Threads;
+
+/// More bytes than any of these runs writes.
+const ROOM: usize = 1_000_000;
+
+/// Documents, a blank line, a line that is no JSON text, and a last line without its end.
+const INPUT: &[u8] = b"{\"a\":[\"x\", 1]}\r\n\n{\"b\":0}\n{\n{\"a\":[\"\\\"\"]}";
+
+/// What a run of `$.a[*]` ends with, and what it writes, read a byte at a time, with such workers, pieces and
+/// batches. The sink takes so many bytes.
+fn ran<R: Threads + Sync>(
+    rt: &R,
+    alloc: Global,
+    output: Output,
+    cut: (u64, u64, u64),
+    keeps_going: bool,
+    room: usize,
+) -> Result<(Result<Totals, RunFault>, Vec<u8>), RunFault> {
+    let settings = Settings::new(cut.0, cut.1, cut.2)?.with_output(output);
+    let settings = if keeps_going {
+        settings.keep_going()
+    } else {
+        settings
+    };
+    let mut source = OneByte::new(INPUT, 0);
+    let mut sink = Holds::new(Vec::new(alloc), 3, room);
+    let end = run(
+        rt,
+        alloc,
+        &mut source,
+        &mut sink,
+        "$.a[*]",
+        &settings,
+        &OpenGate,
+    );
+    Ok((end, sink.bytes))
+}
+
+/// Workers, pieces and batches.
+const CUTS: [(u64, u64, u64); 5] = [(1, 1, 1), (1, 10, 2), (2, 1, 10), (4, 1, 2), (4, 10, 10)];
+
+/// Forms, each with what is written where the run keeps going, and where it stops.
+const FORMS: [(Output, &[u8], &[u8]); 4] = [
+    (
+        Output::Nodes,
+        b"1\t$['a'][0]\t\"x\"\n1\t$['a'][1]\t1\n4\t!\tunreadable\n5\t$['a'][0]\t\"\\\"\"\n",
+        b"1\t$['a'][0]\t\"x\"\n1\t$['a'][1]\t1\n",
+    ),
+    (Output::Values, b"\"x\"\n1\n\"\\\"\"\n", b"\"x\"\n1\n"),
+    (Output::Texts, b"x\n1\n\"\n", b"x\n1\n"),
+    (
+        Output::Lines,
+        b"{\"a\":[\"x\", 1]}\r\n{\"a\":[\"\\\"\"]}\n",
+        b"{\"a\":[\"x\", 1]}\r\n",
+    ),
+];
+
+#[test]
+fn each_form_is_one_however_it_is_cut(rt: HostRuntime) -> Result<(), Fail> {
+    for (output, going, _) in &FORMS {
+        for cut in &CUTS {
+            let (end, bytes) = ran(&rt, rt.alloc(), *output, *cut, true, ROOM)?;
+            assert_eq!(rt; bytes.as_slice(), *going);
+            let totals = end?;
+            assert_eq!(rt; totals, Totals { lines: 5, documents: 4, faulty: 1 });
+            assert_eq!(rt; totals.status(), 3);
+        }
+    }
+    Ok(())
+}
+
+#[test]
+fn each_form_stops_at_the_faulty_line(rt: HostRuntime) -> Result<(), Fail> {
+    for (output, _, stopping) in &FORMS {
+        for cut in &CUTS {
+            let (end, bytes) = ran(&rt, rt.alloc(), *output, *cut, false, ROOM)?;
+            assert_eq!(rt; bytes.as_slice(), *stopping);
+            assert!(rt; matches!(end, Err(RunFault::Document { line: 4, .. })));
+        }
+    }
+    Ok(())
+}
+
+#[test]
+fn a_front_of_each_form_stands_where_the_sink_fails(rt: HostRuntime) -> Result<(), Fail> {
+    for (output, going, _) in &FORMS {
+        for cut in &CUTS {
+            let (end, bytes) = ran(&rt, rt.alloc(), *output, *cut, true, 4)?;
+            assert!(rt; matches!(end, Err(RunFault::Write)));
+            assert!(rt; going.starts_with(bytes.as_slice()));
+            assert!(rt; bytes.len() <= 4);
+        }
+    }
+    Ok(())
+}
+
+#[test]
+fn settings_keep_their_form(rt: HostRuntime) -> Result<(), Fail> {
+    let settings = Settings::new(3, 5, 7)?;
+    assert_eq!(rt; settings.output, Output::Nodes);
+    let lines = settings.with_output(Output::Lines);
+    assert_eq!(rt; lines.keep_going().output, Output::Lines);
+    assert_eq!(rt; (lines.workers, lines.piece, lines.batch, lines.keeps_going), (3, 5, 7, false));
+    assert!(rt; lines.keep_going().with_output(Output::Texts).keeps_going);
+    Ok(())
+}
