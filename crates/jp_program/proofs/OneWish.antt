@@ -1,6 +1,6 @@
 -- Words want one thing, and what is asked for is that.
-use Rattle.std.proofs.Common.{◌≡◌, ◌∙◌, ℕ, ◌⊎◌, inl, inr, Bool, true, false, List, [], Option, Some, refl}
-use Rattle.std.proofs.Common.{sym, Result, Ok, Err, IsErrAnd, ap, subst, length, unwrap_or, codes, arith}
+use Rattle.std.proofs.Common.{◌≡◌, ◌∙◌, ℕ, ◌⊎◌, inl, inr, Bool, true, false, List, [], ◌∷◌, Option, Some, None, refl}
+use Rattle.std.proofs.Common.{sym, Result, Ok, Err, IsErrAnd, ap, subst, length, unwrap_or, codes, arith, ◌==◌, if◌then◌else◌}
 use Rattle.std.specs.Str.{chars}
 use Rattle.std.specs.Str.Parse.{digits_value, without_leading_plus}
 use Rattle.clap.specs.Walk.{Text, Row}
@@ -10,8 +10,10 @@ use Rattle.jp_tree.specs.declared.fault.QueryFault.{QueryFault}
 use Rattle.jp_check.specs.Verdict.{IsVerdict}
 use Rattle.jp_run.specs.declared.fault.RunFault.{RunFault}
 use Rattle.jp_run.specs.declared.fault.RunFault.TheVariants.{Memory}
+use Rattle.jp_run.specs.declared.output.Output.{Output}
+use Rattle.jp_run.specs.declared.output.Output.TheVariants.{Nodes, Values, Texts, Lines}
 use Rattle.jp_program.specs.CommandLine.{said, refusals, AsksToShow}
-use Rattle.jp_program.specs.Wanted.{Wanted, SaysNumber, SaysFlag, flag_text, Wants, WantsCheck, IsWrong}
+use Rattle.jp_program.specs.Wanted.{Wanted, SaysNumber, SaysFlag, flag_text, output_text, Wants, WantsCheck, IsWrong}
 use Rattle.jp_program.specs.inner.Asked.{IsAsked, IsNotAsked, wanted_of}
 use Rattle.jp_program.specs.declared.command_line.Asked.{Asked}
 use Rattle.jp_program.specs.declared.command_line.Asked.TheVariants.{Query}
@@ -21,6 +23,12 @@ same_some : {A : Type 0} (x y : A) → ◌≡◌ (Some x) (Some y) → x ≡ y
 same_some x y e = cc
 
 -- what is said of an option is one thing
+
+-- the first byte of what is said
+abbrev first : Option Text → ℕ
+first None = 0
+first (Some []) = 0
+first (Some (b ∷ bs)) = b
 
 flag_same : (b d : Bool) → ◌≡◌ (Some (flag_text b)) (Some (flag_text d)) → b ≡ d
 flag_same true true e = refl
@@ -33,12 +41,27 @@ number_same : (name : Text) (rows : List Row) (m n : ℕ) → SaysNumber name ro
 number_same name rows m n a b = sym a.3
     ∙ ap (λ t. digits_value 10 (without_leading_plus t)) (same_some a.0 b.0 (sym a.1 ∙ b.1)) ∙ b.3
 
+-- which form a word names, by its first byte
+abbrev named : ℕ → Output
+named b = if b == 110 then Nodes else (if b == 118 then Values else (if b == 116 then Texts else Lines))
+
+named_is : (x : Output) → named (first (Some (output_text x))) ≡ x
+named_is Nodes = refl
+named_is Values = refl
+named_is Texts = refl
+named_is Lines = refl
+
+output_same : (x y : Output) → ◌≡◌ (Some (output_text x)) (Some (output_text y)) → x ≡ y
+output_same x y e = sym (named_is x) ∙ ap (λ o. named (first o)) e ∙ named_is y
+
 pub one_wish : (words : List Text) (v w : Wanted) → Wants words v → Wants words w → v ≡ w
 one_wish words v w a b =
     ap (λ (q : List ℕ). record v { query = q }) (same_some v.query w.query (sym a.1.query ∙ b.1.query))
     ∙ ap (λ (c : Bool). record v { query = w.query; check = c })
     (flag_same v.check w.check (sym a.1.check ∙ b.1.check))
-    ∙ ap (λ (k : Bool). record v { query = w.query; check = w.check; keeps_going = k })
+    ∙ ap (λ (o : Output). record v { query = w.query; check = w.check; output = o })
+    (output_same v.output w.output (sym a.1.output ∙ b.1.output))
+    ∙ ap (λ (k : Bool). record v { query = w.query; check = w.check; output = w.output; keeps_going = k })
     (flag_same v.keeps_going w.keeps_going (sym a.1.keeps_going ∙ b.1.keeps_going))
     ∙ ap (λ (x : Bool). record w { explain = x; workers = v.workers; piece = v.piece; batch = v.batch })
     (flag_same v.explain w.explain (sym a.1.explain ∙ b.1.explain))

@@ -22,18 +22,18 @@ wants_of words a w e asked off = (subst (IsAsked words) e asked, off)
 module _ (words : List Text) (w : Wanted) (wants : WantsRun words w) (input old new rest : Option (List ℕ))
     (flushed source_failed sink_failed : Bool) where
   pub finished_ok : (Shown Checked : Type 0) (r : Result Totals RunFault) → OnOk r (IsTaken w.query)
-      → OnOk r (IsToldIn w.keeps_going w.query None input old new)
+      → OnOk r (IsToldIn w.keeps_going w None input old new)
       → IfOk r (λ totals. IfSome input (λ bytes. totals.faulty ≡ passed_in w.keeps_going (lines bytes)))
       → OnOk r (IsAtEnd rest) → OnOk r (flushed ≡ true)
       → OnOk r ((source_failed ≡ false) × (sink_failed ≡ false))
       → IfOk r (λ totals. totals.faulty ≡ 0 → Shown ⊎ Checked ⊎ ((x : Wanted) × WantsRun words x
-      × IsTaken x.query × IsAnswered x.query None input old new × IsAtEnd rest × (flushed ≡ true)
+      × IsTaken x.query × IsAnswered x None input old new × IsAtEnd rest × (flushed ≡ true)
       × (source_failed ≡ false) × (sink_failed ≡ false)))
   finished_ok Shown Checked (Ok totals) taken told faulty end passed working = λ e. inr (inr (
     w,
     wants,
     taken,
-    fine w.keeps_going w.query input old new totals.faulty told faulty e,
+    fine w w.keeps_going input old new totals.faulty told faulty e,
     end,
     passed,
     working.0,
@@ -42,13 +42,13 @@ module _ (words : List Text) (w : Wanted) (wants : WantsRun words w) (input old 
   finished_ok Shown Checked (Err fault) taken told faulty end passed working = tt
 
   past_by : (going : Bool) → w.keeps_going ≡ going → (r : Result Totals RunFault)
-      → OnOk r (IsToldIn w.keeps_going w.query None input old new)
+      → OnOk r (IsToldIn w.keeps_going w None input old new)
       → IfOk r (λ totals. IfSome input (λ bytes. totals.faulty ≡ passed_in w.keeps_going (lines bytes)))
       → (w.keeps_going ≡ false → IfOk r (λ totals. totals.faulty ≡ 0))
       → OnOk r (IsAtEnd rest) → OnOk r (flushed ≡ true)
       → OnOk r ((source_failed ≡ false) × (sink_failed ≡ false))
       → IfOk r (λ totals. 0 < totals.faulty → (x : Wanted) × WantsRun words x × (x.keeps_going ≡ true)
-      × IsPast x.query input old new × IsAtEnd rest × (flushed ≡ true)
+      × IsPast x input old new × IsAtEnd rest × (flushed ≡ true)
       × (source_failed ≡ false) × (sink_failed ≡ false))
   past_by false is (Ok totals) told faulty none end passed working =
       λ lt. absurd (omega (arith, lt, none is))
@@ -56,8 +56,8 @@ module _ (words : List Text) (w : Wanted) (wants : WantsRun words w) (input old 
     w,
     wants,
     is,
-    past w.query input old new totals.faulty
-        (subst (λ g. IsToldIn g w.query None input old new) is told)
+    past w input old new totals.faulty
+        (subst (λ g. IsToldIn g w None input old new) is told)
         (subst (λ g. IfSome input (λ bytes. totals.faulty ≡ passed_in g (lines bytes))) is faulty) lt,
     end,
     passed,
@@ -66,13 +66,13 @@ module _ (words : List Text) (w : Wanted) (wants : WantsRun words w) (input old 
   )
   past_by going is (Err fault) told faulty none end passed working = tt
 
-  pub past_ok : (r : Result Totals RunFault) → OnOk r (IsToldIn w.keeps_going w.query None input old new)
+  pub past_ok : (r : Result Totals RunFault) → OnOk r (IsToldIn w.keeps_going w None input old new)
       → IfOk r (λ totals. IfSome input (λ bytes. totals.faulty ≡ passed_in w.keeps_going (lines bytes)))
       → (w.keeps_going ≡ false → IfOk r (λ totals. totals.faulty ≡ 0))
       → OnOk r (IsAtEnd rest) → OnOk r (flushed ≡ true)
       → OnOk r ((source_failed ≡ false) × (sink_failed ≡ false))
       → IfOk r (λ totals. 0 < totals.faulty → (x : Wanted) × WantsRun words x × (x.keeps_going ≡ true)
-      × IsPast x.query input old new × IsAtEnd rest × (flushed ≡ true)
+      × IsPast x input old new × IsAtEnd rest × (flushed ≡ true)
       × (source_failed ≡ false) × (sink_failed ≡ false))
   past_ok r told faulty none end passed working =
       past_by w.keeps_going refl r told faulty none end passed working

@@ -1,13 +1,14 @@
 -- What `get_one` reads is what is said of an option.
 use Rattle.std.proofs.Common.{◌≡◌, ◌∙◌, ℕ, ◌≤◌, ◌<◌, ◌^◌, Bool, true, false, List, Option, Some, None}
-use Rattle.std.proofs.Common.{IfSome, option_map}
+use Rattle.std.proofs.Common.{IfSome, option_map, codes}
 use Rattle.std.proofs.Common.{Result, Ok, Err, refl, sym, ap, arith}
 use Rattle.std.specs.Prelude.{IsNone}
 use Rattle.std.specs.Str.Parse.{ParsesUnsigned, ParsesBool}
 use Rattle.clap.specs.Matches.{ReadsOne}
 use Rattle.std.specs.Str.{chars}
 use Rattle.clap.specs.Walk.{Text, Row, first_of, one_of}
-use Rattle.jp_program.specs.Wanted.{SaysNumber, SaysFlag, flag_text}
+use Rattle.jp_run.specs.declared.output.Output.{Output}
+use Rattle.jp_program.specs.Wanted.{SaysNumber, SaysFlag, flag_text, SaysOutput, output_text}
 
 -- a text that is read as an option's value, by the type's own reading
 module _ {T E : Type 0} (reads : List ℕ → Result T E → Type 0) (o : Option Text) where
@@ -62,6 +63,23 @@ module _ (E : Type 0) (name : Text) (rows : List Row) (o : Option Text) (is : o 
       → IsNone r → (b : Bool) → SaysFlag name rows b → ⊥
   flag_none r value h true s = (read_none ParsesBool o r value h (flag_text true) (is ∙ s)).1.0 refl
   flag_none r value h false s = (read_none ParsesBool o r value h (flag_text false) (is ∙ s)).1.1 refl
+
+-- the form is what is said of it
+module _ (rows : List Row) (o : Option Text) (is : o ≡ first_of (codes "output") rows) where
+  pub output_some : (word : Text) → o ≡ Some word → (r : Option Output)
+      → IfSome r (λ x. word ≡ output_text x) → IfSome r (SaysOutput rows)
+  output_some word e r h =
+      some_weaker r (λ x. word ≡ output_text x) (SaysOutput rows) (λ x g. sym is ∙ e ∙ ap Some g) h
+
+  pub output_unsaid : o ≡ None → (x : Output) → SaysOutput rows x → ⊥
+  output_unsaid e x s = let bad : ◌≡◌ None (Some (output_text x)) = sym e ∙ is ∙ s in absurd (cc)
+
+  pub output_none : (word : Text) → o ≡ Some word → (r : Option Output)
+      → (IsNone r → (x : Output) → word ≡ output_text x → ⊥) → IsNone r → (x : Output)
+      → SaysOutput rows x → ⊥
+  output_none word e r h none x s =
+      let both : ◌≡◌ (Some word) (Some (output_text x)) = sym e ∙ is ∙ s in
+      h none x (let same : word ≡ output_text x = cc in same)
 
 -- the query's text is what is said of it
 module _ (name : Text) (rows : List Row) (o : Option Text) (is : o ≡ first_of name rows) where

@@ -14,14 +14,15 @@ use Rattle.jp_tree.specs.Tree as tree
 use Rattle.jp_tree.specs.Tree.{Text}
 use Rattle.jp_tree.specs.declared.fault.QueryFault.{QueryFault}
 use Rattle.jp_regexp.specs.Tests.{Tests}
-use Rattle.jp_answer.specs.Answer.{Answer, answer, after, line_answer, document_lines}
-use Rattle.jp_output.specs.OutputForm.{node_lines}
-use Rattle.jp_run.specs.Answered.{IsAnswerIn, passed_in}
+use Rattle.jp_answer.specs.Answer.{Answer, answer_as, after, line_answer, document_bytes}
+use Rattle.jp_output.specs.OutputForm.{OutputForm}
+use Rattle.jp_run.specs.Answered.{IsAnswerBy, manner_in, passed_in}
+use Rattle.jp_run.specs.Forms.{form_of}
 use Rattle.jp_run.specs.Status.{status_of}
 use Rattle.jp_run.specs.declared.fault.RunFault.{RunFault}
 use Rattle.jp_run.specs.declared.fault.RunFault.TheVariants.{Query, Document, Read, Write, Limit}
 use Rattle.jp_run.specs.declared.fault.RunFault.TheVariants.{Memory, Settings}
-use Rattle.jp_answer.specs.Whole.{whole, document_or_fault, is_faulty, faulty_lines}
+use Rattle.jp_answer.specs.Whole.{whole_as, document_or_fault, is_faulty, faulty_lines}
 use Rattle.jp_program.specs.Outcome.{IsAnswered, IsPast, IsFront, IsCutShort}
 use Rattle.jp_program.specs.Wanted.{Wanted}
 
@@ -43,10 +44,10 @@ pub kept_from : {A : Type 0} (contents : A → Option (List ℕ)) (old new after
     → Keeps (contents new) (contents after) → Keeps (contents old) (contents after)
 kept_from contents old new after e k = subst (λ s. Keeps (contents s) (contents after)) e k
 
-pub answered_kept : (text : Text) (stopped : Option (ℕ × DocFault)) (input old new after : Option (List ℕ))
-    → IsAnswered text stopped input old new → Keeps new after → IsAnswered text stopped input old after
-answered_kept text stopped None old new after t k = tt
-answered_kept text stopped (Some bytes) old new after t k =
+pub answered_kept : (w : Wanted) (stopped : Option (ℕ × DocFault)) (input old new after : Option (List ℕ))
+    → IsAnswered w stopped input old new → Keeps new after → IsAnswered w stopped input old after
+answered_kept w stopped None old new after t k = tt
+answered_kept w stopped (Some bytes) old new after t k =
     (t.0, t.1, t.2, kept old new after t.0.bytes t.3 k)
 
 pub front_kept : (w : Wanted) (input old new after : Option (List ℕ)) → IsFront w input old new
@@ -75,62 +76,66 @@ cut_kept w failed a b old new after h k = (
 
 -- where no line is faulty, the answer that keeps going is the other one
 
-module _ (t : Tests) (q : tree.Query) where
+module _ (form : OutputForm) (t : Tests) (q : tree.Query) where
   agree_by : (l : Line) (ls : List Line) (r : Result Json DocFault)
       → length (cond (is_err r) (l ∷ filter is_faulty ls) (filter is_faulty ls)) ≡ 0
-      → (faulty_lines ls ≡ 0 → answer t q ls ≡ record { bytes = (whole t q ls).bytes; stopped = None })
-      → line_answer node_lines t q l r (answer t q ls)
-      ≡ record { bytes = document_or_fault node_lines t q l r ++ (whole t q ls).bytes; stopped = None }
-  agree_by l ls (Ok root) e h = ap (after (document_lines t q l.0 root)) (h e)
+      → (faulty_lines ls ≡ 0
+      → answer_as form t q ls ≡ record { bytes = (whole_as form t q ls).bytes; stopped = None })
+      → line_answer form t q l r (answer_as form t q ls)
+      ≡ record { bytes = document_or_fault form t q l r ++ (whole_as form t q ls).bytes; stopped = None }
+  agree_by l ls (Ok root) e h = ap (after (document_bytes form t q l root)) (h e)
   agree_by l ls (Err f) e h = absurd (omega (arith, e))
 
   agree : (ls : List Line) → faulty_lines ls ≡ 0
-      → answer t q ls ≡ record { bytes = (whole t q ls).bytes; stopped = None }
+      → answer_as form t q ls ≡ record { bytes = (whole_as form t q ls).bytes; stopped = None }
   agree [] e = refl
   agree (l ∷ ls) e = agree_by l ls (reading l.1) e (agree ls)
 
--- the answer in a form, of this query's text to the input, which stopped there, was appended
-abbrev pub IsToldIn : Bool → Text → Option (ℕ × DocFault) → Option (List ℕ) → Option (List ℕ)
+-- the wanted answer, of an answer that keeps going or not, which stopped there, was appended
+abbrev pub IsToldIn : Bool → Wanted → Option (ℕ × DocFault) → Option (List ℕ) → Option (List ℕ)
     → Option (List ℕ) → Type 0
-IsToldIn going text stopped input old new = IfSome input (λ bytes. (a : Answer)
-    × IsAnswerIn going text bytes a × (a.stopped ≡ stopped) × Appends old new a.bytes)
+IsToldIn going w stopped input old new = IfSome input (λ bytes. (a : Answer)
+    × IsAnswerBy (manner_in (form_of w.output) going) w.query bytes a × (a.stopped ≡ stopped)
+    × Appends old new a.bytes)
 
-pub told_stop : (going : Bool) (text : Text) (stopped : Option (ℕ × DocFault))
-    (input old new : Option (List ℕ)) → IsToldIn going text stopped input old new → (going ≡ true → ⊥)
-    → IsAnswered text stopped input old new
-told_stop false text stopped None old new h off = tt
-told_stop false text stopped (Some bytes) old new h off = h
-told_stop true text stopped input old new h off = absurd (off refl)
+module _ (w : Wanted) where
+  pub told_stop : (going : Bool) (stopped : Option (ℕ × DocFault)) (input old new : Option (List ℕ))
+      → IsToldIn going w stopped input old new → (going ≡ true → ⊥) → IsAnswered w stopped input old new
+  told_stop false stopped None old new h off = tt
+  told_stop false stopped (Some bytes) old new h off = h
+  told_stop true stopped input old new h off = absurd (off refl)
+
+  pub fine : (going : Bool) (input old new : Option (List ℕ)) (n : ℕ) → IsToldIn going w None input old new
+      → IfSome input (λ bytes. n ≡ passed_in going (lines bytes)) → n ≡ 0 → IsAnswered w None input old new
+  fine going None old new n h c e = tt
+  fine false (Some bytes) old new n h c e = h
+  fine true (Some bytes) old new n h c e = (
+    h.0,
+    (
+      h.1.0,
+      h.1.1,
+      λ t right. agree (form_of w.output) t h.1.0 (lines bytes) (sym c ∙ e) ∙ h.1.2 t right,
+    ),
+    h.2,
+    h.3,
+  )
+
+  pub past : (input old new : Option (List ℕ)) (n : ℕ) → IsToldIn true w None input old new
+      → IfSome input (λ bytes. n ≡ faulty_lines (lines bytes)) → 0 < n → IsPast w input old new
+  past None old new n h c lt = tt
+  past (Some bytes) old new n h c lt = (
+    h.1.0,
+    h.1.1,
+    record { bytes = h.0.bytes; faulty = n },
+    λ t right. ap (λ (r : Answer). record { bytes = r.bytes; faulty = faulty_lines (lines bytes) })
+        (h.1.2 t right) ∙ ap (λ k. record { bytes = h.0.bytes; faulty = k }) (sym c),
+    lt,
+    h.3,
+  )
 
 pub stops : (going : Bool) → (going ≡ true → ⊥) → going ≡ false
 stops false off = refl
 stops true off = absurd (off refl)
-
-pub fine : (going : Bool) (text : Text) (input old new : Option (List ℕ)) (n : ℕ)
-    → IsToldIn going text None input old new
-    → IfSome input (λ bytes. n ≡ passed_in going (lines bytes)) → n ≡ 0 → IsAnswered text None input old new
-fine going text None old new n h c e = tt
-fine false text (Some bytes) old new n h c e = h
-fine true text (Some bytes) old new n h c e = (
-  h.0,
-  (h.1.0, h.1.1, λ t right. agree t h.1.0 (lines bytes) (sym c ∙ e) ∙ h.1.2 t right),
-  h.2,
-  h.3,
-)
-
-pub past : (text : Text) (input old new : Option (List ℕ)) (n : ℕ)
-    → IsToldIn true text None input old new
-    → IfSome input (λ bytes. n ≡ faulty_lines (lines bytes)) → 0 < n → IsPast text input old new
-past text None old new n h c lt = tt
-past text (Some bytes) old new n h c lt = (
-  h.1.0,
-  h.1.1,
-  record { bytes = h.0.bytes; faulty = n },
-  λ t right. ap (λ (r : Answer). record { bytes = r.bytes; faulty = faulty_lines (lines bytes) })
-      (h.1.2 t right) ∙ ap (λ k. record { bytes = h.0.bytes; faulty = k }) (sym c),
-  lt,
-  h.3,
-)
 
 -- which faults have a status
 

@@ -19,6 +19,14 @@ number_rule name default = record (new_rule name) {
   defaults = default ∷ [];
 }
 
+-- the option that takes a word for a form
+abbrev pub output_rule : Rule
+output_rule = record (new_rule (codes "output")) {
+  long = Some (codes "output");
+  value_names = 1;
+  defaults = codes "nodes" ∷ [];
+}
+
 -- an option that is there or not
 abbrev pub flag_rule : Text → Rule
 flag_rule name = record (new_rule name) { long = Some name; action = Some SetTrue }
@@ -29,6 +37,9 @@ query_rule = record (new_rule (codes "query")) { value_names = 1; required = tru
 abbrev pub with_version : App → App
 with_version = on_top (λ s. record s { has_version = true })
 
+abbrev pub with_output : App → App
+with_output a = with_rule a output_rule
+
 abbrev pub with_numbers : App → App
 with_numbers a = with_rule (with_rule (with_rule a (number_rule (codes "workers") (codes "4")))
     (number_rule (codes "piece") (codes "64"))) (number_rule (codes "batch") (codes "4096"))
@@ -37,10 +48,10 @@ abbrev pub with_query : App → App
 with_query a = with_rule (with_rule (with_rule (with_rule a (flag_rule (codes "check")))
     (flag_rule (codes "keep-going"))) (flag_rule (codes "explain"))) query_rule
 
--- `jp [--workers N] [--piece N] [--batch N] [--check] [--keep-going] [--explain] QUERY`, with `--help` and
--- `--version`
+-- `jp [--output FORM] [--workers N] [--piece N] [--batch N] [--check] [--keep-going] [--explain] QUERY`, with
+-- `--help` and `--version`
 abbrev pub jp_app : App
-jp_app = with_query (with_numbers (with_version (new_app (codes "jp"))))
+jp_app = with_query (with_numbers (with_output (with_version (new_app (codes "jp")))))
 
 -- what the words say of each option, the first of which is the program's name
 unfoldable pub said : List Text → List Row

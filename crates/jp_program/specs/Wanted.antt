@@ -4,13 +4,16 @@ use Rattle.std.specs.Str.{chars}
 use Rattle.std.specs.Str.Parse.{IsNumeral, digits_value, without_leading_plus}
 use Rattle.clap.specs.Walk.{Text, Row, first_of, one_of}
 use Rattle.jp_run.specs.Settings.{AreSettings}
+use Rattle.jp_run.specs.declared.output.Output.{Output}
+use Rattle.jp_run.specs.declared.output.Output.TheVariants.{Nodes, Values, Texts, Lines}
 use Rattle.jp_program.specs.CommandLine.{said, refusals, IsRefused}
 
--- the query's text in scalar values, whether it is only checked, the form of the answer, whether a refusal is
--- to be explained, and the settings
+-- the query's text in scalar values, whether it is only checked, what is written, whether the answer keeps
+-- going, whether a refusal is to be explained, and the settings
 pub record Wanted : Type 0 where
   pub query : List ℕ
   pub check : Bool
+  pub output : Output
   pub keeps_going : Bool
   pub explain : Bool
   pub workers : ℕ
@@ -30,6 +33,17 @@ flag_text false = codes "false"
 abbrev pub SaysFlag : Text → List Row → Bool → Type 0
 SaysFlag name rows is_there = one_of name rows ≡ Some (flag_text is_there)
 
+-- the word for a form of the answer
+abbrev pub output_text : Output → Text
+output_text Nodes = codes "nodes"
+output_text Values = codes "values"
+output_text Texts = codes "texts"
+output_text Lines = codes "lines"
+
+-- the option's text is the word for this form
+abbrev pub SaysOutput : List Row → Output → Type 0
+SaysOutput rows output = first_of (codes "output") rows ≡ Some (output_text output)
+
 -- the numbers of the three options, in their ranges
 abbrev pub AreSaid : List Row → ℕ → ℕ → ℕ → Type 0
 AreSaid rows workers piece batch = SaysNumber (codes "workers") rows workers
@@ -40,6 +54,7 @@ AreSaid rows workers piece batch = SaysNumber (codes "workers") rows workers
 pub record Says (rows : List Row) (w : Wanted) : Type 0 where
   pub query : option_map chars (first_of (codes "query") rows) ≡ Some w.query
   pub check : SaysFlag (codes "check") rows w.check
+  pub output : SaysOutput rows w.output
   pub keeps_going : SaysFlag (codes "keep-going") rows w.keeps_going
   pub explain : SaysFlag (codes "explain") rows w.explain
   pub settings : AreSaid rows w.workers w.piece w.batch
@@ -56,6 +71,6 @@ WantsCheck words w = Wants words w × (w.check ≡ true)
 abbrev pub WantsRun : List Text → Wanted → Type 0
 WantsRun words w = Wants words w × (w.check ≡ false)
 
--- the words are wrong, or a number is out of its range
+-- the words are wrong, or a number is out of its range, or there is no such form
 abbrev pub IsWrong : List Text → Type 0
 IsWrong words = IsRefused words ⊎ ((refusals words ≡ []) × ((w : Wanted) → Says (said words) w → ⊥))

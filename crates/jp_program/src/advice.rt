@@ -3,7 +3,7 @@
 ghost use Rattle.std.specs.Prelude.{◌≡◌, true};
 
 use crate::command::{note, tell};
-use crate::command_line::{Asked, matches, read_words};
+use crate::command_line::{Asked, matches, output_by, read_words};
 use clap::error::ErrorKind;
 use jp_explain::{explain, write_mark};
 use jp_run::{RunFault, Sink};
@@ -42,7 +42,10 @@ fn advice(alloc: Global, words: &[&str]) -> Result<String, AllocError> {
     // A second reading of the words, so that the contracts of the first need not speak of texts
     // (README, Why so).
     match matches(alloc, words) {
-        Ok(_) => format!(in alloc; "jp: a number is out of its range; try jp --help\n"),
+        Ok(matches) => match output_by(&matches) {
+            Some(_) => format!(in alloc; "jp: a number is out of its range; try jp --help\n"),
+            None => format!(in alloc; "jp: --output takes nodes, values, texts or lines\n"),
+        },
         Err(error) => {
             let text = format!(in alloc; "{error}")?;
             advice_by(alloc, error.kind(), &text)

@@ -55,23 +55,23 @@ pub fn program<R: Threads + AllocGlobal + Sync, S: Source, K: Sink, N: Sink>(
         ⊎ ((w : Wish) × WantsCheck (texts words.now) w × IsTaken w.query
         × (source.new ≡ source.old) × (sink.new ≡ sink.old))
         ⊎ ((w : Wish) × WantsRun (texts words.now) w × IsTaken w.query
-        × IsAnswered w.query None (S.remaining source.old) (K.contents sink.old) (K.contents sink.new)
+        × IsAnswered w None (S.remaining source.old) (K.contents sink.old) (K.contents sink.new)
         × IsAtEnd (S.remaining source.new) × (K.flushed sink.new ≡ true)
         × (S.failed source.new ≡ false) × (K.failed sink.new ≡ false)) }
     // 2: the wanted query is refused, and nothing was read or written.
     ensures query { result ≡ 2 → (f : Refusal) × (w : Wish) × Wants (texts words.now) w
         × IsVerdict w.query (Err f) × (source.new ≡ source.old) × (sink.new ≡ sink.old) }
-    // 3: the lines of the documents before the first faulty line were written, and no read followed the one
+    // 3: the answer before the first faulty line was written, and no read followed the one
     // that completed its batch; or to keep going was asked for, and the answer that does was written and
     // passed on, it has passed faulty lines, and neither end has failed.
     ensures document { result ≡ 3 → ((line : ℕ) × (fault : Fault) × (w : Wish)
         × WantsRun (texts words.now) w × (w.keeps_going ≡ false)
-        × IsAnswered w.query (Some (line, fault)) (S.remaining source.old) (K.contents sink.old)
+        × IsAnswered w (Some (line, fault)) (S.remaining source.old) (K.contents sink.old)
         (K.contents sink.new)
         × (bytes : List ℕ) × Consumes (S.remaining source.old) (S.remaining source.new) bytes
         × WasNotWhole w.batch line bytes (S.last source.new))
         ⊎ ((w : Wish) × WantsRun (texts words.now) w × (w.keeps_going ≡ true)
-        × IsPast w.query (S.remaining source.old) (K.contents sink.old) (K.contents sink.new)
+        × IsPast w (S.remaining source.old) (K.contents sink.old) (K.contents sink.new)
         × IsAtEnd (S.remaining source.new) × (K.flushed sink.new ≡ true)
         × (S.failed source.new ≡ false) × (K.failed sink.new ≡ false)) }
     // 4: a front of the wanted answer was written, and the source has failed, the sink has, or a limit was
@@ -88,7 +88,8 @@ pub fn program<R: Threads + AllocGlobal + Sync, S: Source, K: Sink, N: Sink>(
         → ((source.new ≡ source.old) × Keeps (K.contents sink.old) (K.contents sink.new))
         ⊎ ((w : Wish) × WantsRun (texts words.now) w
         × IsFront w (S.remaining source.old) (K.contents sink.old) (K.contents sink.new)) }
-    // 64: the words are wrong, or a number is out of its range, and nothing was read or written.
+    // 64: the words are wrong, or a number is out of its range, or there is no such form, and nothing was read
+    // or written.
     ensures command_line { result ≡ 64 → IsWrong (texts words.now)
         × (source.new ≡ source.old) × (sink.new ≡ sink.old) }
     // A query that is refused ends with 2, or with 5 for want of memory, and nothing was read or written.
@@ -131,12 +132,12 @@ fn done<R: Threads + AllocGlobal + Sync, S: Source, K: Sink>(
         ⊎ ((w : Wish) × WantsCheck (texts words.now) w × IsTaken w.query
         × (source.new ≡ source.old) × (sink.new ≡ sink.old))
         ⊎ ((w : Wish) × WantsRun (texts words.now) w × IsTaken w.query
-        × IsAnswered w.query None (S.remaining source.old) (K.contents sink.old) (K.contents sink.new)
+        × IsAnswered w None (S.remaining source.old) (K.contents sink.old) (K.contents sink.new)
         × IsAtEnd (S.remaining source.new) × (K.flushed sink.new ≡ true)
         × (S.failed source.new ≡ false) × (K.failed sink.new ≡ false))) }
     ensures past { IfOk result (λ totals. 0 < totals.faulty → (w : Wish)
         × WantsRun (texts words.now) w × (w.keeps_going ≡ true)
-        × IsPast w.query (S.remaining source.old) (K.contents sink.old) (K.contents sink.new)
+        × IsPast w (S.remaining source.old) (K.contents sink.old) (K.contents sink.new)
         × IsAtEnd (S.remaining source.new) × (K.flushed sink.new ≡ true)
         × (S.failed source.new ≡ false) × (K.failed sink.new ≡ false)) }
     ensures passed_on { IfOk result (λ totals. 0 < totals.faulty → K.flushed sink.new ≡ true) }
@@ -151,7 +152,7 @@ fn done<R: Threads + AllocGlobal + Sync, S: Source, K: Sink>(
         × (source.new ≡ source.old) × (sink.new ≡ sink.old) }
     ensures document { (line : ℕ) (fault : Fault) → IsErrOf result (RunFault.Document line fault)
         → (w : Wish) × WantsRun (texts words.now) w × (w.keeps_going ≡ false)
-        × IsAnswered w.query (Some (line, fault)) (S.remaining source.old) (K.contents sink.old)
+        × IsAnswered w (Some (line, fault)) (S.remaining source.old) (K.contents sink.old)
         (K.contents sink.new)
         × (bytes : List ℕ) × Consumes (S.remaining source.old) (S.remaining source.new) bytes
         × WasNotWhole w.batch line bytes (S.last source.new) }

@@ -3,16 +3,18 @@
 ghost use Rattle.std.specs.Prelude.{◌≡◌, ◌≤◌, ◌^◌, ℕ, Bool, false, IfOk, IfErr, IfSome, IsNone, codes};
 ghost use Rattle.clap.specs.Walk.{texts};
 ghost use Rattle.clap.specs.Words.{app_of, found_of, rows_of, rule_of, new_app, FailsBy};
-ghost use Rattle.jp_program.specs.CommandLine.{number_rule, flag_rule, query_rule, jp_app, said, refusals};
-ghost use Rattle.jp_program.specs.CommandLine.{with_version, with_numbers as numbers_of};
-ghost use Rattle.jp_program.specs.CommandLine.{with_query as query_of};
+ghost use Rattle.jp_run.specs.declared.output.Output.{Output as Form};
+ghost use Rattle.jp_program.specs.CommandLine.{number_rule, flag_rule, query_rule, output_rule, said};
+ghost use Rattle.jp_program.specs.CommandLine.{refusals, with_version, with_numbers as numbers_of};
+ghost use Rattle.jp_program.specs.CommandLine.{with_query as query_of, with_output as output_option_of};
 ghost use Rattle.jp_program.specs.inner.Asked.{IsAsked, IsNotAsked, wanted_of};
-ghost use Rattle.jp_program.specs.Wanted.{Wanted as Wish, Says, SaysNumber, SaysFlag, AreSaid};
+ghost use Rattle.jp_program.specs.Wanted.{Wanted as Wish, Says, SaysNumber, SaysFlag, SaysOutput, AreSaid};
 
+use crate::output::output_of;
 use crate::version::VERSION;
 use clap::error::ErrorKind;
 use clap::{Arg, ArgAction, ArgMatches, Command, Error, value_parser};
-use jp_run::{RunFault, Settings};
+use jp_run::{Output, RunFault, Settings};
 use std::alloc::{AllocError, Global};
 
 /// What the help says behind the options.
@@ -22,20 +24,23 @@ All numbers have to be whole, of 64 bits: a line with a fraction or an exponent 
 
 OUTPUT is a line for each node that the query selects, in order: the number of the document's line, a tab,
 the node's normalized path, a tab, the node's value. No other tab stands in it: cut -f3 gives the values.
+With --output values a line is the value alone; with texts too, but a text stands without its quotes, and
+\\\" as \"; with lines it is the whole line of the input, once, if at least one node is selected in it.
 
 A QUERY that begins with - is given behind --. Beside the functions of RFC 9535 it may call two of our own:
 xor(A, B), exactly one of the two is true, and distinct(NODES), the nodes with each location once.
 
 The first faulty line ends the run. With --keep-going it gives a line of its own instead: its
-number, a tab, !, a tab, what is wrong with it.
+number, a tab, !, a tab, what is wrong with it. In the other three forms it gives none, and is counted.
 
 Status: 0 finished, whether or not anything was selected; 2 the query is refused; 3 a line is faulty;
 4 reading or writing failed, or a limit was passed; 5 out of memory; 64 the command line is refused.
 
 Examples:
   jp '$.msg' < app.log
+  jp --output lines '$[?$.level==\"error\"]' < app.log
+  jp --output texts '$.msg' < app.log
   jp '$[?$.level==\"error\" && @==$.msg]' < app.log
-  sed 's/.*/[&]/' app.log | jp '$[?@.level==\"error\"]'
   jp --workers 8 '$.items[?@.count > 10]' < orders.jsonl
   jp --check '$[?count(@.*) > 1]'
   jp --keep-going '$.id' < log.jsonl | awk -F'\\t' '{ print > ($2 == \"!\" ? \"bad\" : \"good\") }'";
@@ -90,7 +95,7 @@ pub(crate) fn matches<'a>(alloc: Global, words: &'a [&'a str]) -> Result<ArgMatc
     ensures said { IfOk result (λ m. rows_of (found_of m) ≡ said (texts words.entry.now)) }
     ensures fault { FailsBy (refusals (texts words.entry.now)) result }
 {
-    let command = with_query(alloc, with_numbers(alloc, named(alloc)?)?)?;
+    let command = with_query(alloc, with_numbers(alloc, with_output(alloc, named(alloc)?)?)?)?;
     command.try_get_matches_from(words)
 }
 
@@ -105,6 +110,13 @@ fn named<'a>(alloc: Global) -> Result<Command<'a>, AllocError>
             .about("Prints what a JSONPath query selects in each of many JSON documents.")
             .after_help(MORE),
     )
+}
+
+/// The command, with the option that takes a form.
+fn with_output<'a>(alloc: Global, command: Command<'a>) -> Result<Command<'a>, AllocError>
+    ensures { IfOk result (λ r. app_of r ≡ output_option_of (app_of command.entry)) }
+{
+    command.arg(output(alloc))
 }
 
 /// The command, with the options that take a number.
@@ -131,6 +143,18 @@ fn with_query<'a>(alloc: Global, command: Command<'a>) -> Result<Command<'a>, Al
     let command = command.arg(flag(alloc, "keep-going", keep_going))?;
     let command = command.arg(flag(alloc, "explain", explain))?;
     command.arg(query(alloc))
+}
+
+/// The option that takes a form.
+fn output<'a>(alloc: Global) -> Arg<'a>
+    ensures rule { rule_of result ≡ output_rule }
+    ensures local { result.global ≡ false }
+{
+    Arg::new(alloc, "output")
+        .long("output")
+        .value_name("FORM")
+        .default_value("nodes")
+        .help("What is written: nodes, values, texts or lines")
 }
 
 /// An option that takes a number.
@@ -168,16 +192,18 @@ fn query<'a>(alloc: Global) -> Arg<'a>
         .help("A JSONPath query (RFC 9535)")
 }
 
-/// The query, and what is to be done with it; none where a number is out of its range.
+/// The query, and what is to be done with it; none where a number is out of its range, or there is no such
+/// form.
 fn wanted_by<'a>(matches: &ArgMatches<'a>) -> Option<Wanted<'a>>
     ensures some { IfSome result (λ w. Says (rows_of (found_of matches.now)) (wanted_of w)) }
     ensures none { IsNone result → (w : Wish) → Says (rows_of (found_of matches.now)) w → ⊥ }
 {
     let query = matches.get_str("query")?;
+    let output = output_by(matches)?;
     let check = flag_by(matches, "check")?;
     let keep_going = flag_by(matches, "keep-going")?;
     let explain = flag_by(matches, "explain")?;
-    let settings = settings_by(matches, keep_going)?;
+    let settings = settings_by(matches, output, keep_going)?;
     Some(Wanted {
         query,
         check,
@@ -187,20 +213,31 @@ fn wanted_by<'a>(matches: &ArgMatches<'a>) -> Option<Wanted<'a>>
 }
 
 /// The settings; none where a number is out of its range.
-fn settings_by(matches: &ArgMatches<'_>, keep_going: bool) -> Option<Settings>
+fn settings_by(matches: &ArgMatches<'_>, output: Output, keep_going: bool) -> Option<Settings>
     ensures some { IfSome result (λ s. AreSaid (rows_of (found_of matches.now)) s.workers s.piece s.batch) }
-    ensures form { IfSome result (λ s. s.keeps_going ≡ keep_going) }
+    ensures form { IfSome result (λ s. s.output ≡ output) }
+    ensures going { IfSome result (λ s. s.keeps_going ≡ keep_going) }
     ensures none { IsNone result → (w p b : ℕ) → AreSaid (rows_of (found_of matches.now)) w p b → ⊥ }
 {
     let workers = number_by(matches, "workers")?;
     let piece = number_by(matches, "piece")?;
     let batch = number_by(matches, "batch")?;
     let settings = Settings::new(workers, piece, batch).ok()?;
+    let settings = settings.with_output(output);
     Some(if keep_going {
         settings.keep_going()
     } else {
         settings
     })
+}
+
+/// The form that is said; none where there is no such form.
+pub(crate) fn output_by(matches: &ArgMatches<'_>) -> Option<Output>
+    ensures some { IfSome result (SaysOutput (rows_of (found_of matches.now))) }
+    ensures none { IsNone result → (o : Form) → SaysOutput (rows_of (found_of matches.now)) o → ⊥ }
+{
+    let word = matches.get_str("output")?;
+    output_of(word)
 }
 
 /// The number that is said of an option; none where it is none of 64 bits.

@@ -1,16 +1,18 @@
 //! Worked examples of what command lines want.
 
 ghost use Rattle.std.specs.Prelude.{[], ◌∷◌, true, codes};
+ghost use Rattle.jp_run.specs.declared.output.Output.TheVariants.{Texts};
 ghost use Rattle.jp_program.specs.CommandLine.{AsksToShow, IsRefused};
 ghost use Rattle.jp_program.specs.Wanted.{Wants, IsWrong};
 
 /// Each option, in both of its forms, and a query that begins with `-`.
 fn all_options()
     ensures { Wants (codes "jp" ∷ codes "--workers" ∷ codes "8" ∷ codes "--piece=2" ∷ codes "--batch"
-        ∷ codes "+10" ∷ codes "--check" ∷ codes "--keep-going" ∷ codes "--explain" ∷ codes "--" ∷ codes "-q"
-        ∷ []) (record {
+        ∷ codes "+10" ∷ codes "--check" ∷ codes "--keep-going" ∷ codes "--explain" ∷ codes "--output=texts"
+        ∷ codes "--" ∷ codes "-q" ∷ []) (record {
           query = codes "-q";
           check = true;
+          output = Texts;
           keeps_going = true;
           explain = true;
           workers = 8;
@@ -37,7 +39,9 @@ fn wrong_words()
     ensures twice { IsRefused (codes "jp" ∷ codes "--check" ∷ codes "--check" ∷ codes "$" ∷ []) }
 {}
 
-/// A number past its range.
-fn too_many_workers()
-    ensures { IsWrong (codes "jp" ∷ codes "--workers" ∷ codes "65" ∷ codes "$" ∷ []) }
+/// A number past its range, and a form that there is not.
+fn out_of_range()
+    ensures workers { IsWrong (codes "jp" ∷ codes "--workers" ∷ codes "65" ∷ codes "$" ∷ []) }
+    ensures form { IsWrong (codes "jp" ∷ codes "--output" ∷ codes "csv" ∷ codes "$" ∷ []) }
+    ensures letters { IsWrong (codes "jp" ∷ codes "--output=Nodes" ∷ codes "$" ∷ []) }
 {}

@@ -6,6 +6,7 @@ mod command;
 mod command_line;
 mod examples;
 mod laws;
+mod output;
 mod version;
 
 pub use command::{program, tell};

@@ -72,6 +72,9 @@ const TAUGHT: &str = "\
 --check
 --keep-going
 --explain
+--output
+nodes, values, texts or lines
+[default: nodes]
 QUERY
 [default: 4]
 [default: 64]

@@ -6,6 +6,8 @@ mod faults;
 #[cfg(test)]
 mod finished;
 #[cfg(test)]
+mod forms;
+#[cfg(test)]
 mod refusals;
 #[cfg(test)]
 mod refused;

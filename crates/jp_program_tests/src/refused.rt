@@ -64,7 +64,7 @@ fn refusals_are_explained(rt: HostRuntime) -> Result<(), Fail> {
 
 #[test]
 fn command_lines_are_refused(rt: HostRuntime) -> Result<(), Fail> {
-    let all: [&[&str]; 17] = [
+    let all: [&[&str]; 21] = [
         &["jp"],
         &["jp", "$", "$"],
         &["jp", "-q"],
@@ -81,6 +81,10 @@ fn command_lines_are_refused(rt: HostRuntime) -> Result<(), Fail> {
         &["jp", "--batch", "1000001", "$"],
         &["jp", "--check"],
         &["jp", "--explain", "--explain", "$"],
+        &["jp", "--output", "csv", "$"],
+        &["jp", "--output=", "$"],
+        &["jp", "--output=Values", "$"],
+        &["jp", "--output=lines", "--output=lines", "$"],
         // The command line is tested before the query.
         &["jp", "--batch", "0", "$["],
     ];
@@ -95,7 +99,7 @@ fn command_lines_are_refused(rt: HostRuntime) -> Result<(), Fail> {
 }
 
 /// Words, each with the line that helps.
-const ADVICE: [(&[&str], &[u8]); 5] = [
+const ADVICE: [(&[&str], &[u8]); 6] = [
     (&["jp"], b"jp: there is no query; try jp --help\n"),
     (
         &["jp", "$", "file"],
@@ -112,6 +116,10 @@ const ADVICE: [(&[&str], &[u8]); 5] = [
     (
         &["jp", "--workers", "65", "$"],
         b"jp: a number is out of its range; try jp --help\n",
+    ),
+    (
+        &["jp", "--output", "value", "--workers", "65", "$"],
+        b"jp: --output takes nodes, values, texts or lines\n",
     ),
 ];
 

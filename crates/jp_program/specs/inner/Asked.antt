@@ -15,6 +15,7 @@ abbrev pub wanted_of : code.Wanted → Wanted
 wanted_of w = record {
   query = chars w.query.now;
   check = w.check;
+  output = w.settings.output;
   keeps_going = w.settings.keeps_going;
   explain = w.explain;
   workers = w.settings.workers;

@@ -33,7 +33,7 @@ returns-in-Query-2-clause-document g c = λ line fault e.
       wanted,
       wants,
       stops wanted.keeps_going off,
-      told_stop wanted.keeps_going wanted.query (Some (line, fault)) _ _ _
+      told_stop wanted wanted.keeps_going (Some (line, fault)) _ _ _
           (c.run.ensures.document line fault e) off,
       read.0,
       read.1,

@@ -20,7 +20,7 @@ returns-in-Err-clause-document g c = λ e.
       d.0,
       d.1,
       d.2,
-      answered_kept d.0.query (Some (f.0, f.1)) _ _ _ _ d.3 c.pass_on_after.ensures.kept,
+      answered_kept d.0 (Some (f.0, f.1)) _ _ _ _ d.3 c.pass_on_after.ensures.kept,
       d.4,
       d.5,
       d.6,

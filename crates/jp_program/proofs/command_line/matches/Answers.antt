@@ -6,7 +6,7 @@ use Rattle.clap.specs.Words.{is_simple_and_free, FailsBy, HasMatchesOf}
 use Rattle.clap.specs.declared.parser.matches.ArgMatches.{ArgMatches}
 use Rattle.clap.specs.declared.error.Error.{Error}
 use Rattle.clap.proofs.OnLiterals.{clap_on_literals}
-use Rattle.jp_program.specs.CommandLine.{jp_app, said, refusals, with_numbers, with_query}
+use Rattle.jp_program.specs.CommandLine.{jp_app, said, refusals, with_output, with_numbers, with_query}
 use Rattle.jp_program.proofs.command_line.matches.Goals as goal
 
 simple : is_simple jp_app ≡ true
@@ -29,7 +29,8 @@ fails_so a b ws r e s h = subst (λ (x : App). FailsBy (fault_of x ws) r) e (h (
 pub returns-clause-said : goal.returns-clause-said
 unfolding said
 returns-clause-said c =
-    let numbers_are = c.in_ok-with_numbers.ensures ∙ ap with_numbers c.in_ok-named.ensures in
+    let output_is = c.in_ok-with_output.ensures ∙ ap with_output c.in_ok-named.ensures in
+    let numbers_are = c.in_ok-with_numbers.ensures ∙ ap with_numbers output_is in
     let app_is : app_of c.in_ok-command.command ≡ jp_app =
     c.in_ok-command.ensures ∙ ap with_query numbers_are in
     rows_are (app_of c.in_ok-command.command) jp_app (map (λ s. s.now) c.args.words.now)
@@ -38,7 +39,8 @@ returns-clause-said c =
 pub returns-clause-fault : goal.returns-clause-fault
 unfolding refusals
 returns-clause-fault c =
-    let numbers_are = c.in_ok-with_numbers.ensures ∙ ap with_numbers c.in_ok-named.ensures in
+    let output_is = c.in_ok-with_output.ensures ∙ ap with_output c.in_ok-named.ensures in
+    let numbers_are = c.in_ok-with_numbers.ensures ∙ ap with_numbers output_is in
     let app_is : app_of c.in_ok-command.command ≡ jp_app =
     c.in_ok-command.ensures ∙ ap with_query numbers_are in
     fails_so (app_of c.in_ok-command.command) jp_app (map (λ s. s.now) c.args.words.now)

@@ -1,7 +1,7 @@
 use Rattle.std.proofs.Common.{◌∙◌, codes, option_map, ap, sym, refl, subst}
 use Rattle.clap.specs.Words.{found_of, rows_of, first_value}
 use Rattle.clap.proofs.WalkLemmas.{first_value-rows}
-use Rattle.jp_program.specs.Wanted.{SaysFlag}
+use Rattle.jp_program.specs.Wanted.{SaysFlag, SaysOutput}
 use Rattle.jp_program.proofs.Saying.{query_some, query_none}
 use Rattle.jp_program.proofs.command_line.wanted_by.Goals as goal
 
@@ -24,7 +24,9 @@ returns-clause-some c =
           (first_value-rows found (codes "query")) c.in_ok-query.query.now
           (sym c.get_str.ensures ∙ ap (option_map (λ s. s.now)) (c.in_ok-query.was));
       check = c.in_ok-check.ensures.some;
-      keeps_going = subst (SaysFlag (codes "keep-going") (rows_of found)) (sym c.in_ok-settings.ensures.form)
+      output = subst (SaysOutput (rows_of found)) (sym c.in_ok-settings.ensures.form)
+          c.in_ok-output.ensures.some;
+      keeps_going = subst (SaysFlag (codes "keep-going") (rows_of found)) (sym c.in_ok-settings.ensures.going)
           c.in_ok-keep_going.ensures.some;
       explain = c.in_ok-explain.ensures.some;
       settings = c.in_ok-settings.ensures.some;

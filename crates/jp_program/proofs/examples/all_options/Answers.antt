@@ -10,6 +10,7 @@ returns c = (
   record {
     query = refl;
     check = refl;
+    output = refl;
     keeps_going = refl;
     explain = refl;
     settings = (

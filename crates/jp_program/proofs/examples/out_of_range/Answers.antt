@@ -1,0 +1,77 @@
+use Rattle.std.proofs.Common.{◌≡◌, ◌∙◌, ℕ, ◌<◌, List, refl, sym, ap, arith, inr, [], ◌∷◌, Some, Option, codes}
+use Rattle.std.specs.Str.Parse.{digits_value, without_leading_plus}
+use Rattle.clap.specs.Walk.{Text, one_of, first_of}
+use Rattle.clap.proofs.OnLiterals.{clap_on_literals}
+use Rattle.jp_run.specs.declared.output.Output.{Output}
+use Rattle.jp_run.specs.declared.output.Output.TheVariants.{Nodes, Values, Texts, Lines}
+use Rattle.jp_program.specs.CommandLine.{said, refusals}
+use Rattle.jp_program.specs.Wanted.{output_text}
+use Rattle.jp_program.proofs.examples.out_of_range.Goals as goal
+
+some_same : (x y : Text) → ◌≡◌ (Some x) (Some y) → x ≡ y
+some_same x y e = cc
+
+words : List Text
+words = codes "jp" ∷ codes "--workers" ∷ codes "65" ∷ codes "$" ∷ []
+
+workers_are : one_of (codes "workers") (said words) ≡ Some (codes "65")
+unfolding clap_on_literals said refusals words
+workers_are = refl
+
+pub returns-clause-workers : goal.returns-clause-workers
+unfolding clap_on_literals said refusals words
+returns-clause-workers c = inr (
+  refl,
+  λ w s.
+      let text = s.settings.0.0 in
+      let is : codes "65" ≡ text = some_same (codes "65") text (sym workers_are ∙ s.settings.0.1) in
+      let number : digits_value 10 (without_leading_plus text) ≡ 65 =
+      ap (λ t. digits_value 10 (without_leading_plus t)) (sym is) in
+      absurd (omega (arith, number, s.settings.0.3, s.settings.3.0.1)),
+)
+
+-- a word that names a form begins with a letter behind `k`
+
+abbrev first : Text → ℕ
+first [] = 0
+first (b ∷ bs) = b
+
+word_begins : (o : Output) → 107 < first (output_text o)
+word_begins Nodes = let is : first (output_text Nodes) ≡ 110 = refl in omega (arith, is)
+word_begins Values = let is : first (output_text Values) ≡ 118 = refl in omega (arith, is)
+word_begins Texts = let is : first (output_text Texts) ≡ 116 = refl in omega (arith, is)
+word_begins Lines = let is : first (output_text Lines) ≡ 108 = refl in omega (arith, is)
+
+no_form : (word : Text) (o : Output) (said : Option Text) → said ≡ Some word → said ≡ Some (output_text o)
+    → first word < 107 → ⊥
+no_form word o said e s few =
+    let same : first word ≡ first (output_text o) = ap first (some_same word (output_text o) (sym e ∙ s)) in
+    omega (arith, same, few, word_begins o)
+
+csv : List Text
+csv = codes "jp" ∷ codes "--output" ∷ codes "csv" ∷ codes "$" ∷ []
+
+csv_is : first_of (codes "output") (said csv) ≡ Some (codes "csv")
+unfolding clap_on_literals said refusals csv
+csv_is = refl
+
+pub returns-clause-form : goal.returns-clause-form
+unfolding clap_on_literals said refusals csv
+returns-clause-form c =
+    inr (refl, λ w s. no_form (codes "csv") w.output (first_of (codes "output") (said csv)) csv_is s.output
+    (let is : first (codes "csv") ≡ 99 = refl in omega (arith, is)))
+
+capital : List Text
+capital = codes "jp" ∷ codes "--output=Nodes" ∷ codes "$" ∷ []
+
+capital_is : first_of (codes "output") (said capital) ≡ Some (codes "Nodes")
+unfolding clap_on_literals said refusals capital
+capital_is = refl
+
+pub returns-clause-letters : goal.returns-clause-letters
+unfolding clap_on_literals said refusals capital
+returns-clause-letters c = inr (
+  refl,
+  λ w s. no_form (codes "Nodes") w.output (first_of (codes "output") (said capital)) capital_is s.output
+      (let is : first (codes "Nodes") ≡ 78 = refl in omega (arith, is)),
+)
