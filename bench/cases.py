@@ -1,25 +1,44 @@
-"""The twelve cases: a name, an input of corpus.py, a query, and the same as an expression of jq."""
+"""The fifteen cases. Twelve are in the form of nodes; the means of compare.py are over these."""
+import typing
+
+
+class Case(typing.NamedTuple):
+    """A name, an input of corpus.py, a query, the same as an expression of jq, and the form of the answer."""
+
+    name: str
+    kind: str
+    query: str
+    expression: str
+    form: str = "nodes"
+
+    def words(self):
+        """What the programs are given: the form of nodes is theirs without a word."""
+        return [self.query] if self.form == "nodes" else ["--output", self.form, self.query]
+
 
 CASES = [
-    ("field", "logs", "$.user.id", ".user.id"),
-    ("short", "short", "$.id", ".id"),
-    ("deep", "logs", "$.trace.spans[1].attrs.host",
-     ".trace.spans | select(length > 1) | .[1].attrs.host"),
-    ("all", "logs", "$..*", ".. | .[]?"),
-    ("wildcard", "orders", "$.items[*].price", ".items[].price"),
-    ("descend", "orders", "$..id", '.. | select(type == "object" and has("id")) | .id'),
-    ("compare", "orders", "$.items[?@.price>5000].name", ".items[] | select(.price > 5000) | .name"),
-    ("match", "orders", "$.items[?match(@.sku,'[A-M][A-Z]-[0-9]{3}[02468]')].qty",
-     '.items[] | select(.sku | test("^(?:[A-M][A-Z]-[0-9]{3}[02468])$")) | .qty'),
-    ("absent", "orders", "$.items[?@.recalled].id", '.items[] | select(has("recalled")) | .id'),
-    ("search", "strings", "$.paragraphs[?search(@,'(error|timeout|refused) [0-9]{3}')]",
-     '.paragraphs[] | select(test("(error|timeout|refused) [0-9]{3}"))'),
-    ("wide", "wide", "$[*]", ".[]"),
-    ("sift", "wide", "$[?@.v>990000].k", ".[] | select(.v > 990000) | .k"),
+    Case("field", "logs", "$.user.id", ".user.id"),
+    Case("short", "short", "$.id", ".id"),
+    Case("deep", "logs", "$.trace.spans[1].attrs.host",
+         ".trace.spans | select(length > 1) | .[1].attrs.host"),
+    Case("all", "logs", "$..*", ".. | .[]?"),
+    Case("values", "logs", "$..*", ".. | .[]?", "values"),
+    Case("wildcard", "orders", "$.items[*].price", ".items[].price"),
+    Case("prices", "orders", "$.items[*].price", ".items[].price", "values"),
+    Case("descend", "orders", "$..id", '.. | select(type == "object" and has("id")) | .id'),
+    Case("compare", "orders", "$.items[?@.price>5000].name", ".items[] | select(.price > 5000) | .name"),
+    Case("match", "orders", "$.items[?match(@.sku,'[A-M][A-Z]-[0-9]{3}[02468]')].qty",
+         '.items[] | select(.sku | test("^(?:[A-M][A-Z]-[0-9]{3}[02468])$")) | .qty'),
+    Case("absent", "orders", "$.items[?@.recalled].id", '.items[] | select(has("recalled")) | .id'),
+    Case("search", "strings", "$.paragraphs[?search(@,'(error|timeout|refused) [0-9]{3}')]",
+         '.paragraphs[] | select(test("(error|timeout|refused) [0-9]{3}"))'),
+    Case("wide", "wide", "$[*]", ".[]"),
+    Case("sift", "wide", "$[?@.v>990000].k", ".[] | select(.v > 990000) | .k"),
+    Case("grep", "logs", '$[?$.level=="error"]', 'select(.level == "error")', "lines"),
 ]
 
-# The same lines as jp, whose names of members need no escape. The lines are counted by hand, since jq's
-# input_line_number miscounts long ones, and gojq has none.
+# The same lines as jp in the form of nodes, where names of members need no escape. The lines are counted by
+# hand, since jq's input_line_number miscounts long ones, and gojq has none.
 LINES_OF = """
 def path_text: reduce .[] as $key ("$";
     . + if ($key | type) == "number" then "[\\($key)]" else "['\\($key)']" end);

@@ -24,6 +24,9 @@ import tools
 TIME = "/usr/bin/time"
 # How long a run may take, in seconds.
 PATIENCE = "600"
+# What share jp is to take, in a case in another form, of a time: of what, in which case, and whose.
+GOALS = [("values", "the same query in the form of nodes", "all", "jp", 0.6),
+         ("grep", "the program by hand", "grep", "by_hand", 0.35)]
 
 
 class Run:
@@ -58,17 +61,19 @@ class Program:
         self.best = min(run, best, key=lambda each: each.wall)
 
 
-def programs_for(query, expression, paths, others):
+def programs_for(case, paths, others):
     found = []
     for name in ("jp", "by_hand", "over_simdjson"):
         for workers in ("1", "4"):
             if name in paths:
-                words = [paths[name], "--workers", workers, query]
+                words = [paths[name], "--workers", workers, *case.words()]
                 found.append(Program("%s %s" % (name, workers), words))
+    if case.form != "nodes":
+        return found + [Program(name, [name, "-c", case.expression], "values") for name in others]
     for name in others:
-        found.append(Program(name, [name, "-nr", cases.jq_program(expression)], "lines"))
+        found.append(Program(name, [name, "-nr", cases.jq_program(case.expression)], "lines"))
     if "jq" in others:
-        found.append(Program("jq, values", ["jq", "-c", expression], "values"))
+        found.append(Program("jq, values", ["jq", "-c", case.expression], "values"))
     return found
 
 
@@ -109,16 +114,16 @@ def compare(case, source, programs, room):
 
 def measure(case, arguments, paths, others, room):
     """The programs, measured on one case, and the size of its input in megabytes."""
-    name, kind, query, expression = case
-    source = corpus.made_in(tools.ROOM, kind, arguments.mb)
-    programs = programs_for(query, expression, paths, others)
-    compare(name, source, programs, room)
+    source = corpus.made_in(tools.ROOM, case.kind, arguments.mb)
+    programs = programs_for(case, paths, others)
+    compare(case.name, source, programs, room)
     for _ in range(arguments.rounds):
         for program in programs:
             if not program.slow:
                 timed = Run(program.words, source, os.devnull, os.path.join(room, "notes"))
                 if timed.status != 0:
-                    tools.refuse("%s ends with status %d on the case %s" % (program.name, timed.status, name))
+                    tools.refuse("%s ends with status %d on the case %s"
+                                 % (program.name, timed.status, case.name))
                 program.keep(timed)
     return {program.name: program.best for program in programs}, os.path.getsize(source) / 1e6
 
@@ -142,7 +147,7 @@ def table(measured, names):
             "MB of jp 1, 4", "MB of by hand 1, 4"]
     rows = [head, ["---"] + ["---:"] * (len(head) - 1)]
     for case, (runs, size) in measured.items():
-        rows.append(["`%s`" % case, *[speed(size, runs[name]) for name in names],
+        rows.append(["`%s`" % case, *[speed(size, runs[name]) if name in runs else "" for name in names],
                      "%.1f" % times(runs, "jp"), "%.1f" % times(runs, "by_hand"),
                      memory(runs, "jp"), memory(runs, "by_hand")])
     return "\n".join("| %s |" % " | ".join(row) for row in rows)
@@ -158,8 +163,8 @@ def ratios(measured, above, below):
     return spread([runs[above].wall / runs[below].wall for runs, _ in measured.values()])
 
 
-def summary(measured, names):
-    """What the table says, in the geometric mean over its cases."""
+def means(measured, names):
+    """What the table says of these cases, in the geometric mean over them."""
     said = []
     for name, words in (("by_hand", "the program by hand"), ("over_simdjson", "the one over simdjson")):
         if name + " 1" in names:
@@ -173,6 +178,26 @@ def summary(measured, names):
     ups = [name for name in ("jp", "by_hand", "over_simdjson") if name + " 1" in names]
     said.append("four workers by one: " + ", ".join(
         "%s %s" % (name.replace("_", " "), ratios(measured, name + " 1", name + " 4")) for name in ups))
+    return said
+
+
+def shares(measured):
+    """What the table says of the cases that have a goal, where both times were measured."""
+    said = []
+    for case, what, other, name, goal in GOALS:
+        if case in measured and other in measured:
+            ours, theirs = measured[case][0], measured[other][0]
+            one, four = [ours["jp " + count].wall / theirs["%s %s" % (name, count)].wall for count in "14"]
+            said.append("for `%s` by that of %s: %.2f with one worker, %.2f with four (goal %g)"
+                        % (case, what, one, four, goal))
+    return ["the time of jp " + "; ".join(said)] if said else []
+
+
+def summary(measured, names):
+    """What the table says: means over its cases in the form of nodes, and a line of its own on the others."""
+    nodes = {case.name: measured[case.name] for case in cases.CASES
+             if case.form == "nodes" and case.name in measured}
+    said = (means(nodes, names) if nodes else []) + shares(measured)
     busy = max(run.wall / max(run.processor, 1e-3) for runs, _ in measured.values()
                for name, run in runs.items() if name.endswith("1"))
     said.append("the best run of one thread took at most %.2f times its processor time" % busy)
@@ -210,7 +235,7 @@ def words():
     parser = tools.Words(prog="bench/run", description=__doc__.split("\n\n")[0])
     parser.add_argument("--mb", type=float, default=16, help="megabytes of each input (16)")
     parser.add_argument("--rounds", type=int, default=5, help="timed rounds (5)")
-    parser.add_argument("--only", choices=[case[0] for case in cases.CASES], help="one case alone")
+    parser.add_argument("--only", choices=[case.name for case in cases.CASES], help="one case alone")
     parser.add_argument("--jq", action="store_true", help="also jq and gojq, run once")
     return tools.checked(parser)
 
@@ -235,10 +260,10 @@ def main():
     load, measured = os.getloadavg()[0], {}
     with tempfile.TemporaryDirectory(dir=tools.ROOM) as room:
         for case in cases.CASES:
-            if arguments.only in (None, case[0]):
-                measured[case[0]] = runs, size = measure(case, arguments, paths, others, room)
+            if arguments.only in (None, case.name):
+                measured[case.name] = runs, size = measure(case, arguments, paths, others, room)
                 said = ", ".join("%s %s" % (name, speed(size, run)) for name, run in runs.items())
-                print("%s: %s MB/s" % (case[0], said), file=sys.stderr, flush=True)
+                print("%s: %s MB/s" % (case.name, said), file=sys.stderr, flush=True)
     names = list(next(iter(measured.values()))[0])
     about = machine(arguments, load, versions(paths, others))
     print("\n\n".join([about, table(measured, names), summary(measured, names)]))

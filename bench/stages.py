@@ -36,29 +36,28 @@ def stage_of(sample):
     return next((name for name, pattern in STAGES if pattern.search(sample)), OTHERS)
 
 
-def samples(command, query, source, room):
+def samples(command, words, source, room):
     """The functions of each sample of one run, the innermost first."""
     data = os.path.join(room, "samples")
     with open(source, "rb") as stdin:
         done = subprocess.run(["perf", "record", "-q", "-F", "2000", "-e", "cpu-clock", "--call-graph",
-                               "dwarf,16384", "-o", data, command, "--workers", "1", query],
+                               "dwarf,16384", "-o", data, command, "--workers", "1", *words],
                               stdin=stdin, stdout=subprocess.DEVNULL, stderr=subprocess.DEVNULL)
     if done.returncode != 0:
-        tools.refuse("perf record ends with status %d on %s" % (done.returncode, query))
+        tools.refuse("perf record ends with status %d on %s" % (done.returncode, " ".join(words)))
     told = subprocess.run(["perf", "script", "-i", data, "--no-inline", "-F", "pid,ip,sym"],
                           stdout=subprocess.PIPE, stderr=subprocess.DEVNULL).stdout.decode(errors="replace")
     return [sample for sample in told.split("\n\n") if len(sample.strip().split("\n")) > 1]
 
 
 def shares(case, arguments, command, room):
-    _, kind, query, _ = case
-    source = corpus.made_in(tools.ROOM, kind, arguments.mb)
+    source = corpus.made_in(tools.ROOM, case.kind, arguments.mb)
     counts = collections.Counter()
     for _ in range(arguments.rounds):
-        counts.update(map(stage_of, samples(command, query, source, room)))
+        counts.update(map(stage_of, samples(command, case.words(), source, room)))
     total = sum(counts.values())
     if total == 0:
-        tools.refuse("perf took no sample of %s" % query)
+        tools.refuse("perf took no sample of %s" % case.name)
     return {stage: 100 * count / total for stage, count in counts.items()}, total
 
 
@@ -74,7 +73,7 @@ def words():
     parser = tools.Words(prog="bench/stages", description=__doc__.split("\n\n")[0])
     parser.add_argument("--mb", type=float, default=8, help="megabytes of each input (8)")
     parser.add_argument("--rounds", type=int, default=3, help="how many runs are sampled (3)")
-    parser.add_argument("--only", choices=[case[0] for case in cases.CASES], help="one case alone")
+    parser.add_argument("--only", choices=[case.name for case in cases.CASES], help="one case alone")
     return tools.checked(parser)
 
 
@@ -87,8 +86,8 @@ def main():
     told = {}
     with tempfile.TemporaryDirectory(dir=tools.ROOM) as room:
         for case in cases.CASES:
-            if arguments.only in (None, case[0]):
-                told[case[0]] = shares(case, arguments, command, room)
+            if arguments.only in (None, case.name):
+                told[case.name] = shares(case, arguments, command, room)
     print(table(told))
 
 

@@ -2,7 +2,7 @@
 // line and lays it out as a tape, with no allocation for a line; code that knows the query walks the tape,
 // and patterns are matched by hand. It prints and refuses what by_hand does.
 //
-//     over_simdjson [--workers N] QUERY < documents.jsonl
+//     over_simdjson [--workers N] [--output nodes|values|lines] QUERY < documents.jsonl
 //
 // Each of N workers takes a block of whole lines from standard input, answers it, and writes when its turn
 // has come. One document is never shared out among workers.
@@ -34,6 +34,7 @@ using Query = void (*)(Walk &, size_t);
 struct Case {
     string_view text;
     Query query;
+    string_view form = "nodes";
 };
 
 template <size_t N> static auto printing(Walk &w, const char (&name)[N]) {
@@ -52,12 +53,20 @@ static const Case CASES[] = {
              });
          });
      }},
-    {"$..*", [](Walk &w, size_t i) { w.all(i); }},
+    {"$..*", [](Walk &w, size_t i) { w.all<true>(i); }},
+    {"$..*", [](Walk &w, size_t i) { w.all<false>(i); }, "values"},
     {"$..id", [](Walk &w, size_t i) { w.descend(i, printing(w, "id")); }},
     {"$.items[*].price",
      [](Walk &w, size_t i) {
          w.at_member(i, "items", [&](size_t i) { w.at_children(i, printing(w, "price")); });
      }},
+    {"$.items[*].price",
+     [](Walk &w, size_t i) {
+         w.for_children(w.member(i, "items"), [&](size_t j) {
+             if (size_t price = w.member(j, "price")) w.print_value(price);
+         });
+     },
+     "values"},
     {"$.items[?@.price>5000].name",
      [](Walk &w, size_t i) {
          auto test = [&](size_t j) { return w.above(w.member(j, "price"), 5000); };
@@ -84,16 +93,27 @@ static const Case CASES[] = {
          auto test = [&](size_t j) { return w.above(w.member(j, "v"), 990000); };
          w.at_kept(i, test, printing(w, "k"));
      }},
+    {"$[?$.level==\"error\"]",
+     [](Walk &w, size_t i) {
+         size_t level = w.member(i, "level");
+         if (w.is_text(level) && w.text(level) == "error") w.print_line();
+     },
+     "lines"},
 };
 
 int main(int argc, char **argv) {
-    bool alone = argc == 2;
-    if (!alone && (argc != 4 || string_view(argv[1]) != "--workers")) stop(64, "command line");
-    int workers = alone ? 1 : atoi(argv[2]);
-    if (workers < 1 || workers > 64) stop(64, "command line");
+    int workers = 1, at = 1;
+    string_view form = "nodes";
+    for (; at + 2 < argc; at += 2) {
+        string_view option = argv[at];
+        if (option == "--workers") workers = atoi(argv[at + 1]);
+        else if (option == "--output") form = argv[at + 1];
+        else stop(64, "command line");
+    }
+    if (at + 1 != argc || workers < 1 || workers > 64) stop(64, "command line");
     const Case *chosen = nullptr;
     for (const Case &c : CASES)
-        if (c.text == argv[argc - 1]) chosen = &c;
+        if (c.text == argv[at] && c.form == form) chosen = &c;
     if (!chosen) stop(2, "this query is not written by hand");
     Ends ends;
     auto work = [&] { Walk(ends).run(chosen->query); };

@@ -32,6 +32,7 @@ class Walk {
     Bytes head;
     Ends &ends;
     Block block;
+    string_view line; // the one that is answered
     Bytes out;
 
     size_t payload(size_t i) const { return tape[i] & 0xffffffffffffff; }
@@ -227,6 +228,13 @@ class Walk {
         auto any = [](size_t) { return true; };
         at_kept(i, any, go);
     }
+    // Goes on at each child; there is no path.
+    template <class Go> void for_children(size_t i, Go go) {
+        if (type(i) == '[')
+            for (size_t j = i + 1; type(j) != ']'; j = next(j)) go(j);
+        else if (type(i) == '{')
+            sorted(i, [&](size_t, size_t value) { go(value); });
+    }
     bool has_inner(size_t i) const {
         char t = type(i), end = t == '{' ? '}' : ']';
         if (t == '{' || t == '[')
@@ -269,8 +277,8 @@ class Walk {
         }
     }
     // Lays a value out: its text once, in which those of its descendants lie, and their steps in the order of
-    // the query.
-    void lay(size_t i, uint32_t step) {
+    // the query, where paths are asked for.
+    template <bool paths> void lay(size_t i, uint32_t step) {
         size_t at = laid.size();
         laid.push_back({uint32_t(texts.len), 0, step, uint32_t(steps.len), 0});
         char t = type(i);
@@ -280,8 +288,9 @@ class Walk {
             for (size_t j = i + 1; type(j) != ']'; j = next(j)) {
                 if (index) texts.put(',');
                 step = steps.len;
-                steps.put('['), steps.decimal(index++), steps.put(']');
-                lay(j, step);
+                if (paths) steps.put('['), steps.decimal(index), steps.put(']');
+                index++;
+                lay<paths>(j, step);
             }
             texts.put(']');
         } else if (t == '{') {
@@ -292,8 +301,8 @@ class Walk {
                 else wrapped(texts, "\"", text(name), '"', "\":");
                 more = true;
                 step = steps.len;
-                wrapped(steps, "['", text(name), '\'', "']");
-                lay(inner, step);
+                if (paths) wrapped(steps, "['", text(name), '\'', "']");
+                lay<paths>(inner, step);
             });
             texts.put('}');
         } else {
@@ -304,14 +313,14 @@ class Walk {
     string_view step_of(const Laid &it) const {
         return string_view(steps.data + it.step, it.step_end - it.step);
     }
-    void all_below(size_t at) {
+    template <bool paths> void all_below(size_t at) {
         string_view above(head.data, head.len);
         bool inner = false;
         for (size_t j = at + 1; j < laid[at].next; j = laid[j].next) {
             string_view step = step_of(laid[j]),
                         text(texts.data + laid[j].begin, laid[j].end - laid[j].begin);
-            char *p = copied(copied(out.room(above.size() + step.size() + text.size() + 2), above), step);
-            *p++ = '\t';
+            char *p = out.room(above.size() + step.size() + text.size() + 2);
+            if (paths) p = copied(copied(p, above), step), *p++ = '\t';
             p = copied(p, text);
             *p++ = '\n';
             out.len = p - out.data;
@@ -322,25 +331,35 @@ class Walk {
         if (inner)
             for (size_t j = at + 1; j < laid[at].next; j = laid[j].next) {
                 if (laid[j].next == j + 1) continue;
-                head.put(step_of(laid[j]));
-                all_below(j);
+                if (paths) head.put(step_of(laid[j]));
+                all_below<paths>(j);
                 head.len = len;
             }
     }
-    // `..*`
-    void all(size_t i) {
+    // `..*`, with paths or as values alone.
+    template <bool paths> void all(size_t i) {
         laid.clear();
         texts.len = steps.len = 0;
-        lay(i, 0);
-        all_below(0);
+        lay<paths>(i, 0);
+        all_below<paths>(0);
     }
 
+    void end_line() {
+        out.put('\n');
+        if (out.len > FLUSH) ends.flush(block, out);
+    }
+    void print_value(size_t i) {
+        value(out, i);
+        end_line();
+    }
+    void print_line() {
+        out.put(line);
+        end_line();
+    }
     void node(size_t i) {
         out.put(string_view(head.data, head.len));
         out.put('\t');
-        value(out, i);
-        out.put('\n');
-        if (out.len > FLUSH) ends.flush(block, out);
+        print_value(i);
     }
 
     template <class Query> void run(Query query) {
@@ -353,7 +372,7 @@ class Walk {
             bool good = true;
             while (p < end && good) {
                 const char *lf = (const char *)memchr(p, '\n', end - p);
-                string_view line(p, (lf ? lf : end) - p);
+                line = string_view(p, (lf ? lf : end) - p);
                 p += line.size() + 1;
                 number++;
                 if (is_blank(line)) continue;

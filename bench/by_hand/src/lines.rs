@@ -1,4 +1,5 @@
-//! The lines that are printed: the number of the document's line, the normalized path, the value as JSON.
+//! The lines that are printed: the number of the document's line, the normalized path, the value as JSON; or
+//! the value alone; or the document's line.
 
 use serde_json::Value;
 
@@ -25,12 +26,23 @@ impl Lines {
         self.bytes.push(b'\t');
         self.bytes.extend_from_slice(&self.path);
         self.bytes.push(b'\t');
+        self.value(value);
+    }
+
+    /// Prints the value alone.
+    pub fn value(&mut self, value: &Value) {
         match value {
             Value::Null => self.bytes.extend_from_slice(b"null"),
             Value::Bool(true) => self.bytes.extend_from_slice(b"true"),
             Value::Bool(false) => self.bytes.extend_from_slice(b"false"),
             other => serde_json::to_writer(&mut self.bytes, other).expect("a Vec takes all"),
         }
+        self.bytes.push(b'\n');
+    }
+
+    /// Prints a line of the input.
+    pub fn copy(&mut self, line: &[u8]) {
+        self.bytes.extend_from_slice(line);
         self.bytes.push(b'\n');
     }
 

@@ -2,7 +2,7 @@
 //! `serde_json::Value`, code that knows the query walks it, and the nodes are printed as `jp` prints them.
 //! Its bytes are those that the others are compared with.
 //!
-//!     by_hand [--workers N] QUERY < documents.jsonl
+//!     by_hand [--workers N] [--output nodes|values|lines] QUERY < documents.jsonl
 //!
 //! One worker is one thread. With more a thread reads blocks of whole lines, N threads answer them, and the
 //! calling one writes the answers in order. Status 3: a line is faulty, and what stands before it is printed.
@@ -51,7 +51,11 @@ fn answer(query: &Query, line: &[u8], lines: &mut Lines) -> bool {
     }
     match serde_json::from_slice::<Value>(line) {
         Ok(value) if is_whole(&value) => {
-            query(&value, lines);
+            match query {
+                Query::Prints(print) => print(&value, lines),
+                Query::Keeps(test) if test(&value) => lines.copy(line),
+                Query::Keeps(_) => {}
+            }
             true
         }
         _ => false,
@@ -196,16 +200,21 @@ fn refuse(status: i32, reason: &str) -> ! {
 
 fn main() {
     let words: Vec<String> = std::env::args().skip(1).collect();
-    let words: Vec<&str> = words.iter().map(String::as_str).collect();
-    let (workers, text) = match words[..] {
-        [text] => (1, text),
-        ["--workers", workers, text] => (workers.parse().unwrap_or(0), text),
-        _ => refuse(64, "command line"),
-    };
+    let (text, options) = words
+        .split_last()
+        .unwrap_or_else(|| refuse(64, "command line"));
+    let (mut workers, mut form) = (1, "nodes");
+    for option in options.chunks(2) {
+        match option {
+            [word, count] if word == "--workers" => workers = count.parse().unwrap_or(0),
+            [word, name] if word == "--output" => form = name,
+            _ => refuse(64, "command line"),
+        }
+    }
     if !(1..=64).contains(&workers) {
         refuse(64, "command line")
     }
-    let query = query(text).unwrap_or_else(|| refuse(2, "this query is not written by hand"));
+    let query = query(form, text).unwrap_or_else(|| refuse(2, "this query is not written by hand"));
     // The standard ends, with no buffer between.
     let (input, output) = unsafe {
         (

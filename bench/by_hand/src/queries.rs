@@ -1,14 +1,31 @@
-//! The queries of the table, each by hand. Their texts are those of `bench/cases.py`.
+//! The queries of the table, each by hand. Their texts and forms are those of `bench/cases.py`.
 
 use crate::lines::Lines;
 use regex::Regex;
 use serde_json::Value;
 
-/// Prints the nodes that a query selects of a document.
-pub type Query = Box<dyn Fn(&Value, &mut Lines) + Send + Sync>;
+/// What is done with a document.
+pub enum Query {
+    /// The nodes that the query selects are printed.
+    Prints(Printing),
+    /// The line is printed as it came, where the query selects a node.
+    Keeps(fn(&Value) -> bool),
+}
 
-/// The query of this text, where it is written by hand.
-pub fn query(text: &str) -> Option<Query> {
+type Printing = Box<dyn Fn(&Value, &mut Lines) + Send + Sync>;
+
+/// The query of this text in this form, where it is written by hand.
+pub fn query(form: &str, text: &str) -> Option<Query> {
+    Some(match (form, text) {
+        ("nodes", _) => Query::Prints(nodes(text)?),
+        ("values", "$..*") => Query::Prints(Box::new(values_below)),
+        ("values", "$.items[*].price") => Query::Prints(Box::new(prices)),
+        ("lines", "$[?$.level==\"error\"]") => Query::Keeps(|value| value["level"] == "error"),
+        _ => return None,
+    })
+}
+
+fn nodes(text: &str) -> Option<Printing> {
     Some(match text {
         "$" => Box::new(|value, lines| lines.node(value)),
         "$.id" => Box::new(|value, lines| print_member(value, "id", lines)),
@@ -62,7 +79,7 @@ pub fn query(text: &str) -> Option<Query> {
 }
 
 /// `$.items[?TEST].NAME`
-fn of_items(name: &'static str, test: impl Fn(&Value) -> bool + Send + Sync + 'static) -> Query {
+fn of_items(name: &'static str, test: impl Fn(&Value) -> bool + Send + Sync + 'static) -> Printing {
     Box::new(move |value, lines| {
         at_member(value, "items", lines, |items, lines| {
             at_children(items, lines, &test, |item, lines| {
@@ -132,6 +149,31 @@ fn descend(value: &Value, lines: &mut Lines, go: &mut dyn FnMut(&Value, &mut Lin
     at_children(value, lines, holds, |inner, lines| {
         descend(inner, lines, go)
     });
+}
+
+/// The values of `$..*`
+fn values_below(value: &Value, lines: &mut Lines) {
+    for_children(value, |child| lines.value(child));
+    for_children(value, |child| values_below(child, lines));
+}
+
+/// The values of `$.items[*].price`
+fn prices(value: &Value, lines: &mut Lines) {
+    if let Some(items) = member(value, "items") {
+        for_children(items, |item| {
+            if let Some(price) = member(item, "price") {
+                lines.value(price)
+            }
+        })
+    }
+}
+
+fn for_children(value: &Value, go: impl FnMut(&Value)) {
+    match value {
+        Value::Array(items) => items.iter().for_each(go),
+        Value::Object(members) => members.values().for_each(go),
+        _ => {}
+    }
 }
 
 fn above(value: Option<&Value>, bound: i64) -> bool {
