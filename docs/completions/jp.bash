@@ -2,13 +2,17 @@
 _jp() {
     local word=${COMP_WORDS[COMP_CWORD]}
     case ${COMP_WORDS[COMP_CWORD - 1]} in
+        --output)
+            mapfile -t COMPREPLY < <(compgen -W 'nodes values texts lines' -- "$word")
+            return
+            ;;
         --workers | --piece | --batch)
             compopt +o default
             return
             ;;
     esac
     if [[ $word != -* ]]; then return; fi
-    local options='--workers --piece --batch --check --keep-going --explain --help --version'
+    local options='--output --workers --piece --batch --check --keep-going --explain --help --version'
     mapfile -t COMPREPLY < <(compgen -W "$options" -- "$word")
 }
 # Where the function offers nothing, as behind < and >, bash completes file names.
