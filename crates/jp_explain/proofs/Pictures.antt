@@ -1,7 +1,7 @@
 -- Lines without control characters.
-use Rattle.std.proofs.Common.{◌≡◌, ℕ, Bool, true, false, not, List, [], ◌∷◌, ◌++◌, refl, ap, ◌∙◌}
+use Rattle.std.proofs.Common.{◌≡◌, ℕ, Bool, true, false, not, List, [], ◌∷◌, ◌++◌, refl, ap, append_assoc, ◌∙◌}
 use Rattle.std.proofs.Common.{Result, Ok, Err}
-use Rattle.std.specs.Prelude.{String, replicate, IfOk, OnOk, is_ok, if◌then◌else◌}
+use Rattle.std.specs.Prelude.{String, IfOk, OnOk, is_ok, if◌then◌else◌}
 use Rattle.std.specs.declared.alloc.Global.{Global}
 use Rattle.std.specs.Str.{chars, IsUtf8}
 use Rattle.std.specs.List.{list_all}
@@ -10,7 +10,8 @@ use Rattle.std.proofs.Math.Utf8.{encode, scalars}
 use Rattle.jp_tree.specs.Tree.{Text}
 use Rattle.jp_tree.specs.View.{text_of}
 use Rattle.jp_tokens.proofs.Cuts.{pushed}
-use Rattle.jp_explain.specs.Picture.{is_control, is_shown, IsPicture}
+use Rattle.jp_explain.specs.Picture.{is_control, is_shown, picture, IsPictureWith, IsPicture}
+use Rattle.jp_explain.specs.Picture.{IsLinePicture}
 
 all_pushed : (p : ℕ → Bool) (xs : List ℕ) (c : ℕ) → list_all p xs ≡ true → p c ≡ true
     → list_all p (xs ++ c ∷ []) ≡ true
@@ -30,10 +31,31 @@ pub shown_pushed : {X E : Type 0} (r : Result X E) (old new : List ℕ) (c : ℕ
     → is_shown (chars old) ≡ true → is_shown (chars new) ≡ true
 shown_pushed r old new c u s e k h = shown_by r old new c (pushed r old new c u s e) e k h
 
--- the three lines
-pub pictured : {E : Type 0} (r : Result (String Global) E) (line : Text) (column : ℕ) (words : Text)
-    → is_shown line ≡ true
-    → IfOk r (λ s. text_of s ≡ line ++ (10 ∷ (replicate column 32 ++ (94 ∷ 10 ∷ words))))
-    → IfOk r (λ s. IsPicture (text_of s))
-pictured (Ok s) line column words shown value = (line, column, words, shown, value)
-pictured (Err e) line column words shown value = tt
+-- a line with a caret below it, and words
+pub pictured : {E : Type 0} (r : Result (String Global) E) (line : Text) (column : ℕ) (words given : Text)
+    → given ≡ words → is_shown line ≡ true → IfOk r (λ s. text_of s ≡ picture line column given)
+    → IfOk r (λ s. IsPictureWith words (text_of s))
+pictured (Ok s) line column words given same shown value =
+    (line, column, shown, value ∙ ap (picture line column) same)
+pictured (Err e) line column words given same shown value = tt
+
+-- the same, whatever the words
+pub some_words : {E : Type 0} (r : Result (String Global) E) (words : Text)
+    → IfOk r (λ s. IsPictureWith words (text_of s)) → IfOk r (λ s. IsPicture (text_of s))
+some_words (Ok s) words shown = (words, shown)
+some_words (Err e) words shown = tt
+
+-- one text, a line feed, and another
+pub with_line_feed : (empty front back one two three : Text) → empty ≡ [] → one ≡ empty ++ front
+    → two ≡ one ++ 10 ∷ [] → three ≡ two ++ back → three ≡ front ++ (10 ∷ back)
+with_line_feed empty front back one two three nothing first second third =
+    third ∙ ap (λ (t : Text). t ++ back) (second ∙ ap (λ (t : Text). t ++ 10 ∷ []) (first
+    ∙ ap (λ (t : Text). t ++ front) nothing)) ∙ append_assoc front (10 ∷ []) back
+
+-- what is said, and the lines below it
+pub line_pictured : {E : Type 0} (r : Result (String Global) E) (head below given : Text) → given ≡ below
+    → is_shown head ≡ true → IsPictureWith [] below → IfOk r (λ s. text_of s ≡ head ++ (10 ∷ given))
+    → IfOk r (λ s. IsLinePicture (text_of s))
+line_pictured (Ok s) head below given same shown pictured_below value =
+    (head, below, shown, pictured_below, value ∙ ap (λ (t : Text). head ++ (10 ∷ t)) same)
+line_pictured (Err e) head below given same shown pictured_below value = tt

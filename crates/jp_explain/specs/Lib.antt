@@ -1,2 +1,3 @@
+pub mod LineMark
 pub mod Mark
 pub mod Picture

@@ -1,5 +1,5 @@
--- What a terminal is given of a query.
-use Rattle.std.specs.Prelude.{ℕ, ◌≡◌, ◌||◌, ◌&&◌, not, nat_le, Bool, true, ◌∷◌, ◌++◌, replicate}
+-- What a terminal is given of a query, and of a line.
+use Rattle.std.specs.Prelude.{ℕ, ◌≡◌, ◌||◌, ◌&&◌, not, nat_le, Bool, true, [], ◌∷◌, ◌++◌, replicate}
 use Rattle.std.specs.List.{list_all}
 use Rattle.jp_tree.specs.Tree.{Text}
 
@@ -11,7 +11,18 @@ is_control c = nat_le c 31 || (nat_le 127 c && nat_le c 159)
 abbrev pub is_shown : Text → Bool
 is_shown t = list_all (λ c. not (is_control c)) t
 
--- a line without control characters, a line of a caret behind blanks, and words
+-- a line, a line of a caret behind blanks, and words
+abbrev pub picture : Text → ℕ → Text → Text
+picture line column words = line ++ (10 ∷ (replicate column 32 ++ (94 ∷ 10 ∷ words)))
+
+-- such a text with these words, whose first line has no control characters
+abbrev pub IsPictureWith : Text → Text → Type 0
+IsPictureWith words t = (line : Text) × (column : ℕ) × (is_shown line ≡ true) × (t ≡ picture line column words)
+
 abbrev pub IsPicture : Text → Type 0
-IsPicture t = (line : Text) × (column : ℕ) × (words : Text) × (is_shown line ≡ true)
-    × (t ≡ line ++ (10 ∷ (replicate column 32 ++ (94 ∷ 10 ∷ words))))
+IsPicture t = (words : Text) × IsPictureWith words t
+
+-- a line without control characters that says something, and such a text with no words below it
+abbrev pub IsLinePicture : Text → Type 0
+IsLinePicture t = (head : Text) × (below : Text) × (is_shown head ≡ true) × IsPictureWith [] below
+    × (t ≡ head ++ (10 ∷ below))

@@ -1,9 +1,9 @@
-//! The line that shows a query to a terminal.
+//! A line for a terminal.
 
-ghost use Rattle.std.specs.Prelude.{◌≡◌, ◌∷◌, ◌++◌, true, false, replicate, IfOk};
+ghost use Rattle.std.specs.Prelude.{◌≡◌, true, false, IfOk};
 ghost use Rattle.std.specs.Str.{chars};
 ghost use Rattle.jp_tree.specs.View.{text_of};
-ghost use Rattle.jp_explain.specs.Picture.{is_control, is_shown};
+ghost use Rattle.jp_explain.specs.Picture.{is_control, is_shown, picture};
 
 use crate::growth::{push_character, push_text};
 use std::alloc::{AllocError, Global};
@@ -16,6 +16,8 @@ const ESCAPE: usize = 6;
 #[derive(Drop)]
 pub(crate) struct Line {
     text: String,
+    /// How many columns it takes.
+    columns: usize,
     ghost shown: { is_shown (text_of text) ≡ true },
 }
 
@@ -75,12 +77,27 @@ impl Line {
     pub(crate) fn new(alloc: Global) -> Line {
         Line {
             text: String::new(alloc),
+            columns: 0,
         }
+    }
+
+    /// The text of the line.
+    pub(crate) fn as_str(&self) -> &str
+        ensures value { chars result.now ≡ text_of self.now.text }
+        ensures shown { is_shown (text_of self.now.text) ≡ true }
+    {
+        self.text.as_str()
+    }
+
+    /// How many columns it takes.
+    pub(crate) fn columns(&self) -> usize {
+        self.columns
     }
 
     fn push(&mut self, c: char) -> Result<(), AllocError>
         requires { is_control c ≡ false }
     {
+        self.columns = self.columns.saturating_add(columns(c));
         self.text.push(c)
     }
 
@@ -104,6 +121,45 @@ impl Line {
         self.push(hex_digit(code % 16))
     }
 
+    /// The characters, or their escapes.
+    pub(crate) fn push_text(&mut self, text: &str) -> Result<(), AllocError> {
+        for c in text.chars() {
+            self.push_shown(c)?;
+        }
+        Ok(())
+    }
+
+    /// So many of the first characters, and `..` for the rest.
+    pub(crate) fn push_front(&mut self, text: &str, most: usize) -> Result<(), AllocError> {
+        for (at, c) in text.chars().enumerate() {
+            if at >= most {
+                return self.push_gap();
+            }
+            self.push_shown(c)?;
+        }
+        Ok(())
+    }
+
+    /// A byte that is no UTF-8, as an escape.
+    fn push_byte(&mut self, byte: u8) -> Result<(), AllocError> {
+        let code = byte as u32;
+        self.push('\\')?;
+        self.push('x')?;
+        self.push(hex_digit(code / 16))?;
+        self.push(hex_digit(code % 16))
+    }
+
+    /// The characters of these bytes, or their escapes.
+    pub(crate) fn push_bytes(&mut self, bytes: &[u8]) -> Result<(), AllocError> {
+        for chunk in bytes.utf8_chunks() {
+            self.push_text(chunk.valid())?;
+            for byte in chunk.invalid() {
+                self.push_byte(*byte)?;
+            }
+        }
+        Ok(())
+    }
+
     /// The line, one with a caret behind so many blanks, and the words.
     pub(crate) fn with_caret(
         &self,
@@ -113,7 +169,7 @@ impl Line {
     ) -> Result<String, AllocError>
         ensures line { is_shown (text_of self.now.text) ≡ true }
         ensures value { IfOk result (λ s. text_of s
-            ≡ text_of self.now.text ++ (10 ∷ (replicate column 32 ++ (94 ∷ 10 ∷ chars words.now)))) }
+            ≡ picture (text_of self.now.text) column (chars words.now)) }
     {
         let mut text = String::new(alloc);
         push_text(&mut text, self.text.as_str())?;

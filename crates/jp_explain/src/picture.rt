@@ -47,23 +47,15 @@ fn first_shown(text: &str, mark: usize) -> usize {
     first
 }
 
-/// Shows what stands before the mark, and gives the column of the mark.
-fn push_before(
-    line: &mut Line,
-    text: &str,
-    first: usize,
-    mark: usize,
-) -> Result<usize, AllocError> {
-    let mut column = 0usize;
+/// Shows what stands before the mark.
+fn push_before(line: &mut Line, text: &str, first: usize, mark: usize) -> Result<(), AllocError> {
     if first > 0 {
         line.push_gap()?;
-        column = 2;
     }
     for c in text.chars().take(mark).skip(first) {
         line.push_shown(c)?;
-        column = column.saturating_add(columns(c));
     }
-    Ok(column)
+    Ok(())
 }
 
 /// Shows what stands behind the mark, as far as it has room.
@@ -102,7 +94,8 @@ pub fn write_mark(
         (first_shown(query, mark), COLUMNS_BEHIND)
     };
     let mut line = Line::new(alloc);
-    let column = push_before(&mut line, query, first, mark)?;
+    push_before(&mut line, query, first, mark)?;
+    let column = line.columns();
     push_behind(&mut line, query, mark, limit)?;
     let words = format!(in alloc; "{}\n", explanation.reason)?;
     line.with_caret(alloc, column, words.as_str())

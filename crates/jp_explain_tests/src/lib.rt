@@ -1,9 +1,15 @@
-//! Tests of `jp_explain` through its public calls: wrong queries with the mark and the words, and the lines
-//! for a terminal.
+//! Tests of `jp_explain` through its public calls: wrong queries and faulty lines with the mark and the
+//! words, and the lines for a terminal.
 #![tactic(auto)]
 
 #[cfg(test)]
 mod fronts;
+#[cfg(test)]
+mod line_generated;
+#[cfg(test)]
+mod line_pictures;
+#[cfg(test)]
+mod line_table;
 #[cfg(test)]
 mod pictures;
 #[cfg(test)]

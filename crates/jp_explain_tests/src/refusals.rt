@@ -3,7 +3,11 @@
 //! A turn says whether the answer was right, or nothing where it was want of memory. Each is made twice: one
 //! growth is refused at most, so one of the two answers.
 
-use jp_explain::{Explanation, Reason, Rule, explain, write_mark};
+use jp_doc::DocFault;
+use jp_explain::{
+    Explanation, LineExplanation, LineReason, LineRule, Reason, Rule, explain, explain_line,
+    write_line_mark, write_mark,
+};
 use std::alloc::Global;
 
 const QUERY: &str = "$..a[?xor(@.b,(match(@.c,'d')))&&nil]";
@@ -30,14 +34,68 @@ fn shown(alloc: Global) -> Option<bool> {
     }
 }
 
+fn line_explained(alloc: Global, line: &[u8], fault: DocFault, mark: usize) -> Option<bool> {
+    match explain_line(alloc, line, &fault) {
+        Ok(Some(told)) => Some(told.mark == mark),
+        Ok(None) => Some(false),
+        Err(_) => None,
+    }
+}
+
+fn line_shown(alloc: Global, told: &LineExplanation, wanted: &str) -> Option<bool> {
+    match write_line_mark(alloc, 1, b"[\n0.5", told) {
+        Ok(text) => Some(text.as_str() == wanted),
+        Err(_) => None,
+    }
+}
+
+/// Whether one of two answers is right and the other one, too, or want of memory.
+fn is_right(turns: (Option<bool>, Option<bool>)) -> bool {
+    matches!(turns, (Some(true), Some(true) | None) | (None, Some(true)))
+}
+
 #[test]
 fn an_explanation(rt: HostRuntime) {
     let turns = (explained(rt.alloc()), explained(rt.alloc()));
-    assert!(rt; matches!(turns, (Some(true), Some(true) | None) | (None, Some(true))));
+    assert!(rt; is_right(turns));
 }
 
 #[test]
 fn a_picture(rt: HostRuntime) {
     let turns = (shown(rt.alloc()), shown(rt.alloc()));
-    assert!(rt; matches!(turns, (Some(true), Some(true) | None) | (None, Some(true))));
+    assert!(rt; is_right(turns));
+}
+
+#[test]
+fn a_line_unreadable(rt: HostRuntime) {
+    let line = b"[[{\"a\":[[[1,{\"b\":x";
+    let turns = (
+        line_explained(rt.alloc(), line, DocFault::Unreadable, 17),
+        line_explained(rt.alloc(), line, DocFault::Unreadable, 17),
+    );
+    assert!(rt; is_right(turns));
+}
+
+#[test]
+fn a_line_not_whole(rt: HostRuntime) {
+    let line = b"[1,{\"\\u0061b\":[\"x\",0.5]}]";
+    let turns = (
+        line_explained(rt.alloc(), line, DocFault::NotWhole, 19),
+        line_explained(rt.alloc(), line, DocFault::NotWhole, 19),
+    );
+    assert!(rt; is_right(turns));
+}
+
+#[test]
+fn a_picture_of_a_line(rt: HostRuntime) {
+    let told = LineExplanation {
+        mark: 2,
+        reason: LineReason::Rule(LineRule::TooDeep),
+    };
+    let wanted = "line 1, byte 2: nested over 127 deep\n[\\u000a0.5\n       ^\n";
+    let turns = (
+        line_shown(rt.alloc(), &told, wanted),
+        line_shown(rt.alloc(), &told, wanted),
+    );
+    assert!(rt; is_right(turns));
 }

@@ -1,0 +1,123 @@
+//! The explanation of a faulty line.
+
+ghost use Rattle.std.specs.Prelude.{◌≡◌, ◌≤◌, length, Some, None, IfOk, IfSome};
+ghost use Rattle.jp_explain.specs.LineMark.{IsNumber, IsSilent};
+
+use crate::line_reason::{LineReason, NotWhole};
+use crate::line_scanner::first_fault;
+use crate::not_whole::{has_number_not_whole, lead, number_length, place_of};
+use jp_doc::DocFault;
+use jp_path_stack::PathStack;
+use serde_json::Value;
+use std::alloc::{AllocError, Global};
+
+/// Where a faulty line went wrong, and what is to be said of that place.
+#[derive(Debug, PartialEq, Eq, Drop)]
+pub struct LineExplanation {
+    /// How many bytes of the line stand before the mark.
+    pub mark: usize,
+    /// What might have stood there, which rule is broken there, or that the number there is not whole.
+    pub reason: LineReason,
+}
+
+/// The same of a line that holds no JSON text.
+fn explain_unreadable(alloc: Global, line: &[u8]) -> Result<Option<LineExplanation>, AllocError>
+    ensures { IfOk result (λ o. IfSome o (λ x. x.mark ≤ length line.now)) }
+{
+    match first_fault(alloc, line)? {
+        Some((place, reason)) => Ok(Some(LineExplanation {
+            mark: place.min(line.len()),
+            reason,
+        })),
+        None => Ok(None),
+    }
+}
+
+/// The value of the line, if there is one.
+fn read(alloc: Global, line: &[u8]) -> Result<Option<Value>, AllocError> {
+    match Value::from_slice(alloc, line) {
+        Ok(value) => Ok(Some(value)),
+        Err(error) if error.is_memory() => Err(AllocError),
+        Err(_) => Ok(None),
+    }
+}
+
+/// The text of the path.
+fn text_of_path(alloc: Global, path: &mut PathStack<'_>) -> Result<String, AllocError> {
+    let mut bytes = Vec::new(alloc);
+    path.append_path(&mut bytes)?;
+    String::from_utf8_lossy(alloc, bytes.as_slice())
+}
+
+/// The path of the first number of the value that is not whole, and where it begins in the line.
+fn first_number(
+    alloc: Global,
+    line: &[u8],
+    root: &Value,
+) -> Result<Option<(String, usize)>, AllocError> {
+    if !has_number_not_whole(root) {
+        return Ok(None);
+    }
+    let mut path = PathStack::new(alloc);
+    lead(root, &mut path)?;
+    match place_of(alloc, line, path.links())? {
+        Some(place) => Ok(Some((text_of_path(alloc, &mut path)?, place))),
+        None => Ok(None),
+    }
+}
+
+/// The same of a line with a number that is not whole.
+fn explain_not_whole(alloc: Global, line: &[u8]) -> Result<Option<LineExplanation>, AllocError>
+    ensures { IfOk result (λ o. IfSome o (λ x. IsNumber x (length line.now))) }
+{
+    let Some(root) = read(alloc, line)? else {
+        return Ok(None);
+    };
+    match first_number(alloc, line, &root)? {
+        Some((path, place)) => Ok(Some(marked_number(line, path, place))),
+        None => Ok(None),
+    }
+}
+
+/// The explanation of the number that begins there.
+fn marked_number(line: &[u8], path: String, place: usize) -> LineExplanation
+    ensures { IsNumber result (length line.now) }
+{
+    let mark = place.min(line.len());
+    let end = mark + number_length(&line[mark..]);
+    LineExplanation {
+        mark,
+        reason: LineReason::NotWhole(NotWhole { path, end }),
+    }
+}
+
+/// Where a faulty line went wrong, and what is to be said of that place.
+///
+/// Of an unreadable line it is the first byte at which reading can't go on by the grammar of RFC 8259, or at
+/// which begins what a rule forbids: half of a surrogate pair, a number beyond what a float can be. Of a line
+/// with a number that is not whole it is the first such number, where names rise, with its path; a member
+/// that a later one of its name covers does not count. Of the other faults, and of a line that has none,
+/// there is nothing to say: `None`.
+///
+/// # Errors
+///
+/// `AllocError` where a growth of memory was refused.
+pub fn explain_line(
+    alloc: Global,
+    line: &[u8],
+    fault: &DocFault,
+) -> Result<Option<LineExplanation>, AllocError>
+    // Two faults alone have a place.
+    ensures silent { IsSilent fault.now → result ≡ Ok None }
+    // The mark is in the line, or at its end.
+    ensures mark { IfOk result (λ o. IfSome o (λ x. x.mark ≤ length line.now)) }
+    // What stands from the mark on, to the end that is told, is the number.
+    ensures number { fault.now ≡ DocFault.NotWhole
+        → IfOk result (λ o. IfSome o (λ x. IsNumber x (length line.now))) }
+{
+    match fault {
+        DocFault::Unreadable => explain_unreadable(alloc, line),
+        DocFault::NotWhole => explain_not_whole(alloc, line),
+        DocFault::LongLine | DocFault::LongArray | DocFault::Memory => Ok(None),
+    }
+}

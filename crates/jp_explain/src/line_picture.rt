@@ -1,0 +1,146 @@
+//! A faulty line with its mark, as a terminal shows it.
+
+ghost use Rattle.std.specs.Prelude.{◌≡◌, [], ◌∷◌, ◌++◌, true, IfOk};
+ghost use Rattle.std.specs.Str.{chars};
+ghost use Rattle.jp_tree.specs.View.{text_of};
+ghost use Rattle.jp_explain.specs.Picture.{is_shown, IsLinePicture, IsPictureWith};
+
+use crate::growth::{push_character, push_text};
+use crate::line::Line;
+use crate::line_explanation::LineExplanation;
+use crate::line_reason::{LineReason, NotWhole};
+use std::alloc::{AllocError, Global};
+
+/// How many bytes of a line are shown.
+const BYTES: usize = 60;
+
+/// How many of them before the mark, and behind it but for the rest of a character, where the line is cut.
+const BYTES_BEFORE: usize = 30;
+
+const BYTES_BEHIND: usize = 27;
+
+/// How many characters of a path are shown.
+const PATH_CHARACTERS: usize = 120;
+
+/// How many bytes of a number are shown.
+const NUMBER_BYTES: usize = 40;
+
+/// The first place from there on, three bytes farther at most, at which a character may begin in UTF-8.
+fn boundary(line: &[u8], from: usize) -> usize {
+    for more in 0..4 {
+        let at = from.saturating_add(more);
+        if !matches!(line.get(at), Some(0x80..=0xbf)) {
+            return at;
+        }
+    }
+    from
+}
+
+/// Behind how many bytes that is shown begins, and ends.
+fn shown_range(line: &[u8], mark: usize) -> (usize, usize) {
+    if line.len() <= BYTES {
+        return (0, line.len());
+    }
+    let start = boundary(line, mark.saturating_sub(BYTES_BEFORE));
+    let end = boundary(line, mark.saturating_add(BYTES_BEHIND));
+    (start, end.min(line.len()))
+}
+
+/// The bytes of the line from one place to another.
+fn bytes_between(line: &[u8], start: usize, end: usize) -> &[u8] {
+    line.get(start..end).unwrap_or(&[])
+}
+
+/// The line around the mark, with a caret under it.
+fn marked(alloc: Global, line: &[u8], mark: usize) -> Result<String, AllocError>
+    ensures { IfOk result (λ s. IsPictureWith [] (text_of s)) }
+{
+    let (start, end) = shown_range(line, mark);
+    let mut shown = Line::new(alloc);
+    if start > 0 {
+        shown.push_gap()?;
+    }
+    shown.push_bytes(bytes_between(line, start, mark))?;
+    let column = shown.columns();
+    shown.push_bytes(bytes_between(line, mark, end))?;
+    if end < line.len() {
+        shown.push_gap()?;
+    }
+    shown.with_caret(alloc, column, "")
+}
+
+/// Says that the number which begins at the mark is not whole.
+fn push_number(
+    head: &mut Line,
+    line: &[u8],
+    mark: usize,
+    number: &NotWhole,
+) -> Result<(), AllocError> {
+    head.push_front(number.path.as_str(), PATH_CHARACTERS)?;
+    head.push_text(": ")?;
+    let end = number.end.min(mark.saturating_add(NUMBER_BYTES));
+    head.push_bytes(bytes_between(line, mark, end))?;
+    if end < number.end {
+        head.push_gap()?;
+    }
+    head.push_text(" is not whole")
+}
+
+/// What is to be said of the line of that number.
+fn head(
+    alloc: Global,
+    number: u64,
+    line: &[u8],
+    explanation: &LineExplanation,
+) -> Result<Line, AllocError> {
+    let mark = explanation.mark;
+    let mut head = Line::new(alloc);
+    match &explanation.reason {
+        LineReason::NotWhole(not_whole) => {
+            let front = format!(in alloc; "line {number}, ")?;
+            head.push_text(front.as_str())?;
+            push_number(&mut head, line, mark, not_whole)?;
+        }
+        reason => {
+            let words = format!(in alloc; "line {number}, byte {mark}: {reason}")?;
+            head.push_text(words.as_str())?;
+        }
+    }
+    Ok(head)
+}
+
+/// What is to be said, and below it the line around the mark.
+fn joined(alloc: Global, head: &Line, picture: &str) -> Result<String, AllocError>
+    ensures shown { is_shown (text_of head.now.text) ≡ true }
+    ensures value { IfOk result (λ s. text_of s ≡ text_of head.now.text ++ (10 ∷ chars picture.now)) }
+{
+    let mut text = String::new(alloc);
+    push_text(&mut text, head.as_str())?;
+    push_character(&mut text, '\n')?;
+    push_text(&mut text, picture)?;
+    Ok(text)
+}
+
+/// Three lines for a terminal: what is to be said of the line of that number, the bytes around the mark, and
+/// a caret under it.
+///
+/// Control characters, characters that change how others stand, and bytes that are no UTF-8 are shown as
+/// escapes. A line of more than 60 bytes is cut on both sides of the mark, with `..` in the place of what is
+/// left out; so are a long path and a long number behind their fronts.
+///
+/// # Errors
+///
+/// `AllocError` where a growth of memory was refused.
+pub fn write_line_mark(
+    alloc: Global,
+    number: u64,
+    line: &[u8],
+    explanation: &LineExplanation,
+) -> Result<String, AllocError>
+    // No control character of the line is shown, and so no line feed.
+    ensures { IfOk result (λ s. IsLinePicture (text_of s)) }
+{
+    let head = head(alloc, number, line, explanation)?;
+    let picture = marked(alloc, line, explanation.mark.min(line.len()))?;
+    joined(alloc, &head, picture.as_str())
+}
