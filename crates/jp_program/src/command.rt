@@ -17,7 +17,8 @@ ghost use Rattle.jp_program.specs.Wanted.{Wanted as Wish, Wants, WantsCheck, Wan
 
 use crate::advice::tell_of_words;
 use crate::command_line::{Asked, Wanted, read_words};
-use jp_run::{OpenGate, RunFault, Sink, Source, Totals, check_query, run, write_all};
+use crate::witness::Witness;
+use jp_run::{RunFault, Sink, Source, Totals, check_query, run, write_all};
 use std::alloc::{AllocError, AllocGlobal, Global};
 use std::thread::Threads;
 
@@ -31,7 +32,8 @@ const NOTHING_SEEN: Totals = Totals {
 /// Does what the words ask for, and gives the status to end with. The first word is the program's name.
 ///
 /// Neither end has failed before, and the counts of the source are at most 2^62. A fault is told on `notes`,
-/// in one line; a failure to write it, or the help, is passed over.
+/// in one line, and in further ones where the words ask to explain it; a failure to write them, or the help, is
+/// passed over.
 ///
 /// The status is 0 where the run finished, or the help, the version or a check was asked for; 2 where the
 /// query is refused; 3 where a line is faulty, also where the answer has gone on past it; 4 where
@@ -103,27 +105,32 @@ pub fn program<R: Threads + AllocGlobal + Sync, S: Source, K: Sink, N: Sink>(
     ensures passed_on { (result ≡ 3) ⊎ (result ≡ 4) ⊎ (result ≡ 5)
         → IsPassedOn (K.flushed sink.new) (K.failed sink.new) }
 {
-    match done(rt, words, source, sink) {
+    let mut witness = Witness::new(rt.alloc());
+    match done(rt, words, source, sink, &mut witness) {
         Ok(totals) => {
             if totals.faulty > 0 {
                 tell_faulty(rt.alloc(), notes, totals.faulty);
+                witness.tell(notes);
             }
             totals.status()
         }
         Err(fault) => {
             pass_on_after(sink, &fault);
             tell_of_words(rt.alloc(), notes, words, &fault);
+            witness.tell(notes);
             fault.status()
         }
     }
 }
 
-/// Does what the words ask for. Gives what a run has seen: nothing where none was asked for.
+/// Does what the words ask for. Gives what a run has seen: nothing where none was asked for. The witness keeps
+/// the first faulty lines, where the words ask to explain them.
 fn done<R: Threads + AllocGlobal + Sync, S: Source, K: Sink>(
     rt: &R,
     words: &[&str],
     source: &mut S,
     sink: &mut K,
+    witness: &mut Witness,
 ) -> Result<Totals, RunFault>
     requires working { (S.failed source.old ≡ false) × (K.failed sink.old ≡ false) }
     requires few { (S.reads source.old ≤ 2 ^ 62) × (S.given source.old ≤ 2 ^ 62) }
@@ -184,9 +191,11 @@ fn done<R: Threads + AllocGlobal + Sync, S: Source, K: Sink>(
             let Wanted {
                 query,
                 settings,
+                explain,
                 ..
             } = wanted;
-            run(rt, rt.alloc(), source, sink, query, &settings, &OpenGate)
+            witness.is_asked = explain;
+            run(rt, rt.alloc(), source, sink, query, &settings, &*witness)
         }
     }
 }
@@ -236,11 +245,17 @@ fn tell_faulty<N: Sink>(alloc: Global, notes: &mut N, faulty: u64)
 pub(crate) fn note<N: Sink>(notes: &mut N, line: Result<String, AllocError>)
     ensures untouched { N.failed notes.old ≡ true → notes.new ≡ notes.old }
 {
-    if notes.failed() {
-        return;
+    match line {
+        Ok(line) => note_text(notes, line.as_str()),
+        Err(_) => note_text(notes, "jp: memory\n"),
     }
-    let _ = match line {
-        Ok(line) => write_all(notes, line.as_bytes()),
-        Err(_) => write_all(notes, b"jp: memory\n"),
-    };
+}
+
+/// Writes a text where the notes have not failed before, and passes over a failure of that.
+pub(crate) fn note_text<N: Sink>(notes: &mut N, text: &str)
+    ensures untouched { N.failed notes.old ≡ true → notes.new ≡ notes.old }
+{
+    if !notes.failed() {
+        let _ = write_all(notes, text.as_bytes());
+    }
 }

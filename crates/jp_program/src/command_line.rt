@@ -60,7 +60,7 @@ pub(crate) struct Wanted<'a> {
     pub(crate) query: &'a str,
     /// Only whether the query is accepted.
     pub(crate) check: bool,
-    /// Whether a refusal is to be explained.
+    /// Whether a refusal, or the first faulty lines, are to be explained.
     pub(crate) explain: bool,
     pub(crate) settings: Settings,
 }
@@ -138,7 +138,7 @@ fn with_query<'a>(alloc: Global, command: Command<'a>) -> Result<Command<'a>, Al
 {
     let check = "Read nothing, and say only whether QUERY is accepted";
     let keep_going = "Write a line for each faulty line too, and go on";
-    let explain = "Say where a refused query went wrong, in lines behind its fault";
+    let explain = "Say where a refused query or a faulty line went wrong, in lines behind its fault";
     let command = command.arg(flag(alloc, "check", check))?;
     let command = command.arg(flag(alloc, "keep-going", keep_going))?;
     let command = command.arg(flag(alloc, "explain", explain))?;

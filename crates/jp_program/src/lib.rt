@@ -8,5 +8,6 @@ mod examples;
 mod laws;
 mod output;
 mod version;
+mod witness;
 
 pub use command::{program, tell};

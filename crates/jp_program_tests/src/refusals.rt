@@ -100,3 +100,29 @@ fn an_explained_query(rt: HostRuntime) {
     let turns = (explained(&rt), explained(&rt));
     assert!(rt; matches!(turns, (Some(true), Some(true) | None) | (None, Some(true))));
 }
+
+/// A faulty line that is told, and explained where there is memory for that too.
+fn explained_line<R: Threads + AllocGlobal + Sync>(rt: &R) -> Option<bool> {
+    let input: &[u8] = b"{\n";
+    let (mut output, mut notes) = ([0u8; ROOM], [0u8; LONG_ROOM]);
+    let mut source = FromReader::new(input);
+    let mut sink = FromWriter::new(output.as_mut_slice());
+    let mut told = FromWriter::new(notes.as_mut_slice());
+    let words = ["jp", "--explain", "--workers=1", "$"];
+    match program(rt, &words, &mut source, &mut sink, &mut told) {
+        3 if notes.starts_with(b"jp: line 1: unreadable\nline 1, byte 1: the line ends") => {
+            Some(output == [0u8; ROOM])
+        }
+        3 if notes.starts_with(b"jp: line 1: unreadable\n\0") => None,
+        // The line of the fault itself wanted memory.
+        3 if notes.starts_with(b"jp: memory\nline 1, byte 1: the line ends") => None,
+        5 if notes.starts_with(b"jp: memory\n") => None,
+        _ => Some(false),
+    }
+}
+
+#[test]
+fn an_explained_line(rt: HostRuntime) {
+    let turns = (explained_line(&rt), explained_line(&rt));
+    assert!(rt; matches!(turns, (Some(true), Some(true) | None) | (None, Some(true))));
+}

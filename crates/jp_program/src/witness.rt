@@ -1,0 +1,83 @@
+//! The first faulty lines of a run, for whoever asks where they went wrong.
+
+ghost use Rattle.std.specs.Prelude.{◌≡◌, true};
+
+use crate::command::note_text;
+use jp_doc::DocFault;
+use jp_explain::{explain_line, write_line_mark};
+use jp_run::{Gate, Sink};
+use once_cell::race::OnceBox;
+use std::alloc::{AllocError, Global};
+
+/// A gate that keeps a text of each of the first ten faulty lines, where they are to be explained.
+#[derive(Drop)]
+pub(crate) struct Witness {
+    pub(crate) is_asked: bool,
+    texts: [OnceBox<String>; 10],
+}
+
+impl Witness {
+    /// A witness that is not asked, and keeps nothing. It takes no memory.
+    pub(crate) fn new(alloc: Global) -> Witness {
+        Witness {
+            is_asked: false,
+            texts: [
+                OnceBox::new(alloc),
+                OnceBox::new(alloc),
+                OnceBox::new(alloc),
+                OnceBox::new(alloc),
+                OnceBox::new(alloc),
+                OnceBox::new(alloc),
+                OnceBox::new(alloc),
+                OnceBox::new(alloc),
+                OnceBox::new(alloc),
+                OnceBox::new(alloc),
+            ],
+        }
+    }
+
+    /// Where a text is kept next.
+    fn place(&self) -> Option<&OnceBox<String>> {
+        self.texts.iter().find(|place| place.get().is_none())
+    }
+
+    /// Writes the texts, where the notes have not failed before.
+    pub(crate) fn tell<N: Sink>(&self, notes: &mut N)
+        ensures untouched { N.failed notes.old ≡ true → notes.new ≡ notes.old }
+    {
+        for place in &self.texts {
+            if let Some(text) = place.get() {
+                note_text(notes, text.as_str());
+            }
+        }
+    }
+}
+
+impl Gate for Witness {
+    fn pass(&self, _piece: u64) {}
+
+    fn wants_faulty(&self) -> bool {
+        self.is_asked && self.place().is_some()
+    }
+
+    fn faulty(&self, alloc: Global, number: u64, line: &[u8], fault: &DocFault) {
+        // Where memory for the text is refused there is none, as for each note.
+        if let (Some(place), Ok(text)) = (self.place(), text_of(alloc, number, line, fault)) {
+            let _ = place.set(text);
+        }
+    }
+}
+
+/// What there is to say of a faulty line.
+fn text_of(
+    alloc: Global,
+    number: u64,
+    line: &[u8],
+    fault: &DocFault,
+) -> Result<Box<String>, AllocError> {
+    let text = match explain_line(alloc, line, fault)? {
+        Some(explanation) => write_line_mark(alloc, number, line, &explanation)?,
+        None => format!(in alloc; "line {number}: {fault}\n")?,
+    };
+    Ok(Box::new(alloc, text)?)
+}
