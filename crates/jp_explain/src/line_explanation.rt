@@ -1,6 +1,10 @@
 //! The explanation of a faulty line.
 
-ghost use Rattle.std.specs.Prelude.{◌≡◌, ◌≤◌, length, Some, None, IfOk, IfSome};
+ghost use Rattle.std.specs.Prelude.{◌≡◌, ◌≤◌, length, Some, None, IfOk, IfSome, IsTrue, IsUtf8};
+ghost use Rattle.serde_json.specs.Read.{read as read_text};
+ghost use Rattle.serde_json.specs.View.{view};
+ghost use Rattle.serde_json.specs.Written.{has_float};
+ghost use Rattle.jp_doc.specs.Reading.{max_line, reading};
 ghost use Rattle.jp_explain.specs.LineMark.{IsNumber, IsSilent};
 
 use crate::line_reason::{LineReason, NotWhole};
@@ -34,7 +38,10 @@ fn explain_unreadable(alloc: Global, line: &[u8]) -> Result<Option<LineExplanati
 }
 
 /// The value of the line, if there is one.
-fn read(alloc: Global, line: &[u8]) -> Result<Option<Value>, AllocError> {
+fn read(alloc: Global, line: &[u8]) -> Result<Option<Value>, AllocError>
+    ensures { IfOk result
+        (λ o. IfSome o (λ v. IsUtf8 line.now × (read_text line.now ≡ Some (view v)))) }
+{
     match Value::from_slice(alloc, line) {
         Ok(value) => Ok(Some(value)),
         Err(error) if error.is_memory() => Err(AllocError),
@@ -54,7 +61,9 @@ fn first_number(
     alloc: Global,
     line: &[u8],
     root: &Value,
-) -> Result<Option<(String, usize)>, AllocError> {
+) -> Result<Option<(String, usize)>, AllocError>
+    ensures { IfOk result (λ o. IfSome o (λ _. IsTrue (has_float (view root.now)))) }
+{
     if !has_number_not_whole(root) {
         return Ok(None);
     }
@@ -68,7 +77,9 @@ fn first_number(
 
 /// The same of a line with a number that is not whole.
 fn explain_not_whole(alloc: Global, line: &[u8]) -> Result<Option<LineExplanation>, AllocError>
-    ensures { IfOk result (λ o. IfSome o (λ x. IsNumber x (length line.now))) }
+    ensures number { IfOk result (λ o. IfSome o (λ x. IsNumber x (length line.now))) }
+    ensures fault { IfOk result
+        (λ o. IfSome o (λ _. length line.now ≤ max_line → reading line.now ≡ Err DocFault.NotWhole)) }
 {
     let Some(root) = read(alloc, line)? else {
         return Ok(None);
@@ -114,6 +125,9 @@ pub fn explain_line(
     // What stands from the mark on, to the end that is told, is the number.
     ensures number { fault.now ≡ DocFault.NotWhole
         → IfOk result (λ o. IfSome o (λ x. IsNumber x (length line.now))) }
+    // It is told of lines alone that have this fault.
+    ensures not_whole { fault.now ≡ DocFault.NotWhole → length line.now ≤ max_line
+        → IfOk result (λ o. IfSome o (λ _. reading line.now ≡ Err DocFault.NotWhole)) }
 {
     match fault {
         DocFault::Unreadable => explain_unreadable(alloc, line),

@@ -8,7 +8,7 @@ use crate::line_steps::is_number;
 use std::alloc::{AllocError, Global};
 
 /// The deepest nesting of arrays and objects.
-const MAX_DEPTH: usize = 127;
+pub(crate) const MAX_DEPTH: usize = 127;
 
 /// The character U+FEFF at the front of a text, in UTF-8.
 const BYTE_ORDER_MARK: [u8; 3] = [0xef, 0xbb, 0xbf];
@@ -48,7 +48,7 @@ pub(crate) enum Event {
 pub(crate) struct LineScanner<'l> {
     pub(crate) line: &'l [u8],
     pub(crate) place: LinePlace,
-    pub(crate) open: Vec<Container>,
+    open: Vec<Container>,
 }
 
 impl<'l> LineScanner<'l> {

@@ -1,20 +1,24 @@
 //! The first number of a line that is not whole: where it is in the document, and where in the line.
 
-ghost use Rattle.std.specs.Prelude.{◌≤◌, length};
+ghost use Rattle.std.specs.Prelude.{◌≡◌, ◌≤◌, length};
+ghost use Rattle.serde_json.specs.View.{view};
+ghost use Rattle.serde_json.specs.Written.{has_float};
 
-use crate::line_scanner::{Event, LineHalt, LineScanner};
+use crate::line_scanner::{Event, LineHalt, LineScanner, MAX_DEPTH};
 use crate::written_name::is_written_for;
 use jp_doc::{DocFault, fault_within};
 use jp_path_stack::{Link, PathStack};
 use serde_json::{Map, Value};
 use std::alloc::{AllocError, Global};
 
-/// The deepest nesting of arrays and objects.
-const MAX_DEPTH: usize = 127;
-
 /// Whether some number of the value, however deep, is not whole.
-pub(crate) fn has_number_not_whole(value: &Value) -> bool {
-    matches!(fault_within(value, usize::MAX), Some(DocFault::NotWhole))
+pub(crate) fn has_number_not_whole(value: &Value) -> bool
+    ensures { result ≡ has_float (view value.now) }
+{
+    match fault_within(value, usize::MAX) {
+        Some(DocFault::NotWhole) => true,
+        _ => false,
+    }
 }
 
 /// Goes down to the first number that is not whole, where names rise.
@@ -114,7 +118,7 @@ impl<'v> Follower<'_, 'v> {
         }
     }
 
-    /// What so many arrays and objects are open behind has come to that.
+    /// Takes what the scan has come to at that place, behind which so many arrays and objects are open.
     fn see(&mut self, event: Event, depth: usize, at: usize) {
         match event {
             Event::None => {}
