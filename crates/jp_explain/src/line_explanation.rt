@@ -77,7 +77,7 @@ fn first_number(
 
 /// The same of a line with a number that is not whole.
 fn explain_not_whole(alloc: Global, line: &[u8]) -> Result<Option<LineExplanation>, AllocError>
-    ensures number { IfOk result (λ o. IfSome o (λ x. IsNumber x (length line.now))) }
+    ensures number { IfOk result (λ o. IfSome o (λ x. IsNumber x line.now)) }
     ensures fault { IfOk result
         (λ o. IfSome o (λ _. length line.now ≤ max_line → reading line.now ≡ Err DocFault.NotWhole)) }
 {
@@ -85,21 +85,25 @@ fn explain_not_whole(alloc: Global, line: &[u8]) -> Result<Option<LineExplanatio
         return Ok(None);
     };
     match first_number(alloc, line, &root)? {
-        Some((path, place)) => Ok(Some(marked_number(line, path, place))),
+        Some((path, place)) => Ok(marked_number(line, path, place)),
         None => Ok(None),
     }
 }
 
-/// The explanation of the number that begins there.
-fn marked_number(line: &[u8], path: String, place: usize) -> LineExplanation
-    ensures { IsNumber result (length line.now) }
+/// The explanation of the number that begins there, if one does.
+fn marked_number(line: &[u8], path: String, place: usize) -> Option<LineExplanation>
+    ensures { IfSome result (λ x. IsNumber x line.now) }
 {
     let mark = place.min(line.len());
-    let end = mark + number_length(&line[mark..]);
-    LineExplanation {
+    let length = number_length(&line[mark..]);
+    if length == 0 {
+        return None;
+    }
+    let end = mark + length;
+    Some(LineExplanation {
         mark,
         reason: LineReason::NotWhole(NotWhole { path, end }),
-    }
+    })
 }
 
 /// Where a faulty line went wrong, and what is to be said of that place.
@@ -122,9 +126,9 @@ pub fn explain_line(
     ensures silent { IsSilent fault.now → result ≡ Ok None }
     // The mark is in the line, or at its end.
     ensures mark { IfOk result (λ o. IfSome o (λ x. x.mark ≤ length line.now)) }
-    // What stands from the mark on, to the end that is told, is the number.
+    // What stands from the mark to the end that is told is characters of numbers.
     ensures number { fault.now ≡ DocFault.NotWhole
-        → IfOk result (λ o. IfSome o (λ x. IsNumber x (length line.now))) }
+        → IfOk result (λ o. IfSome o (λ x. IsNumber x line.now)) }
     // It is told of lines alone that have this fault.
     ensures not_whole { fault.now ≡ DocFault.NotWhole → length line.now ≤ max_line
         → IfOk result (λ o. IfSome o (λ _. reading line.now ≡ Err DocFault.NotWhole)) }

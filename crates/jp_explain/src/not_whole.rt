@@ -1,8 +1,10 @@
 //! The first number of a line that is not whole: where it is in the document, and where in the line.
 
-ghost use Rattle.std.specs.Prelude.{◌≡◌, ◌≤◌, length};
+ghost use Rattle.std.specs.Prelude.{◌≡◌, ◌≤◌, true, length, take};
+ghost use Rattle.std.specs.List.{list_all};
 ghost use Rattle.serde_json.specs.View.{view};
 ghost use Rattle.serde_json.specs.Written.{has_float};
+ghost use Rattle.jp_explain.specs.LineMark.{is_of_number};
 
 use crate::line_scanner::{Event, LineHalt, LineScanner, MAX_DEPTH};
 use crate::written_name::is_written_for;
@@ -167,16 +169,23 @@ pub(crate) fn place_of(
 }
 
 /// Whether numbers have the byte (RFC 8259, 6).
-fn is_of_number(byte: u8) -> bool {
-    matches!(byte, b'-' | b'+' | b'.' | b'e' | b'E' | b'0'..=b'9')
+fn is_of_number(byte: u8) -> bool
+    ensures { result ≡ is_of_number byte }
+{
+    matches!(byte, b'0'..=b'9' | b'+' | b'-' | b'.' | b'E' | b'e')
 }
 
 /// How many bytes of a number these begin with.
 pub(crate) fn number_length(bytes: &[u8]) -> usize
-    ensures { result ≤ length bytes.now }
+    ensures within { result ≤ length bytes.now }
+    ensures number { list_all is_of_number (take result bytes.now) ≡ true }
 {
-    match bytes.iter().position(|byte| !is_of_number(*byte)) {
-        Some(length) => length,
-        None => bytes.len(),
+    let mut length = 0;
+    for byte in bytes {
+        if !is_of_number(*byte) {
+            break;
+        }
+        length += 1;
     }
+    length
 }
