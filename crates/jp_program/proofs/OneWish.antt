@@ -1,5 +1,5 @@
 -- Words want one thing, and what is asked for is that.
-use Rattle.std.proofs.Common.{◌≡◌, ◌∙◌, ℕ, ◌⊎◌, inl, inr, Bool, true, false, List, [], ◌∷◌, Option, Some, None, refl}
+use Rattle.std.proofs.Common.{◌≡◌, ◌∙◌, ℕ, inl, inr, Bool, true, false, List, [], ◌∷◌, Option, Some, None, refl}
 use Rattle.std.proofs.Common.{sym, Result, Ok, Err, IsErrAnd, ap, subst, length, unwrap_or, codes, arith, ◌==◌, if◌then◌else◌}
 use Rattle.std.specs.Str.{chars}
 use Rattle.std.specs.Str.Parse.{digits_value, without_leading_plus}
@@ -13,7 +13,7 @@ use Rattle.jp_run.specs.declared.fault.RunFault.TheVariants.{Memory}
 use Rattle.jp_run.specs.declared.output.Output.{Output}
 use Rattle.jp_run.specs.declared.output.Output.TheVariants.{Nodes, Values, Texts, Lines}
 use Rattle.jp_program.specs.CommandLine.{said, refusals, AsksToShow}
-use Rattle.jp_program.specs.Wanted.{Wanted, SaysNumber, SaysFlag, flag_text, output_text, Wants, WantsCheck, IsWrong}
+use Rattle.jp_program.specs.Wanted.{Wanted, SaysNumber, flag_text, output_text, Wants, WantsCheck, IsWrong}
 use Rattle.jp_program.specs.inner.Asked.{IsAsked, IsNotAsked, wanted_of}
 use Rattle.jp_program.specs.declared.command_line.Asked.{Asked}
 use Rattle.jp_program.specs.declared.command_line.Asked.TheVariants.{Query}

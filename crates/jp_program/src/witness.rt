@@ -45,6 +45,9 @@ impl Witness {
     pub(crate) fn tell<N: Sink>(&self, notes: &mut N)
         ensures untouched { N.failed notes.old ≡ true → notes.new ≡ notes.old }
     {
+        if notes.failed() {
+            return;
+        }
         for place in &self.texts {
             if let Some(text) = place.get() {
                 note_text(notes, text.as_str());

@@ -1,5 +1,5 @@
 -- The answer to lines, in some manner, handed to a sink.
-use Rattle.std.specs.Prelude.{◌≡◌, ℕ, Bool, List, Option, None}
+use Rattle.std.specs.Prelude.{◌≡◌, ℕ, List, Option, None}
 use Rattle.std.specs.Io.KnownBytes.{Appends}
 use Rattle.jp_doc.specs.Lines.{Line}
 use Rattle.jp_doc.specs.declared.fault.DocFault.{DocFault}

@@ -1,18 +1,18 @@
 use Rattle.std.proofs.Common.{◌∙◌, Err, Some, inl, inr, ap, sym}
 use Rattle.jp_program.proofs.Told.{query_of, document_of, end_of, memory_of, of_two, of_three}
-use Rattle.jp_program.proofs.Told.{answered_kept, front_kept, cut_kept, kept_from, kept_same}
-use Rattle.jp_program.proofs.Told.{never_both, status_so}
+use Rattle.jp_program.proofs.Told.{answered_kept, front_kept, cut_kept, kept_from}
+use Rattle.jp_program.proofs.Told.{status_so}
 use Rattle.jp_program.proofs.command.program.Goals as goal
 
-pub returns-in-Err-clause-query : goal.returns-in-Err-clause-query
-returns-in-Err-clause-query g c = λ e.
+pub returns-clause-query : goal.returns-clause-query
+returns-clause-query g c = λ e.
     let status = sym c.status-in-Err.ensures ∙ e in
     let q = query_of c.in-Err.fault status in
     let d = c.in-Err.ensures.query q.0 (ap Err q.1) in
     (q.0, d.0, d.1, d.2, d.3, c.pass_on_after.ensures.untouched (inl status) ∙ d.4)
 
-pub returns-in-Err-clause-document : goal.returns-in-Err-clause-document
-returns-in-Err-clause-document g c = λ e.
+pub returns-clause-document : goal.returns-clause-document
+returns-clause-document g c = λ e.
     let f = document_of c.in-Err.fault (sym c.status-in-Err.ensures ∙ e) in
     let d = c.in-Err.ensures.document f.0 f.1 (ap Err f.2) in inl (
       f.0,
@@ -26,8 +26,8 @@ returns-in-Err-clause-document g c = λ e.
       d.6,
     )
 
-pub returns-in-Err-clause-failed : goal.returns-in-Err-clause-failed
-returns-in-Err-clause-failed g c = λ e.
+pub returns-clause-failed : goal.returns-clause-failed
+returns-clause-failed g c = λ e.
     let kept = c.pass_on_after.ensures.kept in of_three
     (λ f. let d = c.in-Err.ensures.read (ap Err f) in
     (d.0, d.1, front_kept d.0 _ _ _ _ d.2 kept, inl (cut_kept d.0 _ _ _ _ _ _ d.3 kept)))
@@ -37,22 +37,22 @@ returns-in-Err-clause-failed g c = λ e.
     (d.0, d.1, front_kept d.0 _ _ _ _ d.2 kept, inr (inr d.3)))
     (end_of c.in-Err.fault (sym c.status-in-Err.ensures ∙ e))
 
-pub returns-in-Err-clause-memory : goal.returns-in-Err-clause-memory
-returns-in-Err-clause-memory g c = λ e.
+pub returns-clause-memory : goal.returns-clause-memory
+returns-clause-memory g c = λ e.
     let kept = c.pass_on_after.ensures.kept in of_two
     (λ same. inl (same.0, kept_from g.K.Sink.contents _ _ _ same.1 kept))
     (λ d. inr (d.0, d.1, front_kept d.0 _ _ _ _ d.2 kept))
     (c.in-Err.ensures.memory (ap Err (memory_of c.in-Err.fault (sym c.status-in-Err.ensures ∙ e))))
 
-pub returns-in-Err-clause-refused : goal.returns-in-Err-clause-refused
-returns-in-Err-clause-refused g c = λ f w wants v.
+pub returns-clause-refused : goal.returns-clause-refused
+returns-clause-refused g c = λ f w wants v.
     let same = c.in-Err.ensures.refused f w wants v in (
       status_so c.in-Err.fault f c.status-in-Err.result c.status-in-Err.ensures same.0,
       same.1,
       kept_from g.K.Sink.contents _ _ _ same.2 c.pass_on_after.ensures.kept,
     )
 
-pub returns-in-Err-clause-check : goal.returns-in-Err-clause-check
-returns-in-Err-clause-check g c = λ w wants.
+pub returns-clause-check : goal.returns-clause-check
+returns-clause-check g c = λ w wants.
     let same = c.in-Err.ensures.check w wants in
     (same.0, kept_from g.K.Sink.contents _ _ _ same.1 c.pass_on_after.ensures.kept)
