@@ -95,7 +95,10 @@ pub(crate) fn matches<'a>(alloc: Global, words: &'a [&'a str]) -> Result<ArgMatc
     ensures said { IfOk result (λ m. rows_of (found_of m) ≡ said (texts words.entry.now)) }
     ensures fault { FailsBy (refusals (texts words.entry.now)) result }
 {
-    let command = with_query(alloc, with_numbers(alloc, with_output(alloc, named(alloc)?)?)?)?;
+    let command = with_query(
+        alloc,
+        with_numbers(alloc, with_output(alloc, named(alloc)?)?)?,
+    )?;
     command.try_get_matches_from(words)
 }
 
@@ -138,7 +141,8 @@ fn with_query<'a>(alloc: Global, command: Command<'a>) -> Result<Command<'a>, Al
 {
     let check = "Read nothing, and say only whether QUERY is accepted";
     let keep_going = "Write a line for each faulty line too, and go on";
-    let explain = "Say where a refused query or a faulty line went wrong, in lines behind its fault";
+    let explain =
+        "Say where a refused query or a faulty line went wrong, in lines behind its fault";
     let command = command.arg(flag(alloc, "check", check))?;
     let command = command.arg(flag(alloc, "keep-going", keep_going))?;
     let command = command.arg(flag(alloc, "explain", explain))?;

@@ -27,14 +27,25 @@ fn the_first_faulty_line_is_explained(rt: HostRuntime) -> Result<(), Fail> {
 #[test]
 fn faulty_lines_that_are_passed_are_explained(rt: HostRuntime) -> Result<(), Fail> {
     for workers in &["1", "3"] {
-        let words = ["jp", "--workers", *workers, "--batch=1", "--keep-going", "--explain", "$.a"];
+        let words = [
+            "jp",
+            "--workers",
+            *workers,
+            "--batch=1",
+            "--keep-going",
+            "--explain",
+            "$.a",
+        ];
         let left = run_words(&rt, &words, INPUT);
         assert_eq!(rt; left.status, 3);
         assert_eq!(rt;
             left.output.as_slice(),
             b"1\t$['a']\t1\n2\t!\tnot whole\n4\t!\tunreadable\n".as_slice()
         );
-        let told = left.notes.strip_prefix(b"jp: faulty lines: 2\n").unwrap_or(b"");
+        let told = left
+            .notes
+            .strip_prefix(b"jp: faulty lines: 2\n")
+            .unwrap_or(b"");
         assert_eq!(rt; told.strip_prefix(NOT_WHOLE), Some(UNREADABLE));
     }
     Ok(())
@@ -47,7 +58,15 @@ const MANY: &[u8] = b"{\n{\n{\n{\n{\n{\n{\n{\n{\n{\n{\n{\n";
 fn ten_faulty_lines_are_explained(rt: HostRuntime) -> Result<(), Fail> {
     for words in &[
         &["jp", "--keep-going", "--explain", "$"].as_slice(),
-        &["jp", "--keep-going", "--explain", "--workers=1", "--batch=5", "$"].as_slice(),
+        &[
+            "jp",
+            "--keep-going",
+            "--explain",
+            "--workers=1",
+            "--batch=5",
+            "$",
+        ]
+        .as_slice(),
     ] {
         let left = run_words(&rt, words, MANY);
         assert_eq!(rt; left.status, 3);
@@ -58,7 +77,10 @@ fn ten_faulty_lines_are_explained(rt: HostRuntime) -> Result<(), Fail> {
             }
         }
         assert_eq!(rt; numbers, 10);
-        assert!(rt; left.notes.starts_with(b"jp: faulty lines: 12\nline 1, byte 1: "));
+        assert!(rt;
+            left.notes
+                .starts_with(b"jp: faulty lines: 12\nline 1, byte 1: ")
+        );
     }
     Ok(())
 }
@@ -66,7 +88,11 @@ fn ten_faulty_lines_are_explained(rt: HostRuntime) -> Result<(), Fail> {
 #[test]
 fn what_is_written_stays(rt: HostRuntime) -> Result<(), Fail> {
     for form in &["nodes", "values", "texts", "lines"] {
-        let plain = run_words(&rt, &["jp", "--keep-going", "--output", *form, "$..*"], INPUT);
+        let plain = run_words(
+            &rt,
+            &["jp", "--keep-going", "--output", *form, "$..*"],
+            INPUT,
+        );
         let words = ["jp", "--keep-going", "--explain", "--output", *form, "$..*"];
         let explained = run_words(&rt, &words, INPUT);
         assert_eq!(rt; explained.status, plain.status);

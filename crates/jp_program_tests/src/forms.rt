@@ -71,12 +71,32 @@ const FAULTY_RUNS: [(&str, &[u8], &[u8]); 4] = [
 fn faulty_lines_are_counted_in_each_form(rt: HostRuntime) -> Result<(), Fail> {
     for (form, going, stopping) in &FAULTY_RUNS {
         for workers in &["1", "3"] {
-            let words = ["jp", "--workers", *workers, "--piece", "1", "--output", *form, "$.a"];
+            let words = [
+                "jp",
+                "--workers",
+                *workers,
+                "--piece",
+                "1",
+                "--output",
+                *form,
+                "$.a",
+            ];
             let left = run_words(&rt, &words, FAULTY);
             assert_eq!(rt; left.status, 3);
             assert_eq!(rt; left.output.as_slice(), *stopping);
-            assert_eq!(rt; left.notes.as_slice(), "jp: line 2: unreadable\n".as_bytes());
-            let words = ["jp", "--workers", *workers, "--keep-going", "--output", *form, "$.a"];
+            assert_eq!(rt;
+                left.notes.as_slice(),
+                "jp: line 2: unreadable\n".as_bytes()
+            );
+            let words = [
+                "jp",
+                "--workers",
+                *workers,
+                "--keep-going",
+                "--output",
+                *form,
+                "$.a",
+            ];
             let left = run_words(&rt, &words, FAULTY);
             assert_eq!(rt; left.status, 3);
             assert_eq!(rt; left.output.as_slice(), *going);

@@ -68,7 +68,14 @@ fn each_form_is_one_however_it_is_cut(rt: HostRuntime) -> Result<(), Fail> {
             let (end, bytes) = ran(&rt, rt.alloc(), *output, *cut, true, ROOM)?;
             assert_eq!(rt; bytes.as_slice(), *going);
             let totals = end?;
-            assert_eq!(rt; totals, Totals { lines: 5, documents: 4, faulty: 1 });
+            assert_eq!(rt;
+                totals,
+                Totals {
+                    lines: 5,
+                    documents: 4,
+                    faulty: 1
+                }
+            );
             assert_eq!(rt; totals.status(), 3);
         }
     }
@@ -106,7 +113,10 @@ fn settings_keep_their_form(rt: HostRuntime) -> Result<(), Fail> {
     assert_eq!(rt; settings.output, Output::Nodes);
     let lines = settings.with_output(Output::Lines);
     assert_eq!(rt; lines.keep_going().output, Output::Lines);
-    assert_eq!(rt; (lines.workers, lines.piece, lines.batch, lines.keeps_going), (3, 5, 7, false));
+    assert_eq!(rt;
+        (lines.workers, lines.piece, lines.batch, lines.keeps_going),
+        (3, 5, 7, false)
+    );
     assert!(rt; lines.keep_going().with_output(Output::Texts).keeps_going);
     Ok(())
 }

@@ -31,8 +31,10 @@ impl Gate for Told {
         };
         for digit in [line.len() as u64, kind, number] {
             let before = self.digits.load(Ordering::SeqCst);
-            self.digits
-                .store(before.wrapping_mul(10).wrapping_add(digit), Ordering::SeqCst);
+            self.digits.store(
+                before.wrapping_mul(10).wrapping_add(digit),
+                Ordering::SeqCst,
+            );
         }
         self.wanted.fetch_sub(1, Ordering::SeqCst);
     }
@@ -42,7 +44,7 @@ impl Gate for Told {
 const INPUT: &[u8] = b"[1]\n\n{\n[2]\n1.5\n[3]\n]]\n";
 
 /// What a gate that wants so many lines is told by a run, and what the run ends with.
-fn told<R: Threads + Sync>(
+fn numbers_told<R: Threads + Sync>(
     rt: &R,
     alloc: Global,
     cut: (u64, u64),
@@ -68,11 +70,17 @@ fn told<R: Threads + Sync>(
 #[test]
 fn faulty_lines_are_told_in_their_order(rt: HostRuntime) -> Result<(), Fail> {
     for cut in [(1, 1), (1, 10), (3, 2), (4, 10)] {
-        assert_eq!(rt; told(&rt, rt.alloc(), cut, true, 9)?, (113_325_217, true));
-        assert_eq!(rt; told(&rt, rt.alloc(), cut, true, 2)?, (113_325, true));
-        assert_eq!(rt; told(&rt, rt.alloc(), cut, true, 0)?, (0, true));
-        assert_eq!(rt; told(&rt, rt.alloc(), cut, false, 9)?, (113, false));
-        assert_eq!(rt; told(&rt, rt.alloc(), cut, false, 0)?, (0, false));
+        assert_eq!(rt;
+            numbers_told(&rt, rt.alloc(), cut, true, 9)?,
+            (113_325_217, true)
+        );
+        assert_eq!(rt;
+            numbers_told(&rt, rt.alloc(), cut, true, 2)?,
+            (113_325, true)
+        );
+        assert_eq!(rt; numbers_told(&rt, rt.alloc(), cut, true, 0)?, (0, true));
+        assert_eq!(rt; numbers_told(&rt, rt.alloc(), cut, false, 9)?, (113, false));
+        assert_eq!(rt; numbers_told(&rt, rt.alloc(), cut, false, 0)?, (0, false));
     }
     Ok(())
 }

@@ -58,8 +58,11 @@ csv_is = refl
 pub returns-clause-form : goal.returns-clause-form
 unfolding clap_on_literals said refusals csv
 returns-clause-form c =
-    inr (refl, λ w s. no_form (codes "csv") w.output (first_of (codes "output") (said csv)) csv_is s.output
-    (let is : first (codes "csv") ≡ 99 = refl in omega (arith, is)))
+    inr (
+      refl,
+      λ w s. no_form (codes "csv") w.output (first_of (codes "output") (said csv)) csv_is s.output
+          (let is : first (codes "csv") ≡ 99 = refl in omega (arith, is)),
+    )
 
 capital : List Text
 capital = codes "jp" ∷ codes "--output=Nodes" ∷ codes "$" ∷ []
