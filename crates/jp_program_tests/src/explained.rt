@@ -70,10 +70,10 @@ fn ten_faulty_lines_are_explained(rt: HostRuntime) -> Result<(), Fail> {
     ] {
         let left = run_words(&rt, words, MANY);
         assert_eq!(rt; left.status, 3);
-        let mut numbers = 0;
+        let mut numbers = 0u32;
         for line in left.notes.split(|byte| *byte == b'\n') {
             if line.starts_with(b"line ") {
-                numbers += 1;
+                numbers = numbers.saturating_add(1);
             }
         }
         assert_eq!(rt; numbers, 10);
