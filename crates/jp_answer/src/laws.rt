@@ -37,8 +37,8 @@ pub fn whole_pieces()
 {}
 
 /// A stream that is cut between two lines: the answer to whole lines and what follows them is that to the
-/// lines, and then that to as many line feeds as there are lines, followed by the rest; in every form, whether
-/// or not it keeps going.
+/// lines, and then that to as many line feeds as there are lines, followed by the rest; in every form,
+/// whether or not it keeps going.
 ///
 /// So a large file can be answered in blocks, each by a process of its own that is given as many line feeds
 /// first as the blocks before it have lines: the answers one after another, each number kept, are the answer

@@ -17,7 +17,8 @@ picture line column words = line ++ (10 ∷ (replicate column 32 ++ (94 ∷ 10 �
 
 -- such a text with these words, whose first line has no control characters
 abbrev pub IsPictureWith : Text → Text → Type 0
-IsPictureWith words t = (line : Text) × (column : ℕ) × (is_shown line ≡ true) × (t ≡ picture line column words)
+IsPictureWith words t = (line : Text) × (column : ℕ) × (is_shown line ≡ true)
+    × (t ≡ picture line column words)
 
 abbrev pub IsPicture : Text → Type 0
 IsPicture t = (words : Text) × IsPictureWith words t

@@ -2,8 +2,8 @@
 //!
 //! The places come from the module `json` of Python 3.11, `JSONDecodeError.pos`, counted in bytes. Lines
 //! of which it says otherwise are left out. Its place is the front of a word, of a text that does not end and
-//! of a wrong escape, where ours is the first byte that can't stand there; a number ends for it before a point
-//! or an `e` that no digits follow; and it takes `NaN`, `1e999` and halves of surrogate pairs.
+//! of a wrong escape, where ours is the first byte that can't stand there; a number ends for it before a
+//! point or an `e` that no digits follow; and it takes `NaN`, `1e999` and halves of surrogate pairs.
 
 use jp_doc::DocFault;
 use jp_explain::explain_line;

@@ -32,8 +32,8 @@ const NOTHING_SEEN: Totals = Totals {
 /// Does what the words ask for, and gives the status to end with. The first word is the program's name.
 ///
 /// Neither end has failed before, and the counts of the source are at most 2^62. A fault is told on `notes`,
-/// in one line, and in further ones where the words ask to explain it; a failure to write them, or the help, is
-/// passed over.
+/// in one line, and in further ones where the words ask to explain it; a failure to write them, or the help,
+/// is passed over.
 ///
 /// The status is 0 where the run finished, or the help, the version or a check was asked for; 2 where the
 /// query is refused; 3 where a line is faulty, also where the answer has gone on past it; 4 where
@@ -90,8 +90,8 @@ pub fn program<R: Threads + AllocGlobal + Sync, S: Source, K: Sink, N: Sink>(
         → ((source.new ≡ source.old) × Keeps (K.contents sink.old) (K.contents sink.new))
         ⊎ ((w : Wish) × WantsRun (texts words.now) w
         × IsFront w (S.remaining source.old) (K.contents sink.old) (K.contents sink.new)) }
-    // 64: the words are wrong, or a number is out of its range, or there is no such form, and nothing was read
-    // or written.
+    // 64: the words are wrong, or a number is out of its range, or there is no such form, and nothing was
+    // read or written.
     ensures command_line { result ≡ 64 → IsWrong (texts words.now)
         × (source.new ≡ source.old) × (sink.new ≡ sink.old) }
     // A query that is refused ends with 2, or with 5 for want of memory, and nothing was read or written.
@@ -123,8 +123,8 @@ pub fn program<R: Threads + AllocGlobal + Sync, S: Source, K: Sink, N: Sink>(
     }
 }
 
-/// Does what the words ask for. Gives what a run has seen: nothing where none was asked for. The witness keeps
-/// the first faulty lines, where the words ask to explain them.
+/// Does what the words ask for. Gives what a run has seen: nothing where none was asked for. The witness
+/// keeps the first faulty lines, where the words ask to explain them.
 fn done<R: Threads + AllocGlobal + Sync, S: Source, K: Sink>(
     rt: &R,
     words: &[&str],

@@ -10,8 +10,8 @@ ghost use Rattle.jp_answer.specs.OnFault.{answer_in};
 ghost use Rattle.jp_run.specs.Answered.{IsAnswerBy, IsAnswerTo, manner_by, on_fault_of};
 ghost use Rattle.jp_run.specs.declared.output.Output.TheVariants.{Nodes};
 
-/// The answer to a query's text over a stream, in the form of nodes, is the answer in output lines, whether or
-/// not it keeps going; and where it does not, the answer that ends at the first faulty line.
+/// The answer to a query's text over a stream, in the form of nodes, is the answer in output lines, whether
+/// or not it keeps going; and where it does not, the answer that ends at the first faulty line.
 pub fn forms()
     ensures stops { (text : Text) (input : List ℕ) (a : Answer)
         → IsAnswerBy (manner_by Nodes false) text input a → IsAnswerTo text input a }

@@ -183,9 +183,10 @@ fn answer_in_form<R: Threads + Sync, S: Source, K: Sink, G: Gate + Sync>(
 ) -> Result<Totals, RunFault>
     requires working { (S.failed source.old ≡ false) × (K.failed sink.old ≡ false) }
     requires few { S.reads source.old ≤ 2 ^ 62 }
-    ensures handed { OnOk result (IfSome (S.remaining source.old) (λ input. Handed (manner_by job.now.settings.output
-        job.now.settings.keeps_going) (compiled_query job.now.query.now) (lines input) None (K.contents
-        sink.old) (K.contents sink.new))) }
+    ensures handed { OnOk result (IfSome (S.remaining source.old) (λ input. Handed
+        (manner_by job.now.settings.output job.now.settings.keeps_going)
+        (compiled_query job.now.query.now) (lines input) None
+        (K.contents sink.old) (K.contents sink.new))) }
     ensures counts { IfOk result (λ totals. IfSome (S.remaining source.old)
         (λ input. (totals.lines ≡ line_count input) × (totals.documents ≡ length (lines input)))) }
     ensures passed { IfOk result (λ totals. IfSome (S.remaining source.old)

@@ -20,5 +20,6 @@ returns c = (
   refl,
   omega (arith, c.if-length-eq0.false),
   grind (arith, common_steps),
-  by_end c.args.line.now c.min-mark.result c.number_length-length.result c.number_length-length.ensures.number,
+  by_end c.args.line.now c.min-mark.result c.number_length-length.result
+      c.number_length-length.ensures.number,
 )

@@ -7,7 +7,8 @@ use Rattle.jp_program.proofs.command_line.output_by.Goals as goal
 pub returns-in_err-word-clause-none : goal.returns-in_err-word-clause-none
 returns-in_err-word-clause-none c = λ h o s.
     let found = found_of c.args.matches.now in
-    output_unsaid (rows_of found) (first_value found (codes "output")) (first_value-rows found (codes "output"))
+    output_unsaid (rows_of found) (first_value found (codes "output"))
+    (first_value-rows found (codes "output"))
     (sym c.get_str.ensures ∙ ap (option_map (λ s. s.now)) (c.in_err-word.was)) o s
 
 pub returns-clause-some : goal.returns-clause-some
