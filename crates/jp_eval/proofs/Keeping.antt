@@ -117,10 +117,10 @@ none_taken K want.Only = refl
 none_taken K want.Distinct = refl
 
 -- a walk that began with a visitor ends with one
-pub not_lost : {K : Type 0} (put : K → Node → K) (start : K) (ns : List Node) (k : Kept K)
-    → k ≡ plus (put_found put) (taken start) ns → is_taken k ≡ false → ⊥
+pub still_taken : {K : Type 0} (put : K → Node → K) (start : K) (ns : List Node) (k : Kept K)
+    → k ≡ plus (put_found put) (taken start) ns → is_taken k ≡ true
 unfolding plus
-not_lost put start ns k h lost = cc (sym lost ∙ ap is_taken h ∙ taken_stays put (taken start) ns)
+still_taken put start ns k h = ap is_taken h ∙ taken_stays put (taken start) ns
 
 -- a walk that began with what a filter wants ends with no visitor
 pub not_taken : {K : Type 0} (put : K → Node → K) (wanted : Want) (ns : List Node) (before k : Kept K)

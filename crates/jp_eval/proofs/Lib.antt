@@ -16,6 +16,7 @@ pub mod Idle
 pub mod WalkSteps
 pub mod Places
 pub mod CompiledParts
+pub mod Uniformity
 pub mod Answered
 pub mod WorkItems
 pub mod Rooting

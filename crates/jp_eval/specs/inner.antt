@@ -10,4 +10,5 @@ pub mod Opened
 pub mod Rooted
 pub mod RootAnswers
 pub mod Walk
+pub mod Uniform
 pub mod Finding

@@ -1,6 +1,6 @@
 //! The nodes that a query selects, document after document.
 
-ghost use Rattle.std.specs.Prelude.{◌≡◌, IfOk};
+ghost use Rattle.std.specs.Prelude.{◌≡◌, [], IfOk};
 ghost use Rattle.std.specs.List.{fold};
 ghost use Rattle.jp_compiled.specs.Compiled.{compiled_query};
 ghost use Rattle.jp_doc.specs.Document.{document_value};
@@ -11,7 +11,7 @@ ghost use Rattle.jp_regexp.specs.Tests.{Tests, AreRight};
 use crate::asked::{Asked, asked_by};
 use crate::fault::EvalFault;
 use crate::fork::{Cuts, Fork};
-use crate::found::{Found, into_visitor};
+use crate::found::{Found, visitor_of};
 use crate::roots::answer_roots;
 use crate::split::{Splitting, go_split};
 use crate::walk::{Task, run};
@@ -164,22 +164,12 @@ fn visit_in<V: Visit + Drop>(
         (document_nodes tests (compiled_query query.now) (part_value root.entry))) }
 {
     let context = answer_roots::<V>(alloc, root, query.roots.as_slice(), asked)?;
-    // A walk that ends in want of memory drops the scratch: the next document begins with an empty one.
-    let mut path = PathStack::with_scratch(alloc, mem::replace(scratch, Scratch::new(alloc)));
+    let segments = query.segments.as_slice();
+    let mut path = empty_path(alloc, scratch);
     let mut found = Found::Visitor(visitor);
-    run(
-        &context,
-        query.segments.as_slice(),
-        root,
-        &mut path,
-        &mut found,
-    )?;
+    run(&context, segments, root, &mut path, &mut found)?;
     *scratch = path.into_scratch();
-    // The walk began with the visitor, so it ends with it (README, Why so).
-    match into_visitor(found) {
-        Some(visitor) => Ok(visitor),
-        None => unreachable!(),
-    }
+    Ok(visitor_of(found))
 }
 
 /// The same, where long lists are cut.
@@ -199,19 +189,24 @@ fn split_in<R: Threads + Sync, F: Fork + Sync, V: Visit + Drop + Send>(
         (document_nodes tests (compiled_query query.now) (part_value root.entry))) }
 {
     let context = answer_roots::<V>(alloc, root, query.roots.as_slice(), asked)?;
-    let mut path = PathStack::with_scratch(alloc, mem::replace(scratch, Scratch::new(alloc)));
+    let segments = query.segments.as_slice();
+    let mut path = empty_path(alloc, scratch);
     let mut found = Found::Visitor(visitor);
-    let task = Task::Run(query.segments.as_slice());
     let splitting = Splitting {
         rt,
         fork,
         context: &context,
         cuts,
     };
-    go_split(&splitting, task, root, &mut path, &mut found)?;
+    go_split(&splitting, Task::Run(segments), root, &mut path, &mut found)?;
     *scratch = path.into_scratch();
-    match into_visitor(found) {
-        Some(visitor) => Ok(visitor),
-        None => unreachable!(),
-    }
+    Ok(visitor_of(found))
+}
+
+/// A path stack with no link, whose text has the memory that was kept. A walk that ends in want of memory
+/// drops it: the next document begins with an empty one.
+fn empty_path<'v>(alloc: Global, scratch: &mut Scratch) -> PathStack<'v>
+    ensures { result ≡ [] }
+{
+    PathStack::with_scratch(alloc, mem::replace(scratch, Scratch::new(alloc)))
 }

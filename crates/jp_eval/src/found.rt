@@ -147,7 +147,7 @@ pub(crate) fn append<'v, V: Visit + Drop>(
 }
 
 /// What the caller keeps, or nothing exactly where something else is kept.
-pub(crate) fn into_visitor<'v, V: Visit + Drop>(found: Found<'v, V>) -> Option<V>
+fn into_visitor<'v, V: Visit + Drop>(found: Found<'v, V>) -> Option<V>
     ensures visitor { IfSome result (λ t. taken (V.kept t) ≡ kept V.kept found.entry) }
     ensures other { IsNone result ↔ (is_taken (kept V.kept found.entry) ≡ false) }
 {
@@ -157,6 +157,17 @@ pub(crate) fn into_visitor<'v, V: Visit + Drop>(found: Found<'v, V>) -> Option<V
         Found::Count(_) => None,
         Found::Only(_) => None,
         Found::Distinct(_) => None,
+    }
+}
+
+/// What the caller keeps, where a walk began with it, and so ends with it (README, Why so).
+pub(crate) fn visitor_of<'v, V: Visit + Drop>(found: Found<'v, V>) -> V
+    requires { is_taken (kept V.kept found) ≡ true }
+    ensures { taken (V.kept result) ≡ kept V.kept found.entry }
+{
+    match into_visitor(found) {
+        Some(visitor) => visitor,
+        None => unreachable!(),
     }
 }
 

@@ -18,6 +18,7 @@ mod root_answer;
 mod roots;
 mod slices;
 mod split;
+mod uniform;
 mod walk;
 mod wide;
 mod work_items;

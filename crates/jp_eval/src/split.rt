@@ -1,13 +1,14 @@
 //! The walk where long lists are cut into halves that are walked at once.
 
-ghost use Rattle.std.specs.Prelude.{◌≡◌, [], true, IfOk, OnOk, MatchOption};
+ghost use Rattle.std.specs.Prelude.{◌≡◌, List, [], true, IfOk, OnOk, MatchOption};
 ghost use Rattle.std.specs.List.{All, flat_map};
 ghost use Rattle.std.specs.Thread.{IsSync};
+ghost use Rattle.jp_doc.specs.Location.{Node};
 ghost use Rattle.jp_eval.specs.inner.Base.{base_of};
 ghost use Rattle.jp_eval.specs.inner.Finding.{Finds};
 ghost use Rattle.jp_eval.specs.inner.Kept.{kept, put_found, plus, taken, is_taken};
 ghost use Rattle.jp_eval.specs.inner.ChildRanges.{range_nodes};
-ghost use Rattle.jp_eval.specs.inner.Along.{done_by};
+ghost use Rattle.jp_eval.specs.inner.Along.{done_along, done_by};
 ghost use Rattle.jp_eval.specs.inner.Links.{here};
 ghost use Rattle.jp_eval.specs.inner.Walk.{done};
 ghost use Rattle.jp_path_stack.specs.Links.{link_steps};
@@ -15,10 +16,10 @@ ghost use Rattle.jp_path_stack.specs.Links.{link_steps};
 use crate::child_range::ChildRange;
 use crate::context::Context;
 use crate::fork::{Cuts, Fork};
-use crate::found::{Found, append, fresh, into_visitor, is_full};
-use crate::walk::{Task, go, holds};
+use crate::found::{Found, append, fresh, is_full, visitor_of};
+use crate::walk::{Task, go, holds, uniform_truth};
 use crate::wide::is_wide;
-use crate::work_items::{WorkItems, work_items};
+use crate::work_items::{WorkItem, WorkItems, work_items};
 use jp_nodes::Visit;
 use jp_part::Part;
 use jp_path_stack::{Link, PathStack};
@@ -80,11 +81,32 @@ fn each_work_item<'v, R: Threads + Sync, F: Fork + Sync, V: Visit + Drop + Send>
 {
     let mut left = work_items;
     while let Some((work_item, others)) = left.next(splitting.context.alloc)? {
-        let children = ChildRange::counted(&work_item.children);
-        each_of(splitting, work_item.task, children, path, found)?;
+        along(splitting, work_item, left.value, path, found)?;
         left = others;
     }
     Ok(())
+}
+
+/// The task of a work item at each of its children, where its test is not false of all of them.
+#[cycle(split)]
+fn along<'v, R: Threads + Sync, F: Fork + Sync, V: Visit + Drop + Send>(
+    splitting: &Splitting<'_, 'v, R, F>,
+    work_item: WorkItem<'v>,
+    value: Part<'v>,
+    path: &mut PathStack<'v>,
+    found: &mut Found<'v, V>,
+) -> Result<(), AllocError>
+    requires taken { is_taken (kept V.kept found.old) ≡ true }
+    ensures found { OnOk result (Finds V.kept V.put found.old found.new
+        (done_along (base_of splitting.now.context.now) (link_steps path.old) work_item.entry)) }
+    ensures path { OnOk result (path.new ≡ path.old) }
+{
+    let settled = settled_along::<V>(splitting.context, work_item.task, value, path)?;
+    let Some(task) = settled else {
+        return Ok(());
+    };
+    let children = ChildRange::counted(&work_item.children);
+    each_of(splitting, task, children, path, found)
 }
 
 /// The task at each of these children, of which halves are walked at once where they are many.
@@ -162,10 +184,7 @@ fn half<'v, R: Threads + Sync, F: Fork + Sync, V: Visit + Drop + Send>(
     let mut path = path_stack_of(splitting.context.alloc, at)?;
     let mut found = Found::Visitor(visitor);
     each_of(splitting, task, children, &mut path, &mut found)?;
-    match into_visitor(found) {
-        Some(visitor) => Ok(visitor),
-        None => unreachable!(),
-    }
+    Ok(visitor_of(found))
 }
 
 /// The task at each of these children, one after another.
@@ -218,6 +237,30 @@ fn settled<'v, V: Visit + Drop>(
                 Ok(None)
             }
         }
+        Task::Run(_) => Ok(Some(task)),
+        Task::Descend(_, _) => Ok(Some(task)),
+    }
+}
+
+/// The task along the children of the value, or nothing where its test is false of all of them.
+fn settled_along<'v, V: Visit + Drop>(
+    context: &Context<'v>,
+    task: Task<'v>,
+    value: Part<'v>,
+    path: &mut PathStack<'v>,
+) -> Result<Option<Task<'v>>, AllocError>
+    ensures task { IfOk result (λ o. (ns : List Node) → MatchOption o
+        (flat_map (done (base_of context.now) task.entry) ns ≡ [])
+        (λ t. flat_map (done (base_of context.now) t) ns
+        ≡ flat_map (done (base_of context.now) task.entry) ns)) }
+    ensures path { OnOk result (path.new ≡ path.old) }
+{
+    match task {
+        Task::Test(test, rest) => match uniform_truth::<V>(context, test, value, path)? {
+            Some(true) => Ok(Some(Task::Run(rest))),
+            Some(false) => Ok(None),
+            None => Ok(Some(task)),
+        },
         Task::Run(_) => Ok(Some(task)),
         Task::Descend(_, _) => Ok(Some(task)),
     }

@@ -1,8 +1,8 @@
 //! The walk of a query through a document, depth first, on one path.
 
-ghost use Rattle.std.specs.Prelude.{◌≡◌, [], ◌∷◌, option_to_list, IfOk, OnOk, IsTrue, true};
+ghost use Rattle.std.specs.Prelude.{◌≡◌, [], ◌∷◌, option_to_list, IfOk, IfSome, OnOk, IsTrue, true};
 ghost use Rattle.std.specs.List.{flat_map, list_any, list_all};
-ghost use Rattle.jp_doc.specs.Location.{Location, node};
+ghost use Rattle.jp_doc.specs.Location.{Location, Node, node};
 ghost use Rattle.jp_path_stack.specs.Links.{link_steps};
 ghost use Rattle.jp_part.specs.Part.{part_value};
 ghost use Rattle.jp_value.specs.Kinds.{given_value};
@@ -22,6 +22,7 @@ use crate::context::Context;
 use crate::found::{Found, add, into_aggregate, is_full, none_found};
 use crate::index::place_in;
 use crate::slices::sliced;
+use crate::uniform::is_uniform;
 use jp_compiled::{Logical, Nodes, Segment, Selector, Value as Giver, Want};
 use jp_nodes::{Visit, children_of};
 use jp_part::{Kind, Part};
@@ -185,10 +186,32 @@ fn select<'v, V: Visit + Drop>(
             let children = ChildRange::Listed(children.as_slice());
             each_of(context, Task::Run(rest), children, path, found)
         }
-        Selector::Filter(test) => {
-            each_child(context, Task::Test(test, rest), opened, path, found)
-        }
+        Selector::Filter(test) => match uniform_truth::<V>(context, test, value, path)? {
+            Some(true) => each_child(context, Task::Run(rest), opened, path, found),
+            Some(false) => Ok(()),
+            None => each_child(context, Task::Test(test, rest), opened, path, found),
+        },
     }
+}
+
+/// Whether the expression is true, where it asks nothing of the current node. It is made once for a list of
+/// children then, before they are gathered.
+#[cycle(walk)]
+pub(crate) fn uniform_truth<'v, V: Visit + Drop>(
+    context: &Context<'v>,
+    test: &'v Logical,
+    value: Part<'v>,
+    path: &mut PathStack<'v>,
+) -> Result<Option<bool>, AllocError>
+    ensures truth { IfOk result (λ o. IfSome o
+        (λ b. (n : Node) → is_true (base_of context.now) test.now n ≡ b)) }
+    ensures path { OnOk result (path.new ≡ path.old) }
+{
+    if !is_uniform(test) {
+        return Ok(None);
+    }
+    // Of the children it is as true as of the value.
+    Ok(Some(holds::<V>(context, test, value, path)?))
 }
 
 /// The segments from the item at this place, if there is one.

@@ -29,7 +29,7 @@ pub(crate) struct WorkItem<'v> {
 /// children is held at a time.
 #[derive(Clone, Copy)]
 pub(crate) struct WorkItems<'v> {
-    value: Part<'v>,
+    pub(crate) value: Part<'v>,
     /// The selectors that are left.
     selectors: &'v [Selector],
     /// What is applied, behind these, at each descendant.

@@ -1,7 +1,8 @@
-use Rattle.std.proofs.Common.{◌≡◌, ◌≤◌, List, is_some, sym, ap, ◌∙◌, arith, rules}
+use Rattle.std.proofs.Common.{◌≡◌, ◌≤◌, List, sym, ap, ◌∙◌, arith, rules}
 use Rattle.std.proofs.lemmas.Result.{on_ok_weaker}
 use Rattle.std.specs.List.{flat_map}
 use Rattle.jp_doc.specs.Location.{Location, Node, node}
+use Rattle.jp_nodes.specs.ChildNodes.{child_nodes}
 use Rattle.jp_path_stack.specs.Links.{link_steps}
 use Rattle.jp_eval.specs.inner.Base.{base_of}
 use Rattle.jp_eval.specs.inner.Kept.{kept, put_found, plus, taken, emptied_found}
@@ -15,7 +16,7 @@ use denote.Struct.Tuple.{tuple_name}
 use mir.Syntax.{named}
 use Rattle.jp_eval.proofs.Crossing.{captured_send}
 use Rattle.jp_eval.proofs.Gathered.{child_node_done, halves_joined}
-use Rattle.jp_eval.proofs.Keeping.{ended, full_enough, nothing_found, not_lost, taken_on}
+use Rattle.jp_eval.proofs.Keeping.{ended, full_enough, nothing_found, still_taken, taken_on}
 use Rattle.jp_eval.proofs.WorkItems.{work_item_done}
 use Rattle.jp_eval.proofs.WalkSteps.{back_up, link_further}
 use Rattle.jp_eval.proofs.split.+split.Lts-each_of as lts
@@ -27,70 +28,33 @@ each_work_item-loop-work_item-preserved g t c =
     let at = link_steps c.loop-work_item.path in
     let nodes = rw c.in-Some.is at (c.in_ok-work_item.ensures.nodes base at) in
     let value = rw c.in-Some.is at c.in_ok-work_item.ensures.value in
-    rw c.in_ok-each_of.ensures.path (
+    rw c.in_ok-along.ensures.path (
       c.loop-work_item.invariant.0,
       value ∙ c.loop-work_item.invariant.1,
       work_item_done (put_found g.V.Visit.put) _ _ _ _ (done_by base at c.in-Some.others) _ _ nodes
-          (c.in_ok-each_of.ensures.found
-          ∙ ap (λ ns. plus (put_found g.V.Visit.put) (kept g.V.Visit.kept c.loop-work_item.found)
-          (flat_map (done base c.in-Some.work_item.task) ns)) (c.counted-children.ensures.nodes at))
-          c.loop-work_item.invariant.2,
+          c.in_ok-along.ensures.found c.loop-work_item.invariant.2,
     )
 
-pub each_work_item-loop-work_item-preserved-in_ok-each_of :
-    goal.each_work_item-loop-work_item-preserved-in_ok-each_of
-each_work_item-loop-work_item-preserved-in_ok-each_of g t c =
-    let base = base_of c.args.splitting.now.context.now in
-    let at = link_steps c.loop-work_item.path in
-    let nodes = rw c.in-Some.is at (c.in_ok-work_item.ensures.nodes base at) in
-    let value = rw c.in-Some.is at c.in_ok-work_item.ensures.value in
-    rw c.in_ok-each_of.ensures.path (
-      c.loop-work_item.invariant.0,
-      value ∙ c.loop-work_item.invariant.1,
-      work_item_done (put_found g.V.Visit.put) _ _ _ _ (done_by base at c.in-Some.others) _ _ nodes
-          (c.in_ok-each_of.ensures.found
-          ∙ ap (λ ns. plus (put_found g.V.Visit.put) (kept g.V.Visit.kept c.loop-work_item.found)
-          (flat_map (done base c.in-Some.work_item.task) ns)) (c.counted-children.ensures.nodes at))
-          c.loop-work_item.invariant.2,
-    )
-
-pub each_work_item-loop-work_item-preserved-in_ok-each_of-2 :
-    goal.each_work_item-loop-work_item-preserved-in_ok-each_of-2
-each_work_item-loop-work_item-preserved-in_ok-each_of-2 g t c =
-    let base = base_of c.args.splitting.now.context.now in
-    let at = link_steps c.loop-work_item.path in
-    let nodes = rw c.in-Some.is at (c.in_ok-work_item.ensures.nodes base at) in
-    let value = rw c.in-Some.is at c.in_ok-work_item.ensures.value in
-    rw c.in_ok-each_of.ensures.path (
-      c.loop-work_item.invariant.0,
-      value ∙ c.loop-work_item.invariant.1,
-      work_item_done (put_found g.V.Visit.put) _ _ _ _ (done_by base at c.in-Some.others) _ _ nodes
-          (c.in_ok-each_of.ensures.found
-          ∙ ap (λ ns. plus (put_found g.V.Visit.put) (kept g.V.Visit.kept c.loop-work_item.found)
-          (flat_map (done base c.in-Some.work_item.task) ns)) (c.counted-children.ensures.nodes at))
-          c.loop-work_item.invariant.2,
-    )
-
-pub each_work_item-loop-work_item-preserved-in_ok-each_of-3 :
-    goal.each_work_item-loop-work_item-preserved-in_ok-each_of-3
-each_work_item-loop-work_item-preserved-in_ok-each_of-3 g t c =
-    let base = base_of c.args.splitting.now.context.now in
-    let at = link_steps c.loop-work_item.path in
-    let nodes = rw c.in-Some.is at (c.in_ok-work_item.ensures.nodes base at) in
-    let value = rw c.in-Some.is at c.in_ok-work_item.ensures.value in
-    rw c.in_ok-each_of.ensures.path (
-      c.loop-work_item.invariant.0,
-      value ∙ c.loop-work_item.invariant.1,
-      work_item_done (put_found g.V.Visit.put) _ _ _ _ (done_by base at c.in-Some.others) _ _ nodes
-          (c.in_ok-each_of.ensures.found
-          ∙ ap (λ ns. plus (put_found g.V.Visit.put) (kept g.V.Visit.kept c.loop-work_item.found)
-          (flat_map (done base c.in-Some.work_item.task) ns)) (c.counted-children.ensures.nodes at))
-          c.loop-work_item.invariant.2,
-    )
-
-pub each_work_item-each_of-requires-clause-taken : goal.each_work_item-each_of-requires-clause-taken
-each_work_item-each_of-requires-clause-taken g t c κs within =
+pub each_work_item-along-requires-clause-taken : goal.each_work_item-along-requires-clause-taken
+each_work_item-along-requires-clause-taken g t c κs within =
     taken_on g.V.Visit.put _ _ _ _ c.loop-work_item.invariant.2 c.requires.taken
+
+-- the path is where it was while the test was made
+pub along-returns-clause-found : goal.along-returns-clause-found
+along-returns-clause-found g t c =
+    let base = base_of c.args.splitting.now.context.now in
+    let at = link_steps c.args.path.now in
+    let settled = rw c.in-Some.is at (c.in_ok-settled.ensures.task
+    (child_nodes at c.args.work_item.children)) in
+    on_ok_weaker c.each_of.result (λ e. rw c.in_ok-settled.ensures.path at e
+    ∙ ap (plus (put_found g.V.Visit.put) (kept g.V.Visit.kept c.args.found.now))
+    (ap (flat_map (done base c.in-Some.task)) (c.counted-children.ensures.nodes at) ∙ settled))
+    c.each_of.ensures.found
+
+pub along-returns-in_default-clause-found : goal.along-returns-in_default-clause-found
+along-returns-in_default-clause-found g t c =
+    nothing_found (put_found g.V.Visit.put) _ _ (rw c.in_default.is at (c.in_ok-settled.ensures.task
+    (child_nodes (link_steps c.args.path.now) c.args.work_item.children)))
 
 pub one_by_one-go_split-requires-clause-taken : goal.one_by_one-go_split-requires-clause-taken
 one_by_one-go_split-requires-clause-taken g t c κs within =
@@ -138,15 +102,13 @@ one_by_one-returns-clause-found g t c =
 pub half-returns : goal.half-returns
 half-returns g t c =
     let base = base_of c.args.splitting.now.context.now in
-    c.in-Some.ensures.visitor ∙ c.in_ok-each_of.ensures.found
+    c.visitor_of.ensures ∙ c.in_ok-each_of.ensures.found
     ∙ ap (λ ls. plus (put_found g.V.Visit.put) (taken (g.V.Visit.kept c.args.visitor))
     (flat_map (done base c.args.task) (range_nodes (link_steps ls) c.args.children)))
     c.in_ok-path.ensures
 
-pub half-unreachable-requires : goal.half-unreachable-requires
-half-unreachable-requires g t c =
-    not_lost g.V.Visit.put (g.V.Visit.kept c.args.visitor) _ _ c.in_ok-each_of.ensures.found
-    (c.into_visitor.ensures.other.0 (ap is_some c.in-None.is))
+pub half-visitor_of-requires : goal.half-visitor_of-requires
+half-visitor_of-requires g t c = still_taken g.V.Visit.put _ _ _ c.in_ok-each_of.ensures.found
 
 pub go_split-returns-in_default-clause-found : goal.go_split-returns-in_default-clause-found
 go_split-returns-in_default-clause-found g t c =

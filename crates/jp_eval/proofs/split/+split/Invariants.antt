@@ -1,6 +1,7 @@
 use Rattle.std.proofs.Common.{◌≡◌, ◌+◌, ◌*◌, ◌≤◌, ℕ}
 use Rattle.std.specs.List.{flat_map}
 use Rattle.jp_doc.specs.Height.{height}
+use Rattle.jp_nodes.specs.ChildNodes.{all_height}
 use Rattle.jp_part.specs.Part.{part_value}
 use Rattle.jp_eval.specs.inner.Base.{base_of}
 use Rattle.jp_eval.specs.inner.Kept.{kept, put_found, plus}
@@ -19,6 +20,9 @@ decreases-go_split g l = weight (height (part_value l.value)) l.splitting.now.cu
 
 abbrev pub decreases-each_work_item : goal.decreases-each_work_item
 decreases-each_work_item g l = weight (height (part_value l.work_items.value)) l.splitting.now.cuts.left 14
+
+abbrev pub decreases-along : goal.decreases-along
+decreases-along g l = weight (all_height l.work_item.children) l.splitting.now.cuts.left 11
 
 abbrev pub decreases-each_of : goal.decreases-each_of
 decreases-each_of g l = weight (range_height l.children) l.splitting.now.cuts.left 10

@@ -30,16 +30,17 @@ use Rattle.jp_path_stack.specs.Links.{link_steps}
 use Rattle.jp_part.specs.Part.{part_value}
 use Rattle.jp_value.specs.RightTests.{tests}
 use Rattle.jp_eval.specs.inner.Walk.{picked, picked_by, reached, is_true, value_given, nodes_given, done}
-use Rattle.jp_eval.proofs.Chains.{reached-none, reached-end, reached-each, reached-filter, reached-plain}
+use Rattle.jp_eval.proofs.Chains.{reached-none, reached-end, reached-each, reached-plain}
 use Rattle.jp_eval.proofs.Chains.{reached-deep}
 use Rattle.jp_eval.proofs.Gathered.{child_node_done}
 use Rattle.jp_eval.proofs.Keeping.{plus-one, ended, nothing_found, full_enough, not_taken}
-use Rattle.jp_eval.proofs.CompiledParts.{picked_name, picked_wild, picked_index, picked_slice, picked_filter}
+use Rattle.jp_eval.proofs.CompiledParts.{picked_name, picked_wild, picked_index, picked_slice}
 use Rattle.jp_eval.proofs.CompiledParts.{true_any, true_all, true_not, true_compare, true_test, true_match}
 use Rattle.jp_eval.proofs.CompiledParts.{true_search, true_match_known, true_search_known, given_constant}
 use Rattle.jp_eval.proofs.CompiledParts.{given_single, given_length, given_count, given_only, nodes_here}
 use Rattle.jp_eval.proofs.CompiledParts.{nodes_root, nodes_distinct, true_xor}
 use Rattle.jp_eval.proofs.Places.{slice_found}
+use Rattle.jp_eval.proofs.Uniformity.{true_along, false_along, kept_each}
 use Rattle.jp_eval.specs.Nodelist.{index_places}
 use Rattle.jp_eval.proofs.WalkSteps.{back_up, here_further, link_further, over, applied, descended}
 use Rattle.jp_eval.proofs.WalkSteps.{any_further, any_found, all_further, all_found, none_at, one_at}
@@ -278,16 +279,45 @@ select-returns-in_ok-children-in-Slice-clause-found g t c =
     (sym (ap (λ x. picked base x n) c.in-Slice.is ∙ picked_slice base n c.in-Slice.slice))))
     c.each_of.ensures.found
 
-pub select-returns-in-Filter-clause-found : goal.select-returns-in-Filter-clause-found
-select-returns-in-Filter-clause-found g t c =
-    on_ok_weaker c.each_child-in-Filter.result (λ e. e
+pub select-returns-in-Some-true-clause-found : goal.select-returns-in-Some-true-clause-found
+select-returns-in-Some-true-clause-found g t c =
+    let base = base_of c.args.context.now in
+    let rest = c.args.rest.now in
+    let n = here c.args.path.now c.args.opened.value in
+    let l = c.in-Filter.test in
+    let on = rw (c.in-Some-true.is, c.in-Some-true.field-0-test) at
+    c.in_ok-uniform_truth-in-Filter.ensures.truth in
+    on_ok_weaker c.each_child-in-Some-true.result (λ e. rw c.in_ok-uniform_truth-in-Filter.ensures.path at e
     ∙ ap (plus (put_found g.V.Visit.put) (kept g.V.Visit.kept c.args.found.now))
-    (sym (ap (reached (base_of c.args.context.now) c.args.rest.now)
-    (ap (λ x. picked (base_of c.args.context.now) x (here c.args.path.now c.args.opened.value)) c.in-Filter.is
-    ∙ picked_filter (base_of c.args.context.now) (here c.args.path.now c.args.opened.value) c.in-Filter.test)
-    ∙ reached-filter (base_of c.args.context.now) c.args.rest.now
-    (is_true (base_of c.args.context.now) c.in-Filter.test)
-    (children (here c.args.path.now c.args.opened.value))))) c.each_child-in-Filter.ensures.found
+    (true_along base l rest on (children n)
+    ∙ sym (kept_each base rest n c.args.selector.now l c.in-Filter.is)))
+    c.each_child-in-Some-true.ensures.found
+
+pub select-returns-in-Some-false-clause-found : goal.select-returns-in-Some-false-clause-found
+select-returns-in-Some-false-clause-found g t c =
+    let base = base_of c.args.context.now in
+    let rest = c.args.rest.now in
+    let n = here c.args.path.now c.args.opened.value in
+    let l = c.in-Filter.test in
+    let off = rw (c.in-Some-false.is, c.in-Some-false.field-0-test) at
+    c.in_ok-uniform_truth-in-Filter.ensures.truth in
+    nothing_found (put_found g.V.Visit.put) _ _
+    (kept_each base rest n c.args.selector.now l c.in-Filter.is ∙ false_along base l rest off (children n))
+
+pub select-returns-in-None-clause-found : goal.select-returns-in-None-clause-found
+select-returns-in-None-clause-found g t c =
+    let base = base_of c.args.context.now in
+    let n = here c.args.path.now c.args.opened.value in
+    on_ok_weaker c.each_child-in-None.result (λ e. rw c.in_ok-uniform_truth-in-Filter.ensures.path at e
+    ∙ ap (plus (put_found g.V.Visit.put) (kept g.V.Visit.kept c.args.found.now))
+    (sym (kept_each base c.args.rest.now n c.args.selector.now c.in-Filter.test c.in-Filter.is)))
+    c.each_child-in-None.ensures.found
+
+pub uniform_truth-returns-clause-truth : goal.uniform_truth-returns-clause-truth
+uniform_truth-returns-clause-truth g t c =
+    let uniform = c.is_uniform.ensures c.if-not-is_uniform.false in
+    λ n. uniform.alike (base_of c.args.context.now) n (here c.args.path.now c.args.value)
+    ∙ sym c.in_ok-holds.ensures.truth
 
 pub all-loop-part-preserved : goal.all-loop-part-preserved
 all-loop-part-preserved g t c =

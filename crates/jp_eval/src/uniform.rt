@@ -1,0 +1,68 @@
+//! Which expressions ask nothing of the current node, and so are true of every node or of none.
+//!
+//! Only a query from `@` asks of it. What `@` is in a filter inside of a query is bound by that filter.
+
+ghost use Rattle.std.specs.Prelude.{IsTrue};
+ghost use Rattle.jp_eval.specs.inner.Uniform.{IsUniform, AreUniform, IsUniformValue, IsUniformQuery};
+
+use jp_compiled::{Logical, Nodes, Value};
+
+/// Whether the expression asks nothing of the current node.
+#[cycle(uniform)]
+pub(crate) fn is_uniform(test: &Logical) -> bool
+    ensures { IsTrue result → IsUniform test.now }
+{
+    match test {
+        Logical::Any(parts) => are_uniform(parts.as_slice()),
+        Logical::All(parts) => are_uniform(parts.as_slice()),
+        Logical::Not(part) => is_uniform(part),
+        Logical::Compare(left, _, right) => are_uniform_values(left, right),
+        Logical::Test(nodes) => is_uniform_query(nodes),
+        Logical::Match(text, pattern) => are_uniform_values(text, pattern),
+        Logical::MatchRead(text, _) => is_uniform_value(text),
+        Logical::Search(text, pattern) => are_uniform_values(text, pattern),
+        Logical::SearchRead(text, _) => is_uniform_value(text),
+        Logical::Xor(_, left, _, right) => is_uniform(left) && is_uniform(right),
+    }
+}
+
+#[cycle(uniform)]
+fn are_uniform(parts: &[Logical]) -> bool
+    ensures { IsTrue result → AreUniform parts.now }
+{
+    for part in parts {
+        if !is_uniform(part) {
+            return false;
+        }
+    }
+    true
+}
+
+fn are_uniform_values(left: &Value, right: &Value) -> bool
+    ensures left { IsTrue result → IsUniformValue left.now }
+    ensures right { IsTrue result → IsUniformValue right.now }
+{
+    is_uniform_value(left) && is_uniform_value(right)
+}
+
+fn is_uniform_value(value: &Value) -> bool
+    ensures { IsTrue result → IsUniformValue value.now }
+{
+    match value {
+        Value::Constant(_) => true,
+        Value::Single(nodes) => is_uniform_query(nodes),
+        Value::Length(of) => is_uniform_value(of),
+        Value::Count(nodes) => is_uniform_query(nodes),
+        Value::Only(nodes) => is_uniform_query(nodes),
+    }
+}
+
+fn is_uniform_query(nodes: &Nodes) -> bool
+    ensures { IsTrue result → IsUniformQuery nodes.now }
+{
+    match nodes {
+        Nodes::Here(_) => false,
+        Nodes::Root(_) => true,
+        Nodes::Distinct(nodes) => is_uniform_query(nodes),
+    }
+}
