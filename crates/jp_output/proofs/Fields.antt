@@ -1,21 +1,20 @@
 -- An output line has three fields: no byte below the space stands in one.
 use Rattle.std.proofs.Common.{◌≡◌, ℕ, zero, suc, ◌+◌, ◌/◌, ◌%◌, ◌≤◌, ◌<◌, ◌==◌, nat_lt, nat_le, Bool, true}
 use Rattle.std.proofs.Common.{false, cond, List, [], ◌∷◌, ◌++◌, refl, ap, sym, ◌∙◌, arith, append_assoc}
-use Rattle.std.proofs.Common.{codes, decimal, encode_utf8_all, pos, negsuc, flat_map, length, ap₂}
+use Rattle.std.proofs.Common.{codes, decimal, encode_utf8_all, ℤ, pos, negsuc, flat_map, length, ap₂}
 use Rattle.std.proofs.Common.{append-nil}
 use Rattle.std.proofs.lemmas.Bool.{and_parts, leb-true, ltb-true, ltb-false}
 use Rattle.std.proofs.lemmas.Bool.Decides.{nat_tests}
 use Rattle.std.proofs.lemmas.List.Sums.{sum_by-append, sum_by-cons, count_by-le-length}
 use Rattle.std.specs.List.{AllByRecursion, concat, list_all}
 use Rattle.std.specs.Char.{digit_char}
-use Rattle.std.specs.Fmt.{digits, digits_onto, digit_glyph}
+use Rattle.std.specs.Fmt.{digits, digits_onto, digit_glyph, signed_decimal}
 use lib.Utf8.{encode}
-use Rattle.json.specs.Print.{escape_letter, escape_byte, escape, quoted}
-use Rattle.serde_json.specs.Data as crate_data
-use Rattle.serde_json.specs.Written.{number_text, compact_text, items_text, members_text, comma_if}
+use Rattle.json.specs.Print.{escape_letter, escape_byte, escape}
 use Rattle.jp_doc.specs.Location.{Step, name, index, Location}
 use Rattle.jp_path_stack.specs.Path.{escaped, hex_digit, step_text, path_text}
-use Rattle.jp_doc.specs.Json.{Json, null, truth, whole, text, array, object, data_of}
+use Rattle.jp_doc.specs.Json.{Json, null, truth, whole, text, array, object, Items, no_items, add_item}
+use Rattle.jp_doc.specs.Json.{Text, Members, no_members, add_member}
 use Rattle.jp_doc.specs.Location.{Node}
 use Rattle.jp_doc.specs.declared.fault.DocFault.{DocFault}
 use Rattle.jp_doc.specs.declared.fault.DocFault.TheVariants.{LongLine, Unreadable, NotWhole, LongArray}
@@ -23,7 +22,8 @@ use Rattle.jp_doc.specs.declared.fault.DocFault.TheVariants.{Memory}
 use Rattle.jp_doc.specs.FaultWords.{fault_words}
 use Rattle.jp_output.specs.FaultLine.{fault_line}
 use Rattle.jp_output.specs.Fields.{times, HasThreeFields, AreLinesOfThree, IsOneLine}
-use Rattle.jp_output.specs.OutputLine.{node_line, value_line}
+use Rattle.jp_output.specs.OutputLine.{truth_text, quoted_text, value_text, items_text, further_items}
+use Rattle.jp_output.specs.OutputLine.{members_text, further_members, node_line, value_line}
 use Rattle.jp_output.specs.UnquotedText.{unquoted_byte, unquoted_text, text_line}
 
 -- no byte is below the space
@@ -114,11 +114,9 @@ pub decimal_field : (n : ℕ) → IsField (decimal n)
 unfolding digits
 decimal_field n = digits_field 64 10 n [] tt
 
-number_field : (n : crate_data.Num) → IsField (number_text n)
-number_field (crate_data.unsigned n) = decimal_field n
-number_field (crate_data.negative (pos n)) = decimal_field n
-number_field (crate_data.negative (negsuc n)) = (omega arith, decimal_field (suc n))
-number_field (crate_data.float x) = tt
+number_field : (z : ℤ) → IsField (signed_decimal z)
+number_field (pos n) = decimal_field n
+number_field (negsuc n) = (omega arith, decimal_field (suc n))
 
 -- texts, by the JSON crate's escapes
 
@@ -138,44 +136,60 @@ escape_field x =
     (written (codes "\\u00") refl) (digit_high (x / 16), (digit_high (x % 16), tt)))
     (λ g. (ltb-false x 32 g, tt)))
 
-quoted_field : (s : List ℕ) → IsField (quoted s)
-quoted_field s = (
-  omega arith,
-  field_both (escape s) (34 ∷ []) (field_each escape_byte escape_field s) (written (34 ∷ []) refl),
-)
+quoted_field : (s : Text) → IsField (quoted_text s)
+quoted_field s =
+    let bytes = encode_utf8_all s in (
+      omega arith,
+      field_both (escape bytes) (34 ∷ []) (field_each escape_byte escape_field bytes)
+          (written (34 ∷ []) refl),
+    )
 
-comma_field : (later : Bool) → IsField (comma_if later)
-comma_field true = (omega arith, tt)
-comma_field false = tt
+truth_field : (b : Bool) → IsField (truth_text b)
+truth_field true = written (codes "true") refl
+truth_field false = written (codes "false") refl
 
-boolean_field : (b : Bool) → IsField (compact_text (crate_data.boolean b))
-boolean_field true = written (codes "true") refl
-boolean_field false = written (codes "false") refl
+-- a member, and what follows it
+member_field : (k : Text) (value rest : List ℕ) → IsField value → IsField rest
+    → IsField (quoted_text k ++ codes ":" ++ value ++ rest)
+member_field k value rest h g =
+    field_both (quoted_text k ++ codes ":" ++ value) rest
+    (field_both (quoted_text k ++ codes ":") value
+    (field_both (quoted_text k) (codes ":") (quoted_field k) (written (codes ":") refl)) h) g
 
 mutual
-  pub compact_field : (d : crate_data.Data) → IsField (compact_text d)
-  compact_field crate_data.null = written (codes "null") refl
-  compact_field (crate_data.boolean b) = boolean_field b
-  compact_field (crate_data.number n) = number_field n
-  compact_field (crate_data.string s) = quoted_field s
-  compact_field (crate_data.array ds) = (omega arith, items_field false ds)
-  compact_field (crate_data.object ms) = (omega arith, members_field false ms)
+  pub value_field : (v : Json) → IsField (value_text v)
+  value_field null = written (codes "null") refl
+  value_field (truth b) = truth_field b
+  value_field (whole z) = number_field z
+  value_field (text s) = quoted_field s
+  value_field (array vs) =
+      (omega arith, field_both (items_text vs) (codes "]") (items_field vs) (written (codes "]") refl))
+  value_field (object ms) =
+      (omega arith, field_both (members_text ms) (codes "}") (members_field ms) (written (codes "}") refl))
 
-  items_field : (later : Bool) (ds : crate_data.Items) → IsField (items_text later ds)
-  items_field later crate_data.no_items = (omega arith, tt)
-  items_field later (crate_data.item d ds) =
-      field_both (comma_if later) (compact_text d ++ items_text true ds) (comma_field later)
-      (field_both (compact_text d) (items_text true ds) (compact_field d) (items_field true ds))
+  items_field : (vs : Items) → IsField (items_text vs)
+  items_field no_items = tt
+  items_field (add_item v vs) =
+      field_both (value_text v) (further_items vs) (value_field v) (further_items_field vs)
 
-  members_field : (later : Bool) (ms : crate_data.Members) → IsField (members_text later ms)
-  members_field later crate_data.no_members = (omega arith, tt)
-  members_field later (crate_data.member k d ms) =
-      field_both (comma_if later) (quoted k ++ 58 ∷ (compact_text d ++ members_text true ms))
-      (comma_field later)
-      (field_both (quoted k) (58 ∷ (compact_text d ++ members_text true ms)) (quoted_field k) (
-        omega arith,
-        field_both (compact_text d) (members_text true ms) (compact_field d) (members_field true ms),
-      ))
+  further_items_field : (vs : Items) → IsField (further_items vs)
+  further_items_field no_items = tt
+  further_items_field (add_item v vs) = (
+    omega arith,
+    field_both (value_text v) (further_items vs) (value_field v) (further_items_field vs),
+  )
+
+  members_field : (ms : Members) → IsField (members_text ms)
+  members_field no_members = tt
+  members_field (add_member k v ms) =
+      member_field k (value_text v) (further_members ms) (value_field v) (further_members_field ms)
+
+  further_members_field : (ms : Members) → IsField (further_members ms)
+  further_members_field no_members = tt
+  further_members_field (add_member k v ms) = (
+    omega arith,
+    member_field k (value_text v) (further_members ms) (value_field v) (further_members_field ms),
+  )
 
 -- paths, by the escapes of RFC 9535
 
@@ -229,8 +243,8 @@ path_field l = encoded_field (path_text l) (omega arith, steps_field l)
 
 pub node_fields : (number : ℕ) (n : Node) → HasThreeFields (node_line number n)
 node_fields number n =
-    three_fields (decimal number) (encode_utf8_all (path_text n.location)) (compact_text (data_of n.value))
-    (decimal_field number) (path_field n.location) (compact_field (data_of n.value))
+    three_fields (decimal number) (encode_utf8_all (path_text n.location)) (value_text n.value)
+    (decimal_field number) (path_field n.location) (value_field n.value)
 
 kind_field : (f : DocFault) → IsField (fault_words f)
 kind_field LongLine = written (codes "long line") refl
@@ -301,7 +315,7 @@ one_line field h = record {
 }
 
 pub value_one_line : (n : Node) → IsOneLine (value_line n)
-value_one_line n = one_line (compact_text (data_of n.value)) (compact_field (data_of n.value))
+value_one_line n = one_line (value_text n.value) (value_field n.value)
 
 unquoted_byte_field : (x : ℕ) → IsField (unquoted_byte x)
 unquoted_byte_field x =
@@ -309,11 +323,11 @@ unquoted_byte_field x =
 
 unquoted_field : (v : Json) → IsField (unquoted_text v)
 unquoted_field (text s) = field_each unquoted_byte unquoted_byte_field (encode_utf8_all s)
-unquoted_field null = compact_field (data_of null)
-unquoted_field (truth b) = compact_field (data_of (truth b))
-unquoted_field (whole z) = compact_field (data_of (whole z))
-unquoted_field (array vs) = compact_field (data_of (array vs))
-unquoted_field (object ms) = compact_field (data_of (object ms))
+unquoted_field null = value_field null
+unquoted_field (truth b) = value_field (truth b)
+unquoted_field (whole z) = value_field (whole z)
+unquoted_field (array vs) = value_field (array vs)
+unquoted_field (object ms) = value_field (object ms)
 
 pub text_one_line : (n : Node) → IsOneLine (text_line n)
 text_one_line n = one_line (unquoted_text n.value) (unquoted_field n.value)

@@ -1,18 +1,19 @@
 -- The texts of arrays and objects, a piece at a time.
-use Rattle.std.proofs.Common.{◌≡◌, ◌≢◌, ℕ, ◌≤◌, Bool, true, List, [], ◌∷◌, ◌++◌, ap, sym}
+use Rattle.std.proofs.Common.{◌≡◌, ◌≢◌, ℕ, ◌≤◌, Bool, true, false, List, [], ◌∷◌, ◌++◌, ap, sym, subst}
 use Rattle.std.proofs.Common.{◌∙◌, append_assoc, arith}
 use Rattle.std.proofs.lemmas.Bool.Decides.{nat_tests}
 use Rattle.std.specs.Prelude.{encode_utf8_all}
 use Rattle.std.specs.Str.{chars}
 use Rattle.json.specs.Print.{escape_byte, quoted}
-use Rattle.serde_json.specs.Written.{comma_if, items_text, members_text}
+use Rattle.serde_json.specs.Written.{comma_if}
 use Rattle.jp_doc.specs.Height.{height}
-use Rattle.jp_doc.specs.Json.{Json, object, items_data, members_data}
+use Rattle.jp_doc.specs.Json.{Json, Items, no_items, array, object}
 use Rattle.jp_flat.specs.Gathered.{gathered}
 use Rattle.jp_flat.specs.Value.{flat_value}
 use Rattle.jp_flat.specs.declared.value.FlatMember.{FlatMember}
 use Rattle.jp_part.specs.Inside.{items_inside}
 use Rattle.jp_output.specs.OutputLine.{value_text}
+use Rattle.jp_output.proofs.Texts.{items_left, members_left, array_left, object_left}
 
 -- a byte that stands as it is
 pub plain_byte : (b : ℕ) → 32 ≤ b → b ≢ 34 → b ≢ 92 → escape_byte b ≡ b ∷ []
@@ -21,11 +22,31 @@ plain_byte b h q s = grind (arith, nat_tests)
 
 -- the text of the items that are left, and the closing bracket
 abbrev pub items_rest : Bool → Json → List ℕ
-items_rest later v = items_text later (items_data (items_inside v))
+items_rest later v = items_left later (items_inside v)
 
 -- the text of the members that are left, and the closing brace
 abbrev pub members_rest : Bool → List FlatMember → List ℕ
-members_rest later list = members_text later (members_data (gathered list))
+members_rest later list = members_left later (gathered list)
+
+-- all items of an array are written, and all members of an object
+pub array_written : (v left : Json) (vs : Items) (later : Bool) (old opened out new : List ℕ) → v ≡ array vs
+    → left ≡ array no_items → opened ≡ old ++ 91 ∷ []
+    → out ++ items_rest later left ≡ opened ++ items_rest false v
+    → new ≡ out ++ 93 ∷ [] → new ≡ old ++ value_text v
+array_written v left vs later old opened out new is none begun rest ended =
+    ended ∙ ap (λ w. out ++ items_rest later w) (sym none) ∙ rest ∙ ap (λ t. t ++ items_rest false v) begun
+    ∙ append_assoc old (91 ∷ []) (items_rest false v)
+    ∙ subst (λ w. old ++ 91 ∷ items_rest false w ≡ old ++ value_text w) (sym is)
+    (ap (λ t. old ++ t) (sym (array_left vs)))
+
+pub object_written : (list left : List FlatMember) (later : Bool) (old opened out new : List ℕ) → left ≡ []
+    → opened ≡ old ++ 123 ∷ [] → out ++ members_rest later left ≡ opened ++ members_rest false list
+    → new ≡ out ++ 125 ∷ [] → new ≡ old ++ value_text (object (gathered list))
+object_written list left later old opened out new none begun rest ended =
+    ended ∙ ap (λ l. out ++ members_rest later l) (sym none) ∙ rest
+    ∙ ap (λ t. t ++ members_rest false list) begun
+    ∙ append_assoc old (123 ∷ []) (members_rest false list)
+    ∙ ap (λ t. old ++ t) (sym (object_left (gathered list)))
 
 regroup : (old c k t rest : List ℕ)
     → ((((old ++ c) ++ k) ++ 58 ∷ []) ++ t) ++ rest ≡ old ++ (c ++ (k ++ 58 ∷ (t ++ rest)))

@@ -3,6 +3,7 @@ pub mod FlatTexts
 pub mod LinesWithNodes
 pub mod OnLiterals
 pub mod PathBytes
+pub mod Texts
 pub mod ThirdFields
 pub mod UnquotedTexts
 pub mod Written

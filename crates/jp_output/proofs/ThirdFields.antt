@@ -6,13 +6,12 @@ use Rattle.std.proofs.lemmas.Bool.{ne_eqb}
 use Rattle.std.proofs.Math.Seq.{drop-append-add}
 use Rattle.std.proofs.lemmas.List.{take_all}
 use Rattle.std.specs.List.{AllByRecursion, after_first, before_first, position_or_len}
-use Rattle.jp_doc.specs.Json.{data_of}
 use Rattle.jp_doc.specs.Lines.{all_lines, onto_first}
 use Rattle.jp_doc.specs.Location.{Node}
 use Rattle.jp_path_stack.specs.Path.{path_text}
 use Rattle.jp_output.specs.Fields.{is_tab, third_field, third_fields}
 use Rattle.jp_output.specs.OutputLine.{node_line, value_line, value_text}
-use Rattle.jp_output.proofs.Fields.{IsField, decimal_field, path_field, compact_field}
+use Rattle.jp_output.proofs.Fields.{IsField, decimal_field, path_field, value_field}
 
 -- none of the bytes is this one
 abbrev Lacks : ℕ → List ℕ → Type 0
@@ -85,6 +84,6 @@ pub values_of_lines : (number : ℕ) (ns : List Node)
 values_of_lines number [] = refl
 values_of_lines number (n ∷ ns) =
     third_more (decimal number) (encode_utf8_all (path_text n.location)) (value_text n.value)
-    (decimal_field number) (path_field n.location) (compact_field (data_of n.value))
+    (decimal_field number) (path_field n.location) (value_field n.value)
     (flat_map (node_line number) ns)
     ∙ ap (λ (t : List ℕ). value_line n ++ t) (values_of_lines number ns)

@@ -1,13 +1,49 @@
 -- Output lines.
-use Rattle.std.specs.Prelude.{ℕ, List, [], ◌∷◌, ◌++◌, decimal, encode_utf8_all}
-use Rattle.serde_json.specs.Written.{compact_text}
-use Rattle.jp_doc.specs.Json.{Json, data_of}
+use Rattle.std.specs.Prelude.{ℕ, Bool, List, [], ◌∷◌, ◌++◌, if◌then◌else◌, codes, decimal, encode_utf8_all}
+use Rattle.std.specs.Fmt.{signed_decimal}
+use Rattle.json.specs.Print.{quoted}
+use Rattle.jp_doc.specs.Json.{Text, Json, null, truth, whole, text, array, object, Items, no_items, add_item}
+use Rattle.jp_doc.specs.Json.{Members, no_members, add_member}
 use Rattle.jp_doc.specs.Location.{Location, Node}
 use Rattle.jp_path_stack.specs.Path.{path_text}
 
--- the compact text that the JSON crate writes for a value (RFC 8259)
-abbrev pub value_text : Json → List ℕ
-value_text v = compact_text (data_of v)
+-- the name of a truth value (RFC 8259, 3)
+abbrev pub truth_text : Bool → List ℕ
+truth_text b = if b then codes "true" else codes "false"
+
+-- a text between quotes, with the shortest escapes (RFC 8259, 7), in UTF-8
+abbrev pub quoted_text : Text → List ℕ
+quoted_text s = quoted (encode_utf8_all s)
+
+-- The compact text of a value (RFC 8259, 3 to 7): no space stands in it but within texts. A whole number is
+-- its digits, behind a minus where it is below zero; items and members stand in their order.
+abbrev mutual
+  pub value_text : Json → List ℕ
+  value_text null = codes "null"
+  value_text (truth b) = truth_text b
+  value_text (whole z) = signed_decimal z
+  value_text (text s) = quoted_text s
+  value_text (array vs) = codes "[" ++ items_text vs ++ codes "]"
+  value_text (object ms) = codes "{" ++ members_text ms ++ codes "}"
+
+  -- the first item, and each further one behind a comma
+  pub items_text : Items → List ℕ
+  items_text no_items = []
+  items_text (add_item v vs) = value_text v ++ further_items vs
+
+  pub further_items : Items → List ℕ
+  further_items no_items = []
+  further_items (add_item v vs) = codes "," ++ value_text v ++ further_items vs
+
+  -- the first member, its name and its value with a colon between, and each further one behind a comma
+  pub members_text : Members → List ℕ
+  members_text no_members = []
+  members_text (add_member k v ms) = quoted_text k ++ codes ":" ++ value_text v ++ further_members ms
+
+  pub further_members : Members → List ℕ
+  further_members no_members = []
+  further_members (add_member k v ms) =
+      codes "," ++ quoted_text k ++ codes ":" ++ value_text v ++ further_members ms
 
 -- the document's number, a tab, the normalized path, a tab, the value's text, and a line feed
 abbrev pub line_text : ℕ → Location → Json → List ℕ
@@ -23,7 +59,7 @@ put_line (number, bytes) n = (number, bytes ++ node_line number n)
 
 -- the value's text, in some way of writing values, and a line feed
 abbrev pub line_of : (Json → List ℕ) → Node → List ℕ
-line_of text n = text n.value ++ 10 ∷ []
+line_of text_of n = text_of n.value ++ 10 ∷ []
 
 abbrev pub value_line : Node → List ℕ
 value_line = line_of value_text

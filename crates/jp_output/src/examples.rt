@@ -9,8 +9,34 @@ ghost use Rattle.jp_output.specs.Chunks.{bytes_in};
 ghost use Rattle.jp_output.specs.FaultLine.{fault_line};
 ghost use Rattle.jp_output.specs.Fields.{times, HasThreeFields, IsOneLine, third_field, third_fields};
 ghost use Rattle.jp_output.specs.OutputForm.{node_lines, value_lines, text_lines, input_lines};
-ghost use Rattle.jp_output.specs.OutputLine.{line_text, value_line};
+ghost use Rattle.jp_output.specs.OutputLine.{value_text, line_text, value_line};
 ghost use Rattle.jp_output.specs.UnquotedText.{unquoted_text, text_line};
+
+/// Compact texts: of each kind of value, with no space between its parts, items and members as they stand.
+#[tactic(auto, unfolding(crate::proofs::OnLiterals::lines_on_literals))]
+fn compact_texts()
+    ensures null_value { value_text null ≡ codes "null" }
+    ensures true_value { value_text (truth true) ≡ codes "true" }
+    ensures false_value { value_text (truth false) ≡ codes "false" }
+    ensures zero { value_text (whole (pos 0)) ≡ codes "0" }
+    ensures least_number { value_text (whole (negsuc 9223372036854775807)) ≡ codes "-9223372036854775808" }
+    ensures greatest_number { value_text (whole (pos 18446744073709551615)) ≡ codes "18446744073709551615" }
+    ensures empty_text { value_text (text []) ≡ codes "\"\"" }
+    ensures escapes { value_text (text (34 ∷ 92 ∷ 47 ∷ 9 ∷ 31 ∷ 127 ∷ []))
+        ≡ codes "\"\\\"\\\\/\\t\\u001f" ++ 127 ∷ codes "\"" }
+    ensures text_in_utf8 { value_text (text (233 ∷ 128512 ∷ []))
+        ≡ 34 ∷ 195 ∷ 169 ∷ 240 ∷ 159 ∷ 152 ∷ 128 ∷ 34 ∷ [] }
+    ensures one_item { value_text (array (items (whole (pos 7) ∷ []))) ≡ codes "[7]" }
+    ensures three_items { value_text (array (items (whole (pos 2) ∷ whole (pos 1) ∷ whole (pos 2) ∷ [])))
+        ≡ codes "[2,1,2]" }
+    ensures nested { value_text (array (items (array (items []) ∷ array (items (null ∷ [])) ∷ [])))
+        ≡ codes "[[],[null]]" }
+    ensures one_member { value_text (object (add_member (codes "a\"b") (text (codes "c")) no_members))
+        ≡ codes "{\"a\\\"b\":\"c\"}" }
+    ensures three_members { value_text (object (add_member [] null (add_member (codes "a") (truth true)
+        (add_member (codes "b") (object no_members) no_members))))
+        ≡ codes "{\"\":null,\"a\":true,\"b\":{}}" }
+{}
 
 /// Output lines: the document's number, the path and the value's compact text, with tabs between.
 #[tactic(auto, unfolding(crate::proofs::OnLiterals::lines_on_literals))]

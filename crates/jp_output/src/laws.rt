@@ -1,16 +1,27 @@
 //! Laws of the definitions, each the contract of a function that does nothing.
 
-ghost use Rattle.std.specs.Prelude.{◌≡◌, ◌≢◌, ◌↔◌, ℕ, List, [], ◌∷◌, ◌++◌, length};
+ghost use Rattle.std.specs.Prelude.{◌≡◌, ◌≢◌, ◌↔◌, ℕ, false, List, [], ◌∷◌, ◌++◌, length};
 ghost use Rattle.std.specs.List.{fold, flat_map};
-ghost use Rattle.jp_doc.specs.Json.{Text, text};
+ghost use Rattle.serde_json.specs.View.{view};
+ghost use Rattle.serde_json.specs.Written.{has_float, compact_text};
+ghost use Rattle.serde_json.specs.declared.value.Value.{Value};
+ghost use Rattle.jp_doc.specs.Json.{Text, Json, text, value_of, data_of};
 ghost use Rattle.jp_doc.specs.Lines.{Line};
 ghost use Rattle.jp_doc.specs.Location.{Location, Node, node};
 ghost use Rattle.jp_doc.specs.declared.fault.DocFault.{DocFault};
 ghost use Rattle.jp_output.specs.FaultLine.{fault_line};
 ghost use Rattle.jp_output.specs.Fields.{times, HasThreeFields, AreLinesOfThree, IsOneLine, third_fields};
 ghost use Rattle.jp_output.specs.OutputForm.{node_lines, value_lines, text_lines, input_lines};
-ghost use Rattle.jp_output.specs.OutputLine.{node_line, put_line, value_line};
+ghost use Rattle.jp_output.specs.OutputLine.{value_text, node_line, put_line, value_line};
 ghost use Rattle.jp_output.specs.UnquotedText.{text_line};
+
+/// The compact text of a value is the text that the JSON crate writes of it, and of each value of the crate
+/// whose numbers are whole.
+pub fn text_of_the_crate()
+    ensures of_a_value { (v : Json) → value_text v ≡ compact_text (data_of v) }
+    ensures of_a_crate_value { (v : Value) → has_float (view v) ≡ false
+        → value_text (value_of v) ≡ compact_text (view v) }
+{}
 
 /// An output line has three fields, of whatever node, and so has a fault line: two tabs, and one line feed,
 /// which is the last byte. So the lines of several nodes can be cut at line feeds and each line at its tabs,

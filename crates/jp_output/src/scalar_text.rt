@@ -1,9 +1,9 @@
 //! The texts of values with nothing inside (RFC 8259), appended.
 
-ghost use Rattle.std.specs.Prelude.{◌≡◌, ◌++◌, IsTrue, OnOk, encode_utf8_all};
+ghost use Rattle.std.specs.Prelude.{◌≡◌, ◌++◌, IsTrue, OnOk, codes};
 ghost use Rattle.std.specs.Str.{chars};
-ghost use Rattle.json.specs.Print.{token_text, escape, quoted};
-ghost use Rattle.json.specs.Token as spec;
+ghost use Rattle.json.specs.Print.{escape, quoted};
+ghost use Rattle.jp_output.specs.OutputLine.{truth_text, quoted_text};
 ghost use Rattle.jp_path_stack.specs.Appended.{Extends};
 
 use json::Writer;
@@ -11,14 +11,14 @@ use std::alloc::{AllocError, Global};
 use std::mem;
 
 pub(crate) fn append_null(out: &mut Vec<u8>) -> Result<(), AllocError>
-    ensures ok { OnOk result (out.new.items ≡ out.old.items ++ token_text spec.null) }
+    ensures ok { OnOk result (out.new.items ≡ out.old.items ++ codes "null") }
     ensures kept { Extends out.old.items out.new.items }
 {
     out.extend_from_slice(b"null")
 }
 
 pub(crate) fn append_truth(truth: bool, out: &mut Vec<u8>) -> Result<(), AllocError>
-    ensures ok { OnOk result (out.new.items ≡ out.old.items ++ token_text (spec.boolean truth)) }
+    ensures ok { OnOk result (out.new.items ≡ out.old.items ++ truth_text truth) }
     ensures kept { Extends out.old.items out.new.items }
 {
     if truth {
@@ -37,7 +37,7 @@ pub(crate) fn append_quoted(
     scratch: &mut Vec<u8>,
     out: &mut Vec<u8>,
 ) -> Result<(), AllocError>
-    ensures ok { OnOk result (out.new.items ≡ out.old.items ++ quoted (encode_utf8_all (chars text.now))) }
+    ensures ok { OnOk result (out.new.items ≡ out.old.items ++ quoted_text (chars text.now)) }
     ensures kept { Extends out.old.items out.new.items }
 {
     if is_bare(text.as_bytes()) {

@@ -3,10 +3,12 @@
 ghost use Rattle.std.specs.Prelude.{◌≡◌, ◌++◌, ◌∷◌, [], false, OnOk};
 ghost use Rattle.json.specs.Token.{number};
 ghost use Rattle.json.specs.Tree.{json_tokens, items_tokens, members_tokens};
+ghost use Rattle.jp_doc.specs.Json.{value_of};
+ghost use Rattle.jp_output.specs.OutputLine.{value_text};
 ghost use Rattle.jp_path_stack.specs.Appended.{Extends};
 ghost use Rattle.serde_json.specs.Find.{is_float};
 ghost use Rattle.serde_json.specs.View.{view, number_view, items_view, members_view};
-ghost use Rattle.serde_json.specs.Written.{has_float, items_have_float, members_have_float, compact_text};
+ghost use Rattle.serde_json.specs.Written.{has_float, items_have_float, members_have_float};
 ghost use Rattle.serde_json.specs.Written.{number_text, outline, items_outline, members_outline};
 
 use crate::scalar_text::{append_null, append_truth};
@@ -28,7 +30,7 @@ pub(crate) fn append_tree(
     out: &mut Vec<u8>,
 ) -> Result<(), AllocError>
     requires { has_float (view value.now) ≡ false }
-    ensures ok { OnOk result (out.new.items ≡ out.old.items ++ compact_text (view value.now)) }
+    ensures ok { OnOk result (out.new.items ≡ out.old.items ++ value_text (value_of value.now)) }
     ensures kept { Extends out.old.items out.new.items }
 {
     match value {
@@ -59,7 +61,7 @@ fn append_number(whole: &Number, out: &mut Vec<u8>) -> Result<(), AllocError>
 /// Makes the compact text in the scratch buffer, by way of the JSON crate's writer.
 fn make_text(alloc: Global, value: &Value, scratch: &mut Vec<u8>) -> Result<(), AllocError>
     requires { has_float (view value.now) ≡ false }
-    ensures { OnOk result (scratch.new.items ≡ compact_text (view value.now)) }
+    ensures { OnOk result (scratch.new.items ≡ value_text (value_of value.now)) }
 {
     scratch.clear();
     let mut writer = Writer::new(mem::replace(scratch, Vec::new(alloc)));

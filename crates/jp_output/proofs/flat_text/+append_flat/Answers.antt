@@ -1,7 +1,8 @@
 use Rattle.std.proofs.Common.{◌≡◌, [], ◌∷◌, ◌+◌, drop, arith}
 use Rattle.std.proofs.lemmas.Grind.{common_steps}
 use Rattle.jp_path_stack.proofs.Extending.{extends_on}
-use Rattle.jp_output.proofs.FlatTexts.{next_listed, left_height}
+use Rattle.jp_output.proofs.FlatTexts.{next_listed, left_height, array_written, object_written}
+use Rattle.jp_flat.specs.Value.{items_value}
 use Rattle.jp_output.proofs.flat_text.+append_flat.Goals as goal
 
 pub append_list-loop-member-preserved : goal.append_list-loop-member-preserved
@@ -20,3 +21,16 @@ append_list-loop-member-preserved t c =
           c.append_flat.ensures.kept;
       height = left_height m here left _ first l.invariant.height;
     }
+
+pub append_items-returns-clause-ok : goal.append_items-returns-clause-ok
+append_items-returns-clause-ok t c =
+    let l = c.loop-item in
+    array_written (items_value c.args.items) (items_value l.left) c.requires.0 l.later _ _ _ _ c.requires.1
+    c.in_default.ensures.value c.in_ok-push.ensures.items l.invariant.rest c.in_ok-push-2.ensures.items
+
+pub append_list-returns-clause-ok : goal.append_list-returns-clause-ok
+append_list-returns-clause-ok t c =
+    let l = c.loop-member in
+    let none : drop l.member-index c.args.list.now ≡ [] = grind (arith, common_steps) in
+    object_written c.args.list.now _ l.later _ _ _ _ none c.in_ok-push.ensures.items l.invariant.rest
+    c.in_ok-push-3.ensures.items

@@ -1,0 +1,107 @@
+-- The compact text of a value, and what the JSON crate writes for it.
+use Rattle.std.proofs.Common.{◌≡◌, ℕ, Bool, true, false, List, [], ◌∷◌, ◌++◌, refl, ap, sym, ◌∙◌}
+use Rattle.std.proofs.Common.{append_assoc, pos, negsuc, ℤ, rules}
+use Rattle.std.specs.Fmt.{signed_decimal}
+use Rattle.json.specs.Print.{token_text}
+use Rattle.json.specs.Token.{boolean}
+use Rattle.serde_json.specs.Data.{number}
+use Rattle.serde_json.specs.View.{view, number_view}
+use Rattle.serde_json.specs.Written.{has_float, number_text, compact_text, comma_if}
+use Rattle.serde_json.specs.Written as crate
+use Rattle.serde_json.specs.declared.number.Number.{Number}
+use Rattle.serde_json.specs.declared.value.Value.{Value, the_lemmas}
+use Rattle.serde_json.specs.declared.value.Value.TheVariants as variant
+use Rattle.jp_doc.proofs.BackLaws.{value_back}
+use Rattle.jp_doc.specs.Json.{Json, null, truth, whole, text, array, object, Items, no_items, add_item}
+use Rattle.jp_doc.specs.Json.{Members, no_members, add_member, value_of, number_of, data_of, items_data}
+use Rattle.jp_doc.specs.Json.{members_data}
+use Rattle.jp_output.specs.OutputLine.{truth_text, quoted_text, value_text, items_text, further_items}
+use Rattle.jp_output.specs.OutputLine.{members_text, further_members}
+
+-- The text of the items that are left, and the closing bracket: behind a comma, where one stands before.
+abbrev pub items_left : Bool → Items → List ℕ
+items_left later no_items = 93 ∷ []
+items_left later (add_item v vs) = comma_if later ++ (value_text v ++ items_left true vs)
+
+-- the same of members, and the closing brace
+abbrev pub members_left : Bool → Members → List ℕ
+members_left later no_members = 125 ∷ []
+members_left later (add_member k v ms) =
+    comma_if later ++ (quoted_text k ++ 58 ∷ (value_text v ++ members_left true ms))
+
+further_items_left : (vs : Items) → items_left true vs ≡ further_items vs ++ 93 ∷ []
+further_items_left no_items = refl
+further_items_left (add_item v vs) =
+    ap (λ (t : List ℕ). 44 ∷ (value_text v ++ t)) (further_items_left vs)
+    ∙ ap (λ (t : List ℕ). 44 ∷ t) (sym (append_assoc (value_text v) (further_items vs) (93 ∷ [])))
+
+all_items_left : (vs : Items) → items_left false vs ≡ items_text vs ++ 93 ∷ []
+all_items_left no_items = refl
+all_items_left (add_item v vs) =
+    ap (λ (t : List ℕ). value_text v ++ t) (further_items_left vs)
+    ∙ sym (append_assoc (value_text v) (further_items vs) (93 ∷ []))
+
+regroup : (name value rest end : List ℕ)
+    → name ++ 58 ∷ (value ++ (rest ++ end)) ≡ (((name ++ 58 ∷ []) ++ value) ++ rest) ++ end
+regroup name value rest end = simp append_assoc
+
+further_members_left : (ms : Members) → members_left true ms ≡ further_members ms ++ 125 ∷ []
+further_members_left no_members = refl
+further_members_left (add_member k v ms) =
+    ap (λ (t : List ℕ). 44 ∷ (quoted_text k ++ 58 ∷ (value_text v ++ t))) (further_members_left ms)
+    ∙ ap (λ (t : List ℕ). 44 ∷ t) (regroup (quoted_text k) (value_text v) (further_members ms) (125 ∷ []))
+
+all_members_left : (ms : Members) → members_left false ms ≡ members_text ms ++ 125 ∷ []
+all_members_left no_members = refl
+all_members_left (add_member k v ms) =
+    ap (λ (t : List ℕ). quoted_text k ++ 58 ∷ (value_text v ++ t)) (further_members_left ms)
+    ∙ regroup (quoted_text k) (value_text v) (further_members ms) (125 ∷ [])
+
+pub array_left : (vs : Items) → value_text (array vs) ≡ 91 ∷ items_left false vs
+array_left vs = ap (λ (t : List ℕ). 91 ∷ t) (sym (all_items_left vs))
+
+pub object_left : (ms : Members) → value_text (object ms) ≡ 123 ∷ members_left false ms
+object_left ms = ap (λ (t : List ℕ). 123 ∷ t) (sym (all_members_left ms))
+
+-- the JSON crate writes the same
+
+truth_same : (b : Bool) → truth_text b ≡ token_text (boolean b)
+truth_same true = refl
+truth_same false = refl
+
+number_same : (z : ℤ) → signed_decimal z ≡ number_text (number_of z)
+number_same (pos n) = refl
+number_same (negsuc n) = refl
+
+mutual
+  pub text_same : (v : Json) → value_text v ≡ compact_text (data_of v)
+  text_same null = refl
+  text_same (truth b) = truth_same b
+  text_same (whole z) = number_same z
+  text_same (text s) = refl
+  text_same (array vs) = array_left vs ∙ ap (λ (t : List ℕ). 91 ∷ t) (items_same false vs)
+  text_same (object ms) = object_left ms ∙ ap (λ (t : List ℕ). 123 ∷ t) (members_same false ms)
+
+  items_same : (later : Bool) (vs : Items) → items_left later vs ≡ crate.items_text later (items_data vs)
+  items_same later no_items = refl
+  items_same later (add_item v vs) =
+      ap (λ (t : List ℕ). comma_if later ++ (t ++ items_left true vs)) (text_same v)
+      ∙ ap (λ (t : List ℕ). comma_if later ++ (compact_text (data_of v) ++ t)) (items_same true vs)
+
+  members_same : (later : Bool) (ms : Members)
+      → members_left later ms ≡ crate.members_text later (members_data ms)
+  members_same later no_members = refl
+  members_same later (add_member k v ms) =
+      ap (λ (t : List ℕ). comma_if later ++ (quoted_text k ++ 58 ∷ (t ++ members_left true ms))) (text_same v)
+      ∙ ap (λ (t : List ℕ). comma_if later ++ (quoted_text k ++ 58 ∷ (compact_text (data_of v) ++ t)))
+      (members_same true ms)
+
+-- and of what it has read as whole numbers, the same
+pub view_text : (v : Value) → has_float (view v) ≡ false → compact_text (view v) ≡ value_text (value_of v)
+view_text v h = ap compact_text (sym (value_back v h)) ∙ sym (text_same (value_of v))
+
+pub number_written : (v : Value) (n : Number) → v ≡ variant.Number n → has_float (view v) ≡ false
+    → number_text (number_view n) ≡ value_text (value_of v)
+number_written v n is h =
+    let seen : view (variant.Number n) ≡ number (number_view n) = search (rules, the_lemmas) in
+    ap compact_text (sym seen ∙ ap view (sym is)) ∙ view_text v h
