@@ -4,17 +4,27 @@
 mod answering;
 mod crew;
 mod examples;
+mod finder;
 mod gate;
+mod joining;
 pub mod laws;
 mod on_fault;
 mod outcome;
 mod parts;
 mod pieces;
+mod published;
+mod round;
+mod row;
 mod worker;
 mod workers;
 
 pub use crew::{Crew, Cutting};
+pub use finder::Found;
 pub use gate::{Gate, OpenGate};
+pub use joining::join_row;
 pub use on_fault::OnFault;
 pub use outcome::{DocStop, Outcome};
+pub use published::Published;
+pub use round::{Round, answer_row};
+pub use row::{FewLines, Progress, Slot, new_row};
 pub use workers::answer_in_chunks;

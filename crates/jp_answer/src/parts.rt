@@ -70,7 +70,7 @@ fn put(placed: &mut Vec<Option<Outcome>>, part: PieceAnswer)
 }
 
 /// So many places without an answer.
-fn no_answers(alloc: Global, count: usize) -> Result<Vec<Option<Outcome>>, AllocError>
+pub(crate) fn no_answers(alloc: Global, count: usize) -> Result<Vec<Option<Outcome>>, AllocError>
     ensures { IfOk result (λ v. v.items ≡ replicate count None) }
 {
     // All places at once: their number is known.

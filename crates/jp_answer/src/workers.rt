@@ -85,7 +85,7 @@ fn place_pieces<R: Threads + Sync, G: Gate + Sync, F: Form + Drop + Send>(
 }
 
 /// A board of so many pieces, and a seat for each worker.
-fn open(alloc: Global, count: u64, workers: u64) -> Result<(Board, Vec<Seat>), AllocError>
+pub(crate) fn open(alloc: Global, count: u64, workers: u64) -> Result<(Board, Vec<Seat>), AllocError>
     requires { AreWorkers workers × (count ≤ 4294967296) }
     ensures board { IfOk result (λ r. (pieces_of_board r.0 ≡ count) × (made_of r.0 ≡ workers)) }
     ensures len { IfOk result (λ r. vec_len r.1 ≡ workers) }
@@ -127,7 +127,7 @@ fn work_all<R: Threads + Sync, G: Gate + Sync, F: Form + Drop + Send>(
 }
 
 /// The mark that is left at the end: the least piece that was reported, or the number of pieces.
-fn close(board: Board, seats: Vec<Seat>) -> u64
+pub(crate) fn close(board: Board, seats: Vec<Seat>) -> u64
     requires seats { All (IsSeatOf board) seats.items }
     requires all { vec_len seats ≡ made_of board }
     ensures { (claimed : ℕ) × Tallies (pieces_of_board board) claimed result (map view_of seats.items) }
