@@ -17,6 +17,7 @@ pub struct Outcome {
 
 impl Outcome {
     ghost use Rattle.std.specs.Prelude.{◌≡◌, ◌+◌, ◌≤◌, [], None, OnOk};
+    ghost use Rattle.jp_board.specs.Limits.{max_pieces};
     ghost use Rattle.jp_answer.specs.Answer.{joined};
     ghost use Rattle.jp_answer.specs.Answered.{outcome_of};
 
@@ -36,7 +37,7 @@ impl Outcome {
     ///
     /// `AllocError` if a growth was refused: then the answer may be lost.
     pub fn put(&mut self, more: Outcome) -> Result<(), AllocError>
-        requires few { (self.old.faulty ≤ 4294967296) × (more.faulty ≤ 4294967296) }
+        requires few { (self.old.faulty ≤ max_pieces) × (more.faulty ≤ max_pieces) }
         ensures answer { (outcome_of self.old).stopped ≡ None → OnOk result
             (outcome_of self.new ≡ joined (outcome_of self.old) (outcome_of more)) }
         ensures passed { self.new.faulty ≡ self.old.faulty + more.faulty }

@@ -1,6 +1,7 @@
 //! What has been published into a row.
 
 ghost use Rattle.std.specs.Prelude.{◌≡◌, ◌≤◌, ◌++◌, [], false, true, length, IfOk, OnErr};
+ghost use Rattle.jp_board.specs.Limits.{max_pieces};
 ghost use Rattle.jp_answer.specs.Rows.{AreShown, shown_lines};
 
 use crate::row::Slot;
@@ -30,12 +31,12 @@ impl Published {
     /// `AllocError` if a growth was refused.
     pub fn publish(&mut self, slots: &[Slot], lines: WaitingLines) -> Result<bool, AllocError>
         requires shown { AreShown slots.now self.old }
-        requires few { length lines ≤ 4294967296 }
+        requires few { length lines ≤ max_pieces }
         ensures shown { AreShown slots.now self.new }
         ensures taken { IfOk result (λ taken. taken ≡ true
             → shown_lines self.new ≡ shown_lines self.old ++ lines) }
-        ensures not_taken { IfOk result (λ taken. taken ≡ false → self.new ≡ self.old) }
-        ensures same { OnErr result (self.new ≡ self.old) }
+        ensures not_taken { IfOk result (λ taken. taken ≡ false → self.new.tokens.items ≡ self.old.tokens.items) }
+        ensures same { OnErr result (self.new.tokens.items ≡ self.old.tokens.items) }
     {
         let at = self.tokens.len();
         if at >= slots.len() {

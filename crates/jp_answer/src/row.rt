@@ -15,8 +15,9 @@ pub struct FewLines;
 
 impl SlotRule<WaitingLines> for FewLines {
     ghost use Rattle.std.specs.Prelude.{◌≤◌, length};
+    ghost use Rattle.jp_board.specs.Limits.{max_pieces};
 
-    ghost holds = { λ _ lines. length lines ≤ 4294967296 };
+    ghost holds = { λ _ lines. length lines ≤ max_pieces };
 }
 
 /// A place for lines, which takes them once.

@@ -1,8 +1,8 @@
 //! Reading on, and publishing what comes, while workers answer it.
 
 ghost use Rattle.std.specs.Prelude.{◌≡◌, ◌+◌, ◌-◌, ◌≤◌, ◌++◌, [], List, take, length, IfOk, OnOk};
-ghost use Rattle.std.specs.List.{concat};
 ghost use Rattle.boxcar.specs.Slot.{Named};
+ghost use Rattle.jp_buffer.specs.Buffered.{all_lines};
 ghost use Rattle.jp_doc.specs.Lines.{Line};
 ghost use Rattle.jp_answer.specs.Rows.{AreShown, shown_lines};
 ghost use Rattle.jp_run.specs.Limits.{max_lines};
@@ -84,9 +84,9 @@ pub(crate) fn publish_on<S: Source>(
     while !given.ended
         && given.lines < wanted.lines
         && incoming.left > 0
+        // Else the round is over, or its row is full.
         && incoming.buffer.len() == 0
         && bytes < ROUND_BYTES
-        && !round.progress.is_over(round.workers)
     {
         bytes += READ_BYTES;
         read_more(alloc, round, source, incoming, wanted, given)?;
@@ -94,7 +94,7 @@ pub(crate) fn publish_on<S: Source>(
     Ok(())
 }
 
-/// Reads on, and publishes what has come.
+/// Reads on, and publishes what has come, unless the round is over: then it waits for the next one.
 fn read_more<S: Source>(
     alloc: Global,
     round: &Round<'_>,
@@ -122,7 +122,9 @@ fn read_more<S: Source>(
         bytes: READ_BYTES,
     };
     given.ended = read_part(source, incoming, enough)?;
-    publish_waiting(alloc, round.slots, incoming, wanted, given)?;
+    if !round.progress.is_over(round.workers) {
+        publish_waiting(alloc, round.slots, incoming, wanted, given)?;
+    }
     Ok(())
 }
 
@@ -158,11 +160,11 @@ fn publish_parts(
     published: &mut Published,
 ) -> Result<usize, AllocError>
     requires shown { AreShown slots.now published.old }
-    requires few { length (concat parts.items) ≤ max_lines + 1 }
+    requires few { length (all_lines parts.items) ≤ max_lines + 1 }
     ensures shown { AreShown slots.now published.new }
-    ensures within { IfOk result (λ n. n ≤ length (concat parts.items)) }
+    ensures within { IfOk result (λ n. n ≤ length (all_lines parts.items)) }
     ensures taken { IfOk result (λ n. shown_lines published.new
-        ≡ shown_lines published.old ++ take n (concat parts.items)) }
+        ≡ shown_lines published.old ++ take n (all_lines parts.items)) }
 {
     let mut taken = 0;
     for part in parts {

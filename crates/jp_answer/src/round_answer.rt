@@ -3,6 +3,7 @@
 ghost use Rattle.std.specs.Prelude.{◌≡◌, ◌≤◌, ◌<◌, ◌+◌, All, IfOk, OnOk, length, replicate, None};
 ghost use Rattle.jp_compiled.specs.Compiled.{compiled_query};
 ghost use Rattle.jp_eval.specs.Evaluated.{evaluated_query};
+ghost use Rattle.jp_board.specs.Limits.{max_pieces};
 ghost use Rattle.jp_answer.specs.OnFault.{manner};
 ghost use Rattle.jp_answer.specs.Rounds.{IsFound, AreRight, IsRightAt};
 ghost use Rattle.jp_answer.specs.Rows.{AreShown, IsAnswerTo, shown_lines};
@@ -32,7 +33,7 @@ pub fn join_row<R: Threads + Sync, G, F: Form + Drop + Send>(
 ) -> Result<Outcome, AllocError>
     requires shown { AreShown round.now.slots.now published.now }
     requires found { All (IsFound F.says round.now) found.items }
-    requires few { length (shown_lines published.now) ≤ 4294967296 }
+    requires few { length (shown_lines published.now) ≤ max_pieces }
     ensures { IfOk result (IsAnswerTo (manner F.says round.now.on_fault)
         (compiled_query round.now.query.now) (shown_lines published.now)) }
 {
