@@ -1,6 +1,7 @@
 //! What has been published into a row.
 
-ghost use Rattle.std.specs.Prelude.{◌≡◌, ◌≤◌, ◌++◌, [], false, true, length, IfOk, OnErr};
+ghost use Rattle.std.specs.Prelude.{◌≡◌, ◌≤◌, ◌++◌, List, [], false, true, length, IfOk, OnErr};
+ghost use Rattle.boxcar.specs.Slot.{Named};
 ghost use Rattle.jp_board.specs.Limits.{max_pieces};
 ghost use Rattle.jp_answer.specs.Rows.{AreShown, shown_lines};
 
@@ -19,7 +20,8 @@ pub struct Published {
 impl Published {
     /// Nothing yet. It takes no memory.
     pub fn new(alloc: Global) -> Published
-        ensures { result.tokens.items ≡ [] }
+        ensures nothing { shown_lines result ≡ [] }
+        ensures shown { (slots : List Named) → AreShown slots result }
     {
         Published {
             tokens: Vec::new(alloc),

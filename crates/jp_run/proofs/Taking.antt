@@ -1,15 +1,26 @@
 -- Reads one after another, of which lines are taken as they come.
 use Rattle.std.proofs.Common.{◌≡◌, ℕ, ◌+◌, ◌-◌, ◌<◌, ◌≤◌, ◌++◌, List, length, Option, Bool, false, sym, ◌∙◌, ap, subst, arith}
-use Rattle.std.proofs.Common.{append_assoc, length-append}
+use Rattle.std.proofs.Common.{append_assoc, append-nil, length-append, length-take-le, take-append-drop, take, drop, true, [], ◌∷◌}
+use Rattle.std.proofs.Common.{Result, Ok, Err, IsErrAnd, refl}
+use Rattle.std.proofs.Math.Seq.{take-append_seam}
+use Rattle.std.proofs.lemmas.List.{take-take}
+use Rattle.std.proofs.lemmas.List.Concat.{flat_map-append}
 use Rattle.std.specs.Io.KnownBytes.{Consumes, Keeps}
 use Rattle.std.proofs.KnownBytes.{Consumes-trans, Consumes-kept}
 use Rattle.jp_doc.specs.Lines.{Line}
 use Rattle.jp_doc.specs.Feeding.{Progress, fed, fed_lines, has_line_feed}
+use Rattle.jp_tree.specs.Tree.{Query as Asked}
+use Rattle.jp_buffer.specs.Buffered.{all_lines}
+use Rattle.jp_answer.specs.OnFault.{Manner}
+use Rattle.jp_answer.specs.Rows.{shown_lines}
 use Rattle.jp_run.specs.declared.fault.RunFault.{RunFault}
+use Rattle.jp_run.specs.declared.incoming.Incoming.{Incoming}
+use Rattle.jp_run.specs.declared.publishing.Given.{Given}
+use Rattle.jp_run.specs.inner.Ahead.{HasTaken, WerePublished}
 use Rattle.jp_run.specs.declared.fault.RunFault.TheVariants.{Query, Document, Read, Write, Limit}
 use Rattle.jp_run.specs.declared.fault.RunFault.TheVariants.{Memory, Settings}
-use Rattle.jp_run.specs.inner.Reading.{HasRead, ReadOnEnded}
-use Rattle.jp_run.proofs.Pieces.{AllRead, fed_twice, lines_twice, read_behind, ended_behind}
+use Rattle.jp_run.specs.inner.Reading.{HasRead, ReadOnEnded, Source}
+use Rattle.jp_run.proofs.Pieces.{AllRead, fed_twice, lines_twice, read_again, read_behind, ended_behind}
 
 module _ (wanted : ℕ) (a b c : Option (List ℕ)) (p q : Progress) (ls ms : List Line)
     (st : AllRead wanted a b p q ls ms) where
@@ -59,3 +70,91 @@ module _ (wanted : ℕ) (a b c : Option (List ℕ)) (p q : Progress) (ls ms : Li
   ended_both failed (Document line fault) h = absurd h
   ended_both failed Write h = absurd h
   ended_both failed Settings h = absurd h
+
+-- a read that failed, or want of memory
+pub taken_failed : {X : Type 0} (wanted : ℕ) (s : Source) (before after : Incoming)
+    (Takes : X → List Line → Type 0) (ended : X → Bool) (r : Result X RunFault) (fault : RunFault)
+    → IsErrAnd r (λ f. f ≡ fault)
+    → ReadOnEnded wanted before.buffer.progress before.buffer.lines s.failed s.old s.new fault
+    → s.reads_new + after.left ≡ s.reads_old + before.left → HasTaken wanted s before after Takes ended r
+taken_failed wanted s before after Takes ended (Ok x) fault h e reads = absurd h
+taken_failed wanted s before after Takes ended (Err f) fault h e reads = record {
+  read = tt;
+  end = tt;
+  working = tt;
+  few_lines = tt;
+  fault = subst (ReadOnEnded wanted before.buffer.progress before.buffer.lines s.failed s.old s.new) (sym h) e;
+  reads = reads;
+  fewer_left = tt;
+}
+
+-- the lines of the parts that were published
+pub taken_so : (done rest all : List (List Line)) (n : ℕ) → all ≡ done ++ rest → n ≡ length (all_lines done)
+    → all_lines done ≡ take n (all_lines all)
+taken_so done rest all n e f = sym (ap (λ n. take n (all_lines all)) f
+    ∙ ap (take (length (all_lines done))) (ap all_lines e ∙ flat_map-append (λ (ls : List Line). ls) done rest)
+    ∙ take-append_seam (all_lines done) (all_lines rest))
+
+-- lines at the front of those that wait were published
+pub were_published : (most : ℕ) (before after : Given) (lines parts : List Line) (count n : ℕ)
+    → count ≤ length lines → before.lines + count ≤ most → parts ≡ take count lines → n ≤ length parts
+    → shown_lines after.published ≡ shown_lines before.published ++ take n parts
+    → after.lines ≡ before.lines + n → WerePublished most before after (take n lines)
+were_published most before after lines parts count n fits few is within e f =
+    let small : n ≤ count = omega (arith, within, ap length is, length-take-le count lines fits) in
+    record {
+      are = e ∙ ap (λ l. shown_lines before.published ++ l) (ap (take n) is ∙ take-take n count lines small);
+      counted = omega (arith, f, length-take-le n lines (omega (arith, small, fits)));
+      few = omega (arith, f, small, few);
+    }
+
+pub nothing_published : (most : ℕ) (before after : Given) → after.published ≡ before.published
+    → after.lines ≡ before.lines → before.lines ≤ most → WerePublished most before after []
+nothing_published most before after e f few = record {
+  are = ap shown_lines e ∙ sym (append-nil (shown_lines before.published));
+  counted = omega (arith, f);
+  few = omega (arith, f, few);
+}
+
+-- further lines were published
+pub were_both : (most : ℕ) (a b c : Given) (ls more : List Line) → WerePublished most a b ls
+    → WerePublished most b c more → WerePublished most a c (ls ++ more)
+were_both most a b c ls more first second = record {
+  are = second.are ∙ ap (λ l. l ++ more) first.are ∙ append_assoc (shown_lines a.published) ls more;
+  counted = omega (arith, first.counted, second.counted, length-append ls more);
+  few = second.few;
+}
+
+-- reads behind lines that are published: they are among those that were wanted
+module _ (left wanted : ℕ) (taken waiting kept : List Line) (sum : length taken + left ≡ wanted)
+    (is : kept ≡ taken ++ waiting) where
+  pub read_taken : (a b : Option (List ℕ)) (last : ℕ) (p next : Progress) (ls more : List Line)
+      → HasRead left a b last p next waiting (ls ++ more)
+      → HasRead wanted a b last p next kept ((taken ++ ls) ++ more)
+  read_taken a b last p next ls more h =
+      subst (λ (l : List Line). HasRead wanted a b last p next kept l) (sym (append_assoc taken ls more))
+      (read_behind left wanted taken waiting kept sum is p a b last next (ls ++ more) h)
+
+  pub ended_taken : (failed : Bool) (a b : Option (List ℕ)) (p : Progress) (f : RunFault)
+      → ReadOnEnded left p waiting failed a b f → ReadOnEnded wanted p kept failed a b f
+  ended_taken failed a b p f h = ended_behind left wanted taken waiting kept sum is p failed a b f h
+
+-- reads in a further turn, behind what was published in those before
+module _ (left wanted : ℕ) (a b c : Option (List ℕ)) (n : ℕ) (p q : Progress) (all ls waiting : List Line)
+    (rd : HasRead wanted a b n p q all (ls ++ waiting)) (sum : length ls + left ≡ wanted)
+    (few : length waiting < left) where
+  few_all : length (ls ++ waiting) < wanted
+  few_all = omega (arith, few, sum, length-append ls waiting)
+
+  pub read_turn : (last : ℕ) (r : Progress) (more rest : List Line)
+      → HasRead left b c last q r waiting (more ++ rest)
+      → HasRead wanted a c last p r all ((ls ++ more) ++ rest)
+  read_turn last r more rest h = read_both wanted a b c p q all (ls ++ waiting)
+      (read_again wanted a b n p q all (ls ++ waiting) rd few_all) r ((ls ++ more) ++ rest) last
+      (read_taken left wanted ls waiting (ls ++ waiting) sum refl b c last q r more rest h)
+
+  pub ended_turn : (failed : Bool) (f : RunFault) → ReadOnEnded left q waiting failed b c f
+      → ReadOnEnded wanted p all failed a c f
+  ended_turn failed f h = ended_both wanted a b c p q all (ls ++ waiting)
+      (read_again wanted a b n p q all (ls ++ waiting) rd few_all) failed f
+      (ended_taken left wanted ls waiting (ls ++ waiting) sum refl failed b c q f h)

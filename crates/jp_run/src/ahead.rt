@@ -1,7 +1,7 @@
 //! Reading on while the lines that have come are answered.
 
 ghost use Rattle.std.specs.Prelude.{◌≡◌, ◌+◌, ◌<◌, ◌≤◌, ◌^◌, ◌++◌, None, false, true, List, length, IfOk};
-ghost use Rattle.std.specs.Prelude.{OnOk, IfErr, All};
+ghost use Rattle.std.specs.Prelude.{◌-◌, OnOk, IfErr, All};
 ghost use Rattle.std.specs.Io.KnownBytes.{IsAtEnd};
 ghost use Rattle.std.specs.Thread.{IsSync};
 ghost use Rattle.jp_doc.specs.Lines.{Line};
@@ -27,7 +27,8 @@ use crate::publishing::{Given, Wanted, publish_on, publish_waiting};
 use crate::settings::Settings;
 use crate::stream::Stream;
 use crate::telling::tell_round;
-use jp_answer::{Found, Gate, Outcome, Progress, Round, Slot, answer_row, join_row, new_row};
+use jp_answer::{Found, Gate, Outcome, Progress, Published, Round, Slot};
+use jp_answer::{answer_row, join_row, new_row};
 use jp_buffer::{LineBuffer, PartSize, WaitingLines};
 use jp_output::Form;
 use std::alloc::AllocError;
@@ -84,19 +85,24 @@ pub(crate) fn read_on<R: Threads + Sync, S: Source, G: Gate + Sync, F: Form + Dr
     ensures fewer_left { OnOk result (stream.new.incoming.left < stream.old.incoming.left) }
 {
     let lines = job.settings.batch as usize - stream.held.count;
-    let bytes = if job.settings.workers == 1 { PART_BYTES } else { FIRST_BYTES };
+    let bytes = part_bytes(job.settings.workers);
     // Too few: they are answered when their batch is whole, or more have come.
     if stream.incoming.buffer.total_bytes() < bytes {
         let ended = read_part(source, &mut stream.incoming, Enough { lines, bytes })?;
         return Ok(ended);
     }
-    let ahead = if job.settings.workers == 1 {
-        read_first::<R, S, G, F>(job, source, stream, Enough { lines, bytes })?
-    } else {
-        read_beside::<R, S, G, F>(job, source, &mut stream.incoming, lines)?
-    };
+    let ahead = answer_ahead::<R, S, G, F>(job, source, stream, Enough { lines, bytes })?;
     stream.held.put(ahead.count, ahead.answer)?;
     Ok(ahead.ended)
+}
+
+/// How many bytes of lines have to wait before they are answered, though their batch is not whole.
+fn part_bytes(workers: u64) -> usize {
+    if workers == 1 {
+        PART_BYTES
+    } else {
+        FIRST_BYTES
+    }
 }
 
 /// What was answered while it was read on.
@@ -109,6 +115,33 @@ struct Ahead {
     ended: bool,
 }
 
+/// Answers the lines that wait, and reads on: beside it, where there is more than one worker.
+fn answer_ahead<R: Threads + Sync, S: Source, G: Gate + Sync, F: Form + Drop + Send>(
+    job: &Job<R, G>,
+    source: &mut S,
+    stream: &mut Stream,
+    enough: Enough,
+) -> Result<Ahead, RunFault>
+    requires reading { MayRead enough.lines (S.failed source.old) (S.reads source.old) stream.old.incoming }
+    requires few { enough.lines ≤ 1000000 }
+    ensures read { HasAnswered (manner_in F.says job.now.settings.keeps_going) (compiled_query job.now.query.now)
+      enough.lines (record {
+        old = S.remaining source.old;
+        new = S.remaining source.new;
+        last = S.last source.new;
+        failed = S.failed source.new;
+        reads_old = S.reads source.old;
+        reads_new = S.reads source.new;
+      }) stream.old.incoming stream.new.incoming result }
+    ensures held { stream.new.held ≡ stream.old.held }
+    ensures answered { stream.new.answered ≡ stream.old.answered }
+{
+    if job.settings.workers == 1 {
+        return read_first::<R, S, G, F>(job, source, stream, enough);
+    }
+    read_beside::<R, S, G, F>(job, source, &mut stream.incoming, enough.lines)
+}
+
 /// Reads on, and then answers the lines that came before.
 fn read_first<R: Threads + Sync, S: Source, G: Gate + Sync, F: Form + Drop + Send>(
     job: &Job<R, G>,
@@ -117,6 +150,7 @@ fn read_first<R: Threads + Sync, S: Source, G: Gate + Sync, F: Form + Drop + Sen
     enough: Enough,
 ) -> Result<Ahead, RunFault>
     requires reading { MayRead enough.lines (S.failed source.old) (S.reads source.old) stream.old.incoming }
+    requires few { enough.lines ≤ 1000000 }
     ensures read { HasAnswered (manner_in F.says job.now.settings.keeps_going) (compiled_query job.now.query.now)
       enough.lines (record {
         old = S.remaining source.old;
@@ -180,7 +214,11 @@ fn read_beside<R: Threads + Sync, S: Source, G: Gate + Sync, F: Form + Drop + Se
         lines,
         size: size_for(&job.settings, lines, workers),
     };
-    let mut given = Given::new(crew.alloc);
+    let mut given = Given {
+        published: Published::new(crew.alloc),
+        lines: 0,
+        ended: false,
+    };
     // Before there are threads, so that each finds something to do.
     publish_waiting(crew.alloc, &slots, incoming, wanted, &mut given)?;
     let (found, read) = at_once::<R, S, G, F>(job, &round, source, incoming, wanted, &mut given);

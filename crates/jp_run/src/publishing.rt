@@ -1,7 +1,6 @@
 //! Reading on, and publishing what comes, while workers answer it.
 
-ghost use Rattle.std.specs.Prelude.{◌≡◌, ◌+◌, ◌-◌, ◌≤◌, ◌++◌, [], List, take, length, IfOk, OnOk};
-ghost use Rattle.boxcar.specs.Slot.{Named};
+ghost use Rattle.std.specs.Prelude.{◌≡◌, ◌+◌, ◌-◌, ◌≤◌, ◌++◌, List, take, length, IfOk, OnOk};
 ghost use Rattle.jp_buffer.specs.Buffered.{all_lines};
 ghost use Rattle.jp_doc.specs.Lines.{Line};
 ghost use Rattle.jp_answer.specs.Rows.{AreShown, shown_lines};
@@ -38,21 +37,6 @@ pub(crate) struct Given {
     /// How many lines were published.
     pub(crate) lines: usize,
     pub(crate) ended: bool,
-}
-
-impl Given {
-    /// Nothing yet. It takes no memory.
-    pub(crate) fn new(alloc: Global) -> Given
-        ensures published { shown_lines result.published ≡ [] }
-        ensures shown { (slots : List Named) → AreShown slots result.published }
-        ensures lines { result.lines ≡ 0 }
-    {
-        Given {
-            published: Published::new(alloc),
-            lines: 0,
-            ended: false,
-        }
-    }
 }
 
 /// Reads on, and publishes what comes, until so many lines are published, the round has enough or is over,
@@ -170,7 +154,7 @@ fn publish_parts(
     for part in parts {
         let count = part.len();
         if !published.publish(slots, part)? {
-            break;
+            return Ok(taken);
         }
         taken += count;
     }

@@ -8,8 +8,8 @@ use Rattle.jp_run.specs.inner.Ahead.{WerePublished}
 use Rattle.jp_run.specs.inner.Reading.{HasRead}
 use Rattle.jp_run.proofs.publishing.publish_on.Given as goal
 
-abbrev pub invariant-loop : goal.invariant-loop
-invariant-loop g l = record {
+abbrev pub invariant-loop-given : goal.invariant-loop-given
+invariant-loop-given g l = record {
   shown : AreShown l.round.slots.now l.given.published;
   working : g.S.Source.failed l.source ≡ false;
   few_lines : l.incoming.buffer.progress.count ≤ max_lines;
@@ -23,5 +23,5 @@ invariant-loop g l = record {
   fewer_left : l.incoming.left < l.fn.incoming.left;
 }
 
-abbrev pub decreases-loop : goal.decreases-loop
-decreases-loop g l = l.incoming.left
+abbrev pub decreases-loop-given : goal.decreases-loop-given
+decreases-loop-given g l = l.incoming.left
