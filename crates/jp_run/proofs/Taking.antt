@@ -11,12 +11,17 @@ use Rattle.jp_doc.specs.Lines.{Line}
 use Rattle.jp_doc.specs.Feeding.{Progress, fed, fed_lines, has_line_feed}
 use Rattle.jp_tree.specs.Tree.{Query as Asked}
 use Rattle.jp_buffer.specs.Buffered.{all_lines}
-use Rattle.jp_answer.specs.OnFault.{Manner}
-use Rattle.jp_answer.specs.Rows.{shown_lines}
+use Rattle.jp_output.specs.OutputForm.{OutputForm}
+use Rattle.jp_answer.specs.OnFault.{manner}
+use Rattle.jp_answer.specs.Rows.{IsAnswerTo, shown_lines}
+use Rattle.jp_answer.specs.declared.on_fault.OnFault.{OnFault}
+use Rattle.jp_answer.specs.declared.outcome.Outcome.{Outcome}
+use Rattle.jp_answer.proofs.OnFaults.{passed_few}
 use Rattle.jp_run.specs.declared.fault.RunFault.{RunFault}
 use Rattle.jp_run.specs.declared.incoming.Incoming.{Incoming}
 use Rattle.jp_run.specs.declared.publishing.Given.{Given}
 use Rattle.jp_run.specs.inner.Ahead.{HasTaken, WerePublished}
+use Rattle.jp_run.specs.inner.Holding.{IsAnswerOf}
 use Rattle.jp_run.specs.declared.fault.RunFault.TheVariants.{Query, Document, Read, Write, Limit}
 use Rattle.jp_run.specs.declared.fault.RunFault.TheVariants.{Memory, Settings}
 use Rattle.jp_run.specs.inner.Reading.{HasRead, ReadOnEnded, Source}
@@ -135,6 +140,14 @@ module _ (left wanted : ℕ) (taken waiting kept : List Line) (sum : length take
       subst (λ (l : List Line). HasRead wanted a b last p next kept l) (sym (append_assoc taken ls more))
       (read_behind left wanted taken waiting kept sum is p a b last next (ls ++ more) h)
 
+  -- the same from where the lines that were published had left off
+  pub from_progress : (a b : Option (List ℕ)) (last : ℕ) (p q next : Progress) (ls more : List Line)
+      → q ≡ p → HasRead left a b last q next waiting (ls ++ more)
+      → HasRead wanted a b last p next kept ((taken ++ ls) ++ more)
+  from_progress a b last p q next ls more e h =
+      subst (λ (p : Progress). HasRead wanted a b last p next kept ((taken ++ ls) ++ more)) e
+      (read_taken a b last q next ls more h)
+
   pub ended_taken : (failed : Bool) (a b : Option (List ℕ)) (p : Progress) (f : RunFault)
       → ReadOnEnded left p waiting failed a b f → ReadOnEnded wanted p kept failed a b f
   ended_taken failed a b p f h = ended_behind left wanted taken waiting kept sum is p failed a b f h
@@ -158,3 +171,22 @@ module _ (left wanted : ℕ) (a b c : Option (List ℕ)) (n : ℕ) (p q : Progre
   ended_turn failed f h = ended_both wanted a b c p q all (ls ++ waiting)
       (read_again wanted a b n p q all (ls ++ waiting) rd few_all) failed f
       (ended_taken left wanted ls waiting (ls ++ waiting) sum refl failed b c q f h)
+
+-- what was taken, where nothing failed
+pub taken_ok : {X : Type 0} (wanted : ℕ) (s : Source) (before after : Incoming)
+    (Takes : X → List Line → Type 0) (ended : X → Bool) (r : Result X RunFault) (x : X) → r ≡ Ok x
+    → HasTaken wanted s before after Takes ended r → HasTaken wanted s before after Takes ended (Ok x)
+taken_ok {X} wanted s before after Takes ended r x was h =
+    subst (λ (r : Result X RunFault). HasTaken wanted s before after Takes ended r) was h
+
+-- the answer to what was published, as it is held
+pub answered_of : (form : OutputForm) (done meant : OnFault) (q : Asked) (ls all : List Line) (a : Outcome)
+    → done ≡ meant → ls ≡ all → IsAnswerTo (manner form done) q ls a
+    → IsAnswerOf (manner form meant) q all a
+answered_of form done meant q ls all a e f is =
+    subst (λ (k : OnFault). IsAnswerOf (manner form k) q all a) e
+    (subst (λ (l : List Line). IsAnswerOf (manner form done) q l a) f (record {
+      is = is.answer;
+      passed = is.passed;
+      few = omega (arith, is.passed, passed_few done ls);
+    }))

@@ -12,7 +12,7 @@ ghost use Rattle.jp_run.specs.Answered.{manner_in};
 ghost use Rattle.jp_answer.specs.Ranges.{AreWorkers};
 ghost use Rattle.jp_answer.specs.Rounds.{IsFound};
 ghost use Rattle.jp_answer.specs.Rows.{AreShown};
-ghost use Rattle.jp_run.specs.inner.Ahead.{HasAnswered, HasPublished};
+ghost use Rattle.jp_run.specs.inner.Ahead.{HasAnswered, HasPublishedRound};
 ghost use Rattle.jp_run.specs.inner.Holding.{IsHeld, ReadOn};
 ghost use Rattle.jp_run.specs.inner.Reading.{MayRead, ReadOnEnded};
 ghost use Rattle.jp_run.specs.Limits.{max_lines};
@@ -217,13 +217,12 @@ fn read_beside<R: Threads + Sync, S: Source, G: Gate + Sync, F: Form + Drop + Se
     let mut given = Given {
         published: Published::new(crew.alloc),
         lines: 0,
-        ended: false,
     };
     // Before there are threads, so that each finds something to do.
     publish_waiting(crew.alloc, &slots, incoming, wanted, &mut given)?;
-    let (found, read) = at_once::<R, S, G, F>(job, &round, source, incoming, wanted, &mut given);
+    let (found, ended) = at_once::<R, S, G, F>(job, &round, source, incoming, wanted, &mut given);
     // Where both have failed it is the read that is told (README, Why so).
-    read?;
+    let ended = ended?;
     let answer = join_row::<R, G, F>(crew, &round, &given.published, found?);
     tell_round(crew.alloc, crew.gate, &round, &given.published, &answer);
     let answer = answer?;
@@ -231,7 +230,7 @@ fn read_beside<R: Threads + Sync, S: Source, G: Gate + Sync, F: Form + Drop + Se
     Ok(Ahead {
         count: given.lines,
         answer,
-        ended: given.ended,
+        ended,
     })
 }
 
@@ -243,14 +242,14 @@ fn at_once<R: Threads + Sync, S: Source, G: Gate + Sync, F: Form + Drop + Send>(
     incoming: &mut Incoming,
     wanted: Wanted,
     given: &mut Given,
-) -> (Result<Vec<Found>, AllocError>, Result<(), RunFault>)
+) -> (Result<Vec<Found>, AllocError>, Result<bool, RunFault>)
     requires shown { AreShown round.now.slots.now given.old.published }
     requires few { given.old.lines ≤ wanted.lines }
     requires reading { MayRead (wanted.lines - given.old.lines) (S.failed source.old) (S.reads source.old)
         incoming.old }
     ensures found { IfOk result.0 (λ v. All (IsFound F.says round.now) v.items) }
     ensures shown { AreShown round.now.slots.now given.new.published }
-    ensures read { HasPublished wanted.lines (record {
+    ensures read { HasPublishedRound wanted.lines (record {
       old = S.remaining source.old;
       new = S.remaining source.new;
       last = S.last source.new;
@@ -263,7 +262,7 @@ fn at_once<R: Threads + Sync, S: Source, G: Gate + Sync, F: Form + Drop + Send>(
         requires { IsSync R.row × IsSync G.row }
         ensures { IfOk result (λ v. All (IsFound F.says round.entry.now) v.items) }
     { answer_row::<R, G, F>(&job.crew, round) };
-    let mut reading = || -> Result<(), RunFault> {
+    let mut reading = || -> Result<bool, RunFault> {
         publish_on(job.crew.alloc, round, source, incoming, wanted, given)
     };
     join_mut(job.crew.rt, &mut answering, &mut reading)

@@ -5,7 +5,7 @@ ghost use Rattle.jp_buffer.specs.Buffered.{all_lines};
 ghost use Rattle.jp_doc.specs.Lines.{Line};
 ghost use Rattle.jp_answer.specs.Rows.{AreShown, shown_lines};
 ghost use Rattle.jp_run.specs.Limits.{max_lines};
-ghost use Rattle.jp_run.specs.inner.Ahead.{HasPublished, WerePublished};
+ghost use Rattle.jp_run.specs.inner.Ahead.{HasPublished, HasPublishedRound, WerePublished};
 ghost use Rattle.jp_run.specs.inner.Reading.{MayRead};
 
 use crate::ends::Source;
@@ -30,17 +30,16 @@ pub(crate) struct Wanted {
     ghost few: { lines ≤ 1000000 },
 }
 
-/// What a round has been given, and whether the input has ended.
+/// What a round has been given.
 #[derive(Drop)]
 pub(crate) struct Given {
     pub(crate) published: Published,
     /// How many lines were published.
     pub(crate) lines: usize,
-    pub(crate) ended: bool,
 }
 
 /// Reads on, and publishes what comes, until so many lines are published, the round has enough or is over,
-/// or the input has ended. It reads once at least.
+/// or the input has ended. It reads once at least. Gives whether the input has ended.
 pub(crate) fn publish_on<S: Source>(
     alloc: Global,
     round: &Round<'_>,
@@ -48,13 +47,13 @@ pub(crate) fn publish_on<S: Source>(
     incoming: &mut Incoming,
     wanted: Wanted,
     given: &mut Given,
-) -> Result<(), RunFault>
+) -> Result<bool, RunFault>
     requires shown { AreShown round.now.slots.now given.old.published }
     requires few { given.old.lines ≤ wanted.lines }
     requires reading { MayRead (wanted.lines - given.old.lines) (S.failed source.old) (S.reads source.old)
         incoming.old }
     ensures shown { AreShown round.now.slots.now given.new.published }
-    ensures read { HasPublished wanted.lines (record {
+    ensures read { HasPublishedRound wanted.lines (record {
       old = S.remaining source.old;
       new = S.remaining source.new;
       last = S.last source.new;
@@ -64,8 +63,8 @@ pub(crate) fn publish_on<S: Source>(
     }) incoming.old incoming.new given.old given.new result }
 {
     let mut bytes = READ_BYTES;
-    read_more(alloc, round, source, incoming, wanted, given)?;
-    while !given.ended
+    let mut ended = read_more(alloc, round, source, incoming, wanted, given)?;
+    while !ended
         && given.lines < wanted.lines
         && incoming.left > 0
         // Else the round is over, or its row is full.
@@ -73,12 +72,13 @@ pub(crate) fn publish_on<S: Source>(
         && bytes < ROUND_BYTES
     {
         bytes += READ_BYTES;
-        read_more(alloc, round, source, incoming, wanted, given)?;
+        ended = read_more(alloc, round, source, incoming, wanted, given)?;
     }
-    Ok(())
+    Ok(ended)
 }
 
-/// Reads on, and publishes what has come, unless the round is over: then it waits for the next one.
+/// Reads on, and publishes what has come, unless the round is over: then it waits for the next one. Gives
+/// whether the input has ended.
 fn read_more<S: Source>(
     alloc: Global,
     round: &Round<'_>,
@@ -86,7 +86,7 @@ fn read_more<S: Source>(
     incoming: &mut Incoming,
     wanted: Wanted,
     given: &mut Given,
-) -> Result<(), RunFault>
+) -> Result<bool, RunFault>
     requires shown { AreShown round.now.slots.now given.old.published }
     requires few { given.old.lines ≤ wanted.lines }
     requires reading { MayRead (wanted.lines - given.old.lines) (S.failed source.old) (S.reads source.old)
@@ -105,11 +105,11 @@ fn read_more<S: Source>(
         lines: wanted.lines - given.lines,
         bytes: READ_BYTES,
     };
-    given.ended = read_part(source, incoming, enough)?;
+    let ended = read_part(source, incoming, enough)?;
     if !round.progress.is_over(round.workers) {
         publish_waiting(alloc, round.slots, incoming, wanted, given)?;
     }
-    Ok(())
+    Ok(ended)
 }
 
 /// Publishes the lines that wait, as long as lines are wanted and there are slots.
@@ -125,7 +125,6 @@ pub(crate) fn publish_waiting(
     ensures shown { AreShown slots.now given.new.published }
     ensures published { OnOk result ((ls : List Line) × WerePublished wanted.lines given.old given.new ls
         × (incoming.old.buffer.lines ≡ ls ++ incoming.new.buffer.lines)) }
-    ensures ended { given.new.ended ≡ given.old.ended }
     ensures progress { incoming.new.buffer.progress ≡ incoming.old.buffer.progress }
     ensures left { incoming.new.left ≡ incoming.old.left }
 {

@@ -36,11 +36,15 @@ pub record WerePublished (most : ℕ) (before after : Given) (ls : List Line) : 
   pub few : after.lines ≤ most
 
 -- it was read on, and lines were published
-abbrev pub HasPublished : ℕ → Source → Incoming → Incoming → Given → Given → Result (Unit {0}) RunFault
-    → Type 0
+abbrev pub HasPublished : ℕ → Source → Incoming → Incoming → Given → Given → Result Bool RunFault → Type 0
 HasPublished wanted s before after given more r =
     HasTaken (wanted - given.lines) s before after (λ _ ls. WerePublished wanted given more ls)
-    (λ _. more.ended) r
+    (λ ended. ended) r
+
+-- the same by one round: a record of its own, so that a caller's proof finds it whole
+pub record HasPublishedRound (wanted : ℕ) (s : Source) (before after : Incoming) (given more : Given)
+    (r : Result Bool RunFault) : Type 0 where
+  pub taken : HasPublished wanted s before after given more r
 
 -- these lines are answered, so many at most
 pub record AreAnswered (going : Manner) (q : Query) (most : ℕ) (a : Ahead) (ls : List Line) : Type 0 where
