@@ -1,7 +1,7 @@
 -- Answers to lines that were published in a row, joined.
 use Rattle.std.proofs.Common.{◌≡◌, ℕ, ◌+◌, ◌<◌, ◌≤◌, List, [], ◌∷◌, ◌++◌, length, take, drop, get_or, set}
 use Rattle.std.proofs.Common.{replicate, Option, Some, None, false, true, refl, sym, ap, subst, ◌∙◌, ⊎_elim, arith}
-use Rattle.std.proofs.Common.{add-one, IfSome, append_assoc, length-append, take-append-drop, Result, Ok, Err, IfOk}
+use Rattle.std.proofs.Common.{add-one, length-append, take-append-drop, Result, Ok, Err}
 use Rattle.std.proofs.lemmas.Bool.{cases_eq, cases_lt}
 use Rattle.std.proofs.lemmas.List.{get_or_append_left, get_or_push, get_or-set_same, get_or-set_other}
 use Rattle.std.proofs.lemmas.List.{length-set, get_or-replicate, length-replicate, flat_map_more}
@@ -18,13 +18,12 @@ use Rattle.jp_doc.specs.Lines.{Line}
 use Rattle.jp_doc.specs.Reading.{reading}
 use Rattle.jp_doc.specs.declared.fault.DocFault.{DocFault}
 use Rattle.jp_tree.specs.Tree.{Query}
-use Rattle.jp_regexp.specs.Tests.{Tests, AreRight as RightTests}
 use Rattle.jp_output.specs.OutputForm.{OutputForm}
-use Rattle.jp_answer.specs.Answer.{Answer, joined, unless_stopped, after}
+use Rattle.jp_answer.specs.Answer.{Answer, joined, unless_stopped}
 use Rattle.jp_answer.specs.Answered.{outcome_of}
 use Rattle.jp_answer.specs.Faults.{fault_or, first_fault}
 use Rattle.jp_answer.specs.OnFault.{Manner, answer_by, stop_in, passed_in}
-use Rattle.jp_answer.specs.Rounds.{IsRoundAnswer, IsRightAt, AreRight}
+use Rattle.jp_answer.specs.Rounds.{IsRightAt, AreRight}
 use Rattle.jp_answer.specs.Rows.{AreShown, IsAnswerTo, shown_lines}
 use Rattle.jp_answer.specs.declared.on_fault.OnFault.{OnFault}
 use Rattle.jp_answer.specs.declared.on_fault.OnFault.TheVariants.{Stop, KeepGoing}
@@ -47,7 +46,7 @@ pub shown_push : (slots : List Named) (p next : Published) (n : ℕ) (new : Toke
 shown_push slots p next n new len room of is old =
     let shown : List Token = p.tokens.items in
     subst (λ (ws : List Token). (length ws ≤ length slots)
-        × ((at : ℕ) (w : Token) (s : Named) → at < length ws → (get_or ws at w).of ≡ (get_or slots at s).id))
+    × ((at : ℕ) (w : Token) (s : Named) → at < length ws → (get_or ws at w).of ≡ (get_or slots at s).id))
     (sym is) (
       omega (arith, length-append shown (new ∷ [])),
       λ at w s below. ⊎_elim

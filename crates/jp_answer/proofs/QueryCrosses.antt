@@ -43,5 +43,12 @@ pub pieces_sync : (a : NamedLft) → IsSync (Pieces.the_row a)
 pieces_sync a = search (query_sync, lines.the_sync, crosses, sendable) depth 60 fits 20000
 
 pub round_sync : (a : NamedLft) → IsSync (Round.the_row a)
-round_sync a = search (query_sync, slot_sync, lines_waiting.the_sync, lines_waiting.the_send, progress.the_sync,
-    crosses, sendable) depth 60 fits 20000
+round_sync a = search (
+  query_sync,
+  slot_sync,
+  lines_waiting.the_sync,
+  lines_waiting.the_send,
+  progress.the_sync,
+  crosses,
+  sendable,
+) depth 60 fits 20000

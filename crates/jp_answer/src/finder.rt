@@ -124,13 +124,7 @@ fn find_next<R: Threads + Sync, G: Gate, F: Form + Drop + Send>(
         return Ok(false);
     };
     crew.gate.pass(piece);
-    let answer = answer_slot::<R, G, F>(
-        crew,
-        round,
-        &mut place.tools,
-        &round.slots[at],
-        &seen,
-    )?;
+    let answer = answer_slot::<R, G, F>(crew, round, &mut place.tools, &round.slots[at], &seen)?;
     let stopped = answer.stopped.is_some();
     place.found.push(Found { at, seen, answer })?;
     if stopped {

@@ -69,13 +69,7 @@ fn answer_at<R: Threads + Sync, G, F: Form + Drop + Send>(
     if let Some(answer) = place {
         return Ok(answer);
     }
-    answer_slot::<R, G, F>(
-        crew,
-        round,
-        tools,
-        &round.slots[at],
-        &published.tokens[at],
-    )
+    answer_slot::<R, G, F>(crew, round, tools, &round.slots[at], &published.tokens[at])
 }
 
 /// What workers have found, each at its slot's place.

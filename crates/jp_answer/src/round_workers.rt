@@ -62,10 +62,7 @@ fn at_once<R: Threads + Sync, G: Gate + Sync, F: Form + Drop + Send>(
 /// The seats of all workers, and what they have found.
 ///
 /// `AllocError` too where one of them wanted memory.
-fn collect(
-    alloc: Global,
-    workers: Vec<Finder>,
-) -> Result<(Vec<Seat>, Vec<Found>), AllocError>
+fn collect(alloc: Global, workers: Vec<Finder>) -> Result<(Vec<Seat>, Vec<Found>), AllocError>
     ensures seats { IfOk result (λ r. r.0.items ≡ map (λ w. w.seat) workers.items) }
     ensures found { IfOk result (λ r. r.1.items ≡ flat_map (λ w. w.found.items) workers.items) }
 {

@@ -86,7 +86,11 @@ fn place_pieces<R: Threads + Sync, G: Gate + Sync, F: Form + Drop + Send>(
 }
 
 /// A board of so many pieces, and a seat for each worker.
-pub(crate) fn open(alloc: Global, count: u64, workers: u64) -> Result<(Board, Vec<Seat>), AllocError>
+pub(crate) fn open(
+    alloc: Global,
+    count: u64,
+    workers: u64,
+) -> Result<(Board, Vec<Seat>), AllocError>
     requires { AreWorkers workers × (count ≤ max_pieces) }
     ensures board { IfOk result (λ r. (pieces_of_board r.0 ≡ count) × (made_of r.0 ≡ workers)) }
     ensures len { IfOk result (λ r. vec_len r.1 ≡ workers) }

@@ -1,14 +1,14 @@
 -- Reads one after another, of which lines are taken as they come.
-use Rattle.std.proofs.Common.{◌≡◌, ℕ, ◌+◌, ◌-◌, ◌<◌, ◌≤◌, ◌++◌, List, length, Option, Bool, false, sym, ◌∙◌, ap, subst, arith}
-use Rattle.std.proofs.Common.{append_assoc, append-nil, length-append, length-take-le, take-append-drop, take, drop, true, [], ◌∷◌}
+use Rattle.std.proofs.Common.{◌≡◌, ℕ, ◌+◌, ◌<◌, ◌≤◌, ◌++◌, List, length, Option, Bool, sym, ◌∙◌, ap, subst, arith}
+use Rattle.std.proofs.Common.{append_assoc, append-nil, length-append, length-take-le, take, []}
 use Rattle.std.proofs.Common.{Result, Ok, Err, IsErrAnd, refl}
 use Rattle.std.proofs.Math.Seq.{take-append_seam}
 use Rattle.std.proofs.lemmas.List.{take-take}
 use Rattle.std.proofs.lemmas.List.Concat.{flat_map-append}
-use Rattle.std.specs.Io.KnownBytes.{Consumes, Keeps}
-use Rattle.std.proofs.KnownBytes.{Consumes-trans, Consumes-kept}
+use Rattle.std.specs.Io.KnownBytes.{Consumes}
+use Rattle.std.proofs.KnownBytes.{Consumes-trans}
 use Rattle.jp_doc.specs.Lines.{Line}
-use Rattle.jp_doc.specs.Feeding.{Progress, fed, fed_lines, has_line_feed}
+use Rattle.jp_doc.specs.Feeding.{Progress, fed, fed_lines}
 use Rattle.jp_tree.specs.Tree.{Query as Asked}
 use Rattle.jp_buffer.specs.Buffered.{all_lines}
 use Rattle.jp_output.specs.OutputForm.{OutputForm}

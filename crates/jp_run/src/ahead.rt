@@ -27,8 +27,9 @@ use crate::publishing::{Given, Wanted, publish_on, publish_waiting};
 use crate::settings::Settings;
 use crate::stream::Stream;
 use crate::telling::tell_round;
-use jp_answer::{Found, Gate, Outcome, Progress, Published, Round, Slot};
-use jp_answer::{answer_row, join_row, new_row};
+use jp_answer::{
+    Found, Gate, Outcome, Progress, Published, Round, Slot, answer_row, join_row, new_row,
+};
 use jp_buffer::{LineBuffer, PartSize, WaitingLines};
 use jp_output::Form;
 use std::alloc::AllocError;
@@ -125,14 +126,14 @@ fn answer_ahead<R: Threads + Sync, S: Source, G: Gate + Sync, F: Form + Drop + S
     requires reading { MayRead enough.lines (S.failed source.old) (S.reads source.old) stream.old.incoming }
     requires few { enough.lines ≤ 1000000 }
     ensures read { HasAnswered (manner_in F.says job.now.settings.keeps_going) (compiled_query job.now.query.now)
-      enough.lines (record {
-        old = S.remaining source.old;
-        new = S.remaining source.new;
-        last = S.last source.new;
-        failed = S.failed source.new;
-        reads_old = S.reads source.old;
-        reads_new = S.reads source.new;
-      }) stream.old.incoming stream.new.incoming result }
+        enough.lines (record {
+          old = S.remaining source.old;
+          new = S.remaining source.new;
+          last = S.last source.new;
+          failed = S.failed source.new;
+          reads_old = S.reads source.old;
+          reads_new = S.reads source.new;
+        }) stream.old.incoming stream.new.incoming result }
     ensures held { stream.new.held ≡ stream.old.held }
     ensures answered { stream.new.answered ≡ stream.old.answered }
 {
@@ -152,14 +153,14 @@ fn read_first<R: Threads + Sync, S: Source, G: Gate + Sync, F: Form + Drop + Sen
     requires reading { MayRead enough.lines (S.failed source.old) (S.reads source.old) stream.old.incoming }
     requires few { enough.lines ≤ 1000000 }
     ensures read { HasAnswered (manner_in F.says job.now.settings.keeps_going) (compiled_query job.now.query.now)
-      enough.lines (record {
-        old = S.remaining source.old;
-        new = S.remaining source.new;
-        last = S.last source.new;
-        failed = S.failed source.new;
-        reads_old = S.reads source.old;
-        reads_new = S.reads source.new;
-      }) stream.old.incoming stream.new.incoming result }
+        enough.lines (record {
+          old = S.remaining source.old;
+          new = S.remaining source.new;
+          last = S.last source.new;
+          failed = S.failed source.new;
+          reads_old = S.reads source.old;
+          reads_new = S.reads source.new;
+        }) stream.old.incoming stream.new.incoming result }
     ensures held { stream.new.held ≡ stream.old.held }
     ensures answered { stream.new.answered ≡ stream.old.answered }
 {
@@ -190,14 +191,14 @@ fn read_beside<R: Threads + Sync, S: Source, G: Gate + Sync, F: Form + Drop + Se
     requires reading { MayRead lines (S.failed source.old) (S.reads source.old) incoming.old }
     requires few { lines ≤ 1000000 }
     ensures read { HasAnswered (manner_in F.says job.now.settings.keeps_going) (compiled_query job.now.query.now)
-      lines (record {
-        old = S.remaining source.old;
-        new = S.remaining source.new;
-        last = S.last source.new;
-        failed = S.failed source.new;
-        reads_old = S.reads source.old;
-        reads_new = S.reads source.new;
-      }) incoming.old incoming.new result }
+        lines (record {
+          old = S.remaining source.old;
+          new = S.remaining source.new;
+          last = S.last source.new;
+          failed = S.failed source.new;
+          reads_old = S.reads source.old;
+          reads_new = S.reads source.new;
+        }) incoming.old incoming.new result }
 {
     let crew = &job.crew;
     let slots = new_row(crew.alloc, SLOTS)?;
@@ -262,9 +263,19 @@ fn at_once<R: Threads + Sync, S: Source, G: Gate + Sync, F: Form + Drop + Send>(
         requires { IsSync R.row × IsSync G.row }
         ensures { IfOk result (λ v. All (IsFound F.says round.entry.now) v.items) }
     { answer_row::<R, G, F>(&job.crew, round) };
-    let mut reading = || -> Result<bool, RunFault> {
-        publish_on(job.crew.alloc, round, source, incoming, wanted, given)
-    };
+    let mut reading = || -> Result<bool, RunFault>
+        requires { AreShown round.now.slots.now given.now.published × (given.now.lines ≤ wanted.lines)
+            × MayRead (wanted.lines - given.now.lines) (S.failed source.now) (S.reads source.now) incoming.now }
+        ensures { AreShown round.entry.now.slots.now given.exit.now.published
+            × HasPublishedRound wanted.lines (record {
+              old = S.remaining source.entry.now;
+              new = S.remaining source.exit.now;
+              last = S.last source.exit.now;
+              failed = S.failed source.exit.now;
+              reads_old = S.reads source.entry.now;
+              reads_new = S.reads source.exit.now;
+            }) incoming.entry.now incoming.exit.now given.entry.now given.exit.now result }
+    { publish_on(job.crew.alloc, round, source, incoming, wanted, given) };
     join_mut(job.crew.rt, &mut answering, &mut reading)
 }
 

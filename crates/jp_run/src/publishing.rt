@@ -129,7 +129,9 @@ pub(crate) fn publish_waiting(
     ensures left { incoming.new.left ≡ incoming.old.left }
 {
     let count = incoming.buffer.len().min(wanted.lines - given.lines);
-    let parts = incoming.buffer.front_parts(alloc, count, wanted.size, &mut incoming.spare)?;
+    let parts = incoming
+        .buffer
+        .front_parts(alloc, count, wanted.size, &mut incoming.spare)?;
     let taken = publish_parts(slots, parts, &mut given.published)?;
     incoming.buffer.take_away(taken);
     given.lines += taken;

@@ -133,7 +133,10 @@ fn a_faulty_part_ends_the_run(rt: HostRuntime) -> Result<(), Fail> {
             1 => (READS_OF_ONE, READS_OF_ONE),
             _ => READS_OF_SEVERAL,
         };
-        assert!(rt; reads >= least && reads <= most, "{workers} workers, {reads} reads");
+        assert!(rt;
+            reads >= least && reads <= most,
+            "{workers} workers, {reads} reads"
+        );
     }
     Ok(())
 }

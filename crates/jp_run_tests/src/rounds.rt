@@ -23,7 +23,12 @@ const BLANKS: usize = 20_000;
 const FIRST: u64 = 6;
 
 /// So many lines, each with its number in an array, but for those that are to be faulty.
-fn lines_of(alloc: Global, count: u64, blanks: usize, faulty: &[u64]) -> Result<String, AllocError> {
+fn lines_of(
+    alloc: Global,
+    count: u64,
+    blanks: usize,
+    faulty: &[u64],
+) -> Result<String, AllocError> {
     let mut text = String::new(alloc);
     for number in 1..=count {
         if faulty.contains(&number) {
@@ -78,7 +83,16 @@ fn two_workers_at_once_in_a_round(rt: HostRuntime) -> Result<(), Fail> {
     let wanted = answer_of(rt.alloc(), 2 * FIRST, &[])?;
     let settings = Settings::new(2, 1, BATCH)?;
     let gate = Pair(Entered::new());
-    assert!(rt; is_run(&rt, rt.alloc(), text.as_bytes(), &settings, &gate, (&wanted, 0)));
+    assert!(rt;
+        is_run(
+            &rt,
+            rt.alloc(),
+            text.as_bytes(),
+            &settings,
+            &gate,
+            (&wanted, 0)
+        )
+    );
     assert_eq!(rt; gate.0.failures(), 0);
     assert_eq!(rt; gate.0.seen(), [true, true, true]);
     Ok(())
@@ -91,7 +105,16 @@ fn the_first_piece_of_a_round_waits_for_the_third(rt: HostRuntime) -> Result<(),
     let wanted = answer_of(rt.alloc(), 2 * FIRST, &[])?;
     let settings = Settings::new(2, 1, BATCH)?;
     let gate = FirstWaits(Entered::new());
-    assert!(rt; is_run(&rt, rt.alloc(), text.as_bytes(), &settings, &gate, (&wanted, 0)));
+    assert!(rt;
+        is_run(
+            &rt,
+            rt.alloc(),
+            text.as_bytes(),
+            &settings,
+            &gate,
+            (&wanted, 0)
+        )
+    );
     assert_eq!(rt; gate.0.failures(), 0);
     Ok(())
 }
@@ -104,7 +127,16 @@ fn each_piece_of_a_round_once(rt: HostRuntime) -> Result<(), Fail> {
     for workers in [2u64, 3, 64] {
         let settings = Settings::new(workers, 1, BATCH)?;
         let gate = Recorder(AtomicU64::new(0));
-        assert!(rt; is_run(&rt, rt.alloc(), text.as_bytes(), &settings, &gate, (&wanted, 0)));
+        assert!(rt;
+            is_run(
+                &rt,
+                rt.alloc(),
+                text.as_bytes(),
+                &settings,
+                &gate,
+                (&wanted, 0)
+            )
+        );
         assert_eq!(rt; gate.0.load(Ordering::SeqCst), 111_111, "{workers} workers");
     }
     Ok(())
@@ -128,7 +160,16 @@ fn workers_answer_most(rt: HostRuntime) -> Result<(), Fail> {
     let wanted = answer_of(rt.alloc(), 2_000, &[])?;
     let settings = Settings::new(2, 1, 1_000_000)?;
     let gate = Passes(AtomicU64::new(0));
-    assert!(rt; is_run(&rt, rt.alloc(), text.as_bytes(), &settings, &gate, (&wanted, 0)));
+    assert!(rt;
+        is_run(
+            &rt,
+            rt.alloc(),
+            text.as_bytes(),
+            &settings,
+            &gate,
+            (&wanted, 0)
+        )
+    );
     let passes = gate.0.load(Ordering::SeqCst);
     assert!(rt; passes >= 1_000 && passes <= 2_000, "{passes} of 2,000");
     Ok(())
@@ -174,7 +215,14 @@ fn the_same_by_rounds(rt: HostRuntime) -> Result<(), Fail> {
         (2, 1_000_000, 1_499),
     ] {
         let settings = Settings::new(workers, piece, batch)?;
-        let is_right = is_run(&rt, rt.alloc(), text.as_bytes(), &settings, &OpenGate, (&wanted, 0));
+        let is_right = is_run(
+            &rt,
+            rt.alloc(),
+            text.as_bytes(),
+            &settings,
+            &OpenGate,
+            (&wanted, 0),
+        );
         assert!(rt; is_right, "{workers} workers, {batch} a batch");
     }
     Ok(())
@@ -193,8 +241,10 @@ impl Gate for Numbers {
 
     fn faulty(&self, _alloc: Global, number: u64, _line: &[u8], _fault: &DocFault) {
         let before = self.0.load(Ordering::SeqCst);
-        self.0
-            .store(before.wrapping_mul(10).wrapping_add(number), Ordering::SeqCst);
+        self.0.store(
+            before.wrapping_mul(10).wrapping_add(number),
+            Ordering::SeqCst,
+        );
     }
 }
 
@@ -205,7 +255,16 @@ fn faulty_lines_of_a_round_are_told_in_their_order(rt: HostRuntime) -> Result<()
     for workers in [1u64, 2, 4] {
         let settings = Settings::new(workers, 1, BATCH)?.keep_going();
         let gate = Numbers(AtomicU64::new(0));
-        assert!(rt; is_run(&rt, rt.alloc(), text.as_bytes(), &settings, &gate, (&wanted, 3)));
+        assert!(rt;
+            is_run(
+                &rt,
+                rt.alloc(),
+                text.as_bytes(),
+                &settings,
+                &gate,
+                (&wanted, 3)
+            )
+        );
         assert_eq!(rt; gate.0.load(Ordering::SeqCst), 257);
     }
     Ok(())

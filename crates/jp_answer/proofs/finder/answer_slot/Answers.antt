@@ -1,6 +1,5 @@
 use Rattle.std.proofs.Common.{◌∙◌, sym, ap}
 use Rattle.jp_compiled.specs.Compiled.{compiled_query}
-use Rattle.jp_compiled.specs.declared.query.Query.{Query}
 use Rattle.jp_answer.proofs.finder.answer_slot.Goals as goal
 
 pub answer_lines-requires-clause-query : goal.answer_lines-requires-clause-query

@@ -1,6 +1,5 @@
 use Rattle.std.proofs.Common.{◌∙◌, ◌+◌, ◌<◌, sym, ap, subst, arith, length, take, drop, get_or, set, List, None, ◌++◌}
 use Rattle.std.proofs.Math.Seq.{take-length}
-use Rattle.boxcar.specs.declared.slot.Written.{Written}
 use Rattle.jp_doc.specs.Lines.{Line}
 use Rattle.jp_compiled.specs.Compiled.{compiled_query}
 use Rattle.jp_answer.specs.OnFault.{manner}
@@ -83,5 +82,9 @@ pub returns : goal.returns
 returns g c =
     let tokens = c.args.published.now.tokens.items in
     subst (λ (l : List Line). IsRoundAnswer g.F.Form.says c.args.round.now l c.loop-at.all)
-    (ap (λ n. lines_of (take n tokens)) (omega (arith, c.loop-at-test.false, c.loop-at.auto.at-end,
-    c.len-at-end.ensures)) ∙ ap lines_of (take-length tokens)) c.loop-at.invariant.answer
+    (ap (λ n. lines_of (take n tokens)) (omega (
+      arith,
+      c.loop-at-test.false,
+      c.loop-at.auto.at-end,
+      c.len-at-end.ensures,
+    )) ∙ ap lines_of (take-length tokens)) c.loop-at.invariant.answer

@@ -1,10 +1,6 @@
-use Rattle.std.proofs.Common.{◌≡◌, ◌∙◌, ◌++◌, ◌∷◌, [], List, sym, ap, append_assoc, arith, length, length-append}
-use Rattle.std.proofs.lemmas.List.{flat_map_more}
+use Rattle.std.proofs.Common.{◌≡◌, ◌∙◌, ◌++◌, [], ap, arith}
 use Rattle.std.proofs.lemmas.Grind.{common_steps}
-use Rattle.std.specs.Vec.Iter.{into_iter_items}
-use Rattle.jp_doc.specs.Lines.{Line}
 use Rattle.jp_answer.specs.Rows.{shown_lines}
-use Rattle.jp_buffer.specs.Buffered.{all_lines}
 use Rattle.jp_run.proofs.Taking.{taken_so}
 use Rattle.jp_run.proofs.publishing.publish_parts.Goals as goal
 
