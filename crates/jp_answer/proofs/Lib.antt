@@ -1,5 +1,6 @@
 pub mod AnswerFields
 pub mod OnFaults
+pub mod Joined
 pub mod Joining
 pub mod OnLiterals
 pub mod Placing

@@ -5,6 +5,8 @@ pub mod OnFault
 pub mod Pieces
 pub mod Placed
 pub mod Ranges
+pub mod Rounds
+pub mod Rows
 pub mod Streams
 pub mod Whole
 pub mod Worked

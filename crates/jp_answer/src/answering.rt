@@ -10,6 +10,7 @@ ghost use Rattle.jp_compiled.specs.Compiled.{compiled_query};
 ghost use Rattle.jp_eval.specs.Evaluated.{evaluated_query};
 ghost use Rattle.jp_eval.specs.Nodelist.{document_nodes};
 ghost use Rattle.jp_regexp.specs.Tests.{Tests, AreRight};
+ghost use Rattle.jp_board.specs.Limits.{max_pieces};
 ghost use Rattle.jp_answer.specs.Answer.{document_bytes};
 ghost use Rattle.jp_answer.specs.Answered.{outcome_of};
 ghost use Rattle.jp_answer.specs.OnFault.{answer_by, stop_in, passed_in, given, fault_in};
@@ -65,7 +66,7 @@ pub(crate) fn answer_lines<R: Threads + Sync, G, F: Form + Drop + Send>(
     tools: &mut Tools<'_>,
     lines: &[LineRef<'_>],
 ) -> Result<Outcome, AllocError>
-    requires few { length lines.now ≤ 4294967296 }
+    requires few { length lines.now ≤ max_pieces }
     requires query { evaluated_query tools.old.evaluator ≡ compiled_query pieces.now.query.now }
     ensures answer { IfOk result (λ a. (t : Tests) → AreRight t → answer_by F.says pieces.now.on_fault t
         (compiled_query pieces.now.query.now) (map line_at lines.now) ≡ outcome_of a) }

@@ -2,6 +2,7 @@
 
 ghost use Rattle.std.specs.Prelude.{◌≡◌, ◌<◌, ◌≤◌, ℕ, None, false, map, flat_map, replicate, All};
 ghost use Rattle.std.specs.Prelude.{Contains, IfOk, OnOk, IsSome, Some, slice_set, vec_len};
+ghost use Rattle.jp_board.specs.Limits.{max_pieces};
 ghost use Rattle.jp_answer.specs.Answered.{outcome_of};
 ghost use Rattle.jp_answer.specs.Placed.{IsPlaced, ComeFrom, joined_all, passed_all};
 ghost use Rattle.jp_answer.specs.Worked.{pieces_of};
@@ -70,7 +71,7 @@ fn put(placed: &mut Vec<Option<Outcome>>, part: PieceAnswer)
 }
 
 /// So many places without an answer.
-fn no_answers(alloc: Global, count: usize) -> Result<Vec<Option<Outcome>>, AllocError>
+pub(crate) fn no_answers(alloc: Global, count: usize) -> Result<Vec<Option<Outcome>>, AllocError>
     ensures { IfOk result (λ v. v.items ≡ replicate count None) }
 {
     // All places at once: their number is known.
@@ -83,7 +84,7 @@ fn no_answers(alloc: Global, count: usize) -> Result<Vec<Option<Outcome>>, Alloc
 
 /// How many faulty lines the answers pass.
 pub(crate) fn passed(placed: &[Option<Outcome>]) -> u64
-    requires { passed_all placed.now ≤ 4294967296 }
+    requires { passed_all placed.now ≤ max_pieces }
     ensures { result ≡ passed_all placed.now }
 {
     let mut faulty = 0;

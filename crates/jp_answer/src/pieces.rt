@@ -1,6 +1,7 @@
 //! Lines that are cut into pieces.
 
 ghost use Rattle.std.specs.Prelude.{◌≡◌, ◌*◌, ◌<◌, ◌≤◌, length, IfOk};
+ghost use Rattle.jp_board.specs.Limits.{max_pieces};
 ghost use Rattle.jp_answer.specs.Ranges.{AreWorkers, AreDocuments};
 
 use crate::answering::{Tools, answer_lines};
@@ -22,7 +23,7 @@ pub(crate) struct Pieces<'a> {
     pub(crate) size: usize,
     pub(crate) on_fault: OnFault,
     pub(crate) workers: u64,
-    ghost in_range: { AreDocuments size × (length lines.now ≤ 4294967296) },
+    ghost in_range: { AreDocuments size × (length lines.now ≤ max_pieces) },
     ghost few_workers: { AreWorkers workers },
 }
 
@@ -38,7 +39,7 @@ impl Pieces<'_> {
         cutting: Cutting,
         on_fault: OnFault,
     ) -> Pieces<'a>
-        requires lines { length lines.now ≤ 4294967296 }
+        requires lines { length lines.now ≤ max_pieces }
         ensures pieces { (result.query.now ≡ query.now) × (result.lines.now ≡ lines.now)
             × (result.size ≡ cutting.piece) × (result.on_fault ≡ on_fault) }
     {
@@ -53,7 +54,7 @@ impl Pieces<'_> {
 
     /// The number of pieces.
     pub(crate) fn count(&self) -> u64
-        ensures few { result ≤ 4294967296 }
+        ensures few { result ≤ max_pieces }
         ensures pieces { AreAllPieces self.now result }
     {
         self.lines.len().div_ceil(self.size) as u64

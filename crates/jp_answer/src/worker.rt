@@ -106,7 +106,7 @@ fn tend<R: Threads + Sync, G: Gate, F: Form + Drop + Send>(
     ensures tended { OnOk result (AreTended (view_of desk.new.seat).claims (view_of desk.new.seat).looks
         desk.new.parts.items) }
 {
-    if is_left(pieces, board, &mut desk.seat, piece) {
+    if is_left(pieces.on_fault, board, &mut desk.seat, piece) {
         return Ok(());
     }
     crew.gate.pass(piece);
@@ -121,7 +121,7 @@ fn tend<R: Threads + Sync, G: Gate, F: Form + Drop + Send>(
 }
 
 /// Whether the mark is lower than the piece. Where the answer keeps going there is no mark to look at.
-fn is_left(pieces: &Pieces, board: &Board, seat: &mut Seat, piece: u64) -> bool
+pub(crate) fn is_left(on_fault: OnFault, board: &Board, seat: &mut Seat, piece: u64) -> bool
     requires { IsSeatOf board.now seat.old }
     ensures seat { IsSeatOf board.now seat.new × ((view_of seat.new).claims ≡ (view_of seat.old).claims)
         × ((view_of seat.new).reports ≡ (view_of seat.old).reports) }
@@ -132,7 +132,7 @@ fn is_left(pieces: &Pieces, board: &Board, seat: &mut Seat, piece: u64) -> bool
         (view_of seat.old).looks parts → result ≡ true → AreTended (view_of seat.new).claims
         (view_of seat.new).looks parts }
 {
-    match pieces.on_fault {
+    match on_fault {
         // Nothing ends that answer, so its workers neither look nor report (README, Why so).
         OnFault::KeepGoing => false,
         OnFault::Stop => board.look(seat) < piece,

@@ -7,6 +7,7 @@ ghost use Rattle.jp_compiled.specs.Compiled.{compiled_query};
 ghost use Rattle.jp_regexp.specs.Tests.{Tests, AreRight};
 ghost use Rattle.jp_board.specs.Seats.{IsSeatOf, IsFresh, view_of, pieces_of as pieces_of_board, made_of};
 ghost use Rattle.jp_board.specs.Tally.{Tallies};
+ghost use Rattle.jp_board.specs.Limits.{max_pieces};
 ghost use Rattle.jp_answer.specs.Answered.{outcome_of};
 ghost use Rattle.jp_answer.specs.OnFault.{answer_by, passed_in};
 ghost use Rattle.jp_answer.specs.Pieces.{AreAllPieces};
@@ -44,7 +45,7 @@ pub fn answer_in_chunks<R: Threads + Sync, G: Gate + Sync, F: Form + Drop + Send
     cutting: Cutting,
     on_fault: OnFault,
 ) -> Result<Outcome, AllocError>
-    requires lines { length lines.now ≤ 4294967296 }
+    requires lines { length lines.now ≤ max_pieces }
     ensures answer { IfOk result (λ a. (t : Tests) → AreRight t →
         answer_by F.says on_fault t (compiled_query query.now) (map line_at lines.now) ≡ outcome_of a) }
     ensures passed { IfOk result (λ a. passed_in on_fault (map line_at lines.now) ≡ a.faulty) }
@@ -85,8 +86,12 @@ fn place_pieces<R: Threads + Sync, G: Gate + Sync, F: Form + Drop + Send>(
 }
 
 /// A board of so many pieces, and a seat for each worker.
-fn open(alloc: Global, count: u64, workers: u64) -> Result<(Board, Vec<Seat>), AllocError>
-    requires { AreWorkers workers × (count ≤ 4294967296) }
+pub(crate) fn open(
+    alloc: Global,
+    count: u64,
+    workers: u64,
+) -> Result<(Board, Vec<Seat>), AllocError>
+    requires { AreWorkers workers × (count ≤ max_pieces) }
     ensures board { IfOk result (λ r. (pieces_of_board r.0 ≡ count) × (made_of r.0 ≡ workers)) }
     ensures len { IfOk result (λ r. vec_len r.1 ≡ workers) }
     ensures seats { IfOk result (λ r. All (IsSeatOf r.0) r.1.items) }
@@ -127,7 +132,7 @@ fn work_all<R: Threads + Sync, G: Gate + Sync, F: Form + Drop + Send>(
 }
 
 /// The mark that is left at the end: the least piece that was reported, or the number of pieces.
-fn close(board: Board, seats: Vec<Seat>) -> u64
+pub(crate) fn close(board: Board, seats: Vec<Seat>) -> u64
     requires seats { All (IsSeatOf board) seats.items }
     requires all { vec_len seats ≡ made_of board }
     ensures { (claimed : ℕ) × Tallies (pieces_of_board board) claimed result (map view_of seats.items) }

@@ -9,4 +9,4 @@ mod waiting;
 
 pub use buffer::LineBuffer;
 pub use line_ref::{LineRef, refs_of};
-pub use waiting::WaitingLines;
+pub use waiting::{PartSize, WaitingLines};

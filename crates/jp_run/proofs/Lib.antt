@@ -10,3 +10,4 @@ pub mod Pieces
 pub mod Runs
 pub mod Standing
 pub mod Streaming
+pub mod Taking

@@ -31,11 +31,11 @@ use std::alloc::AllocError;
 use std::thread::Threads;
 
 /// How many bytes of lines a worker is started for: to answer them takes longer than to start a thread.
-const BYTES_EACH: usize = 16_384;
+pub(crate) const BYTES_EACH: usize = 16_384;
 
 /// How many pieces there are at least for each worker, where there are as many lines: so that one whose
 /// pieces are cheap takes more of them.
-const PIECES_EACH: u64 = 4;
+pub(crate) const PIECES_EACH: u64 = 4;
 
 /// Answers the lines of the whole batches that have come, hands the answers out, and takes the lines away.
 /// What is held of the first batch has not stopped.
@@ -46,7 +46,7 @@ pub(crate) fn answer_batches<R: Threads + Sync, K: Sink, G: Gate + Sync, F: Form
 ) -> Result<(), RunFault>
     requires working { K.failed sink.old ≡ false }
     requires going_on { (outcome_of stream.old.held.answer).stopped ≡ None }
-    requires not_whole { stream.old.held.count < job.now.settings.batch }
+    requires within { stream.old.held.count ≤ job.now.settings.batch }
     requires few { stream.old.answered.lines + (stream.old.held.count
         + length stream.old.incoming.buffer.lines) ≤ max_lines + 1 }
     requires few_faulty { (stream.old.answered.faulty ≤ stream.old.answered.lines)
@@ -86,7 +86,7 @@ fn complete_batch<R: Threads + Sync, K: Sink, G: Gate + Sync, F: Form + Drop + S
 ) -> Result<(), RunFault>
     requires working { K.failed sink.old ≡ false }
     requires going_on { (outcome_of stream.old.held.answer).stopped ≡ None }
-    requires not_whole { stream.old.held.count < job.now.settings.batch }
+    requires within { stream.old.held.count ≤ job.now.settings.batch }
     requires few { stream.old.answered.lines + (stream.old.held.count
         + length stream.old.incoming.buffer.lines) ≤ max_lines + 1 }
     requires few_faulty { (stream.old.answered.faulty ≤ stream.old.answered.lines)
@@ -185,6 +185,10 @@ fn answer_front<R: Threads + Sync, G: Gate + Sync, F: Form + Drop + Send>(
     ensures { IfOk result (IsAnswerOf (manner_in F.says job.now.settings.keeps_going) (compiled_query
         job.now.query.now) (take count buffer.now.lines)) }
 {
+    // So the lines behind a batch of which all is answered are not listed.
+    if count == 0 {
+        return Ok(Outcome::new(job.crew.alloc));
+    }
     let lines = buffer.lines(job.crew.alloc)?;
     let (front, _) = lines.split_at(count);
     answer_to::<R, G, F>(job, front)

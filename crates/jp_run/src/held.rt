@@ -5,7 +5,6 @@ ghost use Rattle.jp_answer.specs.Answer.{joined};
 ghost use Rattle.jp_answer.specs.Answered.{outcome_of};
 
 use jp_answer::Outcome;
-use jp_output::append_chunks;
 use std::alloc::{AllocError, Global};
 
 /// The answer to the lines of a batch that were answered before it is whole. Nothing of it is written yet.
@@ -25,11 +24,7 @@ impl Held {
     {
         Held {
             count: 0,
-            answer: Outcome {
-                chunks: Vec::new(alloc),
-                faulty: 0,
-                stopped: None,
-            },
+            answer: Outcome::new(alloc),
         }
     }
 
@@ -46,9 +41,7 @@ impl Held {
     {
         // First what has to stand also where the growth below is refused.
         self.count += count;
-        self.answer.faulty += more.faulty;
-        self.answer.stopped = more.stopped;
-        append_chunks(&mut self.answer.chunks, more.chunks)
+        self.answer.put(more)
     }
 
     /// Lets the answer go, once it is written.
@@ -58,8 +51,6 @@ impl Held {
         ensures passed { self.new.answer.faulty ≡ 0 }
     {
         self.count = 0;
-        self.answer.chunks.clear();
-        self.answer.faulty = 0;
-        self.answer.stopped = None;
+        self.answer.clear();
     }
 }

@@ -2,19 +2,20 @@
 
 ghost use Rattle.std.specs.Prelude.{◌<◌, vec_len};
 
-use jp_buffer::LineBuffer;
+use jp_buffer::{LineBuffer, WaitingLines};
 use std::alloc::{AllocError, Global};
 
 /// The number of bytes that one call of `read` is asked for: as many as a pipe of Linux holds.
 const READ_SIZE: usize = 65_536;
 
-/// What comes in: what a source is read into, how many calls of `read` are left, and the lines that have come
-/// and wait for their answer.
+/// What comes in: what a source is read into, how many calls of `read` are left, the lines that have come and
+/// wait for their answer, and buffers for those that are published.
 #[derive(Drop)]
 pub(crate) struct Incoming {
     pub(crate) scratch: Vec<u8>,
     pub(crate) left: u64,
     pub(crate) buffer: LineBuffer,
+    pub(crate) spare: Vec<WaitingLines>,
     ghost not_empty: { 0 < vec_len scratch },
 }
 
@@ -42,6 +43,7 @@ impl Incoming {
             scratch,
             left,
             buffer: LineBuffer::new(alloc),
+            spare: Vec::new(alloc),
         })
     }
 }

@@ -15,6 +15,7 @@ mod job;
 pub mod laws;
 mod outcome;
 mod output;
+mod publishing;
 mod running;
 mod settings;
 mod std_ends;

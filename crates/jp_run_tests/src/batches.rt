@@ -13,7 +13,7 @@ use std::thread::Threads;
 const ROOM: usize = 1_000_000;
 
 /// More bytes than a worker is started for.
-const WORTH_A_WORKER: usize = 70_000;
+const WORTH_A_WORKER: usize = 20_000;
 
 /// Two documents, with a blank line between them.
 const TWO: &[u8] = b"{\"a\":1}\n\n{\"a\":null}\n";

@@ -26,6 +26,8 @@ mod parts;
 #[cfg(test)]
 mod refusals;
 #[cfg(test)]
+mod rounds;
+#[cfg(test)]
 mod runs;
 #[cfg(test)]
 mod telling;

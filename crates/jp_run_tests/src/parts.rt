@@ -51,7 +51,6 @@ fn is_finished(end: &Result<Totals, RunFault>, count: u64, faulty: u64) -> bool 
     }
 }
 
-/// With 64 workers a part has 8 MB, so no part comes of eight lines.
 #[test]
 fn the_same_by_parts(rt: HostRuntime) -> Result<(), Fail> {
     let text = long_lines(rt.alloc(), 8, &[])?;
@@ -64,7 +63,7 @@ fn the_same_by_parts(rt: HostRuntime) -> Result<(), Fail> {
     Ok(())
 }
 
-/// Of 130 lines the first 120 are a part for 64 workers.
+/// Of 130 lines, 9 MB, several rounds are made.
 #[test]
 fn a_part_for_many_workers(rt: HostRuntime) -> Result<(), Fail> {
     let text = long_lines(rt.alloc(), 130, &FAULTY)?;
@@ -102,10 +101,14 @@ fn faulty_lines_of_two_parts(rt: HostRuntime) -> Result<(), Fail> {
     Ok(())
 }
 
-/// Workers, lines, and the read that is the last. The first part has the faulty line 2: two lines for one
-/// worker, which come with read 3, four for two and eight for four, with read 5 and read 9. It is answered
-/// beside the reads up to as many lines more, which read 5, 9 and 18 bring.
-const LAST_READS: [(u64, u64, u64); 3] = [(1, 8, 5), (2, 8, 9), (4, 16, 18)];
+/// How many reads one worker takes: its first part are the two lines that come with read 3, of which the
+/// second is faulty, and it is answered once two lines more have come, with read 5.
+const READS_OF_ONE: u64 = 5;
+
+/// How many reads several workers take, at least and at most: the faulty line comes with read 3, to a round
+/// that has begun by then; how far is read on beside it is not determined. Eight lines come with read 9, and
+/// read 10 finds the end.
+const READS_OF_SEVERAL: (u64, u64) = (3, 10);
 
 /// Whether a run ended at the second line, and wrote what the first gives.
 fn is_second(end: &Result<Totals, RunFault>, bytes: &[u8]) -> bool {
@@ -121,31 +124,42 @@ fn is_second(end: &Result<Totals, RunFault>, bytes: &[u8]) -> bool {
 
 #[test]
 fn a_faulty_part_ends_the_run(rt: HostRuntime) -> Result<(), Fail> {
-    for (workers, count, last) in LAST_READS {
-        let text = long_lines(rt.alloc(), count, &FAULTY)?;
+    let text = long_lines(rt.alloc(), 8, &FAULTY)?;
+    for workers in [1u64, 2, 4] {
         let settings = Settings::new(workers, 64, BATCH)?;
         let (end, bytes, reads) = run_of(&rt, rt.alloc(), &text, &settings, ALL_READS);
         assert!(rt; is_second(&end, &bytes), "{workers} workers");
-        assert_eq!(rt; reads, last);
+        let (least, most) = match workers {
+            1 => (READS_OF_ONE, READS_OF_ONE),
+            _ => READS_OF_SEVERAL,
+        };
+        assert!(rt;
+            reads >= least && reads <= most,
+            "{workers} workers, {reads} reads"
+        );
     }
     Ok(())
 }
 
 /// A read that fails beside a part is told, and not the part's faulty line; nothing of the batch is written.
+/// With several workers the faulty line may have ended the reading before.
 #[test]
 fn a_read_fails_beside_a_faulty_part(rt: HostRuntime) -> Result<(), Fail> {
-    for (workers, count, last) in LAST_READS {
-        let text = long_lines(rt.alloc(), count, &FAULTY)?;
+    let text = long_lines(rt.alloc(), 8, &FAULTY)?;
+    for workers in [1u64, 2, 4] {
         let settings = Settings::new(workers, 64, BATCH)?;
-        for passing in 0..last {
+        let (least, most) = match workers {
+            1 => (READS_OF_ONE, READS_OF_ONE),
+            _ => READS_OF_SEVERAL,
+        };
+        for passing in 0..most {
             let (end, bytes, reads) = run_of(&rt, rt.alloc(), &text, &settings, passing);
             let is_read = matches!(end, Err(RunFault::Read)) && bytes.is_empty();
-            assert!(rt;
-                is_read && reads == passing + 1,
-                "{workers} workers, {passing} reads"
-            );
+            let told = is_read && reads == passing + 1;
+            let ended = passing >= least && is_second(&end, &bytes);
+            assert!(rt; told || ended, "{workers} workers, {passing} reads");
         }
-        let (end, bytes, _) = run_of(&rt, rt.alloc(), &text, &settings, last);
+        let (end, bytes, _) = run_of(&rt, rt.alloc(), &text, &settings, most);
         assert!(rt; is_second(&end, &bytes), "{workers} workers");
     }
     Ok(())

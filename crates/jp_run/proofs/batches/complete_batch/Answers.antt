@@ -28,7 +28,7 @@ returns-then-held-eq0-clause-kept g c = λ held is.
     ])
 
 pub overflow_sub-count : goal.overflow_sub-count
-overflow_sub-count g c = omega (arith, c.requires.not_whole)
+overflow_sub-count g c = omega (arith, c.requires.within)
 
 pub returns-in_err-hand_out-clause-fault : goal.returns-in_err-hand_out-clause-fault
 returns-in_err-hand_out-clause-fault g c = λ held is. told _ _ _ c.from_residual-in_err-hand_out.ensures.1
@@ -50,7 +50,7 @@ returns-clause-kept g c = λ held is.
     let fits : count ≤ length waiting = omega (arith, c.if-held-len.false, c.len.ensures) in
     whole_some k q c.args.job.now.settings.batch c.args.job.now.settings.in_range.2.0 held waiting
     c.take_away.new.self.lines count _ _ _ _ c.put.new.self c.clear.new.self
-    (omega (arith, is.counted, c.requires.not_whole)) fits
+    (omega (arith, is.counted, c.requires.within)) fits
     (front_held k q held waiting count c.args.stream.now.held c.put.new.self c.in_ok-more.more is fits
     c.in_ok-more.ensures.is c.in_ok-more.ensures.passed c.in_ok-put.ensures.count
     (c.in_ok-put.ensures.answer c.requires.going_on) c.in_ok-put.ensures.passed)
@@ -66,7 +66,7 @@ returns-clause-few_faulty g c = omega (
   arith,
   c.requires.few_faulty.0,
   c.requires.few_faulty.1,
-  c.requires.not_whole,
+  c.requires.within,
   c.in_ok-put.ensures.passed,
   c.in_ok-more.ensures.few,
   length-take-le (c.args.job.now.settings.batch - c.args.stream.now.held.count)

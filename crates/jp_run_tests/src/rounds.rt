@@ -1,0 +1,271 @@
+//! Rounds: workers answer the lines of a batch as they come, while the calling thread reads on.
+
+use crate::fakes::Holds;
+use crate::gates::{Entered, FirstWaits, Pair, Recorder};
+use jp_doc::DocFault;
+use jp_run::{FromReader, Gate, OpenGate, Settings, Totals, run};
+use std::alloc::{AllocError, Global};
+use std::io::{self, Read};
+use std::sync::atomic::{AtomicU64, Ordering};
+use std::test::Fail;
+use std::thread::{self, Threads};
+
+/// More bytes than any of these runs writes.
+const ROOM: usize = 1_000_000;
+
+/// More documents than the inputs have.
+const BATCH: u64 = 1_000;
+
+/// How many bytes stand behind each document: two reads bring six lines, more than a round begins with.
+const BLANKS: usize = 20_000;
+
+/// How many of those lines are there before a round begins.
+const FIRST: u64 = 6;
+
+/// So many lines, each with its number in an array, but for those that are to be faulty.
+fn lines_of(
+    alloc: Global,
+    count: u64,
+    blanks: usize,
+    faulty: &[u64],
+) -> Result<String, AllocError> {
+    let mut text = String::new(alloc);
+    for number in 1..=count {
+        if faulty.contains(&number) {
+            text.push('{')?;
+        } else {
+            text.push_str(&format!(in alloc; "[{number}]")?)?;
+        }
+        for _blank in 0..blanks {
+            text.push(' ')?;
+        }
+        text.push('\n')?;
+    }
+    Ok(text)
+}
+
+/// What `$[0]` gives of them.
+fn answer_of(alloc: Global, count: u64, faulty: &[u64]) -> Result<String, AllocError> {
+    let mut text = String::new(alloc);
+    for number in 1..=count {
+        if faulty.contains(&number) {
+            text.push_str(&format!(in alloc; "{number}\t!\tunreadable\n")?)?;
+        } else {
+            text.push_str(&format!(in alloc; "{number}\t$[0]\t{number}\n")?)?;
+        }
+    }
+    Ok(text)
+}
+
+/// Whether a run of `$[0]` over the text finishes and writes just this, with this many faulty lines.
+fn is_run<R: Threads + Sync, T: Read + Drop, G: Gate + Sync>(
+    rt: &R,
+    alloc: Global,
+    reader: T,
+    settings: &Settings,
+    gate: &G,
+    wanted: (&str, u64),
+) -> bool {
+    let mut source = FromReader::new(reader);
+    let mut sink = Holds::new(Vec::new(alloc), ROOM, ROOM);
+    let end = run(rt, alloc, &mut source, &mut sink, "$[0]", settings, gate);
+    let (bytes, faulty) = wanted;
+    let is_counted = match end {
+        Ok(Totals { faulty: found, .. }) => found == faulty,
+        Err(_) => false,
+    };
+    is_counted && sink.bytes.as_slice() == bytes.as_bytes()
+}
+
+#[test]
+fn two_workers_at_once_in_a_round(rt: HostRuntime) -> Result<(), Fail> {
+    let text = lines_of(rt.alloc(), 2 * FIRST, BLANKS, &[])?;
+    let wanted = answer_of(rt.alloc(), 2 * FIRST, &[])?;
+    let settings = Settings::new(2, 1, BATCH)?;
+    let gate = Pair(Entered::new());
+    assert!(rt;
+        is_run(
+            &rt,
+            rt.alloc(),
+            text.as_bytes(),
+            &settings,
+            &gate,
+            (&wanted, 0)
+        )
+    );
+    assert_eq!(rt; gate.0.failures(), 0);
+    assert_eq!(rt; gate.0.seen(), [true, true, true]);
+    Ok(())
+}
+
+/// The other worker answers the second piece and the third while the first one waits.
+#[test]
+fn the_first_piece_of_a_round_waits_for_the_third(rt: HostRuntime) -> Result<(), Fail> {
+    let text = lines_of(rt.alloc(), 2 * FIRST, BLANKS, &[])?;
+    let wanted = answer_of(rt.alloc(), 2 * FIRST, &[])?;
+    let settings = Settings::new(2, 1, BATCH)?;
+    let gate = FirstWaits(Entered::new());
+    assert!(rt;
+        is_run(
+            &rt,
+            rt.alloc(),
+            text.as_bytes(),
+            &settings,
+            &gate,
+            (&wanted, 0)
+        )
+    );
+    assert_eq!(rt; gate.0.failures(), 0);
+    Ok(())
+}
+
+/// What is there when a round begins is claimed by its workers, each piece by one of them.
+#[test]
+fn each_piece_of_a_round_once(rt: HostRuntime) -> Result<(), Fail> {
+    let text = lines_of(rt.alloc(), FIRST, BLANKS, &[])?;
+    let wanted = answer_of(rt.alloc(), FIRST, &[])?;
+    for workers in [2u64, 3, 64] {
+        let settings = Settings::new(workers, 1, BATCH)?;
+        let gate = Recorder(AtomicU64::new(0));
+        assert!(rt;
+            is_run(
+                &rt,
+                rt.alloc(),
+                text.as_bytes(),
+                &settings,
+                &gate,
+                (&wanted, 0)
+            )
+        );
+        assert_eq!(rt; gate.0.load(Ordering::SeqCst), 111_111, "{workers} workers");
+    }
+    Ok(())
+}
+
+/// How many pieces workers have answered.
+#[derive(Drop)]
+struct Passes(AtomicU64);
+
+impl Gate for Passes {
+    fn pass(&self, _piece: u64) {
+        self.0.fetch_add(1, Ordering::SeqCst);
+    }
+}
+
+/// The calling thread answers what a worker claims as it ends, and what comes just then: of 2,000 pieces
+/// some dozens at most.
+#[test]
+fn workers_answer_most(rt: HostRuntime) -> Result<(), Fail> {
+    let text = lines_of(rt.alloc(), 2_000, 2_000, &[])?;
+    let wanted = answer_of(rt.alloc(), 2_000, &[])?;
+    let settings = Settings::new(2, 1, 1_000_000)?;
+    let gate = Passes(AtomicU64::new(0));
+    assert!(rt;
+        is_run(
+            &rt,
+            rt.alloc(),
+            text.as_bytes(),
+            &settings,
+            &gate,
+            (&wanted, 0)
+        )
+    );
+    let passes = gate.0.load(Ordering::SeqCst);
+    assert!(rt; passes >= 1_000 && passes <= 2_000, "{passes} of 2,000");
+    Ok(())
+}
+
+/// A reader that keeps its caller waiting: longer than workers look for what comes.
+#[derive(Drop)]
+struct Slow<'a>(&'a [u8]);
+
+impl Read for Slow<'_> {
+    fn read(&mut self, buf: &mut [u8]) -> io::Result<usize> {
+        for _turn in 0..20_000u64 {
+            thread::yield_now();
+        }
+        self.0.read(buf)
+    }
+}
+
+/// Workers end and are started again.
+#[test]
+fn a_source_that_is_slow(rt: HostRuntime) -> Result<(), Fail> {
+    let text = lines_of(rt.alloc(), 5 * FIRST, BLANKS, &[])?;
+    let wanted = answer_of(rt.alloc(), 5 * FIRST, &[])?;
+    for workers in [1u64, 2, 4] {
+        let settings = Settings::new(workers, 1, BATCH)?;
+        let reader = Slow(text.as_bytes());
+        assert!(rt; is_run(&rt, rt.alloc(), reader, &settings, &OpenGate, (&wanted, 0)));
+    }
+    Ok(())
+}
+
+/// Rounds that end with their batch, and lines behind it that wait for the next; more workers than lines;
+/// more parts than a row has slots.
+#[test]
+fn the_same_by_rounds(rt: HostRuntime) -> Result<(), Fail> {
+    let text = lines_of(rt.alloc(), 1_500, 700, &[])?;
+    let wanted = answer_of(rt.alloc(), 1_500, &[])?;
+    for (workers, piece, batch) in [
+        (2u64, 1u64, 1_000_000u64),
+        (64, 1, 1_000_000),
+        (3, 7, 400),
+        (4, 64, 128),
+        (2, 1_000_000, 1_499),
+    ] {
+        let settings = Settings::new(workers, piece, batch)?;
+        let is_right = is_run(
+            &rt,
+            rt.alloc(),
+            text.as_bytes(),
+            &settings,
+            &OpenGate,
+            (&wanted, 0),
+        );
+        assert!(rt; is_right, "{workers} workers, {batch} a batch");
+    }
+    Ok(())
+}
+
+/// The numbers of the faulty lines that were told, a digit each.
+#[derive(Drop)]
+struct Numbers(AtomicU64);
+
+impl Gate for Numbers {
+    fn pass(&self, _piece: u64) {}
+
+    fn wants_faulty(&self) -> bool {
+        true
+    }
+
+    fn faulty(&self, _alloc: Global, number: u64, _line: &[u8], _fault: &DocFault) {
+        let before = self.0.load(Ordering::SeqCst);
+        self.0.store(
+            before.wrapping_mul(10).wrapping_add(number),
+            Ordering::SeqCst,
+        );
+    }
+}
+
+#[test]
+fn faulty_lines_of_a_round_are_told_in_their_order(rt: HostRuntime) -> Result<(), Fail> {
+    let text = lines_of(rt.alloc(), 9, BLANKS, &[2, 5, 7])?;
+    let wanted = answer_of(rt.alloc(), 9, &[2, 5, 7])?;
+    for workers in [1u64, 2, 4] {
+        let settings = Settings::new(workers, 1, BATCH)?.keep_going();
+        let gate = Numbers(AtomicU64::new(0));
+        assert!(rt;
+            is_run(
+                &rt,
+                rt.alloc(),
+                text.as_bytes(),
+                &settings,
+                &gate,
+                (&wanted, 3)
+            )
+        );
+        assert_eq!(rt; gate.0.load(Ordering::SeqCst), 257);
+    }
+    Ok(())
+}
