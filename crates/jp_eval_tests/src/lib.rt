@@ -11,3 +11,5 @@ mod refusals;
 mod selections;
 #[cfg(test)]
 mod splits;
+#[cfg(test)]
+mod uniform;

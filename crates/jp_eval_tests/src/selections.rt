@@ -123,7 +123,8 @@ fn selected_flat(alloc: Global, query: &str, document: &str) -> Result<String, F
     paths(alloc, found.locations.as_slice())
 }
 
-fn paths(alloc: Global, locations: &[Location]) -> Result<String, Fail> {
+/// The paths of these locations, or that there is none.
+pub(crate) fn paths(alloc: Global, locations: &[Location]) -> Result<String, Fail> {
     let mut paths = String::new(alloc);
     for location in locations {
         if !paths.is_empty() {

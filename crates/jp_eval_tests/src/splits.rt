@@ -1,13 +1,13 @@
 //! What queries select where long lists are cut into halves that are walked at once.
 
 use crate::forks::{Counting, Meeting};
+use crate::selections::paths;
 use jp_check::{Plan, plan};
 use jp_doc::{Document, Location, Step};
 use jp_eval::{Evaluator, OpenFork};
 use jp_flat::FlatReader;
 use jp_nodes::Locations;
 use jp_part::Part;
-use jp_path::write_path;
 use jp_select::{evaluate, evaluate_split};
 use std::alloc::Global;
 use std::test::Fail;
@@ -27,20 +27,6 @@ $.*[?@>1].c on {"b":[{"c":5}],"a":[1,2]} gives nothing
 $.*[?@.c].c on {"b":[{"c":5},{}],"a":[{"c":1}]} gives $['a'][0]['c'] $['b'][0]['c']"#;
 
 const FLOORS: [u64; 5] = [0, 1, 2, 3, 18446744073709551615];
-
-fn paths(alloc: Global, locations: &[Location]) -> Result<String, Fail> {
-    let mut paths = String::new(alloc);
-    for location in locations {
-        if !paths.is_empty() {
-            paths.push(' ')?;
-        }
-        paths.push_str(write_path(alloc, location)?.as_str())?;
-    }
-    if paths.is_empty() {
-        paths.push_str("nothing")?;
-    }
-    Ok(paths)
-}
 
 /// Each row 200 times with each floor.
 #[test]
