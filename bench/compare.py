@@ -24,6 +24,8 @@ import tools
 TIME = "/usr/bin/time"
 # How long a run may take, in seconds.
 PATIENCE = "600"
+# Under which name four runs of jp at once are kept beside the programs.
+PROCESSES = "four processes"
 # What share jp is to take, in a case in another form, of a time: of what, in which case, and whose.
 GOALS = [("values", "the same query in the form of nodes", "all", "jp", 0.6),
          ("grep", "the program by hand", "grep", "by_hand", 0.35)]
@@ -43,6 +45,22 @@ class Run:
         self.processor = used.ru_utime + used.ru_stime
         with open(notes) as told:
             self.memory = int((told.read().split() or ["0"])[-1]) / 1024
+
+
+class Processes:
+    """Four runs at once, each of one worker and with the whole input: what the machine gives four workers."""
+
+    COUNT = 4
+
+    def __init__(self, words, source):
+        start = time.perf_counter()
+        children = []
+        for _ in range(self.COUNT):
+            with open(source, "rb") as stdin:
+                children.append(subprocess.Popen(words, stdin=stdin, stdout=subprocess.DEVNULL,
+                                                 stderr=subprocess.DEVNULL))
+        self.failed = [child for child in children if child.wait() != 0]
+        self.wall = time.perf_counter() - start
 
 
 class Program:
@@ -113,11 +131,15 @@ def compare(case, source, programs, room):
 
 
 def measure(case, arguments, paths, others, room):
-    """The programs, measured on one case, and the size of its input in megabytes."""
+    """The programs, and four of jp at once, measured on one case, and the size of its input in megabytes."""
     source = corpus.made_in(tools.ROOM, case.kind, arguments.mb)
     programs = programs_for(case, paths, others)
     compare(case.name, source, programs, room)
+    alone, at_once = [paths["jp"], "--workers", "1", *case.words()], []
     for _ in range(arguments.rounds):
+        at_once.append(Processes(alone, source))
+        if at_once[-1].failed:
+            tools.refuse("one of four jp at once fails on the case %s" % case.name)
         for program in programs:
             if not program.slow:
                 timed = Run(program.words, source, os.devnull, os.path.join(room, "notes"))
@@ -125,7 +147,9 @@ def measure(case, arguments, paths, others, room):
                     tools.refuse("%s ends with status %d on the case %s"
                                  % (program.name, timed.status, case.name))
                 program.keep(timed)
-    return {program.name: program.best for program in programs}, os.path.getsize(source) / 1e6
+    best = {program.name: program.best for program in programs}
+    best[PROCESSES] = min(at_once, key=lambda each: each.wall)
+    return best, os.path.getsize(source) / 1e6
 
 
 def speed(size, run):
@@ -141,14 +165,21 @@ def times(runs, name):
     return runs[name + " 1"].wall / runs[name + " 4"].wall
 
 
+def share(runs):
+    """The throughput of four workers by that of four processes at once."""
+    return runs[PROCESSES].wall / (Processes.COUNT * runs["jp 4"].wall)
+
+
 def table(measured, names):
-    """The table in Markdown: megabytes of input a second, four workers by one, the peak of memory in MB."""
-    head = ["case", *[name.replace("_", " ") for name in names], "jp, 4 by 1", "by hand, 4 by 1",
+    """The table in Markdown: megabytes of input a second, four workers by one and by four processes, the peak
+    of memory in MB."""
+    head = ["case", *[name.replace("_", " ") for name in names], "jp, 4 by 1", "jp, 4 by 4 processes",
+            "by hand, 4 by 1",
             "MB of jp 1, 4", "MB of by hand 1, 4"]
     rows = [head, ["---"] + ["---:"] * (len(head) - 1)]
     for case, (runs, size) in measured.items():
         rows.append(["`%s`" % case, *[speed(size, runs[name]) if name in runs else "" for name in names],
-                     "%.1f" % times(runs, "jp"), "%.1f" % times(runs, "by_hand"),
+                     "%.1f" % times(runs, "jp"), "%.2f" % share(runs), "%.1f" % times(runs, "by_hand"),
                      memory(runs, "jp"), memory(runs, "by_hand")])
     return "\n".join("| %s |" % " | ".join(row) for row in rows)
 
@@ -178,6 +209,8 @@ def means(measured, names):
     ups = [name for name in ("jp", "by_hand", "over_simdjson") if name + " 1" in names]
     said.append("four workers by one: " + ", ".join(
         "%s %s" % (name.replace("_", " "), ratios(measured, name + " 1", name + " 4")) for name in ups))
+    said.append("four workers of jp by four processes of one worker, at once: "
+                + spread([share(runs) for runs, _ in measured.values()]))
     return said
 
 
@@ -262,9 +295,10 @@ def main():
         for case in cases.CASES:
             if arguments.only in (None, case.name):
                 measured[case.name] = runs, size = measure(case, arguments, paths, others, room)
-                said = ", ".join("%s %s" % (name, speed(size, run)) for name, run in runs.items())
+                said = ", ".join("%s %s" % (name, speed(size, run)) for name, run in runs.items()
+                                 if name != PROCESSES)
                 print("%s: %s MB/s" % (case.name, said), file=sys.stderr, flush=True)
-    names = list(next(iter(measured.values()))[0])
+    names = [name for name in next(iter(measured.values()))[0] if name != PROCESSES]
     about = machine(arguments, load, versions(paths, others))
     print("\n\n".join([about, table(measured, names), summary(measured, names)]))
 
