@@ -37,7 +37,8 @@ impl Published {
         ensures shown { AreShown slots.now self.new }
         ensures taken { IfOk result (λ taken. taken ≡ true
             → shown_lines self.new ≡ shown_lines self.old ++ lines) }
-        ensures not_taken { IfOk result (λ taken. taken ≡ false → self.new.tokens.items ≡ self.old.tokens.items) }
+        ensures not_taken { IfOk result (λ taken. taken ≡ false
+            → self.new.tokens.items ≡ self.old.tokens.items) }
         ensures same { OnErr result (self.new.tokens.items ≡ self.old.tokens.items) }
     {
         let at = self.tokens.len();

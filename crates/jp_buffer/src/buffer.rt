@@ -135,8 +135,9 @@ impl LineBuffer {
         self.waiting.lines(alloc)
     }
 
-    /// So many lines at the front, copied into parts of this size. They use the buffers that are spare, as long
-    /// as there are any, so that a stream that is answered by parts takes memory for its first parts alone.
+    /// So many lines at the front, copied into parts of this size. They use the buffers that are spare, as
+    /// long as there are any, so that a stream that is answered by parts takes memory for its first parts
+    /// alone.
     ///
     /// `AllocError` if a growth was refused.
     pub fn front_parts(

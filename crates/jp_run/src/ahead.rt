@@ -125,7 +125,8 @@ fn answer_ahead<R: Threads + Sync, S: Source, G: Gate + Sync, F: Form + Drop + S
 ) -> Result<Ahead, RunFault>
     requires reading { MayRead enough.lines (S.failed source.old) (S.reads source.old) stream.old.incoming }
     requires few { enough.lines ≤ 1000000 }
-    ensures read { HasAnswered (manner_in F.says job.now.settings.keeps_going) (compiled_query job.now.query.now)
+    ensures read { HasAnswered (manner_in F.says job.now.settings.keeps_going)
+        (compiled_query job.now.query.now)
         enough.lines (record {
           old = S.remaining source.old;
           new = S.remaining source.new;
@@ -152,7 +153,8 @@ fn read_first<R: Threads + Sync, S: Source, G: Gate + Sync, F: Form + Drop + Sen
 ) -> Result<Ahead, RunFault>
     requires reading { MayRead enough.lines (S.failed source.old) (S.reads source.old) stream.old.incoming }
     requires few { enough.lines ≤ 1000000 }
-    ensures read { HasAnswered (manner_in F.says job.now.settings.keeps_going) (compiled_query job.now.query.now)
+    ensures read { HasAnswered (manner_in F.says job.now.settings.keeps_going)
+        (compiled_query job.now.query.now)
         enough.lines (record {
           old = S.remaining source.old;
           new = S.remaining source.new;
@@ -190,7 +192,8 @@ fn read_beside<R: Threads + Sync, S: Source, G: Gate + Sync, F: Form + Drop + Se
 ) -> Result<Ahead, RunFault>
     requires reading { MayRead lines (S.failed source.old) (S.reads source.old) incoming.old }
     requires few { lines ≤ 1000000 }
-    ensures read { HasAnswered (manner_in F.says job.now.settings.keeps_going) (compiled_query job.now.query.now)
+    ensures read { HasAnswered (manner_in F.says job.now.settings.keeps_going)
+        (compiled_query job.now.query.now)
         lines (record {
           old = S.remaining source.old;
           new = S.remaining source.new;
@@ -265,7 +268,8 @@ fn at_once<R: Threads + Sync, S: Source, G: Gate + Sync, F: Form + Drop + Send>(
     { answer_row::<R, G, F>(&job.crew, round) };
     let mut reading = || -> Result<bool, RunFault>
         requires { AreShown round.now.slots.now given.now.published × (given.now.lines ≤ wanted.lines)
-            × MayRead (wanted.lines - given.now.lines) (S.failed source.now) (S.reads source.now) incoming.now }
+            × MayRead (wanted.lines - given.now.lines) (S.failed source.now) (S.reads source.now)
+            incoming.now }
         ensures { AreShown round.entry.now.slots.now given.exit.now.published
             × HasPublishedRound wanted.lines (record {
               old = S.remaining source.entry.now;
