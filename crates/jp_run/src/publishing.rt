@@ -19,7 +19,8 @@ use std::alloc::{AllocError, Global};
 /// How many bytes of lines come before they are published: no fewer than one read gives.
 const READ_BYTES: usize = 65_536;
 
-/// How many bytes of lines a round has at most, and the last read more: they are held until it ends.
+/// How many bytes the turns of a round bring, each counted as `READ_BYTES`: it may bring twice as many, and a
+/// line. They are held until the round ends.
 const ROUND_BYTES: usize = 4_194_304;
 
 /// What is to be published: so many lines at most, in parts of this size.
