@@ -1,6 +1,6 @@
 -- A child is less high than its value.
 use Rattle.std.proofs.Common.{ℕ, zero, suc, ◌<◌, Option, Some, Bool, true, false, cond, IfSome, arith}
-use Rattle.jp_doc.specs.Json.{Text, text_eq, Json, null, truth, whole, text, array, object, Items, no_items}
+use Rattle.jp_doc.specs.Json.{Text, text_eq, Json, null, truth, number, text, array, object, Items, no_items}
 use Rattle.jp_doc.specs.Json.{add_item, Members, no_members, add_member}
 use Rattle.jp_doc.specs.Location.{Step, name, index, member_at, item_at, member_of, item_of, child_at}
 use Rattle.jp_doc.specs.Height.{height, items_height, members_height}
@@ -19,7 +19,7 @@ member_at_below k n (add_member l v ms) h = pick (text_eq k l) n v (member_at k 
 pub member_below : (k : Text) (v : Json) → IfSome (member_of k v) (λ w. height w < height v)
 member_below k null = tt
 member_below k (truth b) = tt
-member_below k (whole z) = tt
+member_below k (number x) = tt
 member_below k (text s) = tt
 member_below k (array vs) = tt
 member_below k (object ms) = member_at_below k (suc (members_height ms)) ms (omega arith)
@@ -32,7 +32,7 @@ item_at_below (suc i) n (add_item v vs) h = item_at_below i n vs (omega (arith, 
 pub item_below : (i : ℕ) (v : Json) → IfSome (item_of i v) (λ w. height w < height v)
 item_below i null = tt
 item_below i (truth b) = tt
-item_below i (whole z) = tt
+item_below i (number x) = tt
 item_below i (text s) = tt
 item_below i (array vs) = item_at_below i (suc (items_height vs)) vs (omega arith)
 item_below i (object ms) = tt

@@ -4,7 +4,7 @@ use Rattle.std.proofs.Props.{props}
 use Rattle.std.specs.Ordering.{Ordering-set}
 use Rattle.serde_json.specs.declared.value.Value.{Value}
 use Rattle.jp_doc.specs.DocumentValue.{IsDocumentValue}
-use Rattle.jp_doc.specs.Json.{Text, value_of, Json, null, truth, whole, text, array, object, Items, no_items}
+use Rattle.jp_doc.specs.Json.{Text, value_of, Json, null, truth, number, text, array, object, Items, no_items}
 use Rattle.jp_doc.specs.Json.{add_item, Members, no_members, add_member}
 use Rattle.jp_doc.specs.Rising.{IsBelow, IsRising, ItemsRise, MembersRise}
 
@@ -16,7 +16,7 @@ mutual
   pub rising_prop : (v : Json) → IsProp (IsRising v)
   rising_prop null = hlevel props
   rising_prop (truth b) = hlevel props
-  rising_prop (whole z) = hlevel props
+  rising_prop (number x) = hlevel props
   rising_prop (text s) = hlevel props
   rising_prop (array vs) = items_rise_prop vs
   rising_prop (object ms) = members_rise_prop ms

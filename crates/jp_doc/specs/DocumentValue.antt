@@ -4,9 +4,10 @@ use Rattle.serde_json.specs.Data.{depth}
 use Rattle.serde_json.specs.View.{view}
 use Rattle.serde_json.specs.Written.{has_float}
 use Rattle.serde_json.specs.declared.value.Value.{Value}
-use Rattle.jp_doc.specs.Json.{Json, null, truth, whole, text, array, object, value_of}
+use Rattle.jp_doc.specs.Json.{Json, null, truth, number, text, array, object, value_of}
 use Rattle.jp_doc.specs.Reading.{max_items, has_long_array}
 use Rattle.jp_doc.specs.Rising.{IsRising}
+use Rattle.jp_number.specs.Profile.{whole}
 
 -- Its numbers are whole, its arrays short enough, its nesting no deeper than the JSON crate reads, and its
 -- names rise.
@@ -18,7 +19,7 @@ pub record IsDocumentValue (v : Value) : Type 0 where
 
 -- the number that a value is, if it is one
 abbrev pub whole_in : Json → Option ℤ
-whole_in (whole z) = Some z
+whole_in (number (whole z)) = Some z
 whole_in null = None
 whole_in (truth b) = None
 whole_in (text s) = None

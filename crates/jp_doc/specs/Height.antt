@@ -1,13 +1,13 @@
 -- How deep arrays and objects nest in a value (RFC 8259, 9).
 use Rattle.std.specs.Prelude.{ℕ, suc, max}
-use Rattle.jp_doc.specs.Json.{Json, null, truth, whole, text, array, object, Items, no_items, add_item}
+use Rattle.jp_doc.specs.Json.{Json, null, truth, number, text, array, object, Items, no_items, add_item}
 use Rattle.jp_doc.specs.Json.{Members, no_members, add_member}
 
 abbrev mutual
   pub height : Json → ℕ
   height null = 0
   height (truth b) = 0
-  height (whole z) = 0
+  height (number x) = 0
   height (text s) = 0
   height (array vs) = suc (items_height vs)
   height (object ms) = suc (members_height ms)

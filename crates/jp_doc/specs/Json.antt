@@ -7,6 +7,7 @@ use Rattle.std.specs.declared.cmp.Ordering.{Ordering}
 use Rattle.serde_json.specs.Data as crate_data
 use Rattle.serde_json.specs.View.{view}
 use Rattle.serde_json.specs.declared.value.Value.{Value}
+use Rattle.jp_number.specs.Profile.{Number, whole}
 
 -- a text is the list of its Unicode scalar values
 abbrev pub Text : Type 0
@@ -26,7 +27,7 @@ mutual
   pub data Json : Type 0 where
     null : Json
     truth : Bool → Json
-    whole : ℤ → Json
+    number : Number → Json
     text : Text → Json
     array : Items → Json
     object : Members → Json
@@ -60,7 +61,7 @@ abbrev mutual
   pub json_of : crate_data.Data → Json
   json_of crate_data.null = null
   json_of (crate_data.boolean b) = truth b
-  json_of (crate_data.number n) = whole (whole_of n)
+  json_of (crate_data.number n) = number (whole (whole_of n))
   json_of (crate_data.string s) = text (chars s)
   json_of (crate_data.array ds) = array (items_of ds)
   json_of (crate_data.object ms) = object (members_of ms)
@@ -82,11 +83,14 @@ abbrev pub number_of : ℤ → crate_data.Num
 number_of (pos n) = crate_data.unsigned n
 number_of (negsuc n) = crate_data.negative (negsuc n)
 
+abbrev pub number_data : Number → crate_data.Num
+number_data (whole z) = number_of z
+
 abbrev mutual
   pub data_of : Json → crate_data.Data
   data_of null = crate_data.null
   data_of (truth b) = crate_data.boolean b
-  data_of (whole z) = crate_data.number (number_of z)
+  data_of (number x) = crate_data.number (number_data x)
   data_of (text s) = crate_data.string (encode_utf8_all s)
   data_of (array vs) = crate_data.array (items_data vs)
   data_of (object ms) = crate_data.object (members_data ms)

@@ -5,7 +5,7 @@ use Rattle.std.specs.Str.{is_utf8}
 use Rattle.serde_json.specs.Data.{Data}
 use Rattle.serde_json.specs.Read.{read}
 use Rattle.serde_json.specs.Written.{has_float}
-use Rattle.jp_doc.specs.Json.{Json, null, truth, whole, text, array, object, Items, no_items, add_item}
+use Rattle.jp_doc.specs.Json.{Json, null, truth, number, text, array, object, Items, no_items, add_item}
 use Rattle.jp_doc.specs.Json.{Members, no_members, add_member, item_list, json_of}
 use Rattle.jp_doc.specs.declared.fault.DocFault.{DocFault}
 use Rattle.jp_doc.specs.declared.fault.DocFault.TheVariants.{LongLine, Unreadable, NotWhole, LongArray}
@@ -22,7 +22,7 @@ abbrev mutual
   pub has_long_array : ℕ → Json → Bool
   has_long_array n null = false
   has_long_array n (truth b) = false
-  has_long_array n (whole z) = false
+  has_long_array n (number x) = false
   has_long_array n (text s) = false
   has_long_array n (array vs) = nat_lt n (length (item_list vs)) || items_have_long_array n vs
   has_long_array n (object ms) = members_have_long_array n ms

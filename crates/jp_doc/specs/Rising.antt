@@ -3,7 +3,7 @@ use Rattle.std.specs.Prelude.{◌≡◌}
 use Rattle.std.specs.declared.cmp.Ordering.TheVariants.{Less}
 use Rattle.std.specs.Str.{IsUtf8}
 use Rattle.serde_json.specs.Data as crate_data
-use Rattle.jp_doc.specs.Json.{Text, text_cmp, Json, null, truth, whole, text, array, object, Items, no_items}
+use Rattle.jp_doc.specs.Json.{Text, text_cmp, Json, null, truth, number, text, array, object, Items, no_items}
 use Rattle.jp_doc.specs.Json.{add_item, Members, no_members, add_member}
 
 -- the first text is below the second
@@ -20,7 +20,7 @@ abbrev mutual
   pub IsRising : Json → Type 0
   IsRising null = Unit {0}
   IsRising (truth b) = Unit {0}
-  IsRising (whole z) = Unit {0}
+  IsRising (number x) = Unit {0}
   IsRising (text s) = Unit {0}
   IsRising (array vs) = ItemsRise vs
   IsRising (object ms) = MembersRise ms

@@ -4,9 +4,11 @@ ghost use Rattle.std.specs.Prelude.{◌≡◌, ◌≢◌, ◌<◌, ◌≤◌, fa
 ghost use Rattle.std.specs.Prelude.{IfErr, Some, None};
 ghost use Rattle.serde_json.specs.Data.{depth};
 ghost use Rattle.serde_json.specs.Errors.{IsMemory};
-ghost use Rattle.serde_json.specs.View.{view};
+ghost use Rattle.serde_json.specs.Find.{is_float};
+ghost use Rattle.serde_json.specs.View.{view, number_view};
 ghost use Rattle.serde_json.specs.Written.{has_float};
 ghost use Rattle.jp_doc.specs.DocumentValue.{IsDocumentValue, whole_in};
+ghost use Rattle.jp_doc.specs.Json as json;
 ghost use Rattle.jp_doc.specs.Json.{value_of};
 ghost use Rattle.jp_doc.specs.Location as location;
 ghost use Rattle.jp_doc.specs.Reading.{max_line, document_from, reading};
@@ -15,7 +17,7 @@ ghost use Rattle.jp_doc.specs.Rising.{IsRising};
 use crate::fault::DocFault;
 use crate::limits::{MAX_ITEMS, MAX_LINE, fault_within};
 use crate::location::Step;
-use serde_json::{Category, Error, Value};
+use serde_json::{Category, Error, Number, Value};
 use std::alloc::Global;
 
 /// A JSON value that was read from a line.
@@ -107,6 +109,15 @@ fn child_at<'v>(value: &'v Value, step: &Step) -> Option<&'v Value>
         Step::Name(name) => value.get(name.as_str()),
         Step::Index(index) => value.get(*index as usize),
     }
+}
+
+/// The whole number that a number of the JSON crate is, of which it is known that it is whole.
+pub fn whole_of(number: &Number) -> i128
+    requires { is_float (number_view number.now) ≡ false }
+    ensures { result ≡ json.whole_of (number_view number.now) }
+{
+    // Its condition says that it is whole, so there is always one.
+    number.as_i128().unwrap_or(0)
 }
 
 /// The whole number that a value is, or `None` where it is none.

@@ -1,6 +1,7 @@
 //! Where locations lead, and the numbers there.
 
-use jp_doc::{Document, Step, whole_number};
+use jp_doc::{Document, Step, whole_number, whole_of};
+use serde_json::Number;
 use std::alloc::{AllocError, Global};
 use std::test::Fail;
 
@@ -89,5 +90,18 @@ fn whole_numbers(rt: HostRuntime) -> Result<(), Fail> {
     for (line, number) in &NUMBERS {
         assert_eq!(rt; number_at(rt.alloc(), line, &[])?, *number, "{line}");
     }
+    Ok(())
+}
+
+#[test]
+fn numbers_of_the_crate(rt: HostRuntime) -> Result<(), Fail> {
+    assert_eq!(rt;
+        whole_of(&Number::from(u64::MAX)),
+        18_446_744_073_709_551_615
+    );
+    assert_eq!(rt;
+        whole_of(&Number::from(i64::MIN)),
+        -9_223_372_036_854_775_808
+    );
     Ok(())
 }

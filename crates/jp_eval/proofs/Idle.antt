@@ -1,7 +1,7 @@
 -- What selectors find where nothing is inside.
 use Rattle.std.proofs.Common.{◌≡◌, ℕ, ℤ, option_map, List, [], ◌∷◌, ◌++◌, refl, ap, ap₂, ◌∙◌}
 use Rattle.std.specs.List.{filter, flat_map}
-use Rattle.jp_doc.specs.Json.{Json, null, truth, whole, text, array, object}
+use Rattle.jp_doc.specs.Json.{Json, null, truth, number, text, array, object}
 use Rattle.jp_doc.specs.Location as at
 use Rattle.jp_doc.specs.Location.{Location, Node, node}
 use Rattle.jp_compiled.specs.Compiled.{position_text}
@@ -21,7 +21,7 @@ use Rattle.jp_eval.proofs.CompiledParts.{picked_name, picked_wild, picked_index,
 no_member : (k : List ℕ) (p : Location) (v : Json) → IsScalar v → child (at.name k) (node p v) ≡ []
 no_member k p null is = refl
 no_member k p (truth b) is = refl
-no_member k p (whole z) is = refl
+no_member k p (number x) is = refl
 no_member k p (text s) is = refl
 no_member k p (array vs) is = absurd is
 no_member k p (object ms) is = absurd is
@@ -29,7 +29,7 @@ no_member k p (object ms) is = absurd is
 no_children : (p : Location) (v : Json) → IsScalar v → children (node p v) ≡ []
 no_children p null is = refl
 no_children p (truth b) is = refl
-no_children p (whole z) is = refl
+no_children p (number x) is = refl
 no_children p (text s) is = refl
 no_children p (array vs) is = absurd is
 no_children p (object ms) is = absurd is
@@ -37,7 +37,7 @@ no_children p (object ms) is = absurd is
 itself : (p : Location) (v : Json) → IsScalar v → descendants (node p v) ≡ node p v ∷ []
 itself p null is = refl
 itself p (truth b) is = refl
-itself p (whole z) is = refl
+itself p (number x) is = refl
 itself p (text s) is = refl
 itself p (array vs) is = absurd is
 itself p (object ms) is = absurd is
@@ -46,7 +46,7 @@ no_index : (z : ℤ) (p : Location) (v : Json) → IsScalar v
     → items_at (node p v) (spec.index_places z v) ≡ []
 no_index z p null is = refl
 no_index z p (truth b) is = refl
-no_index z p (whole y) is = refl
+no_index z p (number x) is = refl
 no_index z p (text s) is = refl
 no_index z p (array vs) is = absurd is
 no_index z p (object ms) is = absurd is
@@ -59,7 +59,7 @@ sliced s v = spec.slice_places (written_value (option_map position_text s.first)
 no_slice : (s : Slice) (p : Location) (v : Json) → IsScalar v → items_at (node p v) (sliced s v) ≡ []
 no_slice s p null is = refl
 no_slice s p (truth x) is = refl
-no_slice s p (whole z) is = refl
+no_slice s p (number x) is = refl
 no_slice s p (text t) is = refl
 no_slice s p (array vs) is = absurd is
 no_slice s p (object ms) is = absurd is

@@ -9,7 +9,7 @@ use Rattle.std.specs.Ordering.{ordering_reverse}
 use Rattle.std.specs.Cmp.Lexicographic.{nat_list_cmp_total}
 use Rattle.std.proofs.lemmas.Slice.Eq.{bytes_eq-Decides}
 use Rattle.std.proofs.lemmas.Option.{same_Some}
-use Rattle.jp_doc.specs.Json.{Text, text_eq, text_cmp, Json, null, truth, whole, text, array, object}
+use Rattle.jp_doc.specs.Json.{Text, text_eq, text_cmp, Json, null, truth, number, text, array, object}
 use Rattle.jp_doc.specs.Json.{Items, no_items, add_item, Members, no_members, add_member}
 use Rattle.jp_doc.specs.Location.{Step, name, index, Location, Node, node, value_at, child_at, member_at}
 use Rattle.jp_doc.specs.Location.{item_at}
@@ -128,7 +128,7 @@ module _ (root : Json) where
       → AllByRecursion (Leads root) (children_at at v)
   children_lead_at at null h r = tt
   children_lead_at at (truth b) h r = tt
-  children_lead_at at (whole z) h r = tt
+  children_lead_at at (number x) h r = tt
   children_lead_at at (text s) h r = tt
   children_lead_at at (array vs) h r = items_lead at vs h 0 vs (λ j. ap (λ n. item_at n vs) (zero-add j))
       r
@@ -142,7 +142,7 @@ module _ (root : Json) where
         → AllByRecursion (Leads root) (descendants_at at v)
     descendants_lead_at at null h r = (record { there = h; rises = r }, tt)
     descendants_lead_at at (truth b) h r = (record { there = h; rises = r }, tt)
-    descendants_lead_at at (whole z) h r = (record { there = h; rises = r }, tt)
+    descendants_lead_at at (number x) h r = (record { there = h; rises = r }, tt)
     descendants_lead_at at (text s) h r = (record { there = h; rises = r }, tt)
     descendants_lead_at at (array vs) h r = (
       record { there = h; rises = r },

@@ -4,7 +4,7 @@ use Rattle.std.proofs.Common.{refl, subst}
 use Rattle.std.specs.List.{flat_map, AllByRecursion}
 use Rattle.std.proofs.lemmas.Option.{same_Some}
 use Rattle.std.proofs.lemmas.Slice.Eq.{bytes_eq-Decides}
-use Rattle.jp_doc.specs.Json.{Text, text_eq, Json, null, truth, whole, text, array, object, Items}
+use Rattle.jp_doc.specs.Json.{Text, text_eq, Json, null, truth, number, text, array, object, Items}
 use Rattle.jp_doc.specs.Json.{no_items, add_item, Members, no_members, add_member}
 use Rattle.jp_doc.specs.Location.{Step, name, index, Location, Node, node, value_at, child_at, member_at}
 use Rattle.jp_doc.specs.Location.{item_at}
@@ -36,13 +36,13 @@ child_rises : (s : Step) (v w : Json) → IsRising v → child_at s v ≡ Some w
 child_rises (name k) (object ms) w r h = member_rises k ms w r h
 child_rises (name k) null w r h = absurd cc
 child_rises (name k) (truth b) w r h = absurd cc
-child_rises (name k) (whole z) w r h = absurd cc
+child_rises (name k) (number x) w r h = absurd cc
 child_rises (name k) (text s) w r h = absurd cc
 child_rises (name k) (array vs) w r h = absurd cc
 child_rises (index i) (array vs) w r h = item_rises i vs w r h
 child_rises (index i) null w r h = absurd cc
 child_rises (index i) (truth b) w r h = absurd cc
-child_rises (index i) (whole z) w r h = absurd cc
+child_rises (index i) (number x) w r h = absurd cc
 child_rises (index i) (text s) w r h = absurd cc
 child_rises (index i) (object ms) w r h = absurd cc
 

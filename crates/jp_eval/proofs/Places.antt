@@ -6,7 +6,7 @@ use Rattle.std.specs.Prelude.{◌≤ℤ◌, ◌<ℤ◌}
 use Rattle.std.proofs.lemmas.Bool.Decides.{nat_tests}
 use Rattle.std.proofs.lemmas.Int.{ints}
 use lib.IntN.{nat_abs}
-use Rattle.jp_doc.specs.Json.{Json, null, truth, whole, text, array, object, Items, no_items, add_item}
+use Rattle.jp_doc.specs.Json.{Json, null, truth, number, text, array, object, Items, no_items, add_item}
 use Rattle.jp_doc.specs.Json.{item_list}
 use Rattle.jp_doc.specs.Location.{Location, node, index, item_at}
 use Rattle.jp_nodes.specs.Nodes.{items_at, node_if_some}
@@ -22,7 +22,7 @@ no_place (negsuc n) = let t : nat_lt n 0 ≡ false = grind (arith, nat_tests) in
 index_level : (z : ℤ) (v : Json) → place_of z (item_count v) ≡ index_places z v
 index_level z null = no_place z
 index_level z (truth b) = no_place z
-index_level z (whole y) = no_place z
+index_level z (number x) = no_place z
 index_level z (text t) = no_place z
 index_level z (array vs) = refl
 index_level z (object ms) = no_place z
@@ -44,7 +44,7 @@ slice_level : (first past step : Option ℤ) (v : Json)
     step v
 slice_level first past step null = no_indexes _ _
 slice_level first past step (truth b) = no_indexes _ _
-slice_level first past step (whole y) = no_indexes _ _
+slice_level first past step (number x) = no_indexes _ _
 slice_level first past step (text t) = no_indexes _ _
 slice_level first past step (array vs) = refl
 slice_level first past step (object ms) = no_indexes _ _
@@ -74,7 +74,7 @@ pub free_place : (at : Location) (v : Json) (i : ℕ)
     → items_at (node at v) (i ∷ []) ≡ items_at (node at v) (index_places (pos i) v)
 free_place at null i = refl
 free_place at (truth b) i = refl
-free_place at (whole z) i = refl
+free_place at (number x) i = refl
 free_place at (text t) i = refl
 free_place at (array vs) i = item_or_none at vs i (nat_lt i (length (item_list vs))) refl
 free_place at (object ms) i = refl

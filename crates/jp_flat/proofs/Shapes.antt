@@ -30,6 +30,7 @@ use Rattle.jp_flat.specs.Digits.{whole_value}
 use Rattle.jp_flat.proofs.Numbers.{whole_text}
 use Rattle.jp_flat.proofs.PlainTokens.{some_token}
 use Rattle.jp_flat.proofs.Reading.{Flat, flat_of, read_of_flat, made_of, value_is}
+use Rattle.jp_number.specs.Profile.{whole}
 
 pub here : (ns : List Node) (i : ℕ) (d : Node) → i < length ns
     → drop i (map node_token ns) ≡ node_token (get_or ns i d) ∷ drop (i + 1) (map node_token ns)
@@ -87,7 +88,7 @@ Tells (Array a) v = (vs : json.Items) × (v ≡ json.array vs)
 Tells EndArray v = ⊥
 Tells (Key s) v = ⊥
 Tells (String s) v = v ≡ json.text (chars s.now)
-Tells (Number s) v = v ≡ json.whole (whole_value s.now)
+Tells (Number s) v = v ≡ json.number (whole (whole_value s.now))
 Tells (Bool b) v = v ≡ json.truth b
 Tells Null v = v ≡ json.null
 
@@ -125,7 +126,8 @@ tells n ts h =
     go (Number s) f sh =
         let p : is_whole_text s.now ≡ true = subst (λ j. is_plain j ≡ true) sh.0 f.plain in
         let w = whole_text s.now p in
-        value_is _ f (number w.number) (ap of_json sh.0 ∙ ap (option_map number) w.read) ∙ ap json.whole w.is
+        value_is _ f (number w.number) (ap of_json sh.0 ∙ ap (option_map number) w.read)
+        ∙ ap (λ z. json.number (whole z)) w.is
     go (Bool b) f sh = value_is _ f (boolean b) (ap of_json sh.0)
     go Null f sh = value_is _ f null (ap of_json sh.0)
 
@@ -214,7 +216,7 @@ no_text Null v p t = sym (ap text_in t)
 pub number_is_whole : (ts : List Token) (n : Node) (s : Bor (List ℕ)) → is_flat ts ≡ true
     → ts ≡ node_token n ∷ drop 1 ts → n ≡ Number s → is_whole_text s.now ≡ true
 number_is_whole ts n s h e is =
-    let whole : ts ≡ Token.number s.now ∷ drop 1 ts = e ∙ ap (λ m. node_token m ∷ drop 1 ts) is in
-    let f = flat_of (Token.number s.now ∷ drop 1 ts) (subst (λ l. is_flat l ≡ true) whole h) in
+    let all : ts ≡ Token.number s.now ∷ drop 1 ts = e ∙ ap (λ m. node_token m ∷ drop 1 ts) is in
+    let f = flat_of (Token.number s.now ∷ drop 1 ts) (subst (λ l. is_flat l ≡ true) all h) in
     let sh = shape (Number s) (drop 1 ts) f.source max_depth f.rest (read_of_flat _ f) in
     subst (λ j. is_plain j ≡ true) sh.0 f.plain

@@ -4,7 +4,7 @@ use Rattle.std.specs.Str.{chars}
 use Rattle.json.specs.Tape.{node_token}
 use Rattle.json.specs.Token.{Token, begin_array, begin_object}
 use Rattle.jp_doc.specs.Json as json
-use Rattle.jp_doc.specs.Json.{Json, null, truth, whole, text, array, object, Items, Members, item_list}
+use Rattle.jp_doc.specs.Json.{Json, null, truth, number, text, array, object, Items, Members, item_list}
 use Rattle.jp_flat.specs.Digits.{whole_value}
 use Rattle.jp_flat.specs.Flat.{value_at}
 use Rattle.jp_flat.specs.Members.{entries_at}
@@ -13,6 +13,7 @@ use Rattle.jp_flat.specs.declared.value.FlatMembers.{FlatMembers}
 use Rattle.jp_flat.specs.declared.value.FlatValue.{FlatValue}
 use Rattle.jp_flat.specs.declared.value.Kind.{Kind}
 use Rattle.jp_flat.specs.declared.value.Kind.TheVariants.{Null, Truth, Whole, Text, Array, Object}
+use Rattle.jp_number.specs.Profile.{whole}
 
 -- the tokens from the value's first on
 abbrev pub tokens_of : FlatValue → List Token
@@ -26,7 +27,7 @@ flat_value v = value_at (tokens_of v)
 abbrev pub IsKind : Kind → Json → Type 0
 IsKind Null v = v ≡ null
 IsKind (Truth b) v = v ≡ truth b
-IsKind (Whole s) v = v ≡ whole (whole_value s.now)
+IsKind (Whole s) v = v ≡ number (whole (whole_value s.now))
 IsKind (Text s) v = v ≡ text (chars s.now)
 IsKind Array v = (vs : Items) × (v ≡ array vs)
 IsKind Object v = (ms : Members) × (v ≡ object ms)
@@ -36,7 +37,7 @@ abbrev pub text_in : Json → Option json.Text
 text_in (text s) = Some s
 text_in null = None
 text_in (truth b) = None
-text_in (whole z) = None
+text_in (number x) = None
 text_in (array vs) = None
 text_in (object ms) = None
 
@@ -45,7 +46,7 @@ abbrev pub item_count : Json → ℕ
 item_count (array vs) = length (item_list vs)
 item_count null = 0
 item_count (truth b) = 0
-item_count (whole z) = 0
+item_count (number x) = 0
 item_count (text s) = 0
 item_count (object ms) = 0
 

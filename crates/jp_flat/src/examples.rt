@@ -3,8 +3,9 @@
 ghost use Rattle.std.specs.Prelude.{◌≡◌, [], ◌∷◌, codes, pos, negsuc, true, false, Some, None};
 ghost use Rattle.json.specs.Lex.{tokens};
 ghost use Rattle.json.specs.Token.{begin_array, end_array, end_object, number, key, string};
-ghost use Rattle.jp_doc.specs.Json.{null, truth, whole, text, array, object};
+ghost use Rattle.jp_doc.specs.Json.{null, truth, number, text, array, object};
 ghost use Rattle.jp_doc.specs.Json.{no_items, add_item, no_members, add_member};
+ghost use Rattle.jp_number.specs.Profile.{whole};
 ghost use Rattle.jp_flat.specs.Digits.{whole_value};
 ghost use Rattle.jp_flat.specs.Flat.{value_at};
 ghost use Rattle.jp_flat.specs.inner.Plain.{is_flat};
@@ -22,15 +23,15 @@ fn numbers_of_texts()
 
 #[tactic(auto, unfolding(crate::proofs::OnLiterals::flat_on_literals))]
 fn values_that_tokens_begin_with()
-    ensures number { value_at (number (codes "-3") ∷ []) ≡ whole (negsuc 2) }
+    ensures number { value_at (number (codes "-3") ∷ []) ≡ number (whole (negsuc 2)) }
     ensures text_value { value_at (string (codes "ab") ∷ []) ≡ text (codes "ab") }
     ensures empty_array { value_at (begin_array ∷ end_array ∷ []) ≡ array no_items }
-    ensures first_alone { value_at (number (codes "1") ∷ number (codes "2") ∷ []) ≡ whole (pos 1) }
+    ensures first_alone { value_at (number (codes "1") ∷ number (codes "2") ∷ []) ≡ number (whole (pos 1)) }
     ensures line { value_at (tokens (codes "{\"b\":[true],\"a\":null}"))
         ≡ object (add_member (codes "a") null
         (add_member (codes "b") (array (add_item (truth true) no_items)) no_members)) }
     ensures last_of_a_name { value_at (tokens (codes "{\"a\":1,\"a\":2}"))
-        ≡ object (add_member (codes "a") (whole (pos 2)) no_members) }
+        ≡ object (add_member (codes "a") (number (whole (pos 2))) no_members) }
     ensures none { value_at (end_array ∷ []) ≡ null }
 {}
 
@@ -69,7 +70,7 @@ fn members_put_together()
     ensures none { last_of (codes "c") ((codes "a", null) ∷ []) None ≡ None }
     ensures of_a_line { entries_at
         (key (codes "b") ∷ number (codes "1") ∷ key (codes "a") ∷ number (codes "2") ∷ end_object ∷ [])
-        ≡ (codes "b", whole (pos 1)) ∷ (codes "a", whole (pos 2)) ∷ [] }
+        ≡ (codes "b", number (whole (pos 1))) ∷ (codes "a", number (whole (pos 2))) ∷ [] }
     ensures of_an_empty_object { entries_at (end_object ∷ []) ≡ [] }
 {}
 
@@ -87,7 +88,7 @@ fn names_that_rise()
 
 fn what_values_are()
     ensures text_value { text_in (text (codes "a")) ≡ Some (codes "a") }
-    ensures no_text { text_in (whole (pos 1)) ≡ None }
+    ensures no_text { text_in (number (whole (pos 1))) ≡ None }
     ensures two_items { item_count (array (add_item null (add_item (array no_items) no_items))) ≡ 2 }
     ensures no_items_in_an_object { item_count (object (add_member (codes "a") null no_members)) ≡ 0 }
     ensures no_array { IsNoArray (object no_members) × IsNoArray null }

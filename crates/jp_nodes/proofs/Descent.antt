@@ -1,7 +1,7 @@
 -- A node's descendants are the node and those of each child.
 use Rattle.std.proofs.Common.{◌≡◌, ℕ, ◌+◌, [], ◌∷◌, ◌++◌, refl, ap}
 use Rattle.std.specs.List.{flat_map}
-use Rattle.jp_doc.specs.Json.{Json, null, truth, whole, text, array, object, Items, no_items, add_item}
+use Rattle.jp_doc.specs.Json.{Json, null, truth, number, text, array, object, Items, no_items, add_item}
 use Rattle.jp_doc.specs.Json.{Members, no_members, add_member}
 use Rattle.jp_doc.specs.Location.{Location, Node, node, name, index}
 use Rattle.jp_nodes.specs.Nodes.{item_nodes, member_nodes, children_at, children, descendants_at}
@@ -23,7 +23,7 @@ descend_at : (at : Location) (v : Json) → descendants_at at v ≡ node at v �
     (children_at at v)
 descend_at at null = refl
 descend_at at (truth b) = refl
-descend_at at (whole z) = refl
+descend_at at (number x) = refl
 descend_at at (text s) = refl
 descend_at at (array vs) = ap (λ ns. node at (array vs) ∷ ns) (items_descend at 0 vs)
 descend_at at (object ms) = ap (λ ns. node at (object ms) ∷ ns) (members_descend at ms)

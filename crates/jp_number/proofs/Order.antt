@@ -1,15 +1,17 @@
 -- The order of numbers by their values is a total one, and equality an equivalence.
-use Rattle.std.proofs.Common.{◌≡◌, ℕ, suc, ◌*◌, ◌<◌, ℤ, pos, negsuc, neg_ℤ, true, refl, sym, ap, ◌∙◌, arith}
-use Rattle.std.specs.Prelude.{◌*ℤ◌, ◌<ℤ◌}
+use Rattle.std.proofs.Common.{◌≡◌, ℕ, suc, ◌*◌, ◌<◌, ℤ, pos, negsuc, neg_ℤ, Bool, true, false, cond}
+use Rattle.std.proofs.Common.{refl, sym, ap, ◌∙◌, arith}
+use Rattle.std.specs.Prelude.{◌*ℤ◌, ◌<ℤ◌, int_lt}
 use Rattle.std.proofs.lemmas.Int.{ints}
 use Rattle.std.proofs.Math.Nat.{mul-lt-mul_of_pos_right, mul_comm, mul_assoc}
 use Rattle.std.proofs.lemmas.Cmp.{int_cmp_total, eq_by_cmp_equiv}
 use Rattle.std.specs.Cmp.{IsTotalOrder, IsEquivalence, int_ranks, int_cmp_is}
-use Rattle.std.specs.Ordering.{int_cmp, ordering_reverse, MatchOrdering}
+use Rattle.std.specs.Ordering.{int_cmp, is_eq, is_lt, ordering_reverse, MatchOrdering}
 use Rattle.std.specs.declared.cmp.Ordering.{Ordering}
 use Rattle.std.specs.declared.cmp.Ordering.TheVariants.{Less, Equal, Greater}
 use Rattle.fast_float.specs.Text.{tens_down}
-use Rattle.jp_number.specs.Number.{Number, whole, written, parts, top, bottom, order, is_equal}
+use Rattle.jp_number.specs.Number.{Number, whole, written, parts, top, bottom, order, is_equal, is_below}
+use Rattle.jp_number.specs.Profile as profile
 use Rattle.jp_number.proofs.Places.{ten_some}
 use Rattle.jp_number.proofs.Signs.{scaled}
 
@@ -94,6 +96,20 @@ by_one (negsuc a) = let e : suc a * 1 ≡ suc a = omega arith in ap (λ k. neg_�
 pub whole_order : (x y : ℤ) → order (whole x) (whole y) ≡ int_cmp x y
 unfolding order top bottom
 whole_order x y = ap (λ z. int_cmp z (y *ℤ pos 1)) (by_one x) ∙ ap (λ z. int_cmp x z) (by_one y)
+
+-- and so are equality and order of the profile's numbers
+pub profile_equal : (x y : ℤ)
+    → profile.is_equal (profile.whole x) (profile.whole y) ≡ is_equal (whole x) (whole y)
+profile_equal x y = sym (ap is_eq (whole_order x y))
+
+less_by : (less more : Bool) → less ≡ is_lt (cond less Less (cond more Greater Equal))
+less_by true more = refl
+less_by false true = refl
+less_by false false = refl
+
+pub profile_below : (x y : ℤ)
+    → profile.is_below (profile.whole x) (profile.whole y) ≡ is_below (whole x) (whole y)
+profile_below x y = less_by (int_lt x y) (int_lt y x) ∙ sym (ap is_lt (whole_order x y))
 
 pub compared : (x y : ℤ) (o : Ordering) → o ≡ int_cmp x y → o ≡ order (whole x) (whole y)
 compared x y o e = e ∙ sym (whole_order x y)

@@ -1,3 +1,4 @@
 pub mod Number
+pub mod Profile
 pub mod View
 pub mod inner

@@ -1,8 +1,9 @@
 //! Worked examples of the definitions.
 
-ghost use Rattle.std.specs.Prelude.{◌≡◌, codes, pos, negsuc};
+ghost use Rattle.std.specs.Prelude.{◌≡◌, codes, pos, negsuc, true, false};
 ghost use Rattle.std.specs.declared.cmp.Ordering.TheVariants.{Less, Equal, Greater};
 ghost use Rattle.jp_number.specs.Number.{whole, written, top, bottom, order};
+ghost use Rattle.jp_number.specs.Profile as profile;
 
 /// The value of a text as a fraction.
 #[tactic(auto, unfolding(crate::proofs::OnLiterals::numbers_on_literals))]
@@ -38,4 +39,15 @@ fn different_numbers()
     ensures tiny { order (written (codes "1e-400")) (written (codes "1e-399")) ≡ Less }
     ensures above_minus_zero { order (written (codes "-0")) (written (codes "1e-9")) ≡ Less }
     ensures beside_a_whole_number { order (whole (pos 10)) (written (codes "9.99")) ≡ Greater }
+{}
+
+/// Numbers of the profile: equality, order and text.
+#[tactic(auto, unfolding(crate::proofs::OnLiterals::numbers_on_literals))]
+fn numbers_of_the_profile()
+    ensures same { profile.is_equal (profile.whole (negsuc 6)) (profile.whole (negsuc 6)) ≡ true }
+    ensures other_sign { profile.is_equal (profile.whole (negsuc 6)) (profile.whole (pos 7)) ≡ false }
+    ensures below { profile.is_below (profile.whole (negsuc 6)) (profile.whole (negsuc 5)) ≡ true }
+    ensures not_below_itself { profile.is_below (profile.whole (pos 7)) (profile.whole (pos 7)) ≡ false }
+    ensures text { profile.number_text (profile.whole (pos 70)) ≡ codes "70" }
+    ensures text_below_zero { profile.number_text (profile.whole (negsuc 6)) ≡ codes "-7" }
 {}

@@ -6,7 +6,8 @@ ghost use Rattle.std.specs.Fmt.{signed_decimal};
 ghost use Rattle.std.specs.Int.{w128};
 ghost use Rattle.std.specs.Ordering.{int_cmp};
 ghost use Rattle.std.specs.declared.cmp.Ordering.TheVariants.{Equal};
-ghost use Rattle.jp_number.specs.Number.{whole, written, order, is_equal, IsShort};
+ghost use Rattle.jp_number.specs.Number.{whole, written, order, is_equal, is_below, IsShort};
+ghost use Rattle.jp_number.specs.Profile as profile;
 
 /// The order is total, where numbers of one value count as one: the other way round it is the opposite, what
 /// is below what is below is below, and numbers of one value stand alike to all others.
@@ -25,6 +26,15 @@ pub fn equality()
 #[tactic(auto, using(crate::proofs::Order::whole_order))]
 pub fn whole_numbers()
     ensures { (x y : ℤ) → order (whole x) (whole y) ≡ int_cmp x y }
+{}
+
+/// The numbers of documents and of queries are equal, and one below another, where their values are so.
+#[tactic(auto, using(crate::proofs::Order::profile_equal, crate::proofs::Order::profile_below))]
+pub fn numbers_of_the_profile()
+    ensures equal { (x y : ℤ) → profile.is_equal (profile.whole x) (profile.whole y)
+        ≡ is_equal (whole x) (whole y) }
+    ensures below { (x y : ℤ) → profile.is_below (profile.whole x) (profile.whole y)
+        ≡ is_below (whole x) (whole y) }
 {}
 
 /// A whole number of 128 bits has the value of its own text, which is within the limits.

@@ -1,25 +1,27 @@
 -- An output line has three fields: no byte below the space stands in one.
 use Rattle.std.proofs.Common.{◌≡◌, ℕ, zero, suc, ◌+◌, ◌/◌, ◌%◌, ◌≤◌, ◌<◌, ◌==◌, nat_lt, nat_le, Bool, true}
 use Rattle.std.proofs.Common.{false, cond, List, [], ◌∷◌, ◌++◌, refl, ap, sym, ◌∙◌, arith, append_assoc}
-use Rattle.std.proofs.Common.{codes, decimal, encode_utf8_all, ℤ, pos, negsuc, flat_map, length, ap₂}
+use Rattle.std.proofs.Common.{codes, decimal, encode_utf8_all, pos, negsuc, flat_map, length, ap₂}
 use Rattle.std.proofs.Common.{append-nil}
 use Rattle.std.proofs.lemmas.Bool.{and_parts, leb-true, ltb-true, ltb-false}
 use Rattle.std.proofs.lemmas.Bool.Decides.{nat_tests}
 use Rattle.std.proofs.lemmas.List.Sums.{sum_by-append, sum_by-cons, count_by-le-length}
 use Rattle.std.specs.List.{AllByRecursion, concat, list_all}
 use Rattle.std.specs.Char.{digit_char}
-use Rattle.std.specs.Fmt.{digits, digits_onto, digit_glyph, signed_decimal}
+use Rattle.std.specs.Fmt.{digits, digits_onto, digit_glyph}
 use lib.Utf8.{encode}
 use Rattle.json.specs.Print.{escape_letter, escape_byte, escape}
 use Rattle.jp_doc.specs.Location.{Step, name, index, Location}
 use Rattle.jp_path_stack.specs.Path.{escaped, hex_digit, step_text, path_text}
-use Rattle.jp_doc.specs.Json.{Json, null, truth, whole, text, array, object, Items, no_items, add_item}
+use Rattle.jp_doc.specs.Json as json
+use Rattle.jp_doc.specs.Json.{Json, null, truth, text, array, object, Items, no_items, add_item}
 use Rattle.jp_doc.specs.Json.{Text, Members, no_members, add_member}
 use Rattle.jp_doc.specs.Location.{Node}
 use Rattle.jp_doc.specs.declared.fault.DocFault.{DocFault}
 use Rattle.jp_doc.specs.declared.fault.DocFault.TheVariants.{LongLine, Unreadable, NotWhole, LongArray}
 use Rattle.jp_doc.specs.declared.fault.DocFault.TheVariants.{Memory}
 use Rattle.jp_doc.specs.FaultWords.{fault_words}
+use Rattle.jp_number.specs.Profile.{Number, whole, number_text}
 use Rattle.jp_output.specs.FaultLine.{fault_line}
 use Rattle.jp_output.specs.Fields.{times, HasThreeFields, AreLinesOfThree, IsOneLine}
 use Rattle.jp_output.specs.OutputLine.{truth_text, quoted_text, value_text, items_text, further_items}
@@ -114,9 +116,9 @@ pub decimal_field : (n : ℕ) → IsField (decimal n)
 unfolding digits
 decimal_field n = digits_field 64 10 n [] tt
 
-number_field : (z : ℤ) → IsField (signed_decimal z)
-number_field (pos n) = decimal_field n
-number_field (negsuc n) = (omega arith, decimal_field (suc n))
+number_field : (x : Number) → IsField (number_text x)
+number_field (whole (pos n)) = decimal_field n
+number_field (whole (negsuc n)) = (omega arith, decimal_field (suc n))
 
 -- texts, by the JSON crate's escapes
 
@@ -160,7 +162,7 @@ mutual
   pub value_field : (v : Json) → IsField (value_text v)
   value_field null = written (codes "null") refl
   value_field (truth b) = truth_field b
-  value_field (whole z) = number_field z
+  value_field (json.number x) = number_field x
   value_field (text s) = quoted_field s
   value_field (array vs) =
       (omega arith, field_both (items_text vs) (codes "]") (items_field vs) (written (codes "]") refl))
@@ -325,7 +327,7 @@ unquoted_field : (v : Json) → IsField (unquoted_text v)
 unquoted_field (text s) = field_each unquoted_byte unquoted_byte_field (encode_utf8_all s)
 unquoted_field null = value_field null
 unquoted_field (truth b) = value_field (truth b)
-unquoted_field (whole z) = value_field (whole z)
+unquoted_field (json.number x) = value_field (json.number x)
 unquoted_field (array vs) = value_field (array vs)
 unquoted_field (object ms) = value_field (object ms)
 

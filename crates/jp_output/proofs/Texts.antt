@@ -1,20 +1,20 @@
 -- The compact text of a value, and what the JSON crate writes for it.
 use Rattle.std.proofs.Common.{◌≡◌, ℕ, Bool, true, false, List, [], ◌∷◌, ◌++◌, refl, ap, sym, ◌∙◌}
-use Rattle.std.proofs.Common.{append_assoc, pos, negsuc, ℤ, rules}
-use Rattle.std.specs.Fmt.{signed_decimal}
+use Rattle.std.proofs.Common.{append_assoc, pos, negsuc, rules}
 use Rattle.json.specs.Print.{token_text}
 use Rattle.json.specs.Token.{boolean}
-use Rattle.serde_json.specs.Data.{number}
+use Rattle.serde_json.specs.Data as crate_data
 use Rattle.serde_json.specs.View.{view, number_view}
-use Rattle.serde_json.specs.Written.{has_float, number_text, compact_text, comma_if}
+use Rattle.serde_json.specs.Written.{has_float, compact_text, comma_if}
 use Rattle.serde_json.specs.Written as crate
-use Rattle.serde_json.specs.declared.number.Number.{Number}
+use Rattle.serde_json.specs.declared.number.Number as crate_number
 use Rattle.serde_json.specs.declared.value.Value.{Value, the_lemmas}
 use Rattle.serde_json.specs.declared.value.Value.TheVariants as variant
 use Rattle.jp_doc.proofs.BackLaws.{value_back}
-use Rattle.jp_doc.specs.Json.{Json, null, truth, whole, text, array, object, Items, no_items, add_item}
-use Rattle.jp_doc.specs.Json.{Members, no_members, add_member, value_of, number_of, data_of, items_data}
+use Rattle.jp_doc.specs.Json.{Json, null, truth, number, text, array, object, Items, no_items, add_item}
+use Rattle.jp_doc.specs.Json.{Members, no_members, add_member, value_of, number_data, data_of, items_data}
 use Rattle.jp_doc.specs.Json.{members_data}
+use Rattle.jp_number.specs.Profile.{Number, whole, number_text}
 use Rattle.jp_output.specs.OutputLine.{truth_text, quoted_text, value_text, items_text, further_items}
 use Rattle.jp_output.specs.OutputLine.{members_text, further_members}
 
@@ -69,15 +69,15 @@ truth_same : (b : Bool) → truth_text b ≡ token_text (boolean b)
 truth_same true = refl
 truth_same false = refl
 
-number_same : (z : ℤ) → signed_decimal z ≡ number_text (number_of z)
-number_same (pos n) = refl
-number_same (negsuc n) = refl
+number_same : (x : Number) → number_text x ≡ crate.number_text (number_data x)
+number_same (whole (pos n)) = refl
+number_same (whole (negsuc n)) = refl
 
 mutual
   pub text_same : (v : Json) → value_text v ≡ compact_text (data_of v)
   text_same null = refl
   text_same (truth b) = truth_same b
-  text_same (whole z) = number_same z
+  text_same (number x) = number_same x
   text_same (text s) = refl
   text_same (array vs) = array_left vs ∙ ap (λ (t : List ℕ). 91 ∷ t) (items_same false vs)
   text_same (object ms) = object_left ms ∙ ap (λ (t : List ℕ). 123 ∷ t) (members_same false ms)
@@ -100,8 +100,8 @@ mutual
 pub view_text : (v : Value) → has_float (view v) ≡ false → compact_text (view v) ≡ value_text (value_of v)
 view_text v h = ap compact_text (sym (value_back v h)) ∙ sym (text_same (value_of v))
 
-pub number_written : (v : Value) (n : Number) → v ≡ variant.Number n → has_float (view v) ≡ false
-    → number_text (number_view n) ≡ value_text (value_of v)
+pub number_written : (v : Value) (n : crate_number.Number) → v ≡ variant.Number n → has_float (view v) ≡ false
+    → crate.number_text (number_view n) ≡ value_text (value_of v)
 number_written v n is h =
-    let seen : view (variant.Number n) ≡ number (number_view n) = search (rules, the_lemmas) in
+    let seen : view (variant.Number n) ≡ crate_data.number (number_view n) = search (rules, the_lemmas) in
     ap compact_text (sym seen ∙ ap view (sym is)) ∙ view_text v h

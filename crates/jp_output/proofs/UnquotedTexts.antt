@@ -11,7 +11,7 @@ use Rattle.std.proofs.lemmas.Str.{digit_value-digit_char, encodes_same}
 use Rattle.std.proofs.Math.Seq.{take-suc}
 use Rattle.std.specs.Char.{digit_char, digit_value}
 use Rattle.json.specs.Print.{escape_byte}
-use Rattle.jp_doc.specs.Json.{Json, null, truth, whole, text, array, object, Text}
+use Rattle.jp_doc.specs.Json.{Json, null, truth, number, text, array, object, Text}
 use Rattle.jp_doc.specs.Location.{Location, node}
 use Rattle.jp_flat.specs.Value.{text_in}
 use Rattle.jp_output.specs.UnquotedText.{unquoted_byte, unquoted_text, text_line}
@@ -36,7 +36,7 @@ pub text_unquoted : (v : Json) (s : Text) → Some s ≡ text_in v
 text_unquoted (text t) s e = ap (λ x. flat_map unquoted_byte (encode_utf8_all x)) (sym (same_Some s t e))
 text_unquoted null s e = absurd (none-some s (sym e))
 text_unquoted (truth b) s e = absurd (none-some s (sym e))
-text_unquoted (whole z) s e = absurd (none-some s (sym e))
+text_unquoted (number x) s e = absurd (none-some s (sym e))
 text_unquoted (array vs) s e = absurd (none-some s (sym e))
 text_unquoted (object ms) s e = absurd (none-some s (sym e))
 

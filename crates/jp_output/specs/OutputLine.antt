@@ -1,10 +1,11 @@
 -- Output lines.
 use Rattle.std.specs.Prelude.{ℕ, Bool, List, [], ◌∷◌, ◌++◌, if◌then◌else◌, codes, decimal, encode_utf8_all}
-use Rattle.std.specs.Fmt.{signed_decimal}
 use Rattle.json.specs.Print.{quoted}
-use Rattle.jp_doc.specs.Json.{Text, Json, null, truth, whole, text, array, object, Items, no_items, add_item}
+use Rattle.jp_doc.specs.Json as json
+use Rattle.jp_doc.specs.Json.{Text, Json, null, truth, text, array, object, Items, no_items, add_item}
 use Rattle.jp_doc.specs.Json.{Members, no_members, add_member}
 use Rattle.jp_doc.specs.Location.{Location, Node}
+use Rattle.jp_number.specs.Profile.{number_text}
 use Rattle.jp_path_stack.specs.Path.{path_text}
 
 -- the name of a truth value (RFC 8259, 3)
@@ -15,13 +16,13 @@ truth_text b = if b then codes "true" else codes "false"
 abbrev pub quoted_text : Text → List ℕ
 quoted_text s = quoted (encode_utf8_all s)
 
--- The compact text of a value (RFC 8259, 3 to 7): no space stands in it but within texts. A whole number is
--- its digits, behind a minus where it is below zero; items and members stand in their order.
+-- The compact text of a value (RFC 8259, 3 to 7): no space stands in it but within texts, and items and
+-- members stand in their order.
 abbrev mutual
   pub value_text : Json → List ℕ
   value_text null = codes "null"
   value_text (truth b) = truth_text b
-  value_text (whole z) = signed_decimal z
+  value_text (json.number x) = number_text x
   value_text (text s) = quoted_text s
   value_text (array vs) = codes "[" ++ items_text vs ++ codes "]"
   value_text (object ms) = codes "{" ++ members_text ms ++ codes "}"

@@ -2,9 +2,10 @@
 
 ghost use Rattle.std.specs.Prelude.{◌≡◌, ℕ, [], ◌∷◌, ◌++◌, codes, pos, negsuc, true, false, Vec};
 ghost use Rattle.std.specs.declared.alloc.Global.{Global};
-ghost use Rattle.jp_doc.specs.Json.{null, truth, whole, text, array, object, items, no_members, add_member};
+ghost use Rattle.jp_doc.specs.Json.{null, truth, number, text, array, object, items, no_members, add_member};
 ghost use Rattle.jp_doc.specs.Location.{Node, name, index, node};
 ghost use Rattle.jp_doc.specs.declared.fault.DocFault.TheVariants.{LongLine, Unreadable, NotWhole, LongArray};
+ghost use Rattle.jp_number.specs.Profile.{whole};
 ghost use Rattle.jp_output.specs.Chunks.{bytes_in};
 ghost use Rattle.jp_output.specs.FaultLine.{fault_line};
 ghost use Rattle.jp_output.specs.Fields.{times, HasThreeFields, IsOneLine, third_field, third_fields};
@@ -18,16 +19,19 @@ fn compact_texts()
     ensures null_value { value_text null ≡ codes "null" }
     ensures true_value { value_text (truth true) ≡ codes "true" }
     ensures false_value { value_text (truth false) ≡ codes "false" }
-    ensures zero { value_text (whole (pos 0)) ≡ codes "0" }
-    ensures least_number { value_text (whole (negsuc 9223372036854775807)) ≡ codes "-9223372036854775808" }
-    ensures greatest_number { value_text (whole (pos 18446744073709551615)) ≡ codes "18446744073709551615" }
+    ensures zero { value_text (number (whole (pos 0))) ≡ codes "0" }
+    ensures least_number { value_text (number (whole (negsuc 9223372036854775807)))
+        ≡ codes "-9223372036854775808" }
+    ensures greatest_number { value_text (number (whole (pos 18446744073709551615)))
+        ≡ codes "18446744073709551615" }
     ensures empty_text { value_text (text []) ≡ codes "\"\"" }
     ensures escapes { value_text (text (34 ∷ 92 ∷ 47 ∷ 9 ∷ 31 ∷ 127 ∷ []))
         ≡ codes "\"\\\"\\\\/\\t\\u001f" ++ 127 ∷ codes "\"" }
     ensures text_in_utf8 { value_text (text (233 ∷ 128512 ∷ []))
         ≡ 34 ∷ 195 ∷ 169 ∷ 240 ∷ 159 ∷ 152 ∷ 128 ∷ 34 ∷ [] }
-    ensures one_item { value_text (array (items (whole (pos 7) ∷ []))) ≡ codes "[7]" }
-    ensures three_items { value_text (array (items (whole (pos 2) ∷ whole (pos 1) ∷ whole (pos 2) ∷ [])))
+    ensures one_item { value_text (array (items (number (whole (pos 7)) ∷ []))) ≡ codes "[7]" }
+    ensures three_items { value_text (array (items (number (whole (pos 2)) ∷ number (whole (pos 1))
+        ∷ number (whole (pos 2)) ∷ [])))
         ≡ codes "[2,1,2]" }
     ensures nested { value_text (array (items (array (items []) ∷ array (items (null ∷ [])) ∷ [])))
         ≡ codes "[[],[null]]" }
@@ -41,7 +45,7 @@ fn compact_texts()
 /// Output lines: the document's number, the path and the value's compact text, with tabs between.
 #[tactic(auto, unfolding(crate::proofs::OnLiterals::lines_on_literals))]
 fn output_lines()
-    ensures number { line_text 1 (name (codes "a") ∷ []) (whole (pos 1))
+    ensures number { line_text 1 (name (codes "a") ∷ []) (number (whole (pos 1)))
         ≡ codes "1" ++ 9 ∷ codes "$['a']" ++ 9 ∷ codes "1" ++ 10 ∷ [] }
     ensures null_of_line_three { line_text 3 (name (codes "a") ∷ []) null
         ≡ codes "3" ++ 9 ∷ codes "$['a']" ++ 9 ∷ codes "null" ++ 10 ∷ [] }
@@ -57,10 +61,10 @@ fn output_lines()
         (add_member (codes "a") null (add_member (codes "b") null no_members)))
         ≡ codes "1" ++ 9 ∷ codes "$" ++ 9 ∷ codes "{\"a\":null,\"b\":null}" ++ 10 ∷ [] }
     ensures compact { line_text 10 (index 0 ∷ [])
-        (array (items (whole (negsuc 4) ∷ text (codes "a\"b") ∷ truth true ∷ object
-        (add_member (codes "c") (whole (pos 2)) no_members) ∷ [])))
+        (array (items (number (whole (negsuc 4)) ∷ text (codes "a\"b") ∷ truth true ∷ object
+        (add_member (codes "c") (number (whole (pos 2))) no_members) ∷ [])))
         ≡ codes "10" ++ 9 ∷ codes "$[0]" ++ 9 ∷ codes "[-5,\"a\\\"b\",true,{\"c\":2}]" ++ 10 ∷ [] }
-    ensures path_in_utf8 { line_text 1 (name (128512 ∷ []) ∷ []) (whole (pos 1))
+    ensures path_in_utf8 { line_text 1 (name (128512 ∷ []) ∷ []) (number (whole (pos 1)))
         ≡ codes "1" ++ 9 ∷ codes "$['" ++ 240 ∷ 159 ∷ 152 ∷ 128 ∷ codes "']" ++ 9 ∷ codes "1" ++ 10 ∷ [] }
 {}
 
@@ -110,7 +114,7 @@ fn values_and_texts()
     ensures control { unquoted_text (text (31 ∷ [])) ≡ codes "\\u001f" }
     ensures empty_text { text_line (node [] (text [])) ≡ 10 ∷ [] }
     ensures text_in_utf8 { unquoted_text (text (128512 ∷ [])) ≡ 240 ∷ 159 ∷ 152 ∷ 128 ∷ [] }
-    ensures number { text_line (node [] (whole (negsuc 4))) ≡ codes "-5" ++ 10 ∷ [] }
+    ensures number { text_line (node [] (number (whole (negsuc 4)))) ≡ codes "-5" ++ 10 ∷ [] }
     ensures in_an_array { unquoted_text (array (items (text (codes "a") ∷ []))) ≡ codes "[\"a\"]" }
     ensures within { ¬ IsOneLine (10 ∷ 97 ∷ 10 ∷ []) }
     ensures not_ended { ¬ IsOneLine (10 ∷ 97 ∷ []) }

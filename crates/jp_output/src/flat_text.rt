@@ -1,9 +1,11 @@
 //! The compact text of a value of a flat document (RFC 8259), appended piece by piece.
 
 ghost use Rattle.std.specs.Prelude.{◌≡◌, ℤ, ◌++◌, OnOk};
-ghost use Rattle.jp_doc.specs.Json.{Items, array, object, whole};
+ghost use Rattle.jp_doc.specs.Json as json;
+ghost use Rattle.jp_doc.specs.Json.{Items, array, object};
 ghost use Rattle.jp_flat.specs.Gathered.{gathered};
 ghost use Rattle.jp_flat.specs.Value.{flat_value, items_value, members_value};
+ghost use Rattle.jp_number.specs.Profile.{whole};
 ghost use Rattle.jp_output.specs.OutputLine.{value_text};
 ghost use Rattle.jp_path_stack.specs.Appended.{Extends};
 ghost use Rattle.serde_json.specs.Written.{comma_if};
@@ -48,7 +50,7 @@ pub(crate) fn append_flat(
 
 /// Appends a number as it stands in the line.
 fn append_digits(number: FlatValue<'_>, out: &mut Vec<u8>) -> Result<(), AllocError>
-    requires { (z : ℤ) × (flat_value number ≡ whole z) }
+    requires { (z : ℤ) × (flat_value number ≡ json.number (whole z)) }
     ensures ok { OnOk result (out.new.items ≡ out.old.items ++ value_text (flat_value number.entry)) }
     ensures kept { Extends out.old.items out.new.items }
 {

@@ -1,7 +1,7 @@
 -- No array of a document has too many items.
 use Rattle.std.proofs.Common.{◌≡◌, ◌≤◌, false, suc, List, [], ◌∷◌, length, map, refl, ap, subst, arith}
 use Rattle.serde_json.specs.declared.value.Value.{Value}
-use Rattle.jp_doc.specs.Json.{Json, null, truth, whole, text, array, object, value_of, item_list}
+use Rattle.jp_doc.specs.Json.{Json, null, truth, number, text, array, object, value_of, item_list}
 use Rattle.jp_flat.specs.Value.{flat_value, items_value, item_count}
 use Rattle.jp_doc.proofs.Found.{first_false}
 use Rattle.jp_doc.specs.Reading.{max_items, has_long_array}
@@ -18,7 +18,7 @@ use Rattle.jp_part.proofs.Trees.{within}
 counted : (v : Json) → item_count v ≡ length (item_list (items_inside v))
 counted null = refl
 counted (truth b) = refl
-counted (whole z) = refl
+counted (number x) = refl
 counted (text s) = refl
 counted (array vs) = refl
 counted (object ms) = refl
@@ -35,7 +35,7 @@ items_are_few (Flat i) = subst (λ n. n ≤ 16777216) (counted (items_value i)) 
 count_by_level : (v : Json) → has_long_array max_items v ≡ false → item_count v ≤ 16777216
 count_by_level null h = omega arith
 count_by_level (truth b) h = omega arith
-count_by_level (whole z) h = omega arith
+count_by_level (number x) h = omega arith
 count_by_level (text s) h = omega arith
 count_by_level (array vs) h = within (length (item_list vs)) (first_false _ _ h)
 count_by_level (object ms) h = omega arith

@@ -19,6 +19,7 @@ use Rattle.jp_doc.specs.DocumentValue.{IsDocumentValue}
 use Rattle.jp_doc.specs.Json as json
 use Rattle.jp_doc.specs.Json.{value_of, json_of, items_of, members_of, item_list, items, whole_of}
 use Rattle.jp_doc.specs.Reading.{max_items, has_long_array}
+use Rattle.jp_number.specs.Profile.{whole}
 use Rattle.jp_part.proofs.Lists.{items_of_values, and_members, and_one}
 use Rattle.jp_part.specs.Members.{tree_entry}
 use Rattle.jp_part.specs.declared.tree.TreeMember.{TreeMember}
@@ -31,7 +32,7 @@ pub bool_value : (v : Value) (b : Bool) → v ≡ variant.Bool b → value_of v 
 bool_value v b is = ap value_of is ∙ search (rules, the_lemmas)
 
 pub number_value : (v : Value) (n : Number) → v ≡ variant.Number n
-    → value_of v ≡ json.whole (whole_of (number_view n))
+    → value_of v ≡ json.number (whole (whole_of (number_view n)))
 number_value v n is = ap value_of is ∙ search (rules, the_lemmas)
 
 pub string_value : (v : Value) (s : String Global) → v ≡ variant.String s

@@ -3,7 +3,7 @@ use Rattle.std.specs.Prelude.{◌≡◌, List, map}
 use Rattle.std.specs.Str.{chars}
 use Rattle.serde_json.specs.View.{members_view}
 use Rattle.jp_doc.specs.Json as json
-use Rattle.jp_doc.specs.Json.{Json, null, truth, whole, text, array, object, value_of, items, item_list}
+use Rattle.jp_doc.specs.Json.{Json, null, truth, number, text, array, object, value_of, items, item_list}
 use Rattle.jp_doc.specs.Json.{no_items, no_members, members_of}
 use Rattle.jp_flat.specs.Value.{items_value, members_value}
 use Rattle.jp_part.specs.declared.items.Items.{Items}
@@ -14,6 +14,7 @@ use Rattle.jp_part.specs.declared.part.Inside.{Inside}
 use Rattle.jp_part.specs.declared.part.Inside.TheVariants as inside
 use Rattle.jp_part.specs.declared.part.Kind.{Kind}
 use Rattle.jp_part.specs.declared.part.Kind.TheVariants.{Null, Truth, Whole, Text, Array, Object, Listed}
+use Rattle.jp_number.specs.Profile.{whole}
 use Rattle.jp_part.specs.Members.{members, range_entries}
 
 -- the items of a value, and its members: none of one of another kind
@@ -21,7 +22,7 @@ abbrev pub items_inside : Json → json.Items
 items_inside (array vs) = vs
 items_inside null = no_items
 items_inside (truth b) = no_items
-items_inside (whole z) = no_items
+items_inside (number x) = no_items
 items_inside (text s) = no_items
 items_inside (object ms) = no_items
 
@@ -29,7 +30,7 @@ abbrev pub members_inside : Json → json.Members
 members_inside (object ms) = ms
 members_inside null = no_members
 members_inside (truth b) = no_members
-members_inside (whole z) = no_members
+members_inside (number x) = no_members
 members_inside (text s) = no_members
 members_inside (array vs) = no_members
 
@@ -49,7 +50,7 @@ IsScalar (array vs) = ⊥
 IsScalar (object ms) = ⊥
 IsScalar null = Unit {0}
 IsScalar (truth b) = Unit {0}
-IsScalar (whole z) = Unit {0}
+IsScalar (number x) = Unit {0}
 IsScalar (text s) = Unit {0}
 
 -- what is inside of the value
@@ -62,7 +63,7 @@ IsInside inside.Nothing v = IsScalar v
 abbrev pub kind_value : Kind → Json
 kind_value Null = null
 kind_value (Truth b) = truth b
-kind_value (Whole z) = whole z
+kind_value (Whole z) = number (whole z)
 kind_value (Text s) = text (chars s.now)
 kind_value (Array i) = array (items (item_values i))
 kind_value (Object m) = object (members_in m)

@@ -1,8 +1,9 @@
 //! Worked examples of the definitions.
 
 ghost use Rattle.std.specs.Prelude.{◌≡◌, [], ◌∷◌, codes, negsuc, true};
-ghost use Rattle.jp_doc.specs.Json.{null, truth, whole, text, array, object, no_items, add_item};
+ghost use Rattle.jp_doc.specs.Json.{null, truth, number, text, array, object, no_items, add_item};
 ghost use Rattle.jp_doc.specs.Json.{no_members, add_member};
+ghost use Rattle.jp_number.specs.Profile.{whole};
 ghost use Rattle.jp_part.specs.Inside.{items_inside, members_inside, kind_value, IsScalar, IsInside};
 ghost use Rattle.jp_part.specs.Members.{members};
 ghost use Rattle.jp_part.specs.declared.part.Inside.TheVariants.{Nothing};
@@ -25,7 +26,7 @@ fn what_is_inside()
 {}
 
 fn values_without_an_inside()
-    ensures number { IsScalar (whole (negsuc 2)) }
+    ensures number { IsScalar (number (whole (negsuc 2))) }
     ensures empty_array { ¬ IsScalar (array no_items) }
     ensures empty_object { ¬ IsScalar (object no_members) }
     ensures nothing { IsInside Nothing (text (codes "a")) }
@@ -34,5 +35,5 @@ fn values_without_an_inside()
 fn kinds()
     ensures null_value { kind_value Null ≡ null }
     ensures truth_value { kind_value (Truth true) ≡ truth true }
-    ensures number { kind_value (Whole (negsuc 2)) ≡ whole (negsuc 2) }
+    ensures number { kind_value (Whole (negsuc 2)) ≡ number (whole (negsuc 2)) }
 {}

@@ -1,25 +1,24 @@
 //! Values inside of a document.
 
-ghost use Rattle.std.specs.Prelude.{◌≡◌, ◌≤◌, ◌<◌, ℤ, false, option_map, IfSome, IsTrue};
+ghost use Rattle.std.specs.Prelude.{◌≡◌, ◌≤◌, ◌<◌, ℤ, option_map, IfSome, IsTrue};
 ghost use Rattle.std.specs.Str.{chars};
-ghost use Rattle.serde_json.specs.Find.{is_float};
-ghost use Rattle.serde_json.specs.View.{number_view};
 ghost use Rattle.jp_doc.specs.Document.{document_value};
 ghost use Rattle.jp_doc.specs.Height.{height};
 ghost use Rattle.jp_doc.specs.Json as json;
-ghost use Rattle.jp_doc.specs.Json.{value_of, whole_of};
+ghost use Rattle.jp_doc.specs.Json.{value_of};
 ghost use Rattle.jp_doc.specs.Location.{member_of, item_of};
 ghost use Rattle.jp_flat.specs.Document as flat;
 ghost use Rattle.jp_flat.specs.Value.{flat_value, item_count};
 ghost use Rattle.jp_part.specs.Inside.{kind_value, IsInside, IsScalar};
+ghost use Rattle.jp_number.specs.Profile.{whole};
 ghost use Rattle.jp_part.specs.Part.{part_value};
 
 use crate::items::Items;
 use crate::members::{MemberRange, Members};
 use crate::tree::{TreeItems, TreeMembers, TreeValue};
-use jp_doc::Document;
+use jp_doc::{Document, whole_of};
 use jp_flat::{FlatDocument, FlatValue};
-use serde_json::{Number, Value};
+use serde_json::Value;
 
 /// A value of a document.
 #[derive(Clone, Copy)]
@@ -59,14 +58,6 @@ pub enum Kind<'v> {
     Object(Members<'v>),
     /// An object, of these members, which are listed.
     Listed(MemberRange<'v, 'v>),
-}
-
-fn whole(number: &Number) -> i128
-    requires { is_float (number_view number.now) ≡ false }
-    ensures { result ≡ whole_of (number_view number.now) }
-{
-    // Its condition says that it is whole, so there is always one.
-    number.as_i128().unwrap_or(0)
 }
 
 impl<'v> Part<'v> {
@@ -222,7 +213,7 @@ fn tree_kind(tree: TreeValue<'_>) -> Kind<'_>
     match tree.value {
         Value::Null => Kind::Null,
         Value::Bool(truth) => Kind::Truth(*truth),
-        Value::Number(number) => Kind::Whole(whole(number)),
+        Value::Number(number) => Kind::Whole(whole_of(number)),
         Value::String(text) => Kind::Text(text.as_str()),
         Value::Array(items) => Kind::Array(Items::Tree(TreeItems {
             items: items.as_slice(),
@@ -246,11 +237,11 @@ fn flat_kind(flat: FlatValue<'_>) -> Kind<'_>
 }
 
 fn flat_number(number: FlatValue<'_>) -> Kind<'_>
-    requires { (z : ℤ) × (flat_value number ≡ json.whole z) }
+    requires { (z : ℤ) × (flat_value number ≡ json.number (whole z)) }
     ensures { kind_value result ≡ flat_value number.entry }
 {
     match number.whole() {
-        Some(whole) => Kind::Whole(whole),
+        Some(number) => Kind::Whole(number),
         None => unreachable!(),
     }
 }

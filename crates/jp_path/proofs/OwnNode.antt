@@ -6,7 +6,7 @@ use borrow.Author.Tests.{lt-ltb}
 use Rattle.std.proofs.lemmas.List.{append-nil}
 use Rattle.std.proofs.lemmas.Option.{same_Some}
 use Rattle.std.specs.List.{flat_map}
-use Rattle.jp_doc.specs.Json.{Json, null, truth, whole, text, array, object, Items, no_items, add_item}
+use Rattle.jp_doc.specs.Json.{Json, null, truth, number, text, array, object, Items, no_items, add_item}
 use Rattle.jp_doc.specs.Json.{item_list}
 use Rattle.jp_doc.specs.Location.{Step, name, index, Location, Node, node, value_at, child_at, item_of}
 use Rattle.jp_doc.specs.Location.{item_at}
@@ -27,7 +27,7 @@ places_of_item : (i : ℕ) (v w : Json) → item_of i v ≡ Some w → index_pla
 places_of_item i (array vs) w h = rw (lt-ltb _ _ (items_within i vs w h)) refl
 places_of_item i null w h = absurd cc
 places_of_item i (truth b) w h = absurd cc
-places_of_item i (whole z) w h = absurd cc
+places_of_item i (number x) w h = absurd cc
 places_of_item i (text s) w h = absurd cc
 places_of_item i (object ms) w h = absurd cc
 

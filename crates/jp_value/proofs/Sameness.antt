@@ -3,8 +3,9 @@ use Rattle.std.proofs.Common.{◌≡◌, Bool, true, false, ◌&&◌, refl, ap, 
 use Rattle.std.specs.Prelude.{IsTrue, ◌↔◌}
 use Rattle.std.proofs.lemmas.Bool.Decides.{Decides-int_eq}
 use Rattle.std.proofs.lemmas.Slice.Eq.{bytes_eq-Decides}
-use Rattle.jp_doc.specs.Json.{text_eq, Json, null, truth, whole, text, array, object, Items, no_items}
+use Rattle.jp_doc.specs.Json.{text_eq, Json, null, truth, number, text, array, object, Items, no_items}
 use Rattle.jp_doc.specs.Json.{add_item, Members, no_members, add_member}
+use Rattle.jp_number.specs.Profile.{Number, whole, is_equal}
 use Rattle.jp_value.specs.Comparison.{truth_eq, same, same_items, same_members}
 
 pub both : (a b : Bool) → (a && b) ≡ true → (a ≡ true) × (b ≡ true)
@@ -21,42 +22,48 @@ truths true false h = absurd cc
 truths false true h = absurd cc
 truths false false h = refl
 
+numbers : (x y : Number) → is_equal x y ≡ true → x ≡ y
+numbers (whole y) (whole z) h = ap whole ((Decides-int_eq y z).0 h)
+
+self_equal : (x : Number) → is_equal x x ≡ true
+self_equal (whole z) = (Decides-int_eq z z).1 refl
+
 mutual
   pub equal : (v w : Json) → same v w ≡ true → v ≡ w
   equal null null h = refl
   equal null (truth b) h = absurd cc
-  equal null (whole z) h = absurd cc
+  equal null (number y) h = absurd cc
   equal null (text t) h = absurd cc
   equal null (array ws) h = absurd cc
   equal null (object ns) h = absurd cc
   equal (truth a) (truth b) h = ap truth (truths a b h)
   equal (truth a) null h = absurd cc
-  equal (truth a) (whole z) h = absurd cc
+  equal (truth a) (number y) h = absurd cc
   equal (truth a) (text t) h = absurd cc
   equal (truth a) (array ws) h = absurd cc
   equal (truth a) (object ns) h = absurd cc
-  equal (whole y) (whole z) h = ap whole ((Decides-int_eq y z).0 h)
-  equal (whole y) null h = absurd cc
-  equal (whole y) (truth b) h = absurd cc
-  equal (whole y) (text t) h = absurd cc
-  equal (whole y) (array ws) h = absurd cc
-  equal (whole y) (object ns) h = absurd cc
+  equal (number x) (number y) h = ap number (numbers x y h)
+  equal (number x) null h = absurd cc
+  equal (number x) (truth b) h = absurd cc
+  equal (number x) (text t) h = absurd cc
+  equal (number x) (array ws) h = absurd cc
+  equal (number x) (object ns) h = absurd cc
   equal (text s) (text t) h = ap text ((bytes_eq-Decides s t).0 h)
   equal (text s) null h = absurd cc
   equal (text s) (truth b) h = absurd cc
-  equal (text s) (whole z) h = absurd cc
+  equal (text s) (number y) h = absurd cc
   equal (text s) (array ws) h = absurd cc
   equal (text s) (object ns) h = absurd cc
   equal (array vs) (array ws) h = ap array (equal_items vs ws h)
   equal (array vs) null h = absurd cc
   equal (array vs) (truth b) h = absurd cc
-  equal (array vs) (whole z) h = absurd cc
+  equal (array vs) (number y) h = absurd cc
   equal (array vs) (text t) h = absurd cc
   equal (array vs) (object ns) h = absurd cc
   equal (object ms) (object ns) h = ap object (equal_members ms ns h)
   equal (object ms) null h = absurd cc
   equal (object ms) (truth b) h = absurd cc
-  equal (object ms) (whole z) h = absurd cc
+  equal (object ms) (number y) h = absurd cc
   equal (object ms) (text t) h = absurd cc
   equal (object ms) (array ws) h = absurd cc
 
@@ -87,7 +94,7 @@ mutual
   self_same null = refl
   self_same (truth true) = refl
   self_same (truth false) = refl
-  self_same (whole z) = (Decides-int_eq z z).1 refl
+  self_same (number x) = self_equal x
   self_same (text s) = (bytes_eq-Decides s s).1 refl
   self_same (array vs) = items_self_same vs
   self_same (object ms) = members_self_same ms

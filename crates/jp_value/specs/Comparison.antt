@@ -1,8 +1,9 @@
 -- Comparison (RFC 9535, 2.3.5.2.2). Nothing is `None`.
-use Rattle.std.specs.Prelude.{Bool, true, false, not, ◌&&◌, ◌||◌, int_lt, Option, Some, None}
-use Rattle.std.specs.Ordering.{int_eq, is_lt}
-use Rattle.jp_doc.specs.Json.{text_eq, text_cmp, Json, null, truth, whole, text, array, object, Items}
+use Rattle.std.specs.Prelude.{Bool, true, false, not, ◌&&◌, ◌||◌, Option, Some, None}
+use Rattle.std.specs.Ordering.{is_lt}
+use Rattle.jp_doc.specs.Json.{text_eq, text_cmp, Json, null, truth, number, text, array, object, Items}
 use Rattle.jp_doc.specs.Json.{no_items, add_item, Members, no_members, add_member}
+use Rattle.jp_number.specs.Profile.{is_equal, is_below}
 use Rattle.jp_tree.specs.declared.tree.Operator.{Operator}
 use Rattle.jp_tree.specs.declared.tree.Operator.TheVariants.{Eq, Ne, Le, Ge, Lt, Gt}
 
@@ -17,8 +18,8 @@ abbrev mutual
   same null _ = false
   same (truth a) (truth b) = truth_eq a b
   same (truth a) _ = false
-  same (whole y) (whole z) = int_eq y z
-  same (whole y) _ = false
+  same (number x) (number y) = is_equal x y
+  same (number x) _ = false
   same (text s) (text t) = text_eq s t
   same (text s) _ = false
   same (array vs) (array ws) = same_items vs ws
@@ -47,7 +48,7 @@ eq (Some v) (Some w) = same v w
 
 -- of two numbers by value, of two texts by their scalar values
 abbrev pub below : Json → Json → Bool
-below (whole y) (whole z) = int_lt y z
+below (number x) (number y) = is_below x y
 below (text s) (text t) = is_lt (text_cmp s t)
 below _ _ = false
 

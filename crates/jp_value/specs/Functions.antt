@@ -2,10 +2,11 @@
 use Rattle.std.specs.Prelude.{ℕ, suc, Bool, true, false, not, ◌&&◌, ◌||◌, ◌==◌, pos, List, [], ◌∷◌}
 use Rattle.std.specs.Prelude.{length, Option, Some, None, option_map, option_and_then}
 use Rattle.std.specs.List.{filter}
-use Rattle.jp_doc.specs.Json.{Text, Json, whole, text, text_eq, array, object, Members, no_members}
+use Rattle.jp_doc.specs.Json.{Text, Json, number, text, text_eq, array, object, Members, no_members}
 use Rattle.jp_doc.specs.Json.{add_member}
 use Rattle.jp_doc.specs.Json.{item_list}
 use Rattle.jp_doc.specs.Location.{Step, name, index, Location, Node}
+use Rattle.jp_number.specs.Profile.{whole}
 use Rattle.jp_types.specs.Functions.{Function, length_function, count_function, match_function}
 use Rattle.jp_types.specs.Functions.{search_function, value_function, xor_function, distinct_function}
 use Rattle.jp_regexp.specs.Tests.{Tests}
@@ -60,7 +61,7 @@ size_of (object ms) = Some (member_count ms)
 size_of _ = None
 
 abbrev pub number_value : ℕ → Json
-number_value n = whole (pos n)
+number_value n = number (whole (pos n))
 
 abbrev pub length_value : Option Json → Option Json
 length_value v = option_map number_value (option_and_then size_of v)

@@ -2,12 +2,13 @@
 use Rattle.std.specs.Prelude.{ℤ, Option, option_map}
 use Rattle.jp_doc.specs.Json as json
 use Rattle.jp_doc.specs.Json.{Json}
+use Rattle.jp_number.specs.Profile.{whole}
 use Rattle.jp_tree.specs.Tree.{Text, Literal, number, text, truth, null}
 use Rattle.jp_types.specs.Numbers.{whole_number}
 
 -- the value of a literal
 abbrev pub literal_value : Literal → Json
-literal_value (number t) = json.whole (whole_number t)
+literal_value (number t) = json.number (whole (whole_number t))
 literal_value (text t) = json.text t
 literal_value (truth b) = json.truth b
 literal_value null = json.null

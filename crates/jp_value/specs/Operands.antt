@@ -3,7 +3,8 @@ use Rattle.std.specs.Prelude.{◌≡◌, Option, Some, None, false}
 use Rattle.std.specs.Str.{chars}
 use Rattle.serde_json.specs.View.{view}
 use Rattle.serde_json.specs.Written.{has_float}
-use Rattle.jp_doc.specs.Json.{Json, null, truth, whole, text, array, object, value_of}
+use Rattle.jp_doc.specs.Json.{Json, null, truth, number, text, array, object, value_of}
+use Rattle.jp_number.specs.Profile.{whole}
 use Rattle.jp_value.specs.declared.comparison.Operand.{Operand}
 use Rattle.jp_value.specs.declared.comparison.Operand.TheVariants.{Nothing, Null, Truth, Whole, Text, Lent}
 
@@ -12,7 +13,7 @@ abbrev pub operand_value : Operand → Option Json
 operand_value Nothing = None
 operand_value Null = Some null
 operand_value (Truth b) = Some (truth b)
-operand_value (Whole z) = Some (whole z)
+operand_value (Whole z) = Some (number (whole z))
 operand_value (Text s) = Some (text (chars s.now))
 operand_value (Lent v) = Some (value_of v.now)
 

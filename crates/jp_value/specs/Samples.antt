@@ -1,11 +1,12 @@
 -- Values and steps that the worked examples speak of.
 use Rattle.std.specs.Prelude.{ℕ, pos, List, [], ◌∷◌, codes}
-use Rattle.jp_doc.specs.Json.{Text, Json, null, whole, array, object, items, no_members, add_member}
+use Rattle.jp_doc.specs.Json.{Text, Json, null, number, array, object, items, no_members, add_member}
 use Rattle.jp_doc.specs.Location as at
+use Rattle.jp_number.specs.Profile.{whole}
 
 -- a number, and an array of values
 abbrev pub num : ℕ → Json
-num n = whole (pos n)
+num n = number (whole (pos n))
 
 abbrev pub arr : List Json → Json
 arr vs = array (items vs)

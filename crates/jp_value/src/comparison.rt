@@ -1,17 +1,17 @@
 //! Comparison (RFC 9535, 2.3.5.2.2).
 
 ghost use Rattle.std.specs.Prelude.{◌≡◌, false};
-ghost use Rattle.serde_json.specs.Find.{is_float};
-ghost use Rattle.serde_json.specs.View.{view, number_view, items_view, members_view};
+ghost use Rattle.serde_json.specs.View.{view, items_view, members_view};
 ghost use Rattle.serde_json.specs.Written.{has_float, items_have_float, members_have_float};
 ghost use Rattle.std.specs.Ordering.{is_lt};
 ghost use Rattle.std.specs.Str.{chars};
-ghost use Rattle.jp_doc.specs.Json.{text_eq, text_cmp, value_of, whole_of, items_of, members_of};
+ghost use Rattle.jp_doc.specs.Json.{text_eq, text_cmp, value_of, items_of, members_of};
 ghost use Rattle.jp_value.specs.Comparison as spec;
 ghost use Rattle.jp_value.specs.Operands.{operand_value, HasWholeNumbers, IsPlain};
 
+use jp_doc::whole_of;
 use jp_part::TreeMembers;
-use serde_json::{Map, Number, Value};
+use serde_json::{Map, Value};
 
 /// A comparable value, or nothing.
 #[derive(Clone, Copy)]
@@ -28,13 +28,6 @@ pub enum Operand<'a> {
     Text(&'a str),
     /// A value whose numbers are all whole.
     Lent(&'a Value),
-}
-
-fn whole(number: &Number) -> i128
-    requires { is_float (number_view number.now) ≡ false }
-    ensures { result ≡ whole_of (number_view number.now) }
-{
-    number.as_i128().unwrap_or(0)
 }
 
 pub(crate) fn same_text(left: &str, right: &str) -> bool
@@ -59,7 +52,7 @@ fn same(left: &Value, right: &Value) -> bool
     match (left, right) {
         (Value::Null, Value::Null) => true,
         (Value::Bool(x), Value::Bool(y)) => *x == *y,
-        (Value::Number(x), Value::Number(y)) => whole(x) == whole(y),
+        (Value::Number(x), Value::Number(y)) => whole_of(x) == whole_of(y),
         (Value::String(x), Value::String(y)) => same_text(x.as_str(), y.as_str()),
         (Value::Array(x), Value::Array(y)) => same_items(x, y),
         (Value::Object(x), Value::Object(y)) => same_members(x, y),
@@ -127,7 +120,7 @@ fn plain(operand: Operand<'_>) -> Operand<'_>
     match operand {
         Operand::Lent(Value::Null) => Operand::Null,
         Operand::Lent(Value::Bool(b)) => Operand::Truth(*b),
-        Operand::Lent(Value::Number(n)) => Operand::Whole(whole(n)),
+        Operand::Lent(Value::Number(n)) => Operand::Whole(whole_of(n)),
         Operand::Lent(Value::String(s)) => Operand::Text(s.as_str()),
         other => other,
     }

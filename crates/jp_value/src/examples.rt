@@ -2,13 +2,14 @@
 
 ghost use Rattle.std.specs.Prelude.{◌≡◌, [], ◌∷◌, codes, pos, negsuc, Some, None, true, false};
 ghost use Rattle.jp_part.specs.declared.part.Kind.TheVariants.{Null, Truth, Whole};
-ghost use Rattle.jp_doc.specs.Json.{null, truth, whole, text, object, no_members};
+ghost use Rattle.jp_doc.specs.Json.{null, truth, number, text, object, no_members};
 ghost use Rattle.jp_doc.specs.Location.{node};
 ghost use Rattle.jp_tree.specs.Tree as tree;
 ghost use Rattle.jp_tree.specs.declared.tree.Operator.TheVariants.{Eq, Ne, Le, Ge, Lt, Gt};
 ghost use Rattle.jp_regexp.specs.Tests.{Tests};
 ghost use Rattle.jp_types.specs.Functions.{length_function, count_function, match_function, search_function};
 ghost use Rattle.jp_types.specs.Functions.{value_function, xor_function, distinct_function};
+ghost use Rattle.jp_number.specs.Profile.{whole};
 ghost use Rattle.jp_value.specs.Comparison.{compared};
 ghost use Rattle.jp_value.specs.Functions.{called, handed_value, handed_truth, handed_nodes, as_value};
 ghost use Rattle.jp_value.specs.Functions.{as_truth, as_nodes};
@@ -33,7 +34,7 @@ fn places()
 
 /// What literals, and numbers of slices, stand for.
 fn literals()
-    ensures number { literal_value (tree.number (codes "-12")) ≡ whole (negsuc 11) }
+    ensures number { literal_value (tree.number (codes "-12")) ≡ number (whole (negsuc 11)) }
     ensures minus_zero { literal_value (tree.number (codes "-0")) ≡ num 0 }
     ensures text { literal_value (tree.text (codes "12")) ≡ text (codes "12") }
     ensures truth { literal_value (tree.truth false) ≡ truth false }
@@ -91,7 +92,7 @@ fn given_by_kinds()
     ensures null { given_value (Some Null) ≡ Some null }
     ensures truth { given_value (Some (Truth false)) ≡ Some (truth false) }
     ensures number { given_value (Some (Whole (pos 0))) ≡ Some (num 0) }
-    ensures number_below_zero { given_value (Some (Whole (negsuc 6))) ≡ Some (whole (negsuc 6)) }
+    ensures number_below_zero { given_value (Some (Whole (negsuc 6))) ≡ Some (number (whole (negsuc 6))) }
     ensures nothing_and_null { compared Eq (given_value None) (given_value (Some Null)) ≡ false }
     ensures number_and_truth { compared Eq (given_value (Some (Whole (pos 0))))
         (given_value (Some (Truth false))) ≡ false }
@@ -106,7 +107,7 @@ fn equality()
     ensures truths { compared Eq (Some (truth true)) (Some (truth true)) ≡ true }
     ensures other_truths { compared Eq (Some (truth true)) (Some (truth false)) ≡ false }
     ensures numbers { compared Eq (Some (num 7)) (Some (num 7)) ≡ true }
-    ensures other_numbers { compared Eq (Some (num 7)) (Some (whole (negsuc 6))) ≡ false }
+    ensures other_numbers { compared Eq (Some (num 7)) (Some (number (whole (negsuc 6)))) ≡ false }
     ensures texts { compared Eq (Some (text (codes "ab"))) (Some (text (codes "ab"))) ≡ true }
     ensures text_in_capitals { compared Eq (Some (text (codes "ab"))) (Some (text (codes "aB"))) ≡ false }
     ensures front_of_a_text { compared Eq (Some (text (codes "a"))) (Some (text (codes "ab"))) ≡ false }
@@ -123,7 +124,7 @@ fn equality()
 
 /// `<` of numbers by value and of texts by their scalar values, and of nothing else.
 fn order()
-    ensures numbers { compared Lt (Some (whole (negsuc 0))) (Some (num 0)) ≡ true }
+    ensures numbers { compared Lt (Some (number (whole (negsuc 0)))) (Some (num 0)) ≡ true }
     ensures not_below_itself { compared Lt (Some (num 2)) (Some (num 2)) ≡ false }
     ensures not_above { compared Gt (Some (num 2)) (Some (num 3)) ≡ false }
     ensures above { compared Gt (Some (num 3)) (Some (num 2)) ≡ true }

@@ -4,8 +4,9 @@ ghost use Rattle.std.specs.Prelude.{◌≡◌, ℕ, [], ◌∷◌, ◌++◌, Lis
 ghost use Rattle.std.specs.Prelude.{true, false, Float, Some, None, Ok, Err};
 ghost use Rattle.serde_json.specs.Data as crate_data;
 ghost use Rattle.serde_json.specs.Written.{items_have_float};
-ghost use Rattle.jp_doc.specs.Json.{null, truth, whole, text, array, object, item_list, items_of};
+ghost use Rattle.jp_doc.specs.Json.{null, truth, number, text, array, object, item_list, items_of};
 ghost use Rattle.jp_doc.specs.Json.{no_items, add_item, no_members, add_member};
+ghost use Rattle.jp_number.specs.Profile.{whole};
 ghost use Rattle.jp_doc.specs.Reading.{has_long_array, items_have_long_array, fault_of};
 ghost use Rattle.jp_doc.specs.Reading.{crate_reading, document_from, reading};
 ghost use Rattle.jp_doc.specs.declared.fault.DocFault.TheVariants.{LongLine, Unreadable, NotWhole, LongArray};
@@ -13,15 +14,17 @@ ghost use Rattle.jp_doc.specs.declared.fault.DocFault.TheVariants.{LongLine, Unr
 #[tactic(auto, unfolding(crate::proofs::OnLiterals::documents_on_literals))]
 fn read_values()
     ensures member { reading (codes "{\"a\":1}")
-        ≡ Ok (object (add_member (codes "a") (whole (pos 1)) no_members)) }
+        ≡ Ok (object (add_member (codes "a") (number (whole (pos 1))) no_members)) }
     ensures null_value { reading (codes "null") ≡ Ok null }
     ensures false_value { reading (codes "false") ≡ Ok (truth false) }
     ensures empty_array { reading (codes "[]") ≡ Ok (array no_items) }
     ensures empty_object { reading (codes "{}") ≡ Ok (object no_members) }
-    ensures negative_number { reading (codes "-3") ≡ Ok (whole (negsuc 2)) }
+    ensures negative_number { reading (codes "-3") ≡ Ok (number (whole (negsuc 2))) }
     ensures white_space_around { reading (32 ∷ codes "true" ++ 13 ∷ []) ≡ Ok (truth true) }
-    ensures least_number { reading (codes "-9223372036854775808") ≡ Ok (whole (negsuc 9223372036854775807)) }
-    ensures greatest_number { reading (codes "18446744073709551615") ≡ Ok (whole (pos 18446744073709551615)) }
+    ensures least_number { reading (codes "-9223372036854775808")
+        ≡ Ok (number (whole (negsuc 9223372036854775807))) }
+    ensures greatest_number { reading (codes "18446744073709551615")
+        ≡ Ok (number (whole (pos 18446744073709551615))) }
 {}
 
 #[tactic(auto, unfolding(crate::proofs::OnLiterals::documents_on_literals))]
@@ -36,12 +39,13 @@ fn read_texts()
 fn read_members()
     ensures rising_order { reading (codes "{\"b\":null,\"a\":[1,2]}")
         ≡ Ok
-        (object (add_member (codes "a") (array (add_item (whole (pos 1)) (add_item (whole (pos 2)) no_items)))
+        (object (add_member (codes "a") (array (add_item (number (whole (pos 1))) (add_item (number (whole
+        (pos 2))) no_items)))
         (add_member (codes "b") null no_members))) }
     ensures last_of_a_name { reading (codes "{\"a\":1,\"a\":2}")
-        ≡ Ok (object (add_member (codes "a") (whole (pos 2)) no_members)) }
+        ≡ Ok (object (add_member (codes "a") (number (whole (pos 2))) no_members)) }
     ensures name_of_four_bytes { reading (123 ∷ 34 ∷ 240 ∷ 159 ∷ 152 ∷ 128 ∷ codes "\":1}")
-        ≡ Ok (object (add_member (128512 ∷ []) (whole (pos 1)) no_members)) }
+        ≡ Ok (object (add_member (128512 ∷ []) (number (whole (pos 1))) no_members)) }
 {}
 
 #[tactic(auto, unfolding(crate::proofs::OnLiterals::documents_on_literals))]
@@ -100,7 +104,7 @@ fn values_with_no_long_array()
     ensures members { has_long_array 1
         (object (add_member (codes "a") null (add_member (codes "b") null no_members))) ≡ false }
     ensures text_value { has_long_array 0 (text (codes "ab")) ≡ false }
-    ensures number { has_long_array 0 (whole (pos 7)) ≡ false }
+    ensures number { has_long_array 0 (number (whole (pos 7))) ≡ false }
     ensures truth_value { has_long_array 0 (truth true) ≡ false }
     ensures null_value { has_long_array 0 null ≡ false }
 {}

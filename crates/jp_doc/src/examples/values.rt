@@ -5,9 +5,10 @@ ghost use Rattle.std.specs.declared.cmp.Ordering.TheVariants.{Less, Equal, Great
 ghost use Rattle.serde_json.specs.Data as crate_data;
 ghost use Rattle.jp_doc.specs.DocumentValue.{whole_in};
 ghost use Rattle.jp_doc.specs.Height.{height};
-ghost use Rattle.jp_doc.specs.Json.{null, truth, whole, text, array, object, items, item_list, text_eq};
+ghost use Rattle.jp_doc.specs.Json.{null, truth, number, text, array, object, items, item_list, text_eq};
 ghost use Rattle.jp_doc.specs.Json.{text_cmp};
 ghost use Rattle.jp_doc.specs.Json.{no_items, add_item, no_members, add_member, json_of, data_of};
+ghost use Rattle.jp_number.specs.Profile.{whole};
 ghost use Rattle.jp_doc.specs.Rising.{IsRising, IsTextBelow, NamesAreUtf8};
 
 fn equal_texts()
@@ -38,11 +39,13 @@ fn items_of_arrays()
 // What the JSON crate reads, as a value, and back.
 #[tactic(auto, unfolding(crate::proofs::OnLiterals::documents_on_literals))]
 fn values_of_the_crate()
-    ensures unsigned { json_of (crate_data.number (crate_data.unsigned 7)) ≡ whole (pos 7) }
-    ensures negative { json_of (crate_data.number (crate_data.negative (negsuc 2))) ≡ whole (negsuc 2) }
+    ensures unsigned { json_of (crate_data.number (crate_data.unsigned 7)) ≡ number (whole (pos 7)) }
+    ensures negative { json_of (crate_data.number (crate_data.negative (negsuc 2)))
+        ≡ number (whole (negsuc 2)) }
     ensures four_bytes { json_of (crate_data.string (240 ∷ 159 ∷ 152 ∷ 128 ∷ [])) ≡ text (128512 ∷ []) }
-    ensures unsigned_back { data_of (whole (pos 7)) ≡ crate_data.number (crate_data.unsigned 7) }
-    ensures negative_back { data_of (whole (negsuc 2)) ≡ crate_data.number (crate_data.negative (negsuc 2)) }
+    ensures unsigned_back { data_of (number (whole (pos 7))) ≡ crate_data.number (crate_data.unsigned 7) }
+    ensures negative_back { data_of (number (whole (negsuc 2)))
+        ≡ crate_data.number (crate_data.negative (negsuc 2)) }
     ensures four_bytes_back { data_of (text (128512 ∷ [])) ≡ crate_data.string (240 ∷ 159 ∷ 152 ∷ 128 ∷ []) }
     ensures name_back { data_of (object (add_member (233 ∷ []) (truth false) no_members))
         ≡ crate_data.object
@@ -57,10 +60,11 @@ fn heights()
 {}
 
 fn numbers_in_values()
-    ensures number { whole_in (whole (negsuc 2)) ≡ Some (negsuc 2) }
+    ensures number { whole_in (number (whole (negsuc 2))) ≡ Some (negsuc 2) }
     ensures text_of_digits { whole_in (text (codes "3")) ≡ None }
-    ensures array_of_a_number { whole_in (array (add_item (whole (pos 3)) no_items)) ≡ None }
-    ensures object_of_a_number { whole_in (object (add_member (codes "a") (whole (pos 3)) no_members))
+    ensures array_of_a_number { whole_in (array (add_item (number (whole (pos 3))) no_items)) ≡ None }
+    ensures object_of_a_number { whole_in (object (add_member (codes "a") (number (whole
+        (pos 3))) no_members))
         ≡ None }
     ensures truth_value { whole_in (truth true) ≡ None }
     ensures null_value { whole_in null ≡ None }
@@ -76,7 +80,7 @@ fn rising_names()
         (object (add_member (65535 ∷ []) null (add_member (65536 ∷ []) null no_members))) }
     ensures no_names { IsRising (object no_members) × IsRising (array no_items) × IsRising null
         × IsRising (truth true)
-        × IsRising (whole (pos 1)) × IsRising (text (codes "ba")) }
+        × IsRising (number (whole (pos 1))) × IsRising (text (codes "ba")) }
 {}
 
 #[tactic(auto, unfolding(crate::proofs::OnLiterals::documents_on_literals))]

@@ -2,9 +2,10 @@
 -- a `$` query.
 use Rattle.std.specs.Prelude.{◌≡◌, Bool, true, map, Option, Some, None, Vec}
 use Rattle.std.specs.declared.alloc.Global.{Global}
-use Rattle.jp_doc.specs.Json.{Json, object, whole}
+use Rattle.jp_doc.specs.Json.{Json, object, number}
 use Rattle.jp_flat.specs.Gathered.{entry}
 use Rattle.jp_flat.specs.declared.value.FlatMember.{FlatMember}
+use Rattle.jp_number.specs.Profile.{whole}
 use Rattle.jp_part.specs.Members.{members}
 use Rattle.jp_value.specs.Comparison.{eq}
 use Rattle.jp_value.specs.Functions.{length_value}
@@ -17,13 +18,13 @@ use Rattle.jp_eval.specs.declared.root_answer.Length.TheVariants.{Unknown, Nothi
 abbrev pub is_length : Length → Aggregate → Bool
 is_length Unknown a = true
 is_length Nothing a = eq None (length_value (told a))
-is_length (Number n) a = eq (Some (whole n)) (length_value (told a))
+is_length (Number n) a = eq (Some (number (whole n))) (length_value (told a))
 
 -- the length of a value, or nothing, where it is known
 abbrev pub IsLength : Length → Option Json → Type 0
 IsLength Unknown v = Unit {0}
 IsLength Nothing v = None ≡ length_value v
-IsLength (Number n) v = Some (whole n) ≡ length_value v
+IsLength (Number n) v = Some (number (whole n)) ≡ length_value v
 
 -- the members of the value that is told, where they are kept
 abbrev pub are_members : Option (Vec FlatMember Global) → Aggregate → Bool
