@@ -4,6 +4,7 @@ ghost use Rattle.std.specs.Prelude.{◌≡◌, ◌+◌, ◌++◌, ℕ, None, Lis
 ghost use Rattle.std.specs.List.{concat};
 ghost use Rattle.jp_doc.specs.Json.{Json};
 ghost use Rattle.jp_doc.specs.Lines.{Line, lines, line_count};
+ghost use Rattle.jp_doc.specs.NumbersWithin.{HasJsonNumbers};
 ghost use Rattle.jp_tree.specs.Tree.{Query};
 ghost use Rattle.jp_regexp.specs.Tests.{Tests};
 ghost use Rattle.jp_eval.specs.Nodelist.{document_nodes};
@@ -58,11 +59,12 @@ pub fn streams()
 {}
 
 /// The bytes of an answer, in either form, are lines of three fields, one after another: two tabs in each,
-/// and one line feed, its last byte. A document has as many of them as nodes.
+/// and one line feed, its last byte. A document has as many of them as nodes, where its numbers are those of
+/// RFC 8259 (6), as all that are read are.
 pub fn three_fields()
     ensures answer { (k : OnFault) (t : Tests) (q : Query) (ls : List Line)
         → AreLinesOfThree (answer_in k t q ls).bytes }
-    ensures one_each { (t : Tests) (q : Query) (number : ℕ) (root : Json)
+    ensures one_each { (t : Tests) (q : Query) (number : ℕ) (root : Json) → HasJsonNumbers root
         → times 10 (document_lines t q number root) ≡ length (document_nodes t q root) }
 {}
 

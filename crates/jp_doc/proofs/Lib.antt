@@ -13,3 +13,12 @@ pub mod FeedLaws
 pub mod BackLaws
 pub mod Below
 pub mod OrderLaws
+pub mod NumberLaws
+pub mod TreeNesting
+pub mod TreeNames
+pub mod ContentTexts
+pub mod LineTexts
+pub mod TreeAgrees
+pub mod TreeLaws
+pub mod TreeFacts
+pub mod ReadingInLaws

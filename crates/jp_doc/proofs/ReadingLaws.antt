@@ -8,8 +8,8 @@ use Rattle.serde_json.specs.Written.{has_float, items_have_float}
 use Rattle.jp_doc.specs.Json as json
 use Rattle.jp_doc.specs.Json.{Json, json_of, items_of, item_list}
 use Rattle.jp_doc.specs.declared.fault.DocFault.{DocFault}
-use Rattle.jp_doc.specs.declared.fault.DocFault.TheVariants.{LongLine, Unreadable, NotWhole, LongArray}
-use Rattle.jp_doc.specs.declared.fault.DocFault.TheVariants.{Memory}
+use Rattle.jp_doc.specs.declared.fault.DocFault.TheVariants.{LongLine, Unreadable, NotWhole, LongNumber}
+use Rattle.jp_doc.specs.declared.fault.DocFault.TheVariants.{LongArray, Memory}
 use Rattle.jp_doc.specs.Reading.{max_line, max_items, has_long_array, items_have_long_array, crate_reading}
 use Rattle.jp_doc.specs.Reading.{document_from, reading}
 
@@ -26,6 +26,7 @@ Says long found (Err Unreadable) = (long ≡ false) × (found ≡ None)
 Says long found (Err NotWhole) = (long ≡ false) × (d : Data) × (found ≡ Some d) × IsTrue (has_float d)
 Says long found (Err LongArray) = (long ≡ false) × (d : Data) × (found ≡ Some d) × (has_float d ≡ false)
     × IsTrue (has_long_array max_items (json_of d))
+Says long found (Err LongNumber) = ⊥
 Says long found (Err Memory) = ⊥
 
 says_of : (float array : Bool) (d : Data) → has_float d ≡ float → has_long_array max_items (json_of d) ≡ array
@@ -74,6 +75,9 @@ pub document_is_read : (line : List ℕ) (v : Json) → reading line ≡ Ok v
     × (has_long_array max_items v ≡ false) × (v ≡ json_of d)
 document_is_read line v e = let s =
     says_at line (Ok v) e in (short line s.0, s.1, s.2, s.3, ap (has_long_array max_items) s.5 ∙ s.4, s.5)
+
+pub no_long_number : (line : List ℕ) → ¬ (reading line ≡ Err LongNumber)
+no_long_number line e = says_at line (Err LongNumber) e
 
 pub no_memory_fault : (line : List ℕ) → ¬ (reading line ≡ Err Memory)
 no_memory_fault line e = says_at line (Err Memory) e

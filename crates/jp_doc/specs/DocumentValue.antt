@@ -7,7 +7,7 @@ use Rattle.serde_json.specs.declared.value.Value.{Value}
 use Rattle.jp_doc.specs.Json.{Json, null, truth, number, text, array, object, value_of}
 use Rattle.jp_doc.specs.Reading.{max_items, has_long_array}
 use Rattle.jp_doc.specs.Rising.{IsRising}
-use Rattle.jp_number.specs.Profile.{whole}
+use Rattle.jp_number.specs.Number.{whole, written}
 
 -- Its numbers are whole, its arrays short enough, its nesting no deeper than the JSON crate reads, and its
 -- names rise.
@@ -17,9 +17,10 @@ pub record IsDocumentValue (v : Value) : Type 0 where
   pub nesting : depth (view v) ≤ 127
   pub rising_names : IsRising (value_of v)
 
--- the number that a value is, if it is one
+-- the whole number that a value is, if it is one
 abbrev pub whole_in : Json → Option ℤ
 whole_in (number (whole z)) = Some z
+whole_in (number (written s)) = None
 whole_in null = None
 whole_in (truth b) = None
 whole_in (text s) = None

@@ -7,7 +7,7 @@ use Rattle.std.specs.declared.cmp.Ordering.{Ordering}
 use Rattle.serde_json.specs.Data as crate_data
 use Rattle.serde_json.specs.View.{view}
 use Rattle.serde_json.specs.declared.value.Value.{Value}
-use Rattle.jp_number.specs.Profile.{Number, whole}
+use Rattle.jp_number.specs.Number.{Number, whole, written}
 
 -- a text is the list of its Unicode scalar values
 abbrev pub Text : Type 0
@@ -78,13 +78,15 @@ abbrev mutual
 abbrev pub value_of : Value → Json
 value_of v = json_of (view v)
 
--- The way back: what the JSON crate would have read as this value.
+-- The way back, for a value whose numbers are whole: what the JSON crate would have read as this value. Of
+-- another number it says nothing.
 abbrev pub number_of : ℤ → crate_data.Num
 number_of (pos n) = crate_data.unsigned n
 number_of (negsuc n) = crate_data.negative (negsuc n)
 
 abbrev pub number_data : Number → crate_data.Num
 number_data (whole z) = number_of z
+number_data (written s) = crate_data.unsigned 0
 
 abbrev mutual
   pub data_of : Json → crate_data.Data

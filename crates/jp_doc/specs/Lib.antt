@@ -3,10 +3,13 @@ pub mod Location
 pub mod Lines
 pub mod Joined
 pub mod Reading
+pub mod Tree
+pub mod ReadingIn
 pub mod Rising
 pub mod Document
 pub mod DocumentValue
 pub mod Feeding
 pub mod Height
+pub mod NumbersWithin
 pub mod FaultWords
 pub mod inner

@@ -3,5 +3,7 @@
 mod feeding;
 mod lines;
 mod locations;
+mod numbers;
 mod reading;
+mod trees;
 mod values;

@@ -16,6 +16,8 @@ pub enum DocFault {
     Unreadable,
     /// Some number is no signed or unsigned whole number of 64 bits.
     NotWhole,
+    /// Where numbers need not be whole: some number has over 1,000 digits, or over 9 digits of an exponent.
+    LongNumber,
     /// Some array has more than 16,777,216 items.
     LongArray,
     /// A growth of memory was refused.
@@ -33,6 +35,7 @@ impl DocFault {
             DocFault::LongLine => "long line",
             DocFault::Unreadable => "unreadable",
             DocFault::NotWhole => "not whole",
+            DocFault::LongNumber => "long number",
             DocFault::LongArray => "long array",
             DocFault::Memory => "memory",
         }

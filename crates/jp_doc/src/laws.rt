@@ -9,6 +9,8 @@ ghost use Rattle.std.specs.List.{All, list_all, concat};
 ghost use Rattle.std.specs.Str.{IsUtf8};
 ghost use Rattle.std.specs.Cmp.Lexicographic.{slice_cmp};
 ghost use Rattle.std.specs.Ordering.{nat_cmp};
+ghost use Rattle.json.specs.Json as grammar;
+ghost use Rattle.json.specs.Tree.{HasNumbers};
 ghost use Rattle.serde_json.specs.Data.{Data, Members, depth, put};
 ghost use Rattle.serde_json.specs.Written.{has_float};
 ghost use Rattle.serde_json.specs.View.{view};
@@ -20,11 +22,15 @@ ghost use Rattle.jp_doc.specs.Feeding.{cut, last_line, nothing_fed, lines_of_pie
 ghost use Rattle.jp_doc.specs.Joined.{joined};
 ghost use Rattle.jp_doc.specs.Height.{height};
 ghost use Rattle.jp_doc.specs.Location.{Step, Location, location_of, step_of, child_at, value_at};
+ghost use Rattle.jp_doc.specs.NumbersWithin.{HasWholeNumbers, HasJsonNumbers};
 ghost use Rattle.jp_doc.specs.Reading.{max_line, max_items, has_long_array, crate_reading, reading};
+ghost use Rattle.jp_doc.specs.ReadingIn.{Numbers, decimals, tree_reading, reading_in};
 ghost use Rattle.jp_doc.specs.Rising.{IsRising, MembersRise, NamesAreUtf8};
+ghost use Rattle.jp_doc.specs.Tree.{tree_of, tree_json};
 ghost use Rattle.jp_doc.specs.declared.location.Location as code;
-ghost use Rattle.jp_doc.specs.declared.fault.DocFault.TheVariants.{LongLine, Unreadable, NotWhole, LongArray};
-ghost use Rattle.jp_doc.specs.declared.fault.DocFault.TheVariants.{Memory};
+ghost use Rattle.jp_doc.specs.declared.fault.DocFault.{DocFault};
+ghost use Rattle.jp_doc.specs.declared.fault.DocFault.TheVariants.{LongLine, Unreadable, NotWhole, LongNumber};
+ghost use Rattle.jp_doc.specs.declared.fault.DocFault.TheVariants.{LongArray, Memory};
 
 /// Bytes that are cut after a line feed have the lines of the first part, and then those of the second.
 #[tactic(auto, using(crate::proofs::LineLaws::lines_of_both))]
@@ -49,6 +55,45 @@ pub fn long_line()
     ensures no_other { (line : List ℕ) → reading line ≡ Err LongLine → max_line < length line }
 {}
 
+/// A line that is read has a tree by the grammar alone, which has the value that is read, also where the last
+/// member of a name covers a number that is not whole. A line that has no tree is not read. The numbers of a
+/// tree have the texts of numbers (RFC 8259, 6).
+pub fn tree_of_a_line()
+    ensures value { (line : List ℕ) (v : Json) → reading line ≡ Ok v
+        → option_map tree_json (tree_of line) ≡ Some v }
+    ensures none { (line : List ℕ) → length line ≤ max_line → tree_of line ≡ None
+        → reading line ≡ Err Unreadable }
+    ensures numbers { (line : List ℕ) (j : grammar.Json) → tree_of line ≡ Some j → HasNumbers j }
+{}
+
+/// A line that is read with whole numbers alone is read so with decimals too, and so is the fault of one that
+/// is too long.
+pub fn read_with_all_numbers()
+    ensures value { (n : Numbers) (line : List ℕ) (v : Json) → reading line ≡ Ok v
+        → reading_in n line ≡ Ok v }
+    ensures long_line { (n : Numbers) (line : List ℕ) → reading line ≡ Err LongLine
+        → reading_in n line ≡ Err LongLine }
+{}
+
+/// With decimals the grammar alone tells of a line that is not too long: its value where it has one, and else
+/// its fault, where `reading` has one.
+pub fn read_by_the_grammar()
+    ensures value { (line : List ℕ) (v : Json) → length line ≤ max_line → tree_reading line ≡ Ok v
+        → reading_in decimals line ≡ Ok v }
+    ensures fault { (line : List ℕ) (f : DocFault) → length line ≤ max_line → reading line ≡ Err f
+        → reading_in decimals line ≡ tree_reading line }
+{}
+
+/// What is true of every value that is read.
+pub fn values_that_are_read()
+    ensures short_arrays { (n : Numbers) (line : List ℕ) (v : Json) → reading_in n line ≡ Ok v
+        → has_long_array max_items v ≡ false }
+    ensures nesting { (n : Numbers) (line : List ℕ) (v : Json) → reading_in n line ≡ Ok v → height v ≤ 127 }
+    ensures rising_names { (n : Numbers) (line : List ℕ) (v : Json) → reading_in n line ≡ Ok v → IsRising v }
+    ensures numbers { (n : Numbers) (line : List ℕ) (v : Json) → reading_in n line ≡ Ok v
+        → HasJsonNumbers v }
+{}
+
 /// What each answer of a reading says of the line: a fault is told only where those before it do not apply.
 pub fn first_fault()
     ensures unreadable { (line : List ℕ) → reading line ≡ Err Unreadable → (length line ≤ max_line)
@@ -61,6 +106,7 @@ pub fn first_fault()
     ensures document { (line : List ℕ) (v : Json) → reading line ≡ Ok v
         → (length line ≤ max_line) × (d : Data) × (crate_reading line ≡ Some d) × (has_float d ≡ false)
         × (has_long_array max_items v ≡ false) × (v ≡ json_of d) }
+    ensures no_long_number { (line : List ℕ) → ¬ (reading line ≡ Err LongNumber) }
     ensures no_memory { (line : List ℕ) → ¬ (reading line ≡ Err Memory) }
 {}
 
@@ -113,6 +159,14 @@ pub fn lines_in_pieces()
 #[tactic(auto, using(crate::proofs::BackLaws::value_back))]
 pub fn value_gives_back()
     ensures { (v : Value) → has_float (view v) ≡ false → data_of (value_of v) ≡ view v }
+{}
+
+/// The numbers of a document are whole, and whole numbers are numbers of RFC 8259 (6).
+#[tactic(auto, using(crate::proofs::NumberLaws::json_is_whole, crate::proofs::NumberLaws::json_numbers))]
+pub fn numbers_of_documents()
+    ensures read { (line : List ℕ) (v : Json) → reading line ≡ Ok v → HasWholeNumbers v }
+    ensures crate_values { (v : Value) → HasWholeNumbers (value_of v) }
+    ensures json { (v : Json) → HasWholeNumbers v → HasJsonNumbers v }
 {}
 
 /// The order of texts by the bytes of their UTF-8 is that by their scalar values.

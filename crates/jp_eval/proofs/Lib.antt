@@ -1,5 +1,6 @@
 pub mod Keeping
 pub mod Parts
+pub mod Identity
 pub mod Telling
 pub mod Differing
 pub mod SameLocations
@@ -10,6 +11,7 @@ pub mod Slicing
 pub mod Through
 pub mod Leading
 pub mod Listed
+pub mod NumbersKept
 pub mod Chains
 pub mod Answering
 pub mod Idle

@@ -46,7 +46,7 @@ child_rises (index i) (number x) w r h = absurd cc
 child_rises (index i) (text s) w r h = absurd cc
 child_rises (index i) (object ms) w r h = absurd cc
 
-each_mapped : {X Y : Type 0} (Q : Y → Type 0) (f : X → List Y) → ((x : X) → AllByRecursion Q (f x))
+pub each_mapped : {X Y : Type 0} (Q : Y → Type 0) (f : X → List Y) → ((x : X) → AllByRecursion Q (f x))
     → (xs : List X) → AllByRecursion Q (flat_map f xs)
 each_mapped Q f each [] = tt
 each_mapped Q f each (x ∷ xs) = all_of_both Q (f x) (flat_map f xs) (each x) (each_mapped Q f each xs)

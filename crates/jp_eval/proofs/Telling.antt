@@ -9,7 +9,7 @@ use Rattle.jp_doc.specs.Location.{Location, Node, node}
 use Rattle.jp_compiled.specs.declared.query.Want.{Want}
 use Rattle.jp_compiled.specs.declared.query.Want.TheVariants as want
 use Rattle.jp_eval.specs.inner.Aggregates.{tells, told}
-use Rattle.jp_value.specs.Comparison.{eq}
+use Rattle.jp_eval.specs.inner.Identical.{identical}
 use Rattle.jp_eval.specs.inner.Different.{IsDifferent, is_different}
 use Rattle.jp_value.specs.Functions.{first_value, only_value, distinct}
 use Rattle.jp_eval.specs.inner.Kept.{Kept, alone_of, alone_value, put_found, plus, none_kept}
@@ -23,20 +23,7 @@ use Rattle.jp_eval.specs.declared.found.Alone.TheVariants.{One as one}
 use Rattle.jp_part.specs.declared.part.Part.{Part}
 use Rattle.jp_eval.proofs.Differing.{differs_again}
 use Rattle.jp_eval.proofs.Parts.{alone_in, kept_all}
-use Rattle.jp_value.proofs.Sameness.{same_is_equal, self_same}
-
-pub eq_is : (a b : Option Json) → eq a b ≡ true → a ≡ b
-eq_is None None h = refl
-eq_is None (Some w) h = absurd cc
-eq_is (Some v) None h = absurd cc
-eq_is (Some v) (Some w) h = ap Some ((same_is_equal v w).0 h)
-
-itself : (a : Option Json) → eq a a ≡ true
-itself None = refl
-itself (Some v) = self_same v
-
-pub is_eq : (a b : Option Json) → a ≡ b → eq a b ≡ true
-is_eq a b e = ap (eq a) (sym e) ∙ itself a
+use Rattle.jp_eval.proofs.Identity.{itself, identical_are, are_identical}
 
 is_count : (n m : ℕ) → n ≡ m → (n == m) ≡ true
 is_count n m e = grind (arith, nat_tests)
@@ -49,23 +36,24 @@ both false b h = absurd cc
 pub is_differing : (d : Different) (ns : List Node) → IsDifferent d ns → is_different d ns ≡ true
 is_differing d ns h =
     ap₂ (λ a b. a && b) (is_count d.count (length (distinct ns)) h.0)
-    (is_eq (alone_value (alone_of d.alone)) (only_value (distinct ns)) h.1)
+    (are_identical (alone_value (alone_of d.alone)) (only_value (distinct ns)) h.1)
 
 differs : (d : Different) (ns : List Node) → is_different d ns ≡ true → IsDifferent d ns
 differs d ns h =
     let ones = distinct ns in
-    let parts = both (d.count == length ones) (eq (alone_value (alone_of d.alone)) (only_value ones)) h in
-    (eqb-true d.count (length ones) parts.0, eq_is _ _ parts.1)
+    let parts = both (d.count == length ones) (identical (alone_value (alone_of d.alone)) (only_value ones)) h
+    in
+    (eqb-true d.count (length ones) parts.0, identical_are _ _ parts.1)
 
 -- what the answers tell
 
 pub first_result : (o : Option Part) (ns : List Node) → tells want.First ns (answer.First o) ≡ true
     → option_map part_value o ≡ first_value ns
-first_result o ns h = eq_is _ _ h
+first_result o ns h = identical_are _ _ h
 
 pub only_result : (a : code.Alone) (ns : List Node) → tells want.Only ns (answer.Only a) ≡ true
     → alone_value (alone_of a) ≡ only_value ns
-only_result a ns h = eq_is _ _ h
+only_result a ns h = identical_are _ _ h
 
 -- the value that is told
 pub told_first : (a : Aggregate) (ns : List Node) → tells want.First ns a ≡ true → told a ≡ first_value ns
@@ -85,12 +73,12 @@ told_only (answer.Distinct d) ns h = absurd cc
 pub one_first : (w : Want) (p : Part) → w ≡ want.First → (at : Location)
     → tells w (node at (part_value p) ∷ []) (answer.First (Some p)) ≡ true
 one_first w p is at = ap (λ v. tells v (node at (part_value p) ∷ []) (answer.First (Some p))) is
-    ∙ self_same (part_value p)
+    ∙ itself (part_value p)
 
 pub one_only : (w : Want) (p : Part) → w ≡ want.Only → (at : Location)
     → tells w (node at (part_value p) ∷ []) (answer.Only (one p)) ≡ true
 one_only w p is at = ap (λ v. tells v (node at (part_value p) ∷ []) (answer.Only (one p))) is
-    ∙ self_same (part_value p)
+    ∙ itself (part_value p)
 
 -- the only one, and how many there are
 abbrev alone : Part → Different
@@ -99,7 +87,7 @@ alone p = record { count = 1; alone = one p }
 pub one_different : (w : Want) (p : Part) → w ≡ want.Distinct → (at : Location)
     → tells w (node at (part_value p) ∷ []) (answer.Distinct (alone p)) ≡ true
 one_different w p is at = ap (λ v. tells v (node at (part_value p) ∷ []) (answer.Distinct (alone p))) is
-    ∙ self_same (part_value p)
+    ∙ itself (part_value p)
 
 -- what is told once each location stands there once, by what is told of all
 
@@ -148,7 +136,7 @@ module _ {K : Type 0} (put : K → Node → K) where
   pub first_tells : (w : Want) (ns : List Node) (o : Option Part)
       → first (option_map part_value o) ≡ plus (put_found put) (none_kept w) ns
       → tells w ns (answer.First o) ≡ true
-  first_tells want.First ns o h = is_eq _ _ (ap first_in (h ∙ kept_all put want.First ns))
+  first_tells want.First ns o h = are_identical _ _ (ap first_in (h ∙ kept_all put want.First ns))
   first_tells want.Count ns o h = let clash = h ∙ kept_all put want.Count ns in absurd cc
   first_tells want.Only ns o h = let clash = h ∙ kept_all put want.Only ns in absurd cc
   first_tells want.Distinct ns o h = let clash = h ∙ kept_all put want.Distinct ns in absurd cc
@@ -166,7 +154,8 @@ module _ {K : Type 0} (put : K → Node → K) where
       → tells w ns (answer.Only a) ≡ true
   only_tells want.First ns a h = let clash = h ∙ kept_all put want.First ns in absurd cc
   only_tells want.Count ns a h = let clash = h ∙ kept_all put want.Count ns in absurd cc
-  only_tells want.Only ns a h = is_eq _ _ (ap value_in (h ∙ kept_all put want.Only ns) ∙ alone_in_value ns)
+  only_tells want.Only ns a h =
+      are_identical _ _ (ap value_in (h ∙ kept_all put want.Only ns) ∙ alone_in_value ns)
   only_tells want.Distinct ns a h = let clash = h ∙ kept_all put want.Distinct ns in absurd cc
 
   pub located_tells : (w : Want) (ns : List Node) (d : Different) (o : Option Json) (ls : List Location)

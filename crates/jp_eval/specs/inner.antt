@@ -4,6 +4,7 @@ pub mod Along
 pub mod Base
 pub mod ChildRanges
 pub mod Different
+pub mod Identical
 pub mod Kept
 pub mod Links
 pub mod Opened

@@ -4,6 +4,7 @@ ghost use Rattle.std.specs.Prelude.{◌≡◌, ◌++◌, List, Some};
 ghost use Rattle.std.specs.List.{AllByRecursion};
 ghost use Rattle.jp_doc.specs.Json.{Json};
 ghost use Rattle.jp_doc.specs.Location.{Node, value_at};
+ghost use Rattle.jp_doc.specs.NumbersWithin.{HasWholeNumbers, HasJsonNumbers};
 ghost use Rattle.jp_doc.specs.Rising.{IsRising};
 ghost use Rattle.jp_tree.specs.Tree.{Query, Segment, segments, query_from};
 ghost use Rattle.jp_tree.specs.declared.tree.Start.{Start};
@@ -29,4 +30,13 @@ pub fn root_queries()
 pub fn nodes_stand_there()
     ensures { (t : Tests) (q : Query) (root : Json) → IsRising root →
         AllByRecursion (λ n. value_at n.location root ≡ Some n.value) (document_nodes t q root) }
+{}
+
+/// Where all numbers of a document are whole, or are those of RFC 8259 (6), so are those within the value of
+/// each node in the nodelist.
+pub fn numbers_of_nodes()
+    ensures whole { (t : Tests) (q : Query) (root : Json) → HasWholeNumbers root →
+        AllByRecursion (λ n. HasWholeNumbers n.value) (document_nodes t q root) }
+    ensures json { (t : Tests) (q : Query) (root : Json) → HasJsonNumbers root →
+        AllByRecursion (λ n. HasJsonNumbers n.value) (document_nodes t q root) }
 {}

@@ -4,6 +4,8 @@
 #[cfg(test)]
 mod forks;
 #[cfg(test)]
+mod numbers;
+#[cfg(test)]
 mod once;
 #[cfg(test)]
 mod refusals;

@@ -3,14 +3,14 @@ use Rattle.std.specs.Prelude.{ℕ, ◌≡◌, ◌<◌, ◌≤◌, ◌-◌, ◌�
 use Rattle.std.specs.Prelude.{take, drop}
 use Rattle.std.specs.List.{list_all}
 use Rattle.jp_doc.specs.declared.fault.DocFault.{DocFault}
-use Rattle.jp_doc.specs.declared.fault.DocFault.TheVariants.{LongLine, LongArray, Memory}
+use Rattle.jp_doc.specs.declared.fault.DocFault.TheVariants.{LongLine, LongNumber, LongArray, Memory}
 use Rattle.jp_explain.specs.declared.line_explanation.LineExplanation.{LineExplanation}
 use Rattle.jp_explain.specs.declared.line_reason.NotWhole.{NotWhole as Number}
 use Rattle.jp_explain.specs.declared.line_reason.LineReason.TheVariants.{NotWhole}
 
 -- a fault that has no place in the line
 abbrev pub IsSilent : DocFault → Type 0
-IsSilent f = (f ≡ LongLine) ⊎ (f ≡ LongArray) ⊎ (f ≡ Memory)
+IsSilent f = (f ≡ LongLine) ⊎ (f ≡ LongNumber) ⊎ (f ≡ LongArray) ⊎ (f ≡ Memory)
 
 -- a digit, a sign, a point, `e` or `E`
 abbrev pub is_of_number : ℕ → Bool

@@ -136,6 +136,7 @@ pub fn explain_line(
     match fault {
         DocFault::Unreadable => explain_unreadable(alloc, line),
         DocFault::NotWhole => explain_not_whole(alloc, line),
-        DocFault::LongLine | DocFault::LongArray | DocFault::Memory => Ok(None),
+        DocFault::LongLine | DocFault::LongNumber => Ok(None),
+        DocFault::LongArray | DocFault::Memory => Ok(None),
     }
 }

@@ -16,10 +16,11 @@ use Rattle.jp_doc.specs.Json as json
 use Rattle.jp_doc.specs.Json.{Text, text_cmp, text_eq, Json, json_of, members_of}
 use Rattle.jp_doc.specs.Location.{member_at}
 use Rattle.jp_doc.specs.Rising.{NamesAreUtf8}
+use Rattle.jp_doc.specs.Tree.{put_member}
 use Rattle.jp_doc.proofs.OrderLaws.{text_order}
 use Rattle.jp_doc.proofs.RisingLaws.{utf8_put}
 use Rattle.jp_flat.specs.Flat.{json_or_null}
-use Rattle.jp_flat.specs.Members.{put_member, put_all, last_of, entries_of}
+use Rattle.jp_flat.specs.Members.{put_all, last_of, entries_of}
 use Rattle.jp_flat.specs.inner.Plain.{is_plain, members_are_plain}
 use Rattle.jp_flat.proofs.Numbers.{both}
 

@@ -10,3 +10,7 @@ pub mod Rising
 pub mod Sorted
 pub mod OnLiterals
 pub mod Kept
+pub mod Nesting
+pub mod ScannedTexts
+pub mod WholeTexts
+pub mod Faults

@@ -25,7 +25,7 @@ use Rattle.serde_json.specs.Data.{Num, unsigned, negative}
 use Rattle.serde_json.specs.Read.{number_of, number_from, is_integer}
 use Rattle.serde_json.specs.Written.{compact_text}
 use Rattle.jp_doc.specs.Json.{whole_of, number, data_of}
-use Rattle.jp_number.specs.Profile.{whole}
+use Rattle.jp_number.specs.Number.{whole}
 use Rattle.std.specs.Prelude.{decimal}
 use Rattle.std.proofs.lemmas.Fmt.{decimal-digits_value}
 use Rattle.jp_flat.specs.Digits.{whole_value}
@@ -100,7 +100,7 @@ below ds most h few =
     let more : 10 ^ length ds ≤ 10 ^ most = pow-le-pow_right ten few in
     omega (arith, digits_value-lt 10 ds (digits_are ds h).all, more)
 
-abbrev digits : List ℕ → Parts
+abbrev pub digits : List ℕ → Parts
 digits ds = record {
   whole = ds;
   point = false;
@@ -121,7 +121,7 @@ number_of-text_of true p h some = ap (number_from true) (scan-text_of p h)
 number_of-text_of false p h some = rw (ne_eqb (get_or (text_of p) 0 0) 45 (no_minus p.whole _ h.whole_digits
     some)) (ap (number_from false) (scan-text_of p h))
 
-integer_text : (sign : Bool) (ds : List ℕ) → Digits ds
+pub integer_text : (sign : Bool) (ds : List ℕ) → Digits ds
     → (number_of (sign_text sign ++ ds) ≡ number_from sign (digits ds)) × (is_integer (digits ds) ≡ true)
     × (digits_of (digits ds) ≡ digits_value 10 ds)
 integer_text sign ds h =

@@ -10,8 +10,9 @@ use Rattle.json.proofs.Found.{Some_inj}
 use Rattle.jp_doc.specs.Json.{Text, text_cmp, text_eq, Json, Members, no_members, add_member}
 use Rattle.jp_doc.specs.Location.{member_at}
 use Rattle.jp_doc.specs.Rising.{IsTextBelow}
+use Rattle.jp_doc.specs.Tree.{put_member}
 use Rattle.jp_flat.specs.Gathered.{AreAbove, NamesRise}
-use Rattle.jp_flat.specs.Members.{put_member, put_all, last_of}
+use Rattle.jp_flat.specs.Members.{put_all, last_of}
 use Rattle.jp_flat.proofs.Entries.{by_order, same_text, last_found}
 
 below_trans : (j k l : Text) → IsTextBelow j k → IsTextBelow k l → IsTextBelow j l

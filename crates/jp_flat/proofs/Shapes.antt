@@ -30,7 +30,7 @@ use Rattle.jp_flat.specs.Digits.{whole_value}
 use Rattle.jp_flat.proofs.Numbers.{whole_text}
 use Rattle.jp_flat.proofs.PlainTokens.{some_token}
 use Rattle.jp_flat.proofs.Reading.{Flat, flat_of, read_of_flat, made_of, value_is}
-use Rattle.jp_number.specs.Profile.{whole}
+use Rattle.jp_number.specs.Number.{whole}
 
 pub here : (ns : List Node) (i : ℕ) (d : Node) → i < length ns
     → drop i (map node_token ns) ≡ node_token (get_or ns i d) ∷ drop (i + 1) (map node_token ns)

@@ -13,7 +13,7 @@ use Rattle.jp_flat.specs.declared.value.FlatMembers.{FlatMembers}
 use Rattle.jp_flat.specs.declared.value.FlatValue.{FlatValue}
 use Rattle.jp_flat.specs.declared.value.Kind.{Kind}
 use Rattle.jp_flat.specs.declared.value.Kind.TheVariants.{Null, Truth, Whole, Text, Array, Object}
-use Rattle.jp_number.specs.Profile.{whole}
+use Rattle.jp_number.specs.Number.{whole}
 
 -- the tokens from the value's first on
 abbrev pub tokens_of : FlatValue → List Token

@@ -1,3 +1,5 @@
 -- Working files of `jp_flat`, which private clauses alone cite: nobody has to believe them.
 pub mod Above
 pub mod Plain
+pub mod Nesting
+pub mod Rows

@@ -1,16 +1,21 @@
 //! Worked examples of the definitions.
 
-ghost use Rattle.std.specs.Prelude.{◌≡◌, [], ◌∷◌, codes, pos, negsuc, true, false, Some, None};
+ghost use Rattle.std.specs.Prelude.{◌≡◌, [], ◌∷◌, ◌++◌, codes, pos, negsuc, replicate, true, false};
+ghost use Rattle.std.specs.Prelude.{Some, None, Ok, Err};
+ghost use Rattle.json.specs.Json as tree;
 ghost use Rattle.json.specs.Lex.{tokens};
 ghost use Rattle.json.specs.Token.{begin_array, end_array, end_object, number, key, string};
 ghost use Rattle.jp_doc.specs.Json.{null, truth, number, text, array, object};
 ghost use Rattle.jp_doc.specs.Json.{no_items, add_item, no_members, add_member};
-ghost use Rattle.jp_number.specs.Profile.{whole};
+ghost use Rattle.jp_doc.specs.declared.fault.DocFault.TheVariants.{Unreadable, LongNumber};
+ghost use Rattle.jp_number.specs.Number.{whole, written};
 ghost use Rattle.jp_flat.specs.Digits.{whole_value};
 ghost use Rattle.jp_flat.specs.Flat.{value_at};
+ghost use Rattle.jp_flat.specs.inner.Nesting.{nests_from};
 ghost use Rattle.jp_flat.specs.inner.Plain.{is_flat};
+ghost use Rattle.jp_flat.specs.inner.Rows.{are_short, pass_answer};
 ghost use Rattle.jp_flat.specs.Gathered.{AreAbove, NamesRise};
-ghost use Rattle.jp_flat.specs.Members.{put_member, put_all, last_of, entries_at};
+ghost use Rattle.jp_flat.specs.Members.{put_all, last_of, entries_at};
 ghost use Rattle.jp_flat.specs.Value.{text_in, item_count, IsNoArray, IsNoObject};
 
 #[tactic(auto, unfolding(crate::proofs::OnLiterals::flat_on_literals))]
@@ -55,14 +60,35 @@ fn what_is_not_flat()
     ensures nothing { is_flat [] ≡ false }
 {}
 
+// What a pass over the tokens tells of a line by the grammar alone.
+#[tactic(auto, unfolding(crate::proofs::OnLiterals::flat_on_literals))]
+fn what_a_pass_tells()
+    ensures deepest { nests_from 0 (tokens (replicate 127 91 ++ replicate 127 93)) ≡ true }
+    ensures too_deep { nests_from 0 (tokens (replicate 128 91 ++ replicate 128 93)) ≡ false }
+    ensures side_by_side { nests_from 126 (tokens (codes "[[],{}]")) ≡ false }
+    ensures one_behind_the_other { nests_from 126 (begin_array ∷ end_array ∷ begin_array ∷ end_array ∷ [])
+        ≡ true }
+    ensures fraction { nests_from 0 (tokens (codes "[1.5]")) ≡ true }
+    ensures short_numbers { are_short (tokens (codes "[1,{\"a\":-2.5e3}]")) ≡ true }
+    ensures long_behind_a_text { are_short (tokens (codes "[\"1\",1e0000000001]")) ≡ false }
+    ensures long_in_a_text { are_short (tokens (codes "\"1e0000000001\"")) ≡ true }
+    ensures above_all_floats { are_short (number (codes "1e999") ∷ []) ≡ true }
+{}
+
+// The answer that comes of it: nesting first, then numbers.
+#[tactic(auto, unfolding(crate::proofs::OnLiterals::flat_on_literals))]
+fn what_a_pass_answers()
+    ensures value { pass_answer (number (codes "7") ∷ []) (tree.number (codes "7"))
+        ≡ Ok (number (whole (pos 7))) }
+    ensures fraction { pass_answer (number (codes "1.5") ∷ []) (tree.number (codes "1.5"))
+        ≡ Ok (number (written (codes "1.5"))) }
+    ensures long_number { pass_answer (number (codes "1e0000000001") ∷ []) tree.null ≡ Err LongNumber }
+    ensures too_deep { pass_answer (number (codes "1.5") ∷ replicate 128 begin_array) tree.null
+        ≡ Err Unreadable }
+{}
+
 #[tactic(auto, unfolding(crate::proofs::OnLiterals::flat_on_literals))]
 fn members_put_together()
-    ensures before { put_member (codes "a") null (add_member (codes "b") null no_members)
-        ≡ add_member (codes "a") null (add_member (codes "b") null no_members) }
-    ensures behind { put_member (codes "c") null (add_member (codes "b") null no_members)
-        ≡ add_member (codes "b") null (add_member (codes "c") null no_members) }
-    ensures in_its_place { put_member (codes "b") (truth true) (add_member (codes "b") null no_members)
-        ≡ add_member (codes "b") (truth true) no_members }
     ensures all { put_all ((codes "b", null) ∷ (codes "a", truth true) ∷ (codes "b", truth false) ∷ [])
         no_members ≡ add_member (codes "a") (truth true) (add_member (codes "b") (truth false) no_members) }
     ensures last { last_of (codes "a") ((codes "a", null) ∷ (codes "b", null) ∷ (codes "a", truth true) ∷ [])

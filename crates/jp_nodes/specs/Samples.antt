@@ -1,7 +1,7 @@
 -- Values that the worked examples speak of.
 use Rattle.std.specs.Prelude.{pos, [], ◌∷◌, codes}
 use Rattle.jp_doc.specs.Json.{Json, null, number, array, object, items, no_members, add_member}
-use Rattle.jp_number.specs.Profile.{whole}
+use Rattle.jp_number.specs.Number.{whole}
 
 -- `[1,{"c":2}]`
 abbrev pub listed : Json

@@ -3,7 +3,7 @@
 ghost use Rattle.std.specs.Prelude.{◌≡◌, [], ◌∷◌, codes, pos};
 ghost use Rattle.jp_doc.specs.Json.{null, number, object, no_members, add_member};
 ghost use Rattle.jp_doc.specs.Location.{node, name, index};
-ghost use Rattle.jp_number.specs.Profile.{whole};
+ghost use Rattle.jp_number.specs.Number.{whole};
 ghost use Rattle.jp_nodes.specs.Nodes as nodes;
 ghost use Rattle.jp_nodes.specs.Samples.{listed, nested, five_six};
 

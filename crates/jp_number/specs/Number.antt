@@ -1,5 +1,6 @@
 -- A JSON number (RFC 8259, 6), its value as a fraction of whole numbers, and the order of two.
-use Rattle.std.specs.Prelude.{ℕ, ◌+◌, ◌*◌, ◌^◌, ◌≤◌, ◌==◌, ℤ, pos, ◌*ℤ◌, Bool, List, length, drop}
+use Rattle.std.specs.Prelude.{ℕ, ◌+◌, ◌*◌, ◌^◌, ◌≤◌, ◌==◌, nat_le, ℤ, pos, ◌*ℤ◌, Bool, true, ◌&&◌, List}
+use Rattle.std.specs.Prelude.{length, drop}
 use Rattle.std.specs.Prelude.{slice_index}
 use Rattle.std.specs.Prelude.{if◌then◌else◌}
 use Rattle.std.specs.Ordering.{int_cmp, is_eq, is_lt}
@@ -54,3 +55,12 @@ pub record HasFewDigits (p : Parts) : Type 0 where
 abbrev pub IsShort : Number → Type 0
 IsShort (whole z) = Unit {0}
 IsShort (written s) = HasFewDigits (parts s)
+
+-- the same as a test
+abbrev pub are_few : Parts → Bool
+are_few p = nat_le (length p.whole + length p.fraction + length p.exponent) max_digits
+    && nat_le (length p.exponent) max_exponent
+
+abbrev pub is_short : Number → Bool
+is_short (whole z) = true
+is_short (written s) = are_few (parts s)

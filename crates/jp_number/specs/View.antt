@@ -5,4 +5,4 @@ use Rattle.jp_number.specs.declared.number.Number.TheVariants.{Whole, Written}
 
 abbrev pub number_of : code.Number → Number
 number_of (Whole z) = whole z
-number_of (Written s) = written s.now
+number_of (Written s) = written s.text.now

@@ -44,10 +44,14 @@ fn different_numbers()
 /// Numbers of the profile: equality, order and text.
 #[tactic(auto, unfolding(crate::proofs::OnLiterals::numbers_on_literals))]
 fn numbers_of_the_profile()
-    ensures same { profile.is_equal (profile.whole (negsuc 6)) (profile.whole (negsuc 6)) ≡ true }
-    ensures other_sign { profile.is_equal (profile.whole (negsuc 6)) (profile.whole (pos 7)) ≡ false }
-    ensures below { profile.is_below (profile.whole (negsuc 6)) (profile.whole (negsuc 5)) ≡ true }
-    ensures not_below_itself { profile.is_below (profile.whole (pos 7)) (profile.whole (pos 7)) ≡ false }
-    ensures text { profile.number_text (profile.whole (pos 70)) ≡ codes "70" }
-    ensures text_below_zero { profile.number_text (profile.whole (negsuc 6)) ≡ codes "-7" }
+    ensures same { profile.is_equal (whole (negsuc 6)) (whole (negsuc 6)) ≡ true }
+    ensures other_sign { profile.is_equal (whole (negsuc 6)) (whole (pos 7)) ≡ false }
+    ensures below { profile.is_below (whole (negsuc 6)) (whole (negsuc 5)) ≡ true }
+    ensures not_below_itself { profile.is_below (whole (pos 7)) (whole (pos 7)) ≡ false }
+    ensures text { profile.number_text (whole (pos 70)) ≡ codes "70" }
+    ensures text_below_zero { profile.number_text (whole (negsuc 6)) ≡ codes "-7" }
+    ensures same_value { profile.is_equal (whole (pos 1)) (written (codes "1.0")) ≡ true }
+    ensures other_value { profile.is_equal (written (codes "0.10")) (written (codes "0.11")) ≡ false }
+    ensures below_a_whole_number { profile.is_below (written (codes "9.99")) (whole (pos 10)) ≡ true }
+    ensures text_as_written { profile.number_text (written (codes "9.90")) ≡ codes "9.90" }
 {}

@@ -1,12 +1,13 @@
 //! Laws of the order, each proved for every number.
 
-ghost use Rattle.std.specs.Prelude.{◌≡◌, ℤ, FitsSigned};
+ghost use Rattle.std.specs.Prelude.{◌≡◌, ◌↔◌, ℤ, FitsSigned, IsTrue};
 ghost use Rattle.std.specs.Cmp.{IsTotalOrder, IsEquivalence};
 ghost use Rattle.std.specs.Fmt.{signed_decimal};
 ghost use Rattle.std.specs.Int.{w128};
 ghost use Rattle.std.specs.Ordering.{int_cmp};
 ghost use Rattle.std.specs.declared.cmp.Ordering.TheVariants.{Equal};
-ghost use Rattle.jp_number.specs.Number.{whole, written, order, is_equal, is_below, IsShort};
+ghost use Rattle.jp_number.specs.Number.{Number, whole, written, order, is_equal, is_below, IsShort};
+ghost use Rattle.jp_number.specs.Number.{is_short};
 ghost use Rattle.jp_number.specs.Profile as profile;
 
 /// The order is total, where numbers of one value count as one: the other way round it is the opposite, what
@@ -28,13 +29,17 @@ pub fn whole_numbers()
     ensures { (x y : ℤ) → order (whole x) (whole y) ≡ int_cmp x y }
 {}
 
-/// The numbers of documents and of queries are equal, and one below another, where their values are so.
+/// Numbers of documents and of queries are equal, and one is below another, where their values are so.
 #[tactic(auto, using(crate::proofs::Order::profile_equal, crate::proofs::Order::profile_below))]
 pub fn numbers_of_the_profile()
-    ensures equal { (x y : ℤ) → profile.is_equal (profile.whole x) (profile.whole y)
-        ≡ is_equal (whole x) (whole y) }
-    ensures below { (x y : ℤ) → profile.is_below (profile.whole x) (profile.whole y)
-        ≡ is_below (whole x) (whole y) }
+    ensures equal { (n m : Number) → profile.is_equal n m ≡ is_equal n m }
+    ensures below { (n m : Number) → profile.is_below n m ≡ is_below n m }
+{}
+
+/// For numbers of documents and of queries to be equal is an equivalence.
+#[tactic(auto, using(crate::proofs::Order::profile_equality))]
+pub fn equality_of_the_profile()
+    ensures { IsEquivalence profile.is_equal }
 {}
 
 /// A whole number of 128 bits has the value of its own text, which is within the limits.
@@ -42,4 +47,10 @@ pub fn numbers_of_the_profile()
 pub fn own_text()
     ensures value { (z : ℤ) → FitsSigned w128 z → order (whole z) (written (signed_decimal z)) ≡ Equal }
     ensures short { (z : ℤ) → FitsSigned w128 z → IsShort (written (signed_decimal z)) }
+{}
+
+/// The test of the limits says what they are.
+#[tactic(auto, using(crate::proofs::Limits::short_by_test))]
+pub fn limits()
+    ensures { (n : Number) → IsTrue (is_short n) ↔ IsShort n }
 {}

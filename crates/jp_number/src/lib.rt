@@ -5,6 +5,8 @@ mod digits;
 mod examples;
 pub mod laws;
 mod number;
+mod number_text;
 mod size;
 
 pub use number::Number;
+pub use number_text::NumberText;

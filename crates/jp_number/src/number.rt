@@ -1,10 +1,11 @@
 //! Numbers, and the order of two by their values.
 
-ghost use Rattle.std.specs.Prelude.{◌≡◌, ◌↔◌, IsTrue};
+ghost use Rattle.std.specs.Prelude.{◌≡◌};
 ghost use Rattle.jp_number.specs.Number.{whole, written, order, is_equal, is_below, IsShort};
 ghost use Rattle.jp_number.specs.View.{number_of};
 
-use crate::size::{compare_signed, is_short, read_size, whole_size};
+use crate::number_text::NumberText;
+use crate::size::{compare_signed, read_size, whole_size};
 use itoa::Buffer;
 use std::cmp::Ordering;
 
@@ -16,65 +17,39 @@ pub enum Number<'a> {
     /// A whole number.
     Whole(i128),
     /// A number by the text that writes it (RFC 8259, 6).
-    Written(&'a str),
+    Written(NumberText<'a>),
 }
 
 impl<'a> Number<'a> {
-    /// Whether the number is within the limits: a text has at most 1,000 digits, those of the exponent among
-    /// them, and an exponent of at most 9 digits. A whole number always is.
-    pub fn fits(self) -> bool
-        ensures { IsTrue result ↔ IsShort (number_of self.entry) }
-    {
-        match self {
-            Number::Whole(_) => true,
-            Number::Written(text) => text_fits(text.as_bytes()),
-        }
-    }
-
-    /// The order of two numbers that are within the limits, by their values. It takes no memory.
+    /// The order of two numbers by their values. It takes no memory.
     #[inline(always)]
     pub fn compare(self, other: Number<'_>) -> Ordering
-        requires left { IsShort (number_of self) }
-        requires right { IsShort (number_of other) }
         ensures { result ≡ order (number_of self.entry) (number_of other.entry) }
     {
         match (self, other) {
             (Number::Whole(left), Number::Whole(right)) => left.cmp(&right),
-            (Number::Whole(left), Number::Written(right)) => compare_whole(left, right),
-            (Number::Written(left), Number::Whole(right)) => compare_whole(right, left).reverse(),
-            (Number::Written(left), Number::Written(right)) => compare_texts(left, right),
+            (Number::Whole(left), Number::Written(right)) => compare_whole(left, right.text),
+            (Number::Written(left), Number::Whole(right)) => compare_whole(
+                right, left.text,
+            ).reverse(),
+            (Number::Written(left), Number::Written(right)) => compare_texts(left.text, right.text),
         }
     }
 
-    /// Whether two numbers that are within the limits have one value, as `1.0` and `1` have.
+    /// Whether two numbers have one value, as `1.0` and `1` have.
     #[inline(always)]
     pub fn is_equal(self, other: Number<'_>) -> bool
-        requires left { IsShort (number_of self) }
-        requires right { IsShort (number_of other) }
         ensures { result ≡ is_equal (number_of self.entry) (number_of other.entry) }
     {
         self.compare(other).is_eq()
     }
 
-    /// Whether this number is less than the other, where both are within the limits.
+    /// Whether this number is less than the other.
     #[inline(always)]
     pub fn is_below(self, other: Number<'_>) -> bool
-        requires left { IsShort (number_of self) }
-        requires right { IsShort (number_of other) }
         ensures { result ≡ is_below (number_of self.entry) (number_of other.entry) }
     {
         self.compare(other).is_lt()
-    }
-}
-
-/// Whether the text of a number is within the limits.
-fn text_fits(text: &[u8]) -> bool
-    ensures { IsTrue result ↔ IsShort (written text.now) }
-{
-    if !text.is_empty() && text[0] == b'-' {
-        is_short(&text[1..])
-    } else {
-        is_short(text)
     }
 }
 

@@ -1,14 +1,11 @@
 //! What the tests share.
 
-use jp_number::Number;
+use jp_number::{Number, NumberText};
 use std::cmp::Ordering;
 use std::test::Fail;
 
 /// Whether each call answers by this order.
 fn is_told(left: Number<'_>, right: Number<'_>, wanted: Ordering) -> bool {
-    if !left.fits() || !right.fits() {
-        return false;
-    }
     left.compare(right) == wanted
         && left.is_equal(right) == wanted.is_eq()
         && left.is_below(right) == wanted.is_lt()
@@ -19,22 +16,32 @@ fn is_ordered(left: Number<'_>, right: Number<'_>, wanted: Ordering) -> bool {
     is_told(left, right, wanted) && is_told(right, left, wanted.reverse())
 }
 
+/// The number of a text as it is written.
+fn written(text: &str) -> Result<Number<'_>, Fail> {
+    match NumberText::new(text) {
+        Some(number) => Ok(Number::Written(number)),
+        None => Err("a long number")?,
+    }
+}
+
 /// The number of a text: whole where it is a whole number of 128 bits.
-fn whole_or_written(text: &str) -> Number<'_> {
+fn whole_or_written(text: &str) -> Result<Number<'_>, Fail> {
     match text.parse::<i128>() {
-        Ok(number) => Number::Whole(number),
-        Err(_) => Number::Written(text),
+        Ok(number) => Ok(Number::Whole(number)),
+        Err(_) => written(text),
     }
 }
 
 /// Whether the numbers of two texts stand in this order, as texts and as whole numbers where they are such.
-fn is_order(left: &str, right: &str, wanted: Ordering) -> bool {
-    let (left_text, right_text) = (Number::Written(left), Number::Written(right));
-    let (left, right) = (whole_or_written(left), whole_or_written(right));
-    is_ordered(left_text, right_text, wanted)
-        && is_ordered(left_text, right, wanted)
-        && is_ordered(left, right_text, wanted)
-        && is_ordered(left, right, wanted)
+fn is_order(left: &str, right: &str, wanted: Ordering) -> Result<bool, Fail> {
+    let (left_text, right_text) = (written(left)?, written(right)?);
+    let (left, right) = (whole_or_written(left)?, whole_or_written(right)?);
+    Ok(
+        is_ordered(left_text, right_text, wanted)
+            && is_ordered(left_text, right, wanted)
+            && is_ordered(left, right_text, wanted)
+            && is_ordered(left, right, wanted),
+    )
 }
 
 /// Whether a row, `LEFT < RIGHT`, `LEFT = RIGHT` or `LEFT > RIGHT`, tells the order of its numbers.
@@ -44,9 +51,9 @@ pub fn is_row(row: &str) -> Result<bool, Fail> {
         return Err("no row")?;
     };
     match sign {
-        "<" => Ok(is_order(left, right, Ordering::Less)),
-        "=" => Ok(is_order(left, right, Ordering::Equal)),
-        ">" => Ok(is_order(left, right, Ordering::Greater)),
+        "<" => is_order(left, right, Ordering::Less),
+        "=" => is_order(left, right, Ordering::Equal),
+        ">" => is_order(left, right, Ordering::Greater),
         _ => Err("no order")?,
     }
 }

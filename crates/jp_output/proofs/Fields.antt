@@ -18,19 +18,21 @@ use Rattle.jp_doc.specs.Json.{Json, null, truth, text, array, object, Items, no_
 use Rattle.jp_doc.specs.Json.{Text, Members, no_members, add_member}
 use Rattle.jp_doc.specs.Location.{Node}
 use Rattle.jp_doc.specs.declared.fault.DocFault.{DocFault}
-use Rattle.jp_doc.specs.declared.fault.DocFault.TheVariants.{LongLine, Unreadable, NotWhole, LongArray}
-use Rattle.jp_doc.specs.declared.fault.DocFault.TheVariants.{Memory}
+use Rattle.jp_doc.specs.declared.fault.DocFault.TheVariants.{LongLine, Unreadable, NotWhole, LongNumber}
+use Rattle.jp_doc.specs.declared.fault.DocFault.TheVariants.{LongArray, Memory}
 use Rattle.jp_doc.specs.FaultWords.{fault_words}
-use Rattle.jp_number.specs.Profile.{Number, whole, number_text}
+use Rattle.jp_doc.specs.NumbersWithin.{IsJsonNumber, HasJsonNumbers, AllNumbersOfItems}
+use Rattle.jp_doc.specs.NumbersWithin.{AllNumbersOfMembers}
+use Rattle.jp_number.specs.Number.{Number, whole, written}
+use Rattle.jp_number.specs.Profile.{number_text}
+use Rattle.jp_output.proofs.FieldBytes.{IsField}
+use Rattle.jp_output.proofs.NumberFields.{text_of_a_number}
 use Rattle.jp_output.specs.FaultLine.{fault_line}
 use Rattle.jp_output.specs.Fields.{times, HasThreeFields, AreLinesOfThree, IsOneLine}
+use Rattle.jp_output.specs.Fields.{NodesHaveJsonNumbers}
 use Rattle.jp_output.specs.OutputLine.{truth_text, quoted_text, value_text, items_text, further_items}
 use Rattle.jp_output.specs.OutputLine.{members_text, further_members, node_line, value_line}
 use Rattle.jp_output.specs.UnquotedText.{unquoted_byte, unquoted_text, text_line}
-
--- no byte is below the space
-abbrev pub IsField : List ℕ → Type 0
-IsField bytes = AllByRecursion (λ b. 32 ≤ b) bytes
 
 field_both : (xs ys : List ℕ) → IsField xs → IsField ys → IsField (xs ++ ys)
 field_both [] ys h g = g
@@ -41,10 +43,10 @@ field_each f h [] = tt
 field_each f h (c ∷ cs) = field_both (f c) (flat_map f cs) (h c) (field_each f h cs)
 
 -- where each byte is given
-written : (t : List ℕ) → list_all (λ b. nat_le 32 b) t ≡ true → IsField t
-written [] e = tt
-written (b ∷ t) e = let p = and_parts (nat_le 32 b) (list_all (λ c. nat_le 32 c) t) e in
-    (leb-true 32 b p.0, written t p.1)
+written_out : (t : List ℕ) → list_all (λ b. nat_le 32 b) t ≡ true → IsField t
+written_out [] e = tt
+written_out (b ∷ t) e = let p = and_parts (nat_le 32 b) (list_all (λ c. nat_le 32 c) t) e in
+    (leb-true 32 b p.0, written_out t p.1)
 
 either : (P : List ℕ → Type 0) (b : Bool) (x y : List ℕ) → (b ≡ true → P x) → (b ≡ false → P y)
     → P (cond b x y)
@@ -116,9 +118,10 @@ pub decimal_field : (n : ℕ) → IsField (decimal n)
 unfolding digits
 decimal_field n = digits_field 64 10 n [] tt
 
-number_field : (x : Number) → IsField (number_text x)
-number_field (whole (pos n)) = decimal_field n
-number_field (whole (negsuc n)) = (omega arith, decimal_field (suc n))
+number_field : (x : Number) → IsJsonNumber x → IsField (number_text x)
+number_field (whole (pos n)) h = decimal_field n
+number_field (whole (negsuc n)) h = (omega arith, decimal_field (suc n))
+number_field (written s) h = text_of_a_number s h
 
 -- texts, by the JSON crate's escapes
 
@@ -135,7 +138,7 @@ escape_field x =
     (λ e. (omega arith, (letter_high x (ltb-true 0 (escape_letter x) e), tt)))
     (λ e. either IsField (nat_lt x 32) _ _
     (λ g. field_both (codes "\\u00") (digit_char (x / 16) ∷ digit_char (x % 16) ∷ [])
-    (written (codes "\\u00") refl) (digit_high (x / 16), (digit_high (x % 16), tt)))
+    (written_out (codes "\\u00") refl) (digit_high (x / 16), (digit_high (x % 16), tt)))
     (λ g. (ltb-false x 32 g, tt)))
 
 quoted_field : (s : Text) → IsField (quoted_text s)
@@ -143,12 +146,12 @@ quoted_field s =
     let bytes = encode_utf8_all s in (
       omega arith,
       field_both (escape bytes) (34 ∷ []) (field_each escape_byte escape_field bytes)
-          (written (34 ∷ []) refl),
+          (written_out (34 ∷ []) refl),
     )
 
 truth_field : (b : Bool) → IsField (truth_text b)
-truth_field true = written (codes "true") refl
-truth_field false = written (codes "false") refl
+truth_field true = written_out (codes "true") refl
+truth_field false = written_out (codes "false") refl
 
 -- a member, and what follows it
 member_field : (k : Text) (value rest : List ℕ) → IsField value → IsField rest
@@ -156,41 +159,44 @@ member_field : (k : Text) (value rest : List ℕ) → IsField value → IsField 
 member_field k value rest h g =
     field_both (quoted_text k ++ codes ":" ++ value) rest
     (field_both (quoted_text k ++ codes ":") value
-    (field_both (quoted_text k) (codes ":") (quoted_field k) (written (codes ":") refl)) h) g
+    (field_both (quoted_text k) (codes ":") (quoted_field k) (written_out (codes ":") refl)) h) g
 
 mutual
-  pub value_field : (v : Json) → IsField (value_text v)
-  value_field null = written (codes "null") refl
-  value_field (truth b) = truth_field b
-  value_field (json.number x) = number_field x
-  value_field (text s) = quoted_field s
-  value_field (array vs) =
-      (omega arith, field_both (items_text vs) (codes "]") (items_field vs) (written (codes "]") refl))
-  value_field (object ms) =
-      (omega arith, field_both (members_text ms) (codes "}") (members_field ms) (written (codes "}") refl))
-
-  items_field : (vs : Items) → IsField (items_text vs)
-  items_field no_items = tt
-  items_field (add_item v vs) =
-      field_both (value_text v) (further_items vs) (value_field v) (further_items_field vs)
-
-  further_items_field : (vs : Items) → IsField (further_items vs)
-  further_items_field no_items = tt
-  further_items_field (add_item v vs) = (
+  pub value_field : (v : Json) → HasJsonNumbers v → IsField (value_text v)
+  value_field null h = written_out (codes "null") refl
+  value_field (truth b) h = truth_field b
+  value_field (json.number x) h = number_field x h
+  value_field (text s) h = quoted_field s
+  value_field (array vs) h =
+      (omega arith, field_both (items_text vs) (codes "]") (items_field vs h) (written_out (codes "]") refl))
+  value_field (object ms) h = (
     omega arith,
-    field_both (value_text v) (further_items vs) (value_field v) (further_items_field vs),
+    field_both (members_text ms) (codes "}") (members_field ms h) (written_out (codes "}") refl),
   )
 
-  members_field : (ms : Members) → IsField (members_text ms)
-  members_field no_members = tt
-  members_field (add_member k v ms) =
-      member_field k (value_text v) (further_members ms) (value_field v) (further_members_field ms)
+  items_field : (vs : Items) → AllNumbersOfItems IsJsonNumber vs → IsField (items_text vs)
+  items_field no_items h = tt
+  items_field (add_item v vs) h =
+      field_both (value_text v) (further_items vs) (value_field v h.0) (further_items_field vs h.1)
 
-  further_members_field : (ms : Members) → IsField (further_members ms)
-  further_members_field no_members = tt
-  further_members_field (add_member k v ms) = (
+  further_items_field : (vs : Items) → AllNumbersOfItems IsJsonNumber vs → IsField (further_items vs)
+  further_items_field no_items h = tt
+  further_items_field (add_item v vs) h = (
     omega arith,
-    member_field k (value_text v) (further_members ms) (value_field v) (further_members_field ms),
+    field_both (value_text v) (further_items vs) (value_field v h.0) (further_items_field vs h.1),
+  )
+
+  members_field : (ms : Members) → AllNumbersOfMembers IsJsonNumber ms → IsField (members_text ms)
+  members_field no_members h = tt
+  members_field (add_member k v ms) h =
+      member_field k (value_text v) (further_members ms) (value_field v h.0) (further_members_field ms h.1)
+
+  further_members_field : (ms : Members) → AllNumbersOfMembers IsJsonNumber ms
+      → IsField (further_members ms)
+  further_members_field no_members h = tt
+  further_members_field (add_member k v ms) h = (
+    omega arith,
+    member_field k (value_text v) (further_members ms) (value_field v h.0) (further_members_field ms h.1),
   )
 
 -- paths, by the escapes of RFC 9535
@@ -200,26 +206,26 @@ hex_high d = grind (arith, nat_tests)
 
 escaped_field : (c : ℕ) → IsField (escaped c)
 escaped_field c =
-    either IsField (c == 39) _ _ (λ e. written (codes "\\'") refl) (λ e.
-    either IsField (c == 92) _ _ (λ e. written (codes "\\\\") refl) (λ e.
-    either IsField (c == 8) _ _ (λ e. written (codes "\\b") refl) (λ e.
-    either IsField (c == 9) _ _ (λ e. written (codes "\\t") refl) (λ e.
-    either IsField (c == 10) _ _ (λ e. written (codes "\\n") refl) (λ e.
-    either IsField (c == 12) _ _ (λ e. written (codes "\\f") refl) (λ e.
-    either IsField (c == 13) _ _ (λ e. written (codes "\\r") refl) (λ e.
+    either IsField (c == 39) _ _ (λ e. written_out (codes "\\'") refl) (λ e.
+    either IsField (c == 92) _ _ (λ e. written_out (codes "\\\\") refl) (λ e.
+    either IsField (c == 8) _ _ (λ e. written_out (codes "\\b") refl) (λ e.
+    either IsField (c == 9) _ _ (λ e. written_out (codes "\\t") refl) (λ e.
+    either IsField (c == 10) _ _ (λ e. written_out (codes "\\n") refl) (λ e.
+    either IsField (c == 12) _ _ (λ e. written_out (codes "\\f") refl) (λ e.
+    either IsField (c == 13) _ _ (λ e. written_out (codes "\\r") refl) (λ e.
     either IsField (nat_lt c 32) _ _
     (λ e. field_both (codes "\\u00") (hex_digit (c / 16) ∷ hex_digit (c % 16) ∷ [])
-    (written (codes "\\u00") refl) (hex_high (c / 16), (hex_high (c % 16), tt)))
+    (written_out (codes "\\u00") refl) (hex_high (c / 16), (hex_high (c % 16), tt)))
     (λ e. (ltb-false c 32 e, tt)))))))))
 
 step_field : (s : Step) → IsField (step_text s)
 step_field (name k) =
-    field_both (codes "['") (flat_map escaped k ++ codes "']") (written (codes "['") refl)
+    field_both (codes "['") (flat_map escaped k ++ codes "']") (written_out (codes "['") refl)
     (field_both (flat_map escaped k) (codes "']") (field_each escaped escaped_field k)
-    (written (codes "']") refl))
+    (written_out (codes "']") refl))
 step_field (index i) =
-    field_both (codes "[") (decimal i ++ codes "]") (written (codes "[") refl)
-    (field_both (decimal i) (codes "]") (decimal_field i) (written (codes "]") refl))
+    field_both (codes "[") (decimal i ++ codes "]") (written_out (codes "[") refl)
+    (field_both (decimal i) (codes "]") (decimal_field i) (written_out (codes "]") refl))
 
 steps_field : (l : Location) → IsField (flat_map step_text l)
 steps_field [] = tt
@@ -243,22 +249,23 @@ path_field l = encoded_field (path_text l) (omega arith, steps_field l)
 
 -- lines
 
-pub node_fields : (number : ℕ) (n : Node) → HasThreeFields (node_line number n)
-node_fields number n =
+pub node_fields : (number : ℕ) (n : Node) → HasJsonNumbers n.value → HasThreeFields (node_line number n)
+node_fields number n h =
     three_fields (decimal number) (encode_utf8_all (path_text n.location)) (value_text n.value)
-    (decimal_field number) (path_field n.location) (value_field n.value)
+    (decimal_field number) (path_field n.location) (value_field n.value h)
 
 kind_field : (f : DocFault) → IsField (fault_words f)
-kind_field LongLine = written (codes "long line") refl
-kind_field Unreadable = written (codes "unreadable") refl
-kind_field NotWhole = written (codes "not whole") refl
-kind_field LongArray = written (codes "long array") refl
-kind_field Memory = written (codes "memory") refl
+kind_field LongLine = written_out (codes "long line") refl
+kind_field Unreadable = written_out (codes "unreadable") refl
+kind_field NotWhole = written_out (codes "not whole") refl
+kind_field LongNumber = written_out (codes "long number") refl
+kind_field LongArray = written_out (codes "long array") refl
+kind_field Memory = written_out (codes "memory") refl
 
 pub fault_fields : (number : ℕ) (f : DocFault) → HasThreeFields (fault_line number f)
 fault_fields number f =
-    three_fields (decimal number) (33 ∷ []) (fault_words f) (decimal_field number) (written (33 ∷ []) refl)
-    (kind_field f)
+    three_fields (decimal number) (33 ∷ []) (fault_words f) (decimal_field number)
+    (written_out (33 ∷ []) refl) (kind_field f)
 
 -- lines one after another
 
@@ -287,19 +294,21 @@ fields_none = ([], tt, refl)
 
 -- the lines of several nodes, and how many they are
 
-pub nodes_fields : (number : ℕ) (ns : List Node) → AreLinesOfThree (flat_map (node_line number) ns)
-nodes_fields number [] = fields_none
-nodes_fields number (n ∷ ns) =
+pub nodes_fields : (number : ℕ) (ns : List Node) → NodesHaveJsonNumbers ns
+    → AreLinesOfThree (flat_map (node_line number) ns)
+nodes_fields number [] h = fields_none
+nodes_fields number (n ∷ ns) h =
     fields_both (node_line number n) (flat_map (node_line number) ns)
-    (fields_one (node_line number n) (node_fields number n)) (nodes_fields number ns)
+    (fields_one (node_line number n) (node_fields number n h.0)) (nodes_fields number ns h.1)
 
-pub nodes_counted : (number : ℕ) (ns : List Node) → times 10 (flat_map (node_line number) ns) ≡ length ns
-nodes_counted number [] = times_none 10
-nodes_counted number (n ∷ ns) = omega (
+pub nodes_counted : (number : ℕ) (ns : List Node) → NodesHaveJsonNumbers ns
+    → times 10 (flat_map (node_line number) ns) ≡ length ns
+nodes_counted number [] h = times_none 10
+nodes_counted number (n ∷ ns) h = omega (
   arith,
   times_both 10 (node_line number n) (flat_map (node_line number) ns),
-  (node_fields number n).line_feeds,
-  nodes_counted number ns,
+  (node_fields number n h.0).line_feeds,
+  nodes_counted number ns h.1,
 )
 
 -- lines of one field: of values and of texts
@@ -316,27 +325,31 @@ one_line field h = record {
   ends = (field, refl);
 }
 
-pub value_one_line : (n : Node) → IsOneLine (value_line n)
-value_one_line n = one_line (value_text n.value) (value_field n.value)
+pub value_one_line : (n : Node) → HasJsonNumbers n.value → IsOneLine (value_line n)
+value_one_line n h = one_line (value_text n.value) (value_field n.value h)
 
 unquoted_byte_field : (x : ℕ) → IsField (unquoted_byte x)
 unquoted_byte_field x =
-    either IsField (x == 34) (34 ∷ []) (escape_byte x) (λ _. written (34 ∷ []) refl) (λ _. escape_field x)
+    either IsField (x == 34) (34 ∷ []) (escape_byte x) (λ _. written_out (34 ∷ []) refl) (λ _. escape_field x)
 
-unquoted_field : (v : Json) → IsField (unquoted_text v)
-unquoted_field (text s) = field_each unquoted_byte unquoted_byte_field (encode_utf8_all s)
-unquoted_field null = value_field null
-unquoted_field (truth b) = value_field (truth b)
-unquoted_field (json.number x) = value_field (json.number x)
-unquoted_field (array vs) = value_field (array vs)
-unquoted_field (object ms) = value_field (object ms)
+unquoted_field : (v : Json) → HasJsonNumbers v → IsField (unquoted_text v)
+unquoted_field (text s) h = field_each unquoted_byte unquoted_byte_field (encode_utf8_all s)
+unquoted_field null h = value_field null h
+unquoted_field (truth b) h = value_field (truth b) h
+unquoted_field (json.number x) h = value_field (json.number x) h
+unquoted_field (array vs) h = value_field (array vs) h
+unquoted_field (object ms) h = value_field (object ms) h
 
-pub text_one_line : (n : Node) → IsOneLine (text_line n)
-text_one_line n = one_line (unquoted_text n.value) (unquoted_field n.value)
+pub text_one_line : (n : Node) → HasJsonNumbers n.value → IsOneLine (text_line n)
+text_one_line n h = one_line (unquoted_text n.value) (unquoted_field n.value h)
 
 -- and as many as nodes
-module _ (line : Node → List ℕ) (h : (n : Node) → IsOneLine (line n)) where
-  pub lines_counted : (ns : List Node) → times 10 (flat_map line ns) ≡ length ns
-  lines_counted [] = times_none 10
-  lines_counted (n ∷ ns) =
-      omega (arith, times_both 10 (line n) (flat_map line ns), (h n).line_feeds, lines_counted ns)
+module _ (line : Node → List ℕ) (one : (n : Node) → HasJsonNumbers n.value → IsOneLine (line n)) where
+  pub lines_counted : (ns : List Node) → NodesHaveJsonNumbers ns → times 10 (flat_map line ns) ≡ length ns
+  lines_counted [] h = times_none 10
+  lines_counted (n ∷ ns) h = omega (
+    arith,
+    times_both 10 (line n) (flat_map line ns),
+    (one n h.0).line_feeds,
+    lines_counted ns h.1,
+  )

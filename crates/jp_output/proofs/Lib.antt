@@ -1,6 +1,8 @@
+pub mod FieldBytes
 pub mod Fields
 pub mod FlatTexts
 pub mod LinesWithNodes
+pub mod NumberFields
 pub mod OnLiterals
 pub mod PathBytes
 pub mod Texts

@@ -14,7 +14,10 @@ use Rattle.jp_doc.proofs.BackLaws.{value_back}
 use Rattle.jp_doc.specs.Json.{Json, null, truth, number, text, array, object, Items, no_items, add_item}
 use Rattle.jp_doc.specs.Json.{Members, no_members, add_member, value_of, number_data, data_of, items_data}
 use Rattle.jp_doc.specs.Json.{members_data}
-use Rattle.jp_number.specs.Profile.{Number, whole, number_text}
+use Rattle.jp_doc.specs.NumbersWithin.{IsWhole, HasWholeNumbers, AllNumbersOfItems, AllNumbersOfMembers}
+use Rattle.jp_doc.proofs.NumberLaws.{json_is_whole}
+use Rattle.jp_number.specs.Number.{Number, whole, written}
+use Rattle.jp_number.specs.Profile.{number_text}
 use Rattle.jp_output.specs.OutputLine.{truth_text, quoted_text, value_text, items_text, further_items}
 use Rattle.jp_output.specs.OutputLine.{members_text, further_members}
 
@@ -69,36 +72,40 @@ truth_same : (b : Bool) → truth_text b ≡ token_text (boolean b)
 truth_same true = refl
 truth_same false = refl
 
-number_same : (x : Number) → number_text x ≡ crate.number_text (number_data x)
-number_same (whole (pos n)) = refl
-number_same (whole (negsuc n)) = refl
+number_same : (x : Number) → IsWhole x → number_text x ≡ crate.number_text (number_data x)
+number_same (whole (pos n)) w = refl
+number_same (whole (negsuc n)) w = refl
+number_same (written s) w = absurd w
 
 mutual
-  pub text_same : (v : Json) → value_text v ≡ compact_text (data_of v)
-  text_same null = refl
-  text_same (truth b) = truth_same b
-  text_same (number x) = number_same x
-  text_same (text s) = refl
-  text_same (array vs) = array_left vs ∙ ap (λ (t : List ℕ). 91 ∷ t) (items_same false vs)
-  text_same (object ms) = object_left ms ∙ ap (λ (t : List ℕ). 123 ∷ t) (members_same false ms)
+  pub text_same : (v : Json) → HasWholeNumbers v → value_text v ≡ compact_text (data_of v)
+  text_same null w = refl
+  text_same (truth b) w = truth_same b
+  text_same (number x) w = number_same x w
+  text_same (text s) w = refl
+  text_same (array vs) w = array_left vs ∙ ap (λ (t : List ℕ). 91 ∷ t) (items_same false vs w)
+  text_same (object ms) w = object_left ms ∙ ap (λ (t : List ℕ). 123 ∷ t) (members_same false ms w)
 
-  items_same : (later : Bool) (vs : Items) → items_left later vs ≡ crate.items_text later (items_data vs)
-  items_same later no_items = refl
-  items_same later (add_item v vs) =
-      ap (λ (t : List ℕ). comma_if later ++ (t ++ items_left true vs)) (text_same v)
-      ∙ ap (λ (t : List ℕ). comma_if later ++ (compact_text (data_of v) ++ t)) (items_same true vs)
+  items_same : (later : Bool) (vs : Items) → AllNumbersOfItems IsWhole vs
+      → items_left later vs ≡ crate.items_text later (items_data vs)
+  items_same later no_items w = refl
+  items_same later (add_item v vs) w =
+      ap (λ (t : List ℕ). comma_if later ++ (t ++ items_left true vs)) (text_same v w.0)
+      ∙ ap (λ (t : List ℕ). comma_if later ++ (compact_text (data_of v) ++ t)) (items_same true vs w.1)
 
-  members_same : (later : Bool) (ms : Members)
+  members_same : (later : Bool) (ms : Members) → AllNumbersOfMembers IsWhole ms
       → members_left later ms ≡ crate.members_text later (members_data ms)
-  members_same later no_members = refl
-  members_same later (add_member k v ms) =
-      ap (λ (t : List ℕ). comma_if later ++ (quoted_text k ++ 58 ∷ (t ++ members_left true ms))) (text_same v)
+  members_same later no_members w = refl
+  members_same later (add_member k v ms) w =
+      ap (λ (t : List ℕ). comma_if later ++ (quoted_text k ++ 58 ∷ (t ++ members_left true ms)))
+      (text_same v w.0)
       ∙ ap (λ (t : List ℕ). comma_if later ++ (quoted_text k ++ 58 ∷ (compact_text (data_of v) ++ t)))
-      (members_same true ms)
+      (members_same true ms w.1)
 
 -- and of what it has read as whole numbers, the same
 pub view_text : (v : Value) → has_float (view v) ≡ false → compact_text (view v) ≡ value_text (value_of v)
-view_text v h = ap compact_text (sym (value_back v h)) ∙ sym (text_same (value_of v))
+view_text v h =
+    ap compact_text (sym (value_back v h)) ∙ sym (text_same (value_of v) (json_is_whole (view v)))
 
 pub number_written : (v : Value) (n : crate_number.Number) → v ≡ variant.Number n → has_float (view v) ≡ false
     → crate.number_text (number_view n) ≡ value_text (value_of v)

@@ -9,9 +9,10 @@ use Rattle.std.specs.List.{AllByRecursion, after_first, before_first, position_o
 use Rattle.jp_doc.specs.Lines.{all_lines, onto_first}
 use Rattle.jp_doc.specs.Location.{Node}
 use Rattle.jp_path_stack.specs.Path.{path_text}
-use Rattle.jp_output.specs.Fields.{is_tab, third_field, third_fields}
+use Rattle.jp_output.specs.Fields.{NodesHaveJsonNumbers, is_tab, third_field, third_fields}
 use Rattle.jp_output.specs.OutputLine.{node_line, value_line, value_text}
-use Rattle.jp_output.proofs.Fields.{IsField, decimal_field, path_field, value_field}
+use Rattle.jp_output.proofs.FieldBytes.{IsField}
+use Rattle.jp_output.proofs.Fields.{decimal_field, path_field, value_field}
 
 -- none of the bytes is this one
 abbrev Lacks : ℕ → List ℕ → Type 0
@@ -79,11 +80,11 @@ module _ (x y z : List ℕ) (hx : IsField x) (hy : IsField y) (hz : IsField z) w
       (first_line front rest no_line_feed)
       ∙ ap (λ (t : List ℕ). (t ++ 10 ∷ []) ++ third_fields rest) third_is
 
-pub values_of_lines : (number : ℕ) (ns : List Node)
+pub values_of_lines : (number : ℕ) (ns : List Node) → NodesHaveJsonNumbers ns
     → third_fields (flat_map (node_line number) ns) ≡ flat_map value_line ns
-values_of_lines number [] = refl
-values_of_lines number (n ∷ ns) =
+values_of_lines number [] h = refl
+values_of_lines number (n ∷ ns) h =
     third_more (decimal number) (encode_utf8_all (path_text n.location)) (value_text n.value)
-    (decimal_field number) (path_field n.location) (value_field n.value)
+    (decimal_field number) (path_field n.location) (value_field n.value h.0)
     (flat_map (node_line number) ns)
-    ∙ ap (λ (t : List ℕ). value_line n ++ t) (values_of_lines number ns)
+    ∙ ap (λ (t : List ℕ). value_line n ++ t) (values_of_lines number ns h.1)

@@ -2,6 +2,8 @@
 use Rattle.std.specs.Prelude.{◌≡◌, ℕ, ◌==◌, Bool, List, [], ◌∷◌, ◌++◌}
 use Rattle.std.specs.List.{AllByRecursion, after_first, before_first, concat, count_by, flat_map}
 use Rattle.jp_doc.specs.Lines.{all_lines}
+use Rattle.jp_doc.specs.Location.{Node}
+use Rattle.jp_doc.specs.NumbersWithin.{HasJsonNumbers}
 
 -- how often a byte stands among these
 abbrev pub times : ℕ → List ℕ → ℕ
@@ -32,3 +34,7 @@ third_field line = before_first is_tab (after_first is_tab (after_first is_tab l
 -- the third field of each line, and a line feed: what `cut -f3` gives of lines that have one
 abbrev pub third_fields : List ℕ → List ℕ
 third_fields bytes = flat_map (λ line. third_field line ++ 10 ∷ []) (all_lines bytes)
+
+-- each number in the values of nodes is one of RFC 8259 (6), as those of a document are
+abbrev pub NodesHaveJsonNumbers : List Node → Type 0
+NodesHaveJsonNumbers ns = AllByRecursion (λ n. HasJsonNumbers n.value) ns

@@ -4,8 +4,9 @@ ghost use Rattle.std.specs.Prelude.{◌≡◌, ℕ, [], ◌∷◌, ◌++◌, cod
 ghost use Rattle.std.specs.declared.alloc.Global.{Global};
 ghost use Rattle.jp_doc.specs.Json.{null, truth, number, text, array, object, items, no_members, add_member};
 ghost use Rattle.jp_doc.specs.Location.{Node, name, index, node};
-ghost use Rattle.jp_doc.specs.declared.fault.DocFault.TheVariants.{LongLine, Unreadable, NotWhole, LongArray};
-ghost use Rattle.jp_number.specs.Profile.{whole};
+ghost use Rattle.jp_doc.specs.declared.fault.DocFault.TheVariants.{LongLine, Unreadable, NotWhole, LongNumber};
+ghost use Rattle.jp_doc.specs.declared.fault.DocFault.TheVariants.{LongArray};
+ghost use Rattle.jp_number.specs.Number.{whole};
 ghost use Rattle.jp_output.specs.Chunks.{bytes_in};
 ghost use Rattle.jp_output.specs.FaultLine.{fault_line};
 ghost use Rattle.jp_output.specs.Fields.{times, HasThreeFields, IsOneLine, third_field, third_fields};
@@ -74,6 +75,8 @@ fn fault_lines()
     ensures unreadable { fault_line 2 Unreadable ≡ codes "2" ++ 9 ∷ codes "!" ++ 9 ∷ codes "unreadable"
         ++ 10 ∷ [] }
     ensures not_whole { fault_line 4 NotWhole ≡ codes "4" ++ 9 ∷ codes "!" ++ 9 ∷ codes "not whole"
+        ++ 10 ∷ [] }
+    ensures long_number { fault_line 5 LongNumber ≡ codes "5" ++ 9 ∷ codes "!" ++ 9 ∷ codes "long number"
         ++ 10 ∷ [] }
     ensures long_array { fault_line 7 LongArray ≡ codes "7" ++ 9 ∷ codes "!" ++ 9 ∷ codes "long array"
         ++ 10 ∷ [] }

@@ -11,7 +11,7 @@ use jp_doc::DocFault;
 use std::alloc::{AllocError, Global};
 
 /// Appends the fault line of a faulty line: its number, a tab, `!`, a tab, what is wrong with it
-/// (`unreadable`, `not whole`, `long array` or `long line`) and a line feed.
+/// (`unreadable`, `not whole`, `long number`, `long array` or `long line`) and a line feed.
 ///
 /// The fault is not `Memory`, which is no fault of the line. After an `AllocError`, which says that a growth
 /// was refused, `out` is as before. No other memory is taken.

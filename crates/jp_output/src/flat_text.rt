@@ -5,7 +5,7 @@ ghost use Rattle.jp_doc.specs.Json as json;
 ghost use Rattle.jp_doc.specs.Json.{Items, array, object};
 ghost use Rattle.jp_flat.specs.Gathered.{gathered};
 ghost use Rattle.jp_flat.specs.Value.{flat_value, items_value, members_value};
-ghost use Rattle.jp_number.specs.Profile.{whole};
+ghost use Rattle.jp_number.specs.Number.{whole};
 ghost use Rattle.jp_output.specs.OutputLine.{value_text};
 ghost use Rattle.jp_path_stack.specs.Appended.{Extends};
 ghost use Rattle.serde_json.specs.Written.{comma_if};

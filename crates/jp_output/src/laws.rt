@@ -8,30 +8,33 @@ ghost use Rattle.serde_json.specs.declared.value.Value.{Value};
 ghost use Rattle.jp_doc.specs.Json.{Text, Json, text, value_of, data_of};
 ghost use Rattle.jp_doc.specs.Lines.{Line};
 ghost use Rattle.jp_doc.specs.Location.{Location, Node, node};
+ghost use Rattle.jp_doc.specs.NumbersWithin.{HasWholeNumbers, HasJsonNumbers};
 ghost use Rattle.jp_doc.specs.declared.fault.DocFault.{DocFault};
 ghost use Rattle.jp_output.specs.FaultLine.{fault_line};
 ghost use Rattle.jp_output.specs.Fields.{times, HasThreeFields, AreLinesOfThree, IsOneLine, third_fields};
+ghost use Rattle.jp_output.specs.Fields.{NodesHaveJsonNumbers};
 ghost use Rattle.jp_output.specs.OutputForm.{node_lines, value_lines, text_lines, input_lines};
 ghost use Rattle.jp_output.specs.OutputLine.{value_text, node_line, put_line, value_line};
 ghost use Rattle.jp_output.specs.UnquotedText.{text_line};
 
-/// The compact text of a value is the text that the JSON crate writes of it, and of each value of the crate
-/// whose numbers are whole.
+/// The compact text of a value whose numbers are whole is the text that the JSON crate writes of it, and so
+/// of each value of the crate whose numbers are.
 pub fn text_of_the_crate()
-    ensures of_a_value { (v : Json) → value_text v ≡ compact_text (data_of v) }
+    ensures of_a_value { (v : Json) → HasWholeNumbers v → value_text v ≡ compact_text (data_of v) }
     ensures of_a_crate_value { (v : Value) → has_float (view v) ≡ false
         → value_text (value_of v) ≡ compact_text (view v) }
 {}
 
-/// An output line has three fields, of whatever node, and so has a fault line: two tabs, and one line feed,
-/// which is the last byte. So the lines of several nodes can be cut at line feeds and each line at its tabs,
-/// and there are as many as nodes.
+/// An output line has three fields, of whatever node whose numbers are those of RFC 8259 (as all numbers of a
+/// document are), and so has a fault line: two tabs, and one line feed, which is the last byte. So the lines
+/// of several nodes can be cut at line feeds and each line at its tabs, and there are as many as nodes.
 pub fn three_fields()
-    ensures node { (number : ℕ) (n : Node) → HasThreeFields (node_line number n) }
+    ensures node { (number : ℕ) (n : Node) → HasJsonNumbers n.value → HasThreeFields (node_line number n) }
     ensures fault { (number : ℕ) (f : DocFault) → HasThreeFields (fault_line number f) }
-    ensures nodes { (number : ℕ) (ns : List Node) → AreLinesOfThree (flat_map (node_line number) ns) }
-    ensures one_each { (number : ℕ) (ns : List Node) → times 10 (flat_map (node_line number) ns)
-        ≡ length ns }
+    ensures nodes { (number : ℕ) (ns : List Node) → NodesHaveJsonNumbers ns
+        → AreLinesOfThree (flat_map (node_line number) ns) }
+    ensures one_each { (number : ℕ) (ns : List Node) → NodesHaveJsonNumbers ns
+        → times 10 (flat_map (node_line number) ns) ≡ length ns }
 {}
 
 /// The lines that a visitor writes of several nodes are those of each in turn, behind what stood there.
@@ -44,10 +47,11 @@ pub fn lines_of_nodes()
 /// The form of values has the third fields of the form of output lines, of whatever nodes, in their order and
 /// each as often, as `cut -f3` gives them. Each is one line, and there are as many as nodes.
 pub fn values_are_third_fields()
-    ensures third { (l : Line) (ns : List Node) → value_lines.of_document l ns
+    ensures third { (l : Line) (ns : List Node) → NodesHaveJsonNumbers ns → value_lines.of_document l ns
         ≡ third_fields (node_lines.of_document l ns) }
-    ensures one_line { (n : Node) → IsOneLine (value_line n) }
-    ensures one_each { (l : Line) (ns : List Node) → times 10 (value_lines.of_document l ns) ≡ length ns }
+    ensures one_line { (n : Node) → HasJsonNumbers n.value → IsOneLine (value_line n) }
+    ensures one_each { (l : Line) (ns : List Node) → NodesHaveJsonNumbers ns
+        → times 10 (value_lines.of_document l ns) ≡ length ns }
 {}
 
 /// In the form of texts each value is one line, and different texts have different lines, wherever they
@@ -55,8 +59,9 @@ pub fn values_are_third_fields()
 pub fn texts_read_back()
     ensures different { (at from : Location) (s t : Text)
         → text_line (node at (text s)) ≡ text_line (node from (text t)) → s ≡ t }
-    ensures one_line { (n : Node) → IsOneLine (text_line n) }
-    ensures one_each { (l : Line) (ns : List Node) → times 10 (text_lines.of_document l ns) ≡ length ns }
+    ensures one_line { (n : Node) → HasJsonNumbers n.value → IsOneLine (text_line n) }
+    ensures one_each { (l : Line) (ns : List Node) → NodesHaveJsonNumbers ns
+        → times 10 (text_lines.of_document l ns) ≡ length ns }
 {}
 
 /// The form of input lines has the line, once, of a document of which a node is selected, and nothing of

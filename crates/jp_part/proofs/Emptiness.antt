@@ -5,8 +5,9 @@ use Rattle.std.specs.Ordering.{match_ordering}
 use Rattle.serde_json.proofs.Views.{Entry}
 use Rattle.serde_json.specs.View.{members_view}
 use Rattle.jp_doc.specs.Json.{Text, text_cmp, Json, Members, no_members, add_member, members_of}
+use Rattle.jp_doc.specs.Tree.{put_member}
 use Rattle.jp_flat.proofs.InsideObject.{members_are}
-use Rattle.jp_flat.specs.Members.{put_member, put_all}
+use Rattle.jp_flat.specs.Members.{put_all}
 use Rattle.jp_flat.specs.Value.{entries, members_value}
 use Rattle.jp_flat.specs.declared.value.FlatMembers.{FlatMembers}
 use Rattle.jp_part.specs.Inside.{members_inside}

@@ -19,7 +19,7 @@ use Rattle.jp_doc.specs.DocumentValue.{IsDocumentValue}
 use Rattle.jp_doc.specs.Json as json
 use Rattle.jp_doc.specs.Json.{value_of, json_of, items_of, members_of, item_list, items, whole_of}
 use Rattle.jp_doc.specs.Reading.{max_items, has_long_array}
-use Rattle.jp_number.specs.Profile.{whole}
+use Rattle.jp_number.specs.Number.{whole}
 use Rattle.jp_part.proofs.Lists.{items_of_values, and_members, and_one}
 use Rattle.jp_part.specs.Members.{tree_entry}
 use Rattle.jp_part.specs.declared.tree.TreeMember.{TreeMember}

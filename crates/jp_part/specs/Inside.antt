@@ -13,8 +13,9 @@ use Rattle.jp_part.specs.declared.members.Members.TheVariants as member
 use Rattle.jp_part.specs.declared.part.Inside.{Inside}
 use Rattle.jp_part.specs.declared.part.Inside.TheVariants as inside
 use Rattle.jp_part.specs.declared.part.Kind.{Kind}
-use Rattle.jp_part.specs.declared.part.Kind.TheVariants.{Null, Truth, Whole, Text, Array, Object, Listed}
-use Rattle.jp_number.specs.Profile.{whole}
+use Rattle.jp_part.specs.declared.part.Kind.TheVariants.{Null, Truth, Whole, Written, Text, Array}
+use Rattle.jp_part.specs.declared.part.Kind.TheVariants.{Object, Listed}
+use Rattle.jp_number.specs.Number.{whole, written}
 use Rattle.jp_part.specs.Members.{members, range_entries}
 
 -- the items of a value, and its members: none of one of another kind
@@ -64,6 +65,7 @@ abbrev pub kind_value : Kind → Json
 kind_value Null = null
 kind_value (Truth b) = truth b
 kind_value (Whole z) = number (whole z)
+kind_value (Written s) = number (written s.text.now)
 kind_value (Text s) = text (chars s.now)
 kind_value (Array i) = array (items (item_values i))
 kind_value (Object m) = object (members_in m)

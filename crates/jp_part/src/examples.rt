@@ -3,7 +3,7 @@
 ghost use Rattle.std.specs.Prelude.{◌≡◌, [], ◌∷◌, codes, negsuc, true};
 ghost use Rattle.jp_doc.specs.Json.{null, truth, number, text, array, object, no_items, add_item};
 ghost use Rattle.jp_doc.specs.Json.{no_members, add_member};
-ghost use Rattle.jp_number.specs.Profile.{whole};
+ghost use Rattle.jp_number.specs.Number.{whole};
 ghost use Rattle.jp_part.specs.Inside.{items_inside, members_inside, kind_value, IsScalar, IsInside};
 ghost use Rattle.jp_part.specs.Members.{members};
 ghost use Rattle.jp_part.specs.declared.part.Inside.TheVariants.{Nothing};

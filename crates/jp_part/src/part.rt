@@ -10,7 +10,7 @@ ghost use Rattle.jp_doc.specs.Location.{member_of, item_of};
 ghost use Rattle.jp_flat.specs.Document as flat;
 ghost use Rattle.jp_flat.specs.Value.{flat_value, item_count};
 ghost use Rattle.jp_part.specs.Inside.{kind_value, IsInside, IsScalar};
-ghost use Rattle.jp_number.specs.Profile.{whole};
+ghost use Rattle.jp_number.specs.Number.{whole};
 ghost use Rattle.jp_part.specs.Part.{part_value};
 
 use crate::items::Items;
@@ -18,6 +18,7 @@ use crate::members::{MemberRange, Members};
 use crate::tree::{TreeItems, TreeMembers, TreeValue};
 use jp_doc::{Document, whole_of};
 use jp_flat::{FlatDocument, FlatValue};
+use jp_number::NumberText;
 use serde_json::Value;
 
 /// A value of a document.
@@ -50,6 +51,8 @@ pub enum Kind<'v> {
     Truth(bool),
     /// A whole number.
     Whole(i128),
+    /// Any other number, by the text that writes it.
+    Written(NumberText<'v>),
     /// A text.
     Text(&'v str),
     /// An array, of these items.

@@ -95,6 +95,7 @@ fn faults(rt: HostRuntime) -> Result<(), Fail> {
     let rows = [
         (2, DocFault::Unreadable, "2\t!\tunreadable\n"),
         (4, DocFault::NotWhole, "4\t!\tnot whole\n"),
+        (5, DocFault::LongNumber, "5\t!\tlong number\n"),
         (7, DocFault::LongArray, "7\t!\tlong array\n"),
         (7, DocFault::LongLine, "7\t!\tlong line\n"),
     ];

@@ -1,6 +1,6 @@
 //! The answer to lines that a caller has, as a run gives it.
 
-ghost use Rattle.std.specs.Prelude.{◌≡◌, ◌≤◌, length, map, IfOk, OnErr, IsErrOf};
+ghost use Rattle.std.specs.Prelude.{◌≡◌, ◌+◌, ◌≤◌, length, map, IfOk, OnErr, IsErrOf};
 ghost use Rattle.jp_doc.specs.Lines.{line_of};
 ghost use Rattle.jp_check.specs.Plan.{planned_query};
 ghost use Rattle.jp_regexp.specs.Tests.{Tests, AreRight};
@@ -8,6 +8,7 @@ ghost use Rattle.jp_answer.specs.Answer.{answer as answer_to};
 ghost use Rattle.jp_answer.specs.Ranges.{AreWorkers, AreDocuments};
 ghost use Rattle.jp_answer.specs.Whole.{whole};
 ghost use Rattle.jp_run.specs.Answered.{answer_of, whole_of};
+ghost use Rattle.jp_run.specs.Limits.{max_lines};
 
 use crate::fault::RunFault;
 use crate::outcome::{Answer, Whole};
@@ -40,7 +41,7 @@ pub fn answer<R: Threads + Sync, G: Gate + Sync>(
 ) -> Result<Answer, RunFault>
     requires workers { AreWorkers workers }
     requires piece { AreDocuments piece }
-    requires lines { length lines.now ≤ 4294967296 }
+    requires lines { length lines.now ≤ max_lines + 1 }
     ensures answer { IfOk result (λ a. (t : Tests) → AreRight t →
         answer_to t (planned_query plan.now) (map line_of lines.now) ≡ answer_of a) }
     ensures fault { OnErr result (IsErrOf result RunFault.Memory) }
@@ -82,7 +83,7 @@ pub fn answer_all<R: Threads + Sync, G: Gate + Sync>(
 ) -> Result<Whole, RunFault>
     requires workers { AreWorkers workers }
     requires piece { AreDocuments piece }
-    requires lines { length lines.now ≤ 4294967296 }
+    requires lines { length lines.now ≤ max_lines + 1 }
     ensures whole { IfOk result (λ w. (t : Tests) → AreRight t →
         whole t (planned_query plan.now) (map line_of lines.now) ≡ whole_of w) }
     ensures fault { OnErr result (IsErrOf result RunFault.Memory) }

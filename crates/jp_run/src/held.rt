@@ -3,6 +3,7 @@
 ghost use Rattle.std.specs.Prelude.{◌≡◌, ◌+◌, ◌≤◌, [], None, OnOk};
 ghost use Rattle.jp_answer.specs.Answer.{joined};
 ghost use Rattle.jp_answer.specs.Answered.{outcome_of};
+ghost use Rattle.jp_run.specs.Limits.{max_lines};
 
 use jp_answer::Outcome;
 use std::alloc::{AllocError, Global};
@@ -32,7 +33,7 @@ impl Held {
     ///
     /// `AllocError` if a growth was refused: then the answer may be lost.
     pub(crate) fn put(&mut self, count: usize, more: Outcome) -> Result<(), AllocError>
-        requires few { self.old.count + count ≤ 4294967296 }
+        requires few { self.old.count + count ≤ max_lines + 1 }
         requires few_faulty { (self.old.answer.faulty ≤ self.old.count) × (more.faulty ≤ count) }
         ensures count { self.new.count ≡ self.old.count + count }
         ensures answer { (outcome_of self.old.answer).stopped ≡ None → OnOk result

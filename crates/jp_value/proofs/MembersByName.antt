@@ -1,6 +1,7 @@
 -- Objects whose names rise are the same exactly where each name has equal values in both, or no value in
 -- either.
-use Rattle.std.proofs.Common.{◌≡◌, ◌⊎◌, inl, inr, Bool, true, false, cond, Option, Some, None, refl, sym}
+use Rattle.std.proofs.Common.{◌≡◌, ◌⊎◌, inl, inr, Bool, true, false, ◌&&◌, cond, Option, Some, None, refl}
+use Rattle.std.proofs.Common.{sym}
 use Rattle.std.proofs.Common.{subst, Less, ◌∙◌, ap}
 use Rattle.std.proofs.lemmas.Cmp.{nat_list_cmp_total}
 use Rattle.std.proofs.lemmas.Slice.Eq.{bytes_eq-Decides}
@@ -9,8 +10,8 @@ use Rattle.std.specs.Prelude.{IsTrue, ◌↔◌, encode_utf8_all}
 use Rattle.jp_doc.specs.Json.{Text, text_eq, text_cmp, Json, object, Members, no_members, add_member}
 use Rattle.jp_doc.specs.Location.{member_at}
 use Rattle.jp_doc.specs.Rising.{IsTextBelow, IsBelow, MembersRise}
-use Rattle.jp_value.specs.Comparison.{eq}
-use Rattle.jp_value.proofs.Sameness.{same_is_equal, self_same}
+use Rattle.jp_value.specs.Comparison.{same, same_members, eq}
+use Rattle.jp_value.proofs.Sameness.{both, joint}
 
 below_trans : (j k l : Text) → IsTextBelow j k → IsTextBelow k l → IsTextBelow j l
 below_trans j k l p q = nat_list_cmp_total.trans (encode_utf8_all j) (encode_utf8_all k)
@@ -42,9 +43,9 @@ names_above k (add_member l w ms) p r j v h =
     above_first k j l (member_at j ms) v p (names_above l ms r.1 r.2 j v)
     (found_at (text_eq j l) j l w (member_at j ms) v refl h)
 
-eq_some : (v : Json) (o : Option Json) → IsTrue (eq (Some v) o) → (w : Json) × (o ≡ Some w) × (v ≡ w)
+eq_some : (v : Json) (o : Option Json) → IsTrue (eq (Some v) o) → (w : Json) × (o ≡ Some w)
 eq_some v None h = absurd cc
-eq_some v (Some w) h = (w, refl, (same_is_equal v w).0 h)
+eq_some v (Some w) h = (w, refl)
 
 some_eq : (o : Option Json) (w : Json) → IsTrue (eq o (Some w)) → (v : Json) × (o ≡ Some v)
 some_eq None w h = absurd cc
@@ -100,11 +101,9 @@ module _ (k : Text) (v w : Json) (ms ns : Members) (rising : MembersRise (add_me
     (others_rise : MembersRise (add_member k w ns))
     (by_name : (j : Text)
     → IsTrue (eq (member_at j (add_member k v ms)) (member_at j (add_member k w ns)))) where
-  same_value : v ≡ w
-  same_value =
-      let here : IsTrue (eq (Some v) (Some w)) = subst (λ o. IsTrue (eq o (Some w))) (first_found k v ms)
-      (subst (λ o. IsTrue (eq (member_at k (add_member k v ms)) o)) (first_found k w ns) (by_name k)) in
-      (same_is_equal v w).0 here
+  same_value : same v w ≡ true
+  same_value = subst (λ o. IsTrue (eq o (Some w))) (first_found k v ms)
+      (subst (λ o. IsTrue (eq (member_at k (add_member k v ms)) o)) (first_found k w ns) (by_name k))
 
   others_by_name_at : (j : Text) (b : Bool) → text_eq j k ≡ b
       → IsTrue (eq (member_at j ms) (member_at j ns))
@@ -123,7 +122,7 @@ module _ (k : Text) (v w : Json) (ms ns : Members) (rising : MembersRise (add_me
   others_by_name j = others_by_name_at j (text_eq j k) refl
 
 same_by_name : (ms ns : Members) → MembersRise ms → MembersRise ns
-    → ((j : Text) → IsTrue (eq (member_at j ms) (member_at j ns))) → ms ≡ ns
+    → ((j : Text) → IsTrue (eq (member_at j ms) (member_at j ns))) → same_members ms ns ≡ true
 same_by_name no_members no_members r s f = refl
 same_by_name no_members (add_member l w ns) r s f =
     let here : IsTrue (eq None (Some w)) = subst (λ o. IsTrue (eq None o)) (first_found l w ns) (f l) in
@@ -138,24 +137,30 @@ same_by_name (add_member k v ms) (add_member l w ns) r s f =
     =
     subst (λ x. (j : Text)
     → IsTrue (eq (member_at j (add_member k v ms)) (member_at j (add_member x w ns)))) (sym e) f in
-    let d : v ≡ w = same_value k v w ms ns r s' f' in
-    let t : ms ≡ ns = same_by_name ms ns r.2 s'.2 (others_by_name k v w ms ns r s' f') in
-    cc
+    joint (text_eq k l && same v w) (same_members ms ns)
+    (joint (text_eq k l) (same v w) ((bytes_eq-Decides k l).1 e) (same_value k v w ms ns r s' f'))
+    (same_by_name ms ns r.2 s'.2 (others_by_name k v w ms ns r s' f'))
 
-eq_self : (o : Option Json) → IsTrue (eq o o)
-eq_self None = refl
-eq_self (Some v) = self_same v
+either_same : (b : Bool) (v w : Json) (o p : Option Json) → same v w ≡ true → IsTrue (eq o p)
+    → IsTrue (eq (cond b (Some v) o) (cond b (Some w) p))
+either_same true v w o p h g = h
+either_same false v w o p h g = g
 
-by_equality : (ms ns : Members) → object ms ≡ object ns → (k : Text)
+-- equal objects have equal values by each name
+same_at : (k : Text) (ms ns : Members) → same_members ms ns ≡ true
     → IsTrue (eq (member_at k ms) (member_at k ns))
-by_equality ms ns e k =
-    let t : ms ≡ ns = cc in
-    subst (λ x. IsTrue (eq (member_at k ms) (member_at k x))) t (eq_self (member_at k ms))
+same_at k no_members no_members h = refl
+same_at k no_members (add_member l w ns) h = absurd cc
+same_at k (add_member j v ms) no_members h = absurd cc
+same_at k (add_member j v ms) (add_member l w ns) h =
+    let p = both (text_eq j l && same v w) (same_members ms ns) h in
+    let q = both (text_eq j l) (same v w) p.0 in
+    let e : j ≡ l = (bytes_eq-Decides j l).0 q.0 in
+    subst (λ i. IsTrue (eq (cond (text_eq k i) (Some v) (member_at k ms)) (member_at k (add_member l w ns))))
+    (sym e)
+    (either_same (text_eq k l) v w (member_at k ms) (member_at k ns) q.1 (same_at k ms ns p.1))
 
 pub objects_by_name : (ms ns : Members) → MembersRise ms → MembersRise ns
     → IsTrue (eq (Some (object ms)) (Some (object ns)))
     ↔ ((k : Text) → IsTrue (eq (member_at k ms) (member_at k ns)))
-objects_by_name ms ns r s = (
-  λ h. by_equality ms ns ((same_is_equal (object ms) (object ns)).0 h),
-  λ f. (same_is_equal (object ms) (object ns)).1 (ap object (same_by_name ms ns r s f)),
-)
+objects_by_name ms ns r s = (λ h k. same_at k ms ns h, λ f. same_by_name ms ns r s f)

@@ -6,7 +6,7 @@ use Rattle.jp_doc.specs.Json.{Text, Json, number, text, text_eq, array, object, 
 use Rattle.jp_doc.specs.Json.{add_member}
 use Rattle.jp_doc.specs.Json.{item_list}
 use Rattle.jp_doc.specs.Location.{Step, name, index, Location, Node}
-use Rattle.jp_number.specs.Profile.{whole}
+use Rattle.jp_number.specs.Number.{whole}
 use Rattle.jp_types.specs.Functions.{Function, length_function, count_function, match_function}
 use Rattle.jp_types.specs.Functions.{search_function, value_function, xor_function, distinct_function}
 use Rattle.jp_regexp.specs.Tests.{Tests}

@@ -2,7 +2,7 @@
 use Rattle.std.specs.Prelude.{ℤ, Option, option_map}
 use Rattle.jp_doc.specs.Json as json
 use Rattle.jp_doc.specs.Json.{Json}
-use Rattle.jp_number.specs.Profile.{whole}
+use Rattle.jp_number.specs.Number.{whole}
 use Rattle.jp_tree.specs.Tree.{Text, Literal, number, text, truth, null}
 use Rattle.jp_types.specs.Numbers.{whole_number}
 

@@ -4,7 +4,7 @@ use Rattle.std.specs.Str.{chars}
 use Rattle.serde_json.specs.View.{view}
 use Rattle.serde_json.specs.Written.{has_float}
 use Rattle.jp_doc.specs.Json.{Json, null, truth, number, text, array, object, value_of}
-use Rattle.jp_number.specs.Profile.{whole}
+use Rattle.jp_number.specs.Number.{whole}
 use Rattle.jp_value.specs.declared.comparison.Operand.{Operand}
 use Rattle.jp_value.specs.declared.comparison.Operand.TheVariants.{Nothing, Null, Truth, Whole, Text, Lent}
 

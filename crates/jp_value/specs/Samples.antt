@@ -2,7 +2,7 @@
 use Rattle.std.specs.Prelude.{ℕ, pos, List, [], ◌∷◌, codes}
 use Rattle.jp_doc.specs.Json.{Text, Json, null, number, array, object, items, no_members, add_member}
 use Rattle.jp_doc.specs.Location as at
-use Rattle.jp_number.specs.Profile.{whole}
+use Rattle.jp_number.specs.Number.{whole}
 
 -- a number, and an array of values
 abbrev pub num : ℕ → Json

@@ -9,7 +9,7 @@ ghost use Rattle.jp_tree.specs.declared.tree.Operator.TheVariants.{Eq, Ne, Le, G
 ghost use Rattle.jp_regexp.specs.Tests.{Tests};
 ghost use Rattle.jp_types.specs.Functions.{length_function, count_function, match_function, search_function};
 ghost use Rattle.jp_types.specs.Functions.{value_function, xor_function, distinct_function};
-ghost use Rattle.jp_number.specs.Profile.{whole};
+ghost use Rattle.jp_number.specs.Number.{whole};
 ghost use Rattle.jp_value.specs.Comparison.{compared};
 ghost use Rattle.jp_value.specs.Functions.{called, handed_value, handed_truth, handed_nodes, as_value};
 ghost use Rattle.jp_value.specs.Functions.{as_truth, as_nodes};

@@ -63,6 +63,7 @@ fn length_of(alloc: Global, kind: Kind<'_>) -> Result<Option<Kind<'_>>, AllocErr
         Kind::Null => Ok(None),
         Kind::Truth(_) => Ok(None),
         Kind::Whole(_) => Ok(None),
+        Kind::Written(_) => Ok(None),
     }
 }
 

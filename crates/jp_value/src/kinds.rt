@@ -8,6 +8,7 @@ ghost use Rattle.jp_value.specs.Comparison as spec;
 ghost use Rattle.jp_value.specs.Kinds.{given_value};
 
 use crate::comparison::{is_text_below, same_entries, same_text};
+use jp_number::Number;
 use jp_part::{Items, Kind, MemberRange, Members};
 use jp_tree::Operator;
 use std::alloc::{AllocError, Global};
@@ -21,6 +22,11 @@ fn same_kind(alloc: Global, left: Kind<'_>, right: Kind<'_>) -> Result<bool, All
         (Kind::Null, Kind::Null) => Ok(true),
         (Kind::Truth(x), Kind::Truth(y)) => Ok(x == y),
         (Kind::Whole(x), Kind::Whole(y)) => Ok(x == y),
+        (Kind::Whole(x), Kind::Written(y)) => Ok(Number::Whole(x).is_equal(Number::Written(y))),
+        (Kind::Written(x), Kind::Whole(y)) => Ok(Number::Written(x).is_equal(Number::Whole(y))),
+        (Kind::Written(x), Kind::Written(y)) => {
+            Ok(Number::Written(x).is_equal(Number::Written(y)))
+        }
         (Kind::Text(x), Kind::Text(y)) => Ok(same_text(x, y)),
         (Kind::Array(x), Kind::Array(y)) => same_items(alloc, x, y),
         (Kind::Object(x), Kind::Object(y)) => same_members(alloc, x, y),
@@ -162,6 +168,15 @@ fn is_less(left: Option<Kind<'_>>, right: Option<Kind<'_>>) -> bool
 {
     match (left, right) {
         (Some(Kind::Whole(x)), Some(Kind::Whole(y))) => x < y,
+        (Some(Kind::Whole(x)), Some(Kind::Written(y))) => {
+            Number::Whole(x).is_below(Number::Written(y))
+        }
+        (Some(Kind::Written(x)), Some(Kind::Whole(y))) => {
+            Number::Written(x).is_below(Number::Whole(y))
+        }
+        (Some(Kind::Written(x)), Some(Kind::Written(y))) => {
+            Number::Written(x).is_below(Number::Written(y))
+        }
         (Some(Kind::Text(x)), Some(Kind::Text(y))) => is_text_below(x, y),
         _ => false,
     }

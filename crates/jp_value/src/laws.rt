@@ -2,10 +2,12 @@
 
 ghost use Rattle.std.specs.Prelude.{◌≡◌, ◌↔◌, ◌||◌, ◌<◌, ℕ, ℤ, pos, negsuc, int_lt, ◌≤ℤ◌, ◌<ℤ◌, IsTrue};
 ghost use Rattle.std.specs.Prelude.{List, Option, Some, None, true, false};
+ghost use Rattle.std.specs.Cmp.{IsEquivalence};
 ghost use Rattle.std.specs.List.{AllByRecursion, AllPairs, list_any};
 ghost use Rattle.jp_regexp.specs.Tests.{AreRight};
 ghost use Rattle.jp_doc.specs.Json.{Text, Json, Members, object};
 ghost use Rattle.jp_doc.specs.Location.{Location, Node, member_at};
+ghost use Rattle.jp_doc.specs.NumbersWithin.{HasWholeNumbers};
 ghost use Rattle.jp_doc.specs.Rising.{MembersRise};
 ghost use Rattle.jp_value.specs.Slice.{slice_bounds, slice_indexes, RisesFrom, FallsBelow};
 ghost use Rattle.jp_value.specs.Comparison.{eq, lt, le};
@@ -30,9 +32,12 @@ pub fn slice()
         × ((slice_bounds first past (Some step) len).upper <ℤ pos len) }
 {}
 
-/// `==` is equality of values, and so reflexive; it holds of two nothings; `a <= b` is `a < b` or `a == b`.
+/// `==` is an equivalence; of values in which all numbers are whole it is equality, where two texts may write
+/// one number; it holds of two nothings; `a <= b` is `a < b` or `a == b`.
 pub fn comparison()
-    ensures equality { (v w : Json) → IsTrue (eq (Some v) (Some w)) ↔ (v ≡ w) }
+    ensures equivalence { IsEquivalence eq }
+    ensures equality { (v w : Json) → HasWholeNumbers v → HasWholeNumbers w
+        → IsTrue (eq (Some v) (Some w)) ↔ (v ≡ w) }
     ensures reflexive { (v : Json) → IsTrue (eq (Some v) (Some v)) }
     ensures nothings { IsTrue (eq None None) }
     ensures below_or_equal { (a b : Option Json) → le a b ≡ (lt a b || eq a b) }

@@ -3,7 +3,7 @@
 ghost use Rattle.std.specs.Prelude.{◌≡◌, [], ◌∷◌, codes, pos, true, Some, None};
 ghost use Rattle.jp_doc.specs.Json.{null, truth, number, text, array, object, no_items, add_item, no_members};
 ghost use Rattle.jp_doc.specs.Json.{add_member};
-ghost use Rattle.jp_number.specs.Profile.{whole};
+ghost use Rattle.jp_number.specs.Number.{whole};
 ghost use Rattle.jp_doc.specs.Location.{name, index, node, step_of, value_at};
 ghost use Rattle.jp_doc.specs.declared.location.Step.TheVariants.{Index};
 

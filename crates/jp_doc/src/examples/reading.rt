@@ -6,7 +6,7 @@ ghost use Rattle.serde_json.specs.Data as crate_data;
 ghost use Rattle.serde_json.specs.Written.{items_have_float};
 ghost use Rattle.jp_doc.specs.Json.{null, truth, number, text, array, object, item_list, items_of};
 ghost use Rattle.jp_doc.specs.Json.{no_items, add_item, no_members, add_member};
-ghost use Rattle.jp_number.specs.Profile.{whole};
+ghost use Rattle.jp_number.specs.Number.{whole};
 ghost use Rattle.jp_doc.specs.Reading.{has_long_array, items_have_long_array, fault_of};
 ghost use Rattle.jp_doc.specs.Reading.{crate_reading, document_from, reading};
 ghost use Rattle.jp_doc.specs.declared.fault.DocFault.TheVariants.{LongLine, Unreadable, NotWhole, LongArray};

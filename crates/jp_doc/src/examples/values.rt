@@ -8,7 +8,7 @@ ghost use Rattle.jp_doc.specs.Height.{height};
 ghost use Rattle.jp_doc.specs.Json.{null, truth, number, text, array, object, items, item_list, text_eq};
 ghost use Rattle.jp_doc.specs.Json.{text_cmp};
 ghost use Rattle.jp_doc.specs.Json.{no_items, add_item, no_members, add_member, json_of, data_of};
-ghost use Rattle.jp_number.specs.Profile.{whole};
+ghost use Rattle.jp_number.specs.Number.{whole};
 ghost use Rattle.jp_doc.specs.Rising.{IsRising, IsTextBelow, NamesAreUtf8};
 
 fn equal_texts()

@@ -5,7 +5,7 @@ use Rattle.jp_doc.specs.Json.{Json}
 use Rattle.jp_doc.specs.Location.{Node}
 use Rattle.jp_compiled.specs.declared.query.Want.{Want}
 use Rattle.jp_compiled.specs.declared.query.Want.TheVariants as want
-use Rattle.jp_value.specs.Comparison.{eq}
+use Rattle.jp_eval.specs.inner.Identical.{identical}
 use Rattle.jp_value.specs.Functions.{first_value, only_value, number_value}
 use Rattle.jp_eval.specs.inner.Different.{is_different}
 use Rattle.jp_eval.specs.inner.Kept.{alone_of, alone_value}
@@ -15,9 +15,9 @@ use Rattle.jp_eval.specs.declared.aggregates.Aggregate.TheVariants.{First, Count
 
 -- an answer tells what is wanted of these nodes
 abbrev pub tells : Want → List Node → Aggregate → Bool
-tells want.First ns (First o) = eq (option_map part_value o) (first_value ns)
+tells want.First ns (First o) = identical (option_map part_value o) (first_value ns)
 tells want.Count ns (Count n) = n == length ns
-tells want.Only ns (Only a) = eq (alone_value (alone_of a)) (only_value ns)
+tells want.Only ns (Only a) = identical (alone_value (alone_of a)) (only_value ns)
 tells want.Distinct ns (Distinct d) = is_different d ns
 tells _ ns _ = false
 

@@ -2,7 +2,7 @@
 -- location once.
 use Rattle.std.specs.Prelude.{◌≡◌, Bool, ◌&&◌, ◌==◌, List, length}
 use Rattle.jp_doc.specs.Location.{Node}
-use Rattle.jp_value.specs.Comparison.{eq}
+use Rattle.jp_eval.specs.inner.Identical.{identical}
 use Rattle.jp_value.specs.Functions.{only_value, distinct}
 use Rattle.jp_eval.specs.inner.Kept.{alone_of, alone_value}
 use Rattle.jp_eval.specs.declared.different.Different.{Different}
@@ -15,4 +15,4 @@ IsDifferent d ns = (d.count ≡ length (distinct ns))
 -- the same as a test
 abbrev pub is_different : Different → List Node → Bool
 is_different d ns = (d.count == length (distinct ns))
-    && eq (alone_value (alone_of d.alone)) (only_value (distinct ns))
+    && identical (alone_value (alone_of d.alone)) (only_value (distinct ns))

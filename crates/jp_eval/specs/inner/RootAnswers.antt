@@ -5,9 +5,9 @@ use Rattle.std.specs.declared.alloc.Global.{Global}
 use Rattle.jp_doc.specs.Json.{Json, object, number}
 use Rattle.jp_flat.specs.Gathered.{entry}
 use Rattle.jp_flat.specs.declared.value.FlatMember.{FlatMember}
-use Rattle.jp_number.specs.Profile.{whole}
+use Rattle.jp_number.specs.Number.{whole}
 use Rattle.jp_part.specs.Members.{members}
-use Rattle.jp_value.specs.Comparison.{eq}
+use Rattle.jp_eval.specs.inner.Identical.{identical}
 use Rattle.jp_value.specs.Functions.{length_value}
 use Rattle.jp_eval.specs.inner.Aggregates.{told}
 use Rattle.jp_eval.specs.declared.aggregates.Aggregate.{Aggregate}
@@ -17,8 +17,8 @@ use Rattle.jp_eval.specs.declared.root_answer.Length.TheVariants.{Unknown, Nothi
 -- the length of the value that is told, where it is kept
 abbrev pub is_length : Length → Aggregate → Bool
 is_length Unknown a = true
-is_length Nothing a = eq None (length_value (told a))
-is_length (Number n) a = eq (Some (number (whole n))) (length_value (told a))
+is_length Nothing a = identical None (length_value (told a))
+is_length (Number n) a = identical (Some (number (whole n))) (length_value (told a))
 
 -- the length of a value, or nothing, where it is known
 abbrev pub IsLength : Length → Option Json → Type 0
@@ -29,4 +29,4 @@ IsLength (Number n) v = Some (number (whole n)) ≡ length_value v
 -- the members of the value that is told, where they are kept
 abbrev pub are_members : Option (Vec FlatMember Global) → Aggregate → Bool
 are_members None a = true
-are_members (Some l) a = eq (Some (object (members (map entry l.items)))) (told a)
+are_members (Some l) a = identical (Some (object (members (map entry l.items)))) (told a)

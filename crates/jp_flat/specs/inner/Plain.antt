@@ -1,5 +1,5 @@
 -- What the quick reading of a line lets through: a working file, which nobody has to believe.
-use Rattle.std.specs.Prelude.{ℕ, suc, ◌+◌, ◌-◌, ◌^◌, Bool, true, false, not, ◌&&◌, ◌||◌, ◌==◌, nat_lt, nat_le}
+use Rattle.std.specs.Prelude.{ℕ, suc, ◌-◌, ◌^◌, Bool, true, false, not, ◌&&◌, ◌||◌, ◌==◌, nat_lt, nat_le}
 use Rattle.std.specs.Prelude.{List, [], ◌∷◌, Option, Some, None}
 use Rattle.std.specs.Prelude.{length, drop, slice_index, if◌then◌else◌}
 use Rattle.std.specs.Char.{is_ascii_digit}
@@ -10,7 +10,7 @@ use Rattle.json.specs.Token.{Token}
 use Rattle.json.specs.Json as text
 use Rattle.json.specs.Tree.{json_tokens}
 use Rattle.serde_json.specs.Read.{max_depth}
-use Rattle.jp_doc.specs.Reading.{max_items}
+use Rattle.jp_doc.specs.ReadingIn as numbers
 
 -- some digits, of which the first is no zero before others
 abbrev pub are_digits : List ℕ → Bool
@@ -63,9 +63,9 @@ abbrev mutual
   members_are_plain text.no_members = true
   members_are_plain (text.member k j ms) = is_utf8 k && (is_plain j && members_are_plain ms)
 
--- the greatest number of tokens: those of an array of the greatest number of items, and its brackets
+-- the greatest number of tokens, as of any line that is read by its tree
 abbrev pub max_tokens : ℕ
-max_tokens = max_items + 2
+max_tokens = numbers.max_tokens
 
 abbrev pub is_small : Option (text.Json × List Token) → Bool
 is_small None = false

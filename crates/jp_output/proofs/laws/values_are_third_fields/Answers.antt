@@ -5,7 +5,7 @@ use Rattle.jp_output.proofs.ThirdFields.{values_of_lines}
 use Rattle.jp_output.proofs.laws.values_are_third_fields.Goals as goal
 
 pub returns-clause-third : goal.returns-clause-third
-returns-clause-third c = λ l ns. sym (values_of_lines l.0 ns)
+returns-clause-third c = λ l ns h. sym (values_of_lines l.0 ns h)
 
 pub returns-clause-one_line : goal.returns-clause-one_line
 returns-clause-one_line c = value_one_line

@@ -1,5 +1,8 @@
-use Rattle.jp_value.proofs.Sameness.{same_is_equal, self_same}
+use Rattle.jp_value.proofs.Sameness.{same_is_equal, self_same, equivalence}
 use Rattle.jp_value.proofs.laws.comparison.Goals as goal
+
+pub returns-clause-equivalence : goal.returns-clause-equivalence
+returns-clause-equivalence c = equivalence
 
 pub returns-clause-equality : goal.returns-clause-equality
 returns-clause-equality c = same_is_equal

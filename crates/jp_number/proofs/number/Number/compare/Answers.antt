@@ -19,5 +19,5 @@ returns-in-Written-Whole c =
     let r : FitsSigned w128 c.in-Written-Whole.right = search rules in
     let h = simp to_z-of_z at c.compare_whole-in-Written-Whole.ensures in
     rw (c.in-Written-Whole.is-0, c.in-Written-Whole.is-1)
-    (turned_round (whole c.in-Written-Whole.right) (written c.in-Written-Whole.left.now)
+    (turned_round (whole c.in-Written-Whole.right) (written c.in-Written-Whole.left.text.now)
     c.compare_whole-in-Written-Whole.result c.reverse.result h c.reverse.ensures)

@@ -1,0 +1,164 @@
+-- Laws of what a line is read as, by the numbers that a document may have.
+use Rattle.std.proofs.Common.{◌≡◌, ℕ, ◌≤◌, Bool, true, false, List, length, Option, Some, None, Result}
+use Rattle.std.proofs.Common.{Ok, Err, option_map, refl, sym, ap, ◌∙◌, subst, arith, if◌then◌else◌}
+use Rattle.std.proofs.Common.{nat_lt}
+use Rattle.std.proofs.lemmas.Bool.{ltb-false}
+use Rattle.std.specs.Str.{is_utf8}
+use Rattle.json.specs.Json as grammar
+use Rattle.json.specs.Lex.{tokens}
+use Rattle.json.specs.Tree.{json_tokens}
+use Rattle.json.proofs.Found.{not_found, Some_inj}
+use Rattle.jp_doc.specs.Height.{height}
+use Rattle.jp_doc.specs.Json.{Json}
+use Rattle.jp_doc.specs.NumbersWithin.{HasJsonNumbers}
+use Rattle.jp_doc.specs.Reading.{max_line, max_items, has_long_array, reading}
+use Rattle.jp_doc.specs.ReadingIn.{Numbers, whole_numbers, decimals, max_tokens, has_long_number}
+use Rattle.jp_doc.specs.ReadingIn.{document_of, tree_reading, or_else, reading_in}
+use Rattle.jp_doc.specs.Rising.{IsRising}
+use Rattle.jp_doc.specs.Tree.{tree_of, tree_json}
+use Rattle.jp_doc.specs.declared.fault.DocFault.{DocFault}
+use Rattle.jp_doc.specs.declared.fault.DocFault.TheVariants.{LongLine, Unreadable, NotWhole, LongNumber}
+use Rattle.jp_doc.specs.declared.fault.DocFault.TheVariants.{LongArray, Memory}
+use Rattle.jp_doc.proofs.NumberLaws.{json_numbers, reading_is_whole, line_numbers}
+use Rattle.jp_doc.proofs.ReadingLaws.{document_is_read, long_line_is_long}
+use Rattle.jp_doc.proofs.TreeFacts.{tree_rises, tree_height, tree_is_short}
+use Rattle.jp_doc.proofs.TreeLaws.{tree_agrees}
+use Rattle.jp_doc.proofs.TreeNesting.{spelled_tree}
+
+-- ---- with decimals nothing that is read changes
+
+pub same_reading : (n : Numbers) (line : List ℕ) (v : Json) → reading line ≡ Ok v → reading_in n line ≡ Ok v
+same_reading whole_numbers line v e = e
+same_reading decimals line v e = ap (λ r. or_else r (tree_reading line)) e
+
+pub same_long_line : (n : Numbers) (line : List ℕ) → reading line ≡ Err LongLine
+    → reading_in n line ≡ Err LongLine
+same_long_line whole_numbers line e = e
+same_long_line decimals line e = ap (λ r. or_else r (tree_reading line)) e
+
+-- ---- what the tree tells
+
+-- a value by the grammar alone is that of the line's tree, which has few tokens
+record IsOfTree (line : List ℕ) (v : Json) : Type 0 where
+  tree : grammar.Json
+  found : tree_of line ≡ Some tree
+  few : length (tokens line) ≤ max_tokens
+  value : tree_json tree ≡ v
+
+tested : (other long : Bool) (line : List ℕ) (j : grammar.Json) (v : Json) → tree_of line ≡ Some j
+    → nat_lt max_tokens (length (tokens line)) ≡ long
+    → ◌≡◌ {A = Result Json DocFault} (if other then Err LongNumber else if long then Err LongArray
+    else Ok (tree_json j)) (Ok v)
+    → IsOfTree line v
+tested true long line j v is e h = absurd (cc)
+tested false true line j v is e h = absurd (cc)
+tested false false line j v is e h =
+    record { tree = j; found = is; few = ltb-false max_tokens (length (tokens line)) e; value = cc }
+
+from_tree : (o : Option grammar.Json) (line : List ℕ) (v : Json) → tree_of line ≡ o
+    → document_of o (length (tokens line)) ≡ Ok v → IsOfTree line v
+from_tree None line v is h = absurd (cc)
+from_tree (Some j) line v is h = tested (has_long_number j) _ line j v is refl h
+
+of_tree_if : (b : Bool) (line : List ℕ) (v : Json)
+    → (if b then document_of (tree_of line) (length (tokens line)) else Err Unreadable) ≡ Ok v
+    → IsOfTree line v
+of_tree_if true line v h = from_tree (tree_of line) line v refl h
+of_tree_if false line v h = absurd (cc)
+
+of_tree : (line : List ℕ) (v : Json) → tree_reading line ≡ Ok v → IsOfTree line v
+of_tree line v h = of_tree_if (is_utf8 line) line v h
+
+too_long : (line : List ℕ) (P : Type 0) → length line ≤ max_line → reading line ≡ Err LongLine → P
+too_long line P short e = let long = long_line_is_long line e in absurd (omega (arith, long))
+
+-- of a line that is not too long the tree alone tells, where it has a value, or where `reading` has none
+pub value_by_tree : (line : List ℕ) (v : Json) → length line ≤ max_line → tree_reading line ≡ Ok v
+    → reading_in decimals line ≡ Ok v
+value_by_tree line v short h = go (reading line) refl
+  where
+    go : (r : Result Json DocFault) → reading line ≡ r → or_else r (tree_reading line) ≡ Ok v
+    go (Ok w) e =
+        let t = of_tree line v h in
+        let same = Some_inj _ _ (sym (ap (option_map tree_json) t.found) ∙ tree_agrees line w e) in
+        ap Ok (sym same ∙ t.value)
+    go (Err LongLine) e = too_long line _ short e
+    go (Err Unreadable) e = h
+    go (Err NotWhole) e = h
+    go (Err LongNumber) e = h
+    go (Err LongArray) e = h
+    go (Err Memory) e = h
+
+pub fault_by_tree : (line : List ℕ) (f : DocFault) → length line ≤ max_line → reading line ≡ Err f
+    → reading_in decimals line ≡ tree_reading line
+fault_by_tree line LongLine short e = too_long line _ short e
+fault_by_tree line Unreadable short e = ap (λ r. or_else r (tree_reading line)) e
+fault_by_tree line NotWhole short e = ap (λ r. or_else r (tree_reading line)) e
+fault_by_tree line LongNumber short e = ap (λ r. or_else r (tree_reading line)) e
+fault_by_tree line LongArray short e = ap (λ r. or_else r (tree_reading line)) e
+fault_by_tree line Memory short e = ap (λ r. or_else r (tree_reading line)) e
+
+-- ---- what is true of every value that is read
+
+record IsRead (v : Json) : Type 0 where
+  rises : IsRising v
+  nests : height v ≤ 127
+  short : has_long_array max_items v ≡ false
+  numbers : HasJsonNumbers v
+
+of_whole : (line : List ℕ) (v : Json) → reading line ≡ Ok v → IsRead v
+of_whole line v e = go (tree_of line) refl (tree_agrees line v e)
+  where
+    go : (o : Option grammar.Json) → tree_of line ≡ o → option_map tree_json o ≡ Some v → IsRead v
+    go None is h = not_found v h
+    go (Some j) is h =
+        let same : tree_json j ≡ v = Some_inj (tree_json j) v h in
+        let nests = (spelled_tree line j is).1 in
+        let height_is : height (tree_json j) ≡ height v = ap height same in
+        record {
+          rises = subst IsRising same (tree_rises j);
+          nests = omega (arith, tree_height j, nests, height_is);
+          short = (document_is_read line v e).4;
+          numbers = json_numbers v (reading_is_whole line v e);
+        }
+
+of_decimals : (line : List ℕ) (v : Json) → tree_reading line ≡ Ok v → IsRead v
+of_decimals line v h =
+    let t = of_tree line v h in
+    let spelled = spelled_tree line t.tree t.found in
+    let few : length (json_tokens t.tree) ≤ max_tokens =
+    subst (λ ts. length ts ≤ max_tokens) spelled.0 t.few in
+    let height_is : height (tree_json t.tree) ≡ height v = ap height t.value in
+    record {
+      rises = subst IsRising t.value (tree_rises t.tree);
+      nests = omega (arith, tree_height t.tree, spelled.1, height_is);
+      short = sym (ap (has_long_array max_items) t.value) ∙ tree_is_short t.tree max_items few;
+      numbers = subst HasJsonNumbers t.value (line_numbers line t.tree t.found);
+    }
+
+of_either : (line : List ℕ) (r : Result Json DocFault) (v : Json) → reading line ≡ r
+    → or_else r (tree_reading line) ≡ Ok v → IsRead v
+of_either line (Ok w) v e h = of_whole line v (e ∙ h)
+of_either line (Err LongLine) v e h = absurd (cc)
+of_either line (Err Unreadable) v e h = of_decimals line v h
+of_either line (Err NotWhole) v e h = of_decimals line v h
+of_either line (Err LongNumber) v e h = of_decimals line v h
+of_either line (Err LongArray) v e h = of_decimals line v h
+of_either line (Err Memory) v e h = of_decimals line v h
+
+is_read : (n : Numbers) (line : List ℕ) (v : Json) → reading_in n line ≡ Ok v → IsRead v
+is_read whole_numbers line v h = of_whole line v h
+is_read decimals line v h = of_either line (reading line) v refl h
+
+pub read_rises : (n : Numbers) (line : List ℕ) (v : Json) → reading_in n line ≡ Ok v → IsRising v
+read_rises n line v h = (is_read n line v h).rises
+
+pub read_nests : (n : Numbers) (line : List ℕ) (v : Json) → reading_in n line ≡ Ok v → height v ≤ 127
+read_nests n line v h = (is_read n line v h).nests
+
+pub read_short : (n : Numbers) (line : List ℕ) (v : Json) → reading_in n line ≡ Ok v
+    → has_long_array max_items v ≡ false
+read_short n line v h = (is_read n line v h).short
+
+pub read_numbers : (n : Numbers) (line : List ℕ) (v : Json) → reading_in n line ≡ Ok v → HasJsonNumbers v
+read_numbers n line v h = (is_read n line v h).numbers

@@ -1,0 +1,68 @@
+-- What a line is read as, by the numbers that a document may have (RFC 8259, 6).
+use Rattle.std.specs.Prelude.{ℕ, ◌+◌, Bool, false, not, ◌||◌, nat_lt, List, length, Option, Some, None}
+use Rattle.std.specs.Prelude.{Result, Ok, Err, if◌then◌else◌}
+use Rattle.std.specs.Str.{is_utf8}
+use Rattle.json.specs.Json as grammar
+use Rattle.json.specs.Lex.{tokens}
+use Rattle.jp_doc.specs.Json.{Json}
+use Rattle.jp_doc.specs.Reading.{max_items, reading}
+use Rattle.jp_doc.specs.Tree.{tree_of, text_number, tree_json}
+use Rattle.jp_number.specs.Number.{is_short}
+use Rattle.jp_doc.specs.declared.fault.DocFault.{DocFault}
+use Rattle.jp_doc.specs.declared.fault.DocFault.TheVariants.{LongLine, Unreadable, NotWhole, LongNumber}
+use Rattle.jp_doc.specs.declared.fault.DocFault.TheVariants.{LongArray, Memory}
+
+-- whole ones of 64 bits alone, or all those of RFC 8259 within the limits
+pub data Numbers : Type 0 where
+  whole_numbers : Numbers
+  decimals : Numbers
+
+-- the greatest number of tokens: those of an array of the greatest number of items, and its brackets
+abbrev pub max_tokens : ℕ
+max_tokens = max_items + 2
+
+-- some number in the tree is over the limits, also where the last member of its name covers it
+abbrev mutual
+  pub has_long_number : grammar.Json → Bool
+  has_long_number grammar.null = false
+  has_long_number (grammar.boolean b) = false
+  has_long_number (grammar.number s) = not (is_short (text_number s))
+  has_long_number (grammar.string s) = false
+  has_long_number (grammar.array js) = items_have_long_number js
+  has_long_number (grammar.object ms) = members_have_long_number ms
+
+  pub items_have_long_number : grammar.Items → Bool
+  items_have_long_number grammar.no_items = false
+  items_have_long_number (grammar.item j js) = has_long_number j || items_have_long_number js
+
+  pub members_have_long_number : grammar.Members → Bool
+  members_have_long_number grammar.no_members = false
+  members_have_long_number (grammar.member k j ms) = has_long_number j || members_have_long_number ms
+
+-- what is left to test of a tree: its numbers, and then how many tokens the line has
+abbrev pub document_of : Option grammar.Json → ℕ → Result Json DocFault
+document_of None count = Err Unreadable
+document_of (Some j) count =
+    if has_long_number j then Err LongNumber
+    else if nat_lt max_tokens count then Err LongArray
+    else Ok (tree_json j)
+
+-- what a line of at most so many bytes is read as by the grammar alone
+abbrev pub tree_reading : List ℕ → Result Json DocFault
+tree_reading line = if is_utf8 line then document_of (tree_of line) (length (tokens line)) else Err Unreadable
+
+-- the first, where it is a value or tells of a line that is too long, and else the second
+abbrev pub or_else : Result Json DocFault → Result Json DocFault → Result Json DocFault
+or_else (Ok v) other = Ok v
+or_else (Err LongLine) other = Err LongLine
+or_else (Err Unreadable) other = other
+or_else (Err NotWhole) other = other
+or_else (Err LongNumber) other = other
+or_else (Err LongArray) other = other
+or_else (Err Memory) other = other
+
+-- The document that a line holds, or the first of the faults that applies. What is read with whole numbers
+-- alone is read so with all.
+abbrev pub reading_in : Numbers → List ℕ → Result Json DocFault
+reading_in whole_numbers line = reading line
+reading_in decimals line = or_else (reading line) (tree_reading line)

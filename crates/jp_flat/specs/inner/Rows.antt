@@ -1,0 +1,40 @@
+-- Which numbers tokens hold, and what a reader by the grammar alone answers: a working file, which nobody has
+-- to believe.
+use Rattle.std.specs.Prelude.{Bool, true, false, not, ◌&&◌, nat_lt, List, [], ◌∷◌, length, Option, Some, None}
+use Rattle.std.specs.Prelude.{Result, Ok, Err, if◌then◌else◌}
+use Rattle.json.specs.Json as text
+use Rattle.json.specs.Token.{Token}
+use Rattle.serde_json.specs.Data.{Num}
+use Rattle.serde_json.specs.Find.{is_float}
+use Rattle.jp_doc.specs.Json.{Json}
+use Rattle.jp_doc.specs.ReadingIn.{max_tokens}
+use Rattle.jp_doc.specs.Tree.{text_number, tree_json}
+use Rattle.jp_doc.specs.declared.fault.DocFault.{DocFault}
+use Rattle.jp_doc.specs.declared.fault.DocFault.TheVariants.{Unreadable, LongNumber, LongArray}
+use Rattle.jp_flat.specs.inner.Nesting.{nests_from}
+use Rattle.jp_number.specs.Number.{is_short}
+
+-- the JSON crate reads a number as a whole one of 64 bits
+abbrev pub is_whole_number : Option Num → Bool
+is_whole_number None = false
+is_whole_number (Some n) = not (is_float n)
+
+-- each number is within the limits
+abbrev pub are_short : List Token → Bool
+are_short [] = true
+are_short (Token.begin_object ∷ ts) = are_short ts
+are_short (Token.end_object ∷ ts) = are_short ts
+are_short (Token.begin_array ∷ ts) = are_short ts
+are_short (Token.end_array ∷ ts) = are_short ts
+are_short (Token.key s ∷ ts) = are_short ts
+are_short (Token.string s ∷ ts) = are_short ts
+are_short (Token.number s ∷ ts) = is_short (text_number s) && are_short ts
+are_short (Token.boolean b ∷ ts) = are_short ts
+are_short (Token.null ∷ ts) = are_short ts
+are_short (Token.bad ∷ ts) = are_short ts
+
+-- the answer, from a pass over the tokens of a line that the kit reads as this tree
+abbrev pub pass_answer : List Token → text.Json → Result Json DocFault
+pass_answer ts j =
+    if nests_from 0 ts then (if are_short ts then (if nat_lt max_tokens (length ts) then Err LongArray
+    else Ok (tree_json j)) else Err LongNumber) else Err Unreadable
