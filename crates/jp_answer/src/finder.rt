@@ -1,11 +1,11 @@
 //! A worker of a round, which claims slots and answers their lines.
 
-ghost use Rattle.std.specs.Prelude.{◌≡◌, ◌<◌, All, Contains, IfOk, length};
+ghost use Rattle.std.specs.Prelude.{◌≡◌, IfOk, length};
 ghost use Rattle.jp_compiled.specs.Compiled.{compiled_query};
 ghost use Rattle.jp_eval.specs.Evaluated.{evaluated_query};
-ghost use Rattle.jp_board.specs.Seats.{IsSeatOf, pieces_of as pieces_of_board};
+ghost use Rattle.jp_board.specs.Seats.{pieces_of as pieces_of_board};
 ghost use Rattle.jp_answer.specs.OnFault.{manner};
-ghost use Rattle.jp_answer.specs.Rounds.{IsFound};
+ghost use Rattle.jp_answer.specs.Rounds.{IsFinding};
 ghost use Rattle.jp_answer.specs.Rows.{IsAnswerTo};
 
 use crate::answering::{Tools, answer_lines};
@@ -20,12 +20,8 @@ use boxcar::slot::Written;
 use jp_board::{Board, Seat};
 use jp_buffer::WaitingLines;
 use jp_output::Form;
-use std::alloc::AllocError;
+use std::alloc::{AllocError, Global};
 use std::thread::Threads;
-
-/// How often a worker looks for the lines of a slot that it has claimed: some tenths of a millisecond, about
-/// as long as a thread takes to start.
-const LOOKS: u32 = 4_000;
 
 /// The answer to the lines of a slot.
 #[derive(Drop)]
@@ -38,7 +34,7 @@ pub struct Found {
     pub answer: Outcome,
 }
 
-/// What a worker of a round hands back.
+/// A worker of a round: its seat at the board, and what it has found.
 #[derive(Drop)]
 pub(crate) struct Finder {
     pub(crate) seat: Seat,
@@ -47,12 +43,19 @@ pub(crate) struct Finder {
     pub(crate) wanted: bool,
 }
 
-/// What a worker of a round has before it.
-#[derive(Drop)]
-struct Place<'q> {
-    seat: Seat,
-    tools: Tools<'q>,
-    found: Vec<Found>,
+impl Finder {
+    ghost use Rattle.std.specs.Prelude.{[]};
+
+    /// A worker that has found nothing yet. It takes no memory.
+    pub(crate) fn new(alloc: Global, seat: Seat) -> Finder
+        ensures { (result.seat ≡ seat) × (result.found.items ≡ []) }
+    {
+        Finder {
+            seat,
+            found: Vec::new(alloc),
+            wanted: false,
+        }
+    }
 }
 
 /// Claims slots and answers what they hold, until all are claimed, one holds nothing for a while, or memory
@@ -61,40 +64,26 @@ pub(crate) fn find<R: Threads + Sync, G: Gate, F: Form + Drop + Send>(
     crew: &Crew<R, G>,
     round: &Round<'_>,
     board: &Board,
-    seat: Seat,
-) -> Finder
-    requires seat { IsSeatOf board.now seat }
+    worker: &mut Finder,
+)
     requires slots { pieces_of_board board.now ≡ length round.now.slots.now }
-    ensures seat { IsSeatOf board.now result.seat }
-    ensures found { All (IsFound F.says round.now) result.found.items }
+    requires finding { IsFinding F.says round.now board.now worker.old }
+    ensures { IsFinding F.says round.now board.now worker.new }
 {
-    let mut place = Place {
-        seat,
-        tools: Tools::new(crew.alloc, round.query),
-        found: Vec::new(crew.alloc),
-    };
-    let mut wanted = false;
+    // For all lines of this worker's, and no longer: a reader's arena can't cross to another thread (README,
+    // Why so).
+    let mut tools = Tools::new(crew.alloc, round.query);
     for _claim in 0..round.slots.len() {
-        match find_next::<R, G, F>(crew, round, board, &mut place) {
+        match find_next::<R, G, F>(crew, round, board, worker, &mut tools) {
             Ok(true) => {}
             Ok(false) => break,
             Err(AllocError) => {
-                wanted = true;
+                worker.wanted = true;
                 break;
             }
         }
     }
     round.progress.end();
-    let Place {
-        seat,
-        tools: _,
-        found,
-    } = place;
-    Finder {
-        seat,
-        found,
-        wanted,
-    }
 }
 
 /// Claims a slot and answers its lines, unless an earlier answer is known to have stopped. Gives whether
@@ -103,32 +92,31 @@ fn find_next<R: Threads + Sync, G: Gate, F: Form + Drop + Send>(
     crew: &Crew<R, G>,
     round: &Round<'_>,
     board: &Board,
-    place: &mut Place<'_>,
+    worker: &mut Finder,
+    tools: &mut Tools<'_>,
 ) -> Result<bool, AllocError>
-    requires seat { IsSeatOf board.now place.old.seat }
     requires slots { pieces_of_board board.now ≡ length round.now.slots.now }
-    requires query { evaluated_query place.old.tools.evaluator ≡ compiled_query round.now.query.now }
-    requires found { All (IsFound F.says round.now) place.old.found.items }
-    ensures seat { IsSeatOf board.now place.new.seat }
-    ensures query { evaluated_query place.new.tools.evaluator ≡ evaluated_query place.old.tools.evaluator }
-    ensures found { All (IsFound F.says round.now) place.new.found.items }
+    requires finding { IsFinding F.says round.now board.now worker.old }
+    requires query { evaluated_query tools.old.evaluator ≡ compiled_query round.now.query.now }
+    ensures finding { IsFinding F.says round.now board.now worker.new }
+    ensures query { evaluated_query tools.new.evaluator ≡ evaluated_query tools.old.evaluator }
 {
-    let Some(piece) = board.claim(&mut place.seat) else {
+    let Some(piece) = board.claim(&mut worker.seat) else {
         return Ok(false);
     };
-    if is_left(round.on_fault, board, &mut place.seat, piece) {
+    if is_left(round.on_fault, board, &mut worker.seat, piece) {
         return Ok(true);
     }
     let at = piece as usize;
-    let Some(seen) = look(&round.slots[at], LOOKS) else {
+    let Some(seen) = look(&round.slots[at], round.progress) else {
         return Ok(false);
     };
     crew.gate.pass(piece);
-    let answer = answer_slot::<R, G, F>(crew, round, &mut place.tools, &round.slots[at], &seen)?;
+    let answer = answer_slot::<R, G, F>(crew, round, tools, &round.slots[at], &seen)?;
     let stopped = answer.stopped.is_some();
-    place.found.push(Found { at, seen, answer })?;
+    worker.found.push(Found { at, seen, answer })?;
     if stopped {
-        board.report(&mut place.seat, piece);
+        board.report(&mut worker.seat, piece);
         round.progress.stop();
     }
     Ok(true)

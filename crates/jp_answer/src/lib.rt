@@ -27,6 +27,6 @@ pub use outcome::{DocStop, Outcome};
 pub use published::Published;
 pub use round::Round;
 pub use round_answer::join_row;
-pub use round_workers::answer_row;
+pub use round_workers::answer_beside;
 pub use row::{FewLines, Progress, Slot, new_row};
 pub use workers::answer_in_chunks;

@@ -7,8 +7,8 @@ use boxcar::tag::Tag;
 use jp_buffer::WaitingLines;
 use std::alloc::{AllocError, Global};
 use std::hint::spin_loop;
-use std::sync::atomic::AtomicU64;
 use std::sync::atomic::Ordering::Relaxed;
+use std::sync::atomic::{AtomicBool, AtomicU64};
 
 /// What is asked of the lines in a slot: no more than a board takes pieces.
 pub struct FewLines;
@@ -34,34 +34,47 @@ pub fn new_row(alloc: Global, len: usize) -> Result<Vec<Slot>, AllocError>
     Ok(slots)
 }
 
-/// Looks so many times whether the slot holds lines.
-pub(crate) fn look(slot: &Slot, times: u32) -> Option<Written<WaitingLines>>
+/// How often a worker looks for the lines of a slot that it has claimed: some tenths of a millisecond, about
+/// as long as a thread takes to start.
+const LOOKS: u32 = 4_000;
+
+/// Looks for the lines of a slot: for a while, as long as some may still be published.
+pub(crate) fn look(slot: &Slot, progress: &Progress) -> Option<Written<WaitingLines>>
     ensures { IfSome result (λ w. w.of ≡ slot.now.id) }
 {
-    for _time in 0..times {
+    for _time in 0..LOOKS {
+        // Asked before the slot is looked at: what is published before the end is found.
+        let is_last = progress.is_closed();
         if let Some(seen) = slot.witness() {
             return Some(seen);
+        }
+        if is_last {
+            break;
         }
         spin_loop();
     }
     None
 }
 
-/// How a round goes: what the calling thread looks at between its reads.
+/// How a round goes: what the calling thread and the workers tell one another. All of it are hints: no clause
+/// says them.
 #[derive(Drop)]
 pub struct Progress {
     /// How many workers have ended.
     ended: AtomicU64,
     /// How many answers have stopped at a faulty line.
     stopped: AtomicU64,
+    /// Whether nothing more is published.
+    closed: AtomicBool,
 }
 
 impl Progress {
-    /// No worker has ended, and no answer has stopped.
+    /// No worker has ended, no answer has stopped, and lines may be published.
     pub fn new() -> Progress {
         Progress {
             ended: AtomicU64::new(0),
             stopped: AtomicU64::new(0),
+            closed: AtomicBool::new(false),
         }
     }
 
@@ -75,9 +88,19 @@ impl Progress {
         self.stopped.fetch_add(1, Relaxed);
     }
 
-    /// Whether nobody is left to answer what is published, of so many workers, or the answer ends before it.
-    /// It is a hint: no clause says it.
+    /// Tells that nothing more is published.
+    pub(crate) fn close(&self) {
+        self.closed.store(true, Relaxed);
+    }
+
+    /// Whether nothing more is published.
+    fn is_closed(&self) -> bool {
+        self.closed.load(Relaxed)
+    }
+
+    /// Whether nobody is left to answer what is published, of so many workers, of which the calling thread is
+    /// one, or the answer ends before it.
     pub fn is_over(&self, workers: u64) -> bool {
-        self.ended.load(Relaxed) >= workers || self.stopped.load(Relaxed) > 0
+        self.ended.load(Relaxed) >= workers.saturating_sub(1) || self.stopped.load(Relaxed) > 0
     }
 }

@@ -4,7 +4,6 @@ pub mod Going
 pub mod Handed
 pub mod Handing
 pub mod Holding
-pub mod JobCrosses
 pub mod Numbering
 pub mod Pieces
 pub mod Runs

@@ -3,7 +3,6 @@
 ghost use Rattle.std.specs.Prelude.{◌≡◌, ◌+◌, ◌<◌, ◌≤◌, ◌^◌, ◌++◌, None, false, true, List, length, IfOk};
 ghost use Rattle.std.specs.Prelude.{◌-◌, OnOk, IfErr, All};
 ghost use Rattle.std.specs.Io.KnownBytes.{IsAtEnd};
-ghost use Rattle.std.specs.Thread.{IsSync};
 ghost use Rattle.jp_doc.specs.Lines.{Line};
 ghost use Rattle.jp_doc.specs.Feeding.{has_line_feed};
 ghost use Rattle.jp_compiled.specs.Compiled.{compiled_query};
@@ -28,12 +27,12 @@ use crate::settings::Settings;
 use crate::stream::Stream;
 use crate::telling::tell_round;
 use jp_answer::{
-    Found, Gate, Outcome, Progress, Published, Round, Slot, answer_row, join_row, new_row,
+    Found, Gate, Outcome, Progress, Published, Round, Slot, answer_beside, join_row, new_row,
 };
 use jp_buffer::{LineBuffer, PartSize, WaitingLines};
 use jp_output::Form;
 use std::alloc::AllocError;
-use std::thread::{Threads, join_mut};
+use std::thread::Threads;
 
 /// How many bytes of lines one worker answers at a time: few enough to be answered while they lie in the
 /// cache.
@@ -262,10 +261,6 @@ fn at_once<R: Threads + Sync, S: Source, G: Gate + Sync, F: Form + Drop + Send>(
       reads_new = S.reads source.new;
     }) incoming.old incoming.new given.old given.new result.1 }
 {
-    let mut answering = || -> Result<Vec<Found>, AllocError>
-        requires { IsSync R.row × IsSync G.row }
-        ensures { IfOk result (λ v. All (IsFound F.says round.entry.now) v.items) }
-    { answer_row::<R, G, F>(&job.crew, round) };
     let mut reading = || -> Result<bool, RunFault>
         requires { AreShown round.now.slots.now given.now.published × (given.now.lines ≤ wanted.lines)
             × MayRead (wanted.lines - given.now.lines) (S.failed source.now) (S.reads source.now)
@@ -280,7 +275,7 @@ fn at_once<R: Threads + Sync, S: Source, G: Gate + Sync, F: Form + Drop + Send>(
               reads_new = S.reads source.exit.now;
             }) incoming.entry.now incoming.exit.now given.entry.now given.exit.now result }
     { publish_on(job.crew.alloc, round, source, incoming, wanted, given) };
-    join_mut(job.crew.rt, &mut answering, &mut reading)
+    answer_beside::<R, G, F, _, _>(&job.crew, round, &mut reading)
 }
 
 /// How many workers a round gets: as many as are set, but no more than one for each 16,384 bytes that its

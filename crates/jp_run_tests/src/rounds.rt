@@ -119,6 +119,59 @@ fn the_first_piece_of_a_round_waits_for_the_third(rt: HostRuntime) -> Result<(),
     Ok(())
 }
 
+/// How many turns the first piece waits for all others.
+const TURNS: u64 = 10_000_000;
+
+/// The first piece waits until so many others have passed.
+#[derive(Drop)]
+struct WaitsForAll {
+    others: u64,
+    passed: AtomicU64,
+    failures: AtomicU64,
+}
+
+impl Gate for WaitsForAll {
+    fn pass(&self, piece: u64) {
+        if piece > 0 {
+            self.passed.fetch_add(1, Ordering::SeqCst);
+            return;
+        }
+        for _turn in 0..TURNS {
+            if self.passed.load(Ordering::SeqCst) >= self.others {
+                return;
+            }
+            thread::yield_now();
+        }
+        self.failures.fetch_add(1, Ordering::SeqCst);
+    }
+}
+
+/// Of two workers one is the calling thread, once it has published: one of them answers all pieces but the
+/// first, for which the other one waits.
+#[test]
+fn the_first_piece_of_a_round_waits_for_all_others(rt: HostRuntime) -> Result<(), Fail> {
+    let text = lines_of(rt.alloc(), 2 * FIRST, BLANKS, &[])?;
+    let wanted = answer_of(rt.alloc(), 2 * FIRST, &[])?;
+    let settings = Settings::new(2, 1, BATCH)?;
+    let gate = WaitsForAll {
+        others: 2 * FIRST - 1,
+        passed: AtomicU64::new(0),
+        failures: AtomicU64::new(0),
+    };
+    assert!(rt;
+        is_run(
+            &rt,
+            rt.alloc(),
+            text.as_bytes(),
+            &settings,
+            &gate,
+            (&wanted, 0)
+        )
+    );
+    assert_eq!(rt; gate.failures.load(Ordering::SeqCst), 0);
+    Ok(())
+}
+
 /// What is there when a round begins is claimed by its workers, each piece by one of them.
 #[test]
 fn each_piece_of_a_round_once(rt: HostRuntime) -> Result<(), Fail> {

@@ -1,40 +1,53 @@
-use denote.Param.Send.{IsSync, recorded_sync, struct_sync, shr_sync, sendable}
+use denote.Param.Send.{IsSend, IsSync, recorded_send, struct_send, shr_send, mut_send, param_send, sendable}
 use denote.Param.{param}
+use denote.Ref.{NamedLft}
 use denote.Struct.Declared.{shape}
 use denote.Struct.Tuple.{TupleAt, field_at, type_at}
 use mir.Syntax.{named}
-use denote.Ref.{NamedLft}
+use Rattle.std.proofs.Crossing.{crosses}
 use Rattle.jp_board.proofs.board.Board.TheSendSync as boards
+use Rattle.jp_board.proofs.seat.Seat.TheSendSync as seats
 use Rattle.jp_answer.specs.contracts.crew.Crew as Crew
 use Rattle.jp_answer.proofs.crew.Crew.TheSendSync as crews
 use Rattle.jp_answer.proofs.QueryCrosses.{round_sync}
 use Rattle.jp_answer.proofs.round_workers.at_once.Lts as lts
 use Rattle.jp_answer.proofs.round_workers.at_once.Goals as goal
 
--- what the workers' closure captures may be shared: what the crew is given, the round and the board
-pub map_vec-requires-sync-F : goal.map_vec-requires-sync-F
-map_vec-requires-sync-F g c = λ κs outlives.
-    let names = lts.name-15 g.row.R g.row.G g.row.F g.R.laws g.G.laws g.F.laws g.R.Threads-dict g.G.Gate-dict
-    g.F.Form-dict g.F.Visit-dict g.F.Destruct-dict in
-    let lent : NamedLft = record { mir = named 8; lft = κs.1.1.1.1.1.1.1.1.0 } in
-    let cut : NamedLft = record { mir = named 10; lft = κs.1.1.1.1.1.1.1.1.1.1.0 } in
-    let rows = lts.of-8 g.row.R g.row.G g.row.F g.R.laws g.G.laws g.F.laws g.R.Threads-dict g.G.Gate-dict
-    g.F.Form-dict g.F.Visit-dict g.F.Destruct-dict
-    (record { mir = named 7; lft = κs.1.1.1.1.1.1.1.0 }) lent
-    (record { mir = named 9; lft = κs.1.1.1.1.1.1.1.1.1.0 }) cut
-    (record { mir = named 11; lft = κs.1.1.1.1.1.1.1.1.1.1.1.0 }) in
+-- what the other workers' thread is lent may be shared, and their seats may be sent
+pub join_mut-done-requires-send-F : goal.join_mut-done-requires-send-F
+join_mut-done-requires-send-F g c κs within =
+    let names = lts.name-25 g.row.R g.row.G g.row.F g.row.P g.row.X g.R.laws g.G.laws g.F.laws g.P.laws
+    g.X.laws g.R.Threads-dict g.G.Gate-dict g.F.Form-dict g.F.Visit-dict g.P.FnMut-dict g.P.FnOnce-dict
+    g.F.Destruct-dict g.P.Destruct-dict in
+    let lent : NamedLft = record { mir = named 10; lft = κs.1.1.1.1.1.1.1.1.1.1.0 } in
+    let cut : NamedLft = record { mir = named 12; lft = κs.1.1.1.1.1.1.1.1.1.1.1.1.0 } in
+    let rows = lts.of-20 g.row.R g.row.G g.row.F g.row.P g.row.X g.R.laws g.G.laws g.F.laws g.P.laws
+    g.X.laws g.R.Threads-dict g.G.Gate-dict g.F.Form-dict g.F.Visit-dict g.P.FnMut-dict g.P.FnOnce-dict
+    g.F.Destruct-dict g.P.Destruct-dict
+    (record { mir = named 8; lft = κs.1.1.1.1.1.1.1.1.0 })
+    (record { mir = named 9; lft = κs.1.1.1.1.1.1.1.1.1.0 }) lent
+    (record { mir = named 11; lft = κs.1.1.1.1.1.1.1.1.1.1.1.0 }) cut
+    (record { mir = named 13; lft = κs.1.1.1.1.1.1.1.1.1.1.1.1.1.0 }) in
+    let others = lts.of-8 g.row.R g.row.G g.row.F g.row.P g.row.X g.R.laws g.G.laws g.F.laws g.P.laws
+    g.X.laws g.R.Threads-dict g.G.Gate-dict g.F.Form-dict g.F.Visit-dict g.P.FnMut-dict g.P.FnOnce-dict
+    g.F.Destruct-dict g.P.Destruct-dict in
     let crew : IsSync (Crew.the_row lent (param 0 g.row.R) (param 1 g.row.G)) =
     crews.the_sync lent _ _ c.type_bounds.sync-R c.type_bounds.sync-G in
-    let captured : IsSync (TupleAt names rows) =
-    recorded_sync (field_at names rows).row _ _ (type_at names rows).to_one
-    (struct_sync (shape (type_at names rows)) (
-      shr_sync (named 7) κs.1.1.1.1.1.1.1.0 _ crew,
+    let sent : IsSend (TupleAt names rows) =
+    recorded_send (field_at names rows).row _ _ (type_at names rows).to_one
+    (struct_send (shape (type_at names rows)) (
+      mut_send (named 8) κs.1.1.1.1.1.1.1.1.0 others (search (seats.the_send, crosses, sendable) depth 60),
       (
-        shr_sync (named 9) κs.1.1.1.1.1.1.1.1.1.0 _ (round_sync cut),
+        shr_send (named 9) κs.1.1.1.1.1.1.1.1.1.0 _ crew,
         (
-          shr_sync (named 11) κs.1.1.1.1.1.1.1.1.1.1.1.0 _ boards.the_sync,
-          (search sendable depth 40, tt),
+          shr_send (named 11) κs.1.1.1.1.1.1.1.1.1.1.1.0 _ (round_sync cut),
+          (
+            shr_send (named 13) κs.1.1.1.1.1.1.1.1.1.1.1.1.1.0 _ boards.the_sync,
+            (search sendable depth 40, tt),
+          ),
         ),
       ),
     )) in
-    record { shared = captured.shared }
+    param_send 1 (lts.arg-1-1 g.row.R g.row.G g.row.F g.row.P g.row.X g.R.laws g.G.laws g.F.laws g.P.laws
+    g.X.laws g.R.Threads-dict g.G.Gate-dict g.F.Form-dict g.F.Visit-dict g.P.FnMut-dict g.P.FnOnce-dict
+    g.F.Destruct-dict g.P.Destruct-dict κs) (record { owned = sent.owned; leaving = λ k x w. (tt, tt) })
