@@ -47,6 +47,8 @@ pub(crate) enum Alone<'v> {
 }
 
 /// Whether a further node would change nothing.
+// Each child is asked for.
+#[inline(always)]
 pub(crate) fn is_full<V: Visit + Drop>(found: &Found<'_, V>) -> bool
     ensures { IsTrue result → (n : Node) → put_found V.put (kept V.kept found.now) n ≡ kept V.kept found.now }
 {
@@ -64,6 +66,8 @@ pub(crate) fn is_full<V: Visit + Drop>(found: &Found<'_, V>) -> bool
 /// Takes the node that the path leads to.
 ///
 /// `AllocError` if a growth was refused, or where there are more nodes than a `u64` counts.
+// Each node passes through it.
+#[inline(always)]
 pub(crate) fn add<'v, V: Visit + Drop>(
     alloc: Global,
     path: &mut PathStack<'v>,

@@ -52,6 +52,7 @@ pub(crate) struct Opened<'c, 'v> {
 }
 
 /// Whether the task finds nothing at the value, since it goes down, and nothing is inside.
+#[inline(always)]
 fn is_idle(task: Task<'_>, value: Part<'_>) -> bool
     ensures { IsTrue result → (base : Base) (at : Location)
         → done base task.entry (node at (part_value value.entry)) ≡ [] }
@@ -98,6 +99,8 @@ pub(crate) fn go<'v, V: Visit + Drop>(
 }
 
 /// The segments from the value on.
+// Each node passes through it, most often with no segment left.
+#[inline(always)]
 #[cycle(walk)]
 pub(crate) fn run<'v, V: Visit + Drop>(
     context: &Context<'v>,

@@ -241,6 +241,8 @@ impl<'d> FlatItems<'d> {
     ghost use Rattle.jp_flat.specs.Value.{flat_value, items_value, items_left, item_count};
 
     /// The first, and those behind it.
+    // Each turn of a loop over items takes one so: handed out by a call, it would go by memory.
+    #[inline(always)]
     pub fn split_first(self) -> Option<(FlatValue<'d>, FlatItems<'d>)>
         ensures value { MatchOption result (items_value self.entry ≡ array no_items)
             (λ p. (vs : Items) × (items_value self.entry ≡ array (add_item (flat_value p.0) vs))
@@ -296,6 +298,8 @@ impl<'d> FlatMembers<'d> {
     ghost use Rattle.jp_flat.specs.Value.{flat_value, entries, members_left};
 
     /// The first in the order of the line, and those behind it.
+    // As the items' one.
+    #[inline(always)]
     pub fn split_first(self) -> Option<(FlatMember<'d>, FlatMembers<'d>)>
         ensures value { MatchOption result (entries self.entry ≡ [])
             (λ p. entries self.entry ≡ (chars p.0.name.now, flat_value p.0.value) ∷ entries p.1) }

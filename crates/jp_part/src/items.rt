@@ -19,6 +19,8 @@ pub enum Items<'v> {
 
 impl<'v> Items<'v> {
     /// The first, and those behind it.
+    // Each turn of a loop over items takes one so: handed out by a call, it would go by memory.
+    #[inline(always)]
     pub fn split_first(self) -> Option<(Part<'v>, Items<'v>)>
         ensures { MatchOption result (item_values self.entry ≡ [])
             (λ p. item_values self.entry ≡ part_value p.0 ∷ item_values p.1) }

@@ -123,6 +123,8 @@ impl<'c, 'v> MemberRange<'c, 'v> {
     }
 
     /// The first, and those behind it.
+    // Each turn of a loop over members takes one so: handed out by a call, it would go by memory.
+    #[inline(always)]
     pub fn split_first(self) -> Option<(Member<'v>, MemberRange<'c, 'v>)>
         ensures { MatchOption result (range_entries self.entry ≡ [])
             (λ p. range_entries self.entry
