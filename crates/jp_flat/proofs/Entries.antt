@@ -1,72 +1,22 @@
--- The members that the JSON crate makes, and those that the definitions put together.
-use Rattle.std.proofs.Common.{◌≡◌, ℕ, true, false, List, [], ◌∷◌, Option, Some, None, option_and_then}
-use Rattle.std.proofs.Common.{Bool, Ordering, Less, Equal, Greater, is_eq, nat_cmp, refl, sym, ap, ◌∙◌}
-use Rattle.std.proofs.Common.{if◌then◌else◌, subst}
+-- The members of a tree, as the definitions put them together, and how a name is looked up among them.
+use Rattle.std.proofs.Common.{◌≡◌, Bool, true, false, List, [], ◌∷◌, Some, Ordering, Less, Equal}
+use Rattle.std.proofs.Common.{Greater, is_eq, refl, sym, ap, ◌∙◌, if◌then◌else◌, subst}
 use Rattle.std.proofs.lemmas.Map.Text.{is_eq-slice_cmp}
 use Rattle.std.proofs.lemmas.Slice.Eq.{bytes_eq-Decides}
-use Rattle.std.proofs.lemmas.Str.{encodes-chars, IsUtf8-from_is_utf8}
-use Rattle.std.specs.Cmp.Lexicographic.{slice_cmp}
 use Rattle.std.specs.Ordering.{match_ordering}
-use Rattle.std.specs.Str.{chars, IsUtf8, is_utf8}
+use Rattle.std.specs.Str.{chars}
 use Rattle.json.specs.Json as text
-use Rattle.json.proofs.Found.{not_found, Some_inj}
-use Rattle.serde_json.specs.Data.{Data, Members, no_members, member, put}
-use Rattle.serde_json.specs.Read.{of_json, of_members}
 use Rattle.jp_doc.specs.Json as json
-use Rattle.jp_doc.specs.Json.{Text, text_cmp, text_eq, Json, json_of, members_of}
+use Rattle.jp_doc.specs.Json.{Text, text_cmp, text_eq, Json}
 use Rattle.jp_doc.specs.Location.{member_at}
-use Rattle.jp_doc.specs.Rising.{NamesAreUtf8}
-use Rattle.jp_doc.specs.Tree.{put_member}
+use Rattle.jp_doc.specs.Tree.{put_member, tree_json, tree_members}
 use Rattle.jp_doc.proofs.OrderLaws.{text_order}
-use Rattle.jp_doc.proofs.RisingLaws.{utf8_put}
-use Rattle.jp_flat.specs.Flat.{json_or_null}
 use Rattle.jp_flat.specs.Members.{put_all, last_of, entries_of}
-use Rattle.jp_flat.specs.inner.Plain.{is_plain, members_are_plain}
-use Rattle.jp_flat.proofs.Numbers.{both}
 
-put_at : (o : Ordering) (k l : List ℕ) (d e : Data) (ms : Members) (rest : json.Members)
-    → members_of (put k d ms) ≡ rest
-    → members_of (match_ordering o (member k d (member l e ms)) (member l d ms) (member l e (put k d ms)))
-    ≡ match_ordering o (json.add_member (chars k) (json_of d) (members_of (member l e ms)))
-    (json.add_member (chars l) (json_of d) (members_of ms)) (json.add_member (chars l) (json_of e) rest)
-put_at Less k l d e ms rest is = refl
-put_at Equal k l d e ms rest is = refl
-put_at Greater k l d e ms rest is = ap (json.add_member (chars l) (json_of e)) is
-
-pub same_order : (k l : List ℕ) → IsUtf8 k → IsUtf8 l → slice_cmp nat_cmp k l ≡ text_cmp (chars k) (chars l)
-same_order k l u v = rw (encodes-chars k u, encodes-chars l v) refl
-
-put_is : (k : List ℕ) (d : Data) (ms : Members) → IsUtf8 k → NamesAreUtf8 ms
-    → members_of (put k d ms) ≡ put_member (chars k) (json_of d) (members_of ms)
-put_is k d no_members u v = refl
-put_is k d (member l e ms) u v =
-    put_at (slice_cmp nat_cmp k l) k l d e ms _ (put_is k d ms u v.1)
-    ∙ ap (λ o. match_ordering o (json.add_member (chars k) (json_of d) (members_of (member l e ms)))
-    (json.add_member (chars l) (json_of d) (members_of ms))
-    (json.add_member (chars l) (json_of e) (put_member (chars k) (json_of d) (members_of ms))))
-    (same_order k l u v.0)
-
-one_put : (o : Option Data) (k : List ℕ) (j : text.Json) (ms : text.Members) (old found : Members)
-    → of_json j ≡ o → IsUtf8 k → NamesAreUtf8 old
-    → ((new : Members) → NamesAreUtf8 new → of_members ms new ≡ Some found
-    → members_of found ≡ put_all (entries_of ms) (members_of new))
-    → option_and_then (λ d. of_members ms (put k d old)) o ≡ Some found
-    → members_of found ≡ put_all (entries_of ms)
-    (put_member (chars k) (json_or_null (of_json j)) (members_of old))
-one_put None k j ms old found is w u again h = not_found found h
-one_put (Some d) k j ms old found is w u again h =
-    again (put k d old) (utf8_put k d old w u) h
-    ∙ ap (put_all (entries_of ms)) (put_is k d old w u
-    ∙ ap (λ o. put_member (chars k) (json_or_null o) (members_of old)) (sym is))
-
-pub all_put : (ms : text.Members) (old found : Members) → members_are_plain ms ≡ true → NamesAreUtf8 old
-    → of_members ms old ≡ Some found → members_of found ≡ put_all (entries_of ms) (members_of old)
-all_put text.no_members old found p u e = ap members_of (sym (Some_inj old found e))
-all_put (text.member k j ms) old found p u e =
-    let b = both (is_utf8 k) _ p in
-    let c = both (is_plain j) _ b.1 in
-    one_put (of_json j) k j ms old found refl (IsUtf8-from_is_utf8 k b.0) u
-    (λ new v h. all_put ms new found c.1 v h) e
+-- the members of a tree's object are put one after another
+pub all_put : (ms : text.Members) (put : json.Members) → tree_members ms put ≡ put_all (entries_of ms) put
+all_put text.no_members put = refl
+all_put (text.member k j ms) put = all_put ms (put_member (chars k) (tree_json j) put)
 
 -- ---- looking up
 

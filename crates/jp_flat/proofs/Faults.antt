@@ -61,7 +61,7 @@ mutual
       ∙ ap (λ b. not (has_long_number j) && b) (member_rows ms r h.1)
       ∙ neither (has_long_number j) (members_have_long_number ms) (are_short r)
 
-all_rows : (line : List ℕ) (j : text.Json) → text.document line ≡ Some j → HasNumbers j
+pub all_rows : (line : List ℕ) (j : text.Json) → text.document line ≡ Some j → HasNumbers j
     → are_short (tokens line) ≡ (not (has_long_number j) && true)
 all_rows line j e h =
     ap are_short (tokens-document line j e ∙ sym (append-nil (json_tokens j))) ∙ rows j [] h

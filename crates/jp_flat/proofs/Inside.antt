@@ -1,7 +1,7 @@
 -- The items of an array and the members of an object, as the tokens behind its opening bracket.
 use Rattle.std.proofs.Common.{◌≡◌, ℕ, suc, ◌+◌, ◌<◌, ◌≤◌, true, false, ◌&&◌, max, List, [], ◌∷◌, ◌++◌, map}
 use Rattle.std.proofs.Common.{length, drop}
-use Rattle.std.proofs.Common.{get_or, Option, Some, None, option_map, refl, sym, ap, ◌∙◌, subst, arith}
+use Rattle.std.proofs.Common.{get_or, Option, Some, None, refl, sym, ap, ◌∙◌, subst, arith}
 use Rattle.std.proofs.Common.{append_assoc}
 use Rattle.std.proofs.Common.{length-append, true≢false, lt_of_not-le}
 use Rattle.std.proofs.Common as common
@@ -14,21 +14,18 @@ use Rattle.json.specs.Tape.{node_token}
 use Rattle.json.specs.declared.tape.Node.{Node}
 use Rattle.json.specs.declared.tape.Node.TheVariants.{Object, EndObject, Array, EndArray, Key, String, Number}
 use Rattle.json.specs.declared.tape.Node.TheVariants.{Bool, Null}
-use Rattle.serde_json.specs.Data.{Data, array, Items, no_items, item}
-use Rattle.serde_json.specs.Read.{of_json, of_items, max_depth}
+use Rattle.serde_json.specs.Read.{max_depth}
 use Rattle.jp_doc.specs.Json as json
-use Rattle.jp_doc.specs.Json.{json_of, items_of, members_of}
+use Rattle.jp_doc.specs.Tree.{tree_items}
 use Rattle.jp_flat.specs.Flat.{value_at}
-use Rattle.jp_flat.specs.inner.Plain.{is_flat, max_tokens, is_plain, items_are_plain}
+use Rattle.jp_flat.specs.inner.Plain.{is_flat, max_tokens, is_fit, items_are_fit}
 use Rattle.jp_doc.specs.Reading.{max_items}
 use Rattle.jp_flat.specs.Value.{item_count}
-use Rattle.jp_flat.proofs.Good.{is_good}
-use Rattle.std.proofs.lemmas.Bool.{leb-true}
-use Rattle.std.specs.Prelude.{nat_le}
+use Rattle.jp_flat.proofs.Kept as kept
 use Rattle.jp_flat.proofs.Numbers.{both}
 use Rattle.jp_flat.proofs.PlainTokens.{some_token}
-use Rattle.jp_flat.proofs.Reading.{Flat, flat_of, flat_is, read_of_flat, made_of, value_is}
-use Rattle.jp_flat.proofs.Shapes.{shape, made_array}
+use Rattle.jp_flat.proofs.Reading.{Flat, flat_of, flat_is, read_of_flat, value_is}
+use Rattle.jp_flat.proofs.Shapes.{shape}
 
 -- the tokens begin with the items of an array, and its closing bracket
 pub record InItems (ts : List Token) : Type 0 where
@@ -37,7 +34,7 @@ pub record InItems (ts : List Token) : Type 0 where
   pub spelled : ts ≡ items_tokens source ++ rest
   pub nests : suc (tree.items_depth source) ≤ 127
   pub few : suc (length (items_tokens source)) ≤ max_tokens
-  pub plain : items_are_plain source ≡ true
+  pub fit : items_are_fit source ≡ true
 
 tail_of : (t u : Token) (ts us : List Token) → t ∷ ts ≡ u ∷ us → ts ≡ us
 tail_of t u ts us e = ap (drop 1) e
@@ -50,7 +47,7 @@ array_inside ts f js e = record {
   spelled = ap (drop 1) (f.spelled ∙ ap (λ j. json_tokens j ++ f.rest) e);
   nests = subst (λ j. tree.depth j ≤ 127) e f.nests;
   few = subst (λ j. length (json_tokens j) ≤ max_tokens) e f.few;
-  plain = subst (λ j. is_plain j ≡ true) e f.plain;
+  fit = subst (λ j. is_fit j ≡ true) e f.fit;
 }
 
 array_shape : (ts : List Token) (f : Flat (Token.begin_array ∷ ts))
@@ -72,31 +69,24 @@ array_around ts i = record {
   spelled = ap (λ l. Token.begin_array ∷ l) i.spelled;
   nests = i.nests;
   few = i.few;
-  plain = i.plain;
+  fit = i.fit;
 }
 
 pub items_are_flat : (ts : List Token) → InItems ts → is_flat (Token.begin_array ∷ ts) ≡ true
 items_are_flat ts i = flat_is (Token.begin_array ∷ ts) (array_around ts i)
 
 -- the array of these items
-pub array_is : (ts : List Token) (i : InItems ts) (ds : Items) → of_items i.source ≡ Some ds
-    → value_at (Token.begin_array ∷ ts) ≡ json.array (items_of ds)
+pub array_is : (ts : List Token) (i : InItems ts)
+    → value_at (Token.begin_array ∷ ts) ≡ json.array (tree_items i.source)
 unfolding array_around
-array_is ts i ds e = value_is (Token.begin_array ∷ ts) (array_around ts i) (array ds) (ap
-    (option_map array) e)
+array_is ts i = value_is (Token.begin_array ∷ ts) (array_around ts i)
 
 -- an array has no more items than the greatest number
 pub few_items : (ts : List Token) → is_flat (Token.begin_array ∷ ts) ≡ true
     → item_count (value_at (Token.begin_array ∷ ts)) ≤ 16777216
 few_items ts h =
-    let f = flat_of (Token.begin_array ∷ ts) h in
-    let sh = array_shape ts f in
-    let m = made_of (Token.begin_array ∷ ts) f in
-    let o = made_array sh.0 _ m.found refl (sym (ap of_json sh.1) ∙ m.made) in
-    let good : is_good (array o.0) ≡ true = subst (λ d. is_good d ≡ true) o.2 m.plain in
-    let few = both (nat_le (length (json.item_list (items_of o.0))) max_items) _ good in
-    let is = value_is (Token.begin_array ∷ ts) f m.found m.made ∙ ap json_of o.2 in
-    subst (λ v. item_count v ≤ 16777216) (sym is) (leb-true _ max_items few.0)
+    kept.few_items (value_at (Token.begin_array ∷ ts)) max_items
+    (kept.flat_is_short (Token.begin_array ∷ ts) h)
 
 -- the first item, and those behind it
 first_item : (ts : List Token) (i : InItems ts) (j : text.Json) (js : text.Items) → i.source ≡ text.item j js
@@ -111,14 +101,14 @@ item_here ts i j js e =
     let sum = length-append (json_tokens j) (items_tokens js) in
     let few = subst (λ s. suc (length (items_tokens s)) ≤ max_tokens) e i.few in
     let nests = subst (λ s. suc (tree.items_depth s) ≤ 127) e i.nests in
-    let plain = subst (λ s. items_are_plain s ≡ true) e i.plain in
+    let sound = subst (λ s. items_are_fit s ≡ true) e i.fit in
     record {
       source = j;
       rest = items_tokens js ++ i.rest;
       spelled = first_item ts i j js e;
       nests = omega (arith, nests);
       few = omega (arith, few, sum);
-      plain = (both (is_plain j) _ plain).0;
+      fit = (both (is_fit j) _ sound).0;
     }
 
 pub items_after : (ts : List Token) (i : InItems ts) (j : text.Json) (js : text.Items)
@@ -128,24 +118,15 @@ items_after ts i j js e =
     let sum = length-append (json_tokens j) (items_tokens js) in
     let few = subst (λ s. suc (length (items_tokens s)) ≤ max_tokens) e i.few in
     let nests = subst (λ s. suc (tree.items_depth s) ≤ 127) e i.nests in
-    let plain = subst (λ s. items_are_plain s ≡ true) e i.plain in
+    let sound = subst (λ s. items_are_fit s ≡ true) e i.fit in
     record {
       source = js;
       rest = i.rest;
       spelled = refl;
       nests = omega (arith, nests);
       few = omega (arith, few, sum);
-      plain = (both (is_plain j) _ plain).1;
+      fit = (both (is_fit j) _ sound).1;
     }
-
-made_items : (js : text.Items) (d : Data) → of_json (text.array js) ≡ Some d
-    → (ds : Items) × (of_items js ≡ Some ds) × (d ≡ array ds)
-made_items js d e = made_array js _ d refl e
-
-item_made : (j : text.Json) (js : text.Items) (d : Data) (ds : Items) → of_json j ≡ Some d
-    → of_items js ≡ Some ds
-    → of_items (text.item j js) ≡ Some (item d ds)
-item_made j js d ds e f = rw (e, f) refl
 
 read_item : (ts : List Token) (i : InItems ts) (j : text.Json) (js : text.Items)
     → (e : i.source ≡ text.item j js) → text.value max_depth ts ≡ Some (j, items_tokens js ++ i.rest)
@@ -158,22 +139,16 @@ pub array_goes_on : (ts : List Token) (i : InItems ts) (j : text.Json) (js : tex
     → (vs : json.Items) × (value_at (Token.begin_array ∷ ts) ≡ json.array (json.add_item (value_at ts) vs))
     × (value_at (Token.begin_array ∷ (items_tokens js ++ i.rest)) ≡ json.array vs)
 unfolding array_around items_after item_here
-array_goes_on ts i j js e =
-    let first = item_here ts i j js e in
-    let after = items_after ts i j js e in
-    let m = made_of ts first in
-    let n = made_of (Token.begin_array ∷ (items_tokens js ++ i.rest)) (array_around _ after) in
-    let o = made_items js n.found n.made in
-    let whole = ap of_items e ∙ item_made j js m.found o.0 m.made o.1 in (
-      items_of o.0,
-      array_is ts i (item m.found o.0) whole
-          ∙ ap (λ v. json.array (json.add_item v (items_of o.0))) (sym (value_is ts first m.found m.made)),
-      array_is (items_tokens js ++ i.rest) after o.0 o.1,
-    )
+array_goes_on ts i j js e = (
+  tree_items js,
+  array_is ts i ∙ ap (λ s. json.array (tree_items s)) e
+      ∙ ap (λ v. json.array (json.add_item v (tree_items js))) (sym (value_is ts (item_here ts i j js e))),
+  array_is (items_tokens js ++ i.rest) (items_after ts i j js e),
+)
 
 pub array_ends : (ts : List Token) (i : InItems ts) → i.source ≡ text.no_items
     → value_at (Token.begin_array ∷ ts) ≡ json.array json.no_items
-array_ends ts i e = array_is ts i no_items (ap of_items e)
+array_ends ts i e = array_is ts i ∙ ap (λ s. json.array (tree_items s)) e
 
 -- ---- by the nodes
 

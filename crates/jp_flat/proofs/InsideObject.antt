@@ -1,7 +1,7 @@
 -- The members of an object, as the tokens behind its opening brace.
 use Rattle.std.proofs.Common.{◌≡◌, ℕ, suc, ◌+◌, ◌<◌, ◌≤◌, true, false, ◌&&◌, List, [], ◌∷◌, ◌++◌, map}
 use Rattle.std.proofs.Common.{length, drop}
-use Rattle.std.proofs.Common.{Some, option_map, option_and_then, refl, sym, ap, ◌∙◌, subst, arith}
+use Rattle.std.proofs.Common.{Some, refl, sym, ap, ◌∙◌, subst, arith}
 use Rattle.std.proofs.Common.{append_assoc, length-append}
 use Rattle.std.proofs.Common.{true≢false, lt_of_not-le}
 use Rattle.std.proofs.Common as common
@@ -17,20 +17,19 @@ use Rattle.json.specs.Tape.{node_token}
 use Rattle.json.specs.declared.tape.Node.{Node}
 use Rattle.json.specs.declared.tape.Node.TheVariants.{Object, EndObject, Array, EndArray, Key, String, Number}
 use Rattle.json.specs.declared.tape.Node.TheVariants.{Bool, Null}
-use Rattle.serde_json.specs.Data.{no_members}
-use Rattle.serde_json.specs.Read.{of_json, max_depth}
+use Rattle.serde_json.specs.Read.{max_depth}
 use Rattle.jp_doc.specs.Json as json
-use Rattle.jp_doc.specs.Json.{Text, Json, json_of, members_of}
-use Rattle.jp_flat.specs.Flat.{data_at, value_at, json_or_null}
-use Rattle.jp_flat.specs.inner.Plain.{is_flat, max_tokens, is_plain, members_are_plain}
+use Rattle.jp_doc.specs.Json.{Text, Json}
+use Rattle.jp_flat.specs.Flat.{value_at}
+use Rattle.jp_flat.specs.inner.Plain.{is_flat, max_tokens, is_fit, members_are_fit}
 use Rattle.jp_flat.specs.Members.{entries_of, entries_read, entries_at, put_all}
 use Rattle.jp_flat.specs.Value.{members_value, entries}
 use Rattle.jp_flat.specs.declared.value.FlatMembers.{FlatMembers}
 use Rattle.jp_flat.proofs.Entries.{all_put}
 use Rattle.jp_flat.proofs.Numbers.{both}
 use Rattle.jp_flat.proofs.PlainTokens.{some_token}
-use Rattle.jp_flat.proofs.Reading.{Flat, flat_of, flat_is, read_of_flat, made_of, value_is}
-use Rattle.jp_flat.proofs.Shapes.{shape, made_object}
+use Rattle.jp_flat.proofs.Reading.{Flat, flat_of, flat_is, read_of_flat, value_is}
+use Rattle.jp_flat.proofs.Shapes.{shape}
 
 -- the tokens begin with the members of an object, and its closing brace
 pub record InMembers (ts : List Token) : Type 0 where
@@ -39,7 +38,7 @@ pub record InMembers (ts : List Token) : Type 0 where
   pub spelled : ts ≡ members_tokens source ++ rest
   pub nests : suc (tree.members_depth source) ≤ 127
   pub few : suc (length (members_tokens source)) ≤ max_tokens
-  pub plain : members_are_plain source ≡ true
+  pub fit : members_are_fit source ≡ true
 
 object_inside : (ts : List Token) (f : Flat (Token.begin_object ∷ ts)) (ms : text.Members)
     → f.source ≡ text.object ms → InMembers ts
@@ -49,7 +48,7 @@ object_inside ts f ms e = record {
   spelled = ap (drop 1) (f.spelled ∙ ap (λ j. json_tokens j ++ f.rest) e);
   nests = subst (λ j. tree.depth j ≤ 127) e f.nests;
   few = subst (λ j. length (json_tokens j) ≤ max_tokens) e f.few;
-  plain = subst (λ j. is_plain j ≡ true) e f.plain;
+  fit = subst (λ j. is_fit j ≡ true) e f.fit;
 }
 
 -- inside of an object
@@ -68,7 +67,7 @@ object_around ts i = record {
   spelled = ap (λ l. Token.begin_object ∷ l) i.spelled;
   nests = i.nests;
   few = i.few;
-  plain = i.plain;
+  fit = i.fit;
 }
 
 entries_are : (ts : List Token) (i : InMembers ts) → entries_at ts ≡ entries_of i.source
@@ -81,11 +80,8 @@ pub object_value : (ts : List Token) → is_flat (Token.begin_object ∷ ts) ≡
 unfolding object_around
 object_value ts h =
     let i = in_members ts h in
-    let f = object_around ts i in
-    let m = made_of (Token.begin_object ∷ ts) f in
-    let o = made_object i.source _ m.found refl m.made in
-    value_is (Token.begin_object ∷ ts) f m.found m.made ∙ ap json_of o.2
-    ∙ ap json.object (all_put i.source no_members o.0 i.plain tt o.1
+    value_is (Token.begin_object ∷ ts) (object_around ts i)
+    ∙ ap json.object (all_put i.source json.no_members
     ∙ ap (λ es. put_all es json.no_members) (sym (entries_are ts i)))
 
 -- the same of members that are left
@@ -174,9 +170,6 @@ pub record SplitMember (ts us after : List Token) (k : List ℕ) : Type 0 where
   pub after_flat : is_flat (Token.begin_object ∷ after) ≡ true
   pub entries : entries_at ts ≡ (chars k, value_at us) ∷ entries_at after
 
-read_value : (us : List Token) (f : Flat us) → data_at us ≡ of_json f.source
-read_value us f = ap (option_and_then (λ p. of_json p.0)) (read_of_flat us f)
-
 pub split_members : (ts us after : List Token) (k : List ℕ) → is_flat (Token.begin_object ∷ ts) ≡ true
     → ts ≡ Token.key k ∷ us
     → ((depth : ℕ) (j : text.Json) (rest : List Token) → text.value depth us ≡ Some (j, rest) → rest ≡ after)
@@ -187,16 +180,16 @@ split_members ts us after k h e link =
     let sum = length-append (json_tokens one.source) (members_tokens one.others) in
     let few = subst (λ s. suc (length (members_tokens s)) ≤ max_tokens) one.is i.few in
     let nests = subst (λ s. suc (tree.members_depth s) ≤ 127) one.is i.nests in
-    let plain = subst (λ s. members_are_plain s ≡ true) one.is i.plain in
-    let a = both (is_utf8 k) _ plain in
-    let b = both (is_plain one.source) _ a.1 in
+    let sound = subst (λ s. members_are_fit s ≡ true) one.is i.fit in
+    let a = both (is_utf8 k) _ sound in
+    let b = both (is_fit one.source) _ a.1 in
     let first : Flat us = record {
       source = one.source;
       rest = members_tokens one.others ++ i.rest;
       spelled = one.here;
       nests = omega (arith, nests);
       few = omega (arith, few, sum);
-      plain = b.0;
+      fit = b.0;
     } in
     let passed : members_tokens one.others ++ i.rest ≡ after = link max_depth one.source
     (members_tokens one.others
@@ -207,7 +200,7 @@ split_members ts us after k h e link =
       spelled = sym passed;
       nests = omega (arith, nests);
       few = omega (arith, few, sum);
-      plain = b.1;
+      fit = b.1;
     } in
     record {
       utf8 = IsUtf8-from_is_utf8 k a.0;
@@ -215,7 +208,7 @@ split_members ts us after k h e link =
       after_flat = flat_is (Token.begin_object ∷ after) (object_around after later);
       entries =
           entries_are ts i ∙ ap entries_of one.is
-          ∙ ap (λ v. (chars k, v) ∷ entries_of one.others) (ap json_or_null (sym (read_value us first)))
+          ∙ ap (λ v. (chars k, v) ∷ entries_of one.others) (sym (value_is us first))
           ∙ ap (λ es. (chars k, value_at us) ∷ es) (sym (entries_are after later));
     }
 

@@ -1,6 +1,7 @@
 pub mod Good
 pub mod Numbers
 pub mod PlainTokens
+pub mod Fit
 pub mod Reading
 pub mod Shapes
 pub mod Inside
@@ -14,3 +15,5 @@ pub mod Nesting
 pub mod ScannedTexts
 pub mod WholeTexts
 pub mod Faults
+pub mod Decimal
+pub mod ReadNumbers

@@ -10,7 +10,7 @@ use Rattle.std.proofs.lemmas.Str.{digit_value_digit}
 use Rattle.std.proofs.Math.Nat.{pow-le-pow_right}
 use Rattle.std.specs.Prelude.{nat_lt, nat_le, int_lt, slice_index, neg_ℤ, unsigned_abs, FitsSigned}
 use Rattle.std.specs.Char.{digit_value, is_ascii_digit}
-use Rattle.std.specs.Fmt.{sign_text}
+use Rattle.std.specs.Fmt.{sign_text, signed_decimal}
 use Rattle.std.specs.Int.{IsInRange}
 use Rattle.std.specs.List.{list_all}
 use Rattle.std.proofs.lemmas.Int.{fits_signed_from_abs}
@@ -23,9 +23,7 @@ use Rattle.fast_float.specs.Text.{Parts, text_of, digits_of, IsWellFormed, with_
 use Rattle.fast_float.proofs.Writing.{scan-text_of}
 use Rattle.serde_json.specs.Data.{Num, unsigned, negative}
 use Rattle.serde_json.specs.Read.{number_of, number_from, is_integer}
-use Rattle.serde_json.specs.Written.{compact_text}
-use Rattle.jp_doc.specs.Json.{whole_of, number, data_of}
-use Rattle.jp_number.specs.Number.{whole}
+use Rattle.jp_doc.specs.Json.{whole_of}
 use Rattle.std.specs.Prelude.{decimal}
 use Rattle.std.proofs.lemmas.Fmt.{decimal-digits_value}
 use Rattle.jp_flat.specs.Digits.{whole_value}
@@ -293,21 +291,21 @@ written_plain : (ds : List ℕ) → Digits ds → digits_value 10 ds < 2 ^ 64 �
 written_plain ds h fits = decimal-digits_value (numerals_by_value _ tells_digits) ds h.all h.some h.lead fits
 
 minus_before : (n : ℕ) (ds : List ℕ) → 0 < n → decimal n ≡ ds
-    → compact_text (data_of (number (whole (neg_ℤ (pos n))))) ≡ 45 ∷ ds
+    → signed_decimal (neg_ℤ (pos n)) ≡ 45 ∷ ds
 minus_before zero ds h e = absurd (omega arith)
 minus_before (suc n) ds h e = ap (λ l. 45 ∷ l) e
 
 written_minus : (ds : List ℕ) → is_minus_text ds ≡ true
-    → compact_text (data_of (number (whole (neg_ℤ (pos (digits_value 10 ds)))))) ≡ 45 ∷ ds
+    → signed_decimal (neg_ℤ (pos (digits_value 10 ds))) ≡ 45 ∷ ds
 written_minus ds h =
     let m = minus_is ds h in
     minus_before (digits_value 10 ds) ds m.some (written_plain ds m.digits (omega (arith, m.fits)))
 
 written_if : (b : Bool) (c : ℕ) (cs : List ℕ) → (c == 45) ≡ b
     → (if b then is_minus_text cs else is_unsigned_text (c ∷ cs)) ≡ true
-    → compact_text (data_of (number (whole (whole_value (c ∷ cs))))) ≡ c ∷ cs
+    → signed_decimal (whole_value (c ∷ cs)) ≡ c ∷ cs
 written_if true c cs e h =
-    subst (λ x. compact_text (data_of (number (whole (whole_value (x ∷ cs))))) ≡ x ∷ cs)
+    subst (λ x. signed_decimal (whole_value (x ∷ cs)) ≡ x ∷ cs)
     (sym (eqb-true c 45 e))
     (written_minus cs h)
 written_if false c cs e h =
@@ -315,6 +313,6 @@ written_if false c cs e h =
     rw e (written_plain (c ∷ cs) u.digits u.fits)
 
 pub written : (s : List ℕ) → is_whole_text s ≡ true
-    → compact_text (data_of (number (whole (whole_value s)))) ≡ s
+    → signed_decimal (whole_value s) ≡ s
 written [] h = absurd (cc)
 written (c ∷ cs) h = written_if (c == 45) c cs refl h

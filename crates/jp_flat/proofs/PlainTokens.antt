@@ -8,7 +8,6 @@ use Rattle.std.proofs.lemmas.Bool.{ltb-true, leb-true}
 use Rattle.std.specs.Cmp.Lexicographic.{slice_cmp}
 use Rattle.std.specs.Ordering.{match_ordering}
 use Rattle.std.specs.Prelude.{nat_lt, nat_le}
-use Rattle.std.proofs.lemmas.Str.{IsUtf8-from_is_utf8}
 use Rattle.std.specs.Str.{is_utf8}
 use Rattle.json.specs.Token.{Token}
 use Rattle.json.specs.Json as text
@@ -21,11 +20,8 @@ use Rattle.serde_json.specs.Read.{of_json, of_items, of_members}
 use Rattle.serde_json.specs.Written.{has_float, items_have_float, members_have_float}
 use Rattle.jp_doc.specs.Json.{item_list, json_of, items_of, members_of}
 use Rattle.jp_doc.specs.Reading.{max_items, has_long_array, items_have_long_array, members_have_long_array}
-use Rattle.jp_doc.specs.Rising.{IsRising, ItemsRise, MembersRise, NamesAreUtf8}
-use Rattle.jp_doc.proofs.RisingLaws.{rise_put, utf8_put}
 use Rattle.jp_flat.specs.inner.Plain.{max_tokens, is_whole_text, is_plain_from, is_plain, items_are_plain}
 use Rattle.jp_flat.specs.inner.Plain.{members_are_plain}
-use Rattle.jp_flat.specs.Value.{item_count}
 use Rattle.jp_flat.proofs.Good.{is_whole, is_good, items_are_good, members_are_good}
 use Rattle.jp_flat.proofs.Numbers.{both, both_back, whole_text}
 
@@ -133,85 +129,42 @@ pub record Made (j : text.Json) : Type 0 where
   pub found : Data
   pub made : of_json j ≡ Some found
   pub plain : is_good found ≡ true
-  pub few : item_count (json_of found) ≤ length (json_tokens j)
-  pub rising : IsRising (json_of found)
 
 record MadeItems (js : text.Items) : Type 0 where
   found : Items
   made : of_items js ≡ Some found
   plain : items_are_good found ≡ true
   few : length (item_list (items_of found)) < length (items_tokens js)
-  rising : ItemsRise (items_of found)
-
--- members that were made before
-record Before (found : Members) : Type 0 where
-  plain : members_are_good found ≡ true
-  names : NamesAreUtf8 found
-  rising : MembersRise (members_of found)
-
-none_before : Before no_members
-none_before = record { plain = refl; names = tt; rising = tt }
-
-one_before : (k : List ℕ) (d : Data) (found : Members) → is_utf8 k ≡ true → is_good d ≡ true
-    → IsRising (json_of d) → Before found → Before (put k d found)
-one_before k d found u p r b =
-    let utf8 = IsUtf8-from_is_utf8 k u in
-    record {
-      plain = put_plain k d found u p b.plain;
-      names = utf8_put k d found utf8 b.names;
-      rising = rise_put k d found utf8 b.names r b.rising;
-    }
 
 record MadeMembers (ms : text.Members) (old : Members) : Type 0 where
   found : Members
   made : of_members ms old ≡ Some found
-  after : Before found
+  plain : members_are_good found ≡ true
 
 mutual
   -- the tokens are as many at most as an array may have items
   pub make : (j : text.Json) → length (json_tokens j) ≤ max_tokens → is_plain j ≡ true → Made j
-  make text.null few p = record { found = null; made = refl; plain = refl; few = omega arith; rising = tt }
-  make (text.boolean b) few p =
-      record { found = boolean b; made = refl; plain = refl; few = omega arith; rising = tt }
+  make text.null few p = record { found = null; made = refl; plain = refl }
+  make (text.boolean b) few p = record { found = boolean b; made = refl; plain = refl }
   make (text.number s) few p =
       let w = whole_text s p in
-      record {
-        found = number w.number;
-        made = ap (option_map number) w.read;
-        plain = w.whole;
-        few = omega arith;
-        rising = tt;
-      }
-  make (text.string s) few p =
-      record { found = string s; made = refl; plain = p; few = omega arith; rising = tt }
+      record { found = number w.number; made = ap (option_map number) w.read; plain = w.whole }
+  make (text.string s) few p = record { found = string s; made = refl; plain = p }
   make (text.array js) few p =
       let m = make_items js (omega arith) p in
       record {
         found = array m.found;
         made = ap (option_map array) m.made;
         plain = both_back _ _ (le-leb _ max_items (omega (arith, m.few))) m.plain;
-        few = omega (arith, m.few);
-        rising = m.rising;
       }
   make (text.object ms) few p =
-      let m = make_members ms no_members (omega arith) p none_before in
-      record {
-        found = object m.found;
-        made = ap (option_map object) m.made;
-        plain = m.after.plain;
-        few = omega arith;
-        rising = m.after.rising;
-      }
+      let m = make_members ms no_members (omega arith) p refl in
+      record { found = object m.found; made = ap (option_map object) m.made; plain = m.plain }
 
   make_items : (js : text.Items) → length (items_tokens js) ≤ max_tokens → items_are_plain js ≡ true
       → MadeItems js
-  make_items text.no_items few p = record {
-    found = no_items;
-    made = refl;
-    plain = refl;
-    few = omega arith;
-    rising = tt;
-  }
+  make_items text.no_items few p =
+      record { found = no_items; made = refl; plain = refl; few = omega arith }
   make_items (text.item j js) few p =
       let b = both (is_plain j) _ p in
       let both_lengths = length-append (json_tokens j) (items_tokens js) in
@@ -222,20 +175,19 @@ mutual
         made = rw (m.made, n.made) refl;
         plain = both_back _ _ m.plain n.plain;
         few = omega (arith, both_lengths, some_token j, n.few);
-        rising = (m.rising, n.rising);
       }
 
   make_members : (ms : text.Members) (found : Members) → length (members_tokens ms) ≤ max_tokens
-      → members_are_plain ms ≡ true → Before found → MadeMembers ms found
-  make_members text.no_members found few p q = record { found = found; made = refl; after = q }
+      → members_are_plain ms ≡ true → members_are_good found ≡ true → MadeMembers ms found
+  make_members text.no_members found few p q = record { found = found; made = refl; plain = q }
   make_members (text.member k j ms) found few p q =
       let a = both (is_utf8 k) _ p in
       let b = both (is_plain j) _ a.1 in
       let both_lengths = length-append (json_tokens j) (members_tokens ms) in
       let m = make j (omega (arith, both_lengths)) b.0 in
-      let n = make_members ms (put k m.found found) (omega (arith, both_lengths)) b.1 (one_before k m.found
-      found a.0 m.plain m.rising q) in
-      record { found = n.found; made = rw m.made n.made; after = n.after }
+      let n = make_members ms (put k m.found found) (omega (arith, both_lengths)) b.1
+      (put_plain k m.found found a.0 m.plain q) in
+      record { found = n.found; made = rw m.made n.made; plain = n.plain }
 
 -- ---- what plain data has
 

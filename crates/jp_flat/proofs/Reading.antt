@@ -1,6 +1,7 @@
 -- What a line is read as, where its tokens are plain.
-use Rattle.std.proofs.Common.{◌≡◌, ℕ, ◌≤◌, true, List, [], ◌++◌, length, Option, Some, None, Ok}
-use Rattle.std.proofs.Common.{IsSome, option_and_then, refl, sym, ap, ◌∙◌, subst, append-nil, le-leb}
+use Rattle.std.proofs.Common.{◌≡◌, ℕ, ◌≤◌, true, false, List, [], ◌++◌, length, Option, Some, None, Ok}
+use Rattle.std.proofs.Common.{IsSome, option_map, option_and_then, refl, sym, ap, ◌∙◌, subst, append-nil}
+use Rattle.std.proofs.Common.{le-leb}
 use Rattle.std.proofs.lemmas.Bool.{leb-true}
 use Rattle.std.specs.Prelude.{nat_le}
 use Rattle.std.specs.Str.{IsUtf8}
@@ -11,32 +12,39 @@ use Rattle.json.specs.Tree as tree
 use Rattle.json.specs.Tree.{json_tokens}
 use Rattle.json.proofs.Printed.Trees.{value-json_tokens}
 use Rattle.json.proofs.Unique.Spelling.{tokens-document, value-json_tokens_back}
+use Rattle.json.proofs.Found.{Some_inj}
 use Rattle.json.proofs.Nesting.{value-depth}
 use Rattle.serde_json.specs.Data.{Data}
 use Rattle.serde_json.specs.Read.{of_json, read, max_depth}
-use Rattle.jp_doc.specs.Json.{json_of}
+use Rattle.jp_doc.specs.Json.{Json, json_of}
 use Rattle.jp_doc.specs.Reading.{max_line, document_from, reading}
+use Rattle.jp_doc.specs.Tree.{tree_of, tree_json}
 use Rattle.jp_doc.proofs.ReadLaws.{reading_read}
-use Rattle.jp_flat.specs.Flat.{data_at, value_at, json_or_null}
-use Rattle.jp_flat.specs.inner.Plain.{is_flat, is_small, max_tokens, is_plain_from, is_plain}
+use Rattle.jp_doc.specs.ReadingIn.{has_long_number}
+use Rattle.jp_doc.proofs.LineTexts.{names_are_texts}
+use Rattle.jp_doc.proofs.TreeLaws.{tree_agrees}
+use Rattle.jp_doc.proofs.TreeNesting.{shallow_tree, tree_has_numbers}
+use Rattle.jp_flat.specs.Flat.{value_read, value_at}
+use Rattle.jp_flat.specs.inner.Plain.{is_flat, is_small, max_tokens, is_plain_from, is_fit}
+use Rattle.jp_flat.proofs.Fit.{fit, plain_is_short}
 use Rattle.jp_flat.proofs.Good.{is_good}
 use Rattle.jp_flat.proofs.Numbers.{both, both_back}
-use Rattle.jp_flat.proofs.PlainTokens.{plain_tokens, Made, make, whole_numbers, short_arrays}
+use Rattle.jp_flat.proofs.PlainTokens.{plain_tokens, make, whole_numbers, short_arrays}
 
--- a plain value that the tokens begin with
+-- a value that the tokens begin with, with fit numbers and names
 pub record Flat (ts : List Token) : Type 0 where
   pub source : text.Json
   pub rest : List Token
   pub spelled : ts ≡ json_tokens source ++ rest
   pub nests : tree.depth source ≤ 127
   pub few : length (json_tokens source) ≤ max_tokens
-  pub plain : is_plain source ≡ true
+  pub fit : is_fit source ≡ true
 
 pub read_of_flat : (ts : List Token) (f : Flat ts) → text.value max_depth ts ≡ Some (f.source, f.rest)
 read_of_flat ts f = ap (text.value max_depth) f.spelled ∙ value-json_tokens f.source max_depth f.rest f.nests
 
 pub flat_is : (ts : List Token) → Flat ts → is_flat ts ≡ true
-flat_is ts f = ap is_small (read_of_flat ts f) ∙ both_back _ _ (le-leb _ max_tokens f.few) f.plain
+flat_is ts f = ap is_small (read_of_flat ts f) ∙ both_back _ _ (le-leb _ max_tokens f.few) f.fit
 
 opened : (ts : List Token) (o : Option (text.Json × List Token)) → text.value max_depth ts ≡ o
     → is_small o ≡ true → Flat ts
@@ -49,22 +57,15 @@ opened ts (Some p) e h =
       spelled = value-json_tokens_back max_depth ts p.1 p.0 e;
       nests = value-depth max_depth ts p.1 p.0 e;
       few = leb-true _ max_tokens b.0;
-      plain = b.1;
+      fit = b.1;
     }
 
 pub flat_of : (ts : List Token) → is_flat ts ≡ true → Flat ts
 flat_of ts h = opened ts (text.value max_depth ts) refl h
 
--- what the JSON crate makes of it
-pub made_of : (ts : List Token) (f : Flat ts) → Made f.source
-made_of ts f = make f.source f.few f.plain
-
-pub data_is : (ts : List Token) (f : Flat ts) (d : Data) → of_json f.source ≡ Some d → data_at ts ≡ Some d
-data_is ts f d e = ap (option_and_then (λ p. of_json p.0)) (read_of_flat ts f) ∙ e
-
-pub value_is : (ts : List Token) (f : Flat ts) (d : Data) → of_json f.source ≡ Some d
-    → value_at ts ≡ json_of d
-value_is ts f d e = ap json_or_null (data_is ts f d e)
+-- the value is that of the tree
+pub value_is : (ts : List Token) (f : Flat ts) → value_at ts ≡ tree_json f.source
+value_is ts f = ap value_read (read_of_flat ts f)
 
 from_plain : (d : Data) → is_good d ≡ true → document_from (Some d) ≡ Ok (json_of d)
 from_plain d p = rw (whole_numbers d p, short_arrays d p) refl
@@ -77,6 +78,21 @@ whole_text line j d e shallow made =
     ∙ ap (λ o. option_and_then of_json (option_and_then (λ p. text.if_last p.0 p.1) o))
     (value-json_tokens j max_depth [] shallow)
     ∙ made
+
+-- what is read of a line is the value of its tree
+by_tree : (line : List ℕ) (j : text.Json) (v : Json) → text.value max_depth (tokens line) ≡ Some (j, [])
+    → reading line ≡ Ok v → value_at (tokens line) ≡ v
+by_tree line j v e h =
+    let found : tree_of line ≡ Some j = ap (option_and_then (λ p. text.if_last p.0 p.1)) e in
+    ap value_read e
+    ∙ Some_inj (tree_json j) v (sym (ap (option_map tree_json) found) ∙ tree_agrees line v h)
+
+-- the tree of a line is fit, where its numbers are within the limits
+pub fit_tree : (line : List ℕ) (j : text.Json) → text.document line ≡ Some j → IsUtf8 line
+    → tree.depth j ≤ 127 → has_long_number j ≡ false → is_fit j ≡ true
+fit_tree line j e u shallow short =
+    let found = shallow_tree line j e shallow in
+    fit j (names_are_texts line j u found) (tree_has_numbers line j found) short
 
 -- what is found of a line whose tokens are plain
 pub record ReadFlat (line : List ℕ) : Type 0 where
@@ -98,12 +114,13 @@ of_document line j e u short few plain =
       spelled = whole;
       nests = p.0;
       few = short_tokens;
-      plain = p.1;
+      fit = fit_tree line j e u p.0 (plain_is_short j p.1);
     } in
+    let read_so = reading_read line m.found short (u, whole_text line j m.found spelled p.0 m.made)
+    ∙ from_plain m.found m.plain in
     record {
       flat = f;
-      reads = reading_read line m.found short (u, whole_text line j m.found spelled p.0 m.made)
-          ∙ from_plain m.found m.plain ∙ ap Ok (sym (value_is (tokens line) f m.found m.made));
+      reads = read_so ∙ ap Ok (sym (by_tree line j (json_of m.found) (read_of_flat (tokens line) f) read_so));
     }
 
 of_some : (line : List ℕ) (o : Option text.Json) → text.document line ≡ o → IsSome o → IsUtf8 line

@@ -1,7 +1,7 @@
 -- What a node tells of the value that begins at it.
 use Rattle.std.proofs.Common.{◌≡◌, ℕ, ◌+◌, ◌<◌, ◌≤◌, true, List, [], ◌∷◌, ◌++◌, map, length, drop, get_or}
 use Rattle.std.proofs.Common.{Option}
-use Rattle.std.proofs.Common.{Some, None, option_map, refl, sym, ap, ◌∙◌, subst, arith, length-append}
+use Rattle.std.proofs.Common.{Some, None, refl, sym, ap, ◌∙◌, subst, arith, length-append}
 use Rattle.std.proofs.Common.{lt_of_not-le}
 use Rattle.std.proofs.lemmas.List.{drop_more, drop_all, get_or-map, length-map}
 use Rattle.std.proofs.Common as common
@@ -17,20 +17,15 @@ use Rattle.json.specs.declared.tape.Node.TheVariants.{Object, EndObject, Array, 
 use Rattle.json.specs.declared.tape.Node.TheVariants.{Bool, Null}
 use Rattle.json.proofs.Grammar as grammar
 use Rattle.json.proofs.Found.{not_found, Some_inj, one_reading}
-use Rattle.serde_json.specs.Data.{Data, null, boolean, number, string, array, object, Items, Members}
-use Rattle.serde_json.specs.Data.{no_members}
-use Rattle.serde_json.specs.Read.{of_json, of_items, of_members, max_depth}
+use Rattle.serde_json.specs.Read.{max_depth}
 use Rattle.jp_doc.specs.Json as json
-use Rattle.jp_doc.specs.Json.{Json, json_of, items_of, members_of}
-use Rattle.jp_doc.specs.DocumentValue.{whole_in}
+use Rattle.jp_doc.specs.Json.{Json}
+use Rattle.jp_doc.specs.Tree.{text_number, tree_json, tree_items, tree_members}
 use Rattle.jp_flat.specs.Flat.{value_at}
-use Rattle.jp_flat.specs.inner.Plain.{is_flat, is_plain, is_whole_text}
-use Rattle.jp_flat.specs.Value.{text_in, IsNoArray, IsNoObject}
-use Rattle.jp_flat.specs.Digits.{whole_value}
-use Rattle.jp_flat.proofs.Numbers.{whole_text}
+use Rattle.jp_flat.specs.inner.Plain.{is_flat, is_fit, is_fit_number}
+use Rattle.jp_flat.specs.Value.{text_in, number_in, IsNoArray, IsNoObject}
 use Rattle.jp_flat.proofs.PlainTokens.{some_token}
-use Rattle.jp_flat.proofs.Reading.{Flat, flat_of, read_of_flat, made_of, value_is}
-use Rattle.jp_number.specs.Number.{whole}
+use Rattle.jp_flat.proofs.Reading.{Flat, flat_of, read_of_flat, value_is}
 
 pub here : (ns : List Node) (i : ℕ) (d : Node) → i < length ns
     → drop i (map node_token ns) ≡ node_token (get_or ns i d) ∷ drop (i + 1) (map node_token ns)
@@ -88,20 +83,9 @@ Tells (Array a) v = (vs : json.Items) × (v ≡ json.array vs)
 Tells EndArray v = ⊥
 Tells (Key s) v = ⊥
 Tells (String s) v = v ≡ json.text (chars s.now)
-Tells (Number s) v = v ≡ json.number (whole (whole_value s.now))
+Tells (Number s) v = v ≡ json.number (text_number s.now)
 Tells (Bool b) v = v ≡ json.truth b
 Tells Null v = v ≡ json.null
-
-pub made_array : (js : text.Items) (o : Option Items) (d : Data) → of_items js ≡ o
-    → option_map array o ≡ Some d
-    → (ds : Items) × (of_items js ≡ Some ds) × (d ≡ array ds)
-made_array js None d e h = not_found d h
-made_array js (Some ds) d e h = (ds, e, sym (Some_inj _ _ h))
-
-pub made_object : (ms : text.Members) (o : Option Members) (d : Data) → of_members ms no_members ≡ o
-    → option_map object o ≡ Some d → (ds : Members) × (of_members ms no_members ≡ Some ds) × (d ≡ object ds)
-made_object ms None d e h = not_found d h
-made_object ms (Some ds) d e h = (ds, e, sym (Some_inj _ _ h))
 
 pub tells : (n : Node) (ts : List Token) → is_flat (node_token n ∷ ts) ≡ true
     → Tells n (value_at (node_token n ∷ ts))
@@ -111,25 +95,15 @@ tells n ts h =
   where
     go : (n : Node) (f : Flat (node_token n ∷ ts)) → Shape n ts f.source f.rest
         → Tells n (value_at (node_token n ∷ ts))
-    go (Object a) f sh =
-        let m = made_of _ f in
-        let o = made_object sh.0 _ m.found refl (sym (ap of_json sh.1) ∙ m.made) in
-        (members_of o.0, value_is _ f m.found m.made ∙ ap json_of o.2)
+    go (Object a) f sh = (tree_members sh.0 json.no_members, value_is _ f ∙ ap tree_json sh.1)
     go EndObject f sh = sh
-    go (Array a) f sh =
-        let m = made_of _ f in
-        let o = made_array sh.0 _ m.found refl (sym (ap of_json sh.1) ∙ m.made) in
-        (items_of o.0, value_is _ f m.found m.made ∙ ap json_of o.2)
+    go (Array a) f sh = (tree_items sh.0, value_is _ f ∙ ap tree_json sh.1)
     go EndArray f sh = sh
     go (Key s) f sh = sh
-    go (String s) f sh = value_is _ f (string s.now) (ap of_json sh.0)
-    go (Number s) f sh =
-        let p : is_whole_text s.now ≡ true = subst (λ j. is_plain j ≡ true) sh.0 f.plain in
-        let w = whole_text s.now p in
-        value_is _ f (number w.number) (ap of_json sh.0 ∙ ap (option_map number) w.read)
-        ∙ ap (λ z. json.number (whole z)) w.is
-    go (Bool b) f sh = value_is _ f (boolean b) (ap of_json sh.0)
-    go Null f sh = value_is _ f null (ap of_json sh.0)
+    go (String s) f sh = value_is _ f ∙ ap tree_json sh.0
+    go (Number s) f sh = value_is _ f ∙ ap tree_json sh.0
+    go (Bool b) f sh = value_is _ f ∙ ap tree_json sh.0
+    go Null f sh = value_is _ f ∙ ap tree_json sh.0
 
 pub node_tells : (ts : List Token) (n : Node) → is_flat ts ≡ true → ts ≡ node_token n ∷ drop 1 ts
     → Tells n (value_at ts)
@@ -190,16 +164,17 @@ no_object (Number k) v p t = subst IsNoObject (sym t) tt
 no_object (Bool b) v p t = subst IsNoObject (sym t) tt
 no_object Null v p t = subst IsNoObject (sym t) tt
 
-pub no_whole : (n : Node) (v : Json) → ((s : Bor (List ℕ)) → n ≡ Number s → ⊥) → Tells n v → None ≡ whole_in v
-no_whole (Object a) v p t = sym (ap whole_in t.1)
-no_whole EndObject v p t = absurd t
-no_whole (Array a) v p t = sym (ap whole_in t.1)
-no_whole EndArray v p t = absurd t
-no_whole (Key k) v p t = absurd t
-no_whole (String k) v p t = sym (ap whole_in t)
-no_whole (Number k) v p t = absurd (p k refl)
-no_whole (Bool b) v p t = sym (ap whole_in t)
-no_whole Null v p t = sym (ap whole_in t)
+pub no_number : (n : Node) (v : Json) → ((s : Bor (List ℕ)) → n ≡ Number s → ⊥) → Tells n v
+    → None ≡ number_in v
+no_number (Object a) v p t = sym (ap number_in t.1)
+no_number EndObject v p t = absurd t
+no_number (Array a) v p t = sym (ap number_in t.1)
+no_number EndArray v p t = absurd t
+no_number (Key k) v p t = absurd t
+no_number (String k) v p t = sym (ap number_in t)
+no_number (Number k) v p t = absurd (p k refl)
+no_number (Bool b) v p t = sym (ap number_in t)
+no_number Null v p t = sym (ap number_in t)
 
 pub no_text : (n : Node) (v : Json) → ((s : Bor (List ℕ)) → n ≡ String s → ⊥) → Tells n v → None ≡ text_in v
 no_text (Object a) v p t = sym (ap text_in t.1)
@@ -212,11 +187,11 @@ no_text (Number k) v p t = sym (ap text_in t)
 no_text (Bool b) v p t = sym (ap text_in t)
 no_text Null v p t = sym (ap text_in t)
 
--- the text of a number is plain
-pub number_is_whole : (ts : List Token) (n : Node) (s : Bor (List ℕ)) → is_flat ts ≡ true
-    → ts ≡ node_token n ∷ drop 1 ts → n ≡ Number s → is_whole_text s.now ≡ true
-number_is_whole ts n s h e is =
+-- the text of a number is fit
+pub number_is_fit : (ts : List Token) (n : Node) (s : Bor (List ℕ)) → is_flat ts ≡ true
+    → ts ≡ node_token n ∷ drop 1 ts → n ≡ Number s → is_fit_number s.now ≡ true
+number_is_fit ts n s h e is =
     let all : ts ≡ Token.number s.now ∷ drop 1 ts = e ∙ ap (λ m. node_token m ∷ drop 1 ts) is in
     let f = flat_of (Token.number s.now ∷ drop 1 ts) (subst (λ l. is_flat l ≡ true) all h) in
     let sh = shape (Number s) (drop 1 ts) f.source max_depth f.rest (read_of_flat _ f) in
-    subst (λ j. is_plain j ≡ true) sh.0 f.plain
+    subst (λ j. is_fit j ≡ true) sh.0 f.fit

@@ -1,5 +1,5 @@
 -- The texts of a line's numbers that have a row are those that the flat reading takes, and no others.
-use Rattle.std.proofs.Common.{◌≡◌, ℕ, ◌<◌, ◌^◌, Bool, true, false, not, ◌==◌, List, [], ◌∷◌, Some}
+use Rattle.std.proofs.Common.{◌≡◌, ℕ, ◌<◌, ◌^◌, Bool, true, false, not, ◌==◌, List, [], ◌∷◌, Option, Some}
 use Rattle.std.proofs.Common.{None, cond, refl, sym, ap, ◌∙◌, if◌then◌else◌, subst, arith, eqb-true, ne_eqb}
 use Rattle.std.proofs.lemmas.Bool.{and_parts, ltb-true}
 use Rattle.std.specs.Float.{binary64, float_is_finite}
@@ -12,7 +12,7 @@ use Rattle.serde_json.specs.Data.{Num, unsigned, negative, float}
 use Rattle.serde_json.specs.Read.{number_of, number_from, float_of, is_integer}
 use Rattle.jp_doc.specs.Json.{whole_of}
 use Rattle.jp_doc.specs.Tree.{number_by, text_number}
-use Rattle.jp_number.specs.Number.{whole}
+use Rattle.jp_number.specs.Number.{whole, written}
 use Rattle.jp_flat.specs.Digits.{whole_value}
 use Rattle.jp_flat.specs.inner.Rows.{is_whole_number}
 use Rattle.jp_flat.specs.inner.Plain.{is_unsigned_text, is_minus_text, is_whole_text}
@@ -127,3 +127,12 @@ pub number_is : (s : List ℕ) → is_whole_text s ≡ true → text_number s �
 number_is s h =
     let w = whole_text s h in
     ap (number_by s) w.read ∙ whole_as_read s w.number w.whole ∙ ap whole w.is
+
+as_written : (s : List ℕ) (o : Option Num) → is_whole_number o ≡ false → number_by s o ≡ written s
+as_written s None h = refl
+as_written s (Some (unsigned n)) h = absurd (cc)
+as_written s (Some (negative z)) h = absurd (cc)
+as_written s (Some (float x)) h = refl
+
+pub other_is : (s : List ℕ) → IsNumber s → is_whole_text s ≡ false → text_number s ≡ written s
+other_is s grammar h = as_written s (number_of s) (sym (tells_row s grammar) ∙ h)

@@ -1,7 +1,21 @@
--- The value of a flat document.
+-- The value of a flat document, and what a line is read as by the grammar alone.
+use Rattle.std.specs.Prelude.{ℕ, nat_lt, List, length, Result, Ok, Err, if◌then◌else◌}
 use Rattle.jp_doc.specs.Json.{Json}
+use Rattle.jp_doc.specs.Reading.{max_line}
+use Rattle.jp_doc.specs.ReadingIn.{tree_reading}
+use Rattle.jp_doc.specs.declared.fault.DocFault.{DocFault}
+use Rattle.jp_doc.specs.declared.fault.DocFault.TheVariants.{LongLine}
 use Rattle.jp_flat.specs.Flat.{value_at}
 use Rattle.jp_flat.specs.declared.document.FlatDocument.{FlatDocument}
 
 abbrev pub document_value : FlatDocument → Json
 document_value d = value_at d.tape
+
+-- a document's value, or the fault
+abbrev pub answer_of : Result FlatDocument DocFault → Result Json DocFault
+answer_of (Ok d) = Ok (document_value d)
+answer_of (Err f) = Err f
+
+-- what a line of any length is read as by the grammar alone
+abbrev pub grammar_reading : List ℕ → Result Json DocFault
+grammar_reading line = if nat_lt max_line (length line) then Err LongLine else tree_reading line

@@ -5,15 +5,15 @@ use Rattle.json.specs.Tape.{node_token}
 use Rattle.json.specs.Token.{Token, begin_array, begin_object}
 use Rattle.jp_doc.specs.Json as json
 use Rattle.jp_doc.specs.Json.{Json, null, truth, number, text, array, object, Items, Members, item_list}
-use Rattle.jp_flat.specs.Digits.{whole_value}
+use Rattle.jp_doc.specs.Tree.{text_number}
 use Rattle.jp_flat.specs.Flat.{value_at}
 use Rattle.jp_flat.specs.Members.{entries_at}
 use Rattle.jp_flat.specs.declared.value.FlatItems.{FlatItems}
 use Rattle.jp_flat.specs.declared.value.FlatMembers.{FlatMembers}
 use Rattle.jp_flat.specs.declared.value.FlatValue.{FlatValue}
 use Rattle.jp_flat.specs.declared.value.Kind.{Kind}
-use Rattle.jp_flat.specs.declared.value.Kind.TheVariants.{Null, Truth, Whole, Text, Array, Object}
-use Rattle.jp_number.specs.Number.{whole}
+use Rattle.jp_flat.specs.declared.value.Kind.TheVariants.{Null, Truth, Number, Text, Array, Object}
+use Rattle.jp_number.specs.Number as numbers
 
 -- the tokens from the value's first on
 abbrev pub tokens_of : FlatValue → List Token
@@ -27,7 +27,7 @@ flat_value v = value_at (tokens_of v)
 abbrev pub IsKind : Kind → Json → Type 0
 IsKind Null v = v ≡ null
 IsKind (Truth b) v = v ≡ truth b
-IsKind (Whole s) v = v ≡ number (whole (whole_value s.now))
+IsKind (Number s) v = v ≡ number (text_number s.now)
 IsKind (Text s) v = v ≡ text (chars s.now)
 IsKind Array v = (vs : Items) × (v ≡ array vs)
 IsKind Object v = (ms : Members) × (v ≡ object ms)
@@ -40,6 +40,15 @@ text_in (truth b) = None
 text_in (number x) = None
 text_in (array vs) = None
 text_in (object ms) = None
+
+-- the number that a value is, if it is one
+abbrev pub number_in : Json → Option numbers.Number
+number_in (number x) = Some x
+number_in null = None
+number_in (truth b) = None
+number_in (text s) = None
+number_in (array vs) = None
+number_in (object ms) = None
 
 -- how many items an array has, and 0 of any other value
 abbrev pub item_count : Json → ℕ

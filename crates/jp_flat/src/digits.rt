@@ -1,11 +1,17 @@
-//! Numbers as they stand in a line: those that are whole and have at most 64 bits.
+//! Numbers as they stand in a line.
 
-ghost use Rattle.std.specs.Prelude.{◌≡◌, ◌<◌, ◌^◌, IsTrue, nat_lt, nat_le, pos};
+ghost use Rattle.std.specs.Prelude.{◌≡◌, ◌^◌, IsTrue, nat_lt, nat_le, pos, neg_ℤ, true, false, MatchOption};
 ghost use Rattle.std.specs.Char.{is_ascii_digit};
 ghost use Rattle.std.specs.List.{list_all};
 ghost use Rattle.std.specs.Str.Parse.{digits_value};
 ghost use Rattle.jp_flat.specs.Digits.{whole_value};
+ghost use Rattle.jp_doc.specs.Tree.{text_number};
 ghost use Rattle.jp_flat.specs.inner.Plain.{are_digits, is_unsigned_text, is_minus_text, is_whole_text};
+ghost use Rattle.jp_flat.specs.inner.Plain.{is_fit_number, IsLed};
+ghost use Rattle.jp_number.specs.Number.{written, IsShort, is_short};
+ghost use Rattle.jp_number.specs.View.{number_of};
+
+use jp_number::{Number, NumberText};
 
 fn all_digits(bytes: &[u8]) -> bool
     ensures { result ≡ list_all is_ascii_digit bytes.now }
@@ -77,27 +83,74 @@ fn widened(number: u64) -> i128
     number as i128
 }
 
-/// The number of these digits.
-fn parse_digits(digits: &[u8]) -> u64
-    requires digits { IsTrue (are_digits digits.now) }
-    requires fits { digits_value 10 digits.now < 2 ^ 64 }
-    ensures { result ≡ digits_value 10 digits.now }
+/// The number of these digits, where it has at most 64 bits, and `None` where these are no digits too.
+fn read_unsigned(digits: &[u8]) -> Option<u64>
+    requires { IsLed digits.now }
+    ensures { MatchOption result (is_unsigned_text digits.now ≡ false)
+        (λ n. (is_unsigned_text digits.now ≡ true) × (n ≡ digits_value 10 digits.now)) }
 {
     match fast_float::parse_u64(digits) {
-        Ok(number) => number,
-        // No number of a flat document is so: that it fits was tested when its line was read.
-        Err(_) => 0,
+        Ok(number) => Some(number),
+        Err(_) => None,
+    }
+}
+
+/// The number of these digits behind a minus, where it has at most 64 bits and is no zero.
+fn read_minus(digits: &[u8]) -> Option<i128>
+    requires { IsLed digits.now }
+    ensures { MatchOption result (is_minus_text digits.now ≡ false)
+        (λ z. (is_minus_text digits.now ≡ true) × (z ≡ neg_ℤ (pos (digits_value 10 digits.now)))) }
+{
+    let Some(number) = read_unsigned(digits) else {
+        return None;
+    };
+    if digits[0] == b'0' || number > 1 << 63 {
+        return None;
+    }
+    Some(-widened(number))
+}
+
+/// The whole number of 64 bits that the text of a number writes, if it does.
+fn read_whole(text: &str) -> Option<i128>
+    requires { is_fit_number text.now ≡ true }
+    ensures { MatchOption result (is_whole_text text.now ≡ false)
+        (λ z. (is_whole_text text.now ≡ true) × (z ≡ whole_value text.now)) }
+{
+    let bytes = text.as_bytes();
+    if bytes.is_empty() || bytes[0] != b'-' {
+        return match read_unsigned(bytes) {
+            Some(number) => Some(widened(number)),
+            None => None,
+        };
+    }
+    read_minus(&bytes[1..])
+}
+
+/// The number that a text within the limits writes.
+fn written_number(text: &str) -> Number<'_>
+    requires { IsShort (written text.now) }
+    ensures { number_of result ≡ written text.now }
+{
+    match NumberText::new(text) {
+        Some(number) => Number::Written(number),
+        None => unreachable!(),
     }
 }
 
 /// The number of the text of one.
-pub(crate) fn whole_number(text: &str) -> i128
-    requires { IsTrue (is_whole_text text.now) }
-    ensures { result ≡ whole_value text.now }
+pub(crate) fn read_number(text: &str) -> Number<'_>
+    requires { is_fit_number text.now ≡ true }
+    ensures { number_of result ≡ text_number text.now }
 {
-    let bytes = text.as_bytes();
-    if bytes.is_empty() || bytes[0] != b'-' {
-        return widened(parse_digits(bytes));
+    match read_whole(text) {
+        Some(whole) => Number::Whole(whole),
+        None => written_number(text),
     }
-    -widened(parse_digits(&bytes[1..]))
+}
+
+/// Whether the text of a number is within the limits.
+pub(crate) fn is_within(text: &str) -> bool
+    ensures { result ≡ is_short (written text.now) }
+{
+    NumberText::new(text).is_some()
 }

@@ -4,16 +4,12 @@ ghost use Rattle.std.specs.Prelude.{◌≡◌, true, Ok, IfOk, IfSome};
 ghost use Rattle.jp_doc.specs.Reading.{reading};
 ghost use Rattle.jp_flat.specs.inner.Plain.{is_flat};
 
-use crate::nodes::are_plain;
+use crate::nodes::{MAX_NODES, are_plain, fault_in};
 use crate::value::FlatValue;
 use bumpalo::Bump;
-use jp_doc::{MAX_ITEMS, MAX_LINE};
+use jp_doc::{DocFault, MAX_LINE};
 use json::{Error, Scratch, Tape};
 use std::alloc::AllocError;
-
-/// The greatest number of nodes: those of an array of the greatest number of items, and its brackets. So no
-/// array is too long, and none has to be counted.
-const MAX_NODES: usize = MAX_ITEMS + 2;
 
 /// A document as a flat list of nodes, which lie in the buffers of a reader and borrow from the line.
 #[derive(Drop)]
@@ -23,7 +19,7 @@ pub struct FlatDocument<'a> {
 }
 
 impl<'a> FlatDocument<'a> {
-    ghost use Rattle.jp_flat.specs.Document.{document_value};
+    ghost use Rattle.jp_flat.specs.Document.{document_value, answer_of, grammar_reading};
     ghost use Rattle.jp_flat.specs.Value.{flat_value};
 
     /// The document that a line holds, or `None` where the line is not plain. The nodes lie in the arena.
@@ -52,6 +48,34 @@ impl<'a> FlatDocument<'a> {
             }
             Err(Error::OutOfMemory) => Err(AllocError),
             Err(_) => Ok(None),
+        }
+    }
+
+    /// The document that a line holds, where numbers need not be whole, or its fault. The nodes lie in the
+    /// arena.
+    ///
+    /// `AllocError` if a growth was refused.
+    pub(crate) fn read_decimal(
+        line: &'a [u8],
+        scratch: &'a mut Scratch,
+        arena: &'a Bump,
+    ) -> Result<Result<FlatDocument<'a>, DocFault>, AllocError>
+        ensures { IfOk result (λ r. answer_of r ≡ grammar_reading line.now) }
+    {
+        if line.len() > MAX_LINE {
+            return Ok(Err(DocFault::LongLine));
+        }
+        let Ok(text) = simdutf8::basic::from_utf8(line) else {
+            return Ok(Err(DocFault::Unreadable));
+        };
+        match Tape::parse(text, scratch, Vec::new(arena)) {
+            Ok(tape) => match fault_in(tape.nodes()) {
+                Some(fault) => Ok(Err(fault)),
+                None => Ok(Ok(FlatDocument { tape })),
+            },
+            Err(Error::OutOfMemory) => Err(AllocError),
+            // A line of that length is not too long for the tape.
+            Err(_) => Ok(Err(DocFault::Unreadable)),
         }
     }
 

@@ -10,13 +10,14 @@ ghost use Rattle.jp_doc.specs.Json.{no_items, add_item, no_members, add_member};
 ghost use Rattle.jp_doc.specs.declared.fault.DocFault.TheVariants.{Unreadable, LongNumber};
 ghost use Rattle.jp_number.specs.Number.{whole, written};
 ghost use Rattle.jp_flat.specs.Digits.{whole_value};
+ghost use Rattle.jp_flat.specs.Document.{grammar_reading};
 ghost use Rattle.jp_flat.specs.Flat.{value_at};
 ghost use Rattle.jp_flat.specs.inner.Nesting.{nests_from};
 ghost use Rattle.jp_flat.specs.inner.Plain.{is_flat};
-ghost use Rattle.jp_flat.specs.inner.Rows.{are_short, pass_answer};
+ghost use Rattle.jp_flat.specs.inner.Rows.{are_short, are_within, pass_answer, pass_fault};
 ghost use Rattle.jp_flat.specs.Gathered.{AreAbove, NamesRise};
 ghost use Rattle.jp_flat.specs.Members.{put_all, last_of, entries_at};
-ghost use Rattle.jp_flat.specs.Value.{text_in, item_count, IsNoArray, IsNoObject};
+ghost use Rattle.jp_flat.specs.Value.{text_in, number_in, item_count, IsNoArray, IsNoObject};
 
 #[tactic(auto, unfolding(crate::proofs::OnLiterals::flat_on_literals))]
 fn numbers_of_texts()
@@ -47,15 +48,16 @@ fn what_is_flat()
     ensures greatest { is_flat (tokens (codes "18446744073709551615")) ≡ true }
     ensures least { is_flat (tokens (codes "-9223372036854775808")) ≡ true }
     ensures array_of_texts { is_flat (tokens (codes "[\"a\",[]]")) ≡ true }
+    ensures above_the_greatest { is_flat (tokens (codes "18446744073709551616")) ≡ true }
+    ensures minus_zero { is_flat (tokens (codes "-0")) ≡ true }
+    ensures fraction { is_flat (tokens (codes "[1,2.5]")) ≡ true }
+    ensures exponent { is_flat (tokens (codes "1e3")) ≡ true }
 {}
 
 #[tactic(auto, unfolding(crate::proofs::OnLiterals::flat_on_literals))]
 fn what_is_not_flat()
-    ensures above_the_greatest { is_flat (tokens (codes "18446744073709551616")) ≡ false }
-    ensures below_the_least { is_flat (tokens (codes "-9223372036854775809")) ≡ false }
-    ensures minus_zero { is_flat (tokens (codes "-0")) ≡ false }
-    ensures fraction { is_flat (tokens (codes "[1,2.5]")) ≡ false }
-    ensures exponent { is_flat (tokens (codes "1e3")) ≡ false }
+    ensures long_exponent { is_flat (tokens (codes "[1e0000000001]")) ≡ false }
+    ensures no_number { is_flat (number (codes "01") ∷ []) ≡ false }
     ensures open_array { is_flat (begin_array ∷ []) ≡ false }
     ensures nothing { is_flat [] ≡ false }
 {}
@@ -87,6 +89,28 @@ fn what_a_pass_answers()
         ≡ Err Unreadable }
 {}
 
+// What a line of any length is read as by the grammar alone.
+#[tactic(auto, unfolding(crate::proofs::OnLiterals::flat_on_literals))]
+fn lines_by_the_grammar()
+    ensures fraction { grammar_reading (codes "9.90") ≡ Ok (number (written (codes "9.90"))) }
+    ensures exponent { grammar_reading (codes "1e2") ≡ Ok (number (written (codes "1e2"))) }
+    ensures minus_zero { grammar_reading (codes "-0") ≡ Ok (number (written (codes "-0"))) }
+    ensures whole_number { grammar_reading (codes "-7") ≡ Ok (number (whole (negsuc 6))) }
+    ensures leading_zero { grammar_reading (codes "01") ≡ Err Unreadable }
+    ensures long_exponent { grammar_reading (codes "1e0000000001") ≡ Err LongNumber }
+{}
+
+// The fault that a pass over the tokens finds.
+#[tactic(auto, unfolding(crate::proofs::OnLiterals::flat_on_literals))]
+fn faults_that_a_pass_finds()
+    ensures none { pass_fault (tokens (codes "[1.5,-0]")) ≡ None }
+    ensures long_number { pass_fault (tokens (codes "[1e0000000001,1]")) ≡ Some LongNumber }
+    ensures too_deep { pass_fault (replicate 128 begin_array) ≡ Some Unreadable }
+    ensures nesting_first { pass_fault (number (codes "1e0000000001") ∷ replicate 128 begin_array)
+        ≡ Some Unreadable }
+    ensures within { are_within (number (codes "1e999999999") ∷ []) ≡ true }
+{}
+
 #[tactic(auto, unfolding(crate::proofs::OnLiterals::flat_on_literals))]
 fn members_put_together()
     ensures all { put_all ((codes "b", null) ∷ (codes "a", truth true) ∷ (codes "b", truth false) ∷ [])
@@ -115,6 +139,8 @@ fn names_that_rise()
 fn what_values_are()
     ensures text_value { text_in (text (codes "a")) ≡ Some (codes "a") }
     ensures no_text { text_in (number (whole (pos 1))) ≡ None }
+    ensures number_value { number_in (number (written (codes "1.0"))) ≡ Some (written (codes "1.0")) }
+    ensures no_number { number_in (text (codes "1")) ≡ None }
     ensures two_items { item_count (array (add_item null (add_item (array no_items) no_items))) ≡ 2 }
     ensures no_items_in_an_object { item_count (object (add_member (codes "a") null no_members)) ≡ 0 }
     ensures no_array { IsNoArray (object no_members) × IsNoArray null }

@@ -1,12 +1,19 @@
-//! Nodes that are plain: whole numbers of 64 bits alone, and nesting no deeper than is read.
+//! A pass over the nodes of a line: nesting no deeper than is read, and numbers that are taken.
 
-ghost use Rattle.std.specs.Prelude.{◌≡◌, ◌≤◌, List, ◌∷◌, map, false, MatchOption, IfSome};
+ghost use Rattle.std.specs.Prelude.{◌≡◌, ◌≤◌, ◌&&◌, List, ◌∷◌, map, false, MatchOption, IfSome};
 ghost use Rattle.json.specs.Tape.{node_token};
 ghost use Rattle.json.specs.Token.{Token};
+ghost use Rattle.jp_flat.specs.inner.Nesting.{nests_from};
 ghost use Rattle.jp_flat.specs.inner.Plain.{is_plain_from};
+ghost use Rattle.jp_flat.specs.inner.Rows.{are_within, pass_fault};
 
-use crate::digits::is_whole_text;
+use crate::digits::{is_whole_text, is_within};
+use jp_doc::{DocFault, MAX_ITEMS};
 use json::Node;
+
+/// The greatest number of nodes: those of an array of the greatest number of items, and its brackets. So no
+/// array is too long, and none has to be counted.
+pub(crate) const MAX_NODES: usize = MAX_ITEMS + 2;
 
 /// The most brackets that are open at once: as many as `Document::read` takes, and one fewer than the tape.
 const MAX_LEVEL: u32 = 127;
@@ -67,4 +74,59 @@ pub(crate) fn are_plain(nodes: &[Node<'_>]) -> bool
         }
     }
     true
+}
+
+/// How many brackets are open behind the node, where so many are open before it, or `None` where those are
+/// too many.
+fn nested_after(node: &Node<'_>, level: u32) -> Option<u32>
+    requires { level ≤ 127 }
+    ensures nests { (ts : List Token) → MatchOption result
+        (nests_from level (node_token node.now ∷ ts) ≡ false)
+        (λ l. nests_from level (node_token node.now ∷ ts) ≡ nests_from l ts) }
+    ensures level { IfSome result (λ l. l ≤ 127) }
+{
+    match node {
+        Node::Object(_) | Node::Array(_) => {
+            if level < MAX_LEVEL {
+                Some(level + 1)
+            } else {
+                None
+            }
+        }
+        Node::EndObject | Node::EndArray => Some(level.saturating_sub(1)),
+        Node::Number(_) | Node::Key(_) | Node::String(_) => Some(level),
+        Node::Bool(_) | Node::Null => Some(level),
+    }
+}
+
+/// Whether the node is no number over the limits.
+fn is_node_within(node: &Node<'_>) -> bool
+    ensures { (ts : List Token) → are_within (node_token node.now ∷ ts) ≡ (result && are_within ts) }
+{
+    match node {
+        Node::Number(text) => is_within(text),
+        _ => true,
+    }
+}
+
+/// The first fault of the nodes, where numbers need not be whole.
+pub(crate) fn fault_in(nodes: &[Node<'_>]) -> Option<DocFault>
+    ensures { result ≡ pass_fault (map node_token nodes.now) }
+{
+    let mut level = 0;
+    let mut within = true;
+    for node in nodes {
+        within = within && is_node_within(node);
+        match nested_after(node, level) {
+            Some(next) => level = next,
+            None => return Some(DocFault::Unreadable),
+        }
+    }
+    if !within {
+        Some(DocFault::LongNumber)
+    } else if nodes.len() > MAX_NODES {
+        Some(DocFault::LongArray)
+    } else {
+        None
+    }
 }

@@ -1,12 +1,13 @@
 //! Lines that are read one after another.
 
-ghost use Rattle.std.specs.Prelude.{◌≡◌, Ok, IfOk, IfSome};
+ghost use Rattle.std.specs.Prelude.{◌≡◌, Ok, Err, IfOk, IfErr, IfSome};
 ghost use Rattle.jp_doc.specs.Reading.{reading};
-ghost use Rattle.jp_flat.specs.Document.{document_value};
+ghost use Rattle.jp_doc.specs.ReadingIn.{decimals, reading_in};
+ghost use Rattle.jp_flat.specs.Document.{document_value, answer_of, grammar_reading};
 
 use crate::document::FlatDocument;
 use bumpalo::Bump;
-use jp_doc::LONG_LINE;
+use jp_doc::{DocFault, LONG_LINE};
 use json::Scratch;
 use std::alloc::{AllocError, Global};
 
@@ -42,6 +43,30 @@ impl FlatReader {
         self.release();
         self.was_long = line.len() > LONG_LINE;
         FlatDocument::read(line, &mut self.scratch, &self.arena)
+    }
+
+    /// The document that a line holds by the grammar of JSON alone, where numbers need not be whole, or its
+    /// fault: `LongLine` if the line has more than 268,435,456 bytes. Then `Unreadable` if it holds no JSON
+    /// text, `LongNumber` if some number is over the limits, and `LongArray` if it has more than 16,777,218
+    /// nodes.
+    ///
+    /// What is read so is what is read with decimals. A fault is that of the line where `Document::read`
+    /// gives no value of it: of `LongArray` and of `LongNumber` it may give one still.
+    ///
+    /// `AllocError` if a growth was refused. Then the next line may be read as if there had been none.
+    pub fn read_decimal<'a>(
+        &'a mut self,
+        line: &'a [u8],
+    ) -> Result<Result<FlatDocument<'a>, DocFault>, AllocError>
+        ensures answer { IfOk result (λ r. answer_of r ≡ grammar_reading line.now) }
+        ensures value { IfOk result (λ r. IfOk r (λ d.
+            reading_in decimals line.now ≡ Ok (document_value d))) }
+        ensures fault { IfOk result (λ r. IfErr r (λ f. (g : DocFault) → reading line.now ≡ Err g
+            → reading_in decimals line.now ≡ Err f)) }
+    {
+        self.release();
+        self.was_long = line.len() > LONG_LINE;
+        FlatDocument::read_decimal(line, &mut self.scratch, &self.arena)
     }
 
     /// Lets go of the nodes of the last line, and of all memory after a long one. A reading begins with it.

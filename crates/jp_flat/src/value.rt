@@ -8,7 +8,8 @@ ghost use Rattle.json.specs.Token.{Token, begin_array, begin_object};
 ghost use Rattle.jp_doc.specs.Reading.{max_items};
 ghost use Rattle.jp_flat.specs.inner.Plain.{is_flat};
 
-use crate::digits::whole_number;
+use crate::digits::read_number;
+use jp_number::Number;
 use json::Node;
 
 /// The node at a place, and `Null` behind the last.
@@ -85,8 +86,8 @@ pub enum Kind<'d> {
     Null,
     /// `true` or `false`.
     Truth(bool),
-    /// A whole number, as it stands in the line.
-    Whole(&'d str),
+    /// A number, as it stands in the line: `FlatValue::number` tells which.
+    Number(&'d str),
     /// A text, without its escapes.
     Text(&'d str),
     /// An array.
@@ -96,14 +97,14 @@ pub enum Kind<'d> {
 }
 
 impl<'d> FlatValue<'d> {
-    ghost use Rattle.std.specs.Prelude.{None, option_map, ◌≤◌};
+    ghost use Rattle.std.specs.Prelude.{option_map, ◌≤◌};
     ghost use Rattle.std.specs.Str.{chars};
-    ghost use Rattle.serde_json.specs.Written.{compact_text};
     ghost use Rattle.jp_doc.specs.DocumentValue.{whole_in};
-    ghost use Rattle.jp_doc.specs.Json.{data_of};
     ghost use Rattle.jp_doc.specs.Location.{member_of, item_of};
     ghost use Rattle.jp_flat.specs.Value.{flat_value, tokens_of, items_value, members_value, text_in};
-    ghost use Rattle.jp_flat.specs.Value.{item_count, IsKind, IsNoArray, IsNoObject};
+    ghost use Rattle.jp_flat.specs.Value.{number_in, item_count, IsKind, IsNoArray, IsNoObject};
+    ghost use Rattle.jp_number.specs.Profile.{number_text};
+    ghost use Rattle.jp_number.specs.View.{number_of};
 
     /// The value that the nodes begin with.
     pub(crate) fn first(nodes: &'d [Node<'d>]) -> FlatValue<'d>
@@ -129,7 +130,7 @@ impl<'d> FlatValue<'d> {
             Node::Object(_) => Kind::Object,
             Node::Array(_) => Kind::Array,
             Node::String(text) => Kind::Text(text),
-            Node::Number(text) => Kind::Whole(text),
+            Node::Number(text) => Kind::Number(text),
             Node::Bool(truth) => Kind::Truth(truth),
             _ => Kind::Null,
         }
@@ -145,20 +146,31 @@ impl<'d> FlatValue<'d> {
         }
     }
 
-    /// The whole number, where the value is one.
-    pub fn whole(self) -> Option<i128>
-        ensures { result ≡ whole_in (flat_value self.entry) }
+    /// The number, where the value is one: whole where it is written so and has 64 bits, else by its text.
+    pub fn number(self) -> Option<Number<'d>>
+        ensures { option_map number_of result ≡ number_in (flat_value self.entry) }
     {
         match self.node() {
-            Node::Number(text) => Some(whole_number(text)),
+            Node::Number(text) => Some(read_number(text)),
             _ => None,
         }
     }
 
-    /// The whole number as it stands in the line, which is its compact text, where the value is one.
+    /// The whole number of 64 bits, where the value is one.
+    pub fn whole(self) -> Option<i128>
+        ensures { result ≡ whole_in (flat_value self.entry) }
+    {
+        match self.number() {
+            Some(Number::Whole(whole)) => Some(whole),
+            Some(Number::Written(_)) => None,
+            None => None,
+        }
+    }
+
+    /// The number as it stands in the line, which is its text, where the value is one.
     pub fn digits(self) -> Option<&'d str>
-        ensures { MatchOption result (whole_in (flat_value self.entry) ≡ None)
-            (λ s. compact_text (data_of (flat_value self.entry)) ≡ s.now) }
+        ensures { option_map (λ s. s.now) result
+            ≡ option_map number_text (number_in (flat_value self.entry)) }
     {
         match self.node() {
             Node::Number(text) => Some(text),

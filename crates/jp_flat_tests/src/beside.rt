@@ -75,7 +75,7 @@ fn same(alloc: Global, flat: FlatValue<'_>, tree: &Value, levels: u32) -> Result
     match (flat.kind(), tree) {
         (Kind::Null, Value::Null) => Ok(true),
         (Kind::Truth(truth), Value::Bool(expected)) => Ok(truth == *expected),
-        (Kind::Whole(text), Value::Number(_)) => {
+        (Kind::Number(text), Value::Number(_)) => {
             Ok(flat.digits() == Some(text) && tree.to_string(alloc)?.as_str() == text)
         }
         (Kind::Text(text), Value::String(expected)) => {

@@ -14,9 +14,9 @@ fn kinds(alloc: Global) -> Result<String, Fail> {
     let items = document.root().member("b").ok_or("no b")?;
     for place in 0..5 {
         match items.item(place).map(|item| item.kind()) {
-            Some(Kind::Null) => letters.push('n')?,
+            Some(Kind::Null) => letters.push('0')?,
             Some(Kind::Truth(_)) => letters.push('b')?,
-            Some(Kind::Whole(_)) => letters.push('w')?,
+            Some(Kind::Number(_)) => letters.push('n')?,
             Some(Kind::Text(_)) => letters.push('t')?,
             Some(Kind::Array) => letters.push('a')?,
             Some(Kind::Object) => letters.push('o')?,
@@ -29,7 +29,7 @@ fn kinds(alloc: Global) -> Result<String, Fail> {
 #[test]
 fn kinds_of_items(rt: HostRuntime) -> Result<(), Fail> {
     let letters = kinds(rt.alloc())?;
-    assert_eq!(rt; letters.as_str(), "wtbn-");
+    assert_eq!(rt; letters.as_str(), "ntb0-");
     Ok(())
 }
 

@@ -8,6 +8,7 @@
 mod beside;
 #[cfg(test)]
 mod calls;
+mod decimals;
 #[cfg(test)]
 mod kept;
 #[cfg(test)]

@@ -1,11 +1,11 @@
 //! The compact text of a value of a flat document (RFC 8259), appended piece by piece.
 
-ghost use Rattle.std.specs.Prelude.{◌≡◌, ℤ, ◌++◌, OnOk};
+ghost use Rattle.std.specs.Prelude.{◌≡◌, ◌++◌, OnOk};
 ghost use Rattle.jp_doc.specs.Json as json;
 ghost use Rattle.jp_doc.specs.Json.{Items, array, object};
 ghost use Rattle.jp_flat.specs.Gathered.{gathered};
 ghost use Rattle.jp_flat.specs.Value.{flat_value, items_value, members_value};
-ghost use Rattle.jp_number.specs.Number.{whole};
+ghost use Rattle.jp_number.specs.Number.{Number};
 ghost use Rattle.jp_output.specs.OutputLine.{value_text};
 ghost use Rattle.jp_path_stack.specs.Appended.{Extends};
 ghost use Rattle.serde_json.specs.Written.{comma_if};
@@ -35,7 +35,7 @@ pub(crate) fn append_flat(
     match value.kind() {
         Kind::Null => append_null(out),
         Kind::Truth(truth) => append_truth(truth, out),
-        Kind::Whole(_) => append_digits(value, out),
+        Kind::Number(_) => append_digits(value, out),
         Kind::Text(text) => append_quoted(alloc, text, scratch, out),
         Kind::Array => match value.items() {
             Some(items) => append_items(alloc, items, scratch, out),
@@ -50,7 +50,7 @@ pub(crate) fn append_flat(
 
 /// Appends a number as it stands in the line.
 fn append_digits(number: FlatValue<'_>, out: &mut Vec<u8>) -> Result<(), AllocError>
-    requires { (z : ℤ) × (flat_value number ≡ json.number (whole z)) }
+    requires { (x : Number) × (flat_value number ≡ json.number x) }
     ensures ok { OnOk result (out.new.items ≡ out.old.items ++ value_text (flat_value number.entry)) }
     ensures kept { Extends out.old.items out.new.items }
 {

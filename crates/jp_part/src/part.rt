@@ -1,6 +1,6 @@
 //! Values inside of a document.
 
-ghost use Rattle.std.specs.Prelude.{◌≡◌, ◌≤◌, ◌<◌, ℤ, option_map, IfSome, IsTrue};
+ghost use Rattle.std.specs.Prelude.{◌≡◌, ◌≤◌, ◌<◌, option_map, IfSome, IsTrue};
 ghost use Rattle.std.specs.Str.{chars};
 ghost use Rattle.jp_doc.specs.Document.{document_value};
 ghost use Rattle.jp_doc.specs.Height.{height};
@@ -10,7 +10,7 @@ ghost use Rattle.jp_doc.specs.Location.{member_of, item_of};
 ghost use Rattle.jp_flat.specs.Document as flat;
 ghost use Rattle.jp_flat.specs.Value.{flat_value, item_count};
 ghost use Rattle.jp_part.specs.Inside.{kind_value, IsInside, IsScalar};
-ghost use Rattle.jp_number.specs.Number.{whole};
+ghost use Rattle.jp_number.specs.Number as numbers;
 ghost use Rattle.jp_part.specs.Part.{part_value};
 
 use crate::items::Items;
@@ -18,7 +18,7 @@ use crate::members::{MemberRange, Members};
 use crate::tree::{TreeItems, TreeMembers, TreeValue};
 use jp_doc::{Document, whole_of};
 use jp_flat::{FlatDocument, FlatValue};
-use jp_number::NumberText;
+use jp_number::{Number, NumberText};
 use serde_json::Value;
 
 /// A value of a document.
@@ -182,7 +182,7 @@ fn flat_inside(flat: FlatValue<'_>) -> Inside<'_>
         jp_flat::Kind::Object => inside_object(flat),
         jp_flat::Kind::Null => Inside::Nothing,
         jp_flat::Kind::Truth(_) => Inside::Nothing,
-        jp_flat::Kind::Whole(_) => Inside::Nothing,
+        jp_flat::Kind::Number(_) => Inside::Nothing,
         jp_flat::Kind::Text(_) => Inside::Nothing,
     }
 }
@@ -232,7 +232,7 @@ fn flat_kind(flat: FlatValue<'_>) -> Kind<'_>
     match flat.kind() {
         jp_flat::Kind::Null => Kind::Null,
         jp_flat::Kind::Truth(truth) => Kind::Truth(truth),
-        jp_flat::Kind::Whole(_) => flat_number(flat),
+        jp_flat::Kind::Number(_) => flat_number(flat),
         jp_flat::Kind::Text(text) => Kind::Text(text),
         jp_flat::Kind::Array => flat_array(flat),
         jp_flat::Kind::Object => flat_object(flat),
@@ -240,11 +240,12 @@ fn flat_kind(flat: FlatValue<'_>) -> Kind<'_>
 }
 
 fn flat_number(number: FlatValue<'_>) -> Kind<'_>
-    requires { (z : ℤ) × (flat_value number ≡ json.number (whole z)) }
+    requires { (x : numbers.Number) × (flat_value number ≡ json.number x) }
     ensures { kind_value result ≡ flat_value number.entry }
 {
-    match number.whole() {
-        Some(number) => Kind::Whole(number),
+    match number.number() {
+        Some(Number::Whole(whole)) => Kind::Whole(whole),
+        Some(Number::Written(text)) => Kind::Written(text),
         None => unreachable!(),
     }
 }

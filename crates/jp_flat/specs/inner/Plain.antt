@@ -1,5 +1,7 @@
--- What the quick reading of a line lets through: a working file, which nobody has to believe.
-use Rattle.std.specs.Prelude.{ℕ, suc, ◌-◌, ◌^◌, Bool, true, false, not, ◌&&◌, ◌||◌, ◌==◌, nat_lt, nat_le}
+-- What the quick reading of a line lets through, and what is so of each flat value: a working file, which
+-- nobody has to believe.
+use Rattle.std.specs.Prelude.{◌≡◌, ◌≢◌, ℕ, suc, ◌-◌, ◌^◌, Bool, true, false, not, ◌&&◌, ◌||◌, ◌==◌}
+use Rattle.std.specs.Prelude.{nat_lt, nat_le}
 use Rattle.std.specs.Prelude.{List, [], ◌∷◌, Option, Some, None}
 use Rattle.std.specs.Prelude.{length, drop, slice_index, if◌then◌else◌}
 use Rattle.std.specs.Char.{is_ascii_digit}
@@ -9,14 +11,21 @@ use Rattle.std.specs.Str.Parse.{digits_value}
 use Rattle.json.specs.Token.{Token}
 use Rattle.json.specs.Json as text
 use Rattle.json.specs.Tree.{json_tokens}
+use Rattle.json.specs.Word.{after_number}
 use Rattle.serde_json.specs.Read.{max_depth}
 use Rattle.jp_doc.specs.ReadingIn as numbers
+use Rattle.jp_doc.specs.Tree.{text_number}
+use Rattle.jp_number.specs.Number.{is_short}
 
 -- some digits, of which the first is no zero before others
 abbrev pub are_digits : List ℕ → Bool
 are_digits ds =
     nat_lt 0 (length ds)
     && (list_all is_ascii_digit ds && (nat_le (length ds) 1 || not (slice_index ds 0 == 48)))
+
+-- no plus stands first, and where all are digits, there are some, and no zero stands before others
+abbrev pub IsLed : List ℕ → Type 0
+IsLed ds = (slice_index ds 0 ≢ 43) × (list_all is_ascii_digit ds ≡ true → are_digits ds ≡ true)
 
 -- the digits of a number of 64 bits
 abbrev pub is_unsigned_text : List ℕ → Bool
@@ -63,14 +72,41 @@ abbrev mutual
   members_are_plain text.no_members = true
   members_are_plain (text.member k j ms) = is_utf8 k && (is_plain j && members_are_plain ms)
 
+-- the text of a number (RFC 8259, 6), within the limits
+abbrev pub is_empty_rest : Option (List ℕ) → Bool
+is_empty_rest None = false
+is_empty_rest (Some []) = true
+is_empty_rest (Some (c ∷ cs)) = false
+
+abbrev pub is_fit_number : List ℕ → Bool
+is_fit_number s = is_empty_rest (after_number s) && is_short (text_number s)
+
+-- A tree has such numbers, and names in UTF-8, alone.
+abbrev mutual
+  pub is_fit : text.Json → Bool
+  is_fit text.null = true
+  is_fit (text.boolean b) = true
+  is_fit (text.number s) = is_fit_number s
+  is_fit (text.string s) = true
+  is_fit (text.array js) = items_are_fit js
+  is_fit (text.object ms) = members_are_fit ms
+
+  pub items_are_fit : text.Items → Bool
+  items_are_fit text.no_items = true
+  items_are_fit (text.item j js) = is_fit j && items_are_fit js
+
+  pub members_are_fit : text.Members → Bool
+  members_are_fit text.no_members = true
+  members_are_fit (text.member k j ms) = is_utf8 k && (is_fit j && members_are_fit ms)
+
 -- the greatest number of tokens, as of any line that is read by its tree
 abbrev pub max_tokens : ℕ
 max_tokens = numbers.max_tokens
 
 abbrev pub is_small : Option (text.Json × List Token) → Bool
 is_small None = false
-is_small (Some p) = nat_le (length (json_tokens p.0)) max_tokens && is_plain p.0
+is_small (Some p) = nat_le (length (json_tokens p.0)) max_tokens && is_fit p.0
 
--- a value begins here, which is plain and has few enough tokens
+-- a value begins here, which has such numbers and names and few enough tokens
 abbrev pub is_flat : List Token → Bool
 is_flat ts = is_small (text.value max_depth ts)

@@ -12,7 +12,7 @@ use Rattle.jp_doc.specs.Tree.{text_number, tree_json}
 use Rattle.jp_doc.specs.declared.fault.DocFault.{DocFault}
 use Rattle.jp_doc.specs.declared.fault.DocFault.TheVariants.{Unreadable, LongNumber, LongArray}
 use Rattle.jp_flat.specs.inner.Nesting.{nests_from}
-use Rattle.jp_number.specs.Number.{is_short}
+use Rattle.jp_number.specs.Number.{written, is_short}
 
 -- the JSON crate reads a number as a whole one of 64 bits
 abbrev pub is_whole_number : Option Num → Bool
@@ -38,3 +38,27 @@ abbrev pub pass_answer : List Token → text.Json → Result Json DocFault
 pass_answer ts j =
     if nests_from 0 ts then (if are_short ts then (if nat_lt max_tokens (length ts) then Err LongArray
     else Ok (tree_json j)) else Err LongNumber) else Err Unreadable
+
+-- the same by the text of each number
+abbrev pub are_within : List Token → Bool
+are_within [] = true
+are_within (Token.begin_object ∷ ts) = are_within ts
+are_within (Token.end_object ∷ ts) = are_within ts
+are_within (Token.begin_array ∷ ts) = are_within ts
+are_within (Token.end_array ∷ ts) = are_within ts
+are_within (Token.key s ∷ ts) = are_within ts
+are_within (Token.string s ∷ ts) = are_within ts
+are_within (Token.number s ∷ ts) = is_short (written s) && are_within ts
+are_within (Token.boolean b ∷ ts) = are_within ts
+are_within (Token.null ∷ ts) = are_within ts
+are_within (Token.bad ∷ ts) = are_within ts
+
+-- the fault that a pass over the tokens finds, and the answer that comes of it
+abbrev pub pass_fault : List Token → Option DocFault
+pass_fault ts =
+    if nests_from 0 ts then (if are_within ts then (if nat_lt max_tokens (length ts) then Some LongArray
+    else None) else Some LongNumber) else Some Unreadable
+
+abbrev pub by_fault : Option DocFault → Json → Result Json DocFault
+by_fault None v = Ok v
+by_fault (Some f) v = Err f
