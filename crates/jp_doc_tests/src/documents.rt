@@ -5,11 +5,12 @@ use std::alloc::{AllocError, Global};
 use std::test::Fail;
 
 /// A line, and its document as it is written compactly.
-const DOCUMENTS: [(&str, &str); 10] = [
+const DOCUMENTS: [(&str, &str); 11] = [
     ("null", "null"),
     (" [ 1 , true ]\r", "[1,true]"),
     ("\t{\"b\":null,\"a\":[-1]}\n", "{\"a\":[-1],\"b\":null}"),
     ("{\"a\":1,\"a\":2}", "{\"a\":2}"),
+    ("{\"a\":1e5,\"a\":1}", "{\"a\":1}"),
     (
         "{\"\u{10000}\":1,\"\u{ffff}\":2}",
         "{\"\u{ffff}\":2,\"\u{10000}\":1}",
@@ -34,7 +35,7 @@ fn lines_that_hold_documents(rt: HostRuntime) -> Result<(), Fail> {
     Ok(())
 }
 
-const FAULTY: [(&[u8], DocFault); 20] = [
+const FAULTY: [(&[u8], DocFault); 36] = [
     (b"", DocFault::Unreadable),
     (b" \r", DocFault::Unreadable),
     (b"{", DocFault::Unreadable),
@@ -48,10 +49,26 @@ const FAULTY: [(&[u8], DocFault); 20] = [
     (b"[1,]", DocFault::Unreadable),
     (b"[1.5", DocFault::Unreadable),
     (b"1e999", DocFault::Unreadable),
+    (b"1E400", DocFault::Unreadable),
+    (b"1e999999999", DocFault::Unreadable),
+    (b"1e1000000000", DocFault::Unreadable),
+    (b"+1", DocFault::Unreadable),
+    (b".5", DocFault::Unreadable),
+    (b"5.", DocFault::Unreadable),
+    (b"1e", DocFault::Unreadable),
+    (b"NaN", DocFault::Unreadable),
+    (b"0x1", DocFault::Unreadable),
     (b"1.5", DocFault::NotWhole),
     (b"1e3", DocFault::NotWhole),
     (b"1.0", DocFault::NotWhole),
     (b"-0", DocFault::NotWhole),
+    (b"-0.0", DocFault::NotWhole),
+    (b"0e5", DocFault::NotWhole),
+    (b"0.000", DocFault::NotWhole),
+    (b"1E+2", DocFault::NotWhole),
+    (b"1e-400", DocFault::NotWhole),
+    (b"1e-999999999", DocFault::NotWhole),
+    (b"1e0000000001", DocFault::NotWhole),
     (b"18446744073709551616", DocFault::NotWhole),
     (b"-9223372036854775809", DocFault::NotWhole),
     (b"[[1],{\"a\":[2.5]}]", DocFault::NotWhole),
@@ -86,10 +103,11 @@ fn nesting(rt: HostRuntime) -> Result<(), Fail> {
     Ok(())
 }
 
-const TEXTS: [(DocFault, &str); 5] = [
+const TEXTS: [(DocFault, &str); 6] = [
     (DocFault::LongLine, "long line"),
     (DocFault::Unreadable, "unreadable"),
     (DocFault::NotWhole, "not whole"),
+    (DocFault::LongNumber, "long number"),
     (DocFault::LongArray, "long array"),
     (DocFault::Memory, "memory"),
 ];

@@ -1,6 +1,6 @@
 //! Lines whose numbers need not be whole.
 
-use jp_doc::DocFault;
+use jp_doc::{DocFault, Document};
 use jp_flat::{FlatReader, Kind};
 use jp_number::Number;
 use std::alloc::Global;
@@ -20,7 +20,7 @@ fn told(reader: &mut FlatReader, line: &[u8]) -> Result<&'static str, Fail> {
 }
 
 /// Texts of numbers (RFC 8259, 6), and other lines.
-const ROWS: [(&[u8], &str); 33] = [
+const ROWS: [(&[u8], &str); 38] = [
     (b"1", "w"),
     (b"-7", "w"),
     (b"0", "w"),
@@ -29,9 +29,12 @@ const ROWS: [(&[u8], &str); 33] = [
     (b"-0", "t"),
     (b"-0.0", "t"),
     (b"0e5", "t"),
+    (b"0.000", "t"),
     (b"1.0", "t"),
     (b"1e2", "t"),
     (b"1E+2", "t"),
+    (b"0.1", "t"),
+    (b"0.11", "t"),
     (b"0.10000000000000000001", "t"),
     (b"18446744073709551616", "t"),
     (b"-9223372036854775809", "t"),
@@ -39,10 +42,12 @@ const ROWS: [(&[u8], &str); 33] = [
     (b"1E400", "t"),
     (b"1e-400", "t"),
     (b"1e999999999", "t"),
+    (b"1e-999999999", "t"),
     (b"1e1000000000", "long number"),
     (b"1e0000000001", "long number"),
     (b"[1,{\"a\":[1e0000000001]}]", "long number"),
     (b"{\"a\":1e1000000000,\"a\":1}", "long number"),
+    (b"{\"a\":1e0000000001,\"a\":1}", "long number"),
     (b"01", "unreadable"),
     (b"+1", "unreadable"),
     (b".5", "unreadable"),
@@ -90,11 +95,71 @@ fn nesting_comes_first(rt: HostRuntime) -> Result<(), Fail> {
     Ok(())
 }
 
+/// Texts of numbers that are kept and printed as they stand.
+const TEXTS: &str = "\
+1\n\
+-7\n\
+18446744073709551615\n\
+-0\n\
+-0.0\n\
+0e5\n\
+0.000\n\
+1.0\n\
+1e2\n\
+1E+2\n\
+9.90\n\
+0.10000000000000000001\n\
+18446744073709551616\n\
+3.141592653589793238462643383279\n\
+1E400\n\
+1e-400\n\
+1e999999999\n\
+1e-999999999";
+
+#[test]
+fn each_as_it_stands(rt: HostRuntime) -> Result<(), Fail> {
+    let mut reader = FlatReader::new(rt.alloc());
+    for text in TEXTS.lines() {
+        match reader.read_decimal(text.as_bytes())? {
+            Ok(document) => assert!(rt; document.root().digits() == Some(text), "{text}"),
+            Err(fault) => return Err(Fail::from(fault)),
+        }
+    }
+    Ok(())
+}
+
+/// The one value of a name that stands twice is its last, whatever number it covers.
+#[test]
+fn a_covered_number(rt: HostRuntime) -> Result<(), Fail> {
+    let mut reader = FlatReader::new(rt.alloc());
+    let document = match reader.read_decimal(b"{\"a\":1e5,\"a\":1}")? {
+        Ok(document) => document,
+        Err(fault) => return Err(Fail::from(fault)),
+    };
+    let last = document.root().member("a").ok_or("no member")?;
+    assert!(rt; last.whole() == Some(1) && last.digits() == Some("1"));
+    Ok(())
+}
+
+/// Where one over the limits is covered, `Document::read` may have a value still, which then is the line's.
+#[test]
+fn a_covered_long_number(rt: HostRuntime) -> Result<(), Fail> {
+    let document = Document::read(rt.alloc(), b"{\"a\":1e0000000001,\"a\":1}")?;
+    assert!(rt; document.root().to_string(rt.alloc())?.as_str() == "{\"a\":1}");
+    let above_all_floats = Document::read(rt.alloc(), b"{\"a\":1e1000000000,\"a\":1}");
+    assert!(rt; matches!(above_all_floats, Err(DocFault::Unreadable)));
+    Ok(())
+}
+
 #[test]
 fn digits_up_to_the_limit(rt: HostRuntime) -> Result<(), Fail> {
     let mut reader = FlatReader::new(rt.alloc());
     let mut line = String::new(rt.alloc());
-    for _ in 0..1000 {
+    for _ in 0..401 {
+        line.push('9')?;
+    }
+    assert_eq!(rt; told(&mut reader, line.as_bytes())?, "t");
+    for _ in 401..1000 {
         line.push('9')?;
     }
     assert_eq!(rt; told(&mut reader, line.as_bytes())?, "t");

@@ -48,7 +48,11 @@ fn a_flat_document(rt: HostRuntime) {
 }
 
 /// The text of the first name and of the last number, where numbers need not be whole.
-fn gathered_decimals(reader: &mut FlatReader, line: &[u8], alloc: Global) -> Result<bool, AllocError> {
+fn gathered_decimals(
+    reader: &mut FlatReader,
+    line: &[u8],
+    alloc: Global,
+) -> Result<bool, AllocError> {
     let Ok(document) = reader.read_decimal(line)? else {
         return Ok(false);
     };
