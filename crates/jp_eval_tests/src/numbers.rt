@@ -1,6 +1,6 @@
 //! Comparisons of numbers that are written otherwise than as whole ones of 64 bits (RFC 9535, 2.3.5.2.2), as
-//! filters make them. No reader gives such a number yet, so they are made here. The orders were worked out by
-//! the module `decimal` of Python 3, whose numbers are exact.
+//! filters make them. The orders were written by hand, and all are those of the module `decimal` of Python 3,
+//! whose numbers are exact.
 
 use jp_number::NumberText;
 use jp_part::Kind;
@@ -18,10 +18,16 @@ const ROWS: &str = "\
 9.99 < 10\n\
 -0 = 0\n\
 -0.0 = 0\n\
+0e5 = 0\n\
+0.000 = -0\n\
 -1e-400 < 0\n\
+1e-400 < 1e-399\n\
+1E400 > 9e399\n\
 0.1 < 0.11\n\
 0.10000000000000000001 > 0.1\n\
 18446744073709551616 > 18446744073709551615\n\
+18446744073709551616 = 1.8446744073709551616e19\n\
+314159265358979323846264338327 < 314159265358979323846264338328\n\
 -9223372036854775809 < -9223372036854775808\n\
 1e999999999 > 1e-999999999\n\
 -1e999999999 < -1e-999999999\n";
