@@ -1,19 +1,23 @@
-"""The fifteen cases. Twelve are in the form of nodes; the means of compare.py are over these."""
+"""The seventeen cases. Twelve are in the form of nodes over whole numbers; the means of compare.py are over
+these. Two are over numbers of every kind, by `--decimals`."""
 import typing
 
 
 class Case(typing.NamedTuple):
-    """A name, an input of corpus.py, a query, the same as an expression of jq, and the form of the answer."""
+    """A name, an input of corpus.py, a query, the same as an expression of jq, the form of the answer, and
+    whether numbers need not be whole."""
 
     name: str
     kind: str
     query: str
     expression: str
     form: str = "nodes"
+    decimals: bool = False
 
     def words(self):
-        """What the programs are given: the form of nodes is theirs without a word."""
-        return [self.query] if self.form == "nodes" else ["--output", self.form, self.query]
+        """What the programs are given: the form of nodes, and whole numbers, are theirs without a word."""
+        form = [] if self.form == "nodes" else ["--output", self.form]
+        return [*form, *(["--decimals"] if self.decimals else []), self.query]
 
 
 CASES = [
@@ -35,7 +39,12 @@ CASES = [
     Case("wide", "wide", "$[*]", ".[]"),
     Case("sift", "wide", "$[?@.v>990000].k", ".[] | select(.v > 990000) | .k"),
     Case("grep", "logs", '$[?$.level=="error"]', 'select(.level == "error")', "lines"),
+    Case("cheap", "sales", "$.items[?@.price<10]", ".items[] | select(.price < 10)", decimals=True),
+    Case("duration", "sales", "$.duration", ".duration", decimals=True),
 ]
+
+# The programs that read whole numbers alone, and have no word for others.
+WHOLE_ALONE = {"over_simdjson"}
 
 # The same lines as jp in the form of nodes, where names of members need no escape. The lines are counted by
 # hand, since jq's input_line_number miscounts long ones, and gojq has none.

@@ -83,7 +83,7 @@ def programs_for(case, paths, others):
     found = []
     for name in ("jp", "by_hand", "over_simdjson"):
         for workers in ("1", "4"):
-            if name in paths:
+            if name in paths and not (case.decimals and name in cases.WHOLE_ALONE):
                 words = [paths[name], "--workers", workers, *case.words()]
                 found.append(Program("%s %s" % (name, workers), words))
     if case.form != "nodes":
@@ -229,8 +229,14 @@ def shares(measured):
 def summary(measured, names):
     """What the table says: means over its cases in the form of nodes, and a line of its own on the others."""
     nodes = {case.name: measured[case.name] for case in cases.CASES
-             if case.form == "nodes" and case.name in measured}
+             if case.form == "nodes" and not case.decimals and case.name in measured}
+    decimals = {case.name: measured[case.name] for case in cases.CASES
+                if case.decimals and case.name in measured}
     said = (means(nodes, names) if nodes else []) + shares(measured)
+    if decimals:
+        said.append("with `--decimals`, the time of jp by that of the program by hand: %s with one worker,"
+                    " %s with four" % tuple(ratios(decimals, "jp " + count, "by_hand " + count)
+                                            for count in "14"))
     busy = max(run.wall / max(run.processor, 1e-3) for runs, _ in measured.values()
                for name, run in runs.items() if name.endswith("1"))
     said.append("the best run of one thread took at most %.2f times its processor time" % busy)

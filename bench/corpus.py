@@ -1,10 +1,12 @@
-"""The inputs: JSON Lines with whole numbers alone, of which the same call gives the same bytes.
+"""The inputs: JSON Lines of which the same call gives the same bytes. Numbers are whole but in `sales`.
 
 logs     nested log events, some 400 bytes a line
 orders   orders of 5 to 50 items (names, prices in cents, tags), some 3,800 bytes a line
 strings  text for patterns, some 1,800 bytes a line, some of it not ASCII, some escaped
 short    some 33 bytes a line, where a line costs more than its bytes
 wide     few lines, each an array of 200,000 small objects, some 12.6 MB a line
+sales    sales of 2 to 20 items, with prices, weights and durations as a program of doubles prints them, some
+         700 bytes a line
 
 Only random() of random.Random is used, whose values for a given start no version of Python changes. Members
 stand in the order that a program would write them in, not in that of their names.
@@ -144,8 +146,28 @@ def wide(dice, index, items):
     return "[%s]" % ",".join(parts)
 
 
-KINDS = ["logs", "orders", "strings", "wide", "short"]
-MAKERS = {"logs": log, "orders": order, "strings": text, "short": short}
+def decimal(count, digits):
+    """A whole number divided by a power of ten, in the shortest text."""
+    front, behind = divmod(count, 10 ** digits)
+    behind = ("%0*d" % (digits, behind)).rstrip("0")
+    return "%d.%s" % (front, behind) if behind else str(front)
+
+
+def sold(dice):
+    return ('{"sku":"%s%s-%04d","price":%s,"qty":%d,"weight":%s}'
+            % (letter(dice), letter(dice), dice.below(10000), decimal(99 + dice.below(3000), 2),
+               1 + dice.below(5), decimal(dice.below(90000), 3)))
+
+
+def sale(dice, index):
+    items = ",".join([sold(dice) for _ in range(2 + dice.below(19))])
+    return ('{"id":%d,"at":%s,"duration":%s,"till":"%s","items":[%s],"tax":%s}'
+            % (7000000 + index, decimal(1700000000000 + index * 37 + dice.below(30), 3),
+               decimal(dice.below(2000000), 4), dice.pick(CITIES), items, dice.pick(["0.07", "0.19"])))
+
+
+KINDS = ["logs", "orders", "strings", "wide", "short", "sales"]
+MAKERS = {"logs": log, "orders": order, "strings": text, "short": short, "sales": sale}
 
 
 def lines(kind, megabytes):

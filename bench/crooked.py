@@ -59,7 +59,8 @@ class Holding:
 
     def hold(self, asked, data, what):
         wanted = self.answer("by_hand", 1, asked, data)
-        for name, workers in itertools.product(self.paths, (1, 4)):
+        without = cases.WHOLE_ALONE if "--decimals" in asked else ()
+        for name, workers in itertools.product([name for name in self.paths if name not in without], (1, 4)):
             got = self.answer(name, workers, asked, data)
             self.tried += 1
             if got != wanted:

@@ -2,7 +2,10 @@
 //! `serde_json::Value`, code that knows the query walks it, and the nodes are printed as `jp` prints them.
 //! Its bytes are those that the others are compared with.
 //!
-//!     by_hand [--workers N] [--output nodes|values|lines] QUERY < documents.jsonl
+//!     by_hand [--decimals] [--workers N] [--output nodes|values|lines] QUERY < documents.jsonl
+//!
+//! With `--decimals` numbers are what `serde_json` makes of them, doubles where they are not whole: the input
+//! of these cases has no other numbers than those that a double prints as they stand.
 //!
 //! One worker is one thread. With more a thread reads blocks of whole lines, N threads answer them, and the
 //! calling one writes the answers in order. Status 3: a line is faulty, and what stands before it is printed.
@@ -32,26 +35,33 @@ fn is_blank(line: &[u8]) -> bool {
     line.iter().all(|byte| matches!(byte, b' ' | b'\t' | b'\r'))
 }
 
-/// What `jp` asks of a document: all numbers are whole, and no array is too long.
-fn is_whole(value: &Value) -> bool {
+/// What `jp` asks of a document: all numbers are whole, or decimals are asked for, and no array is too long.
+fn is_allowed(value: &Value, decimals: bool) -> bool {
+    let allowed = |inner: &Value| is_allowed(inner, decimals);
     match value {
-        Value::Number(number) => !number.is_f64(),
-        Value::Array(items) => items.len() <= LONGEST_ARRAY && items.iter().all(is_whole),
-        Value::Object(members) => members.values().all(is_whole),
+        Value::Number(number) => decimals || !number.is_f64(),
+        Value::Array(items) => items.len() <= LONGEST_ARRAY && items.iter().all(allowed),
+        Value::Object(members) => members.values().all(allowed),
         _ => true,
     }
 }
 
+/// What is asked of each line.
+struct Asked {
+    query: Query,
+    decimals: bool,
+}
+
 /// Answers one line; false where it is faulty.
-fn answer(query: &Query, line: &[u8], lines: &mut Lines) -> bool {
+fn answer(asked: &Asked, line: &[u8], lines: &mut Lines) -> bool {
     lines.number += 1;
     let line = line.strip_suffix(b"\n").unwrap_or(line);
     if is_blank(line) {
         return true;
     }
     match serde_json::from_slice::<Value>(line) {
-        Ok(value) if is_whole(&value) => {
-            match query {
+        Ok(value) if is_allowed(&value, asked.decimals) => {
+            match &asked.query {
                 Query::Prints(print) => print(&value, lines),
                 Query::Keeps(test) if test(&value) => lines.copy(line),
                 Query::Keeps(_) => {}
@@ -62,13 +72,13 @@ fn answer(query: &Query, line: &[u8], lines: &mut Lines) -> bool {
     }
 }
 
-fn one_thread(query: &Query, input: &File, mut output: &File) -> io::Result<bool> {
+fn one_thread(asked: &Asked, input: &File, mut output: &File) -> io::Result<bool> {
     let mut input = BufReader::with_capacity(FLUSH, input);
     let mut lines = Lines::behind(0, 2 * FLUSH);
     let mut line = Vec::new();
     let mut good = true;
     while good && input.read_until(b'\n', &mut line)? != 0 {
-        good = answer(query, &line, &mut lines);
+        good = answer(asked, &line, &mut lines);
         line.clear();
         if lines.bytes.len() >= FLUSH {
             output.write_all(&lines.bytes)?;
@@ -130,13 +140,13 @@ fn read_blocks(input: &File, mut give: impl FnMut(Block) -> bool) -> io::Result<
     Ok(())
 }
 
-fn answer_block(query: &Query, block: Block) -> Answer {
+fn answer_block(asked: &Asked, block: Block) -> Answer {
     let mut lines = Lines::behind(block.before, 2 * FLUSH);
     let mut rest = &block.bytes[..];
     let mut good = true;
     while good && !rest.is_empty() {
         let (line, behind) = rest.split_at(memchr(b'\n', rest).map_or(rest.len(), |at| at + 1));
-        good = answer(query, line, &mut lines);
+        good = answer(asked, line, &mut lines);
         rest = behind;
     }
     Answer {
@@ -146,12 +156,12 @@ fn answer_block(query: &Query, block: Block) -> Answer {
     }
 }
 
-fn work(query: &Query, blocks: &Mutex<Receiver<Block>>, tell: &Sender<Answer>) {
+fn work(asked: &Asked, blocks: &Mutex<Receiver<Block>>, tell: &Sender<Answer>) {
     loop {
         let next = blocks.lock().expect("no panic").recv();
         let told = next
             .ok()
-            .and_then(|block| tell.send(answer_block(query, block)).ok());
+            .and_then(|block| tell.send(answer_block(asked, block)).ok());
         if told.is_none() {
             return;
         }
@@ -175,7 +185,7 @@ fn write_in_order(answers: Receiver<Answer>, mut output: &File) -> io::Result<bo
     Ok(true)
 }
 
-fn many_threads(query: &Query, workers: usize, input: &File, output: &File) -> io::Result<bool> {
+fn many_threads(asked: &Asked, workers: usize, input: &File, output: &File) -> io::Result<bool> {
     let (give, blocks) = sync_channel::<Block>(2 * workers);
     let (tell, answers) = channel::<Answer>();
     // Shared, so that the reader is refused as soon as no worker is left.
@@ -184,7 +194,7 @@ fn many_threads(query: &Query, workers: usize, input: &File, output: &File) -> i
         let reader = threads.spawn(move || read_blocks(input, |block| give.send(block).is_ok()));
         for _ in 0..workers {
             let (blocks, tell) = (Arc::clone(&blocks), tell.clone());
-            threads.spawn(move || work(query, &blocks, &tell));
+            threads.spawn(move || work(asked, &blocks, &tell));
         }
         drop((blocks, tell));
         let good = write_in_order(answers, output)?;
@@ -204,10 +214,15 @@ fn main() {
         .split_last()
         .unwrap_or_else(|| refuse(64, "command line"));
     let (mut workers, mut form) = (1, "nodes");
+    let decimals = options.iter().any(|option| option == "--decimals");
+    let options: Vec<&String> = options
+        .iter()
+        .filter(|option| *option != "--decimals")
+        .collect();
     for option in options.chunks(2) {
         match option {
-            [word, count] if word == "--workers" => workers = count.parse().unwrap_or(0),
-            [word, name] if word == "--output" => form = name,
+            [word, count] if *word == "--workers" => workers = count.parse().unwrap_or(0),
+            [word, name] if *word == "--output" => form = name,
             _ => refuse(64, "command line"),
         }
     }
@@ -215,6 +230,7 @@ fn main() {
         refuse(64, "command line")
     }
     let query = query(form, text).unwrap_or_else(|| refuse(2, "this query is not written by hand"));
+    let asked = Asked { query, decimals };
     // The standard ends, with no buffer between.
     let (input, output) = unsafe {
         (
@@ -223,9 +239,9 @@ fn main() {
         )
     };
     let done = if workers == 1 {
-        one_thread(&query, &input, &output)
+        one_thread(&asked, &input, &output)
     } else {
-        many_threads(&query, workers, &input, &output)
+        many_threads(&asked, workers, &input, &output)
     };
     match done {
         Ok(true) => {}

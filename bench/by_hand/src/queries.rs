@@ -29,6 +29,7 @@ fn nodes(text: &str) -> Option<Printing> {
     Some(match text {
         "$" => Box::new(|value, lines| lines.node(value)),
         "$.id" => Box::new(|value, lines| print_member(value, "id", lines)),
+        "$.duration" => Box::new(|value, lines| print_member(value, "duration", lines)),
         "$.user.id" => Box::new(|value, lines| {
             at_member(value, "user", lines, |user, lines| {
                 print_member(user, "id", lines)
@@ -60,6 +61,12 @@ fn nodes(text: &str) -> Option<Printing> {
         "$.items[?@.price>5000].name" => {
             of_items("name", |item| above(member(item, "price"), 5000))
         }
+        "$.items[?@.price<10]" => Box::new(|value, lines| {
+            at_member(value, "items", lines, |items, lines| {
+                let test = |item: &Value| below(member(item, "price"), 10.0);
+                at_children(items, lines, test, |item, lines| lines.node(item))
+            })
+        }),
         "$.items[?@.recalled].id" => of_items("id", |item| member(item, "recalled").is_some()),
         "$.items[?match(@.sku,'[A-M][A-Z]-[0-9]{3}[02468]')].qty" => {
             let pattern = Regex::new(r"\A(?:[A-M][A-Z]-[0-9]{3}[02468])\z").expect("a pattern");
@@ -184,6 +191,12 @@ fn above(value: Option<&Value>, bound: i64) -> bool {
         },
         _ => false,
     }
+}
+
+fn below(value: Option<&Value>, bound: f64) -> bool {
+    value
+        .and_then(Value::as_f64)
+        .map_or(false, |number| number < bound)
 }
 
 fn fits(value: Option<&Value>, pattern: &Regex) -> bool {
