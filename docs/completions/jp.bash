@@ -12,7 +12,8 @@ _jp() {
             ;;
     esac
     if [[ $word != -* ]]; then return; fi
-    local options='--output --workers --piece --batch --check --keep-going --explain --help --version'
+    local options='--output --workers --piece --batch --check --decimals --keep-going'
+    options+=' --explain --help --version'
     mapfile -t COMPREPLY < <(compgen -W "$options" -- "$word")
 }
 # Where the function offers nothing, as behind < and >, bash completes file names.
