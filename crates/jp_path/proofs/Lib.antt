@@ -9,6 +9,5 @@ pub mod Passing
 pub mod PathAccepted
 pub mod PathSpelled
 pub mod PrintedPaths
-pub mod ReadTexts
-pub mod ReadValues
+pub mod ScalarNames
 pub mod SourceSteps

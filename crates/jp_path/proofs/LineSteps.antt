@@ -1,53 +1,102 @@
--- What is read from a line is as a document's value is.
-use Rattle.std.proofs.Common.{◌≡◌, ℕ, Bool, true, false, if◌then◌else◌, List, Some, None, Ok, refl}
-use Rattle.std.proofs.Common.{sym, ap, ◌∙◌, subst}
+-- What is read from a line, by whatever numbers, is the value of its tree, and has steps as a document has.
+use Rattle.std.proofs.Common.{◌≡◌, ℕ, Bool, true, false, if◌then◌else◌, List, length, Option, Some, None}
+use Rattle.std.proofs.Common.{Result, Ok, Err, option_map, refl, ◌∙◌, subst}
 use Rattle.std.proofs.lemmas.Str.{IsUtf8-from_is_utf8}
+use Rattle.std.specs.Prelude.{nat_lt}
 use Rattle.std.specs.Str.{is_utf8, IsUtf8}
+use Rattle.json.specs.Json as grammar
+use Rattle.json.specs.Lex.{tokens}
+use Rattle.json.proofs.Found.{not_found, Some_inj}
 use Rattle.serde_json.specs.Data.{Data}
 use Rattle.serde_json.specs.Read.{read}
-use Rattle.jp_doc.specs.Json.{Json, json_of}
+use Rattle.jp_doc.specs.Json.{Json}
 use Rattle.jp_doc.specs.Location.{Location, value_at}
-use Rattle.jp_doc.specs.Reading.{max_items, has_long_array, reading}
-use Rattle.jp_doc.specs.Rising.{IsRising}
+use Rattle.jp_doc.specs.Reading.{reading}
+use Rattle.jp_doc.specs.ReadingIn.{Numbers, whole_numbers, decimals, max_tokens, has_long_number}
+use Rattle.jp_doc.specs.ReadingIn.{document_of, tree_reading, or_else, reading_in}
+use Rattle.jp_doc.specs.Tree.{tree_of, tree_json}
+use Rattle.jp_doc.specs.declared.fault.DocFault.{DocFault}
+use Rattle.jp_doc.specs.declared.fault.DocFault.TheVariants.{LongLine, Unreadable, NotWhole, LongNumber}
+use Rattle.jp_doc.specs.declared.fault.DocFault.TheVariants.{LongArray, Memory}
+use Rattle.jp_doc.proofs.LineTexts.{names_are_texts}
+use Rattle.jp_doc.proofs.ReadingInLaws.{read_short}
 use Rattle.jp_doc.proofs.ReadingLaws.{document_is_read}
-use Rattle.jp_doc.proofs.ReadRising.{read_rises}
+use Rattle.jp_doc.proofs.TreeLaws.{tree_agrees}
 use Rattle.jp_path.specs.PathQuery.{AreSteps}
-use Rattle.jp_path.proofs.DocumentSteps.{Kept, steps_known}
-use Rattle.jp_path.proofs.ReadValues.{read_has}
+use Rattle.jp_path.proofs.DocumentSteps.{steps_known}
+use Rattle.jp_path.proofs.ScalarNames.{HasScalarNames, tree_names}
 
-read_if : (b : Bool) (line : List ℕ) (d : Data) → is_utf8 line ≡ b
-    → (if b then read line else None) ≡ Some d → IsUtf8 line × (read line ≡ Some d)
-read_if true line d e h = (IsUtf8-from_is_utf8 line e, h)
-read_if false line d e h = absurd cc
+-- the line is UTF-8, and has a tree of this value
+record IsOfTree (line : List ℕ) (root : Json) : Type 0 where
+  utf8 : IsUtf8 line
+  tree : grammar.Json
+  found : tree_of line ≡ Some tree
+  is : tree_json tree ≡ root
 
--- data with short arrays, whose names rise, stands for the value
-record IsRead (root : Json) : Type 0 where
-  found : Data
-  kept : Kept found
-  is : root ≡ json_of found
-  rises : IsRising (json_of found)
+utf8_if : (b : Bool) (line : List ℕ) (d : Data) → is_utf8 line ≡ b
+    → (if b then read line else None) ≡ Some d → IsUtf8 line
+utf8_if true line d e h = IsUtf8-from_is_utf8 line e
+utf8_if false line d e h = not_found d h
 
-line_read : (line : List ℕ) (root : Json) → reading line ≡ Ok root → IsRead root
-line_read line root e =
-    let read_as = document_is_read line root e in
-    let d = read_as.1 in
-    let is = read_as.5 in
-    let found = read_if (is_utf8 line) line d refl read_as.2 in
-    let has = read_has line d found.0 found.1 in
-    record {
-      found = d;
-      kept = (has, sym (ap (has_long_array max_items) is) ∙ read_as.4);
-      is = is;
-      rises = read_rises line d found.1 has;
-    }
+of_whole : (line : List ℕ) (root : Json) → reading line ≡ Ok root → IsOfTree line root
+of_whole line root e = go (tree_of line) refl (tree_agrees line root e)
+  where
+    go : (o : Option grammar.Json) → tree_of line ≡ o → option_map tree_json o ≡ Some root
+        → IsOfTree line root
+    go None found is = not_found root is
+    go (Some j) found is =
+        let read_as = document_is_read line root e in
+        record {
+          utf8 = utf8_if (is_utf8 line) line read_as.1 refl read_as.2;
+          tree = j;
+          found = found;
+          is = Some_inj (tree_json j) root is;
+        }
 
-pub line_steps : (line : List ℕ) (root : Json) → reading line ≡ Ok root → (l : Location) (v : Json)
-    → value_at l root ≡ Some v → AreSteps l
-line_steps line root e l v h =
-    let r = line_read line root e in
-    steps_known l r.found v r.kept (subst (λ (y : Json). value_at l y ≡ Some v) r.is h)
+tested : (other long : Bool) (line : List ℕ) (j : grammar.Json) (root : Json) → IsUtf8 line
+    → tree_of line ≡ Some j
+    → ◌≡◌ {A = Result Json DocFault} (if other then Err LongNumber else if long then Err LongArray
+    else Ok (tree_json j)) (Ok root)
+    → IsOfTree line root
+tested true long line j root u found h = absurd cc
+tested false true line j root u found h = absurd cc
+tested false false line j root u found h = record { utf8 = u; tree = j; found = found; is = cc }
 
-pub line_rises : (line : List ℕ) (root : Json) → reading line ≡ Ok root → IsRising root
-line_rises line root e =
-    let r = line_read line root e in
-    subst IsRising (sym r.is) r.rises
+of_tree : (o : Option grammar.Json) (line : List ℕ) (root : Json) → IsUtf8 line → tree_of line ≡ o
+    → document_of o (length (tokens line)) ≡ Ok root → IsOfTree line root
+of_tree None line root u found h = absurd cc
+of_tree (Some j) line root u found h =
+    tested (has_long_number j) (nat_lt max_tokens (length (tokens line))) line j root u found h
+
+of_tree_if : (b : Bool) (line : List ℕ) (root : Json) → is_utf8 line ≡ b
+    → (if b then document_of (tree_of line) (length (tokens line)) else Err Unreadable) ≡ Ok root
+    → IsOfTree line root
+of_tree_if true line root e h = of_tree (tree_of line) line root (IsUtf8-from_is_utf8 line e) refl h
+of_tree_if false line root e h = absurd cc
+
+of_decimals : (line : List ℕ) (root : Json) → tree_reading line ≡ Ok root → IsOfTree line root
+of_decimals line root h = of_tree_if (is_utf8 line) line root refl h
+
+of_either : (r : Result Json DocFault) (line : List ℕ) (root : Json) → reading line ≡ r
+    → or_else r (tree_reading line) ≡ Ok root → IsOfTree line root
+of_either (Ok v) line root e h = of_whole line root (e ∙ h)
+of_either (Err LongLine) line root e h = absurd cc
+of_either (Err Unreadable) line root e h = of_decimals line root h
+of_either (Err NotWhole) line root e h = of_decimals line root h
+of_either (Err LongNumber) line root e h = of_decimals line root h
+of_either (Err LongArray) line root e h = of_decimals line root h
+of_either (Err Memory) line root e h = of_decimals line root h
+
+is_of_tree : (n : Numbers) (line : List ℕ) (root : Json) → reading_in n line ≡ Ok root → IsOfTree line root
+is_of_tree whole_numbers line root e = of_whole line root e
+is_of_tree decimals line root e = of_either (reading line) line root refl e
+
+line_names : (n : Numbers) (line : List ℕ) (root : Json) → reading_in n line ≡ Ok root → HasScalarNames root
+line_names n line root e =
+    let t = is_of_tree n line root e in
+    subst HasScalarNames t.is (tree_names t.tree (names_are_texts line t.tree t.utf8 t.found))
+
+pub line_steps : (n : Numbers) (line : List ℕ) (root : Json) → reading_in n line ≡ Ok root
+    → (l : Location) (v : Json) → value_at l root ≡ Some v → AreSteps l
+line_steps n line root e l v h =
+    steps_known l root v (line_names n line root e, read_short n line root e) h

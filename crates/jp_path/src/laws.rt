@@ -5,7 +5,7 @@ ghost use Rattle.std.specs.List.{AllByRecursion};
 ghost use Rattle.jp_doc.specs.Json.{Json};
 ghost use Rattle.jp_doc.specs.Document.{document_value};
 ghost use Rattle.jp_doc.specs.declared.document.Document.{Document};
-ghost use Rattle.jp_doc.specs.Reading.{reading};
+ghost use Rattle.jp_doc.specs.ReadingIn.{Numbers, reading_in};
 ghost use Rattle.jp_doc.specs.Rising.{IsRising};
 ghost use Rattle.jp_doc.specs.Location.{Location, Node, node, value_at};
 ghost use Rattle.jp_regexp.specs.Tests.{Tests};
@@ -54,17 +54,20 @@ pub fn printed_paths()
         → AreSteps at }
 {}
 
-/// The same of each line that is read as a document, whoever reads it: the text of each path that a query
-/// prints of it is accepted with a query whose nodelist on what the line is read as is just the node. The
-/// names there rise, and the steps that lead to a node are such as the other laws speak of.
+/// The same of each line that is read as a document, whoever reads it and whatever numbers it may have: the
+/// text of each path that a query prints of it is accepted with a query whose nodelist on what the line is
+/// read as is just the node. The names there rise, and the steps that lead to a node are such as the other
+/// laws speak of.
 pub fn printed_lines()
-    ensures selected { (t : Tests) (line : List ℕ) (root : Json) (at : Location) (v : Json)
-        → reading line ≡ Ok root → value_at at root ≡ Some v → (q : Query) × IsAccepted (path_text at) q
-        × (document_nodes t q root ≡ node at v ∷ []) }
-    ensures printed { (t : Tests) (line : List ℕ) (root : Json) (p : Query) → reading line ≡ Ok root
-        → AllByRecursion (λ n. (q : Query) × IsAccepted (path_text n.location) q
-        × (document_nodes t q root ≡ n ∷ [])) (document_nodes t p root) }
-    ensures steps { (line : List ℕ) (root : Json) (at : Location) (v : Json) → reading line ≡ Ok root
-        → value_at at root ≡ Some v → AreSteps at }
-    ensures rising { (line : List ℕ) (root : Json) → reading line ≡ Ok root → IsRising root }
+    ensures selected { (t : Tests) (n : Numbers) (line : List ℕ) (root : Json) (at : Location) (v : Json)
+        → reading_in n line ≡ Ok root → value_at at root ≡ Some v → (q : Query)
+        × IsAccepted (path_text at) q × (document_nodes t q root ≡ node at v ∷ []) }
+    ensures printed { (t : Tests) (n : Numbers) (line : List ℕ) (root : Json) (p : Query)
+        → reading_in n line ≡ Ok root → AllByRecursion (λ m. (q : Query)
+        × IsAccepted (path_text m.location) q × (document_nodes t q root ≡ m ∷ []))
+        (document_nodes t p root) }
+    ensures steps { (n : Numbers) (line : List ℕ) (root : Json) (at : Location) (v : Json)
+        → reading_in n line ≡ Ok root → value_at at root ≡ Some v → AreSteps at }
+    ensures rising { (n : Numbers) (line : List ℕ) (root : Json) → reading_in n line ≡ Ok root
+        → IsRising root }
 {}
