@@ -6,12 +6,12 @@ use Rattle.jp_tree.specs.Tree as tree
 use Rattle.jp_compiled.specs.Compiled.{Wanted, first_of, count_of, only_of, distinct_of, wanted, where_wanted}
 use Rattle.jp_compiled.specs.declared.query.Want.{Want}
 use Rattle.jp_compiled.specs.declared.query.Want.TheVariants as want
-use Rattle.jp_eval.specs.inner.Aggregates.{tells, is_of}
+use Rattle.jp_found.specs.Aggregates.{tells, is_of}
 use Rattle.jp_eval.specs.inner.Rooted.{is_answer, are_answers, root_nodes}
-use Rattle.jp_eval.specs.declared.aggregates.Aggregate.{Aggregate}
-use Rattle.jp_eval.specs.declared.aggregates.Aggregate.TheVariants as answer
-use Rattle.jp_eval.specs.declared.root_answer.RootAnswer.{RootAnswer}
-use Rattle.jp_eval.proofs.Telling.{both}
+use Rattle.jp_found.specs.declared.aggregates.Aggregate.{Aggregate}
+use Rattle.jp_found.specs.declared.aggregates.Aggregate.TheVariants as answer
+use Rattle.jp_found.specs.declared.root_answer.RootAnswer.{RootAnswer}
+use Rattle.jp_found.proofs.Telling.{both}
 
 pub where_none : (v : Want) → where_wanted v (wanted v tree.no_segments) ≡ tree.no_segments
 where_none want.First = refl

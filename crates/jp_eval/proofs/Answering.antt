@@ -15,12 +15,12 @@ use Rattle.jp_value.specs.RightTests.{tests}
 use Rattle.jp_value.proofs.Answering.{same_tests}
 use Rattle.jp_eval.specs.Nodelist.{document_nodes}
 use Rattle.jp_eval.specs.inner.Base.{Base}
-use Rattle.jp_eval.specs.inner.Kept.{Kept, taken, put_found, plus}
-use Rattle.jp_eval.specs.inner.Links.{here}
+use Rattle.jp_found.specs.Kept.{Kept, taken, put_found, plus}
+use Rattle.jp_found.specs.Links.{here}
 use Rattle.jp_eval.specs.inner.Rooted.{root_nodes}
 use Rattle.jp_eval.specs.inner.Walk.{reached}
 use Rattle.jp_eval.proofs.CompiledParts.{from_root, started}
-use Rattle.jp_eval.proofs.Keeping.{taken_out}
+use Rattle.jp_found.proofs.Keeping.{taken_out}
 
 pub same_nodes : (t : Tests) (q : Query) (root : Json) → AreRight t → document_nodes tests q root
     ≡ document_nodes t q root

@@ -45,12 +45,13 @@ use Rattle.jp_path_stack.specs.declared.link.Link.{Link}
 use Rattle.jp_value.specs.Literals.{literal_value, written_value}
 use Rattle.jp_eval.specs.inner.Rooted.{root_nodes}
 use Rattle.jp_eval.specs.inner.Base.{Base}
-use Rattle.jp_eval.specs.inner.Links.{here}
+use Rattle.jp_found.specs.Links.{here}
 use Rattle.jp_part.specs.Part.{part_value}
 use Rattle.jp_part.specs.declared.part.Part.{Part}
 use Rattle.jp_value.specs.Comparison.{compared}
 use Rattle.jp_value.specs.Functions.{first_value, only_value, is_empty, as_value, tested, length_value}
 use Rattle.jp_value.specs.Functions.{number_value, as_truth, as_nodes, exactly_one, distinct}
+use Rattle.jp_children.specs.Selected.{index_places, slice_places}
 use Rattle.jp_eval.specs.Nodelist as spec
 use Rattle.jp_nodes.specs.Nodes.{child, children, items_at}
 use Rattle.jp_value.specs.RightTests.{tests}
@@ -71,12 +72,12 @@ module _ (base : Base) (n : Node) where
   picked_wild = ap (λ x. spec.select tests base.root x n) (wild_read base.roots)
 
   pub picked_index : (p : Position) → picked base (sel.Index p) n
-      ≡ items_at n (spec.index_places (whole_number (position_text p)) n.value)
+      ≡ items_at n (index_places (whole_number (position_text p)) n.value)
   unfolding picked
   picked_index p = ap (λ x. spec.select tests base.root x n) (index_read base.roots p)
 
   pub picked_slice : (s : Slice) → picked base (sel.Slice s) n
-      ≡ items_at n (spec.slice_places (written_value (option_map position_text s.first))
+      ≡ items_at n (slice_places (written_value (option_map position_text s.first))
       (written_value (option_map position_text s.past))
       (written_value (option_map position_text s.step)) n.value)
   unfolding picked

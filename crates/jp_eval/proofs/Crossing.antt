@@ -27,21 +27,21 @@ use Rattle.serde_json.proofs.value.Value.TheLaws.TheKnot.{crosses as value_cross
 use Rattle.serde_json.specs.contracts.value.Value as Value
 use Rattle.jp_path_stack.specs.contracts.link.Link as Link
 use Rattle.jp_eval.proofs.fork.Cuts.TheSendSync as cuts
-use Rattle.jp_eval.proofs.root_answer.Length.TheSendSync as lengths
+use Rattle.jp_found.proofs.root_answer.Length.TheSendSync as lengths
 use Rattle.jp_part.specs.contracts.part.Part as Part
 use Rattle.jp_part.specs.contracts.items.Items as Items
 use Rattle.jp_part.specs.contracts.members.MemberRange as MemberRange
 use Rattle.jp_part.specs.contracts.tree.TreeMember as TreeMember
 use Rattle.jp_flat.specs.contracts.value.FlatMember as FlatMember
 use Rattle.jp_nodes.specs.contracts.children.Child as Child
-use Rattle.jp_eval.specs.contracts.child_range.ChildRange as ChildRange
+use Rattle.jp_children.specs.contracts.child_range.ChildRange as ChildRange
 use Rattle.jp_eval.specs.contracts.walk.Task as Task
 use Rattle.jp_eval.specs.contracts.context.Context as Context
 use Rattle.jp_eval.specs.contracts.split.Splitting as Splitting
-use Rattle.jp_eval.specs.contracts.root_answer.RootAnswer as RootAnswer
-use Rattle.jp_eval.specs.contracts.different.Different as Different
-use Rattle.jp_eval.specs.contracts.found.Alone as Alone
-use Rattle.jp_eval.specs.contracts.aggregates.Aggregate as Aggregate
+use Rattle.jp_found.specs.contracts.root_answer.RootAnswer as RootAnswer
+use Rattle.jp_found.specs.contracts.different.Different as Different
+use Rattle.jp_found.specs.contracts.found.Alone as Alone
+use Rattle.jp_found.specs.contracts.aggregates.Aggregate as Aggregate
 
 pub segment_sync : IsSync Segment.the_row
 segment_sync = search (

@@ -12,6 +12,7 @@ use Rattle.jp_compiled.specs.declared.query.Slice.{Slice}
 use Rattle.jp_value.specs.Literals.{written_value}
 use Rattle.jp_eval.specs.inner.Base.{Base}
 use Rattle.jp_part.specs.Inside.{IsScalar}
+use Rattle.jp_children.specs.Selected.{index_places, slice_places}
 use Rattle.jp_eval.specs.Nodelist as spec
 use Rattle.jp_nodes.specs.Nodes.{child, children, items_at, descendants}
 use Rattle.jp_eval.specs.inner.Walk.{picked, picked_by, reached, is_true}
@@ -43,7 +44,7 @@ itself p (array vs) is = absurd is
 itself p (object ms) is = absurd is
 
 no_index : (z : ℤ) (p : Location) (v : Json) → IsScalar v
-    → items_at (node p v) (spec.index_places z v) ≡ []
+    → items_at (node p v) (index_places z v) ≡ []
 no_index z p null is = refl
 no_index z p (truth b) is = refl
 no_index z p (number x) is = refl
@@ -52,7 +53,7 @@ no_index z p (array vs) is = absurd is
 no_index z p (object ms) is = absurd is
 
 abbrev sliced : Slice → Json → List ℕ
-sliced s v = spec.slice_places (written_value (option_map position_text s.first))
+sliced s v = slice_places (written_value (option_map position_text s.first))
     (written_value (option_map position_text s.past))
     (written_value (option_map position_text s.step)) v
 

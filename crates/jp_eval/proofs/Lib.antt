@@ -1,13 +1,4 @@
-pub mod Keeping
-pub mod Parts
-pub mod Identity
-pub mod Telling
-pub mod Differing
-pub mod SameLocations
 pub mod Gathered
-pub mod ChildRanges
-pub mod BoundsWithin
-pub mod Slicing
 pub mod Through
 pub mod Leading
 pub mod Listed
@@ -16,10 +7,8 @@ pub mod Chains
 pub mod Answering
 pub mod Idle
 pub mod WalkSteps
-pub mod Places
 pub mod CompiledParts
 pub mod Uniformity
 pub mod Answered
 pub mod WorkItems
-pub mod Rooting
 mod Crossing

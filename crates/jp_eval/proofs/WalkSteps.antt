@@ -8,8 +8,8 @@ use Rattle.std.specs.List.{flat_map, list_any, list_all}
 use Rattle.jp_doc.specs.Json.{Json}
 use Rattle.jp_doc.specs.Location.{Node, node, index, item_of}
 use Rattle.jp_path_stack.specs.Links.{link_step, link_steps}
-use Rattle.jp_eval.specs.inner.Kept.{plus}
-use Rattle.jp_eval.specs.inner.Links.{here}
+use Rattle.jp_found.specs.Kept.{plus}
+use Rattle.jp_found.specs.Links.{here}
 use Rattle.jp_nodes.specs.Nodes.{items_at}
 use Rattle.jp_nodes.specs.Nodes.{children, descendants, node_if_some}
 use Rattle.jp_part.specs.Part.{part_value}
@@ -20,7 +20,7 @@ use Rattle.jp_compiled.specs.declared.query.Segment.{Segment}
 use Rattle.jp_compiled.specs.declared.query.Selector.{Selector}
 use Rattle.jp_eval.specs.inner.Base.{Base}
 use Rattle.jp_eval.proofs.Chains.{reached-append, reached-descend}
-use Rattle.jp_eval.proofs.Keeping.{stepped, ended, plus-append}
+use Rattle.jp_found.proofs.Keeping.{stepped, ended, plus-append}
 
 front_of_one_more : (path : List Link) (l : Link) → take (length (path ++ l ∷ []) - 1) (path ++ l ∷ [])
     ≡ path

@@ -6,10 +6,10 @@ use Rattle.jp_compiled.specs.declared.query.Segment.{Segment}
 use Rattle.jp_compiled.specs.declared.query.Selector.{Selector}
 use Rattle.jp_eval.specs.inner.Base.{Base}
 use Rattle.jp_nodes.specs.Nodes.{children, descendants}
-use Rattle.jp_eval.specs.inner.Kept.{plus}
+use Rattle.jp_found.specs.Kept.{plus}
 use Rattle.jp_eval.specs.inner.Walk.{picked, picked_by, reached}
 use Rattle.jp_eval.proofs.Chains.{reached-append, reached-descend, reached-each, reached-filter, reached-none}
-use Rattle.jp_eval.proofs.Keeping.{stepped}
+use Rattle.jp_found.proofs.Keeping.{stepped}
 
 -- the segments from each child that a selector picks, and from each for which a test is true
 pub run_along : (base : Base) (ss : List Segment) (x : Selector) (n : Node) (ks ns : List Node) → ks ≡ ns

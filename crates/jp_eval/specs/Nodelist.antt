@@ -1,9 +1,8 @@
 -- What a query selects (RFC 9535, 2.1.2, 2.3 and 2.5).
-use Rattle.std.specs.Prelude.{ℕ, Bool, true, false, not, ◌&&◌, ◌||◌, ℤ, List}
-use Rattle.std.specs.Prelude.{[], ◌∷◌, ◌++◌, length, Option, Some}
+use Rattle.std.specs.Prelude.{Bool, true, false, not, ◌&&◌, ◌||◌, List}
+use Rattle.std.specs.Prelude.{[], ◌∷◌, ◌++◌, Option, Some}
 use Rattle.std.specs.List.{filter, flat_map}
-use Rattle.jp_doc.specs.Json as json
-use Rattle.jp_doc.specs.Json.{Json, item_list}
+use Rattle.jp_doc.specs.Json.{Json}
 use Rattle.jp_doc.specs.Location as at
 use Rattle.jp_doc.specs.Location.{Node, node}
 use Rattle.jp_tree.specs.Tree.{Query, query, Segment, segment}
@@ -18,22 +17,11 @@ use Rattle.jp_regexp.specs.Tests.{Tests}
 use Rattle.jp_types.specs.Numbers.{whole_number}
 use Rattle.jp_types.specs.Functions.{function_named}
 use Rattle.jp_nodes.specs.Nodes.{children, child, items_at, descendants}
-use Rattle.jp_value.specs.Slice.{slice_bounds, slice_indexes}
-use Rattle.jp_value.specs.Index.{place_of}
+use Rattle.jp_children.specs.Selected.{index_places, slice_places}
 use Rattle.jp_value.specs.Literals.{literal_value, written_value}
 use Rattle.jp_value.specs.Comparison.{compared}
 use Rattle.jp_value.specs.Functions.{Handed, handed_value, handed_truth, handed_nodes, as_truth, as_value}
 use Rattle.jp_value.specs.Functions.{first_value, is_empty, called_if_known}
-
--- the places of an array's items that an index, and a slice, select; none of any other value
-abbrev pub index_places : ℤ → Json → List ℕ
-index_places z (json.array vs) = place_of z (length (item_list vs))
-index_places z _ = []
-
-abbrev pub slice_places : Option ℤ → Option ℤ → Option ℤ → Json → List ℕ
-slice_places first past step (json.array vs) = slice_indexes
-    (slice_bounds first past step (length (item_list vs))) (length (item_list vs))
-slice_places first past step _ = []
 
 -- In a document with this root.
 module _ (tests : Tests) (root : Json) where

@@ -5,9 +5,8 @@ ghost use Rattle.jp_compiled.specs.Compiled.{roots_of};
 ghost use Rattle.jp_eval.specs.inner.Rooted.{are_answers};
 ghost use Rattle.jp_part.specs.Part.{part_value};
 
-use crate::aggregates::{Aggregate, is_result_of, of_one};
-use crate::root_answer::{Length, RootAnswer};
 use jp_compiled::{Nodes, RootQuery, Value as Giver, Want};
+use jp_found::{Aggregate, Length, RootAnswer, is_result_of, of_one};
 use jp_part::{Kind, Part};
 use std::alloc::{AllocError, Global};
 
@@ -31,10 +30,10 @@ impl<'v> Context<'v> {
     ghost use Rattle.jp_doc.specs.Location.{Node};
     ghost use Rattle.jp_tree.specs.Tree.{query, no_segments};
     ghost use Rattle.jp_tree.specs.declared.tree.Start.TheVariants as start;
-    ghost use Rattle.jp_eval.specs.inner.Aggregates.{tells, told};
+    ghost use Rattle.jp_found.specs.Aggregates.{tells, told};
     ghost use Rattle.jp_eval.specs.inner.Base.{base_of};
     ghost use Rattle.jp_eval.specs.inner.Walk.{value_given, nodes_given};
-    ghost use Rattle.jp_eval.specs.inner.RootAnswers.{IsLength};
+    ghost use Rattle.jp_found.specs.RootAnswers.{IsLength};
     ghost use Rattle.jp_value.specs.Kinds.{given_value};
     ghost use Rattle.jp_eval.specs.inner.Rooted.{is_answer};
     ghost use Rattle.jp_eval.specs.Nodelist.{nodelist};

@@ -8,15 +8,14 @@ ghost use Rattle.jp_eval.specs.Nodelist.{document_nodes};
 ghost use Rattle.jp_part.specs.Part.{part_value};
 ghost use Rattle.jp_regexp.specs.Tests.{Tests, AreRight};
 
-use crate::asked::{Asked, asked_by};
 use crate::fault::EvalFault;
 use crate::fork::{Cuts, Fork};
-use crate::found::{Found, visitor_of};
 use crate::roots::answer_roots;
 use crate::split::{Splitting, go_split};
 use crate::walk::{Task, run};
 use jp_compiled::Query;
 use jp_doc::Document;
+use jp_found::{Asked, Found, asked_by, visitor_of};
 use jp_nodes::Visit;
 use jp_part::Part;
 use jp_path_stack::{PathStack, Scratch};

@@ -2,21 +2,13 @@
 //! one thread or by halves of long lists at once.
 #![tactic(auto)]
 
-mod aggregates;
-mod asked;
-mod child_range;
 mod context;
-mod different;
 mod evaluator;
 mod examples;
 mod fault;
 mod fork;
-mod found;
-mod index;
 pub mod laws;
-mod root_answer;
 mod roots;
-mod slices;
 mod split;
 mod uniform;
 mod walk;

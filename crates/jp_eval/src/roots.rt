@@ -5,13 +5,10 @@ ghost use Rattle.jp_compiled.specs.Compiled.{roots_of, wanted_in};
 ghost use Rattle.jp_eval.specs.inner.Rooted.{is_answer};
 ghost use Rattle.jp_part.specs.Part.{part_value};
 
-use crate::aggregates::Aggregate;
-use crate::asked::Asked;
 use crate::context::Context;
-use crate::found::{into_aggregate, none_found};
-use crate::root_answer::RootAnswer;
 use crate::walk::run;
 use jp_compiled::RootQuery;
+use jp_found::{Aggregate, Asked, RootAnswer, into_aggregate, none_found};
 use jp_nodes::Visit;
 use jp_part::Part;
 use jp_path_stack::PathStack;

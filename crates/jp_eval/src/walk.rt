@@ -6,24 +6,23 @@ ghost use Rattle.jp_doc.specs.Location.{Location, Node, node};
 ghost use Rattle.jp_path_stack.specs.Links.{link_steps};
 ghost use Rattle.jp_part.specs.Part.{part_value};
 ghost use Rattle.jp_value.specs.Kinds.{given_value};
-ghost use Rattle.jp_eval.specs.inner.Aggregates.{tells};
+ghost use Rattle.jp_found.specs.Aggregates.{tells};
 ghost use Rattle.jp_eval.specs.inner.Finding.{Finds};
-ghost use Rattle.jp_eval.specs.inner.ChildRanges.{range_nodes};
+ghost use Rattle.jp_children.specs.ChildRanges.{range_nodes};
 ghost use Rattle.jp_eval.specs.inner.Opened.{AreChildren};
-ghost use Rattle.jp_eval.specs.inner.Links.{here};
+ghost use Rattle.jp_found.specs.Links.{here};
 ghost use Rattle.jp_nodes.specs.Nodes.{children, descendants, items_at};
 ghost use Rattle.jp_eval.specs.inner.Base.{Base, base_of};
 ghost use Rattle.jp_eval.specs.inner.Walk.{picked, picked_by, reached, is_true, value_given, nodes_given};
 ghost use Rattle.jp_eval.specs.inner.Walk.{done};
 
-use crate::aggregates::{Aggregate, has_first, of_distinct, operand};
-use crate::child_range::ChildRange;
 use crate::context::Context;
-use crate::found::{Found, add, into_aggregate, is_full, none_found};
-use crate::index::place_in;
-use crate::slices::sliced;
 use crate::uniform::is_uniform;
+use jp_children::{ChildRange, place_in, sliced};
 use jp_compiled::{Logical, Nodes, Segment, Selector, Value as Giver, Want};
+use jp_found::{
+    Aggregate, Found, add, has_first, into_aggregate, is_full, none_found, of_distinct, operand,
+};
 use jp_nodes::{Visit, children_of};
 use jp_part::{Kind, Part};
 use jp_path_stack::{Link, PathStack};

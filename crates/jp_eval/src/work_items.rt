@@ -9,9 +9,8 @@ ghost use Rattle.jp_eval.specs.inner.Along.{done_along, done_by, items_left};
 ghost use Rattle.jp_part.specs.Part.{part_value};
 ghost use Rattle.jp_eval.specs.inner.Walk.{picked, reached, done};
 
-use crate::index::place_in;
-use crate::slices::sliced;
 use crate::walk::Task;
+use jp_children::{place_in, sliced};
 use jp_compiled::{Segment, Selector};
 use jp_nodes::{Children, children_of, named, placed};
 use jp_part::Part;

@@ -6,8 +6,8 @@ use Rattle.jp_tree.specs.Tree.{Segments}
 use Rattle.jp_compiled.specs.Compiled.{Wanted, first_of, count_of, only_of, distinct_of}
 use Rattle.jp_compiled.specs.declared.query.Want.TheVariants as want
 use Rattle.jp_value.specs.RightTests.{tests}
-use Rattle.jp_eval.specs.inner.Aggregates.{tells}
-use Rattle.jp_eval.specs.declared.aggregates.Aggregate.{Aggregate}
+use Rattle.jp_found.specs.Aggregates.{tells}
+use Rattle.jp_found.specs.declared.aggregates.Aggregate.{Aggregate}
 use Rattle.jp_eval.specs.Nodelist.{through}
 
 -- the nodes of these segments from the root on

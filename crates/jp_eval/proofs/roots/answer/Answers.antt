@@ -2,9 +2,9 @@ use Rattle.std.proofs.Common.{is_some, refl, ap, ap₂, ◌∙◌}
 use Rattle.jp_compiled.specs.Compiled.{roots_of, segments_in}
 use Rattle.jp_eval.specs.inner.Rooted.{root_nodes}
 use Rattle.jp_eval.specs.inner.Base.{base_of}
-use Rattle.jp_eval.specs.inner.Kept.{put_found, plus}
+use Rattle.jp_found.specs.Kept.{put_found, plus}
 use Rattle.jp_part.specs.Part.{part_value}
-use Rattle.jp_eval.proofs.Keeping.{not_taken}
+use Rattle.jp_found.proofs.Keeping.{not_taken}
 use Rattle.jp_eval.proofs.Answered.{answers_it}
 use Rattle.jp_eval.proofs.CompiledParts.{from_root}
 use Rattle.jp_eval.proofs.roots.answer.Goals as goal

@@ -5,8 +5,8 @@ use Rattle.jp_doc.specs.Location.{Location, Node, node}
 use Rattle.jp_nodes.specs.ChildNodes.{child_nodes}
 use Rattle.jp_path_stack.specs.Links.{link_steps}
 use Rattle.jp_eval.specs.inner.Base.{base_of}
-use Rattle.jp_eval.specs.inner.Kept.{kept, put_found, plus, taken, emptied_found}
-use Rattle.jp_eval.specs.inner.ChildRanges.{range_nodes, range_height}
+use Rattle.jp_found.specs.Kept.{kept, put_found, plus, taken, emptied_found}
+use Rattle.jp_children.specs.ChildRanges.{range_nodes, range_height}
 use Rattle.jp_eval.specs.inner.Along.{done_by}
 use Rattle.jp_part.specs.Part.{part_value}
 use Rattle.jp_eval.specs.inner.Walk.{done}
@@ -16,7 +16,7 @@ use denote.Struct.Tuple.{tuple_name}
 use mir.Syntax.{named}
 use Rattle.jp_eval.proofs.Crossing.{captured_send}
 use Rattle.jp_eval.proofs.Gathered.{child_node_done, halves_joined}
-use Rattle.jp_eval.proofs.Keeping.{ended, full_enough, nothing_found, still_taken, taken_on}
+use Rattle.jp_found.proofs.Keeping.{ended, full_enough, nothing_found, still_taken, taken_on}
 use Rattle.jp_eval.proofs.WorkItems.{work_item_done}
 use Rattle.jp_eval.proofs.WalkSteps.{back_up, link_further}
 use Rattle.jp_eval.proofs.split.+split.Lts-each_of as lts

@@ -4,8 +4,8 @@ use Rattle.jp_doc.specs.Height.{height}
 use Rattle.jp_nodes.specs.ChildNodes.{all_height}
 use Rattle.jp_part.specs.Part.{part_value}
 use Rattle.jp_eval.specs.inner.Base.{base_of}
-use Rattle.jp_eval.specs.inner.Kept.{kept, put_found, plus}
-use Rattle.jp_eval.specs.inner.ChildRanges.{range_nodes, range_height, range_length}
+use Rattle.jp_found.specs.Kept.{kept, put_found, plus}
+use Rattle.jp_children.specs.ChildRanges.{range_nodes, range_height, range_length}
 use Rattle.jp_eval.specs.inner.Along.{done_by, items_left}
 use Rattle.jp_eval.specs.inner.Walk.{done}
 use Rattle.jp_path_stack.specs.Links.{link_steps}

@@ -1,6 +1,6 @@
 use Rattle.std.proofs.Common.{◌≡◌, false, sym, ◌∙◌}
 use Rattle.jp_eval.specs.inner.Base.{base_of}
-use Rattle.jp_eval.specs.inner.Links.{here}
+use Rattle.jp_found.specs.Links.{here}
 use Rattle.jp_eval.specs.inner.Walk.{is_true}
 use Rattle.jp_eval.proofs.Chains.{reached-none}
 use Rattle.jp_eval.proofs.split.settled.Goals as goal

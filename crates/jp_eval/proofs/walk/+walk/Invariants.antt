@@ -8,10 +8,10 @@ use Rattle.jp_compiled.specs.declared.query.Logical.{size-Logical}
 use Rattle.jp_compiled.specs.declared.query.Value.{size-Value}
 use Rattle.jp_compiled.specs.declared.query.Nodes.{size-Nodes}
 use Rattle.jp_eval.specs.inner.Base.{base_of}
-use Rattle.jp_eval.specs.inner.Kept.{kept, put_found, plus}
-use Rattle.jp_eval.specs.inner.Links.{here}
+use Rattle.jp_found.specs.Kept.{kept, put_found, plus}
+use Rattle.jp_found.specs.Links.{here}
 use Rattle.jp_path_stack.specs.Links.{link_steps}
-use Rattle.jp_eval.specs.inner.ChildRanges.{range_nodes, range_height, range_length}
+use Rattle.jp_children.specs.ChildRanges.{range_nodes, range_height, range_length}
 use Rattle.jp_part.specs.Part.{part_value}
 use Rattle.jp_eval.specs.inner.Walk.{picked_by, reached, is_true, done}
 use Rattle.jp_part.specs.declared.part.Part.{Part}

@@ -2,7 +2,7 @@ use Rattle.std.proofs.Common.{[], ap, ◌∙◌}
 use Rattle.jp_part.specs.Part.{part_value}
 use Rattle.jp_value.specs.RightTests.{tests}
 use Rattle.jp_eval.specs.Nodelist.{nodelist}
-use Rattle.jp_eval.specs.inner.Aggregates.{tells}
+use Rattle.jp_found.specs.Aggregates.{tells}
 use Rattle.jp_eval.proofs.context.Context.answer.Goals as goal
 
 pub returns-in-None : goal.returns-in-None

@@ -4,7 +4,7 @@ use Rattle.jp_compiled.specs.declared.query.Want.TheVariants as want
 use Rattle.jp_eval.specs.inner.Base.{base_of}
 use Rattle.jp_eval.specs.inner.Walk.{value_given, nodes_given}
 use Rattle.jp_eval.proofs.CompiledParts.{given_single, given_only}
-use Rattle.jp_eval.proofs.Telling.{told_first, told_only}
+use Rattle.jp_found.proofs.Telling.{told_first, told_only}
 use Rattle.jp_eval.proofs.context.Context.known.Goals as goal
 
 pub returns-in-Single : goal.returns-in-Single

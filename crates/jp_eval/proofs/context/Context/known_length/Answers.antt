@@ -1,6 +1,6 @@
 use Rattle.jp_eval.specs.inner.Base.{base_of}
 use Rattle.jp_eval.specs.inner.Walk.{value_given}
-use Rattle.jp_eval.proofs.Rooting.{length_known}
+use Rattle.jp_found.proofs.Rooting.{length_known}
 use Rattle.jp_eval.proofs.context.Context.known_length.Goals as goal
 
 pub returns-in-Some : goal.returns-in-Some

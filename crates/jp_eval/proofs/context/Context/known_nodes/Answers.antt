@@ -1,9 +1,9 @@
 use Rattle.std.proofs.Common.{sym, ap, ◌∙◌}
-use Rattle.jp_eval.specs.inner.Aggregates.{tells}
+use Rattle.jp_found.specs.Aggregates.{tells}
 use Rattle.jp_eval.specs.inner.Base.{base_of}
 use Rattle.jp_eval.specs.inner.Walk.{nodes_given}
 use Rattle.jp_eval.proofs.CompiledParts.{nodes_root}
-use Rattle.jp_eval.proofs.Rooting.{some_of}
+use Rattle.jp_found.proofs.Rooting.{some_of}
 use Rattle.jp_eval.proofs.context.Context.known_nodes.Goals as goal
 
 pub returns-in-Root : goal.returns-in-Root

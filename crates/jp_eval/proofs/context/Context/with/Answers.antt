@@ -4,7 +4,7 @@ use Rattle.jp_compiled.proofs.RootsListed.{listed_more}
 use Rattle.jp_eval.specs.inner.Rooted.{are_answers}
 use Rattle.jp_part.specs.Part.{part_value}
 use Rattle.jp_eval.proofs.Answered.{one_more, and_one}
-use Rattle.jp_eval.specs.declared.root_answer.RootAnswer.{RootAnswer}
+use Rattle.jp_found.specs.declared.root_answer.RootAnswer.{RootAnswer}
 use Rattle.jp_eval.proofs.context.Context.with.Goals as goal
 
 pub invariant_of-result : goal.invariant_of-result

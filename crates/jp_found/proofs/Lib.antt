@@ -1,0 +1,7 @@
+pub mod Keeping
+pub mod Parts
+pub mod Identity
+pub mod Differing
+pub mod Telling
+pub mod SameLocations
+pub mod Rooting

@@ -1,0 +1,110 @@
+//! What a query asks of the values of its `$` queries, so that it is found once a document and not at each
+//! node. No clause rests on it: what is not kept is found where it is asked for.
+
+use jp_compiled::{Logical, Nodes, Query, Segment, Selector, Value};
+
+/// What is asked of the values of `$` queries.
+#[derive(Clone, Copy)]
+pub struct Asked {
+    /// The length of one.
+    pub length: bool,
+    /// Whether one is equal to another value.
+    pub comparison: bool,
+}
+
+/// What a query asks.
+pub fn asked_by(query: &Query) -> Asked {
+    let mut asked = Asked {
+        length: false,
+        comparison: false,
+    };
+    in_segments(query.segments.as_slice(), &mut asked);
+    for root in &query.roots {
+        in_segments(root.segments.as_slice(), &mut asked);
+    }
+    asked
+}
+
+#[cycle(asked)]
+fn in_segments(segments: &[Segment], asked: &mut Asked) {
+    for segment in segments {
+        in_selectors(segment.selectors.as_slice(), asked);
+    }
+}
+
+#[cycle(asked)]
+fn in_selectors(selectors: &[Selector], asked: &mut Asked) {
+    for selector in selectors {
+        if let Selector::Filter(test) = selector {
+            in_logical(test, asked);
+        }
+    }
+}
+
+#[cycle(asked)]
+fn in_logical(test: &Logical, asked: &mut Asked) {
+    match test {
+        Logical::Any(parts) => in_parts(parts.as_slice(), asked),
+        Logical::All(parts) => in_parts(parts.as_slice(), asked),
+        Logical::Not(part) => in_logical(part, asked),
+        Logical::Compare(left, _, right) => {
+            asked.comparison = asked.comparison || is_root(left) || is_root(right);
+            in_value(left, asked);
+            in_value(right, asked);
+        }
+        Logical::Test(nodes) => in_nodes(nodes, asked),
+        Logical::Match(text, pattern) => {
+            in_value(text, asked);
+            in_value(pattern, asked);
+        }
+        Logical::MatchRead(text, _) => in_value(text, asked),
+        Logical::Search(text, pattern) => {
+            in_value(text, asked);
+            in_value(pattern, asked);
+        }
+        Logical::SearchRead(text, _) => in_value(text, asked),
+        Logical::Xor(_, left, _, right) => {
+            in_logical(left, asked);
+            in_logical(right, asked);
+        }
+    }
+}
+
+#[cycle(asked)]
+fn in_parts(parts: &[Logical], asked: &mut Asked) {
+    for part in parts {
+        in_logical(part, asked);
+    }
+}
+
+#[cycle(asked)]
+fn in_value(value: &Value, asked: &mut Asked) {
+    match value {
+        Value::Constant(_) => {}
+        Value::Length(of) => {
+            asked.length = asked.length || is_root(of);
+            in_value(of, asked);
+        }
+        Value::Single(nodes) => in_nodes(nodes, asked),
+        Value::Count(nodes) => in_nodes(nodes, asked),
+        Value::Only(nodes) => in_nodes(nodes, asked),
+    }
+}
+
+#[cycle(asked)]
+fn in_nodes(nodes: &Nodes, asked: &mut Asked) {
+    match nodes {
+        Nodes::Here(segments) => in_segments(segments.as_slice(), asked),
+        Nodes::Root(_) => {}
+        Nodes::Distinct(nodes) => in_nodes(nodes, asked),
+    }
+}
+
+/// Whether the value is that of a `$` query.
+fn is_root(value: &Value) -> bool {
+    match value {
+        Value::Single(Nodes::Root(_)) => true,
+        Value::Only(Nodes::Root(_)) => true,
+        _ => false,
+    }
+}

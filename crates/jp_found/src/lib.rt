@@ -1,0 +1,16 @@
+//! What is kept of the nodes that a walk finds, and what a filter is told of them.
+#![tactic(auto)]
+
+mod aggregates;
+mod asked;
+mod different;
+mod found;
+mod root_answer;
+
+pub use aggregates::{Aggregate, has_first, is_result_of, of_distinct, of_one, operand};
+pub use asked::{Asked, asked_by};
+pub use different::{Different, Located};
+pub use found::{
+    Alone, Found, add, append, fresh, into_aggregate, is_full, none_found, visitor_of,
+};
+pub use root_answer::{Length, RootAnswer};
