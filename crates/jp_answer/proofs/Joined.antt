@@ -15,18 +15,20 @@ use Rattle.boxcar.specs.Slot.{Named}
 use Rattle.boxcar.specs.declared.slot.Written.{Written}
 use Rattle.jp_doc.specs.Json.{Json}
 use Rattle.jp_doc.specs.Lines.{Line}
-use Rattle.jp_doc.specs.Reading.{reading}
+use Rattle.jp_doc.specs.ReadingIn.{Numbers, reading_in}
 use Rattle.jp_doc.specs.declared.fault.DocFault.{DocFault}
 use Rattle.jp_tree.specs.Tree.{Query}
 use Rattle.jp_output.specs.OutputForm.{OutputForm}
 use Rattle.jp_answer.specs.Answer.{Answer, joined, unless_stopped}
 use Rattle.jp_answer.specs.Answered.{outcome_of}
 use Rattle.jp_answer.specs.Faults.{fault_or, first_fault}
-use Rattle.jp_answer.specs.OnFault.{Manner, answer_by, stop_in, passed_in}
+use Rattle.jp_answer.specs.OnFault.{Manner, answer_by, stop_in, stop_on, passed_in, passed_on}
+use Rattle.jp_answer.specs.Policy.{numbers_in}
 use Rattle.jp_answer.specs.Rounds.{IsRightAt, AreRight}
 use Rattle.jp_answer.specs.Rows.{AreShown, IsAnswerTo, shown_lines}
 use Rattle.jp_answer.specs.declared.on_fault.OnFault.{OnFault}
 use Rattle.jp_answer.specs.declared.on_fault.OnFault.TheVariants.{Stop, KeepGoing}
+use Rattle.jp_answer.specs.declared.policy.LinePolicy.{LinePolicy}
 use Rattle.jp_answer.specs.declared.outcome.DocStop.{DocStop}
 use Rattle.jp_answer.specs.declared.outcome.Outcome.{Outcome}
 use Rattle.jp_answer.specs.declared.published.Published.{Published}
@@ -97,35 +99,46 @@ fault_both : (n : ℕ) (r : Result Json DocFault) (a b : Option (ℕ × DocFault
 fault_both n (Ok root) a b both none e h = e
 fault_both n (Err fault) a b both none e h = absurd (cc)
 
-rest_none : (n : ℕ) (r : Result Json DocFault) (a : Option (ℕ × DocFault)) → fault_or n r a ≡ None → a ≡ None
+pub rest_none : (n : ℕ) (r : Result Json DocFault) (a : Option (ℕ × DocFault)) → fault_or n r a ≡ None → a ≡ None
 rest_none n (Ok root) a h = h
 rest_none n (Err fault) a h = absurd (cc)
 
-first_later : (a b : List Line) → first_fault a ≡ None → first_fault (a ++ b) ≡ first_fault b
-first_later [] b h = refl
-first_later (l ∷ ls) b h =
-    let none : first_fault ls ≡ None = rest_none l.0 (reading l.1) (first_fault ls) h in
-    fault_both l.0 (reading l.1) (first_fault ls) (first_fault b) (first_fault (ls ++ b)) none
-    (first_later ls b none) h
+first_later : (n : Numbers) (a b : List Line) → first_fault n a ≡ None
+    → first_fault n (a ++ b) ≡ first_fault n b
+first_later n [] b h = refl
+first_later n (l ∷ ls) b h =
+    let none : first_fault n ls ≡ None = rest_none l.0 (reading_in n l.1) (first_fault n ls) h in
+    fault_both l.0 (reading_in n l.1) (first_fault n ls) (first_fault n b) (first_fault n (ls ++ b)) none
+    (first_later n ls b none) h
 
-pub stop_later : (k : OnFault) (a b : List Line) → stop_in k a ≡ None → stop_in k (a ++ b) ≡ stop_in k b
-stop_later Stop a b h = first_later a b h
-stop_later KeepGoing a b h = refl
+later_on : (k : OnFault) (n : Numbers) (a b : List Line) → stop_on n k a ≡ None
+    → stop_on n k (a ++ b) ≡ stop_on n k b
+later_on Stop n a b h = first_later n a b h
+later_on KeepGoing n a b h = refl
+
+pub stop_later : (p : LinePolicy) (a b : List Line) → stop_in p a ≡ None → stop_in p (a ++ b) ≡ stop_in p b
+stop_later p a b h = later_on p.on_fault (numbers_in p.numbers) a b h
 
 fault_now : (n : ℕ) (r : Result Json DocFault) (a both : Option (ℕ × DocFault)) (s : ℕ × DocFault)
     → (a ≡ Some s → both ≡ Some s) → fault_or n r a ≡ Some s → fault_or n r both ≡ Some s
 fault_now n (Ok root) a both s f h = f h
 fault_now n (Err fault) a both s f h = h
 
-first_now : (a b : List Line) (s : ℕ × DocFault) → first_fault a ≡ Some s → first_fault (a ++ b) ≡ Some s
-first_now [] b s h = absurd (cc)
-first_now (l ∷ ls) b s h = fault_now l.0 (reading l.1) (first_fault ls) (first_fault (ls ++ b)) s
-    (first_now ls b s) h
+first_now : (n : Numbers) (a b : List Line) (s : ℕ × DocFault) → first_fault n a ≡ Some s
+    → first_fault n (a ++ b) ≡ Some s
+first_now n [] b s h = absurd (cc)
+first_now n (l ∷ ls) b s h =
+    fault_now l.0 (reading_in n l.1) (first_fault n ls) (first_fault n (ls ++ b)) s
+    (first_now n ls b s) h
 
-pub stop_now : (k : OnFault) (a b : List Line) (s : ℕ × DocFault) → stop_in k a ≡ Some s
-    → stop_in k (a ++ b) ≡ Some s
-stop_now Stop a b s h = first_now a b s h
-stop_now KeepGoing a b s h = absurd (cc)
+now_on : (k : OnFault) (n : Numbers) (a b : List Line) (s : ℕ × DocFault) → stop_on n k a ≡ Some s
+    → stop_on n k (a ++ b) ≡ Some s
+now_on Stop n a b s h = first_now n a b s h
+now_on KeepGoing n a b s h = absurd (cc)
+
+pub stop_now : (p : LinePolicy) (a b : List Line) (s : ℕ × DocFault) → stop_in p a ≡ Some s
+    → stop_in p (a ++ b) ≡ Some s
+stop_now p a b s h = now_on p.on_fault (numbers_in p.numbers) a b s h
 
 stop_ends : (a b : Answer) (s : Option (ℕ × DocFault)) (t : ℕ × DocFault) → s ≡ Some t
     → unless_stopped s a b ≡ a
@@ -133,23 +146,28 @@ stop_ends a b None t e = absurd (cc)
 stop_ends a b (Some s) t e = refl
 
 -- where it ends, nothing of the other part is passed
-passed_stop : (k : OnFault) (a b : List Line) (s : ℕ × DocFault) → stop_in k a ≡ Some s
-    → passed_in k (a ++ b) ≡ passed_in k a
-passed_stop Stop a b s h = refl
-passed_stop KeepGoing a b s h = absurd (cc)
+passed_on_stop : (k : OnFault) (n : Numbers) (a b : List Line) (s : ℕ × DocFault) → stop_on n k a ≡ Some s
+    → passed_on n k (a ++ b) ≡ passed_on n k a
+passed_on_stop Stop n a b s h = refl
+passed_on_stop KeepGoing n a b s h = absurd (cc)
+
+passed_stop : (p : LinePolicy) (a b : List Line) (s : ℕ × DocFault) → stop_in p a ≡ Some s
+    → passed_in p (a ++ b) ≡ passed_in p a
+passed_stop p a b s h = passed_on_stop p.on_fault (numbers_in p.numbers) a b s h
 
 module _ (going : Manner) (q : Query) where
   -- the answer to no lines
   pub to_nothing : (a : Outcome) → outcome_of a ≡ record { bytes = []; stopped = None } → a.faulty ≡ 0
       → IsAnswerTo going q [] a
   to_nothing a e f = record {
-    answer = λ t right. nothing_in going.form t q going.on_fault ∙ sym e;
-    stopped = none going.on_fault ∙ ap (λ (a : Answer). a.stopped) (sym e);
-    passed = passed_none going.on_fault ∙ sym f;
+    answer = λ t right. nothing_in going.form t q going.policy ∙ sym e;
+    stopped = none going.policy.on_fault (numbers_in going.policy.numbers)
+        ∙ ap (λ (a : Answer). a.stopped) (sym e);
+    passed = passed_none going.policy ∙ sym f;
   } where
-    none : (k : OnFault) → stop_in k [] ≡ None
-    none Stop = refl
-    none KeepGoing = refl
+    none : (k : OnFault) (n : Numbers) → stop_on n k [] ≡ None
+    none Stop n = refl
+    none KeepGoing n = refl
 
   -- further lines, where it goes on
   pub to_more : (ls part : List Line) (a more next : Outcome) → IsAnswerTo going q ls a
@@ -157,12 +175,12 @@ module _ (going : Manner) (q : Query) where
       → outcome_of next ≡ joined (outcome_of a) (outcome_of more) → next.faulty ≡ a.faulty + more.faulty
       → IsAnswerTo going q (ls ++ part) next
   to_more ls part a more next first second goes e f = record {
-    answer = λ t right. formed_joined going.form t q going.on_fault ls part
-        ∙ ap (λ (a : Answer). joined a (answer_by going.form going.on_fault t q part)) (first.answer t right)
+    answer = λ t right. formed_joined going.form t q going.policy ls part
+        ∙ ap (λ (a : Answer). joined a (answer_by going.form going.policy t q part)) (first.answer t right)
         ∙ ap (joined (outcome_of a)) (second.answer t right) ∙ sym e;
-    stopped = stop_later going.on_fault ls part (first.stopped ∙ goes) ∙ second.stopped
+    stopped = stop_later going.policy ls part (first.stopped ∙ goes) ∙ second.stopped
         ∙ sym (ap (λ (a : Answer). a.stopped) e ∙ goes_on (outcome_of a) (outcome_of more) goes);
-    passed = omega (arith, f, first.passed, second.passed, passed_joined going.on_fault ls part);
+    passed = omega (arith, f, first.passed, second.passed, passed_joined going.policy ls part);
   } where
     goes_by : (s : Option (ℕ × DocFault)) (a b : Answer) → s ≡ None
         → (unless_stopped s a b).stopped ≡ b.stopped
@@ -176,16 +194,16 @@ module _ (going : Manner) (q : Query) where
   pub to_rest : (ls rest : List Line) (a : Outcome) (s : ℕ × DocFault) → IsAnswerTo going q ls a
       → (outcome_of a).stopped ≡ Some s → IsAnswerTo going q (ls ++ rest) a
   to_rest ls rest a s first ended = record {
-    answer = λ t right. formed_joined going.form t q going.on_fault ls rest
-        ∙ ap (λ (a : Answer). joined a (answer_by going.form going.on_fault t q rest)) (first.answer t right)
-        ∙ stop_ends (outcome_of a) (answer_by going.form going.on_fault t q rest)
+    answer = λ t right. formed_joined going.form t q going.policy ls rest
+        ∙ ap (λ (a : Answer). joined a (answer_by going.form going.policy t q rest)) (first.answer t right)
+        ∙ stop_ends (outcome_of a) (answer_by going.form going.policy t q rest)
         (outcome_of a).stopped s ended;
-    stopped = stop_now going.on_fault ls rest s (first.stopped ∙ ended) ∙ sym ended;
-    passed = passed_stop going.on_fault ls rest s (first.stopped ∙ ended) ∙ first.passed;
+    stopped = stop_now going.policy ls rest s (first.stopped ∙ ended) ∙ sym ended;
+    passed = passed_stop going.policy ls rest s (first.stopped ∙ ended) ∙ first.passed;
   }
 
   pub to_few : (ls : List Line) (a : Outcome) → IsAnswerTo going q ls a → a.faulty ≤ length ls
-  to_few ls a is = omega (arith, is.passed, passed_few going.on_fault ls)
+  to_few ls a is = omega (arith, is.passed, passed_few going.policy ls)
 
 -- some element of a list that has one
 pub some_of : {X : Type 0} (xs : List X) (i : ℕ) → i < length xs → X

@@ -3,7 +3,7 @@ use Rattle.std.proofs.Common.{◌≡◌, ℕ, List, [], ◌∷◌, ◌++◌, Opt
 use Rattle.std.proofs.Common.{◌∙◌, append_assoc}
 use Rattle.jp_doc.specs.Json.{Json}
 use Rattle.jp_doc.specs.Lines.{Line}
-use Rattle.jp_doc.specs.Reading.{reading}
+use Rattle.jp_doc.specs.ReadingIn.{Numbers, reading_in}
 use Rattle.jp_doc.specs.declared.fault.DocFault.{DocFault}
 use Rattle.jp_tree.specs.Tree.{Query}
 use Rattle.jp_regexp.specs.Tests.{Tests}
@@ -24,17 +24,18 @@ module _ (form : OutputForm) (t : Tests) (q : Query) where
   line_joined l (Ok root) a b = after_joined_by (document_bytes form t q l root) a.stopped a b
   line_joined l (Err fault) a b = refl
 
-  pub pieces_joined : (a b : List Line) → answer_as form t q (a ++ b)
-      ≡ joined (answer_as form t q a) (answer_as form t q b)
-  pieces_joined [] b = refl
-  pieces_joined (l ∷ ls) b = ap (line_answer form t q l (reading l.1)) (pieces_joined ls b)
-      ∙ line_joined l (reading l.1) (answer_as form t q ls) (answer_as form t q b)
+  pub pieces_joined : (n : Numbers) (a b : List Line) → answer_as n form t q (a ++ b)
+      ≡ joined (answer_as n form t q a) (answer_as n form t q b)
+  pieces_joined n [] b = refl
+  pieces_joined n (l ∷ ls) b = ap (line_answer form t q l (reading_in n l.1)) (pieces_joined n ls b)
+      ∙ line_joined l (reading_in n l.1) (answer_as n form t q ls) (answer_as n form t q b)
 
   fault_of : (l : Line) (r : Result Json DocFault) (a : Answer) (others : Option (ℕ × DocFault))
       → a.stopped ≡ others → (line_answer form t q l r a).stopped ≡ fault_or l.0 r others
   fault_of l (Ok root) a others e = e
   fault_of l (Err fault) a others e = refl
 
-  pub stops_so : (ls : List Line) → (answer_as form t q ls).stopped ≡ first_fault ls
-  stops_so [] = refl
-  stops_so (l ∷ ls) = fault_of l (reading l.1) (answer_as form t q ls) (first_fault ls) (stops_so ls)
+  pub stops_so : (n : Numbers) (ls : List Line) → (answer_as n form t q ls).stopped ≡ first_fault n ls
+  stops_so n [] = refl
+  stops_so n (l ∷ ls) =
+      fault_of l (reading_in n l.1) (answer_as n form t q ls) (first_fault n ls) (stops_so n ls)

@@ -1,6 +1,7 @@
 pub mod AnswerFields
 pub mod Counting
 pub mod OnFaults
+pub mod Decimals
 pub mod Finding
 pub mod Joined
 pub mod Joining

@@ -16,6 +16,7 @@ use Rattle.std.proofs.lemmas.List.Sums.{sum_by-cons}
 use Rattle.std.proofs.lemmas.Option.{get_or_from_slice_get}
 use Rattle.jp_buffer.specs.Buffered.{line_at}
 use Rattle.jp_doc.specs.Lines.{Line}
+use Rattle.jp_doc.specs.ReadingIn.{Numbers}
 use Rattle.jp_doc.specs.declared.fault.DocFault.{DocFault}
 use Rattle.jp_buffer.specs.declared.line_ref.LineRef as code
 use Rattle.jp_compiled.specs.Compiled.{compiled_query}
@@ -28,7 +29,8 @@ use Rattle.jp_board.specs.Together.{all_claims, all_reports, all_looks, times_to
 use Rattle.jp_answer.specs.Answer as answers
 use Rattle.jp_answer.specs.Answer.{joined, unless_stopped}
 use Rattle.jp_answer.specs.Answered.{outcome_of}
-use Rattle.jp_answer.specs.OnFault.{answer_by, stop_in, passed_in}
+use Rattle.jp_answer.specs.OnFault.{answer_by, stop_on, passed_in, passed_on}
+use Rattle.jp_answer.specs.Policy.{numbers_in}
 use Rattle.jp_output.specs.OutputForm.{OutputForm}
 use Rattle.jp_answer.specs.declared.on_fault.OnFault.{OnFault}
 use Rattle.jp_answer.specs.declared.on_fault.OnFault.TheVariants.{Stop, KeepGoing}
@@ -90,7 +92,7 @@ with_nothing (Some s) a e = refl
 module _ (form : OutputForm) (p : Pieces) where
   -- the answer to lines, in the form that is asked for
   abbrev to_lines : Tests → List Line → answers.Answer
-  to_lines t ls = answer_by form p.on_fault t (compiled_query p.query.now) ls
+  to_lines t ls = answer_by form p.policy t (compiled_query p.query.now) ls
 
   -- the lines from a piece on
   abbrev lines_from : ℕ → List Line
@@ -137,7 +139,7 @@ module _ (form : OutputForm) (p : Pieces) where
       ∙ joined_assoc (outcome_of b) (joined_all os) (to_lines t (lines_from (x + 1 + length os)))
       ∙ ap (joined (outcome_of b)) (joined_pieces t os (x + 1) (one_later t x (Some b) os each))
       ∙ ap (λ (c : answers.Answer). joined c (to_lines t (lines_from (x + 1)))) here
-      ∙ sym (formed_joined form t (compiled_query p.query.now) p.on_fault (piece_lines p x)
+      ∙ sym (formed_joined form t (compiled_query p.query.now) p.policy (piece_lines p x)
       (lines_from (x + 1)))
       ∙ ap (to_lines t) (sym (cut_piece x))
 
@@ -162,7 +164,7 @@ module _ (form : OutputForm) (p : Pieces) where
       let none : lines_from (0 + length placed) ≡ [] = ap (λ n. lines_from n) (zero-add (length placed))
       ∙ ap (map line_at) (drop_of_length-le p.lines.now long) in
       ap (λ ls. joined all (to_lines t ls)) none
-      ∙ ap (joined all) (nothing_in form t (compiled_query p.query.now) p.on_fault)
+      ∙ ap (joined all) (nothing_in form t (compiled_query p.query.now) p.policy)
       ∙ with_nothing all.stopped all refl)
       (λ (f : (x : ℕ) × (x < length placed) × IsFaulty p x).
       let (a, at, is) = h.each f.0 f.1 in
@@ -172,20 +174,20 @@ module _ (form : OutputForm) (p : Pieces) where
   -- the same of the faulty lines that are passed
   abbrev PassedFrom : ℕ → List (Option Outcome) → Type 0
   PassedFrom x placed = (k : ℕ) → k < length placed → (a : Outcome) × StandsAt placed k a
-      × (passed_in p.on_fault (piece_lines p (x + k)) ≡ a.faulty)
+      × (passed_in p.policy (piece_lines p (x + k)) ≡ a.faulty)
 
   passed_later : (x : ℕ) (o : Option Outcome) (os : List (Option Outcome)) → PassedFrom x (o ∷ os)
       → PassedFrom (x + 1) os
   passed_later x o os each k h =
       let (a, at, is) = each (suc k) (omega arith) in
       let e : x + suc k ≡ x + 1 + k = omega arith in
-      (a, at, subst (λ n. passed_in p.on_fault (piece_lines p n) ≡ a.faulty) e is)
+      (a, at, subst (λ n. passed_in p.policy (piece_lines p n) ≡ a.faulty) e is)
 
   passed_pieces : (placed : List (Option Outcome)) (x : ℕ) → PassedFrom x placed
-      → passed_all placed + passed_in p.on_fault (lines_from (x + length placed))
-      ≡ passed_in p.on_fault (lines_from x)
-  passed_pieces [] x each = zero-add (passed_in p.on_fault (lines_from (x + 0)))
-      ∙ ap (λ n. passed_in p.on_fault (lines_from n)) (add-zero x)
+      → passed_all placed + passed_in p.policy (lines_from (x + length placed))
+      ≡ passed_in p.policy (lines_from x)
+  passed_pieces [] x each = zero-add (passed_in p.policy (lines_from (x + 0)))
+      ∙ ap (λ n. passed_in p.policy (lines_from n)) (add-zero x)
   passed_pieces (None ∷ os) x each = let (a, at, is) = each 0 (omega arith) in absurd (cc)
   passed_pieces (Some b ∷ os) x each =
       let (a, at, is) = each 0 (omega arith) in
@@ -195,35 +197,37 @@ module _ (form : OutputForm) (p : Pieces) where
         arith,
         ap (λ (o : Outcome). o.faulty) same,
         is,
-        ap (λ n. passed_in p.on_fault (piece_lines p n)) (add-zero x),
-        ap (λ n. passed_in p.on_fault (lines_from n)) e,
+        ap (λ n. passed_in p.policy (piece_lines p n)) (add-zero x),
+        ap (λ n. passed_in p.policy (lines_from n)) e,
         passed_pieces os (x + 1) (passed_later x (Some b) os each),
-        passed_joined p.on_fault (piece_lines p x) (lines_from (x + 1)),
-        ap (passed_in p.on_fault) (cut_piece x),
+        passed_joined p.policy (piece_lines p x) (lines_from (x + 1)),
+        ap (passed_in p.policy) (cut_piece x),
       )
 
   -- an answer that passes faulty lines ends at no piece
-  none_passed : (k : OnFault) (some rest : List Line) → IsSome (stop_in k some) → passed_in k rest ≡ 0
-  none_passed Stop some rest h = refl
-  none_passed KeepGoing some rest h = absurd (cc)
+  none_passed : (k : OnFault) (n : Numbers) (some rest : List Line) → IsSome (stop_on n k some)
+      → passed_on n k rest ≡ 0
+  none_passed Stop n some rest h = refl
+  none_passed KeepGoing n some rest h = absurd (cc)
 
   pub placed_passed : (placed : List (Option Outcome)) → ArePlaced form p placed
-      → passed_in p.on_fault (map line_at p.lines.now) ≡ passed_all placed
+      → passed_in p.policy (map line_at p.lines.now) ≡ passed_all placed
   placed_passed placed h =
-      let rest = passed_in p.on_fault (lines_from (0 + length placed)) in
-      let whole : passed_all placed + rest ≡ passed_in p.on_fault (map line_at p.lines.now) =
+      let rest = passed_in p.policy (lines_from (0 + length placed)) in
+      let whole : passed_all placed + rest ≡ passed_in p.policy (map line_at p.lines.now) =
       passed_pieces placed 0 (λ k lt. let (a, at, is) = h.each k lt in (
         a,
         at,
-        subst (λ n. passed_in p.on_fault (piece_lines p n) ≡ a.faulty) (sym (zero-add k)) is.passed,
-      )) ∙ ap (passed_in p.on_fault) from_start in
+        subst (λ n. passed_in p.policy (piece_lines p n) ≡ a.faulty) (sym (zero-add k)) is.passed,
+      )) ∙ ap (passed_in p.policy) from_start in
       let none : rest ≡ 0 = ⊎_elim
       (λ (long : length p.lines.now ≤ length placed * p.size).
-      ap (λ n. passed_in p.on_fault (lines_from n)) (zero-add (length placed))
-      ∙ ap (λ ls. passed_in p.on_fault (map line_at ls)) (drop_of_length-le p.lines.now long)
-      ∙ passed_none p.on_fault)
+      ap (λ n. passed_in p.policy (lines_from n)) (zero-add (length placed))
+      ∙ ap (λ ls. passed_in p.policy (map line_at ls)) (drop_of_length-le p.lines.now long)
+      ∙ passed_none p.policy)
       (λ (f : (x : ℕ) × (x < length placed) × IsFaulty p x).
-      none_passed p.on_fault (piece_lines p f.0) (lines_from (0 + length placed)) f.2)
+      none_passed p.policy.on_fault (numbers_in p.policy.numbers) (piece_lines p f.0)
+      (lines_from (0 + length placed)) f.2)
       h.enough in
       omega (arith, whole, none)
 
@@ -232,7 +236,7 @@ module _ (form : OutputForm) (p : Pieces) where
   placed_few placed h = omega (
     arith,
     placed_passed placed h,
-    passed_few p.on_fault (map line_at p.lines.now),
+    passed_few p.policy (map line_at p.lines.now),
     length-map p.lines.now line_at,
   )
 

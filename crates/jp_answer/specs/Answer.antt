@@ -3,7 +3,7 @@ use Rattle.std.specs.Prelude.{ℕ, List, [], ◌∷◌, ◌++◌, Option, Some, 
 use Rattle.std.specs.List.{flat_map}
 use Rattle.jp_doc.specs.Json.{Json}
 use Rattle.jp_doc.specs.Lines.{Line, lines}
-use Rattle.jp_doc.specs.Reading.{reading}
+use Rattle.jp_doc.specs.ReadingIn.{Numbers, whole_numbers, reading_in}
 use Rattle.jp_doc.specs.declared.fault.DocFault.{DocFault}
 use Rattle.jp_tree.specs.Tree.{Query}
 use Rattle.jp_regexp.specs.Tests.{Tests}
@@ -31,18 +31,20 @@ module _ (form : OutputForm) (tests : Tests) (q : Query) where
   line_answer l (Ok root) others = after (document_bytes l root) others
   line_answer l (Err fault) others = record { bytes = []; stopped = Some (l.0, fault) }
 
-  -- the answer to numbered lines: what is said of the documents before the first faulty line, in order
-  abbrev pub answer_as : List Line → Answer
-  answer_as [] = record { bytes = []; stopped = None }
-  answer_as (l ∷ ls) = line_answer l (reading l.1) (answer_as ls)
+-- the answer to numbered lines, where documents may have these numbers: what is said in a form of the
+-- documents before the first faulty line, in order
+abbrev pub answer_as : Numbers → OutputForm → Tests → Query → List Line → Answer
+answer_as numbers form tests q [] = record { bytes = []; stopped = None }
+answer_as numbers form tests q (l ∷ ls) =
+    line_answer form tests q l (reading_in numbers l.1) (answer_as numbers form tests q ls)
 
 -- in the form of output lines: those of the nodes that a query selects in a document with this number
 abbrev pub document_lines : Tests → Query → ℕ → Json → List ℕ
 document_lines tests q number root = flat_map (node_line number) (document_nodes tests q root)
 
--- the answer to numbered lines
+-- the answer to numbered lines, whose numbers are whole
 abbrev pub answer : Tests → Query → List Line → Answer
-answer tests q ls = answer_as node_lines tests q ls
+answer tests q ls = answer_as whole_numbers node_lines tests q ls
 
 -- the answer to a byte stream
 abbrev pub stream_answer : Tests → Query → List ℕ → Answer

@@ -4,6 +4,7 @@ pub mod Faults
 pub mod OnFault
 pub mod Pieces
 pub mod Placed
+pub mod Policy
 pub mod Ranges
 pub mod Rounds
 pub mod Rows

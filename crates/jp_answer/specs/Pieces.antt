@@ -21,11 +21,11 @@ pub record AreAllPieces (p : Pieces) (n : ℕ) : Type 0 where
 
 -- the answer to the piece ends at a faulty line
 abbrev pub IsFaulty : Pieces → ℕ → Type 0
-IsFaulty p x = IsSome (stop_in p.on_fault (piece_lines p x))
+IsFaulty p x = IsSome (stop_in p.policy (piece_lines p x))
 
 -- this is the answer to the piece in a form
 pub record IsPieceAnswer (form : OutputForm) (p : Pieces) (x : ℕ) (a : Outcome) : Type 0 where
-  pub answer : (t : Tests) → AreRight t → answer_by form p.on_fault t (compiled_query p.query.now)
+  pub answer : (t : Tests) → AreRight t → answer_by form p.policy t (compiled_query p.query.now)
       (piece_lines p x) ≡ outcome_of a
-  pub stopped : stop_in p.on_fault (piece_lines p x) ≡ (outcome_of a).stopped
-  pub passed : passed_in p.on_fault (piece_lines p x) ≡ a.faulty
+  pub stopped : stop_in p.policy (piece_lines p x) ≡ (outcome_of a).stopped
+  pub passed : passed_in p.policy (piece_lines p x) ≡ a.faulty

@@ -18,7 +18,7 @@ use Rattle.jp_answer.specs.declared.round.Round.{Round}
 
 -- the answer of a round to some lines, in a form
 abbrev pub IsRoundAnswer : OutputForm → Round → List Line → Outcome → Type 0
-IsRoundAnswer form r ls a = IsAnswerTo (manner form r.on_fault) (compiled_query r.query.now) ls a
+IsRoundAnswer form r ls a = IsAnswerTo (manner form r.policy) (compiled_query r.query.now) ls a
 
 -- the token is of the slot at that place
 abbrev pub IsOf : List Named → ℕ → Written (List Line) → Type 0

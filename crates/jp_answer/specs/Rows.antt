@@ -13,9 +13,9 @@ use Rattle.jp_answer.specs.declared.published.Published.{Published}
 
 -- this is the answer to the lines, in some manner
 pub record IsAnswerTo (going : Manner) (q : Query) (ls : List Line) (a : Outcome) : Type 0 where
-  pub answer : (t : Tests) → AreRight t → answer_by going.form going.on_fault t q ls ≡ outcome_of a
-  pub stopped : stop_in going.on_fault ls ≡ (outcome_of a).stopped
-  pub passed : passed_in going.on_fault ls ≡ a.faulty
+  pub answer : (t : Tests) → AreRight t → answer_by going.form going.policy t q ls ≡ outcome_of a
+  pub stopped : stop_in going.policy ls ≡ (outcome_of a).stopped
+  pub passed : passed_in going.policy ls ≡ a.faulty
 
 -- the tokens are of the first slots, in order
 abbrev pub AreShown : List Named → Published → Type 0

@@ -4,7 +4,7 @@ use Rattle.std.specs.Prelude.{Result, Ok, Err, is_err}
 use Rattle.std.specs.List.{flat_map, filter}
 use Rattle.jp_doc.specs.Json.{Json}
 use Rattle.jp_doc.specs.Lines.{Line, lines}
-use Rattle.jp_doc.specs.Reading.{reading}
+use Rattle.jp_doc.specs.ReadingIn.{Numbers, whole_numbers, reading_in}
 use Rattle.jp_doc.specs.declared.fault.DocFault.{DocFault}
 use Rattle.jp_tree.specs.Tree.{Query}
 use Rattle.jp_regexp.specs.Tests.{Tests}
@@ -23,23 +23,28 @@ module _ (form : OutputForm) (tests : Tests) (q : Query) where
   document_or_fault l (Ok root) = document_bytes form tests q l root
   document_or_fault l (Err fault) = form.of_fault l.0 fault
 
-  abbrev pub line_bytes : Line → List ℕ
-  line_bytes l = document_or_fault l (reading l.1)
+-- where documents may have these numbers:
+module _ (numbers : Numbers) where
+  abbrev pub line_bytes : OutputForm → Tests → Query → Line → List ℕ
+  line_bytes form tests q l = document_or_fault form tests q l (reading_in numbers l.1)
 
--- the line holds no document
-abbrev pub is_faulty : Line → Bool
-is_faulty l = is_err (reading l.1)
+  -- the line holds no document
+  abbrev pub is_faulty : Line → Bool
+  is_faulty l = is_err (reading_in numbers l.1)
 
-abbrev pub faulty_lines : List Line → ℕ
-faulty_lines ls = length (filter is_faulty ls)
+  abbrev pub faulty_lines : List Line → ℕ
+  faulty_lines ls = length (filter is_faulty ls)
 
--- the answer to numbered lines: over all of them in order, and how many are faulty
-abbrev pub whole_as : OutputForm → Tests → Query → List Line → Whole
-whole_as form tests q ls = record { bytes = flat_map (line_bytes form tests q) ls; faulty = faulty_lines ls }
+  -- the answer to numbered lines: over all of them in order, and how many are faulty
+  abbrev pub whole_as : OutputForm → Tests → Query → List Line → Whole
+  whole_as form tests q ls = record {
+    bytes = flat_map (line_bytes form tests q) ls;
+    faulty = faulty_lines ls;
+  }
 
--- the same in the form of output lines and fault lines
+-- the same in the form of output lines and fault lines, where numbers are whole
 abbrev pub whole : Tests → Query → List Line → Whole
-whole tests q ls = whole_as node_lines tests q ls
+whole tests q ls = whole_as whole_numbers node_lines tests q ls
 
 -- the answer to a byte stream
 abbrev pub stream_whole : Tests → Query → List ℕ → Whole

@@ -1,10 +1,11 @@
 //! The answer to numbered lines, on one thread.
 
-ghost use Rattle.std.specs.Prelude.{◌≡◌, ◌≢◌, ◌≤◌, ◌++◌, ℕ, List, IfOk, length, map};
+ghost use Rattle.std.specs.Prelude.{◌≡◌, ◌≢◌, ◌≤◌, ◌++◌, ℕ, List, Err, IfOk, length, map};
 ghost use Rattle.std.specs.List.{fold};
 ghost use Rattle.jp_buffer.specs.Buffered.{line_at};
 ghost use Rattle.jp_doc.specs.Location.{Node};
 ghost use Rattle.jp_doc.specs.Reading.{reading};
+ghost use Rattle.jp_doc.specs.ReadingIn.{decimals, reading_in};
 ghost use Rattle.jp_part.specs.Part.{part_value};
 ghost use Rattle.jp_compiled.specs.Compiled.{compiled_query};
 ghost use Rattle.jp_eval.specs.Evaluated.{evaluated_query};
@@ -14,12 +15,14 @@ ghost use Rattle.jp_board.specs.Limits.{max_pieces};
 ghost use Rattle.jp_answer.specs.Answer.{document_bytes};
 ghost use Rattle.jp_answer.specs.Answered.{outcome_of};
 ghost use Rattle.jp_answer.specs.OnFault.{answer_by, stop_in, passed_in, given, fault_in};
+ghost use Rattle.jp_answer.specs.Policy.{reading_by};
 ghost use Rattle.jp_answer.specs.declared.on_fault.OnFault.TheVariants.{Stop, KeepGoing};
 
 use crate::crew::Crew;
 use crate::on_fault::OnFault;
 use crate::outcome::{DocStop, Outcome};
 use crate::pieces::Pieces;
+use crate::policy::Numbers;
 use jp_buffer::LineRef;
 use jp_compiled::Query;
 use jp_doc::{DocFault, Document};
@@ -68,11 +71,11 @@ pub(crate) fn answer_lines<R: Threads + Sync, G, F: Form + Drop + Send>(
 ) -> Result<Outcome, AllocError>
     requires few { length lines.now ≤ max_pieces }
     requires query { evaluated_query tools.old.evaluator ≡ compiled_query pieces.now.query.now }
-    ensures answer { IfOk result (λ a. (t : Tests) → AreRight t → answer_by F.says pieces.now.on_fault t
+    ensures answer { IfOk result (λ a. (t : Tests) → AreRight t → answer_by F.says pieces.now.policy t
         (compiled_query pieces.now.query.now) (map line_at lines.now) ≡ outcome_of a) }
-    ensures stopped { IfOk result (λ a. stop_in pieces.now.on_fault (map line_at lines.now)
+    ensures stopped { IfOk result (λ a. stop_in pieces.now.policy (map line_at lines.now)
         ≡ (outcome_of a).stopped) }
-    ensures passed { IfOk result (λ a. passed_in pieces.now.on_fault (map line_at lines.now)
+    ensures passed { IfOk result (λ a. passed_in pieces.now.policy (map line_at lines.now)
         ≡ a.faulty) }
     ensures query { evaluated_query tools.new.evaluator ≡ evaluated_query tools.old.evaluator }
 {
@@ -84,7 +87,7 @@ pub(crate) fn answer_lines<R: Threads + Sync, G, F: Form + Drop + Send>(
         let Some(fault) = fault else {
             continue;
         };
-        match pieces.on_fault {
+        match pieces.policy.on_fault {
             OnFault::Stop => {
                 let stop = DocStop {
                     line: line.number,
@@ -108,7 +111,7 @@ pub(crate) fn answer_lines<R: Threads + Sync, G, F: Form + Drop + Send>(
 }
 
 /// What was written so far and what a line gives, and what is wrong with it, if anything. The line is read
-/// flat where it is plain, and as a tree where it is not: the tree's reading alone tells faults.
+/// by the numbers that it may have.
 fn add_line<R: Threads + Sync, G, F: Form + Drop + Send>(
     crew: &Crew<R, G>,
     pieces: &Pieces,
@@ -117,7 +120,29 @@ fn add_line<R: Threads + Sync, G, F: Form + Drop + Send>(
     written: F,
 ) -> Result<(F, Option<DocFault>), AllocError>
     ensures lines { IfOk result (λ r. (t : Tests) → AreRight t → F.written r.0
-        ≡ F.written written ++ given F.says pieces.now.on_fault t
+        ≡ F.written written ++ given F.says pieces.now.policy.on_fault t
+        (evaluated_query tools.old.evaluator) (line_at line.now)
+        (reading_by pieces.now.policy line.now.bytes.now)) }
+    ensures fault { IfOk result (λ r. r.1 ≡ fault_in (reading_by pieces.now.policy line.now.bytes.now)) }
+    ensures query { evaluated_query tools.new.evaluator ≡ evaluated_query tools.old.evaluator }
+{
+    match pieces.policy.numbers {
+        Numbers::Whole => add_whole(crew, pieces, tools, line, written),
+        Numbers::Decimals => add_decimal(crew, pieces, tools, line, written),
+    }
+}
+
+/// The same, where numbers are whole. The line is read flat where it is plain, and as a tree where it is not:
+/// the tree's reading alone tells faults.
+fn add_whole<R: Threads + Sync, G, F: Form + Drop + Send>(
+    crew: &Crew<R, G>,
+    pieces: &Pieces,
+    tools: &mut Tools<'_>,
+    line: &LineRef<'_>,
+    written: F,
+) -> Result<(F, Option<DocFault>), AllocError>
+    ensures lines { IfOk result (λ r. (t : Tests) → AreRight t → F.written r.0
+        ≡ F.written written ++ given F.says pieces.now.policy.on_fault t
         (evaluated_query tools.old.evaluator) (line_at line.now) (reading line.now.bytes.now)) }
     ensures fault { IfOk result (λ r. r.1 ≡ fault_in (reading line.now.bytes.now)) }
     ensures query { evaluated_query tools.new.evaluator ≡ evaluated_query tools.old.evaluator }
@@ -142,7 +167,7 @@ fn add_tree<R: Threads + Sync, G, F: Form + Drop + Send>(
     written: F,
 ) -> Result<(F, Option<DocFault>), AllocError>
     ensures lines { IfOk result (λ r. (t : Tests) → AreRight t → F.written r.0
-        ≡ F.written written ++ given F.says pieces.now.on_fault t
+        ≡ F.written written ++ given F.says pieces.now.policy.on_fault t
         (evaluated_query evaluator.old) (line_at line.now) (reading line.now.bytes.now)) }
     ensures fault { IfOk result (λ r. r.1 ≡ fault_in (reading line.now.bytes.now)) }
     ensures query { evaluated_query evaluator.new ≡ evaluated_query evaluator.old }
@@ -156,7 +181,96 @@ fn add_tree<R: Threads + Sync, G, F: Form + Drop + Send>(
         }
         Err(DocFault::Memory) => Err(AllocError),
         Err(fault) => {
-            let more = with_fault(crew.alloc, pieces.on_fault, line.number, &fault, written)?;
+            let more = with_fault(
+                crew.alloc,
+                pieces.policy.on_fault,
+                line.number,
+                &fault,
+                written,
+            )?;
+            Ok((more, Some(fault)))
+        }
+    }
+}
+
+/// The same, where numbers need not be whole. The line is read flat, by the grammar alone, and as a tree too
+/// only where that finds it over a limit.
+fn add_decimal<R: Threads + Sync, G, F: Form + Drop + Send>(
+    crew: &Crew<R, G>,
+    pieces: &Pieces,
+    tools: &mut Tools<'_>,
+    line: &LineRef<'_>,
+    written: F,
+) -> Result<(F, Option<DocFault>), AllocError>
+    ensures lines { IfOk result (λ r. (t : Tests) → AreRight t → F.written r.0
+        ≡ F.written written ++ given F.says pieces.now.policy.on_fault t
+        (evaluated_query tools.old.evaluator) (line_at line.now) (reading_in decimals line.now.bytes.now)) }
+    ensures fault { IfOk result (λ r. r.1 ≡ fault_in (reading_in decimals line.now.bytes.now)) }
+    ensures query { evaluated_query tools.new.evaluator ≡ evaluated_query tools.old.evaluator }
+{
+    let fault = match tools.reader.read_decimal(line.bytes)? {
+        Ok(document) => {
+            let root = Part::root_of_flat(&document);
+            let walk = walk_of(pieces, line);
+            let more = with_nodes(crew.rt, &mut tools.evaluator, line, (root, walk), written)?;
+            return Ok((more, None));
+        }
+        Err(fault) => fault,
+    };
+    match fault {
+        DocFault::LongLine | DocFault::Unreadable => {
+            let more = with_fault(
+                crew.alloc,
+                pieces.policy.on_fault,
+                line.number,
+                &fault,
+                written,
+            )?;
+            Ok((more, Some(fault)))
+        }
+        _ => {
+            // So the tree does not stand beside what was read of the line.
+            tools.reader.release();
+            add_over(crew, pieces, &mut tools.evaluator, line, fault, written)
+        }
+    }
+}
+
+/// The same, where the grammar alone finds that the line is over a limit, with this fault: as a tree of whole
+/// numbers it may have a value still.
+fn add_over<R: Threads + Sync, G, F: Form + Drop + Send>(
+    crew: &Crew<R, G>,
+    pieces: &Pieces,
+    evaluator: &mut Evaluator<'_>,
+    line: &LineRef<'_>,
+    fault: DocFault,
+    written: F,
+) -> Result<(F, Option<DocFault>), AllocError>
+    requires fault { (f : DocFault) → reading line.now.bytes.now ≡ Err f
+        → reading_in decimals line.now.bytes.now ≡ Err fault }
+    requires memory { fault ≢ DocFault.Memory }
+    ensures lines { IfOk result (λ r. (t : Tests) → AreRight t → F.written r.0
+        ≡ F.written written ++ given F.says pieces.now.policy.on_fault t
+        (evaluated_query evaluator.old) (line_at line.now) (reading_in decimals line.now.bytes.now)) }
+    ensures fault { IfOk result (λ r. r.1 ≡ fault_in (reading_in decimals line.now.bytes.now)) }
+    ensures query { evaluated_query evaluator.new ≡ evaluated_query evaluator.old }
+{
+    match Document::read(crew.alloc, line.bytes) {
+        Ok(document) => {
+            let root = Part::root_of(&document);
+            let walk = walk_of(pieces, line);
+            let more = with_nodes(crew.rt, evaluator, line, (root, walk), written)?;
+            Ok((more, None))
+        }
+        Err(DocFault::Memory) => Err(AllocError),
+        Err(_) => {
+            let more = with_fault(
+                crew.alloc,
+                pieces.policy.on_fault,
+                line.number,
+                &fault,
+                written,
+            )?;
             Ok((more, Some(fault)))
         }
     }

@@ -1,6 +1,7 @@
 //! Worked examples of the definitions, from the bytes that come in to the bytes that go out.
 
 ghost use Rattle.std.specs.Prelude.{◌≡◌, [], ◌∷◌, ◌++◌, codes, Some, None};
+ghost use Rattle.jp_doc.specs.ReadingIn.{whole_numbers};
 ghost use Rattle.jp_doc.specs.declared.fault.DocFault.TheVariants.{Unreadable, NotWhole};
 ghost use Rattle.jp_tree.specs.Tree as tree;
 ghost use Rattle.jp_tree.specs.declared.tree.Start.TheVariants.{Root};
@@ -90,10 +91,10 @@ fn faulty_lines()
 /// The lines `[]`, `{` and `1.5`, with the numbers 1, 3 and 4.
 #[tactic(auto, unfolding(crate::proofs::OnLiterals::runs_on_literals))]
 fn first_faults()
-    ensures second { first_fault ((1, codes "[]") ∷ (3, codes "{") ∷ (4, codes "1.5") ∷ [])
+    ensures second { first_fault whole_numbers ((1, codes "[]") ∷ (3, codes "{") ∷ (4, codes "1.5") ∷ [])
         ≡ Some (3, Unreadable) }
-    ensures last { first_fault ((1, codes "[]") ∷ (4, codes "1.5") ∷ []) ≡ Some (4, NotWhole) }
-    ensures none { first_fault ((1, codes "[]") ∷ []) ≡ None }
+    ensures last { first_fault whole_numbers ((1, codes "[]") ∷ (4, codes "1.5") ∷ []) ≡ Some (4, NotWhole) }
+    ensures none { first_fault whole_numbers ((1, codes "[]") ∷ []) ≡ None }
 {}
 
 /// `$.a` on the lines `{"a":1}`, `{`, `{"a":2}`, `{"a":1.5}`, and on `{` alone, where the answer keeps going.

@@ -104,7 +104,7 @@ fn find_next<R: Threads + Sync, G: Gate, F: Form + Drop + Send>(
     let Some(piece) = board.claim(&mut worker.seat) else {
         return Ok(false);
     };
-    if is_left(round.on_fault, board, &mut worker.seat, piece) {
+    if is_left(round.policy.on_fault, board, &mut worker.seat, piece) {
         return Ok(true);
     }
     let at = piece as usize;
@@ -132,7 +132,7 @@ pub(crate) fn answer_slot<R: Threads + Sync, G, F: Form + Drop + Send>(
 ) -> Result<Outcome, AllocError>
     requires seen { seen.now.of ≡ slot.now.id }
     requires query { evaluated_query tools.old.evaluator ≡ compiled_query round.now.query.now }
-    ensures answer { IfOk result (IsAnswerTo (manner F.says round.now.on_fault)
+    ensures answer { IfOk result (IsAnswerTo (manner F.says round.now.policy)
         (compiled_query round.now.query.now) seen.now.value) }
     ensures query { evaluated_query tools.new.evaluator ≡ evaluated_query tools.old.evaluator }
 {
@@ -141,6 +141,6 @@ pub(crate) fn answer_slot<R: Threads + Sync, G, F: Form + Drop + Send>(
         workers: round.workers,
         piece: 1,
     };
-    let pieces = Pieces::new(round.query, &lines, cutting, round.on_fault);
+    let pieces = Pieces::new(round.query, &lines, cutting, round.policy);
     answer_lines::<R, G, F>(crew, &pieces, tools, &lines)
 }

@@ -5,6 +5,7 @@ ghost use Rattle.std.specs.List.{concat};
 ghost use Rattle.jp_doc.specs.Json.{Json};
 ghost use Rattle.jp_doc.specs.Lines.{Line, lines, line_count};
 ghost use Rattle.jp_doc.specs.NumbersWithin.{HasJsonNumbers};
+ghost use Rattle.jp_doc.specs.ReadingIn.{whole_numbers, decimals};
 ghost use Rattle.jp_tree.specs.Tree.{Query};
 ghost use Rattle.jp_regexp.specs.Tests.{Tests};
 ghost use Rattle.jp_eval.specs.Nodelist.{document_nodes};
@@ -12,10 +13,13 @@ ghost use Rattle.jp_output.specs.Fields.{times, AreLinesOfThree};
 ghost use Rattle.jp_output.specs.OutputForm.{OutputForm};
 ghost use Rattle.jp_answer.specs.Answer.{answer, joined, document_lines, stream_answer};
 ghost use Rattle.jp_answer.specs.Faults.{first_fault};
-ghost use Rattle.jp_answer.specs.OnFault.{answer_in, answer_by};
+ghost use Rattle.jp_answer.specs.OnFault.{answer_in, answer_by, passed_in};
+ghost use Rattle.jp_answer.specs.Policy.{policy};
 ghost use Rattle.jp_answer.specs.Streams.{AreWholeLines, line_feeds, AreBlocks, placed_blocks, in_turn};
 ghost use Rattle.jp_answer.specs.declared.on_fault.OnFault.{OnFault};
 ghost use Rattle.jp_answer.specs.declared.on_fault.OnFault.TheVariants.{KeepGoing};
+ghost use Rattle.jp_answer.specs.declared.policy.LinePolicy.{LinePolicy};
+ghost use Rattle.jp_answer.specs.declared.policy.Numbers.TheVariants.{Whole, Decimals};
 ghost use Rattle.jp_answer.specs.Whole.{both, whole, stream_whole, FollowsStop};
 
 /// The answer to lines and further lines is the answer to the first where that has stopped, and else its
@@ -27,7 +31,8 @@ pub fn pieces()
 
 /// An answer stops at the first faulty line, whatever is asked.
 pub fn first_fault_stops()
-    ensures { (t : Tests) (q : Query) (ls : List Line) → (answer t q ls).stopped ≡ first_fault ls }
+    ensures { (t : Tests) (q : Query) (ls : List Line) → (answer t q ls).stopped ≡ first_fault
+        whole_numbers ls }
 {}
 
 /// The answer that keeps going, of lines and further lines, is that of the first and then that of the further
@@ -38,8 +43,8 @@ pub fn whole_pieces()
 {}
 
 /// A stream that is cut between two lines: the answer to whole lines and what follows them is that to the
-/// lines, and then that to as many line feeds as there are lines, followed by the rest; in every form,
-/// whether or not it keeps going.
+/// lines, and then that to as many line feeds as there are lines, followed by the rest; in every form, by
+/// every policy.
 ///
 /// So a large file can be answered in blocks, each by a process of its own that is given as many line feeds
 /// first as the blocks before it have lines: the answers one after another, each number kept, are the answer
@@ -49,10 +54,10 @@ pub fn streams()
         ≡ joined (stream_answer t q a) (stream_answer t q (line_feeds (line_count a) ++ b)) }
     ensures whole { (t : Tests) (q : Query) (a b : List ℕ) → AreWholeLines a → stream_whole t q (a ++ b)
         ≡ both (stream_whole t q a) (stream_whole t q (line_feeds (line_count a) ++ b)) }
-    ensures either { (f : OutputForm) (k : OnFault) (t : Tests) (q : Query) (a b : List ℕ)
+    ensures either { (f : OutputForm) (k : LinePolicy) (t : Tests) (q : Query) (a b : List ℕ)
         → AreWholeLines a → answer_by f k t q (lines (a ++ b))
         ≡ joined (answer_by f k t q (lines a)) (answer_by f k t q (lines (line_feeds (line_count a) ++ b))) }
-    ensures blocks { (f : OutputForm) (k : OnFault) (t : Tests) (q : Query) (bs : List (List ℕ))
+    ensures blocks { (f : OutputForm) (k : LinePolicy) (t : Tests) (q : Query) (bs : List (List ℕ))
         → AreBlocks bs → answer_by f k t q (lines (concat bs))
         ≡ in_turn (map (λ b. answer_by f k t q (lines b)) (placed_blocks 0 bs)) }
     ensures count { (a b : List ℕ) → AreWholeLines a → line_count (a ++ b) ≡ line_count a + line_count b }
@@ -62,7 +67,7 @@ pub fn streams()
 /// and one line feed, its last byte. A document has as many of them as nodes, where its numbers are those of
 /// RFC 8259 (6), as all that are read are.
 pub fn three_fields()
-    ensures answer { (k : OnFault) (t : Tests) (q : Query) (ls : List Line)
+    ensures answer { (k : LinePolicy) (t : Tests) (q : Query) (ls : List Line)
         → AreLinesOfThree (answer_in k t q ls).bytes }
     ensures one_each { (t : Tests) (q : Query) (number : ℕ) (root : Json) → HasJsonNumbers root
         → times 10 (document_lines t q number root) ≡ length (document_nodes t q root) }
@@ -70,9 +75,10 @@ pub fn three_fields()
 
 /// The answer that keeps going has the bytes of the whole one, and never stops.
 pub fn forms()
-    ensures bytes { (t : Tests) (q : Query) (ls : List Line) → (answer_in KeepGoing t q ls).bytes
-        ≡ (whole t q ls).bytes }
-    ensures end { (t : Tests) (q : Query) (ls : List Line) → (answer_in KeepGoing t q ls).stopped ≡ None }
+    ensures bytes { (t : Tests) (q : Query) (ls : List Line)
+        → (answer_in (policy Whole KeepGoing) t q ls).bytes ≡ (whole t q ls).bytes }
+    ensures end { (t : Tests) (q : Query) (ls : List Line)
+        → (answer_in (policy Whole KeepGoing) t q ls).stopped ≡ None }
 {}
 
 /// The two forms agree up to the first faulty line: the bytes of the answer that keeps going are those of the
@@ -84,4 +90,16 @@ pub fn stops_before()
     ensures streams { (t : Tests) (q : Query) (bytes : List ℕ) → (rest : List ℕ)
         × ((stream_whole t q bytes).bytes ≡ (stream_answer t q bytes).bytes ++ rest)
         × FollowsStop (stream_answer t q bytes).stopped rest }
+{}
+
+/// Where no line is faulty by whole numbers alone, the answer with decimals is the same, in every form, and
+/// no line is faulty with them either. So decimals change nothing of an answer that meets no faulty line.
+pub fn same_with_decimals()
+    ensures answer { (f : OutputForm) (k : OnFault) (t : Tests) (q : Query) (ls : List Line)
+        → first_fault whole_numbers ls ≡ None
+        → answer_by f (policy Decimals k) t q ls ≡ answer_by f (policy Whole k) t q ls }
+    ensures no_fault { (ls : List Line) → first_fault whole_numbers ls ≡ None
+        → first_fault decimals ls ≡ None }
+    ensures none_passed { (k : OnFault) (ls : List Line) → first_fault whole_numbers ls ≡ None
+        → passed_in (policy Decimals k) ls ≡ 0 }
 {}

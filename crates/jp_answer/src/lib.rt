@@ -4,6 +4,7 @@
 mod answering;
 mod crew;
 mod examples;
+mod faults;
 mod finder;
 mod gate;
 pub mod laws;
@@ -11,6 +12,7 @@ mod on_fault;
 mod outcome;
 mod parts;
 mod pieces;
+mod policy;
 mod published;
 mod round;
 mod round_answer;
@@ -20,10 +22,12 @@ mod worker;
 mod workers;
 
 pub use crew::{Crew, Cutting};
+pub use faults::line_fault;
 pub use finder::Found;
 pub use gate::{Gate, OpenGate};
 pub use on_fault::OnFault;
 pub use outcome::{DocStop, Outcome};
+pub use policy::{LinePolicy, Numbers};
 pub use published::Published;
 pub use round::Round;
 pub use round_answer::join_row;

@@ -6,8 +6,8 @@ ghost use Rattle.jp_answer.specs.Ranges.{AreWorkers, AreDocuments};
 
 use crate::answering::{Tools, answer_lines};
 use crate::crew::{Crew, Cutting};
-use crate::on_fault::OnFault;
 use crate::outcome::Outcome;
+use crate::policy::LinePolicy;
 use jp_buffer::LineRef;
 use jp_compiled::Query;
 use jp_output::Form;
@@ -15,13 +15,13 @@ use std::alloc::{AllocError, Global};
 use std::thread::Threads;
 
 /// Lines that are cut into pieces, the last perhaps shorter, and how they are answered: by which query,
-/// what is done where a line is faulty, and by how many workers at most.
+/// by which policy, and by how many workers at most.
 #[derive(Clone, Copy, Drop)]
 pub(crate) struct Pieces<'a> {
     pub(crate) query: &'a Query,
     pub(crate) lines: &'a [LineRef<'a>],
     pub(crate) size: usize,
-    pub(crate) on_fault: OnFault,
+    pub(crate) policy: LinePolicy,
     pub(crate) workers: u64,
     ghost in_range: { AreDocuments size × (length lines.now ≤ max_pieces) },
     ghost few_workers: { AreWorkers workers },
@@ -37,17 +37,17 @@ impl Pieces<'_> {
         query: &'a Query,
         lines: &'a [LineRef<'a>],
         cutting: Cutting,
-        on_fault: OnFault,
+        policy: LinePolicy,
     ) -> Pieces<'a>
         requires lines { length lines.now ≤ max_pieces }
         ensures pieces { (result.query.now ≡ query.now) × (result.lines.now ≡ lines.now)
-            × (result.size ≡ cutting.piece) × (result.on_fault ≡ on_fault) }
+            × (result.size ≡ cutting.piece) × (result.policy ≡ policy) }
     {
         Pieces {
             query,
             lines,
             size: cutting.piece as usize,
-            on_fault,
+            policy,
             workers: cutting.workers,
         }
     }

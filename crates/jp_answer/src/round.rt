@@ -4,7 +4,7 @@ ghost use Rattle.std.specs.Prelude.{◌≤◌, length};
 ghost use Rattle.jp_board.specs.Limits.{max_pieces};
 ghost use Rattle.jp_answer.specs.Ranges.{AreWorkers};
 
-use crate::on_fault::OnFault;
+use crate::policy::LinePolicy;
 use crate::row::{Progress, Slot};
 use jp_compiled::Query;
 
@@ -15,8 +15,8 @@ pub struct Round<'a> {
     pub query: &'a Query,
     /// The row, of 4,294,967,296 slots at most.
     pub slots: &'a [Slot],
-    /// What is done where a line is faulty.
-    pub on_fault: OnFault,
+    /// How lines are read, and what is done where one is faulty.
+    pub policy: LinePolicy,
     /// How many workers there are, 1 to 64.
     pub workers: u64,
     /// How the round goes.

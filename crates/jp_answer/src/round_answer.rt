@@ -34,7 +34,7 @@ pub fn join_row<R: Threads + Sync, G, F: Form + Drop + Send>(
     requires shown { AreShown round.now.slots.now published.now }
     requires found { All (IsFound F.says round.now) found.items }
     requires few { length (shown_lines published.now) ≤ max_pieces }
-    ensures { IfOk result (IsAnswerTo (manner F.says round.now.on_fault)
+    ensures { IfOk result (IsAnswerTo (manner F.says round.now.policy)
         (compiled_query round.now.query.now) (shown_lines published.now)) }
 {
     let mut places = put_found::<F>(crew.alloc, round, published, found)?;

@@ -106,7 +106,7 @@ fn tend<R: Threads + Sync, G: Gate, F: Form + Drop + Send>(
     ensures tended { OnOk result (AreTended (view_of desk.new.seat).claims (view_of desk.new.seat).looks
         desk.new.parts.items) }
 {
-    if is_left(pieces.on_fault, board, &mut desk.seat, piece) {
+    if is_left(pieces.policy.on_fault, board, &mut desk.seat, piece) {
         return Ok(());
     }
     crew.gate.pass(piece);

@@ -17,10 +17,10 @@ ghost use Rattle.jp_answer.specs.Worked.{IsWorked};
 
 use crate::crew::{Crew, Cutting};
 use crate::gate::Gate;
-use crate::on_fault::OnFault;
 use crate::outcome::Outcome;
 use crate::parts::{gather, join, passed, place};
 use crate::pieces::Pieces;
+use crate::policy::LinePolicy;
 use crate::worker::{Worker, work};
 use jp_board::{Board, BoardFault, Seat};
 use jp_buffer::LineRef;
@@ -43,14 +43,14 @@ pub fn answer_in_chunks<R: Threads + Sync, G: Gate + Sync, F: Form + Drop + Send
     query: &Query,
     lines: &[LineRef<'_>],
     cutting: Cutting,
-    on_fault: OnFault,
+    policy: LinePolicy,
 ) -> Result<Outcome, AllocError>
     requires lines { length lines.now ≤ max_pieces }
     ensures answer { IfOk result (λ a. (t : Tests) → AreRight t →
-        answer_by F.says on_fault t (compiled_query query.now) (map line_at lines.now) ≡ outcome_of a) }
-    ensures passed { IfOk result (λ a. passed_in on_fault (map line_at lines.now) ≡ a.faulty) }
+        answer_by F.says policy t (compiled_query query.now) (map line_at lines.now) ≡ outcome_of a) }
+    ensures passed { IfOk result (λ a. passed_in policy (map line_at lines.now) ≡ a.faulty) }
 {
-    let pieces = Pieces::new(query, lines, cutting, on_fault);
+    let pieces = Pieces::new(query, lines, cutting, policy);
     answer_pieces::<R, G, F>(crew, &pieces)
 }
 
@@ -60,9 +60,9 @@ fn answer_pieces<R: Threads + Sync, G: Gate + Sync, F: Form + Drop + Send>(
     pieces: &Pieces,
 ) -> Result<Outcome, AllocError>
     ensures answer { IfOk result (λ a. (t : Tests) → AreRight t →
-        answer_by F.says pieces.now.on_fault t (compiled_query pieces.now.query.now)
+        answer_by F.says pieces.now.policy t (compiled_query pieces.now.query.now)
         (map line_at pieces.now.lines.now) ≡ outcome_of a) }
-    ensures passed { IfOk result (λ a. passed_in pieces.now.on_fault
+    ensures passed { IfOk result (λ a. passed_in pieces.now.policy
         (map line_at pieces.now.lines.now) ≡ a.faulty) }
 {
     let placed = place_pieces::<R, G, F>(crew, pieces)?;

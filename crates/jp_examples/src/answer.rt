@@ -1,11 +1,11 @@
-use jp_answer::{Crew, Cutting, OnFault, OpenGate, Outcome, answer_in_chunks};
+use jp_answer::{Crew, Cutting, LinePolicy, Numbers, OnFault, OpenGate, Outcome, answer_in_chunks};
 use jp_buffer::LineRef;
 use jp_compiled::Query;
 use jp_output::NodeLines;
 use std::alloc::{AllocError, Global};
 use std::thread::Threads;
 
-/// The answer of four workers. `None` for more than 4,294,967,296 lines.
+/// The answer of four workers, where numbers are whole. `None` for more than 4,294,967,296 lines.
 fn by_workers<R: Threads + Sync>(
     rt: &R,
     alloc: Global,
@@ -25,5 +25,9 @@ fn by_workers<R: Threads + Sync>(
         workers: 4,
         piece: 64,
     };
-    Some(answer_in_chunks::<R, OpenGate, NodeLines>(&crew, query, lines, cutting, OnFault::Stop))
+    let policy = LinePolicy {
+        numbers: Numbers::Whole,
+        on_fault: OnFault::Stop,
+    };
+    Some(answer_in_chunks::<R, OpenGate, NodeLines>(&crew, query, lines, cutting, policy))
 }

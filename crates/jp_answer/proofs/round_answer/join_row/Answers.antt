@@ -10,7 +10,7 @@ use Rattle.jp_answer.proofs.round_answer.join_row.Goals as goal
 
 pub put-requires : goal.put-requires
 put-requires g c =
-    let going = manner g.F.Form.says c.args.round.now.on_fault in
+    let going = manner g.F.Form.says c.args.round.now.policy in
     let q = compiled_query c.args.round.now.query.now in
     let tokens = c.args.published.now.tokens.items in
     let at = c.loop-at.at in
@@ -35,7 +35,7 @@ pub returns-then-is_some : goal.returns-then-is_some
 returns-then-is_some g c =
     let form = g.F.Form.says in
     let r = c.args.round.now in
-    let going = manner form r.on_fault in
+    let going = manner form r.policy in
     let q = compiled_query r.query.now in
     let tokens = c.args.published.now.tokens.items in
     let at = c.loop-at.at in
@@ -58,7 +58,7 @@ loop-at-preserved g c =
     let form = g.F.Form.says in
     let r = c.args.round.now in
     let p = c.args.published.now in
-    let going = manner form r.on_fault in
+    let going = manner form r.policy in
     let q = compiled_query r.query.now in
     let tokens = p.tokens.items in
     let at = c.loop-at.at in
