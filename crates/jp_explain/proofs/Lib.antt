@@ -1,2 +1,3 @@
+pub mod LineMarks
 pub mod Marks
 pub mod Pictures

@@ -7,9 +7,8 @@ ghost use Rattle.jp_tree.specs.View.{text_of};
 ghost use Rattle.jp_explain.specs.Mark.{MayGoOn, IsQuery};
 
 use crate::growth::{push_character, push_text};
-use crate::reason::{Expected, Reason};
-use crate::scanner::{Found, scan};
 use jp_check::plan;
+use jp_query_scan::{Expected, Found, Reason, scan};
 use jp_syntax::QueryFault;
 use jp_tokens::first_character;
 use std::alloc::{AllocError, Global};

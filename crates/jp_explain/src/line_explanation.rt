@@ -5,12 +5,15 @@ ghost use Rattle.serde_json.specs.Read.{read as read_text};
 ghost use Rattle.serde_json.specs.View.{view};
 ghost use Rattle.serde_json.specs.Written.{has_float};
 ghost use Rattle.jp_doc.specs.Reading.{max_line, reading};
-ghost use Rattle.jp_explain.specs.LineMark.{IsNumber, IsSilent};
+ghost use Rattle.jp_doc.specs.ReadingIn.{decimals, reading_in};
+ghost use Rattle.jp_explain.specs.LineMark.{IsNumber, IsLongNumber, IsSilent};
 
-use crate::line_reason::{LineReason, NotWhole};
-use crate::line_scanner::first_fault;
-use crate::not_whole::{has_number_not_whole, lead, number_length, place_of};
 use jp_doc::DocFault;
+use jp_flat::FlatReader;
+use jp_line_scan::{
+    LineReason, LongNumber, NotWhole, first_fault, first_long_number, has_number_not_whole, lead,
+    long_length, number_length, place_of,
+};
 use jp_path_stack::PathStack;
 use serde_json::Value;
 use std::alloc::{AllocError, Global};
@@ -20,7 +23,8 @@ use std::alloc::{AllocError, Global};
 pub struct LineExplanation {
     /// How many bytes of the line stand before the mark.
     pub mark: usize,
-    /// What might have stood there, which rule is broken there, or that the number there is not whole.
+    /// What might have stood there, which rule is broken there, or that the number there is not whole or over
+    /// the limits.
     pub reason: LineReason,
 }
 
@@ -106,13 +110,58 @@ fn marked_number(line: &[u8], path: String, place: usize) -> Option<LineExplanat
     })
 }
 
+/// Whether the line has a number over the limits, by the grammar of JSON alone.
+fn has_long_number(alloc: Global, line: &[u8]) -> Result<bool, AllocError>
+    ensures { IfOk result (λ b. IsTrue b → (g : DocFault) → reading line.now ≡ Err g
+        → reading_in decimals line.now ≡ Err DocFault.LongNumber) }
+{
+    let mut reader = FlatReader::new(alloc);
+    match reader.read_decimal(line)? {
+        Ok(_) => Ok(false),
+        Err(fault) => Ok(fault == DocFault::LongNumber),
+    }
+}
+
+/// The same of a line with a number over the limits.
+fn explain_long_number(alloc: Global, line: &[u8]) -> Result<Option<LineExplanation>, AllocError>
+    ensures number { IfOk result (λ o. IfSome o (λ x. IsLongNumber x line.now)) }
+    ensures fault { IfOk result (λ o. IfSome o (λ _. (g : DocFault) → reading line.now ≡ Err g
+        → reading_in decimals line.now ≡ Err DocFault.LongNumber)) }
+{
+    if !has_long_number(alloc, line)? {
+        return Ok(None);
+    }
+    match first_long_number(alloc, line)? {
+        Some((path, place)) => Ok(marked_long_number(line, path, place)),
+        None => Ok(None),
+    }
+}
+
+/// The explanation of the number over the limits that begins there, if one does.
+fn marked_long_number(line: &[u8], path: String, place: usize) -> Option<LineExplanation>
+    ensures { IfSome result (λ x. IsLongNumber x line.now) }
+{
+    let mark = place.min(line.len());
+    let Some(length) = long_length(&line[mark..]) else {
+        return None;
+    };
+    Some(LineExplanation {
+        mark,
+        reason: LineReason::LongNumber(LongNumber {
+            path,
+            end: mark + length,
+        }),
+    })
+}
+
 /// Where a faulty line went wrong, and what is to be said of that place.
 ///
 /// Of an unreadable line it is the first byte at which reading can't go on by the grammar of RFC 8259, or at
 /// which begins what a rule forbids: half of a surrogate pair, a number beyond what a float can be. Of a line
 /// with a number that is not whole it is the first such number, where names rise, with its path; a member
-/// that a later one of its name covers does not count. Of the other faults, and of a line that has none,
-/// there is nothing to say: `None`.
+/// that a later one of its name covers does not count. Of a line with a number over the limits it is the
+/// first such number from the left, with its path, also in a member that is covered. Of the other faults, and
+/// of a line that has none, there is nothing to say: `None`.
 ///
 /// # Errors
 ///
@@ -122,7 +171,7 @@ pub fn explain_line(
     line: &[u8],
     fault: &DocFault,
 ) -> Result<Option<LineExplanation>, AllocError>
-    // Two faults alone have a place.
+    // Three faults alone have a place.
     ensures silent { IsSilent fault.now → result ≡ Ok None }
     // The mark is in the line, or at its end.
     ensures mark { IfOk result (λ o. IfSome o (λ x. x.mark ≤ length line.now)) }
@@ -132,11 +181,18 @@ pub fn explain_line(
     // It is told of lines alone that have this fault.
     ensures not_whole { fault.now ≡ DocFault.NotWhole → length line.now ≤ max_line
         → IfOk result (λ o. IfSome o (λ _. reading line.now ≡ Err DocFault.NotWhole)) }
+    // What stands from the mark to the end that is told is over the limits, if it is a number.
+    ensures long { fault.now ≡ DocFault.LongNumber
+        → IfOk result (λ o. IfSome o (λ x. IsLongNumber x line.now)) }
+    // It is told of lines alone that have this fault with decimals, where they have one with whole numbers.
+    ensures long_number { fault.now ≡ DocFault.LongNumber → IfOk result (λ o. IfSome o (λ _.
+        (g : DocFault) → reading line.now ≡ Err g
+        → reading_in decimals line.now ≡ Err DocFault.LongNumber)) }
 {
     match fault {
         DocFault::Unreadable => explain_unreadable(alloc, line),
         DocFault::NotWhole => explain_not_whole(alloc, line),
-        DocFault::LongLine | DocFault::LongNumber => Ok(None),
-        DocFault::LongArray | DocFault::Memory => Ok(None),
+        DocFault::LongNumber => explain_long_number(alloc, line),
+        DocFault::LongLine | DocFault::LongArray | DocFault::Memory => Ok(None),
     }
 }

@@ -8,7 +8,7 @@ ghost use Rattle.jp_explain.specs.Picture.{is_shown, IsLinePicture, IsPictureWit
 use crate::growth::{push_character, push_text};
 use crate::line::Line;
 use crate::line_explanation::LineExplanation;
-use crate::line_reason::{LineReason, NotWhole};
+use jp_line_scan::LineReason;
 use std::alloc::{AllocError, Global};
 
 /// How many bytes of a line are shown.
@@ -69,21 +69,40 @@ fn marked(alloc: Global, line: &[u8], mark: usize) -> Result<String, AllocError>
     shown.with_caret(alloc, column, "")
 }
 
-/// Says that the number which begins at the mark is not whole.
+/// The path of a number, and its text, which begins at the mark and ends there.
 fn push_number(
     head: &mut Line,
     line: &[u8],
+    path: &str,
     mark: usize,
-    number: &NotWhole,
+    end: usize,
 ) -> Result<(), AllocError> {
-    head.push_front(number.path.as_str(), PATH_CHARACTERS)?;
+    head.push_front(path, PATH_CHARACTERS)?;
     head.push_text(": ")?;
-    let end = number.end.min(mark.saturating_add(NUMBER_BYTES));
-    head.push_bytes(bytes_between(line, mark, end))?;
-    if end < number.end {
+    let shown_end = end.min(mark.saturating_add(NUMBER_BYTES));
+    head.push_bytes(bytes_between(line, mark, shown_end))?;
+    if shown_end < end {
         head.push_gap()?;
     }
-    head.push_text(" is not whole")
+    Ok(())
+}
+
+/// What is to be said of a line with that number: its path and text, and the words.
+fn number_head(
+    alloc: Global,
+    number: u64,
+    line: &[u8],
+    path: &str,
+    mark: usize,
+    end: usize,
+    words: &str,
+) -> Result<Line, AllocError> {
+    let mut head = Line::new(alloc);
+    let front = format!(in alloc; "line {number}, ")?;
+    head.push_text(front.as_str())?;
+    push_number(&mut head, line, path, mark, end)?;
+    head.push_text(words)?;
+    Ok(head)
 }
 
 /// What is to be said of the line of that number.
@@ -94,19 +113,30 @@ fn head(
     explanation: &LineExplanation,
 ) -> Result<Line, AllocError> {
     let mark = explanation.mark;
-    let mut head = Line::new(alloc);
     match &explanation.reason {
-        LineReason::NotWhole(not_whole) => {
-            let front = format!(in alloc; "line {number}, ")?;
-            head.push_text(front.as_str())?;
-            push_number(&mut head, line, mark, not_whole)?;
+        LineReason::NotWhole(told) => {
+            let path = told.path.as_str();
+            number_head(alloc, number, line, path, mark, told.end, " is not whole")
+        }
+        LineReason::LongNumber(told) => {
+            let path = told.path.as_str();
+            number_head(
+                alloc,
+                number,
+                line,
+                path,
+                mark,
+                told.end,
+                " has too many digits",
+            )
         }
         reason => {
             let words = format!(in alloc; "line {number}, byte {mark}: {reason}")?;
+            let mut head = Line::new(alloc);
             head.push_text(words.as_str())?;
+            Ok(head)
         }
     }
-    Ok(head)
 }
 
 /// What is to be said, and below it the line around the mark.

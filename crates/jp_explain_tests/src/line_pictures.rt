@@ -1,6 +1,7 @@
 //! Lines of bytes that are not shown as they are, deep ones and long ones, with what is printed of them.
 
-use crate::line_table::is_printed;
+use crate::line_table::{is_printed, printed_by};
+use jp_doc::DocFault;
 use jp_explain::{LineExplanation, LineReason, LineRule, NotWhole, write_line_mark};
 use std::alloc::{AllocError, Global};
 use std::test::*;
@@ -158,6 +159,27 @@ fn long_paths_and_numbers(rt: HostRuntime) -> Result<(), Fail> {
     let head = around(rt.alloc(), head.as_str(), "n", 28, "\":1.")?;
     let shown = around(rt.alloc(), head.as_str(), "5", 25, "..\n")?;
     assert!(rt; is_printed_with(rt.alloc(), line.as_str(), shown.as_str(), 32)?);
+    Ok(())
+}
+
+#[test]
+fn numbers_of_many_digits(rt: HostRuntime) -> Result<(), Fail> {
+    // 1,000 digits are not too many, and 1,001 are.
+    let fits = around(rt.alloc(), "[0.", "1", 999, "]")?;
+    let told = printed_by(rt.alloc(), fits.as_bytes(), DocFault::LongNumber)?;
+    assert!(rt; told.is_none());
+    let line = around(rt.alloc(), "[0.", "1", 1000, "]")?;
+    let told = printed_by(rt.alloc(), line.as_bytes(), DocFault::LongNumber)?;
+    let head = around(
+        rt.alloc(),
+        "line 7, $[0]: 0.",
+        "1",
+        38,
+        ".. has too many digits\n",
+    )?;
+    let head = around(rt.alloc(), head.as_str(), "[", 1, "0.")?;
+    let shown = around(rt.alloc(), head.as_str(), "1", 25, "..\n ^\n")?;
+    assert_eq!(rt; told.as_deref(), Some(shown.as_str()));
     Ok(())
 }
 

@@ -225,6 +225,65 @@ fn numbers_not_whole(rt: HostRuntime) -> Result<(), Fail> {
     Ok(())
 }
 
+/// Lines with a number over the limits, each with what is printed of it.
+const LONG_NUMBERS: [(&str, &str); 7] = [
+    (
+        "1e0000000001",
+        "line 7, $: 1e0000000001 has too many digits\n1e0000000001\n^\n",
+    ),
+    (
+        "[1.5,{\"a\":[1e999,-2E+0123456789,3e0000000001]}]",
+        "line 7, $[1]['a'][1]: -2E+0123456789 has too many digits\n\
+         [1.5,{\"a\":[1e999,-2E+0123456789,3e0000000001]}]\n                 ^\n",
+    ),
+    (
+        "{\"b\":1e0000000001,\"a\":1e0000000002}",
+        "line 7, $['b']: 1e0000000001 has too many digits\n\
+         {\"b\":1e0000000001,\"a\":1e0000000002}\n     ^\n",
+    ),
+    (
+        "{\"a\":1e0000000001,\"a\":1}",
+        "line 7, $['a']: 1e0000000001 has too many digits\n\
+         {\"a\":1e0000000001,\"a\":1}\n     ^\n",
+    ),
+    (
+        "{\"x\":{\"y\":[]},\"\\u0061\\n\":[[],\"1e0000000001\",1e0000000001]}",
+        "line 7, $['a\\n'][2]: 1e0000000001 has too many digits\n\
+         {\"x\":{\"y\":[]},\"\\u0061\\n\":[[],\"1e0000000001\",1e0000000001]}\n\
+         \u{20}                                           ^\n",
+    ),
+    (
+        "[[7,[8]],[9,{\"q\":1e0000000001}]]",
+        "line 7, $[1][1]['q']: 1e0000000001 has too many digits\n\
+         [[7,[8]],[9,{\"q\":1e0000000001}]]\n                 ^\n",
+    ),
+    (
+        "[-0.0e-0000000000 ]",
+        "line 7, $[0]: -0.0e-0000000000 has too many digits\n[-0.0e-0000000000 ]\n ^\n",
+    ),
+];
+
+/// What is printed of the line, the seventh, where it has that fault; nothing where nothing is told of it.
+pub(crate) fn printed_by(
+    alloc: Global,
+    line: &[u8],
+    fault: DocFault,
+) -> Result<Option<String>, AllocError> {
+    match explain_line(alloc, line, &fault)? {
+        Some(told) => Ok(Some(write_line_mark(alloc, 7, line, &told)?)),
+        None => Ok(None),
+    }
+}
+
+#[test]
+fn long_numbers(rt: HostRuntime) -> Result<(), Fail> {
+    for (line, wanted) in &LONG_NUMBERS {
+        let printed = printed_by(rt.alloc(), line.as_bytes(), DocFault::LongNumber)?;
+        assert_eq!(rt; printed.as_deref(), Some(*wanted), "at {line}");
+    }
+    Ok(())
+}
+
 /// Lines with no such fault.
 const RIGHT: [&str; 8] = [
     "1",
@@ -248,6 +307,7 @@ fn right_lines(rt: HostRuntime) -> Result<(), Fail> {
         let line = line.as_bytes();
         assert!(rt; is_silent(rt.alloc(), line, DocFault::Unreadable)?);
         assert!(rt; is_silent(rt.alloc(), line, DocFault::NotWhole)?);
+        assert!(rt; is_silent(rt.alloc(), line, DocFault::LongNumber)?);
     }
     Ok(())
 }
@@ -257,6 +317,8 @@ fn other_faults(rt: HostRuntime) -> Result<(), Fail> {
     // Each of these fits the line no better than another one.
     assert!(rt; is_silent(rt.alloc(), b"[0.5", DocFault::NotWhole)?);
     assert!(rt; is_silent(rt.alloc(), b"[0.5]", DocFault::Unreadable)?);
+    assert!(rt; is_silent(rt.alloc(), b"[0.5]", DocFault::LongNumber)?);
+    assert!(rt; is_silent(rt.alloc(), b"[1e0000000001", DocFault::LongNumber)?);
     assert!(rt; is_silent(rt.alloc(), b"[0.5", DocFault::LongLine)?);
     assert!(rt; is_silent(rt.alloc(), b"[0.5", DocFault::LongArray)?);
     assert!(rt; is_silent(rt.alloc(), b"[0.5", DocFault::Memory)?);

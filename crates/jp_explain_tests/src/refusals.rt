@@ -87,6 +87,16 @@ fn a_line_not_whole(rt: HostRuntime) {
 }
 
 #[test]
+fn a_line_with_a_long_number(rt: HostRuntime) {
+    let line = b"[1,{\"\\u0061b\":[\"x\",1e0000000001]}]";
+    let turns = (
+        line_explained(rt.alloc(), line, DocFault::LongNumber, 19),
+        line_explained(rt.alloc(), line, DocFault::LongNumber, 19),
+    );
+    assert!(rt; is_right(turns));
+}
+
+#[test]
 fn a_picture_of_a_line(rt: HostRuntime) {
     let told = LineExplanation {
         mark: 2,

@@ -4,7 +4,7 @@ ghost use Rattle.std.specs.Prelude.{◌≡◌, ◌≤◌, true, length, take};
 ghost use Rattle.std.specs.List.{list_all};
 ghost use Rattle.serde_json.specs.View.{view};
 ghost use Rattle.serde_json.specs.Written.{has_float};
-ghost use Rattle.jp_explain.specs.LineMark.{is_of_number};
+ghost use Rattle.jp_line_scan.specs.NumberBytes.{is_of_number};
 
 use crate::line_scanner::{Event, LineHalt, LineScanner, MAX_DEPTH};
 use crate::written_name::is_written_for;
@@ -14,7 +14,7 @@ use serde_json::{Map, Value};
 use std::alloc::{AllocError, Global};
 
 /// Whether some number of the value, however deep, is not whole.
-pub(crate) fn has_number_not_whole(value: &Value) -> bool
+pub fn has_number_not_whole(value: &Value) -> bool
     ensures { result ≡ has_float (view value.now) }
 {
     match fault_within(value, usize::MAX) {
@@ -24,7 +24,7 @@ pub(crate) fn has_number_not_whole(value: &Value) -> bool
 }
 
 /// Goes down to the first number that is not whole, where names rise.
-pub(crate) fn lead<'v>(root: &'v Value, path: &mut PathStack<'v>) -> Result<(), AllocError> {
+pub fn lead<'v>(root: &'v Value, path: &mut PathStack<'v>) -> Result<(), AllocError> {
     let mut value = root;
     for _level in 0..MAX_DEPTH {
         let Some((link, child)) = first_child(value) else {
@@ -145,7 +145,7 @@ impl<'v> Follower<'_, 'v> {
 
 /// Where the value begins to which the links lead, of members of one name by the last, in a line that is
 /// read.
-pub(crate) fn place_of(
+pub fn place_of(
     alloc: Global,
     line: &[u8],
     links: &[Link<'_>],
@@ -176,7 +176,7 @@ fn is_of_number(byte: u8) -> bool
 }
 
 /// How many bytes of a number these begin with.
-pub(crate) fn number_length(bytes: &[u8]) -> usize
+pub fn number_length(bytes: &[u8]) -> usize
     ensures within { result ≤ length bytes.now }
     ensures number { list_all is_of_number (take result bytes.now) ≡ true }
 {

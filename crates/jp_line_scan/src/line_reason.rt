@@ -1,5 +1,5 @@
 //! What is to be said of a place in a line: what might have stood there, which rule is broken there, or which
-//! number is not whole.
+//! number is not whole or over the limits.
 
 use std::fmt;
 
@@ -14,11 +14,22 @@ pub enum LineReason {
     Rule(LineRule),
     /// The number that begins at the mark is not whole.
     NotWhole(NotWhole),
+    /// The number that begins at the mark is over the limits.
+    LongNumber(LongNumber),
 }
 
 /// A number that is not whole: a fraction, one with an exponent, `-0`, or one of more than 64 bits.
 #[derive(Debug, PartialEq, Eq, Drop)]
 pub struct NotWhole {
+    /// The normalized path of the number (RFC 9535, 2.7).
+    pub path: String,
+    /// How many bytes of the line stand before the end of the number, whose text begins at the mark.
+    pub end: usize,
+}
+
+/// A number of over 1,000 digits, or of over 9 digits in its exponent.
+#[derive(Debug, PartialEq, Eq, Drop)]
+pub struct LongNumber {
     /// The normalized path of the number (RFC 9535, 2.7).
     pub path: String,
     /// How many bytes of the line stand before the end of the number, whose text begins at the mark.
@@ -164,6 +175,9 @@ impl fmt::Display for LineReason {
             LineReason::Ended(expected) => write!(f, "the line ends: {expected}"),
             LineReason::Rule(rule) => write!(f, "{rule}"),
             LineReason::NotWhole(number) => write!(f, "not whole: the number at {}", number.path),
+            LineReason::LongNumber(number) => {
+                write!(f, "long number: the number at {}", number.path)
+            }
         }
     }
 }

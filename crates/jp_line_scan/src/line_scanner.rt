@@ -48,6 +48,8 @@ pub(crate) enum Event {
 pub(crate) struct LineScanner<'l> {
     pub(crate) line: &'l [u8],
     pub(crate) place: LinePlace,
+    /// Whether a number may be beyond what a float can be.
+    pub(crate) has_decimals: bool,
     open: Vec<Container>,
 }
 
@@ -56,7 +58,16 @@ impl<'l> LineScanner<'l> {
         LineScanner {
             line,
             place: LinePlace::Value,
+            has_decimals: false,
             open: Vec::new(alloc),
+        }
+    }
+
+    /// The same, where a number may be beyond what a float can be.
+    pub(crate) fn of_decimals(alloc: Global, line: &'l [u8]) -> LineScanner<'l> {
+        LineScanner {
+            has_decimals: true,
+            ..LineScanner::new(alloc, line)
         }
     }
 
@@ -247,10 +258,7 @@ fn utf8_front(line: &[u8]) -> &[u8] {
 }
 
 /// Where a line that is no JSON text goes wrong, and what is to be said of it; nothing of a right one.
-pub(crate) fn first_fault(
-    alloc: Global,
-    line: &[u8],
-) -> Result<Option<(usize, LineReason)>, AllocError> {
+pub fn first_fault(alloc: Global, line: &[u8]) -> Result<Option<(usize, LineReason)>, AllocError> {
     let mut scanner = LineScanner::new(alloc, utf8_front(line));
     match scanner.read(line.len()) {
         Ok(()) => Ok(None),

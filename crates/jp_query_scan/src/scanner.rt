@@ -14,11 +14,13 @@ const MAX_DEPTH: usize = 64;
 
 /// Where a query text goes wrong, and how a query may go on there.
 #[derive(Drop)]
-pub(crate) struct Found {
+pub struct Found {
     /// How many characters stand before the mark.
-    pub(crate) mark: usize,
-    pub(crate) reason: Reason,
-    pub(crate) completion: String,
+    pub mark: usize,
+    /// What might have stood there, or which rule is broken there.
+    pub reason: Reason,
+    /// What makes a query of the characters before the mark.
+    pub completion: String,
 }
 
 /// Why a scan ends before the text does.
@@ -154,8 +156,13 @@ fn push_open(opened: &mut Vec<Open>, open: Open) -> Result<(), AllocError> {
     Ok(())
 }
 
-/// Where the query text, which is no query, goes wrong, and what makes its front a query.
-pub(crate) fn scan(alloc: Global, text: &str) -> Result<Found, AllocError> {
+/// Where the query text, which is no query, goes wrong, and what makes its front a query. No clause says that
+/// it is right: who uses it judges the completed front.
+///
+/// # Errors
+///
+/// `AllocError` where a growth of memory was refused.
+pub fn scan(alloc: Global, text: &str) -> Result<Found, AllocError> {
     let mut scanner = Scanner::new(alloc);
     match scanner.read(text) {
         Halt::Memory => Err(AllocError),

@@ -75,7 +75,8 @@ impl LineScanner<'_> {
 
     /// The number ends before that place.
     pub(crate) fn number_end(&mut self, number: LineNumber, at: usize) -> Result<(), LineHalt> {
-        if is_too_large(self.line.get(number.start..at).unwrap_or(&[])) {
+        let written = self.line.get(number.start..at).unwrap_or(&[]);
+        if !self.has_decimals && is_too_large(written) {
             return Err(against(number.start, LineRule::TooLarge));
         }
         self.place = LinePlace::Behind;
