@@ -86,7 +86,7 @@ module _ (going : Manner) (q : tree.Query) (batch : ℕ) (some : 0 < batch) wher
               mid_is;
           counted = ap (λ (n : Answered). n.lines) k ∙ st.counted ∙ sym (count_on rd.before rd.not_enough);
           passed = ap (λ (n : Answered). n.faulty) k ∙ st.passed
-              ∙ ap (passed_in going.on_fault) (sym (whole_on rd.before rd.not_enough));
+              ∙ ap (passed_in going.policy) (sym (whole_on rd.before rd.not_enough));
           handed = subst (λ (l : List Line). Handed going q l None s u)
               (sym (whole_on rd.before rd.not_enough)) st.handed;
         }
@@ -142,7 +142,7 @@ module _ (going : Manner) (q : tree.Query) (batch : ℕ) (some : 0 < batch) wher
       (subst (λ (l : List Line). Handed going q l None u v) (sym whole) k.0.handed)
       (sym (left_is batch some all k.0.done rest k.0.cut k.0.whole k.1))
       (omega (arith, k.0.lines, count_is batch some all k.0.done rest k.0.cut k.0.whole k.1))
-      (k.0.faulty ∙ ap (λ l. answered.faulty + passed_in going.on_fault l) (sym whole)) e
+      (k.0.faulty ∙ ap (λ l. answered.faulty + passed_in going.policy l) (sym whole)) e
 
 -- where a run stands between its turns: the answer to the first of the lines that are kept is held
 pub record Goes (going : Manner) (q : tree.Query) (batch : ℕ) (old now sink_old sink_now : Option (List ℕ))
@@ -153,7 +153,7 @@ pub record Goes (going : Manner) (q : tree.Query) (batch : ℕ) (old now sink_ol
 
 pub held_few : (going : Manner) (q : tree.Query) (held : List Line) (h : Held) → IsHeld going q held h
     → h.answer.faulty ≤ h.count
-held_few going q held h is = omega (arith, is.counted, is.passed, passed_few going.on_fault held)
+held_few going q held h is = omega (arith, is.counted, is.passed, passed_few going.policy held)
 
 module _ (going : Manner) (q : tree.Query) (batch : ℕ) (some : 0 < batch) where
   pub goes_kept : (a c s u v : Option (List ℕ)) (p next : Progress) (all waiting : List Line)
@@ -212,12 +212,12 @@ module _ (going : Manner) (q : tree.Query) (held waiting fin : List Line) (h : H
       length-append (held ++ waiting) fin,
     )
 
-    pub passed_all : h.answer.faulty + passed_in going.on_fault (waiting ++ fin) ≡ passed_in going.on_fault
+    pub passed_all : h.answer.faulty + passed_in going.policy (waiting ++ fin) ≡ passed_in going.policy
         ((held ++ waiting) ++ fin)
     passed_all = omega (
       arith,
       is.passed,
-      passed_joined going.on_fault held waiting,
-      passed_joined going.on_fault waiting fin,
-      passed_joined going.on_fault (held ++ waiting) fin,
+      passed_joined going.policy held waiting,
+      passed_joined going.policy waiting fin,
+      passed_joined going.policy (held ++ waiting) fin,
     )

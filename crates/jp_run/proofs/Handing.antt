@@ -86,7 +86,7 @@ module _ (going : Manner) (q : tree.Query) where
   pub handed_none : (a : Option (List ℕ)) → Handed going q [] None a a
   handed_none a = record {
     whole = record { bytes = []; stopped = None };
-    is = λ t right. nothing_in going.form t q going.on_fault;
+    is = λ t right. nothing_in going.form t q going.policy;
     stopped = refl;
     appended = Appends-nil a;
   }
@@ -95,8 +95,8 @@ module _ (going : Manner) (q : tree.Query) where
       → Handed going q xs None a b → Handed going q ys stop b c → Handed going q (xs ++ ys) stop a c
   handed_both xs ys stop a b c f g = record {
     whole = after f.whole.bytes g.whole;
-    is = λ t right. formed_joined going.form t q going.on_fault xs ys ∙ ap (λ h. joined h (answer_by
-        going.form going.on_fault t q ys)) (f.is t right)
+    is = λ t right. formed_joined going.form t q going.policy xs ys ∙ ap (λ h. joined h (answer_by
+        going.form going.policy t q ys)) (f.is t right)
         ∙ ap (joined f.whole) (g.is t right) ∙ ap (λ s. unless_stopped s f.whole g.whole) f.stopped;
     stopped = g.stopped;
     appended = Appends-trans a b c f.whole.bytes g.whole.bytes f.appended g.appended;
@@ -106,9 +106,9 @@ module _ (going : Manner) (q : tree.Query) where
       → Handed going q xs (Some s) a b → Handed going q (xs ++ ys) (Some s) a b
   handed_stopped xs ys s a b f = record {
     whole = f.whole;
-    is = λ t right. formed_joined going.form t q going.on_fault xs ys ∙ ap (λ h. joined h (answer_by
-        going.form going.on_fault t q ys)) (f.is t right)
-        ∙ ap (λ s. unless_stopped s f.whole (answer_by going.form going.on_fault t q ys)) f.stopped;
+    is = λ t right. formed_joined going.form t q going.policy xs ys ∙ ap (λ h. joined h (answer_by
+        going.form going.policy t q ys)) (f.is t right)
+        ∙ ap (λ s. unless_stopped s f.whole (answer_by going.form going.policy t q ys)) f.stopped;
     stopped = f.stopped;
     appended = f.appended;
   }
@@ -118,28 +118,28 @@ module _ (going : Manner) (q : tree.Query) where
 
   pub handed_front : (ls : List Line) (stop : Option (ℕ × DocFault)) (a b : Option (List ℕ))
       → Handed going q ls stop a b → HandedFront going q ls a b
-  handed_front ls stop a b f = λ t right. front_of_all a b (answer_by going.form going.on_fault t q ls).bytes
+  handed_front ls stop a b f = λ t right. front_of_all a b (answer_by going.form going.policy t q ls).bytes
       (subst (Appends a b) (sym (ap (λ (h : Answer). h.bytes) (f.is t right))) f.appended)
 
   pub front_more : (xs ys : List Line) (a b : Option (List ℕ)) → HandedFront going q xs a b
       → HandedFront going q (xs ++ ys) a b
   front_more xs ys a b h = λ t right.
-      let parts = bytes_by (answer_by going.form going.on_fault t q xs).stopped (answer_by going.form
-      going.on_fault t q xs)
-      (answer_by going.form going.on_fault t q ys) in
-      front_longer a b (answer_by going.form going.on_fault t q xs).bytes parts.0 (answer_by going.form
-      going.on_fault t q (xs ++ ys)).bytes
-      (ap (λ (h : Answer). h.bytes) (formed_joined going.form t q going.on_fault xs ys) ∙ parts.1) (h t right)
+      let parts = bytes_by (answer_by going.form going.policy t q xs).stopped (answer_by going.form
+      going.policy t q xs)
+      (answer_by going.form going.policy t q ys) in
+      front_longer a b (answer_by going.form going.policy t q xs).bytes parts.0 (answer_by going.form
+      going.policy t q (xs ++ ys)).bytes
+      (ap (λ (h : Answer). h.bytes) (formed_joined going.form t q going.policy xs ys) ∙ parts.1) (h t right)
 
   pub front_after : (xs ys : List Line) (a b c : Option (List ℕ)) → Handed going q xs None a b
       → HandedFront going q ys b c → HandedFront going q (xs ++ ys) a c
   front_after xs ys a b c f h = λ t right.
       let first : List ℕ = f.whole.bytes in
-      let later : List ℕ = (answer_by going.form going.on_fault t q ys).bytes in
-      let whole : (answer_by going.form going.on_fault t q (xs ++ ys)).bytes ≡ first ++ later =
-      ap (λ (h : Answer). h.bytes) (formed_joined going.form t q going.on_fault xs ys
-      ∙ ap (λ h. joined h (answer_by going.form going.on_fault t q ys)) (f.is t right)
-      ∙ ap (λ s. unless_stopped s f.whole (answer_by going.form going.on_fault t q ys)) f.stopped) in
+      let later : List ℕ = (answer_by going.form going.policy t q ys).bytes in
+      let whole : (answer_by going.form going.policy t q (xs ++ ys)).bytes ≡ first ++ later =
+      ap (λ (h : Answer). h.bytes) (formed_joined going.form t q going.policy xs ys
+      ∙ ap (λ h. joined h (answer_by going.form going.policy t q ys)) (f.is t right)
+      ∙ ap (λ s. unless_stopped s f.whole (answer_by going.form going.policy t q ys)) f.stopped) in
       let front : AppendsFront b c later = h t right in (
         length first + front.0,
         omega (arith, ap length whole, length-append first later, front.1),
@@ -171,7 +171,7 @@ module _ (going : Manner) (q : tree.Query) where
   ended_after xs ys failed a b c Settings g h = absurd h
 
   module _ (ls : List Line) (whole : Answer) (is : (t : Tests) → AreRight t → answer_by going.form
-      going.on_fault t q ls ≡ whole)
+      going.policy t q ls ≡ whole)
       (a b : Option (List ℕ)) where
     pub ended_handing : (failed : Bool) (f : RunFault) → HandingEnded whole failed a b f
         → AnswerEnded going q ls failed a b f

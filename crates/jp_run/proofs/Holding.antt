@@ -14,7 +14,7 @@ use Rattle.jp_answer.specs.Answer.{Answer, joined}
 use Rattle.jp_answer.specs.Answered.{outcome_of}
 use Rattle.jp_answer.specs.OnFault.{Manner, manner, answer_by, passed_in}
 use Rattle.jp_output.specs.OutputForm.{OutputForm}
-use Rattle.jp_answer.specs.declared.on_fault.OnFault.{OnFault}
+use Rattle.jp_answer.specs.declared.policy.LinePolicy.{LinePolicy}
 use Rattle.jp_answer.specs.declared.outcome.Outcome.{Outcome}
 use Rattle.jp_answer.proofs.OnFaults.{formed_joined, nothing_in, passed_joined, passed_none, passed_few}
 use Rattle.jp_run.specs.declared.stream.Answered.{Answered}
@@ -77,20 +77,21 @@ none_whole batch xs some few = omega (
 
 -- an answer, where memory sufficed
 pub answer_so : {E : Type 0} (going : Manner) (q : Query) (ls : List Line) (r : Result Outcome E)
-    → IfOk r (λ a. (t : Tests) → AreRight t → answer_by going.form going.on_fault t q ls ≡ outcome_of a)
-    → IfOk r (λ a. passed_in going.on_fault ls ≡ a.faulty) → IfOk r (IsAnswerOf going q ls)
+    → IfOk r (λ a. (t : Tests) → AreRight t → answer_by going.form going.policy t q ls ≡ outcome_of a)
+    → IfOk r (λ a. passed_in going.policy ls ≡ a.faulty) → IfOk r (IsAnswerOf going q ls)
 answer_so going q ls (Ok a) is passed = record {
   is = is;
   passed = passed;
-  few = omega (arith, passed, passed_few going.on_fault ls);
+  few = omega (arith, passed, passed_few going.policy ls);
 }
 answer_so going q ls (Err e) is passed = tt
 
--- the same by what is done where a line is faulty
-pub in_manner : {E : Type 0} (form : OutputForm) (done meant : OnFault) (q : Query) (ls : List Line)
+-- the same by a policy
+pub in_manner : {E : Type 0} (form : OutputForm) (done meant : LinePolicy) (q : Query) (ls : List Line)
     (r : Result Outcome E) → done ≡ meant → IfOk r (IsAnswerOf (manner form done) q ls)
     → IfOk r (IsAnswerOf (manner form meant) q ls)
-in_manner form done meant q ls r e h = subst (λ (k : OnFault). IfOk r (IsAnswerOf (manner form k) q ls)) e h
+in_manner form done meant q ls r e h =
+    subst (λ (k : LinePolicy). IfOk r (IsAnswerOf (manner form k) q ls)) e h
 
 module _ (going : Manner) (q : Query) where
   pub held_nothing : (h : Held) → h.count ≡ 0
@@ -98,29 +99,29 @@ module _ (going : Manner) (q : Query) where
       → IsHeld going q [] h
   held_nothing h e f k = record {
     counted = e;
-    is = λ t right. nothing_in going.form t q going.on_fault ∙ sym f;
-    passed = k ∙ sym (passed_none going.on_fault);
+    is = λ t right. nothing_in going.form t q going.policy ∙ sym f;
+    passed = k ∙ sym (passed_none going.policy);
   }
 
   pub held_more : (ls part : List Line) (h next : Held) (more : Outcome) → IsHeld going q ls h
-      → ((t : Tests) → AreRight t → answer_by going.form going.on_fault t q part ≡ outcome_of more)
-      → passed_in going.on_fault part ≡ more.faulty → next.count ≡ h.count + length part
+      → ((t : Tests) → AreRight t → answer_by going.form going.policy t q part ≡ outcome_of more)
+      → passed_in going.policy part ≡ more.faulty → next.count ≡ h.count + length part
       → outcome_of next.answer ≡ joined (outcome_of h.answer) (outcome_of more)
       → next.answer.faulty ≡ h.answer.faulty + more.faulty → IsHeld going q (ls ++ part) next
   held_more ls part h next more held is passed e f k = record {
     counted = omega (arith, e, held.counted, length-append ls part);
-    is = λ t right. formed_joined going.form t q going.on_fault ls part
-        ∙ ap (λ (a : Answer). joined a (answer_by going.form going.on_fault t q part)) (held.is t right)
+    is = λ t right. formed_joined going.form t q going.policy ls part
+        ∙ ap (λ (a : Answer). joined a (answer_by going.form going.policy t q part)) (held.is t right)
         ∙ ap (joined (outcome_of h.answer)) (is t right) ∙ sym f;
-    passed = omega (arith, k, held.passed, passed, passed_joined going.on_fault ls part);
+    passed = omega (arith, k, held.passed, passed, passed_joined going.policy ls part);
   }
 
   -- the answer to lines at the front of those that wait, put behind what is held
   module _ (held waiting : List Line) (count : ℕ) (h next : Held) (more : Outcome)
       (is : IsHeld going q held h) (fits : count ≤ length waiting)
-      (answered : (t : Tests) → AreRight t → answer_by going.form going.on_fault t q (take count waiting) ≡
+      (answered : (t : Tests) → AreRight t → answer_by going.form going.policy t q (take count waiting) ≡
       outcome_of more)
-      (passed : passed_in going.on_fault (take count waiting) ≡ more.faulty) (e : next.count ≡ h.count +
+      (passed : passed_in going.policy (take count waiting) ≡ more.faulty) (e : next.count ≡ h.count +
       count)
       (f : outcome_of next.answer ≡ joined (outcome_of h.answer) (outcome_of more))
       (k : next.answer.faulty ≡ h.answer.faulty + more.faulty) where
@@ -159,7 +160,7 @@ module _ (going : Manner) (q : Query) where
       whole = take-nil (in_batches {A = Line} batch []);
       handed = handed_none going q u;
       lines = omega arith;
-      faulty = omega (arith, passed_none going.on_fault);
+      faulty = omega (arith, passed_none going.policy);
     }
 
     pub same_some : (held waiting : List Line) (u : Option (List ℕ)) (n : Answered) (h : Held)
@@ -230,7 +231,7 @@ module _ (going : Manner) (q : Query) where
 
       kept_more : Handed going q (whole_batches batch w) None u v
           → r.lines ≡ m.lines + in_batches batch w
-          → r.faulty ≡ m.faulty + passed_in going.on_fault (whole_batches batch w)
+          → r.faulty ≡ m.faulty + passed_in going.policy (whole_batches batch w)
           → Kept going q batch all s v n r h left
       kept_more handed e f =
           let more : List Line = whole_batches batch w in
@@ -257,7 +258,7 @@ module _ (going : Manner) (q : Query) where
               length-append k.done more,
               length-take-le (in_batches batch w) w (batches_fit batch w),
             );
-            faulty = omega (arith, f, k.faulty, passed_joined going.on_fault k.done more);
+            faulty = omega (arith, f, k.faulty, passed_joined going.policy k.done more);
           }
 
       few_more : length (k.held ++ left) < batch
@@ -271,7 +272,7 @@ module _ (going : Manner) (q : Query) where
 
       pub more_few : Handed going q (whole_batches batch w) None u v
           → r.lines ≡ m.lines + in_batches batch w
-          → r.faulty ≡ m.faulty + passed_in going.on_fault (whole_batches batch w)
+          → r.faulty ≡ m.faulty + passed_in going.policy (whole_batches batch w)
           → KeptFew going q batch all s v n r h left
       unfolding kept_more
       more_few handed e f = (kept_more handed e f, few_more)
@@ -290,8 +291,8 @@ module _ (going : Manner) (q : Query) (batch wanted : ℕ) (held ls part none : 
 
   pub read_held : (a b : Option (List ℕ)) (last : ℕ) (p same ended : Progress) (waiting : List Line)
       → same ≡ p → h.count + length part + wanted ≡ batch
-      → ((t : Tests) → AreRight t → answer_by going.form going.on_fault t q part ≡ outcome_of more)
-      → passed_in going.on_fault part ≡ more.faulty → next.count ≡ h.count + length part
+      → ((t : Tests) → AreRight t → answer_by going.form going.policy t q part ≡ outcome_of more)
+      → passed_in going.policy part ≡ more.faulty → next.count ≡ h.count + length part
       → outcome_of next.answer ≡ joined (outcome_of h.answer) (outcome_of more)
       → next.answer.faulty ≡ h.answer.faulty + more.faulty
       → HasRead wanted a b last same ended none waiting

@@ -6,7 +6,7 @@ use Rattle.std.specs.List.{filter}
 use Rattle.jp_doc.specs.Json.{Json}
 use Rattle.jp_doc.specs.Lines.{Line, is_blank}
 use Rattle.jp_doc.specs.Feeding.{numbered}
-use Rattle.jp_doc.specs.Reading.{reading}
+use Rattle.jp_doc.specs.ReadingIn.{Numbers, reading_in}
 use Rattle.jp_doc.specs.declared.fault.DocFault.{DocFault}
 use Rattle.jp_answer.specs.Faults.{fault_or, first_fault}
 use Rattle.jp_run.specs.Batches.{documents_before}
@@ -52,10 +52,11 @@ record Place (number : ℕ) (ls : List Line) : Type 0 where
   is : ls ≡ before ++ line ∷ after
   numbered_so : line.0 ≡ number
 
-place_if : (l : Line) (r : Result Json DocFault) (ls : List Line) (number : ℕ) (fault : DocFault)
-    → fault_or l.0 r (first_fault ls) ≡ Some (number, fault)
-    → (first_fault ls ≡ Some (number, fault) → Place number ls) → Place number (l ∷ ls)
-place_if l (Ok root) ls number fault e h =
+place_if : (n : Numbers) (l : Line) (r : Result Json DocFault) (ls : List Line) (number : ℕ)
+    (fault : DocFault)
+    → fault_or l.0 r (first_fault n ls) ≡ Some (number, fault)
+    → (first_fault n ls ≡ Some (number, fault) → Place number ls) → Place number (l ∷ ls)
+place_if n l (Ok root) ls number fault e h =
     let p : Place number ls = h e in
     record {
       before = l ∷ p.before;
@@ -64,21 +65,22 @@ place_if l (Ok root) ls number fault e h =
       is = ap (λ (r : List Line). l ∷ r) p.is;
       numbered_so = p.numbered_so;
     }
-place_if l (Err f) ls number fault e h =
+place_if n l (Err f) ls number fault e h =
     let same : ◌≡◌ {A = ℕ × DocFault} (l.0, f) (number, fault) = cc in
     record { before = []; line = l; after = ls; is = refl; numbered_so = ap (λ (p : ℕ × DocFault). p.0) same }
 
-place : (ls : List Line) (number : ℕ) (fault : DocFault) → first_fault ls ≡ Some (number, fault)
-    → Place number ls
-place [] number fault e = absurd (cc)
-place (l ∷ ls) number fault e = place_if l (reading l.1) ls number fault e (place ls number fault)
+place : (n : Numbers) (ls : List Line) (number : ℕ) (fault : DocFault)
+    → first_fault n ls ≡ Some (number, fault) → Place number ls
+place n [] number fault e = absurd (cc)
+place n (l ∷ ls) number fault e =
+    place_if n l (reading_in n l.1) ls number fault e (place n ls number fault)
 
 -- the lines before those among which the first faulty one is have lower numbers
-pub before_fault : (all : List (List ℕ)) (front back more : List Line) (number : ℕ) (fault : DocFault)
-    → first_fault back ≡ Some (number, fault) → numbered 1 all ≡ front ++ (back ++ more)
+pub before_fault : (n : Numbers) (all : List (List ℕ)) (front back more : List Line) (number : ℕ)
+    (fault : DocFault) → first_fault n back ≡ Some (number, fault) → numbered 1 all ≡ front ++ (back ++ more)
     → length front ≤ documents_before number (numbered 1 all)
-before_fault all front back more number fault e is =
-    let p : Place number back = place back number fault e in
+before_fault n all front back more number fault e is =
+    let p : Place number back = place n back number fault e in
     let cut : numbered 1 all ≡ (front ++ p.before) ++ p.line ∷ (p.after ++ more) =
     is ∙ ap (λ l. front ++ (l ++ more)) p.is
     ∙ ap (λ l. front ++ l) (append_assoc p.before (p.line ∷ p.after) more)

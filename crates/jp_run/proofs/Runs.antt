@@ -87,10 +87,10 @@ module _ (going : Manner) (text : Text) (q : tree.Query) (accepted : IsAccepted 
   answer_ok (Err f) known s u h = tt
 
   answer_is : (input : List ℕ) (b : Answer) → IsAnswerBy going text input b
-      → answer_by going.form going.on_fault right_tests.0 q (lines input) ≡ b
+      → answer_by going.form going.policy right_tests.0 q (lines input) ≡ b
   answer_is input b h =
       let same : q ≡ h.0 = same_ok q h.0 (one_verdict text (Ok q) (Ok h.0) accepted h.1) in
-      ap (λ q. answer_by going.form going.on_fault right_tests.0 q (lines input)) same ∙ h.2 right_tests.0
+      ap (λ q. answer_by going.form going.policy right_tests.0 q (lines input)) same ∙ h.2 right_tests.0
       right_tests.1
 
   front_known : (known s u : Option (List ℕ)) → IfSome known (λ input. HandedFront going q (lines input) s u)
@@ -108,14 +108,17 @@ module _ (going : Manner) (text : Text) (q : tree.Query) (accepted : IsAccepted 
       (ended_front going q batch some e f h)
 
 -- what holds of an answer in a form holds of the settings that name it
-module _ (output named : Output) (is : output ≡ named) (keeps_going : Bool) (q : tree.Query) where
+module _ (output named : Output) (is : output ≡ named) (decimals keeps_going : Bool) (q : tree.Query) where
   pub handed_in : {T : Type 0} (r : Result T RunFault) (known s u : Option (List ℕ))
-      → OnOk r (IfSome known (λ input. Handed (manner_by named keeps_going) q (lines input) None s u))
-      → OnOk r (IfSome known (λ input. Handed (manner_by output keeps_going) q (lines input) None s u))
+      → OnOk r (IfSome known
+      (λ input. Handed (manner_by named decimals keeps_going) q (lines input) None s u))
+      → OnOk r (IfSome known
+      (λ input. Handed (manner_by output decimals keeps_going) q (lines input) None s u))
   handed_in r known s u = subst (λ o. OnOk r (IfSome known
-      (λ input. Handed (manner_by o keeps_going) q (lines input) None s u))) (sym is)
+      (λ input. Handed (manner_by o decimals keeps_going) q (lines input) None s u))) (sym is)
 
   pub ended_in : {T : Type 0} (r : Result T RunFault) (batch : ℕ) (e : Ends)
-      → IfErr r (StreamEnded (manner_by named keeps_going) q batch e)
-      → IfErr r (StreamEnded (manner_by output keeps_going) q batch e)
-  ended_in r batch e = subst (λ o. IfErr r (StreamEnded (manner_by o keeps_going) q batch e)) (sym is)
+      → IfErr r (StreamEnded (manner_by named decimals keeps_going) q batch e)
+      → IfErr r (StreamEnded (manner_by output decimals keeps_going) q batch e)
+  ended_in r batch e =
+      subst (λ o. IfErr r (StreamEnded (manner_by o decimals keeps_going) q batch e)) (sym is)

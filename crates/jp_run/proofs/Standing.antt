@@ -90,42 +90,42 @@ module _ (going : Manner) (q : Query) (batch : ℕ) (all : List Line) where
   -- how many faulty lines were passed in the batches
   pub partly_passed : (rest : List Line) (a b : Option (List ℕ)) → Partly going q batch all rest a b
       → 0 < batch → length rest < batch → (n : ℕ)
-      → passed_in going.on_fault all ≡ n + passed_in going.on_fault rest → n ≡ passed_in going.on_fault
+      → passed_in going.policy all ≡ n + passed_in going.policy rest → n ≡ passed_in going.policy
       (whole_batches batch all)
   partly_passed rest a b p some few n e = omega (
     arith,
     e,
-    ap (passed_in going.on_fault) (partly_rest rest a b p some few),
-    passed_joined going.on_fault (whole_batches batch all) rest,
+    ap (passed_in going.policy) (partly_rest rest a b p some few),
+    passed_joined going.policy (whole_batches batch all) rest,
   )
 
   pub partly_few : (rest : List Line) (a b : Option (List ℕ)) → Partly going q batch all rest a b
       → 0 < batch → length rest < batch → (n : ℕ)
-      → passed_in going.on_fault all ≡ n + passed_in going.on_fault rest → n + length rest ≤ length all
+      → passed_in going.policy all ≡ n + passed_in going.policy rest → n + length rest ≤ length all
   partly_few rest a b p some few n e = omega (
     arith,
     partly_passed rest a b p some few n e,
-    passed_few going.on_fault (whole_batches batch all),
+    passed_few going.policy (whole_batches batch all),
     ap length (partly_rest rest a b p some few),
     length-append (whole_batches batch all) rest,
   )
 
 -- one batch more was passed
 pub passed_next : (going : Manner) (all rest front left : List Line) (batch n m : ℕ)
-    → passed_in going.on_fault all ≡ n + passed_in going.on_fault rest → front ≡ take batch rest → left ≡
+    → passed_in going.policy all ≡ n + passed_in going.policy rest → front ≡ take batch rest → left ≡
     drop batch rest
-    → m ≡ passed_in going.on_fault front → passed_in going.on_fault all ≡ n + m + passed_in going.on_fault
+    → m ≡ passed_in going.policy front → passed_in going.policy all ≡ n + m + passed_in going.policy
     left
 passed_next going all rest front left batch n m e f h k = omega (
   arith,
   e,
   k,
-  ap (passed_in going.on_fault) f,
-  ap (passed_in going.on_fault) h,
-  ap (passed_in going.on_fault) (take-append-drop batch rest),
-  passed_joined going.on_fault (take batch rest) (drop batch rest),
+  ap (passed_in going.policy) f,
+  ap (passed_in going.policy) h,
+  ap (passed_in going.policy) (take-append-drop batch rest),
+  passed_joined going.policy (take batch rest) (drop batch rest),
 )
 
 pub passed_within : (going : Manner) (all left : List Line) (n m : ℕ)
-    → passed_in going.on_fault all ≡ n + m + passed_in going.on_fault left → n + m ≤ length all
-passed_within going all left n m e = omega (arith, e, passed_few going.on_fault all)
+    → passed_in going.policy all ≡ n + m + passed_in going.policy left → n + m ≤ length all
+passed_within going all left n m e = omega (arith, e, passed_few going.policy all)

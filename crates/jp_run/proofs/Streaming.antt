@@ -20,8 +20,10 @@ use Rattle.jp_doc.proofs.CutLaws.{lines_cut, lines_both, numbered_both}
 use Rattle.jp_tree.specs.Tree as tree
 use Rattle.jp_regexp.proofs.RightTests.{right_tests}
 use Rattle.jp_answer.specs.Answer.{Answer}
+use Rattle.jp_doc.specs.ReadingIn.{Numbers}
 use Rattle.jp_answer.specs.Faults.{first_fault}
-use Rattle.jp_answer.specs.OnFault.{Manner, answer_by, stop_in, passed_in}
+use Rattle.jp_answer.specs.OnFault.{Manner, answer_by, stop_in, stop_on, passed_in, passed_on}
+use Rattle.jp_answer.specs.Policy.{numbers_in}
 use Rattle.jp_answer.specs.declared.on_fault.OnFault.{OnFault}
 use Rattle.jp_answer.specs.declared.on_fault.OnFault.TheVariants.{Stop, KeepGoing}
 use Rattle.jp_answer.proofs.OnFaults.{stop_so, passed_joined, passed_few, passed_none}
@@ -57,14 +59,14 @@ known_all P (Some xs) (Some ys) bytes h e p = subst P
 
 -- an answer that stops does not keep going, and stops at the first faulty line
 
-stop_first : (going : OnFault) (ls : List Line) (s : ℕ × DocFault) → stop_in going ls ≡ Some s
-    → first_fault ls ≡ Some s
-stop_first Stop ls s e = e
-stop_first KeepGoing ls s e = absurd (cc)
+stop_first : (k : OnFault) (n : Numbers) (ls : List Line) (s : ℕ × DocFault) → stop_on n k ls ≡ Some s
+    → first_fault n ls ≡ Some s
+stop_first Stop n ls s e = e
+stop_first KeepGoing n ls s e = absurd (cc)
 
-no_stop : (going : OnFault) (ls : List Line) (s : ℕ × DocFault) → stop_in going ls ≡ Some s → going ≡ Stop
-no_stop Stop ls s e = refl
-no_stop KeepGoing ls s e = absurd (cc)
+no_stop : (k : OnFault) (n : Numbers) (ls : List Line) (s : ℕ × DocFault) → stop_on n k ls ≡ Some s → k ≡ Stop
+no_stop Stop n ls s e = refl
+no_stop KeepGoing n ls s e = absurd (cc)
 
 -- lines of bytes that come in two parts
 
@@ -114,7 +116,7 @@ pub record Stands (going : Manner) (q : tree.Query) (batch : ℕ) (old now sink_
   pub progress : p ≡ fed nothing_fed bytes
   pub left : kept ≡ left_over batch (documents_in bytes)
   pub counted : answered.lines ≡ in_batches batch (documents_in bytes)
-  pub passed : answered.faulty ≡ passed_in going.on_fault (whole_batches batch (documents_in bytes))
+  pub passed : answered.faulty ≡ passed_in going.policy (whole_batches batch (documents_in bytes))
   pub handed : Handed going q (whole_batches batch (documents_in bytes)) None sink_old sink_now
 
 -- one piece more was read, and nothing of it is answered yet
@@ -127,7 +129,7 @@ pub record Grown (going : Manner) (q : tree.Query) (batch : ℕ) (old now sink_o
   pub progress : p ≡ fed nothing_fed (bytes ++ piece)
   pub lines : kept ≡ left_over batch (documents_in bytes) ++ fed_lines (fed nothing_fed bytes) piece
   pub counted : answered.lines ≡ in_batches batch (documents_in bytes)
-  pub passed : answered.faulty ≡ passed_in going.on_fault (whole_batches batch (documents_in bytes))
+  pub passed : answered.faulty ≡ passed_in going.policy (whole_batches batch (documents_in bytes))
   pub handed : Handed going q (whole_batches batch (documents_in bytes)) None sink_old sink_now
 
 module _ (going : Manner) (q : tree.Query) (batch : ℕ) (some : 0 < batch) where
@@ -145,8 +147,8 @@ module _ (going : Manner) (q : tree.Query) (batch : ℕ) (some : 0 < batch) wher
         progress = e;
         left = f ∙ sym (drop-nil (in_batches batch (documents_in [])));
         counted = ap (λ (n : Answered). n.lines) h ∙ sym none;
-        passed = ap (λ (n : Answered). n.faulty) h ∙ sym (passed_none going.on_fault)
-            ∙ ap (passed_in going.on_fault) (sym (take-nil (in_batches batch (documents_in []))));
+        passed = ap (λ (n : Answered). n.faulty) h ∙ sym (passed_none going.policy)
+            ∙ ap (passed_in going.policy) (sym (take-nil (in_batches batch (documents_in []))));
         handed = subst (λ (l : List Line). Handed going q l None s s)
             (sym (take-nil (in_batches batch (documents_in [])))) (handed_none going q s);
       }
@@ -181,7 +183,7 @@ module _ (going : Manner) (q : tree.Query) (batch : ℕ) (some : 0 < batch) wher
       (answered more : Answered) (n : ℕ) → Grown going q batch a c s u p all answered n
       → Handed going q (whole_batches batch all) None u v → kept ≡ left_over batch all
       → more.lines ≡ answered.lines + in_batches batch all
-      → more.faulty ≡ answered.faulty + passed_in going.on_fault (whole_batches batch all) → next ≡ p
+      → more.faulty ≡ answered.faulty + passed_in going.policy (whole_batches batch all) → next ≡ p
       → Stands going q batch a c s v next kept more
   stands_next a c s u v p next all kept answered more n g h e f m k =
       let first : List Line = documents_in g.bytes in
@@ -205,11 +207,11 @@ module _ (going : Manner) (q : tree.Query) (batch : ℕ) (some : 0 < batch) wher
           arith,
           m,
           g.passed,
-          ap (λ l. passed_in going.on_fault (whole_batches batch l)) g.lines,
-          ap (passed_in going.on_fault) (whole_both batch first later some),
-          passed_joined going.on_fault (whole_batches batch first)
+          ap (λ l. passed_in going.policy (whole_batches batch l)) g.lines,
+          ap (passed_in going.policy) (whole_both batch first later some),
+          passed_joined going.policy (whole_batches batch first)
               (whole_batches batch (left_over batch first ++ later)),
-          ap (λ l. passed_in going.on_fault (whole_batches batch l)) both,
+          ap (λ l. passed_in going.policy (whole_batches batch l)) both,
         );
         handed = subst (λ (l : List Line). Handed going q l None s v)
             (ap (λ l. whole_batches batch first ++ whole_batches batch l) g.lines
@@ -240,7 +242,7 @@ module _ (going : Manner) (q : tree.Query) (batch : ℕ) (some : 0 < batch) wher
         arith,
         g.passed,
         g.counted,
-        passed_few going.on_fault (whole_batches batch first),
+        passed_few going.policy (whole_batches batch first),
         length-take-le (in_batches batch first) first (batches_fit batch first),
       )
 
@@ -251,7 +253,7 @@ module _ (going : Manner) (q : tree.Query) (batch : ℕ) (some : 0 < batch) wher
         arith,
         st.passed,
         st.counted,
-        passed_few going.on_fault (whole_batches batch all),
+        passed_few going.policy (whole_batches batch all),
         length-take-le (in_batches batch all) all (batches_fit batch all),
       )
 
@@ -303,14 +305,16 @@ module _ (going : Manner) (q : tree.Query) (batch : ℕ) (some : 0 < batch) wher
   not_whole : (before bytes : List ℕ) (last number : ℕ) (fault : DocFault) (back more : List Line)
       → take (length bytes - last) bytes ≡ before
       → lines bytes ≡ whole_batches batch (documents_in before) ++ (back ++ more)
-      → first_fault back ≡ Some (number, fault) → WasNotWhole batch number bytes last
+      → first_fault (numbers_in going.policy.numbers) back ≡ Some (number, fault)
+      → WasNotWhole batch number bytes last
   not_whole before bytes last number fault back more e is found =
       let first : List Line = documents_in before in
       let k : ℕ = length first / batch in
       let m : ℕ = documents_before number (lines bytes) in
       let low : k * batch ≤ m = omega (
         arith,
-        before_fault (all_lines bytes) (whole_batches batch first) back more number fault found is,
+        before_fault (numbers_in going.policy.numbers) (all_lines bytes) (whole_batches batch first) back more
+            number fault found is,
         length-take-le (in_batches batch first) first (batches_fit batch first),
       ) in
       let below : k + 1 ≤ m / batch + 1 = omega (arith, le-div k m batch some low) in
@@ -324,23 +328,26 @@ module _ (going : Manner) (q : tree.Query) (batch : ℕ) (some : 0 < batch) wher
       let beyond = front right_tests.0 right_tests.1 in record {
         between = u;
         handed = subst (λ (l : List Line). Handed going q l None s u) (sym e) h;
-        more = take beyond.0 (answer_by going.form going.on_fault right_tests.0 q rest).bytes;
+        more = take beyond.0 (answer_by going.form going.policy right_tests.0 q rest).bytes;
         appended = beyond.2;
       }
 
   handed_stop : (ls : List Line) (s : ℕ × DocFault) (a b : Option (List ℕ))
-      → Handed going q ls (Some s) a b → stop_in going.on_fault ls ≡ Some s
-  handed_stop ls s a b h = sym (stop_so going.form right_tests.0 q going.on_fault ls)
+      → Handed going q ls (Some s) a b → stop_in going.policy ls ≡ Some s
+  handed_stop ls s a b h = sym (stop_so going.form right_tests.0 q going.policy ls)
       ∙ ap (λ (r : Answer). r.stopped) (h.is right_tests.0 right_tests.1) ∙ h.stopped
 
   first_fault_of : (ls : List Line) (number : ℕ) (fault : DocFault) (a b : Option (List ℕ))
-      → Handed going q ls (Some (number, fault)) a b → first_fault ls ≡ Some (number, fault)
-  first_fault_of ls number fault a b h = stop_first going.on_fault ls (number, fault)
+      → Handed going q ls (Some (number, fault)) a b
+      → first_fault (numbers_in going.policy.numbers) ls ≡ Some (number, fault)
+  first_fault_of ls number fault a b h =
+      stop_first going.policy.on_fault (numbers_in going.policy.numbers) ls (number, fault)
       (handed_stop ls (number, fault) a b h)
 
   never_going : (ls : List Line) (s : ℕ × DocFault) (a b : Option (List ℕ))
-      → Handed going q ls (Some s) a b → going.on_fault ≡ Stop
-  never_going ls s a b h = no_stop going.on_fault ls s (handed_stop ls s a b h)
+      → Handed going q ls (Some s) a b → going.policy.on_fault ≡ Stop
+  never_going ls s a b h =
+      no_stop going.policy.on_fault (numbers_in going.policy.numbers) ls s (handed_stop ls s a b h)
 
   -- a batch that was not answered to its end
   module _ (e : Ends) (u : Option (List ℕ)) (p : Progress) (all : List Line) (answered : Answered)
@@ -461,22 +468,22 @@ module _ (going : Manner) (q : tree.Query) (batch : ℕ) (some : 0 < batch) wher
           ),
         )
 
-    rest_passed : (faulty : ℕ) → faulty ≡ answered.faulty + passed_in going.on_fault (kept ++ finished_lines
+    rest_passed : (faulty : ℕ) → faulty ≡ answered.faulty + passed_in going.policy (kept ++ finished_lines
         p)
-        → IfSome a (λ input. faulty ≡ passed_in going.on_fault (lines input))
+        → IfSome a (λ input. faulty ≡ passed_in going.policy (lines input))
     unfolding first_batches
-    rest_passed faulty e = known_all (λ input. faulty ≡ passed_in going.on_fault (lines input)) a c st.bytes
+    rest_passed faulty e = known_all (λ input. faulty ≡ passed_in going.policy (lines input)) a c st.bytes
         st.consumed end (omega (
           arith,
           e,
           st.passed,
-          ap (passed_in going.on_fault) lines_are,
-          passed_joined going.on_fault first_batches (kept ++ finished_lines p),
+          ap (passed_in going.policy) lines_are,
+          passed_joined going.policy first_batches (kept ++ finished_lines p),
         ))
 
     pub faulty_ok : {E : Type 0} (r : Result Totals E)
-        → IfOk r (λ t. t.faulty ≡ answered.faulty + passed_in going.on_fault (kept ++ finished_lines p))
-        → IfOk r (λ t. IfSome a (λ input. t.faulty ≡ passed_in going.on_fault (lines input)))
+        → IfOk r (λ t. t.faulty ≡ answered.faulty + passed_in going.policy (kept ++ finished_lines p))
+        → IfOk r (λ t. IfSome a (λ input. t.faulty ≡ passed_in going.policy (lines input)))
     faulty_ok (Ok t) h = rest_passed t.faulty h
     faulty_ok (Err f) h = tt
 
@@ -546,9 +553,10 @@ module _ (going : Manner) (q : tree.Query) (batch : ℕ) (some : 0 < batch) wher
   rest_ended e u p kept answered Settings st end none h = absurd h
 
 -- an answer that does not keep going passes no faulty line
-pub none_ok : (going : OnFault) (before after : List Line) (n : ℕ) (r : Result Totals RunFault)
-    → n ≡ passed_in going before → IfOk r (λ totals. totals.faulty ≡ n + passed_in going after)
-    → going ≡ Stop → IfOk r (λ totals. totals.faulty ≡ 0)
-none_ok Stop before after n (Ok totals) e h off = omega (arith, e, h)
-none_ok Stop before after n (Err fault) e h off = tt
-none_ok KeepGoing before after n r e h off = absurd (cc)
+pub none_ok : (k : OnFault) (numbers : Numbers) (before after : List Line) (n : ℕ)
+    (r : Result Totals RunFault) → n ≡ passed_on numbers k before
+    → IfOk r (λ totals. totals.faulty ≡ n + passed_on numbers k after) → k ≡ Stop
+    → IfOk r (λ totals. totals.faulty ≡ 0)
+none_ok Stop numbers before after n (Ok totals) e h off = omega (arith, e, h)
+none_ok Stop numbers before after n (Err fault) e h off = tt
+none_ok KeepGoing numbers before after n r e h off = absurd (cc)

@@ -14,7 +14,7 @@ use Rattle.jp_buffer.specs.Buffered.{all_lines}
 use Rattle.jp_output.specs.OutputForm.{OutputForm}
 use Rattle.jp_answer.specs.OnFault.{manner}
 use Rattle.jp_answer.specs.Rows.{IsAnswerTo, shown_lines}
-use Rattle.jp_answer.specs.declared.on_fault.OnFault.{OnFault}
+use Rattle.jp_answer.specs.declared.policy.LinePolicy.{LinePolicy}
 use Rattle.jp_answer.specs.declared.outcome.Outcome.{Outcome}
 use Rattle.jp_answer.proofs.OnFaults.{passed_few}
 use Rattle.jp_run.specs.declared.fault.RunFault.{RunFault}
@@ -180,11 +180,11 @@ taken_ok {X} wanted s before after Takes ended r x was h =
     subst (λ (r : Result X RunFault). HasTaken wanted s before after Takes ended r) was h
 
 -- the answer to what was published, as it is held
-pub answered_of : (form : OutputForm) (done meant : OnFault) (q : Asked) (ls all : List Line) (a : Outcome)
+pub answered_of : (form : OutputForm) (done meant : LinePolicy) (q : Asked) (ls all : List Line) (a : Outcome)
     → done ≡ meant → ls ≡ all → IsAnswerTo (manner form done) q ls a
     → IsAnswerOf (manner form meant) q all a
 answered_of form done meant q ls all a e f is =
-    subst (λ (k : OnFault). IsAnswerOf (manner form k) q all a) e
+    subst (λ (k : LinePolicy). IsAnswerOf (manner form k) q all a) e
     (subst (λ (l : List Line). IsAnswerOf (manner form done) q l a) f (record {
       is = is.answer;
       passed = is.passed;

@@ -7,11 +7,16 @@ use Rattle.jp_check.specs.Verdict.{IsAccepted}
 use Rattle.jp_answer.specs.Answer.{Answer, stream_answer}
 use Rattle.jp_output.specs.OutputForm.{OutputForm}
 use Rattle.jp_answer.specs.OnFault.{Manner, manner, answer_by, passed_in as lines_passed}
+use Rattle.jp_answer.specs.Policy.{policy}
 use Rattle.jp_answer.specs.declared.on_fault.OnFault.{OnFault}
 use Rattle.jp_answer.specs.declared.on_fault.OnFault.TheVariants.{Stop, KeepGoing}
+use Rattle.jp_answer.specs.declared.policy.LinePolicy.{LinePolicy}
+use Rattle.jp_answer.specs.declared.policy.Numbers.{Numbers}
+use Rattle.jp_answer.specs.declared.policy.Numbers.TheVariants.{Whole as Integers, Decimals}
 use Rattle.jp_answer.specs.Whole.{Whole}
 use Rattle.jp_run.specs.Forms.{form_of}
 use Rattle.jp_run.specs.declared.output.Output.{Output}
+use Rattle.jp_run.specs.declared.settings.Settings.{Settings}
 use Rattle.jp_run.specs.declared.outcome.Answer as stopping
 use Rattle.jp_run.specs.declared.outcome.Whole as going_on
 
@@ -20,16 +25,28 @@ abbrev pub on_fault_of : Bool → OnFault
 on_fault_of false = Stop
 on_fault_of true = KeepGoing
 
--- in a form, and in the one of the settings
-abbrev pub manner_in : OutputForm → Bool → Manner
-manner_in form keeps_going = manner form (on_fault_of keeps_going)
+-- which numbers a document may have, by whether it may have decimals
+abbrev pub numbers_of : Bool → Numbers
+numbers_of false = Integers
+numbers_of true = Decimals
 
-abbrev pub manner_by : Output → Bool → Manner
-manner_by output keeps_going = manner_in (form_of output) keeps_going
+-- by both
+abbrev pub policy_of : Bool → Bool → LinePolicy
+policy_of decimals keeps_going = policy (numbers_of decimals) (on_fault_of keeps_going)
+
+abbrev pub manner_by : Output → Bool → Bool → Manner
+manner_by output decimals keeps_going = manner (form_of output) (policy_of decimals keeps_going)
+
+-- by the settings, in their form and in some form
+abbrev pub manner_of : Settings → Manner
+manner_of s = manner_by s.output s.decimals s.keeps_going
+
+abbrev pub manner_in : OutputForm → Settings → Manner
+manner_in form s = manner form (policy_of s.decimals s.keeps_going)
 
 -- how many faulty lines the answer passes
-abbrev pub passed_in : Bool → List Line → ℕ
-passed_in keeps_going ls = lines_passed (on_fault_of keeps_going) ls
+abbrev pub passed_in : Settings → List Line → ℕ
+passed_in s ls = lines_passed (policy_of s.decimals s.keeps_going) ls
 
 -- the text is accepted, and this is the answer to the stream of the query that it spells
 abbrev pub IsAnswerTo : Text → List ℕ → Answer → Type 0
@@ -39,7 +56,7 @@ IsAnswerTo text input a = (q : Query) × IsAccepted text q
 -- the same of the answer in some manner
 abbrev pub IsAnswerBy : Manner → Text → List ℕ → Answer → Type 0
 IsAnswerBy going text input a = (q : Query) × IsAccepted text q
-    × ((t : Tests) → AreRight t → answer_by going.form going.on_fault t q (lines input) ≡ a)
+    × ((t : Tests) → AreRight t → answer_by going.form going.policy t q (lines input) ≡ a)
 
 -- what an `Answer` of `src/` stands for
 abbrev pub answer_of : stopping.Answer → Answer

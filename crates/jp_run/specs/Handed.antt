@@ -14,14 +14,14 @@ use Rattle.jp_run.specs.Written.{AppendsFront}
 pub record Handed (going : Manner) (q : Query) (ls : List Line) (stop : Option (ℕ × DocFault))
     (old new : Option (List ℕ)) : Type 0 where
   pub whole : Answer
-  pub is : (t : Tests) → AreRight t → answer_by going.form going.on_fault t q ls ≡ whole
+  pub is : (t : Tests) → AreRight t → answer_by going.form going.policy t q ls ≡ whole
   pub stopped : whole.stopped ≡ stop
   pub appended : Appends old new whole.bytes
 
 -- a front of the bytes of the answer to the lines was appended
 abbrev pub HandedFront : Manner → Query → List Line → Option (List ℕ) → Option (List ℕ) → Type 0
 HandedFront going q ls old new = (t : Tests) → AreRight t
-    → AppendsFront old new (answer_by going.form going.on_fault t q ls).bytes
+    → AppendsFront old new (answer_by going.form going.policy t q ls).bytes
 
 -- the answer to the lines was handed out, all of it, and perhaps more bytes behind it
 pub record HandedFirst (going : Manner) (q : Query) (ls : List Line) (old new : Option (List ℕ)) : Type 0

@@ -64,9 +64,9 @@ pub(crate) fn read_on<R: Threads + Sync, S: Source, G: Gate + Sync, F: Form + Dr
     requires not_whole { stream.old.held.count + length stream.old.incoming.buffer.lines
         < job.now.settings.batch }
     requires few_faulty { stream.old.held.answer.faulty ≤ stream.old.held.count }
-    ensures read { (held : List Line) → IsHeld (manner_in F.says job.now.settings.keeps_going)
+    ensures read { (held : List Line) → IsHeld (manner_in F.says job.now.settings)
         (compiled_query job.now.query.now) held stream.old.held → OnOk result (ReadOn (manner_in F.says
-        job.now.settings.keeps_going) (compiled_query job.now.query.now) job.now.settings.batch
+        job.now.settings) (compiled_query job.now.query.now) job.now.settings.batch
         stream.new.held (S.remaining source.old) (S.remaining source.new) (S.last source.new)
         stream.old.incoming.buffer.progress stream.new.incoming.buffer.progress (held ++
         stream.old.incoming.buffer.lines) stream.new.incoming.buffer.lines) }
@@ -76,7 +76,7 @@ pub(crate) fn read_on<R: Threads + Sync, S: Source, G: Gate + Sync, F: Form + Dr
     ensures few_lines { OnOk result (stream.new.incoming.buffer.progress.count ≤ max_lines) }
     ensures within { OnOk result (stream.new.held.count ≤ job.now.settings.batch) }
     ensures answered { OnOk result (stream.new.answered ≡ stream.old.answered) }
-    ensures fault { (held : List Line) → IsHeld (manner_in F.says job.now.settings.keeps_going)
+    ensures fault { (held : List Line) → IsHeld (manner_in F.says job.now.settings)
         (compiled_query job.now.query.now) held stream.old.held → IfErr result (ReadOnEnded
         job.now.settings.batch stream.old.incoming.buffer.progress (held ++ stream.old.incoming.buffer.lines)
         (S.failed source.new) (S.remaining source.old) (S.remaining source.new)) }
@@ -124,7 +124,7 @@ fn answer_ahead<R: Threads + Sync, S: Source, G: Gate + Sync, F: Form + Drop + S
 ) -> Result<Ahead, RunFault>
     requires reading { MayRead enough.lines (S.failed source.old) (S.reads source.old) stream.old.incoming }
     requires few { enough.lines ≤ 1000000 }
-    ensures read { HasAnswered (manner_in F.says job.now.settings.keeps_going)
+    ensures read { HasAnswered (manner_in F.says job.now.settings)
         (compiled_query job.now.query.now)
         enough.lines (record {
           old = S.remaining source.old;
@@ -152,7 +152,7 @@ fn read_first<R: Threads + Sync, S: Source, G: Gate + Sync, F: Form + Drop + Sen
 ) -> Result<Ahead, RunFault>
     requires reading { MayRead enough.lines (S.failed source.old) (S.reads source.old) stream.old.incoming }
     requires few { enough.lines ≤ 1000000 }
-    ensures read { HasAnswered (manner_in F.says job.now.settings.keeps_going)
+    ensures read { HasAnswered (manner_in F.says job.now.settings)
         (compiled_query job.now.query.now)
         enough.lines (record {
           old = S.remaining source.old;
@@ -191,7 +191,7 @@ fn read_beside<R: Threads + Sync, S: Source, G: Gate + Sync, F: Form + Drop + Se
 ) -> Result<Ahead, RunFault>
     requires reading { MayRead lines (S.failed source.old) (S.reads source.old) incoming.old }
     requires few { lines ≤ 1000000 }
-    ensures read { HasAnswered (manner_in F.says job.now.settings.keeps_going)
+    ensures read { HasAnswered (manner_in F.says job.now.settings)
         (compiled_query job.now.query.now)
         lines (record {
           old = S.remaining source.old;
@@ -209,7 +209,7 @@ fn read_beside<R: Threads + Sync, S: Source, G: Gate + Sync, F: Form + Drop + Se
     let round = Round {
         query: job.query,
         slots: &slots,
-        on_fault: job.settings.on_fault(),
+        policy: job.settings.policy(),
         workers,
         progress: &progress,
     };
@@ -227,7 +227,7 @@ fn read_beside<R: Threads + Sync, S: Source, G: Gate + Sync, F: Form + Drop + Se
     // Where both have failed it is the read that is told (README, Why so).
     let ended = ended?;
     let answer = join_row::<R, G, F>(crew, &round, &given.published, found?);
-    tell_round(crew.alloc, crew.gate, &round, &given.published, &answer);
+    tell_round(crew, &round, &given.published, &answer);
     let answer = answer?;
     take_back(slots, &mut incoming.spare);
     Ok(Ahead {

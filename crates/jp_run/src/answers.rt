@@ -12,7 +12,7 @@ ghost use Rattle.jp_run.specs.Limits.{max_lines};
 
 use crate::fault::RunFault;
 use crate::outcome::{Answer, Whole};
-use jp_answer::{Crew, Cutting, Gate, OnFault, answer_in_chunks};
+use jp_answer::{Crew, Cutting, Gate, LinePolicy, Numbers, OnFault, answer_in_chunks};
 use jp_buffer::refs_of;
 use jp_check::Plan;
 use jp_doc::Line;
@@ -20,8 +20,8 @@ use jp_output::{NodeLines, join_chunks};
 use std::alloc::Global;
 use std::thread::Threads;
 
-/// The answer to lines, by at most that many workers, each of which claims `piece` lines at a time: there are
-/// no more of them than pieces.
+/// The answer to lines, whose numbers are whole, by at most that many workers, each of which claims `piece`
+/// lines at a time: there are no more of them than pieces.
 ///
 /// It is the same for every number of workers, every size of a piece, every gate, and in whatever order the
 /// workers take their steps. There are 1 to 64 workers, a piece has 1 to 1,000,000 lines, and there are at
@@ -48,14 +48,13 @@ pub fn answer<R: Threads + Sync, G: Gate + Sync>(
 {
     let crew = Crew { rt, alloc, gate };
     let cutting = Cutting { workers, piece };
+    let policy = LinePolicy {
+        numbers: Numbers::Whole,
+        on_fault: OnFault::Stop,
+    };
     let lines = refs_of(alloc, lines)?;
-    let answer = answer_in_chunks::<R, G, NodeLines>(
-        &crew,
-        plan.compiled(),
-        &lines,
-        cutting,
-        OnFault::Stop,
-    )?;
+    let query = plan.compiled();
+    let answer = answer_in_chunks::<R, G, NodeLines>(&crew, query, &lines, cutting, policy)?;
     Ok(Answer {
         bytes: join_chunks(alloc, answer.chunks)?,
         stopped: answer.stopped,
@@ -90,14 +89,13 @@ pub fn answer_all<R: Threads + Sync, G: Gate + Sync>(
 {
     let crew = Crew { rt, alloc, gate };
     let cutting = Cutting { workers, piece };
+    let policy = LinePolicy {
+        numbers: Numbers::Whole,
+        on_fault: OnFault::KeepGoing,
+    };
     let lines = refs_of(alloc, lines)?;
-    let answer = answer_in_chunks::<R, G, NodeLines>(
-        &crew,
-        plan.compiled(),
-        &lines,
-        cutting,
-        OnFault::KeepGoing,
-    )?;
+    let query = plan.compiled();
+    let answer = answer_in_chunks::<R, G, NodeLines>(&crew, query, &lines, cutting, policy)?;
     Ok(Whole {
         bytes: join_chunks(alloc, answer.chunks)?,
         faulty: answer.faulty,

@@ -51,9 +51,9 @@ pub(crate) fn answer_batches<R: Threads + Sync, K: Sink, G: Gate + Sync, F: Form
         + length stream.old.incoming.buffer.lines) ≤ max_lines + 1 }
     requires few_faulty { (stream.old.answered.faulty ≤ stream.old.answered.lines)
         × (stream.old.held.answer.faulty ≤ stream.old.held.count) }
-    ensures kept { (held : List Line) → IsHeld (manner_in F.says job.now.settings.keeps_going)
+    ensures kept { (held : List Line) → IsHeld (manner_in F.says job.now.settings)
         (compiled_query job.now.query.now) held stream.old.held → OnOk result (KeptFew (manner_in F.says
-        job.now.settings.keeps_going) (compiled_query job.now.query.now) job.now.settings.batch (held ++
+        job.now.settings) (compiled_query job.now.query.now) job.now.settings.batch (held ++
         stream.old.incoming.buffer.lines) (K.contents sink.old) (K.contents sink.new) stream.old.answered
         stream.new.answered stream.new.held stream.new.incoming.buffer.lines) }
     ensures progress { OnOk result (stream.new.incoming.buffer.progress ≡
@@ -61,9 +61,9 @@ pub(crate) fn answer_batches<R: Threads + Sync, K: Sink, G: Gate + Sync, F: Form
     ensures left { stream.new.incoming.left ≡ stream.old.incoming.left }
     ensures working { OnOk result (K.failed sink.new ≡ false) }
     ensures passed_on { K.flushed sink.old ≡ true → IsPassedOn (K.flushed sink.new) (K.failed sink.new) }
-    ensures fault { (held : List Line) → IsHeld (manner_in F.says job.now.settings.keeps_going)
+    ensures fault { (held : List Line) → IsHeld (manner_in F.says job.now.settings)
         (compiled_query job.now.query.now) held stream.old.held → IfErr result (AnswerEnded (manner_in F.says
-        job.now.settings.keeps_going) (compiled_query job.now.query.now) (held ++
+        job.now.settings) (compiled_query job.now.query.now) (held ++
         stream.old.incoming.buffer.lines) (K.failed sink.new) (K.contents sink.old) (K.contents sink.new)) }
 {
     complete_batch::<R, K, G, F>(job, stream, sink)?;
@@ -91,9 +91,9 @@ fn complete_batch<R: Threads + Sync, K: Sink, G: Gate + Sync, F: Form + Drop + S
         + length stream.old.incoming.buffer.lines) ≤ max_lines + 1 }
     requires few_faulty { (stream.old.answered.faulty ≤ stream.old.answered.lines)
         × (stream.old.held.answer.faulty ≤ stream.old.held.count) }
-    ensures kept { (held : List Line) → IsHeld (manner_in F.says job.now.settings.keeps_going)
+    ensures kept { (held : List Line) → IsHeld (manner_in F.says job.now.settings)
         (compiled_query job.now.query.now) held stream.old.held → OnOk result (KeptSome (manner_in F.says
-        job.now.settings.keeps_going) (compiled_query job.now.query.now) job.now.settings.batch (held ++
+        job.now.settings) (compiled_query job.now.query.now) job.now.settings.batch (held ++
         stream.old.incoming.buffer.lines) (K.contents sink.old) (K.contents sink.new) stream.old.answered
         stream.new.answered stream.new.held stream.new.incoming.buffer.lines) }
     ensures few { OnOk result (stream.new.answered.lines
@@ -104,9 +104,9 @@ fn complete_batch<R: Threads + Sync, K: Sink, G: Gate + Sync, F: Form + Drop + S
     ensures left { stream.new.incoming.left ≡ stream.old.incoming.left }
     ensures working { OnOk result (K.failed sink.new ≡ false) }
     ensures passed_on { K.flushed sink.old ≡ true → IsPassedOn (K.flushed sink.new) (K.failed sink.new) }
-    ensures fault { (held : List Line) → IsHeld (manner_in F.says job.now.settings.keeps_going)
+    ensures fault { (held : List Line) → IsHeld (manner_in F.says job.now.settings)
         (compiled_query job.now.query.now) held stream.old.held → IfErr result (AnswerEnded (manner_in F.says
-        job.now.settings.keeps_going) (compiled_query job.now.query.now) (held ++
+        job.now.settings) (compiled_query job.now.query.now) (held ++
         stream.old.incoming.buffer.lines) (K.failed sink.new) (K.contents sink.old) (K.contents sink.new)) }
 {
     let batch = job.settings.batch as usize;
@@ -138,9 +138,9 @@ pub(crate) fn answer_rest<R: Threads + Sync, K: Sink, G: Gate + Sync, F: Form + 
         + length stream.old.incoming.buffer.lines) ≤ max_lines }
     requires few_faulty { (stream.old.answered.faulty ≤ stream.old.answered.lines)
         × (stream.old.held.answer.faulty ≤ stream.old.held.count) }
-    ensures handed { (held : List Line) → IsHeld (manner_in F.says job.now.settings.keeps_going)
+    ensures handed { (held : List Line) → IsHeld (manner_in F.says job.now.settings)
         (compiled_query job.now.query.now) held stream.old.held → OnOk result (Handed (manner_in F.says
-        job.now.settings.keeps_going) (compiled_query job.now.query.now) ((held ++
+        job.now.settings) (compiled_query job.now.query.now) ((held ++
         stream.old.incoming.buffer.lines) ++ finished_lines stream.old.incoming.buffer.progress) None
         (K.contents sink.old) (K.contents sink.new)) }
     ensures lines { IfOk result (λ totals. totals.lines ≡ (finished
@@ -149,15 +149,15 @@ pub(crate) fn answer_rest<R: Threads + Sync, K: Sink, G: Gate + Sync, F: Form + 
         + (stream.old.held.count
         + length (stream.old.incoming.buffer.lines ++ finished_lines stream.old.incoming.buffer.progress))) }
     ensures passed { IfOk result (λ totals. totals.faulty ≡ stream.old.answered.faulty
-        + (stream.old.held.answer.faulty + passed_in job.now.settings.keeps_going
+        + (stream.old.held.answer.faulty + passed_in job.now.settings
         (stream.old.incoming.buffer.lines ++ finished_lines stream.old.incoming.buffer.progress))) }
     ensures few_lines { IfOk result (λ totals. totals.lines ≤ max_lines) }
     ensures flushed { OnOk result (K.flushed sink.new ≡ true) }
     ensures working { OnOk result (K.failed sink.new ≡ false) }
     ensures passed_on { K.flushed sink.old ≡ true → IsPassedOn (K.flushed sink.new) (K.failed sink.new) }
-    ensures fault { (held : List Line) → IsHeld (manner_in F.says job.now.settings.keeps_going)
+    ensures fault { (held : List Line) → IsHeld (manner_in F.says job.now.settings)
         (compiled_query job.now.query.now) held stream.old.held → IfErr result (RestEnded (manner_in F.says
-        job.now.settings.keeps_going) (compiled_query job.now.query.now) ((held ++
+        job.now.settings) (compiled_query job.now.query.now) ((held ++
         stream.old.incoming.buffer.lines) ++ finished_lines stream.old.incoming.buffer.progress) (finished
         stream.old.incoming.buffer.progress).count (K.failed sink.new) (K.contents sink.old) (K.contents
         sink.new)) }
@@ -182,7 +182,7 @@ fn answer_front<R: Threads + Sync, G: Gate + Sync, F: Form + Drop + Send>(
 ) -> Result<Outcome, AllocError>
     requires within { count ≤ length buffer.now.lines }
     requires few { count ≤ max_lines + 1 }
-    ensures { IfOk result (IsAnswerOf (manner_in F.says job.now.settings.keeps_going) (compiled_query
+    ensures { IfOk result (IsAnswerOf (manner_in F.says job.now.settings) (compiled_query
         job.now.query.now) (take count buffer.now.lines)) }
 {
     // So the lines behind a batch of which all is answered are not listed.
@@ -200,7 +200,7 @@ pub(crate) fn answer_part<R: Threads + Sync, G: Gate + Sync, F: Form + Drop + Se
     part: &WaitingLines,
 ) -> Result<Outcome, AllocError>
     requires { length part.now ≤ max_lines + 1 }
-    ensures { IfOk result (IsAnswerOf (manner_in F.says job.now.settings.keeps_going) (compiled_query
+    ensures { IfOk result (IsAnswerOf (manner_in F.says job.now.settings) (compiled_query
         job.now.query.now) part.now) }
 {
     let lines = part.lines(job.crew.alloc)?;
@@ -218,15 +218,15 @@ fn answer_waiting<R: Threads + Sync, K: Sink, G: Gate + Sync, F: Form + Drop + S
     requires few { length buffer.now.lines ≤ max_lines + 1 }
     ensures count { IfOk result (λ r. r.0 ≡ in_batches job.now.settings.batch buffer.now.lines) }
     ensures bound { IfOk result (λ r. r.0 ≤ length buffer.now.lines) }
-    ensures passed { IfOk result (λ r. r.1 ≡ passed_in job.now.settings.keeps_going
+    ensures passed { IfOk result (λ r. r.1 ≡ passed_in job.now.settings
         (whole_batches job.now.settings.batch buffer.now.lines)) }
     ensures few { IfOk result (λ r. r.1 ≤ r.0) }
-    ensures handed { OnOk result (Handed (manner_in F.says job.now.settings.keeps_going) (compiled_query
+    ensures handed { OnOk result (Handed (manner_in F.says job.now.settings) (compiled_query
         job.now.query.now) (whole_batches job.now.settings.batch buffer.now.lines) None (K.contents sink.old)
         (K.contents sink.new)) }
     ensures working { OnOk result (K.failed sink.new ≡ false) }
     ensures passed_on { K.flushed sink.old ≡ true → IsPassedOn (K.flushed sink.new) (K.failed sink.new) }
-    ensures fault { IfErr result (AnswerEnded (manner_in F.says job.now.settings.keeps_going) (compiled_query
+    ensures fault { IfErr result (AnswerEnded (manner_in F.says job.now.settings) (compiled_query
         job.now.query.now) buffer.now.lines (K.failed sink.new) (K.contents sink.old) (K.contents sink.new)) }
 {
     // The lines are listed for whole batches alone, and not at each read.
@@ -248,15 +248,15 @@ fn answer_whole<R: Threads + Sync, K: Sink, G: Gate + Sync, F: Form + Drop + Sen
     requires few { length lines.now ≤ max_lines + 1 }
     ensures count { IfOk result (λ r. r.0 ≡ in_batches job.now.settings.batch (map line_at lines.now)) }
     ensures bound { IfOk result (λ r. r.0 ≤ length lines.now) }
-    ensures passed { IfOk result (λ r. r.1 ≡ passed_in job.now.settings.keeps_going
+    ensures passed { IfOk result (λ r. r.1 ≡ passed_in job.now.settings
         (whole_batches job.now.settings.batch (map line_at lines.now))) }
     ensures few { IfOk result (λ r. r.1 ≤ r.0) }
-    ensures handed { OnOk result (Handed (manner_in F.says job.now.settings.keeps_going) (compiled_query
+    ensures handed { OnOk result (Handed (manner_in F.says job.now.settings) (compiled_query
         job.now.query.now) (whole_batches job.now.settings.batch (map line_at lines.now)) None (K.contents
         sink.old) (K.contents sink.new)) }
     ensures working { OnOk result (K.failed sink.new ≡ false) }
     ensures passed_on { K.flushed sink.old ≡ true → IsPassedOn (K.flushed sink.new) (K.failed sink.new) }
-    ensures fault { IfErr result (AnswerEnded (manner_in F.says job.now.settings.keeps_going) (compiled_query
+    ensures fault { IfErr result (AnswerEnded (manner_in F.says job.now.settings) (compiled_query
         job.now.query.now) (map line_at lines.now) (K.failed sink.new) (K.contents sink.old) (K.contents
         sink.new)) }
 {
@@ -290,14 +290,14 @@ fn answer_lines<R: Threads + Sync, K: Sink, G: Gate + Sync, F: Form + Drop + Sen
 ) -> Result<u64, RunFault>
     requires working { K.failed sink.old ≡ false }
     requires few { length lines.now ≤ max_lines + 1 }
-    ensures handed { OnOk result (Handed (manner_in F.says job.now.settings.keeps_going) (compiled_query
+    ensures handed { OnOk result (Handed (manner_in F.says job.now.settings) (compiled_query
         job.now.query.now) (map line_at lines.now) None (K.contents sink.old) (K.contents sink.new)) }
-    ensures passed { IfOk result (λ n. n ≡ passed_in job.now.settings.keeps_going (map line_at lines.now)) }
+    ensures passed { IfOk result (λ n. n ≡ passed_in job.now.settings (map line_at lines.now)) }
     ensures few_faulty { IfOk result (λ n. n ≤ length lines.now) }
     ensures working { OnOk result (K.failed sink.new ≡ false) }
     ensures flushed { OnOk result (K.flushed sink.new ≡ true) }
     ensures passed_on { K.flushed sink.old ≡ true → IsPassedOn (K.flushed sink.new) (K.failed sink.new) }
-    ensures fault { IfErr result (AnswerEnded (manner_in F.says job.now.settings.keeps_going) (compiled_query
+    ensures fault { IfErr result (AnswerEnded (manner_in F.says job.now.settings) (compiled_query
         job.now.query.now) (map line_at lines.now) (K.failed sink.new) (K.contents sink.old) (K.contents
         sink.new)) }
 {
@@ -312,13 +312,13 @@ fn answer_to<R: Threads + Sync, G: Gate + Sync, F: Form + Drop + Send>(
     lines: &[LineRef<'_>],
 ) -> Result<Outcome, AllocError>
     requires { length lines.now ≤ max_lines + 1 }
-    ensures { IfOk result (IsAnswerOf (manner_in F.says job.now.settings.keeps_going) (compiled_query
+    ensures { IfOk result (IsAnswerOf (manner_in F.says job.now.settings) (compiled_query
         job.now.query.now) (map line_at lines.now)) }
 {
     let cutting = cutting_for(&job.settings, lines);
-    let on_fault = job.settings.on_fault();
-    let answer = answer_in_chunks::<R, G, F>(&job.crew, job.query, lines, cutting, on_fault);
-    tell_gate(job.crew.alloc, job.crew.gate, lines, &answer);
+    let policy = job.settings.policy();
+    let answer = answer_in_chunks::<R, G, F>(&job.crew, job.query, lines, cutting, policy);
+    tell_gate(&job.crew, policy.numbers, lines, &answer);
     answer
 }
 

@@ -13,7 +13,7 @@ ghost use Rattle.jp_check.specs.Plan.{planned_query};
 ghost use Rattle.jp_compiled.specs.Compiled.{compiled_query};
 ghost use Rattle.jp_check.specs.Verdict.{IsAccepted, IsVerdict};
 ghost use Rattle.jp_answer.specs.Answer.{Answer};
-ghost use Rattle.jp_run.specs.Answered.{IsAnswerBy, manner_in, manner_by, passed_in};
+ghost use Rattle.jp_run.specs.Answered.{IsAnswerBy, manner_in, manner_of, passed_in};
 ghost use Rattle.jp_run.specs.Batches.{documents_in, whole_batches, WasNotWhole, batches_before};
 ghost use Rattle.jp_run.specs.inner.Ended.{StreamEnded};
 ghost use Rattle.jp_run.specs.Handed.{Handed, IsHandedBy, IsHandedFirstBy};
@@ -103,13 +103,13 @@ pub fn run<R: Threads + Sync, S: Source, K: Sink, G: Gate + Sync>(
     // end has failed.
     ensures accepted { OnOk result ((q : Query) × IsAccepted (chars query.now) q) }
     ensures answer { OnOk result (IfSome (S.remaining source.old) (λ input. (a : Answer)
-        × IsAnswerBy (manner_by settings.now.output settings.now.keeps_going) (chars query.now) input a
+        × IsAnswerBy (manner_of settings.now) (chars query.now) input a
         × (a.stopped ≡ None) × Appends (K.contents sink.old) (K.contents sink.new) a.bytes)) }
     ensures counts { IfOk result (λ totals. IfSome (S.remaining source.old)
         (λ input. (totals.lines ≡ line_count input) × (totals.documents ≡ length (lines input)))) }
     // The faulty lines that the answer passed: none where it doesn't keep going.
     ensures faulty { IfOk result (λ totals. IfSome (S.remaining source.old)
-        (λ input. totals.faulty ≡ passed_in settings.now.keeps_going (lines input))) }
+        (λ input. totals.faulty ≡ passed_in settings.now (lines input))) }
     // None, whatever the source tells of its bytes.
     ensures none_passed { settings.now.keeps_going ≡ false → IfOk result (λ totals. totals.faulty ≡ 0) }
     ensures few_lines { IfOk result (λ totals. totals.lines ≤ max_lines) }
@@ -132,7 +132,7 @@ pub fn run<R: Threads + Sync, S: Source, K: Sink, G: Gate + Sync>(
     // The first faulty line and its fault are told, and all before it was written.
     ensures document { (line : ℕ) (fault : Fault) → IsErrOf result (RunFault.Document line fault)
         → IfSome (S.remaining source.old) (λ input. (a : Answer)
-        × IsAnswerBy (manner_by settings.now.output settings.now.keeps_going) (chars query.now) input a
+        × IsAnswerBy (manner_of settings.now) (chars query.now) input a
         × (a.stopped ≡ Some (line, fault)) × Appends (K.contents sink.old) (K.contents sink.new) a.bytes) }
     // An answer that keeps going tells no faulty line so.
     ensures goes_on { settings.now.keeps_going ≡ true → (line : ℕ) (fault : Fault)
@@ -144,7 +144,7 @@ pub fn run<R: Threads + Sync, S: Source, K: Sink, G: Gate + Sync>(
     // The lines of the whole batches among the documents whose line's end was read are written, and no more.
     ensures read { IsErrOf result RunFault.Read → (S.failed source.new ≡ true) × (bytes : List ℕ)
         × Consumes (S.remaining source.old) (S.remaining source.new) bytes
-        × IsHandedBy (manner_by settings.now.output settings.now.keeps_going) (chars query.now)
+        × IsHandedBy (manner_of settings.now) (chars query.now)
         (whole_batches settings.now.batch (documents_in bytes)) None
         (K.contents sink.old) (K.contents sink.new) }
     ensures write { IsErrOf result RunFault.Write → K.failed sink.new ≡ true }
@@ -152,7 +152,7 @@ pub fn run<R: Threads + Sync, S: Source, K: Sink, G: Gate + Sync>(
     // the last call of `read` are written, all of them: a batch is written before the read behind it.
     ensures no_read_between { IsErrOf result RunFault.Write → (bytes : List ℕ)
         × Consumes (S.remaining source.old) (S.remaining source.new) bytes
-        × IsHandedFirstBy (manner_by settings.now.output settings.now.keeps_going) (chars query.now)
+        × IsHandedFirstBy (manner_of settings.now) (chars query.now)
         (batches_before settings.now.batch bytes (S.last source.new))
         (K.contents sink.old) (K.contents sink.new) }
     ensures limit { IsErrOf result RunFault.Limit → (S.reads source.new ≡ S.reads source.old + max_reads)
@@ -162,7 +162,7 @@ pub fn run<R: Threads + Sync, S: Source, K: Sink, G: Gate + Sync>(
     ensures settings { IsErrOf result RunFault.Settings → ⊥ }
     // Whatever the fault, a front of the answer was written.
     ensures front { OnErr result (IfSome (S.remaining source.old) (λ input. (a : Answer)
-        → IsAnswerBy (manner_by settings.now.output settings.now.keeps_going) (chars query.now) input a
+        → IsAnswerBy (manner_of settings.now) (chars query.now) input a
         → AppendsFront (K.contents sink.old) (K.contents sink.new) a.bytes)) }
     ensures few { S.reads source.new ≤ S.reads source.old + max_reads }
 {
@@ -184,20 +184,20 @@ fn answer_in_form<R: Threads + Sync, S: Source, K: Sink, G: Gate + Sync>(
     requires working { (S.failed source.old ≡ false) × (K.failed sink.old ≡ false) }
     requires few { S.reads source.old ≤ 2 ^ 62 }
     ensures handed { OnOk result (IfSome (S.remaining source.old) (λ input. Handed
-        (manner_by job.now.settings.output job.now.settings.keeps_going)
+        (manner_of job.now.settings)
         (compiled_query job.now.query.now) (lines input) None
         (K.contents sink.old) (K.contents sink.new))) }
     ensures counts { IfOk result (λ totals. IfSome (S.remaining source.old)
         (λ input. (totals.lines ≡ line_count input) × (totals.documents ≡ length (lines input)))) }
     ensures passed { IfOk result (λ totals. IfSome (S.remaining source.old)
-        (λ input. totals.faulty ≡ passed_in job.now.settings.keeps_going (lines input))) }
+        (λ input. totals.faulty ≡ passed_in job.now.settings (lines input))) }
     ensures none_passed { job.now.settings.keeps_going ≡ false → IfOk result (λ totals. totals.faulty ≡ 0) }
     ensures few_lines { IfOk result (λ totals. totals.lines ≤ max_lines) }
     ensures end { OnOk result (IsAtEnd (S.remaining source.new)) }
     ensures flushed { OnOk result (K.flushed sink.new ≡ true) }
     ensures still_working { OnOk result ((S.failed source.new ≡ false) × (K.failed sink.new ≡ false)) }
     ensures passed_on { K.flushed sink.old ≡ true → IsPassedOn (K.flushed sink.new) (K.failed sink.new) }
-    ensures fault { IfErr result (StreamEnded (manner_by job.now.settings.output job.now.settings.keeps_going)
+    ensures fault { IfErr result (StreamEnded (manner_of job.now.settings)
         (compiled_query job.now.query.now)
         job.now.settings.batch (record {
           source_old = S.remaining source.old;
@@ -229,19 +229,19 @@ fn answer_stream<R: Threads + Sync, S: Source, K: Sink, G: Gate + Sync, F: Form 
     requires working { (S.failed source.old ≡ false) × (K.failed sink.old ≡ false) }
     requires few { S.reads source.old ≤ 2 ^ 62 }
     ensures handed { OnOk result (IfSome (S.remaining source.old) (λ input. Handed (manner_in F.says
-        job.now.settings.keeps_going) (compiled_query job.now.query.now) (lines input) None (K.contents
+        job.now.settings) (compiled_query job.now.query.now) (lines input) None (K.contents
         sink.old) (K.contents sink.new))) }
     ensures counts { IfOk result (λ totals. IfSome (S.remaining source.old)
         (λ input. (totals.lines ≡ line_count input) × (totals.documents ≡ length (lines input)))) }
     ensures passed { IfOk result (λ totals. IfSome (S.remaining source.old)
-        (λ input. totals.faulty ≡ passed_in job.now.settings.keeps_going (lines input))) }
+        (λ input. totals.faulty ≡ passed_in job.now.settings (lines input))) }
     ensures none_passed { job.now.settings.keeps_going ≡ false → IfOk result (λ totals. totals.faulty ≡ 0) }
     ensures few_lines { IfOk result (λ totals. totals.lines ≤ max_lines) }
     ensures end { OnOk result (IsAtEnd (S.remaining source.new)) }
     ensures flushed { OnOk result (K.flushed sink.new ≡ true) }
     ensures still_working { OnOk result ((S.failed source.new ≡ false) × (K.failed sink.new ≡ false)) }
     ensures passed_on { K.flushed sink.old ≡ true → IsPassedOn (K.flushed sink.new) (K.failed sink.new) }
-    ensures fault { IfErr result (StreamEnded (manner_in F.says job.now.settings.keeps_going)
+    ensures fault { IfErr result (StreamEnded (manner_in F.says job.now.settings)
         (compiled_query job.now.query.now)
         job.now.settings.batch (record {
           source_old = S.remaining source.old;

@@ -5,7 +5,7 @@ ghost use Rattle.jp_run.specs.Settings.{AreSettings};
 
 use crate::fault::RunFault;
 use crate::output::Output;
-use jp_answer::OnFault;
+use jp_answer::{LinePolicy, Numbers, OnFault};
 
 /// The greatest number of workers: a board has so many seats.
 const MAX_WORKERS: u64 = 64;
@@ -14,8 +14,8 @@ const MAX_WORKERS: u64 = 64;
 /// memory.
 const MAX_DOCUMENTS: u64 = 1_000_000;
 
-/// How many workers answer, how many documents are a piece, how many a batch, whether the answer keeps going,
-/// and which form it has.
+/// How many workers answer, how many documents are a piece, how many a batch, which numbers a document may
+/// have, whether the answer keeps going, and which form it has.
 #[derive(Clone, Copy, Debug, PartialEq, Eq, Drop)]
 pub struct Settings {
     /// The number of workers, 1 to 64.
@@ -26,16 +26,18 @@ pub struct Settings {
     pub batch: u64,
     /// Whether the answer keeps going after a faulty line.
     pub keeps_going: bool,
+    /// Whether a document may have every number of JSON (RFC 8259, 6), and not whole ones of 64 bits alone.
+    pub decimals: bool,
     /// What is written.
     pub output: Output,
     pub ghost in_range: { AreSettings workers piece batch },
 }
 
 impl Settings {
-    ghost use Rattle.jp_run.specs.Answered.{on_fault_of};
+    ghost use Rattle.jp_run.specs.Answered.{policy_of};
 
-    /// The settings, which take no memory. The answer ends at the first faulty line, and has a line for each
-    /// node.
+    /// The settings, which take no memory. Numbers are whole, and the answer ends at the first faulty line, and
+    /// has a line for each node.
     ///
     /// # Errors
     ///
@@ -44,6 +46,7 @@ impl Settings {
     pub fn new(workers: u64, piece: u64, batch: u64) -> Result<Settings, RunFault>
         ensures settings { IfOk result (λ s. (s.workers ≡ workers) × (s.piece ≡ piece) × (s.batch ≡ batch)) }
         ensures ends { IfOk result (λ s. s.keeps_going ≡ false) }
+        ensures whole { IfOk result (λ s. s.decimals ≡ false) }
         ensures nodes { IfOk result (λ s. s.output ≡ Output.Nodes) }
         ensures in_range { IsOk result ↔ AreSettings workers piece batch }
         ensures fault { OnErr result (IsErrOf result RunFault.Settings) }
@@ -59,25 +62,34 @@ impl Settings {
             piece,
             batch,
             keeps_going: false,
+            decimals: false,
             output: Output::Nodes,
         })
     }
 
-    /// What is done where a line is faulty.
-    pub(crate) fn on_fault(&self) -> OnFault
-        ensures { result ≡ on_fault_of self.now.keeps_going }
+    /// How lines are read, and what is done where one is faulty.
+    pub(crate) fn policy(&self) -> LinePolicy
+        ensures { result ≡ policy_of self.now.decimals self.now.keeps_going }
     {
-        if self.keeps_going {
-            OnFault::KeepGoing
-        } else {
-            OnFault::Stop
+        LinePolicy {
+            numbers: if self.decimals {
+                Numbers::Decimals
+            } else {
+                Numbers::Whole
+            },
+            on_fault: if self.keeps_going {
+                OnFault::KeepGoing
+            } else {
+                OnFault::Stop
+            },
         }
     }
 
     /// The same settings, but for an answer that keeps going after a faulty line. It takes no memory.
     pub fn keep_going(self) -> Settings
         ensures same { (result.workers ≡ self.workers) × (result.piece ≡ self.piece)
-            × (result.batch ≡ self.batch) × (result.output ≡ self.output) }
+            × (result.batch ≡ self.batch) × (result.output ≡ self.output)
+            × (result.decimals ≡ self.decimals) }
         ensures going { result.keeps_going ≡ true }
     {
         Settings {
@@ -85,6 +97,25 @@ impl Settings {
             piece: self.piece,
             batch: self.batch,
             keeps_going: true,
+            decimals: self.decimals,
+            output: self.output,
+        }
+    }
+
+    /// The same settings, but for documents that may have every number of JSON (RFC 8259, 6). It takes no
+    /// memory.
+    pub fn with_decimals(self) -> Settings
+        ensures same { (result.workers ≡ self.workers) × (result.piece ≡ self.piece)
+            × (result.batch ≡ self.batch) × (result.output ≡ self.output)
+            × (result.keeps_going ≡ self.keeps_going) }
+        ensures decimals { result.decimals ≡ true }
+    {
+        Settings {
+            workers: self.workers,
+            piece: self.piece,
+            batch: self.batch,
+            keeps_going: self.keeps_going,
+            decimals: true,
             output: self.output,
         }
     }
@@ -92,7 +123,8 @@ impl Settings {
     /// The same settings, but for an answer in this form. It takes no memory.
     pub fn with_output(self, output: Output) -> Settings
         ensures same { (result.workers ≡ self.workers) × (result.piece ≡ self.piece)
-            × (result.batch ≡ self.batch) × (result.keeps_going ≡ self.keeps_going) }
+            × (result.batch ≡ self.batch) × (result.keeps_going ≡ self.keeps_going)
+            × (result.decimals ≡ self.decimals) }
         ensures output { result.output ≡ output }
     {
         Settings {
@@ -100,6 +132,7 @@ impl Settings {
             piece: self.piece,
             batch: self.batch,
             keeps_going: self.keeps_going,
+            decimals: self.decimals,
             output,
         }
     }

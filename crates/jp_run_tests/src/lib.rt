@@ -8,6 +8,8 @@ mod batches;
 #[cfg(test)]
 mod cut_lines;
 #[cfg(test)]
+mod decimals;
+#[cfg(test)]
 mod fakes;
 #[cfg(test)]
 mod forms;

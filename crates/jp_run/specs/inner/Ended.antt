@@ -92,7 +92,7 @@ abbrev pub StreamEnded : Manner → tree.Query → ℕ → Ends → RunFault →
 StreamEnded going q batch e (Document line fault) =
     IfSome e.source_old (λ input. Handed going q (lines input) (Some (line, fault)) e.sink_old e.sink_new)
     × ((bytes : List ℕ) × Consumes e.source_old e.source_new bytes × WasNotWhole batch line bytes e.last)
-    × (going.on_fault ≡ Stop)
+    × (going.policy.on_fault ≡ Stop)
 StreamEnded going q batch e Read = (e.source_failed ≡ true) × (bytes : List ℕ)
     × Consumes e.source_old e.source_new bytes
     × Handed going q (whole_batches batch (documents_in bytes)) None e.sink_old e.sink_new

@@ -17,15 +17,15 @@ use Rattle.jp_run.specs.inner.Reading.{HasRead}
 
 -- the answer to these lines, in a form
 pub record IsAnswerOf (going : Manner) (q : Query) (ls : List Line) (a : Outcome) : Type 0 where
-  pub is : (t : Tests) → AreRight t → answer_by going.form going.on_fault t q ls ≡ outcome_of a
-  pub passed : passed_in going.on_fault ls ≡ a.faulty
+  pub is : (t : Tests) → AreRight t → answer_by going.form going.policy t q ls ≡ outcome_of a
+  pub passed : passed_in going.policy ls ≡ a.faulty
   pub few : a.faulty ≤ length ls
 
 -- what is held is the answer to these lines
 pub record IsHeld (going : Manner) (q : Query) (ls : List Line) (h : Held) : Type 0 where
   pub counted : h.count ≡ length ls
-  pub is : (t : Tests) → AreRight t → answer_by going.form going.on_fault t q ls ≡ outcome_of h.answer
-  pub passed : h.answer.faulty ≡ passed_in going.on_fault ls
+  pub is : (t : Tests) → AreRight t → answer_by going.form going.policy t q ls ≡ outcome_of h.answer
+  pub passed : h.answer.faulty ≡ passed_in going.policy ls
 
 -- after further reads: some of the lines are answered, and these wait
 pub record ReadOn (going : Manner) (q : Query) (batch : ℕ) (h : Held) (old new : Option (List ℕ)) (last : ℕ)
@@ -46,7 +46,7 @@ pub record Kept (going : Manner) (q : Query) (batch : ℕ) (all : List Line) (si
   pub whole : whole_batches batch done ≡ done
   pub handed : Handed going q done None sink_old sink_new
   pub lines : after.lines ≡ before.lines + length done
-  pub faulty : after.faulty ≡ before.faulty + passed_in going.on_fault done
+  pub faulty : after.faulty ≡ before.faulty + passed_in going.policy done
 
 -- the same, where nothing is held or fewer are left than a batch
 abbrev pub KeptSome : Manner → Query → ℕ → List Line → Option (List ℕ) → Option (List ℕ) → Answered → Answered

@@ -2,7 +2,7 @@ use Rattle.std.proofs.Common.{ℕ, ◌≡◌, ◌+◌, ◌-◌, ◌∙◌, ◌++
 use Rattle.jp_doc.specs.Lines.{Line}
 use Rattle.jp_compiled.specs.Compiled.{compiled_query}
 use Rattle.jp_answer.specs.Rows.{shown_lines}
-use Rattle.jp_run.specs.Answered.{on_fault_of}
+use Rattle.jp_run.specs.Answered.{policy_of}
 use Rattle.jp_run.proofs.Handing.{from_ok}
 use Rattle.jp_run.proofs.Taking.{taken_ok, answered_of, were_both, from_progress}
 use Rattle.jp_run.proofs.ahead.read_beside.Goals as goal
@@ -26,9 +26,10 @@ returns g c =
           record {
             counted = omega (arith, were.counted);
             few = were.few;
-            is = answered_of g.F.Form.says c.on_fault.result (on_fault_of c.args.job.now.settings.keeps_going)
+            is = answered_of g.F.Form.says c.policy.result
+                (policy_of c.args.job.now.settings.decimals c.args.job.now.settings.keeps_going)
                 (compiled_query c.args.job.now.query.now) (shown_lines given.published) all answer
-                c.on_fault.ensures shown
+                c.policy.ensures shown
                 (from_ok c.join_row-answer.result answer _ c.in_ok-answer.was c.join_row-answer.ensures);
           },
           from_progress left c.args.lines before.0 c.publish_waiting.new.incoming.buffer.lines

@@ -10,7 +10,7 @@ use Rattle.jp_run.proofs.ahead.read_on.Goals as goal
 
 pub returns-clause-read : goal.returns-clause-read
 returns-clause-read g c = λ held is.
-    let going = manner_in g.F.Form.says c.args.job.now.settings.keeps_going in
+    let going = manner_in g.F.Form.says c.args.job.now.settings in
     let q = compiled_query c.args.job.now.query.now in
     let batch = c.args.job.now.settings.batch in
     let left : ℕ = batch - c.args.stream.now.held.count in

@@ -8,7 +8,7 @@ use Rattle.jp_run.proofs.batches.answer_batches.Goals as goal
 
 pub returns-then-stream-gt0-clause-kept : goal.returns-then-stream-gt0-clause-kept
 returns-then-stream-gt0-clause-kept g c = λ held is.
-    some_few (manner_in g.F.Form.says c.args.job.now.settings.keeps_going) (compiled_query
+    some_few (manner_in g.F.Form.says c.args.job.now.settings) (compiled_query
     c.args.job.now.query.now) c.args.job.now.settings.batch
     c.args.job.now.settings.in_range.2.0 _ _ _ _ _ _ _ (c.in_ok-complete_batch.ensures.kept held is)
     c.if-stream-gt0.true
@@ -17,7 +17,7 @@ pub returns-in_err-count-clause-fault : goal.returns-in_err-count-clause-fault
 returns-in_err-count-clause-fault g c = λ held is.
     let k = c.in_ok-complete_batch.ensures.kept held is in
     told _ _ _ c.from_residual-in_err-count.ensures.1
-    (more_ended (manner_in g.F.Form.says c.args.job.now.settings.keeps_going) (compiled_query
+    (more_ended (manner_in g.F.Form.says c.args.job.now.settings) (compiled_query
     c.args.job.now.query.now) c.args.job.now.settings.batch
     c.args.job.now.settings.in_range.2.0 _ _ _ _ _ _ _ _ c.complete_batch.new.stream.answered _ k.0
     (nil_from_length k.0.held (omega (arith, k.0.is_held.counted, c.if-stream-gt0.false))) refl _ _
@@ -26,7 +26,7 @@ returns-in_err-count-clause-fault g c = λ held is.
 pub returns-clause-kept : goal.returns-clause-kept
 returns-clause-kept g c = λ held is.
     let k = c.in_ok-complete_batch.ensures.kept held is in
-    more_few (manner_in g.F.Form.says c.args.job.now.settings.keeps_going) (compiled_query
+    more_few (manner_in g.F.Form.says c.args.job.now.settings) (compiled_query
     c.args.job.now.query.now) c.args.job.now.settings.batch
     c.args.job.now.settings.in_range.2.0 _ c.complete_batch.new.stream.incoming.buffer.lines
     c.take_away.new.self.lines

@@ -3,7 +3,7 @@ use Rattle.std.proofs.lemmas.List.{length-map}
 use Rattle.jp_buffer.specs.Buffered.{line_at}
 use Rattle.jp_answer.specs.Answered.{outcome_of}
 use Rattle.jp_answer.proofs.OnFaults.{passed_few}
-use Rattle.jp_run.specs.Answered.{on_fault_of}
+use Rattle.jp_run.specs.Answered.{policy_of}
 use Rattle.jp_run.proofs.Handing.{told, handing_done, ended_handing}
 use Rattle.jp_run.proofs.batches.answer_lines.Goals as goal
 
@@ -20,6 +20,7 @@ pub returns-clause-few_faulty : goal.returns-clause-few_faulty
 returns-clause-few_faulty g c = omega (
   arith,
   c.in_ok-answer.ensures.passed,
-  passed_few (on_fault_of c.args.job.now.settings.keeps_going) (map line_at c.args.lines.now),
+  passed_few (policy_of c.args.job.now.settings.decimals c.args.job.now.settings.keeps_going)
+      (map line_at c.args.lines.now),
   length-map c.args.lines.now line_at,
 )

@@ -11,7 +11,7 @@ use Rattle.jp_run.proofs.batches.answer_rest.Goals as goal
 
 pub returns-in_err-hand_out-clause-fault : goal.returns-in_err-hand_out-clause-fault
 returns-in_err-hand_out-clause-fault g c = λ held is.
-    let k = manner_in g.F.Form.says c.args.job.now.settings.keeps_going in
+    let k = manner_in g.F.Form.says c.args.job.now.settings in
     let q = compiled_query c.args.job.now.query.now in
     let failed : Bool = g.K.Sink.failed c.hand_out.new.sink in
     let old = g.K.Sink.contents c.args.sink.now in
@@ -27,7 +27,7 @@ returns-in_err-hand_out-clause-fault g c = λ held is.
 
 pub returns-clause-handed : goal.returns-clause-handed
 returns-clause-handed g c = λ held is.
-    let k = manner_in g.F.Form.says c.args.job.now.settings.keeps_going in
+    let k = manner_in g.F.Form.says c.args.job.now.settings in
     let q = compiled_query c.args.job.now.query.now in
     let old = g.K.Sink.contents c.args.sink.now in
     let new = g.K.Sink.contents c.hand_out.new.sink in

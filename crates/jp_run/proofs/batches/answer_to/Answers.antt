@@ -5,7 +5,7 @@ use Rattle.jp_run.proofs.Holding.{answer_so, in_manner}
 use Rattle.jp_run.proofs.batches.answer_to.Goals as goal
 
 pub returns : goal.returns
-returns g c = in_manner g.F.Form.says _ _ _ (map line_at c.args.lines.now) _ c.on_fault-on_fault.ensures
-    (answer_so (manner g.F.Form.says c.on_fault-on_fault.result) _ (map line_at c.args.lines.now)
+returns g c = in_manner g.F.Form.says _ _ _ (map line_at c.args.lines.now) _ c.policy-policy.ensures
+    (answer_so (manner g.F.Form.says c.policy-policy.result) _ (map line_at c.args.lines.now)
     c.answer_in_chunks-answer.result c.answer_in_chunks-answer.ensures.answer
     c.answer_in_chunks-answer.ensures.passed)

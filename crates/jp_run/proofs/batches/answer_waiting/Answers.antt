@@ -9,7 +9,7 @@ use Rattle.jp_run.proofs.batches.answer_waiting.Goals as goal
 
 pub returns-then-len-job-clause-passed : goal.returns-then-len-job-clause-passed
 returns-then-len-job-clause-passed g c =
-    partly_passed (manner_in g.F.Form.says c.args.job.now.settings.keeps_going) (compiled_query
+    partly_passed (manner_in g.F.Form.says c.args.job.now.settings) (compiled_query
     c.args.job.now.query.now) c.args.job.now.settings.batch
     c.args.buffer.now.lines c.args.buffer.now.lines (g.K.Sink.contents c.args.sink.now)
     (g.K.Sink.contents c.args.sink.now) (partly_start _ _ _ _ _) c.args.job.now.settings.in_range.2.0
@@ -23,7 +23,7 @@ returns-then-len-job-clause-handed g c =
 pub returns-clause-fault : goal.returns-clause-fault
 returns-clause-fault g c =
     subst (λ (ls : List Line). IfErr c.answer_whole.result (AnswerEnded
-    (manner_in g.F.Form.says c.args.job.now.settings.keeps_going) (compiled_query c.args.job.now.query.now) ls
+    (manner_in g.F.Form.says c.args.job.now.settings) (compiled_query c.args.job.now.query.now) ls
     (g.K.Sink.failed c.answer_whole.new.sink) (g.K.Sink.contents c.args.sink.now)
     (g.K.Sink.contents c.answer_whole.new.sink)))
     (ap (map line_at) c.deref.ensures.value ∙ c.in_ok-lines.ensures) c.answer_whole.ensures.fault

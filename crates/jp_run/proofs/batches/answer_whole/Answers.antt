@@ -48,7 +48,7 @@ loop-done-preserved g c = record {
       (front_is c.args.job.now.settings.batch c.loop-done.done c.args.lines.now _ c.batch_at-front.ensures)
       (sym (drop-drop c.args.job.now.settings.batch c.loop-done.done (map line_at c.args.lines.now)))
       c.in_ok-faulty.ensures.handed;
-  passed = (passed_next (manner_in g.F.Form.says c.args.job.now.settings.keeps_going) _ _ _ _
+  passed = (passed_next (manner_in g.F.Form.says c.args.job.now.settings) _ _ _ _
       c.args.job.now.settings.batch _ _
       c.loop-done.invariant.passed
       (front_is c.args.job.now.settings.batch c.loop-done.done c.args.lines.now _ c.batch_at-front.ensures)
@@ -59,8 +59,8 @@ loop-done-preserved g c = record {
 pub overflow_add-faulty : goal.overflow_add-faulty
 overflow_add-faulty g c = omega (
   arith,
-  passed_within (manner_in g.F.Form.says c.args.job.now.settings.keeps_going) _ _ _ _
-      (passed_next (manner_in g.F.Form.says c.args.job.now.settings.keeps_going) _ _ _ _
+  passed_within (manner_in g.F.Form.says c.args.job.now.settings) _ _ _ _
+      (passed_next (manner_in g.F.Form.says c.args.job.now.settings) _ _ _ _
       c.args.job.now.settings.batch _ _
       c.loop-done.invariant.passed
       (front_is c.args.job.now.settings.batch c.loop-done.done c.args.lines.now _ c.batch_at-front.ensures)

@@ -10,12 +10,12 @@ invariant-loop-done g l = record {
   working : g.K.Sink.failed l.sink ≡ false;
   flushed : g.K.Sink.flushed l.fn.sink ≡ true → g.K.Sink.flushed l.sink ≡ true;
   within : l.done ≤ length l.lines;
-  partly : Partly (manner_in g.F.Form.says l.job.settings.keeps_going) (compiled_query l.job.query.now)
+  partly : Partly (manner_in g.F.Form.says l.job.settings) (compiled_query l.job.query.now)
       l.job.settings.batch
       (map line_at l.lines) (drop l.done (map line_at l.lines))
       (g.K.Sink.contents l.fn.sink) (g.K.Sink.contents l.sink);
-  passed : passed_in l.job.settings.keeps_going (map line_at l.lines)
-      ≡ l.faulty + passed_in l.job.settings.keeps_going (drop l.done (map line_at l.lines));
+  passed : passed_in l.job.settings (map line_at l.lines)
+      ≡ l.faulty + passed_in l.job.settings (drop l.done (map line_at l.lines));
 }
 
 abbrev pub decreases-loop-done : goal.decreases-loop-done

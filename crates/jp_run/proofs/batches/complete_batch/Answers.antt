@@ -11,7 +11,7 @@ use Rattle.jp_run.proofs.batches.complete_batch.Goals.{then-held-eq0-via-else-he
 
 pub returns-then-held-eq0-clause-kept : goal.returns-then-held-eq0-clause-kept
 returns-then-held-eq0-clause-kept g c = λ held is.
-    same_some (manner_in g.F.Form.says c.args.job.now.settings.keeps_going) (compiled_query
+    same_some (manner_in g.F.Form.says c.args.job.now.settings) (compiled_query
     c.args.job.now.query.now) c.args.job.now.settings.batch
     c.args.job.now.settings.in_range.2.0 held c.args.stream.now.incoming.buffer.lines _ _ _ is
     c.requires.going_on
@@ -32,7 +32,7 @@ overflow_sub-count g c = omega (arith, c.requires.within)
 
 pub returns-in_err-hand_out-clause-fault : goal.returns-in_err-hand_out-clause-fault
 returns-in_err-hand_out-clause-fault g c = λ held is. told _ _ _ c.from_residual-in_err-hand_out.ensures.1
-    (front_ended (manner_in g.F.Form.says c.args.job.now.settings.keeps_going) (compiled_query
+    (front_ended (manner_in g.F.Form.says c.args.job.now.settings) (compiled_query
     c.args.job.now.query.now) held
     c.args.stream.now.incoming.buffer.lines (c.args.job.now.settings.batch - c.args.stream.now.held.count)
     c.args.stream.now.held c.put.new.self c.in_ok-more.more is
@@ -45,7 +45,7 @@ pub returns-clause-kept : goal.returns-clause-kept
 returns-clause-kept g c = λ held is.
     let count : ℕ = c.args.job.now.settings.batch - c.args.stream.now.held.count in
     let waiting = c.args.stream.now.incoming.buffer.lines in
-    let k = manner_in g.F.Form.says c.args.job.now.settings.keeps_going in
+    let k = manner_in g.F.Form.says c.args.job.now.settings in
     let q = compiled_query c.args.job.now.query.now in
     let fits : count ≤ length waiting = omega (arith, c.if-held-len.false, c.len.ensures) in
     whole_some k q c.args.job.now.settings.batch c.args.job.now.settings.in_range.2.0 held waiting

@@ -1,6 +1,7 @@
 use Rattle.std.proofs.Common.{◌∙◌, ◌+◌, ◌++◌, inl, ap, arith}
 use Rattle.jp_doc.specs.Feeding.{finished_lines}
-use Rattle.jp_run.specs.Answered.{on_fault_of}
+use Rattle.jp_answer.specs.Policy.{numbers_in}
+use Rattle.jp_run.specs.Answered.{numbers_of, on_fault_of}
 use Rattle.jp_run.specs.Limits.{max_lines}
 use Rattle.jp_run.proofs.Handing.{told, told_so, ok_so, is_flushed, ended_more, ended_handing}
 use Rattle.jp_run.proofs.Holding.{held_nothing}
@@ -182,7 +183,8 @@ returns-then-ended-clause-none_passed g c =
     (c.in_ok-answer_batches.ensures.kept rd.held rd.is_held) c.in_ok-answer_batches.ensures.progress in
     let lines = c.answer_batches.new.stream.incoming.buffer.lines in
     let fin = finished_lines c.answer_batches.new.stream.incoming.buffer.progress in
-    λ off. none_ok (on_fault_of c.args.job.now.settings.keeps_going) _ ((ge.held ++ lines) ++ fin) _
+    λ off. none_ok (on_fault_of c.args.job.now.settings.keeps_going)
+    (numbers_in (numbers_of c.args.job.now.settings.decimals)) _ ((ge.held ++ lines) ++ fin) _
     c.answer_rest.result ge.stands.passed
     (ok_so c.answer_rest.result _ _ (λ t e. e ∙ ap (λ n. c.answer_batches.new.stream.answered.faulty + n)
     (passed_all _ _ ge.held lines fin _ ge.is_held))

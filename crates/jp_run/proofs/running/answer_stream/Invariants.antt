@@ -12,7 +12,7 @@ invariant-loop-stream g l = record {
   sink_working : g.K.Sink.failed l.sink ≡ false;
   flushed : g.K.Sink.flushed l.fn.sink ≡ true → g.K.Sink.flushed l.sink ≡ true;
   going_on : (outcome_of l.stream.held.answer).stopped ≡ None;
-  goes : Goes (manner_in g.F.Form.says l.job.settings.keeps_going) (compiled_query l.job.query.now)
+  goes : Goes (manner_in g.F.Form.says l.job.settings) (compiled_query l.job.query.now)
       l.job.settings.batch
       (g.S.Source.remaining l.fn.source)
       (g.S.Source.remaining l.source) (g.K.Sink.contents l.fn.sink) (g.K.Sink.contents l.sink)

@@ -1,16 +1,10 @@
 use Rattle.std.proofs.Common.{refl}
 use Rattle.jp_compiled.specs.Compiled.{compiled_query}
 use Rattle.jp_run.specs.declared.fault.RunFault.TheVariants.{Document, Read, Write, Limit}
-use Rattle.jp_answer.specs.OnFault.{Manner}
-use Rattle.jp_run.specs.Answered.{manner_by}
-use Rattle.jp_run.specs.declared.settings.Settings.{Settings}
+use Rattle.jp_run.specs.Answered.{manner_of}
 use Rattle.jp_run.proofs.Runs.{not_both, refused_so, at_fault, accepted_ok, answer_known, answer_ok}
 use Rattle.jp_run.proofs.Runs.{front_err, not_going, spelled}
 use Rattle.jp_run.proofs.running.run.Goals as goal
-
--- how the answer is written
-abbrev going : Settings → Manner
-going s = manner_by s.output s.keeps_going
 
 pub returns-in_err-plan-clause-refused : goal.returns-in_err-plan-clause-refused
 returns-in_err-plan-clause-refused g c =
@@ -29,14 +23,14 @@ pub returns-clause-refused : goal.returns-clause-refused
 returns-clause-refused g c = λ f v. not_both _ _ f c.in_ok-plan.ensures.ok v
 
 pub returns-clause-answer : goal.returns-clause-answer
-returns-clause-answer g c = answer_ok (going c.args.settings.now) _ _ (spelled _ _ _ c.compiled.ensures
+returns-clause-answer g c = answer_ok (manner_of c.args.settings.now) _ _ (spelled _ _ _ c.compiled.ensures
     c.in_ok-plan.ensures.ok) _ _ _ _ c.answer_in_form.ensures.handed
 
 pub returns-clause-counts : goal.returns-clause-counts
 returns-clause-counts g c = c.answer_in_form.ensures.counts
 
 pub returns-clause-document : goal.returns-clause-document
-returns-clause-document g c = λ line fault e. answer_known (going c.args.settings.now) _ _ (spelled _ _
+returns-clause-document g c = λ line fault e. answer_known (manner_of c.args.settings.now) _ _ (spelled _ _
     _ c.compiled.ensures c.in_ok-plan.ensures.ok) _ _ _ _
     (at_fault _ (Document line fault) _ e c.answer_in_form.ensures.fault).0
 
@@ -87,7 +81,7 @@ pub returns-clause-limit : goal.returns-clause-limit
 returns-clause-limit g c = λ e. (at_fault c.answer_in_form.result Limit _ e c.answer_in_form.ensures.fault).0
 
 pub returns-clause-front : goal.returns-clause-front
-returns-clause-front g c = front_err (going c.args.settings.now) _ _ (spelled _ _ _ c.compiled.ensures
+returns-clause-front g c = front_err (manner_of c.args.settings.now) _ _ (spelled _ _ _ c.compiled.ensures
     c.in_ok-plan.ensures.ok) c.answer_in_form.result _
     c.args.settings.now.in_range.2.0 _ c.answer_in_form.ensures.fault
 
