@@ -1,6 +1,7 @@
 -- Answers to lines that were published in a row, joined.
 use Rattle.std.proofs.Common.{◌≡◌, ℕ, ◌+◌, ◌<◌, ◌≤◌, List, [], ◌∷◌, ◌++◌, length, take, drop, get_or, set}
-use Rattle.std.proofs.Common.{replicate, Option, Some, None, false, true, refl, sym, ap, subst, ◌∙◌, ⊎_elim, arith}
+use Rattle.std.proofs.Common.{replicate, Option, Some, None, false, true, refl, sym, ap, subst, ◌∙◌, ⊎_elim}
+use Rattle.std.proofs.Common.{arith}
 use Rattle.std.proofs.Common.{add-one, length-append, take-append-drop, Result, Ok, Err}
 use Rattle.std.proofs.lemmas.Bool.{cases_eq, cases_lt}
 use Rattle.std.proofs.lemmas.List.{get_or_append_left, get_or_push, get_or-set_same, get_or-set_other}
@@ -99,7 +100,8 @@ fault_both : (n : ℕ) (r : Result Json DocFault) (a b : Option (ℕ × DocFault
 fault_both n (Ok root) a b both none e h = e
 fault_both n (Err fault) a b both none e h = absurd (cc)
 
-pub rest_none : (n : ℕ) (r : Result Json DocFault) (a : Option (ℕ × DocFault)) → fault_or n r a ≡ None → a ≡ None
+pub rest_none : (n : ℕ) (r : Result Json DocFault) (a : Option (ℕ × DocFault)) → fault_or n r a ≡ None
+    → a ≡ None
 rest_none n (Ok root) a h = h
 rest_none n (Err fault) a h = absurd (cc)
 

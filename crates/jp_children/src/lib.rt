@@ -1,5 +1,5 @@
-//! Some of a value's children: the item at an index (RFC 9535, 2.3.3), the items of a slice (2.3.4), and ranges
-//! of children that can be cut in two.
+//! Some of a value's children: the item at an index (RFC 9535, 2.3.3), the items of a slice (2.3.4), and
+//! ranges of children that can be cut in two.
 #![tactic(auto)]
 
 mod child_range;

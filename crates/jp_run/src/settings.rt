@@ -36,8 +36,8 @@ pub struct Settings {
 impl Settings {
     ghost use Rattle.jp_run.specs.Answered.{policy_of};
 
-    /// The settings, which take no memory. Numbers are whole, and the answer ends at the first faulty line, and
-    /// has a line for each node.
+    /// The settings, which take no memory. Numbers are whole, and the answer ends at the first faulty line,
+    /// and has a line for each node.
     ///
     /// # Errors
     ///

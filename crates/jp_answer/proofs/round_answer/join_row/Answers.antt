@@ -1,4 +1,5 @@
-use Rattle.std.proofs.Common.{◌∙◌, ◌+◌, ◌<◌, sym, ap, subst, arith, length, take, drop, get_or, set, List, None, ◌++◌}
+use Rattle.std.proofs.Common.{◌∙◌, ◌+◌, ◌<◌, sym, ap, subst, arith, length, take, drop, get_or, set, List}
+use Rattle.std.proofs.Common.{None, ◌++◌}
 use Rattle.std.proofs.Math.Seq.{take-length}
 use Rattle.jp_doc.specs.Lines.{Line}
 use Rattle.jp_compiled.specs.Compiled.{compiled_query}
