@@ -62,7 +62,15 @@ one_wish words v w a b =
     (flag_same v.check w.check (sym a.1.check ∙ b.1.check))
     ∙ ap (λ (o : Output). record v { query = w.query; check = w.check; output = o })
     (output_same v.output w.output (sym a.1.output ∙ b.1.output))
-    ∙ ap (λ (k : Bool). record v { query = w.query; check = w.check; output = w.output; keeps_going = k })
+    ∙ ap (λ (d : Bool). record v { query = w.query; check = w.check; output = w.output; decimals = d })
+    (flag_same v.decimals w.decimals (sym a.1.decimals ∙ b.1.decimals))
+    ∙ ap (λ (k : Bool). record w {
+      keeps_going = k;
+      explain = v.explain;
+      workers = v.workers;
+      piece = v.piece;
+      batch = v.batch;
+    })
     (flag_same v.keeps_going w.keeps_going (sym a.1.keeps_going ∙ b.1.keeps_going))
     ∙ ap (λ (x : Bool). record w { explain = x; workers = v.workers; piece = v.piece; batch = v.batch })
     (flag_same v.explain w.explain (sym a.1.explain ∙ b.1.explain))

@@ -4,7 +4,8 @@ use Rattle.std.proofs.Common.{Result, Ok, Err, IfOk, OnOk, refl, subst, arith}
 use Rattle.std.specs.Io.KnownBytes.{IsAtEnd}
 use Rattle.clap.specs.Walk.{Text}
 use Rattle.jp_doc.specs.Lines.{lines}
-use Rattle.jp_run.specs.Answered.{passed_in}
+use Rattle.jp_answer.specs.OnFault.{passed_in}
+use Rattle.jp_run.specs.Answered.{policy_of}
 use Rattle.jp_run.specs.declared.fault.RunFault.{RunFault}
 use Rattle.jp_run.specs.declared.running.Totals.{Totals}
 use Rattle.jp_program.specs.inner.Asked.{IsAsked, wanted_of}
@@ -23,7 +24,8 @@ module _ (words : List Text) (w : Wanted) (wants : WantsRun words w) (input old 
     (flushed source_failed sink_failed : Bool) where
   pub finished_ok : (Shown Checked : Type 0) (r : Result Totals RunFault) → OnOk r (IsTaken w.query)
       → OnOk r (IsToldIn w.keeps_going w None input old new)
-      → IfOk r (λ totals. IfSome input (λ bytes. totals.faulty ≡ passed_in w.keeps_going (lines bytes)))
+      → IfOk r (λ totals. IfSome input (λ bytes. totals.faulty
+      ≡ passed_in (policy_of w.decimals w.keeps_going) (lines bytes)))
       → OnOk r (IsAtEnd rest) → OnOk r (flushed ≡ true)
       → OnOk r ((source_failed ≡ false) × (sink_failed ≡ false))
       → IfOk r (λ totals. totals.faulty ≡ 0 → Shown ⊎ Checked ⊎ ((x : Wanted) × WantsRun words x
@@ -43,7 +45,8 @@ module _ (words : List Text) (w : Wanted) (wants : WantsRun words w) (input old 
 
   past_by : (going : Bool) → w.keeps_going ≡ going → (r : Result Totals RunFault)
       → OnOk r (IsToldIn w.keeps_going w None input old new)
-      → IfOk r (λ totals. IfSome input (λ bytes. totals.faulty ≡ passed_in w.keeps_going (lines bytes)))
+      → IfOk r (λ totals. IfSome input (λ bytes. totals.faulty
+      ≡ passed_in (policy_of w.decimals w.keeps_going) (lines bytes)))
       → (w.keeps_going ≡ false → IfOk r (λ totals. totals.faulty ≡ 0))
       → OnOk r (IsAtEnd rest) → OnOk r (flushed ≡ true)
       → OnOk r ((source_failed ≡ false) × (sink_failed ≡ false))
@@ -58,7 +61,8 @@ module _ (words : List Text) (w : Wanted) (wants : WantsRun words w) (input old 
     is,
     past w input old new totals.faulty
         (subst (λ g. IsToldIn g w None input old new) is told)
-        (subst (λ g. IfSome input (λ bytes. totals.faulty ≡ passed_in g (lines bytes))) is faulty) lt,
+        (subst (λ g. IfSome input (λ bytes. totals.faulty ≡ passed_in (policy_of w.decimals g) (lines bytes)))
+        is faulty) lt,
     end,
     passed,
     working.0,
@@ -67,7 +71,8 @@ module _ (words : List Text) (w : Wanted) (wants : WantsRun words w) (input old 
   past_by going is (Err fault) told faulty none end passed working = tt
 
   pub past_ok : (r : Result Totals RunFault) → OnOk r (IsToldIn w.keeps_going w None input old new)
-      → IfOk r (λ totals. IfSome input (λ bytes. totals.faulty ≡ passed_in w.keeps_going (lines bytes)))
+      → IfOk r (λ totals. IfSome input (λ bytes. totals.faulty
+      ≡ passed_in (policy_of w.decimals w.keeps_going) (lines bytes)))
       → (w.keeps_going ≡ false → IfOk r (λ totals. totals.faulty ≡ 0))
       → OnOk r (IsAtEnd rest) → OnOk r (flushed ≡ true)
       → OnOk r ((source_failed ≡ false) × (sink_failed ≡ false))

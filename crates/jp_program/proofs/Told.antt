@@ -8,7 +8,7 @@ use Rattle.std.specs.List.{filter}
 use Rattle.std.specs.Io.KnownBytes.{Appends, Keeps}
 use Rattle.jp_doc.specs.Json.{Json}
 use Rattle.jp_doc.specs.Lines.{Line, lines}
-use Rattle.jp_doc.specs.Reading.{reading}
+use Rattle.jp_doc.specs.ReadingIn.{Numbers, reading_in}
 use Rattle.jp_doc.specs.declared.fault.DocFault.{DocFault}
 use Rattle.jp_tree.specs.Tree as tree
 use Rattle.jp_tree.specs.Tree.{Text}
@@ -16,7 +16,9 @@ use Rattle.jp_tree.specs.declared.fault.QueryFault.{QueryFault}
 use Rattle.jp_regexp.specs.Tests.{Tests}
 use Rattle.jp_answer.specs.Answer.{Answer, answer_as, after, line_answer, document_bytes}
 use Rattle.jp_output.specs.OutputForm.{OutputForm}
-use Rattle.jp_run.specs.Answered.{IsAnswerBy, manner_in, passed_in}
+use Rattle.jp_answer.specs.OnFault.{passed_in}
+use Rattle.jp_answer.specs.Policy.{numbers_in}
+use Rattle.jp_run.specs.Answered.{IsAnswerBy, numbers_of, policy_of, manner_by}
 use Rattle.jp_run.specs.Forms.{form_of}
 use Rattle.jp_run.specs.Status.{status_of}
 use Rattle.jp_run.specs.declared.fault.RunFault.{RunFault}
@@ -76,29 +78,32 @@ cut_kept w failed a b old new after h k = (
 
 -- where no line is faulty, the answer that keeps going is the other one
 
-module _ (form : OutputForm) (t : Tests) (q : tree.Query) where
+module _ (n : Numbers) (form : OutputForm) (t : Tests) (q : tree.Query) where
   agree_by : (l : Line) (ls : List Line) (r : Result Json DocFault)
-      → length (cond (is_err r) (l ∷ filter is_faulty ls) (filter is_faulty ls)) ≡ 0
-      → (faulty_lines ls ≡ 0
-      → answer_as form t q ls ≡ record { bytes = (whole_as form t q ls).bytes; stopped = None })
-      → line_answer form t q l r (answer_as form t q ls)
-      ≡ record { bytes = document_or_fault form t q l r ++ (whole_as form t q ls).bytes; stopped = None }
+      → length (cond (is_err r) (l ∷ filter (is_faulty n) ls) (filter (is_faulty n) ls)) ≡ 0
+      → (faulty_lines n ls ≡ 0
+      → answer_as n form t q ls ≡ record { bytes = (whole_as n form t q ls).bytes; stopped = None })
+      → line_answer form t q l r (answer_as n form t q ls)
+      ≡ record { bytes = document_or_fault form t q l r ++ (whole_as n form t q ls).bytes; stopped = None }
   agree_by l ls (Ok root) e h = ap (after (document_bytes form t q l root)) (h e)
   agree_by l ls (Err f) e h = absurd (omega (arith, e))
 
-  agree : (ls : List Line) → faulty_lines ls ≡ 0
-      → answer_as form t q ls ≡ record { bytes = (whole_as form t q ls).bytes; stopped = None }
+  agree : (ls : List Line) → faulty_lines n ls ≡ 0
+      → answer_as n form t q ls ≡ record { bytes = (whole_as n form t q ls).bytes; stopped = None }
   agree [] e = refl
-  agree (l ∷ ls) e = agree_by l ls (reading l.1) e (agree ls)
+  agree (l ∷ ls) e = agree_by l ls (reading_in n l.1) e (agree ls)
 
 -- the wanted answer, of an answer that keeps going or not, which stopped there, was appended
 abbrev pub IsToldIn : Bool → Wanted → Option (ℕ × DocFault) → Option (List ℕ) → Option (List ℕ)
     → Option (List ℕ) → Type 0
 IsToldIn going w stopped input old new = IfSome input (λ bytes. (a : Answer)
-    × IsAnswerBy (manner_in (form_of w.output) going) w.query bytes a × (a.stopped ≡ stopped)
+    × IsAnswerBy (manner_by w.output w.decimals going) w.query bytes a × (a.stopped ≡ stopped)
     × Appends old new a.bytes)
 
 module _ (w : Wanted) where
+  abbrev numbers : Numbers
+  numbers = numbers_in (numbers_of w.decimals)
+
   pub told_stop : (going : Bool) (stopped : Option (ℕ × DocFault)) (input old new : Option (List ℕ))
       → IsToldIn going w stopped input old new → (going ≡ true → ⊥) → IsAnswered w stopped input old new
   told_stop false stopped None old new h off = tt
@@ -106,7 +111,8 @@ module _ (w : Wanted) where
   told_stop true stopped input old new h off = absurd (off refl)
 
   pub fine : (going : Bool) (input old new : Option (List ℕ)) (n : ℕ) → IsToldIn going w None input old new
-      → IfSome input (λ bytes. n ≡ passed_in going (lines bytes)) → n ≡ 0 → IsAnswered w None input old new
+      → IfSome input (λ bytes. n ≡ passed_in (policy_of w.decimals going) (lines bytes)) → n ≡ 0
+      → IsAnswered w None input old new
   fine going None old new n h c e = tt
   fine false (Some bytes) old new n h c e = h
   fine true (Some bytes) old new n h c e = (
@@ -114,20 +120,20 @@ module _ (w : Wanted) where
     (
       h.1.0,
       h.1.1,
-      λ t right. agree (form_of w.output) t h.1.0 (lines bytes) (sym c ∙ e) ∙ h.1.2 t right,
+      λ t right. agree numbers (form_of w.output) t h.1.0 (lines bytes) (sym c ∙ e) ∙ h.1.2 t right,
     ),
     h.2,
     h.3,
   )
 
   pub past : (input old new : Option (List ℕ)) (n : ℕ) → IsToldIn true w None input old new
-      → IfSome input (λ bytes. n ≡ faulty_lines (lines bytes)) → 0 < n → IsPast w input old new
+      → IfSome input (λ bytes. n ≡ faulty_lines numbers (lines bytes)) → 0 < n → IsPast w input old new
   past None old new n h c lt = tt
   past (Some bytes) old new n h c lt = (
     h.1.0,
     h.1.1,
     record { bytes = h.0.bytes; faulty = n },
-    λ t right. ap (λ (r : Answer). record { bytes = r.bytes; faulty = faulty_lines (lines bytes) })
+    λ t right. ap (λ (r : Answer). record { bytes = r.bytes; faulty = faulty_lines numbers (lines bytes) })
         (h.1.2 t right) ∙ ap (λ k. record { bytes = h.0.bytes; faulty = k }) (sym c),
     lt,
     h.3,

@@ -45,11 +45,12 @@ with_numbers a = with_rule (with_rule (with_rule a (number_rule (codes "workers"
     (number_rule (codes "piece") (codes "64"))) (number_rule (codes "batch") (codes "4096"))
 
 abbrev pub with_query : App → App
-with_query a = with_rule (with_rule (with_rule (with_rule a (flag_rule (codes "check")))
-    (flag_rule (codes "keep-going"))) (flag_rule (codes "explain"))) query_rule
+with_query a = with_rule (with_rule (with_rule (with_rule (with_rule a (flag_rule (codes "check")))
+    (flag_rule (codes "decimals"))) (flag_rule (codes "keep-going"))) (flag_rule (codes "explain")))
+    query_rule
 
--- `jp [--output FORM] [--workers N] [--piece N] [--batch N] [--check] [--keep-going] [--explain] QUERY`, with
--- `--help` and `--version`
+-- `jp [--output FORM] [--workers N] [--piece N] [--batch N] [--check] [--decimals] [--keep-going] [--explain]
+-- QUERY`, with `--help` and `--version`
 abbrev pub jp_app : App
 jp_app = with_query (with_numbers (with_output (with_version (new_app (codes "jp")))))
 

@@ -1,5 +1,5 @@
 -- What a status tells of both ends, where a run of a query was wanted.
-use Rattle.std.specs.Prelude.{◌≡◌, ℕ, ◌+◌, ◌<◌, ◌⊎◌, Bool, true, List, Option, None, IfSome}
+use Rattle.std.specs.Prelude.{◌≡◌, ℕ, ◌+◌, ◌<◌, ◌⊎◌, Bool, true, false, List, Option, None, IfSome}
 use Rattle.std.specs.Io.KnownBytes.{Appends, Consumes}
 use Rattle.jp_doc.specs.Lines.{lines, line_count}
 use Rattle.jp_doc.specs.declared.fault.DocFault.{DocFault}
@@ -7,10 +7,9 @@ use Rattle.jp_tree.specs.Tree.{Text, Query}
 use Rattle.jp_regexp.specs.Tests.{Tests, AreRight}
 use Rattle.jp_check.specs.Verdict.{IsAccepted}
 use Rattle.jp_answer.specs.Answer.{Answer}
-use Rattle.jp_answer.specs.OnFault.{manner}
+use Rattle.jp_answer.specs.Policy.{numbers_in}
 use Rattle.jp_answer.specs.Whole.{Whole, whole_as}
-use Rattle.jp_answer.specs.declared.on_fault.OnFault.TheVariants.{Stop}
-use Rattle.jp_run.specs.Answered.{IsAnswerBy, manner_by}
+use Rattle.jp_run.specs.Answered.{IsAnswerBy, numbers_of, manner_by}
 use Rattle.jp_run.specs.Batches.{documents_in, whole_batches}
 use Rattle.jp_run.specs.Forms.{form_of}
 use Rattle.jp_run.specs.Handed.{IsHandedBy}
@@ -26,24 +25,27 @@ IsStatus n = (n ≡ 0) ⊎ (n ≡ 2) ⊎ (n ≡ 3) ⊎ (n ≡ 4) ⊎ (n ≡ 5) �
 abbrev pub IsTaken : Text → Type 0
 IsTaken text = (q : Query) × IsAccepted text q
 
--- what was written is the wanted query's answer, in the wanted form, to the whole input, which stopped there
+-- what was written is the wanted query's answer, in the wanted form and by the wanted numbers, to the whole
+-- input, which stopped there
 abbrev pub IsAnswered : Wanted → Option (ℕ × DocFault) → Option (List ℕ) → Option (List ℕ)
     → Option (List ℕ) → Type 0
 IsAnswered w stopped input old new = IfSome input (λ bytes. (a : Answer)
-    × IsAnswerBy (manner (form_of w.output) Stop) w.query bytes a × (a.stopped ≡ stopped)
+    × IsAnswerBy (manner_by w.output w.decimals false) w.query bytes a × (a.stopped ≡ stopped)
     × Appends old new a.bytes)
 
--- what was written is the wanted query's answer that keeps going, in the wanted form, to the whole input, and
--- it has passed faulty lines
+-- what was written is the wanted query's answer that keeps going, in the wanted form and by the wanted
+-- numbers, to the whole input, and it has passed faulty lines
 abbrev pub IsPast : Wanted → Option (List ℕ) → Option (List ℕ) → Option (List ℕ) → Type 0
 IsPast w input old new = IfSome input (λ bytes. (q : Query) × IsAccepted w.query q × (x : Whole)
-    × ((t : Tests) → AreRight t → whole_as (form_of w.output) t q (lines bytes) ≡ x) × (0 < x.faulty)
+    × ((t : Tests) → AreRight t → whole_as (numbers_in (numbers_of w.decimals)) (form_of w.output) t q
+    (lines bytes) ≡ x) × (0 < x.faulty)
     × Appends old new x.bytes)
 
 -- what was written is a front of the wanted query's answer, in the wanted form, to the whole input
 abbrev pub IsFront : Wanted → Option (List ℕ) → Option (List ℕ) → Option (List ℕ) → Type 0
 IsFront w input old new = IfSome input (λ bytes. (a : Answer)
-    → IsAnswerBy (manner_by w.output w.keeps_going) w.query bytes a → AppendsFront old new a.bytes)
+    → IsAnswerBy (manner_by w.output w.decimals w.keeps_going) w.query bytes a
+    → AppendsFront old new a.bytes)
 
 -- the source has failed, and what was written is the answer to the whole batches, of the wanted size, among
 -- the documents whose line's end was read
@@ -51,8 +53,8 @@ abbrev pub IsCutShort : Wanted → Bool → Option (List ℕ) → Option (List �
     → Type 0
 IsCutShort w failed source_old source_new old new = (failed ≡ true) × (bytes : List ℕ)
     × Consumes source_old source_new bytes
-    × IsHandedBy (manner_by w.output w.keeps_going) w.query (whole_batches w.batch (documents_in bytes)) None
-    old new
+    × IsHandedBy (manner_by w.output w.decimals w.keeps_going) w.query
+    (whole_batches w.batch (documents_in bytes)) None old new
 
 -- the most calls of `read` were made
 abbrev pub AreAllReads : ℕ → ℕ → Type 0

@@ -8,12 +8,13 @@ use Rattle.jp_run.specs.declared.output.Output.{Output}
 use Rattle.jp_run.specs.declared.output.Output.TheVariants.{Nodes, Values, Texts, Lines}
 use Rattle.jp_program.specs.CommandLine.{said, refusals, IsRefused}
 
--- the query's text in scalar values, whether it is only checked, what is written, whether the answer keeps
--- going, whether a refusal is to be explained, and the settings
+-- the query's text in scalar values, whether it is only checked, what is written, whether documents may have
+-- all numbers of JSON, whether the answer keeps going, whether a refusal is to be explained, and the settings
 pub record Wanted : Type 0 where
   pub query : List ℕ
   pub check : Bool
   pub output : Output
+  pub decimals : Bool
   pub keeps_going : Bool
   pub explain : Bool
   pub workers : ℕ
@@ -55,6 +56,7 @@ pub record Says (rows : List Row) (w : Wanted) : Type 0 where
   pub query : option_map chars (first_of (codes "query") rows) ≡ Some w.query
   pub check : SaysFlag (codes "check") rows w.check
   pub output : SaysOutput rows w.output
+  pub decimals : SaysFlag (codes "decimals") rows w.decimals
   pub keeps_going : SaysFlag (codes "keep-going") rows w.keeps_going
   pub explain : SaysFlag (codes "explain") rows w.explain
   pub settings : AreSaid rows w.workers w.piece w.batch

@@ -20,7 +20,8 @@ use std::alloc::{AllocError, Global};
 /// What the help says behind the options.
 const MORE: &str = "\
 INPUT is read from standard input, one JSON document on each line; blank lines are counted and hold none.
-All numbers have to be whole, of 64 bits: a line with a fraction or an exponent is faulty.
+All numbers have to be whole, of 64 bits: a line with a fraction or an exponent is faulty. With --decimals
+every JSON number is read, exactly, and printed as it stands.
 
 OUTPUT is a line for each node that the query selects, in order: the number of the document's line, a tab,
 the node's normalized path, a tab, the node's value. No other tab stands in it: cut -f3 gives the values.
@@ -134,16 +135,19 @@ fn with_numbers<'a>(alloc: Global, command: Command<'a>) -> Result<Command<'a>, 
     command.arg(number(alloc, "batch", "4096", batch))
 }
 
-/// The command, with the query, whether it is only checked, whether faulty lines are passed, and whether a
-/// refusal is to be explained.
+/// The command, with the query, whether it is only checked, which numbers are read, whether faulty lines are
+/// passed, and whether a refusal is to be explained.
 fn with_query<'a>(alloc: Global, command: Command<'a>) -> Result<Command<'a>, AllocError>
     ensures { IfOk result (λ r. app_of r ≡ query_of (app_of command.entry)) }
 {
     let check = "Read nothing, and say only whether QUERY is accepted";
+    let decimals = "Read every JSON number, exactly, and print it as it stands \
+        (default: whole numbers of 64 bits)";
     let keep_going = "Write a line for each faulty line too, and go on";
     let explain =
         "Say where a refused query or a faulty line went wrong, in lines behind its fault";
     let command = command.arg(flag(alloc, "check", check))?;
+    let command = command.arg(flag(alloc, "decimals", decimals))?;
     let command = command.arg(flag(alloc, "keep-going", keep_going))?;
     let command = command.arg(flag(alloc, "explain", explain))?;
     command.arg(query(alloc))
@@ -205,9 +209,10 @@ fn wanted_by<'a>(matches: &ArgMatches<'a>) -> Option<Wanted<'a>>
     let query = matches.get_str("query")?;
     let output = output_by(matches)?;
     let check = flag_by(matches, "check")?;
+    let decimals = flag_by(matches, "decimals")?;
     let keep_going = flag_by(matches, "keep-going")?;
     let explain = flag_by(matches, "explain")?;
-    let settings = settings_by(matches, output, keep_going)?;
+    let settings = settings_by(matches, output, decimals, keep_going)?;
     Some(Wanted {
         query,
         check,
@@ -217,9 +222,15 @@ fn wanted_by<'a>(matches: &ArgMatches<'a>) -> Option<Wanted<'a>>
 }
 
 /// The settings; none where a number is out of its range.
-fn settings_by(matches: &ArgMatches<'_>, output: Output, keep_going: bool) -> Option<Settings>
+fn settings_by(
+    matches: &ArgMatches<'_>,
+    output: Output,
+    decimals: bool,
+    keep_going: bool,
+) -> Option<Settings>
     ensures some { IfSome result (λ s. AreSaid (rows_of (found_of matches.now)) s.workers s.piece s.batch) }
     ensures form { IfSome result (λ s. s.output ≡ output) }
+    ensures decimals { IfSome result (λ s. s.decimals ≡ decimals) }
     ensures going { IfSome result (λ s. s.keeps_going ≡ keep_going) }
     ensures none { IsNone result → (w p b : ℕ) → AreSaid (rows_of (found_of matches.now)) w p b → ⊥ }
 {
@@ -228,6 +239,11 @@ fn settings_by(matches: &ArgMatches<'_>, output: Output, keep_going: bool) -> Op
     let batch = number_by(matches, "batch")?;
     let settings = Settings::new(workers, piece, batch).ok()?;
     let settings = settings.with_output(output);
+    let settings = if decimals {
+        settings.with_decimals()
+    } else {
+        settings
+    };
     Some(if keep_going {
         settings.keep_going()
     } else {

@@ -8,11 +8,12 @@ ghost use Rattle.jp_program.specs.Wanted.{Wants, IsWrong};
 /// Each option, in both of its forms, and a query that begins with `-`.
 fn all_options()
     ensures { Wants (codes "jp" ∷ codes "--workers" ∷ codes "8" ∷ codes "--piece=2" ∷ codes "--batch"
-        ∷ codes "+10" ∷ codes "--check" ∷ codes "--keep-going" ∷ codes "--explain" ∷ codes "--output=texts"
-        ∷ codes "--" ∷ codes "-q" ∷ []) (record {
+        ∷ codes "+10" ∷ codes "--check" ∷ codes "--decimals" ∷ codes "--keep-going" ∷ codes "--explain"
+        ∷ codes "--output=texts" ∷ codes "--" ∷ codes "-q" ∷ []) (record {
           query = codes "-q";
           check = true;
           output = Texts;
+          decimals = true;
           keeps_going = true;
           explain = true;
           workers = 8;

@@ -12,6 +12,7 @@ pub fn query_alone()
       query = chars (36 ∷ rest);
       check = false;
       output = Nodes;
+      decimals = false;
       keeps_going = false;
       explain = false;
       workers = 4;
@@ -20,8 +21,8 @@ pub fn query_alone()
     }) }
 {}
 
-/// Words want one thing: one query, a check of it or a run, one form of the answer, one choice of what a
-/// faulty line does, and one of settings.
+/// Words want one thing: one query, a check of it or a run, one form of the answer, one choice of numbers and
+/// of what a faulty line does, and one of settings.
 pub fn one_wish()
     ensures { (words : List (List ℕ)) (v w : Wanted) → Wants words v → Wants words w → v ≡ w }
 {}

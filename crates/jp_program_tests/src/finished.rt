@@ -70,6 +70,8 @@ const TAUGHT: &str = "\
 --piece
 --batch
 --check
+--decimals
+exactly
 --keep-going
 --explain
 --output

@@ -4,6 +4,8 @@
 #[cfg(test)]
 mod bookstore;
 #[cfg(test)]
+mod decimals;
+#[cfg(test)]
 mod explained;
 #[cfg(test)]
 mod faults;

@@ -16,6 +16,7 @@ wanted_of w = record {
   query = chars w.query.now;
   check = w.check;
   output = w.settings.output;
+  decimals = w.settings.decimals;
   keeps_going = w.settings.keeps_going;
   explain = w.explain;
   workers = w.settings.workers;

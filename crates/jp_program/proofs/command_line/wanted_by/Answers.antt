@@ -26,6 +26,8 @@ returns-clause-some c =
       check = c.in_ok-check.ensures.some;
       output = subst (SaysOutput (rows_of found)) (sym c.in_ok-settings.ensures.form)
           c.in_ok-output.ensures.some;
+      decimals = subst (SaysFlag (codes "decimals") (rows_of found)) (sym c.in_ok-settings.ensures.decimals)
+          c.in_ok-decimals.ensures.some;
       keeps_going = subst (SaysFlag (codes "keep-going") (rows_of found)) (sym c.in_ok-settings.ensures.going)
           c.in_ok-keep_going.ensures.some;
       explain = c.in_ok-explain.ensures.some;

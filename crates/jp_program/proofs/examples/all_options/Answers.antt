@@ -11,6 +11,7 @@ returns c = (
     query = refl;
     check = refl;
     output = refl;
+    decimals = refl;
     keeps_going = refl;
     explain = refl;
     settings = (
