@@ -11,8 +11,8 @@ ghost use Rattle.jp_explain.specs.LineMark.{IsNumber, IsLongNumber, IsSilent};
 use jp_doc::DocFault;
 use jp_flat::FlatReader;
 use jp_line_scan::{
-    LineReason, LongNumber, NotWhole, first_fault, first_long_number, has_number_not_whole, lead,
-    long_length, number_length, place_of,
+    LineReason, LongNumber, NotWhole, first_fault, first_fault_of_decimals, first_long_number,
+    has_number_not_whole, lead, long_length, number_length, place_of,
 };
 use jp_path_stack::PathStack;
 use serde_json::Value;
@@ -28,11 +28,21 @@ pub struct LineExplanation {
     pub reason: LineReason,
 }
 
-/// The same of a line that holds no JSON text.
-fn explain_unreadable(alloc: Global, line: &[u8]) -> Result<Option<LineExplanation>, AllocError>
+/// The same of a line that holds no JSON text, whatever its numbers, or where each is within what a float can
+/// be.
+fn explain_unreadable(
+    alloc: Global,
+    line: &[u8],
+    has_decimals: bool,
+) -> Result<Option<LineExplanation>, AllocError>
     ensures { IfOk result (λ o. IfSome o (λ x. x.mark ≤ length line.now)) }
 {
-    match first_fault(alloc, line)? {
+    let found = if has_decimals {
+        first_fault_of_decimals(alloc, line)?
+    } else {
+        first_fault(alloc, line)?
+    };
+    match found {
         Some((place, reason)) => Ok(Some(LineExplanation {
             mark: place.min(line.len()),
             reason,
@@ -157,11 +167,11 @@ fn marked_long_number(line: &[u8], path: String, place: usize) -> Option<LineExp
 /// Where a faulty line went wrong, and what is to be said of that place.
 ///
 /// Of an unreadable line it is the first byte at which reading can't go on by the grammar of RFC 8259, or at
-/// which begins what a rule forbids: half of a surrogate pair, a number beyond what a float can be. Of a line
-/// with a number that is not whole it is the first such number, where names rise, with its path; a member
-/// that a later one of its name covers does not count. Of a line with a number over the limits it is the
-/// first such number from the left, with its path, also in a member that is covered. Of the other faults, and
-/// of a line that has none, there is nothing to say: `None`.
+/// which begins what a rule forbids: half of a surrogate pair and, where the line was read without decimals, a
+/// number beyond what a float can be. Of a line with a number that is not whole it is the first such number,
+/// where names rise, with its path; a member that a later one of its name covers does not count. Of a line
+/// with a number over the limits it is the first such number from the left, with its path, also in a member
+/// that is covered. Of the other faults, and of a line that has none, there is nothing to say: `None`.
 ///
 /// # Errors
 ///
@@ -170,6 +180,7 @@ pub fn explain_line(
     alloc: Global,
     line: &[u8],
     fault: &DocFault,
+    has_decimals: bool,
 ) -> Result<Option<LineExplanation>, AllocError>
     // Three faults alone have a place.
     ensures silent { IsSilent fault.now → result ≡ Ok None }
@@ -190,7 +201,7 @@ pub fn explain_line(
         → reading_in decimals line.now ≡ Err DocFault.LongNumber)) }
 {
     match fault {
-        DocFault::Unreadable => explain_unreadable(alloc, line),
+        DocFault::Unreadable => explain_unreadable(alloc, line, has_decimals),
         DocFault::NotWhole => explain_not_whole(alloc, line),
         DocFault::LongNumber => explain_long_number(alloc, line),
         DocFault::LongLine | DocFault::LongArray | DocFault::Memory => Ok(None),

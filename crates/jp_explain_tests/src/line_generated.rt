@@ -258,7 +258,7 @@ const ROWS: &str = "\
 
 /// Whether the line is explained with that mark.
 fn is_marked(alloc: Global, line: &str, mark: usize) -> Result<bool, AllocError> {
-    match explain_line(alloc, line.as_bytes(), &DocFault::Unreadable)? {
+    match explain_line(alloc, line.as_bytes(), &DocFault::Unreadable, false)? {
         Some(told) => Ok(told.mark == mark),
         None => Ok(false),
     }

@@ -13,7 +13,7 @@ fn printed(alloc: Global, line: &[u8]) -> Result<Option<String>, AllocError> {
         Err(DocFault::Memory) => return Err(AllocError),
         Err(fault) => fault,
     };
-    match explain_line(alloc, line, &fault)? {
+    match explain_line(alloc, line, &fault, false)? {
         Some(told) => Ok(Some(write_line_mark(alloc, 7, line, &told)?)),
         None => Ok(None),
     }
@@ -269,7 +269,7 @@ pub(crate) fn printed_by(
     line: &[u8],
     fault: DocFault,
 ) -> Result<Option<String>, AllocError> {
-    match explain_line(alloc, line, &fault)? {
+    match explain_line(alloc, line, &fault, false)? {
         Some(told) => Ok(Some(write_line_mark(alloc, 7, line, &told)?)),
         None => Ok(None),
     }
@@ -281,6 +281,23 @@ fn long_numbers(rt: HostRuntime) -> Result<(), Fail> {
         let printed = printed_by(rt.alloc(), line.as_bytes(), DocFault::LongNumber)?;
         assert_eq!(rt; printed.as_deref(), Some(*wanted), "at {line}");
     }
+    Ok(())
+}
+
+/// The mark of an unreadable line.
+fn mark_of(alloc: Global, line: &[u8], has_decimals: bool) -> Result<Option<usize>, AllocError> {
+    match explain_line(alloc, line, &DocFault::Unreadable, has_decimals)? {
+        Some(told) => Ok(Some(told.mark)),
+        None => Ok(None),
+    }
+}
+
+/// A number beyond what a float can be breaks a rule where numbers are whole alone.
+#[test]
+fn beyond_a_float(rt: HostRuntime) -> Result<(), Fail> {
+    let line = b"[1e999,}".as_slice();
+    assert_eq!(rt; mark_of(rt.alloc(), line, false)?, Some(1));
+    assert_eq!(rt; mark_of(rt.alloc(), line, true)?, Some(7));
     Ok(())
 }
 
@@ -298,7 +315,7 @@ const RIGHT: [&str; 8] = [
 
 /// Whether nothing is told of the line with that fault.
 fn is_silent(alloc: Global, line: &[u8], fault: DocFault) -> Result<bool, AllocError> {
-    Ok(explain_line(alloc, line, &fault)?.is_none())
+    Ok(explain_line(alloc, line, &fault, false)?.is_none())
 }
 
 #[test]

@@ -258,9 +258,31 @@ fn utf8_front(line: &[u8]) -> &[u8] {
 }
 
 /// Where a line that is no JSON text goes wrong, and what is to be said of it; nothing of a right one.
+///
+/// `AllocError` if a growth was refused.
 pub fn first_fault(alloc: Global, line: &[u8]) -> Result<Option<(usize, LineReason)>, AllocError> {
-    let mut scanner = LineScanner::new(alloc, utf8_front(line));
-    match scanner.read(line.len()) {
+    fault_of(LineScanner::new(alloc, utf8_front(line)), line.len())
+}
+
+/// The same, where a number may be beyond what a float can be.
+///
+/// `AllocError` if a growth was refused.
+pub fn first_fault_of_decimals(
+    alloc: Global,
+    line: &[u8],
+) -> Result<Option<(usize, LineReason)>, AllocError> {
+    fault_of(
+        LineScanner::of_decimals(alloc, utf8_front(line)),
+        line.len(),
+    )
+}
+
+/// What a scan finds of a line of so many bytes.
+fn fault_of(
+    mut scanner: LineScanner<'_>,
+    whole: usize,
+) -> Result<Option<(usize, LineReason)>, AllocError> {
+    match scanner.read(whole) {
         Ok(()) => Ok(None),
         Err(LineHalt::Memory) => Err(AllocError),
         Err(LineHalt::At(mark, reason)) => Ok(Some((mark, reason))),

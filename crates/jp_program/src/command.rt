@@ -195,6 +195,7 @@ fn done<R: Threads + AllocGlobal + Sync, S: Source, K: Sink>(
                 ..
             } = wanted;
             witness.is_asked = explain;
+            witness.has_decimals = settings.decimals;
             run(rt, rt.alloc(), source, sink, query, &settings, &*witness)
         }
     }

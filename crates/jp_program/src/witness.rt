@@ -13,6 +13,8 @@ use std::alloc::{AllocError, Global};
 #[derive(Drop)]
 pub(crate) struct Witness {
     pub(crate) is_asked: bool,
+    /// Whether lines are read with decimals.
+    pub(crate) has_decimals: bool,
     texts: [OnceBox<String>; 10],
 }
 
@@ -21,6 +23,7 @@ impl Witness {
     pub(crate) fn new(alloc: Global) -> Witness {
         Witness {
             is_asked: false,
+            has_decimals: false,
             texts: [
                 OnceBox::new(alloc),
                 OnceBox::new(alloc),
@@ -39,6 +42,21 @@ impl Witness {
     /// Where a text is kept next.
     fn place(&self) -> Option<&OnceBox<String>> {
         self.texts.iter().find(|place| place.get().is_none())
+    }
+
+    /// What there is to say of a faulty line.
+    fn text_of(
+        &self,
+        alloc: Global,
+        number: u64,
+        line: &[u8],
+        fault: &DocFault,
+    ) -> Result<Box<String>, AllocError> {
+        let text = match explain_line(alloc, line, fault, self.has_decimals)? {
+            Some(explanation) => write_line_mark(alloc, number, line, &explanation)?,
+            None => format!(in alloc; "line {number}: {fault}\n")?,
+        };
+        Ok(Box::new(alloc, text)?)
     }
 
     /// Writes the texts, where the notes have not failed before.
@@ -65,22 +83,8 @@ impl Gate for Witness {
 
     fn faulty(&self, alloc: Global, number: u64, line: &[u8], fault: &DocFault) {
         // Where memory for the text is refused there is none, as for each note.
-        if let (Some(place), Ok(text)) = (self.place(), text_of(alloc, number, line, fault)) {
+        if let (Some(place), Ok(text)) = (self.place(), self.text_of(alloc, number, line, fault)) {
             let _ = place.set(text);
         }
     }
-}
-
-/// What there is to say of a faulty line.
-fn text_of(
-    alloc: Global,
-    number: u64,
-    line: &[u8],
-    fault: &DocFault,
-) -> Result<Box<String>, AllocError> {
-    let text = match explain_line(alloc, line, fault)? {
-        Some(explanation) => write_line_mark(alloc, number, line, &explanation)?,
-        None => format!(in alloc; "line {number}: {fault}\n")?,
-    };
-    Ok(Box::new(alloc, text)?)
 }
