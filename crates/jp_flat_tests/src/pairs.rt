@@ -179,12 +179,11 @@ fn draw_pair(alloc: Global, dice: &mut Dice) -> Result<Pair, AllocError> {
     Ok(Pair { line, left, right })
 }
 
-fn order_of(byte: u8) -> Option<Ordering> {
-    match byte {
-        b'<' => Some(Ordering::Less),
-        b'=' => Some(Ordering::Equal),
-        b'>' => Some(Ordering::Greater),
-        _ => None,
+fn order_of(digit: u64) -> Ordering {
+    match digit {
+        0 => Ordering::Less,
+        1 => Ordering::Equal,
+        _ => Ordering::Greater,
     }
 }
 
@@ -217,10 +216,17 @@ fn is_read(reader: &mut FlatReader, pair: &Pair, wanted: Ordering) -> Result<boo
 fn generated(rt: HostRuntime) -> Result<(), Fail> {
     let mut dice = Dice { state: 1 };
     let mut reader = FlatReader::new(rt.alloc());
-    for byte in ORDERS.as_bytes() {
-        let wanted = order_of(*byte).ok_or("no order")?;
-        let pair = draw_pair(rt.alloc(), &mut dice)?;
-        assert!(rt; is_read(&mut reader, &pair, wanted)?, "{}", pair.line);
+    for orders in &ORDERS {
+        let mut left = *orders;
+        for _ in 0..40 {
+            let pair = draw_pair(rt.alloc(), &mut dice)?;
+            assert!(rt;
+                is_read(&mut reader, &pair, order_of(left % 3))?,
+                "{}",
+                pair.line
+            );
+            left /= 3;
+        }
     }
     Ok(())
 }
