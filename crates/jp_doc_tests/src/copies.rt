@@ -1,29 +1,35 @@
 //! Copies are equal.
 
 use jp_doc::{Line, Location, Step};
-use std::test::Fail;
+use std::alloc::{AllocError, Global};
 
-#[test]
-fn a_copy_of_a_location_is_equal(rt: HostRuntime) -> Result<(), Fail> {
-    let alloc = rt.alloc();
+/// Whether a copy is equal to a location of two steps, and not to the empty one.
+fn is_copied(alloc: Global) -> Result<bool, AllocError> {
     let location = Location {
         steps: vec![in alloc; Step::Name(String::from_str(alloc, "a")?), Step::Index(0)]?,
     };
+    let copy = location.clone()?;
     let root = Location {
         steps: Vec::new(alloc),
     };
-    let copy = location.clone()?;
-    assert!(rt; copy == location);
-    assert!(rt; copy != root);
-    Ok(())
+    Ok(copy == location && copy != root)
 }
 
 #[test]
-fn a_copy_of_a_line_is_equal(rt: HostRuntime) -> Result<(), Fail> {
+fn a_copy_of_a_location_is_equal(rt: HostRuntime) {
+    assert!(rt; is_copied(rt.alloc()) == Ok(true));
+}
+
+/// Whether a copy is equal to a line.
+fn is_line_copied(alloc: Global) -> Result<bool, AllocError> {
     let line = Line {
         number: 1,
-        bytes: b"[]".to_vec(rt.alloc())?,
+        bytes: b"[]".to_vec(alloc)?,
     };
-    assert!(rt; line.clone()? == line);
-    Ok(())
+    Ok(line.clone()? == line)
+}
+
+#[test]
+fn a_copy_of_a_line_is_equal(rt: HostRuntime) {
+    assert!(rt; is_line_copied(rt.alloc()) == Ok(true));
 }

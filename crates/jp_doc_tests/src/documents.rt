@@ -2,7 +2,6 @@
 
 use jp_doc::{DocFault, Document};
 use std::alloc::{AllocError, Global};
-use std::test::Fail;
 
 /// A line, and its document as it is written compactly.
 const DOCUMENTS: [(&str, &str); 11] = [
@@ -22,17 +21,21 @@ const DOCUMENTS: [(&str, &str); 11] = [
     ("\"\\ud83d\\ude00\"", "\"\u{1f600}\""),
 ];
 
-fn reads_as(alloc: Global, line: &str, text: &str) -> Result<bool, Fail> {
-    let document = Document::read(alloc, line.as_bytes())?;
-    Ok(document.root().to_string(alloc)?.as_str() == text)
+fn reads_as(alloc: Global, line: &str, text: &str) -> bool {
+    match Document::read(alloc, line.as_bytes()) {
+        Ok(document) => match document.root().to_string(alloc) {
+            Ok(written) => written.as_str() == text,
+            Err(_) => false,
+        },
+        Err(_) => false,
+    }
 }
 
 #[test]
-fn lines_that_hold_documents(rt: HostRuntime) -> Result<(), Fail> {
+fn lines_that_hold_documents(rt: HostRuntime) {
     for (line, text) in &DOCUMENTS {
-        assert!(rt; reads_as(rt.alloc(), line, text)?, "{line}");
+        assert!(rt; reads_as(rt.alloc(), line, text), "{line}");
     }
-    Ok(())
 }
 
 const FAULTY: [(&[u8], DocFault); 36] = [
@@ -81,7 +84,7 @@ fn fault_of(alloc: Global, line: &[u8]) -> Option<DocFault> {
 #[test]
 fn lines_that_hold_none(rt: HostRuntime) {
     for (line, fault) in &FAULTY {
-        assert_eq!(rt; fault_of(rt.alloc(), line), Some(*fault), "{:?}", line);
+        assert!(rt; fault_of(rt.alloc(), line) == Some(*fault), "{:?}", line);
     }
 }
 
@@ -94,13 +97,10 @@ fn fault_of_nested(alloc: Global, depth: usize) -> Result<Option<DocFault>, Allo
 }
 
 #[test]
-fn nesting(rt: HostRuntime) -> Result<(), Fail> {
-    let faults = (
-        fault_of_nested(rt.alloc(), 127)?,
-        fault_of_nested(rt.alloc(), 128)?,
-    );
-    assert_eq!(rt; faults, (None, Some(DocFault::Unreadable)));
-    Ok(())
+fn nesting(rt: HostRuntime) {
+    let deepest = fault_of_nested(rt.alloc(), 127);
+    let too_deep = fault_of_nested(rt.alloc(), 128);
+    assert!(rt; deepest == Ok(None) && too_deep == Ok(Some(DocFault::Unreadable)));
 }
 
 const TEXTS: [(DocFault, &str); 6] = [
@@ -112,14 +112,16 @@ const TEXTS: [(DocFault, &str); 6] = [
     (DocFault::Memory, "memory"),
 ];
 
-fn is_written(alloc: Global, fault: DocFault, text: &str) -> Result<bool, AllocError> {
-    Ok(format!(in alloc; "{fault}")?.as_str() == text)
+fn is_written(alloc: Global, fault: DocFault, text: &str) -> bool {
+    match format!(in alloc; "{fault}") {
+        Ok(written) => written.as_str() == text,
+        Err(_) => false,
+    }
 }
 
 #[test]
-fn faults_have_their_texts(rt: HostRuntime) -> Result<(), Fail> {
+fn faults_have_their_texts(rt: HostRuntime) {
     for (fault, text) in &TEXTS {
-        assert!(rt; is_written(rt.alloc(), *fault, text)?, "{text}");
+        assert!(rt; is_written(rt.alloc(), *fault, text), "{text}");
     }
-    Ok(())
 }

@@ -3,7 +3,6 @@
 use jp_doc::{DocFault, fault_within};
 use serde_json::Value;
 use std::alloc::Global;
-use std::test::Fail;
 
 const LONG: Option<DocFault> = Some(DocFault::LongArray);
 
@@ -34,19 +33,20 @@ const ROWS: [(&str, usize, Option<DocFault>); 21] = [
     ("{\"a\":[1,2,3],\"b\":1.5}", 2, NOT_WHOLE),
 ];
 
-fn fault_of(alloc: Global, text: &str, limit: usize) -> Result<Option<DocFault>, Fail> {
-    let value = Value::from_str(alloc, text)?;
-    Ok(fault_within(&value, limit))
+/// Whether a text's fault within the limit is this one.
+fn has_fault(alloc: Global, text: &str, limit: usize, fault: Option<DocFault>) -> bool {
+    match Value::from_str(alloc, text) {
+        Ok(value) => fault_within(&value, limit) == fault,
+        Err(_) => false,
+    }
 }
 
 #[test]
-fn arrays_at_the_limit_and_above(rt: HostRuntime) -> Result<(), Fail> {
+fn arrays_at_the_limit_and_above(rt: HostRuntime) {
     for (text, limit, fault) in &ROWS {
-        assert_eq!(rt;
-            fault_of(rt.alloc(), text, *limit)?,
-            *fault,
+        assert!(rt;
+            has_fault(rt.alloc(), text, *limit, *fault),
             "{text} at {limit}"
         );
     }
-    Ok(())
 }

@@ -20,105 +20,101 @@ pub(crate) fn are(expected: &[(u64, &[u8])], lines: &[Line]) -> bool {
             && line.bytes.as_slice() == *bytes)
 }
 
+/// Feeds pieces, where few lines were counted, and tells whether all were taken.
+fn feed(pieces: &[&[u8]], lines: &mut Lines, out: &mut Vec<Line>) -> bool {
+    for piece in pieces {
+        if lines.count() > 10 || lines.feed(piece, out).is_err() {
+            return false;
+        }
+    }
+    true
+}
+
+/// Ends the lines, where few were counted, and tells whether they ended.
+fn finish(lines: &mut Lines, out: &mut Vec<Line>) -> bool {
+    lines.count() <= 10 && lines.finish(out).is_ok()
+}
+
 /// Whether these pieces and the end give these lines, and how many were counted before and behind the end.
-fn give(
-    alloc: Global,
-    pieces: &[&[u8]],
-    counted: (u64, u64),
-    expected: &[(u64, &[u8])],
-) -> Result<bool, AllocError> {
+fn give(alloc: Global, pieces: &[&[u8]], counted: (u64, u64), expected: &[(u64, &[u8])]) -> bool {
     let mut lines = Lines::new(alloc);
     let mut out = Vec::new(alloc);
-    for piece in pieces {
-        if lines.count() > 10 {
-            return Ok(false);
-        }
-        lines.feed(piece, &mut out)?;
-    }
+    let is_fed = feed(pieces, &mut lines, &mut out);
     let before = lines.count();
-    if before > 10 {
-        return Ok(false);
-    }
-    lines.finish(&mut out)?;
-    Ok((before, lines.count()) == counted && are(expected, &out))
+    let is_finished = finish(&mut lines, &mut out);
+    is_fed && is_finished && (before, lines.count()) == counted && are(expected, &out)
 }
 
 #[test]
-fn cut_at_every_byte(rt: HostRuntime) -> Result<(), Fail> {
+fn cut_at_every_byte(rt: HostRuntime) {
     for at in 0..=COLLECTION.len() {
         let (first, second) = COLLECTION.split_at(at);
-        let right = give(rt.alloc(), &[first, second], (7, 8), &COLLECTION_LINES)?;
+        let right = give(rt.alloc(), &[first, second], (7, 8), &COLLECTION_LINES);
         assert!(rt; right, "cut at {at}");
     }
-    Ok(())
+}
+
+/// Each byte of the collection, alone.
+fn bytes_alone(alloc: Global) -> Result<Vec<&'static [u8]>, AllocError> {
+    let mut pieces = Vec::new(alloc);
+    for at in 0..COLLECTION.len() {
+        pieces.push(&COLLECTION[at..at + 1])?;
+    }
+    Ok(pieces)
 }
 
 #[test]
 fn one_byte_at_a_time(rt: HostRuntime) -> Result<(), Fail> {
-    let mut pieces = Vec::new(rt.alloc());
-    for at in 0..COLLECTION.len() {
-        pieces.push(&COLLECTION[at..at + 1])?;
-    }
-    let right = give(rt.alloc(), &pieces, (7, 8), &COLLECTION_LINES)?;
-    assert!(rt; right);
+    let pieces = bytes_alone(rt.alloc())?;
+    assert!(rt; give(rt.alloc(), &pieces, (7, 8), &COLLECTION_LINES));
     Ok(())
 }
 
 #[test]
-fn empty_input(rt: HostRuntime) -> Result<(), Fail> {
-    assert!(rt; give(rt.alloc(), &[b""], (0, 0), &[])?);
-    Ok(())
+fn empty_input(rt: HostRuntime) {
+    assert!(rt; give(rt.alloc(), &[b""], (0, 0), &[]));
 }
 
 /// How many bytes are held after each of two pieces, and after the end.
-fn held(alloc: Global, first: &[u8], second: &[u8]) -> Result<(u64, u64, u64), AllocError> {
+fn held(alloc: Global, first: &[u8], second: &[u8]) -> Option<[u64; 3]> {
     let mut lines = Lines::new(alloc);
     let mut out = Vec::new(alloc);
-    lines.feed(first, &mut out)?;
+    let is_first_fed = feed(&[first], &mut lines, &mut out);
     let one = lines.held();
-    if lines.count() > 10 {
-        return Ok((0, 0, 0));
-    }
-    lines.feed(second, &mut out)?;
+    let is_second_fed = feed(&[second], &mut lines, &mut out);
     let two = lines.held();
-    if lines.count() > 10 {
-        return Ok((0, 0, 0));
+    let is_finished = finish(&mut lines, &mut out);
+    if is_first_fed && is_second_fed && is_finished {
+        Some([one, two, lines.held()])
+    } else {
+        None
     }
-    lines.finish(&mut out)?;
-    Ok((one, two, lines.held()))
 }
 
 #[test]
-fn bytes_held(rt: HostRuntime) -> Result<(), Fail> {
-    assert_eq!(rt; held(rt.alloc(), b"ab", b"\nc")?, (2, 1, 0));
-    Ok(())
+fn bytes_held(rt: HostRuntime) {
+    assert!(rt; held(rt.alloc(), b"ab", b"\nc") == Some([2, 1, 0]));
 }
 
-/// How many lines are counted after a piece, an end, another piece and another end, and which they are.
-fn finish_twice(
+/// Whether a piece, an end, another piece and another end give these lines.
+fn finished_twice_give(
     alloc: Global,
-    first: &[u8],
-    second: &[u8],
-    out: &mut Vec<Line>,
-) -> Result<Option<u64>, AllocError> {
+    pieces: [&[u8]; 2],
+    counted: u64,
+    expected: &[(u64, &[u8])],
+) -> bool {
     let mut lines = Lines::new(alloc);
-    for piece in [first, second] {
-        if lines.count() > 10 {
-            return Ok(None);
+    let mut out = Vec::new(alloc);
+    for piece in pieces {
+        if !feed(&[piece], &mut lines, &mut out) || !finish(&mut lines, &mut out) {
+            return false;
         }
-        lines.feed(piece, out)?;
-        if lines.count() > 10 {
-            return Ok(None);
-        }
-        lines.finish(out)?;
     }
-    Ok(Some(lines.count()))
+    lines.count() == counted && are(expected, &out)
 }
 
 #[test]
-fn a_feed_after_a_finish(rt: HostRuntime) -> Result<(), Fail> {
-    let mut out = Vec::new(rt.alloc());
-    let counted = finish_twice(rt.alloc(), b"a", b"b\n\n", &mut out)?;
-    assert!(rt; counted == Some(3) && are(&[(1, b"a"), (2, b"b")], &out));
-    Ok(())
+fn a_feed_after_a_finish(rt: HostRuntime) {
+    let wanted: [(u64, &[u8]); 2] = [(1, b"a"), (2, b"b")];
+    assert!(rt; finished_twice_give(rt.alloc(), [b"a", b"b\n\n"], 3, &wanted));
 }

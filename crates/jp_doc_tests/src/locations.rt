@@ -20,14 +20,25 @@ fn step_to(alloc: Global, to: To) -> Result<Step, AllocError> {
     }
 }
 
-/// The number where the steps lead in the line's document, if they lead to one.
-fn number_at(alloc: Global, line: &str, path: &[To]) -> Result<Option<i128>, Fail> {
+/// The steps of a table's path.
+fn steps_of(alloc: Global, path: &[To]) -> Result<Vec<Step>, AllocError> {
     let mut steps = Vec::new(alloc);
     for to in path {
         steps.push(step_to(alloc, *to)?)?;
     }
+    Ok(steps)
+}
+
+/// Whether the steps lead to this number in the line's document, or to none.
+fn is_number_at(
+    alloc: Global,
+    line: &str,
+    path: &[To],
+    number: Option<i128>,
+) -> Result<bool, Fail> {
     let document = Document::read(alloc, line.as_bytes())?;
-    Ok(document.at(&steps).and_then(|value| whole_number(value)))
+    let steps = steps_of(alloc, path)?;
+    Ok(document.at(&steps).and_then(|value| whole_number(value)) == number)
 }
 
 const LINE: &str = "{\"a\":[7,{\"b\":-8}],\"\":\"9\",\"é\":10,\"0\":11}";
@@ -51,7 +62,7 @@ const PATHS: [(&[To], Option<i128>); 13] = [
 #[test]
 fn values_at_locations(rt: HostRuntime) -> Result<(), Fail> {
     for (path, number) in &PATHS {
-        assert_eq!(rt; number_at(rt.alloc(), LINE, path)?, *number);
+        assert!(rt; is_number_at(rt.alloc(), LINE, path, *number)?);
     }
     Ok(())
 }
@@ -88,20 +99,16 @@ const NUMBERS: [(&str, Option<i128>); 10] = [
 #[test]
 fn whole_numbers(rt: HostRuntime) -> Result<(), Fail> {
     for (line, number) in &NUMBERS {
-        assert_eq!(rt; number_at(rt.alloc(), line, &[])?, *number, "{line}");
+        assert!(rt; is_number_at(rt.alloc(), line, &[], *number)?, "{line}");
     }
     Ok(())
 }
 
 #[test]
 fn numbers_of_the_crate(rt: HostRuntime) -> Result<(), Fail> {
-    assert_eq!(rt;
-        whole_of(&Number::from(u64::MAX)),
-        18_446_744_073_709_551_615
-    );
-    assert_eq!(rt;
-        whole_of(&Number::from(i64::MIN)),
-        -9_223_372_036_854_775_808
-    );
+    let most = whole_of(&Number::from(u64::MAX));
+    let least = whole_of(&Number::from(i64::MIN));
+    assert_eq!(rt; most, 18_446_744_073_709_551_615);
+    assert_eq!(rt; least, -9_223_372_036_854_775_808);
     Ok(())
 }

@@ -1,107 +1,163 @@
 //! Each public call once, with ample memory.
 
-use jp_flat::{FlatMember, FlatReader, Kind};
-use std::alloc::{AllocError, Global};
-use std::test::Fail;
+use jp_flat::{FlatMember, FlatMembers, FlatReader, FlatValue, Kind};
+use std::alloc::Global;
 
 const LINE: &[u8] = b"{\"b\":[-12,\"x\\ny\",true,null],\"a\":{\"c\":7},\"b2\":{}}";
 
-/// The kinds of the items of `b`, as letters.
-fn kinds(alloc: Global) -> Result<String, Fail> {
+/// The kind of an item, as a letter.
+fn letter(item: Option<FlatValue<'_>>) -> char {
+    match item.map(|item| item.kind()) {
+        Some(Kind::Null) => '0',
+        Some(Kind::Truth(_)) => 'b',
+        Some(Kind::Number(_)) => 'n',
+        Some(Kind::Text(_)) => 't',
+        Some(Kind::Array) => 'a',
+        Some(Kind::Object) => 'o',
+        None => '-',
+    }
+}
+
+/// The kinds of the items of `b`, and of the place behind them.
+fn kinds(root: FlatValue<'_>) -> Option<[char; 5]> {
+    let items = root.member("b")?;
+    Some([
+        letter(items.item(0)),
+        letter(items.item(1)),
+        letter(items.item(2)),
+        letter(items.item(3)),
+        letter(items.item(4)),
+    ])
+}
+
+fn kinds_in_line(alloc: Global) -> Option<[char; 5]> {
     let mut reader = FlatReader::new(alloc);
-    let mut letters = String::new(alloc);
-    let document = reader.read(LINE)?.ok_or("not flat")?;
-    let items = document.root().member("b").ok_or("no b")?;
-    for place in 0..5 {
-        match items.item(place).map(|item| item.kind()) {
-            Some(Kind::Null) => letters.push('0')?,
-            Some(Kind::Truth(_)) => letters.push('b')?,
-            Some(Kind::Number(_)) => letters.push('n')?,
-            Some(Kind::Text(_)) => letters.push('t')?,
-            Some(Kind::Array) => letters.push('a')?,
-            Some(Kind::Object) => letters.push('o')?,
-            None => letters.push('-')?,
+    match reader.read(LINE) {
+        Ok(Some(document)) => kinds(document.root()),
+        _ => None,
+    }
+}
+
+#[test]
+fn kinds_of_items(rt: HostRuntime) {
+    assert!(rt; kinds_in_line(rt.alloc()) == Some(['n', 't', 'b', '0', '-']));
+}
+
+/// Whether the first two items of `b` are a number and a text, and tell nothing else.
+fn are_scalars(root: FlatValue<'_>) -> Option<bool> {
+    let items = root.member("b")?;
+    let first = items.item(0)?;
+    let second = items.item(1)?;
+    let texts = [first.digits(), first.text(), second.digits(), second.text()];
+    let wholes = (first.whole(), second.whole());
+    let counts = (items.item_count(), root.item_count());
+    Some(
+        texts == [Some("-12"), None, None, Some("x\ny")]
+            && wholes == (Some(-12), None)
+            && counts == (4, 0),
+    )
+}
+
+fn reads_scalars(alloc: Global) -> Option<bool> {
+    let mut reader = FlatReader::new(alloc);
+    match reader.read(LINE) {
+        Ok(Some(document)) => are_scalars(document.root()),
+        _ => None,
+    }
+}
+
+#[test]
+fn scalars(rt: HostRuntime) {
+    assert!(rt; reads_scalars(rt.alloc()) == Some(true));
+}
+
+/// Whether the members have these names, in this order.
+fn are_named(members: &[FlatMember<'_>], names: &[&str]) -> bool {
+    if members.len() != names.len() {
+        return false;
+    }
+    for place in 0..names.len() {
+        if members[place].name != names[place] {
+            return false;
         }
     }
-    Ok(letters)
+    true
 }
 
-#[test]
-fn kinds_of_items(rt: HostRuntime) -> Result<(), Fail> {
-    let letters = kinds(rt.alloc())?;
-    assert_eq!(rt; letters.as_str(), "ntb0-");
-    Ok(())
+/// Whether the members have these names, in rising order.
+fn rise<'d>(members: FlatMembers<'d>, gathered: &mut Vec<FlatMember<'d>>, names: &[&str]) -> bool {
+    members.gather(gathered).is_ok() && are_named(gathered, names)
 }
 
-#[test]
-fn scalars(rt: HostRuntime) -> Result<(), Fail> {
-    let mut reader = FlatReader::new(rt.alloc());
-    let document = reader.read(LINE)?.ok_or("not flat")?;
-    let items = document.root().member("b").ok_or("no b")?;
-    let first = items.item(0).ok_or("no item")?;
-    let second = items.item(1).ok_or("no item")?;
-    assert!(rt; first.whole() == Some(-12) && first.digits() == Some("-12"));
-    assert!(rt; first.text().is_none() && second.text() == Some("x\ny"));
-    assert!(rt; second.whole().is_none() && second.digits().is_none());
-    assert!(rt; items.item_count() == 4 && document.root().item_count() == 0);
-    Ok(())
+/// Whether the members come as they stand, and gathered as they rise: all, and those behind the first.
+fn are_in_two_orders(alloc: Global, root: FlatValue<'_>) -> Option<bool> {
+    let members = root.members()?;
+    let (first, others) = members.split_first()?;
+    let (second, _) = others.split_first()?;
+    let mut gathered = Vec::new(alloc);
+    let all = rise(members, &mut gathered, &["a", "b", "b2"]);
+    let fewer = rise(others, &mut gathered, &["a", "b2"]);
+    Some((first.name, second.name, all, fewer) == ("b", "a", true, true))
 }
 
-/// The names of members, one behind another.
-fn names(alloc: Global, members: &[FlatMember<'_>]) -> Result<String, Fail> {
-    let mut names = String::new(alloc);
-    for member in members {
-        names.push_str(member.name)?;
-        names.push(' ')?;
+fn reads_in_two_orders(alloc: Global) -> Option<bool> {
+    let mut reader = FlatReader::new(alloc);
+    match reader.read(LINE) {
+        Ok(Some(document)) => are_in_two_orders(alloc, document.root()),
+        _ => None,
     }
-    Ok(names)
 }
 
 #[test]
-fn members_in_two_orders(rt: HostRuntime) -> Result<(), Fail> {
-    let mut reader = FlatReader::new(rt.alloc());
-    let document = reader.read(LINE)?.ok_or("not flat")?;
-    let members = document.root().members().ok_or("no object")?;
-    let (first, others) = members.split_first().ok_or("no member")?;
-    let (second, _) = others.split_first().ok_or("no member")?;
-    assert!(rt; first.name == "b" && second.name == "a");
-    let mut gathered = Vec::new(rt.alloc());
-    members.gather(&mut gathered)?;
-    let rising = names(rt.alloc(), &gathered)?;
-    assert_eq!(rt; rising.as_str(), "a b b2 ");
-    others.gather(&mut gathered)?;
-    let fewer = names(rt.alloc(), &gathered)?;
-    assert_eq!(rt; fewer.as_str(), "a b2 ");
-    Ok(())
+fn members_in_two_orders(rt: HostRuntime) {
+    assert!(rt; reads_in_two_orders(rt.alloc()) == Some(true));
+}
+
+/// Whether the items are 3, an array of two and 6, one by one, and the last.
+fn come_one_by_one(root: FlatValue<'_>) -> Option<bool> {
+    let items = root.items()?;
+    let (first, others) = items.split_first()?;
+    let (second, last) = others.split_first()?;
+    let (third, none) = last.split_first()?;
+    let are_right = (first.whole(), second.item_count(), third.whole()) == (Some(3), 2, Some(6));
+    Some(are_right && none.split_first().is_none() && root.members().is_none())
+}
+
+fn reads_one_by_one(alloc: Global) -> Option<bool> {
+    let mut reader = FlatReader::new(alloc);
+    match reader.read(b"[3,[4,5],6]") {
+        Ok(Some(document)) => come_one_by_one(document.root()),
+        _ => None,
+    }
 }
 
 #[test]
-fn items_one_by_one(rt: HostRuntime) -> Result<(), Fail> {
-    let mut reader = FlatReader::new(rt.alloc());
-    let document = reader.read(b"[3,[4,5],6]")?.ok_or("not flat")?;
-    let items = document.root().items().ok_or("no array")?;
-    let (first, others) = items.split_first().ok_or("no item")?;
-    let (second, last) = others.split_first().ok_or("no item")?;
-    let (third, none) = last.split_first().ok_or("no item")?;
-    assert!(rt; first.whole() == Some(3) && second.item_count() == 2 && third.whole() == Some(6));
-    assert!(rt; none.split_first().is_none() && document.root().members().is_none());
-    Ok(())
+fn items_one_by_one(rt: HostRuntime) {
+    assert!(rt; reads_one_by_one(rt.alloc()) == Some(true));
 }
 
-/// The whole number at `$.id` of a line, where it is read flat.
-fn id_of(reader: &mut FlatReader, line: &[u8]) -> Result<Option<i128>, AllocError> {
-    let Some(document) = reader.read(line)? else {
-        return Ok(None);
-    };
-    let id = document.root().member("id").and_then(|value| value.whole());
-    Ok(id)
+/// Lines, and the whole number at `$.id` of those that are read flat.
+const NUMBERED: [(&[u8], Option<i128>); 3] = [
+    (b"{\"id\":7,\"at\":8}", Some(7)),
+    (b"{\"id\":\"7\"}", None),
+    (b"{\"id\":9,\"at\":8.5}", None),
+];
+
+/// Whether the whole number at `$.id` of a line is this one; there is none, too, where it is not read flat.
+fn is_numbered(reader: &mut FlatReader, line: &[u8], number: Option<i128>) -> bool {
+    match reader.read(line) {
+        Ok(Some(document)) => {
+            document.root().member("id").and_then(|value| value.whole()) == number
+        }
+        Ok(None) => number.is_none(),
+        Err(_) => false,
+    }
 }
 
 #[test]
-fn numbers_of_lines(rt: HostRuntime) -> Result<(), Fail> {
+fn numbers_of_lines(rt: HostRuntime) {
     let mut reader = FlatReader::new(rt.alloc());
-    assert_eq!(rt; id_of(&mut reader, b"{\"id\":7,\"at\":8}")?, Some(7));
-    assert_eq!(rt; id_of(&mut reader, b"{\"id\":\"7\"}")?, None);
-    assert_eq!(rt; id_of(&mut reader, b"{\"id\":9,\"at\":8.5}")?, None);
-    Ok(())
+    for (line, number) in &NUMBERED {
+        assert!(rt; is_numbered(&mut reader, line, *number));
+    }
 }

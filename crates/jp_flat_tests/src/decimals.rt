@@ -1,21 +1,21 @@
 //! Lines whose numbers need not be whole.
 
 use jp_doc::{DocFault, Document};
-use jp_flat::{FlatReader, Kind};
+use jp_flat::{FlatReader, FlatValue, Kind};
 use jp_number::Number;
-use std::alloc::Global;
-use std::test::Fail;
+use std::alloc::{AllocError, Global};
 
 /// How a line is read: `w` a whole number, `t` a number by its text, `o` any other value, or the words of the
 /// fault.
-fn told(reader: &mut FlatReader, line: &[u8]) -> Result<&'static str, Fail> {
-    match reader.read_decimal(line)? {
-        Ok(document) => match document.root().number() {
-            Some(Number::Whole(_)) => Ok("w"),
-            Some(Number::Written(_)) => Ok("t"),
-            None => Ok("o"),
+fn told(reader: &mut FlatReader, line: &[u8]) -> &'static str {
+    match reader.read_decimal(line) {
+        Ok(Ok(document)) => match document.root().number() {
+            Some(Number::Whole(_)) => "w",
+            Some(Number::Written(_)) => "t",
+            None => "o",
         },
-        Err(fault) => Ok(fault.words()),
+        Ok(Err(fault)) => fault.words(),
+        Err(_) => "no memory",
     }
 }
 
@@ -62,16 +62,15 @@ const ROWS: [(&[u8], &str); 38] = [
 ];
 
 #[test]
-fn numbers_and_faults(rt: HostRuntime) -> Result<(), Fail> {
+fn numbers_and_faults(rt: HostRuntime) {
     let mut reader = FlatReader::new(rt.alloc());
     for (line, expected) in &ROWS {
-        assert_eq!(rt; told(&mut reader, line)?, *expected);
+        assert_eq!(rt; told(&mut reader, line), *expected);
     }
-    Ok(())
 }
 
 /// A line of so many brackets around a number.
-fn nested(alloc: Global, levels: u32, number: &str) -> Result<String, Fail> {
+fn nested(alloc: Global, levels: u32, number: &str) -> Result<String, AllocError> {
     let mut line = String::new(alloc);
     for _ in 0..levels {
         line.push('[')?;
@@ -83,16 +82,29 @@ fn nested(alloc: Global, levels: u32, number: &str) -> Result<String, Fail> {
     Ok(line)
 }
 
+/// How many brackets stand around a number, and how the line is read.
+const NESTED: [(u32, &str, &str); 3] = [
+    (127, "1.5", "o"),
+    (128, "1.5", "unreadable"),
+    (128, "1e0000000001", "unreadable"),
+];
+
+fn nested_told(alloc: Global, reader: &mut FlatReader, levels: u32, number: &str) -> &'static str {
+    match nested(alloc, levels, number) {
+        Ok(line) => told(reader, line.as_bytes()),
+        Err(_) => "no memory",
+    }
+}
+
 #[test]
-fn nesting_comes_first(rt: HostRuntime) -> Result<(), Fail> {
+fn nesting_comes_first(rt: HostRuntime) {
     let mut reader = FlatReader::new(rt.alloc());
-    let deepest = nested(rt.alloc(), 127, "1.5")?;
-    assert_eq!(rt; told(&mut reader, deepest.as_bytes())?, "o");
-    let deep = nested(rt.alloc(), 128, "1.5")?;
-    assert_eq!(rt; told(&mut reader, deep.as_bytes())?, "unreadable");
-    let both = nested(rt.alloc(), 128, "1e0000000001")?;
-    assert_eq!(rt; told(&mut reader, both.as_bytes())?, "unreadable");
-    Ok(())
+    for (levels, number, expected) in &NESTED {
+        assert_eq!(rt;
+            nested_told(rt.alloc(), &mut reader, *levels, number),
+            *expected
+        );
+    }
 }
 
 /// Texts of numbers that are kept and printed as they stand.
@@ -116,71 +128,112 @@ const TEXTS: &str = "\
 1e999999999\n\
 1e-999999999";
 
-#[test]
-fn each_as_it_stands(rt: HostRuntime) -> Result<(), Fail> {
-    let mut reader = FlatReader::new(rt.alloc());
-    for text in TEXTS.lines() {
-        match reader.read_decimal(text.as_bytes())? {
-            Ok(document) => assert!(rt; document.root().digits() == Some(text), "{text}"),
-            Err(fault) => return Err(Fail::from(fault)),
-        }
+/// Whether a line's value is printed as the line stands.
+fn stands(reader: &mut FlatReader, text: &str) -> bool {
+    match reader.read_decimal(text.as_bytes()) {
+        Ok(Ok(document)) => document.root().digits() == Some(text),
+        _ => false,
     }
-    Ok(())
 }
 
-/// The one value of a name that stands twice is its last, whatever number it covers.
 #[test]
-fn a_covered_number(rt: HostRuntime) -> Result<(), Fail> {
+fn each_as_it_stands(rt: HostRuntime) {
     let mut reader = FlatReader::new(rt.alloc());
-    let document = match reader.read_decimal(b"{\"a\":1e5,\"a\":1}")? {
-        Ok(document) => document,
-        Err(fault) => return Err(Fail::from(fault)),
-    };
-    let last = document.root().member("a").ok_or("no member")?;
-    assert!(rt; last.whole() == Some(1) && last.digits() == Some("1"));
-    Ok(())
+    for text in TEXTS.lines() {
+        assert!(rt; stands(&mut reader, text), "{text}");
+    }
+}
+
+/// Whether the one value of a name that stands twice is its last, whatever number it covers.
+fn covers(alloc: Global) -> bool {
+    let mut reader = FlatReader::new(alloc);
+    match reader.read_decimal(b"{\"a\":1e5,\"a\":1}") {
+        Ok(Ok(document)) => match document.root().member("a") {
+            Some(last) => (last.whole(), last.digits()) == (Some(1), Some("1")),
+            None => false,
+        },
+        _ => false,
+    }
+}
+
+#[test]
+fn a_covered_number(rt: HostRuntime) {
+    assert!(rt; covers(rt.alloc()));
+}
+
+/// Whether `Document::read` has this value of a line.
+fn is_read_as(alloc: Global, line: &[u8], expected: &str) -> bool {
+    match Document::read(alloc, line) {
+        Ok(document) => match document.root().to_string(alloc) {
+            Ok(text) => text.as_str() == expected,
+            Err(_) => false,
+        },
+        Err(_) => false,
+    }
+}
+
+fn is_unreadable(alloc: Global, line: &[u8]) -> bool {
+    matches!(Document::read(alloc, line), Err(DocFault::Unreadable))
 }
 
 /// Where one over the limits is covered, `Document::read` may have a value still, which then is the line's.
 #[test]
-fn a_covered_long_number(rt: HostRuntime) -> Result<(), Fail> {
-    let document = Document::read(rt.alloc(), b"{\"a\":1e0000000001,\"a\":1}")?;
-    assert!(rt; document.root().to_string(rt.alloc())?.as_str() == "{\"a\":1}");
-    let above_all_floats = Document::read(rt.alloc(), b"{\"a\":1e1000000000,\"a\":1}");
-    assert!(rt; matches!(above_all_floats, Err(DocFault::Unreadable)));
-    Ok(())
+fn a_covered_long_number(rt: HostRuntime) {
+    let is_read = is_read_as(rt.alloc(), b"{\"a\":1e0000000001,\"a\":1}", "{\"a\":1}");
+    let is_above_all_floats = is_unreadable(rt.alloc(), b"{\"a\":1e1000000000,\"a\":1}");
+    assert!(rt; is_read);
+    assert!(rt; is_above_all_floats);
+}
+
+/// How many digits a number has, and how the line is read.
+const DIGITS: [(u32, &str); 3] = [(401, "t"), (1000, "t"), (1001, "long number")];
+
+fn nines(alloc: Global, count: u32) -> Result<String, AllocError> {
+    let mut line = String::new(alloc);
+    for _ in 0..count {
+        line.push('9')?;
+    }
+    Ok(line)
+}
+
+fn nines_told(alloc: Global, reader: &mut FlatReader, count: u32) -> &'static str {
+    match nines(alloc, count) {
+        Ok(line) => told(reader, line.as_bytes()),
+        Err(_) => "no memory",
+    }
 }
 
 #[test]
-fn digits_up_to_the_limit(rt: HostRuntime) -> Result<(), Fail> {
+fn digits_up_to_the_limit(rt: HostRuntime) {
     let mut reader = FlatReader::new(rt.alloc());
-    let mut line = String::new(rt.alloc());
-    for _ in 0..401 {
-        line.push('9')?;
+    for (count, expected) in &DIGITS {
+        assert_eq!(rt; nines_told(rt.alloc(), &mut reader, *count), *expected);
     }
-    assert_eq!(rt; told(&mut reader, line.as_bytes())?, "t");
-    for _ in 401..1000 {
-        line.push('9')?;
+}
+
+/// Whether the items are numbers with the texts `9.90`, `1e+2` and `12`, of which the last alone is whole.
+fn have_their_texts(root: FlatValue<'_>) -> Option<bool> {
+    let first = root.item(0)?;
+    let second = root.item(1)?;
+    let third = root.item(2)?;
+    let texts = [first.digits(), second.digits(), third.digits()];
+    let wholes = (first.whole(), third.whole());
+    Some(
+        matches!(first.kind(), Kind::Number("9.90"))
+            && texts == [Some("9.90"), Some("1e+2"), Some("12")]
+            && wholes == (None, Some(12)),
+    )
+}
+
+fn reads_texts(alloc: Global) -> Option<bool> {
+    let mut reader = FlatReader::new(alloc);
+    match reader.read_decimal(b"[9.90,1e+2,12]") {
+        Ok(Ok(document)) => have_their_texts(document.root()),
+        _ => None,
     }
-    assert_eq!(rt; told(&mut reader, line.as_bytes())?, "t");
-    line.push('9')?;
-    assert_eq!(rt; told(&mut reader, line.as_bytes())?, "long number");
-    Ok(())
 }
 
 #[test]
-fn texts_stay_as_they_stand(rt: HostRuntime) -> Result<(), Fail> {
-    let mut reader = FlatReader::new(rt.alloc());
-    let document = match reader.read_decimal(b"[9.90,1e+2,12]")? {
-        Ok(document) => document,
-        Err(fault) => return Err(Fail::from(fault)),
-    };
-    let first = document.root().item(0).ok_or("no item")?;
-    let second = document.root().item(1).ok_or("no item")?;
-    let third = document.root().item(2).ok_or("no item")?;
-    assert!(rt; matches!(first.kind(), Kind::Number("9.90")));
-    assert!(rt; first.digits() == Some("9.90") && first.whole().is_none());
-    assert!(rt; second.digits() == Some("1e+2") && third.digits() == Some("12"));
-    assert!(rt; third.whole() == Some(12));
-    Ok(())
+fn texts_stay_as_they_stand(rt: HostRuntime) {
+    assert!(rt; reads_texts(rt.alloc()) == Some(true));
 }

@@ -1,7 +1,7 @@
 //! The forms of the answer, with ample memory: values, texts and lines of the input, over trees and flat
 //! documents.
 
-use jp_check::plan;
+use jp_check::{Plan, plan};
 use jp_doc::{DocFault, Document};
 use jp_flat::FlatReader;
 use jp_nodes::Visit;
@@ -40,6 +40,24 @@ const ROWS: [(&str, &str, &str); 12] = [
     ),
 ];
 
+/// Visits a value so many times.
+fn add_nodes<F: Form>(
+    alloc: Global,
+    form: &mut F,
+    value: Part<'_>,
+    nodes: u32,
+) -> Result<(), AllocError> {
+    for _ in 0..nodes {
+        form.node(alloc, &mut PathStack::new(alloc), value)?;
+    }
+    Ok(())
+}
+
+/// All that a form has written.
+fn all_written<F: Form>(alloc: Global, form: F) -> Result<Vec<u8>, AllocError> {
+    join_chunks(alloc, form.into_chunks()?)
+}
+
 /// What a form writes of a line whose root is so many nodes.
 pub(crate) fn written<F: Form + Drop>(
     alloc: Global,
@@ -49,39 +67,67 @@ pub(crate) fn written<F: Form + Drop>(
 ) -> Result<Vec<u8>, AllocError> {
     let mut form = F::new(alloc);
     form.begin(7);
-    for _ in 0..nodes {
-        form.node(alloc, &mut PathStack::new(alloc), value)?;
-    }
+    add_nodes(alloc, &mut form, value, nodes)?;
     form.end(line)?;
-    join_chunks(alloc, form.into_chunks()?)
+    all_written(alloc, form)
 }
 
-/// Whether a form writes this of a document, read as a tree and read flat.
+/// Whether a form writes this of a line whose root is so many nodes.
+fn writes_nodes<F: Form + Drop>(
+    alloc: Global,
+    line: &[u8],
+    value: Part<'_>,
+    nodes: u32,
+    wanted: &[u8],
+) -> Result<bool, AllocError> {
+    Ok(written::<F>(alloc, line, value, nodes)?.as_slice() == wanted)
+}
+
+/// Whether a form writes this of a document that is read as a tree, whose root is so many nodes.
+fn writes_of_tree<F: Form + Drop>(
+    alloc: Global,
+    line: &[u8],
+    nodes: u32,
+    wanted: &[u8],
+) -> Result<bool, Fail> {
+    let tree = Document::read(alloc, line)?;
+    Ok(writes_nodes::<F>(alloc, line, Part::root_of(&tree), nodes, wanted)?)
+}
+
+/// The same, and of the document that is read flat.
 fn writes<F: Form + Drop>(
     alloc: Global,
     reader: &mut FlatReader,
+    line: &[u8],
+    nodes: u32,
+    wanted: &[u8],
+) -> Result<bool, Fail> {
+    if !writes_of_tree::<F>(alloc, line, nodes, wanted)? {
+        return Ok(false);
+    }
+    let flat = reader.read(line)?.ok_or("not flat")?;
+    Ok(writes_nodes::<F>(alloc, line, Part::root_of_flat(&flat), nodes, wanted)?)
+}
+
+/// Whether the forms of values and of texts write this of a document.
+fn writes_both(
+    alloc: Global,
+    reader: &mut FlatReader,
     document: &str,
-    wanted: &str,
+    value: &str,
+    text: &str,
 ) -> Result<bool, Fail> {
     let line = document.as_bytes();
-    let tree = Document::read(alloc, line)?;
-    let of_tree = written::<F>(alloc, line, Part::root_of(&tree), 1)?;
-    let flat = reader.read(line)?.ok_or("not flat")?;
-    let of_flat = written::<F>(alloc, line, Part::root_of_flat(&flat), 1)?;
-    Ok(of_tree.as_slice() == wanted.as_bytes() && of_flat.as_slice() == wanted.as_bytes())
+    let is_value = writes::<ValueLines>(alloc, reader, line, 1, value.as_bytes())?;
+    Ok(is_value && writes::<TextLines>(alloc, reader, line, 1, text.as_bytes())?)
 }
 
 #[test]
 fn values_and_texts(rt: HostRuntime) -> Result<(), Fail> {
-    let alloc = rt.alloc();
-    let mut reader = FlatReader::new(alloc);
-    for (document, value, text) in ROWS {
+    let mut reader = FlatReader::new(rt.alloc());
+    for (document, value, text) in &ROWS {
         assert!(rt;
-            writes::<ValueLines>(alloc, &mut reader, document, value)?,
-            "{document}"
-        );
-        assert!(rt;
-            writes::<TextLines>(alloc, &mut reader, document, text)?,
+            writes_both(rt.alloc(), &mut reader, document, value, text)?,
             "{document}"
         );
     }
@@ -90,35 +136,44 @@ fn values_and_texts(rt: HostRuntime) -> Result<(), Fail> {
 
 #[test]
 fn lines_as_they_came(rt: HostRuntime) -> Result<(), Fail> {
-    let alloc = rt.alloc();
     let line = b" {\"a\": \"\\u0041\"}\t\r";
-    let tree = Document::read(alloc, line)?;
-    let mut reader = FlatReader::new(alloc);
-    let flat = reader.read(line)?.ok_or("not flat")?;
     let wanted = b" {\"a\": \"\\u0041\"}\t\r\n";
-    for nodes in [1, 2, 3] {
-        let of_tree = written::<InputLines>(alloc, line, Part::root_of(&tree), nodes)?;
-        assert_eq!(rt; of_tree.as_slice(), wanted.as_slice());
-        let of_flat = written::<InputLines>(alloc, line, Part::root_of_flat(&flat), nodes)?;
-        assert_eq!(rt; of_flat.as_slice(), wanted.as_slice());
+    let mut reader = FlatReader::new(rt.alloc());
+    for nodes in 1..4 {
+        assert!(rt; writes::<InputLines>(rt.alloc(), &mut reader, line, nodes, wanted)?);
     }
-    let of_none = written::<InputLines>(alloc, line, Part::root_of(&tree), 0)?;
-    assert!(rt; of_none.is_empty());
+    assert!(rt; writes::<InputLines>(rt.alloc(), &mut reader, line, 0, b"")?);
     Ok(())
+}
+
+/// The form, with what it writes of one more document and of the fault of a line behind it.
+fn with_document<F: Form + Drop>(
+    alloc: Global,
+    plan: &Plan,
+    mut form: F,
+    number: u64,
+    text: &str,
+) -> Result<F, Fail> {
+    form.begin(number);
+    let document = Document::read(alloc, text.as_bytes())?;
+    let mut form = visit_nodes(alloc, plan, &document, form)?;
+    form.end(text.as_bytes())?;
+    form.push_fault(alloc, 2, &DocFault::Unreadable)?;
+    Ok(form)
 }
 
 /// What a form writes of two documents, each with the fault of another line behind it.
 fn answered<F: Form + Drop>(alloc: Global, query: &str) -> Result<Vec<u8>, Fail> {
     let plan = plan(alloc, query)?;
-    let mut form = F::new(alloc);
-    for (number, text) in [(1, "[\"b\",1, \"b\"]"), (3, "[ 2,{}]")] {
-        let document = Document::read(alloc, text.as_bytes())?;
-        form.begin(number);
-        form = visit_nodes(alloc, &plan, &document, form)?;
-        form.end(text.as_bytes())?;
-        form.push_fault(alloc, 2, &DocFault::Unreadable)?;
-    }
-    Ok(join_chunks(alloc, form.into_chunks()?)?)
+    let none = F::new(alloc);
+    let one = with_document(alloc, &plan, none, 1, "[\"b\",1, \"b\"]")?;
+    let two = with_document(alloc, &plan, one, 3, "[ 2,{}]")?;
+    Ok(all_written(alloc, two)?)
+}
+
+/// Whether a form writes this of them.
+fn answers<F: Form + Drop>(alloc: Global, query: &str, wanted: &str) -> Result<bool, Fail> {
+    Ok(answered::<F>(alloc, query)?.as_slice() == wanted.as_bytes())
 }
 
 #[test]
@@ -135,71 +190,106 @@ fn two_documents_and_faults(rt: HostRuntime) -> Result<(), Fail> {
         ("$[?@==2]", "2\n", "2\n", "[ 2,{}]\n"),
         ("$.a", "", "", ""),
     ];
-    for (query, values, texts, lines) in rows {
-        let of_values = answered::<ValueLines>(alloc, query)?;
-        assert_eq!(rt; of_values.as_slice(), values.as_bytes());
-        let of_texts = answered::<TextLines>(alloc, query)?;
-        assert_eq!(rt; of_texts.as_slice(), texts.as_bytes());
-        let of_lines = answered::<InputLines>(alloc, query)?;
-        assert_eq!(rt; of_lines.as_slice(), lines.as_bytes());
+    for (query, values, texts, lines) in &rows {
+        assert!(rt; answers::<ValueLines>(alloc, query, values)?);
+        assert!(rt; answers::<TextLines>(alloc, query, texts)?);
+        assert!(rt; answers::<InputLines>(alloc, query, lines)?);
     }
     Ok(())
 }
 
-/// What a form writes of a document's nodes in two halves, the second taken by a fresh visitor: the first has
+/// What a form writes of a value's nodes in two halves, the second taken by a fresh visitor: the first has
 /// `first` nodes and the second `second`.
 fn halved<F: Form + Drop>(
     alloc: Global,
     line: &[u8],
-    first: u32,
-    second: u32,
-) -> Result<Vec<u8>, Fail> {
-    let tree = Document::read(alloc, line)?;
-    let value = Part::root_of(&tree);
+    value: Part<'_>,
+    (first, second): (u32, u32),
+) -> Result<Vec<u8>, AllocError> {
     let mut form = F::new(alloc);
     form.begin(1);
-    for _ in 0..first {
-        form.node(alloc, &mut PathStack::new(alloc), value)?;
-    }
+    add_nodes(alloc, &mut form, value, first)?;
     let mut half = form.fresh(alloc);
-    for _ in 0..second {
-        half.node(alloc, &mut PathStack::new(alloc), value)?;
-    }
+    add_nodes(alloc, &mut half, value, second)?;
     form.append(half)?;
     form.end(line)?;
-    Ok(join_chunks(alloc, form.into_chunks()?)?)
+    all_written(alloc, form)
+}
+
+/// Whether a form writes this so, of a document's root.
+fn halves_give<F: Form + Drop>(
+    alloc: Global,
+    line: &[u8],
+    counts: (u32, u32),
+    wanted: &[u8],
+) -> Result<bool, Fail> {
+    let tree = Document::read(alloc, line)?;
+    let written = halved::<F>(alloc, line, Part::root_of(&tree), counts)?;
+    Ok(written.as_slice() == wanted)
 }
 
 #[test]
 fn halves(rt: HostRuntime) -> Result<(), Fail> {
     let alloc = rt.alloc();
     let line = b"\"a\\\"\"";
-    for (first, second) in [(1, 1), (2, 0), (0, 2)] {
-        let values = halved::<ValueLines>(alloc, line, first, second)?;
-        assert_eq!(rt; values.as_slice(), b"\"a\\\"\"\n\"a\\\"\"\n".as_slice());
-        let texts = halved::<TextLines>(alloc, line, first, second)?;
-        assert_eq!(rt; texts.as_slice(), b"a\"\na\"\n".as_slice());
-        let lines = halved::<InputLines>(alloc, line, first, second)?;
-        assert_eq!(rt; lines.as_slice(), b"\"a\\\"\"\n".as_slice());
+    for counts in &[(1, 1), (2, 0), (0, 2)] {
+        let values = b"\"a\\\"\"\n\"a\\\"\"\n";
+        assert!(rt; halves_give::<ValueLines>(alloc, line, *counts, values)?);
+        assert!(rt; halves_give::<TextLines>(alloc, line, *counts, b"a\"\na\"\n")?);
+        assert!(rt; halves_give::<InputLines>(alloc, line, *counts, b"\"a\\\"\"\n")?);
     }
     Ok(())
+}
+
+/// A text that is longer than what is copied.
+fn long_line(alloc: Global) -> Result<Vec<u8>, AllocError> {
+    let mut line = vec![in alloc; b'x'; 5_000]?;
+    line.insert(0, b'"')?;
+    line.push(b'"')?;
+    Ok(line)
+}
+
+/// Five times a line, each with its end.
+fn five_times(alloc: Global, line: &[u8]) -> Result<Vec<u8>, AllocError> {
+    let mut wanted = Vec::new(alloc);
+    for _ in 0..5u32 {
+        wanted.extend_from_slice(line)?;
+        wanted.push(b'\n')?;
+    }
+    Ok(wanted)
 }
 
 /// Values that are longer than what is copied stay where they are, in their order.
 #[test]
 fn long_halves(rt: HostRuntime) -> Result<(), Fail> {
-    let alloc = rt.alloc();
-    let mut line = vec![in alloc; b'"']?;
-    line.extend_from_slice(vec![in alloc; b'x'; 5_000]?.as_slice())?;
-    line.push(b'"')?;
-    let values = halved::<ValueLines>(alloc, line.as_slice(), 2, 3)?;
-    line.push(b'\n')?;
-    let mut wanted = Vec::new(alloc);
-    for _ in 0..5u32 {
-        wanted.extend_from_slice(line.as_slice())?;
-    }
-    assert!(rt; values == wanted);
+    let line = long_line(rt.alloc())?;
+    let wanted = five_times(rt.alloc(), line.as_slice())?;
+    let counts = (2, 3);
+    assert!(rt; halves_give::<ValueLines>(rt.alloc(), line.as_slice(), counts, wanted.as_slice())?);
     Ok(())
+}
+
+/// Whether the form of lines is full at first, after a node and at the next line, and whether it writes the
+/// first line alone.
+fn fullness(alloc: Global, value: Part<'_>) -> Result<([bool; 3], bool), Fail> {
+    let mut lines = InputLines::new(alloc);
+    lines.begin(1);
+    let at_first = lines.is_full();
+    lines.node(alloc, &mut PathStack::new(alloc), value)?;
+    let after_a_node = lines.is_full();
+    lines.end(b"1")?;
+    lines.begin(2);
+    let at_next = lines.is_full();
+    lines.end(b"2")?;
+    let is_written = all_written(alloc, lines)?.as_slice() == b"1\n".as_slice();
+    Ok(([at_first, after_a_node, at_next], is_written))
+}
+
+/// Whether a form is full after a node.
+fn is_full_after<F: Form + Drop>(alloc: Global, value: Part<'_>) -> Result<bool, AllocError> {
+    let mut form = F::new(alloc);
+    form.node(alloc, &mut PathStack::new(alloc), value)?;
+    Ok(form.is_full())
 }
 
 /// The first node is enough, and the next line begins without one.
@@ -208,24 +298,12 @@ fn full_after_a_node(rt: HostRuntime) -> Result<(), Fail> {
     let alloc = rt.alloc();
     let tree = Document::read(alloc, b"1")?;
     let value = Part::root_of(&tree);
-    let mut lines = InputLines::new(alloc);
-    lines.begin(1);
-    assert!(rt; !lines.is_full());
-    lines.node(alloc, &mut PathStack::new(alloc), value)?;
-    assert!(rt; lines.is_full());
-    lines.end(b"1")?;
-    lines.begin(2);
-    assert!(rt; !lines.is_full());
-    lines.end(b"2")?;
-    assert_eq!(rt;
-        join_chunks(alloc, lines.into_chunks()?)?.as_slice(),
-        b"1\n".as_slice()
+    let found = fullness(alloc, value)?;
+    assert!(rt; found == ([false, true, false], true));
+    let others = (
+        is_full_after::<ValueLines>(alloc, value)?,
+        is_full_after::<TextLines>(alloc, value)?,
     );
-    let mut values = ValueLines::new(alloc);
-    values.node(alloc, &mut PathStack::new(alloc), value)?;
-    assert!(rt; !values.is_full());
-    let mut texts = TextLines::new(alloc);
-    texts.node(alloc, &mut PathStack::new(alloc), value)?;
-    assert!(rt; !texts.is_full());
+    assert!(rt; others == (false, false));
     Ok(())
 }

@@ -23,6 +23,12 @@ fn is_read_back(alloc: Global, location: &Location, path: &str) -> Result<bool, 
     Ok(text.as_str() == path && read == query_of(alloc, location)?)
 }
 
+/// Whether the path of a name's location is this text, and is read as the path's query.
+fn is_name_read_back(alloc: Global, name: &str, path: &str) -> Result<bool, Fail> {
+    let location = named(alloc, name)?;
+    is_read_back(alloc, &location, path)
+}
+
 #[test]
 fn paths_of_one_step(rt: HostRuntime) -> Result<(), Fail> {
     let alloc = rt.alloc();
@@ -36,8 +42,8 @@ fn paths_of_one_step(rt: HostRuntime) -> Result<(), Fail> {
         ("\u{8}\t\n\u{c}\r", "$['\\b\\t\\n\\f\\r']"),
         ("ü😀", "$['ü😀']"),
     ];
-    for (name, path) in paths {
-        assert!(rt; is_read_back(alloc, &named(alloc, name)?, path)?);
+    for (name, path) in &paths {
+        assert!(rt; is_name_read_back(alloc, name, path)?);
     }
     let last = Location {
         steps: vec![in alloc; Step::Index(4_294_967_295)]?,
@@ -56,19 +62,31 @@ fn path_of_the_root(rt: HostRuntime) -> Result<(), Fail> {
     Ok(())
 }
 
+/// A location of a thousand steps.
+fn thousand_steps(alloc: Global) -> Result<Location, AllocError> {
+    Ok(Location {
+        steps: vec![in alloc; Step::Index(0); 1_000]?,
+    })
+}
+
+/// How long the path of a thousand steps is, how deep its brackets are, and whether it and its location have
+/// plans.
+fn thousand_told(alloc: Global) -> Result<(usize, u64, bool, bool), AllocError> {
+    let location = thousand_steps(alloc)?;
+    let text = write_path(alloc, &location)?;
+    let depth = bracket_depth(text.as_str());
+    let is_planned = plan(alloc, text.as_str()).is_ok();
+    Ok((
+        text.len(),
+        depth,
+        is_planned,
+        path_plan(alloc, &location).is_ok(),
+    ))
+}
+
 #[test]
 fn path_of_a_thousand_steps(rt: HostRuntime) -> Result<(), Fail> {
-    let alloc = rt.alloc();
-    let mut steps = Vec::new(alloc);
-    for _ in 0..1_000u32 {
-        steps.push(Step::Index(0))?;
-    }
-    let location = Location { steps };
-    let text = write_path(alloc, &location)?;
-    assert_eq!(rt; text.len(), 3_001);
-    assert_eq!(rt; bracket_depth(text.as_str()), 1);
-    assert!(rt; plan(alloc, text.as_str()).is_ok());
-    assert!(rt; path_plan(alloc, &location).is_ok());
+    assert_eq!(rt; thousand_told(rt.alloc())?, (3_001, 1, true, true));
     Ok(())
 }
 
@@ -97,34 +115,56 @@ fn by_location(alloc: Global, location: &Location, document: &Document) -> Resul
     lines(alloc, &plan, document)
 }
 
+/// The output lines of locations' paths, read as queries.
+fn all_by_text(
+    alloc: Global,
+    locations: &[Location],
+    document: &Document,
+) -> Result<Vec<u8>, Fail> {
+    let mut all = Vec::new(alloc);
+    for location in locations {
+        all.extend_from_slice(&by_text(alloc, location, document)?)?;
+    }
+    Ok(all)
+}
+
+/// The output lines of locations' plans.
+fn all_by_location(
+    alloc: Global,
+    locations: &[Location],
+    document: &Document,
+) -> Result<Vec<u8>, Fail> {
+    let mut all = Vec::new(alloc);
+    for location in locations {
+        all.extend_from_slice(&by_location(alloc, location, document)?)?;
+    }
+    Ok(all)
+}
+
 /// Whether each path that the query prints, run as a query, prints the same line, by its text and by its
 /// location.
 fn paths_print_their_lines(alloc: Global, query: &str, document: &Document) -> Result<bool, Fail> {
     let whole = plan(alloc, query)?;
-    let mut of_texts = Vec::new(alloc);
-    let mut of_locations = Vec::new(alloc);
-    for location in &evaluate(alloc, &whole, document)? {
-        of_texts.extend_from_slice(&by_text(alloc, location, document)?)?;
-        of_locations.extend_from_slice(&by_location(alloc, location, document)?)?;
-    }
+    let found = evaluate(alloc, &whole, document)?;
     let printed = lines(alloc, &whole, document)?;
-    Ok(printed == of_texts && printed == of_locations && !printed.is_empty())
+    let are_by_texts = all_by_text(alloc, &found, document)? == printed;
+    let are_by_locations = all_by_location(alloc, &found, document)? == printed;
+    Ok(are_by_texts && are_by_locations && !printed.is_empty())
+}
+
+/// Whether a query prints this of a document.
+fn prints(alloc: Global, query: &str, line: &[u8], wanted: &str) -> Result<bool, Fail> {
+    let document = Document::read(alloc, line)?;
+    Ok(printed(alloc, query, &document)?.as_slice() == wanted.as_bytes())
 }
 
 #[test]
 fn a_name_of_escapes(rt: HostRuntime) -> Result<(), Fail> {
-    let alloc = rt.alloc();
-    let document = Document::read(alloc, b"{\"it's\\u0000\\t\":1}")?;
+    let line = b"{\"it's\\u0000\\t\":1}";
     let want = "1\t$['it\\'s\\u0000\\t']\t1\n";
-    assert_eq!(rt;
-        printed(alloc, "$.*", &document)?.as_slice(),
-        want.as_bytes()
-    );
-    let path = "$['it\\'s\\u0000\\t']";
-    assert_eq!(rt;
-        printed(alloc, path, &document)?.as_slice(),
-        want.as_bytes()
-    );
+    for query in &["$.*", "$['it\\'s\\u0000\\t']"] {
+        assert!(rt; prints(rt.alloc(), query, line, want)?, "{query}");
+    }
     Ok(())
 }
 
@@ -136,29 +176,48 @@ fn joined(alloc: Global, number: u64, plan: &Plan, document: &Document) -> Resul
     Ok(join_chunks(alloc, lines.into_chunks()?)?)
 }
 
+/// Whether a query prints this so, for a document of this number.
+fn joins(alloc: Global, number: u64, query: &str, line: &[u8], wanted: &str) -> Result<bool, Fail> {
+    let document = Document::read(alloc, line)?;
+    let plan = plan(alloc, query)?;
+    Ok(joined(alloc, number, &plan, &document)?.as_slice() == wanted.as_bytes())
+}
+
 #[test]
 fn lines_in_chunks(rt: HostRuntime) -> Result<(), Fail> {
-    let alloc = rt.alloc();
-    let document = Document::read(alloc, b"[7]")?;
-    let bytes = joined(alloc, 3, &plan(alloc, "$[0,0]")?, &document)?;
-    assert_eq!(rt; bytes.as_slice(), "3\t$[0]\t7\n3\t$[0]\t7\n".as_bytes());
+    assert!(rt; joins(rt.alloc(), 3, "$[0,0]", b"[7]", "3\t$[0]\t7\n3\t$[0]\t7\n")?);
     Ok(())
+}
+
+/// The lines, and behind them those of the evaluator's nodes in one more document.
+fn with_document(
+    alloc: Global,
+    evaluator: &mut Evaluator<'_>,
+    mut lines: NodeLines,
+    number: u64,
+    text: &str,
+) -> Result<NodeLines, Fail> {
+    lines.begin(number);
+    let document = Document::read(alloc, text.as_bytes())?;
+    Ok(evaluator.visit(&document, lines)?)
+}
+
+/// The output lines of one evaluator for two documents.
+fn of_two_documents(alloc: Global, plan: &Plan) -> Result<Vec<u8>, Fail> {
+    let mut evaluator = Evaluator::new(alloc, plan.compiled());
+    let none = NodeLines::new(alloc);
+    let one = with_document(alloc, &mut evaluator, none, 1, "{\"a\":[1,2,1],\"b\":1}")?;
+    let two = with_document(alloc, &mut evaluator, one, 2, "{\"a\":[1,2],\"b\":2}")?;
+    Ok(two.into_bytes(alloc)?)
 }
 
 /// The query's `$` is the document at hand.
 #[test]
 fn one_evaluator_for_two_documents(rt: HostRuntime) -> Result<(), Fail> {
-    let alloc = rt.alloc();
-    let plan = plan(alloc, "$.a[?@==$.b]")?;
-    let mut evaluator = Evaluator::new(alloc, plan.compiled());
-    let mut lines = NodeLines::new(alloc);
-    for (number, text) in [(1, "{\"a\":[1,2,1],\"b\":1}"), (2, "{\"a\":[1,2],\"b\":2}")] {
-        let document = Document::read(alloc, text.as_bytes())?;
-        lines.begin(number);
-        lines = evaluator.visit(&document, lines)?;
-    }
+    let plan = plan(rt.alloc(), "$.a[?@==$.b]")?;
+    let lines = of_two_documents(rt.alloc(), &plan)?;
     let want = "1\t$['a'][0]\t1\n1\t$['a'][2]\t1\n2\t$['a'][1]\t2\n";
-    assert_eq!(rt; lines.into_bytes(alloc)?.as_slice(), want.as_bytes());
+    assert!(rt; lines.as_slice() == want.as_bytes());
     Ok(())
 }
 

@@ -28,11 +28,8 @@ fn names_in_paths(rt: HostRuntime) -> Result<(), Fail> {
         ("\u{8}\t\n\u{c}\r", "$['\\b\\t\\n\\f\\r']"),
         ("ü😀", "$['ü😀']"),
     ];
-    for (name, path) in paths {
-        assert!(rt;
-            is_path(rt.alloc(), &named(rt.alloc(), name)?, path)?,
-            "{path}"
-        );
+    for (name, path) in &paths {
+        assert!(rt; is_name_path(rt.alloc(), name, path)?, "{path}");
     }
     Ok(())
 }
@@ -40,6 +37,12 @@ fn names_in_paths(rt: HostRuntime) -> Result<(), Fail> {
 /// Whether this is the location's path.
 fn is_path(alloc: Global, location: &Location, path: &str) -> Result<bool, AllocError> {
     Ok(write_path(alloc, location)?.as_str() == path)
+}
+
+/// Whether this is the path of a name's location.
+fn is_name_path(alloc: Global, name: &str, path: &str) -> Result<bool, AllocError> {
+    let location = named(alloc, name)?;
+    is_path(alloc, &location, path)
 }
 
 #[test]
@@ -60,22 +63,29 @@ fn other_paths(rt: HostRuntime) -> Result<(), Fail> {
     Ok(())
 }
 
-#[test]
-fn lines(rt: HostRuntime) -> Result<(), Fail> {
-    let alloc = rt.alloc();
+/// Two lines, one behind the other.
+fn two_lines(alloc: Global, document: &Document) -> Result<Vec<u8>, AllocError> {
     let mut out = Vec::new(alloc);
-    let document = Document::read(alloc, b"{\"b\" : [1, -2, null], \"a\": \"\\u00fc\\n\"}")?;
+    let location = named(alloc, "a")?;
     write_line(
         alloc,
         18_446_744_073_709_551_615,
-        &named(alloc, "a")?,
+        &location,
         document.root(),
         &mut out,
     )?;
-    write_line(alloc, 3, &named(alloc, "a")?, &Value::Null, &mut out)?;
+    write_line(alloc, 3, &location, &Value::Null, &mut out)?;
+    Ok(out)
+}
+
+#[test]
+fn lines(rt: HostRuntime) -> Result<(), Fail> {
+    let line = b"{\"b\" : [1, -2, null], \"a\": \"\\u00fc\\n\"}";
+    let document = Document::read(rt.alloc(), line)?;
+    let out = two_lines(rt.alloc(), &document)?;
     let want =
         "18446744073709551615\t$['a']\t{\"a\":\"ü\\n\",\"b\":[1,-2,null]}\n3\t$['a']\tnull\n";
-    assert_eq!(rt; out.as_slice(), want.as_bytes());
+    assert!(rt; out.as_slice() == want.as_bytes());
     Ok(())
 }
 
