@@ -113,7 +113,8 @@ lines_taken (suc k) bytes (s ∷ ss) =
 -- lines that are taken away in two
 pub lines_split : (k : ℕ) (bytes text after : List ℕ) (spans front behind : List Span)
     → front ≡ take k spans → behind ≡ drop k spans → text ≡ take (bytes_of front) bytes
-    → after ≡ drop (bytes_of front) bytes → lines_in text front ++ lines_in after behind ≡ lines_in bytes spans
+    → after ≡ drop (bytes_of front) bytes
+    → lines_in text front ++ lines_in after behind ≡ lines_in bytes spans
 lines_split k bytes text after spans front behind f b t a =
     ap (λ l. l ++ lines_in after behind) (ap (λ l. lines_in l front) t
     ∙ ap (λ ss. lines_in (take (bytes_of ss) bytes) ss) f ∙ lines_front k bytes spans)

@@ -29,8 +29,8 @@ ghost use Rattle.jp_doc.specs.Rising.{IsRising, MembersRise, NamesAreUtf8};
 ghost use Rattle.jp_doc.specs.Tree.{tree_of, tree_json};
 ghost use Rattle.jp_doc.specs.declared.location.Location as code;
 ghost use Rattle.jp_doc.specs.declared.fault.DocFault.{DocFault};
-ghost use Rattle.jp_doc.specs.declared.fault.DocFault.TheVariants.{LongLine, Unreadable, NotWhole, LongNumber};
-ghost use Rattle.jp_doc.specs.declared.fault.DocFault.TheVariants.{LongArray, Memory};
+ghost use Rattle.jp_doc.specs.declared.fault.DocFault.TheVariants.{LongLine, Unreadable, NotWhole};
+ghost use Rattle.jp_doc.specs.declared.fault.DocFault.TheVariants.{LongNumber, LongArray, Memory};
 
 /// Bytes that are cut after a line feed have the lines of the first part, and then those of the second.
 #[tactic(auto, using(crate::proofs::LineLaws::lines_of_both))]

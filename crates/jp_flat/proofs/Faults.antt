@@ -83,8 +83,8 @@ turned false x y = refl
 answer_if : (nests : Bool) (line : List ℕ) (j : text.Json) → IsUtf8 line → text.document line ≡ Some j
     → nests_from 0 (tokens line) ≡ nests
     → tree_reading line ≡ (if nests then (if are_short (tokens line) then
-    (if nat_lt max_tokens (length (tokens line)) then Err LongArray else Ok (tree_json j)) else Err LongNumber)
-    else Err Unreadable)
+    (if nat_lt max_tokens (length (tokens line)) then Err LongArray else Ok (tree_json j))
+    else Err LongNumber) else Err Unreadable)
 answer_if true line j u e is =
     let found : tree_of line ≡ Some j =
     tree_is line ∙ ap (λ b. if b then text.document line else None) is ∙ e in

@@ -39,7 +39,8 @@ row_unsigned : (ds : List ℕ) → after_all (after_whole ds) ≡ Some []
     → number_of ds ≡ number_from false (scan ds)
     → is_whole_number (number_of ds) ≡ true → is_unsigned_text ds ≡ true
 row_unsigned ds grammar is h =
-    let scanned = and_parts (is_integer (scan ds)) _ (row_if _ _ false (scan ds) (ap is_whole_number (sym is) ∙ h)) in
+    let scanned =
+    and_parts (is_integer (scan ds)) _ (row_if _ _ false (scan ds) (ap is_whole_number (sym is) ∙ h)) in
     let plain = integer_digits ds grammar scanned.0 in
     let t = integer_text false ds (digits_are ds plain) in
     let tested = and_parts (is_integer (digits ds)) _

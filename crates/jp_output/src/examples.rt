@@ -4,8 +4,8 @@ ghost use Rattle.std.specs.Prelude.{◌≡◌, ℕ, [], ◌∷◌, ◌++◌, cod
 ghost use Rattle.std.specs.declared.alloc.Global.{Global};
 ghost use Rattle.jp_doc.specs.Json.{null, truth, number, text, array, object, items, no_members, add_member};
 ghost use Rattle.jp_doc.specs.Location.{Node, name, index, node};
-ghost use Rattle.jp_doc.specs.declared.fault.DocFault.TheVariants.{LongLine, Unreadable, NotWhole, LongNumber};
-ghost use Rattle.jp_doc.specs.declared.fault.DocFault.TheVariants.{LongArray};
+ghost use Rattle.jp_doc.specs.declared.fault.DocFault.TheVariants.{LongLine, Unreadable, NotWhole};
+ghost use Rattle.jp_doc.specs.declared.fault.DocFault.TheVariants.{LongNumber, LongArray};
 ghost use Rattle.jp_number.specs.Number.{whole};
 ghost use Rattle.jp_output.specs.Chunks.{bytes_in};
 ghost use Rattle.jp_output.specs.FaultLine.{fault_line};

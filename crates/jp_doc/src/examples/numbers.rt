@@ -6,8 +6,8 @@ ghost use Rattle.json.specs.Json as grammar;
 ghost use Rattle.jp_doc.specs.Json.{null, number, array, object, no_items, add_item, no_members, add_member};
 ghost use Rattle.jp_doc.specs.ReadingIn.{whole_numbers, decimals, has_long_number, document_of};
 ghost use Rattle.jp_doc.specs.ReadingIn.{tree_reading, or_else, reading_in};
-ghost use Rattle.jp_doc.specs.declared.fault.DocFault.TheVariants.{LongLine, Unreadable, NotWhole, LongNumber};
-ghost use Rattle.jp_doc.specs.declared.fault.DocFault.TheVariants.{LongArray};
+ghost use Rattle.jp_doc.specs.declared.fault.DocFault.TheVariants.{LongLine, Unreadable, NotWhole};
+ghost use Rattle.jp_doc.specs.declared.fault.DocFault.TheVariants.{LongNumber, LongArray};
 ghost use Rattle.jp_number.specs.Number.{whole, written};
 
 #[tactic(auto, unfolding(crate::proofs::OnLiterals::documents_on_literals))]

@@ -10,6 +10,7 @@ agrees-requires g c =
     let slot : Named = record { id = 0; tag = [] } in
     let token = c.index.result.now in
     let at = c.args.one.at in
-    let below : at < length c.args.published.now.tokens.items = omega (arith, c.if-at-len.true, c.len.ensures) in
+    let below : at < length c.args.published.now.tokens.items =
+    omega (arith, c.if-at-len.true, c.len.ensures) in
     c.requires.found.0.1 slot ∙ sym (c.requires.shown.1 at token slot below)
     ∙ ap (λ (x : Written (List Line)). x.of) (sym c.index.ensures)

@@ -70,7 +70,8 @@ loop-spans-preserved c =
           ∙ ap (λ l. all_lines done ++ l) (lines_split c.fitting.result c.loop-spans.bytes.now text after
           c.loop-spans.spans.now front behind c.split_at-in-loop-spans.ensures.front
           c.split_at-in-loop-spans.ensures.back
-          (c.split_at-in-loop-spans-2.ensures.front ∙ ap (λ n. take n c.loop-spans.bytes.now) c.total_len.ensures)
+          (c.split_at-in-loop-spans-2.ensures.front
+          ∙ ap (λ n. take n c.loop-spans.bytes.now) c.total_len.ensures)
           (c.split_at-in-loop-spans-2.ensures.back
           ∙ ap (λ n. drop n c.loop-spans.bytes.now) c.total_len.ensures))
           ∙ c.loop-spans.invariant.parts;
