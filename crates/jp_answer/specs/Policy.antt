@@ -5,8 +5,8 @@ use Rattle.jp_doc.specs.ReadingIn.{Numbers, whole_numbers, decimals, reading_in}
 use Rattle.jp_doc.specs.declared.fault.DocFault.{DocFault}
 use Rattle.jp_answer.specs.declared.on_fault.OnFault.{OnFault}
 use Rattle.jp_answer.specs.declared.policy.LinePolicy.{LinePolicy}
-use Rattle.jp_answer.specs.declared.policy.Numbers as code
-use Rattle.jp_answer.specs.declared.policy.Numbers.TheVariants.{Whole, Decimals}
+use Rattle.jp_number.specs.declared.numbers.Numbers as code
+use Rattle.jp_number.specs.declared.numbers.Numbers.TheVariants.{Whole, Decimals}
 
 -- the numbers that a document may have
 abbrev pub numbers_in : code.Numbers → Numbers

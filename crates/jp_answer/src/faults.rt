@@ -6,9 +6,9 @@ ghost use Rattle.jp_doc.specs.ReadingIn.{decimals, reading_in};
 ghost use Rattle.jp_answer.specs.OnFault.{fault_in};
 ghost use Rattle.jp_answer.specs.Policy.{numbers_in};
 
-use crate::policy::Numbers;
 use jp_doc::{DocFault, Document};
 use jp_flat::FlatReader;
+use jp_number::Numbers;
 use std::alloc::{AllocError, Global};
 
 /// What is wrong with a line, if anything, where documents may have these numbers.

@@ -19,7 +19,7 @@ ghost use Rattle.jp_answer.specs.Streams.{AreWholeLines, line_feeds, AreBlocks, 
 ghost use Rattle.jp_answer.specs.declared.on_fault.OnFault.{OnFault};
 ghost use Rattle.jp_answer.specs.declared.on_fault.OnFault.TheVariants.{KeepGoing};
 ghost use Rattle.jp_answer.specs.declared.policy.LinePolicy.{LinePolicy};
-ghost use Rattle.jp_answer.specs.declared.policy.Numbers.TheVariants.{Whole, Decimals};
+ghost use Rattle.jp_number.specs.declared.numbers.Numbers.TheVariants.{Whole, Decimals};
 ghost use Rattle.jp_answer.specs.Whole.{both, whole, stream_whole, FollowsStop};
 
 /// The answer to lines and further lines is the answer to the first where that has stopped, and else its

@@ -27,7 +27,7 @@ pub use finder::Found;
 pub use gate::{Gate, OpenGate};
 pub use on_fault::OnFault;
 pub use outcome::{DocStop, Outcome};
-pub use policy::{LinePolicy, Numbers};
+pub use policy::LinePolicy;
 pub use published::Published;
 pub use round::Round;
 pub use round_answer::join_row;

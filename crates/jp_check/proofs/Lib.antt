@@ -9,3 +9,5 @@ pub mod MakingSteps
 pub mod Naming
 pub mod CallsMade
 pub mod PatternsListed
+pub mod OnLiterals
+pub mod WithDecimals

@@ -3,17 +3,24 @@
 use Rattle.std.proofs.Common.{◌≡◌, ℕ, ◌+◌, ◌-◌, ◌*◌, ◌<◌, ◌≤◌, ◌^◌, ◌==◌, ◌||◌, Bool, true, false, cond}
 use Rattle.std.proofs.Common.{IsTrue, [], ◌∷◌, ◌++◌, length, refl, ap, sym, ◌∙◌, subst, arith}
 use Rattle.std.proofs.Common.{append-nil, inl, inr, ◌⊎◌}
-use Rattle.std.specs.Prelude.{count_by}
+use Rattle.std.specs.Prelude.{count_by, nat_lt, List, if◌then◌else◌}
+use Rattle.std.specs.Str.{chars, IsUtf8}
+use Rattle.std.proofs.lemmas.Str.{encodes-chars}
+use Rattle.jp_number.specs.Number.{written, IsShort, is_short}
+use Rattle.jp_number.proofs.Limits.{short_by_test}
 use Rattle.std.specs.List.{list_any}
 use Rattle.std.proofs.Math.Nat.{pow-succ', pow-le-pow_right, mul-le-mul_right, mul_assoc}
 use Rattle.std.proofs.lemmas.List.Sums.{sum_by-cons}
+use Rattle.std.proofs.lemmas.Bool.{and_parts, both_ways, not-true, leb-true, lt-ltb}
 use Rattle.std.proofs.lemmas.Bool.Decides.{nat_tests}
 use Rattle.jp_tree.specs.Tree.{Text}
 use Rattle.jp_tree.specs.Characters.{is_digit, is_positive_digit}
 use Rattle.jp_tree.specs.Parts.{Each, IsOptional, absent, present}
 use Rattle.jp_tree.specs.Numbers as is
 use Rattle.jp_types.specs.Numbers.{Written, literal_number, position, digits_from, unsigned_digits}
-use Rattle.jp_types.specs.Numbers.{magnitude, is_fraction, is_in_range}
+use Rattle.jp_types.specs.Numbers.{magnitude, is_fraction, is_in_range, is_in_range_in, is_short_in}
+use Rattle.jp_types.specs.Numbers.{is_whole, max_digits}
+use Rattle.jp_number.specs.declared.numbers.Numbers.TheVariants.{Decimals}
 use Rattle.jp_check.specs.inner.Making.{is_readable}
 
 -- how a number literal is written; of an index nothing is said
@@ -115,11 +122,36 @@ few_readable t h k =
     pow-le-pow_right {n = 10} (omega arith) {i = length (unsigned_digits t)} {j = 38} few in
     omega (arith, below, most)
 
+-- a whole literal
+whole_below : (t : Text) → IsPlain (literal_number t) → is_whole t ≡ true → magnitude t < 10 ^ 38
+whole_below t (inl h) w = absurd (both_ways _ (not-true _ (and_parts _ _ w).0) h)
+whole_below t (inr h) w = few_readable t h (leb-true _ max_digits (and_parts _ _ w).1)
+
+-- a literal can be read where it is whole, and where it is within the limits
+literal_readable : (t : Text) (b : Bool) → is_whole t ≡ b → IsPlain (literal_number t)
+    → (b ≡ false → is_short_in Decimals t ≡ true) → is_readable (literal_number t) ≡ true
+unfolding is_readable
+literal_readable t true e p s = rw e (lt-ltb (magnitude t) (10 ^ 38) (whole_below t p e))
+literal_readable t false e p s = rw e (s refl)
+
 pub plain_readable : (n : Written) → IsPlain n → is_fraction n ≡ false → is_in_range n ≡ true
     → is_readable n ≡ true
-plain_readable (literal_number t) (inl h) f r = absurd cc
-plain_readable (literal_number t) (inr h) f r =
-    let few : count_by is_digit t ≤ 38 = grind (arith, nat_tests) in
-    let below : magnitude t < 10 ^ 38 = few_readable t h few in
-    grind (arith, nat_tests)
-plain_readable (position t) h f r = r
+unfolding is_readable
+plain_readable (literal_number t) p f r =
+    literal_readable t true (rw (f, r) refl) p (λ e. absurd cc)
+plain_readable (position t) p f r = r
+
+pub short_readable : (n : Written) → IsPlain n → is_in_range_in Decimals n ≡ true → is_readable n ≡ true
+unfolding is_readable
+short_readable (literal_number t) p r = literal_readable t (is_whole t) refl p (λ e. r)
+short_readable (position t) p r = r
+
+-- a literal that can be read and is not whole is within the limits, as its bytes
+pub written_short : (bs : List ℕ) → IsUtf8 bs → is_readable (literal_number (chars bs)) ≡ true
+    → is_whole (chars bs) ≡ false → IsShort (written bs)
+unfolding is_readable
+written_short bs u r w =
+    let t = chars bs in
+    let can : Bool → Bool = λ b. if b then nat_lt (magnitude t) (10 ^ 38) else is_short_in Decimals t in
+    let short = subst (λ b. can b ≡ true) w r in
+    (short_by_test (written bs)).0 (ap (λ s. is_short (written s)) (sym (encodes-chars bs u)) ∙ short)

@@ -1,7 +1,7 @@
 -- Each number literal of a query that some text spells is a number of the grammar.
 use Rattle.std.proofs.Common.{◌≡◌, ℕ, zero, suc, Bool, true, false, ◌||◌, Option, List, [], ◌∷◌}
 use Rattle.std.proofs.Common.{◌++◌, ◌≤◌, Some, None, refl}
-use Rattle.std.specs.Prelude.{codes}
+use Rattle.std.specs.Prelude.{codes, ◌&&◌}
 use Rattle.std.proofs.Props.{props}
 use Rattle.std.proofs.Math.Logic.{∥∥₁_elim}
 use Rattle.std.specs.List.{AllByRecursion, list_all, list_any}
@@ -11,10 +11,12 @@ use Rattle.jp_tree.specs.Parts.{Star, none, more, Behind, behind, After, after, 
 use Rattle.jp_tree.specs.Spelling as is
 use Rattle.jp_tokens.specs.Depth.{bracket_depth, max_depth}
 use Rattle.jp_types.specs.Numbers as numbers
-use Rattle.jp_types.specs.Numbers.{Written, is_fraction, is_in_range}
+use Rattle.jp_types.specs.Numbers.{Written, is_fraction, is_in_range, is_in_range_in, are_whole}
+use Rattle.jp_number.specs.declared.numbers.Numbers.{Numbers}
+use Rattle.jp_number.specs.declared.numbers.Numbers.TheVariants.{Whole, Decimals}
 use Rattle.jp_check.specs.inner.Making.{is_readable}
 use Rattle.jp_check.proofs.Sound.{both}
-use Rattle.jp_check.proofs.LiteralDigits.{IsPlain, number_plain, plain_readable}
+use Rattle.jp_check.proofs.LiteralDigits.{IsPlain, number_plain, plain_readable, short_readable}
 
 abbrev ArePlain : List Written → Type 0
 ArePlain ns = AllByRecursion IsPlain ns
@@ -171,27 +173,41 @@ spelled_plain : (t : Text) (q : tree.Query) → is.Spells t q → ArePlain (numb
 spelled_plain w y (is.spells levels t ss h) =
     segments_plain (is.LogicalIs levels) (logical_plain levels) t ss h
 
--- numbers that are written so, in range and with no fraction, can be read
-neither : (a b : Bool) → (a || b) ≡ false → (a ≡ false) × (b ≡ false)
+-- whole numbers that are written so, with no fraction and in range, can be read
+pub neither : (a b : Bool) → (a || b) ≡ false → (a ≡ false) × (b ≡ false)
 neither false false h = (refl, refl)
 neither false true h = absurd cc
 neither true b h = absurd cc
 
-all_readable : (ns : List Written) → ArePlain ns → list_any is_fraction ns ≡ false
+whole_readable : (ns : List Written) → ArePlain ns → list_any is_fraction ns ≡ false
     → list_all is_in_range ns ≡ true → list_all is_readable ns ≡ true
-all_readable [] h f r = refl
-all_readable (n ∷ ns) h f r =
+whole_readable [] h f r = refl
+whole_readable (n ∷ ns) h f r =
     let g = neither (is_fraction n) _ f in
     let s = both (is_in_range n) _ r in
-    rw (plain_readable n h.0 g.0 s.0) (all_readable ns h.1 g.1 s.1)
+    rw (plain_readable n h.0 g.0 s.0) (whole_readable ns h.1 g.1 s.1)
+
+-- so can any within the limits
+decimal_readable : (ns : List Written) → ArePlain ns → list_all (is_in_range_in Decimals) ns ≡ true
+    → list_all is_readable ns ≡ true
+decimal_readable [] h r = refl
+decimal_readable (n ∷ ns) h r =
+    let s = both (is_in_range_in Decimals n) _ r in
+    rw (short_readable n h.0 s.0) (decimal_readable ns h.1 s.1)
+
+all_readable : (which : Numbers) (ns : List Written) → ArePlain ns
+    → (are_whole which && list_any is_fraction ns) ≡ false → list_all (is_in_range_in which) ns ≡ true
+    → list_all is_readable ns ≡ true
+all_readable Whole ns h f r = whole_readable ns h f r
+all_readable Decimals ns h f r = decimal_readable ns h r
 
 readable_set : (ns : List Written) → IsProp (list_all is_readable ns ≡ true)
 readable_set ns = hlevel props
 
--- the numbers of a query that is spelled by some text, has no fraction and is in range
-pub spelled_readable : (q : tree.Query)
+-- the numbers of a query that is spelled by some text, has no fraction that is refused and is in range
+pub spelled_readable : (which : Numbers) (q : tree.Query)
     → ∥ ((t : Text) × (bracket_depth t ≤ max_depth) × is.Spells t q) ∥₁
-    → numbers.has_fraction q ≡ false → numbers.in_range q ≡ true
+    → (are_whole which && numbers.has_fraction q) ≡ false → numbers.in_range_in which q ≡ true
     → list_all is_readable (numbers.query_numbers q) ≡ true
-spelled_readable q spelled f r = ∥∥₁_elim spelled (readable_set (numbers.query_numbers q))
-    (λ s. all_readable (numbers.query_numbers q) (spelled_plain s.0 q s.2) f r)
+spelled_readable which q spelled f r = ∥∥₁_elim spelled (readable_set (numbers.query_numbers q))
+    (λ s. all_readable which (numbers.query_numbers q) (spelled_plain s.0 q s.2) f r)

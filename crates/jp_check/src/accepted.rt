@@ -7,10 +7,11 @@ ghost use Rattle.jp_check.specs.Known.{known_texts};
 ghost use Rattle.jp_check.specs.LiteralPatterns.{literal_patterns};
 ghost use Rattle.jp_compiled.specs.Compiled.{compiled_query as meaning};
 ghost use Rattle.jp_check.specs.inner.QuerySets.{query_set};
-ghost use Rattle.jp_check.specs.Verdict.{IsAccepted};
+ghost use Rattle.jp_check.specs.Verdict.{IsAcceptedIn};
 
 use crate::known::Known;
 use jp_compiled::{KnownPattern, Query as CompiledQuery};
+use jp_number::Numbers;
 use jp_syntax::Query;
 
 /// A query that is well-formed, valid and well-typed (RFC 9535, 2.1).
@@ -19,22 +20,30 @@ pub struct Plan {
     pub(crate) query: Query,
     pub(crate) patterns: Vec<KnownPattern>,
     pub(crate) compiled: CompiledQuery,
-    ghost accepted: { ∥ ((t : Text) × IsAccepted t (query_of query)) ∥₁ },
+    pub(crate) numbers: Numbers,
+    ghost accepted: { ∥ ((t : Text) × IsAcceptedIn numbers t (query_of query)) ∥₁ },
     ghost known: { known_texts patterns.items ≡ literal_patterns (query_of query) },
     ghost made: { meaning compiled ≡ query_of query } by { query_set (meaning compiled) (query_of query) },
 }
 
 impl Plan {
-    ghost use Rattle.jp_check.specs.Plan.{planned_query, IsAcceptedQuery};
+    ghost use Rattle.jp_check.specs.Plan.{planned_query, planned_numbers, IsAcceptedQuery};
     ghost use Rattle.std.specs.Str.{chars};
     ghost use Rattle.jp_check.specs.Known.{Tells};
 
     /// The query.
     pub fn query(&self) -> &Query
         ensures value { query_of result.now ≡ planned_query self.now }
-        ensures accepted { IsAcceptedQuery (planned_query self.now) }
+        ensures accepted { IsAcceptedQuery (planned_numbers self.now) (planned_query self.now) }
     {
         &self.query
+    }
+
+    /// The numbers that its literals may be.
+    pub fn numbers(&self) -> Numbers
+        ensures { result ≡ planned_numbers self.now }
+    {
+        self.numbers
     }
 
     /// The same query compiled, with its numbers, functions and literal patterns.

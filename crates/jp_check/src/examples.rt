@@ -4,7 +4,8 @@ ghost use Rattle.std.specs.Prelude.{◌≡◌, [], ◌∷◌, codes, replicate, 
 ghost use Rattle.jp_tree.specs.Tree as tree;
 ghost use Rattle.jp_tree.specs.declared.fault.QueryFault.TheVariants.{Fraction, Range, IllTyped};
 ghost use Rattle.jp_check.specs.LiteralPatterns.{literal_patterns};
-ghost use Rattle.jp_check.specs.Samples.{IsValid, IsRefused};
+ghost use Rattle.jp_check.specs.Samples.{IsValid, IsRefused, IsValidIn, IsRefusedIn};
+ghost use Rattle.jp_number.specs.declared.numbers.Numbers.TheVariants.{Decimals};
 ghost use Rattle.jp_types.specs.Samples.{selecting, filtered, below_a, behind_zero};
 ghost use Rattle.jp_types.specs.Samples.{either, both};
 ghost use Rattle.jp_types.specs.Samples.{current_with, member_a, too_far, far_node, far};
@@ -51,6 +52,20 @@ fn literals()
     ensures on_the_left { IsRefused (filtered (equals (num (codes "1.5")) (tree.single member_a))) Fraction }
     ensures text_of_a_fraction { IsValid (filtered
         (equals (tree.single member_a) (tree.literal (tree.text (codes "1.5"))))) }
+{}
+
+/// Number literals and indexes where literals may be all numbers.
+#[tactic(auto, unfolding(crate::proofs::OnLiterals::queries_on_literals))]
+fn decimal_literals()
+    ensures fraction { IsValidIn Decimals (a_equals (codes "1.5")) }
+    ensures exponent { IsValidIn Decimals (a_equals (codes "-1E+400")) }
+    ensures longer_than_whole { IsValidIn Decimals (a_equals (replicate 39 57)) }
+    ensures longest_exponent { IsValidIn Decimals (a_equals (codes "1e999999999")) }
+    ensures too_long_exponent { IsRefusedIn Decimals (a_equals (codes "1e1000000000")) Range }
+    ensures far_index { IsRefusedIn Decimals (selecting too_far) Range }
+    ensures range_before_type { IsRefusedIn Decimals (either far unknown) Range }
+    ensures type_of_a_fraction { IsRefusedIn Decimals
+        (equals_number (codes "nope") (it ∷ []) (codes "1.5")) IllTyped }
 {}
 
 /// The order of the faults: fractions, then ranges, then types.

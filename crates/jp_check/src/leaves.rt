@@ -3,17 +3,19 @@
 ghost use Rattle.std.specs.Prelude.{◌≡◌, option_map, true, IfOk};
 ghost use Rattle.std.specs.List.{list_all};
 ghost use Rattle.std.specs.Str.{chars};
+ghost use Rattle.jp_tree.specs.Tree.{number};
 ghost use Rattle.jp_tree.specs.View.{literal_of, slice_of, text_of};
 ghost use Rattle.jp_types.specs.Numbers as numbers;
 ghost use Rattle.jp_check.specs.inner.Making.{is_readable};
 ghost use Rattle.jp_compiled.specs.Compiled as compiled;
 
-use jp_compiled::{Constant, Number, Position, Slice};
+use jp_compiled::{Constant, Position, Slice, WholeNumber, WrittenNumber};
 use jp_syntax::Literal;
-use jp_types::{position, whole_number};
+use jp_types::{is_whole, position, whole_number};
 use std::alloc::{AllocError, Global};
 
 /// An index or a number of a slice.
+#[tactic(auto, unfolding(crate::specs::inner::Making::is_readable))]
 pub(crate) fn make_position(alloc: Global, text: &str) -> Result<Position, AllocError>
     requires { is_readable (numbers.position (chars text.now)) ≡ true }
     ensures { IfOk result (λ p. compiled.position_text p ≡ chars text.now) }
@@ -47,16 +49,30 @@ pub(crate) fn make_slice(alloc: Global, slice: &jp_syntax::Slice) -> Result<Slic
     Ok(Slice { first, past, step })
 }
 
-/// A number literal.
-fn make_number(alloc: Global, text: &str) -> Result<Number, AllocError>
-    requires { is_readable (numbers.literal_number (chars text.now)) ≡ true }
+/// A whole number literal.
+#[tactic(auto, unfolding(crate::specs::inner::Making::is_readable))]
+fn make_whole(alloc: Global, text: &str) -> Result<WholeNumber, AllocError>
+    requires readable { is_readable (numbers.literal_number (chars text.now)) ≡ true }
+    requires whole { numbers.is_whole (chars text.now) ≡ true }
     ensures { IfOk result (λ n. text_of n.text ≡ chars text.now) }
 {
     let Some(value) = whole_number(text) else {
         unreachable!()
     };
     let text = String::from_str(alloc, text)?;
-    Ok(Number { text, value })
+    Ok(WholeNumber { text, value })
+}
+
+/// A number literal.
+fn make_number(alloc: Global, text: &str) -> Result<Constant, AllocError>
+    requires { is_readable (numbers.literal_number (chars text.now)) ≡ true }
+    ensures { IfOk result (λ x. compiled.constant_of x ≡ number (chars text.now)) }
+{
+    if is_whole(text) {
+        return Ok(Constant::Whole(make_whole(alloc, text)?));
+    }
+    let text = String::from_str(alloc, text)?;
+    Ok(Constant::Written(WrittenNumber { text }))
 }
 
 /// A literal.
@@ -65,7 +81,7 @@ pub(crate) fn make_constant(alloc: Global, literal: &Literal) -> Result<Constant
     ensures { IfOk result (λ x. compiled.constant_of x ≡ literal_of literal.now) }
 {
     match literal {
-        Literal::Number(text) => Ok(Constant::Whole(make_number(alloc, text.as_str())?)),
+        Literal::Number(text) => make_number(alloc, text.as_str()),
         Literal::Text(text) => Ok(Constant::Text(String::from_str(alloc, text.as_str())?)),
         Literal::Truth(truth) => Ok(Constant::Truth(*truth)),
         Literal::Null => Ok(Constant::Null),

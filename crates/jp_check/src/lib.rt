@@ -11,6 +11,6 @@ mod making;
 mod patterns;
 
 pub use accepted::Plan;
-pub use checking::{check, plan};
+pub use checking::{check, plan, plan_in};
 pub use jp_types::{Function, function_named};
 pub use known::Known;

@@ -2,6 +2,7 @@
 
 use jp_check::{Known, check, plan};
 use jp_compiled::{Selector, Want};
+use jp_number::Numbers;
 use jp_syntax::{QueryFault, read_query};
 use std::alloc::{AllocError, Global};
 use std::test::Fail;
@@ -90,7 +91,7 @@ query: type of $[?count(value(@.a))==1]
 query: syntax of $[-0]"#;
 
 /// `start`, so many times `c`, and `end`.
-fn around(
+pub(crate) fn around(
     alloc: Global,
     start: &str,
     c: char,
@@ -165,7 +166,7 @@ fn a_hundred_segments(rt: HostRuntime) {
 
 /// Whether what is checked holds the query that the text spells.
 fn checked(alloc: Global, text: &str) -> Result<bool, QueryFault> {
-    let plan = check(alloc, read_query(alloc, text)?)?;
+    let plan = check(alloc, read_query(alloc, text)?, Numbers::Whole)?;
     Ok(*plan.query() == read_query(alloc, text)?)
 }
 

@@ -56,6 +56,7 @@ slice_of s = tree.slice (option_map position_text s.first) (option_map position_
 
 abbrev pub constant_of : Constant → tree.Literal
 constant_of (constant.Whole n) = tree.number (text_of n.text)
+constant_of (constant.Written n) = tree.number (text_of n.text)
 constant_of (constant.Text s) = tree.text (text_of s)
 constant_of (constant.Truth b) = tree.truth b
 constant_of constant.Null = tree.null

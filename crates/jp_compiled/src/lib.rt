@@ -6,6 +6,6 @@ mod query;
 
 pub use known::KnownPattern;
 pub use query::{
-    Constant, Form, Logical, Nodes, Number, Position, Query, RootQuery, Segment, Selector, Slice,
-    Value, Want,
+    Constant, Form, Logical, Nodes, Position, Query, RootQuery, Segment, Selector, Slice, Value,
+    Want, WholeNumber, WrittenNumber,
 };

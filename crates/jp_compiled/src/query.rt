@@ -3,12 +3,15 @@
 //! Numbers are read, functions are resolved, literal patterns are read, and each `$` query inside a filter
 //! stands in a list of its own, behind those that stand inside it.
 
-ghost use Rattle.std.specs.Prelude.{◌≡◌, ◌≤ℤ◌, neg_ℤ, pos};
+ghost use Rattle.std.specs.Prelude.{◌≡◌, ◌≤ℤ◌, neg_ℤ, pos, true, false};
+ghost use Rattle.std.specs.String.{string_bytes};
 ghost use Rattle.std.proofs.Props.{props};
 ghost use Rattle.jp_tree.specs.View.{text_of};
-ghost use Rattle.jp_types.specs.Numbers.{whole_number, max_index};
+ghost use Rattle.jp_number.specs.Number.{IsShort, written};
+ghost use Rattle.jp_types.specs.Numbers.{whole_number, max_index, is_whole};
 
 use crate::known::KnownPattern;
+use jp_number::NumberText;
 use jp_tree::{Operator, Start};
 
 /// A compiled query.
@@ -174,8 +177,10 @@ pub enum Nodes {
 /// A literal.
 #[derive(Drop)]
 pub enum Constant {
-    /// A whole number.
-    Whole(Number),
+    /// A whole number of at most 38 digits.
+    Whole(WholeNumber),
+    /// Any other number.
+    Written(WrittenNumber),
     /// A string's value.
     Text(String),
     /// `true` or `false`.
@@ -184,12 +189,31 @@ pub enum Constant {
     Null,
 }
 
-/// A number literal.
+/// A number literal that is a whole number of at most 38 digits.
 #[derive(Drop)]
-pub struct Number {
+pub struct WholeNumber {
     /// As it is written.
     pub text: String,
     /// The number.
     pub value: i128,
     pub ghost read: { value ≡ whole_number (text_of text) },
+    pub ghost whole: { is_whole (text_of text) ≡ true },
+}
+
+/// A number literal that has a fraction, an exponent or more than 38 digits.
+#[derive(Drop)]
+pub struct WrittenNumber {
+    /// As it is written.
+    pub text: String,
+    pub ghost short: { IsShort (written (string_bytes text)) },
+    pub ghost other: { is_whole (text_of text) ≡ false },
+}
+
+impl WrittenNumber {
+    /// The text of the number.
+    pub fn number(&self) -> NumberText<'_>
+        ensures { result.text.now ≡ string_bytes self.now.text }
+    {
+        NumberText::within(self.text.as_str())
+    }
 }

@@ -12,6 +12,8 @@ mod refusals;
 #[cfg(test)]
 mod selections;
 #[cfg(test)]
+mod sizes;
+#[cfg(test)]
 mod splits;
 #[cfg(test)]
 mod uniform;

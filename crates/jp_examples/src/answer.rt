@@ -1,6 +1,7 @@
-use jp_answer::{Crew, Cutting, LinePolicy, Numbers, OnFault, OpenGate, Outcome, answer_in_chunks};
+use jp_answer::{Crew, Cutting, LinePolicy, OnFault, OpenGate, Outcome, answer_in_chunks};
 use jp_buffer::LineRef;
 use jp_compiled::Query;
+use jp_number::Numbers;
 use jp_output::NodeLines;
 use std::alloc::{AllocError, Global};
 use std::thread::Threads;

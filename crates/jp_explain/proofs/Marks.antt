@@ -6,27 +6,31 @@ use Rattle.std.specs.Str.{chars, IsUtf8}
 use Rattle.std.proofs.lemmas.Str.{chars-append}
 use Rattle.std.proofs.Math.Seq.{take-append_seam}
 use Rattle.std.proofs.lemmas.List.{length-take-le}
+use Rattle.jp_number.specs.declared.numbers.Numbers.{Numbers}
+use Rattle.jp_number.specs.declared.numbers.Numbers.TheVariants.{Whole, Decimals}
 use Rattle.jp_tree.specs.Tree.{Text, query_from}
 use Rattle.jp_tree.specs.Parts.{none}
 use Rattle.jp_tree.specs.Spelling.{spells}
 use Rattle.jp_tree.specs.declared.tree.Start.TheVariants.{Root}
 use Rattle.jp_tree.specs.declared.fault.QueryFault.{QueryFault}
-use Rattle.jp_check.specs.Verdict.{IsVerdict}
+use Rattle.jp_check.specs.Verdict.{IsVerdictIn}
 use Rattle.jp_check.proofs.OneVerdict.{one_verdict}
 use Rattle.jp_explain.specs.Mark.{IsQuery, MayGoOn}
 
 -- `$` is a query
-pub root_query : IsQuery (36 ∷ [])
-root_query = (query_from Root [], (lit≤ tt, (query_from Root [], spells 0 [] [] none, refl)))
+pub root_query : (numbers : Numbers) → IsQuery numbers (36 ∷ [])
+root_query Whole = (query_from Root [], (lit≤ tt, (query_from Root [], spells 0 [] [] none, refl)))
+root_query Decimals = (query_from Root [], (lit≤ tt, (query_from Root [], spells 0 [] [] none, refl)))
 
 -- what is refused is no query
-pub no_query : (t : Text) (f : QueryFault) → IsVerdict t (Err f) → IsQuery t → ⊥
-no_query t f v q = let e = one_verdict t (Err f) (Ok q.0) v q.1 in cc
+pub no_query : (numbers : Numbers) (t : Text) (f : QueryFault) → IsVerdictIn numbers t (Err f)
+    → IsQuery numbers t → ⊥
+no_query numbers t f v q = let e = one_verdict numbers t (Err f) (Ok q.0) v q.1 in cc
 
 -- a query that is a front of the text and more
-pub front_goes_on : (t front more : Text) (n : ℕ) → n ≤ length t → front ≡ take n t → IsQuery (front ++ more)
-    → MayGoOn t n
-front_goes_on t front more n room value query =
+pub front_goes_on : (numbers : Numbers) (t front more : Text) (n : ℕ) → n ≤ length t → front ≡ take n t
+    → IsQuery numbers (front ++ more) → MayGoOn numbers t n
+front_goes_on numbers t front more n room value query =
     let size : length front ≡ n = ap length value ∙ length-take-le n t room in (
       room,
       (
@@ -37,11 +41,12 @@ front_goes_on t front more n room value query =
     )
 
 -- a text that begins with `$`
-pub root_goes_on : (t more : Text) → t ≡ 36 ∷ more → MayGoOn t 1
-root_goes_on t more e = subst (λ (s : Text). MayGoOn s 1) (sym e) (omega arith, (36 ∷ [], refl, root_query))
+pub root_goes_on : (numbers : Numbers) (t more : Text) → t ≡ 36 ∷ more → MayGoOn numbers t 1
+root_goes_on numbers t more e =
+    subst (λ (s : Text). MayGoOn numbers s 1) (sym e) (omega arith, (36 ∷ [], refl, root_query numbers))
 
-pub nothing_goes_on : (t : Text) → MayGoOn t 0
-nothing_goes_on t = (omega arith, (36 ∷ [], refl, root_query))
+pub nothing_goes_on : (numbers : Numbers) (t : Text) → MayGoOn numbers t 0
+nothing_goes_on numbers t = (omega arith, (36 ∷ [], refl, root_query numbers))
 
 -- more text at the end of a string
 pub text_pushed : {E : Type 0} (r : Result (Unit {0}) E) (old new more : List ℕ) → IsUtf8 old

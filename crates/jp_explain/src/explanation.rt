@@ -7,7 +7,8 @@ ghost use Rattle.jp_tree.specs.View.{text_of};
 ghost use Rattle.jp_explain.specs.Mark.{MayGoOn, IsQuery};
 
 use crate::growth::{push_character, push_text};
-use jp_check::plan;
+use jp_check::plan_in;
+use jp_number::Numbers;
 use jp_query_scan::{Expected, Found, Reason, scan};
 use jp_syntax::QueryFault;
 use jp_tokens::first_character;
@@ -22,12 +23,12 @@ pub struct Explanation {
     pub reason: Reason,
 }
 
-/// Whether the text is accepted as a query.
-fn is_query(alloc: Global, text: &str) -> Result<bool, AllocError>
-    ensures yes { IfOk result (λ b. IsTrue b → IsQuery (chars text.now)) }
-    ensures no { IfOk result (λ b. b ≡ false → ¬ IsQuery (chars text.now)) }
+/// Whether the text is accepted as a query whose literals are these numbers.
+fn is_query(alloc: Global, text: &str, numbers: Numbers) -> Result<bool, AllocError>
+    ensures yes { IfOk result (λ b. IsTrue b → IsQuery numbers (chars text.now)) }
+    ensures no { IfOk result (λ b. b ≡ false → ¬ IsQuery numbers (chars text.now)) }
 {
-    match plan(alloc, text) {
+    match plan_in(alloc, text, numbers) {
         Ok(_plan) => Ok(true),
         Err(fault) => {
             if fault == QueryFault::Memory {
@@ -57,13 +58,13 @@ fn front(alloc: Global, text: &str, count: usize) -> Result<Option<String>, Allo
 }
 
 /// Whether the front of the text up to the mark becomes a query by the completion.
-fn may_go_on(alloc: Global, text: &str, found: &Found) -> Result<bool, AllocError>
-    ensures { IfOk result (λ b. IsTrue b → MayGoOn (chars text.now) found.now.mark) }
+fn may_go_on(alloc: Global, text: &str, numbers: Numbers, found: &Found) -> Result<bool, AllocError>
+    ensures { IfOk result (λ b. IsTrue b → MayGoOn numbers (chars text.now) found.now.mark) }
 {
     match front(alloc, text, found.mark)? {
         Some(mut whole) => {
             push_text(&mut whole, found.completion.as_str())?;
-            is_query(alloc, whole.as_str())
+            is_query(alloc, whole.as_str(), numbers)
         }
         None => Ok(false),
     }
@@ -71,7 +72,7 @@ fn may_go_on(alloc: Global, text: &str, found: &Found) -> Result<bool, AllocErro
 
 /// The explanation that is right of each refused text.
 fn at_root(text: &str) -> Explanation
-    ensures { MayGoOn (chars text.now) result.mark }
+    ensures { (numbers : Numbers) → MayGoOn numbers (chars text.now) result.mark }
 {
     match first_character(text) {
         Some(('$', _rest)) => Explanation {
@@ -85,7 +86,8 @@ fn at_root(text: &str) -> Explanation
     }
 }
 
-/// Where a refused query went wrong, and what is to be said of that place; `None` of an accepted one.
+/// Where a query that is refused, if its literals are these numbers, went wrong, and what is to be said of
+/// that place; `None` of an accepted one.
 ///
 /// Where the grammar had something else stand ([`Reason::Expected`]), the mark is behind the longest front
 /// of the query with which some accepted query begins. Where a rule is broken ([`Reason::Rule`]), it is
@@ -95,18 +97,22 @@ fn at_root(text: &str) -> Explanation
 /// # Errors
 ///
 /// `AllocError` where a growth of memory was refused.
-pub fn explain(alloc: Global, query: &str) -> Result<Option<Explanation>, AllocError>
+pub fn explain(
+    alloc: Global,
+    query: &str,
+    numbers: Numbers,
+) -> Result<Option<Explanation>, AllocError>
     // Nothing is explained of an accepted query alone.
-    ensures accepted { IfOk result (λ o. IfNone o (IsQuery (chars query.now))) }
-    ensures refused { IfOk result (λ o. IfSome o (λ _. ¬ IsQuery (chars query.now))) }
+    ensures accepted { IfOk result (λ o. IfNone o (IsQuery numbers (chars query.now))) }
+    ensures refused { IfOk result (λ o. IfSome o (λ _. ¬ IsQuery numbers (chars query.now))) }
     // Some accepted query begins as this one does up to the mark.
-    ensures mark { IfOk result (λ o. IfSome o (λ x. MayGoOn (chars query.now) x.mark)) }
+    ensures mark { IfOk result (λ o. IfSome o (λ x. MayGoOn numbers (chars query.now) x.mark)) }
 {
-    if is_query(alloc, query)? {
+    if is_query(alloc, query, numbers)? {
         return Ok(None);
     }
-    let found = scan(alloc, query)?;
-    if may_go_on(alloc, query, &found)? {
+    let found = scan(alloc, query, numbers)?;
+    if may_go_on(alloc, query, numbers, &found)? {
         return Ok(Some(Explanation {
             mark: found.mark,
             reason: found.reason,

@@ -167,11 +167,11 @@ fn marked_long_number(line: &[u8], path: String, place: usize) -> Option<LineExp
 /// Where a faulty line went wrong, and what is to be said of that place.
 ///
 /// Of an unreadable line it is the first byte at which reading can't go on by the grammar of RFC 8259, or at
-/// which begins what a rule forbids: half of a surrogate pair and, where the line was read without decimals, a
-/// number beyond what a float can be. Of a line with a number that is not whole it is the first such number,
-/// where names rise, with its path; a member that a later one of its name covers does not count. Of a line
-/// with a number over the limits it is the first such number from the left, with its path, also in a member
-/// that is covered. Of the other faults, and of a line that has none, there is nothing to say: `None`.
+/// which begins what a rule forbids: half of a surrogate pair and, where the line was read without decimals,
+/// a number beyond what a float can be. Of a line with a number that is not whole it is the first such
+/// number, where names rise, with its path; a member that a later one of its name covers does not count. Of a
+/// line with a number over the limits it is the first such number from the left, with its path, also in a
+/// member that is covered. Of the other faults, and of a line that has none, there is nothing to say: `None`.
 ///
 /// # Errors
 ///

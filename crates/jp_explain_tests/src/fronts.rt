@@ -2,6 +2,7 @@
 //! query. So the mark is known with no second program.
 
 use jp_explain::{Explanation, Reason, explain};
+use jp_number::Numbers;
 use std::alloc::{AllocError, Global};
 use std::test::*;
 
@@ -19,6 +20,14 @@ const ACCEPTED: [&str; 13] = [
     "$[?distinct( @[?match(@.x,$.y)].z )]",
     "$.\u{e9}\u{65e5}[?((@))].*",
     "$[9007199254740991:-9007199254740991][?@==12345678901234567890123456789012345678]",
+];
+
+/// Queries whose literals are numbers of JSON.
+const DECIMALS: [&str; 4] = [
+    "$[?@.a==-10.250e+07||0E-1<@.b]",
+    "$[?-0.0 >= @ && ! (1e5 != @['c'][-1])]",
+    "$[?match(0.5,1E00)||xor(2.5==@,@.a<1E+3)]",
+    "$[?@==123456789012345678901234567890123456789.0e-123456789]",
 ];
 
 /// So many characters of the text, and one more that stands in no query.
@@ -41,14 +50,28 @@ fn stands_there(told: Option<Explanation>, broken: bool, mark: usize) -> bool {
     }
 }
 
+/// Whether the front of so many characters goes on, and nowhere behind a character more that stands in no
+/// query.
+fn goes_on(alloc: Global, query: &str, numbers: Numbers, count: usize) -> Result<bool, AllocError> {
+    for broken in &[false, true] {
+        let front = broken_off(alloc, query, count, *broken)?;
+        let told = explain(alloc, front.as_str(), numbers)?;
+        if !stands_there(told, *broken, count) {
+            return Ok(false);
+        }
+    }
+    Ok(true)
+}
+
 #[test]
 fn each_front_goes_on(rt: HostRuntime) -> Result<(), Fail> {
     for query in &ACCEPTED {
-        for broken in &[false, true] {
+        for numbers in &[Numbers::Whole, Numbers::Decimals] {
             for count in 0..query.chars().count() {
-                let front = broken_off(rt.alloc(), query, count, *broken)?;
-                let told = explain(rt.alloc(), front.as_str())?;
-                assert!(rt; stands_there(told, *broken, count), "at {front}");
+                assert!(rt;
+                    goes_on(rt.alloc(), query, *numbers, count)?,
+                    "behind {count} of {query}"
+                );
             }
         }
     }
@@ -56,9 +79,43 @@ fn each_front_goes_on(rt: HostRuntime) -> Result<(), Fail> {
 }
 
 #[test]
+fn each_front_goes_on_with_decimals(rt: HostRuntime) -> Result<(), Fail> {
+    for query in &DECIMALS {
+        for count in 0..query.chars().count() {
+            assert!(rt;
+                goes_on(rt.alloc(), query, Numbers::Decimals, count)?,
+                "behind {count} of {query}"
+            );
+        }
+    }
+    Ok(())
+}
+
+fn is_accepted(alloc: Global, query: &str, numbers: Numbers) -> Result<bool, AllocError> {
+    Ok(explain(alloc, query, numbers)?.is_none())
+}
+
+#[test]
 fn accepted_queries_have_no_mark(rt: HostRuntime) -> Result<(), Fail> {
     for query in &ACCEPTED {
-        assert!(rt; explain(rt.alloc(), query)?.is_none(), "at {query}");
+        assert!(rt;
+            is_accepted(rt.alloc(), query, Numbers::Whole)?,
+            "at {query}"
+        );
+        assert!(rt;
+            is_accepted(rt.alloc(), query, Numbers::Decimals)?,
+            "at {query}"
+        );
+    }
+    for query in &DECIMALS {
+        assert!(rt;
+            is_accepted(rt.alloc(), query, Numbers::Decimals)?,
+            "at {query}"
+        );
+        assert!(rt;
+            !is_accepted(rt.alloc(), query, Numbers::Whole)?,
+            "at {query}"
+        );
     }
     Ok(())
 }

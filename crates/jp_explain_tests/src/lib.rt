@@ -3,6 +3,8 @@
 #![tactic(auto)]
 
 #[cfg(test)]
+mod decimals;
+#[cfg(test)]
 mod fronts;
 #[cfg(test)]
 mod line_generated;
@@ -10,6 +12,8 @@ mod line_generated;
 mod line_pictures;
 #[cfg(test)]
 mod line_table;
+#[cfg(test)]
+mod literals;
 #[cfg(test)]
 mod pictures;
 #[cfg(test)]

@@ -1,12 +1,13 @@
 //! The lines for a terminal.
 
 use jp_explain::{Expected, Explanation, Reason, explain, write_mark};
+use jp_number::Numbers;
 use std::alloc::{AllocError, Global};
 use std::test::*;
 
 /// The lines for a query, or nothing for an accepted one.
 fn lines(alloc: Global, query: &str) -> Result<Option<String>, AllocError> {
-    match explain(alloc, query)? {
+    match explain(alloc, query, Numbers::Whole)? {
         Some(told) => Ok(Some(write_mark(alloc, query, &told)?)),
         None => Ok(None),
     }

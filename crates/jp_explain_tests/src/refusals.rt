@@ -8,12 +8,13 @@ use jp_explain::{
     Explanation, LineExplanation, LineReason, LineRule, Reason, Rule, explain, explain_line,
     write_line_mark, write_mark,
 };
+use jp_number::Numbers;
 use std::alloc::Global;
 
 const QUERY: &str = "$..a[?xor(@.b,(match(@.c,'d')))&&nil]";
 
 fn explained(alloc: Global) -> Option<bool> {
-    match explain(alloc, QUERY) {
+    match explain(alloc, QUERY, Numbers::Whole) {
         Ok(Some(told)) => Some(told.mark == 34),
         Ok(None) => Some(false),
         Err(_) => None,

@@ -1,6 +1,7 @@
 //! Wrong queries, with the place where each goes wrong by the grammar, and what is said of it.
 
 use jp_explain::explain;
+use jp_number::Numbers;
 use std::alloc::{AllocError, Global};
 use std::test::*;
 
@@ -53,7 +54,7 @@ const WRONG: [(&str, usize, &str); 36] = [
     (
         "$[?@==1.5]",
         6,
-        "a number is whole: no fraction, no exponent",
+        "a number is whole: no fraction, no exponent; --decimals allows both",
     ),
     (
         "$[?@.a&&]",
@@ -148,7 +149,7 @@ const MORE: [(&str, usize, &str); 30] = [
     (
         "$[?@<1e3]",
         5,
-        "a number is whole: no fraction, no exponent",
+        "a number is whole: no fraction, no exponent; --decimals allows both",
     ),
     (
         "$[:-9007199254740992]",
@@ -194,9 +195,20 @@ const MORE: [(&str, usize, &str); 30] = [
     ),
 ];
 
-/// Whether the query is refused, with the mark and the words.
+/// Whether the query is refused, where numbers are whole, with the mark and the words.
 fn is_explained(alloc: Global, query: &str, mark: usize, words: &str) -> Result<bool, AllocError> {
-    match explain(alloc, query)? {
+    is_explained_in(alloc, query, Numbers::Whole, mark, words)
+}
+
+/// Whether it is refused, where its literals are these numbers, with the mark and the words.
+pub(crate) fn is_explained_in(
+    alloc: Global,
+    query: &str,
+    numbers: Numbers,
+    mark: usize,
+    words: &str,
+) -> Result<bool, AllocError> {
+    match explain(alloc, query, numbers)? {
         Some(told) => {
             let text = format!(in alloc; "{}", told.reason)?;
             Ok(told.mark == mark && text.as_str() == words)
@@ -228,7 +240,12 @@ fn more_wrong_queries(rt: HostRuntime) -> Result<(), Fail> {
 }
 
 /// The text `start`, and so many times `part`.
-fn repeated(alloc: Global, start: &str, part: &str, times: usize) -> Result<String, AllocError> {
+pub(crate) fn repeated(
+    alloc: Global,
+    start: &str,
+    part: &str,
+    times: usize,
+) -> Result<String, AllocError> {
     let mut text = String::new(alloc);
     text.push_str(start)?;
     for _turn in 0..times {

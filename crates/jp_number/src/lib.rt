@@ -6,7 +6,9 @@ mod examples;
 pub mod laws;
 mod number;
 mod number_text;
+mod numbers;
 mod size;
 
 pub use number::Number;
 pub use number_text::NumberText;
+pub use numbers::Numbers;

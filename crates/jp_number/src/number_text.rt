@@ -26,6 +26,14 @@ impl<'a> NumberText<'a> {
             None
         }
     }
+
+    /// The text of a number that is within the limits, without a look at it.
+    pub fn within(text: &'a str) -> NumberText<'a>
+        requires { IsShort (written text.now) }
+        ensures { result.text ≡ text.entry }
+    {
+        NumberText { text }
+    }
 }
 
 /// Whether the text of a number is within the limits.

@@ -10,6 +10,7 @@ use Rattle.jp_regexp.specs.Tests.{Tests}
 use Rattle.jp_eval.specs.Nodelist.{document_nodes}
 use Rattle.jp_tree.specs.Tree.{Query, segments}
 use Rattle.jp_tokens.specs.Depth.{bracket_depth, max_depth}
+use Rattle.jp_number.specs.declared.numbers.Numbers.TheVariants.{Whole}
 use Rattle.jp_types.specs.Numbers.{segments_numbers, is_fraction, is_in_range, magnitude, max_index}
 use Rattle.jp_types.specs.Typing.{segments_typed}
 use Rattle.jp_check.specs.Verdict.{IsAccepted}
@@ -47,14 +48,14 @@ path_accepted l h =
       (
         path_query l,
         path_spelled l h,
-        accepts (path_query l) (no_fraction l) (within_range l h)
+        accepts Whole (path_query l) (no_fraction l) (within_range l h)
             (well_typed l),
       ),
     )
 
 pub path_accepted_only : (l : Location) (q : Query) → AreSteps l → IsAccepted (path_text l) q
     → q ≡ path_query l
-path_accepted_only l q h p = (accepts_only p.1.0 q p.1.2).0 ∙ path_spelled_only l p.1.0 h p.1.1
+path_accepted_only l q h p = (accepts_only Whole p.1.0 q p.1.2).0 ∙ path_spelled_only l p.1.0 h p.1.1
 
 steps_are_indexes : (l : Location) → AreSteps l → AreIndexes l
 steps_are_indexes [] h = tt

@@ -20,6 +20,7 @@ ghost use Rattle.jp_path.specs.PathQuery.{path_query, step_selector, step_segmen
 use itoa::Buffer;
 use jp_check::{Plan, check};
 use jp_doc::{Location, Step};
+use jp_number::Numbers;
 use jp_syntax::{Query, QueryFault, Segment, Selector, Start};
 use std::alloc::{AllocError, Global};
 
@@ -54,7 +55,7 @@ pub fn path_plan(alloc: Global, location: &Location) -> Result<Plan, QueryFault>
         → IsAccepted (path_text (location_of location.now)) other → other ≡ planned_query p) }
     ensures fault { IfErr result (λ f. f ≡ QueryFault.Memory) }
 {
-    check(alloc, query_of(alloc, location)?)
+    check(alloc, query_of(alloc, location)?, Numbers::Whole)
 }
 
 /// One segment for each step. What is read of the steps shows that each is a name of scalar values or an

@@ -8,7 +8,8 @@ use Rattle.clap.specs.Walk.{Text, Row}
 use Rattle.clap.specs.Kinds.{Kinds, IsAmong}
 use Rattle.clap.specs.declared.error.kind.ErrorKind.{ErrorKind}
 use Rattle.jp_tree.specs.declared.fault.QueryFault.{QueryFault}
-use Rattle.jp_check.specs.Verdict.{IsVerdict}
+use Rattle.jp_check.specs.Verdict.{IsVerdictIn}
+use Rattle.jp_run.specs.Answered.{numbers_of}
 use Rattle.jp_run.specs.declared.fault.RunFault.{RunFault}
 use Rattle.jp_run.specs.declared.fault.RunFault.TheVariants.{Memory}
 use Rattle.jp_run.specs.declared.output.Output.{Output}
@@ -120,7 +121,9 @@ module _ (words : List Text) (a : Asked) (v : code.Wanted) (w : Wanted) where
       let on : true ≡ false = sym wants.1 ∙ ap (λ (x : Wanted). x.check) same ∙ off in absurd (cc)
 
 module _ (words : List Text) (a : Asked) (v : code.Wanted) (w : Wanted) (f : QueryFault) where
-  pub verdict_so : a ≡ Query v → IsAsked words a → Wants words w → IsVerdict w.query (Err f)
-      → IsVerdict (chars v.query.now) (Err f)
+  pub verdict_so : a ≡ Query v → IsAsked words a → Wants words w
+      → IsVerdictIn (numbers_of w.decimals) w.query (Err f)
+      → IsVerdictIn (numbers_of v.settings.decimals) (chars v.query.now) (Err f)
   verdict_so e asked wants =
-      subst (λ (x : Wanted). IsVerdict x.query (Err f)) (asked_is words a v w e asked wants)
+      subst (λ (x : Wanted). IsVerdictIn (numbers_of x.decimals) x.query (Err f))
+      (asked_is words a v w e asked wants)

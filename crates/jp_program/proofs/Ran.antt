@@ -1,11 +1,15 @@
 -- What a run that ended well says of the words that wanted it.
 use Rattle.std.proofs.Common.{◌≡◌, ℕ, ◌<◌, ◌⊎◌, inr, Bool, true, false, List, Option, None, IfSome}
-use Rattle.std.proofs.Common.{Result, Ok, Err, IfOk, OnOk, refl, subst, arith}
+use Rattle.std.proofs.Common.{Result, Ok, Err, IfOk, OnOk, OnErr, refl, subst, arith}
+use Rattle.std.specs.Prelude.{IsErrOf}
 use Rattle.std.specs.Io.KnownBytes.{IsAtEnd}
 use Rattle.clap.specs.Walk.{Text}
 use Rattle.jp_doc.specs.Lines.{lines}
+use Rattle.jp_number.specs.declared.numbers.Numbers.{Numbers}
+use Rattle.jp_tree.specs.Tree.{Query as Tree}
+use Rattle.jp_check.specs.Verdict.{IsAcceptedIn}
 use Rattle.jp_answer.specs.OnFault.{passed_in}
-use Rattle.jp_run.specs.Answered.{policy_of}
+use Rattle.jp_run.specs.Answered.{numbers_of, policy_of}
 use Rattle.jp_run.specs.declared.fault.RunFault.{RunFault}
 use Rattle.jp_run.specs.declared.running.Totals.{Totals}
 use Rattle.jp_program.specs.inner.Asked.{IsAsked, wanted_of}
@@ -20,16 +24,27 @@ pub wants_of : (words : List Text) (a : Asked) (w : code.Wanted) → a ≡ Query
     → w.check ≡ false → WantsRun words (wanted_of w)
 wants_of words a w e asked off = (subst (IsAsked words) e asked, off)
 
+-- what a check has accepted is accepted by the numbers that were wanted
+pub taken_by : (n : Numbers) (w : Wanted) → n ≡ numbers_of w.decimals
+    → (q : Tree) × IsAcceptedIn n w.query q → IsTaken w
+taken_by n w same h = (h.0, subst (λ k. IsAcceptedIn k w.query h.0) same h.1)
+
+-- what holds after any fault holds after this one
+pub after_fault : {T : Type 0} (r : Result T RunFault) (fault : RunFault) (P : Type 0) → IsErrOf r fault
+    → OnErr r P → P
+after_fault (Ok x) fault P h p = absurd (cc)
+after_fault (Err f) fault P h p = p
+
 module _ (words : List Text) (w : Wanted) (wants : WantsRun words w) (input old new rest : Option (List ℕ))
     (flushed source_failed sink_failed : Bool) where
-  pub finished_ok : (Shown Checked : Type 0) (r : Result Totals RunFault) → OnOk r (IsTaken w.query)
+  pub finished_ok : (Shown Checked : Type 0) (r : Result Totals RunFault) → OnOk r (IsTaken w)
       → OnOk r (IsToldIn w.keeps_going w None input old new)
       → IfOk r (λ totals. IfSome input (λ bytes. totals.faulty
       ≡ passed_in (policy_of w.decimals w.keeps_going) (lines bytes)))
       → OnOk r (IsAtEnd rest) → OnOk r (flushed ≡ true)
       → OnOk r ((source_failed ≡ false) × (sink_failed ≡ false))
       → IfOk r (λ totals. totals.faulty ≡ 0 → Shown ⊎ Checked ⊎ ((x : Wanted) × WantsRun words x
-      × IsTaken x.query × IsAnswered x None input old new × IsAtEnd rest × (flushed ≡ true)
+      × IsTaken x × IsAnswered x None input old new × IsAtEnd rest × (flushed ≡ true)
       × (source_failed ≡ false) × (sink_failed ≡ false)))
   finished_ok Shown Checked (Ok totals) taken told faulty end passed working = λ e. inr (inr (
     w,

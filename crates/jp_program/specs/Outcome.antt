@@ -3,9 +3,9 @@ use Rattle.std.specs.Prelude.{◌≡◌, ℕ, ◌+◌, ◌<◌, ◌⊎◌, Bool,
 use Rattle.std.specs.Io.KnownBytes.{Appends, Consumes}
 use Rattle.jp_doc.specs.Lines.{lines, line_count}
 use Rattle.jp_doc.specs.declared.fault.DocFault.{DocFault}
-use Rattle.jp_tree.specs.Tree.{Text, Query}
+use Rattle.jp_tree.specs.Tree.{Query}
 use Rattle.jp_regexp.specs.Tests.{Tests, AreRight}
-use Rattle.jp_check.specs.Verdict.{IsAccepted}
+use Rattle.jp_check.specs.Verdict.{IsAcceptedIn}
 use Rattle.jp_answer.specs.Answer.{Answer}
 use Rattle.jp_answer.specs.Policy.{numbers_in}
 use Rattle.jp_answer.specs.Whole.{Whole, whole_as}
@@ -21,9 +21,9 @@ use Rattle.jp_program.specs.Wanted.{Wanted}
 abbrev pub IsStatus : ℕ → Type 0
 IsStatus n = (n ≡ 0) ⊎ (n ≡ 2) ⊎ (n ≡ 3) ⊎ (n ≡ 4) ⊎ (n ≡ 5) ⊎ (n ≡ 64)
 
--- the text is accepted as a query
-abbrev pub IsTaken : Text → Type 0
-IsTaken text = (q : Query) × IsAccepted text q
+-- the wanted text is accepted as a query, by the wanted numbers
+abbrev pub IsTaken : Wanted → Type 0
+IsTaken w = (q : Query) × IsAcceptedIn (numbers_of w.decimals) w.query q
 
 -- what was written is the wanted query's answer, in the wanted form and by the wanted numbers, to the whole
 -- input, which stopped there
@@ -36,7 +36,8 @@ IsAnswered w stopped input old new = IfSome input (λ bytes. (a : Answer)
 -- what was written is the wanted query's answer that keeps going, in the wanted form and by the wanted
 -- numbers, to the whole input, and it has passed faulty lines
 abbrev pub IsPast : Wanted → Option (List ℕ) → Option (List ℕ) → Option (List ℕ) → Type 0
-IsPast w input old new = IfSome input (λ bytes. (q : Query) × IsAccepted w.query q × (x : Whole)
+IsPast w input old new = IfSome input (λ bytes. (q : Query)
+    × IsAcceptedIn (numbers_of w.decimals) w.query q × (x : Whole)
     × ((t : Tests) → AreRight t → whole_as (numbers_in (numbers_of w.decimals)) (form_of w.output) t q
     (lines bytes) ≡ x) × (0 < x.faulty)
     × Appends old new x.bytes)

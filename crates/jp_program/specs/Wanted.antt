@@ -8,8 +8,9 @@ use Rattle.jp_run.specs.declared.output.Output.{Output}
 use Rattle.jp_run.specs.declared.output.Output.TheVariants.{Nodes, Values, Texts, Lines}
 use Rattle.jp_program.specs.CommandLine.{said, refusals, IsRefused}
 
--- the query's text in scalar values, whether it is only checked, what is written, whether documents may have
--- all numbers of JSON, whether the answer keeps going, whether a refusal is to be explained, and the settings
+-- the query's text in scalar values, whether it is only checked, what is written, whether documents and the
+-- query may have all numbers of JSON, whether the answer keeps going, whether a refusal is to be explained,
+-- and the settings
 pub record Wanted : Type 0 where
   pub query : List ℕ
   pub check : Bool

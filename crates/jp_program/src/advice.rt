@@ -29,7 +29,11 @@ pub(crate) fn tell_of_words<N: Sink>(alloc: Global, notes: &mut N, words: &[&str
 /// The lines that show where the wanted query went wrong; none where the words do not ask for them.
 fn explanation(alloc: Global, words: &[&str]) -> Result<Option<String>, RunFault> {
     match read_words(alloc, words)? {
-        Asked::Query(wanted) if wanted.explain => match explain(alloc, wanted.query)? {
+        Asked::Query(wanted) if wanted.explain => match explain(
+            alloc,
+            wanted.query,
+            wanted.settings.numbers(),
+        )? {
             Some(explanation) => Ok(Some(write_mark(alloc, wanted.query, &explanation)?)),
             None => Ok(None),
         },

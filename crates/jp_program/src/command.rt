@@ -6,7 +6,8 @@ ghost use Rattle.std.specs.Io.KnownBytes.{Consumes, IsAtEnd, Keeps};
 ghost use Rattle.clap.specs.Walk.{texts};
 ghost use Rattle.jp_doc.specs.declared.fault.DocFault.{DocFault as Fault};
 ghost use Rattle.jp_tree.specs.declared.fault.QueryFault.{QueryFault as Refusal};
-ghost use Rattle.jp_check.specs.Verdict.{IsVerdict};
+ghost use Rattle.jp_check.specs.Verdict.{IsVerdictIn};
+ghost use Rattle.jp_run.specs.Answered.{numbers_of};
 ghost use Rattle.jp_run.specs.Status.{status_of};
 ghost use Rattle.jp_run.specs.Batches.{WasNotWhole};
 ghost use Rattle.jp_run.specs.Written.{IsPassedOn};
@@ -54,15 +55,16 @@ pub fn program<R: Threads + AllocGlobal + Sync, S: Source, K: Sink, N: Sink>(
     // and nothing was read or written; or a run, whose query is accepted and has no faulty line before it:
     // its answer to the whole input was written and passed on, and neither end has failed.
     ensures finished { result ≡ 0 → (AsksToShow (texts words.now) × (source.new ≡ source.old))
-        ⊎ ((w : Wish) × WantsCheck (texts words.now) w × IsTaken w.query
+        ⊎ ((w : Wish) × WantsCheck (texts words.now) w × IsTaken w
         × (source.new ≡ source.old) × (sink.new ≡ sink.old))
-        ⊎ ((w : Wish) × WantsRun (texts words.now) w × IsTaken w.query
+        ⊎ ((w : Wish) × WantsRun (texts words.now) w × IsTaken w
         × IsAnswered w None (S.remaining source.old) (K.contents sink.old) (K.contents sink.new)
         × IsAtEnd (S.remaining source.new) × (K.flushed sink.new ≡ true)
         × (S.failed source.new ≡ false) × (K.failed sink.new ≡ false)) }
     // 2: the wanted query is refused, and nothing was read or written.
     ensures query { result ≡ 2 → (f : Refusal) × (w : Wish) × Wants (texts words.now) w
-        × IsVerdict w.query (Err f) × (source.new ≡ source.old) × (sink.new ≡ sink.old) }
+        × IsVerdictIn (numbers_of w.decimals) w.query (Err f)
+        × (source.new ≡ source.old) × (sink.new ≡ sink.old) }
     // 3: the answer before the first faulty line was written, and no read followed the one
     // that completed its batch; or to keep going was asked for, and the answer that does was written and
     // passed on, it has passed faulty lines, and neither end has failed.
@@ -95,7 +97,8 @@ pub fn program<R: Threads + AllocGlobal + Sync, S: Source, K: Sink, N: Sink>(
     ensures command_line { result ≡ 64 → IsWrong (texts words.now)
         × (source.new ≡ source.old) × (sink.new ≡ sink.old) }
     // A query that is refused ends with 2, or with 5 for want of memory, and nothing was read or written.
-    ensures refused { (f : Refusal) (w : Wish) → Wants (texts words.now) w → IsVerdict w.query (Err f)
+    ensures refused { (f : Refusal) (w : Wish) → Wants (texts words.now) w
+        → IsVerdictIn (numbers_of w.decimals) w.query (Err f)
         → ((result ≡ 2) ⊎ (result ≡ 5)) × (source.new ≡ source.old)
         × Keeps (K.contents sink.old) (K.contents sink.new) }
     // A check reads and writes nothing, whatever its status.
@@ -136,9 +139,9 @@ fn done<R: Threads + AllocGlobal + Sync, S: Source, K: Sink>(
     requires few { (S.reads source.old ≤ 2 ^ 62) × (S.given source.old ≤ 2 ^ 62) }
     ensures finished { IfOk result (λ totals. totals.faulty ≡ 0
         → (AsksToShow (texts words.now) × (source.new ≡ source.old))
-        ⊎ ((w : Wish) × WantsCheck (texts words.now) w × IsTaken w.query
+        ⊎ ((w : Wish) × WantsCheck (texts words.now) w × IsTaken w
         × (source.new ≡ source.old) × (sink.new ≡ sink.old))
-        ⊎ ((w : Wish) × WantsRun (texts words.now) w × IsTaken w.query
+        ⊎ ((w : Wish) × WantsRun (texts words.now) w × IsTaken w
         × IsAnswered w None (S.remaining source.old) (K.contents sink.old) (K.contents sink.new)
         × IsAtEnd (S.remaining source.new) × (K.flushed sink.new ≡ true)
         × (S.failed source.new ≡ false) × (K.failed sink.new ≡ false))) }
@@ -148,13 +151,15 @@ fn done<R: Threads + AllocGlobal + Sync, S: Source, K: Sink>(
         × IsAtEnd (S.remaining source.new) × (K.flushed sink.new ≡ true)
         × (S.failed source.new ≡ false) × (K.failed sink.new ≡ false)) }
     ensures passed_on { IfOk result (λ totals. 0 < totals.faulty → K.flushed sink.new ≡ true) }
-    ensures refused { (f : Refusal) (w : Wish) → Wants (texts words.now) w → IsVerdict w.query (Err f)
+    ensures refused { (f : Refusal) (w : Wish) → Wants (texts words.now) w
+        → IsVerdictIn (numbers_of w.decimals) w.query (Err f)
         → (IsErrOf result (RunFault.Query f) ⊎ IsErrOf result RunFault.Memory)
         × (source.new ≡ source.old) × (sink.new ≡ sink.old) }
     ensures check { (w : Wish) → WantsCheck (texts words.now) w
         → (source.new ≡ source.old) × (sink.new ≡ sink.old) }
     ensures query { (f : Refusal) → IsErrOf result (RunFault.Query f) → (w : Wish) × Wants (texts words.now) w
-        × IsVerdict w.query (Err f) × (source.new ≡ source.old) × (sink.new ≡ sink.old) }
+        × IsVerdictIn (numbers_of w.decimals) w.query (Err f)
+        × (source.new ≡ source.old) × (sink.new ≡ sink.old) }
     ensures settings { IsErrOf result RunFault.Settings → IsWrong (texts words.now)
         × (source.new ≡ source.old) × (sink.new ≡ sink.old) }
     ensures document { (line : ℕ) (fault : Fault) → IsErrOf result (RunFault.Document line fault)
@@ -184,7 +189,7 @@ fn done<R: Threads + AllocGlobal + Sync, S: Source, K: Sink>(
             Ok(NOTHING_SEEN)
         }
         Asked::Query(wanted) if wanted.check => {
-            check_query(rt.alloc(), wanted.query)?;
+            check_query(rt.alloc(), wanted.query, wanted.settings.numbers())?;
             Ok(NOTHING_SEEN)
         }
         Asked::Query(wanted) => {

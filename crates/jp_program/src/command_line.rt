@@ -21,7 +21,7 @@ use std::alloc::{AllocError, Global};
 const MORE: &str = "\
 INPUT is read from standard input, one JSON document on each line; blank lines are counted and hold none.
 All numbers have to be whole, of 64 bits: a line with a fraction or an exponent is faulty. With --decimals
-every JSON number is read, exactly, and printed as it stands.
+every JSON number is read, exactly, and printed as it stands, and a query may have such numbers too.
 
 OUTPUT is a line for each node that the query selects, in order: the number of the document's line, a tab,
 the node's normalized path, a tab, the node's value. No other tab stands in it: cut -f3 gives the values.

@@ -1,8 +1,9 @@
 //! The example of RFC 9535 (1.5): its bookstore, and all queries of its table 2 with their results there. The
 //! RFC leaves the order of an object's members free: here it is that of their names.
 
-use crate::running::run_words;
-use std::test::Fail;
+use crate::running::{leaves, run_words};
+use std::alloc::AllocGlobal;
+use std::thread::Threads;
 
 /// The document, on one line.
 const BOOKSTORE: &str = "\
@@ -94,30 +95,33 @@ const RUNS: [(&str, &str); 12] = [
 ];
 
 #[test]
-fn each_query_of_the_table(rt: HostRuntime) -> Result<(), Fail> {
+fn each_query_of_the_table(rt: HostRuntime) {
     for (query, output) in &RUNS {
-        let left = run_words(&rt, &["jp", "--decimals", *query], BOOKSTORE.as_bytes());
-        assert_eq!(rt; left.status, 0);
-        assert_eq!(rt; left.output.as_slice(), output.as_bytes());
-        assert_eq!(rt; left.notes.as_slice(), "".as_bytes());
+        let words = ["jp", "--decimals", *query];
+        let input = BOOKSTORE.as_bytes();
+        assert!(rt;
+            leaves(&rt, &words, input, 0, output.as_bytes(), b""),
+            "{query}"
+        );
     }
-    Ok(())
+}
+
+/// The status, and how many lines are written.
+fn lines_left<R: Threads + AllocGlobal + Sync>(rt: &R, words: &[&str]) -> (u8, usize) {
+    let left = run_words(rt, words, BOOKSTORE.as_bytes());
+    let count = left.output.iter().filter(|byte| **byte == b'\n').count();
+    (left.status, count)
 }
 
 /// All member values and all items: 27 of them.
 #[test]
-fn all_that_is_contained(rt: HostRuntime) -> Result<(), Fail> {
-    let left = run_words(&rt, &["jp", "--decimals", "$..*"], BOOKSTORE.as_bytes());
-    let count = left.output.iter().filter(|byte| **byte == b'\n').count();
-    assert_eq!(rt; (left.status, count), (0, 27));
-    Ok(())
+fn all_that_is_contained(rt: HostRuntime) {
+    assert_eq!(rt; lines_left(&rt, &["jp", "--decimals", "$..*"]), (0, 27));
 }
 
 #[test]
-fn faulty_without_the_option(rt: HostRuntime) -> Result<(), Fail> {
-    let left = run_words(&rt, &["jp", "$..book[?@.price<10]"], BOOKSTORE.as_bytes());
-    assert_eq!(rt; left.status, 3);
-    assert_eq!(rt; left.output.as_slice(), "".as_bytes());
-    assert_eq!(rt; left.notes.as_slice(), "jp: line 1: not whole\n".as_bytes());
-    Ok(())
+fn faulty_without_the_option(rt: HostRuntime) {
+    let words = ["jp", "$..book[?@.price<10]"];
+    let notes = b"jp: line 1: not whole\n";
+    assert!(rt; leaves(&rt, &words, BOOKSTORE.as_bytes(), 3, b"", notes));
 }

@@ -1,31 +1,44 @@
 //! Faulty lines that are explained.
 
 use crate::running::run_words;
-use std::test::Fail;
+use std::alloc::AllocGlobal;
+use std::thread::Threads;
 
 /// A document, a number that is not whole, a blank line, and a line that ends too early.
 const INPUT: &[u8] = b"{\"a\":1}\n{\"a\":[2,0.5]}\n\n{\"a\":";
 
-/// What is told of the second line, and of the last.
+/// What is told of the second line.
 const NOT_WHOLE: &[u8] = b"line 2, $['a'][1]: 0.5 is not whole\n{\"a\":[2,0.5]}\n        ^\n";
 
-const UNREADABLE: &[u8] = b"line 4, byte 5: the line ends: expected a value\n{\"a\":\n     ^\n";
-
-#[test]
-fn the_first_faulty_line_is_explained(rt: HostRuntime) -> Result<(), Fail> {
-    for workers in &["1", "3"] {
-        let words = ["jp", "--workers", *workers, "--piece=1", "--explain", "$.a"];
-        let left = run_words(&rt, &words, INPUT);
-        assert_eq!(rt; left.status, 3);
-        assert_eq!(rt; left.output.as_slice(), b"1\t$['a']\t1\n".as_slice());
-        let told = left.notes.strip_prefix(b"jp: line 2: not whole\n");
-        assert_eq!(rt; told, Some(NOT_WHOLE));
-    }
-    Ok(())
+/// Whether the program leaves status 3, this output, and these notes, the two parts one behind the other.
+fn tells<R: Threads + AllocGlobal + Sync>(
+    rt: &R,
+    words: &[&str],
+    output: &[u8],
+    front: &[u8],
+    behind: &[u8],
+) -> bool {
+    let left = run_words(rt, words, INPUT);
+    left.status == 3
+        && left.output.as_slice() == output
+        && left.notes.strip_prefix(front) == Some(behind)
 }
 
 #[test]
-fn faulty_lines_that_are_passed_are_explained(rt: HostRuntime) -> Result<(), Fail> {
+fn the_first_faulty_line_is_explained(rt: HostRuntime) {
+    for workers in &["1", "3"] {
+        let words = ["jp", "--workers", *workers, "--piece=1", "--explain", "$.a"];
+        let front = b"jp: line 2: not whole\n";
+        assert!(rt; tells(&rt, &words, b"1\t$['a']\t1\n", front, NOT_WHOLE));
+    }
+}
+
+/// What is told of it and of the last line.
+const BOTH: &[u8] = b"line 2, $['a'][1]: 0.5 is not whole\n{\"a\":[2,0.5]}\n        ^\n\
+    line 4, byte 5: the line ends: expected a value\n{\"a\":\n     ^\n";
+
+#[test]
+fn faulty_lines_that_are_passed_are_explained(rt: HostRuntime) {
     for workers in &["1", "3"] {
         let words = [
             "jp",
@@ -36,26 +49,29 @@ fn faulty_lines_that_are_passed_are_explained(rt: HostRuntime) -> Result<(), Fai
             "--explain",
             "$.a",
         ];
-        let left = run_words(&rt, &words, INPUT);
-        assert_eq!(rt; left.status, 3);
-        assert_eq!(rt;
-            left.output.as_slice(),
-            b"1\t$['a']\t1\n2\t!\tnot whole\n4\t!\tunreadable\n".as_slice()
-        );
-        let told = left
-            .notes
-            .strip_prefix(b"jp: faulty lines: 2\n")
-            .unwrap_or(b"");
-        assert_eq!(rt; told.strip_prefix(NOT_WHOLE), Some(UNREADABLE));
+        let output = b"1\t$['a']\t1\n2\t!\tnot whole\n4\t!\tunreadable\n";
+        assert!(rt; tells(&rt, &words, output, b"jp: faulty lines: 2\n", BOTH));
     }
-    Ok(())
 }
 
 /// Twelve lines that are no documents.
 const MANY: &[u8] = b"{\n{\n{\n{\n{\n{\n{\n{\n{\n{\n{\n{\n";
 
+/// The status, how many lines are explained, and whether the first of them is behind the count of all.
+fn explained<R: Threads + AllocGlobal + Sync>(rt: &R, words: &[&str]) -> (u8, u32, bool) {
+    let left = run_words(rt, words, MANY);
+    let mut numbers = 0u32;
+    for line in left.notes.split(|byte| *byte == b'\n') {
+        if line.starts_with(b"line ") {
+            numbers = numbers.saturating_add(1);
+        }
+    }
+    let front = b"jp: faulty lines: 12\nline 1, byte 1: ";
+    (left.status, numbers, left.notes.starts_with(front))
+}
+
 #[test]
-fn ten_faulty_lines_are_explained(rt: HostRuntime) -> Result<(), Fail> {
+fn ten_faulty_lines_are_explained(rt: HostRuntime) {
     for words in &[
         &["jp", "--keep-going", "--explain", "$"].as_slice(),
         &[
@@ -68,36 +84,24 @@ fn ten_faulty_lines_are_explained(rt: HostRuntime) -> Result<(), Fail> {
         ]
         .as_slice(),
     ] {
-        let left = run_words(&rt, words, MANY);
-        assert_eq!(rt; left.status, 3);
-        let mut numbers = 0u32;
-        for line in left.notes.split(|byte| *byte == b'\n') {
-            if line.starts_with(b"line ") {
-                numbers = numbers.saturating_add(1);
-            }
-        }
-        assert_eq!(rt; numbers, 10);
-        assert!(rt;
-            left.notes
-                .starts_with(b"jp: faulty lines: 12\nline 1, byte 1: ")
-        );
+        assert_eq!(rt; explained(&rt, words), (3, 10, true));
     }
-    Ok(())
+}
+
+/// Whether the program leaves by both the same, but for more notes by the second.
+fn only_notes_more<R: Threads + AllocGlobal + Sync>(rt: &R, words: &[&str], more: &[&str]) -> bool {
+    let plain = run_words(rt, words, INPUT);
+    let explained = run_words(rt, more, INPUT);
+    explained.status == plain.status
+        && explained.output.as_slice() == plain.output.as_slice()
+        && explained.notes.starts_with(plain.notes.as_slice())
 }
 
 #[test]
-fn what_is_written_stays(rt: HostRuntime) -> Result<(), Fail> {
+fn what_is_written_stays(rt: HostRuntime) {
     for form in &["nodes", "values", "texts", "lines"] {
-        let plain = run_words(
-            &rt,
-            &["jp", "--keep-going", "--output", *form, "$..*"],
-            INPUT,
-        );
-        let words = ["jp", "--keep-going", "--explain", "--output", *form, "$..*"];
-        let explained = run_words(&rt, &words, INPUT);
-        assert_eq!(rt; explained.status, plain.status);
-        assert_eq!(rt; explained.output.as_slice(), plain.output.as_slice());
-        assert!(rt; explained.notes.starts_with(plain.notes.as_slice()));
+        let words = ["jp", "--keep-going", "--output", *form, "$..*"];
+        let more = ["jp", "--keep-going", "--explain", "--output", *form, "$..*"];
+        assert!(rt; only_notes_more(&rt, &words, &more), "{form}");
     }
-    Ok(())
 }

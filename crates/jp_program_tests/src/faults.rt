@@ -1,6 +1,6 @@
 //! Faulty lines, and ends that fail.
 
-use crate::running::run_words;
+use crate::running::leaves;
 use jp_program::program;
 use jp_run::{FromReader, FromWriter};
 use std::alloc::AllocGlobal;
@@ -19,25 +19,24 @@ impl Read for NoReader {
 }
 
 #[test]
-fn a_faulty_line_is_told(rt: HostRuntime) -> Result<(), Fail> {
-    let left = run_words(&rt, &["jp", "$.a"], b"{\"a\":1}\n{\n");
-    assert_eq!(rt; left.status, 3);
-    assert_eq!(rt; left.output.as_slice(), "1\t$['a']\t1\n".as_bytes());
-    assert_eq!(rt;
-        left.notes.as_slice(),
-        "jp: line 2: unreadable\n".as_bytes()
-    );
-    Ok(())
+fn a_faulty_line_is_told(rt: HostRuntime) {
+    let output = b"1\t$['a']\t1\n";
+    let notes = b"jp: line 2: unreadable\n";
+    assert!(rt; leaves(&rt, &["jp", "$.a"], b"{\"a\":1}\n{\n", 3, output, notes));
 }
 
 /// Whether a run that keeps going passes two faulty lines among four, and tells how many.
 fn passes_two<R: Threads + AllocGlobal + Sync>(rt: &R, words: &[&str]) -> bool {
     let input: &[u8] = b"{\"a\":1}\n{\n{\"a\":2}\n{\"a\":1.5}\n";
     let lines = "1\t$['a']\t1\n2\t!\tunreadable\n3\t$['a']\t2\n4\t!\tnot whole\n";
-    let left = run_words(rt, words, input);
-    left.status == 3
-        && left.output.as_slice() == lines.as_bytes()
-        && left.notes.as_slice() == "jp: faulty lines: 2\n".as_bytes()
+    leaves(
+        rt,
+        words,
+        input,
+        3,
+        lines.as_bytes(),
+        b"jp: faulty lines: 2\n",
+    )
 }
 
 #[test]
@@ -66,46 +65,43 @@ fn faulty_lines_are_passed(rt: HostRuntime) {
 
 #[test]
 fn no_faulty_line_is_passed(rt: HostRuntime) {
-    let left = run_words(
-        &rt,
-        &["jp", "--keep-going", "$.a"],
-        b"{\"a\":1}\n\n{\"a\":null}\n",
-    );
-    assert_eq!(rt; left.status, 0);
-    assert_eq!(rt;
-        left.output.as_slice(),
-        "1\t$['a']\t1\n3\t$['a']\tnull\n".as_bytes()
-    );
-    assert_eq!(rt; left.notes.as_slice(), "".as_bytes());
+    let input = b"{\"a\":1}\n\n{\"a\":null}\n";
+    let output = b"1\t$['a']\t1\n3\t$['a']\tnull\n";
+    assert!(rt; leaves(&rt, &["jp", "--keep-going", "$.a"], input, 0, output, b""));
 }
 
-#[test]
-fn a_source_that_fails_is_told(rt: HostRuntime) -> Result<(), Fail> {
+/// Whether the program tells of a source that fails, and writes nothing.
+fn tells_source<R: Threads + AllocGlobal + Sync>(rt: &R) -> bool {
     let mut output = Vec::new(rt.alloc());
     let mut notes = Vec::new(rt.alloc());
     let mut source = FromReader::new(NoReader);
     let mut sink = FromWriter::new(&mut output);
     let mut told = FromWriter::new(&mut notes);
-    let status = program(&rt, &["jp", "$.a"], &mut source, &mut sink, &mut told);
-    assert_eq!(rt; status, 4);
-    assert_eq!(rt; output.as_slice(), "".as_bytes());
-    assert_eq!(rt; notes.as_slice(), "jp: read\n".as_bytes());
-    Ok(())
+    let status = program(rt, &["jp", "$.a"], &mut source, &mut sink, &mut told);
+    status == 4 && output.is_empty() && notes.as_slice() == b"jp: read\n".as_slice()
 }
 
 #[test]
-fn a_sink_that_fails_is_told(rt: HostRuntime) -> Result<(), Fail> {
+fn a_source_that_fails_is_told(rt: HostRuntime) {
+    assert!(rt; tells_source(&rt));
+}
+
+/// Whether the program tells of a sink that fails, and writes what has room.
+fn tells_sink<R: Threads + AllocGlobal + Sync>(rt: &R) -> bool {
     let mut room = [0u8; 5];
     let mut notes = Vec::new(rt.alloc());
     let input: &[u8] = b"{\"a\":1}";
     let mut source = FromReader::new(input);
     let mut sink = FromWriter::new(room.as_mut_slice());
     let mut told = FromWriter::new(&mut notes);
-    let status = program(&rt, &["jp", "$.a"], &mut source, &mut sink, &mut told);
-    assert_eq!(rt; status, 4);
-    assert_eq!(rt; room.as_slice(), "1\t$['".as_bytes());
-    assert_eq!(rt; notes.as_slice(), "jp: write\n".as_bytes());
-    Ok(())
+    let status = program(rt, &["jp", "$.a"], &mut source, &mut sink, &mut told);
+    let is_front = room.as_slice() == "1\t$['".as_bytes();
+    status == 4 && is_front && notes.as_slice() == b"jp: write\n".as_slice()
+}
+
+#[test]
+fn a_sink_that_fails_is_told(rt: HostRuntime) {
+    assert!(rt; tells_sink(&rt));
 }
 
 /// Neither the help nor a note needs to find room.

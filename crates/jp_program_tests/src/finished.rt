@@ -1,8 +1,9 @@
 //! Runs that finish, the help, and checks.
 
-use crate::running::run_words;
+use crate::running::{leaves, run_words};
+use std::alloc::AllocGlobal;
 use std::str;
-use std::test::Fail;
+use std::thread::Threads;
 
 /// A document, a blank line, a document.
 const INPUT: &[u8] = b"{\"a\":1}\n\n{\"a\":null}\n";
@@ -11,29 +12,27 @@ const INPUT: &[u8] = b"{\"a\":1}\n\n{\"a\":null}\n";
 const OUTPUT: &[u8] = b"1\t$['a']\t1\n3\t$['a']\tnull\n";
 
 #[test]
-fn a_query_alone_runs(rt: HostRuntime) -> Result<(), Fail> {
-    let left = run_words(&rt, &["jp", "$.a"], INPUT);
-    assert_eq!(rt; left.status, 0);
-    assert_eq!(rt; left.output.as_slice(), OUTPUT);
-    assert_eq!(rt; left.notes.as_slice(), "".as_bytes());
-    Ok(())
+fn a_query_alone_runs(rt: HostRuntime) {
+    assert!(rt; leaves(&rt, &["jp", "$.a"], INPUT, 0, OUTPUT, b""));
 }
 
 #[test]
-fn an_accepted_query_needs_no_explanation(rt: HostRuntime) -> Result<(), Fail> {
-    let left = run_words(&rt, &["jp", "--explain", "$.a"], INPUT);
-    assert_eq!(rt; left.status, 0);
-    assert_eq!(rt; left.output.as_slice(), OUTPUT);
-    assert_eq!(rt; left.notes.as_slice(), "".as_bytes());
-    let left = run_words(&rt, &["jp", "--check", "--explain", "$.a"], b"{");
-    assert_eq!(rt; left.status, 0);
-    assert_eq!(rt; left.output.as_slice(), "".as_bytes());
-    assert_eq!(rt; left.notes.as_slice(), "".as_bytes());
-    Ok(())
+fn an_accepted_query_needs_no_explanation(rt: HostRuntime) {
+    assert!(rt; leaves(&rt, &["jp", "--explain", "$.a"], INPUT, 0, OUTPUT, b""));
+    assert!(rt;
+        leaves(
+            &rt,
+            &["jp", "--check", "--explain", "$.a"],
+            b"{",
+            0,
+            b"",
+            b""
+        )
+    );
 }
 
 #[test]
-fn options_stand_before_or_behind(rt: HostRuntime) -> Result<(), Fail> {
+fn options_stand_before_or_behind(rt: HostRuntime) {
     let all: [&[&str]; 4] = [
         &[
             "jp",
@@ -56,11 +55,8 @@ fn options_stand_before_or_behind(rt: HostRuntime) -> Result<(), Fail> {
         &["jp", "--workers", "2", "$['a']"],
     ];
     for words in &all {
-        let left = run_words(&rt, words, INPUT);
-        assert_eq!(rt; left.status, 0);
-        assert_eq!(rt; left.output.as_slice(), OUTPUT);
+        assert!(rt; leaves(&rt, words, INPUT, 0, OUTPUT, b""));
     }
-    Ok(())
 }
 
 /// What the help has to name.
@@ -92,43 +88,58 @@ Status:
 standard input
 Examples:";
 
-#[test]
-fn help_teaches(rt: HostRuntime) -> Result<(), Fail> {
-    let left = run_words(&rt, &["jp", "--help"], b"{");
-    assert_eq!(rt; left.status, 0);
-    assert_eq!(rt; left.notes.as_slice(), "".as_bytes());
-    let text = str::from_utf8(&left.output)?;
-    for word in TAUGHT.lines() {
-        assert!(rt; text.contains(word));
-    }
-    Ok(())
+/// The status, and whether the help names all of that and nothing is noted.
+fn teaches<R: Threads + AllocGlobal + Sync>(rt: &R) -> (u8, bool) {
+    let left = run_words(rt, &["jp", "--help"], b"{");
+    let is_taught = match str::from_utf8(&left.output) {
+        Ok(text) => TAUGHT.lines().all(|word| text.contains(word)),
+        Err(_) => false,
+    };
+    (left.status, is_taught && left.notes.is_empty())
 }
 
 #[test]
-fn a_check_reads_nothing(rt: HostRuntime) -> Result<(), Fail> {
-    let left = run_words(&rt, &["jp", "--check", "--keep-going", "$.a"], b"{");
-    assert_eq!(rt; left.status, 0);
-    assert_eq!(rt; left.output.as_slice(), "".as_bytes());
-    assert_eq!(rt; left.notes.as_slice(), "".as_bytes());
-    let left = run_words(&rt, &["jp", "--check", "$.a"], b"{");
-    assert_eq!(rt; left.status, 0);
-    assert_eq!(rt; left.output.as_slice(), "".as_bytes());
-    assert_eq!(rt; left.notes.as_slice(), "".as_bytes());
-    Ok(())
+fn help_teaches(rt: HostRuntime) {
+    assert_eq!(rt; teaches(&rt), (0, true));
+}
+
+#[test]
+fn a_check_reads_nothing(rt: HostRuntime) {
+    assert!(rt;
+        leaves(
+            &rt,
+            &["jp", "--check", "--keep-going", "$.a"],
+            b"{",
+            0,
+            b"",
+            b""
+        )
+    );
+    assert!(rt; leaves(&rt, &["jp", "--check", "$.a"], b"{", 0, b"", b""));
+}
+
+/// Whether a text is the version's line.
+fn is_version(text: &str) -> bool {
+    text.starts_with("jp 0.")
+        && text.contains(" (proved with logic ")
+        && text.ends_with(")\n")
+        && text.lines().count() == 1
+}
+
+/// The status, and whether the version is written and nothing is noted.
+fn tells_version<R: Threads + AllocGlobal + Sync>(rt: &R, word: &str) -> (u8, bool) {
+    let left = run_words(rt, &["jp", word], b"{");
+    let is_told = match str::from_utf8(&left.output) {
+        Ok(text) => is_version(text),
+        Err(_) => false,
+    };
+    (left.status, is_told && left.notes.is_empty())
 }
 
 /// The program's name, its version, and the logic that it was proved with, in one line.
 #[test]
-fn the_version_is_told(rt: HostRuntime) -> Result<(), Fail> {
+fn the_version_is_told(rt: HostRuntime) {
     for word in &["--version", "-V"] {
-        let left = run_words(&rt, &["jp", *word], b"{");
-        assert_eq!(rt; left.status, 0);
-        assert_eq!(rt; left.notes.as_slice(), "".as_bytes());
-        let text = str::from_utf8(&left.output)?;
-        assert!(rt; text.starts_with("jp 0."));
-        assert!(rt; text.contains(" (proved with logic "));
-        assert!(rt; text.ends_with(")\n"));
-        assert_eq!(rt; text.lines().count(), 1);
+        assert_eq!(rt; tells_version(&rt, word), (0, true));
     }
-    Ok(())
 }

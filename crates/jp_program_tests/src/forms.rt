@@ -1,7 +1,6 @@
 //! Runs in each form of the answer, from the words to the bytes.
 
-use crate::running::run_words;
-use std::test::Fail;
+use crate::running::leaves;
 
 /// A document with blanks, escapes and a carriage return at its end, a blank line, and two documents, the
 /// last without a line feed.
@@ -42,14 +41,10 @@ const RUNS: [(&[&str], &[u8]); 8] = [
 ];
 
 #[test]
-fn each_form_is_written(rt: HostRuntime) -> Result<(), Fail> {
+fn each_form_is_written(rt: HostRuntime) {
     for (words, output) in &RUNS {
-        let left = run_words(&rt, *words, INPUT);
-        assert_eq!(rt; left.status, 0);
-        assert_eq!(rt; left.output.as_slice(), *output);
-        assert_eq!(rt; left.notes.as_slice(), "".as_bytes());
+        assert!(rt; leaves(&rt, words, INPUT, 0, output, b""));
     }
-    Ok(())
 }
 
 /// Documents around a line that is none.
@@ -68,7 +63,7 @@ const FAULTY_RUNS: [(&str, &[u8], &[u8]); 4] = [
 ];
 
 #[test]
-fn faulty_lines_are_counted_in_each_form(rt: HostRuntime) -> Result<(), Fail> {
+fn faulty_lines_are_counted_in_each_form(rt: HostRuntime) {
     for (form, going, stopping) in &FAULTY_RUNS {
         for workers in &["1", "3"] {
             let words = [
@@ -81,13 +76,8 @@ fn faulty_lines_are_counted_in_each_form(rt: HostRuntime) -> Result<(), Fail> {
                 *form,
                 "$.a",
             ];
-            let left = run_words(&rt, &words, FAULTY);
-            assert_eq!(rt; left.status, 3);
-            assert_eq!(rt; left.output.as_slice(), *stopping);
-            assert_eq!(rt;
-                left.notes.as_slice(),
-                "jp: line 2: unreadable\n".as_bytes()
-            );
+            let notes = b"jp: line 2: unreadable\n";
+            assert!(rt; leaves(&rt, &words, FAULTY, 3, stopping, notes), "{form}");
             let words = [
                 "jp",
                 "--workers",
@@ -97,11 +87,8 @@ fn faulty_lines_are_counted_in_each_form(rt: HostRuntime) -> Result<(), Fail> {
                 *form,
                 "$.a",
             ];
-            let left = run_words(&rt, &words, FAULTY);
-            assert_eq!(rt; left.status, 3);
-            assert_eq!(rt; left.output.as_slice(), *going);
-            assert_eq!(rt; left.notes.as_slice(), "jp: faulty lines: 1\n".as_bytes());
+            let notes = b"jp: faulty lines: 1\n";
+            assert!(rt; leaves(&rt, &words, FAULTY, 3, going, notes), "{form}");
         }
     }
-    Ok(())
 }

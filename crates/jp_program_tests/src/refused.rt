@@ -1,7 +1,8 @@
 //! Queries and command lines that are refused.
 
-use crate::running::run_words;
-use std::test::Fail;
+use crate::running::{leaves, run_words};
+use std::alloc::AllocGlobal;
+use std::thread::Threads;
 
 /// Queries, each with what is told of it.
 const QUERIES: [(&str, &[u8]); 5] = [
@@ -13,19 +14,15 @@ const QUERIES: [(&str, &[u8]); 5] = [
 ];
 
 #[test]
-fn queries_are_refused(rt: HostRuntime) -> Result<(), Fail> {
+fn queries_are_refused(rt: HostRuntime) {
     for (query, told) in &QUERIES {
         for words in &[
             ["jp", "--workers=2", "--", *query],
             ["jp", "--check", "--", *query],
         ] {
-            let left = run_words(&rt, words, b"{");
-            assert_eq!(rt; left.status, 2);
-            assert_eq!(rt; left.output.as_slice(), "".as_bytes());
-            assert_eq!(rt; left.notes.as_slice(), *told);
+            assert!(rt; leaves(&rt, words, b"{", 2, b"", told), "{query}");
         }
     }
-    Ok(())
 }
 
 /// Queries, each with what `--explain` tells of it.
@@ -47,23 +44,26 @@ const EXPLAINED: [(&str, &[u8]); 4] = [
 ];
 
 #[test]
-fn refusals_are_explained(rt: HostRuntime) -> Result<(), Fail> {
+fn refusals_are_explained(rt: HostRuntime) {
     for (query, told) in &EXPLAINED {
         for words in &[
             ["jp", "--explain", "--workers=2", "--", *query],
             ["jp", "--check", "--explain", "--", *query],
         ] {
-            let left = run_words(&rt, words, b"{");
-            assert_eq!(rt; left.status, 2);
-            assert_eq!(rt; left.output.as_slice(), "".as_bytes());
-            assert_eq!(rt; left.notes.as_slice(), *told);
+            assert!(rt; leaves(&rt, words, b"{", 2, b"", told), "{query}");
         }
     }
-    Ok(())
+}
+
+/// Whether a command line is refused: nothing is written, and two lines or more are noted.
+fn is_refused<R: Threads + AllocGlobal + Sync>(rt: &R, words: &[&str]) -> bool {
+    let left = run_words(rt, words, b"[]\n");
+    let is_told = left.notes.starts_with(b"jp: command line\njp: ");
+    left.status == 64 && left.output.is_empty() && is_told && left.notes.ends_with(b"\n")
 }
 
 #[test]
-fn command_lines_are_refused(rt: HostRuntime) -> Result<(), Fail> {
+fn command_lines_are_refused(rt: HostRuntime) {
     let all: [&[&str]; 21] = [
         &["jp"],
         &["jp", "$", "$"],
@@ -89,13 +89,8 @@ fn command_lines_are_refused(rt: HostRuntime) -> Result<(), Fail> {
         &["jp", "--batch", "0", "$["],
     ];
     for words in &all {
-        let left = run_words(&rt, words, b"[]\n");
-        assert_eq!(rt; left.status, 64);
-        assert_eq!(rt; left.output.as_slice(), "".as_bytes());
-        assert!(rt; left.notes.starts_with(b"jp: command line\njp: "));
-        assert!(rt; left.notes.ends_with(b"\n"));
+        assert!(rt; is_refused(&rt, words));
     }
-    Ok(())
 }
 
 /// Words, each with the line that helps.
@@ -123,12 +118,15 @@ const ADVICE: [(&[&str], &[u8]); 6] = [
     ),
 ];
 
+/// Whether this line is noted behind the first.
+fn is_helped<R: Threads + AllocGlobal + Sync>(rt: &R, words: &[&str], told: &[u8]) -> bool {
+    let left = run_words(rt, words, b"");
+    left.notes.strip_prefix(b"jp: command line\n") == Some(told)
+}
+
 #[test]
-fn what_helps_is_told(rt: HostRuntime) -> Result<(), Fail> {
+fn what_helps_is_told(rt: HostRuntime) {
     for (words, told) in &ADVICE {
-        let left = run_words(&rt, *words, b"");
-        let line = left.notes.strip_prefix(b"jp: command line\n");
-        assert_eq!(rt; line, Some(*told));
+        assert!(rt; is_helped(&rt, words, told));
     }
-    Ok(())
 }

@@ -31,3 +31,16 @@ pub(crate) fn run_words<R: Threads + AllocGlobal + Sync>(
         notes,
     }
 }
+
+/// Whether the program leaves this status, output and notes.
+pub(crate) fn leaves<R: Threads + AllocGlobal + Sync>(
+    rt: &R,
+    words: &[&str],
+    input: &[u8],
+    status: u8,
+    output: &[u8],
+    notes: &[u8],
+) -> bool {
+    let left = run_words(rt, words, input);
+    left.status == status && left.output.as_slice() == output && left.notes.as_slice() == notes
+}

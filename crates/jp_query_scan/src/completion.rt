@@ -1,7 +1,7 @@
 //! What makes the front of a query text a query, at the place where a scan stands.
 
 use crate::functions::{WORDS, gives_value, is_literal, may_begin, takes_two};
-use crate::place::{Begun, Form, Number, NumberOf, Open, Part, Place, Quoted, Side, Unit, Word};
+use crate::place::{Begun, Number, NumberOf, Open, Part, Place, Quoted, Side, Unit, Word};
 use crate::scanner::Scanner;
 use jp_types::{Function, function_named};
 use std::alloc::{AllocError, Global};
@@ -45,7 +45,7 @@ fn push_segment(text: &mut String, begun: Begun) -> Result<(), AllocError> {
 }
 
 fn push_number(text: &mut String, number: Number) -> Result<(), AllocError> {
-    if let Form::Minus = number.form {
+    if number.form.wants_digit() {
         text.push('1')?;
     }
     match number.what {

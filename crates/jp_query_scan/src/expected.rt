@@ -100,6 +100,8 @@ fn in_number(number: Number, inside: Option<Open>) -> Expected {
             NumberOf::Literal(_) => Expected::Digit,
             _ => Expected::DigitFromOne,
         },
+        Form::Point | Form::Sign => Expected::Digit,
+        Form::Letter => Expected::Exponent,
         _ => expected_behind(behind_number(number.what), inside),
     }
 }

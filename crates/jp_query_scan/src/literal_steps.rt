@@ -5,13 +5,19 @@ use crate::functions::{WORDS, is_literal, may_begin, may_call, parameter, takes_
 use crate::place::{Called, Form, Number, NumberOf, Open, Part, Place, Quoted, Side, Unit, Word};
 use crate::reason::{Expected, Reason, Rule};
 use crate::scanner::{Halt, Scanner};
+use jp_number::Numbers;
 use jp_types::function_named;
 
 /// How far from zero an index or a number of a slice may be (RFC 9535, 2.1).
 const MAX_INDEX: u64 = 9_007_199_254_740_991;
 
-/// How many digits a number literal may have.
-const MAX_DIGITS: u64 = 38;
+/// How many digits a number literal may have, where numbers are whole.
+const MAX_WHOLE_DIGITS: u64 = 38;
+
+/// How many it may have else, and how many of them its exponent.
+const MAX_DIGITS: u64 = 1000;
+
+const MAX_EXPONENT: u64 = 9;
 
 /// The size of a number with one more digit.
 fn grown(what: NumberOf, size: u64, c: char) -> u64 {
@@ -23,20 +29,52 @@ fn grown(what: NumberOf, size: u64, c: char) -> u64 {
     }
 }
 
-fn is_in_range(what: NumberOf, size: u64) -> bool {
-    match what {
-        NumberOf::Literal(_) => size <= MAX_DIGITS,
-        _ => size <= MAX_INDEX,
+/// Whether some number in its range begins with these characters.
+fn is_in_range(number: Number, numbers: Numbers) -> bool {
+    match (number.what, numbers) {
+        (NumberOf::Literal(_), Numbers::Whole) => number.size <= MAX_WHOLE_DIGITS,
+        (NumberOf::Literal(_), Numbers::Decimals) => {
+            let most = if number.form.wants_digit() {
+                MAX_DIGITS - 1
+            } else {
+                MAX_DIGITS
+            };
+            number.size <= most && number.exponent <= MAX_EXPONENT
+        }
+        _ => number.size <= MAX_INDEX,
     }
 }
 
 /// The place where such a number begins, and the rule for its size.
-fn number_place(what: NumberOf) -> (Place, Rule) {
-    match what {
-        NumberOf::Literal(side) => (Place::Operand(side), Rule::LiteralRange),
-        NumberOf::Index => (Place::Selector, Rule::IndexRange),
-        NumberOf::Past => (Place::Past, Rule::IndexRange),
-        NumberOf::Step => (Place::Step, Rule::IndexRange),
+fn number_place(what: NumberOf, numbers: Numbers) -> (Place, Rule) {
+    match (what, numbers) {
+        (NumberOf::Literal(side), Numbers::Whole) => (Place::Operand(side), Rule::LiteralRange),
+        (NumberOf::Literal(side), Numbers::Decimals) => (Place::Operand(side), Rule::DecimalRange),
+        (NumberOf::Index, _) => (Place::Selector, Rule::IndexRange),
+        (NumberOf::Past, _) => (Place::Past, Rule::IndexRange),
+        (NumberOf::Step, _) => (Place::Step, Rule::IndexRange),
+    }
+}
+
+/// The form behind one digit more, or nothing where none may follow.
+fn form_after_digit(number: Number, c: char) -> Option<Form> {
+    match (number.form, number.what, c) {
+        (Form::Minus, NumberOf::Literal(_), '0') => Some(Form::Zero),
+        (Form::Minus, _, '0') | (Form::Zero, _, _) => None,
+        (Form::Minus | Form::Digits, _, _) => Some(Form::Digits),
+        (Form::Point | Form::Fraction, _, _) => Some(Form::Fraction),
+        (Form::Letter | Form::Sign | Form::Exponent, _, _) => Some(Form::Exponent),
+    }
+}
+
+/// The form of a literal behind this mark of a fraction or an exponent, or nothing where it is none or may
+/// not follow.
+fn form_after_mark(form: Form, c: char) -> Option<Form> {
+    match (form, c) {
+        (Form::Zero | Form::Digits, '.') => Some(Form::Point),
+        (Form::Zero | Form::Digits | Form::Fraction, 'e' | 'E') => Some(Form::Letter),
+        (Form::Letter, '+' | '-') => Some(Form::Sign),
+        _ => None,
     }
 }
 
@@ -106,6 +144,7 @@ impl Scanner {
             form,
             start: at,
             size,
+            exponent: 0,
         }))
     }
 
@@ -113,11 +152,16 @@ impl Scanner {
         if c.is_ascii_digit() {
             return self.digit(number, at, c);
         }
-        match (number.form, number.what, c) {
-            (Form::Minus, _, _) => Err(self.unexpected(at)),
-            (_, NumberOf::Literal(side), '.' | 'e' | 'E') => {
-                Err(self.against(number.start, Place::Operand(side), Rule::Whole))
-            }
+        match (number.what, form_after_mark(number.form, c)) {
+            (NumberOf::Literal(side), Some(form)) => match self.numbers {
+                Numbers::Whole => Err(self.against(
+                    number.start,
+                    Place::Operand(side),
+                    Rule::Whole,
+                )),
+                Numbers::Decimals => self.go_on_number(Number { form, ..number }),
+            },
+            _ if number.form.wants_digit() => Err(self.unexpected(at)),
             _ => {
                 self.place = behind_number(number.what);
                 self.behind(at, c)
@@ -126,21 +170,25 @@ impl Scanner {
     }
 
     fn digit(&mut self, number: Number, at: usize, c: char) -> Result<(), Halt> {
-        let form = match (number.form, number.what, c) {
-            (Form::Minus, NumberOf::Literal(_), '0') => Form::Zero,
-            (Form::Minus, _, '0') | (Form::Zero, _, _) => return Err(self.unexpected(at)),
-            _ => Form::Digits,
+        let Some(form) = form_after_digit(number, c) else {
+            return Err(self.unexpected(at));
         };
-        let size = grown(number.what, number.size, c);
-        if !is_in_range(number.what, size) {
-            let (place, rule) = number_place(number.what);
-            return Err(self.against(number.start, place, rule));
-        }
-        self.go(Place::Number(Number {
+        let in_exponent = matches!(form, Form::Exponent);
+        self.go_on_number(Number {
             form,
-            size,
+            size: grown(number.what, number.size, c),
+            exponent: number.exponent.saturating_add(in_exponent as u64),
             ..number
-        }))
+        })
+    }
+
+    /// Goes on in the number, unless it is out of its range.
+    fn go_on_number(&mut self, number: Number) -> Result<(), Halt> {
+        if is_in_range(number, self.numbers) {
+            return self.go(Place::Number(number));
+        }
+        let (place, rule) = number_place(number.what, self.numbers);
+        Err(self.against(number.start, place, rule))
     }
 
     pub(crate) fn quoted(&mut self, quoted: Quoted, at: usize, c: char) -> Result<(), Halt> {

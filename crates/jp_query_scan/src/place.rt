@@ -68,6 +68,23 @@ pub(crate) enum Form {
     Minus,
     Zero,
     Digits,
+    /// Behind `.`.
+    Point,
+    /// Behind digits of the fraction.
+    Fraction,
+    /// Behind `e` or `E`.
+    Letter,
+    /// Behind the sign of the exponent.
+    Sign,
+    /// Behind digits of the exponent.
+    Exponent,
+}
+
+impl Form {
+    /// Whether a digit has to follow.
+    pub(crate) fn wants_digit(self) -> bool {
+        matches!(self, Form::Minus | Form::Point | Form::Letter | Form::Sign)
+    }
 }
 
 /// A number that has begun.
@@ -78,6 +95,8 @@ pub(crate) struct Number {
     pub(crate) start: usize,
     /// How many digits a literal has; of another number how far it is from zero.
     pub(crate) size: u64,
+    /// How many of them its exponent has.
+    pub(crate) exponent: u64,
 }
 
 /// Which code unit hexadecimal digits write (RFC 9535, 2.3.1.1).

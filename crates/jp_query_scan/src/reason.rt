@@ -57,6 +57,8 @@ pub enum Expected {
     Digit,
     /// A digit but `0`.
     DigitFromOne,
+    /// What follows the `e` of a number.
+    Exponent,
     /// The quote that ends a text.
     Quote(char),
     /// What follows `\` in these quotes.
@@ -102,12 +104,14 @@ pub enum Expected {
 pub enum Rule {
     /// Brackets and parentheses are nested 64 deep at most.
     TooDeep,
-    /// A number literal has no fraction and no exponent.
+    /// A number literal has no fraction and no exponent, where numbers are whole.
     Whole,
     /// An index or a number of a slice is at most 9007199254740991 from zero (RFC 9535, 2.1).
     IndexRange,
-    /// A number literal has 38 digits at most.
+    /// A number literal has 38 digits at most, where numbers are whole.
     LiteralRange,
+    /// Else it has 1,000 digits at most, those of its exponent counted, which has 9.
+    DecimalRange,
     /// There is no function of that name (RFC 9535, 2.4).
     NoFunction,
     /// What the function gives is a value, which has to be compared (RFC 9535, 2.4.3).
@@ -168,6 +172,7 @@ impl Expected {
             Expected::SliceStep => "a whole number, a comma or ]",
             Expected::Digit => "a digit",
             Expected::DigitFromOne => "a digit from 1 to 9",
+            Expected::Exponent => "a digit, + or -",
             Expected::HexDigit => "a hexadecimal digit",
             Expected::FirstHalf => "0 to 9, a or b: \\udc00 to \\udfff stand behind a first half",
             Expected::SecondHalf => "\\udc00 to \\udfff: the second half of the character",
@@ -216,9 +221,13 @@ impl fmt::Display for Rule {
     fn fmt<W: fmt::Write>(&self, f: &mut fmt::Formatter<W>) -> fmt::Result {
         match self {
             Rule::TooDeep => write!(f, "brackets and parentheses are nested 64 deep at most"),
-            Rule::Whole => write!(f, "a number is whole: no fraction, no exponent"),
+            Rule::Whole => write!(
+                f,
+                "a number is whole: no fraction, no exponent; --decimals allows both"
+            ),
             Rule::IndexRange => write!(f, "an index is at most 9007199254740991 from zero"),
             Rule::LiteralRange => write!(f, "a number has 38 digits at most"),
+            Rule::DecimalRange => write!(f, "a number has 1,000 digits at most, its exponent 9"),
             Rule::NoFunction => write!(f, "no function: there are {FUNCTIONS}"),
             Rule::Compared(function) => {
                 write!(

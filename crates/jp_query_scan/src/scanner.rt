@@ -7,6 +7,7 @@ use crate::completion::completion;
 use crate::expected::expected;
 use crate::place::{Open, Place};
 use crate::reason::{Reason, Rule};
+use jp_number::Numbers;
 use std::alloc::{AllocError, Global};
 
 /// The deepest nesting of brackets and parentheses.
@@ -41,6 +42,8 @@ impl From<AllocError> for Halt {
 /// A scan, and where it stands.
 #[derive(Drop)]
 pub(crate) struct Scanner {
+    /// Which numbers the literals may be.
+    pub(crate) numbers: Numbers,
     pub(crate) place: Place,
     pub(crate) open: Vec<Open>,
     /// The letters of the word that is being read.
@@ -50,8 +53,9 @@ pub(crate) struct Scanner {
 }
 
 impl Scanner {
-    fn new(alloc: Global) -> Scanner {
+    fn new(alloc: Global, numbers: Numbers) -> Scanner {
         Scanner {
+            numbers,
             place: Place::Start,
             open: Vec::new(alloc),
             word: String::new(alloc),
@@ -156,14 +160,14 @@ fn push_open(opened: &mut Vec<Open>, open: Open) -> Result<(), AllocError> {
     Ok(())
 }
 
-/// Where the query text, which is no query, goes wrong, and what makes its front a query. No clause says that
-/// it is right: who uses it judges the completed front.
+/// Where the query text, which is no query whose literals are these numbers, goes wrong, and what makes its
+/// front such a query. No clause says that it is right: who uses it judges the completed front.
 ///
 /// # Errors
 ///
 /// `AllocError` where a growth of memory was refused.
-pub fn scan(alloc: Global, text: &str) -> Result<Found, AllocError> {
-    let mut scanner = Scanner::new(alloc);
+pub fn scan(alloc: Global, text: &str, numbers: Numbers) -> Result<Found, AllocError> {
+    let mut scanner = Scanner::new(alloc, numbers);
     match scanner.read(text) {
         Halt::Memory => Err(AllocError),
         Halt::At(mark, reason) => Ok(Found {

@@ -9,7 +9,8 @@ use Rattle.jp_tree.specs.Tree as tree
 use Rattle.jp_tree.specs.Tree.{Text}
 use Rattle.jp_tree.specs.declared.fault.QueryFault.{QueryFault}
 use Rattle.jp_regexp.proofs.RightTests.{right_tests}
-use Rattle.jp_check.specs.Verdict.{IsAccepted, IsVerdict}
+use Rattle.jp_number.specs.declared.numbers.Numbers.{Numbers}
+use Rattle.jp_check.specs.Verdict.{IsAcceptedIn, IsVerdictIn}
 use Rattle.jp_check.proofs.OneVerdict.{one_verdict}
 use Rattle.jp_answer.specs.Answer.{Answer}
 use Rattle.jp_run.specs.Answered.{IsAnswerBy, manner_by, on_fault_of}
@@ -29,15 +30,21 @@ same_ok x y e = cc
 same_err : {X E : Type 0} (x y : E) → ◌≡◌ {A = Result X E} (Err x) (Err y) → x ≡ y
 same_err x y e = cc
 
-pub not_both : {P : Type 0} (text : Text) (q : tree.Query) (f : QueryFault) → IsAccepted text q
-    → IsVerdict text (Err f) → P
-not_both text q f h g = let e : ◌≡◌ {A = Result tree.Query QueryFault} (Ok q) (Err f) =
-    one_verdict text (Ok q) (Err f) h g in absurd cc
+-- what is told of a text by these numbers is told by those, where they are the same
+by_numbers : (n m : Numbers) (text : Text) (f : QueryFault) → n ≡ m → IsVerdictIn m text (Err f)
+    → IsVerdictIn n text (Err f)
+by_numbers n m text f same = subst (λ k. IsVerdictIn k text (Err f)) (sym same)
+
+pub not_both : {P : Type 0} (n m : Numbers) (text : Text) (q : tree.Query) (f : QueryFault) → n ≡ m
+    → IsAcceptedIn n text q → IsVerdictIn m text (Err f) → P
+not_both n m text q f same h g = let e : ◌≡◌ {A = Result tree.Query QueryFault} (Ok q) (Err f) =
+    one_verdict n text (Ok q) (Err f) h (by_numbers n m text f same g) in absurd cc
 
 -- the query that is walked is the one that was accepted
-pub spelled : (text : Text) (q accepted : tree.Query) → q ≡ accepted → IsAccepted text accepted
-    → IsAccepted text q
-spelled text q accepted e h = subst (IsAccepted text) (sym e) h
+pub spelled : (n m : Numbers) (text : Text) (q accepted : tree.Query) → n ≡ m → q ≡ accepted
+    → IsAcceptedIn n text accepted → IsAcceptedIn m text q
+spelled n m text q accepted same e h =
+    subst (λ k. IsAcceptedIn k text q) same (subst (IsAcceptedIn n text) (sym e) h)
 
 -- an answer that keeps going does not stop
 pub not_going : (keeps_going : Bool) → keeps_going ≡ true → on_fault_of keeps_going ≡ Stop → ⊥
@@ -49,14 +56,14 @@ err_of : {T E : Type 0} (r : Result T E) (e : E) → IsErrAnd r (λ f. f ≡ e) 
 err_of (Ok x) e h = absurd h
 err_of (Err f) e h = ap Err h
 
-pub refused_so : {T : Type 0} (text : Text) (f : QueryFault) (fault : RunFault) (r : Result T RunFault)
-    → IsErrAnd r (λ e. e ≡ fault)
-    → (fault ≡ Memory) ⊎ ((g : QueryFault) × (fault ≡ Query g) × IsVerdict text (Err g))
-    → IsVerdict text (Err f) → (r ≡ Err (Query f)) ⊎ (r ≡ Err Memory)
-refused_so text f fault r h (inl e) v = inr (err_of r fault h ∙ ap Err e)
-refused_so text f fault r h (inr (g, e, w)) v =
-    let same : ◌≡◌ {A = Result tree.Query QueryFault} (Err g) (Err f) = one_verdict text (Err g) (Err f) w
-    v in
+pub refused_so : {T : Type 0} (n m : Numbers) (text : Text) (f : QueryFault) (fault : RunFault)
+    (r : Result T RunFault) → n ≡ m → IsErrAnd r (λ e. e ≡ fault)
+    → (fault ≡ Memory) ⊎ ((g : QueryFault) × (fault ≡ Query g) × IsVerdictIn n text (Err g))
+    → IsVerdictIn m text (Err f) → (r ≡ Err (Query f)) ⊎ (r ≡ Err Memory)
+refused_so n m text f fault r is h (inl e) v = inr (err_of r fault h ∙ ap Err e)
+refused_so n m text f fault r is h (inr (g, e, w)) v =
+    let same : ◌≡◌ {A = Result tree.Query QueryFault} (Err g) (Err f) =
+    one_verdict n text (Err g) (Err f) w (by_numbers n m text f is v) in
     inl (err_of r fault h ∙ ap Err (e ∙ ap Query (same_err g f same)))
 
 -- what stands after the fault that was told
@@ -65,47 +72,50 @@ pub at_fault : {T : Type 0} (r : Result T RunFault) (f : RunFault) (P : RunFault
 at_fault (Ok x) f P e h = absurd (cc)
 at_fault (Err g) f P e h = let same : g ≡ f = cc in subst P same h
 
-pub accepted_ok : {T : Type 0} (text : Text) (q : tree.Query) → IsAccepted text q → (r : Result T RunFault)
-    → OnOk r ((q : tree.Query) × IsAccepted text q)
-accepted_ok text q accepted (Ok x) = (q, accepted)
-accepted_ok text q accepted (Err f) = tt
+pub accepted_ok : {T : Type 0} (n m : Numbers) (text : Text) (q : tree.Query) → n ≡ m
+    → IsAcceptedIn n text q → (r : Result T RunFault) → OnOk r ((q : tree.Query) × IsAcceptedIn m text q)
+accepted_ok n m text q same accepted (Ok x) = (q, subst (λ k. IsAcceptedIn k text q) same accepted)
+accepted_ok n m text q same accepted (Err f) = tt
 
-module _ (going : Manner) (text : Text) (q : tree.Query) (accepted : IsAccepted text q) where
-  -- the answer that was handed out is that to the text
-  pub answer_known : (stop : Option (ℕ × DocFault)) (known s u : Option (List ℕ))
-      → IfSome known (λ input. Handed going q (lines input) stop s u)
-      → IfSome known (λ input. (a : Answer) × IsAnswerBy going text input a × (a.stopped ≡ stop)
-      × Appends s u a.bytes)
-  answer_known stop None s u h = tt
-  answer_known stop (Some input) s u h = (h.whole, (q, accepted, h.is), h.stopped, h.appended)
+module _ (going : Manner) (text : Text) (q : tree.Query) (accepted : IsAcceptedIn going.policy.numbers text q)
+  where
+    -- the answer that was handed out is that to the text
+    pub answer_known : (stop : Option (ℕ × DocFault)) (known s u : Option (List ℕ))
+        → IfSome known (λ input. Handed going q (lines input) stop s u)
+        → IfSome known (λ input. (a : Answer) × IsAnswerBy going text input a × (a.stopped ≡ stop)
+        × Appends s u a.bytes)
+    answer_known stop None s u h = tt
+    answer_known stop (Some input) s u h = (h.whole, (q, accepted, h.is), h.stopped, h.appended)
 
-  pub answer_ok : {T : Type 0} (r : Result T RunFault) (known s u : Option (List ℕ))
-      → OnOk r (IfSome known (λ input. Handed going q (lines input) None s u))
-      → OnOk r (IfSome known (λ input. (a : Answer) × IsAnswerBy going text input a × (a.stopped ≡ None)
-      × Appends s u a.bytes))
-  answer_ok (Ok x) known s u h = answer_known None known s u h
-  answer_ok (Err f) known s u h = tt
+    pub answer_ok : {T : Type 0} (r : Result T RunFault) (known s u : Option (List ℕ))
+        → OnOk r (IfSome known (λ input. Handed going q (lines input) None s u))
+        → OnOk r (IfSome known (λ input. (a : Answer) × IsAnswerBy going text input a × (a.stopped ≡ None)
+        × Appends s u a.bytes))
+    answer_ok (Ok x) known s u h = answer_known None known s u h
+    answer_ok (Err f) known s u h = tt
 
-  answer_is : (input : List ℕ) (b : Answer) → IsAnswerBy going text input b
-      → answer_by going.form going.policy right_tests.0 q (lines input) ≡ b
-  answer_is input b h =
-      let same : q ≡ h.0 = same_ok q h.0 (one_verdict text (Ok q) (Ok h.0) accepted h.1) in
-      ap (λ q. answer_by going.form going.policy right_tests.0 q (lines input)) same ∙ h.2 right_tests.0
-      right_tests.1
+    answer_is : (input : List ℕ) (b : Answer) → IsAnswerBy going text input b
+        → answer_by going.form going.policy right_tests.0 q (lines input) ≡ b
+    answer_is input b h =
+        let same : q ≡ h.0 =
+        same_ok q h.0 (one_verdict going.policy.numbers text (Ok q) (Ok h.0) accepted h.1) in
+        ap (λ q. answer_by going.form going.policy right_tests.0 q (lines input)) same ∙ h.2 right_tests.0
+        right_tests.1
 
-  front_known : (known s u : Option (List ℕ)) → IfSome known (λ input. HandedFront going q (lines input) s u)
-      → IfSome known (λ input. (b : Answer) → IsAnswerBy going text input b → AppendsFront s u b.bytes)
-  front_known None s u h = tt
-  front_known (Some input) s u h = λ b is. subst (λ (b : Answer). AppendsFront s u b.bytes)
-      (answer_is input b is) (h right_tests.0 right_tests.1)
+    front_known : (known s u : Option (List ℕ))
+        → IfSome known (λ input. HandedFront going q (lines input) s u)
+        → IfSome known (λ input. (b : Answer) → IsAnswerBy going text input b → AppendsFront s u b.bytes)
+    front_known None s u h = tt
+    front_known (Some input) s u h = λ b is. subst (λ (b : Answer). AppendsFront s u b.bytes)
+        (answer_is input b is) (h right_tests.0 right_tests.1)
 
-  pub front_err : {T : Type 0} (r : Result T RunFault) (batch : ℕ) (some : 0 < batch) (e : Ends)
-      → IfErr r (StreamEnded going q batch e)
-      → OnErr r (IfSome e.source_old (λ input. (b : Answer) → IsAnswerBy going text input b
-      → AppendsFront e.sink_old e.sink_new b.bytes))
-  front_err (Ok x) batch some e h = tt
-  front_err (Err f) batch some e h = front_known e.source_old e.sink_old e.sink_new
-      (ended_front going q batch some e f h)
+    pub front_err : {T : Type 0} (r : Result T RunFault) (batch : ℕ) (some : 0 < batch) (e : Ends)
+        → IfErr r (StreamEnded going q batch e)
+        → OnErr r (IfSome e.source_old (λ input. (b : Answer) → IsAnswerBy going text input b
+        → AppendsFront e.sink_old e.sink_new b.bytes))
+    front_err (Ok x) batch some e h = tt
+    front_err (Err f) batch some e h = front_known e.source_old e.sink_old e.sink_new
+        (ended_front going q batch some e f h)
 
 -- what holds of an answer in a form holds of the settings that name it
 module _ (output named : Output) (is : output ≡ named) (decimals keeps_going : Bool) (q : tree.Query) where

@@ -1,5 +1,6 @@
 -- Reads one after another, of which lines are taken as they come.
-use Rattle.std.proofs.Common.{◌≡◌, ℕ, ◌+◌, ◌<◌, ◌≤◌, ◌++◌, List, length, Option, Bool, sym, ◌∙◌, ap, subst, arith}
+use Rattle.std.proofs.Common.{◌≡◌, ℕ, ◌+◌, ◌<◌, ◌≤◌, ◌++◌, List, length, Option, Bool}
+use Rattle.std.proofs.Common.{sym, ◌∙◌, ap, subst, arith}
 use Rattle.std.proofs.Common.{append_assoc, append-nil, length-append, length-take-le, take, []}
 use Rattle.std.proofs.Common.{Result, Ok, Err, IsErrAnd, refl}
 use Rattle.std.proofs.Math.Seq.{take-append_seam}
@@ -88,7 +89,8 @@ taken_failed wanted s before after Takes ended (Err f) fault h e reads = record 
   end = tt;
   working = tt;
   few_lines = tt;
-  fault = subst (ReadOnEnded wanted before.buffer.progress before.buffer.lines s.failed s.old s.new) (sym h) e;
+  fault = subst (ReadOnEnded wanted before.buffer.progress before.buffer.lines s.failed s.old s.new)
+      (sym h) e;
   reads = reads;
   fewer_left = tt;
 }
@@ -97,7 +99,8 @@ taken_failed wanted s before after Takes ended (Err f) fault h e reads = record 
 pub taken_so : (done rest all : List (List Line)) (n : ℕ) → all ≡ done ++ rest → n ≡ length (all_lines done)
     → all_lines done ≡ take n (all_lines all)
 taken_so done rest all n e f = sym (ap (λ n. take n (all_lines all)) f
-    ∙ ap (take (length (all_lines done))) (ap all_lines e ∙ flat_map-append (λ (ls : List Line). ls) done rest)
+    ∙ ap (take (length (all_lines done))) (ap all_lines e
+    ∙ flat_map-append (λ (ls : List Line). ls) done rest)
     ∙ take-append_seam (all_lines done) (all_lines rest))
 
 -- lines at the front of those that wait were published

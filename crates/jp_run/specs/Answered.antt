@@ -3,7 +3,7 @@ use Rattle.std.specs.Prelude.{◌≡◌, ℕ, Bool, true, false, List, option_ma
 use Rattle.jp_doc.specs.Lines.{Line, lines}
 use Rattle.jp_tree.specs.Tree.{Text, Query}
 use Rattle.jp_regexp.specs.Tests.{Tests, AreRight}
-use Rattle.jp_check.specs.Verdict.{IsAccepted}
+use Rattle.jp_check.specs.Verdict.{IsAccepted, IsAcceptedIn}
 use Rattle.jp_answer.specs.Answer.{Answer, stream_answer}
 use Rattle.jp_output.specs.OutputForm.{OutputForm}
 use Rattle.jp_answer.specs.OnFault.{Manner, manner, answer_by, passed_in as lines_passed}
@@ -11,8 +11,8 @@ use Rattle.jp_answer.specs.Policy.{policy}
 use Rattle.jp_answer.specs.declared.on_fault.OnFault.{OnFault}
 use Rattle.jp_answer.specs.declared.on_fault.OnFault.TheVariants.{Stop, KeepGoing}
 use Rattle.jp_answer.specs.declared.policy.LinePolicy.{LinePolicy}
-use Rattle.jp_answer.specs.declared.policy.Numbers.{Numbers}
-use Rattle.jp_answer.specs.declared.policy.Numbers.TheVariants.{Whole as Integers, Decimals}
+use Rattle.jp_number.specs.declared.numbers.Numbers.{Numbers}
+use Rattle.jp_number.specs.declared.numbers.Numbers.TheVariants.{Whole as Integers, Decimals}
 use Rattle.jp_answer.specs.Whole.{Whole}
 use Rattle.jp_run.specs.Forms.{form_of}
 use Rattle.jp_run.specs.declared.output.Output.{Output}
@@ -25,7 +25,7 @@ abbrev pub on_fault_of : Bool → OnFault
 on_fault_of false = Stop
 on_fault_of true = KeepGoing
 
--- which numbers a document may have, by whether it may have decimals
+-- which numbers documents and queries may have, by whether they may have decimals
 abbrev pub numbers_of : Bool → Numbers
 numbers_of false = Integers
 numbers_of true = Decimals
@@ -48,14 +48,14 @@ manner_in form s = manner form (policy_of s.decimals s.keeps_going)
 abbrev pub passed_in : Settings → List Line → ℕ
 passed_in s ls = lines_passed (policy_of s.decimals s.keeps_going) ls
 
--- the text is accepted, and this is the answer to the stream of the query that it spells
+-- the text is accepted, its numbers whole, and this is the answer to the stream of the query that it spells
 abbrev pub IsAnswerTo : Text → List ℕ → Answer → Type 0
 IsAnswerTo text input a = (q : Query) × IsAccepted text q
     × ((t : Tests) → AreRight t → stream_answer t q input ≡ a)
 
--- the same of the answer in some manner
+-- the text is accepted with the numbers of the manner, and this is the answer in that manner
 abbrev pub IsAnswerBy : Manner → Text → List ℕ → Answer → Type 0
-IsAnswerBy going text input a = (q : Query) × IsAccepted text q
+IsAnswerBy going text input a = (q : Query) × IsAcceptedIn going.policy.numbers text q
     × ((t : Tests) → AreRight t → answer_by going.form going.policy t q (lines input) ≡ a)
 
 -- what an `Answer` of `src/` stands for

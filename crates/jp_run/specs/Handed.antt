@@ -5,7 +5,7 @@ use Rattle.jp_doc.specs.Lines.{Line}
 use Rattle.jp_doc.specs.declared.fault.DocFault.{DocFault}
 use Rattle.jp_tree.specs.Tree.{Text, Query}
 use Rattle.jp_regexp.specs.Tests.{Tests, AreRight}
-use Rattle.jp_check.specs.Verdict.{IsAccepted}
+use Rattle.jp_check.specs.Verdict.{IsAcceptedIn}
 use Rattle.jp_answer.specs.Answer.{Answer}
 use Rattle.jp_answer.specs.OnFault.{Manner, answer_by}
 use Rattle.jp_run.specs.Written.{AppendsFront}
@@ -34,8 +34,10 @@ pub record HandedFirst (going : Manner) (q : Query) (ls : List Line) (old new : 
 -- the text is accepted, and the answer to the lines of the query that it spells was handed out
 abbrev pub IsHandedBy : Manner → Text → List Line → Option (ℕ × DocFault) → Option (List ℕ)
     → Option (List ℕ) → Type 0
-IsHandedBy going text ls stop old new = (q : Query) × IsAccepted text q × Handed going q ls stop old new
+IsHandedBy going text ls stop old new = (q : Query) × IsAcceptedIn going.policy.numbers text q
+    × Handed going q ls stop old new
 
 -- the same, and perhaps more bytes were handed out behind it
 abbrev pub IsHandedFirstBy : Manner → Text → List Line → Option (List ℕ) → Option (List ℕ) → Type 0
-IsHandedFirstBy going text ls old new = (q : Query) × IsAccepted text q × HandedFirst going q ls old new
+IsHandedFirstBy going text ls old new = (q : Query) × IsAcceptedIn going.policy.numbers text q
+    × HandedFirst going q ls old new

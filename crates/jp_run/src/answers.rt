@@ -12,10 +12,11 @@ ghost use Rattle.jp_run.specs.Limits.{max_lines};
 
 use crate::fault::RunFault;
 use crate::outcome::{Answer, Whole};
-use jp_answer::{Crew, Cutting, Gate, LinePolicy, Numbers, OnFault, answer_in_chunks};
+use jp_answer::{Crew, Cutting, Gate, LinePolicy, OnFault, answer_in_chunks};
 use jp_buffer::refs_of;
 use jp_check::Plan;
 use jp_doc::Line;
+use jp_number::Numbers;
 use jp_output::{NodeLines, join_chunks};
 use std::alloc::Global;
 use std::thread::Threads;

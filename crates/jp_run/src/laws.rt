@@ -5,11 +5,11 @@ ghost use Rattle.jp_doc.specs.Lines.{lines};
 ghost use Rattle.jp_doc.specs.ReadingIn.{whole_numbers};
 ghost use Rattle.jp_tree.specs.Tree.{Text, Query};
 ghost use Rattle.jp_regexp.specs.Tests.{Tests, AreRight};
-ghost use Rattle.jp_check.specs.Verdict.{IsAccepted};
+ghost use Rattle.jp_check.specs.Verdict.{IsAcceptedIn};
 ghost use Rattle.jp_answer.specs.Answer.{Answer};
 ghost use Rattle.jp_answer.specs.Faults.{first_fault};
 ghost use Rattle.jp_answer.specs.OnFault.{answer_in};
-ghost use Rattle.jp_run.specs.Answered.{IsAnswerBy, IsAnswerTo, manner_by, policy_of};
+ghost use Rattle.jp_run.specs.Answered.{IsAnswerBy, IsAnswerTo, manner_by, numbers_of, policy_of};
 ghost use Rattle.jp_run.specs.declared.output.Output.{Output};
 ghost use Rattle.jp_run.specs.declared.output.Output.TheVariants.{Nodes};
 
@@ -20,7 +20,7 @@ pub fn forms()
     ensures stops { (text : Text) (input : List ℕ) (a : Answer)
         → IsAnswerBy (manner_by Nodes false false) text input a → IsAnswerTo text input a }
     ensures nodes { (d k : Bool) (text : Text) (input : List ℕ) (a : Answer)
-        → IsAnswerBy (manner_by Nodes d k) text input a → (q : Query) × IsAccepted text q
+        → IsAnswerBy (manner_by Nodes d k) text input a → (q : Query) × IsAcceptedIn (numbers_of d) text q
         × ((t : Tests) → AreRight t → answer_in (policy_of d k) t q (lines input) ≡ a) }
 {}
 

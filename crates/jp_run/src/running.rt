@@ -11,9 +11,9 @@ ghost use Rattle.jp_tree.specs.declared.fault.QueryFault.{QueryFault as Refusal}
 ghost use Rattle.jp_tokens.specs.Depth.{bracket_depth, max_depth};
 ghost use Rattle.jp_check.specs.Plan.{planned_query};
 ghost use Rattle.jp_compiled.specs.Compiled.{compiled_query};
-ghost use Rattle.jp_check.specs.Verdict.{IsAccepted, IsVerdict};
+ghost use Rattle.jp_check.specs.Verdict.{IsAcceptedIn, IsVerdictIn};
 ghost use Rattle.jp_answer.specs.Answer.{Answer};
-ghost use Rattle.jp_run.specs.Answered.{IsAnswerBy, manner_in, manner_of, passed_in};
+ghost use Rattle.jp_run.specs.Answered.{IsAnswerBy, manner_in, manner_of, numbers_of, passed_in};
 ghost use Rattle.jp_run.specs.Batches.{documents_in, whole_batches, WasNotWhole, batches_before};
 ghost use Rattle.jp_run.specs.inner.Ended.{StreamEnded};
 ghost use Rattle.jp_run.specs.Handed.{Handed, IsHandedBy, IsHandedFirstBy};
@@ -30,7 +30,8 @@ use crate::settings::Settings;
 use crate::stream::Stream;
 use crate::writing::tell_stop;
 use jp_answer::{Crew, Gate};
-use jp_check::{Plan, plan};
+use jp_check::{Plan, plan_in};
+use jp_number::Numbers;
 use jp_output::{Form, InputLines, NodeLines, TextLines, ValueLines};
 use jp_syntax::QueryFault;
 use std::alloc::Global;
@@ -101,7 +102,8 @@ pub fn run<R: Threads + Sync, S: Source, K: Sink, G: Gate + Sync>(
     requires few { (S.reads source.old ≤ 2 ^ 62) × (S.given source.old ≤ 2 ^ 62) }
     // A finished run has read the whole input and written the answer to it, which has no faulty line; neither
     // end has failed.
-    ensures accepted { OnOk result ((q : Query) × IsAccepted (chars query.now) q) }
+    ensures accepted { OnOk result ((q : Query) × IsAcceptedIn (numbers_of settings.now.decimals)
+        (chars query.now) q) }
     ensures answer { OnOk result (IfSome (S.remaining source.old) (λ input. (a : Answer)
         × IsAnswerBy (manner_of settings.now) (chars query.now) input a
         × (a.stopped ≡ None) × Appends (K.contents sink.old) (K.contents sink.new) a.bytes)) }
@@ -120,13 +122,14 @@ pub fn run<R: Threads + Sync, S: Source, K: Sink, G: Gate + Sync>(
     // to it.
     ensures passed_on { K.flushed sink.old ≡ true → IsPassedOn (K.flushed sink.new) (K.failed sink.new) }
     // The query's fault is the text's verdict, and nothing was read or written.
-    ensures query { (f : Refusal) → IsErrOf result (RunFault.Query f) → IsVerdict (chars query.now) (Err f)
+    ensures query { (f : Refusal) → IsErrOf result (RunFault.Query f)
+        → IsVerdictIn (numbers_of settings.now.decimals) (chars query.now) (Err f)
         × (source.new ≡ source.old) × (sink.new ≡ sink.old) }
     // A text is too deep exactly where its bracket depth is over 64: want of memory is not told in its place.
     ensures too_deep { IsErrOf result (RunFault.Query QueryFault.TooDeep)
         ↔ (max_depth < bracket_depth (chars query.now)) }
     // A text that is refused ends in its fault, or in want of memory, and nothing was read or written.
-    ensures refused { (f : Refusal) → IsVerdict (chars query.now) (Err f)
+    ensures refused { (f : Refusal) → IsVerdictIn (numbers_of settings.now.decimals) (chars query.now) (Err f)
         → (IsErrOf result (RunFault.Query f) ⊎ IsErrOf result RunFault.Memory)
         × (source.new ≡ source.old) × (sink.new ≡ sink.old) }
     // The first faulty line and its fault are told, and all before it was written.
@@ -166,7 +169,7 @@ pub fn run<R: Threads + Sync, S: Source, K: Sink, G: Gate + Sync>(
         → AppendsFront (K.contents sink.old) (K.contents sink.new) a.bytes)) }
     ensures few { S.reads source.new ≤ S.reads source.old + max_reads }
 {
-    let plan = plan_of(alloc, query)?;
+    let plan = plan_of(alloc, query, settings.numbers())?;
     let job = Job {
         crew: Crew { rt, alloc, gate },
         query: plan.compiled(),
@@ -271,20 +274,20 @@ fn answer_stream<R: Threads + Sync, S: Source, K: Sink, G: Gate + Sync, F: Form 
     Err(RunFault::Limit)
 }
 
-/// The plan of a query's text. A run begins so.
+/// The plan of a query's text, whose literals may be these numbers. A run begins so.
 ///
 /// # Errors
 ///
 /// [`RunFault::Query`] where the query is refused, and [`RunFault::Memory`] where a growth of memory was
 /// refused.
-pub(crate) fn plan_of(alloc: Global, query: &str) -> Result<Plan, RunFault>
-    ensures ok { IfOk result (λ p. IsAccepted (chars query.now) (planned_query p)) }
+pub(crate) fn plan_of(alloc: Global, query: &str, numbers: Numbers) -> Result<Plan, RunFault>
+    ensures ok { IfOk result (λ p. IsAcceptedIn numbers (chars query.now) (planned_query p)) }
     ensures fault { IfErr result (λ fault. (fault ≡ RunFault.Memory)
-        ⊎ ((f : Refusal) × (fault ≡ RunFault.Query f) × IsVerdict (chars query.now) (Err f))) }
+        ⊎ ((f : Refusal) × (fault ≡ RunFault.Query f) × IsVerdictIn numbers (chars query.now) (Err f))) }
     ensures too_deep { IsErrOf result (RunFault.Query QueryFault.TooDeep)
         ↔ (max_depth < bracket_depth (chars query.now)) }
 {
-    match plan(alloc, query) {
+    match plan_in(alloc, query, numbers) {
         Ok(plan) => Ok(plan),
         Err(QueryFault::Memory) => Err(RunFault::Memory),
         Err(fault) => Err(RunFault::Query(fault)),

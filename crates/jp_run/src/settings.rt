@@ -5,7 +5,8 @@ ghost use Rattle.jp_run.specs.Settings.{AreSettings};
 
 use crate::fault::RunFault;
 use crate::output::Output;
-use jp_answer::{LinePolicy, Numbers, OnFault};
+use jp_answer::{LinePolicy, OnFault};
+use jp_number::Numbers;
 
 /// The greatest number of workers: a board has so many seats.
 const MAX_WORKERS: u64 = 64;
@@ -14,8 +15,8 @@ const MAX_WORKERS: u64 = 64;
 /// memory.
 const MAX_DOCUMENTS: u64 = 1_000_000;
 
-/// How many workers answer, how many documents are a piece, how many a batch, which numbers a document may
-/// have, whether the answer keeps going, and which form it has.
+/// How many workers answer, how many documents are a piece, how many a batch, which numbers there may be,
+/// whether the answer keeps going, and which form it has.
 #[derive(Clone, Copy, Debug, PartialEq, Eq, Drop)]
 pub struct Settings {
     /// The number of workers, 1 to 64.
@@ -26,7 +27,8 @@ pub struct Settings {
     pub batch: u64,
     /// Whether the answer keeps going after a faulty line.
     pub keeps_going: bool,
-    /// Whether a document may have every number of JSON (RFC 8259, 6), and not whole ones of 64 bits alone.
+    /// Whether documents and the literals of the query may have every number of JSON (RFC 8259, 6), and not
+    /// whole ones alone.
     pub decimals: bool,
     /// What is written.
     pub output: Output,
@@ -34,7 +36,7 @@ pub struct Settings {
 }
 
 impl Settings {
-    ghost use Rattle.jp_run.specs.Answered.{policy_of};
+    ghost use Rattle.jp_run.specs.Answered.{numbers_of, policy_of};
 
     /// The settings, which take no memory. Numbers are whole, and the answer ends at the first faulty line,
     /// and has a line for each node.
@@ -67,16 +69,23 @@ impl Settings {
         })
     }
 
+    /// Which numbers the documents and the literals of the query may have.
+    pub fn numbers(&self) -> Numbers
+        ensures { result ≡ numbers_of self.now.decimals }
+    {
+        if self.decimals {
+            Numbers::Decimals
+        } else {
+            Numbers::Whole
+        }
+    }
+
     /// How lines are read, and what is done where one is faulty.
     pub(crate) fn policy(&self) -> LinePolicy
         ensures { result ≡ policy_of self.now.decimals self.now.keeps_going }
     {
         LinePolicy {
-            numbers: if self.decimals {
-                Numbers::Decimals
-            } else {
-                Numbers::Whole
-            },
+            numbers: self.numbers(),
             on_fault: if self.keeps_going {
                 OnFault::KeepGoing
             } else {
@@ -102,8 +111,8 @@ impl Settings {
         }
     }
 
-    /// The same settings, but for documents that may have every number of JSON (RFC 8259, 6). It takes no
-    /// memory.
+    /// The same settings, but for documents and literals of the query that may have every number of JSON
+    /// (RFC 8259, 6). It takes no memory.
     pub fn with_decimals(self) -> Settings
         ensures same { (result.workers ≡ self.workers) × (result.piece ≡ self.piece)
             × (result.batch ≡ self.batch) × (result.output ≡ self.output)

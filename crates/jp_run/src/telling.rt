@@ -2,8 +2,9 @@
 
 ghost use Rattle.jp_answer.specs.Rows.{AreShown};
 
-use jp_answer::{Crew, Gate, Numbers, Outcome, Published, Round, line_fault};
+use jp_answer::{Crew, Gate, Outcome, Published, Round, line_fault};
 use jp_buffer::LineRef;
+use jp_number::Numbers;
 use std::alloc::AllocError;
 
 /// Tells the gate the faulty lines of those that were answered, in their order, as long as it wants them.

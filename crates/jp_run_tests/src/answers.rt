@@ -48,16 +48,26 @@ fn answered<R: Threads + Sync, G: Gate + Sync>(
     .ok()
 }
 
-/// Whether there is an answer with these bytes, stopped there.
-fn is_answer(found: &Option<Answer>, wanted: &[u8], stop: Option<DocStop>) -> bool {
-    match found {
-        Some(answer) => answer.bytes.as_slice() == wanted && answer.stopped == stop,
+/// The answer that is wanted: its bytes, and where it stopped.
+type Wanted<'a> = (&'a [u8], Option<DocStop>);
+
+/// Whether the answer to the lines of a text is this one.
+fn is_answered<R: Threads + Sync, G: Gate + Sync>(
+    rt: &R,
+    alloc: Global,
+    input: (&str, &[u8]),
+    cut: (u64, u64),
+    gate: &G,
+    wanted: Wanted<'_>,
+) -> bool {
+    match answered(rt, alloc, input.0, input.1, cut, gate) {
+        Some(answer) => (answer.bytes.as_slice(), answer.stopped) == wanted,
         None => false,
     }
 }
 
 #[test]
-fn the_first_faulty_line_stops_the_answer(rt: HostRuntime) -> Result<(), Fail> {
+fn the_first_faulty_line_stops_the_answer(rt: HostRuntime) {
     let rows: [(&[u8], &[u8], u64, DocFault); 3] = [
         (
             b"{\"a\":1}\n{\n{\"a\":2}\n{\"a\":1.5}\n",
@@ -74,51 +84,63 @@ fn the_first_faulty_line_stops_the_answer(rt: HostRuntime) -> Result<(), Fail> {
         // The first of several faulty lines, and the first line.
         (b"]\n{}\n[\n{\n", b"", 1, DocFault::Unreadable),
     ];
-    for (text, bytes, line, fault) in rows {
-        for workers in [1u64, 4] {
-            let found = answered(&rt, rt.alloc(), "$.a", text, (workers, 1), &OpenGate);
+    for (text, bytes, line, fault) in &rows {
+        for workers in &[1u64, 4] {
+            let stop = DocStop {
+                line: *line,
+                fault: *fault,
+            };
+            let wanted = (*bytes, Some(stop));
+            let cut = (*workers, 1);
             assert!(rt;
-                is_answer(&found, bytes, Some(DocStop { line, fault })),
+                is_answered(&rt, rt.alloc(), ("$.a", *text), cut, &OpenGate, wanted),
                 "{line}"
             );
         }
     }
-    Ok(())
 }
 
-#[test]
-fn the_same_for_all_workers_and_pieces(rt: HostRuntime) -> Result<(), Fail> {
-    let text = thousand(rt.alloc())?;
-    let lines = items_of_thousand(rt.alloc())?;
+/// Whether all these workers and pieces give the items of a thousand lines.
+fn all_agree<R: Threads + Sync>(rt: &R, alloc: Global) -> Result<bool, AllocError> {
+    let text = thousand(alloc)?;
+    let lines = items_of_thousand(alloc)?;
+    let wanted = (lines.as_bytes(), None);
     let ends = lines
         .as_bytes()
         .iter()
         .filter(|byte| **byte == b'\n')
         .count();
     let mut agree = ends == 5_005;
-    for cut in [(1, 1), (1, 7), (2, 1), (2, 7), (64, 1), (64, 7)] {
-        let found = answered(&rt, rt.alloc(), "$[*]", text.as_bytes(), cut, &OpenGate);
-        agree = agree && is_answer(&found, lines.as_bytes(), None);
+    for cut in &[(1, 1), (1, 7), (2, 1), (2, 7), (64, 1), (64, 7)] {
+        let input = ("$[*]", text.as_bytes());
+        agree = agree && is_answered(rt, alloc, input, *cut, &OpenGate, wanted);
     }
-    assert!(rt; agree);
+    Ok(agree)
+}
+
+#[test]
+fn the_same_for_all_workers_and_pieces(rt: HostRuntime) -> Result<(), Fail> {
+    assert!(rt; all_agree(&rt, rt.alloc())?);
     Ok(())
 }
 
 #[test]
 fn fewer_lines_than_workers(rt: HostRuntime) {
-    let text = b"[1]\n[2]\n[3]\n";
-    let found = answered(&rt, rt.alloc(), "$[0]", text, (64, 1_000_000), &OpenGate);
-    let bytes = b"1\t$[0]\t1\n2\t$[0]\t2\n3\t$[0]\t3\n";
-    assert!(rt; is_answer(&found, bytes, None));
-    let found = answered(&rt, rt.alloc(), "$[0]", b"", (64, 1_000_000), &OpenGate);
-    assert!(rt; is_answer(&found, b"", None));
+    let text = b"[1]\n[2]\n[3]\n".as_slice();
+    let bytes = b"1\t$[0]\t1\n2\t$[0]\t2\n3\t$[0]\t3\n".as_slice();
+    for (text, bytes) in &[(text, bytes), (b"".as_slice(), b"".as_slice())] {
+        let input = ("$[0]", *text);
+        let cut = (64, 1_000_000);
+        assert!(rt; is_answered(&rt, rt.alloc(), input, cut, &OpenGate, (*bytes, None)));
+    }
 }
 
 #[test]
 fn two_pieces_at_once(rt: HostRuntime) {
     let gate = Pair(Entered::new());
-    let found = answered(&rt, rt.alloc(), "$", b"[]\n{}\n", (2, 1), &gate);
-    assert!(rt; is_answer(&found, b"1\t$\t[]\n2\t$\t{}\n", None));
+    let input = ("$", b"[]\n{}\n".as_slice());
+    let wanted = (b"1\t$\t[]\n2\t$\t{}\n".as_slice(), None);
+    assert!(rt; is_answered(&rt, rt.alloc(), input, (2, 1), &gate, wanted));
     assert_eq!(rt; gate.0.failures(), 0);
     assert_eq!(rt; gate.0.seen(), [true, true, false]);
 }
@@ -126,8 +148,9 @@ fn two_pieces_at_once(rt: HostRuntime) {
 #[test]
 fn the_first_piece_waits_for_the_third(rt: HostRuntime) {
     let gate = FirstWaits(Entered::new());
-    let found = answered(&rt, rt.alloc(), "$", b"[]\n{}\n1\n", (2, 1), &gate);
-    assert!(rt; is_answer(&found, b"1\t$\t[]\n2\t$\t{}\n3\t$\t1\n", None));
+    let input = ("$", b"[]\n{}\n1\n".as_slice());
+    let wanted = (b"1\t$\t[]\n2\t$\t{}\n3\t$\t1\n".as_slice(), None);
+    assert!(rt; is_answered(&rt, rt.alloc(), input, (2, 1), &gate, wanted));
     assert_eq!(rt; gate.0.failures(), 0);
     assert_eq!(rt; gate.0.seen(), [true, true, true]);
 }
@@ -135,13 +158,13 @@ fn the_first_piece_waits_for_the_third(rt: HostRuntime) {
 #[test]
 fn pieces_above_a_mark_are_left(rt: HostRuntime) {
     let gate = Recorder(AtomicU64::new(0));
-    let text = b"1\n2\n{\n4\n5\n6\n7\n8\n9\n10\n";
-    let found = answered(&rt, rt.alloc(), "$", text, (1, 1), &gate);
+    let input = ("$", b"1\n2\n{\n4\n5\n6\n7\n8\n9\n10\n".as_slice());
     let stop = DocStop {
         line: 3,
         fault: DocFault::Unreadable,
     };
-    assert!(rt; is_answer(&found, b"1\t$\t1\n2\t$\t2\n", Some(stop)));
+    let wanted = (b"1\t$\t1\n2\t$\t2\n".as_slice(), Some(stop));
+    assert!(rt; is_answered(&rt, rt.alloc(), input, (1, 1), &gate, wanted));
     assert_eq!(rt; gate.0.load(Ordering::SeqCst), 111);
 }
 

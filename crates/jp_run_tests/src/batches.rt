@@ -4,7 +4,7 @@ use crate::fakes::{Holds, OneByte};
 use crate::gates::{Entered, Pair};
 use crate::thousand::{items_of_thousand, thousand};
 use jp_doc::DocFault;
-use jp_run::{FromReader, OpenGate, RunFault, Settings, Source, Totals, run};
+use jp_run::{FromReader, Gate, OpenGate, RunFault, Settings, Source, Totals, run};
 use std::alloc::{AllocError, Global};
 use std::test::Fail;
 use std::thread::Threads;
@@ -48,18 +48,59 @@ fn byte_by_byte<R: Threads + Sync>(
     (end, sink, source.reads())
 }
 
+/// What such a run came to.
+#[derive(Clone, Copy)]
+struct Outcome {
+    /// What it counted, where it ended well.
+    totals: Option<Totals>,
+    /// Whether it told of a read that failed.
+    is_read: bool,
+    /// The line where it told of a faulty one, and its fault.
+    stopped: Option<(u64, DocFault)>,
+    /// Whether it wrote what is wanted.
+    is_written: bool,
+    /// How many bytes it passed on.
+    passed_on: usize,
+    /// How often it read.
+    reads: u64,
+}
+
+/// What a run over bytes that come one by one came to.
+fn came<R: Threads + Sync>(
+    rt: &R,
+    alloc: Global,
+    query: &str,
+    input: &[u8],
+    (batch, fails_at): (u64, u64),
+    wanted: &[u8],
+) -> Outcome {
+    let (end, sink, reads) = byte_by_byte(rt, alloc, query, input, batch, fails_at);
+    let stopped = match end {
+        Err(RunFault::Document { line, fault }) => Some((line, fault)),
+        _ => None,
+    };
+    Outcome {
+        is_read: matches!(end, Err(RunFault::Read)),
+        totals: end.ok(),
+        stopped,
+        is_written: sink.bytes.as_slice() == wanted,
+        passed_on: sink.passed_on,
+        reads,
+    }
+}
+
 #[test]
 fn the_same_for_all_batches(rt: HostRuntime) {
-    for batch in [1u64, 2, 10, 1_000, 4_096] {
-        let (end, sink, reads) = byte_by_byte(&rt, rt.alloc(), "$.a", TWO, batch, 0);
+    for batch in &[1u64, 2, 10, 1_000, 4_096] {
+        let found = came(&rt, rt.alloc(), "$.a", TWO, (*batch, 0), TWO_LINES);
         let totals = Totals {
             lines: 3,
             documents: 2,
             faulty: 0,
         };
-        assert!(rt; matches!(end, Ok(found) if found == totals));
-        assert_eq!(rt; sink.bytes.as_slice(), TWO_LINES);
-        assert_eq!(rt; reads, 21);
+        assert!(rt; found.totals == Some(totals));
+        assert!(rt; found.is_written);
+        assert_eq!(rt; found.reads, 21);
     }
 }
 
@@ -72,44 +113,40 @@ fn a_failing_read_leaves_whole_batches(rt: HostRuntime) {
             9..=20 => 11,
             _ => 25,
         };
-        let (end, sink, reads) = byte_by_byte(&rt, rt.alloc(), "$.a", TWO, 1, call);
         let (front, _) = TWO_LINES.split_at(written);
-        let is_read = matches!(end, Err(RunFault::Read)) && reads == call;
-        assert!(rt; is_read && sink.bytes.as_slice() == front, "{call}");
-        assert_eq!(rt; sink.passed_on, written);
-        let (end, sink, reads) = byte_by_byte(&rt, rt.alloc(), "$.a", TWO, 10, call);
-        let is_read = matches!(end, Err(RunFault::Read)) && reads == call;
-        assert!(rt; is_read && sink.bytes.is_empty(), "{call}");
+        let found = came(&rt, rt.alloc(), "$.a", TWO, (1, call), front);
+        assert!(rt;
+            found.is_read && found.reads == call && found.is_written,
+            "{call}"
+        );
+        assert_eq!(rt; found.passed_on, written);
+        let found = came(&rt, rt.alloc(), "$.a", TWO, (10, call), b"");
+        assert!(rt;
+            found.is_read && found.reads == call && found.is_written,
+            "{call}"
+        );
     }
 }
 
 /// The lines before a faulty one are passed on, and those of a run that ends well.
 #[test]
 fn what_is_written_is_passed_on(rt: HostRuntime) {
-    let (end, sink, _) = byte_by_byte(&rt, rt.alloc(), "$", b"[]\n{\n", 2, 0);
-    assert!(rt; matches!(end, Err(RunFault::Document { .. })));
-    assert_eq!(rt; sink.bytes.as_slice(), b"1\t$\t[]\n".as_slice());
-    assert_eq!(rt; sink.passed_on, 7);
-    let (end, sink, _) = byte_by_byte(&rt, rt.alloc(), "$", b"[]", 2, 0);
-    assert!(rt; end.is_ok());
-    assert_eq!(rt; sink.passed_on, 7);
+    let found = came(&rt, rt.alloc(), "$", b"[]\n{\n", (2, 0), b"1\t$\t[]\n");
+    assert!(rt; found.stopped.is_some());
+    assert!(rt; found.is_written);
+    assert_eq!(rt; found.passed_on, 7);
+    let found = came(&rt, rt.alloc(), "$", b"[]", (2, 0), b"1\t$\t[]\n");
+    assert!(rt; found.totals.is_some());
+    assert_eq!(rt; found.passed_on, 7);
 }
 
 #[test]
 fn no_read_follows_the_faulty_batch(rt: HostRuntime) {
-    for (batch, wanted) in [(1u64, 2u64), (2, 5), (3, 6)] {
-        let (end, sink, reads) = byte_by_byte(&rt, rt.alloc(), "$", b"{\n[]\n", batch, 0);
-        assert!(rt;
-            matches!(
-                end,
-                Err(RunFault::Document {
-                    line: 1,
-                    fault: DocFault::Unreadable
-                })
-            )
-        );
-        assert!(rt; sink.bytes.is_empty());
-        assert_eq!(rt; reads, wanted);
+    for (batch, wanted) in &[(1u64, 2u64), (2, 5), (3, 6)] {
+        let found = came(&rt, rt.alloc(), "$", b"{\n[]\n", (*batch, 0), b"");
+        assert!(rt; found.stopped == Some((1, DocFault::Unreadable)));
+        assert!(rt; found.is_written);
+        assert_eq!(rt; found.reads, *wanted);
     }
 }
 
@@ -123,55 +160,79 @@ fn push_long(document: &str, out: &mut String) -> Result<(), AllocError> {
     Ok(())
 }
 
+/// Whether a run of two documents by two workers, in such pieces, writes both.
+fn is_run_by_two<R: Threads + Sync, G: Gate + Sync>(
+    rt: &R,
+    alloc: Global,
+    piece: u64,
+    gate: &G,
+) -> Result<bool, RunFault> {
+    let settings = Settings::new(2, piece, 2)?;
+    let mut text = String::new(alloc);
+    push_long("[]", &mut text)?;
+    push_long("{}", &mut text)?;
+    let mut source = FromReader::new(text.as_bytes());
+    let mut sink = Holds::new(Vec::new(alloc), ROOM, ROOM);
+    let end = run(rt, alloc, &mut source, &mut sink, "$", &settings, gate);
+    Ok(end.is_ok() && sink.bytes.as_slice() == b"1\t$\t[]\n2\t$\t{}\n".as_slice())
+}
+
 /// Two documents are two pieces, however large a piece may be.
 #[test]
 fn two_workers_at_once_in_a_batch(rt: HostRuntime) -> Result<(), Fail> {
-    let mut text = String::new(rt.alloc());
-    push_long("[]", &mut text)?;
-    push_long("{}", &mut text)?;
-    for piece in [1u64, 64] {
-        let settings = Settings::new(2, piece, 2)?;
+    for piece in &[1u64, 64] {
         let gate = Pair(Entered::new());
-        let mut source = FromReader::new(text.as_bytes());
-        let mut sink = Holds::new(Vec::new(rt.alloc()), ROOM, ROOM);
-        let end = run(
-            &rt,
-            rt.alloc(),
-            &mut source,
-            &mut sink,
-            "$",
-            &settings,
-            &gate,
-        );
-        assert!(rt; end.is_ok() && sink.bytes.as_slice() == b"1\t$\t[]\n2\t$\t{}\n".as_slice());
+        assert!(rt; is_run_by_two(&rt, rt.alloc(), *piece, &gate)?);
         assert_eq!(rt; gate.0.failures(), 0);
         assert_eq!(rt; gate.0.seen(), [true, true, false]);
     }
     Ok(())
 }
 
+/// Whether a run over the text ends well and writes the lines.
+fn is_run<R: Threads + Sync>(
+    rt: &R,
+    alloc: Global,
+    text: &str,
+    settings: &Settings,
+    lines: &str,
+) -> bool {
+    let mut source = FromReader::new(text.as_bytes());
+    let mut sink = Holds::new(Vec::new(alloc), ROOM, ROOM);
+    let end = run(
+        rt,
+        alloc,
+        &mut source,
+        &mut sink,
+        "$[*]",
+        settings,
+        &OpenGate,
+    );
+    end.is_ok() && sink.bytes.as_slice() == lines.as_bytes()
+}
+
+/// Whether runs by so many workers, however cut, write the items of a thousand lines.
+fn are_cut_alike<R: Threads + Sync>(rt: &R, alloc: Global, workers: u64) -> Result<bool, Fail> {
+    let text = thousand(alloc)?;
+    let lines = items_of_thousand(alloc)?;
+    let mut agree = true;
+    for (piece, batch) in &[(1u64, 10u64), (1, 1_000), (7, 10), (7, 1_000)] {
+        agree = agree
+            && match Settings::new(workers, *piece, *batch) {
+                Ok(settings) => is_run(rt, alloc, &text, &settings, &lines),
+                Err(_) => false,
+            };
+    }
+    Ok(agree)
+}
+
 #[test]
 fn a_thousand_lines_however_cut(rt: HostRuntime) -> Result<(), Fail> {
-    let text = thousand(rt.alloc())?;
-    let lines = items_of_thousand(rt.alloc())?;
-    for workers in [1u64, 2, 64] {
-        for piece in [1u64, 7] {
-            for batch in [10u64, 1_000] {
-                let mut source = FromReader::new(text.as_bytes());
-                let mut sink = Holds::new(Vec::new(rt.alloc()), ROOM, ROOM);
-                let settings = Settings::new(workers, piece, batch)?;
-                let end = run(
-                    &rt,
-                    rt.alloc(),
-                    &mut source,
-                    &mut sink,
-                    "$[*]",
-                    &settings,
-                    &OpenGate,
-                );
-                assert!(rt; end.is_ok() && sink.bytes.as_slice() == lines.as_bytes());
-            }
-        }
+    for workers in &[1u64, 2, 64] {
+        assert!(rt;
+            are_cut_alike(&rt, rt.alloc(), *workers)?,
+            "{workers} workers"
+        );
     }
     Ok(())
 }

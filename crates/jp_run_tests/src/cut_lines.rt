@@ -5,7 +5,6 @@ ghost use Rattle.std.specs.Prelude.{◌≡◌, ◌^◌, ◌≤◌, false};
 use crate::fakes::{Holds, OneByte};
 use jp_run::{FromReader, OpenGate, RunFault, Settings, Sink, Source, Totals, run};
 use std::alloc::{AllocError, Global};
-use std::test::Fail;
 use std::thread::Threads;
 
 /// More bytes than any of these runs writes.
@@ -69,25 +68,53 @@ fn is_row(
     }
 }
 
+/// Whether runs by any number of workers end so, over whole reads.
+fn is_row_of_reads<R: Threads + Sync>(
+    rt: &R,
+    alloc: Global,
+    input: &[u8],
+    answer: &[u8],
+    lines: u64,
+    documents: u64,
+) -> bool {
+    let mut agree = true;
+    for workers in &WORKERS {
+        let mut source = FromReader::new(input);
+        let end = run_of(rt, alloc, *workers, 2, &mut source);
+        agree = agree && is_row(&end, answer, lines, documents);
+    }
+    agree
+}
+
 #[test]
 fn lines_of_whole_reads(rt: HostRuntime) {
-    for (input, answer, lines, documents) in ROWS {
-        for workers in WORKERS {
-            let mut source = FromReader::new(input);
-            let end = run_of(&rt, rt.alloc(), workers, 2, &mut source);
-            assert!(rt; is_row(&end, answer, lines, documents));
-        }
+    for (input, answer, lines, documents) in &ROWS {
+        assert!(rt; is_row_of_reads(&rt, rt.alloc(), input, answer, *lines, *documents));
     }
+}
+
+/// Whether runs by any number of workers end so, over reads of one byte.
+fn is_row_of_bytes<R: Threads + Sync>(
+    rt: &R,
+    alloc: Global,
+    input: &[u8],
+    answer: &[u8],
+    lines: u64,
+    documents: u64,
+) -> bool {
+    let mut agree = true;
+    for workers in &WORKERS {
+        let mut source = OneByte::new(input, 0);
+        let end = run_of(rt, alloc, *workers, 2, &mut source);
+        agree = agree && is_row(&end, answer, lines, documents);
+    }
+    agree
 }
 
 #[test]
 fn one_byte_a_read(rt: HostRuntime) {
-    for (input, answer, lines, documents) in ROWS {
-        for workers in WORKERS {
-            let mut source = OneByte::new(input, 0);
-            let end = run_of(&rt, rt.alloc(), workers, 2, &mut source);
-            assert!(rt; is_row(&end, answer, lines, documents));
-        }
+    for (input, answer, lines, documents) in &ROWS {
+        assert!(rt; is_row_of_bytes(&rt, rt.alloc(), input, answer, *lines, *documents));
     }
 }
 
@@ -109,15 +136,22 @@ fn long_line(alloc: Global) -> Result<String, AllocError> {
     Ok(text)
 }
 
+/// Whether a run over the long line by so many workers, in batches of that size, gives its lines.
+fn is_long_line<R: Threads + Sync>(rt: &R, alloc: Global, workers: u64, batch: u64) -> bool {
+    let Ok(text) = long_line(alloc) else {
+        return false;
+    };
+    let mut source = FromReader::new(text.as_bytes());
+    let end = run_of(rt, alloc, workers, batch, &mut source);
+    let wanted = b"1\t$['a']\t1\n2\t$['a']\t[7]\n3\t$['a']\t3\n";
+    is_row(&end, wanted, 3, 3)
+}
+
 #[test]
-fn a_line_over_many_reads(rt: HostRuntime) -> Result<(), Fail> {
-    let text = long_line(rt.alloc())?;
-    for workers in WORKERS {
-        for batch in [2u64, 4_096] {
-            let mut source = FromReader::new(text.as_bytes());
-            let end = run_of(&rt, rt.alloc(), workers, batch, &mut source);
-            assert!(rt; is_row(&end, b"1\t$['a']\t1\n2\t$['a']\t[7]\n3\t$['a']\t3\n", 3, 3));
+fn a_line_over_many_reads(rt: HostRuntime) {
+    for workers in &WORKERS {
+        for batch in &[2u64, 4_096] {
+            assert!(rt; is_long_line(&rt, rt.alloc(), *workers, *batch));
         }
     }
-    Ok(())
 }

@@ -51,17 +51,25 @@ fn has_passed(end: &Result<Totals, RunFault>, faulty: u64) -> bool {
     matches!(end, Ok(totals) if totals.faulty == faulty)
 }
 
+/// Whether a run finishes after so many faulty lines, and writes this.
+fn writes<R: Threads + Sync>(
+    rt: &R,
+    alloc: Global,
+    input: (&str, &[u8]),
+    settings: Settings,
+    wanted: (u64, &[u8]),
+) -> bool {
+    let (end, bytes) = ran(rt, alloc, input.0, input.1, settings);
+    has_passed(&end, wanted.0) && bytes.as_slice() == wanted.1
+}
+
 #[test]
 fn numbers_stand_as_they_came(rt: HostRuntime) -> Result<(), Fail> {
-    for (workers, piece, batch) in [(1, 1, 1), (1, 64, 4096), (4, 1, 10), (4, 3, 100)] {
-        let settings = Settings::new(workers, piece, batch)?.keep_going();
+    for (workers, piece, batch) in &[(1, 1, 1), (1, 64, 4096), (4, 1, 10), (4, 3, 100)] {
+        let settings = Settings::new(*workers, *piece, *batch)?.keep_going();
         let with = settings.with_decimals();
-        let (end, bytes) = ran(&rt, rt.alloc(), "$.a", INPUT, with);
-        assert!(rt; has_passed(&end, 3));
-        assert_eq!(rt; bytes.as_slice(), LINES);
-        let (end, bytes) = ran(&rt, rt.alloc(), "$.a", INPUT, settings);
-        assert!(rt; has_passed(&end, 8));
-        assert_eq!(rt; bytes.as_slice(), WHOLE_LINES);
+        assert!(rt; writes(&rt, rt.alloc(), ("$.a", INPUT), with, (3, LINES)));
+        assert!(rt; writes(&rt, rt.alloc(), ("$.a", INPUT), settings, (8, WHOLE_LINES)));
     }
     Ok(())
 }
@@ -121,18 +129,9 @@ const PRICES: &[u8] =
 #[test]
 fn filters_compare_exactly(rt: HostRuntime) -> Result<(), Fail> {
     let settings = Settings::new(4, 1, 10)?.with_output(Output::Values);
-    let (end, bytes) = ran(
-        &rt,
-        rt.alloc(),
-        "$[?@.price<10].price",
-        PRICES,
-        settings.with_decimals(),
-    );
-    assert!(rt; has_passed(&end, 0));
-    assert_eq!(rt;
-        bytes.as_slice(),
-        b"9.90\n9.99999999999999999999\n".as_slice()
-    );
+    let input = ("$[?@.price<10].price", PRICES);
+    let wanted = (0, b"9.90\n9.99999999999999999999\n".as_slice());
+    assert!(rt; writes(&rt, rt.alloc(), input, settings.with_decimals(), wanted));
     Ok(())
 }
 

@@ -55,35 +55,64 @@ fn parentheses(alloc: Global, pairs: usize) -> Result<String, AllocError> {
     around(alloc, open.as_str(), ")", pairs, "]")
 }
 
+/// Whether a run by two workers ends well and writes this.
+fn writes<R: Threads + Sync>(
+    rt: &R,
+    alloc: Global,
+    query: &str,
+    input: &str,
+    wanted: &[u8],
+) -> Result<bool, RunFault> {
+    let (end, written) = ran(rt, alloc, query, input)?;
+    Ok(end.is_ok() && written.as_slice() == wanted)
+}
+
+/// Whether a filter in so many pairs of parentheses is refused, and nothing written.
+fn is_too_deep<R: Threads + Sync>(
+    rt: &R,
+    alloc: Global,
+    pairs: usize,
+    input: &str,
+) -> Result<bool, RunFault> {
+    let query = parentheses(alloc, pairs)?;
+    let (end, written) = ran(rt, alloc, query.as_str(), input)?;
+    Ok(matches!(end, Err(RunFault::Query(QueryFault::TooDeep))) && written.is_empty())
+}
+
 #[test]
 fn deepest_parentheses(rt: HostRuntime) -> Result<(), Fail> {
     let input = "[{\"a\":1},{}]";
     let query = parentheses(rt.alloc(), 63)?;
-    let (end, written) = ran(&rt, rt.alloc(), query.as_str(), input)?;
-    assert!(rt; end.is_ok() && written.as_slice() == "1\t$[0]\t{\"a\":1}\n".as_bytes());
-    let query = parentheses(rt.alloc(), 64)?;
-    let (end, written) = ran(&rt, rt.alloc(), query.as_str(), input)?;
-    let is_refused = matches!(end, Err(RunFault::Query(QueryFault::TooDeep)));
-    assert!(rt; is_refused && written.is_empty());
+    assert!(rt;
+        writes(
+            &rt,
+            rt.alloc(),
+            query.as_str(),
+            input,
+            b"1\t$[0]\t{\"a\":1}\n"
+        )?
+    );
+    assert!(rt; is_too_deep(&rt, rt.alloc(), 64, input)?);
     Ok(())
 }
 
 #[test]
 fn a_hundred_thousand_segments(rt: HostRuntime) -> Result<(), Fail> {
     let query = around(rt.alloc(), "$", ".a", 100_000, "")?;
-    let (end, written) = ran(&rt, rt.alloc(), query.as_str(), "{\"a\":1}")?;
-    assert!(rt; end.is_ok());
-    assert!(rt; written.is_empty());
+    assert!(rt; writes(&rt, rt.alloc(), query.as_str(), "{\"a\":1}", b"")?);
     Ok(())
+}
+
+/// Whether a query of ten thousand selectors writes ten thousand lines.
+fn selects_ten_thousand<R: Threads + Sync>(rt: &R, alloc: Global) -> Result<bool, RunFault> {
+    let query = around(alloc, "$[0", ",0", 9_999, "]")?;
+    let wanted = around(alloc, "", "1\t$[0]\t7\n", 10_000, "")?;
+    writes(rt, alloc, query.as_str(), "[7]", wanted.as_bytes())
 }
 
 #[test]
 fn ten_thousand_selectors(rt: HostRuntime) -> Result<(), Fail> {
-    let query = around(rt.alloc(), "$[0", ",0", 9_999, "]")?;
-    let (end, written) = ran(&rt, rt.alloc(), query.as_str(), "[7]")?;
-    assert!(rt; end.is_ok());
-    let wanted = around(rt.alloc(), "", "1\t$[0]\t7\n", 10_000, "")?;
-    assert!(rt; written.as_slice() == wanted.as_bytes());
+    assert!(rt; selects_ten_thousand(&rt, rt.alloc())?);
     Ok(())
 }
 
@@ -93,16 +122,32 @@ fn nested_arrays(alloc: Global, depth: usize) -> Result<String, AllocError> {
     around(alloc, open.as_str(), "]", depth, "\n")
 }
 
+/// Whether a run ends well and writes so many lines.
+fn writes_lines<R: Threads + Sync>(
+    rt: &R,
+    alloc: Global,
+    query: &str,
+    input: &str,
+    count: usize,
+) -> Result<bool, RunFault> {
+    let (end, written) = ran(rt, alloc, query, input)?;
+    Ok(end.is_ok() && lines_in(&written) == count)
+}
+
+/// Whether a run tells that its first line is unreadable, and writes nothing.
+fn is_unreadable<R: Threads + Sync>(rt: &R, alloc: Global, input: &str) -> Result<bool, RunFault> {
+    let (end, written) = ran(rt, alloc, "$..*", input)?;
+    let unreadable = DocFault::Unreadable;
+    let is_told = matches!(end, Err(RunFault::Document { line: 1, fault }) if fault == unreadable);
+    Ok(is_told && written.is_empty())
+}
+
 #[test]
 fn deepest_documents(rt: HostRuntime) -> Result<(), Fail> {
     let line = nested_arrays(rt.alloc(), 127)?;
-    let (end, written) = ran(&rt, rt.alloc(), "$..*", line.as_str())?;
-    assert!(rt; end.is_ok() && lines_in(&written) == 126);
+    assert!(rt; writes_lines(&rt, rt.alloc(), "$..*", line.as_str(), 126)?);
     let line = nested_arrays(rt.alloc(), 128)?;
-    let (end, written) = ran(&rt, rt.alloc(), "$..*", line.as_str())?;
-    let unreadable = DocFault::Unreadable;
-    let is_told = matches!(end, Err(RunFault::Document { line: 1, fault }) if fault == unreadable);
-    assert!(rt; is_told && written.is_empty());
+    assert!(rt; is_unreadable(&rt, rt.alloc(), line.as_str())?);
     Ok(())
 }
 
@@ -111,14 +156,24 @@ fn lines_in(bytes: &[u8]) -> usize {
     bytes.iter().filter(|byte| **byte == b'\n').count()
 }
 
+/// The query of 32 filters and 32 calls inside each other.
+fn deepest_query(alloc: Global) -> Result<String, AllocError> {
+    let open = around(alloc, "$..[?@!=0&&value(@", "[?@!=0&&value(@", 31, "")?;
+    around(alloc, open.as_str(), ")!=0]", 32, "")
+}
+
+/// Twenty of the deepest documents.
+fn deepest_lines(alloc: Global) -> Result<String, AllocError> {
+    let line = nested_arrays(alloc, 127)?;
+    around(alloc, "", line.as_str(), 20, "")
+}
+
 /// 32 filters and 32 calls inside each other, at each of 127 levels, in documents enough for both threads.
 #[test]
 fn deepest_filters_on_deepest_documents(rt: HostRuntime) -> Result<(), Fail> {
-    let open = around(rt.alloc(), "$..[?@!=0&&value(@", "[?@!=0&&value(@", 31, "")?;
-    let query = around(rt.alloc(), open.as_str(), ")!=0]", 32, "")?;
-    let line = nested_arrays(rt.alloc(), 127)?;
-    let input = around(rt.alloc(), "", line.as_str(), 20, "")?;
-    let (end, written) = ran(&rt, rt.alloc(), query.as_str(), input.as_str())?;
-    assert!(rt; end.is_ok() && lines_in(&written) == 20 * 126);
+    let query = deepest_query(rt.alloc())?;
+    let input = deepest_lines(rt.alloc())?;
+    let is_right = writes_lines(&rt, rt.alloc(), query.as_str(), input.as_str(), 20 * 126)?;
+    assert!(rt; is_right);
     Ok(())
 }

@@ -60,8 +60,8 @@ fn all_finish<R: Threads + Sync>(
     status: u8,
 ) -> Result<bool, RunFault> {
     let mut agree = true;
-    for cut in [(1, 1), (1, 10), (4, 1), (4, 10)] {
-        let (end, bytes) = ran(rt, alloc, input, cut, 0, ROOM)?;
+    for cut in &[(1, 1), (1, 10), (4, 1), (4, 10)] {
+        let (end, bytes) = ran(rt, alloc, input, *cut, 0, ROOM)?;
         agree = agree && bytes.as_slice() == wanted && is_finished(&end, counts, status);
     }
     Ok(agree)
@@ -87,9 +87,29 @@ fn faulty_lines_have_lines_of_their_own(rt: HostRuntime) -> Result<(), Fail> {
     Ok(())
 }
 
+/// Whether a read or a write that fails ends the run, and what is written then is this.
+fn breaks<R: Threads + Sync>(
+    rt: &R,
+    alloc: Global,
+    input: &[u8],
+    cut: (u64, u64),
+    fails: (u64, usize),
+    wanted: &[u8],
+) -> Result<bool, RunFault> {
+    let (fails_at, room) = fails;
+    let (end, bytes) = ran(rt, alloc, input, cut, fails_at, room)?;
+    let is_told = match end {
+        Err(RunFault::Read) => fails_at > 0,
+        Err(RunFault::Write) => fails_at == 0,
+        _ => false,
+    };
+    Ok(is_told && bytes.as_slice() == wanted)
+}
+
 /// The bytes `{"a":1}`, a line feed, `{`, a line feed: ten, each read alone.
 #[test]
 fn each_read_failing(rt: HostRuntime) -> Result<(), Fail> {
+    let input = b"{\"a\":1}\n{\n";
     for call in 1..=11u64 {
         let written = match call {
             ..=8 => 0,
@@ -97,14 +117,13 @@ fn each_read_failing(rt: HostRuntime) -> Result<(), Fail> {
             _ => 26,
         };
         let (front, _) = FOUR_LINES.split_at(written);
-        let (end, bytes) = ran(&rt, rt.alloc(), b"{\"a\":1}\n{\n", (2, 1), call, ROOM)?;
+        let fails = (call, ROOM);
         assert!(rt;
-            matches!(end, Err(RunFault::Read)) && bytes.as_slice() == front,
+            breaks(&rt, rt.alloc(), input, (2, 1), fails, front)?,
             "{call}"
         );
-        let (end, bytes) = ran(&rt, rt.alloc(), b"{\"a\":1}\n{\n", (2, 10), call, ROOM)?;
         assert!(rt;
-            matches!(end, Err(RunFault::Read)) && bytes.is_empty(),
+            breaks(&rt, rt.alloc(), input, (2, 10), fails, b"")?,
             "{call}"
         );
     }
@@ -114,11 +133,10 @@ fn each_read_failing(rt: HostRuntime) -> Result<(), Fail> {
 #[test]
 fn each_write_failing(rt: HostRuntime) -> Result<(), Fail> {
     for room in 0..FOUR_LINES.len() {
-        for cut in [(2, 1), (2, 10)] {
-            let (end, bytes) = ran(&rt, rt.alloc(), FOUR, cut, 0, room)?;
+        for cut in &[(2, 1), (2, 10)] {
             let (front, _) = FOUR_LINES.split_at(room.min(FOUR_LINES.len()));
             assert!(rt;
-                matches!(end, Err(RunFault::Write)) && bytes.as_slice() == front,
+                breaks(&rt, rt.alloc(), FOUR, *cut, (0, room), front)?,
                 "{room}"
             );
         }
@@ -151,42 +169,56 @@ fn answered<R: Threads + Sync, G: Gate + Sync>(
     answer_all(rt, alloc, &plan, &lines, workers, piece, gate).ok()
 }
 
+/// Whether `$.a` gives its lines and two faults there, by so many workers, in pieces of that size.
+fn is_answered<R: Threads + Sync, G: Gate + Sync>(
+    rt: &R,
+    alloc: Global,
+    cut: (u64, u64),
+    gate: &G,
+) -> bool {
+    match answered(rt, alloc, FOUR, cut, gate) {
+        Some(whole) => whole.bytes.as_slice() == FOUR_LINES && whole.faulty == 2,
+        None => false,
+    }
+}
+
 #[test]
 fn the_answer_to_all_lines(rt: HostRuntime) {
-    for cut in [(1, 1), (4, 1), (4, 2), (2, 100)] {
-        let found = answered(&rt, rt.alloc(), FOUR, cut, &OpenGate);
-        assert!(rt; matches!(&found, Some(w) if w.bytes.as_slice() == FOUR_LINES && w.faulty == 2));
+    for cut in &[(1, 1), (4, 1), (4, 2), (2, 100)] {
+        assert!(rt; is_answered(&rt, rt.alloc(), *cut, &OpenGate));
     }
 }
 
 #[test]
 fn two_workers_at_once(rt: HostRuntime) {
     let gate = Pair(Entered::new());
-    let found = answered(&rt, rt.alloc(), FOUR, (2, 1), &gate);
-    assert!(rt; matches!(&found, Some(w) if w.bytes.as_slice() == FOUR_LINES && w.faulty == 2));
+    assert!(rt; is_answered(&rt, rt.alloc(), (2, 1), &gate));
     assert_eq!(rt; gate.0.failures(), 0);
     assert_eq!(rt; gate.0.seen(), [true, true, true]);
+}
+
+/// Whether a run without the option ends at the first faulty line, and writes what the lines before it give.
+fn is_ended<R: Threads + Sync>(rt: &R, alloc: Global, settings: &Settings) -> bool {
+    let mut source = FromReader::new(FOUR);
+    let mut sink = Holds::new(Vec::new(alloc), ROOM, ROOM);
+    let end = jp_run::run(
+        rt,
+        alloc,
+        &mut source,
+        &mut sink,
+        "$.a",
+        settings,
+        &OpenGate,
+    );
+    let first = "1\t$['a']\t1\n";
+    matches!(end, Err(RunFault::Document { line: 2, .. }))
+        && sink.bytes.as_slice() == first.as_bytes()
 }
 
 /// Without the option, the first faulty line ends the run.
 #[test]
 fn the_option_is_off_at_first(rt: HostRuntime) -> Result<(), Fail> {
     let settings = Settings::new(4, 1, 10)?;
-    let mut source = FromReader::new(FOUR);
-    let mut sink = Holds::new(Vec::new(rt.alloc()), ROOM, ROOM);
-    let end = jp_run::run(
-        &rt,
-        rt.alloc(),
-        &mut source,
-        &mut sink,
-        "$.a",
-        &settings,
-        &OpenGate,
-    );
-    let first = "1\t$['a']\t1\n";
-    assert!(rt;
-        matches!(end, Err(RunFault::Document { line: 2, .. }))
-            && sink.bytes.as_slice() == first.as_bytes()
-    );
+    assert!(rt; is_ended(&rt, rt.alloc(), &settings));
     Ok(())
 }

@@ -20,6 +20,8 @@ mod hostile;
 #[cfg(test)]
 mod keep_going;
 #[cfg(test)]
+mod literals;
+#[cfg(test)]
 mod long_lines;
 #[cfg(test)]
 mod output_forms;

@@ -4,7 +4,7 @@ use crate::fakes::{FailsAfter, Holds};
 use crate::long_lines::{long_answer, long_lines};
 use jp_doc::DocFault;
 use jp_run::{FromReader, OpenGate, RunFault, Settings, Source, Totals, run};
-use std::alloc::Global;
+use std::alloc::{AllocError, Global};
 use std::test::Fail;
 use std::thread::Threads;
 
@@ -51,14 +51,31 @@ fn is_finished(end: &Result<Totals, RunFault>, count: u64, faulty: u64) -> bool 
     }
 }
 
+/// Whether a run over so many lines finishes, and writes all that they give.
+fn finishes<R: Threads + Sync>(
+    rt: &R,
+    alloc: Global,
+    count: u64,
+    faulty: &[u64],
+    settings: &Settings,
+) -> bool {
+    let Ok(text) = long_lines(alloc, count, faulty) else {
+        return false;
+    };
+    let (end, bytes, _) = run_of(rt, alloc, &text, settings, ALL_READS);
+    match long_answer(alloc, count, faulty) {
+        Ok(wanted) => {
+            is_finished(&end, count, faulty.len() as u64) && bytes.as_slice() == wanted.as_bytes()
+        }
+        Err(_) => false,
+    }
+}
+
 #[test]
 fn the_same_by_parts(rt: HostRuntime) -> Result<(), Fail> {
-    let text = long_lines(rt.alloc(), 8, &[])?;
-    let wanted = long_answer(rt.alloc(), 8, &[])?;
-    for workers in [1u64, 2, 64] {
-        let settings = Settings::new(workers, 64, BATCH)?;
-        let (end, bytes, _) = run_of(&rt, rt.alloc(), &text, &settings, ALL_READS);
-        assert!(rt; is_finished(&end, 8, 0) && bytes.as_slice() == wanted.as_bytes());
+    for workers in &[1u64, 2, 64] {
+        let settings = Settings::new(*workers, 64, BATCH)?;
+        assert!(rt; finishes(&rt, rt.alloc(), 8, &[], &settings));
     }
     Ok(())
 }
@@ -66,24 +83,18 @@ fn the_same_by_parts(rt: HostRuntime) -> Result<(), Fail> {
 /// Of 130 lines, 9 MB, several rounds are made.
 #[test]
 fn a_part_for_many_workers(rt: HostRuntime) -> Result<(), Fail> {
-    let text = long_lines(rt.alloc(), 130, &FAULTY)?;
-    let wanted = long_answer(rt.alloc(), 130, &FAULTY)?;
     let settings = Settings::new(64, 64, BATCH)?.keep_going();
-    let (end, bytes, _) = run_of(&rt, rt.alloc(), &text, &settings, ALL_READS);
-    assert!(rt; is_finished(&end, 130, 2) && bytes.as_slice() == wanted.as_bytes());
+    assert!(rt; finishes(&rt, rt.alloc(), 130, &FAULTY, &settings));
     Ok(())
 }
 
 /// Batches of three and of five of the eight lines have several parts each, for one worker.
 #[test]
 fn several_batches_of_several_parts(rt: HostRuntime) -> Result<(), Fail> {
-    let text = long_lines(rt.alloc(), 8, &FAULTY)?;
-    let wanted = long_answer(rt.alloc(), 8, &FAULTY)?;
-    for batch in [3u64, 5] {
-        for workers in [1u64, 2, 4] {
-            let settings = Settings::new(workers, 64, batch)?.keep_going();
-            let (end, bytes, _) = run_of(&rt, rt.alloc(), &text, &settings, ALL_READS);
-            assert!(rt; is_finished(&end, 8, 2) && bytes.as_slice() == wanted.as_bytes());
+    for batch in &[3u64, 5] {
+        for workers in &[1u64, 2, 4] {
+            let settings = Settings::new(*workers, 64, *batch)?.keep_going();
+            assert!(rt; finishes(&rt, rt.alloc(), 8, &FAULTY, &settings));
         }
     }
     Ok(())
@@ -91,12 +102,9 @@ fn several_batches_of_several_parts(rt: HostRuntime) -> Result<(), Fail> {
 
 #[test]
 fn faulty_lines_of_two_parts(rt: HostRuntime) -> Result<(), Fail> {
-    let text = long_lines(rt.alloc(), 8, &FAULTY)?;
-    let wanted = long_answer(rt.alloc(), 8, &FAULTY)?;
-    for workers in [1u64, 2, 64] {
-        let settings = Settings::new(workers, 64, BATCH)?.keep_going();
-        let (end, bytes, _) = run_of(&rt, rt.alloc(), &text, &settings, ALL_READS);
-        assert!(rt; is_finished(&end, 8, 2) && bytes.as_slice() == wanted.as_bytes());
+    for workers in &[1u64, 2, 64] {
+        let settings = Settings::new(*workers, 64, BATCH)?.keep_going();
+        assert!(rt; finishes(&rt, rt.alloc(), 8, &FAULTY, &settings));
     }
     Ok(())
 }
@@ -122,17 +130,46 @@ fn is_second(end: &Result<Totals, RunFault>, bytes: &[u8]) -> bool {
     stopped && bytes == b"1\t$[0]\t1\n".as_slice()
 }
 
+/// What a run over eight lines came to, of which two are faulty.
+#[derive(Clone, Copy)]
+struct Outcome {
+    /// Whether it ended at the second line, and wrote what the first gives.
+    is_second: bool,
+    /// Whether it told of a read that failed, and wrote nothing.
+    is_read: bool,
+    /// Whether it finished.
+    is_finished: bool,
+    /// How often it read.
+    reads: u64,
+}
+
+fn came<R: Threads + Sync>(
+    rt: &R,
+    alloc: Global,
+    settings: &Settings,
+    passing: u64,
+) -> Result<Outcome, AllocError> {
+    let text = long_lines(alloc, 8, &FAULTY)?;
+    let (end, bytes, reads) = run_of(rt, alloc, &text, settings, passing);
+    Ok(Outcome {
+        is_second: is_second(&end, &bytes),
+        is_read: matches!(end, Err(RunFault::Read)) && bytes.is_empty(),
+        is_finished: is_finished(&end, 8, 2),
+        reads,
+    })
+}
+
 #[test]
 fn a_faulty_part_ends_the_run(rt: HostRuntime) -> Result<(), Fail> {
-    let text = long_lines(rt.alloc(), 8, &FAULTY)?;
-    for workers in [1u64, 2, 4] {
-        let settings = Settings::new(workers, 64, BATCH)?;
-        let (end, bytes, reads) = run_of(&rt, rt.alloc(), &text, &settings, ALL_READS);
-        assert!(rt; is_second(&end, &bytes), "{workers} workers");
-        let (least, most) = match workers {
+    for workers in &[1u64, 2, 4] {
+        let settings = Settings::new(*workers, 64, BATCH)?;
+        let found = came(&rt, rt.alloc(), &settings, ALL_READS)?;
+        assert!(rt; found.is_second, "{workers} workers");
+        let (least, most) = match *workers {
             1 => (READS_OF_ONE, READS_OF_ONE),
             _ => READS_OF_SEVERAL,
         };
+        let reads = found.reads;
         assert!(rt;
             reads >= least && reads <= most,
             "{workers} workers, {reads} reads"
@@ -145,22 +182,20 @@ fn a_faulty_part_ends_the_run(rt: HostRuntime) -> Result<(), Fail> {
 /// With several workers the faulty line may have ended the reading before.
 #[test]
 fn a_read_fails_beside_a_faulty_part(rt: HostRuntime) -> Result<(), Fail> {
-    let text = long_lines(rt.alloc(), 8, &FAULTY)?;
-    for workers in [1u64, 2, 4] {
-        let settings = Settings::new(workers, 64, BATCH)?;
-        let (least, most) = match workers {
+    for workers in &[1u64, 2, 4] {
+        let settings = Settings::new(*workers, 64, BATCH)?;
+        let (least, most) = match *workers {
             1 => (READS_OF_ONE, READS_OF_ONE),
             _ => READS_OF_SEVERAL,
         };
         for passing in 0..most {
-            let (end, bytes, reads) = run_of(&rt, rt.alloc(), &text, &settings, passing);
-            let is_read = matches!(end, Err(RunFault::Read)) && bytes.is_empty();
-            let told = is_read && reads == passing + 1;
-            let ended = passing >= least && is_second(&end, &bytes);
+            let found = came(&rt, rt.alloc(), &settings, passing)?;
+            let told = found.is_read && found.reads == passing + 1;
+            let ended = passing >= least && found.is_second;
             assert!(rt; told || ended, "{workers} workers, {passing} reads");
         }
-        let (end, bytes, _) = run_of(&rt, rt.alloc(), &text, &settings, most);
-        assert!(rt; is_second(&end, &bytes), "{workers} workers");
+        let found = came(&rt, rt.alloc(), &settings, most)?;
+        assert!(rt; found.is_second, "{workers} workers");
     }
     Ok(())
 }
@@ -169,19 +204,16 @@ fn a_read_fails_beside_a_faulty_part(rt: HostRuntime) -> Result<(), Fail> {
 /// beside a part, or behind some.
 #[test]
 fn a_read_fails_beside_a_part_that_keeps_going(rt: HostRuntime) -> Result<(), Fail> {
-    let text = long_lines(rt.alloc(), 8, &FAULTY)?;
-    for workers in [1u64, 2] {
-        let settings = Settings::new(workers, 64, BATCH)?.keep_going();
+    for workers in &[1u64, 2] {
+        let settings = Settings::new(*workers, 64, BATCH)?.keep_going();
         for passing in 0..10u64 {
-            let (end, bytes, reads) = run_of(&rt, rt.alloc(), &text, &settings, passing);
-            let is_read = matches!(end, Err(RunFault::Read)) && bytes.is_empty();
+            let found = came(&rt, rt.alloc(), &settings, passing)?;
             assert!(rt;
-                is_read && reads == passing + 1,
+                found.is_read && found.reads == passing + 1,
                 "{workers} workers, {passing} reads"
             );
         }
-        let (end, _, _) = run_of(&rt, rt.alloc(), &text, &settings, 10);
-        assert!(rt; is_finished(&end, 8, 2));
+        assert!(rt; came(&rt, rt.alloc(), &settings, 10)?.is_finished);
     }
     Ok(())
 }

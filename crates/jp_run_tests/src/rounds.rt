@@ -7,7 +7,6 @@ use jp_run::{FromReader, Gate, OpenGate, Settings, Totals, run};
 use std::alloc::{AllocError, Global};
 use std::io::{self, Read};
 use std::sync::atomic::{AtomicU64, Ordering};
-use std::test::Fail;
 use std::thread::{self, Threads};
 
 /// More bytes than any of these runs writes.
@@ -77,46 +76,55 @@ fn is_run<R: Threads + Sync, T: Read + Drop, G: Gate + Sync>(
     is_counted && sink.bytes.as_slice() == bytes.as_bytes()
 }
 
+/// So many lines, what stands behind each, and those that are to be faulty.
+type Lines = (u64, usize, &'static [u64]);
+
+/// Whether a run by so many workers, in pieces and batches of that size, answers such lines. It keeps going
+/// where some are faulty.
+fn is_answered<R: Threads + Sync, G: Gate + Sync>(
+    rt: &R,
+    alloc: Global,
+    lines: Lines,
+    cut: (u64, u64, u64),
+    gate: &G,
+) -> bool {
+    let (count, blanks, faulty) = lines;
+    let Ok(settings) = Settings::new(cut.0, cut.1, cut.2) else {
+        return false;
+    };
+    let settings = if faulty.is_empty() {
+        settings
+    } else {
+        settings.keep_going()
+    };
+    match (
+        lines_of(alloc, count, blanks, faulty),
+        answer_of(alloc, count, faulty),
+    ) {
+        (Ok(text), Ok(wanted)) => {
+            let wanted = (wanted.as_str(), faulty.len() as u64);
+            is_run(rt, alloc, text.as_bytes(), &settings, gate, wanted)
+        }
+        _ => false,
+    }
+}
+
 #[test]
-fn two_workers_at_once_in_a_round(rt: HostRuntime) -> Result<(), Fail> {
-    let text = lines_of(rt.alloc(), 2 * FIRST, BLANKS, &[])?;
-    let wanted = answer_of(rt.alloc(), 2 * FIRST, &[])?;
-    let settings = Settings::new(2, 1, BATCH)?;
+fn two_workers_at_once_in_a_round(rt: HostRuntime) {
     let gate = Pair(Entered::new());
-    assert!(rt;
-        is_run(
-            &rt,
-            rt.alloc(),
-            text.as_bytes(),
-            &settings,
-            &gate,
-            (&wanted, 0)
-        )
-    );
+    let lines = (2 * FIRST, BLANKS, [].as_slice());
+    assert!(rt; is_answered(&rt, rt.alloc(), lines, (2, 1, BATCH), &gate));
     assert_eq!(rt; gate.0.failures(), 0);
     assert_eq!(rt; gate.0.seen(), [true, true, true]);
-    Ok(())
 }
 
 /// The other worker answers the second piece and the third while the first one waits.
 #[test]
-fn the_first_piece_of_a_round_waits_for_the_third(rt: HostRuntime) -> Result<(), Fail> {
-    let text = lines_of(rt.alloc(), 2 * FIRST, BLANKS, &[])?;
-    let wanted = answer_of(rt.alloc(), 2 * FIRST, &[])?;
-    let settings = Settings::new(2, 1, BATCH)?;
+fn the_first_piece_of_a_round_waits_for_the_third(rt: HostRuntime) {
     let gate = FirstWaits(Entered::new());
-    assert!(rt;
-        is_run(
-            &rt,
-            rt.alloc(),
-            text.as_bytes(),
-            &settings,
-            &gate,
-            (&wanted, 0)
-        )
-    );
+    let lines = (2 * FIRST, BLANKS, [].as_slice());
+    assert!(rt; is_answered(&rt, rt.alloc(), lines, (2, 1, BATCH), &gate));
     assert_eq!(rt; gate.0.failures(), 0);
-    Ok(())
 }
 
 /// How many turns the first piece waits for all others.
@@ -149,50 +157,26 @@ impl Gate for WaitsForAll {
 /// Of two workers one is the calling thread, once it has published: one of them answers all pieces but the
 /// first, for which the other one waits.
 #[test]
-fn the_first_piece_of_a_round_waits_for_all_others(rt: HostRuntime) -> Result<(), Fail> {
-    let text = lines_of(rt.alloc(), 2 * FIRST, BLANKS, &[])?;
-    let wanted = answer_of(rt.alloc(), 2 * FIRST, &[])?;
-    let settings = Settings::new(2, 1, BATCH)?;
+fn the_first_piece_of_a_round_waits_for_all_others(rt: HostRuntime) {
     let gate = WaitsForAll {
         others: 2 * FIRST - 1,
         passed: AtomicU64::new(0),
         failures: AtomicU64::new(0),
     };
-    assert!(rt;
-        is_run(
-            &rt,
-            rt.alloc(),
-            text.as_bytes(),
-            &settings,
-            &gate,
-            (&wanted, 0)
-        )
-    );
+    let lines = (2 * FIRST, BLANKS, [].as_slice());
+    assert!(rt; is_answered(&rt, rt.alloc(), lines, (2, 1, BATCH), &gate));
     assert_eq!(rt; gate.failures.load(Ordering::SeqCst), 0);
-    Ok(())
 }
 
 /// What is there when a round begins is claimed by its workers, each piece by one of them.
 #[test]
-fn each_piece_of_a_round_once(rt: HostRuntime) -> Result<(), Fail> {
-    let text = lines_of(rt.alloc(), FIRST, BLANKS, &[])?;
-    let wanted = answer_of(rt.alloc(), FIRST, &[])?;
-    for workers in [2u64, 3, 64] {
-        let settings = Settings::new(workers, 1, BATCH)?;
+fn each_piece_of_a_round_once(rt: HostRuntime) {
+    for workers in &[2u64, 3, 64] {
         let gate = Recorder(AtomicU64::new(0));
-        assert!(rt;
-            is_run(
-                &rt,
-                rt.alloc(),
-                text.as_bytes(),
-                &settings,
-                &gate,
-                (&wanted, 0)
-            )
-        );
+        let lines = (FIRST, BLANKS, [].as_slice());
+        assert!(rt; is_answered(&rt, rt.alloc(), lines, (*workers, 1, BATCH), &gate));
         assert_eq!(rt; gate.0.load(Ordering::SeqCst), 111_111, "{workers} workers");
     }
-    Ok(())
 }
 
 /// How many pieces workers have answered.
@@ -208,24 +192,12 @@ impl Gate for Passes {
 /// The calling thread answers what a worker claims as it ends, and what comes just then: of 2,000 pieces
 /// some dozens at most.
 #[test]
-fn workers_answer_most(rt: HostRuntime) -> Result<(), Fail> {
-    let text = lines_of(rt.alloc(), 2_000, 2_000, &[])?;
-    let wanted = answer_of(rt.alloc(), 2_000, &[])?;
-    let settings = Settings::new(2, 1, 1_000_000)?;
+fn workers_answer_most(rt: HostRuntime) {
     let gate = Passes(AtomicU64::new(0));
-    assert!(rt;
-        is_run(
-            &rt,
-            rt.alloc(),
-            text.as_bytes(),
-            &settings,
-            &gate,
-            (&wanted, 0)
-        )
-    );
+    let lines = (2_000, 2_000, [].as_slice());
+    assert!(rt; is_answered(&rt, rt.alloc(), lines, (2, 1, 1_000_000), &gate));
     let passes = gate.0.load(Ordering::SeqCst);
     assert!(rt; passes >= 1_000 && passes <= 2_000, "{passes} of 2,000");
-    Ok(())
 }
 
 /// A reader that keeps its caller waiting: longer than workers look for what comes.
@@ -241,44 +213,52 @@ impl Read for Slow<'_> {
     }
 }
 
+/// Whether a run answers lines that come slowly.
+fn is_answered_slowly<R: Threads + Sync>(rt: &R, alloc: Global, workers: u64) -> bool {
+    let Ok(settings) = Settings::new(workers, 1, BATCH) else {
+        return false;
+    };
+    match (
+        lines_of(alloc, 5 * FIRST, BLANKS, &[]),
+        answer_of(alloc, 5 * FIRST, &[]),
+    ) {
+        (Ok(text), Ok(wanted)) => {
+            let reader = Slow(text.as_bytes());
+            is_run(rt, alloc, reader, &settings, &OpenGate, (&wanted, 0))
+        }
+        _ => false,
+    }
+}
+
 /// Workers end and are started again.
 #[test]
-fn a_source_that_is_slow(rt: HostRuntime) -> Result<(), Fail> {
-    let text = lines_of(rt.alloc(), 5 * FIRST, BLANKS, &[])?;
-    let wanted = answer_of(rt.alloc(), 5 * FIRST, &[])?;
-    for workers in [1u64, 2, 4] {
-        let settings = Settings::new(workers, 1, BATCH)?;
-        let reader = Slow(text.as_bytes());
-        assert!(rt; is_run(&rt, rt.alloc(), reader, &settings, &OpenGate, (&wanted, 0)));
+fn a_source_that_is_slow(rt: HostRuntime) {
+    for workers in &[1u64, 2, 4] {
+        assert!(rt; is_answered_slowly(&rt, rt.alloc(), *workers));
     }
-    Ok(())
 }
 
 /// Rounds that end with their batch, and lines behind it that wait for the next; more workers than lines;
 /// more parts than a row has slots.
 #[test]
-fn the_same_by_rounds(rt: HostRuntime) -> Result<(), Fail> {
-    let text = lines_of(rt.alloc(), 1_500, 700, &[])?;
-    let wanted = answer_of(rt.alloc(), 1_500, &[])?;
-    for (workers, piece, batch) in [
+fn the_same_by_rounds(rt: HostRuntime) {
+    for (workers, piece, batch) in &[
         (2u64, 1u64, 1_000_000u64),
         (64, 1, 1_000_000),
         (3, 7, 400),
         (4, 64, 128),
         (2, 1_000_000, 1_499),
     ] {
-        let settings = Settings::new(workers, piece, batch)?;
-        let is_right = is_run(
+        let lines = (1_500, 700, [].as_slice());
+        let is_right = is_answered(
             &rt,
             rt.alloc(),
-            text.as_bytes(),
-            &settings,
+            lines,
+            (*workers, *piece, *batch),
             &OpenGate,
-            (&wanted, 0),
         );
         assert!(rt; is_right, "{workers} workers, {batch} a batch");
     }
-    Ok(())
 }
 
 /// The numbers of the faulty lines that were told, a digit each.
@@ -302,23 +282,11 @@ impl Gate for Numbers {
 }
 
 #[test]
-fn faulty_lines_of_a_round_are_told_in_their_order(rt: HostRuntime) -> Result<(), Fail> {
-    let text = lines_of(rt.alloc(), 9, BLANKS, &[2, 5, 7])?;
-    let wanted = answer_of(rt.alloc(), 9, &[2, 5, 7])?;
-    for workers in [1u64, 2, 4] {
-        let settings = Settings::new(workers, 1, BATCH)?.keep_going();
+fn faulty_lines_of_a_round_are_told_in_their_order(rt: HostRuntime) {
+    for workers in &[1u64, 2, 4] {
         let gate = Numbers(AtomicU64::new(0));
-        assert!(rt;
-            is_run(
-                &rt,
-                rt.alloc(),
-                text.as_bytes(),
-                &settings,
-                &gate,
-                (&wanted, 3)
-            )
-        );
+        let lines = (9, BLANKS, [2, 5, 7].as_slice());
+        assert!(rt; is_answered(&rt, rt.alloc(), lines, (*workers, 1, BATCH), &gate));
         assert_eq!(rt; gate.0.load(Ordering::SeqCst), 257);
     }
-    Ok(())
 }

@@ -61,6 +61,11 @@ fn fault_at(place: u64) -> Option<(RunFault, u8, &'static str)> {
     }
 }
 
+/// Whether a fault has this text.
+fn has_text(alloc: Global, fault: &RunFault, text: &str) -> Result<bool, AllocError> {
+    Ok(format!(in alloc; "{fault}")?.as_str() == text)
+}
+
 #[test]
 fn faults_have_their_texts(rt: HostRuntime) -> Result<(), Fail> {
     for place in 0..7u64 {
@@ -68,7 +73,7 @@ fn faults_have_their_texts(rt: HostRuntime) -> Result<(), Fail> {
             panic!(rt; "no fault at {place}");
         };
         assert_eq!(rt; fault.status(), status);
-        assert_eq!(rt; format!(in rt.alloc(); "{fault}")?.as_str(), text);
+        assert!(rt; has_text(rt.alloc(), &fault, text)?, "{text}");
     }
     Ok(())
 }
@@ -233,46 +238,73 @@ fn rows(rt: HostRuntime) -> Result<(), Fail> {
     Ok(())
 }
 
+/// Whether a run ends well and writes this.
+fn writes<R: Threads + Sync>(
+    rt: &R,
+    alloc: Global,
+    query: &str,
+    input: &[u8],
+    wanted: &[u8],
+) -> bool {
+    let (end, bytes) = ran(rt, alloc, query, input);
+    end.is_ok() && bytes.as_slice() == wanted
+}
+
 #[test]
-fn several_lines(rt: HostRuntime) -> Result<(), Fail> {
+fn several_lines(rt: HostRuntime) {
     let wanted = b"1\t$['a']\t1\n3\t$['a']\tnull\n";
-    for input in [
+    for input in &[
         "{\"a\":1}\n\n{\"a\":null}\n",
         "{\"a\":1}\n\n{\"a\":null}",
         "{\"a\":1}\r\n\r\n{\"a\":null}\r\n",
     ] {
-        let (end, bytes) = ran(&rt, rt.alloc(), "$.a", input.as_bytes());
         assert!(rt;
-            end.is_ok() && bytes.as_slice() == wanted.as_slice(),
+            writes(&rt, rt.alloc(), "$.a", input.as_bytes(), wanted),
             "{input}"
         );
     }
-    let (end, bytes) = ran(&rt, rt.alloc(), "$", b"");
-    assert!(rt; end.is_ok() && bytes.is_empty());
-    Ok(())
+    assert!(rt; writes(&rt, rt.alloc(), "$", b"", b""));
+}
+
+/// Whether a run ends well and counts this.
+fn counts<R: Threads + Sync>(
+    rt: &R,
+    alloc: Global,
+    query: &str,
+    input: &[u8],
+    totals: Totals,
+) -> bool {
+    let (end, _) = ran(rt, alloc, query, input);
+    matches!(end, Ok(found) if found == totals)
 }
 
 #[test]
-fn lines_and_documents_are_counted(rt: HostRuntime) -> Result<(), Fail> {
-    let (end, _) = ran(&rt, rt.alloc(), "$.a", b"{\"a\":1}\n\n{\"a\":null}");
+fn lines_and_documents_are_counted(rt: HostRuntime) {
     let totals = Totals {
         lines: 3,
         documents: 2,
         faulty: 0,
     };
-    assert!(rt; matches!(end, Ok(found) if found == totals));
-    let (end, _) = ran(&rt, rt.alloc(), "$", b"");
+    assert!(rt; counts(&rt, rt.alloc(), "$.a", b"{\"a\":1}\n\n{\"a\":null}", totals));
     let none = Totals {
         lines: 0,
         documents: 0,
         faulty: 0,
     };
-    assert!(rt; matches!(end, Ok(found) if found == none));
-    Ok(())
+    assert!(rt; counts(&rt, rt.alloc(), "$", b"", none));
+}
+
+/// Whether a run tells this fault of the query, and nothing is read and nothing written.
+fn is_refused<R: Threads + Sync>(rt: &R, alloc: Global, query: &str, fault: QueryFault) -> bool {
+    let mut source = OneByte::new(b"{\"a\":1}\n", 0);
+    let mut sink = Holds::new(Vec::new(alloc), 1, ROOM);
+    let end = run(rt, alloc, &mut source, &mut sink, query);
+    let is_told = matches!(end, Err(RunFault::Query(found)) if found == fault);
+    is_told && source.reads() == 0 && sink.bytes.is_empty()
 }
 
 #[test]
-fn a_refused_query_reads_nothing(rt: HostRuntime) -> Result<(), Fail> {
+fn a_refused_query_reads_nothing(rt: HostRuntime) {
     let refused = [
         ("$.a ", QueryFault::Syntax),
         ("$ ", QueryFault::Syntax),
@@ -295,96 +327,85 @@ fn a_refused_query_reads_nothing(rt: HostRuntime) -> Result<(), Fail> {
         ("$[?nope(@)]", QueryFault::IllTyped),
     ];
     for (query, fault) in &refused {
-        let mut source = OneByte::new(b"{\"a\":1}\n", 0);
-        let mut sink = Holds::new(Vec::new(rt.alloc()), 1, ROOM);
-        let end = run(&rt, rt.alloc(), &mut source, &mut sink, *query);
-        let is_told = matches!(end, Err(RunFault::Query(found)) if found == *fault);
-        assert!(rt;
-            is_told && source.reads() == 0 && sink.bytes.is_empty(),
-            "{query}"
-        );
+        assert!(rt; is_refused(&rt, rt.alloc(), query, *fault), "{query}");
     }
-    Ok(())
+}
+
+/// Whether a run of `$.a` ends at this line with this fault, and writes this.
+fn stops<R: Threads + Sync>(
+    rt: &R,
+    alloc: Global,
+    input: &[u8],
+    stop: (u64, DocFault),
+    wanted: &[u8],
+) -> bool {
+    let (end, bytes) = ran(rt, alloc, "$.a", input);
+    let is_told = matches!(end, Err(RunFault::Document { line, fault }) if (line, fault) == stop);
+    is_told && bytes.as_slice() == wanted
 }
 
 #[test]
-fn a_faulty_line_ends_the_run(rt: HostRuntime) -> Result<(), Fail> {
-    let (end, bytes) = ran(
-        &rt,
-        rt.alloc(),
-        "$.a",
-        b"{\"a\":1}\n{\n{\"a\":2}\n{\"a\":1.5}\n",
-    );
-    assert!(rt;
-        matches!(
-            end,
-            Err(RunFault::Document {
-                line: 2,
-                fault: DocFault::Unreadable
-            })
-        )
-    );
-    assert_eq!(rt; bytes.as_slice(), b"1\t$['a']\t1\n".as_slice());
-    let (end, bytes) = ran(
-        &rt,
-        rt.alloc(),
-        "$.a",
-        b"{\"a\":1}\n{\"a\":2}\n{\"a\":1.5}\n",
-    );
-    assert!(rt;
-        matches!(
-            end,
-            Err(RunFault::Document {
-                line: 3,
-                fault: DocFault::NotWhole
-            })
-        )
-    );
-    assert_eq!(rt;
-        bytes.as_slice(),
-        b"1\t$['a']\t1\n2\t$['a']\t2\n".as_slice()
-    );
-    Ok(())
+fn a_faulty_line_ends_the_run(rt: HostRuntime) {
+    let input = b"{\"a\":1}\n{\n{\"a\":2}\n{\"a\":1.5}\n";
+    let wanted = b"1\t$['a']\t1\n";
+    assert!(rt; stops(&rt, rt.alloc(), input, (2, DocFault::Unreadable), wanted));
+    let input = b"{\"a\":1}\n{\"a\":2}\n{\"a\":1.5}\n";
+    let wanted = b"1\t$['a']\t1\n2\t$['a']\t2\n";
+    assert!(rt; stops(&rt, rt.alloc(), input, (3, DocFault::NotWhole), wanted));
 }
 
-#[test]
-fn read_and_written_byte_by_byte(rt: HostRuntime) -> Result<(), Fail> {
+/// Whether a run that reads and writes byte by byte ends well and writes this; how much was given, how often
+/// it read, and how much the last read gave.
+fn byte_by_byte<R: Threads + Sync>(rt: &R, alloc: Global, wanted: &[u8]) -> (bool, [u64; 3]) {
     let mut source = OneByte::new(b"{\"a\":1}\n\n{\"a\":null}", 0);
-    let mut sink = Holds::new(Vec::new(rt.alloc()), 1, ROOM);
-    assert!(rt; run(&rt, rt.alloc(), &mut source, &mut sink, "$.a").is_ok());
+    let mut sink = Holds::new(Vec::new(alloc), 1, ROOM);
+    let is_well = run(rt, alloc, &mut source, &mut sink, "$.a").is_ok();
+    let is_right = is_well && sink.bytes.as_slice() == wanted;
+    (is_right, [source.given(), source.reads(), source.last()])
+}
+
+#[test]
+fn read_and_written_byte_by_byte(rt: HostRuntime) {
     let want = b"1\t$['a']\t1\n3\t$['a']\tnull\n";
-    assert_eq!(rt; sink.bytes.as_slice(), want.as_slice());
-    assert_eq!(rt; source.given(), 19);
-    assert_eq!(rt; source.reads(), 20);
-    assert_eq!(rt; source.last(), 0);
-    Ok(())
+    let (is_right, reading) = byte_by_byte(&rt, rt.alloc(), want);
+    assert!(rt; is_right);
+    assert_eq!(rt; reading, [19, 20, 0]);
 }
 
-#[test]
-fn a_writer_takes_all(rt: HostRuntime) -> Result<(), Fail> {
+/// Whether a run into a writer ends well, and the sink has not failed.
+fn is_taken<R: Threads + Sync>(rt: &R, alloc: Global) -> bool {
     let mut source = FromReader::new(b"[]\n".as_slice());
-    let mut sink = FromWriter::new(Vec::new(rt.alloc()));
-    assert!(rt; run(&rt, rt.alloc(), &mut source, &mut sink, "$").is_ok());
-    assert!(rt; !sink.failed());
-    Ok(())
+    let mut sink = FromWriter::new(Vec::new(alloc));
+    run(rt, alloc, &mut source, &mut sink, "$").is_ok() && !sink.failed()
 }
 
 #[test]
-fn a_writer_that_passes_nothing_on(rt: HostRuntime) -> Result<(), Fail> {
+fn a_writer_takes_all(rt: HostRuntime) {
+    assert!(rt; is_taken(&rt, rt.alloc()));
+}
+
+/// Whether a run into a writer that passes nothing on tells so, and the sink has failed.
+fn is_told<R: Threads + Sync>(rt: &R, alloc: Global) -> bool {
     let mut source = FromReader::new(b"[]\n".as_slice());
     let mut sink = FromWriter::new(FullDisk);
-    let end = run(&rt, rt.alloc(), &mut source, &mut sink, "$");
-    assert!(rt; matches!(end, Err(RunFault::Write)));
-    assert!(rt; sink.failed());
-    Ok(())
+    let end = run(rt, alloc, &mut source, &mut sink, "$");
+    matches!(end, Err(RunFault::Write)) && sink.failed()
 }
 
 #[test]
-fn a_flush_that_fails_ends_the_run(rt: HostRuntime) -> Result<(), Fail> {
+fn a_writer_that_passes_nothing_on(rt: HostRuntime) {
+    assert!(rt; is_told(&rt, rt.alloc()));
+}
+
+/// Whether a run whose flush fails tells so, and has written this.
+fn is_stuck<R: Threads + Sync>(rt: &R, alloc: Global, wanted: &[u8]) -> bool {
     let mut source = FromReader::new(b"[]\n".as_slice());
-    let mut sink = Holds::new(Vec::new(rt.alloc()), ROOM, ROOM).without_flush();
-    let end = run(&rt, rt.alloc(), &mut source, &mut sink, "$");
-    assert!(rt; matches!(end, Err(RunFault::Write)));
-    assert_eq!(rt; sink.bytes.as_slice(), b"1\t$\t[]\n".as_slice());
-    Ok(())
+    let mut sink = Holds::new(Vec::new(alloc), ROOM, ROOM).without_flush();
+    let end = run(rt, alloc, &mut source, &mut sink, "$");
+    matches!(end, Err(RunFault::Write)) && sink.bytes.as_slice() == wanted
+}
+
+#[test]
+fn a_flush_that_fails_ends_the_run(rt: HostRuntime) {
+    assert!(rt; is_stuck(&rt, rt.alloc(), b"1\t$\t[]\n"));
 }

@@ -69,18 +69,21 @@ fn numbers_told<R: Threads + Sync>(
 
 #[test]
 fn faulty_lines_are_told_in_their_order(rt: HostRuntime) -> Result<(), Fail> {
-    for cut in [(1, 1), (1, 10), (3, 2), (4, 10)] {
+    for cut in &[(1, 1), (1, 10), (3, 2), (4, 10)] {
         assert_eq!(rt;
-            numbers_told(&rt, rt.alloc(), cut, true, 9)?,
+            numbers_told(&rt, rt.alloc(), *cut, true, 9)?,
             (113_325_217, true)
         );
         assert_eq!(rt;
-            numbers_told(&rt, rt.alloc(), cut, true, 2)?,
+            numbers_told(&rt, rt.alloc(), *cut, true, 2)?,
             (113_325, true)
         );
-        assert_eq!(rt; numbers_told(&rt, rt.alloc(), cut, true, 0)?, (0, true));
-        assert_eq!(rt; numbers_told(&rt, rt.alloc(), cut, false, 9)?, (113, false));
-        assert_eq!(rt; numbers_told(&rt, rt.alloc(), cut, false, 0)?, (0, false));
+        assert_eq!(rt; numbers_told(&rt, rt.alloc(), *cut, true, 0)?, (0, true));
+        assert_eq!(rt;
+            numbers_told(&rt, rt.alloc(), *cut, false, 9)?,
+            (113, false)
+        );
+        assert_eq!(rt; numbers_told(&rt, rt.alloc(), *cut, false, 0)?, (0, false));
     }
     Ok(())
 }

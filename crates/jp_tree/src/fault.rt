@@ -15,11 +15,12 @@ pub enum QueryFault {
     /// The text is not well-formed (RFC 9535, 2.1).
     #[error("query: syntax")]
     Syntax,
-    /// A number literal has a fraction or an exponent, which this project leaves out.
+    /// A number literal has a fraction or an exponent, where the numbers of a query are whole.
     #[error("query: fraction")]
     Fraction,
     /// An index or a slice number is outside -9007199254740991 to 9007199254740991
-    /// (RFC 9535, 2.1), or a number literal has more than 38 digits.
+    /// (RFC 9535, 2.1), or a number literal is too long: it has more than 38 digits, or, where it may have a
+    /// fraction and an exponent, more than 1,000, or an exponent of more than 9 digits.
     #[error("query: range")]
     Range,
     /// A function is unknown or not used as its type allows (RFC 9535, 2.4.3).

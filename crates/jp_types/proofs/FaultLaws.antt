@@ -2,7 +2,7 @@
 use Rattle.std.proofs.Common.{◌≡◌, ℕ, ◌+◌, ◌<◌, ◌≤◌, Bool, true, false, not, ◌||◌, ◌&&◌, List, [], ◌∷◌}
 use Rattle.std.proofs.Common.{◌++◌, length, get_or, drop, refl, sym, ap, ◌∙◌}
 use Rattle.std.proofs.Math.Bool.{or_assoc, or-false}
-use Rattle.std.proofs.lemmas.List.{at_drop_more, at_drop_all}
+use Rattle.std.proofs.lemmas.List.{at_drop_more, at_drop_all, append-nil}
 use Rattle.std.proofs.lemmas.List.Folds.{list_any-append, list_all-append}
 use Rattle.jp_types.specs.Numbers.{Written}
 use Rattle.jp_types.specs.Faults.{faults_of, joined}
@@ -23,6 +23,11 @@ joined_assoc a b c = simp or_assoc
 pub joined_faults : (a b : List Written) (s t : Bool) → joined (faults_of a s) (faults_of b t)
     ≡ faults_of (a ++ b) (s && t)
 joined_faults a b s t = sym (simp (list_any-append, list_all-append, not-and))
+
+-- a part and its use
+pub joined_use : (a : List Written) (s t : Bool) → joined (faults_of a s) (faults_of [] t)
+    ≡ faults_of a (s && t)
+joined_use a s t = joined_faults a [] s t ∙ ap (λ ns. faults_of ns (s && t)) (append-nil a)
 
 -- parts in a list, by the numbers and the uses of each
 module _ {X : Type 0} (numbers : List X → List Written) (typed : List X → Bool) where

@@ -2,4 +2,6 @@ pub mod FaultLaws
 pub mod Fitting
 pub mod Levels
 pub mod Names
+pub mod OnLiterals
+pub mod WholeLiterals
 pub mod WrittenNumbers

@@ -1,7 +1,11 @@
 -- The numbers of a query: fractions and ranges (RFC 9535, 2.1).
 use Rattle.std.specs.Prelude.{ℕ, ◌+◌, ◌*◌, ◌-◌, ◌||◌, ◌&&◌, ◌==◌, nat_le, Bool, false, ℤ, pos, neg_ℤ, List}
-use Rattle.std.specs.Prelude.{[], ◌∷◌, ◌++◌, Option, count_by, option_to_list, map, if◌then◌else◌}
+use Rattle.std.specs.Prelude.{[], ◌∷◌, ◌++◌, Option, count_by, option_to_list, map, if◌then◌else◌, not}
+use Rattle.std.specs.Prelude.{true, encode_utf8_all}
 use Rattle.std.specs.List.{list_any, list_all}
+use Rattle.jp_number.specs.Number.{Number, whole, written, is_short}
+use Rattle.jp_number.specs.declared.numbers.Numbers.{Numbers}
+use Rattle.jp_number.specs.declared.numbers.Numbers.TheVariants.{Whole, Decimals}
 use Rattle.jp_tree.specs.Tree.{Text, Literal, number, text, truth, null, Query, query, Segment, segment}
 use Rattle.jp_tree.specs.Tree.{Selector, name, wildcard, index, slice, filter, Logical, any, all, negation}
 use Rattle.jp_tree.specs.Tree.{comparing, test, test_call, Comparison, comparison, Comparable, literal}
@@ -110,21 +114,46 @@ abbrev pub is_fraction : Written → Bool
 is_fraction (literal_number t) = list_any (λ c. (c == 46) || (c == 101) || (c == 69)) t
 is_fraction (position t) = false
 
--- the greatest index, 2 ^ 53 - 1 (RFC 7493, 2.2), and the most digits of a literal
+-- the greatest index, 2 ^ 53 - 1 (RFC 7493, 2.2), and the most digits of a whole literal
 abbrev pub max_index : ℕ
 max_index = 9007199254740991
 
 abbrev pub max_digits : ℕ
 max_digits = 38
 
+-- A literal is short enough: where numbers are whole it has at most 38 digits, and else it is within the
+-- limits of all numbers (RFC 8259, 6), as the bytes that write it.
+abbrev pub is_short_in : Numbers → Text → Bool
+is_short_in Whole t = nat_le (count_by is_digit t) max_digits
+is_short_in Decimals t = is_short (written (encode_utf8_all t))
+
+abbrev pub is_in_range_in : Numbers → Written → Bool
+is_in_range_in numbers (literal_number t) = is_short_in numbers t
+is_in_range_in numbers (position t) = nat_le (magnitude t) max_index
+
 abbrev pub is_in_range : Written → Bool
-is_in_range (literal_number t) = nat_le (count_by is_digit t) max_digits
-is_in_range (position t) = nat_le (magnitude t) max_index
+is_in_range n = is_in_range_in Whole n
 
 -- some number literal has a fraction or an exponent
 abbrev pub has_fraction : Query → Bool
 has_fraction q = list_any is_fraction (query_numbers q)
 
+-- fractions and exponents are refused: numbers are whole
+abbrev pub are_whole : Numbers → Bool
+are_whole Whole = true
+are_whole Decimals = false
+
 -- every index and slice number is in its range, and no number literal is too long
+abbrev pub in_range_in : Numbers → Query → Bool
+in_range_in numbers q = list_all (is_in_range_in numbers) (query_numbers q)
+
 abbrev pub in_range : Query → Bool
-in_range q = list_all is_in_range (query_numbers q)
+in_range q = in_range_in Whole q
+
+-- a literal has no fraction, no exponent and at most 38 digits
+abbrev pub is_whole : Text → Bool
+is_whole t = not (is_fraction (literal_number t)) && is_short_in Whole t
+
+-- the number that a literal is (RFC 9535, 2.3.5.1)
+abbrev pub number_value : Text → Number
+number_value t = if is_whole t then whole (whole_number t) else written (encode_utf8_all t)

@@ -6,7 +6,10 @@ ghost use Rattle.jp_types.specs.Faults.{faults_of, joined};
 ghost use Rattle.jp_types.specs.Functions as functions;
 ghost use Rattle.jp_types.specs.Functions.{function_named, parameters, result_type};
 ghost use Rattle.jp_types.specs.Functions.{value_type, logical_type, nodes_type};
-ghost use Rattle.jp_types.specs.Numbers.{literal_number, position, whole_number};
+ghost use Rattle.jp_number.specs.Number.{whole, written};
+ghost use Rattle.jp_number.specs.declared.numbers.Numbers.TheVariants.{Whole, Decimals};
+ghost use Rattle.jp_types.specs.Numbers.{literal_number, position, whole_number, number_value};
+ghost use Rattle.jp_types.specs.Numbers.{is_whole, is_short_in, is_in_range_in};
 ghost use Rattle.jp_types.specs.Typing.{fits, query_typed, serves_as};
 ghost use Rattle.jp_types.specs.Samples.{match_call, each, its_a, has_a, xor_with, xor_behind, unknown};
 ghost use Rattle.jp_types.specs.Samples.{unknown_call, calling, equals, num, member_a, filtered, matching};
@@ -94,13 +97,45 @@ fn written_numbers()
     ensures negative { whole_number (codes "-17") ≡ negsuc 16 }
 {}
 
+/// Which literals are whole, and which number each one is.
+fn numbers_of_literals()
+    ensures whole { (is_whole (codes "-17") ≡ true) × (number_value (codes "-17") ≡ whole (negsuc 16)) }
+    ensures minus_zero { number_value (codes "-0") ≡ whole (pos 0) }
+    ensures fraction { (is_whole (codes "1.0") ≡ false)
+        × (number_value (codes "1.0") ≡ written (codes "1.0")) }
+    ensures exponent { (is_whole (codes "1e2") ≡ false)
+        × (number_value (codes "1E+2") ≡ written (codes "1E+2")) }
+    ensures of_38_digits { is_whole (45 ∷ replicate 38 57) ≡ true }
+    ensures of_39_digits { (is_whole (replicate 39 57) ≡ false)
+        × (number_value (replicate 39 57) ≡ written (replicate 39 57)) }
+{}
+
+/// Which literals are short enough.
+#[tactic(auto, unfolding(crate::proofs::OnLiterals::literals_on_literals))]
+fn lengths_of_literals()
+    ensures whole { (is_short_in Whole (replicate 38 57) ≡ true)
+        × (is_short_in Whole (replicate 39 57) ≡ false) }
+    ensures of_39_digits { is_short_in Decimals (replicate 39 57) ≡ true }
+    ensures decimals { is_short_in Decimals (codes "-1.5e-400") ≡ true }
+    ensures exponent_of_9_digits { is_short_in Decimals (codes "1e999999999") ≡ true }
+    ensures exponent_of_10_digits { (is_short_in Decimals (codes "1e1000000000") ≡ false)
+        × (is_short_in Decimals (codes "1E-0000000001") ≡ false) }
+    ensures indexes { (is_in_range_in Decimals (position (codes "9007199254740991")) ≡ true)
+        × (is_in_range_in Decimals (position (codes "9007199254740992")) ≡ false) }
+{}
+
 /// The faults of a part with some numbers, and of two parts together.
+#[tactic(auto, unfolding(crate::proofs::OnLiterals::literals_on_literals))]
 fn faults()
     ensures none { joined (faults_of [] true) (faults_of [] true) ≡ faults_of [] true }
     ensures fraction { (faults_of (literal_number (codes "1.5") ∷ []) true).fraction ≡ true }
     ensures no_fraction { (faults_of (literal_number (codes "1") ∷ []) true).fraction ≡ false }
     ensures out_of_range { (faults_of (literal_number (replicate 39 57) ∷ []) true).out_of_range ≡ true }
+    ensures over_limits { (faults_of (literal_number (codes "1e1000000000") ∷ []) true).over_limits ≡ true }
+    ensures within_limits { (faults_of (literal_number (replicate 39 57) ∷ []) true).over_limits ≡ false }
     ensures far_index { (faults_of (position (codes "9007199254740992") ∷ []) true).out_of_range ≡ true }
+    ensures far_index_with_decimals { (faults_of (position (codes "9007199254740992") ∷ []) true).over_limits
+        ≡ true }
     ensures last_index { (faults_of (position (codes "9007199254740991") ∷ []) true).out_of_range ≡ false }
     ensures ill_typed { (faults_of [] false).ill_typed ≡ true }
     ensures well_typed { (faults_of [] true).ill_typed ≡ false }

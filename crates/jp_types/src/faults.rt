@@ -5,8 +5,11 @@
 pub struct Faults {
     /// Some number literal has a fraction or an exponent.
     pub fraction: bool,
-    /// Some number is out of its range.
+    /// Some number is out of its range, where literals are whole numbers of at most 38 digits.
     pub out_of_range: bool,
+    /// Some number is out of its range, where literals are numbers of JSON of at most 1,000 digits and 9
+    /// digits of an exponent.
+    pub over_limits: bool,
     /// Some function is unknown or not used as its type allows.
     pub ill_typed: bool,
 }
@@ -19,6 +22,7 @@ impl Faults {
     pub(crate) const NONE: Faults = Faults {
         fraction: false,
         out_of_range: false,
+        over_limits: false,
         ill_typed: false,
     };
 
@@ -39,6 +43,7 @@ impl Faults {
         Faults {
             fraction: self.fraction | other.fraction,
             out_of_range: self.out_of_range | other.out_of_range,
+            over_limits: self.over_limits | other.over_limits,
             ill_typed: self.ill_typed | other.ill_typed,
         }
     }

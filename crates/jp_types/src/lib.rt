@@ -5,6 +5,7 @@
 mod examples;
 mod faults;
 mod functions;
+pub mod laws;
 mod numbers;
 mod typing;
 mod walk;
@@ -12,5 +13,6 @@ mod written;
 
 pub use faults::Faults;
 pub use functions::{Function, function_named};
+pub use numbers::is_whole;
 pub use walk::query_faults;
 pub use written::{position, whole_number};

@@ -12,3 +12,4 @@ pub mod FirstOnes
 pub mod SamePlaces
 pub mod Apart
 pub mod TreeObjects
+pub mod LiteralNumbers

@@ -1,6 +1,7 @@
 //! Worked examples of the definitions.
 
-ghost use Rattle.std.specs.Prelude.{◌≡◌, [], ◌∷◌, codes, pos, negsuc, Some, None, true, false};
+ghost use Rattle.std.specs.Prelude.{◌≡◌, [], ◌∷◌, codes, pos, negsuc, replicate, Some, None, true};
+ghost use Rattle.std.specs.Prelude.{false};
 ghost use Rattle.jp_part.specs.declared.part.Kind.TheVariants.{Null, Truth, Whole};
 ghost use Rattle.jp_doc.specs.Json.{null, truth, number, text, object, no_members};
 ghost use Rattle.jp_doc.specs.Location.{node};
@@ -9,7 +10,7 @@ ghost use Rattle.jp_tree.specs.declared.tree.Operator.TheVariants.{Eq, Ne, Le, G
 ghost use Rattle.jp_regexp.specs.Tests.{Tests};
 ghost use Rattle.jp_types.specs.Functions.{length_function, count_function, match_function, search_function};
 ghost use Rattle.jp_types.specs.Functions.{value_function, xor_function, distinct_function};
-ghost use Rattle.jp_number.specs.Number.{whole};
+ghost use Rattle.jp_number.specs.Number.{whole, written};
 ghost use Rattle.jp_value.specs.Comparison.{compared};
 ghost use Rattle.jp_value.specs.Functions.{called, handed_value, handed_truth, handed_nodes, as_value};
 ghost use Rattle.jp_value.specs.Functions.{as_truth, as_nodes};
@@ -36,11 +37,29 @@ fn places()
 fn literals()
     ensures number { literal_value (tree.number (codes "-12")) ≡ number (whole (negsuc 11)) }
     ensures minus_zero { literal_value (tree.number (codes "-0")) ≡ num 0 }
+    ensures fraction { literal_value (tree.number (codes "1.5")) ≡ number (written (codes "1.5")) }
+    ensures exponent { literal_value (tree.number (codes "1e2")) ≡ number (written (codes "1e2")) }
+    ensures of_39_digits { literal_value (tree.number (replicate 39 57))
+        ≡ number (written (replicate 39 57)) }
     ensures text { literal_value (tree.text (codes "12")) ≡ text (codes "12") }
     ensures truth { literal_value (tree.truth false) ≡ truth false }
     ensures null { literal_value tree.null ≡ null }
     ensures written { written_value (Some (codes "-3")) ≡ Some (negsuc 2) }
     ensures left_out { written_value None ≡ None }
+{}
+
+/// `$.a==1.0` and the like: a literal and a number of a document are equal, or in order, by their values.
+#[tactic(auto, unfolding(crate::proofs::OnLiterals::numbers_on_literals))]
+fn decimal_literals()
+    ensures fraction_of_zeros { compared Eq (Some (num 1)) (Some (literal_value (tree.number (codes "1.0"))))
+        ≡ true }
+    ensures exponent { compared Eq (Some (num 100)) (Some (literal_value (tree.number (codes "1e2"))))
+        ≡ true }
+    ensures minus_zero { compared Eq (Some (num 0)) (Some (literal_value (tree.number (codes "-0.0"))))
+        ≡ true }
+    ensures above { compared Gt (Some (num 1)) (Some (literal_value (tree.number (codes "0.99")))) ≡ true }
+    ensures other_value { compared Eq (Some (number (written (codes "0.1"))))
+        (Some (literal_value (tree.number (codes "0.10000000000000000001")))) ≡ false }
 {}
 
 /// The bounds of slices of an array with five items, and with none.

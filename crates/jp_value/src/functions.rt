@@ -24,6 +24,7 @@ pub fn literal(constant: &Constant) -> Kind<'_>
 {
     match constant {
         Constant::Whole(number) => Kind::Whole(number.value),
+        Constant::Written(number) => Kind::Written(number.number()),
         Constant::Text(text) => Kind::Text(text.as_str()),
         Constant::Truth(truth) => Kind::Truth(*truth),
         Constant::Null => Kind::Null,

@@ -1,8 +1,10 @@
 -- Steps of a proof, which nobody has to believe: what a part of a compiled query stands for, whatever `$`
 -- queries are listed behind those that are listed already, and what is asked of a part that is compiled.
-use Rattle.std.specs.Prelude.{◌≡◌, ◌++◌, ◌^◌, nat_lt, Bool, true, List}
+use Rattle.std.specs.Prelude.{◌≡◌, ◌++◌, ◌^◌, nat_lt, Bool, true, List, if◌then◌else◌}
 use Rattle.std.specs.List.{list_all}
+use Rattle.jp_number.specs.declared.numbers.Numbers.TheVariants.{Decimals}
 use Rattle.jp_types.specs.Numbers.{Written, literal_number, position, magnitude, is_in_range}
+use Rattle.jp_types.specs.Numbers.{is_whole, is_short_in}
 use Rattle.jp_tree.specs.Tree.{Text}
 use Rattle.jp_check.specs.Known.{known_texts}
 use Rattle.jp_compiled.specs.declared.known.KnownPattern.{KnownPattern}
@@ -33,9 +35,10 @@ ReadsWith listed view x = Reads (roots_of listed.roots.items) view x
 abbrev pub AddsPatterns : Listed → Listed → List Text → Type 0
 AddsPatterns before after texts = Lists before.patterns.items after.patterns.items texts
 
--- a number that can be read: a literal below 10^38, or an index in its range
-abbrev pub is_readable : Written → Bool
-is_readable (literal_number t) = nat_lt (magnitude t) (10 ^ 38)
+-- a number that can be read: a whole literal below 10^38, any other within the limits, or an index in its
+-- range
+unfoldable pub is_readable : Written → Bool
+is_readable (literal_number t) = if is_whole t then nat_lt (magnitude t) (10 ^ 38) else is_short_in Decimals t
 is_readable (position t) = is_in_range (position t)
 
 -- a part of a query that can be compiled: its numbers can be read, and it is well-typed

@@ -5,8 +5,9 @@ use Rattle.jp_check.proofs.checking.check.Goals as goal
 
 pub invariant_of-result : goal.invariant_of-result
 invariant_of-result c =
+    let q = query_of c.args.query in
     record {
-      accepted = accepted_by (query_of c.args.query) c.requires.spelled c.in_ok-verdict.ensures.ok;
+      accepted = accepted_by c.args.numbers q c.requires.spelled c.in_ok-verdict.ensures.ok;
       known = c.in_ok-compiled.ensures.patterns;
       made = c.in_ok-compiled.ensures.made;
     }
@@ -14,5 +15,5 @@ invariant_of-result c =
 pub make_query-requires : goal.make_query-requires
 make_query-requires c =
     let q = query_of c.args.query in
-    let accepted = accepts_only q q c.in_ok-verdict.ensures.ok in
-    (spelled_readable q c.requires.spelled accepted.1 accepted.2, accepted.3)
+    let accepted = accepts_only c.args.numbers q q c.in_ok-verdict.ensures.ok in
+    (spelled_readable c.args.numbers q c.requires.spelled accepted.1 accepted.2, accepted.3)

@@ -8,4 +8,4 @@ returns-else-eq-clause-no c =
     let refused = c.in-Err.ensures.fault (λ m.
     let same : c.eq.result ≡ true = rw m at c.eq.ensures in
     let not_same : false ≡ true = sym c.if-eq.false ∙ same in absurd cc) in
-    λ e. no_query (chars c.args.text.now) c.in-Err.fault refused
+    λ e. no_query c.args.numbers (chars c.args.text.now) c.in-Err.fault refused

@@ -1,8 +1,9 @@
-use Rattle.std.proofs.Common.{◌≡◌, true, Some, inr, refl, subst}
+use Rattle.std.proofs.Common.{◌≡◌, true, Some, inl, inr, refl, subst}
 use Rattle.jp_run.proofs.Runs.{not_both, refused_so}
 use Rattle.jp_program.specs.inner.Asked.{wanted_of, IsAsked}
 use Rattle.jp_program.proofs.OneWish.{not_shown, not_asked, not_checked, verdict_so}
-use Rattle.jp_program.proofs.Ran.{wants_of, finished_ok, past_ok}
+use Rattle.jp_run.specs.declared.fault.RunFault.TheVariants.{Limit}
+use Rattle.jp_program.proofs.Ran.{wants_of, finished_ok, past_ok, taken_by, after_fault}
 use Rattle.jp_program.proofs.Told.{told_stop, stops}
 use Rattle.jp_program.proofs.command.done.Goals as goal
 
@@ -40,6 +41,24 @@ returns-in-Query-2-clause-document g c = λ line fault e.
       read.2,
     )
 
+pub returns-in-Query-2-clause-limit : goal.returns-in-Query-2-clause-limit
+returns-in-Query-2-clause-limit g c = λ e. (
+  wanted_of c.in-Query.wanted,
+  wants_of _ _ _ c.in-Query.is c.in_ok-text.ensures.asked c.if-wanted.false,
+  after_fault c.run.result Limit _ e c.run.ensures.front,
+  c.run.ensures.limit e,
+)
+
+pub returns-in_ok-check_query-in-Query-clause-finished :
+    goal.returns-in_ok-check_query-in-Query-clause-finished
+returns-in_ok-check_query-in-Query-clause-finished g c = λ none. inr (inl (
+  wanted_of c.in-Query.wanted,
+  (subst (IsAsked _) c.in-Query.is c.in_ok-text.ensures.asked, c.if-wanted.true),
+  taken_by _ (wanted_of c.in-Query.wanted) c.numbers.ensures c.in_ok-check_query-in-Query.ensures.ok,
+  refl,
+  refl,
+))
+
 pub returns-in_err-text-clause-refused : goal.returns-in_err-text-clause-refused
 returns-in_err-text-clause-refused g c = λ f w wants v. (
   inr (not_asked _ w _ _ c.from_residual.ensures.1 c.in_err-text.ensures.fault wants),
@@ -58,7 +77,7 @@ returns-in-Show-clause-check g c = λ w wants. not_shown _ w wants.0
 pub returns-in_err-check_query-in-Query-clause-refused :
     goal.returns-in_err-check_query-in-Query-clause-refused
 returns-in_err-check_query-in-Query-clause-refused g c = λ f w wants v. (
-  refused_so _ f _ _ c.from_residual-in_err-check_query-in-Query.ensures.1
+  refused_so _ _ _ f _ _ c.numbers.ensures c.from_residual-in_err-check_query-in-Query.ensures.1
       c.in_err-check_query-in-Query.ensures.fault
       (verdict_so _ _ _ w f c.in-Query.is c.in_ok-text.ensures.asked wants v),
   refl,
@@ -69,7 +88,8 @@ pub returns-in_ok-check_query-in-Query-clause-refused :
     goal.returns-in_ok-check_query-in-Query-clause-refused
 returns-in_ok-check_query-in-Query-clause-refused g c = λ f w wants v.
     let taken = c.in_ok-check_query-in-Query.ensures.ok in
-    not_both _ taken.0 f taken.1 (verdict_so _ _ _ w f c.in-Query.is c.in_ok-text.ensures.asked wants v)
+    not_both _ _ _ taken.0 f c.numbers.ensures taken.1
+    (verdict_so _ _ _ w f c.in-Query.is c.in_ok-text.ensures.asked wants v)
 
 pub returns-in-Query-2-clause-refused : goal.returns-in-Query-2-clause-refused
 returns-in-Query-2-clause-refused g c = λ f w wants v. c.run.ensures.refused f

@@ -8,7 +8,12 @@ use Rattle.jp_run.proofs.running.run.Goals as goal
 
 pub returns-in_err-plan-clause-refused : goal.returns-in_err-plan-clause-refused
 returns-in_err-plan-clause-refused g c =
-    λ f v. (refused_so _ f _ _ c.from_residual.ensures.1 c.in_err-plan.ensures.fault v, refl, refl)
+    λ f v. (
+      refused_so _ _ _ f _ _ c.numbers.ensures c.from_residual.ensures.1
+          c.in_err-plan.ensures.fault v,
+      refl,
+      refl,
+    )
 
 pub answer_in_form-requires-clause-working : goal.answer_in_form-requires-clause-working
 answer_in_form-requires-clause-working g c = λ κs outlives. c.requires.working
@@ -17,21 +22,23 @@ pub answer_in_form-requires-clause-few : goal.answer_in_form-requires-clause-few
 answer_in_form-requires-clause-few g c = λ κs outlives. c.requires.few.0
 
 pub returns-clause-accepted : goal.returns-clause-accepted
-returns-clause-accepted g c = accepted_ok _ _ c.in_ok-plan.ensures.ok _
+returns-clause-accepted g c = accepted_ok _ _ _ _ c.numbers.ensures c.in_ok-plan.ensures.ok _
 
 pub returns-clause-refused : goal.returns-clause-refused
-returns-clause-refused g c = λ f v. not_both _ _ f c.in_ok-plan.ensures.ok v
+returns-clause-refused g c = λ f v. not_both _ _ _ _ f c.numbers.ensures c.in_ok-plan.ensures.ok v
 
 pub returns-clause-answer : goal.returns-clause-answer
-returns-clause-answer g c = answer_ok (manner_of c.args.settings.now) _ _ (spelled _ _ _ c.compiled.ensures
+returns-clause-answer g c = answer_ok (manner_of c.args.settings.now) _ _ (spelled _ _ _ _ _
+    c.numbers.ensures c.compiled.ensures
     c.in_ok-plan.ensures.ok) _ _ _ _ c.answer_in_form.ensures.handed
 
 pub returns-clause-counts : goal.returns-clause-counts
 returns-clause-counts g c = c.answer_in_form.ensures.counts
 
 pub returns-clause-document : goal.returns-clause-document
-returns-clause-document g c = λ line fault e. answer_known (manner_of c.args.settings.now) _ _ (spelled _ _
-    _ c.compiled.ensures c.in_ok-plan.ensures.ok) _ _ _ _
+returns-clause-document g c = λ line fault e. answer_known (manner_of c.args.settings.now) _ _
+    (spelled _ _ _ _ _
+    c.numbers.ensures c.compiled.ensures c.in_ok-plan.ensures.ok) _ _ _ _
     (at_fault _ (Document line fault) _ e c.answer_in_form.ensures.fault).0
 
 pub returns-clause-no_later_read : goal.returns-clause-no_later_read
@@ -55,7 +62,7 @@ returns-clause-read g c = λ e.
       h.2,
       (
         compiled_query c.compiled.result.now,
-        spelled _ _ _ c.compiled.ensures
+        spelled _ _ _ _ _ c.numbers.ensures c.compiled.ensures
             c.in_ok-plan.ensures.ok,
         h.3,
       ),
@@ -71,7 +78,7 @@ returns-clause-no_read_between g c = λ e.
       h.2.1,
       (
         compiled_query c.compiled.result.now,
-        spelled _ _ _ c.compiled.ensures
+        spelled _ _ _ _ _ c.numbers.ensures c.compiled.ensures
             c.in_ok-plan.ensures.ok,
         h.2.2,
       ),
@@ -81,7 +88,8 @@ pub returns-clause-limit : goal.returns-clause-limit
 returns-clause-limit g c = λ e. (at_fault c.answer_in_form.result Limit _ e c.answer_in_form.ensures.fault).0
 
 pub returns-clause-front : goal.returns-clause-front
-returns-clause-front g c = front_err (manner_of c.args.settings.now) _ _ (spelled _ _ _ c.compiled.ensures
+returns-clause-front g c = front_err (manner_of c.args.settings.now) _ _ (spelled _ _ _ _ _
+    c.numbers.ensures c.compiled.ensures
     c.in_ok-plan.ensures.ok) c.answer_in_form.result _
     c.args.settings.now.in_range.2.0 _ c.answer_in_form.ensures.fault
 

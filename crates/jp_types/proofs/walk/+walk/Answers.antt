@@ -1,14 +1,18 @@
-use Rattle.std.proofs.Common.{◌∙◌, [], refl}
+use Rattle.std.proofs.Common.{◌∙◌, [], refl, ap, sym}
 use Rattle.jp_tree.specs.Tree.{segments, selectors, logicals, arguments}
 use Rattle.jp_tree.specs.View.{text_of}
-use Rattle.jp_tree.specs.PartViews.{comparable_of, segments_of, selectors_of, logicals_of, arguments_of}
-use Rattle.jp_types.specs.Numbers.{comparable_numbers, segments_numbers, selectors_numbers}
-use Rattle.jp_types.specs.Numbers.{logicals_numbers, arguments_numbers}
-use Rattle.jp_types.specs.Functions.{function_named}
-use Rattle.jp_types.specs.Typing.{fits_parameters, comparable_typed, segments_typed, selectors_typed}
-use Rattle.jp_types.specs.Typing.{logicals_typed, arguments_typed}
+use Rattle.jp_tree.specs.PartViews.{comparable_of, call_of, logical_of, segments_of, selectors_of}
+use Rattle.jp_tree.specs.PartViews.{logicals_of, arguments_of}
+use Rattle.jp_tree.proofs.Views.{value_call_made, test_call_made}
+use Rattle.jp_types.specs.Numbers.{call_numbers, comparable_numbers, segments_numbers, selectors_numbers}
+use Rattle.jp_types.specs.Numbers.{logical_numbers, logicals_numbers, arguments_numbers}
+use Rattle.jp_types.specs.Faults.{faults_of}
+use Rattle.jp_types.specs.Functions.{function_named, logical_type, value_type}
+use Rattle.jp_types.specs.Typing.{fits_parameters, call_typed, comparable_typed, segments_typed}
+use Rattle.jp_types.specs.Typing.{selectors_typed, logical_typed, logicals_typed, arguments_typed}
+use Rattle.jp_types.specs.Typing.{serves_as, type_of_call}
 use Rattle.jp_types.proofs.Levels.{comparison_level, query_level, segment_level, call_level}
-use Rattle.jp_types.proofs.FaultLaws.{joined_faults, parts_end, parts_next}
+use Rattle.jp_types.proofs.FaultLaws.{joined_faults, joined_use, parts_end, parts_next}
 use Rattle.jp_types.proofs.walk.+walk.Goals as goal
 
 pub query_faults-loop-segment-preserved : goal.query_faults-loop-segment-preserved
@@ -58,6 +62,22 @@ comparison_faults-returns t c =
     (joined_faults (comparable_numbers (comparable_of sides.left))
     (comparable_numbers (comparable_of sides.right)) (comparable_typed (comparable_of sides.left))
     (comparable_typed (comparable_of sides.right))))
+
+pub comparable_faults-returns-in-Call : goal.comparable_faults-returns-in-Call
+comparable_faults-returns-in-Call t c =
+    let call = call_of c.in-Call.call in
+    c.with.ensures ∙ rw (c.call_faults.ensures, c.of_use.ensures, c.serves_as.ensures)
+    (joined_use (call_numbers call) (call_typed call) (serves_as value_type (type_of_call call))
+    ∙ ap (λ x. faults_of (comparable_numbers x) (comparable_typed x))
+    (sym (ap comparable_of c.in-Call.is ∙ value_call_made c.in-Call.call)))
+
+pub logical_faults-returns-in-Call : goal.logical_faults-returns-in-Call
+logical_faults-returns-in-Call t c =
+    let call = call_of c.in-Call.call in
+    c.with.ensures ∙ rw (c.call_faults.ensures, c.of_use.ensures, c.serves_as.ensures)
+    (joined_use (call_numbers call) (call_typed call) (serves_as logical_type (type_of_call call))
+    ∙ ap (λ x. faults_of (logical_numbers x) (logical_typed x))
+    (sym (ap logical_of c.in-Call.is ∙ test_call_made c.in-Call.call)))
 
 pub call_faults-loop-argument-preserved : goal.call_faults-loop-argument-preserved
 call_faults-loop-argument-preserved t c =
