@@ -1,7 +1,7 @@
 //! Plans of queries whose literals may be all numbers of JSON. The expected answers come from the grammar of
 //! RFC 9535 (2.3.5.1, and 2.3.3.1 of indexes) and from the limits: 1,000 digits, 9 of an exponent.
 
-use crate::plans::around;
+use crate::plans::{around, told_otherwise};
 use jp_check::{check, plan, plan_in};
 use jp_number::Numbers;
 use jp_syntax::{QueryFault, read_query};
@@ -61,22 +61,12 @@ fn accepted_texts(rt: HostRuntime) {
     }
 }
 
-/// Whether the text is refused, and this is told of it.
-fn is_told(alloc: Global, text: &str, wanted: &str) -> Result<bool, AllocError> {
-    match fault_of(alloc, text) {
-        Some(fault) => Ok(format!(in alloc; "{fault}")?.as_str() == wanted),
-        None => Ok(false),
-    }
-}
-
 #[test]
 fn refused_texts(rt: HostRuntime) -> Result<(), Fail> {
-    for line in REFUSED.lines() {
-        let Some((wanted, text)) = line.split_once(" of ") else {
-            panic!(rt; "{line}");
-        };
-        assert!(rt; is_told(rt.alloc(), text, wanted)?, "at {line}");
-    }
+    assert_eq!(rt;
+        told_otherwise(rt.alloc(), REFUSED, Numbers::Decimals)?,
+        None
+    );
     Ok(())
 }
 

@@ -3,15 +3,16 @@
 //! A turn says whether the answer was right, or nothing where it was want of memory. Each is made twice: one
 //! growth is refused at most, so one of the two answers.
 
-use jp_check::plan;
+use jp_check::{plan, plan_in};
+use jp_number::Numbers;
 use jp_syntax::QueryFault;
 use std::alloc::Global;
 
-/// A query with literal patterns, and with a `$` query in a filter.
-const QUERY: &str = "$..a[1:2][?match(@.b,'x*')&&count($.c[?search(@,'y')])>-0]";
+/// A query with literal patterns, with a `$` query in a filter, and with a number of either form.
+const QUERY: &str = "$..a[1:2][?match(@.b,'x*')&&count($.c[?search(@,'y')])>-0&&@.d<1.5e0]";
 
 fn accepted(alloc: Global) -> Option<bool> {
-    match plan(alloc, QUERY) {
+    match plan_in(alloc, QUERY, Numbers::Decimals) {
         Ok(plan) => Some(plan.query().segments.len() == 3),
         Err(QueryFault::Memory) => None,
         Err(_) => Some(false),

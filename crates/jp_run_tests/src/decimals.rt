@@ -25,7 +25,7 @@ const WHOLE_LINES: &[u8] = b"1\t!\tnot whole\n2\t!\tnot whole\n3\t!\tnot whole\n
     5\t$['a']\t7\n6\t!\tunreadable\n8\t!\tunreadable\n9\t!\tunreadable\n10\t!\tnot whole\n";
 
 /// What a run of a query ends with, and what it writes, with these settings.
-fn ran<R: Threads + Sync>(
+pub(crate) fn ran<R: Threads + Sync>(
     rt: &R,
     alloc: Global,
     query: &str,

@@ -1,15 +1,12 @@
 //! Queries whose numbers have fractions and exponents.
 
-use crate::fakes::{Holds, OneByte};
+use crate::decimals::ran;
 use jp_number::Numbers;
-use jp_run::{OpenGate, Output, RunFault, Settings, check_query, run};
+use jp_run::{Output, RunFault, Settings, check_query};
 use jp_syntax::QueryFault;
 use std::alloc::Global;
 use std::test::Fail;
 use std::thread::Threads;
-
-/// More bytes than any of these runs writes.
-const ROOM: usize = 1_000_000;
 
 /// Numbers of many forms.
 const NUMBERS: &[u8] =
@@ -30,31 +27,7 @@ const ROWS: [(&str, &str); 8] = [
     ),
 ];
 
-/// What a run of a query writes, or nothing where it does not finish.
-fn written<R: Threads + Sync>(
-    rt: &R,
-    alloc: Global,
-    query: &str,
-    settings: Settings,
-) -> Option<Vec<u8>> {
-    let mut source = OneByte::new(NUMBERS, 0);
-    let mut sink = Holds::new(Vec::new(alloc), 3, ROOM);
-    let end = run(
-        rt,
-        alloc,
-        &mut source,
-        &mut sink,
-        query,
-        &settings,
-        &OpenGate,
-    );
-    match end {
-        Ok(_) => Some(sink.bytes),
-        Err(_) => None,
-    }
-}
-
-/// Whether a run of the query writes this.
+/// Whether a run of the query finishes, and writes this.
 fn writes<R: Threads + Sync>(
     rt: &R,
     alloc: Global,
@@ -62,10 +35,8 @@ fn writes<R: Threads + Sync>(
     settings: Settings,
     wanted: &str,
 ) -> bool {
-    match written(rt, alloc, query, settings) {
-        Some(bytes) => bytes.as_slice() == wanted.as_bytes(),
-        None => false,
-    }
+    let (end, bytes) = ran(rt, alloc, query, NUMBERS, settings);
+    end.is_ok() && bytes.as_slice() == wanted.as_bytes()
 }
 
 #[test]
@@ -125,17 +96,7 @@ fn ends_with<R: Threads + Sync>(
     settings: Settings,
     wanted: QueryFault,
 ) -> bool {
-    let mut source = OneByte::new(NUMBERS, 0);
-    let mut sink = Holds::new(Vec::new(alloc), 3, ROOM);
-    let end = run(
-        rt,
-        alloc,
-        &mut source,
-        &mut sink,
-        query,
-        &settings,
-        &OpenGate,
-    );
+    let (end, _) = ran(rt, alloc, query, NUMBERS, settings);
     matches!(end, Err(RunFault::Query(fault)) if fault == wanted)
 }
 
