@@ -144,7 +144,7 @@ const MORE: [(&str, usize, &str); 30] = [
     (
         "$[?@==-123456789012345678901234567890123456789]",
         6,
-        "a number has 38 digits at most",
+        "a number has 38 digits at most; --decimals allows 1,000",
     ),
     (
         "$[?@<1e3]",

@@ -226,7 +226,9 @@ impl fmt::Display for Rule {
                 "a number is whole: no fraction, no exponent; --decimals allows both"
             ),
             Rule::IndexRange => write!(f, "an index is at most 9007199254740991 from zero"),
-            Rule::LiteralRange => write!(f, "a number has 38 digits at most"),
+            Rule::LiteralRange => {
+                write!(f, "a number has 38 digits at most; --decimals allows 1,000")
+            }
             Rule::DecimalRange => write!(f, "a number has 1,000 digits at most, its exponent 9"),
             Rule::NoFunction => write!(f, "no function: there are {FUNCTIONS}"),
             Rule::Compared(function) => {
