@@ -12,3 +12,4 @@ mod size;
 pub use number::Number;
 pub use number_text::NumberText;
 pub use numbers::Numbers;
+pub use size::{MAX_DIGITS, MAX_EXPONENT_DIGITS};

@@ -56,10 +56,11 @@ pub(crate) fn read_size(text: &[u8]) -> (bool, Size<'_>)
     }
 }
 
-/// The most digits of a number in all, and of its exponent.
-const MAX_DIGITS: usize = 1000;
+/// The most digits of a number in all, zeros in front and those of its exponent counted.
+pub const MAX_DIGITS: usize = 1000;
 
-const MAX_EXPONENT: usize = 9;
+/// The most digits of its exponent.
+pub const MAX_EXPONENT_DIGITS: usize = 9;
 
 /// Whether a numeral has at most 1,000 digits, and an exponent of at most 9.
 pub(crate) fn is_short(text: &[u8]) -> bool
@@ -67,7 +68,7 @@ pub(crate) fn is_short(text: &[u8]) -> bool
 {
     let numeral = Numeral::scan(text);
     let exponent = numeral.exponent().len();
-    exponent <= MAX_EXPONENT
+    exponent <= MAX_EXPONENT_DIGITS
         && numeral.whole().len() + numeral.fraction().len() + exponent <= MAX_DIGITS
 }
 

@@ -5,19 +5,8 @@ use crate::functions::{WORDS, is_literal, may_begin, may_call, parameter, takes_
 use crate::place::{Called, Form, Number, NumberOf, Open, Part, Place, Quoted, Side, Unit, Word};
 use crate::reason::{Expected, Reason, Rule};
 use crate::scanner::{Halt, Scanner};
-use jp_number::Numbers;
-use jp_types::function_named;
-
-/// How far from zero an index or a number of a slice may be (RFC 9535, 2.1).
-const MAX_INDEX: u64 = 9_007_199_254_740_991;
-
-/// How many digits a number literal may have, where numbers are whole.
-const MAX_WHOLE_DIGITS: u64 = 38;
-
-/// How many it may have else, and how many of them its exponent.
-const MAX_DIGITS: u64 = 1000;
-
-const MAX_EXPONENT: u64 = 9;
+use jp_number::{MAX_DIGITS, MAX_EXPONENT_DIGITS, Numbers};
+use jp_types::{MAX_INDEX, MAX_WHOLE_DIGITS, function_named};
 
 /// The size of a number with one more digit.
 fn grown(what: NumberOf, size: u64, c: char) -> u64 {
@@ -32,16 +21,16 @@ fn grown(what: NumberOf, size: u64, c: char) -> u64 {
 /// Whether some number in its range begins with these characters.
 fn is_in_range(number: Number, numbers: Numbers) -> bool {
     match (number.what, numbers) {
-        (NumberOf::Literal(_), Numbers::Whole) => number.size <= MAX_WHOLE_DIGITS,
+        (NumberOf::Literal(_), Numbers::Whole) => number.size <= MAX_WHOLE_DIGITS as u64,
         (NumberOf::Literal(_), Numbers::Decimals) => {
             let most = if number.form.wants_digit() {
                 MAX_DIGITS - 1
             } else {
                 MAX_DIGITS
             };
-            number.size <= most && number.exponent <= MAX_EXPONENT
+            number.size <= most as u64 && number.exponent <= MAX_EXPONENT_DIGITS as u64
         }
-        _ => number.size <= MAX_INDEX,
+        _ => number.size as i128 <= MAX_INDEX,
     }
 }
 

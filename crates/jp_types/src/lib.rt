@@ -13,6 +13,6 @@ mod written;
 
 pub use faults::Faults;
 pub use functions::{Function, function_named};
-pub use numbers::is_whole;
+pub use numbers::{MAX_WHOLE_DIGITS, is_whole};
 pub use walk::query_faults;
-pub use written::{position, whole_number};
+pub use written::{MAX_INDEX, position, whole_number};

@@ -14,7 +14,7 @@ use jp_number::NumberText;
 use jp_tree::{Literal, Slice};
 
 /// The most digits of a whole number literal: with any sign it fits 128 bits.
-const MAX_DIGITS: usize = 38;
+pub const MAX_WHOLE_DIGITS: usize = 38;
 
 /// Whether a number literal has a fraction or an exponent.
 fn is_fraction(number: &str) -> bool
@@ -27,7 +27,7 @@ fn is_fraction(number: &str) -> bool
 fn is_short(number: &str) -> bool
     ensures { result ≡ is_in_range (literal_number (chars number.now)) }
 {
-    number.chars().filter(|c| c.is_ascii_digit()).count() <= MAX_DIGITS
+    number.chars().filter(|c| c.is_ascii_digit()).count() <= MAX_WHOLE_DIGITS
 }
 
 /// Whether a number literal is within the limits of all numbers.

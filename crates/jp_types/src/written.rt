@@ -53,7 +53,7 @@ pub fn whole_number(text: &str) -> Option<i128>
 }
 
 /// The greatest index, 2 ^ 53 - 1 (RFC 7493, 2.2).
-const MAX_INDEX: i128 = 9_007_199_254_740_991;
+pub const MAX_INDEX: i128 = 9_007_199_254_740_991;
 
 /// The number that an index or a number of a slice is, unless it is out of range.
 pub fn position(text: &str) -> Option<i64>
