@@ -171,25 +171,49 @@ fn lines_with_their_own_bytes(rt: HostRuntime) -> Result<(), Fail> {
     Ok(())
 }
 
-/// The lines that wait are handed out, and those that come then wait in their place.
+/// Whether these lines are in a part, of so many bytes.
+fn has(
+    alloc: Global,
+    part: &WaitingLines,
+    expected: &[(u64, &[u8])],
+    bytes: usize,
+) -> Result<bool, AllocError> {
+    let lines = part.lines(alloc)?;
+    Ok(part.len() == expected.len() && part.total_bytes() == bytes && are(expected, &lines))
+}
+
+/// Whether the lines that wait are handed out.
+fn are_handed_out(
+    alloc: Global,
+    buffer: &mut LineBuffer,
+    part: &mut WaitingLines,
+) -> Result<bool, AllocError> {
+    let waited = feed(buffer, b"[1]\n\n[2, 3]\n[4")? && buffer.total_bytes() == 9;
+    buffer.exchange(part);
+    let first: [(u64, &[u8]); 2] = [(1, b"[1]"), (3, b"[2, 3]")];
+    let none_waits = buffer.len() == 0 && buffer.total_bytes() == 0 && buffer.count() == 3;
+    Ok(waited && none_waits && has(alloc, part, &first, 9)?)
+}
+
+/// Whether the lines that come then wait in their place, and are handed out once those are let go.
+fn is_used_again(
+    alloc: Global,
+    buffer: &mut LineBuffer,
+    part: &mut WaitingLines,
+) -> Result<bool, AllocError> {
+    let last: [(u64, &[u8]); 1] = [(4, b"[4")];
+    let waited = finish(buffer)? && wait(alloc, &last, buffer)?;
+    part.clear();
+    let is_empty = part.len() == 0 && part.total_bytes() == 0;
+    buffer.exchange(part);
+    Ok(waited && is_empty && buffer.len() == 0 && has(alloc, part, &last, 2)?)
+}
+
 #[test]
 fn lines_handed_out(rt: HostRuntime) -> Result<(), Fail> {
     let mut buffer = LineBuffer::new(rt.alloc());
     let mut part = WaitingLines::new(rt.alloc());
-    let fed = feed(&mut buffer, b"[1]\n\n[2, 3]\n[4")?;
-    assert!(rt; fed && buffer.total_bytes() == 9);
-    buffer.exchange(&mut part);
-    let first: [(u64, &[u8]); 2] = [(1, b"[1]"), (3, b"[2, 3]")];
-    assert!(rt; part.len() == 2 && part.total_bytes() == 9);
-    assert!(rt; are(&first, &part.lines(rt.alloc())?));
-    assert!(rt; buffer.len() == 0 && buffer.total_bytes() == 0 && buffer.count() == 3);
-    let ended = finish(&mut buffer)?;
-    let last: [(u64, &[u8]); 1] = [(4, b"[4")];
-    assert!(rt; ended && wait(rt.alloc(), &last, &buffer)?);
-    part.clear();
-    assert!(rt; part.len() == 0 && part.total_bytes() == 0);
-    buffer.exchange(&mut part);
-    assert!(rt; buffer.len() == 0);
-    assert!(rt; are(&last, &part.lines(rt.alloc())?));
+    assert!(rt; are_handed_out(rt.alloc(), &mut buffer, &mut part)?);
+    assert!(rt; is_used_again(rt.alloc(), &mut buffer, &mut part)?);
     Ok(())
 }

@@ -1,14 +1,11 @@
 //! Runs over documents that may have every number of JSON.
 
-use crate::fakes::{Holds, OneByte};
+use crate::ran::ran_by_bytes;
 use jp_doc::DocFault;
-use jp_run::{OpenGate, Output, RunFault, Settings, Totals, run};
+use jp_run::{Output, RunFault, Settings, Totals};
 use std::alloc::Global;
 use std::test::Fail;
 use std::thread::Threads;
-
-/// More bytes than any of these runs writes.
-const ROOM: usize = 1_000_000;
 
 /// Numbers that are not whole, one that has over 64 bits, a whole one, a line that is no JSON text, a number
 /// over the limit, and one that a later member of its name covers.
@@ -24,28 +21,6 @@ const LINES: &[u8] = b"1\t$['a']\t2.5\n2\t$['a']\t-0\n3\t$['a']\t1.50E+02\n\
 const WHOLE_LINES: &[u8] = b"1\t!\tnot whole\n2\t!\tnot whole\n3\t!\tnot whole\n4\t!\tnot whole\n\
     5\t$['a']\t7\n6\t!\tunreadable\n8\t!\tunreadable\n9\t!\tunreadable\n10\t!\tnot whole\n";
 
-/// What a run of a query ends with, and what it writes, with these settings.
-pub(crate) fn ran<R: Threads + Sync>(
-    rt: &R,
-    alloc: Global,
-    query: &str,
-    input: &[u8],
-    settings: Settings,
-) -> (Result<Totals, RunFault>, Vec<u8>) {
-    let mut source = OneByte::new(input, 0);
-    let mut sink = Holds::new(Vec::new(alloc), 3, ROOM);
-    let end = run(
-        rt,
-        alloc,
-        &mut source,
-        &mut sink,
-        query,
-        &settings,
-        &OpenGate,
-    );
-    (end, sink.bytes)
-}
-
 /// Whether a run finished after so many faulty lines.
 fn has_passed(end: &Result<Totals, RunFault>, faulty: u64) -> bool {
     matches!(end, Ok(totals) if totals.faulty == faulty)
@@ -59,7 +34,7 @@ fn writes<R: Threads + Sync>(
     settings: Settings,
     wanted: (u64, &[u8]),
 ) -> bool {
-    let (end, bytes) = ran(rt, alloc, input.0, input.1, settings);
+    let (end, bytes) = ran_by_bytes(rt, alloc, input.0, input.1, &settings);
     has_passed(&end, wanted.0) && bytes.as_slice() == wanted.1
 }
 
@@ -81,8 +56,8 @@ fn faults_of<R: Threads + Sync>(
     line: &[u8],
 ) -> Result<[Option<DocFault>; 2], RunFault> {
     let settings = Settings::new(4, 1, 10)?;
-    let (with, _) = ran(rt, alloc, "$", line, settings.with_decimals());
-    let (without, _) = ran(rt, alloc, "$", line, settings);
+    let (with, _) = ran_by_bytes(rt, alloc, "$", line, &settings.with_decimals());
+    let (without, _) = ran_by_bytes(rt, alloc, "$", line, &settings);
     Ok([fault_in(&with), fault_in(&without)])
 }
 

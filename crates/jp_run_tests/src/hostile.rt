@@ -1,36 +1,22 @@
 //! Queries and documents as an adversary would choose them, by two workers.
 
-use crate::fakes::Holds;
+use crate::ran::ran;
 use jp_doc::DocFault;
-use jp_run::{FromReader, OpenGate, RunFault, Settings, Totals};
+use jp_run::{RunFault, Settings, Totals};
 use jp_syntax::QueryFault;
 use std::alloc::{AllocError, Global};
 use std::test::Fail;
 use std::thread::Threads;
 
-/// More bytes than any of these runs writes.
-const ROOM: usize = 10_000_000;
-
 /// What a run by two workers ends with, and what it writes.
-fn ran<R: Threads + Sync>(
+fn ran_by_two<R: Threads + Sync>(
     rt: &R,
     alloc: Global,
     query: &str,
     input: &str,
 ) -> Result<(Result<Totals, RunFault>, Vec<u8>), RunFault> {
     let settings = Settings::new(2, 1, 4)?;
-    let mut source = FromReader::new(input.as_bytes());
-    let mut sink = Holds::new(Vec::new(alloc), ROOM, ROOM);
-    let end = jp_run::run(
-        rt,
-        alloc,
-        &mut source,
-        &mut sink,
-        query,
-        &settings,
-        &OpenGate,
-    );
-    Ok((end, sink.bytes))
+    Ok(ran(rt, alloc, query, input.as_bytes(), &settings))
 }
 
 /// `start`, so many times `part`, and `end`.
@@ -63,7 +49,7 @@ fn writes<R: Threads + Sync>(
     input: &str,
     wanted: &[u8],
 ) -> Result<bool, RunFault> {
-    let (end, written) = ran(rt, alloc, query, input)?;
+    let (end, written) = ran_by_two(rt, alloc, query, input)?;
     Ok(end.is_ok() && written.as_slice() == wanted)
 }
 
@@ -75,7 +61,7 @@ fn is_too_deep<R: Threads + Sync>(
     input: &str,
 ) -> Result<bool, RunFault> {
     let query = parentheses(alloc, pairs)?;
-    let (end, written) = ran(rt, alloc, query.as_str(), input)?;
+    let (end, written) = ran_by_two(rt, alloc, query.as_str(), input)?;
     Ok(matches!(end, Err(RunFault::Query(QueryFault::TooDeep))) && written.is_empty())
 }
 
@@ -130,13 +116,13 @@ fn writes_lines<R: Threads + Sync>(
     input: &str,
     count: usize,
 ) -> Result<bool, RunFault> {
-    let (end, written) = ran(rt, alloc, query, input)?;
+    let (end, written) = ran_by_two(rt, alloc, query, input)?;
     Ok(end.is_ok() && lines_in(&written) == count)
 }
 
 /// Whether a run tells that its first line is unreadable, and writes nothing.
 fn is_unreadable<R: Threads + Sync>(rt: &R, alloc: Global, input: &str) -> Result<bool, RunFault> {
-    let (end, written) = ran(rt, alloc, "$..*", input)?;
+    let (end, written) = ran_by_two(rt, alloc, "$..*", input)?;
     let unreadable = DocFault::Unreadable;
     let is_told = matches!(end, Err(RunFault::Document { line: 1, fault }) if fault == unreadable);
     Ok(is_told && written.is_empty())

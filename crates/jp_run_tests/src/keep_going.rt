@@ -1,16 +1,13 @@
 //! Runs and answers that keep going after a faulty line.
 
-use crate::fakes::{Holds, OneByte};
 use crate::gates::{Entered, Pair};
+use crate::ran::{ROOM, ran, ran_cut_short};
 use jp_check::plan;
 use jp_doc::{Line, Lines};
-use jp_run::{FromReader, Gate, OpenGate, RunFault, Settings, Totals, Whole, answer_all};
+use jp_run::{Gate, OpenGate, RunFault, Settings, Totals, Whole, answer_all};
 use std::alloc::{AllocError, Global};
 use std::test::Fail;
 use std::thread::Threads;
-
-/// More bytes than any of these runs writes.
-const ROOM: usize = 1_000_000;
 
 /// A document, a line that is no JSON text, a document, and a number that is not whole.
 const FOUR: &[u8] = b"{\"a\":1}\n{\n{\"a\":2}\n{\"a\":1.5}\n";
@@ -26,7 +23,7 @@ const TWO_LINES: &[u8] = b"1\t$['a']\t1\n3\t$['a']\tnull\n";
 
 /// What a run of `$.a` ends with, and what it writes, with so many workers, pieces of one, and such batches.
 /// One read of all fails, and the sink takes so many bytes.
-fn ran<R: Threads + Sync>(
+fn ran_cut<R: Threads + Sync>(
     rt: &R,
     alloc: Global,
     input: &[u8],
@@ -35,18 +32,7 @@ fn ran<R: Threads + Sync>(
     room: usize,
 ) -> Result<(Result<Totals, RunFault>, Vec<u8>), RunFault> {
     let settings = Settings::new(cut.0, 1, cut.1)?.keep_going();
-    let mut source = OneByte::new(input, fails_at);
-    let mut sink = Holds::new(Vec::new(alloc), 3, room);
-    let end = jp_run::run(
-        rt,
-        alloc,
-        &mut source,
-        &mut sink,
-        "$.a",
-        &settings,
-        &OpenGate,
-    );
-    Ok((end, sink.bytes))
+    Ok(ran_cut_short(rt, alloc, "$.a", input, &settings, (fails_at, room)))
 }
 
 /// Whether runs of `$.a`, however cut, write the bytes and end with so many lines, documents and faulty
@@ -61,7 +47,7 @@ fn all_finish<R: Threads + Sync>(
 ) -> Result<bool, RunFault> {
     let mut agree = true;
     for cut in &[(1, 1), (1, 10), (4, 1), (4, 10)] {
-        let (end, bytes) = ran(rt, alloc, input, *cut, 0, ROOM)?;
+        let (end, bytes) = ran_cut(rt, alloc, input, *cut, 0, ROOM)?;
         agree = agree && bytes.as_slice() == wanted && is_finished(&end, counts, status);
     }
     Ok(agree)
@@ -97,7 +83,7 @@ fn breaks<R: Threads + Sync>(
     wanted: &[u8],
 ) -> Result<bool, RunFault> {
     let (fails_at, room) = fails;
-    let (end, bytes) = ran(rt, alloc, input, cut, fails_at, room)?;
+    let (end, bytes) = ran_cut(rt, alloc, input, cut, fails_at, room)?;
     let is_told = match end {
         Err(RunFault::Read) => fails_at > 0,
         Err(RunFault::Write) => fails_at == 0,
@@ -199,20 +185,9 @@ fn two_workers_at_once(rt: HostRuntime) {
 
 /// Whether a run without the option ends at the first faulty line, and writes what the lines before it give.
 fn is_ended<R: Threads + Sync>(rt: &R, alloc: Global, settings: &Settings) -> bool {
-    let mut source = FromReader::new(FOUR);
-    let mut sink = Holds::new(Vec::new(alloc), ROOM, ROOM);
-    let end = jp_run::run(
-        rt,
-        alloc,
-        &mut source,
-        &mut sink,
-        "$.a",
-        settings,
-        &OpenGate,
-    );
+    let (end, bytes) = ran(rt, alloc, "$.a", FOUR, settings);
     let first = "1\t$['a']\t1\n";
-    matches!(end, Err(RunFault::Document { line: 2, .. }))
-        && sink.bytes.as_slice() == first.as_bytes()
+    matches!(end, Err(RunFault::Document { line: 2, .. })) && bytes.as_slice() == first.as_bytes()
 }
 
 /// Without the option, the first faulty line ends the run.

@@ -28,6 +28,8 @@ mod output_forms;
 #[cfg(test)]
 mod parts;
 #[cfg(test)]
+mod ran;
+#[cfg(test)]
 mod refusals;
 #[cfg(test)]
 mod rounds;

@@ -1,6 +1,6 @@
 //! Queries whose numbers have fractions and exponents.
 
-use crate::decimals::ran;
+use crate::ran::ran_by_bytes;
 use jp_number::Numbers;
 use jp_run::{Output, RunFault, Settings, check_query};
 use jp_syntax::QueryFault;
@@ -35,7 +35,7 @@ fn writes<R: Threads + Sync>(
     settings: Settings,
     wanted: &str,
 ) -> bool {
-    let (end, bytes) = ran(rt, alloc, query, NUMBERS, settings);
+    let (end, bytes) = ran_by_bytes(rt, alloc, query, NUMBERS, &settings);
     end.is_ok() && bytes.as_slice() == wanted.as_bytes()
 }
 
@@ -96,7 +96,7 @@ fn ends_with<R: Threads + Sync>(
     settings: Settings,
     wanted: QueryFault,
 ) -> bool {
-    let (end, _) = ran(rt, alloc, query, NUMBERS, settings);
+    let (end, _) = ran_by_bytes(rt, alloc, query, NUMBERS, &settings);
     matches!(end, Err(RunFault::Query(fault)) if fault == wanted)
 }
 

@@ -1,13 +1,10 @@
 //! Runs in the forms of values, texts and lines, however they are cut up.
 
-use crate::fakes::{Holds, OneByte};
-use jp_run::{OpenGate, Output, RunFault, Settings, Totals, run};
+use crate::ran::{ROOM, ran_cut_short};
+use jp_run::{Output, RunFault, Settings, Totals};
 use std::alloc::Global;
 use std::test::Fail;
 use std::thread::Threads;
-
-/// More bytes than any of these runs writes.
-const ROOM: usize = 1_000_000;
 
 /// Documents, a blank line, a line that is no JSON text, and a last line without its end.
 const INPUT: &[u8] = b"{\"a\":[\"x\", 1]}\r\n\n{\"b\":0}\n{\n{\"a\":[\"\\\"\"]}";
@@ -28,18 +25,7 @@ fn ran<R: Threads + Sync>(
     } else {
         settings
     };
-    let mut source = OneByte::new(INPUT, 0);
-    let mut sink = Holds::new(Vec::new(alloc), 3, room);
-    let end = run(
-        rt,
-        alloc,
-        &mut source,
-        &mut sink,
-        "$.a[*]",
-        &settings,
-        &OpenGate,
-    );
-    Ok((end, sink.bytes))
+    Ok(ran_cut_short(rt, alloc, "$.a[*]", INPUT, &settings, (0, room)))
 }
 
 /// Workers, pieces and batches.

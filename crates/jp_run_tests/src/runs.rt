@@ -3,15 +3,13 @@
 ghost use Rattle.std.specs.Prelude.{◌≡◌, ◌^◌, ◌≤◌, false};
 
 use crate::fakes::{FullDisk, Holds, OneByte};
+use crate::ran::{ROOM, ran};
 use jp_doc::DocFault;
 use jp_run::{FromReader, FromWriter, OpenGate, RunFault, Settings, Sink, Source, Totals};
 use jp_syntax::QueryFault;
 use std::alloc::{AllocError, Global};
 use std::test::Fail;
 use std::thread::Threads;
-
-/// More bytes than any of these runs writes.
-const ROOM: usize = 1_000_000;
 
 /// A run by four workers.
 fn run<R: Threads + Sync, S: Source, K: Sink>(
@@ -29,16 +27,16 @@ fn run<R: Threads + Sync, S: Source, K: Sink>(
 }
 
 /// What a run over these bytes ends with, and what it writes.
-fn ran<R: Threads + Sync>(
+fn ran_by_four<R: Threads + Sync>(
     rt: &R,
     alloc: Global,
     query: &str,
     input: &[u8],
 ) -> (Result<Totals, RunFault>, Vec<u8>) {
-    let mut source = FromReader::new(input);
-    let mut sink = Holds::new(Vec::new(alloc), ROOM, ROOM);
-    let end = run(rt, alloc, &mut source, &mut sink, query);
-    (end, sink.bytes)
+    match Settings::new(4, 2, 8) {
+        Ok(settings) => ran(rt, alloc, query, input, &settings),
+        Err(fault) => (Err(fault), Vec::new(alloc)),
+    }
 }
 
 /// Each fault at its place, with its status and its text.
@@ -222,7 +220,7 @@ fn gives<R: Threads + Sync>(
     if !wanted.is_empty() {
         output.push('\n')?;
     }
-    let (end, bytes) = ran(rt, alloc, query, input.as_bytes());
+    let (end, bytes) = ran_by_four(rt, alloc, query, input.as_bytes());
     Ok(end.is_ok() && bytes.as_slice() == output.as_bytes())
 }
 
@@ -246,7 +244,7 @@ fn writes<R: Threads + Sync>(
     input: &[u8],
     wanted: &[u8],
 ) -> bool {
-    let (end, bytes) = ran(rt, alloc, query, input);
+    let (end, bytes) = ran_by_four(rt, alloc, query, input);
     end.is_ok() && bytes.as_slice() == wanted
 }
 
@@ -274,7 +272,7 @@ fn counts<R: Threads + Sync>(
     input: &[u8],
     totals: Totals,
 ) -> bool {
-    let (end, _) = ran(rt, alloc, query, input);
+    let (end, _) = ran_by_four(rt, alloc, query, input);
     matches!(end, Ok(found) if found == totals)
 }
 
@@ -339,7 +337,7 @@ fn stops<R: Threads + Sync>(
     stop: (u64, DocFault),
     wanted: &[u8],
 ) -> bool {
-    let (end, bytes) = ran(rt, alloc, "$.a", input);
+    let (end, bytes) = ran_by_four(rt, alloc, "$.a", input);
     let is_told = matches!(end, Err(RunFault::Document { line, fault }) if (line, fault) == stop);
     is_told && bytes.as_slice() == wanted
 }

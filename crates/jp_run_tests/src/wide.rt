@@ -1,13 +1,10 @@
 //! A line with a long list, which several workers walk by halves.
 
-use crate::fakes::Holds;
-use jp_run::{FromReader, OpenGate, Settings};
+use crate::ran::ran;
+use jp_run::Settings;
 use std::alloc::{AllocError, Global};
 use std::test::Fail;
 use std::thread::Threads;
-
-/// More bytes than this run writes.
-const ROOM: usize = 1_000_000;
 
 /// A line of ten thousand numbers, each at its index.
 fn ten_thousand(alloc: Global) -> Result<String, AllocError> {
@@ -29,34 +26,13 @@ fn upper_half(alloc: Global) -> Result<String, AllocError> {
     Ok(lines)
 }
 
-/// Whether a run over the text writes the lines.
-fn is_run<R: Threads + Sync>(
-    rt: &R,
-    alloc: Global,
-    text: &str,
-    settings: &Settings,
-    lines: &str,
-) -> bool {
-    let mut source = FromReader::new(text.as_bytes());
-    let mut sink = Holds::new(Vec::new(alloc), ROOM, ROOM);
-    let end = jp_run::run(
-        rt,
-        alloc,
-        &mut source,
-        &mut sink,
-        "$[?@>4999]",
-        settings,
-        &OpenGate,
-    );
-    end.is_ok() && sink.bytes.as_slice() == lines.as_bytes()
-}
-
 /// Whether a run by so many workers writes the upper half.
 fn is_walked<R: Threads + Sync>(rt: &R, alloc: Global, workers: u64) -> Result<bool, Fail> {
     let settings = Settings::new(workers, 1, 1)?;
     let text = ten_thousand(alloc)?;
     let lines = upper_half(alloc)?;
-    Ok(is_run(rt, alloc, &text, &settings, &lines))
+    let (end, bytes) = ran(rt, alloc, "$[?@>4999]", text.as_bytes(), &settings);
+    Ok(end.is_ok() && bytes.as_slice() == lines.as_bytes())
 }
 
 #[test]

@@ -1,0 +1,65 @@
+//! What runs end with, and what they write.
+
+use crate::fakes::{Holds, OneByte};
+use jp_run::{FromReader, OpenGate, RunFault, Settings, Totals, run};
+use std::alloc::Global;
+use std::thread::Threads;
+
+/// More bytes than any of these runs writes.
+pub(crate) const ROOM: usize = 10_000_000;
+
+/// What a run of a query over these bytes ends with, and what it writes.
+pub(crate) fn ran<R: Threads + Sync>(
+    rt: &R,
+    alloc: Global,
+    query: &str,
+    input: &[u8],
+    settings: &Settings,
+) -> (Result<Totals, RunFault>, Vec<u8>) {
+    let mut source = FromReader::new(input);
+    let mut sink = Holds::new(Vec::new(alloc), ROOM, ROOM);
+    let end = run(
+        rt,
+        alloc,
+        &mut source,
+        &mut sink,
+        query,
+        settings,
+        &OpenGate,
+    );
+    (end, sink.bytes)
+}
+
+/// The same, read a byte at a time and written three at a time.
+pub(crate) fn ran_by_bytes<R: Threads + Sync>(
+    rt: &R,
+    alloc: Global,
+    query: &str,
+    input: &[u8],
+    settings: &Settings,
+) -> (Result<Totals, RunFault>, Vec<u8>) {
+    ran_cut_short(rt, alloc, query, input, settings, (0, ROOM))
+}
+
+/// The same, where one read fails, at the call of this number from 1, and the sink takes so many bytes.
+pub(crate) fn ran_cut_short<R: Threads + Sync>(
+    rt: &R,
+    alloc: Global,
+    query: &str,
+    input: &[u8],
+    settings: &Settings,
+    (fails_at, room): (u64, usize),
+) -> (Result<Totals, RunFault>, Vec<u8>) {
+    let mut source = OneByte::new(input, fails_at);
+    let mut sink = Holds::new(Vec::new(alloc), 3, room);
+    let end = run(
+        rt,
+        alloc,
+        &mut source,
+        &mut sink,
+        query,
+        settings,
+        &OpenGate,
+    );
+    (end, sink.bytes)
+}
