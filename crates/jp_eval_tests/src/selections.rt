@@ -138,41 +138,62 @@ pub(crate) fn paths(alloc: Global, locations: &[Location]) -> Result<String, Fai
     Ok(paths)
 }
 
+/// The query, the document and the paths of a row.
+pub(crate) fn parts_of(row: &str) -> Option<(&str, &str, &str)> {
+    let (query, rest) = row.split_once(" on ")?;
+    let (document, wanted) = rest.split_once(" gives ")?;
+    Some((query, document, wanted))
+}
+
+/// Whether the query of a row selects its nodes, in a tree and in a document that is read flat.
+fn is_right(alloc: Global, row: &str) -> Result<bool, Fail> {
+    let (query, document, wanted) = parts_of(row).ok_or("no row")?;
+    Ok(
+        selected(alloc, query, document)?.as_str() == wanted
+            && selected_flat(alloc, query, document)?.as_str() == wanted,
+    )
+}
+
 #[test]
 fn rows(rt: HostRuntime) -> Result<(), Fail> {
     for row in ROWS.lines() {
-        let Some((query, rest)) = row.split_once(" on ") else {
-            panic!(rt; "{row}");
-        };
-        let Some((document, wanted)) = rest.split_once(" gives ") else {
-            panic!(rt; "{row}");
-        };
-        let paths = selected(rt.alloc(), query, document)?;
-        assert_eq!(rt; paths.as_str(), wanted, "{row}");
-        let paths = selected_flat(rt.alloc(), query, document)?;
-        assert_eq!(rt; paths.as_str(), wanted, "{row}, read flat");
+        assert!(rt; is_right(rt.alloc(), row)?, "{row}");
     }
     Ok(())
 }
 
+/// So many times `part`, behind `start`.
+fn again(alloc: Global, start: &str, part: &str, times: u8) -> Result<String, Fail> {
+    let mut text = String::from_str(alloc, start)?;
+    for _time in 0..times {
+        text.push_str(part)?;
+    }
+    Ok(text)
+}
+
+/// Whether the only location has a hundred steps, each to the first item.
+fn is_deep(found: &[Location]) -> bool {
+    match found {
+        [only] => {
+            only.steps.len() == 100 && only.steps.iter().all(|step| *step == Step::Index(0))
+        }
+        _ => false,
+    }
+}
+
+/// Whether a query of a hundred segments selects what is a hundred arrays deep.
+fn is_found_deep(alloc: Global) -> Result<bool, Fail> {
+    let query = again(alloc, "$", "[0]", 100)?;
+    let open = again(alloc, "", "[", 100)?;
+    let text = again(alloc, format!(in alloc; "{open}7")?.as_str(), "]", 100)?;
+    let plan = plan(alloc, query.as_str())?;
+    let document = Document::read(alloc, text.as_bytes())?;
+    Ok(is_deep(evaluate(alloc, &plan, &document)?.as_slice()))
+}
+
 #[test]
 fn long_queries_and_deep_documents(rt: HostRuntime) -> Result<(), Fail> {
-    let alloc = rt.alloc();
-    let mut query = String::from_str(alloc, "$")?;
-    let mut document = String::new(alloc);
-    let mut wanted = Vec::new(alloc);
-    for _level in 0..100u8 {
-        query.push_str("[0]")?;
-        document.push('[')?;
-        wanted.push(Step::Index(0))?;
-    }
-    document.push('7')?;
-    for _level in 0..100u8 {
-        document.push(']')?;
-    }
-    let plan = plan(alloc, query.as_str())?;
-    let found = evaluate(alloc, &plan, &Document::read(alloc, document.as_bytes())?)?;
-    assert!(rt; matches!(found.as_slice(), [only] if only.steps == wanted));
+    assert!(rt; is_found_deep(rt.alloc())?);
     Ok(())
 }
 

@@ -1,7 +1,8 @@
 //! What queries select where long lists are cut into halves that are walked at once.
 
 use crate::forks::{Counting, Meeting};
-use crate::selections::paths;
+use crate::selections::{parts_of, paths};
+use crate::uniform::is_right_flat;
 use jp_check::{Plan, plan};
 use jp_doc::{Document, Location, Step};
 use jp_eval::{Evaluator, OpenFork};
@@ -28,25 +29,36 @@ $.*[?@.c].c on {"b":[{"c":5},{}],"a":[{"c":1}]} gives $['a'][0]['c'] $['b'][0]['
 
 const FLOORS: [u64; 5] = [0, 1, 2, 3, 18446744073709551615];
 
-/// Each row 200 times with each floor.
+/// Whether a plan selects this each time, 200 times with each floor.
+fn always_selects<R: Threads + Sync>(
+    rt: &R,
+    alloc: Global,
+    plan: &Plan,
+    document: &Document,
+    wanted: &str,
+) -> Result<bool, Fail> {
+    for time in 0..200 * FLOORS.len() {
+        let floor = FLOORS[time % FLOORS.len()];
+        let found = evaluate_split(rt, alloc, plan, document, floor, &OpenFork)?;
+        if paths(alloc, found.as_slice())?.as_str() != wanted {
+            return Ok(false);
+        }
+    }
+    Ok(true)
+}
+
+/// Whether the query of a row selects its nodes each time.
+fn is_always_right<R: Threads + Sync>(rt: &R, alloc: Global, row: &str) -> Result<bool, Fail> {
+    let (query, document, wanted) = parts_of(row).ok_or("no row")?;
+    let plan = plan(alloc, query)?;
+    let document = Document::read(alloc, document.as_bytes())?;
+    always_selects(rt, alloc, &plan, &document, wanted)
+}
+
 #[test]
 fn rows(rt: HostRuntime) -> Result<(), Fail> {
-    let alloc = rt.alloc();
     for row in ROWS.lines() {
-        let Some((query, rest)) = row.split_once(" on ") else {
-            panic!(rt; "{row}");
-        };
-        let Some((document, wanted)) = rest.split_once(" gives ") else {
-            panic!(rt; "{row}");
-        };
-        let plan = plan(alloc, query)?;
-        let document = Document::read(alloc, document.as_bytes())?;
-        for time in 0..200 * FLOORS.len() {
-            let floor = FLOORS[time % FLOORS.len()];
-            let found = evaluate_split(&rt, alloc, &plan, &document, floor, &OpenFork)?;
-            let paths = paths(alloc, found.as_slice())?;
-            assert_eq!(rt; paths.as_str(), wanted, "{row}");
-        }
+        assert!(rt; is_always_right(&rt, rt.alloc(), row)?, "{row}");
     }
     Ok(())
 }
@@ -54,29 +66,8 @@ fn rows(rt: HostRuntime) -> Result<(), Fail> {
 /// Each row with each floor, where the document is read flat.
 #[test]
 fn flat_rows(rt: HostRuntime) -> Result<(), Fail> {
-    let alloc = rt.alloc();
     for row in ROWS.lines() {
-        let Some((query, rest)) = row.split_once(" on ") else {
-            panic!(rt; "{row}");
-        };
-        let Some((document, wanted)) = rest.split_once(" gives ") else {
-            panic!(rt; "{row}");
-        };
-        let plan = plan(alloc, query)?;
-        let mut reader = FlatReader::new(alloc);
-        let Some(document) = reader.read(document.as_bytes())? else {
-            panic!(rt; "{row}");
-        };
-        let root = Part::root_of_flat(&document);
-        for floor in FLOORS {
-            let none = Locations {
-                locations: Vec::new(alloc),
-            };
-            let mut evaluator = Evaluator::new(alloc, plan.compiled());
-            let found = evaluator.visit_part_split(&rt, root, floor, &OpenFork, none)?;
-            let paths = paths(alloc, found.locations.as_slice())?;
-            assert_eq!(rt; paths.as_str(), wanted, "{row}");
-        }
+        assert!(rt; is_right_flat(&rt, rt.alloc(), row)?, "{row}");
     }
     Ok(())
 }
@@ -95,32 +86,48 @@ fn numbers(alloc: Global, count: u32) -> Result<String, Fail> {
     Ok(text)
 }
 
-#[test]
-fn halves_meet(rt: HostRuntime) -> Result<(), Fail> {
-    let alloc = rt.alloc();
+/// Whether both halves of a list of two meet, each of 200 times.
+fn meet<R: Threads + Sync>(rt: &R, alloc: Global) -> Result<bool, Fail> {
     let plan = plan(alloc, "$[*]")?;
     let document = Document::read(alloc, b"[1,2]")?;
     for _time in 0..200u8 {
         let fork = Meeting::new();
-        let found = evaluate_split(&rt, alloc, &plan, &document, 2, &fork)?;
-        let paths = paths(alloc, found.as_slice())?;
-        assert_eq!(rt; paths.as_str(), "$[0] $[1]");
-        assert!(rt; fork.met());
+        let found = evaluate_split(rt, alloc, &plan, &document, 2, &fork)?;
+        if !fork.met() || paths(alloc, found.as_slice())?.as_str() != "$[0] $[1]" {
+            return Ok(false);
+        }
     }
-    Ok(())
+    Ok(true)
 }
 
 #[test]
-fn sixty_four_walks(rt: HostRuntime) -> Result<(), Fail> {
-    let alloc = rt.alloc();
+fn halves_meet(rt: HostRuntime) -> Result<(), Fail> {
+    assert!(rt; meet(&rt, rt.alloc())?);
+    Ok(())
+}
+
+/// Whether all of 256 nodes were found, by 63 cuts.
+fn are_all(found: &[Location], fork: &Counting) -> bool {
+    found.len() == 256 && fork.begun() == (63, 63)
+}
+
+/// Whether a list of 256 is cut so, each of 200 times.
+fn are_sixty_four<R: Threads + Sync>(rt: &R, alloc: Global) -> Result<bool, Fail> {
     let plan = plan(alloc, "$[*]")?;
     let document = Document::read(alloc, numbers(alloc, 256)?.as_bytes())?;
     for _time in 0..200u8 {
         let fork = Counting::new();
-        let found = evaluate_split(&rt, alloc, &plan, &document, 2, &fork)?;
-        assert_eq!(rt; found.len(), 256);
-        assert_eq!(rt; fork.begun(), (63, 63));
+        let found = evaluate_split(rt, alloc, &plan, &document, 2, &fork)?;
+        if !are_all(&found, &fork) {
+            return Ok(false);
+        }
     }
+    Ok(true)
+}
+
+#[test]
+fn sixty_four_walks(rt: HostRuntime) -> Result<(), Fail> {
+    assert!(rt; are_sixty_four(&rt, rt.alloc())?);
     Ok(())
 }
 
@@ -134,9 +141,7 @@ fn found_flat<R: Threads + Sync>(
     fork: &Counting,
 ) -> Result<Vec<Location>, Fail> {
     let mut reader = FlatReader::new(alloc);
-    let Some(document) = reader.read(line.as_bytes())? else {
-        return Err(Fail::from("not flat"));
-    };
+    let document = reader.read(line.as_bytes())?.ok_or("not flat")?;
     let root = Part::root_of_flat(&document);
     let none = Locations {
         locations: Vec::new(alloc),
@@ -146,33 +151,38 @@ fn found_flat<R: Threads + Sync>(
     Ok(found.locations)
 }
 
+/// Whether a query's 256 nodes in a line that is read flat are cut so, each of 200 times.
+fn are_sixty_four_flat<R: Threads + Sync>(
+    rt: &R,
+    alloc: Global,
+    query: &str,
+    line: &str,
+    floor: u64,
+) -> Result<bool, Fail> {
+    let plan = plan(alloc, query)?;
+    for _time in 0..200u8 {
+        let fork = Counting::new();
+        let found = found_flat(rt, alloc, &plan, line, floor, &fork)?;
+        if !are_all(&found, &fork) {
+            return Ok(false);
+        }
+    }
+    Ok(true)
+}
+
 /// A flat list is cut as a tree's is.
 #[test]
 fn sixty_four_flat_walks(rt: HostRuntime) -> Result<(), Fail> {
-    let alloc = rt.alloc();
-    let plan = plan(alloc, "$[*]")?;
-    let line = numbers(alloc, 256)?;
-    for _time in 0..200u8 {
-        let fork = Counting::new();
-        let found = found_flat(&rt, alloc, &plan, line.as_str(), 2, &fork)?;
-        assert_eq!(rt; found.len(), 256);
-        assert_eq!(rt; fork.begun(), (63, 63));
-    }
+    let line = numbers(rt.alloc(), 256)?;
+    assert!(rt; are_sixty_four_flat(&rt, rt.alloc(), "$[*]", line.as_str(), 2)?);
     Ok(())
 }
 
 /// Members of a flat object are cut too, into halves that are as long as one another.
 #[test]
 fn sixty_four_walks_of_flat_members(rt: HostRuntime) -> Result<(), Fail> {
-    let alloc = rt.alloc();
-    let plan = plan(alloc, "$.*")?;
-    let line = members(alloc, 256)?;
-    for _time in 0..200u8 {
-        let fork = Counting::new();
-        let found = found_flat(&rt, alloc, &plan, line.as_str(), 4, &fork)?;
-        assert_eq!(rt; found.len(), 256);
-        assert_eq!(rt; fork.begun(), (63, 63));
-    }
+    let line = members(rt.alloc(), 256)?;
+    assert!(rt; are_sixty_four_flat(&rt, rt.alloc(), "$.*", line.as_str(), 4)?);
     Ok(())
 }
 
@@ -185,18 +195,23 @@ fn are_upper(found: &[Location]) -> bool {
     found.len() == 5000 && at(found.first(), 5000) && at(found.last(), 9999)
 }
 
-#[test]
-fn ten_thousand_numbers(rt: HostRuntime) -> Result<(), Fail> {
-    let alloc = rt.alloc();
+/// Whether the upper half of ten thousand numbers is found whole, and by halves each of 400 times.
+fn finds_upper<R: Threads + Sync>(rt: &R, alloc: Global) -> Result<bool, Fail> {
     let plan = plan(alloc, "$[?@>4999]")?;
     let document = Document::read(alloc, numbers(alloc, 10000)?.as_bytes())?;
-    let whole = evaluate(alloc, &plan, &document)?;
-    assert!(rt; are_upper(whole.as_slice()));
     for time in 0..400u32 {
         let floor = if time % 2 == 0 { 2500 } else { 4096 };
-        let found = evaluate_split(&rt, alloc, &plan, &document, floor, &OpenFork)?;
-        assert!(rt; are_upper(found.as_slice()));
+        let found = evaluate_split(rt, alloc, &plan, &document, floor, &OpenFork)?;
+        if !are_upper(found.as_slice()) {
+            return Ok(false);
+        }
     }
+    Ok(are_upper(evaluate(alloc, &plan, &document)?.as_slice()))
+}
+
+#[test]
+fn ten_thousand_numbers(rt: HostRuntime) -> Result<(), Fail> {
+    assert!(rt; finds_upper(&rt, rt.alloc())?);
     Ok(())
 }
 
@@ -214,19 +229,24 @@ fn members(alloc: Global, count: u32) -> Result<String, Fail> {
     Ok(text)
 }
 
-#[test]
-fn a_thousand_members(rt: HostRuntime) -> Result<(), Fail> {
-    let alloc = rt.alloc();
+/// Whether what is found by halves, each of 200 times, is what is found whole, of 500 members.
+fn finds_the_same<R: Threads + Sync>(rt: &R, alloc: Global) -> Result<bool, Fail> {
     let plan = plan(alloc, "$[?@>499&&$.m0==0]")?;
     let document = Document::read(alloc, members(alloc, 1000)?.as_bytes())?;
     let whole = evaluate(alloc, &plan, &document)?;
-    assert_eq!(rt; whole.len(), 500);
     for time in 0..200usize {
         let floor = [2, 300, 1000][time % 3];
         let fork = Counting::new();
-        let found = evaluate_split(&rt, alloc, &plan, &document, floor, &fork)?;
-        assert!(rt; found.as_slice() == whole.as_slice());
-        assert!(rt; fork.begun().0 > 0);
+        let found = evaluate_split(rt, alloc, &plan, &document, floor, &fork)?;
+        if found.as_slice() != whole.as_slice() || fork.begun().0 == 0 {
+            return Ok(false);
+        }
     }
+    Ok(whole.len() == 500)
+}
+
+#[test]
+fn a_thousand_members(rt: HostRuntime) -> Result<(), Fail> {
+    assert!(rt; finds_the_same(&rt, rt.alloc())?);
     Ok(())
 }

@@ -1,7 +1,7 @@
 //! What filters select whose tests ask nothing of `@`, beside such that do: in trees and in flat documents,
 //! whole and by halves. The expected values come from the rules of RFC 9535.
 
-use crate::selections::paths;
+use crate::selections::{parts_of, paths};
 use jp_check::{Plan, plan};
 use jp_doc::Document;
 use jp_eval::{Evaluator, OpenFork};
@@ -74,7 +74,7 @@ $[?$.a==1].b on {"a":1,"c":{"b":5},"d":{"b":6}} gives $['c']['b'] $['d']['b']
 $[?$.a==1][?$.a==1] on {"a":1,"c":[7,8]} gives $['c'][0] $['c'][1]
 $[?$.a==1][?$.a==2] on {"a":1,"c":[7,8]} gives nothing"#;
 
-const FLOORS: [u64; 4] = [0, 2, 3, 18446744073709551615];
+const FLOORS: [u64; 5] = [0, 1, 2, 3, 18446744073709551615];
 
 /// The paths of what a plan selects in a document, or that there is nothing: by halves of so many children,
 /// or whole.
@@ -96,62 +96,55 @@ fn selected<R: Threads + Sync>(
     paths(alloc, found.locations.as_slice())
 }
 
-/// Where a plan selects something else than is wanted in a document, whole or by halves, what it selects.
-fn differing<R: Threads + Sync>(
+/// Whether a plan selects this in a document, whole and by halves.
+fn selects<R: Threads + Sync>(
     rt: &R,
     alloc: Global,
     plan: &Plan,
     root: Part<'_>,
     wanted: &str,
-) -> Result<Option<String>, Fail> {
-    let whole = selected(rt, alloc, plan, root, None)?;
-    if whole.as_str() != wanted {
-        return Ok(Some(whole));
-    }
+) -> Result<bool, Fail> {
     for floor in FLOORS {
-        let found = selected(rt, alloc, plan, root, Some(floor))?;
-        if found.as_str() != wanted {
-            return Ok(Some(found));
+        if selected(rt, alloc, plan, root, Some(floor))?.as_str() != wanted {
+            return Ok(false);
         }
     }
-    Ok(None)
+    Ok(selected(rt, alloc, plan, root, None)?.as_str() == wanted)
+}
+
+/// Whether the query of a row selects its nodes in a tree, whole and by halves.
+fn is_right<R: Threads + Sync>(rt: &R, alloc: Global, row: &str) -> Result<bool, Fail> {
+    let (query, document, wanted) = parts_of(row).ok_or("no row")?;
+    let plan = plan(alloc, query)?;
+    let document = Document::read(alloc, document.as_bytes())?;
+    selects(rt, alloc, &plan, Part::root_of(&document), wanted)
+}
+
+/// The same, where the document is read flat.
+pub(crate) fn is_right_flat<R: Threads + Sync>(
+    rt: &R,
+    alloc: Global,
+    row: &str,
+) -> Result<bool, Fail> {
+    let (query, document, wanted) = parts_of(row).ok_or("no row")?;
+    let plan = plan(alloc, query)?;
+    let mut reader = FlatReader::new(alloc);
+    let document = reader.read(document.as_bytes())?.ok_or("not flat")?;
+    selects(rt, alloc, &plan, Part::root_of_flat(&document), wanted)
 }
 
 #[test]
 fn rows(rt: HostRuntime) -> Result<(), Fail> {
-    let alloc = rt.alloc();
     for row in ROWS.lines() {
-        let Some((query, rest)) = row.split_once(" on ") else {
-            panic!(rt; "{row}");
-        };
-        let Some((document, wanted)) = rest.split_once(" gives ") else {
-            panic!(rt; "{row}");
-        };
-        let plan = plan(alloc, query)?;
-        let document = Document::read(alloc, document.as_bytes())?;
-        let other = differing(&rt, alloc, &plan, Part::root_of(&document), wanted)?;
-        assert!(rt; other.is_none(), "{row}");
+        assert!(rt; is_right(&rt, rt.alloc(), row)?, "{row}");
     }
     Ok(())
 }
 
 #[test]
 fn flat_rows(rt: HostRuntime) -> Result<(), Fail> {
-    let alloc = rt.alloc();
     for row in ROWS.lines() {
-        let Some((query, rest)) = row.split_once(" on ") else {
-            panic!(rt; "{row}");
-        };
-        let Some((document, wanted)) = rest.split_once(" gives ") else {
-            panic!(rt; "{row}");
-        };
-        let plan = plan(alloc, query)?;
-        let mut reader = FlatReader::new(alloc);
-        let Some(document) = reader.read(document.as_bytes())? else {
-            panic!(rt; "{row}");
-        };
-        let other = differing(&rt, alloc, &plan, Part::root_of_flat(&document), wanted)?;
-        assert!(rt; other.is_none(), "{row}");
+        assert!(rt; is_right_flat(&rt, rt.alloc(), row)?, "{row}");
     }
     Ok(())
 }
