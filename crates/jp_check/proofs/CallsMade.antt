@@ -7,8 +7,8 @@ use Rattle.jp_tree.specs.Tree as tree
 use Rattle.jp_tree.specs.PartViews.{argument_of, arguments_of, call_of}
 use Rattle.jp_tree.specs.declared.tree.Argument.{Argument}
 use Rattle.jp_tree.specs.declared.tree.Call.{Call, out-Call}
-use Rattle.jp_compiled.specs.Compiled.{call_of_one, call_of_two, text_argument, form_of, truth_argument}
-use Rattle.jp_compiled.specs.Compiled.{Source, queried, different, source_argument, source_test}
+use Rattle.jp_compiled.specs.Parts.{call_of_one, call_of_two, text_argument, form_of, truth_argument}
+use Rattle.jp_compiled.specs.Parts.{Source, queried, different, source_argument, source_test}
 use Rattle.jp_check.specs.LiteralPatterns.{literal_text}
 use Rattle.jp_types.proofs.Levels.{call_level}
 

@@ -11,3 +11,5 @@ pub mod CallsMade
 pub mod PatternsListed
 pub mod OnLiterals
 pub mod WithDecimals
+pub mod Uniformity
+pub mod Listing

@@ -1,18 +1,20 @@
 -- Steps of compiling a query.
 use Rattle.std.proofs.Common.{arith, length-append, ◌≡◌, ℕ, ◌+◌, ◌<◌, ◌≤◌, List, [], ◌∷◌, ◌++◌, length}
-use Rattle.std.proofs.Common.{get_or, drop, map, refl, sym, ap, ◌∙◌, append_assoc, append-nil}
+use Rattle.std.proofs.Common.{get_or, drop, map, refl, sym, ap, ◌∙◌, append_assoc, append-nil, Vec, Global}
 use Rattle.std.proofs.Math.Seq.{get_or-append_seam}
 use Rattle.std.proofs.lemmas.List.{at_drop_more, at_drop_all, map-append}
 use Rattle.jp_check.specs.inner.Making.{Begins, Reads}
 use Rattle.jp_tree.specs.Tree as tree
 use Rattle.jp_tree.specs.declared.tree.Start.TheVariants as start
-use Rattle.jp_compiled.specs.Compiled.{Wanted, wanted, where_wanted, root_at, wanted_in}
-use Rattle.jp_compiled.specs.Compiled.{roots_behind, roots_of}
-use Rattle.jp_compiled.specs.Compiled.{segments_in}
+use Rattle.jp_compiled.specs.Parts.{Wanted, wanted, where_wanted, root_at, wanted_in}
+use Rattle.jp_compiled.specs.Parts.{roots_behind, roots_of}
+use Rattle.jp_compiled.specs.Parts.{segments_in}
 use Rattle.jp_compiled.proofs.RootsListed.{listed_more}
 use Rattle.jp_compiled.specs.declared.query.Want.{Want}
 use Rattle.jp_compiled.specs.declared.query.Want.TheVariants as want
-use Rattle.jp_compiled.specs.declared.query.RootQuery.{RootQuery}
+use Rattle.jp_compiled.specs.declared.query.RootPart.{RootPart}
+use Rattle.jp_compiled.specs.declared.query.RootPart.TheVariants as part
+use Rattle.jp_compiled.specs.declared.query.Segment.{Segment}
 
 pub begins_itself : (a : List Wanted) → Begins a a
 begins_itself a = ([], sym (append-nil a))
@@ -47,7 +49,7 @@ module _ {X Y T : Type 0} (view : List Wanted → Y → T) (of : X → T) (xs : 
   made_all made now past inv = λ all g. sym (append-nil (map (view all) made))
       ∙ ap (λ ts. map (view all) made ++ ts) (sym (at_drop_all (map of) xs i past)) ∙ inv all g
 
-listed_length : (before : List Wanted) (rs : List RootQuery) → length (roots_behind before rs)
+listed_length : (before : List Wanted) (rs : List RootPart) → length (roots_behind before rs)
     ≡ length before + length rs
 listed_length before [] = omega arith
 listed_length before (q ∷ rs) =
@@ -59,12 +61,12 @@ listed_length before (q ∷ rs) =
     omega (arith, one, e)
 
 -- the list with one `$` query more begins with the list
-pub listed_begins : (rs more : List RootQuery) (r : RootQuery) → more ≡ rs ++ r ∷ []
+pub listed_begins : (rs more : List RootPart) (r : RootPart) → more ≡ rs ++ r ∷ []
     → Begins (roots_of rs) (roots_of more)
 listed_begins rs more r e = (wanted_in (roots_of rs) r ∷ [], ap roots_of e ∙ listed_more [] rs r)
 
 -- what is found at the slot of the new one
-pub slot_found : (rs more : List RootQuery) (r : RootQuery) (all : List Wanted) (d : Wanted)
+pub slot_found : (rs more : List RootPart) (r : RootPart) (all : List Wanted) (d : Wanted)
     → more ≡ rs ++ r ∷ [] → Begins (roots_of more) all → get_or all (length rs) d
     ≡ wanted_in (roots_of rs) r
 slot_found rs more r all d e h =
@@ -82,11 +84,12 @@ where_found want.Count ss = refl
 where_found want.Only ss = refl
 where_found want.Distinct ss = refl
 
-pub root_found : (rs more : List RootQuery) (r : RootQuery) (slot : ℕ) (all : List Wanted)
-    → slot ≡ length rs → more ≡ rs ++ r ∷ [] → Begins (roots_of more) all
-    → root_at all slot r.want ≡ tree.query start.Root (segments_in (roots_of rs) r.segments.items)
-root_found rs more r slot all at e h =
-    ap (λ k. root_at all k r.want) at
-    ∙ ap (λ w. tree.query start.Root (where_wanted r.want w))
-    (slot_found rs more r all (wanted r.want tree.no_segments) e h)
-    ∙ ap (tree.query start.Root) (where_found r.want (segments_in (roots_of rs) r.segments.items))
+pub root_found : (rs more : List RootPart) (w : Want) (v : Vec Segment Global) (slot : ℕ) (all : List Wanted)
+    → slot ≡ length rs → more ≡ rs ++ part.Query (record { want = w; segments = v }) ∷ []
+    → Begins (roots_of more) all
+    → root_at all slot w ≡ tree.query start.Root (segments_in (roots_of rs) v.items)
+root_found rs more w v slot all at e h =
+    ap (λ k. root_at all k w) at
+    ∙ ap (λ x. tree.query start.Root (where_wanted w x))
+    (slot_found rs more (part.Query (record { want = w; segments = v })) all (wanted w tree.no_segments) e h)
+    ∙ ap (tree.query start.Root) (where_found w (segments_in (roots_of rs) v.items))

@@ -7,7 +7,7 @@ ghost use Rattle.jp_tree.specs.Tree.{number};
 ghost use Rattle.jp_tree.specs.View.{literal_of, slice_of, text_of};
 ghost use Rattle.jp_types.specs.Numbers as numbers;
 ghost use Rattle.jp_check.specs.inner.Making.{is_readable};
-ghost use Rattle.jp_compiled.specs.Compiled as compiled;
+ghost use Rattle.jp_compiled.specs.Parts as compiled;
 
 use jp_compiled::{Constant, Position, Slice, WholeNumber, WrittenNumber};
 use jp_syntax::Literal;

@@ -7,8 +7,10 @@ mod examples;
 mod known;
 pub mod laws;
 mod leaves;
+mod listed;
 mod making;
 mod patterns;
+mod uniform;
 
 pub use accepted::Plan;
 pub use checking::{check, plan, plan_in};

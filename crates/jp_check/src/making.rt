@@ -11,29 +11,20 @@ ghost use Rattle.jp_types.specs.Functions.{value_type, logical_type, nodes_type}
 ghost use Rattle.jp_types.specs.Kinds.{function_of};
 ghost use Rattle.jp_types.specs.Numbers as numbers;
 ghost use Rattle.jp_types.specs.Typing as typing;
-ghost use Rattle.jp_compiled.specs.Compiled as compiled;
-ghost use Rattle.jp_compiled.specs.Compiled.{Wanted};
+ghost use Rattle.jp_compiled.specs.Compiled.{compiled_query};
+ghost use Rattle.jp_compiled.specs.Parts as compiled;
+ghost use Rattle.jp_compiled.specs.Parts.{Wanted};
 ghost use Rattle.jp_check.specs.Known.{known_texts};
 ghost use Rattle.jp_check.specs.LiteralPatterns as literal;
 ghost use Rattle.jp_check.specs.inner.Making.{KeepsRoots, ReadsWith, AddsPatterns, IsSound};
 
 use crate::leaves::{make_constant, make_position, make_slice};
-use crate::patterns::{list_pattern, literal_text};
-use jp_compiled::{
-    Form, KnownPattern, Logical, Nodes, Query, RootQuery, Segment, Selector, Value, Want,
-};
+use crate::listed::Listed;
+use crate::patterns::literal_text;
+use jp_compiled::{Form, KnownPattern, Logical, Nodes, Query, Segment, Selector, Value, Want};
 use jp_syntax::{Argument, Call, Comparable, Comparison, Start};
 use jp_types::{Function, function_named};
 use std::alloc::{AllocError, Global};
-
-/// What the walk puts into lists of their own.
-#[derive(Drop)]
-struct Listed {
-    /// The `$` queries inside filters, each behind those inside of it.
-    roots: Vec<RootQuery>,
-    /// The literal patterns, in the order of the text.
-    patterns: Vec<KnownPattern>,
-}
 
 /// A compiled query, and its literal patterns.
 pub(crate) fn make_query(
@@ -42,16 +33,17 @@ pub(crate) fn make_query(
 ) -> Result<(Query, Vec<KnownPattern>), AllocError>
     requires { IsSound (numbers.query_numbers (query_of query.now))
         (typing.query_typed (query_of query.now)) }
-    ensures made { IfOk result (λ r. compiled.compiled_query r.0 ≡ query_of query.now) }
+    ensures made { IfOk result (λ r. compiled_query r.0 ≡ query_of query.now) }
     ensures patterns { IfOk result (λ r. known_texts r.1.items
         ≡ literal.literal_patterns (query_of query.now)) }
 {
-    let mut listed = Listed {
-        roots: Vec::new(alloc),
-        patterns: Vec::new(alloc),
-    };
+    let mut listed = Listed::new(alloc);
     let segments = make_segments(alloc, query.segments.as_slice(), &mut listed)?;
-    let Listed { roots, patterns } = listed;
+    let Listed {
+        roots,
+        patterns,
+        ..
+    } = listed;
     let compiled = Query {
         start: query.start,
         segments,
@@ -130,7 +122,9 @@ fn make_selector(
         }
         jp_syntax::Selector::Slice(slice) => Ok(Selector::Slice(make_slice(alloc, slice)?)),
         jp_syntax::Selector::Filter(logical) => {
-            Ok(Selector::Filter(make_logical(alloc, logical, listed)?))
+            let test = make_logical(alloc, logical, listed)?;
+            // What asks nothing of `@` is answered once a document, and not at each child.
+            Ok(Selector::Filter(listed.once(test)?))
         }
     }
 }
@@ -150,8 +144,14 @@ fn make_logical(
         (literal.logical_patterns (view.logical_of logical.now))) }
 {
     match logical {
-        jp_syntax::Logical::Any(parts) => Ok(Logical::Any(make_parts(alloc, parts, listed)?)),
-        jp_syntax::Logical::All(parts) => Ok(Logical::All(make_parts(alloc, parts, listed)?)),
+        jp_syntax::Logical::Any(parts) => {
+            let made = make_parts(alloc, parts, listed)?;
+            Ok(Logical::Any(listed.apart(alloc, made)?))
+        }
+        jp_syntax::Logical::All(parts) => {
+            let made = make_parts(alloc, parts, listed)?;
+            Ok(Logical::All(listed.apart(alloc, made)?))
+        }
         jp_syntax::Logical::Not(part) => make_negation(alloc, part, listed),
         jp_syntax::Logical::Compare(comparison) => make_comparison(alloc, comparison, listed),
         jp_syntax::Logical::Test(query) => {
@@ -245,8 +245,7 @@ fn make_nodes(
     match query.start {
         Start::Current => Ok(Nodes::Here(segments)),
         Start::Root => {
-            let slot = listed.roots.len();
-            listed.roots.push(RootQuery { want, segments })?;
+            let slot = listed.add_query(want, segments)?;
             Ok(Nodes::Root(slot))
         }
     }
@@ -432,8 +431,10 @@ fn make_xor(
     let [left, right] = arguments else {
         unreachable!()
     };
-    let first = make_truth(alloc, left, listed)?;
-    let second = make_truth(alloc, right, listed)?;
+    let one = make_truth(alloc, left, listed)?;
+    let other = make_truth(alloc, right, listed)?;
+    let first = listed.beside(alloc, one, &other)?;
+    let second = listed.beside(alloc, other, &first)?;
     Ok(Logical::Xor(form_of(left), first, form_of(right), second))
 }
 
@@ -511,7 +512,7 @@ fn make_text_test(
         unreachable!()
     };
     if let Some(pattern) = literal_text(pattern) {
-        let pattern = list_pattern(alloc, pattern, &mut listed.patterns)?;
+        let pattern = listed.add_pattern(alloc, pattern)?;
         let text = make_value(alloc, text, listed)?;
         return Ok(read_test(function, text, pattern));
     }

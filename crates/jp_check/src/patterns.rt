@@ -1,11 +1,10 @@
-//! The literal patterns of a query, each read once.
+//! The literal patterns of a query.
 
-ghost use Rattle.std.specs.Prelude.{◌≡◌, IfOk, OnOk, ◌∷◌, [], option_map, option_to_list};
+ghost use Rattle.std.specs.Prelude.{◌≡◌, IfOk, option_map, option_to_list};
 ghost use Rattle.std.specs.Str.{chars};
 ghost use Rattle.jp_tree.specs.View.{text_of};
 ghost use Rattle.jp_tree.specs.PartViews as view;
 ghost use Rattle.jp_check.specs.LiteralPatterns as literal;
-ghost use Rattle.jp_check.specs.inner.Making.{Lists};
 
 use jp_compiled::KnownPattern;
 use jp_regexp::Pattern;
@@ -28,7 +27,7 @@ pub(crate) fn literal_text(argument: &Argument) -> Option<&str>
 }
 
 /// The text, and the pattern that it is, if it is one, compiled for many texts.
-fn read_pattern(alloc: Global, text: &str) -> Result<KnownPattern, AllocError>
+pub(crate) fn read_pattern(alloc: Global, text: &str) -> Result<KnownPattern, AllocError>
     ensures { IfOk result (λ k. text_of k.text ≡ chars text.now) }
 {
     let pattern = match Pattern::compiled(alloc, text)? {
@@ -37,19 +36,4 @@ fn read_pattern(alloc: Global, text: &str) -> Result<KnownPattern, AllocError>
     };
     let text = String::from_str(alloc, text)?;
     Ok(KnownPattern { text, pattern })
-}
-
-/// Reads the text as a pattern, and lists it.
-pub(crate) fn list_pattern(
-    alloc: Global,
-    text: &str,
-    patterns: &mut Vec<KnownPattern>,
-) -> Result<KnownPattern, AllocError>
-    ensures read { IfOk result (λ k. text_of k.text ≡ chars text.now) }
-    ensures listed { OnOk result (Lists patterns.old.items patterns.new.items (chars text.now ∷ [])) }
-{
-    let known = read_pattern(alloc, text)?;
-    // Read once, and shared by its place in the tree and by the list (README, Why so).
-    patterns.push(known.share(alloc)?)?;
-    Ok(known)
 }

@@ -1,7 +1,7 @@
 //! The calls with ample memory. The expected answers come from the rules of RFC 9535.
 
 use jp_check::{Known, check, plan, plan_in};
-use jp_compiled::{Selector, Want};
+use jp_compiled::{RootPart, Selector, Want};
 use jp_number::Numbers;
 use jp_syntax::{QueryFault, read_query};
 use std::alloc::{AllocError, Global};
@@ -213,7 +213,25 @@ fn known_patterns_of_arguments(rt: HostRuntime) {
     assert_eq!(rt; known(rt.alloc(), query, "xy"), Some("unknown"));
 }
 
-/// The index that stands first in the one segment, before a filter, and what is wanted of three `$` queries.
+/// How often one pattern stands in a query: read and compiled each time, they would take minutes, and
+/// gigabytes.
+const EQUAL_PATTERNS: u32 = 50_000;
+
+/// Equal patterns are read once.
+#[test]
+fn many_equal_patterns(rt: HostRuntime) -> Result<(), Fail> {
+    let alloc = rt.alloc();
+    let mut query = String::from_str(alloc, "$[?match(@,'.*a.{7}')")?;
+    for _ in 1..EQUAL_PATTERNS {
+        query.push_str("||match(@,'.*a.{7}')")?;
+    }
+    query.push(']')?;
+    assert_eq!(rt; known(alloc, query.as_str(), ".*a.{7}"), Some("a pattern"));
+    Ok(())
+}
+
+/// The index that stands first in the one segment, before a filter, and what is wanted of three `$` queries,
+/// which stand before an expression that asks nothing of `@`.
 fn parts_of_compiled(alloc: Global, text: &str) -> Option<(i64, Want, Want, Want)> {
     let plan = plan(alloc, text).ok()?;
     let compiled = plan.compiled();
@@ -223,7 +241,13 @@ fn parts_of_compiled(alloc: Global, text: &str) -> Option<(i64, Want, Want, Want
     let [Selector::Index(index), Selector::Filter(_)] = segment.selectors.as_slice() else {
         return None;
     };
-    let [first, second, third] = compiled.roots.as_slice() else {
+    let [
+        RootPart::Query(first),
+        RootPart::Query(second),
+        RootPart::Query(third),
+        RootPart::Test(_),
+    ] = compiled.roots.as_slice()
+    else {
         return None;
     };
     Some((index.value, first.want, second.want, third.want))

@@ -1,11 +1,13 @@
 //! Compiled queries: what can be known of a query before there is a document.
 #![tactic(auto)]
 
+mod compiled;
 mod known;
 mod query;
 
+pub use compiled::Query;
 pub use known::KnownPattern;
 pub use query::{
-    Constant, Form, Logical, Nodes, Position, Query, RootQuery, Segment, Selector, Slice, Value,
+    Constant, Form, Logical, Nodes, Position, RootPart, RootQuery, Segment, Selector, Slice, Value,
     Want, WholeNumber, WrittenNumber,
 };

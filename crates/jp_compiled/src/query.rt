@@ -1,7 +1,4 @@
 //! The tree of a compiled query.
-//!
-//! Numbers are read, functions are resolved, literal patterns are read, and each `$` query inside a filter
-//! stands in a list of its own, behind those that stand inside it.
 
 ghost use Rattle.std.specs.Prelude.{◌≡◌, ◌≤ℤ◌, neg_ℤ, pos, true, false};
 ghost use Rattle.std.specs.String.{string_bytes};
@@ -12,17 +9,15 @@ ghost use Rattle.jp_types.specs.Numbers.{whole_number, max_index, is_whole};
 
 use crate::known::KnownPattern;
 use jp_number::NumberText;
-use jp_tree::{Operator, Start};
+use jp_tree::Operator;
 
-/// A compiled query.
+/// A part of a filter that is the same at every node, and so is answered once a document.
 #[derive(Drop)]
-pub struct Query {
-    /// The identifier that the query begins with.
-    pub start: Start,
-    /// The segments, in the order of the text.
-    pub segments: Vec<Segment>,
-    /// The `$` queries inside its filters, each behind those inside of it.
-    pub roots: Vec<RootQuery>,
+pub enum RootPart {
+    /// A `$` query.
+    Query(RootQuery),
+    /// An expression that asks nothing of the current node.
+    Test(Logical),
 }
 
 /// A `$` query inside a filter.
@@ -48,7 +43,7 @@ pub enum Want {
 }
 
 impl Want {
-    ghost use Rattle.jp_compiled.specs.Compiled.{wanted_inside};
+    ghost use Rattle.jp_compiled.specs.Parts.{wanted_inside};
 
     /// What is wanted of the nodes that `distinct` is given, where this is wanted of those that it leaves.
     pub fn inside(self) -> Want
@@ -134,6 +129,8 @@ pub enum Logical {
     SearchRead(Value, KnownPattern),
     /// `xor` of two arguments, each with how it is written.
     Xor(Form, Box<Logical>, Form, Box<Logical>),
+    /// The expression at this place of the list, which is answered once a document.
+    Once(usize),
 }
 
 // `@.a` and `(@.a)` are two spellings with two trees (README, Why so).

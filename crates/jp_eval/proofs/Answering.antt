@@ -4,8 +4,9 @@ use Rattle.std.specs.List.{fold}
 use Rattle.jp_doc.specs.Json.{Json}
 use Rattle.jp_doc.specs.Location.{Node}
 use Rattle.jp_tree.specs.Tree.{Query}
-use Rattle.jp_compiled.specs.Compiled.{compiled_query, roots_of, segments_in}
-use Rattle.jp_compiled.specs.declared.query.Query as compiled
+use Rattle.jp_compiled.specs.Compiled.{compiled_query}
+use Rattle.jp_compiled.specs.Parts.{roots_of, segments_in}
+use Rattle.jp_compiled.specs.declared.compiled.Query as compiled
 use Rattle.jp_compiled.specs.declared.query.Segment.{Segment}
 use Rattle.jp_part.specs.Part.{part_value}
 use Rattle.jp_part.specs.declared.part.Part.{Part}

@@ -5,7 +5,7 @@ use Rattle.std.proofs.lemmas.List.Concat.{flat_map-append}
 use Rattle.std.specs.List.{filter, flat_map}
 use Rattle.jp_doc.specs.Location.{Node}
 use Rattle.jp_tree.specs.Tree as tree
-use Rattle.jp_compiled.specs.Compiled.{segment_in, segments_in, selector_in}
+use Rattle.jp_compiled.specs.Parts.{segment_in, segments_in, selector_in}
 use Rattle.jp_compiled.specs.declared.query.Segment.{Segment, out-Segment}
 use Rattle.jp_compiled.specs.declared.query.Selector.{Selector}
 use Rattle.jp_eval.specs.inner.Base.{Base}

@@ -1,5 +1,5 @@
 -- What the parts of a compiled query select, and where they are true.
-use Rattle.std.proofs.Common.{◌≡◌, List, [], ◌∷◌, not, ◌&&◌, ◌||◌, map, Some, option_map, is_some, length}
+use Rattle.std.proofs.Common.{◌≡◌, ℕ, List, [], ◌∷◌, not, ◌&&◌, ◌||◌, map, Some, option_map, is_some, length}
 use Rattle.std.proofs.Common.{Vec, Box, String, Global, refl, sym, ap, ap₂, ◌∙◌, rules}
 use Rattle.std.specs.List.{filter, list_any, list_all}
 use Rattle.jp_doc.specs.Json as json
@@ -12,18 +12,18 @@ use Rattle.jp_tree.specs.declared.tree.Operator.{Operator}
 use Rattle.jp_tree.specs.declared.tree.Start.{Start}
 use Rattle.jp_tree.specs.declared.tree.Start.TheVariants as start
 use Rattle.jp_types.specs.Numbers.{whole_number}
-use Rattle.jp_compiled.specs.Compiled.{Wanted, root_at, position_text, constant_of, as_argument}
-use Rattle.jp_compiled.specs.Compiled.{truth_argument, segment_in, Source, queried, different}
-use Rattle.jp_compiled.specs.Compiled.{source_argument}
-use Rattle.jp_compiled.specs.Compiled.{source_test, source_side, wanted_inside}
-use Rattle.jp_compiled.specs.Compiled.{selector_in, logical_in, value_in, nodes_in, segments_in}
+use Rattle.jp_compiled.specs.Parts.{Wanted, root_at, test_at, position_text, constant_of, as_argument}
+use Rattle.jp_compiled.specs.Parts.{truth_argument, segment_in, Source, queried, different}
+use Rattle.jp_compiled.specs.Parts.{source_argument}
+use Rattle.jp_compiled.specs.Parts.{source_test, source_side, wanted_inside}
+use Rattle.jp_compiled.specs.Parts.{selector_in, logical_in, value_in, nodes_in, segments_in}
 use Rattle.jp_compiled.proofs.CompiledViews.{name_read, wild_read, index_read, slice_read, filter_read}
 use Rattle.jp_compiled.proofs.CompiledViews.{any_read, all_read, not_read, compare_read, test_read}
 use Rattle.jp_compiled.proofs.CompiledViews.{match_read}
 use Rattle.jp_compiled.proofs.CompiledViews.{match_known, search_read, search_known, constant_read}
 use Rattle.jp_compiled.proofs.CompiledViews.{single_read}
 use Rattle.jp_compiled.proofs.CompiledViews.{length_read, count_read, only_read, here_read, root_read}
-use Rattle.jp_compiled.proofs.CompiledViews.{xor_read, distinct_read}
+use Rattle.jp_compiled.proofs.CompiledViews.{xor_read, distinct_read, once_read}
 use Rattle.jp_compiled.specs.declared.known.KnownPattern.{KnownPattern}
 use Rattle.jp_compiled.specs.declared.query.Form.{Form}
 use Rattle.jp_compiled.specs.declared.query.Form.TheVariants.{Bare, Expression}
@@ -121,6 +121,11 @@ module _ (base : Base) (n : Node) where
       ≡ compared o (value_given base v n) (value_given base w n)
   unfolding is_true value_given
   true_compare v o w = ap (λ x. spec.holds tests base.root x n) (compare_read base.roots v o w)
+
+  pub true_once : (slot : ℕ) → is_true base (log.Once slot) n
+      ≡ spec.holds tests base.root (test_at base.roots slot) n
+  unfolding is_true
+  true_once slot = ap (λ x. spec.holds tests base.root x n) (once_read base.roots slot)
 
   some_first : (ns : List Node) → is_some (first_value ns) ≡ not (is_empty ns)
   some_first [] = refl

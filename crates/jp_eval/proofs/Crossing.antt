@@ -11,7 +11,9 @@ use Rattle.std.proofs.Crossing.{crosses}
 use Rattle.jp_compiled.specs.contracts.query.Segment as Segment
 use Rattle.jp_compiled.specs.contracts.query.Selector as Selector
 use Rattle.jp_compiled.specs.contracts.query.Logical as Logical
+use Rattle.jp_compiled.specs.contracts.query.RootPart as RootPart
 use Rattle.jp_compiled.specs.contracts.query.RootQuery as RootQuery
+use Rattle.jp_compiled.proofs.query.Want.TheSendSync as wants
 use Rattle.jp_regexp.proofs.tree.CharSet.TheSendSync as sets
 use Rattle.jp_regexp.proofs.dfa.Dfa.TheSendSync as dfas
 use Rattle.jp_compiled.proofs.query.Constant.TheSendSync as constants
@@ -42,6 +44,7 @@ use Rattle.jp_found.specs.contracts.root_answer.RootAnswer as RootAnswer
 use Rattle.jp_found.specs.contracts.different.Different as Different
 use Rattle.jp_found.specs.contracts.found.Alone as Alone
 use Rattle.jp_found.specs.contracts.aggregates.Aggregate as Aggregate
+use Rattle.jp_value.specs.contracts.read_pattern.ReadPattern as ReadPattern
 
 pub segment_sync : IsSync Segment.the_row
 segment_sync = search (
@@ -91,8 +94,11 @@ logical_sync = search (
   sendable,
 ) depth 60 fits 20000
 
-pub root_sync : IsSync RootQuery.the_row
-root_sync = search (
+query_field : IsSync (RootQuery.the_field).row
+query_field = search (segment_sync, wants.the_field_sync, crosses, sendable) depth 60 fits 20000
+
+logical_field : IsSync (Logical.the_field).row
+logical_field = search (
   dfas.the_field_sync,
   dfas.the_field_send,
   sets.the_field_send,
@@ -106,6 +112,9 @@ root_sync = search (
   ready_crosses,
   sendable,
 ) depth 60 fits 20000
+
+pub root_sync : IsSync RootPart.the_row
+root_sync = search (query_field, logical_field, crosses, sendable) depth 60 fits 20000
 
 pub value_sync : IsSync Value.the_row
 value_sync = search (numbers.the_field_sync, value_crosses, map_crosses, crosses, sendable) depth 60
@@ -149,11 +158,15 @@ answer_sync a = search (part_sync, alone_field, different_field, crosses, sendab
     20000
 
 answer_field : (a : NamedLft) → IsSync (Aggregate.the_field a).row
-answer_field a = search (part_sync, part_field, alone_field, different_field, crosses, sendable) depth 60
+answer_field a = search (part_sync, alone_field, different_field, crosses, sendable) depth 60
     fits 20000
 
+pattern_field : (a : NamedLft) → IsSync (ReadPattern.the_field a).row
+pattern_field a = search (dfas.the_field_sync, sets.the_field_sync, crosses, pattern_crosses, sendable)
+    depth 60 fits 20000
+
 known_sync : (a : NamedLft) → IsSync (RootAnswer.the_row a)
-known_sync a = search (answer_field, lengths.the_field_sync, flat_member, crosses, sendable) depth 60
+known_sync a = search (answer_field, lengths.the_field_sync, pattern_field, crosses, sendable) depth 60
     fits 20000
 
 pub ground_sync : (a : NamedLft) → IsSync (Context.the_row a)

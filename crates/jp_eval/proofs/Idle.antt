@@ -4,7 +4,7 @@ use Rattle.std.specs.List.{filter, flat_map}
 use Rattle.jp_doc.specs.Json.{Json, null, truth, number, text, array, object}
 use Rattle.jp_doc.specs.Location as at
 use Rattle.jp_doc.specs.Location.{Location, Node, node}
-use Rattle.jp_compiled.specs.Compiled.{position_text}
+use Rattle.jp_compiled.specs.Parts.{position_text}
 use Rattle.jp_compiled.specs.declared.query.Segment.{Segment}
 use Rattle.jp_compiled.specs.declared.query.Selector.{Selector}
 use Rattle.jp_compiled.specs.declared.query.Selector.TheVariants as sel
@@ -13,7 +13,6 @@ use Rattle.jp_value.specs.Literals.{written_value}
 use Rattle.jp_eval.specs.inner.Base.{Base}
 use Rattle.jp_part.specs.Inside.{IsScalar}
 use Rattle.jp_children.specs.Selected.{index_places, slice_places}
-use Rattle.jp_eval.specs.Nodelist as spec
 use Rattle.jp_nodes.specs.Nodes.{child, children, items_at, descendants}
 use Rattle.jp_eval.specs.inner.Walk.{picked, picked_by, reached, is_true}
 use Rattle.jp_eval.proofs.Chains.{reached-none}

@@ -12,3 +12,4 @@ pub mod Uniformity
 pub mod Answered
 pub mod WorkItems
 mod Crossing
+pub mod RootsUniform

@@ -1,196 +1,92 @@
 -- An expression that asks nothing of the current node is true of every node or of none.
-use Rattle.std.proofs.Common.{◌≡◌, ◌<◌, ◌+◌, ℕ, List, [], ◌∷◌, ◌++◌, Bool, true, false, not, ◌||◌, ◌&&◌}
-use Rattle.std.proofs.Common.{Some, is_some, map, length, take, get_or, cond, Vec, Box, Global}
+use Rattle.std.proofs.Common.{◌≡◌, List, [], ◌∷◌, ◌++◌, true, false, not, ◌||◌, ◌&&◌, cond}
 use Rattle.std.proofs.Common.{refl, sym, ap, ap₂, ◌∙◌}
-use Rattle.std.proofs.lemmas.List.{map_more}
-use Rattle.std.specs.List.{filter, flat_map, list_any, list_all}
-use Rattle.jp_doc.specs.Json.{text}
+use Rattle.std.proofs.lemmas.Bool.{and_parts}
+use Rattle.std.specs.List.{filter, flat_map}
+use Rattle.jp_doc.specs.Json.{Json}
 use Rattle.jp_doc.specs.Location.{Node}
-use Rattle.jp_tree.specs.View.{text_of}
-use Rattle.jp_tree.specs.declared.tree.Operator.{Operator}
-use Rattle.jp_compiled.specs.Compiled.{wanted_inside}
-use Rattle.jp_compiled.specs.declared.known.KnownPattern.{KnownPattern}
-use Rattle.jp_compiled.specs.declared.query.Constant.{Constant}
-use Rattle.jp_compiled.specs.declared.query.Form.{Form}
+use Rattle.jp_tree.specs.Tree.{Query, query, Logical as Tree, any, all, negation, comparing, test, test_call}
+use Rattle.jp_tree.specs.Tree.{Comparison, comparison, Comparable, literal, single, value_call, Call, call}
+use Rattle.jp_tree.specs.Tree.{Argument, literal_argument, query_argument, logical_argument, call_argument}
+use Rattle.jp_tree.specs.Tree.{Logicals, no_logicals, add_logical, Arguments, no_arguments, add_argument}
+use Rattle.jp_tree.specs.declared.tree.Start.TheVariants.{Root, Current}
+use Rattle.jp_types.specs.Functions.{function_named}
+use Rattle.jp_compiled.specs.Uniform.{is_rooted, is_uniform, all_uniform, comparison_uniform, side_uniform}
+use Rattle.jp_compiled.specs.Uniform.{call_uniform, arguments_uniform, argument_uniform}
 use Rattle.jp_compiled.specs.declared.query.Logical.{Logical}
-use Rattle.jp_compiled.specs.declared.query.Logical.TheVariants as log
-use Rattle.jp_compiled.specs.declared.query.Nodes.{Nodes}
-use Rattle.jp_compiled.specs.declared.query.Nodes.TheVariants as nod
 use Rattle.jp_compiled.specs.declared.query.Segment.{Segment}
 use Rattle.jp_compiled.specs.declared.query.Selector.{Selector}
 use Rattle.jp_compiled.specs.declared.query.Selector.TheVariants as sel
-use Rattle.jp_compiled.specs.declared.query.Value.{Value}
-use Rattle.jp_compiled.specs.declared.query.Value.TheVariants as val
-use Rattle.jp_compiled.specs.declared.query.Want.TheVariants.{First, Count, Only}
 use Rattle.jp_value.specs.Comparison.{compared}
-use Rattle.jp_value.specs.Functions.{first_value, only_value, number_value, tested, length_value, exactly_one}
-use Rattle.jp_value.specs.Functions.{distinct}
-use Rattle.jp_value.specs.RightTests.{tests}
+use Rattle.jp_value.specs.Functions.{is_empty, first_value, as_truth, as_value, called_if_known}
+use Rattle.jp_value.specs.Functions.{handed_nodes, handed_truth}
+use Rattle.jp_regexp.specs.Tests.{Tests}
 use Rattle.jp_nodes.specs.Nodes.{children}
+use Rattle.jp_eval.specs.Nodelist as spec
 use Rattle.jp_eval.specs.inner.Base.{Base}
-use Rattle.jp_eval.specs.inner.Uniform.{IsUniform, AreUniform, IsUniformValue, IsUniformQuery}
 use Rattle.jp_eval.specs.inner.Walk.{picked, reached, is_true}
 use Rattle.jp_eval.proofs.Chains.{reached-none, reached-filter}
-use Rattle.jp_eval.proofs.CompiledParts.{true_any, true_all, true_not, true_compare, true_test, true_match}
-use Rattle.jp_eval.proofs.CompiledParts.{true_search, true_match_known, true_search_known, true_xor}
-use Rattle.jp_eval.proofs.CompiledParts.{given_constant, given_single, given_length, given_count, given_only}
-use Rattle.jp_eval.proofs.CompiledParts.{nodes_root, nodes_distinct, picked_filter}
+use Rattle.jp_eval.proofs.CompiledParts.{picked_filter}
 
--- ---- several expressions
+module _ (tests : Tests) (root : Json) (n other : Node) where
+  rooted_alike : (q : Query) → is_rooted q ≡ true
+      → spec.nodelist tests root q n ≡ spec.nodelist tests root q other
+  rooted_alike (query Root ss) h = refl
+  rooted_alike (query Current ss) h = absurd cc
 
-any_of : {X : Type 0} (p : X → Bool) (xs : List X) → list_any p xs ≡ list_any (λ b. b) (map p xs)
-any_of p [] = refl
-any_of p (x ∷ xs) = ap (λ b. p x || b) (any_of p xs)
+  mutual
+    pub alike : (l : Tree) → is_uniform l ≡ true → spec.holds tests root l n ≡ spec.holds tests root l other
+    alike (any ls) h = any_alike ls h
+    alike (all ls) h = all_alike ls h
+    alike (negation l) h = ap not (alike l h)
+    alike (comparing c) h = comparison_alike c h
+    alike (test q) h = ap (λ ns. not (is_empty ns)) (rooted_alike q h)
+    alike (test_call c) h = ap as_truth (call_alike c h)
 
-all_of : {X : Type 0} (p : X → Bool) (xs : List X) → list_all p xs ≡ list_all (λ b. b) (map p xs)
-all_of p [] = refl
-all_of p (x ∷ xs) = ap (λ b. p x && b) (all_of p xs)
+    any_alike : (ls : Logicals) → all_uniform ls ≡ true
+        → spec.any_holds tests root ls n ≡ spec.any_holds tests root ls other
+    any_alike no_logicals h = refl
+    any_alike (add_logical l ls) h =
+        let parts = and_parts (is_uniform l) (all_uniform ls) h in
+        ap₂ (λ a b. a || b) (alike l parts.0) (any_alike ls parts.1)
 
--- of none, and of one more
-pub none_uniform : AreUniform []
-none_uniform = record { alike = λ base n other. refl }
+    all_alike : (ls : Logicals) → all_uniform ls ≡ true
+        → spec.all_hold tests root ls n ≡ spec.all_hold tests root ls other
+    all_alike no_logicals h = refl
+    all_alike (add_logical l ls) h =
+        let parts = and_parts (is_uniform l) (all_uniform ls) h in
+        ap₂ (λ a b. a && b) (alike l parts.0) (all_alike ls parts.1)
 
-pub one_more_uniform : (ls : List Logical) (i : ℕ) (l : Logical) → i < length ls → l ≡ get_or ls i l
-    → AreUniform (take i ls) → IsUniform l → AreUniform (take (i + 1) ls)
-one_more_uniform ls i l h is before one = record {
-  alike = λ base n other.
-      map_more (λ k. is_true base k n) ls i l h
-      ∙ ap₂ (λ bs b. bs ++ b ∷ []) (before.alike base n other)
-      (ap (λ k. is_true base k n) (sym is) ∙ one.alike base n other ∙ ap (λ k. is_true base k other) is)
-      ∙ sym (map_more (λ k. is_true base k other) ls i l h);
-}
+    comparison_alike : (c : Comparison) → comparison_uniform c ≡ true
+        → spec.comparison_holds tests root c n ≡ spec.comparison_holds tests root c other
+    comparison_alike (comparison left operator right) h =
+        let parts = and_parts (side_uniform left) (side_uniform right) h in
+        ap₂ (compared operator) (side_alike left parts.0) (side_alike right parts.1)
 
--- ---- expressions
+    side_alike : (s : Comparable) → side_uniform s ≡ true
+        → spec.value_of tests root s n ≡ spec.value_of tests root s other
+    side_alike (literal x) h = refl
+    side_alike (single q) h = ap first_value (rooted_alike q h)
+    side_alike (value_call c) h = ap as_value (call_alike c h)
 
-pub any_uniform : (v : Vec Logical Global) → AreUniform v.items → IsUniform (log.Any v)
-any_uniform v parts = record {
-  alike = λ base n other.
-      true_any base n v ∙ any_of (λ l. is_true base l n) v.items
-      ∙ ap (list_any (λ b. b)) (parts.alike base n other)
-      ∙ sym (true_any base other v ∙ any_of (λ l. is_true base l other) v.items);
-}
+    call_alike : (c : Call) → call_uniform c ≡ true
+        → spec.given_by tests root c n ≡ spec.given_by tests root c other
+    call_alike (call function given) h =
+        ap (called_if_known tests (function_named function)) (arguments_alike given h)
 
-pub all_uniform : (v : Vec Logical Global) → AreUniform v.items → IsUniform (log.All v)
-all_uniform v parts = record {
-  alike = λ base n other.
-      true_all base n v ∙ all_of (λ l. is_true base l n) v.items
-      ∙ ap (list_all (λ b. b)) (parts.alike base n other)
-      ∙ sym (true_all base other v ∙ all_of (λ l. is_true base l other) v.items);
-}
+    arguments_alike : (given : Arguments) → arguments_uniform given ≡ true
+        → spec.all_handed tests root given n ≡ spec.all_handed tests root given other
+    arguments_alike no_arguments h = refl
+    arguments_alike (add_argument a others) h =
+        let parts = and_parts (argument_uniform a) (arguments_uniform others) h in
+        ap₂ (λ x xs. x ∷ xs) (argument_alike a parts.0) (arguments_alike others parts.1)
 
-pub not_uniform : (b : Box Logical Global) → IsUniform b.value → IsUniform (log.Not b)
-not_uniform b part = record {
-  alike = λ base n other.
-      true_not base n b ∙ ap not (part.alike base n other) ∙ sym (true_not base other b);
-}
-
-pub compare_uniform : (v : Value) (o : Operator) (w : Value) → IsUniformValue v → IsUniformValue w
-    → IsUniform (log.Compare v o w)
-compare_uniform v o w left right = record {
-  alike = λ base n other.
-      true_compare base n v o w
-      ∙ ap₂ (compared o) (left.alike base n other) (right.alike base n other)
-      ∙ sym (true_compare base other v o w);
-}
-
-pub test_uniform : (q : Nodes) → IsUniformQuery q → IsUniform (log.Test q)
-test_uniform q nodes = record {
-  alike = λ base n other.
-      true_test base n q ∙ ap (λ ns. is_some (first_value ns)) (nodes.alike base First n other)
-      ∙ sym (true_test base other q);
-}
-
-pub match_uniform : (v w : Value) → IsUniformValue v → IsUniformValue w → IsUniform (log.Match v w)
-match_uniform v w left right = record {
-  alike = λ base n other.
-      true_match base n v w
-      ∙ ap₂ (tested tests.is_match) (left.alike base n other) (right.alike base n other)
-      ∙ sym (true_match base other v w);
-}
-
-pub search_uniform : (v w : Value) → IsUniformValue v → IsUniformValue w → IsUniform (log.Search v w)
-search_uniform v w left right = record {
-  alike = λ base n other.
-      true_search base n v w
-      ∙ ap₂ (tested tests.is_found) (left.alike base n other) (right.alike base n other)
-      ∙ sym (true_search base other v w);
-}
-
-pub match_known_uniform : (v : Value) (k : KnownPattern) → IsUniformValue v → IsUniform (log.MatchRead v k)
-match_known_uniform v k left = record {
-  alike = λ base n other.
-      true_match_known base n v k
-      ∙ ap (λ o. tested tests.is_match o (Some (text (text_of k.text)))) (left.alike base n other)
-      ∙ sym (true_match_known base other v k);
-}
-
-pub search_known_uniform : (v : Value) (k : KnownPattern) → IsUniformValue v → IsUniform (log.SearchRead v k)
-search_known_uniform v k left = record {
-  alike = λ base n other.
-      true_search_known base n v k
-      ∙ ap (λ o. tested tests.is_found o (Some (text (text_of k.text)))) (left.alike base n other)
-      ∙ sym (true_search_known base other v k);
-}
-
-pub xor_uniform : (f : Form) (l : Box Logical Global) (g : Form) (m : Box Logical Global)
-    → IsUniform l.value → IsUniform m.value → IsUniform (log.Xor f l g m)
-xor_uniform f l g m left right = record {
-  alike = λ base n other.
-      true_xor base n f l g m
-      ∙ ap₂ exactly_one (left.alike base n other) (right.alike base n other)
-      ∙ sym (true_xor base other f l g m);
-}
-
--- ---- values
-
-pub constant_uniform : (x : Constant) → IsUniformValue (val.Constant x)
-constant_uniform x = record {
-  alike = λ base n other.
-      given_constant base n x ∙ sym (given_constant base other x);
-}
-
-pub single_uniform : (q : Nodes) → IsUniformQuery q → IsUniformValue (val.Single q)
-single_uniform q nodes = record {
-  alike = λ base n other.
-      given_single base n q ∙ ap first_value (nodes.alike base First n other)
-      ∙ sym (given_single base other q);
-}
-
-pub length_uniform : (b : Box Value Global) → IsUniformValue b.value → IsUniformValue (val.Length b)
-length_uniform b value = record {
-  alike = λ base n other.
-      given_length base n b ∙ ap length_value (value.alike base n other) ∙ sym (given_length base other b);
-}
-
-pub count_uniform : (q : Nodes) → IsUniformQuery q → IsUniformValue (val.Count q)
-count_uniform q nodes = record {
-  alike = λ base n other.
-      given_count base n q
-      ∙ ap (λ ns. Some (number_value (length ns))) (nodes.alike base Count n other)
-      ∙ sym (given_count base other q);
-}
-
-pub only_uniform : (q : Nodes) → IsUniformQuery q → IsUniformValue (val.Only q)
-only_uniform q nodes = record {
-  alike = λ base n other.
-      given_only base n q ∙ ap only_value (nodes.alike base Only n other) ∙ sym (given_only base other q);
-}
-
--- ---- queries
-
-pub root_uniform : (slot : ℕ) → IsUniformQuery (nod.Root slot)
-root_uniform slot = record {
-  alike = λ base want n other.
-      sym (nodes_root base n slot want) ∙ nodes_root base other slot want;
-}
-
-pub distinct_uniform : (b : Box Nodes Global) → IsUniformQuery b.value → IsUniformQuery (nod.Distinct b)
-distinct_uniform b nodes = record {
-  alike = λ base want n other.
-      sym (nodes_distinct base n b want)
-      ∙ ap distinct (nodes.alike base (wanted_inside want) n other)
-      ∙ nodes_distinct base other b want;
-}
+    argument_alike : (a : Argument) → argument_uniform a ≡ true
+        → spec.handed tests root a n ≡ spec.handed tests root a other
+    argument_alike (literal_argument x) h = refl
+    argument_alike (query_argument q) h = ap handed_nodes (rooted_alike q h)
+    argument_alike (logical_argument l) h = ap handed_truth (alike l h)
+    argument_alike (call_argument c) h = call_alike c h
 
 -- ---- along nodes
 

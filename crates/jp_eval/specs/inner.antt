@@ -4,5 +4,4 @@ pub mod Base
 pub mod Opened
 pub mod Rooted
 pub mod Walk
-pub mod Uniform
 pub mod Finding

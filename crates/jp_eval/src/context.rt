@@ -1,45 +1,50 @@
 //! What a walk is given throughout.
 
-ghost use Rattle.std.specs.Prelude.{◌≡◌, true, map};
-ghost use Rattle.jp_compiled.specs.Compiled.{roots_of};
+ghost use Rattle.std.specs.Prelude.{◌≡◌, true};
+ghost use Rattle.jp_compiled.specs.Parts.{roots_of};
 ghost use Rattle.jp_eval.specs.inner.Rooted.{are_answers};
 ghost use Rattle.jp_part.specs.Part.{part_value};
 
-use jp_compiled::{Nodes, RootQuery, Value as Giver, Want};
+use jp_compiled::{Logical, Nodes, RootPart, Value as Giver, Want};
 use jp_found::{Aggregate, Length, RootAnswer, is_result_of, of_one};
 use jp_part::{Kind, Part};
+use jp_value::ReadPattern;
 use std::alloc::{AllocError, Global};
 
-/// What a walk is given throughout: the document, and what the filters wanted of the `$` queries inside them,
-/// which is the same at every node.
+/// What a walk is given throughout: the document, and the answers to what filters ask of it alone, which are
+/// the same at every node.
 #[derive(Drop)]
 pub(crate) struct Context<'v> {
     pub(crate) alloc: Global,
     pub(crate) root: Part<'v>,
-    /// The `$` queries that are answered.
-    pub(crate) roots: &'v [RootQuery],
+    /// The parts of filters that are answered.
+    pub(crate) roots: &'v [RootPart],
+    /// What is told of the nodes of each. Of what is no `$` query it is told of `$`.
     // Lent from the document, so that the compiler lets none outlive it (README, Why so).
     pub(crate) answers: Vec<RootAnswer<'v>>,
-    ghost answered: { are_answers (part_value root) (roots_of roots.now)
-        (map (λ known. known.answer) answers.items) ≡ true },
+    /// Whether the expressions are true. Of what is no expression it is true.
+    pub(crate) truths: Vec<bool>,
+    ghost answered: { are_answers (part_value root) (roots_of roots.now) answers.items truths.items ≡ true },
 }
 
 impl<'v> Context<'v> {
-    ghost use Rattle.std.specs.Prelude.{◌++◌, ◌∷◌, [], IfOk, IfSome, MatchOption};
-    ghost use Rattle.jp_compiled.specs.Compiled.{root_at, wanted_in};
+    ghost use Rattle.std.specs.Prelude.{◌++◌, ◌∷◌, [], Some, IfOk, IfSome, MatchOption};
+    ghost use Rattle.std.specs.Str.{chars};
+    ghost use Rattle.jp_doc.specs.Json.{text};
+    ghost use Rattle.jp_compiled.specs.Parts.{root_at, test_at, wanted_in};
     ghost use Rattle.jp_doc.specs.Location.{Node};
     ghost use Rattle.jp_tree.specs.Tree.{query, no_segments};
     ghost use Rattle.jp_tree.specs.declared.tree.Start.TheVariants as start;
     ghost use Rattle.jp_found.specs.Aggregates.{tells, told};
     ghost use Rattle.jp_eval.specs.inner.Base.{base_of};
-    ghost use Rattle.jp_eval.specs.inner.Walk.{value_given, nodes_given};
+    ghost use Rattle.jp_eval.specs.inner.Walk.{is_true, value_given, nodes_given};
     ghost use Rattle.jp_found.specs.RootAnswers.{IsLength};
     ghost use Rattle.jp_value.specs.Kinds.{given_value};
     ghost use Rattle.jp_eval.specs.inner.Rooted.{is_answer};
-    ghost use Rattle.jp_eval.specs.Nodelist.{nodelist};
+    ghost use Rattle.jp_eval.specs.Nodelist.{nodelist, holds};
     ghost use Rattle.jp_value.specs.RightTests.{tests};
 
-    /// With no `$` query answered.
+    /// With nothing answered.
     pub(crate) fn new(alloc: Global, root: Part<'v>) -> Context<'v>
         ensures root { part_value result.root ≡ part_value root.entry }
         ensures roots { result.roots.now ≡ [] }
@@ -49,19 +54,21 @@ impl<'v> Context<'v> {
             root,
             roots: &[],
             answers: Vec::new(alloc),
+            truths: Vec::new(alloc),
         }
     }
 
-    /// With one more `$` query answered, the last of these.
+    /// With one more part answered, the last of these.
     pub(crate) fn with(
         self,
-        roots: &'v [RootQuery],
-        query: &RootQuery,
+        roots: &'v [RootPart],
+        part: &RootPart,
         answer: RootAnswer<'v>,
+        truth: bool,
     ) -> Result<Context<'v>, AllocError>
-        requires roots { roots.now ≡ self.roots.now ++ query.now ∷ [] }
+        requires roots { roots.now ≡ self.roots.now ++ part.now ∷ [] }
         requires answer { is_answer (part_value self.root)
-            (wanted_in (roots_of self.roots.now) query.now) answer.answer ≡ true }
+            (wanted_in (roots_of self.roots.now) part.now) answer.answer truth ≡ true }
         ensures root { IfOk result (λ g. part_value g.root ≡ part_value self.entry.root) }
         ensures roots { IfOk result (λ g. g.roots.now ≡ roots.now) }
     {
@@ -70,13 +77,16 @@ impl<'v> Context<'v> {
             root,
             roots: _,
             mut answers,
+            mut truths,
         } = self;
         answers.push(answer)?;
+        truths.push(truth)?;
         Ok(Context {
             alloc,
             root,
             roots,
             answers,
+            truths,
         })
     }
 
@@ -109,6 +119,28 @@ impl<'v> Context<'v> {
         }
     }
 
+    /// Whether the expression of a slot is true, and true where there is none.
+    pub(crate) fn truth(&self, slot: usize) -> bool
+        ensures { (n : Node) → result ≡ holds tests (part_value self.now.root)
+            (test_at (roots_of self.now.roots.now) slot) n }
+    {
+        match self.truths.get(slot) {
+            Some(truth) => *truth,
+            // `test_at` gives what is true of such a slot, so that nothing has to be required of slots.
+            None => true,
+        }
+    }
+
+    /// Whether the expression is true of every node, where it is one that is answered once a document.
+    pub(crate) fn known_truth(&self, test: &Logical) -> Option<bool>
+        ensures { IfSome result (λ b. (n : Node) → is_true (base_of self.now) test.now n ≡ b) }
+    {
+        match test {
+            Logical::Once(slot) => Some(self.truth(*slot)),
+            _ => None,
+        }
+    }
+
     /// The value that is kept of the `$` query which gives it, or its length, if it is kept.
     pub(crate) fn given(&self, giver: &Giver) -> Option<Option<Kind<'_>>>
         ensures { IfSome result (λ o. (n : Node)
@@ -131,6 +163,17 @@ impl<'v> Context<'v> {
         match self.known(giver) {
             Some(known) => known.length,
             None => Length::Unknown,
+        }
+    }
+
+    /// The pattern that the value of the `$` query is which gives it, if it is kept.
+    pub(crate) fn pattern(&self, giver: &Giver) -> Option<&ReadPattern<'v>>
+        ensures { IfSome result (λ read. (n : Node)
+            → value_given (base_of self.now) giver.now n ≡ Some (text (chars read.now.text.now))) }
+    {
+        match self.known(giver) {
+            Some(known) => known.pattern(),
+            None => None,
         }
     }
 

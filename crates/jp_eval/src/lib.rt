@@ -10,7 +10,6 @@ mod fork;
 pub mod laws;
 mod roots;
 mod split;
-mod uniform;
 mod walk;
 mod wide;
 mod work_items;

@@ -15,7 +15,7 @@ ghost use Rattle.jp_path_stack.specs.Links.{link_steps};
 
 use crate::context::Context;
 use crate::fork::{Cuts, Fork};
-use crate::walk::{Task, go, holds, uniform_truth};
+use crate::walk::{Task, go, holds};
 use crate::wide::is_wide;
 use crate::work_items::{WorkItem, WorkItems, work_items};
 use jp_children::ChildRange;
@@ -81,7 +81,7 @@ fn each_work_item<'v, R: Threads + Sync, F: Fork + Sync, V: Visit + Drop + Send>
 {
     let mut left = work_items;
     while let Some((work_item, others)) = left.next(splitting.context.alloc)? {
-        along(splitting, work_item, left.value, path, found)?;
+        along(splitting, work_item, path, found)?;
         left = others;
     }
     Ok(())
@@ -92,7 +92,6 @@ fn each_work_item<'v, R: Threads + Sync, F: Fork + Sync, V: Visit + Drop + Send>
 fn along<'v, R: Threads + Sync, F: Fork + Sync, V: Visit + Drop + Send>(
     splitting: &Splitting<'_, 'v, R, F>,
     work_item: WorkItem<'v>,
-    value: Part<'v>,
     path: &mut PathStack<'v>,
     found: &mut Found<'v, V>,
 ) -> Result<(), AllocError>
@@ -101,8 +100,7 @@ fn along<'v, R: Threads + Sync, F: Fork + Sync, V: Visit + Drop + Send>(
         (done_along (base_of splitting.now.context.now) (link_steps path.old) work_item.entry)) }
     ensures path { OnOk result (path.new ≡ path.old) }
 {
-    let settled = settled_along::<V>(splitting.context, work_item.task, value, path)?;
-    let Some(task) = settled else {
+    let Some(task) = settled_along(splitting.context, work_item.task) else {
         return Ok(());
     };
     let children = ChildRange::counted(&work_item.children);
@@ -242,27 +240,21 @@ fn settled<'v, V: Visit + Drop>(
     }
 }
 
-/// The task along the children of the value, or nothing where its test is false of all of them.
-fn settled_along<'v, V: Visit + Drop>(
-    context: &Context<'v>,
-    task: Task<'v>,
-    value: Part<'v>,
-    path: &mut PathStack<'v>,
-) -> Result<Option<Task<'v>>, AllocError>
-    ensures task { IfOk result (λ o. (ns : List Node) → MatchOption o
+/// The task along the children of a value, or nothing where its test is false of all of them.
+fn settled_along<'v>(context: &Context<'v>, task: Task<'v>) -> Option<Task<'v>>
+    ensures { (ns : List Node) → MatchOption result
         (flat_map (done (base_of context.now) task.entry) ns ≡ [])
         (λ t. flat_map (done (base_of context.now) t) ns
-        ≡ flat_map (done (base_of context.now) task.entry) ns)) }
-    ensures path { OnOk result (path.new ≡ path.old) }
+        ≡ flat_map (done (base_of context.now) task.entry) ns) }
 {
     match task {
-        Task::Test(test, rest) => match uniform_truth::<V>(context, test, value, path)? {
-            Some(true) => Ok(Some(Task::Run(rest))),
-            Some(false) => Ok(None),
-            None => Ok(Some(task)),
+        Task::Test(test, rest) => match context.known_truth(test) {
+            Some(true) => Some(Task::Run(rest)),
+            Some(false) => None,
+            None => Some(task),
         },
-        Task::Run(_) => Ok(Some(task)),
-        Task::Descend(_, _) => Ok(Some(task)),
+        Task::Run(_) => Some(task),
+        Task::Descend(_, _) => Some(task),
     }
 }
 

@@ -17,7 +17,6 @@ ghost use Rattle.jp_eval.specs.inner.Walk.{picked, picked_by, reached, is_true, 
 ghost use Rattle.jp_eval.specs.inner.Walk.{done};
 
 use crate::context::Context;
-use crate::uniform::is_uniform;
 use jp_children::{ChildRange, place_in, sliced};
 use jp_compiled::{Logical, Nodes, Segment, Selector, Value as Giver, Want};
 use jp_found::{
@@ -27,8 +26,8 @@ use jp_nodes::{Visit, children_of};
 use jp_part::{Kind, Part};
 use jp_path_stack::{Link, PathStack};
 use jp_value::{
-    bounds_of, compare_kinds, exactly_one, length, literal, matches, matches_known, searches,
-    searches_known,
+    bounds_of, compare_kinds, exactly_one, length, literal, matches, matches_known, matches_read,
+    searches, searches_known, searches_read,
 };
 use std::alloc::AllocError;
 
@@ -188,32 +187,13 @@ fn select<'v, V: Visit + Drop>(
             let children = ChildRange::Listed(children.as_slice());
             each_of(context, Task::Run(rest), children, path, found)
         }
-        Selector::Filter(test) => match uniform_truth::<V>(context, test, value, path)? {
+        // What asks nothing of the current node is as true of each child: it was answered once a document.
+        Selector::Filter(test) => match context.known_truth(test) {
             Some(true) => each_child(context, Task::Run(rest), opened, path, found),
             Some(false) => Ok(()),
             None => each_child(context, Task::Test(test, rest), opened, path, found),
         },
     }
-}
-
-/// Whether the expression is true, where it asks nothing of the current node. It is made once for a list of
-/// children then, before they are gathered.
-#[cycle(walk)]
-pub(crate) fn uniform_truth<'v, V: Visit + Drop>(
-    context: &Context<'v>,
-    test: &'v Logical,
-    value: Part<'v>,
-    path: &mut PathStack<'v>,
-) -> Result<Option<bool>, AllocError>
-    ensures truth { IfOk result (λ o. IfSome o
-        (λ b. (n : Node) → is_true (base_of context.now) test.now n ≡ b)) }
-    ensures path { OnOk result (path.new ≡ path.old) }
-{
-    if !is_uniform(test) {
-        return Ok(None);
-    }
-    // Of the children it is as true as of the value.
-    Ok(Some(holds::<V>(context, test, value, path)?))
 }
 
 /// The segments from the item at this place, if there is one.
@@ -319,6 +299,10 @@ pub(crate) fn holds<'v, V: Visit + Drop>(
             Ok(has_first(answer))
         }
         Logical::Match(text, pattern) => {
+            if let Some(read) = context.pattern(pattern) {
+                let given = give::<V>(context, text, value, path)?;
+                return matches_read(context.alloc, given, read);
+            }
             let (text, pattern) = give_both::<V>(context, text, pattern, value, path)?;
             matches(context.alloc, text, pattern)
         }
@@ -327,6 +311,10 @@ pub(crate) fn holds<'v, V: Visit + Drop>(
             matches_known(context.alloc, text, known)
         }
         Logical::Search(text, pattern) => {
+            if let Some(read) = context.pattern(pattern) {
+                let given = give::<V>(context, text, value, path)?;
+                return searches_read(context.alloc, given, read);
+            }
             let (text, pattern) = give_both::<V>(context, text, pattern, value, path)?;
             searches(context.alloc, text, pattern)
         }
@@ -340,6 +328,7 @@ pub(crate) fn holds<'v, V: Visit + Drop>(
             let right = holds::<V>(context, right, value, path)?;
             Ok(exactly_one(left, right))
         }
+        Logical::Once(slot) => Ok(context.truth(*slot)),
     }
 }
 

@@ -13,10 +13,8 @@ use Rattle.jp_part.specs.declared.members.Members.TheVariants as member
 use Rattle.jp_part.specs.declared.part.Inside.{Inside}
 use Rattle.jp_part.specs.declared.part.Inside.TheVariants as inside
 use Rattle.jp_part.specs.declared.part.Kind.{Kind}
-use Rattle.jp_part.specs.declared.part.Kind.TheVariants.{Null, Truth, Whole, Written, Text, Array}
-use Rattle.jp_part.specs.declared.part.Kind.TheVariants.{Object, Listed}
+use Rattle.jp_part.specs.declared.part.Kind.TheVariants.{Null, Truth, Whole, Written, Text, Array, Object}
 use Rattle.jp_number.specs.Number.{whole, written}
-use Rattle.jp_part.specs.Members.{members, range_entries}
 
 -- the items of a value, and its members: none of one of another kind
 abbrev pub items_inside : Json → json.Items
@@ -69,4 +67,3 @@ kind_value (Written s) = number (written s.text.now)
 kind_value (Text s) = text (chars s.now)
 kind_value (Array i) = array (items (item_values i))
 kind_value (Object m) = object (members_in m)
-kind_value (Listed r) = object (members (range_entries r))

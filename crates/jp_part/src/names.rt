@@ -12,27 +12,32 @@ use crate::members::{MemberRange, Members};
 use jp_flat::{FlatMember, FlatMembers};
 
 impl<'v> Members<'v> {
-    /// Whether the object has fewer members in the line than another, where both are flat; a repeated name
-    /// counts as often as it stands there. It goes over the shorter one. It tells which of two is the cheaper
-    /// one to list, and no clause says more.
+    /// Whether the members of the object take less of the line than those of another, where both are flat: by
+    /// how many stand there, and the bytes of their names; a repeated name counts as often as it comes. It
+    /// goes over no more of either than the lighter one holds. It tells which of two is the cheaper one to
+    /// list, and no clause says more.
     pub fn is_shorter(self, other: Members<'_>) -> bool {
         let (Members::Flat(ones), Members::Flat(others)) = (self, other) else {
             return false;
         };
         let mut ones = ones;
         let mut others = others;
-        while let Some((_, behind)) = ones.split_first() {
-            let Some((_, behind_other)) = others.split_first() else {
+        // By how much what is gone over of the others outweighs what is gone over of these.
+        let mut ahead: usize = 0;
+        while let Some((one, behind)) = ones.split_first() {
+            let weight = weight_of(one);
+            let Some((left, excess)) = behind_weight(others, weight.saturating_sub(ahead)) else {
                 return false;
             };
             ones = behind;
-            others = behind_other;
+            others = left;
+            ahead = ahead.saturating_sub(weight).saturating_add(excess);
         }
-        others.split_first().is_some()
+        ahead > 0 || others.split_first().is_some()
     }
 
     /// Whether some name of the object was found to be none of the list. It is looked for only where the
-    /// object is flat, and has more members in the line than the list has, and takes no memory.
+    /// object is flat, and takes no memory.
     pub fn has_other_name(self, list: MemberRange<'_, '_>) -> bool
         ensures { IsTrue result → (k : Text) × IsTrue (is_some (member_at k (members_in self.entry)))
             × (member_at k (members (range_entries list.entry)) ≡ None) }
@@ -40,20 +45,31 @@ impl<'v> Members<'v> {
         let (Members::Flat(flat), MemberRange::Flat(list)) = (self, list) else {
             return false;
         };
-        is_longer(flat, list.len()) && has_name_beyond(flat, list)
+        has_name_beyond(flat, list)
     }
 }
 
-/// Whether there are more members in the line than so many.
-fn is_longer(members: FlatMembers<'_>, count: usize) -> bool {
+/// What a member weighs where it is listed: itself, and the bytes of its name, which are compared.
+fn weight_of(member: FlatMember<'_>) -> usize {
+    member.name.len().saturating_add(1)
+}
+
+/// The members behind the first that weigh so much together, and by how much these weigh more; or nothing,
+/// where all weigh less.
+fn behind_weight<'d>(members: FlatMembers<'d>, weight: usize) -> Option<(FlatMembers<'d>, usize)> {
     let mut left = members;
-    for i in 0..count {
-        let Some((_, others)) = left.split_first() else {
-            return false;
-        };
+    let mut gone: usize = 0;
+    while let Some((member, others)) = left.split_first() {
+        if gone >= weight {
+            break;
+        }
+        gone = gone.saturating_add(weight_of(member));
         left = others;
     }
-    left.split_first().is_some()
+    if gone < weight {
+        return None;
+    }
+    Some((left, gone - weight))
 }
 
 /// Whether some name is none of the list.
@@ -63,19 +79,27 @@ fn has_name_beyond(flat: FlatMembers<'_>, list: &[FlatMember<'_>]) -> bool
         × (member_at k (members (map entry list.now)) ≡ None) }
 {
     let mut left = flat;
+    let mut place: usize = 0;
     while let Some((member, others)) = left.split_first() {
-        // The search by halves is quick, but no clause says what it finds: only where it finds none is the
-        // whole list gone over.
-        if !is_found(member.name, list) && is_missing(member.name, list) {
+        // The search is quick, but no clause says what it finds: only where it finds none is the whole list
+        // gone over.
+        if !is_found(member.name, place, list) && is_missing(member.name, list) {
             return true;
         }
         left = others;
+        place = place.saturating_add(1);
     }
     false
 }
 
-/// Whether a search by halves finds the name, as it does where the names of the list rise.
-fn is_found(name: &str, list: &[FlatMember<'_>]) -> bool {
+/// Whether the name is found at the place where it is where all names rise and are the same, or by halves, as
+/// it is where those of the list rise.
+fn is_found(name: &str, place: usize, list: &[FlatMember<'_>]) -> bool {
+    if let Some(member) = list.get(place) {
+        if member.name == name {
+            return true;
+        }
+    }
     list.binary_search_by(|member| member.name.cmp(name))
         .is_ok()
 }

@@ -14,7 +14,7 @@ ghost use Rattle.jp_number.specs.Number as numbers;
 ghost use Rattle.jp_part.specs.Part.{part_value};
 
 use crate::items::Items;
-use crate::members::{MemberRange, Members};
+use crate::members::Members;
 use crate::tree::{TreeItems, TreeMembers, TreeValue};
 use jp_doc::{Document, whole_of};
 use jp_flat::{FlatDocument, FlatValue};
@@ -59,8 +59,6 @@ pub enum Kind<'v> {
     Array(Items<'v>),
     /// An object, of these members.
     Object(Members<'v>),
-    /// An object, of these members, which are listed.
-    Listed(MemberRange<'v, 'v>),
 }
 
 impl<'v> Part<'v> {

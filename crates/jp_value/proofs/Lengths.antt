@@ -3,7 +3,7 @@ use Rattle.std.proofs.Common.{◌≡◌, ℕ, suc, Bool, true, false, ◌&&◌, 
 use Rattle.std.proofs.Common.{refl, sym, ap, ◌∙◌}
 use Rattle.std.specs.Prelude.{pos}
 use Rattle.jp_number.specs.Number.{whole}
-use Rattle.jp_doc.specs.Json.{Text, text_eq, Json, number, array, object, items, Members}
+use Rattle.jp_doc.specs.Json.{Text, text_eq, Json, number, array, items}
 use Rattle.jp_part.specs.Members.{members}
 use Rattle.jp_part.proofs.Lists.{list_back}
 use Rattle.jp_value.specs.Comparison.{same, same_members}
@@ -16,11 +16,6 @@ members_counted (e ∷ es) = ap (λ n. suc n) (members_counted es)
 pub array_length : (xs : List Json) (n : ℕ) → n ≡ length xs
     → Some (number (whole (pos n))) ≡ length_value (Some (array (items xs)))
 array_length xs n is = ap (λ k. Some (number_value k)) (is ∙ sym (ap length (list_back xs)))
-
-pub object_length : (ms : Members) (es : List (Text × Json)) (n : ℕ) → ms ≡ members es → n ≡ length es
-    → Some (number (whole (pos n))) ≡ length_value (Some (object ms))
-object_length ms es n same_ones is =
-    ap (λ k. Some (number_value k)) (is ∙ sym (members_counted es) ∙ sym (ap member_count same_ones))
 
 and_false : (a b : Bool) → false ≡ b → false ≡ (a && b)
 and_false true b h = h

@@ -7,7 +7,7 @@ use Rattle.jp_doc.specs.Json.{number}
 use Rattle.jp_number.specs.Number.{whole, written}
 use Rattle.jp_tree.specs.View.{text_of}
 use Rattle.jp_types.specs.Numbers.{whole_number}
-use Rattle.jp_compiled.specs.Compiled.{constant_of}
+use Rattle.jp_compiled.specs.Parts.{constant_of}
 use Rattle.jp_compiled.specs.declared.query.Constant.TheVariants.{Whole, Written}
 use Rattle.jp_compiled.specs.declared.query.WholeNumber.{WholeNumber}
 use Rattle.jp_compiled.specs.declared.query.WrittenNumber.{WrittenNumber}

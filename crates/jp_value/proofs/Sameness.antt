@@ -1,11 +1,11 @@
 -- Deep equality is an equivalence, and equality where all numbers are whole.
-use Rattle.std.proofs.Common.{◌≡◌, Bool, true, false, ◌&&◌, refl, sym, ap, ap₂, subst}
+use Rattle.std.proofs.Common.{◌≡◌, Bool, true, false, ◌&&◌, refl, ap, ap₂, subst}
 use Rattle.std.specs.Prelude.{IsTrue, ◌↔◌, Option, Some, None}
 use Rattle.std.specs.Cmp.{IsEquivalence}
 use Rattle.std.proofs.lemmas.Bool.Decides.{Decides-int_eq}
 use Rattle.std.proofs.lemmas.Cmp.{nat_list_eq_equiv}
 use Rattle.std.proofs.lemmas.Slice.Eq.{bytes_eq-Decides}
-use Rattle.jp_doc.specs.Json.{Text, text_eq, Json, null, truth, number, text, array, object, Items, no_items}
+use Rattle.jp_doc.specs.Json.{text_eq, Json, null, truth, number, text, array, object, Items, no_items}
 use Rattle.jp_doc.specs.Json.{add_item, Members, no_members, add_member}
 use Rattle.jp_doc.specs.NumbersWithin.{IsWhole, AllNumbersOfItems, AllNumbersOfMembers, HasWholeNumbers}
 use Rattle.jp_number.specs.Number.{Number, whole, written}

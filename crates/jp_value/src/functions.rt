@@ -6,16 +6,16 @@ ghost use Rattle.std.specs.Str.{chars};
 ghost use Rattle.jp_doc.specs.Json as json;
 ghost use Rattle.jp_part.specs.Inside.{kind_value, members_in};
 ghost use Rattle.jp_tree.specs.View.{text_of as characters};
-ghost use Rattle.jp_compiled.specs.Compiled.{constant_of};
+ghost use Rattle.jp_compiled.specs.Parts.{constant_of};
 ghost use Rattle.jp_value.specs.Functions as spec;
 ghost use Rattle.jp_value.specs.Kinds.{given_value};
 ghost use Rattle.jp_value.specs.inner.Texts.{text_in};
 ghost use Rattle.jp_value.specs.Literals.{literal_value};
 ghost use Rattle.jp_value.specs.RightTests.{tests};
 
+use crate::read_pattern::ReadPattern;
 use jp_compiled::{Constant, KnownPattern};
 use jp_part::{Kind, Members};
-use jp_regexp::Pattern;
 use std::alloc::{AllocError, Global};
 
 /// The value of a literal.
@@ -60,7 +60,6 @@ fn length_of(alloc: Global, kind: Kind<'_>) -> Result<Option<Kind<'_>>, AllocErr
         Kind::Text(text) => Ok(Some(Kind::Whole(count_characters(text) as i128))),
         Kind::Array(items) => Ok(Some(Kind::Whole(items.count() as i128))),
         Kind::Object(members) => Ok(Some(Kind::Whole(count_members(alloc, members)? as i128))),
-        Kind::Listed(members) => Ok(Some(Kind::Whole(members.len() as i128))),
         Kind::Null => Ok(None),
         Kind::Truth(_) => Ok(None),
         Kind::Whole(_) => Ok(None),
@@ -82,7 +81,7 @@ fn count_members(alloc: Global, members: Members<'_>) -> Result<usize, AllocErro
 }
 
 /// The text that is given, if it is one.
-fn text_of(given: Option<Kind<'_>>) -> Option<&str>
+pub(crate) fn text_of(given: Option<Kind<'_>>) -> Option<&str>
     ensures { option_map (λ s. chars s.now) result ≡ text_in (given_value given.entry) }
 {
     match given {
@@ -183,10 +182,8 @@ fn is_match_read(alloc: Global, text: &str, pattern_text: &str) -> Result<bool, 
     ensures { IfOk result (λ b. b ≡ tests.is_match (chars text.now) (chars pattern_text.now)) }
 {
     // Read anew at each node, also where it is the text of a literal (README, Why so).
-    match Pattern::read(alloc, pattern_text)? {
-        Some(pattern) => pattern.matches(alloc, text),
-        None => Ok(false),
-    }
+    let read = ReadPattern::read(alloc, pattern_text)?;
+    read.matches(alloc, text)
 }
 
 /// Whether some part of the text matches a literal pattern.
@@ -203,8 +200,6 @@ fn is_found(alloc: Global, text: &str, known: &KnownPattern) -> Result<bool, All
 fn is_found_read(alloc: Global, text: &str, pattern_text: &str) -> Result<bool, AllocError>
     ensures { IfOk result (λ b. b ≡ tests.is_found (chars text.now) (chars pattern_text.now)) }
 {
-    match Pattern::read(alloc, pattern_text)? {
-        Some(pattern) => pattern.found_in(alloc, text),
-        None => Ok(false),
-    }
+    let read = ReadPattern::read(alloc, pattern_text)?;
+    read.found_in(alloc, text)
 }

@@ -30,9 +30,6 @@ fn same_kind(alloc: Global, left: Kind<'_>, right: Kind<'_>) -> Result<bool, All
         (Kind::Text(x), Kind::Text(y)) => Ok(same_text(x, y)),
         (Kind::Array(x), Kind::Array(y)) => same_items(alloc, x, y),
         (Kind::Object(x), Kind::Object(y)) => same_members(alloc, x, y),
-        (Kind::Object(x), Kind::Listed(y)) => same_as_listed(alloc, x, y),
-        (Kind::Listed(x), Kind::Object(y)) => same_as_object(alloc, x, y),
-        (Kind::Listed(x), Kind::Listed(y)) => same_ranges(alloc, x, y),
         _ => Ok(false),
     }
 }
@@ -59,8 +56,8 @@ fn same_items(alloc: Global, left: Items<'_>, right: Items<'_>) -> Result<bool, 
     Ok(others.split_first().is_none())
 }
 
-/// Of two objects in a line the one with fewer members there is listed first: no member of the other is
-/// listed where one of its names tells them apart. Two of a tree are compared member by member.
+/// Of two objects in a line the shorter one is listed first: no member of the other is listed where one of
+/// its names tells them apart. Two of a tree are compared member by member.
 #[cycle(same_kind)]
 fn same_members(alloc: Global, left: Members<'_>, right: Members<'_>) -> Result<bool, AllocError>
     ensures { IfOk result (λ b. b ≡ spec.same_members (members_in left.entry) (members_in right.entry)) }
@@ -74,7 +71,7 @@ fn same_members(alloc: Global, left: Members<'_>, right: Members<'_>) -> Result<
     if right.is_empty() {
         return Ok(false);
     }
-    // So an object beside a much wider one costs no more than itself (README, Why so).
+    // So an object beside a much larger one costs no more than itself (README, Why so).
     if left.is_shorter(right) {
         let left = left.gather(alloc)?;
         same_as_object(alloc, left.range(), right)

@@ -8,6 +8,7 @@ mod functions;
 mod kinds;
 pub mod laws;
 mod numbers;
+mod read_pattern;
 mod slice;
 
 pub use comparison::{Operand, equal, less};
@@ -16,4 +17,5 @@ pub use functions::{
 };
 pub use kinds::compare_kinds;
 pub use numbers::place;
+pub use read_pattern::{ReadPattern, matches_read, searches_read};
 pub use slice::{Bounds, bounds_of, first_place, place_after, slice_bounds};

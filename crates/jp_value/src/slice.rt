@@ -2,7 +2,7 @@
 
 ghost use Rattle.std.specs.Prelude.{◌≡◌, ◌≤◌, ◌<◌, ◌-◌, ◌<ℤ◌, pos, ℕ, option_map, unwrap_or};
 ghost use Rattle.std.specs.Option.{ForSome};
-ghost use Rattle.jp_compiled.specs.Compiled.{position_text};
+ghost use Rattle.jp_compiled.specs.Parts.{position_text};
 ghost use Rattle.jp_value.specs.BoundsView.{bounds_value, IsPosition};
 ghost use Rattle.jp_value.specs.Literals.{written_value};
 ghost use Rattle.jp_value.specs.Places.{AreWithin, IfPlace, IsPlace, from_place, later};

@@ -8,8 +8,8 @@ use Rattle.jp_types.specs.Numbers.{is_whole, is_short_in}
 use Rattle.jp_tree.specs.Tree.{Text}
 use Rattle.jp_check.specs.Known.{known_texts}
 use Rattle.jp_compiled.specs.declared.known.KnownPattern.{KnownPattern}
-use Rattle.jp_compiled.specs.Compiled.{Wanted, roots_of}
-use Rattle.jp_check.specs.declared.making.Listed.{Listed}
+use Rattle.jp_compiled.specs.Parts.{Wanted, roots_of}
+use Rattle.jp_check.specs.declared.listed.Listed.{Listed}
 
 -- the first list begins the second
 abbrev pub Begins : List Wanted → List Wanted → Type 0
@@ -30,6 +30,10 @@ KeepsRoots before after = Begins (roots_of before.roots.items) (roots_of after.r
 -- read where these roots are listed, or these and more, it is this
 abbrev pub ReadsWith : {A : Type 0} → Listed → (List Wanted → A) → A → Type 0
 ReadsWith listed view x = Reads (roots_of listed.roots.items) view x
+
+-- what one was, read with what was listed before, the other is, read with what is listed now
+abbrev pub ReadsOn : {A : Type 0} → Listed → Listed → (List Wanted → A) → (List Wanted → A) → Type 0
+ReadsOn {A} before after one other = (x : A) → ReadsWith before one x → ReadsWith after other x
 
 -- behind the patterns that were listed before stand those of these texts
 abbrev pub AddsPatterns : Listed → Listed → List Text → Type 0

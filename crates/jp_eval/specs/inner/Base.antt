@@ -1,7 +1,7 @@
 -- A step of a proof, which nobody has to believe: what a compiled query is read by.
 use Rattle.std.specs.Prelude.{List}
 use Rattle.jp_doc.specs.Json.{Json}
-use Rattle.jp_compiled.specs.Compiled.{Wanted, roots_of}
+use Rattle.jp_compiled.specs.Parts.{Wanted, roots_of}
 use Rattle.jp_part.specs.Part.{part_value}
 use Rattle.jp_eval.specs.declared.context.Context.{Context}
 

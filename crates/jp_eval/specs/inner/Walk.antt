@@ -3,8 +3,8 @@ use Rattle.std.specs.Prelude.{List, [], ◌∷◌, Bool, Option}
 use Rattle.std.specs.List.{filter, flat_map}
 use Rattle.jp_doc.specs.Json.{Json}
 use Rattle.jp_doc.specs.Location.{Node}
-use Rattle.jp_compiled.specs.Compiled.{logical_in, selector_in, segments_in, value_in, nodes_in}
-use Rattle.jp_compiled.specs.Compiled.{source_argument}
+use Rattle.jp_compiled.specs.Parts.{logical_in, selector_in, segments_in, value_in, nodes_in}
+use Rattle.jp_compiled.specs.Parts.{source_argument}
 use Rattle.jp_compiled.specs.declared.query.Want.{Want}
 use Rattle.jp_compiled.specs.declared.query.Segment.{Segment}
 use Rattle.jp_compiled.specs.declared.query.Selector.{Selector}

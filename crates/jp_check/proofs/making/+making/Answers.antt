@@ -10,21 +10,20 @@ use Rattle.jp_tree.proofs.Views.{call_argument_made, logical_argument_made}
 use Rattle.jp_tree.specs.declared.tree.Start.TheVariants as start
 use Rattle.jp_tree.specs.declared.tree.Query.{out-Query}
 use Rattle.jp_tree.specs.declared.tree.Segment.{the_lemmas}
-use Rattle.jp_compiled.specs.declared.query.RootQuery.{RootQuery}
 use Rattle.std.specs.Str.{chars}
 use Rattle.jp_types.specs.Functions.{function_named, length_function, count_function, value_function}
 use Rattle.jp_types.specs.Functions.{xor_function, distinct_function, match_function, search_function}
 use Rattle.jp_types.specs.Functions.{logical_type, value_type}
 use Rattle.jp_types.specs.Kinds.{function_of}
-use Rattle.jp_compiled.specs.Compiled.{segment_in, selector_in, logical_in, value_in, as_argument}
-use Rattle.jp_compiled.specs.Compiled.{text_argument, form_of, truth_argument, call_of_one, call_of_two}
-use Rattle.jp_compiled.specs.Compiled.{nodes_in, queried, source_argument, source_test, source_side}
+use Rattle.jp_compiled.specs.Parts.{segment_in, selector_in, logical_in, value_in, as_argument}
+use Rattle.jp_compiled.specs.Parts.{text_argument, form_of, truth_argument, call_of_one, call_of_two}
+use Rattle.jp_compiled.specs.Parts.{nodes_in, queried, source_argument, source_test, source_side}
 use Rattle.jp_types.proofs.Levels.{query_level, segment_level, comparison_level}
 use Rattle.jp_check.proofs.CallsMade.{called_one, called, given_two, text_is, query_written}
 use Rattle.jp_check.proofs.CallsMade.{call_written, logical_written, called_test}
 use Rattle.jp_check.proofs.Naming.{named}
-use Rattle.jp_check.proofs.MakingSteps.{begins_itself, begins_on, made_more, made_all, listed_begins}
-use Rattle.jp_check.proofs.MakingSteps.{root_found}
+use Rattle.jp_check.specs.Known.{known_texts}
+use Rattle.jp_check.proofs.MakingSteps.{begins_itself, begins_on, later, made_more, made_all}
 use Rattle.jp_compiled.proofs.CompiledViews.{filter_read, any_read, all_read, not_read}
 use Rattle.jp_compiled.proofs.CompiledViews.{compare_read, test_read}
 use Rattle.jp_compiled.proofs.CompiledViews.{single_read, length_read, count_read, only_read, here_read}
@@ -124,20 +123,20 @@ make_argument_nodes-returns-in-Query-clause-made t c =
     ∙ sym (ap argument_of c.in-Query.is ∙ query_argument_made c.in-Query.query))
     c.make_nodes.ensures.made
 
-pub make_logical-returns-in_ok-make_parts-in-Any-clause-made
-    : goal.make_logical-returns-in_ok-make_parts-in-Any-clause-made
-make_logical-returns-in_ok-make_parts-in-Any-clause-made t c = λ all h.
-    any_read all c.in_ok-make_parts-in-Any.field-0
-    ∙ ap (λ ls. tree.any (tree.logicals ls)) (c.in_ok-make_parts-in-Any.ensures.made all h
-    ∙ ap (map logical_of) c.deref.ensures.value)
+pub make_logical-returns-in_ok-apart-in-Any-clause-made
+    : goal.make_logical-returns-in_ok-apart-in-Any-clause-made
+make_logical-returns-in_ok-apart-in-Any-clause-made t c = λ all h.
+    any_read all c.in_ok-apart-in-Any.field-0
+    ∙ ap (λ ls. tree.any (tree.logicals ls)) (c.in_ok-apart-in-Any.ensures.made _
+    c.in_ok-made-in-Any.ensures.made all h ∙ ap (map logical_of) c.deref.ensures.value)
     ∙ sym (ap logical_of c.in-Any.is ∙ any_made c.in-Any.parts)
 
-pub make_logical-returns-in_ok-make_parts-in-All-clause-made
-    : goal.make_logical-returns-in_ok-make_parts-in-All-clause-made
-make_logical-returns-in_ok-make_parts-in-All-clause-made t c = λ all h.
-    all_read all c.in_ok-make_parts-in-All.field-0
-    ∙ ap (λ ls. tree.all (tree.logicals ls)) (c.in_ok-make_parts-in-All.ensures.made all h
-    ∙ ap (map logical_of) c.deref-in-All.ensures.value)
+pub make_logical-returns-in_ok-apart-in-All-clause-made
+    : goal.make_logical-returns-in_ok-apart-in-All-clause-made
+make_logical-returns-in_ok-apart-in-All-clause-made t c = λ all h.
+    all_read all c.in_ok-apart-in-All.field-0
+    ∙ ap (λ ls. tree.all (tree.logicals ls)) (c.in_ok-apart-in-All.ensures.made _
+    c.in_ok-made-in-All.ensures.made all h ∙ ap (map logical_of) c.deref-in-All.ensures.value)
     ∙ sym (ap logical_of c.in-All.is ∙ all_made c.in-All.parts)
 
 pub make_negation-returns-clause-made : goal.make_negation-returns-clause-made
@@ -188,30 +187,22 @@ make_nodes-returns-in-Current-clause-made t c = λ all h.
     ∙ ap (λ s. tree.query s
     (tree.segments (map segment_of (out-Query c.args.query.now).segments.items))) c.in-Current.is))
 
-pub make_nodes-returns-in_ok-push-in-Root-clause-made
-    : goal.make_nodes-returns-in_ok-push-in-Root-clause-made
-make_nodes-returns-in_ok-push-in-Root-clause-made t c = λ all h.
-    let r : RootQuery = record { want = c.args.want; segments = c.in_ok-segments.segments } in
-    root_read all c.len-slot.result c.args.want
-    ∙ ap queried (root_found c.make_segments.new.listed.roots.items _ r c.len-slot.result all
-    (c.len-slot.ensures ∙ c.make_segments.new.listed.roots.ok.0) c.in_ok-push-in-Root.ensures.items h
+pub make_nodes-returns-in_ok-slot-in-Root-clause-made
+    : goal.make_nodes-returns-in_ok-slot-in-Root-clause-made
+make_nodes-returns-in_ok-slot-in-Root-clause-made t c = λ all h.
+    root_read all c.in_ok-slot-in-Root.slot c.args.want
+    ∙ ap queried (c.in_ok-slot-in-Root.ensures.root all h
     ∙ ap (λ ss. tree.query start.Root (tree.segments ss))
     (c.in_ok-segments.ensures.made _ (begins_itself _) ∙ ap (map segment_of) c.as_slice.ensures.value)
     ∙ sym (query_level c.args.query.now
     ∙ ap (λ s. tree.query s
     (tree.segments (map segment_of (out-Query c.args.query.now).segments.items))) c.in-Root.is))
 
-pub make_nodes-returns-in_ok-push-in-Root-clause-roots
-    : goal.make_nodes-returns-in_ok-push-in-Root-clause-roots
-make_nodes-returns-in_ok-push-in-Root-clause-roots t c =
-    begins_on _ _ _ c.in_ok-segments.ensures.roots (listed_begins c.make_segments.new.listed.roots.items _ _
-    c.in_ok-push-in-Root.ensures.items)
-
-pub make_selector-returns-in_ok-make_logical-in-Filter-clause-made
-    : goal.make_selector-returns-in_ok-make_logical-in-Filter-clause-made
-make_selector-returns-in_ok-make_logical-in-Filter-clause-made t c = λ all h.
-    filter_read all c.in_ok-make_logical-in-Filter.field-0
-    ∙ ap tree.filter (c.in_ok-make_logical-in-Filter.ensures.made all h)
+pub make_selector-returns-in_ok-once-in-Filter-clause-made
+    : goal.make_selector-returns-in_ok-once-in-Filter-clause-made
+make_selector-returns-in_ok-once-in-Filter-clause-made t c = λ all h.
+    filter_read all c.in_ok-once-in-Filter.field-0
+    ∙ ap tree.filter (c.in_ok-once-in-Filter.ensures.made _ c.in_ok-test-in-Filter.ensures.made all h)
     ∙ sym (ap selector_of c.in-Filter.is ∙ filter_made c.in-Filter.logical)
 
 pub make_side-returns-in_ok-make_nodes-in-Single-clause-made
@@ -337,9 +328,11 @@ make_xor-returns-clause-made t c = λ all h.
     xor_read all c.form_of.result c.in_ok-first.first c.form_of-2.result c.in_ok-second.second
     ∙ ap₂ (λ a b. tree.test_call (call_of_two (codes "xor") a b))
     (ap (λ f. truth_argument f (logical_in all c.in_ok-first.first.value)) c.form_of.ensures
-    ∙ c.in_ok-first.ensures.made all (begins_on _ _ _ c.in_ok-second.ensures.roots h))
+    ∙ c.in_ok-first.ensures.made _ _ (later _ _ _ _ c.in_ok-other.ensures.roots c.in_ok-one.ensures.made)
+    all (begins_on _ _ _ c.in_ok-second.ensures.roots h))
     (ap (λ f. truth_argument f (logical_in all c.in_ok-second.second.value)) c.form_of-2.ensures
-    ∙ c.in_ok-second.ensures.made all h)
+    ∙ c.in_ok-second.ensures.made _ _ (later _ _ _ _ c.in_ok-first.ensures.roots c.in_ok-other.ensures.made)
+    all h)
     ∙ sym (ap tree.test_call (given_two (codes "xor") c.args.arguments.now c.left-item.result
     c.right-item.result c.in-len2.len_at_least c.in-len2.len_below c.left-item.is c.right-item.is))
 
@@ -549,10 +542,11 @@ make_nodes-returns-in-Current-clause-patterns t c =
     (ap (λ ss. segments_patterns (tree.segments (segments_of ss))) c.as_slice.ensures.value
     ∙ sym (ap literal_patterns (query_level c.args.query.now)))
 
-pub make_nodes-returns-in_ok-push-in-Root-clause-patterns
-    : goal.make_nodes-returns-in_ok-push-in-Root-clause-patterns
-make_nodes-returns-in_ok-push-in-Root-clause-patterns t c =
-    listed_same _ _ _ _ c.in_ok-segments.ensures.patterns
+pub make_nodes-returns-in_ok-slot-in-Root-clause-patterns
+    : goal.make_nodes-returns-in_ok-slot-in-Root-clause-patterns
+make_nodes-returns-in_ok-slot-in-Root-clause-patterns t c =
+    listed_same _ _ _ _ (ap known_texts c.in_ok-slot-in-Root.ensures.patterns
+    ∙ c.in_ok-segments.ensures.patterns)
     (ap (λ ss. segments_patterns (tree.segments (segments_of ss))) c.as_slice.ensures.value
     ∙ sym (ap literal_patterns (query_level c.args.query.now)))
 
@@ -641,7 +635,8 @@ make_test_call-returns-in-Some-Search-clause-patterns t c =
 pub make_xor-returns-clause-patterns : goal.make_xor-returns-clause-patterns
 make_xor-returns-clause-patterns t c =
     listed_same _ _ _ _
-    (listed_on _ _ _ _ _ c.in_ok-first.ensures.patterns c.in_ok-second.ensures.patterns)
+    (ap known_texts (c.in_ok-second.ensures.patterns ∙ c.in_ok-first.ensures.patterns)
+    ∙ listed_on _ _ _ _ _ c.in_ok-one.ensures.patterns c.in_ok-other.ensures.patterns)
     (two_patterns c.args.arguments.now c.left-item.result c.right-item.result c.in-len2.len_at_least
     c.in-len2.len_below c.left-item.is c.right-item.is)
 

@@ -5,7 +5,7 @@ use Rattle.jp_check.specs.Known.{known_texts}
 use Rattle.jp_check.specs.LiteralPatterns.{segments_patterns, selectors_patterns, logicals_patterns}
 use Rattle.jp_tree.specs.PartViews.{segment_of, selector_of, logical_of}
 use Rattle.jp_check.specs.inner.Making.{Begins, Reads}
-use Rattle.jp_compiled.specs.Compiled.{roots_of, segment_in, selector_in, logical_in}
+use Rattle.jp_compiled.specs.Parts.{roots_of, segment_in, selector_in, logical_in}
 use Rattle.jp_check.proofs.making.+making.Given as goal
 
 abbrev pub invariant-make_segments-loop-segment : goal.invariant-make_segments-loop-segment

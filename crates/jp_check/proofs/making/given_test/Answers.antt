@@ -2,7 +2,7 @@ use Rattle.std.proofs.Common.{◌≡◌, ◌∙◌, ap, sym, Some, option_map}
 use Rattle.jp_tree.specs.Tree as tree
 use Rattle.jp_types.specs.Functions.{function_named, match_function, search_function}
 use Rattle.jp_types.specs.Kinds.{function_of}
-use Rattle.jp_compiled.specs.Compiled.{call_of_two, as_argument, value_in}
+use Rattle.jp_compiled.specs.Parts.{call_of_two, as_argument, value_in}
 use Rattle.jp_check.proofs.Naming.{named}
 use Rattle.jp_compiled.proofs.CompiledViews.{match_read, search_read}
 use Rattle.jp_check.proofs.making.given_test.Goals as goal

@@ -18,6 +18,6 @@ pub returns-clause-patterns : goal.returns-clause-patterns
 returns-clause-patterns c =
     c.in_ok-segments.ensures.patterns
     ∙ ap (λ ks. known_texts ks ++ segments_patterns (tree.segments (segments_of c.as_slice.result.now)))
-    c.new-2.ensures.items
+    c.new-listed.ensures.patterns
     ∙ ap (λ ss. segments_patterns (tree.segments (segments_of ss))) c.as_slice.ensures.value
     ∙ sym (ap literal_patterns (query_level c.args.query.now))

@@ -3,7 +3,7 @@ use Rattle.jp_tree.specs.Tree as tree
 use Rattle.jp_tree.specs.View.{text_of}
 use Rattle.jp_types.specs.Functions.{function_named, match_function, search_function}
 use Rattle.jp_types.specs.Kinds.{function_of}
-use Rattle.jp_compiled.specs.Compiled.{call_of_two, as_argument, text_argument, value_in}
+use Rattle.jp_compiled.specs.Parts.{call_of_two, as_argument, text_argument, value_in}
 use Rattle.jp_check.proofs.Naming.{named}
 use Rattle.jp_compiled.proofs.CompiledViews.{match_known, search_known}
 use Rattle.jp_check.proofs.making.read_test.Goals as goal

@@ -1,5 +1,5 @@
 use Rattle.std.proofs.Common.{sym, ap, ◌∙◌}
-use Rattle.jp_compiled.specs.Compiled.{roots_of}
+use Rattle.jp_compiled.specs.Parts.{roots_of}
 use Rattle.jp_eval.specs.inner.Base.{base_of}
 use Rattle.jp_eval.proofs.Answering.{visited}
 use Rattle.jp_found.proofs.Keeping.{still_taken}

@@ -39,21 +39,19 @@ pub each_work_item-along-requires-clause-taken : goal.each_work_item-along-requi
 each_work_item-along-requires-clause-taken g t c κs within =
     taken_on g.V.Visit.put _ _ _ _ c.loop-work_item.invariant.2 c.requires.taken
 
--- the path is where it was while the test was made
 pub along-returns-clause-found : goal.along-returns-clause-found
 along-returns-clause-found g t c =
     let base = base_of c.args.splitting.now.context.now in
     let at = link_steps c.args.path.now in
-    let settled = rw c.in-Some.is at (c.in_ok-settled.ensures.task
-    (child_nodes at c.args.work_item.children)) in
-    on_ok_weaker c.each_of.result (λ e. rw c.in_ok-settled.ensures.path at e
+    let settled = rw c.in-Some.is at (c.settled_along.ensures (child_nodes at c.args.work_item.children)) in
+    on_ok_weaker c.each_of.result (λ e. e
     ∙ ap (plus (put_found g.V.Visit.put) (kept g.V.Visit.kept c.args.found.now))
     (ap (flat_map (done base c.in-Some.task)) (c.counted-children.ensures.nodes at) ∙ settled))
     c.each_of.ensures.found
 
 pub along-returns-in_default-clause-found : goal.along-returns-in_default-clause-found
 along-returns-in_default-clause-found g t c =
-    nothing_found (put_found g.V.Visit.put) _ _ (rw c.in_default.is at (c.in_ok-settled.ensures.task
+    nothing_found (put_found g.V.Visit.put) _ _ (rw c.in_default.is at (c.settled_along.ensures
     (child_nodes (link_steps c.args.path.now) c.args.work_item.children)))
 
 pub one_by_one-go_split-requires-clause-taken : goal.one_by_one-go_split-requires-clause-taken

@@ -12,7 +12,7 @@ use Rattle.jp_doc.specs.Height.{height}
 use Rattle.jp_doc.specs.Json.{text}
 use Rattle.jp_doc.specs.Location.{node, name, member_of}
 use Rattle.jp_tree.specs.View.{text_of}
-use Rattle.jp_compiled.specs.Compiled.{position_text, wanted_inside}
+use Rattle.jp_compiled.specs.Parts.{position_text, wanted_inside}
 use Rattle.jp_compiled.specs.declared.query.Want.TheVariants as want
 use Rattle.jp_found.specs.Aggregates.{tells}
 use Rattle.jp_eval.specs.inner.Base.{base_of}
@@ -38,7 +38,7 @@ use Rattle.jp_eval.proofs.CompiledParts.{picked_name, picked_wild, picked_index,
 use Rattle.jp_eval.proofs.CompiledParts.{true_any, true_all, true_not, true_compare, true_test, true_match}
 use Rattle.jp_eval.proofs.CompiledParts.{true_search, true_match_known, true_search_known, given_constant}
 use Rattle.jp_eval.proofs.CompiledParts.{given_single, given_length, given_count, given_only, nodes_here}
-use Rattle.jp_eval.proofs.CompiledParts.{nodes_root, nodes_distinct, true_xor}
+use Rattle.jp_eval.proofs.CompiledParts.{nodes_root, nodes_distinct, true_xor, true_once}
 use Rattle.jp_children.proofs.Places.{slice_found}
 use Rattle.jp_eval.proofs.Uniformity.{true_along, false_along, kept_each}
 use Rattle.jp_children.specs.Selected.{index_places}
@@ -285,9 +285,8 @@ select-returns-in-Some-true-clause-found g t c =
     let rest = c.args.rest.now in
     let n = here c.args.path.now c.args.opened.value in
     let l = c.in-Filter.test in
-    let on = rw (c.in-Some-true.is, c.in-Some-true.field-0-test) at
-    c.in_ok-uniform_truth-in-Filter.ensures.truth in
-    on_ok_weaker c.each_child-in-Some-true.result (λ e. rw c.in_ok-uniform_truth-in-Filter.ensures.path at e
+    let on = rw (c.in-Some-true.is, c.in-Some-true.field-0-test) at c.known_truth.ensures in
+    on_ok_weaker c.each_child-in-Some-true.result (λ e. e
     ∙ ap (plus (put_found g.V.Visit.put) (kept g.V.Visit.kept c.args.found.now))
     (true_along base l rest on (children n)
     ∙ sym (kept_each base rest n c.args.selector.now l c.in-Filter.is)))
@@ -299,8 +298,7 @@ select-returns-in-Some-false-clause-found g t c =
     let rest = c.args.rest.now in
     let n = here c.args.path.now c.args.opened.value in
     let l = c.in-Filter.test in
-    let off = rw (c.in-Some-false.is, c.in-Some-false.field-0-test) at
-    c.in_ok-uniform_truth-in-Filter.ensures.truth in
+    let off = rw (c.in-Some-false.is, c.in-Some-false.field-0-test) at c.known_truth.ensures in
     nothing_found (put_found g.V.Visit.put) _ _
     (kept_each base rest n c.args.selector.now l c.in-Filter.is ∙ false_along base l rest off (children n))
 
@@ -308,16 +306,36 @@ pub select-returns-in-None-clause-found : goal.select-returns-in-None-clause-fou
 select-returns-in-None-clause-found g t c =
     let base = base_of c.args.context.now in
     let n = here c.args.path.now c.args.opened.value in
-    on_ok_weaker c.each_child-in-None.result (λ e. rw c.in_ok-uniform_truth-in-Filter.ensures.path at e
+    on_ok_weaker c.each_child-in-None.result (λ e. e
     ∙ ap (plus (put_found g.V.Visit.put) (kept g.V.Visit.kept c.args.found.now))
     (sym (kept_each base c.args.rest.now n c.args.selector.now c.in-Filter.test c.in-Filter.is)))
     c.each_child-in-None.ensures.found
 
-pub uniform_truth-returns-clause-truth : goal.uniform_truth-returns-clause-truth
-uniform_truth-returns-clause-truth g t c =
-    let uniform = c.is_uniform.ensures c.if-not-is_uniform.false in
-    λ n. uniform.alike (base_of c.args.context.now) n (here c.args.path.now c.args.value)
-    ∙ sym c.in_ok-holds.ensures.truth
+pub holds-returns-in-Some-clause-truth : goal.holds-returns-in-Some-clause-truth
+holds-returns-in-Some-clause-truth g t c =
+    let base = base_of c.args.context.now in
+    let n = here c.args.path.now c.args.value in
+    IfOk-weaker c.matches_read.result _ _ (λ b e. e
+    ∙ ap₂ (tested tests.is_match) c.in_ok-given-in-Match.ensures.value (sym (c.in-Some.ensures n))
+    ∙ sym (ap (λ l. is_true base l n) c.in-Match.is ∙ true_match base n c.in-Match.text c.in-Match.pattern))
+    c.matches_read.ensures
+
+pub holds-returns-in-Some-pattern-clause-truth : goal.holds-returns-in-Some-pattern-clause-truth
+holds-returns-in-Some-pattern-clause-truth g t c =
+    let base = base_of c.args.context.now in
+    let n = here c.args.path.now c.args.value in
+    IfOk-weaker c.searches_read.result _ _ (λ b e. e
+    ∙ ap₂ (tested tests.is_found) c.in_ok-given-in-Search.ensures.value (sym (c.in-Some-pattern.ensures n))
+    ∙ sym (ap (λ l. is_true base l n) c.in-Search.is
+    ∙ true_search base n c.in-Search.text c.in-Search.pattern))
+    c.searches_read.ensures
+
+pub holds-returns-in-Once-clause-truth : goal.holds-returns-in-Once-clause-truth
+holds-returns-in-Once-clause-truth g t c =
+    let base = base_of c.args.context.now in
+    let n = here c.args.path.now c.args.value in
+    c.truth.ensures n
+    ∙ sym (ap (λ l. is_true base l n) c.in-Once.is ∙ true_once base n c.in-Once.slot)
 
 pub all-loop-part-preserved : goal.all-loop-part-preserved
 all-loop-part-preserved g t c =

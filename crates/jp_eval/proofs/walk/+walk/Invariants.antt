@@ -48,9 +48,6 @@ abbrev pub decreases-select : goal.decreases-select
 decreases-select g l = weight (max (size-Selector l.selector.now) (most size-Segment l.rest.now))
     l.opened.value 5
 
-abbrev pub decreases-uniform_truth : goal.decreases-uniform_truth
-decreases-uniform_truth g l = weight (1 + size-Logical l.test.now) l.value 4
-
 abbrev pub decreases-at_place : goal.decreases-at_place
 decreases-at_place g l = weight (most size-Segment l.rest.now) l.value 2
 

@@ -3,7 +3,7 @@ use mir.Val.{SFits}
 use Rattle.std.proofs.lemmas.Int.{to_z-of_z}
 use Rattle.std.specs.Str.{chars}
 use Rattle.jp_doc.specs.Location.{node, name}
-use Rattle.jp_compiled.specs.Compiled.{position_text}
+use Rattle.jp_compiled.specs.Parts.{position_text}
 use Rattle.jp_value.specs.BoundsView.{bounds_value}
 use Rattle.jp_nodes.specs.Nodes.{child, items_at}
 use Rattle.jp_value.specs.Literals.{written_value}

@@ -1,7 +1,7 @@
 use Rattle.std.proofs.Common.{rules, ap, sym, ◌∙◌}
 use Rattle.jp_doc.specs.Json.{number}
 use Rattle.jp_number.specs.Number.{written}
-use Rattle.jp_compiled.specs.Compiled.{constant_of}
+use Rattle.jp_compiled.specs.Parts.{constant_of}
 use Rattle.jp_value.specs.Literals.{literal_value}
 use Rattle.jp_value.proofs.LiteralNumbers.{whole_literal, written_literal}
 use Rattle.jp_value.proofs.functions.literal.Goals as goal

@@ -1,5 +1,5 @@
 use Rattle.std.proofs.Common.{ap, ap₂, sym, subst, option_map, ◌∙◌}
-use Rattle.jp_compiled.specs.Compiled.{position_text}
+use Rattle.jp_compiled.specs.Parts.{position_text}
 use Rattle.jp_value.specs.Literals.{written_value}
 use Rattle.jp_value.specs.Places.{AreWithin}
 use Rattle.jp_value.specs.Slice.{slice_bounds}

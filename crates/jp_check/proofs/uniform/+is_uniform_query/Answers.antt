@@ -1,5 +1,5 @@
-use Rattle.jp_eval.proofs.Uniformity.{root_uniform, distinct_uniform}
-use Rattle.jp_eval.proofs.uniform.+is_uniform_query.Goals as goal
+use Rattle.jp_check.proofs.Uniformity.{root_uniform, distinct_uniform}
+use Rattle.jp_check.proofs.uniform.+is_uniform_query.Goals as goal
 
 pub returns-in-Root : goal.returns-in-Root
 returns-in-Root t c = λ on. rw c.in-Root.is (root_uniform c.in-Root.field-0)

@@ -1,18 +1,19 @@
 use Rattle.std.proofs.Common.{length, ◌<◌, ◌≤◌, subst}
 use Rattle.std.proofs.Common.{arith}
 use Rattle.std.proofs.lemmas.List.{take_all}
-use Rattle.jp_eval.specs.inner.Uniform.{AreUniform}
-use Rattle.jp_eval.proofs.Uniformity.{none_uniform, one_more_uniform, any_uniform, all_uniform, not_uniform}
-use Rattle.jp_eval.proofs.Uniformity.{compare_uniform, test_uniform, match_uniform, search_uniform}
-use Rattle.jp_eval.proofs.Uniformity.{match_known_uniform, search_known_uniform, xor_uniform}
-use Rattle.jp_eval.proofs.uniform.+uniform.Goals as goal
+use Rattle.jp_check.specs.inner.Uniform.{AreUniform}
+use Rattle.jp_check.proofs.Uniformity.{none_uniform, one_more_uniform, any_uniform, every_uniform}
+use Rattle.jp_check.proofs.Uniformity.{not_uniform}
+use Rattle.jp_check.proofs.Uniformity.{compare_uniform, test_uniform, match_uniform, search_uniform}
+use Rattle.jp_check.proofs.Uniformity.{match_known_uniform, search_known_uniform, xor_uniform, once_uniform}
+use Rattle.jp_check.proofs.uniform.+uniform.Goals as goal
 
 pub is_uniform-returns-in-Any : goal.is_uniform-returns-in-Any
 is_uniform-returns-in-Any t c = λ on. rw c.in-Any.is (any_uniform c.in-Any.parts
     (rw c.as_slice.ensures.value at (c.are_uniform.ensures on)))
 
 pub is_uniform-returns-in-All : goal.is_uniform-returns-in-All
-is_uniform-returns-in-All t c = λ on. rw c.in-All.is (all_uniform c.in-All.parts
+is_uniform-returns-in-All t c = λ on. rw c.in-All.is (every_uniform c.in-All.parts
     (rw c.as_slice-in-All.ensures.value at (c.are_uniform-in-All.ensures on)))
 
 pub is_uniform-returns-in-Not : goal.is_uniform-returns-in-Not
@@ -66,3 +67,6 @@ is_uniform-returns-then-is_uniform t c = λ on. rw c.in-Xor.is
     (xor_uniform c.in-Xor.field-0 c.in-Xor.left c.in-Xor.field-2 c.in-Xor.right
     (rw c.deref-in-Xor.ensures at (c.is_uniform-in-Xor.ensures c.if-is_uniform.true))
     (rw c.deref-then-is_uniform.ensures at (c.is_uniform-then-is_uniform.ensures on)))
+
+pub is_uniform-returns-in-Once : goal.is_uniform-returns-in-Once
+is_uniform-returns-in-Once t c = λ on. rw c.in-Once.is (once_uniform c.in-Once.field-0)

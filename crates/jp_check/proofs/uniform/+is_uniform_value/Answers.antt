@@ -1,6 +1,6 @@
-use Rattle.jp_eval.proofs.Uniformity.{constant_uniform, single_uniform, length_uniform, count_uniform}
-use Rattle.jp_eval.proofs.Uniformity.{only_uniform}
-use Rattle.jp_eval.proofs.uniform.+is_uniform_value.Goals as goal
+use Rattle.jp_check.proofs.Uniformity.{constant_uniform, single_uniform, length_uniform, count_uniform}
+use Rattle.jp_check.proofs.Uniformity.{only_uniform}
+use Rattle.jp_check.proofs.uniform.+is_uniform_value.Goals as goal
 
 pub returns-in-Constant : goal.returns-in-Constant
 returns-in-Constant t c = λ on. rw c.in-Constant.is (constant_uniform c.in-Constant.field-0)

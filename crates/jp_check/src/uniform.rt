@@ -1,9 +1,9 @@
-//! Which expressions ask nothing of the current node, and so are true of every node or of none.
+//! Which compiled expressions ask nothing of the current node, and so are true of every node or of none.
 //!
 //! Only a query from `@` asks of it. What `@` is in a filter inside of a query is bound by that filter.
 
 ghost use Rattle.std.specs.Prelude.{IsTrue};
-ghost use Rattle.jp_eval.specs.inner.Uniform.{IsUniform, AreUniform, IsUniformValue, IsUniformQuery};
+ghost use Rattle.jp_check.specs.inner.Uniform.{IsUniform, AreUniform, IsUniformValue, IsUniformQuery};
 
 use jp_compiled::{Logical, Nodes, Value};
 
@@ -23,11 +23,13 @@ pub(crate) fn is_uniform(test: &Logical) -> bool
         Logical::Search(text, pattern) => are_uniform_values(text, pattern),
         Logical::SearchRead(text, _) => is_uniform_value(text),
         Logical::Xor(_, left, _, right) => is_uniform(left) && is_uniform(right),
+        Logical::Once(_) => true,
     }
 }
 
+/// Whether each of the expressions asks nothing of the current node.
 #[cycle(uniform)]
-fn are_uniform(parts: &[Logical]) -> bool
+pub(crate) fn are_uniform(parts: &[Logical]) -> bool
     ensures { IsTrue result → AreUniform parts.now }
 {
     for part in parts {
