@@ -1,6 +1,6 @@
 -- What answers tell of nodes.
 use Rattle.std.proofs.Common.{◌≡◌, ℕ, ◌==◌, Bool, true, false, ◌&&◌, List, [], ◌∷◌, map}
-use Rattle.std.proofs.Common.{length, Option, Some, None, option_map, refl, sym, ap, ap₂, ◌∙◌}
+use Rattle.std.proofs.Common.{length, Option, Some, None, option_map, refl, ap, ap₂, ◌∙◌}
 use Rattle.std.proofs.Common.{arith}
 use borrow.Author.Tests.{eqb-true}
 use Rattle.std.proofs.lemmas.Bool.Decides.{nat_tests}

@@ -3,10 +3,11 @@ use Rattle.std.specs.Prelude.{ℕ, ◌+◌, Bool, true, false, Option, Some, Non
 use Rattle.std.specs.Prelude.{List, [], ◌∷◌, ◌++◌, map}
 use Rattle.std.specs.List.{fold}
 use Rattle.jp_doc.specs.Json.{Json}
-use Rattle.jp_doc.specs.Location.{Node, Location, location_of}
+use Rattle.jp_doc.specs.Location.{Node, Location}
 use Rattle.jp_compiled.specs.declared.query.Want.{Want}
 use Rattle.jp_compiled.specs.declared.query.Want.TheVariants as want
 use Rattle.jp_part.specs.Part.{part_value}
+use Rattle.jp_found.specs.Ways.{way_location}
 use Rattle.jp_found.specs.declared.found.Found.{Found}
 use Rattle.jp_found.specs.declared.found.Found.TheVariants.{Visitor, First, Count, Only, Distinct}
 use Rattle.jp_found.specs.declared.found.Alone as code
@@ -55,7 +56,7 @@ kept keeps (Visitor t) = taken (keeps t)
 kept keeps (First o) = first (option_map part_value o)
 kept keeps (Count n) = count n
 kept keeps (Only a) = only (alone_of a)
-kept keeps (Distinct l) = located (option_map part_value l.first) (map location_of l.locations.items)
+kept keeps (Distinct l) = located (option_map part_value l.first) (map way_location l.ways.items)
 
 -- the first that there is
 abbrev pub put_first : Option Json → Json → Option Json

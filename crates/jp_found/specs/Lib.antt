@@ -4,3 +4,4 @@ pub mod Identical
 pub mod Kept
 pub mod Links
 pub mod RootAnswers
+pub mod Ways

@@ -1,13 +1,11 @@
 -- What is kept of the value of a `$` query.
-use Rattle.std.specs.Prelude.{◌≡◌, Bool, true, map, Option, Some, None, Vec}
-use Rattle.std.specs.declared.alloc.Global.{Global}
-use Rattle.jp_doc.specs.Json.{Json, object, number}
-use Rattle.jp_flat.specs.Gathered.{entry}
-use Rattle.jp_flat.specs.declared.value.FlatMember.{FlatMember}
+use Rattle.std.specs.Prelude.{◌≡◌, Bool, true, Option, Some, None}
+use Rattle.std.specs.Str.{chars}
+use Rattle.jp_doc.specs.Json.{Json, number, text}
 use Rattle.jp_number.specs.Number.{whole}
-use Rattle.jp_part.specs.Members.{members}
 use Rattle.jp_found.specs.Identical.{identical}
 use Rattle.jp_value.specs.Functions.{length_value}
+use Rattle.jp_value.specs.declared.read_pattern.ReadPattern.{ReadPattern}
 use Rattle.jp_found.specs.Aggregates.{told}
 use Rattle.jp_found.specs.declared.aggregates.Aggregate.{Aggregate}
 use Rattle.jp_found.specs.declared.root_answer.Length.{Length}
@@ -25,7 +23,7 @@ IsLength Unknown v = Unit {0}
 IsLength Nothing v = None ≡ length_value v
 IsLength (Number n) v = Some (number (whole n)) ≡ length_value v
 
--- the members of the value that is told, where they are kept
-abbrev pub are_members : Option (Vec FlatMember Global) → Aggregate → Bool
-are_members None a = true
-are_members (Some l) a = identical (Some (object (members (map entry l.items)))) (told a)
+-- the pattern's text is the value that is told, where it is kept
+abbrev pub is_pattern : Option ReadPattern → Aggregate → Bool
+is_pattern None a = true
+is_pattern (Some r) a = identical (Some (text (chars r.text.now))) (told a)

@@ -1,7 +1,7 @@
 //! What a filter is told of the nodes of a query, by what it wants of them.
 
 ghost use Rattle.std.specs.Prelude.{◌≡◌, ◌∷◌, [], List, Some, is_some, length, option_map, true};
-ghost use Rattle.jp_compiled.specs.Compiled.{wanted_inside};
+ghost use Rattle.jp_compiled.specs.Parts.{wanted_inside};
 ghost use Rattle.jp_compiled.specs.declared.query.Want.TheVariants.{First, Count, Only};
 ghost use Rattle.jp_doc.specs.Location.{Location, Node, node};
 ghost use Rattle.jp_found.specs.Aggregates.{tells, is_of, told};

@@ -1,26 +1,34 @@
 //! What a query asks of the values of its `$` queries, so that it is found once a document and not at each
 //! node. No clause rests on it: what is not kept is found where it is asked for.
 
-use jp_compiled::{Logical, Nodes, Query, Segment, Selector, Value};
+use jp_compiled::{Logical, Nodes, Query, RootPart, Segment, Selector, Value};
 
 /// What is asked of the values of `$` queries.
 #[derive(Clone, Copy)]
 pub struct Asked {
     /// The length of one.
     pub length: bool,
-    /// Whether one is equal to another value.
-    pub comparison: bool,
+    /// Whether texts match one, taken as a pattern.
+    pub pattern: bool,
+}
+
+impl Asked {
+    /// Nothing.
+    pub const NOTHING: Asked = Asked {
+        length: false,
+        pattern: false,
+    };
 }
 
 /// What a query asks.
 pub fn asked_by(query: &Query) -> Asked {
-    let mut asked = Asked {
-        length: false,
-        comparison: false,
-    };
+    let mut asked = Asked::NOTHING;
     in_segments(query.segments.as_slice(), &mut asked);
-    for root in &query.roots {
-        in_segments(root.segments.as_slice(), &mut asked);
+    for part in &query.roots {
+        match part {
+            RootPart::Query(query) => in_segments(query.segments.as_slice(), &mut asked),
+            RootPart::Test(test) => in_logical(test, &mut asked),
+        }
     }
     asked
 }
@@ -48,17 +56,18 @@ fn in_logical(test: &Logical, asked: &mut Asked) {
         Logical::All(parts) => in_parts(parts.as_slice(), asked),
         Logical::Not(part) => in_logical(part, asked),
         Logical::Compare(left, _, right) => {
-            asked.comparison = asked.comparison || is_root(left) || is_root(right);
             in_value(left, asked);
             in_value(right, asked);
         }
         Logical::Test(nodes) => in_nodes(nodes, asked),
         Logical::Match(text, pattern) => {
+            asked.pattern = asked.pattern || is_root(pattern);
             in_value(text, asked);
             in_value(pattern, asked);
         }
         Logical::MatchRead(text, _) => in_value(text, asked),
         Logical::Search(text, pattern) => {
+            asked.pattern = asked.pattern || is_root(pattern);
             in_value(text, asked);
             in_value(pattern, asked);
         }
@@ -67,6 +76,8 @@ fn in_logical(test: &Logical, asked: &mut Asked) {
             in_logical(left, asked);
             in_logical(right, asked);
         }
+        // It stands in the list, which is gone over by itself.
+        Logical::Once(_) => {}
     }
 }
 

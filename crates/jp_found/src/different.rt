@@ -1,16 +1,16 @@
 //! What a filter wants of what `distinct` leaves: how many nodes there are, and the value of the only one.
 
 ghost use Rattle.std.specs.Prelude.{◌≡◌, ◌++◌, ◌∷◌, [], List, None, length, map, option_map, OnOk};
-ghost use Rattle.jp_doc.specs.Location.{Node, location_of};
+ghost use Rattle.jp_doc.specs.Location.{Node};
 ghost use Rattle.jp_found.specs.Different.{IsDifferent};
 ghost use Rattle.jp_value.specs.Functions.{first_value, only_value, distinct, first_ones, same_location};
 ghost use Rattle.jp_found.specs.Kept.{put_first, alone_of, alone_value};
+ghost use Rattle.jp_found.specs.Ways.{way_location};
 ghost use Rattle.jp_part.specs.Part.{part_value};
 ghost use Rattle.jp_path_stack.specs.Links.{link_steps};
 
 use crate::found::Alone;
-use jp_doc::Location;
-use jp_nodes::location;
+use crate::way::{Way, way_of};
 use jp_part::Part;
 use jp_path_stack::PathStack;
 use std::alloc::{AllocError, Global};
@@ -21,7 +21,7 @@ pub struct Located<'v> {
     /// The value of the first, if there is one.
     pub first: Option<Part<'v>>,
     /// Where each of them is, in order.
-    pub locations: Vec<Location>,
+    pub ways: Vec<Way<'v>>,
 }
 
 /// How many different nodes there are, and the value, if there is one alone.
@@ -36,11 +36,11 @@ pub struct Different<'v> {
 /// No nodes yet. It takes no memory.
 pub(crate) fn none_located<'v>(alloc: Global) -> Located<'v>
     ensures first { option_map part_value result.first ≡ None }
-    ensures locations { map location_of result.locations.items ≡ [] }
+    ensures locations { map way_location result.ways.items ≡ [] }
 {
     Located {
         first: None,
-        locations: Vec::new(alloc),
+        ways: Vec::new(alloc),
     }
 }
 
@@ -55,10 +55,10 @@ pub(crate) fn locate<'v>(
 ) -> Result<(), AllocError>
     ensures first { OnOk result (option_map part_value located.new.first
         ≡ put_first (option_map part_value located.old.first) (part_value value.entry)) }
-    ensures locations { OnOk result (map location_of located.new.locations.items
-        ≡ map location_of located.old.locations.items ++ link_steps path.now ∷ []) }
+    ensures locations { OnOk result (map way_location located.new.ways.items
+        ≡ map way_location located.old.ways.items ++ link_steps path.now ∷ []) }
 {
-    located.locations.push(location(alloc, path.links())?)?;
+    located.ways.push(way_of(alloc, path.links())?)?;
     if located.first.is_none() {
         located.first = Some(value);
     }
@@ -68,10 +68,10 @@ pub(crate) fn locate<'v>(
 /// What there is of the nodes once each location stands there once.
 pub(crate) fn each_once(located: Located<'_>) -> Different<'_>
     ensures { (ns : List Node) → option_map part_value located.entry.first ≡ first_value ns
-        → map location_of located.entry.locations.items ≡ map (λ n. n.location) ns → IsDifferent result ns }
+        → map way_location located.entry.ways.items ≡ map (λ n. n.location) ns → IsDifferent result ns }
 {
-    let Located { first, locations } = located;
-    let count = count_locations(locations);
+    let Located { first, ways } = located;
+    let count = count_locations(ways);
     let alone = only_of(first, count);
     Different { count, alone }
 }
@@ -89,10 +89,10 @@ fn only_of(first: Option<Part<'_>>, count: u64) -> Alone<'_>
 }
 
 /// How many different locations there are.
-fn count_locations(locations: Vec<Location>) -> u64
-    ensures { result ≡ length (first_ones same_location (map location_of locations.items)) }
+fn count_locations(ways: Vec<Way<'_>>) -> u64
+    ensures { result ≡ length (first_ones same_location (map way_location ways.entry.items)) }
 {
-    count_different(locations) as u64
+    count_different(ways) as u64
 }
 
 /// How many there are, where equal ones are counted once. It takes in the order of `n log n` comparisons.

@@ -5,7 +5,9 @@ mod aggregates;
 mod asked;
 mod different;
 mod found;
+mod name;
 mod root_answer;
+mod way;
 
 pub use aggregates::{Aggregate, has_first, is_result_of, of_distinct, of_one, operand};
 pub use asked::{Asked, asked_by};
@@ -13,4 +15,6 @@ pub use different::{Different, Located};
 pub use found::{
     Alone, Found, add, append, fresh, into_aggregate, is_full, none_found, visitor_of,
 };
+pub use name::Name;
 pub use root_answer::{Length, RootAnswer};
+pub use way::{Stop, Way};

@@ -1,5 +1,5 @@
 use Rattle.std.proofs.Common.{sym, ap, ◌∙◌}
-use Rattle.jp_compiled.specs.Compiled.{wanted_inside}
+use Rattle.jp_compiled.specs.Parts.{wanted_inside}
 use Rattle.jp_found.specs.Aggregates.{tells}
 use Rattle.jp_value.specs.Functions.{distinct}
 use Rattle.jp_found.specs.declared.aggregates.Aggregate.TheVariants.{Distinct}

@@ -3,4 +3,4 @@ use Rattle.jp_found.proofs.SameLocations.{count_same}
 use Rattle.jp_found.proofs.different.count_locations.Goals as goal
 
 pub returns : goal.returns
-returns c = c.count_different.ensures ∙ count_same c.args.locations.items
+returns c = c.count_different.ensures ∙ count_same c.args.ways.items

@@ -1,6 +1,6 @@
 use Rattle.std.proofs.Common.{sym, ap, ◌∙◌, map, option_map}
-use Rattle.jp_doc.specs.Location.{location_of}
 use Rattle.jp_found.specs.Kept.{kept}
+use Rattle.jp_found.specs.Ways.{way_location}
 use Rattle.jp_part.specs.Part.{part_value}
 use Rattle.jp_found.proofs.Telling.{first_tells, count_tells, only_tells, located_tells}
 use Rattle.jp_found.proofs.found.into_aggregate.Goals as goal
@@ -21,5 +21,5 @@ pub returns-in-Distinct-clause-answer : goal.returns-in-Distinct-clause-answer
 returns-in-Distinct-clause-answer g c = λ want ns h.
     let l = c.in-Distinct.located in
     located_tells g.V.Visit.put want ns c.each_once.result (option_map part_value l.first)
-    (map location_of l.locations.items) (sym (ap (kept g.V.Visit.kept) c.in-Distinct.is) ∙ h)
+    (map way_location l.ways.items) (sym (ap (kept g.V.Visit.kept) c.in-Distinct.is) ∙ h)
     c.each_once.ensures
