@@ -2,7 +2,7 @@
 //! and prints a line for each node that it selects.
 #![tactic(auto)]
 
-use jp_program::{program, tell};
+use jp_program::{program, refuse_words, tell};
 use jp_run::{FromReader, FromWriter, RunFault, Sink};
 use std::alloc::AllocGlobal;
 use std::env;
@@ -13,7 +13,8 @@ use std::thread::Threads;
 fn main(rt: HostRuntime) -> ExitCode {
     let mut notes = FromWriter::new(rt.stderr());
     let status = match given_words(&rt) {
-        Ok(given) => run_words(&rt, &given, &mut notes),
+        Ok(Some(given)) => run_words(&rt, &given, &mut notes),
+        Ok(None) => Ok(refuse_words(rt.alloc(), &mut notes)),
         Err(fault) => Err(fault),
     };
     ExitCode::from(match status {
@@ -25,14 +26,12 @@ fn main(rt: HostRuntime) -> ExitCode {
     })
 }
 
-/// The words of the command line.
-///
-/// `Settings` where one of them is no UTF-8.
-fn given_words(rt: &HostRuntime) -> Result<Vec<String>, RunFault> {
+/// The words of the command line; none where one of them is no UTF-8.
+fn given_words(rt: &HostRuntime) -> Result<Option<Vec<String>>, RunFault> {
     match env::args(rt) {
-        Ok(words) => Ok(words.collect(rt.alloc())?),
+        Ok(words) => Ok(Some(words.collect(rt.alloc())?)),
         Err(error) if error.kind() == ErrorKind::OutOfMemory => Err(RunFault::Memory),
-        Err(_) => Err(RunFault::Settings),
+        Err(_) => Ok(None),
     }
 }
 

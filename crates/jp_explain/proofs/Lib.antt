@@ -1,3 +1,5 @@
 pub mod LineMarks
 pub mod Marks
 pub mod Pictures
+pub mod Ignorable
+pub mod OnLiterals

@@ -1,17 +1,17 @@
--- Lines without control characters.
+-- Lines in which no character has to be escaped.
 use Rattle.std.proofs.Common.{◌≡◌, ℕ, Bool, true, false, not, List, [], ◌∷◌, ◌++◌, refl, ap, ◌∙◌}
-use Rattle.std.proofs.Common.{append_assoc}
+use Rattle.std.proofs.Common.{append_assoc, ◌<◌, length, get_or, sym, true≢false}
 use Rattle.std.proofs.Common.{Result, Ok, Err}
 use Rattle.std.specs.Prelude.{String, IfOk, OnOk, is_ok, if◌then◌else◌}
 use Rattle.std.specs.declared.alloc.Global.{Global}
 use Rattle.std.specs.Str.{chars, IsUtf8}
 use Rattle.std.specs.List.{list_all}
-use Rattle.std.proofs.lemmas.List.Folds.{list_all-append}
+use Rattle.std.proofs.lemmas.List.Folds.{list_all-append, list_all_at}
 use Rattle.std.proofs.Math.Utf8.{encode, scalars}
 use Rattle.jp_tree.specs.Tree.{Text}
 use Rattle.jp_tree.specs.View.{text_of}
 use Rattle.jp_tokens.proofs.Cuts.{pushed}
-use Rattle.jp_explain.specs.Picture.{is_control, is_shown, picture, IsPictureWith, IsPicture}
+use Rattle.jp_explain.specs.Picture.{is_escaped, is_shown, picture, IsPictureWith, IsPicture}
 use Rattle.jp_explain.specs.Picture.{IsLinePicture}
 
 all_pushed : (p : ℕ → Bool) (xs : List ℕ) (c : ℕ) → list_all p xs ≡ true → p c ≡ true
@@ -20,17 +20,29 @@ all_pushed p xs c h k = list_all-append p xs (c ∷ []) ∙ rw (h, k) refl
 
 shown_by : {X E : Type 0} (r : Result X E) (old new : List ℕ) (c : ℕ)
     → OnOk r (chars new ≡ chars old ++ c ∷ [])
-    → new ≡ (if is_ok r then old ++ encode c else old) → is_control c ≡ false → is_shown (chars old) ≡ true
+    → new ≡ (if is_ok r then old ++ encode c else old) → is_escaped c ≡ false → is_shown (chars old) ≡ true
     → is_shown (chars new) ≡ true
 shown_by (Ok x) old new c more e k h =
-    ap is_shown more ∙ all_pushed (λ d. not (is_control d)) (chars old) c h (ap not k)
+    ap is_shown more ∙ all_pushed (λ d. not (is_escaped d)) (chars old) c h (ap not k)
 shown_by (Err x) old new c more e k h = ap (λ t. is_shown (chars t)) e ∙ h
 
--- one more character that is none of control
+-- one more character that has not to be escaped
 pub shown_pushed : {X E : Type 0} (r : Result X E) (old new : List ℕ) (c : ℕ) → IsUtf8 old
-    → scalars (c ∷ []) ≡ true → new ≡ (if is_ok r then old ++ encode c else old) → is_control c ≡ false
+    → scalars (c ∷ []) ≡ true → new ≡ (if is_ok r then old ++ encode c else old) → is_escaped c ≡ false
     → is_shown (chars old) ≡ true → is_shown (chars new) ≡ true
 shown_pushed r old new c u s e k h = shown_by r old new c (pushed r old new c u s e) e k h
+
+-- each character of a text in which none has to be escaped
+pub shown_at : (t : Text) (i c : ℕ) → i < length t → c ≡ get_or t i c → is_shown t ≡ true
+    → is_escaped c ≡ false
+shown_at t i c lt at h = go (is_escaped c) refl
+  where
+    go : (b : Bool) → is_escaped c ≡ b → is_escaped c ≡ false
+    go false e = e
+    go true e =
+        let here : not (is_escaped (get_or t i c)) ≡ false =
+        ap (λ d. not (is_escaped d)) (sym at) ∙ ap not e in
+        absurd (true≢false (sym h ∙ list_all_at (λ d. not (is_escaped d)) t i c lt here))
 
 -- a line with a caret below it, and words
 pub pictured : {E : Type 0} (r : Result (String Global) E) (line : Text) (column : ℕ) (words given : Text)

@@ -1,21 +1,31 @@
 -- What a terminal is given of a query, and of a line.
-use Rattle.std.specs.Prelude.{ℕ, ◌≡◌, ◌||◌, ◌&&◌, not, nat_le, Bool, true, [], ◌∷◌, ◌++◌, replicate}
+use Rattle.std.specs.Prelude.{ℕ, ◌≡◌, ◌==◌, ◌||◌, ◌&&◌, not, nat_le, Bool, true, [], ◌∷◌, ◌++◌, replicate}
 use Rattle.std.specs.List.{list_all}
+use Rattle.unicode.specs.Binary.{is_default_ignorable_code_point}
 use Rattle.jp_tree.specs.Tree.{Text}
 
 -- a control character: U+0000 to U+001F, U+007F to U+009F
 abbrev pub is_control : ℕ → Bool
 is_control c = nat_le c 31 || (nat_le 127 c && nat_le c 159)
 
--- no control character is among them
+-- U+2028 and U+2029, which end a line and a paragraph
+abbrev pub is_separator : ℕ → Bool
+is_separator c = c == 0x2028 || c == 0x2029
+
+-- a character in whose place an escape is shown: one of control, such a separator, and one that shows nothing
+-- or turns the direction of others (Default_Ignorable_Code_Point of Unicode)
+abbrev pub is_escaped : ℕ → Bool
+is_escaped c = is_control c || is_separator c || is_default_ignorable_code_point c
+
+-- no such character is among them
 abbrev pub is_shown : Text → Bool
-is_shown t = list_all (λ c. not (is_control c)) t
+is_shown t = list_all (λ c. not (is_escaped c)) t
 
 -- a line, a line of a caret behind blanks, and words
 abbrev pub picture : Text → ℕ → Text → Text
 picture line column words = line ++ (10 ∷ (replicate column 32 ++ (94 ∷ 10 ∷ words)))
 
--- such a text with these words, whose first line has no control characters
+-- such a text with these words, in whose first line no character has to be escaped
 abbrev pub IsPictureWith : Text → Text → Type 0
 IsPictureWith words t = (line : Text) × (column : ℕ) × (is_shown line ≡ true)
     × (t ≡ picture line column words)
@@ -23,7 +33,7 @@ IsPictureWith words t = (line : Text) × (column : ℕ) × (is_shown line ≡ tr
 abbrev pub IsPicture : Text → Type 0
 IsPicture t = (words : Text) × IsPictureWith words t
 
--- a line without control characters that says something, and such a text with no words below it
+-- a line that says something, in which no character has to be escaped, and such a text with no words below it
 abbrev pub IsLinePicture : Text → Type 0
 IsLinePicture t = (head : Text) × (below : Text) × (is_shown head ≡ true) × IsPictureWith [] below
     × (t ≡ head ++ (10 ∷ below))

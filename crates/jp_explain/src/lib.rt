@@ -1,6 +1,9 @@
 //! Where a refused query or a faulty line went wrong, and what might have stood there: for people.
 #![tactic(auto)]
 
+mod characters;
+mod escaping;
+mod examples;
 mod explanation;
 mod growth;
 mod line;
@@ -8,6 +11,7 @@ mod line_explanation;
 mod line_picture;
 mod picture;
 
+pub use escaping::escaped;
 pub use explanation::{Explanation, explain};
 pub use jp_line_scan::{LineExpected, LineReason, LineRule, Literal, LongNumber, NotWhole};
 pub use jp_query_scan::{Closer, Expected, Reason, Rule};

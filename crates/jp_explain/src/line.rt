@@ -1,18 +1,15 @@
 //! A line for a terminal.
 
-ghost use Rattle.std.specs.Prelude.{◌≡◌, true, false, IfOk};
+ghost use Rattle.std.specs.Prelude.{◌≡◌, ◌∷◌, ◌++◌, [], true, false, IfOk, OnOk};
 ghost use Rattle.std.specs.Str.{chars};
 ghost use Rattle.jp_tree.specs.View.{text_of};
-ghost use Rattle.jp_explain.specs.Picture.{is_control, is_shown, picture};
+ghost use Rattle.jp_explain.specs.Picture.{is_escaped, is_shown, picture};
 
+use crate::characters::{columns, hex_digit, is_escaped};
 use crate::growth::{push_character, push_text};
 use std::alloc::{AllocError, Global};
-use unicode_width::UnicodeWidthChar;
 
-/// How many columns the escape of a character takes.
-const ESCAPE: usize = 6;
-
-/// A line without control characters.
+/// A line in which no character has to be escaped.
 #[derive(Drop)]
 pub(crate) struct Line {
     text: String,
@@ -21,60 +18,10 @@ pub(crate) struct Line {
     ghost shown: { is_shown (text_of text) ≡ true },
 }
 
-fn is_control(c: char) -> bool
-    ensures { result ≡ is_control c }
-{
-    c <= '\u{1f}' || matches!(c, '\u{7f}'..='\u{9f}')
-}
-
-/// Whether the character changes where others stand, or their direction.
-fn moves_others(c: char) -> bool {
-    matches!(c, '\u{200b}'..='\u{200f}' | '\u{2028}'..='\u{202e}' | '\u{2060}'..='\u{206f}')
-        || c == '\u{feff}'
-}
-
-/// Whether an escape is shown in its place.
-fn is_escaped(c: char) -> bool
-    ensures { result ≡ false → is_control c ≡ false }
-{
-    is_control(c) || moves_others(c)
-}
-
-/// How many columns the character takes as it is shown.
-pub(crate) fn columns(c: char) -> usize {
-    if is_escaped(c) {
-        ESCAPE
-    } else {
-        c.width().unwrap_or(0)
-    }
-}
-
-/// A hexadecimal digit.
-fn hex_digit(digit: u32) -> char
-    ensures { is_control result ≡ false }
-{
-    match digit {
-        0 => '0',
-        1 => '1',
-        2 => '2',
-        3 => '3',
-        4 => '4',
-        5 => '5',
-        6 => '6',
-        7 => '7',
-        8 => '8',
-        9 => '9',
-        10 => 'a',
-        11 => 'b',
-        12 => 'c',
-        13 => 'd',
-        14 => 'e',
-        _ => 'f',
-    }
-}
-
 impl Line {
-    pub(crate) fn new(alloc: Global) -> Line {
+    pub(crate) fn new(alloc: Global) -> Line
+        ensures { text_of result.text ≡ [] }
+    {
         Line {
             text: String::new(alloc),
             columns: 0,
@@ -89,40 +36,66 @@ impl Line {
         self.text.as_str()
     }
 
+    /// The text of the line, which is used up.
+    pub(crate) fn into_text(self) -> String
+        ensures value { text_of result ≡ text_of self.text }
+        ensures shown { is_shown (text_of result) ≡ true }
+    {
+        self.text
+    }
+
     /// How many columns it takes.
     pub(crate) fn columns(&self) -> usize {
         self.columns
     }
 
     fn push(&mut self, c: char) -> Result<(), AllocError>
-        requires { is_control c ≡ false }
+        requires { is_escaped c ≡ false }
+        ensures { OnOk result (text_of self.new.text ≡ text_of self.old.text ++ c ∷ []) }
     {
         self.columns = self.columns.saturating_add(columns(c));
         self.text.push(c)
     }
 
     /// `..`, in the place of what is left out.
+    #[tactic(auto, using(crate::proofs::Ignorable::not_ignorable))]
     pub(crate) fn push_gap(&mut self) -> Result<(), AllocError> {
         self.push('.')?;
         self.push('.')
     }
 
-    /// The character, or its escape.
-    pub(crate) fn push_shown(&mut self, c: char) -> Result<(), AllocError> {
-        if !is_escaped(c) {
-            return self.push(c);
-        }
-        let code = c as u32;
+    /// The escape of a unit of UTF-16.
+    #[tactic(auto, using(crate::proofs::Ignorable::not_ignorable))]
+    fn push_unit(&mut self, unit: u16) -> Result<(), AllocError> {
+        let code = unit as u32;
         self.push('\\')?;
         self.push('u')?;
-        self.push(hex_digit(code / 4096 % 16))?;
+        self.push(hex_digit(code / 4096))?;
         self.push(hex_digit(code / 256 % 16))?;
         self.push(hex_digit(code / 16 % 16))?;
         self.push(hex_digit(code % 16))
     }
 
+    /// The character, or its escape, which is of two halves where one has no room (RFC 9535, 2.3.1.1).
+    pub(crate) fn push_shown(&mut self, c: char) -> Result<(), AllocError>
+        ensures { is_escaped c ≡ false
+            → OnOk result (text_of self.new.text ≡ text_of self.old.text ++ c ∷ []) }
+    {
+        if !is_escaped(c) {
+            return self.push(c);
+        }
+        let mut units = [0u16; 2];
+        for unit in &*c.encode_utf16(&mut units) {
+            self.push_unit(*unit)?;
+        }
+        Ok(())
+    }
+
     /// The characters, or their escapes.
-    pub(crate) fn push_text(&mut self, text: &str) -> Result<(), AllocError> {
+    pub(crate) fn push_text(&mut self, text: &str) -> Result<(), AllocError>
+        ensures { is_shown (chars text.now) ≡ true
+            → OnOk result (text_of self.new.text ≡ text_of self.old.text ++ chars text.now) }
+    {
         for c in text.chars() {
             self.push_shown(c)?;
         }
@@ -141,6 +114,7 @@ impl Line {
     }
 
     /// A byte that is no UTF-8, as an escape.
+    #[tactic(auto, using(crate::proofs::Ignorable::not_ignorable))]
     fn push_byte(&mut self, byte: u8) -> Result<(), AllocError> {
         let code = byte as u32;
         self.push('\\')?;

@@ -8,7 +8,6 @@ ghost use Rattle.jp_explain.specs.Picture.{is_shown, IsLinePicture, IsPictureWit
 use crate::growth::{push_character, push_text};
 use crate::line::Line;
 use crate::line_explanation::LineExplanation;
-use jp_line_scan::LineReason;
 use std::alloc::{AllocError, Global};
 
 /// How many bytes of a line are shown.
@@ -69,40 +68,35 @@ fn marked(alloc: Global, line: &[u8], mark: usize) -> Result<String, AllocError>
     shown.with_caret(alloc, column, "")
 }
 
-/// The path of a number, and its text, which begins at the mark and ends there.
-fn push_number(
-    head: &mut Line,
-    line: &[u8],
-    path: &str,
-    mark: usize,
-    end: usize,
-) -> Result<(), AllocError> {
+/// The path of a number, and its text.
+fn push_number(head: &mut Line, path: &str, number: &[u8]) -> Result<(), AllocError> {
     head.push_front(path, PATH_CHARACTERS)?;
     head.push_text(": ")?;
-    let shown_end = end.min(mark.saturating_add(NUMBER_BYTES));
-    head.push_bytes(bytes_between(line, mark, shown_end))?;
-    if shown_end < end {
+    let shown = number.len().min(NUMBER_BYTES);
+    head.push_bytes(bytes_between(number, 0, shown))?;
+    if shown < number.len() {
         head.push_gap()?;
     }
     Ok(())
 }
 
-/// What is to be said of a line with that number: its path and text, and the words.
-fn number_head(
+/// What is to be said of the mark: the number that begins there and what is wrong with it, or the words.
+fn push_reason(
     alloc: Global,
-    number: u64,
+    head: &mut Line,
     line: &[u8],
-    path: &str,
-    mark: usize,
-    end: usize,
-    words: &str,
-) -> Result<Line, AllocError> {
-    let mut head = Line::new(alloc);
-    let front = format!(in alloc; "line {number}, ")?;
-    head.push_text(front.as_str())?;
-    push_number(&mut head, line, path, mark, end)?;
-    head.push_text(words)?;
-    Ok(head)
+    explanation: &LineExplanation,
+) -> Result<(), AllocError> {
+    let mark = explanation.mark;
+    let reason = &explanation.reason;
+    let words = match reason.number() {
+        Some((path, end)) => {
+            push_number(head, path, bytes_between(line, mark, end))?;
+            format!(in alloc; " {reason}")?
+        }
+        None => format!(in alloc; "byte {mark}: {reason}")?,
+    };
+    head.push_text(words.as_str())
 }
 
 /// What is to be said of the line of that number.
@@ -112,31 +106,11 @@ fn head(
     line: &[u8],
     explanation: &LineExplanation,
 ) -> Result<Line, AllocError> {
-    let mark = explanation.mark;
-    match &explanation.reason {
-        LineReason::NotWhole(told) => {
-            let path = told.path.as_str();
-            number_head(alloc, number, line, path, mark, told.end, " is not whole")
-        }
-        LineReason::LongNumber(told) => {
-            let path = told.path.as_str();
-            number_head(
-                alloc,
-                number,
-                line,
-                path,
-                mark,
-                told.end,
-                " has too many digits",
-            )
-        }
-        reason => {
-            let words = format!(in alloc; "line {number}, byte {mark}: {reason}")?;
-            let mut head = Line::new(alloc);
-            head.push_text(words.as_str())?;
-            Ok(head)
-        }
-    }
+    let mut head = Line::new(alloc);
+    let front = format!(in alloc; "line {number}, ")?;
+    head.push_text(front.as_str())?;
+    push_reason(alloc, &mut head, line, explanation)?;
+    Ok(head)
 }
 
 /// What is to be said, and below it the line around the mark.
@@ -154,9 +128,9 @@ fn joined(alloc: Global, head: &Line, picture: &str) -> Result<String, AllocErro
 /// Three lines for a terminal: what is to be said of the line of that number, the bytes around the mark, and
 /// a caret under it.
 ///
-/// Control characters, characters that change how others stand, and bytes that are no UTF-8 are shown as
-/// escapes. A line of more than 60 bytes is cut on both sides of the mark, with `..` in the place of what is
-/// left out; so are a long path and a long number behind their fronts.
+/// Control characters, characters that show nothing or change how others stand, and bytes that are no UTF-8
+/// are shown as escapes. A line of more than 60 bytes is cut on both sides of the mark, with `..` in the
+/// place of what is left out; so are a long path and a long number behind their fronts.
 ///
 /// # Errors
 ///
@@ -167,7 +141,7 @@ pub fn write_line_mark(
     line: &[u8],
     explanation: &LineExplanation,
 ) -> Result<String, AllocError>
-    // No control character of the line is shown, and so no line feed.
+    // No such character of the line is shown, and so no line feed.
     ensures { IfOk result (λ s. IsLinePicture (text_of s)) }
 {
     let head = head(alloc, number, line, explanation)?;

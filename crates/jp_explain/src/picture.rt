@@ -4,8 +4,9 @@ ghost use Rattle.std.specs.Prelude.{IfOk};
 ghost use Rattle.jp_tree.specs.View.{text_of};
 ghost use Rattle.jp_explain.specs.Picture.{IsPicture};
 
+use crate::characters::columns;
 use crate::explanation::Explanation;
-use crate::line::{Line, columns};
+use crate::line::Line;
 use std::alloc::{AllocError, Global};
 
 /// How many columns of a query are shown.
@@ -73,8 +74,9 @@ fn push_behind(line: &mut Line, text: &str, mark: usize, limit: usize) -> Result
 
 /// Three lines for a terminal: the query, a caret under the mark, and what is to be said of it.
 ///
-/// Control characters, and characters that change how others stand, are shown as escapes. A query of more
-/// than 70 columns is cut on both sides of the mark, with `..` in the place of what is left out.
+/// Control characters, and characters that show nothing or change how others stand, are shown as escapes. A
+/// query of more than 70 columns is cut on both sides of the mark, with `..` in the place of what is left
+/// out.
 ///
 /// # Errors
 ///
@@ -84,7 +86,7 @@ pub fn write_mark(
     query: &str,
     explanation: &Explanation,
 ) -> Result<String, AllocError>
-    // No control character of the query is shown, and so no line feed.
+    // No such character of the query is shown, and so no line feed.
     ensures { IfOk result (λ s. IsPicture (text_of s)) }
 {
     let mark = explanation.mark;

@@ -5,6 +5,8 @@
 #[cfg(test)]
 mod decimals;
 #[cfg(test)]
+mod escapes;
+#[cfg(test)]
 mod fronts;
 #[cfg(test)]
 mod line_generated;
@@ -14,6 +16,8 @@ mod line_pictures;
 mod line_table;
 #[cfg(test)]
 mod literals;
+#[cfg(test)]
+mod near_misses;
 #[cfg(test)]
 mod pictures;
 #[cfg(test)]

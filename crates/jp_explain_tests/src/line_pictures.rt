@@ -45,6 +45,10 @@ fn wide_characters(rt: HostRuntime) -> Result<(), Fail> {
     let line = "[\"\u{65e5}\u{672c}\",\u{e9}]";
     let wanted = "line 7, byte 10: expected a value\n[\"\u{65e5}\u{672c}\",\u{e9}]\n        ^\n";
     assert!(rt; is_printed(rt.alloc(), line.as_bytes(), wanted)?);
+    let line = "\"\u{61c}\u{e0041}\\x\"";
+    let wanted = "line 7, byte 8: expected \", \\, /, b, f, n, r, t or u: there is no such escape\n\
+                  \"\\u061c\\udb40\\udc41\\x\"\n                    ^\n";
+    assert!(rt; is_printed(rt.alloc(), line.as_bytes(), wanted)?);
     let line = "\"\u{202e}\\x\"";
     let wanted = "line 7, byte 5: expected \", \\, /, b, f, n, r, t or u: there is no such escape\n\
                   \"\\u202e\\x\"\n        ^\n";

@@ -22,7 +22,7 @@ fn shows(alloc: Global, query: &str, wanted: &str) -> Result<bool, AllocError> {
 }
 
 /// A query, and the lines for it.
-const SHOWN: [(&str, &str); 8] = [
+const SHOWN: [(&str, &str); 12] = [
     ("", "\n^\nexpected $\n"),
     (
         "$.a b",
@@ -51,6 +51,24 @@ const SHOWN: [(&str, &str); 8] = [
     (
         "$.\u{9b}-\u{7f}",
         "$.\\u009b-\\u007f\n        ^\nexpected . or [, or the end\n",
+    ),
+    (
+        "$.\u{1b}[31m",
+        "$.\\u001b[31m\n  ^\nexpected a name, * or another .\n",
+    ),
+    (
+        "$.\u{61c}-",
+        "$.\\u061c-\n        ^\nexpected . or [, or the end\n",
+    ),
+    // What shows nothing: a soft hyphen, a vowel separator, a variation selector.
+    (
+        "$.\u{ad}\u{180e}\u{fe0f}-",
+        "$.\\u00ad\\u180e\\ufe0f-\n                    ^\nexpected . or [, or the end\n",
+    ),
+    // A tag, whose escape has two halves.
+    (
+        "$.\u{e0041}-",
+        "$.\\udb40\\udc41-\n              ^\nexpected . or [, or the end\n",
     ),
 ];
 

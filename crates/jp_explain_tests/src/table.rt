@@ -62,7 +62,11 @@ const WRONG: [(&str, usize, &str); 36] = [
         "expected a query, a comparison, a call, ! or (",
     ),
     ("$[?(@.a]", 7, "expected an operator, &&, || or )"),
-    ("$[?@.*==1]", 6, "expected &&, ||, a comma or ]"),
+    (
+        "$[?@.*==1]",
+        6,
+        "expected &&, ||, a comma or ]: what is compared selects one node at most",
+    ),
     (
         "$[?length(@)]",
         3,

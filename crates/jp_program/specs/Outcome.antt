@@ -10,9 +10,9 @@ use Rattle.jp_answer.specs.Answer.{Answer}
 use Rattle.jp_answer.specs.Policy.{numbers_in}
 use Rattle.jp_answer.specs.Whole.{Whole, whole_as}
 use Rattle.jp_run.specs.Answered.{IsAnswerBy, numbers_of, manner_by}
-use Rattle.jp_run.specs.Batches.{documents_in, whole_batches}
+use Rattle.jp_run.specs.Batches.{documents_in, whole_batches, batches_before}
 use Rattle.jp_run.specs.Forms.{form_of}
-use Rattle.jp_run.specs.Handed.{IsHandedBy}
+use Rattle.jp_run.specs.Handed.{IsHandedBy, IsHandedFirstBy}
 use Rattle.jp_run.specs.Limits.{max_reads, max_lines}
 use Rattle.jp_run.specs.Written.{AppendsFront}
 use Rattle.jp_program.specs.Wanted.{Wanted}
@@ -56,6 +56,15 @@ IsCutShort w failed source_old source_new old new = (failed ≡ true) × (bytes 
     × Consumes source_old source_new bytes
     × IsHandedBy (manner_by w.output w.decimals w.keeps_going) w.query
     (whole_batches w.batch (documents_in bytes)) None old new
+
+-- the sink has failed, and the answer to the whole batches, of the wanted size, among the documents whose
+-- line's end had come before the last read was written, all of it: no read comes before a whole batch is out
+abbrev pub HasBatchesOut : Wanted → Bool → ℕ → Option (List ℕ) → Option (List ℕ) → Option (List ℕ)
+    → Option (List ℕ) → Type 0
+HasBatchesOut w failed last source_old source_new old new = (failed ≡ true) × (bytes : List ℕ)
+    × Consumes source_old source_new bytes
+    × IsHandedFirstBy (manner_by w.output w.decimals w.keeps_going) w.query
+    (batches_before w.batch bytes last) old new
 
 -- the most calls of `read` were made
 abbrev pub AreAllReads : ℕ → ℕ → Type 0

@@ -1,11 +1,13 @@
 //! What helps where a command line or a query is refused.
 
-ghost use Rattle.std.specs.Prelude.{◌≡◌, true};
+ghost use Rattle.std.specs.Prelude.{◌≡◌, true, IfOk};
+ghost use Rattle.jp_explain.specs.Picture.{is_shown};
+ghost use Rattle.jp_tree.specs.View.{text_of};
 
 use crate::command::{note, tell};
 use crate::command_line::{Asked, matches, output_by, read_words};
 use clap::error::ErrorKind;
-use jp_explain::{explain, write_mark};
+use jp_explain::{escaped, explain, write_mark};
 use jp_run::{RunFault, Sink};
 use std::alloc::{AllocError, Global};
 
@@ -17,7 +19,7 @@ pub(crate) fn tell_of_words<N: Sink>(alloc: Global, notes: &mut N, words: &[&str
 {
     tell(alloc, notes, fault);
     let more = match fault {
-        RunFault::Settings => advice(alloc, words).ok(),
+        RunFault::Settings => advice_line(alloc, words).ok(),
         RunFault::Query(_) => explanation(alloc, words).unwrap_or(None),
         _ => None,
     };
@@ -41,14 +43,28 @@ fn explanation(alloc: Global, words: &[&str]) -> Result<Option<String>, RunFault
     }
 }
 
-/// The line that helps.
-fn advice(alloc: Global, words: &[&str]) -> Result<String, AllocError> {
+/// The line that helps, with its line feed.
+fn advice_line(alloc: Global, words: &[&str]) -> Result<String, AllocError> {
+    let advice = advice(alloc, words)?;
+    format!(in alloc; "{advice}\n")
+}
+
+/// What helps. It may name a word, in which anything may stand: so it has escapes for a terminal.
+fn advice(alloc: Global, words: &[&str]) -> Result<String, AllocError>
+    ensures { IfOk result (λ s. is_shown (text_of s) ≡ true) }
+{
+    let plain = plain_advice(alloc, words)?;
+    escaped(alloc, plain.as_str())
+}
+
+/// The same, with each word as it was given.
+fn plain_advice(alloc: Global, words: &[&str]) -> Result<String, AllocError> {
     // A second reading of the words, so that the contracts of the first need not speak of texts
     // (README, Why so).
     match matches(alloc, words) {
         Ok(matches) => match output_by(&matches) {
-            Some(_) => format!(in alloc; "jp: a number is out of its range; try jp --help\n"),
-            None => format!(in alloc; "jp: --output takes nodes, values, texts or lines\n"),
+            Some(_) => format!(in alloc; "jp: a number is out of its range; try jp --help"),
+            None => format!(in alloc; "jp: --output takes nodes, values, texts or lines"),
         },
         Err(error) => {
             let text = format!(in alloc; "{error}")?;
@@ -57,18 +73,16 @@ fn advice(alloc: Global, words: &[&str]) -> Result<String, AllocError> {
     }
 }
 
-/// The line, by what the reader of the words says: its first line, and its tip where that names an option.
+/// The same, by what the reader of the words says: its first line, and its tip where that names an option.
 fn advice_by(alloc: Global, kind: ErrorKind, text: &str) -> Result<String, AllocError> {
     let said = said_in(text);
     match (kind, tip_in(text)) {
         (ErrorKind::MissingRequiredArgument, _) => {
-            format!(in alloc; "jp: there is no query; try jp --help\n")
+            format!(in alloc; "jp: there is no query; try jp --help")
         }
-        (_, Some(tip)) if tip.starts_with("a similar") => format!(in alloc; "jp: {said}; {tip}\n"),
-        (ErrorKind::UnknownArgument, None) => format!(in alloc;
-            "jp: {said}; a file is given by <\n"
-        ),
-        (_, _) => format!(in alloc; "jp: {said}; try jp --help\n"),
+        (_, Some(tip)) if tip.starts_with("a similar") => format!(in alloc; "jp: {said}; {tip}"),
+        (ErrorKind::UnknownArgument, None) => format!(in alloc; "jp: {said}; a file is given by <"),
+        (_, _) => format!(in alloc; "jp: {said}; try jp --help"),
     }
 }
 

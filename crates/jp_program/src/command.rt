@@ -13,7 +13,7 @@ ghost use Rattle.jp_run.specs.Batches.{WasNotWhole};
 ghost use Rattle.jp_run.specs.Written.{IsPassedOn};
 ghost use Rattle.jp_program.specs.CommandLine.{AsksToShow};
 ghost use Rattle.jp_program.specs.Outcome.{IsStatus, IsTaken, IsAnswered, IsPast, IsFront, IsCutShort};
-ghost use Rattle.jp_program.specs.Outcome.{AreAllReads, AreTooManyLines};
+ghost use Rattle.jp_program.specs.Outcome.{HasBatchesOut, AreAllReads, AreTooManyLines};
 ghost use Rattle.jp_program.specs.Wanted.{Wanted as Wish, Wants, WantsCheck, WantsRun, IsWrong};
 
 use crate::advice::tell_of_words;
@@ -78,13 +78,14 @@ pub fn program<R: Threads + AllocGlobal + Sync, S: Source, K: Sink, N: Sink>(
         × IsPast w (S.remaining source.old) (K.contents sink.old) (K.contents sink.new)
         × IsAtEnd (S.remaining source.new) × (K.flushed sink.new ≡ true)
         × (S.failed source.new ≡ false) × (K.failed sink.new ≡ false)) }
-    // 4: a front of the wanted answer was written, and the source has failed, the sink has, or a limit was
-    // passed.
+    // 4: a front of the wanted answer was written, and the source has failed, or the sink has, where each
+    // batch was written before the read behind it, or a limit was passed.
     ensures failed { result ≡ 4 → (w : Wish) × WantsRun (texts words.now) w
         × IsFront w (S.remaining source.old) (K.contents sink.old) (K.contents sink.new)
         × (IsCutShort w (S.failed source.new) (S.remaining source.old) (S.remaining source.new)
         (K.contents sink.old) (K.contents sink.new)
-        ⊎ (K.failed sink.new ≡ true)
+        ⊎ HasBatchesOut w (K.failed sink.new) (S.last source.new) (S.remaining source.old)
+        (S.remaining source.new) (K.contents sink.old) (K.contents sink.new)
         ⊎ AreAllReads (S.reads source.old) (S.reads source.new)
         ⊎ AreTooManyLines (S.remaining source.old) (S.remaining source.new)) }
     // 5: nothing was read or written, or a front of the wanted answer was written.
@@ -120,7 +121,7 @@ pub fn program<R: Threads + AllocGlobal + Sync, S: Source, K: Sink, N: Sink>(
         Err(fault) => {
             pass_on_after(sink, &fault);
             tell_of_words(rt.alloc(), notes, words, &fault);
-            witness.tell(notes);
+            witness.tell_behind(notes, &fault);
             fault.status()
         }
     }
@@ -174,7 +175,8 @@ fn done<R: Threads + AllocGlobal + Sync, S: Source, K: Sink>(
         (K.contents sink.old) (K.contents sink.new) }
     ensures write { IsErrOf result RunFault.Write → (w : Wish) × WantsRun (texts words.now) w
         × IsFront w (S.remaining source.old) (K.contents sink.old) (K.contents sink.new)
-        × (K.failed sink.new ≡ true) }
+        × HasBatchesOut w (K.failed sink.new) (S.last source.new) (S.remaining source.old)
+        (S.remaining source.new) (K.contents sink.old) (K.contents sink.new) }
     ensures limit { IsErrOf result RunFault.Limit → (w : Wish) × WantsRun (texts words.now) w
         × IsFront w (S.remaining source.old) (K.contents sink.old) (K.contents sink.new)
         × (AreAllReads (S.reads source.old) (S.reads source.new)
@@ -238,6 +240,17 @@ pub fn tell<N: Sink>(alloc: Global, notes: &mut N, fault: &RunFault)
     ensures untouched { N.failed notes.old ≡ true → notes.new ≡ notes.old }
 {
     note(notes, format!(in alloc; "jp: {fault}\n"));
+}
+
+/// Tells that a word of the command line is no UTF-8, in two lines, and gives the status to end with.
+pub fn refuse_words<N: Sink>(alloc: Global, notes: &mut N) -> u8
+    ensures status { result ≡ 64 }
+    ensures untouched { N.failed notes.old ≡ true → notes.new ≡ notes.old }
+{
+    let fault = RunFault::Settings;
+    tell(alloc, notes, &fault);
+    note_text(notes, "jp: a word is no UTF-8; try jp --help\n");
+    fault.status()
 }
 
 /// Tells how many faulty lines were passed, in one line, and passes over a failure of that.

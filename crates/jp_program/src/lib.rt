@@ -10,4 +10,4 @@ mod output;
 mod version;
 mod witness;
 
-pub use command::{program, tell};
+pub use command::{program, refuse_words, tell};

@@ -5,7 +5,7 @@ ghost use Rattle.std.specs.Prelude.{◌≡◌, true};
 use crate::command::note_text;
 use jp_doc::DocFault;
 use jp_explain::{explain_line, write_line_mark};
-use jp_run::{Gate, Sink};
+use jp_run::{Gate, RunFault, Sink};
 use once_cell::race::OnceBox;
 use std::alloc::{AllocError, Global};
 
@@ -57,6 +57,15 @@ impl Witness {
             None => format!(in alloc; "line {number}: {fault}\n")?,
         };
         Ok(Box::new(alloc, text)?)
+    }
+
+    /// Writes the texts behind the fault of a line. Behind another fault no line is told, and so no place.
+    pub(crate) fn tell_behind<N: Sink>(&self, notes: &mut N, fault: &RunFault)
+        ensures untouched { N.failed notes.old ≡ true → notes.new ≡ notes.old }
+    {
+        if let RunFault::Document { .. } = fault {
+            self.tell(notes);
+        }
     }
 
     /// Writes the texts, where the notes have not failed before.

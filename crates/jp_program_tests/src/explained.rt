@@ -1,6 +1,8 @@
 //! Faulty lines that are explained.
 
 use crate::running::run_words;
+use jp_program::program;
+use jp_run::{FromReader, FromWriter};
 use std::alloc::AllocGlobal;
 use std::thread::Threads;
 
@@ -51,6 +53,34 @@ fn faulty_lines_that_are_passed_are_explained(rt: HostRuntime) {
         ];
         let output = b"1\t$['a']\t1\n2\t!\tnot whole\n4\t!\tunreadable\n";
         assert!(rt; tells(&rt, &words, output, b"jp: faulty lines: 2\n", BOTH));
+    }
+}
+
+/// Whether a sink with no room for the first line is told of alone, though the second one is faulty.
+fn tells_the_sink<R: Threads + AllocGlobal + Sync>(rt: &R, words: &[&str]) -> bool {
+    let mut room = [0u8; 5];
+    let mut notes = Vec::new(rt.alloc());
+    let mut source = FromReader::new(INPUT);
+    let mut sink = FromWriter::new(room.as_mut_slice());
+    let mut told = FromWriter::new(&mut notes);
+    let status = program(rt, words, &mut source, &mut sink, &mut told);
+    status == 4 && notes.as_slice() == b"jp: write\n".as_slice()
+}
+
+#[test]
+fn lines_behind_a_failed_write_are_not_told(rt: HostRuntime) {
+    for workers in &["1", "3"] {
+        let words = ["jp", "--workers", *workers, "--explain", "$.a"];
+        assert!(rt; tells_the_sink(&rt, &words));
+        let words = [
+            "jp",
+            "--workers",
+            *workers,
+            "--keep-going",
+            "--explain",
+            "$.a",
+        ];
+        assert!(rt; tells_the_sink(&rt, &words));
     }
 }
 

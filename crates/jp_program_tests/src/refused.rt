@@ -1,6 +1,8 @@
 //! Queries and command lines that are refused.
 
 use crate::running::{leaves, run_words};
+use jp_program::refuse_words;
+use jp_run::FromWriter;
 use std::alloc::AllocGlobal;
 use std::thread::Threads;
 
@@ -94,7 +96,7 @@ fn command_lines_are_refused(rt: HostRuntime) {
 }
 
 /// Words, each with the line that helps.
-const ADVICE: [(&[&str], &[u8]); 6] = [
+const ADVICE: [(&[&str], &[u8]); 10] = [
     (&["jp"], b"jp: there is no query; try jp --help\n"),
     (
         &["jp", "$", "file"],
@@ -116,7 +118,38 @@ const ADVICE: [(&[&str], &[u8]); 6] = [
         &["jp", "--output", "value", "--workers", "65", "$"],
         b"jp: --output takes nodes, values, texts or lines\n",
     ),
+    // No word reaches a terminal as it is.
+    (
+        &["jp", "$", "a\u{1b}[31m"],
+        b"jp: unexpected argument 'a\\u001b[31m' found; a file is given by <\n",
+    ),
+    (
+        &["jp", "$", "\u{9b}1\u{202e}2\u{61c}3\u{7f}"],
+        b"jp: unexpected argument '\\u009b1\\u202e2\\u061c3\\u007f' found; a file is given by <\n",
+    ),
+    (
+        &["jp", "--worker\u{1b}", "8", "$"],
+        b"jp: unexpected argument '--worker\\u001b' found; a similar argument exists: '--workers'\n",
+    ),
+    (
+        &["jp", "--workers", "\u{1b}]0;\u{61c}", "$"],
+        b"jp: invalid value '\\u001b]0;\\u061c' for '--workers <N>': invalid digit found in string; \
+          try jp --help\n",
+    ),
 ];
+
+/// The status for a word that is no UTF-8, and what is told of it.
+fn refuses<R: AllocGlobal>(rt: &R) -> (u8, bool) {
+    let mut notes = Vec::new(rt.alloc());
+    let status = refuse_words(rt.alloc(), &mut FromWriter::new(&mut notes));
+    let told = b"jp: command line\njp: a word is no UTF-8; try jp --help\n";
+    (status, notes.as_slice() == told.as_slice())
+}
+
+#[test]
+fn words_that_are_no_utf8_are_refused(rt: HostRuntime) {
+    assert_eq!(rt; refuses(&rt), (64, true));
+}
 
 /// Whether this line is noted behind the first.
 fn is_helped<R: Threads + AllocGlobal + Sync>(rt: &R, words: &[&str], told: &[u8]) -> bool {

@@ -2,7 +2,7 @@ use Rattle.std.proofs.Common.{◌≡◌, true, Some, inl, inr, refl, subst}
 use Rattle.jp_run.proofs.Runs.{not_both, refused_so}
 use Rattle.jp_program.specs.inner.Asked.{wanted_of, IsAsked}
 use Rattle.jp_program.proofs.OneWish.{not_shown, not_asked, not_checked, verdict_so}
-use Rattle.jp_run.specs.declared.fault.RunFault.TheVariants.{Limit}
+use Rattle.jp_run.specs.declared.fault.RunFault.TheVariants.{Limit, Write}
 use Rattle.jp_program.proofs.Ran.{wants_of, finished_ok, past_ok, taken_by, after_fault}
 use Rattle.jp_program.proofs.Told.{told_stop, stops}
 use Rattle.jp_program.proofs.command.done.Goals as goal
@@ -39,6 +39,15 @@ returns-in-Query-2-clause-document g c = λ line fault e.
       read.0,
       read.1,
       read.2,
+    )
+
+pub returns-in-Query-2-clause-write : goal.returns-in-Query-2-clause-write
+returns-in-Query-2-clause-write g c = λ e.
+    let out = c.run.ensures.no_read_between e in (
+      wanted_of c.in-Query.wanted,
+      wants_of _ _ _ c.in-Query.is c.in_ok-text.ensures.asked c.if-wanted.false,
+      after_fault c.run.result Write _ e c.run.ensures.front,
+      (c.run.ensures.write e, out.0, out.1, out.2),
     )
 
 pub returns-in-Query-2-clause-limit : goal.returns-in-Query-2-clause-limit

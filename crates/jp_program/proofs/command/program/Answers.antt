@@ -1,6 +1,6 @@
 use Rattle.std.proofs.Common.{◌∙◌, Err, Some, inl, inr, ap, sym}
 use Rattle.jp_program.proofs.Told.{query_of, document_of, end_of, memory_of, of_two, of_three}
-use Rattle.jp_program.proofs.Told.{answered_kept, front_kept, cut_kept, kept_from}
+use Rattle.jp_program.proofs.Told.{answered_kept, front_kept, cut_kept, batches_kept, kept_from}
 use Rattle.jp_program.proofs.Told.{status_so}
 use Rattle.jp_program.proofs.command.program.Goals as goal
 
@@ -32,7 +32,8 @@ returns-clause-failed g c = λ e.
     (λ f. let d = c.in-Err.ensures.read (ap Err f) in
     (d.0, d.1, front_kept d.0 _ _ _ _ d.2 kept, inl (cut_kept d.0 _ _ _ _ _ _ d.3 kept)))
     (λ f. let d = c.in-Err.ensures.write (ap Err f) in
-    (d.0, d.1, front_kept d.0 _ _ _ _ d.2 kept, inr (inl (c.pass_on_after.ensures.failed d.3))))
+    let out = batches_kept d.0 _ _ _ _ _ _ _ _ d.3 c.pass_on_after.ensures.failed kept in
+    (d.0, d.1, front_kept d.0 _ _ _ _ d.2 kept, inr (inl out)))
     (λ f. let d = c.in-Err.ensures.limit (ap Err f) in
     (d.0, d.1, front_kept d.0 _ _ _ _ d.2 kept, inr (inr d.3)))
     (end_of c.in-Err.fault (sym c.status-in-Err.ensures ∙ e))

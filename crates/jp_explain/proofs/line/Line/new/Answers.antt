@@ -6,3 +6,6 @@ use Rattle.jp_explain.proofs.line.Line.new.Goals as goal
 
 pub invariant_of-result : goal.invariant_of-result
 invariant_of-result c = record { shown = ap is_shown (ap chars c.new.ensures.bytes ∙ chars-nil) }
+
+pub returns : goal.returns
+returns c = ap chars c.new.ensures.bytes ∙ chars-nil
