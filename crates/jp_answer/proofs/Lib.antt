@@ -12,3 +12,4 @@ pub mod Stopping
 pub mod Streams
 pub mod Tending
 pub mod QueryCrosses
+pub mod NumberedAnswer

@@ -1,17 +1,18 @@
 //! Laws of the definitions, each the contract of a function that does nothing.
 
-ghost use Rattle.std.specs.Prelude.{◌≡◌, ◌+◌, ◌++◌, ℕ, None, List, length, map};
+ghost use Rattle.std.specs.Prelude.{◌≡◌, ◌<◌, ◌+◌, ◌^◌, ◌++◌, ℕ, None, List, length, map};
 ghost use Rattle.std.specs.List.{concat};
 ghost use Rattle.jp_doc.specs.Json.{Json};
 ghost use Rattle.jp_doc.specs.Lines.{Line, lines, line_count};
 ghost use Rattle.jp_doc.specs.NumbersWithin.{HasJsonNumbers};
-ghost use Rattle.jp_doc.specs.ReadingIn.{whole_numbers, decimals};
+ghost use Rattle.jp_doc.specs.ReadingIn.{Numbers, whole_numbers, decimals};
 ghost use Rattle.jp_tree.specs.Tree.{Query};
 ghost use Rattle.jp_regexp.specs.Tests.{Tests};
 ghost use Rattle.jp_eval.specs.Nodelist.{document_nodes};
 ghost use Rattle.jp_output.specs.Fields.{times, AreLinesOfThree};
-ghost use Rattle.jp_output.specs.OutputForm.{OutputForm};
-ghost use Rattle.jp_answer.specs.Answer.{answer, joined, document_lines, stream_answer};
+ghost use Rattle.jp_output.specs.NumberedLines.{AreNumberedAbove, first_fields, lines_numbered};
+ghost use Rattle.jp_output.specs.OutputForm.{OutputForm, node_lines, input_lines};
+ghost use Rattle.jp_answer.specs.Answer.{answer, answer_as, joined, document_lines, stream_answer};
 ghost use Rattle.jp_answer.specs.Faults.{first_fault};
 ghost use Rattle.jp_answer.specs.OnFault.{answer_in, answer_by, passed_in};
 ghost use Rattle.jp_answer.specs.Policy.{policy};
@@ -71,6 +72,18 @@ pub fn three_fields()
         → AreLinesOfThree (answer_in k t q ls).bytes }
     ensures one_each { (t : Tests) (q : Query) (number : ℕ) (root : Json) → HasJsonNumbers root
         → times 10 (document_lines t q number root) ≡ length (document_nodes t q root) }
+{}
+
+/// The answer in the form of input lines has exactly the lines whose numbers stand as first fields in the
+/// answer in output lines, each once, in their order, as they came: of lines whose numbers rise, and so of a
+/// stream. Each answer stops at the first faulty line.
+pub fn lines_of_first_fields()
+    ensures lines { (n : Numbers) (t : Tests) (q : Query) (ls : List Line) → AreNumberedAbove 0 ls
+        → (answer_as n input_lines t q ls).bytes
+        ≡ lines_numbered (first_fields (answer_as n node_lines t q ls).bytes) ls }
+    ensures stream { (n : Numbers) (t : Tests) (q : Query) (bytes : List ℕ) → line_count bytes < 2 ^ 64
+        → (answer_as n input_lines t q (lines bytes)).bytes
+        ≡ lines_numbered (first_fields (answer_as n node_lines t q (lines bytes)).bytes) (lines bytes) }
 {}
 
 /// The answer that keeps going has the bytes of the whole one, and never stops.

@@ -1,8 +1,8 @@
--- Numbers within values: what the JSON crate reads has whole ones, and what holds of all numbers of a value
--- holds of those within its children.
+-- Numbers within values: what the JSON crate reads has whole ones, what holds of all numbers of a value holds
+-- of those within its children, and those of a tree are numbers of JSON, and short where none is long.
 use Rattle.std.proofs.Common.{◌≡◌, ℕ, Bool, true, false, cond, nat_lt, List, length, Option, Some, None}
 use Rattle.std.proofs.Common.{Result, Ok, Err, Ordering, Less, Equal, Greater, [], ◌∷◌, option_and_then}
-use Rattle.std.proofs.Common.{refl, subst}
+use Rattle.std.proofs.Common.{refl, subst, not}
 use Rattle.std.specs.Ordering.{match_ordering}
 use Rattle.std.specs.Str.{chars}
 use Rattle.json.specs.Json as grammar
@@ -23,8 +23,12 @@ use Rattle.jp_doc.specs.declared.fault.DocFault.{DocFault}
 use Rattle.jp_doc.specs.declared.fault.DocFault.TheVariants.{LongLine, NotWhole, LongArray}
 use Rattle.jp_doc.specs.NumbersWithin.{AllNumbers, AllNumbersOfItems, AllNumbersOfMembers, IsWhole}
 use Rattle.jp_doc.specs.NumbersWithin.{IsJsonNumber, HasWholeNumbers, HasJsonNumbers}
-use Rattle.jp_doc.specs.Tree.{number_by, put_member, tree_of, tree_json, tree_items, tree_members}
-use Rattle.jp_number.specs.Number.{Number, whole, written}
+use Rattle.jp_doc.specs.ReadingIn.{has_long_number, items_have_long_number, members_have_long_number}
+use Rattle.jp_doc.specs.Tree.{number_by, text_number, put_member, tree_of, tree_json, tree_items}
+use Rattle.jp_doc.specs.Tree.{tree_members}
+use Rattle.jp_doc.proofs.Found.{first_false, second_false}
+use Rattle.jp_number.specs.Number.{Number, whole, written, IsShort, is_short}
+use Rattle.jp_number.proofs.Limits.{short_by_test}
 
 mutual
   pub json_is_whole : (d : crate_data.Data) → HasWholeNumbers (json_of d)
@@ -84,6 +88,14 @@ module _ (P Q : Number → Type 0) (f : (n : Number) → P n → Q n) where
 whole_is_json : (n : Number) → IsWhole n → IsJsonNumber n
 whole_is_json (whole z) h = tt
 whole_is_json (written s) h = absurd h
+
+whole_is_short : (n : Number) → IsWhole n → IsShort n
+whole_is_short (whole z) h = tt
+whole_is_short (written s) h = absurd h
+
+-- whole numbers are within the limits
+pub whole_numbers_are_short : (v : Json) → HasWholeNumbers v → AllNumbers IsShort v
+whole_numbers_are_short = weaker IsWhole IsShort whole_is_short
 
 -- whole numbers are numbers of JSON
 pub json_numbers : (v : Json) → HasWholeNumbers v → AllNumbers IsJsonNumber v
@@ -147,3 +159,35 @@ found_numbers line (Some (i, t ∷ ts)) j is h = absurd (cc)
 pub line_numbers : (line : List ℕ) (j : grammar.Json) → tree_of line ≡ Some j → HasJsonNumbers (tree_json j)
 line_numbers line j h =
     tree_numbers j (found_numbers line (grammar.value max_depth (tokens line)) j refl h)
+
+-- those of a tree that has no long number are within the limits
+
+short_unless_long : (n : Number) → not (is_short n) ≡ false → IsShort n
+short_unless_long n h = (short_by_test n).0 (not_false (is_short n) h)
+  where
+    not_false : (b : Bool) → not b ≡ false → b ≡ true
+    not_false true h = refl
+    not_false false h = absurd (cc)
+
+mutual
+  pub tree_numbers_are_short : (j : grammar.Json) → has_long_number j ≡ false
+      → AllNumbers IsShort (tree_json j)
+  tree_numbers_are_short grammar.null h = tt
+  tree_numbers_are_short (grammar.boolean b) h = tt
+  tree_numbers_are_short (grammar.number s) h = short_unless_long (text_number s) h
+  tree_numbers_are_short (grammar.string s) h = tt
+  tree_numbers_are_short (grammar.array js) h = items_numbers_are_short js h
+  tree_numbers_are_short (grammar.object ms) h = members_numbers_are_short ms no_members h tt
+
+  items_numbers_are_short : (js : grammar.Items) → items_have_long_number js ≡ false
+      → AllNumbersOfItems IsShort (tree_items js)
+  items_numbers_are_short grammar.no_items h = tt
+  items_numbers_are_short (grammar.item j js) h =
+      (tree_numbers_are_short j (first_false _ _ h), items_numbers_are_short js (second_false _ _ h))
+
+  members_numbers_are_short : (ms : grammar.Members) (put : Members) → members_have_long_number ms ≡ false
+      → AllNumbersOfMembers IsShort put → AllNumbersOfMembers IsShort (tree_members ms put)
+  members_numbers_are_short grammar.no_members put h p = p
+  members_numbers_are_short (grammar.member k j ms) put h p =
+      members_numbers_are_short ms (put_member (chars k) (tree_json j) put) (second_false _ _ h)
+      (all_put IsShort (chars k) (tree_json j) put (tree_numbers_are_short j (first_false _ _ h)) p)

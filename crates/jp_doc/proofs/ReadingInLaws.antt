@@ -10,7 +10,7 @@ use Rattle.json.specs.Tree.{json_tokens}
 use Rattle.json.proofs.Found.{not_found, Some_inj}
 use Rattle.jp_doc.specs.Height.{height}
 use Rattle.jp_doc.specs.Json.{Json}
-use Rattle.jp_doc.specs.NumbersWithin.{HasJsonNumbers}
+use Rattle.jp_doc.specs.NumbersWithin.{AllNumbers, HasJsonNumbers}
 use Rattle.jp_doc.specs.Reading.{max_line, max_items, has_long_array, reading}
 use Rattle.jp_doc.specs.ReadingIn.{Numbers, whole_numbers, decimals, max_tokens, has_long_number}
 use Rattle.jp_doc.specs.ReadingIn.{document_of, tree_reading, or_else, reading_in}
@@ -19,11 +19,13 @@ use Rattle.jp_doc.specs.Tree.{tree_of, tree_json}
 use Rattle.jp_doc.specs.declared.fault.DocFault.{DocFault}
 use Rattle.jp_doc.specs.declared.fault.DocFault.TheVariants.{LongLine, Unreadable, NotWhole, LongNumber}
 use Rattle.jp_doc.specs.declared.fault.DocFault.TheVariants.{LongArray, Memory}
-use Rattle.jp_doc.proofs.NumberLaws.{json_numbers, reading_is_whole, line_numbers}
+use Rattle.jp_doc.proofs.NumberLaws.{json_numbers, whole_numbers_are_short, reading_is_whole, line_numbers}
+use Rattle.jp_doc.proofs.NumberLaws.{tree_numbers_are_short}
 use Rattle.jp_doc.proofs.ReadingLaws.{document_is_read, long_line_is_long}
 use Rattle.jp_doc.proofs.TreeFacts.{tree_rises, tree_height, tree_is_short}
 use Rattle.jp_doc.proofs.TreeLaws.{tree_agrees}
 use Rattle.jp_doc.proofs.TreeNesting.{spelled_tree}
+use Rattle.jp_number.specs.Number.{IsShort}
 
 -- ---- with decimals nothing that is read changes
 
@@ -38,27 +40,34 @@ same_long_line decimals line e = ap (λ r. or_else r (tree_reading line)) e
 
 -- ---- what the tree tells
 
--- a value by the grammar alone is that of the line's tree, which has few tokens
+-- a value by the grammar alone is that of the line's tree, which has short numbers and few tokens
 record IsOfTree (line : List ℕ) (v : Json) : Type 0 where
   tree : grammar.Json
   found : tree_of line ≡ Some tree
+  short_numbers : has_long_number tree ≡ false
   few : length (tokens line) ≤ max_tokens
   value : tree_json tree ≡ v
 
 tested : (other long : Bool) (line : List ℕ) (j : grammar.Json) (v : Json) → tree_of line ≡ Some j
-    → nat_lt max_tokens (length (tokens line)) ≡ long
+    → has_long_number j ≡ other → nat_lt max_tokens (length (tokens line)) ≡ long
     → ◌≡◌ {A = Result Json DocFault} (if other then Err LongNumber else if long then Err LongArray
     else Ok (tree_json j)) (Ok v)
     → IsOfTree line v
-tested true long line j v is e h = absurd (cc)
-tested false true line j v is e h = absurd (cc)
-tested false false line j v is e h =
-    record { tree = j; found = is; few = ltb-false max_tokens (length (tokens line)) e; value = cc }
+tested true long line j v is none e h = absurd (cc)
+tested false true line j v is none e h = absurd (cc)
+tested false false line j v is none e h =
+    record {
+      tree = j;
+      found = is;
+      short_numbers = none;
+      few = ltb-false max_tokens (length (tokens line)) e;
+      value = cc;
+    }
 
 from_tree : (o : Option grammar.Json) (line : List ℕ) (v : Json) → tree_of line ≡ o
     → document_of o (length (tokens line)) ≡ Ok v → IsOfTree line v
 from_tree None line v is h = absurd (cc)
-from_tree (Some j) line v is h = tested (has_long_number j) _ line j v is refl h
+from_tree (Some j) line v is h = tested (has_long_number j) _ line j v is refl refl h
 
 of_tree_if : (b : Bool) (line : List ℕ) (v : Json)
     → (if b then document_of (tree_of line) (length (tokens line)) else Err Unreadable) ≡ Ok v
@@ -105,6 +114,7 @@ record IsRead (v : Json) : Type 0 where
   nests : height v ≤ 127
   short : has_long_array max_items v ≡ false
   numbers : HasJsonNumbers v
+  short_numbers : AllNumbers IsShort v
 
 of_whole : (line : List ℕ) (v : Json) → reading line ≡ Ok v → IsRead v
 of_whole line v e = go (tree_of line) refl (tree_agrees line v e)
@@ -120,6 +130,7 @@ of_whole line v e = go (tree_of line) refl (tree_agrees line v e)
           nests = omega (arith, tree_height j, nests, height_is);
           short = (document_is_read line v e).4;
           numbers = json_numbers v (reading_is_whole line v e);
+          short_numbers = whole_numbers_are_short v (reading_is_whole line v e);
         }
 
 of_decimals : (line : List ℕ) (v : Json) → tree_reading line ≡ Ok v → IsRead v
@@ -134,6 +145,7 @@ of_decimals line v h =
       nests = omega (arith, tree_height t.tree, spelled.1, height_is);
       short = sym (ap (has_long_array max_items) t.value) ∙ tree_is_short t.tree max_items few;
       numbers = subst HasJsonNumbers t.value (line_numbers line t.tree t.found);
+      short_numbers = subst (AllNumbers IsShort) t.value (tree_numbers_are_short t.tree t.short_numbers);
     }
 
 of_either : (line : List ℕ) (r : Result Json DocFault) (v : Json) → reading line ≡ r
@@ -162,3 +174,7 @@ read_short n line v h = (is_read n line v h).short
 
 pub read_numbers : (n : Numbers) (line : List ℕ) (v : Json) → reading_in n line ≡ Ok v → HasJsonNumbers v
 read_numbers n line v h = (is_read n line v h).numbers
+
+pub read_short_numbers : (n : Numbers) (line : List ℕ) (v : Json) → reading_in n line ≡ Ok v
+    → AllNumbers IsShort v
+read_short_numbers n line v h = (is_read n line v h).short_numbers

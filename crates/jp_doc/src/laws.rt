@@ -22,11 +22,12 @@ ghost use Rattle.jp_doc.specs.Feeding.{cut, last_line, nothing_fed, lines_of_pie
 ghost use Rattle.jp_doc.specs.Joined.{joined};
 ghost use Rattle.jp_doc.specs.Height.{height};
 ghost use Rattle.jp_doc.specs.Location.{Step, Location, location_of, step_of, child_at, value_at};
-ghost use Rattle.jp_doc.specs.NumbersWithin.{HasWholeNumbers, HasJsonNumbers};
+ghost use Rattle.jp_doc.specs.NumbersWithin.{AllNumbers, HasWholeNumbers, HasJsonNumbers};
 ghost use Rattle.jp_doc.specs.Reading.{max_line, max_items, has_long_array, crate_reading, reading};
 ghost use Rattle.jp_doc.specs.ReadingIn.{Numbers, decimals, tree_reading, reading_in};
 ghost use Rattle.jp_doc.specs.Rising.{IsRising, MembersRise, NamesAreUtf8};
 ghost use Rattle.jp_doc.specs.Tree.{tree_of, tree_json};
+ghost use Rattle.jp_number.specs.Number.{IsShort};
 ghost use Rattle.jp_doc.specs.declared.location.Location as code;
 ghost use Rattle.jp_doc.specs.declared.fault.DocFault.{DocFault};
 ghost use Rattle.jp_doc.specs.declared.fault.DocFault.TheVariants.{LongLine, Unreadable, NotWhole};
@@ -92,6 +93,8 @@ pub fn values_that_are_read()
     ensures rising_names { (n : Numbers) (line : List ℕ) (v : Json) → reading_in n line ≡ Ok v → IsRising v }
     ensures numbers { (n : Numbers) (line : List ℕ) (v : Json) → reading_in n line ≡ Ok v
         → HasJsonNumbers v }
+    ensures short_numbers { (n : Numbers) (line : List ℕ) (v : Json) → reading_in n line ≡ Ok v
+        → AllNumbers IsShort v }
 {}
 
 /// What each answer of a reading says of the line: a fault is told only where those before it do not apply.

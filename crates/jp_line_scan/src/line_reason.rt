@@ -168,16 +168,26 @@ impl fmt::Display for LineRule {
     }
 }
 
+impl LineReason {
+    /// The path of the number that is not whole or over the limits, and where it ends.
+    pub fn number(&self) -> Option<(&str, usize)> {
+        match self {
+            LineReason::NotWhole(number) => Some((number.path.as_str(), number.end)),
+            LineReason::LongNumber(number) => Some((number.path.as_str(), number.end)),
+            _ => None,
+        }
+    }
+}
+
+/// The words for the mark, or, where the reason is a number, those behind it.
 impl fmt::Display for LineReason {
     fn fmt<W: fmt::Write>(&self, f: &mut fmt::Formatter<W>) -> fmt::Result {
         match self {
             LineReason::Expected(expected) => write!(f, "{expected}"),
             LineReason::Ended(expected) => write!(f, "the line ends: {expected}"),
             LineReason::Rule(rule) => write!(f, "{rule}"),
-            LineReason::NotWhole(number) => write!(f, "not whole: the number at {}", number.path),
-            LineReason::LongNumber(number) => {
-                write!(f, "long number: the number at {}", number.path)
-            }
+            LineReason::NotWhole(_) => write!(f, "is not whole"),
+            LineReason::LongNumber(_) => write!(f, "has too many digits"),
         }
     }
 }

@@ -2,6 +2,7 @@ pub mod FieldBytes
 pub mod Fields
 pub mod FlatTexts
 pub mod LinesWithNodes
+pub mod NumberedLines
 pub mod NumberFields
 pub mod OnLiterals
 pub mod PathBytes

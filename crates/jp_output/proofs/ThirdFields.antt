@@ -1,15 +1,16 @@
--- The third fields of output lines.
+-- The first and the third fields of output lines.
 use Rattle.std.proofs.Common.{◌≡◌, ℕ, ◌+◌, ◌<◌, ◌==◌, not, false, cond, List, [], ◌∷◌, ◌++◌, refl}
 use Rattle.std.proofs.Common.{ap, ◌∙◌, arith, append_assoc, length, take, drop, decimal, flat_map}
-use Rattle.std.proofs.Common.{encode_utf8_all, if◌then◌else◌}
+use Rattle.std.proofs.Common.{encode_utf8_all, if◌then◌else◌, map}
 use Rattle.std.proofs.lemmas.Bool.{ne_eqb}
-use Rattle.std.proofs.Math.Seq.{drop-append-add}
+use Rattle.std.proofs.Math.Seq.{drop-append-add, take-append_seam}
 use Rattle.std.proofs.lemmas.List.{take_all}
 use Rattle.std.specs.List.{AllByRecursion, after_first, before_first, position_or_len}
 use Rattle.jp_doc.specs.Lines.{all_lines, onto_first}
 use Rattle.jp_doc.specs.Location.{Node}
 use Rattle.jp_path_stack.specs.Path.{path_text}
 use Rattle.jp_output.specs.Fields.{NodesHaveJsonNumbers, is_tab, third_field, third_fields}
+use Rattle.jp_output.specs.NumberedLines.{first_field, first_fields}
 use Rattle.jp_output.specs.OutputLine.{node_line, value_line, value_text}
 use Rattle.jp_output.proofs.FieldBytes.{IsField}
 use Rattle.jp_output.proofs.Fields.{decimal_field, path_field, value_field}
@@ -79,6 +80,18 @@ module _ (x y z : List ℕ) (hx : IsField x) (hy : IsField y) (hz : IsField z) w
       ∙ ap (λ (ls : List (List ℕ)). flat_map (λ (line : List ℕ). third_field line ++ 10 ∷ []) ls)
       (first_line front rest no_line_feed)
       ∙ ap (λ (t : List ℕ). (t ++ 10 ∷ []) ++ third_fields rest) third_is
+
+  first_is : first_field front ≡ x
+  first_is =
+      ap (λ n. take n front) (tab_behind x (y ++ 9 ∷ z) (field_without 9 x (omega arith) hx))
+      ∙ take-append_seam x (9 ∷ (y ++ 9 ∷ z))
+
+  pub first_more : (rest : List ℕ)
+      → first_fields ((x ++ (9 ∷ y ++ (9 ∷ z ++ 10 ∷ []))) ++ rest) ≡ x ∷ first_fields rest
+  first_more rest =
+      ap first_fields (regroup rest)
+      ∙ ap (λ (ls : List (List ℕ)). map first_field ls) (first_line front rest no_line_feed)
+      ∙ ap (λ (t : List ℕ). t ∷ first_fields rest) first_is
 
 pub values_of_lines : (number : ℕ) (ns : List Node) → NodesHaveJsonNumbers ns
     → third_fields (flat_map (node_line number) ns) ≡ flat_map value_line ns

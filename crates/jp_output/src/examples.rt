@@ -10,6 +10,7 @@ ghost use Rattle.jp_number.specs.Number.{whole};
 ghost use Rattle.jp_output.specs.Chunks.{bytes_in};
 ghost use Rattle.jp_output.specs.FaultLine.{fault_line};
 ghost use Rattle.jp_output.specs.Fields.{times, HasThreeFields, IsOneLine, third_field, third_fields};
+ghost use Rattle.jp_output.specs.NumberedLines.{first_field, first_fields, lines_numbered};
 ghost use Rattle.jp_output.specs.OutputForm.{node_lines, value_lines, text_lines, input_lines};
 ghost use Rattle.jp_output.specs.OutputLine.{value_text, line_text, value_line};
 ghost use Rattle.jp_output.specs.UnquotedText.{unquoted_text, text_line};
@@ -104,6 +105,20 @@ fn third()
     ensures of_one { third_field (codes "1") ≡ [] }
     ensures twice { third_fields (codes "1" ++ 9 ∷ codes "$" ++ 9 ∷ codes "2" ++ 10 ∷ codes "1" ++ 9 ∷
         codes "$" ++ 9 ∷ codes "2" ++ 10 ∷ []) ≡ codes "2" ++ 10 ∷ codes "2" ++ 10 ∷ [] }
+{}
+
+/// First fields, and the lines that they number: of a number that stands twice, and of one that begins as
+/// another does.
+#[tactic(auto, unfolding(crate::proofs::OnLiterals::lines_on_literals))]
+fn numbered_lines()
+    ensures no_tab { first_field (codes "1") ≡ codes "1" }
+    ensures of_each { first_fields (codes "1" ++ 9 ∷ codes "$" ++ 10 ∷ codes "12" ++ 9 ∷ codes "$" ++ 10 ∷ [])
+        ≡ codes "1" ∷ codes "12" ∷ [] }
+    ensures twice { lines_numbered (codes "2" ∷ codes "2" ∷ []) ((1, codes "a") ∷ (2, codes "b") ∷ [])
+        ≡ codes "b" ++ 10 ∷ [] }
+    ensures longer { lines_numbered (codes "12" ∷ []) ((1, codes "a") ∷ (2, codes "b") ∷ (12, codes "c") ∷ [])
+        ≡ codes "c" ++ 10 ∷ [] }
+    ensures none { lines_numbered [] ((1, codes "a") ∷ []) ≡ [] }
 {}
 
 /// Values and texts on lines of their own. A text within an array keeps its quotes.

@@ -117,6 +117,7 @@ impl Form for InputLines {
         _number: u64,
         _fault: &DocFault,
     ) -> Result<(), AllocError> {
+        // A faulty line has no document, and so no node.
         Ok(())
     }
 

@@ -1,7 +1,7 @@
 //! Laws of the definitions, each the contract of a function that does nothing.
 
 ghost use Rattle.std.specs.Prelude.{◌≡◌, ◌≢◌, ◌↔◌, ℕ, false, List, [], ◌∷◌, ◌++◌, length};
-ghost use Rattle.std.specs.List.{fold, flat_map};
+ghost use Rattle.std.specs.List.{AllByRecursion, fold, flat_map};
 ghost use Rattle.serde_json.specs.View.{view};
 ghost use Rattle.serde_json.specs.Written.{has_float, compact_text};
 ghost use Rattle.serde_json.specs.declared.value.Value.{Value};
@@ -13,6 +13,8 @@ ghost use Rattle.jp_doc.specs.declared.fault.DocFault.{DocFault};
 ghost use Rattle.jp_output.specs.FaultLine.{fault_line};
 ghost use Rattle.jp_output.specs.Fields.{times, HasThreeFields, AreLinesOfThree, IsOneLine, third_fields};
 ghost use Rattle.jp_output.specs.Fields.{NodesHaveJsonNumbers};
+ghost use Rattle.jp_output.specs.NumberedLines.{of_documents, lines_of_documents, AreNumberedAbove};
+ghost use Rattle.jp_output.specs.NumberedLines.{first_fields, lines_numbered};
 ghost use Rattle.jp_output.specs.OutputForm.{node_lines, value_lines, text_lines, input_lines};
 ghost use Rattle.jp_output.specs.OutputLine.{value_text, node_line, put_line, value_line};
 ghost use Rattle.jp_output.specs.UnquotedText.{text_line};
@@ -72,4 +74,13 @@ pub fn lines_with_nodes()
     ensures none { (l : Line) → input_lines.of_document l [] ≡ [] }
     ensures same_lines { (l : Line) (ns : List Node) → (input_lines.of_document l ns ≡ [])
         ↔ (node_lines.of_document l ns ≡ []) }
+{}
+
+/// Over several documents whose numbers rise, the form of input lines has exactly the lines whose numbers
+/// stand as first fields in the form of output lines, each once, in their order, as they came.
+pub fn lines_of_first_fields()
+    ensures { (ds : List (Line × List Node)) → AreNumberedAbove 0 (lines_of_documents ds)
+        → AllByRecursion (λ d. NodesHaveJsonNumbers d.1) ds
+        → of_documents input_lines ds
+        ≡ lines_numbered (first_fields (of_documents node_lines ds)) (lines_of_documents ds) }
 {}

@@ -26,5 +26,4 @@ pub use input_lines::InputLines;
 pub use node_lines::NodeLines;
 pub use output_line::write_line;
 pub use path::write_path;
-pub use value_form::{Compact, Unquoted, ValueForm};
-pub use value_per_line::{TextLines, ValueLines, ValuePerLine};
+pub use value_per_line::{TextLines, ValueLines};

@@ -75,6 +75,11 @@ fn behind_query(begun: Begun, inside: Option<Open>) -> Expected {
     }
 }
 
+/// What may follow a query that may select several nodes, in the place of an operator.
+pub(crate) fn behind_several(inside: Option<Open>) -> Expected {
+    Expected::SeveralEnd(closer(inside))
+}
+
 /// No blank may end the whole query.
 fn behind_blanks(begun: Begun, inside: Option<Open>) -> Expected {
     match begun.side {

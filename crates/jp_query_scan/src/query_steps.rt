@@ -1,6 +1,8 @@
 //! The steps of a scan through segments and selectors (RFC 9535, 2.3 and 2.5).
 
+use crate::expected::behind_several;
 use crate::place::{Begun, NumberOf, Open, Part, Place, Quoted, Side};
+use crate::reason::Reason;
 use crate::scanner::{Halt, Scanner};
 
 pub(crate) fn is_blank(c: char) -> bool {
@@ -52,10 +54,19 @@ impl Scanner {
     fn query_end(&mut self, begun: Begun, at: usize, c: char) -> Result<(), Halt> {
         match begun.side {
             Side::Whole => Err(self.unexpected(at)),
-            Side::Test if begun.singular && is_operator(c) => self.operator(None, at, c),
+            Side::Test if is_operator(c) => self.left_side(begun, at, c),
             Side::Test | Side::Negated | Side::Right => self.test_end(at, c),
             Side::Value | Side::Nodes => self.argument_end(at, c),
         }
+    }
+
+    /// Behind a query, at a character that begins an operator.
+    fn left_side(&mut self, begun: Begun, at: usize, c: char) -> Result<(), Halt> {
+        if begun.singular {
+            return self.operator(None, at, c);
+        }
+        let reason = Reason::Expected(behind_several(self.inside()));
+        Err(Halt::At(at, reason))
     }
 
     pub(crate) fn dot(&mut self, begun: Begun, at: usize, c: char) -> Result<(), Halt> {

@@ -93,6 +93,8 @@ pub enum Expected {
     Or,
     /// What follows a query that may be compared.
     ComparedEnd(Closer),
+    /// What follows a query that may select several nodes, and so is not compared.
+    SeveralEnd(Closer),
     /// What follows a test.
     TestEnd(Closer),
     /// What follows an argument.
@@ -208,6 +210,11 @@ impl fmt::Display for Expected {
             Expected::ComparedEnd(closer) => write!(
                 f,
                 "an operator, &&, ||{}{closer}",
+                closer.behind_list()
+            ),
+            Expected::SeveralEnd(closer) => write!(
+                f,
+                "&&, ||{}{closer}: what is compared selects one node at most",
                 closer.behind_list()
             ),
             Expected::TestEnd(closer) => write!(f, "&&, ||{}{closer}", closer.behind_list()),

@@ -47,6 +47,10 @@ const SLOTS: usize = 256;
 /// How many bytes the lines of one slot have at most, where they are several.
 const SLOT_BYTES: usize = 32_768;
 
+/// How many bytes of lines a part had at most whose memory is kept for the next: those of a full part, and a
+/// line.
+const SPARE_BYTES: usize = 4 * SLOT_BYTES;
+
 /// Reads on until the batch is whole, a part of it has come, or the input has ended, and answers what came
 /// before, if that is enough: where there is more than one worker, beside the reading, with what comes
 /// meanwhile. The answer is held. Gives whether the input has ended.
@@ -300,10 +304,14 @@ fn size_for(settings: &Settings, lines: usize, workers: u64) -> PartSize
     }
 }
 
-/// Keeps the memory of what was published for what comes next.
+/// Keeps the memory of what was published for what comes next, but for that of long lines: a burst of them
+/// would be held as long as the run lasts.
 fn take_back(slots: Vec<Slot>, spare: &mut Vec<WaitingLines>) {
     for slot in slots {
         if let Some(lines) = slot.into_inner() {
+            if lines.total_bytes() > SPARE_BYTES {
+                continue;
+            }
             // Without room for it the memory is let go: it is not needed.
             if spare.push(lines).is_err() {
                 return;

@@ -129,7 +129,13 @@ pub(crate) fn publish_waiting(
     ensures progress { incoming.new.buffer.progress ≡ incoming.old.buffer.progress }
     ensures left { incoming.new.left ≡ incoming.old.left }
 {
-    let count = incoming.buffer.len().min(wanted.lines - given.lines);
+    // No more lines than the free slots can take: what is put into parts is copied.
+    let free = slots.len().saturating_sub(given.published.tokens.len());
+    let count = incoming
+        .buffer
+        .len()
+        .min(wanted.lines - given.lines)
+        .min(free.saturating_mul(wanted.size.lines));
     let parts = incoming
         .buffer
         .front_parts(alloc, count, wanted.size, &mut incoming.spare)?;

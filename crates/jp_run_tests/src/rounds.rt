@@ -238,6 +238,81 @@ fn a_source_that_is_slow(rt: HostRuntime) {
     }
 }
 
+/// A reader that keeps its caller waiting: at its third read until some piece was answered, at its fourth for
+/// longer than workers look for what comes, and at its seventh until one more was answered.
+#[derive(Drop)]
+struct Heeding<'a> {
+    text: &'a [u8],
+    reads: u64,
+    gate: &'a Passes,
+    /// How many pieces were answered when the fourth read ended.
+    before: u64,
+    /// How often it waited in vain.
+    in_vain: &'a AtomicU64,
+}
+
+impl Heeding<'_> {
+    fn wait_for_more_than(&self, before: u64) {
+        for _turn in 0..TURNS {
+            if self.gate.0.load(Ordering::SeqCst) > before {
+                return;
+            }
+            thread::yield_now();
+        }
+        self.in_vain.fetch_add(1, Ordering::SeqCst);
+    }
+}
+
+impl Read for Heeding<'_> {
+    fn read(&mut self, buf: &mut [u8]) -> io::Result<usize> {
+        self.reads = self.reads.saturating_add(1);
+        match self.reads {
+            3 => self.wait_for_more_than(0),
+            4 => {
+                for _turn in 0..200_000u64 {
+                    thread::yield_now();
+                }
+                self.before = self.gate.0.load(Ordering::SeqCst);
+            }
+            7 => self.wait_for_more_than(self.before),
+            _ => (),
+        }
+        self.text.read(buf)
+    }
+}
+
+/// How often a source waited in vain for lines to be answered, of which it had given some and not all, or
+/// `None` where the answer was not the right one.
+fn waits_in_vain<R: Threads + Sync>(rt: &R, alloc: Global, workers: u64) -> Option<u64> {
+    let settings = Settings::new(workers, 1, BATCH).ok()?;
+    let text = lines_of(alloc, 6 * FIRST, BLANKS, &[]).ok()?;
+    let wanted = answer_of(alloc, 6 * FIRST, &[]).ok()?;
+    let gate = Passes(AtomicU64::new(0));
+    let in_vain = AtomicU64::new(0);
+    let reader = Heeding {
+        text: text.as_bytes(),
+        reads: 0,
+        gate: &gate,
+        before: 0,
+        in_vain: &in_vain,
+    };
+    let is_right = is_run(rt, alloc, reader, &settings, &gate, (&wanted, 0));
+    if is_right {
+        Some(in_vain.load(Ordering::SeqCst))
+    } else {
+        None
+    }
+}
+
+/// Lines are answered while the batch is not whole and its source still reads, behind a stall too.
+#[test]
+fn lines_are_answered_while_a_source_waits(rt: HostRuntime) {
+    for workers in &[2u64, 4] {
+        let in_vain = waits_in_vain(&rt, rt.alloc(), *workers);
+        assert_eq!(rt; in_vain, Some(0), "{workers} workers");
+    }
+}
+
 /// Rounds that end with their batch, and lines behind it that wait for the next; more workers than lines;
 /// more parts than a row has slots.
 #[test]

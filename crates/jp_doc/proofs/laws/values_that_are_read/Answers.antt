@@ -1,4 +1,4 @@
-use Rattle.jp_doc.proofs.ReadingInLaws.{read_rises, read_nests, read_short, read_numbers}
+use Rattle.jp_doc.proofs.ReadingInLaws.{read_rises, read_nests, read_short, read_numbers, read_short_numbers}
 use Rattle.jp_doc.proofs.laws.values_that_are_read.Goals as goal
 
 pub returns-clause-short_arrays : goal.returns-clause-short_arrays
@@ -12,3 +12,6 @@ returns-clause-rising_names c = read_rises
 
 pub returns-clause-numbers : goal.returns-clause-numbers
 returns-clause-numbers c = read_numbers
+
+pub returns-clause-short_numbers : goal.returns-clause-short_numbers
+returns-clause-short_numbers c = read_short_numbers

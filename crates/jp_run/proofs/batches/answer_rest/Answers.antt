@@ -1,4 +1,5 @@
 use Rattle.std.proofs.Common.{◌∙◌, List, ap, arith, subst, take, None, Bool}
+use Rattle.std.proofs.KnownBytes.{Appends-nil}
 use Rattle.std.proofs.Math.Seq.{take-length}
 use Rattle.jp_doc.specs.Lines.{Line}
 use Rattle.jp_compiled.specs.Compiled.{compiled_query}
@@ -40,3 +41,7 @@ returns-clause-handed g c = λ held is.
     c.in_ok-more.ensures.passed c.in_ok-put.ensures.count
     (c.in_ok-put.ensures.answer c.requires.going_on) c.in_ok-put.ensures.passed old new
     c.in_ok-hand_out.ensures.whole c.in_ok-hand_out.ensures.ok)
+
+pub returns-in_err-put-clause-fault : goal.returns-in_err-put-clause-fault
+returns-in_err-put-clause-fault g c = λ held is. told _ _ _ c.from_residual-in_err-put.ensures.1
+    (λ t right. (0, omega arith, Appends-nil _))
