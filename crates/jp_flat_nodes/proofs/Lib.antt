@@ -1,0 +1,8 @@
+mod Vectors
+mod Cuts
+mod Printing
+mod Growing
+mod Digits
+mod OneNode
+mod Loops
+mod WholeLine

@@ -1,0 +1,30 @@
+use Rattle.std.proofs.Common.{◌<◌, ◌-◌, ◌+◌, ◌*◌, length}
+use Rattle.jp_flat_nodes.proofs.Loops.{ItemsSoFar, MembersSoFar}
+use Rattle.jp_flat_nodes.proofs.reading.+reading.Given as goal
+
+abbrev pub decreases-value : goal.decreases-value
+decreases-value l = 2 * l.depth
+
+abbrev pub decreases-array : goal.decreases-array
+decreases-array l = 2 * l.depth + 1
+
+abbrev pub decreases-object : goal.decreases-object
+decreases-object l = 2 * l.depth + 1
+
+abbrev pub invariant-array-loop-cursor : goal.invariant-array-loop-cursor
+invariant-array-loop-cursor l = record {
+  items : ItemsSoFar l.line l.at l.cursor l.depth l.initial.nodes.items l.nodes.items;
+  place : l.place < length l.nodes.items;
+}
+
+abbrev pub decreases-array-loop-cursor : goal.decreases-array-loop-cursor
+decreases-array-loop-cursor l = length l.line - l.cursor
+
+abbrev pub invariant-object-loop-cursor : goal.invariant-object-loop-cursor
+invariant-object-loop-cursor l = record {
+  members : MembersSoFar l.line l.at l.cursor l.depth l.initial.nodes.items l.nodes.items;
+  place : l.place < length l.nodes.items;
+}
+
+abbrev pub decreases-object-loop-cursor : goal.decreases-object-loop-cursor
+decreases-object-loop-cursor l = length l.line - l.cursor

@@ -1,0 +1,97 @@
+-- What the nodes of a document stand for: the tokens of its text, in which each array and object tells where
+-- it ends.
+use Rattle.std.specs.Prelude.{◌≡◌, ℕ, ◌+◌, ◌≤◌, Bool, true, ◌&&◌, List, [], ◌∷◌, map, length, take, drop}
+use Rattle.std.specs.Prelude.{get_or, Option, Some, None}
+use Rattle.json.specs.Json.{Json, Items, no_items, item, Members, no_members, member, document}
+use Rattle.json.specs.Json as json
+use Rattle.json.specs.Lex.{tokens}
+use Rattle.json.specs.Tape.{Passes}
+use Rattle.json.specs.Token.{Token, begin_object, end_object, begin_array, end_array, key, string, number}
+use Rattle.json.specs.Token.{boolean, null}
+use Rattle.json.specs.Tree as tree
+use Rattle.json.specs.Tree.{HasNumbers}
+use Rattle.jp_flat_nodes.specs.Digits.{is_short_whole}
+use Rattle.jp_flat_nodes.specs.declared.node.Node.{Node}
+use Rattle.jp_flat_nodes.specs.declared.node.Node.TheVariants.{Object, EndObject, Array, EndArray, Key, Text}
+use Rattle.jp_flat_nodes.specs.declared.node.Node.TheVariants.{Number, Truth, Null}
+
+-- so many bytes of the text from a place on
+abbrev pub piece : List ℕ → ℕ → ℕ → List ℕ
+piece text from count = take count (drop from text)
+
+abbrev pub token_at : List ℕ → Node → Token
+token_at text (Object end) = begin_object
+token_at text EndObject = end_object
+token_at text (Array end) = begin_array
+token_at text EndArray = end_array
+token_at text (Key from count) = key (piece text from count)
+token_at text (Text from count) = string (piece text from count)
+token_at text (Number from count) = number (piece text from count)
+token_at text (Truth b) = boolean b
+token_at text Null = null
+
+abbrev pub tokens_at : List ℕ → List Node → List Token
+tokens_at text nodes = map (token_at text) nodes
+
+-- where the value ends that the node begins, as it tells
+abbrev pub link_of : Node → Option ℕ
+link_of (Object end) = Some end
+link_of EndObject = None
+link_of (Array end) = Some end
+link_of EndArray = None
+link_of (Key from count) = None
+link_of (Text from count) = None
+link_of (Number from count) = None
+link_of (Truth b) = None
+link_of Null = None
+
+-- each node that tells so tells where one whole value ends
+abbrev pub AreLinked : List Token → List Node → Type 0
+AreLinked all nodes = (i end : ℕ) → link_of (get_or nodes i Null) ≡ Some end → Passes all i end
+
+-- a node's text lies in a text of so many bytes
+abbrev pub IsWithin : ℕ → Node → Type 0
+IsWithin size (Object end) = Unit {0}
+IsWithin size EndObject = Unit {0}
+IsWithin size (Array end) = Unit {0}
+IsWithin size EndArray = Unit {0}
+IsWithin size (Key from count) = from + count ≤ size
+IsWithin size (Text from count) = from + count ≤ size
+IsWithin size (Number from count) = from + count ≤ size
+IsWithin size (Truth b) = Unit {0}
+IsWithin size Null = Unit {0}
+
+abbrev pub AreWithin : ℕ → List Node → Type 0
+AreWithin size [] = Unit {0}
+AreWithin size (n ∷ ns) = IsWithin size n × AreWithin size ns
+
+-- each number of a value is a short whole one
+abbrev mutual
+  pub are_short_whole : Json → Bool
+  are_short_whole json.null = true
+  are_short_whole (json.boolean b) = true
+  are_short_whole (json.number s) = is_short_whole s
+  are_short_whole (json.string s) = true
+  are_short_whole (json.array js) = items_are_short_whole js
+  are_short_whole (json.object ms) = members_are_short_whole ms
+
+  pub items_are_short_whole : Items → Bool
+  items_are_short_whole no_items = true
+  items_are_short_whole (item j js) = are_short_whole j && items_are_short_whole js
+
+  pub members_are_short_whole : Members → Bool
+  members_are_short_whole no_members = true
+  members_are_short_whole (member k j ms) = are_short_whole j && members_are_short_whole ms
+
+-- The line is the text of a value with such numbers, which nests no deeper than 127, and the nodes are its
+-- tokens.
+pub record IsRead (line : List ℕ) (nodes : List Node) : Type 0 where
+  pub value : Json
+  pub is : document line ≡ Some value
+  pub spelled : HasNumbers value
+  pub nests : tree.depth value ≤ 127
+  pub numbers : are_short_whole value ≡ true
+  pub are : tokens_at line nodes ≡ tokens line
+  pub linked : AreLinked (tokens line) nodes
+  pub within : AreWithin (length line) nodes
+  pub few : length nodes ≤ 16777218

@@ -1,0 +1,93 @@
+-- What the reading of a part of a line has found: a working file, which nobody has to believe.
+use Rattle.std.specs.Prelude.{◌≡◌, ℕ, ◌+◌, ◌-◌, ◌≤◌, ◌<◌, Bool, true, false, ◌||◌, ◌==◌, List, [], ◌∷◌, ◌++◌}
+use Rattle.std.specs.Prelude.{map, fold, length, drop, get_or, Some}
+use Rattle.std.specs.Char.{is_ascii_digit}
+use Rattle.json.specs.Json.{Json}
+use Rattle.json.specs.Print.{begins, ends, escape}
+use Rattle.json.specs.Spaced.{AreGaps, print_spaced}
+use Rattle.json.specs.Token.{Token, key}
+use Rattle.json.specs.Tree as tree
+use Rattle.json.specs.Tree.{json_tokens, HasNumbers}
+use Rattle.json.specs.Word.{after_whole}
+use Rattle.jp_flat_nodes.specs.Digits.{are_few_digits}
+use Rattle.jp_flat_nodes.specs.Nodes.{piece, tokens_at, link_of, AreWithin, are_short_whole}
+use Rattle.jp_flat_nodes.specs.declared.node.Node.{Node}
+use Rattle.jp_flat_nodes.specs.declared.node.Node.TheVariants.{Null}
+
+-- a space or a line feed
+abbrev pub is_blank : ℕ → Bool
+is_blank x = (x == 32) || (x == 10)
+
+-- one whole value stands in the tokens from one place to another
+pub record Spans (all : List Token) (from end : ℕ) : Type 0 where
+  pub front : List Token
+  pub value : Json
+  pub back : List Token
+  pub whole : all ≡ front ++ (json_tokens value ++ back)
+  pub begins : length front ≡ from
+  pub ends : end ≡ from + length (json_tokens value)
+
+-- the nodes from a place on tell so
+abbrev pub LinkedFrom : List ℕ → ℕ → List Node → Type 0
+LinkedFrom line k nodes =
+    (i end : ℕ) → k ≤ i → link_of (get_or nodes i Null) ≡ Some end → Spans (tokens_at line nodes) i end
+
+-- the nodes that stood before stand there still
+abbrev pub AreKept : List Node → List Node → Type 0
+AreKept old new = (i : ℕ) → i < length old → get_or new i Null ≡ get_or old i Null
+
+-- the nodes have these tokens more, in a line of which they are
+pub record Grows (line : List ℕ) (old new : List Node) (ts : List Token) : Type 0 where
+  pub tokens : tokens_at line new ≡ tokens_at line old ++ ts
+  pub kept : AreKept old new
+  pub linked : LinkedFrom line (length old) new
+  pub within : AreWithin (length line) old → AreWithin (length line) new
+
+-- The line, from one place to another, is these tokens as they are printed, with blanks before each; a comma
+-- stands before the first where a value has just ended.
+pub record Prints (line : List ℕ) (after : Bool) (from end : ℕ) (ts : List Token) : Type 0 where
+  pub printed : List (List ℕ × Token)
+  pub gaps : AreGaps printed
+  pub are : map (λ p. p.1) printed ≡ ts
+  pub text : drop from line ≡ print_spaced after printed ++ drop end line
+
+-- whether these tokens leave a value just ended
+abbrev pub ended : Bool → List Token → Bool
+ended after ts = fold (λ _ t. ends t) after ts
+
+-- whether the first token begins a value or a member
+abbrev pub begin : List Token → Bool
+begin [] = false
+begin (t ∷ ts) = begins t
+
+-- the line from `at` on is a value's text, and goes on at `end`; the nodes have its tokens more
+pub record Reads (line : List ℕ) (at end depth : ℕ) (old new : List Node) : Type 0 where
+  pub value : Json
+  pub later : at < end
+  pub numbers : HasNumbers value
+  pub whole : are_short_whole value ≡ true
+  pub nests : tree.depth value ≤ depth
+  pub text : Prints line false at end (json_tokens value)
+  pub grows : Grows line old new (json_tokens value)
+
+-- the same of a name and its colon
+pub record ReadsKey (line : List ℕ) (at end : ℕ) (old new : List Node) : Type 0 where
+  pub name : List ℕ
+  pub later : at < end
+  pub text : Prints line false at end (key name ∷ [])
+  pub grows : Grows line old new (key name ∷ [])
+
+-- the text between two places is plain, and a quote stands behind it
+pub record IsPlainText (line : List ℕ) (from stop : ℕ) : Type 0 where
+  pub ordered : from ≤ stop
+  pub inside : stop < length line
+  pub plain : escape (piece line from (stop - from)) ≡ piece line from (stop - from)
+  pub text : drop from line ≡ piece line from (stop - from) ++ (34 ∷ drop (stop + 1) line)
+
+-- digits of a short whole number stand between two places
+pub record IsDigits (line : List ℕ) (from end : ℕ) : Type 0 where
+  pub ordered : from < end
+  pub inside : end ≤ length line
+  pub few : are_few_digits (piece line from (end - from)) ≡ true
+  pub whole : after_whole (piece line from (end - from)) ≡ Some []
+  pub first : is_ascii_digit (get_or line from 0) ≡ true

@@ -1,0 +1,102 @@
+//! Bytes of a line.
+
+ghost use Rattle.std.specs.Prelude.{◌≡◌, ◌≢◌, ◌+◌, ◌<◌, ◌≤◌, ◌++◌, length, drop, get_or, map};
+ghost use Rattle.std.specs.Char.{is_ascii_digit};
+ghost use Rattle.std.specs.List.{prefix_len};
+ghost use Rattle.std.specs.Simd.Lanes.{mask_l};
+ghost use Rattle.json.specs.Run.{is_plain, is_stop};
+ghost use Rattle.jp_flat_nodes.specs.inner.Reads.{is_blank};
+
+use std::simd::prelude::*;
+
+/// How many bytes a vector has.
+const LANES: usize = 16;
+
+/// The byte at this place, and 0 behind the line.
+#[inline(always)]
+pub(crate) fn byte_at(line: &[u8], at: usize) -> u8
+    ensures value { result ≡ get_or line.now at 0 }
+    ensures within { result ≢ 0 → at < length line.now }
+{
+    if at < line.len() { line[at] } else { 0 }
+}
+
+/// Which bytes of a vector end a plain text: a bit for each, the first the lowest.
+#[inline(always)]
+fn stops(bytes: u8x16) -> u64
+    ensures { result ≡ mask_l (map is_stop bytes) }
+{
+    (bytes.simd_eq(u8x16::splat(b'"'))
+        | bytes.simd_eq(u8x16::splat(b'\\'))
+        | bytes.simd_lt(u8x16::splat(0x20)))
+    .to_bitmask()
+}
+
+/// The first quote, backslash or control byte from here on, or the line's end.
+#[inline(always)]
+pub(crate) fn plain_end(line: &[u8], from: usize) -> usize
+    requires { from ≤ length line.now }
+    ensures value { result ≡ from + prefix_len is_plain (drop from line.now) }
+    ensures within { result ≤ length line.now }
+{
+    let mut at = from;
+    while line.len() - at >= LANES {
+        let found = stops(u8x16::from_slice(&line[at..]));
+        if found != 0 {
+            return at + found.trailing_zeros() as usize;
+        }
+        at += LANES;
+    }
+    plain_end_by_bytes(line, at)
+}
+
+/// The same, byte by byte.
+fn plain_end_by_bytes(line: &[u8], from: usize) -> usize
+    requires { from ≤ length line.now }
+    ensures value { result ≡ from + prefix_len is_plain (drop from line.now) }
+    ensures within { result ≤ length line.now }
+{
+    let mut at = from;
+    while at < line.len() && line[at] != b'"' && line[at] != b'\\' && line[at] >= 0x20 {
+        at += 1;
+    }
+    at
+}
+
+/// The first byte from here on that is no digit, or the line's end.
+#[inline(always)]
+pub(crate) fn digits_end(line: &[u8], from: usize) -> usize
+    requires { from ≤ length line.now }
+    ensures value { result ≡ from + prefix_len is_ascii_digit (drop from line.now) }
+    ensures within { result ≤ length line.now }
+{
+    let mut at = from;
+    while at < line.len() && line[at].is_ascii_digit() {
+        at += 1;
+    }
+    at
+}
+
+/// The first byte from here on that is neither a space nor a line feed, or the line's end. A place behind the
+/// line stays as it is.
+#[inline(always)]
+pub(crate) fn blanks_end(line: &[u8], from: usize) -> usize
+    ensures { result ≡ from + prefix_len is_blank (drop from line.now) }
+{
+    // Most lines have no blank: then nothing is called.
+    if byte_at(line, from) > b' ' {
+        return from;
+    }
+    blanks_end_by_bytes(line, from)
+}
+
+/// The same, byte by byte.
+fn blanks_end_by_bytes(line: &[u8], from: usize) -> usize
+    ensures { result ≡ from + prefix_len is_blank (drop from line.now) }
+{
+    let mut at = from;
+    while at < line.len() && (line[at] == b' ' || line[at] == b'\n') {
+        at += 1;
+    }
+    at
+}

@@ -1,0 +1,101 @@
+//! The reading of a line in one pass.
+
+ghost use Rattle.std.specs.Prelude.{◌≡◌, ◌≤◌, ◌<◌, ◌+◌, ◌^◌, IsTrue, length, get_or};
+ghost use Rattle.jp_flat_nodes.specs.Nodes.{IsRead};
+ghost use Rattle.jp_flat_nodes.specs.inner.Reads.{Reads};
+
+use crate::bytes::{blanks_end, byte_at};
+use crate::leaves::{key, literal, text};
+use crate::node::{MAX_NODES, Node, REFUSED, close_array, close_object, push};
+use crate::numbers::number;
+
+/// The most brackets that are open at once.
+const MAX_DEPTH: u32 = 127;
+
+/// Reads a value, which begins here: the place behind it, or `REFUSED`. Then the nodes may be any. So many
+/// brackets may be open inside of it at most.
+#[cycle(reading)]
+#[inline(always)]
+fn value(line: &[u8], at: usize, nodes: &mut Vec<Node>, depth: u32) -> usize
+    requires { length line.now < 2 ^ 32 }
+    ensures { result ≤ length line.now
+        → Reads line.now at result depth nodes.old.items nodes.new.items }
+{
+    match byte_at(line, at) {
+        b'"' => text(line, at, nodes, depth),
+        b'{' if depth > 0 => object(line, at, nodes, depth - 1),
+        b'[' if depth > 0 => array(line, at, nodes, depth - 1),
+        b'{' | b'[' => REFUSED,
+        b't' | b'f' | b'n' => literal(line, at, nodes, depth),
+        _ => number(line, at, nodes, depth),
+    }
+}
+
+/// Reads an array, likewise.
+#[cycle(reading)]
+#[inline(never)]
+fn array(line: &[u8], at: usize, nodes: &mut Vec<Node>, depth: u32) -> usize
+    requires { (length line.now < 2 ^ 32) × (get_or line.now at 0 ≡ 91) }
+    ensures { result ≤ length line.now
+        → Reads line.now at result (depth + 1) nodes.old.items nodes.new.items }
+{
+    let place = nodes.len();
+    if at >= line.len() || !push(nodes, Node::Array(0)) {
+        return REFUSED;
+    }
+    let mut cursor = blanks_end(line, at + 1);
+    if byte_at(line, cursor) == b']' {
+        return close_array(nodes, place, cursor + 1);
+    }
+    loop {
+        let end = value(line, cursor, nodes, depth);
+        let stop = blanks_end(line, end);
+        match byte_at(line, stop) {
+            b',' if stop == end => cursor = blanks_end(line, stop + 1),
+            b']' => return close_array(nodes, place, stop + 1),
+            _ => return REFUSED,
+        }
+    }
+}
+
+/// Reads an object, likewise.
+#[cycle(reading)]
+#[inline(never)]
+fn object(line: &[u8], at: usize, nodes: &mut Vec<Node>, depth: u32) -> usize
+    requires { (length line.now < 2 ^ 32) × (get_or line.now at 0 ≡ 123) }
+    ensures { result ≤ length line.now
+        → Reads line.now at result (depth + 1) nodes.old.items nodes.new.items }
+{
+    let place = nodes.len();
+    if at >= line.len() || !push(nodes, Node::Object(0)) {
+        return REFUSED;
+    }
+    let mut cursor = blanks_end(line, at + 1);
+    if byte_at(line, cursor) == b'}' {
+        return close_object(nodes, place, cursor + 1);
+    }
+    loop {
+        let inside = key(line, cursor, nodes);
+        let end = value(line, blanks_end(line, inside), nodes, depth);
+        let stop = blanks_end(line, end);
+        match byte_at(line, stop) {
+            b',' if stop == end => cursor = blanks_end(line, stop + 1),
+            b'}' => return close_object(nodes, place, stop + 1),
+            _ => return REFUSED,
+        }
+    }
+}
+
+/// Whether the line was read, into the nodes that it has: one for each token of the line. `false` says
+/// nothing: of a line that holds no JSON text, that nests deeper than 127, in which some text has an escape
+/// or some number a fraction, an exponent or more than 18 digits, or in which some blank stands before a
+/// colon or a comma, is a tab or a carriage return, or stands behind the value; where there is no memory for
+/// a node, or there would be more than `MAX_NODES`.
+pub fn read_line(line: &[u8], nodes: &mut Vec<Node>) -> bool
+    requires { length line.now < 2 ^ 32 }
+    ensures { IsTrue result → IsRead line.now nodes.new.items }
+{
+    nodes.clear();
+    let end = value(line, blanks_end(line, 0), nodes, MAX_DEPTH);
+    end == line.len() && nodes.len() <= MAX_NODES
+}
