@@ -6,3 +6,4 @@ mod Digits
 mod OneNode
 mod Loops
 mod WholeLine
+mod LaidNodes

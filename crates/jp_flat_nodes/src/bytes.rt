@@ -28,8 +28,7 @@ fn stops(bytes: u8x16) -> u64
 {
     (bytes.simd_eq(u8x16::splat(b'"'))
         | bytes.simd_eq(u8x16::splat(b'\\'))
-        | bytes.simd_lt(u8x16::splat(0x20)))
-    .to_bitmask()
+        | bytes.simd_lt(u8x16::splat(0x20))).to_bitmask()
 }
 
 /// The first quote, backslash or control byte from here on, or the line's end.

@@ -13,7 +13,11 @@ fn closing(line: &[u8], from: usize) -> usize
     ensures { result < length line.now → IsPlainText line.now from result }
 {
     let stop = plain_end(line, from);
-    if byte_at(line, stop) == b'"' { stop } else { REFUSED }
+    if byte_at(line, stop) == b'"' {
+        stop
+    } else {
+        REFUSED
+    }
 }
 
 /// Reads a text, which begins at a quote: the place behind it, or `REFUSED`.
@@ -30,7 +34,11 @@ pub(crate) fn text(line: &[u8], at: usize, nodes: &mut Vec<Node>, depth: u32) ->
     if stop >= line.len() {
         return REFUSED;
     }
-    put(nodes, Node::Text(at as u32 + 1, (stop - at - 1) as u32), stop + 1)
+    put(
+        nodes,
+        Node::Text(at as u32 + 1, (stop - at - 1) as u32),
+        stop + 1,
+    )
 }
 
 /// Reads a name and its colon: the place behind it, or `REFUSED`.
@@ -46,7 +54,11 @@ pub(crate) fn key(line: &[u8], at: usize, nodes: &mut Vec<Node>) -> usize
     if stop >= line.len() || byte_at(line, stop + 1) != b':' {
         return REFUSED;
     }
-    put(nodes, Node::Key(at as u32 + 1, (stop - at - 1) as u32), stop + 2)
+    put(
+        nodes,
+        Node::Key(at as u32 + 1, (stop - at - 1) as u32),
+        stop + 2,
+    )
 }
 
 /// Whether these three bytes stand behind the place.

@@ -2,12 +2,12 @@
 #![tactic(auto)]
 
 mod bytes;
-
+mod laying;
 mod leaves;
 mod node;
 mod numbers;
 mod reading;
 
-
+pub use laying::lay;
 pub use node::{MAX_NODES, Node};
 pub use reading::read_line;

@@ -89,5 +89,11 @@ pub(crate) fn close_object(nodes: &mut Vec<Node>, place: usize, end: usize) -> u
     if after > MAX_NODES {
         return REFUSED;
     }
-    close(nodes, place, Node::Object(after as u32), Node::EndObject, end)
+    close(
+        nodes,
+        place,
+        Node::Object(after as u32),
+        Node::EndObject,
+        end,
+    )
 }

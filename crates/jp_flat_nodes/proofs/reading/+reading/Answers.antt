@@ -57,8 +57,12 @@ array-close_array-requires-in-93 t c =
     let line = c.args.line.now in
     let within = c.byte_at-in-loop-cursor.ensures.within (λ e. omega arith) in
     let v = c.value-end.ensures (omega (arith, c.blanks_end-stop.ensures)) in
-    omega (arith, c.loop-cursor.invariant.place, grown_by line c.loop-cursor.nodes.items
-    c.value-end.new.nodes.items _ v.grows)
+    omega (
+      arith,
+      c.loop-cursor.invariant.place,
+      grown_by line c.loop-cursor.nodes.items
+          c.value-end.new.nodes.items _ v.grows,
+    )
 
 pub array-returns-in-93 : goal.array-returns-in-93
 array-returns-in-93 t c h =
@@ -135,8 +139,12 @@ object-close_object-requires-in-125 t c =
     let within = c.byte_at-in-loop-cursor.ensures.within (λ e. omega arith) in
     let v = c.value-end.ensures (omega (arith, c.blanks_end-stop.ensures)) in
     let k = c.key-inside.ensures (omega (arith, v.later, c.blanks_end.ensures)) in
-    omega (arith, c.loop-cursor.invariant.place, grown_by line now mid _ k.grows,
-    grown_by line mid c.value-end.new.nodes.items _ v.grows)
+    omega (
+      arith,
+      c.loop-cursor.invariant.place,
+      grown_by line now mid _ k.grows,
+      grown_by line mid c.value-end.new.nodes.items _ v.grows,
+    )
 
 pub object-returns-in-125 : goal.object-returns-in-125
 object-returns-in-125 t c h =

@@ -1,0 +1,6 @@
+use Rattle.std.proofs.Common.{take}
+use Rattle.jp_flat_nodes.proofs.LaidNodes.{LaidSoFar}
+use Rattle.jp_flat_nodes.proofs.laying.lay.Given as goal
+
+abbrev pub invariant-loop-node : goal.invariant-loop-node
+invariant-loop-node l = LaidSoFar l.texts.items (take l.node-index l.tape) l.nodes.items

@@ -1,0 +1,85 @@
+//! What the kit has read of a line, laid as nodes whose texts stand one behind another in a text of their own.
+
+ghost use Rattle.std.specs.Prelude.{◌≡◌, ◌≤◌, IfOk, OnOk, length, map};
+ghost use Rattle.json.specs.Tape.{Linked, node_token};
+ghost use Rattle.jp_flat_nodes.specs.Nodes.{AreLinked, AreWithin, tokens_at};
+ghost use Rattle.jp_flat_nodes.specs.inner.Laid.{EndsWithin, IsKept, IsLaid};
+
+use crate::node::Node;
+use json::Node as Taped;
+use std::alloc::AllocError;
+
+/// The most bytes of a text, and of all texts before it.
+const MAX_TEXT: usize = 0x7fff_ffff;
+
+/// Where a text stands, and how many bytes it has.
+#[derive(Clone, Copy, Drop)]
+struct Kept {
+    from: u32,
+    count: u32,
+}
+
+/// Puts a text behind the others.
+///
+/// `AllocError` if a growth was refused, or where there is more of it than any line has.
+fn keep(text: &str, texts: &mut Vec<u8>) -> Result<Kept, AllocError>
+    ensures { IfOk result (λ kept. IsKept texts.old.items texts.new.items text.now kept.from kept.count) }
+{
+    let from = texts.len();
+    if from > MAX_TEXT || text.len() > MAX_TEXT {
+        return Err(AllocError);
+    }
+    texts.extend_from_slice(text.as_bytes())?;
+    Ok(Kept {
+        from: from as u32,
+        count: text.len() as u32,
+    })
+}
+
+/// The node that stands for one of the kit's, with its text put behind the others.
+///
+/// `AllocError` as of `keep`.
+fn laid(node: &Taped<'_>, texts: &mut Vec<u8>) -> Result<Node, AllocError>
+    requires { EndsWithin 16777218 node.now }
+    ensures { IfOk result (λ own. IsLaid texts.old.items texts.new.items node.now own) }
+{
+    match node {
+        Taped::Object(end) => Ok(Node::Object(*end as u32)),
+        Taped::EndObject => Ok(Node::EndObject),
+        Taped::Array(end) => Ok(Node::Array(*end as u32)),
+        Taped::EndArray => Ok(Node::EndArray),
+        Taped::Key(text) => {
+            let kept = keep(text, texts)?;
+            Ok(Node::Key(kept.from, kept.count))
+        }
+        Taped::String(text) => {
+            let kept = keep(text, texts)?;
+            Ok(Node::Text(kept.from, kept.count))
+        }
+        Taped::Number(text) => {
+            let kept = keep(text, texts)?;
+            Ok(Node::Number(kept.from, kept.count))
+        }
+        Taped::Bool(truth) => Ok(Node::Truth(*truth)),
+        Taped::Null => Ok(Node::Null),
+    }
+}
+
+/// Lays the nodes of a tape: with their texts in `texts`, they are its tokens.
+///
+/// `AllocError` if a growth was refused, or where there is more text than any line has.
+pub fn lay(tape: &[Taped<'_>], texts: &mut Vec<u8>, nodes: &mut Vec<Node>) -> Result<(), AllocError>
+    requires few { length tape.now ≤ 16777218 }
+    requires linked { Linked (map node_token tape.now) 0 tape.now }
+    ensures tokens { OnOk result (tokens_at texts.new.items nodes.new.items ≡ map node_token tape.now) }
+    ensures linked { OnOk result (AreLinked (map node_token tape.now) nodes.new.items) }
+    ensures within { OnOk result (AreWithin (length texts.new.items) nodes.new.items) }
+{
+    texts.clear();
+    nodes.clear();
+    for node in tape {
+        let own = laid(node, texts)?;
+        nodes.push(own)?;
+    }
+    Ok(())
+}
