@@ -5,11 +5,17 @@ use Rattle.jp_doc.specs.Reading.{max_line}
 use Rattle.jp_doc.specs.ReadingIn.{tree_reading}
 use Rattle.jp_doc.specs.declared.fault.DocFault.{DocFault}
 use Rattle.jp_doc.specs.declared.fault.DocFault.TheVariants.{LongLine}
+use Rattle.json.specs.Token.{Token}
 use Rattle.jp_flat.specs.Flat.{value_at}
+use Rattle.jp_flat_nodes.specs.Nodes.{tokens_at}
 use Rattle.jp_flat.specs.declared.document.FlatDocument.{FlatDocument}
 
+-- the tokens of its text
+abbrev pub document_tokens : FlatDocument → List Token
+document_tokens d = tokens_at d.text.now d.nodes.now
+
 abbrev pub document_value : FlatDocument → Json
-document_value d = value_at d.tape
+document_value d = value_at (document_tokens d)
 
 -- a document's value, or the fault
 abbrev pub answer_of : Result FlatDocument DocFault → Result Json DocFault

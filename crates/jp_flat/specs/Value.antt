@@ -1,11 +1,11 @@
 -- The value that a place in a flat document stands for, and what is told of it.
 use Rattle.std.specs.Prelude.{◌≡◌, ℕ, ◌-◌, List, ◌∷◌, map, drop, length, Option, Some, None}
 use Rattle.std.specs.Str.{chars}
-use Rattle.json.specs.Tape.{node_token}
 use Rattle.json.specs.Token.{Token, begin_array, begin_object}
 use Rattle.jp_doc.specs.Json as json
 use Rattle.jp_doc.specs.Json.{Json, null, truth, number, text, array, object, Items, Members, item_list}
 use Rattle.jp_doc.specs.Tree.{text_number}
+use Rattle.jp_flat.specs.Document.{document_tokens}
 use Rattle.jp_flat.specs.Flat.{value_at}
 use Rattle.jp_flat.specs.Members.{entries_at}
 use Rattle.jp_flat.specs.declared.value.FlatItems.{FlatItems}
@@ -17,7 +17,7 @@ use Rattle.jp_number.specs.Number as numbers
 
 -- the tokens from the value's first on
 abbrev pub tokens_of : FlatValue → List Token
-tokens_of v = drop v.at (map node_token v.nodes.now)
+tokens_of v = drop v.at (document_tokens v.document.now)
 
 -- the value
 abbrev pub flat_value : FlatValue → Json
@@ -70,17 +70,17 @@ IsNoObject _ = Unit {0}
 
 -- the array of the items that are left, and how many nodes are
 abbrev pub items_value : FlatItems → Json
-items_value i = value_at (begin_array ∷ drop i.at (map node_token i.nodes.now))
+items_value i = value_at (begin_array ∷ drop i.at (document_tokens i.document.now))
 
 abbrev pub items_left : FlatItems → ℕ
-items_left i = length i.nodes.now - i.at
+items_left i = length (document_tokens i.document.now) - i.at
 
 -- The object of the members that are left, these members in the order of the line, and how many nodes are.
 abbrev pub members_value : FlatMembers → Json
-members_value m = value_at (begin_object ∷ drop m.at (map node_token m.nodes.now))
+members_value m = value_at (begin_object ∷ drop m.at (document_tokens m.document.now))
 
 abbrev pub entries : FlatMembers → List (json.Text × Json)
-entries m = entries_at (drop m.at (map node_token m.nodes.now))
+entries m = entries_at (drop m.at (document_tokens m.document.now))
 
 abbrev pub members_left : FlatMembers → ℕ
-members_left m = length m.nodes.now - m.at
+members_left m = length (document_tokens m.document.now) - m.at

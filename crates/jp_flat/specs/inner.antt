@@ -3,3 +3,4 @@ pub mod Above
 pub mod Plain
 pub mod Nesting
 pub mod Rows
+pub mod Held

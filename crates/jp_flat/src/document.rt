@@ -1,88 +1,84 @@
-//! The flat reading of a line.
+//! A document as a flat list of nodes.
 
-ghost use Rattle.std.specs.Prelude.{◌≡◌, true, Ok, IfOk, IfSome};
-ghost use Rattle.jp_doc.specs.Reading.{reading};
-ghost use Rattle.jp_flat.specs.inner.Plain.{is_flat};
+ghost use Rattle.std.specs.Prelude.{◌≡◌, ℕ, ◌+◌, ◌<◌, ◌≤◌, List, ◌∷◌, drop, length, Some};
+ghost use Rattle.json.specs.Json.{Json, value};
+ghost use Rattle.json.specs.Token.{Token};
+ghost use Rattle.jp_flat.specs.inner.Held.{HasPiece, IsHeld, IsPiece};
+ghost use Rattle.jp_flat_nodes.specs.Nodes.{piece, token_at, tokens_at};
 
-use crate::nodes::{MAX_NODES, are_plain, fault_in};
 use crate::value::FlatValue;
-use bumpalo::Bump;
-use jp_doc::{DocFault, MAX_LINE};
-use json::{Error, Scratch, Tape};
-use std::alloc::AllocError;
+use jp_flat_nodes::Node;
+use std::str;
 
-/// A document as a flat list of nodes, which lie in the buffers of a reader and borrow from the line.
+/// A document as a flat list of nodes, which lie in the buffers of a reader. Their texts stand in the line, or
+/// in a buffer of the reader where the line writes some of them with escapes.
 #[derive(Drop)]
 pub struct FlatDocument<'a> {
-    tape: Tape<'a, &'a Bump>,
-    ghost flat: { is_flat tape ≡ true },
+    text: &'a [u8],
+    nodes: &'a [Node],
+    ghost few: { length nodes.now ≤ 16777218 },
+    ghost held: { ∥ IsHeld text.now nodes.now ∥₁ },
 }
 
 impl<'a> FlatDocument<'a> {
-    ghost use Rattle.jp_flat.specs.Document.{document_value, answer_of, grammar_reading};
+    ghost use Rattle.jp_flat.specs.Document.{document_value};
     ghost use Rattle.jp_flat.specs.Value.{flat_value};
 
-    /// The document that a line holds, or `None` where the line is not plain. The nodes lie in the arena.
-    ///
-    /// `AllocError` if a growth was refused.
-    pub(crate) fn read(
-        line: &'a [u8],
-        scratch: &'a mut Scratch,
-        arena: &'a Bump,
-    ) -> Result<Option<FlatDocument<'a>>, AllocError>
-        ensures { IfOk result (λ o. IfSome o (λ d. reading line.now ≡ Ok (document_value d))) }
+    /// The document of these nodes.
+    pub(crate) fn new(text: &'a [u8], nodes: &'a [Node]) -> FlatDocument<'a>
+        requires few { length nodes.now ≤ 16777218 }
+        requires held { ∥ IsHeld text.now nodes.now ∥₁ }
+        ensures text { result.text.now ≡ text.now }
+        ensures nodes { result.nodes.now ≡ nodes.now }
     {
-        if line.len() > MAX_LINE {
-            return Ok(None);
-        }
-        // `basic` tells no place of a fault, for which nobody asks: `Document::read` tells faults.
-        let Ok(text) = simdutf8::basic::from_utf8(line) else {
-            return Ok(None);
-        };
-        match Tape::parse(text, scratch, Vec::new(arena)) {
-            Ok(tape) => {
-                if tape.len() > MAX_NODES || !are_plain(tape.nodes()) {
-                    return Ok(None);
-                }
-                Ok(Some(FlatDocument { tape }))
-            }
-            Err(Error::OutOfMemory) => Err(AllocError),
-            Err(_) => Ok(None),
+        FlatDocument { text, nodes }
+    }
+
+    /// The node at this place.
+    // Each step of a cursor looks at a node so.
+    #[inline(always)]
+    pub(crate) fn node(&self, at: u32) -> Node
+        requires { at < length self.now.nodes.now }
+        ensures token { drop at (tokens_at self.now.text.now self.now.nodes.now)
+            ≡ token_at self.now.text.now result
+            ∷ drop (at + 1) (tokens_at self.now.text.now self.now.nodes.now) }
+        ensures piece { HasPiece self.now.text.now result }
+    {
+        self.nodes[at as usize]
+    }
+
+    /// The place behind the value that begins at this one.
+    // Each step of a cursor passes a value so.
+    #[inline(always)]
+    pub(crate) fn after(&self, at: u32) -> u32
+        requires { at < length self.now.nodes.now }
+        ensures value { (depth : ℕ) (j : Json) (rest : List Token)
+            → value depth (drop at (tokens_at self.now.text.now self.now.nodes.now)) ≡ Some (j, rest)
+            → rest ≡ drop result (tokens_at self.now.text.now self.now.nodes.now) }
+        ensures later { at < result }
+    {
+        match self.nodes[at as usize] {
+            Node::Object(end) | Node::Array(end) => end,
+            _ => at + 1,
         }
     }
 
-    /// The document that a line holds, where numbers need not be whole, or its fault. The nodes lie in the
-    /// arena.
-    ///
-    /// `AllocError` if a growth was refused.
-    pub(crate) fn read_decimal(
-        line: &'a [u8],
-        scratch: &'a mut Scratch,
-        arena: &'a Bump,
-    ) -> Result<Result<FlatDocument<'a>, DocFault>, AllocError>
-        ensures { IfOk result (λ r. answer_of r ≡ grammar_reading line.now) }
+    /// So many bytes of the text from a place on.
+    // Each text that is looked at is handed out so.
+    #[inline(always)]
+    pub(crate) fn piece(&self, from: u32, count: u32) -> &'a str
+        requires { IsPiece self.now.text.now from count }
+        ensures { result.now ≡ piece self.now.text.now from count }
     {
-        if line.len() > MAX_LINE {
-            return Ok(Err(DocFault::LongLine));
-        }
-        let Ok(text) = simdutf8::basic::from_utf8(line) else {
-            return Ok(Err(DocFault::Unreadable));
-        };
-        match Tape::parse(text, scratch, Vec::new(arena)) {
-            Ok(tape) => match fault_in(tape.nodes()) {
-                Some(fault) => Ok(Err(fault)),
-                None => Ok(Ok(FlatDocument { tape })),
-            },
-            Err(Error::OutOfMemory) => Err(AllocError),
-            // A line of that length is not too long for the tape.
-            Err(_) => Ok(Err(DocFault::Unreadable)),
-        }
+        let (from, count) = (from as usize, count as usize);
+        // They are UTF-8, as is proved: a test would cost more than the text.
+        unsafe { str::from_utf8_unchecked(&self.text[from..from + count]) }
     }
 
     /// The whole value.
     pub fn root(&self) -> FlatValue<'_>
         ensures { flat_value result ≡ document_value self.now }
     {
-        FlatValue::first(self.tape.nodes())
+        FlatValue::first(self)
     }
 }

@@ -6,6 +6,7 @@ mod document;
 mod examples;
 mod gather;
 pub mod laws;
+mod lines;
 mod nodes;
 mod reader;
 mod value;

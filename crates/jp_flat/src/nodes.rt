@@ -8,12 +8,9 @@ ghost use Rattle.jp_flat.specs.inner.Plain.{is_plain_from};
 ghost use Rattle.jp_flat.specs.inner.Rows.{are_within, pass_fault};
 
 use crate::digits::{is_whole_text, is_within};
-use jp_doc::{DocFault, MAX_ITEMS};
+use jp_doc::DocFault;
+use jp_flat_nodes::MAX_NODES;
 use json::Node;
-
-/// The greatest number of nodes: those of an array of the greatest number of items, and its brackets. So no
-/// array is too long, and none has to be counted.
-pub(crate) const MAX_NODES: usize = MAX_ITEMS + 2;
 
 /// The most brackets that are open at once: as many as `Document::read` takes, and one fewer than the tape.
 const MAX_LEVEL: u32 = 127;

@@ -6,9 +6,8 @@ ghost use Rattle.jp_doc.specs.ReadingIn.{decimals, reading_in};
 ghost use Rattle.jp_flat.specs.Document.{document_value, answer_of, grammar_reading};
 
 use crate::document::FlatDocument;
-use bumpalo::Bump;
+use crate::lines::{Room, read, read_decimal};
 use jp_doc::{DocFault, LONG_LINE};
-use json::Scratch;
 use std::alloc::{AllocError, Global};
 
 /// Reads lines, in buffers that are kept from line to line: where no line before was as long, they grow, and
@@ -17,8 +16,7 @@ use std::alloc::{AllocError, Global};
 #[derive(Drop)]
 pub struct FlatReader {
     alloc: Global,
-    scratch: Scratch,
-    arena: Bump,
+    room: Room,
     was_long: bool,
 }
 
@@ -27,8 +25,7 @@ impl FlatReader {
     pub fn new(alloc: Global) -> FlatReader {
         FlatReader {
             alloc,
-            scratch: Scratch::new(alloc),
-            arena: Bump::new(alloc),
+            room: Room::new(alloc),
             was_long: false,
         }
     }
@@ -42,7 +39,7 @@ impl FlatReader {
     {
         self.release();
         self.was_long = line.len() > LONG_LINE;
-        FlatDocument::read(line, &mut self.scratch, &self.arena)
+        read(line, &mut self.room)
     }
 
     /// The document that a line holds by the grammar of JSON alone, where numbers need not be whole, or its
@@ -66,19 +63,17 @@ impl FlatReader {
     {
         self.release();
         self.was_long = line.len() > LONG_LINE;
-        FlatDocument::read_decimal(line, &mut self.scratch, &self.arena)
+        read_decimal(line, &mut self.room)
     }
 
     /// Lets go of the nodes of the last line, and of all memory after a long one. A reading begins with it.
     /// Who reads a line as a tree calls it before, so that the memory of both is not held at once.
     pub fn release(&mut self) {
         if self.was_long {
-            self.scratch = Scratch::new(self.alloc);
-            self.arena = Bump::new(self.alloc);
+            self.room = Room::new(self.alloc);
             self.was_long = false;
         } else {
-            // An error says that nodes of an earlier line are still kept, which stays so.
-            let _ = self.arena.reset();
+            self.room.release();
         }
     }
 }

@@ -1,73 +1,40 @@
 //! Values of a flat document, and cursors over their items and members.
 
-ghost use Rattle.std.specs.Prelude.{◌≡◌, ℕ, ◌+◌, ◌<◌, List, ◌∷◌, map, drop, length, true, Some, MatchOption};
-ghost use Rattle.std.specs.Prelude.{IfSome};
-ghost use Rattle.json.specs.Json.{Json, value};
-ghost use Rattle.json.specs.Tape.{node_token, Linked};
-ghost use Rattle.json.specs.Token.{Token, begin_array, begin_object};
+ghost use Rattle.std.specs.Prelude.{◌≡◌, ◌<◌, ◌∷◌, drop, true, MatchOption, IfSome};
+ghost use Rattle.json.specs.Token.{begin_array, begin_object};
 ghost use Rattle.jp_doc.specs.Reading.{max_items};
+ghost use Rattle.jp_flat.specs.Document.{document_tokens};
+ghost use Rattle.jp_flat.specs.inner.Held.{HasPiece};
 ghost use Rattle.jp_flat.specs.inner.Plain.{is_flat};
+ghost use Rattle.jp_flat_nodes.specs.Nodes.{token_at};
 
 use crate::digits::read_number;
+use crate::document::FlatDocument;
+use jp_flat_nodes::Node;
 use jp_number::Number;
-use json::Node;
-
-/// The node at a place, and `Null` behind the last.
-// Each step of a cursor looks at a node so.
-#[inline(always)]
-fn node_at<'d>(nodes: &[Node<'d>], at: usize) -> Node<'d>
-    ensures { at < length nodes.now
-        → drop at (map node_token nodes.now) ≡ node_token result ∷ drop (at + 1) (map node_token nodes.now) }
-{
-    if at < nodes.len() {
-        nodes[at]
-    } else {
-        Node::Null
-    }
-}
-
-/// The place behind the value that begins at this one.
-// Each step of a cursor passes a value so.
-#[inline(always)]
-fn after(nodes: &[Node<'_>], at: usize) -> usize
-    requires within { at < length nodes.now }
-    requires linked { ∥ Linked (map node_token nodes.now) 0 nodes.now ∥₁ }
-    ensures value { (depth : ℕ) (j : Json) (rest : List Token)
-        → value depth (drop at (map node_token nodes.now)) ≡ Some (j, rest)
-        → rest ≡ drop result (map node_token nodes.now) }
-    ensures later { at < result }
-{
-    match nodes[at] {
-        Node::Object(end) | Node::Array(end) => end,
-        _ => at + 1,
-    }
-}
 
 /// A value of a flat document.
 #[derive(Clone, Copy)]
 pub struct FlatValue<'d> {
-    nodes: &'d [Node<'d>],
-    at: usize,
-    ghost linked: { ∥ Linked (map node_token nodes.now) 0 nodes.now ∥₁ },
-    ghost flat: { is_flat (drop at (map node_token nodes.now)) ≡ true },
+    document: &'d FlatDocument<'d>,
+    at: u32,
+    ghost flat: { is_flat (drop at (document_tokens document.now)) ≡ true },
 }
 
 /// Items of an array, from one on to the last.
 #[derive(Clone, Copy)]
 pub struct FlatItems<'d> {
-    nodes: &'d [Node<'d>],
-    at: usize,
-    ghost linked: { ∥ Linked (map node_token nodes.now) 0 nodes.now ∥₁ },
-    ghost flat: { is_flat (begin_array ∷ drop at (map node_token nodes.now)) ≡ true },
+    document: &'d FlatDocument<'d>,
+    at: u32,
+    ghost flat: { is_flat (begin_array ∷ drop at (document_tokens document.now)) ≡ true },
 }
 
 /// Members of an object in the order of the line, from one on to the last.
 #[derive(Clone, Copy)]
 pub struct FlatMembers<'d> {
-    nodes: &'d [Node<'d>],
-    at: usize,
-    ghost linked: { ∥ Linked (map node_token nodes.now) 0 nodes.now ∥₁ },
-    ghost flat: { is_flat (begin_object ∷ drop at (map node_token nodes.now)) ≡ true },
+    document: &'d FlatDocument<'d>,
+    at: u32,
+    ghost flat: { is_flat (begin_object ∷ drop at (document_tokens document.now)) ≡ true },
 }
 
 /// A member of an object.
@@ -106,20 +73,21 @@ impl<'d> FlatValue<'d> {
     ghost use Rattle.jp_number.specs.Profile.{number_text};
     ghost use Rattle.jp_number.specs.View.{number_of};
 
-    /// The value that the nodes begin with.
-    pub(crate) fn first(nodes: &'d [Node<'d>]) -> FlatValue<'d>
-        requires linked { Linked (map node_token nodes.now) 0 nodes.now }
-        requires flat { is_flat (map node_token nodes.now) ≡ true }
-        ensures { tokens_of result ≡ map node_token nodes.now }
+    /// The whole value of a document.
+    pub(crate) fn first(document: &'d FlatDocument<'d>) -> FlatValue<'d>
+        ensures { tokens_of result ≡ document_tokens document.now }
     {
-        FlatValue { nodes, at: 0 }
+        FlatValue { document, at: 0 }
     }
 
     /// The node that the value begins with.
-    fn node(self) -> Node<'d>
-        ensures { tokens_of self.entry ≡ node_token result ∷ drop 1 (tokens_of self.entry) }
+    #[inline(always)]
+    fn node(self) -> Node
+        ensures token { tokens_of self.entry
+            ≡ token_at self.entry.document.now.text.now result ∷ drop 1 (tokens_of self.entry) }
+        ensures piece { HasPiece self.entry.document.now.text.now result }
     {
-        node_at(self.nodes, self.at)
+        self.document.node(self.at)
     }
 
     /// What the value is.
@@ -129,9 +97,9 @@ impl<'d> FlatValue<'d> {
         match self.node() {
             Node::Object(_) => Kind::Object,
             Node::Array(_) => Kind::Array,
-            Node::String(text) => Kind::Text(text),
-            Node::Number(text) => Kind::Number(text),
-            Node::Bool(truth) => Kind::Truth(truth),
+            Node::Text(from, count) => Kind::Text(self.document.piece(from, count)),
+            Node::Number(from, count) => Kind::Number(self.document.piece(from, count)),
+            Node::Truth(truth) => Kind::Truth(truth),
             _ => Kind::Null,
         }
     }
@@ -141,7 +109,7 @@ impl<'d> FlatValue<'d> {
         ensures { option_map (λ s. chars s.now) result ≡ text_in (flat_value self.entry) }
     {
         match self.node() {
-            Node::String(text) => Some(text),
+            Node::Text(from, count) => Some(self.document.piece(from, count)),
             _ => None,
         }
     }
@@ -151,7 +119,7 @@ impl<'d> FlatValue<'d> {
         ensures { option_map number_of result ≡ number_in (flat_value self.entry) }
     {
         match self.node() {
-            Node::Number(text) => Some(read_number(text)),
+            Node::Number(from, count) => Some(read_number(self.document.piece(from, count))),
             _ => None,
         }
     }
@@ -173,7 +141,7 @@ impl<'d> FlatValue<'d> {
             ≡ option_map number_text (number_in (flat_value self.entry)) }
     {
         match self.node() {
-            Node::Number(text) => Some(text),
+            Node::Number(from, count) => Some(self.document.piece(from, count)),
             _ => None,
         }
     }
@@ -182,7 +150,7 @@ impl<'d> FlatValue<'d> {
     pub fn node_count(self) -> usize
         ensures { item_count (flat_value self.entry) ≤ result }
     {
-        after(self.nodes, self.at).saturating_sub(self.at)
+        (self.document.after(self.at) - self.at) as usize
     }
 
     /// The items, where the value is an array.
@@ -192,8 +160,8 @@ impl<'d> FlatValue<'d> {
     {
         match self.node() {
             Node::Array(_) => Some(FlatItems {
-                nodes: self.nodes,
-                at: self.at.saturating_add(1),
+                document: self.document,
+                at: self.at + 1,
             }),
             _ => None,
         }
@@ -207,8 +175,8 @@ impl<'d> FlatValue<'d> {
     {
         match self.node() {
             Node::Object(_) => Some(FlatMembers {
-                nodes: self.nodes,
-                at: self.at.saturating_add(1),
+                document: self.document,
+                at: self.at + 1,
             }),
             _ => None,
         }
@@ -261,12 +229,13 @@ impl<'d> FlatItems<'d> {
             × (items_value p.1 ≡ array vs)) }
         ensures fewer { IfSome result (λ p. items_left p.1 < items_left self.entry) }
     {
-        let (nodes, at) = (self.nodes, self.at);
-        match node_at(nodes, at) {
+        let (document, at) = (self.document, self.at);
+        match document.node(at) {
             Node::EndArray => None,
             _ => {
-                let end = after(nodes, at);
-                Some((FlatValue { nodes, at }, FlatItems { nodes, at: end }))
+                let end = document.after(at);
+                let others = FlatItems { document, at: end };
+                Some((FlatValue { document, at }, others))
             }
         }
     }
@@ -318,13 +287,13 @@ impl<'d> FlatMembers<'d> {
         ensures utf8 { IfSome result (λ p. IsUtf8 p.0.name.now) }
         ensures fewer { IfSome result (λ p. members_left p.1 < members_left self.entry) }
     {
-        let (nodes, at) = (self.nodes, self.at);
-        match node_at(nodes, at) {
-            Node::Key(name) => {
-                let start = at.saturating_add(1);
-                let end = after(nodes, start);
-                let value = FlatValue { nodes, at: start };
-                Some((FlatMember { name, value }, FlatMembers { nodes, at: end }))
+        let (document, at) = (self.document, self.at);
+        match document.node(at) {
+            Node::Key(from, count) => {
+                let name = document.piece(from, count);
+                let end = document.after(at + 1);
+                let value = FlatValue { document, at: at + 1 };
+                Some((FlatMember { name, value }, FlatMembers { document, at: end }))
             }
             _ => None,
         }

@@ -1,0 +1,28 @@
+-- What is always so of the nodes of a flat document: a working file, which nobody has to believe.
+use Rattle.std.specs.Prelude.{◌≡◌, ℕ, ◌+◌, ◌≤◌, true, List, length, get_or}
+use Rattle.std.specs.Str.{is_utf8}
+use Rattle.jp_flat.specs.inner.Plain.{is_flat}
+use Rattle.jp_flat_nodes.specs.Nodes.{piece, tokens_at, AreLinked}
+use Rattle.jp_flat_nodes.specs.declared.node.Node.{Node}
+use Rattle.jp_flat_nodes.specs.declared.node.Node.TheVariants.{Object, EndObject, Array, EndArray, Key, Text}
+use Rattle.jp_flat_nodes.specs.declared.node.Node.TheVariants.{Number, Truth, Null}
+
+-- so many bytes stand there, in UTF-8
+abbrev pub IsPiece : List ℕ → ℕ → ℕ → Type 0
+IsPiece text from count = (from + count ≤ length text) × (is_utf8 (piece text from count) ≡ true)
+
+abbrev pub HasPiece : List ℕ → Node → Type 0
+HasPiece text (Object end) = Unit {0}
+HasPiece text EndObject = Unit {0}
+HasPiece text (Array end) = Unit {0}
+HasPiece text EndArray = Unit {0}
+HasPiece text (Key from count) = IsPiece text from count
+HasPiece text (Text from count) = IsPiece text from count
+HasPiece text (Number from count) = IsPiece text from count
+HasPiece text (Truth b) = Unit {0}
+HasPiece text Null = Unit {0}
+
+pub record IsHeld (text : List ℕ) (nodes : List Node) : Type 0 where
+  pub flat : is_flat (tokens_at text nodes) ≡ true
+  pub linked : AreLinked (tokens_at text nodes) nodes
+  pub pieces : (i : ℕ) → HasPiece text (get_or nodes i Null)
