@@ -25,7 +25,7 @@ use Rattle.jp_doc.specs.Tree.{tree_of}
 use Rattle.jp_doc.proofs.ContentTexts.{cut_at_ascii, content_text}
 use Rattle.jp_doc.proofs.TreeNames.{NamesAreTexts, ItemNamesAreTexts, MemberNamesAreTexts}
 
-abbrev IsText : Token → Type 0
+abbrev pub IsText : Token → Type 0
 IsText Token.begin_object = Unit {0}
 IsText Token.end_object = Unit {0}
 IsText Token.begin_array = Unit {0}
@@ -37,7 +37,7 @@ IsText (Token.boolean b) = Unit {0}
 IsText Token.null = Unit {0}
 IsText Token.bad = Unit {0}
 
-abbrev AreTexts : List Token → Type 0
+abbrev pub AreTexts : List Token → Type 0
 AreTexts [] = Unit {0}
 AreTexts (t ∷ ts) = IsText t × AreTexts ts
 

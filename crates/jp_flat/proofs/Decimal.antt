@@ -12,6 +12,7 @@ use Rattle.json.specs.Json as text
 use Rattle.json.specs.Lex.{tokens}
 use Rattle.json.specs.Print.{IsNumber, ArePrintableOrBad}
 use Rattle.json.specs.Token.{Token}
+use Rattle.json.specs.Tree as tree
 use Rattle.json.specs.declared.error.Error as tape
 use Rattle.json.specs.declared.error.Error.TheVariants.{Invalid, OutOfMemory, TooLong, DuplicateKey}
 use Rattle.json.proofs.Numbered.{ArePrintableOrBad-tokens}
@@ -21,14 +22,15 @@ use Rattle.jp_doc.specs.ReadingIn.{decimals, max_tokens, has_long_number, tree_r
 use Rattle.jp_doc.specs.Tree.{tree_of, text_number, tree_json}
 use Rattle.jp_doc.specs.declared.fault.DocFault.{DocFault}
 use Rattle.jp_doc.specs.declared.fault.DocFault.TheVariants.{LongLine, Unreadable, LongNumber, LongArray}
-use Rattle.jp_doc.proofs.TreeNesting.{spelled_tree, tree_has_numbers}
+use Rattle.jp_doc.proofs.TreeNesting.{shallow_tree, spelled_tree, tree_has_numbers}
 use Rattle.jp_doc.proofs.ReadingInLaws.{value_by_tree}
 use Rattle.jp_flat.specs.Document.{document_value, answer_of, grammar_reading}
 use Rattle.jp_flat.specs.declared.document.FlatDocument.{FlatDocument}
 use Rattle.jp_flat.specs.Flat.{value_at}
 use Rattle.jp_flat.specs.inner.Nesting.{nests_from}
-use Rattle.jp_flat.specs.inner.Plain.{is_flat, is_whole_text}
+use Rattle.jp_flat.specs.inner.Plain.{is_flat, is_whole_text, is_plain}
 use Rattle.jp_flat.specs.inner.Rows.{are_short, are_within, pass_answer, pass_fault, by_fault}
+use Rattle.jp_flat.proofs.Fit.{plain_is_short}
 use Rattle.jp_flat.proofs.Faults.{all_rows, answer_is, none_is}
 use Rattle.jp_flat.proofs.Nesting.{tree_is}
 use Rattle.jp_flat.proofs.Numbers as numbers
@@ -110,6 +112,10 @@ no_fault_if false w l ts e f g h = absurd (cc)
 no_fault : (ts : List Token) → pass_fault ts ≡ None → NoFault ts
 no_fault ts h = no_fault_if _ _ _ ts refl refl refl h
 
+-- so there are few
+pub few_of_pass : (ts : List Token) → pass_fault ts ≡ None → length ts ≤ max_tokens
+few_of_pass ts h = (no_fault ts h).few
+
 not_long : (b : Bool) → (not b && true) ≡ true → b ≡ false
 not_long true h = absurd (cc)
 not_long false h = refl
@@ -167,26 +173,34 @@ by_length : (line : List ℕ) → length line ≤ max_line → grammar_reading l
 by_length line short =
     ap (λ b. if b then Err LongLine else tree_reading line) (le-ltb max_line (length line) short)
 
-pub value_of_tape : (line s : List ℕ) (all ts : List Token) → (s ≡ line) × IsUtf8 line
-    → (all ≡ tokens s) × IsSome (text.document s) → length line ≤ max_line → ts ≡ all
-    → pass_fault ts ≡ None
-    → (is_flat all ≡ true) × (Ok (value_at all) ≡ grammar_reading line)
-value_of_tape line s all ts is made short same none =
-    let whole : all ≡ tokens line = made.0 ∙ ap tokens is.0 in
-    let r = read_some line (text.document line) is.1 refl (subst (λ l. IsSome (text.document l)) is.0 made.1)
-    (sym (ap pass_fault (same ∙ whole)) ∙ none) in (
-      ap is_flat whole ∙ r.flat,
-      ap (λ l. Ok (value_at l)) whole ∙ sym r.reads ∙ sym (by_length line short),
-    )
+-- where the pass finds no fault
+pub value_of_pass : (line : List ℕ) → IsUtf8 line → IsSome (text.document line) → length line ≤ max_line
+    → pass_fault (tokens line) ≡ None
+    → (is_flat (tokens line) ≡ true) × (grammar_reading line ≡ Ok (value_at (tokens line)))
+value_of_pass line u made short none =
+    let r = read_some line (text.document line) u refl made none in
+    (r.flat, by_length line short ∙ r.reads)
 
-pub fault_of_tape : (line s : List ℕ) (all ts : List Token) (f : DocFault) → (s ≡ line) × IsUtf8 line
-    → (all ≡ tokens s) × IsSome (text.document s) → length line ≤ max_line → ts ≡ all
-    → pass_fault ts ≡ Some f → ◌≡◌ {A = Result Json DocFault} (Err f) (grammar_reading line)
-fault_of_tape line s all ts f is made short same found =
-    let whole : all ≡ tokens line = made.0 ∙ ap tokens is.0 in
-    sym (fault_some line (text.document line) f is.1 refl
-    (subst (λ l. IsSome (text.document l)) is.0 made.1) (sym (ap pass_fault (same ∙ whole)) ∙ found))
-    ∙ sym (by_length line short)
+pub fault_of_pass : (line : List ℕ) (f : DocFault) → IsUtf8 line → IsSome (text.document line)
+    → length line ≤ max_line → pass_fault (tokens line) ≡ Some f → grammar_reading line ≡ Err f
+fault_of_pass line f u made short found =
+    by_length line short ∙ fault_some line (text.document line) f u refl made found
+
+-- of a value with numbers of 64 bits it finds none
+pub plain_passes : (line : List ℕ) (j : text.Json) → text.document line ≡ Some j → tree.depth j ≤ 127
+    → is_plain j ≡ true → length (tokens line) ≤ max_tokens → pass_fault (tokens line) ≡ None
+plain_passes line j e nests plain few =
+    let found = shallow_tree line j e nests in
+    let open_so : nests_from 0 (tokens line) ≡ true = opened (nests_from 0 (tokens line))
+    (sym (tree_is line) ∙ found) in
+    let within : are_within (tokens line) ≡ true = line_within line
+    ∙ all_rows line j e (tree_has_numbers line j found)
+    ∙ ap (λ b. not b && true) (plain_is_short j plain) in
+    rw (open_so, within, le-ltb max_tokens (length (tokens line)) few) refl
+  where
+    opened : (b : Bool) → (if b then text.document line else None) ≡ Some j → b ≡ true
+    opened true h = refl
+    opened false h = absurd (cc)
 
 -- a line that the tape refuses
 pub refused : {T : Type 0} (line s : List ℕ) (r : Result T tape.Error) (e : tape.Error) → r ≡ Err e

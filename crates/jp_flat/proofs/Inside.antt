@@ -10,14 +10,14 @@ use Rattle.json.specs.Token.{Token}
 use Rattle.json.specs.Json as text
 use Rattle.json.specs.Tree as tree
 use Rattle.json.specs.Tree.{json_tokens, items_tokens, members_tokens}
-use Rattle.json.specs.Tape.{node_token}
-use Rattle.json.specs.declared.tape.Node.{Node}
-use Rattle.json.specs.declared.tape.Node.TheVariants.{Object, EndObject, Array, EndArray, Key, String, Number}
-use Rattle.json.specs.declared.tape.Node.TheVariants.{Bool, Null}
 use Rattle.serde_json.specs.Read.{max_depth}
 use Rattle.jp_doc.specs.Json as json
 use Rattle.jp_doc.specs.Tree.{tree_items}
 use Rattle.jp_flat.specs.Flat.{value_at}
+use Rattle.jp_flat_nodes.specs.Nodes.{token_at, tokens_at}
+use Rattle.jp_flat_nodes.specs.declared.node.Node.{Node}
+use Rattle.jp_flat_nodes.specs.declared.node.Node.TheVariants.{Object, EndObject, Array, EndArray, Key, Text}
+use Rattle.jp_flat_nodes.specs.declared.node.Node.TheVariants.{Number, Truth, Null}
 use Rattle.jp_flat.specs.inner.Plain.{is_flat, max_tokens, is_fit, items_are_fit}
 use Rattle.jp_doc.specs.Reading.{max_items}
 use Rattle.jp_flat.specs.Value.{item_count}
@@ -52,7 +52,7 @@ array_inside ts f js e = record {
 
 array_shape : (ts : List Token) (f : Flat (Token.begin_array ∷ ts))
     → (js : text.Items) × (f.source ≡ text.array js)
-array_shape ts f = shape (Array 0) ts f.source max_depth f.rest (read_of_flat (Token.begin_array ∷ ts) f)
+array_shape ts f = shape [] (Array 0) ts f.source max_depth f.rest (read_of_flat (Token.begin_array ∷ ts) f)
 
 -- inside of an array
 pub in_items : (ts : List Token) → is_flat (Token.begin_array ∷ ts) ≡ true → InItems ts
@@ -168,26 +168,26 @@ abbrev first_ends : List Token → common.Bool
 first_ends [] = false
 first_ends (t ∷ ts) = is_end_array t
 
-ends_node : (n : Node) → (n ≡ EndArray → ⊥) → is_end_array (node_token n) ≡ true → ⊥
-ends_node (Object a) p e = absurd (cc)
-ends_node EndObject p e = absurd (cc)
-ends_node (Array a) p e = absurd (cc)
-ends_node EndArray p e = p refl
-ends_node (Key s) p e = absurd (cc)
-ends_node (String s) p e = absurd (cc)
-ends_node (Number s) p e = absurd (cc)
-ends_node (Bool b) p e = absurd (cc)
-ends_node Null p e = absurd (cc)
+ends_node : (bytes : List ℕ) (n : Node) → (n ≡ EndArray → ⊥) → is_end_array (token_at bytes n) ≡ true → ⊥
+ends_node bytes (Object a) p e = absurd (cc)
+ends_node bytes EndObject p e = absurd (cc)
+ends_node bytes (Array a) p e = absurd (cc)
+ends_node bytes EndArray p e = p refl
+ends_node bytes (Key from count) p e = absurd (cc)
+ends_node bytes (Text from count) p e = absurd (cc)
+ends_node bytes (Number from count) p e = absurd (cc)
+ends_node bytes (Truth b) p e = absurd (cc)
+ends_node bytes Null p e = absurd (cc)
 
-pub one_more_item : (ts us : List Token) (i : InItems ts) (n : Node) → ts ≡ node_token n ∷ us
+pub one_more_item : (bytes : List ℕ) (ts us : List Token) (i : InItems ts) (n : Node) → ts ≡ token_at bytes n ∷ us
     → (n ≡ EndArray → ⊥) → (j : text.Json) × (js : text.Items) × (i.source ≡ text.item j js)
-one_more_item ts us i n e p = go i.source refl
+one_more_item bytes ts us i n e p = go i.source refl
   where
     go : (s : text.Items) → i.source ≡ s → (j : text.Json) × (js : text.Items) × (i.source ≡ text.item j js)
     go text.no_items is =
-        let closing : node_token n ∷ us ≡ Token.end_array ∷ i.rest = sym e ∙ i.spelled
+        let closing : token_at bytes n ∷ us ≡ Token.end_array ∷ i.rest = sym e ∙ i.spelled
         ∙ ap (λ s. items_tokens s ++ i.rest) is in
-        absurd (ends_node n p (ap first_ends closing))
+        absurd (ends_node bytes n p (ap first_ends closing))
     go (text.item j js) is = (j, js, is)
 
 pub no_more_items : (ts us : List Token) (i : InItems ts) → ts ≡ Token.end_array ∷ us
@@ -215,13 +215,13 @@ pub record Split (ts after : List Token) : Type 0 where
       × (value_at (Token.begin_array ∷ ts) ≡ json.array (json.add_item (value_at ts) vs))
       × (value_at (Token.begin_array ∷ after) ≡ json.array vs)
 
-pub split_items : (ts us after : List Token) (n : Node) → is_flat (Token.begin_array ∷ ts) ≡ true
-    → ts ≡ node_token n ∷ us → (n ≡ EndArray → ⊥)
+pub split_items : (bytes : List ℕ) (ts us after : List Token) (n : Node) → is_flat (Token.begin_array ∷ ts) ≡ true
+    → ts ≡ token_at bytes n ∷ us → (n ≡ EndArray → ⊥)
     → ((depth : ℕ) (j : text.Json) (rest : List Token) → text.value depth ts ≡ Some (j, rest) → rest ≡ after)
     → Split ts after
-split_items ts us after n h e p link =
+split_items bytes ts us after n h e p link =
     let i = in_items ts h in
-    let one = one_more_item ts us i n e p in
+    let one = one_more_item bytes ts us i n e p in
     let first = item_here ts i one.0 one.1 one.2 in
     let passed : items_tokens one.1 ++ i.rest ≡ after = link max_depth one.0 (items_tokens one.1 ++ i.rest)
     (read_item ts i one.0 one.1 one.2) in
@@ -253,13 +253,13 @@ some_items (text.item j js) rest =
       some_token j,
     )
 
-pub items_within : (ns : List Node) (at : ℕ)
-    → is_flat (Token.begin_array ∷ drop at (map node_token ns)) ≡ true
+pub items_within : (bytes : List ℕ) (ns : List Node) (at : ℕ)
+    → is_flat (Token.begin_array ∷ drop at (tokens_at bytes ns)) ≡ true
     → at < length ns
-items_within ns at h =
-    let all = map node_token ns in
+items_within bytes ns at h =
+    let all = tokens_at bytes ns in
     let i = in_items (drop at all) h in
     lt_of_not-le (λ k.
     let none : [] ≡ items_tokens i.source ++ i.rest = sym (drop_all at all (omega
-    (arith, length-map ns node_token))) ∙ i.spelled in
+    (arith, length-map ns (token_at bytes)))) ∙ i.spelled in
     omega (arith, ap length none, some_items i.source i.rest))

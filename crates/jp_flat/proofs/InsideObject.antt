@@ -7,20 +7,21 @@ use Rattle.std.proofs.Common.{true≢false, lt_of_not-le}
 use Rattle.std.proofs.Common as common
 use Rattle.std.proofs.lemmas.List.{drop_all, length-map}
 use Rattle.std.proofs.lemmas.Str.{IsUtf8-from_is_utf8}
-use Rattle.std.specs.Borrow.{Bor}
 use Rattle.std.specs.Str.{chars, is_utf8, IsUtf8}
 use Rattle.json.specs.Token.{Token}
 use Rattle.json.specs.Json as text
 use Rattle.json.specs.Tree as tree
 use Rattle.json.specs.Tree.{json_tokens, members_tokens}
-use Rattle.json.specs.Tape.{node_token}
-use Rattle.json.specs.declared.tape.Node.{Node}
-use Rattle.json.specs.declared.tape.Node.TheVariants.{Object, EndObject, Array, EndArray, Key, String, Number}
-use Rattle.json.specs.declared.tape.Node.TheVariants.{Bool, Null}
 use Rattle.serde_json.specs.Read.{max_depth}
 use Rattle.jp_doc.specs.Json as json
 use Rattle.jp_doc.specs.Json.{Text, Json}
+use Rattle.jp_flat.specs.Document.{document_tokens}
 use Rattle.jp_flat.specs.Flat.{value_at}
+use Rattle.jp_flat_nodes.specs.Nodes.{token_at, tokens_at}
+use Rattle.jp_flat_nodes.specs.declared.node.Node.{Node}
+use Rattle.jp_flat_nodes.specs.declared.node.Node.TheVariants as node
+use Rattle.jp_flat_nodes.specs.declared.node.Node.TheVariants.{Object, EndObject, Array, EndArray, Key}
+use Rattle.jp_flat_nodes.specs.declared.node.Node.TheVariants.{Number, Truth, Null}
 use Rattle.jp_flat.specs.inner.Plain.{is_flat, max_tokens, is_fit, members_are_fit}
 use Rattle.jp_flat.specs.Members.{entries_of, entries_read, entries_at, put_all}
 use Rattle.jp_flat.specs.Value.{members_value, entries}
@@ -55,7 +56,7 @@ object_inside ts f ms e = record {
 pub in_members : (ts : List Token) → is_flat (Token.begin_object ∷ ts) ≡ true → InMembers ts
 in_members ts h =
     let f = flat_of (Token.begin_object ∷ ts) h in
-    let sh : (ms : text.Members) × (f.source ≡ text.object ms) = shape (Object 0) ts f.source max_depth f.rest
+    let sh : (ms : text.Members) × (f.source ≡ text.object ms) = shape [] (Object 0) ts f.source max_depth f.rest
     (read_of_flat (Token.begin_object ∷ ts) f) in
     object_inside ts f sh.0 sh.1
 
@@ -86,7 +87,7 @@ object_value ts h =
 
 -- the same of members that are left
 pub members_are : (m : FlatMembers) → members_value m ≡ json.object (put_all (entries m) json.no_members)
-members_are m = object_value (drop m.at (map node_token m.nodes.now)) m.flat
+members_are m = object_value (drop m.at (document_tokens m.document.now)) m.flat
 
 -- ---- by the nodes
 
@@ -216,29 +217,29 @@ some_members : (ms : text.Members) (rest : List Token) → 0 < length (members_t
 some_members text.no_members rest = omega arith
 some_members (text.member k j ms) rest = omega arith
 
-pub members_within : (ns : List Node) (at : ℕ)
-    → is_flat (Token.begin_object ∷ drop at (map node_token ns)) ≡ true
+pub members_within : (bytes : List ℕ) (ns : List Node) (at : ℕ)
+    → is_flat (Token.begin_object ∷ drop at (tokens_at bytes ns)) ≡ true
     → at < length ns
-members_within ns at h =
-    let all = map node_token ns in
+members_within bytes ns at h =
+    let all = tokens_at bytes ns in
     let i = in_members (drop at all) h in
     lt_of_not-le (λ k.
     let none : [] ≡ members_tokens i.source ++ i.rest = sym (drop_all at all (omega
-    (arith, length-map ns node_token)))
+    (arith, length-map ns (token_at bytes))))
     ∙ i.spelled in
     omega (arith, ap length none, some_members i.source i.rest))
 
 -- the value of the first member begins behind its key
-pub value_within : (ns : List Node) (at : ℕ) (k : List ℕ)
-    → is_flat (Token.begin_object ∷ drop at (map node_token ns)) ≡ true
-    → drop at (map node_token ns) ≡ Token.key k ∷ drop (at + 1) (map node_token ns) → at + 1 < length ns
-value_within ns at k h e =
-    let all = map node_token ns in
+pub value_within : (bytes : List ℕ) (ns : List Node) (at : ℕ) (k : List ℕ)
+    → is_flat (Token.begin_object ∷ drop at (tokens_at bytes ns)) ≡ true
+    → drop at (tokens_at bytes ns) ≡ Token.key k ∷ drop (at + 1) (tokens_at bytes ns) → at + 1 < length ns
+value_within bytes ns at k h e =
+    let all = tokens_at bytes ns in
     let i = in_members (drop at all) h in
     let one = one_more (drop at all) (drop (at + 1) all) i k e in
     lt_of_not-le (λ past.
     let none : [] ≡ json_tokens one.source ++ (members_tokens one.others ++ i.rest) =
-    sym (drop_all (at + 1) all (omega (arith, past, length-map ns node_token))) ∙ one.here in
+    sym (drop_all (at + 1) all (omega (arith, past, length-map ns (token_at bytes)))) ∙ one.here in
     omega (
       arith,
       ap length none,
@@ -266,13 +267,13 @@ first_is_key (t ∷ ts) = is_key t
 not_key : (ts : List Token) → first_is_key ts ≡ false → NoKey ts
 not_key ts h k us e = true≢false (sym (ap first_is_key e) ∙ h)
 
-pub no_key : (n : Node) (us : List Token) → ((s : Bor (List ℕ)) → n ≡ Key s → ⊥) → NoKey (node_token n ∷ us)
-no_key (Object a) us p = not_key _ refl
-no_key EndObject us p = not_key _ refl
-no_key (Array a) us p = not_key _ refl
-no_key EndArray us p = not_key _ refl
-no_key (Key s) us p = absurd (p s refl)
-no_key (String s) us p = not_key _ refl
-no_key (Number s) us p = not_key _ refl
-no_key (Bool b) us p = not_key _ refl
-no_key Null us p = not_key _ refl
+pub no_key : (bytes : List ℕ) (n : Node) (us : List Token) → ((from count : ℕ) → n ≡ Key from count → ⊥) → NoKey (token_at bytes n ∷ us)
+no_key bytes (Object a) us p = not_key _ refl
+no_key bytes EndObject us p = not_key _ refl
+no_key bytes (Array a) us p = not_key _ refl
+no_key bytes EndArray us p = not_key _ refl
+no_key bytes (Key from count) us p = absurd (p from count refl)
+no_key bytes (node.Text from count) us p = not_key _ refl
+no_key bytes (Number from count) us p = not_key _ refl
+no_key bytes (Truth b) us p = not_key _ refl
+no_key bytes Null us p = not_key _ refl

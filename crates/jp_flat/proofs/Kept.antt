@@ -1,10 +1,9 @@
 -- What is always true of the values of a flat document.
-use Rattle.std.proofs.Common.{◌≡◌, ℕ, ◌-◌, ◌<◌, ◌≤◌, true, false, List, map, length, drop, Some}
+use Rattle.std.proofs.Common.{◌≡◌, ℕ, ◌-◌, ◌<◌, ◌≤◌, true, false, List, length, drop, Some}
 use Rattle.std.proofs.Common.{sym, ap, subst}
 use Rattle.std.proofs.Common.{◌∙◌, arith, length-append, length-drop}
 use Rattle.std.proofs.lemmas.Bool.{ltb-false}
 use Rattle.json.specs.Json.{Json, value}
-use Rattle.json.specs.Tape.{node_token}
 use Rattle.json.specs.Token.{Token}
 use Rattle.json.specs.Tree.{json_tokens}
 use Rattle.serde_json.specs.Read.{max_depth}
@@ -14,6 +13,7 @@ use Rattle.jp_doc.specs.Rising.{IsRising}
 use Rattle.jp_doc.specs.Tree.{tree_json}
 use Rattle.jp_doc.proofs.Found.{first_false}
 use Rattle.jp_doc.proofs.TreeFacts.{tree_rises, tree_is_short}
+use Rattle.jp_flat.specs.Document.{document_tokens}
 use Rattle.jp_flat.specs.Flat.{value_at}
 use Rattle.jp_flat.specs.inner.Plain.{is_flat}
 use Rattle.jp_flat.specs.Value.{tokens_of, flat_value, item_count}
@@ -45,10 +45,10 @@ few_items (doc.object ms) n h = omega arith
 -- a value has as many nodes, up to its end, as items at least
 pub items_have_nodes : (v : FlatValue) (end : ℕ)
     → ((depth : ℕ) (j : Json) (rest : List Token) → value depth (tokens_of v) ≡ Some (j, rest)
-    → rest ≡ drop end (map node_token v.nodes.now))
+    → rest ≡ drop end (document_tokens v.document.now))
     → v.at < end → item_count (flat_value v) ≤ end - v.at
 items_have_nodes v end passes later =
-    let all = map node_token v.nodes.now in
+    let all = document_tokens v.document.now in
     let f = flat_of (tokens_of v) v.flat in
     let most = length (json_tokens f.source) in
     let few = subst (λ x. item_count x ≤ most) (sym (value_is (tokens_of v) f))

@@ -17,3 +17,5 @@ pub mod WholeTexts
 pub mod Faults
 pub mod Decimal
 pub mod ReadNumbers
+pub mod Pieces
+pub mod ReadNodes

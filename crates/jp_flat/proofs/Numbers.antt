@@ -27,7 +27,8 @@ use Rattle.jp_doc.specs.Json.{whole_of}
 use Rattle.std.specs.Prelude.{decimal}
 use Rattle.std.proofs.lemmas.Fmt.{decimal-digits_value}
 use Rattle.jp_flat.specs.Digits.{whole_value}
-use Rattle.jp_flat.specs.inner.Plain.{are_digits, is_unsigned_text, is_minus_text, is_whole_text}
+use Rattle.jp_flat.specs.inner.Plain.{is_unsigned_text, is_minus_text, is_whole_text}
+use Rattle.jp_flat_nodes.specs.Digits.{are_digits}
 use Rattle.jp_flat.proofs.Good.{is_whole}
 
 pub both : (a b : Bool) → (a && b) ≡ true → (a ≡ true) × (b ≡ true)

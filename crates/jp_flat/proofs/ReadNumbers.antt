@@ -12,7 +12,8 @@ use Rattle.std.specs.Str.Parse.{AllDigits, digits_value, without_leading_plus, P
 use Rattle.std.proofs.lemmas.Str.Parse.{digit_from_value}
 use Rattle.json.specs.Print.{IsNumber}
 use Rattle.json.specs.Word.{after_number, after_whole, after_fraction, after_exponent}
-use Rattle.jp_flat.specs.inner.Plain.{are_digits, is_unsigned_text, is_minus_text, is_whole_text, IsLed}
+use Rattle.jp_flat.specs.inner.Plain.{is_unsigned_text, is_minus_text, is_whole_text, IsLed}
+use Rattle.jp_flat_nodes.specs.Digits.{are_digits}
 use Rattle.jp_flat.specs.inner.Plain.{is_fit_number}
 use Rattle.jp_flat.proofs.Fit.{fit_number}
 use Rattle.jp_flat.proofs.Numbers.{both, both_back, parsed, unsigned_is, minus_is}

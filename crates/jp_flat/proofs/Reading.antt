@@ -25,7 +25,7 @@ use Rattle.jp_doc.proofs.LineTexts.{names_are_texts}
 use Rattle.jp_doc.proofs.TreeLaws.{tree_agrees}
 use Rattle.jp_doc.proofs.TreeNesting.{shallow_tree, tree_has_numbers}
 use Rattle.jp_flat.specs.Flat.{value_read, value_at}
-use Rattle.jp_flat.specs.inner.Plain.{is_flat, is_small, max_tokens, is_plain_from, is_fit}
+use Rattle.jp_flat.specs.inner.Plain.{is_flat, is_small, max_tokens, is_plain_from, is_plain, is_fit}
 use Rattle.jp_flat.proofs.Fit.{fit, plain_is_short}
 use Rattle.jp_flat.proofs.Good.{is_good}
 use Rattle.jp_flat.proofs.Numbers.{both, both_back}
@@ -99,29 +99,38 @@ pub record ReadFlat (line : List ℕ) : Type 0 where
   pub flat : Flat (tokens line)
   pub reads : reading line ≡ Ok (value_at (tokens line))
 
-of_document : (line : List ℕ) (j : text.Json) → text.document line ≡ Some j → IsUtf8 line
-    → length line ≤ max_line → length (tokens line) ≤ max_tokens → is_plain_from 0 (tokens line) ≡ true
+-- of a line that holds a plain value
+pub of_tree : (line : List ℕ) (j : text.Json) → text.document line ≡ Some j → IsUtf8 line
+    → length line ≤ max_line → length (tokens line) ≤ max_tokens → tree.depth j ≤ 127 → is_plain j ≡ true
     → ReadFlat line
-of_document line j e u short few plain =
+of_tree line j e u short few nests plain =
     let spelled = tokens-document line j e in
     let whole : tokens line ≡ json_tokens j ++ [] = spelled ∙ sym (append-nil (json_tokens j)) in
-    let p = plain_tokens j [] (subst (λ ts. is_plain_from 0 ts ≡ true) whole plain) in
     let short_tokens = subst (λ ts. length ts ≤ max_tokens) spelled few in
-    let m = make j short_tokens p.1 in
+    let m = make j short_tokens plain in
     let f : Flat (tokens line) = record {
       source = j;
       rest = [];
       spelled = whole;
-      nests = p.0;
+      nests = nests;
       few = short_tokens;
-      fit = fit_tree line j e u p.0 (plain_is_short j p.1);
+      fit = fit_tree line j e u nests (plain_is_short j plain);
     } in
-    let read_so = reading_read line m.found short (u, whole_text line j m.found spelled p.0 m.made)
+    let read_so = reading_read line m.found short (u, whole_text line j m.found spelled nests m.made)
     ∙ from_plain m.found m.plain in
     record {
       flat = f;
       reads = read_so ∙ ap Ok (sym (by_tree line j (json_of m.found) (read_of_flat (tokens line) f) read_so));
     }
+
+of_document : (line : List ℕ) (j : text.Json) → text.document line ≡ Some j → IsUtf8 line
+    → length line ≤ max_line → length (tokens line) ≤ max_tokens → is_plain_from 0 (tokens line) ≡ true
+    → ReadFlat line
+of_document line j e u short few plain =
+    let whole : tokens line ≡ json_tokens j ++ [] =
+    tokens-document line j e ∙ sym (append-nil (json_tokens j)) in
+    let p = plain_tokens j [] (subst (λ ts. is_plain_from 0 ts ≡ true) whole plain) in
+    of_tree line j e u short few p.0 p.1
 
 of_some : (line : List ℕ) (o : Option text.Json) → text.document line ≡ o → IsSome o → IsUtf8 line
     → length line ≤ max_line → length (tokens line) ≤ max_tokens → is_plain_from 0 (tokens line) ≡ true
@@ -132,14 +141,3 @@ of_some line (Some j) e h u short few plain = of_document line j e u short few p
 pub read_flat : (line : List ℕ) → IsSome (text.document line) → IsUtf8 line → length line ≤ max_line
     → length (tokens line) ≤ max_tokens → is_plain_from 0 (tokens line) ≡ true → ReadFlat line
 read_flat line h u short few plain = of_some line (text.document line) refl h u short few plain
-
--- the same of a tape, as the reader knows it
-pub read_tape : (line s : List ℕ) (tape ts : List Token) → (s ≡ line) × IsUtf8 line
-    → (tape ≡ tokens s) × IsSome (text.document s) → length line ≤ max_line → length tape ≤ max_tokens
-    → ts ≡ tape → is_plain_from 0 ts ≡ true → (is_flat tape ≡ true) × (reading line ≡ Ok (value_at tape))
-read_tape line s tape ts is made short few same plain =
-    let whole : tape ≡ tokens line = made.0 ∙ ap tokens is.0 in
-    let r = read_flat line (subst (λ l. IsSome (text.document l)) is.0 made.1) is.1 short
-    (subst (λ l. length l ≤ max_tokens) whole few) (subst (λ l. is_plain_from 0 l ≡ true) (same
-    ∙ whole) plain) in
-    (ap is_flat whole ∙ flat_is (tokens line) r.flat, r.reads ∙ ap (λ l. Ok (value_at l)) (sym whole))

@@ -13,7 +13,7 @@ use Rattle.std.specs.Prelude.{nat_le, slice_index}
 use Rattle.fast_float.specs.Text.{scan}
 use Rattle.json.specs.Word.{after_digits, after_sign, after_whole, after_fraction, after_exponent}
 use Rattle.serde_json.specs.Read.{is_integer}
-use Rattle.jp_flat.specs.inner.Plain.{are_digits}
+use Rattle.jp_flat_nodes.specs.Digits.{are_digits}
 use Rattle.jp_flat.proofs.Numbers.{both_back}
 
 -- ---- what the scan of an integer has found

@@ -1,5 +1,5 @@
 -- The value that a place in a flat document stands for, and what is told of it.
-use Rattle.std.specs.Prelude.{◌≡◌, ℕ, ◌-◌, List, ◌∷◌, map, drop, length, Option, Some, None}
+use Rattle.std.specs.Prelude.{◌≡◌, ℕ, ◌-◌, List, ◌∷◌, drop, length, Option, Some, None}
 use Rattle.std.specs.Str.{chars}
 use Rattle.json.specs.Token.{Token, begin_array, begin_object}
 use Rattle.jp_doc.specs.Json as json

@@ -27,7 +27,7 @@ impl<'a> FlatDocument<'a> {
     /// The document of these nodes.
     pub(crate) fn new(text: &'a [u8], nodes: &'a [Node]) -> FlatDocument<'a>
         requires few { length nodes.now ≤ 16777218 }
-        requires held { ∥ IsHeld text.now nodes.now ∥₁ }
+        requires held { IsHeld text.now nodes.now }
         ensures text { result.text.now ≡ text.now }
         ensures nodes { result.nodes.now ≡ nodes.now }
     {
@@ -57,7 +57,8 @@ impl<'a> FlatDocument<'a> {
             → rest ≡ drop result (tokens_at self.now.text.now self.now.nodes.now) }
         ensures later { at < result }
     {
-        match self.nodes[at as usize] {
+        let node = self.nodes[at as usize];
+        match node {
             Node::Object(end) | Node::Array(end) => end,
             _ => at + 1,
         }

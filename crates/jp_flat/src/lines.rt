@@ -1,8 +1,9 @@
 //! The flat reading of a line.
 
-ghost use Rattle.std.specs.Prelude.{◌≡◌, Ok, IfOk, IfSome};
-ghost use Rattle.jp_doc.specs.Reading.{reading};
+ghost use Rattle.std.specs.Prelude.{◌≡◌, ◌≤◌, Ok, Err, IfOk, IfSome, IsTrue, MatchOption, length};
+ghost use Rattle.jp_doc.specs.Reading.{max_line, reading};
 ghost use Rattle.jp_flat.specs.Document.{document_value, answer_of, grammar_reading};
+ghost use Rattle.jp_flat.specs.inner.Held.{IsReadAs};
 
 use crate::document::FlatDocument;
 use crate::nodes::{are_plain, fault_in};
@@ -43,6 +44,50 @@ impl Room {
     }
 }
 
+/// Reads a line by the kit's reader, and lays its nodes. `false` where the line is not plain.
+///
+/// `AllocError` if a growth was refused.
+fn lay_plain(text: &str, room: &mut Room) -> Result<bool, AllocError>
+    requires { length text.now ≤ max_line }
+    ensures { IfOk result (λ laid. IsTrue laid → IsReadAs (reading text.now)
+        room.new.texts.items room.new.nodes.items) }
+{
+    match Tape::parse(text, &mut room.scratch, Vec::new(&room.arena)) {
+        Ok(tape) => {
+            if tape.len() > MAX_NODES || !are_plain(tape.nodes()) {
+                return Ok(false);
+            }
+            lay(tape.nodes(), &mut room.texts, &mut room.nodes)?;
+            Ok(true)
+        }
+        Err(Error::OutOfMemory) => Err(AllocError),
+        Err(_) => Ok(false),
+    }
+}
+
+/// Reads a line by the kit's reader, where numbers need not be whole, and lays its nodes, or tells its fault.
+///
+/// `AllocError` if a growth was refused.
+fn lay_decimal(text: &str, room: &mut Room) -> Result<Option<DocFault>, AllocError>
+    requires { length text.now ≤ max_line }
+    ensures { IfOk result (λ fault. MatchOption fault
+        (IsReadAs (grammar_reading text.now) room.new.texts.items room.new.nodes.items)
+        (λ f. grammar_reading text.now ≡ Err f)) }
+{
+    match Tape::parse(text, &mut room.scratch, Vec::new(&room.arena)) {
+        Ok(tape) => {
+            if let Some(fault) = fault_in(tape.nodes()) {
+                return Ok(Some(fault));
+            }
+            lay(tape.nodes(), &mut room.texts, &mut room.nodes)?;
+            Ok(None)
+        }
+        Err(Error::OutOfMemory) => Err(AllocError),
+        // A line of that length is not too long for the tape.
+        Err(_) => Ok(Some(DocFault::Unreadable)),
+    }
+}
+
 /// The document that a line holds, or `None` where the line is not plain. The nodes lie in the room.
 ///
 /// `AllocError` if a growth was refused.
@@ -62,16 +107,10 @@ pub(crate) fn read<'a>(
     if read_line(line, &mut room.nodes) {
         return Ok(Some(FlatDocument::new(line, &room.nodes)));
     }
-    match Tape::parse(text, &mut room.scratch, Vec::new(&room.arena)) {
-        Ok(tape) => {
-            if tape.len() > MAX_NODES || !are_plain(tape.nodes()) {
-                return Ok(None);
-            }
-            lay(tape.nodes(), &mut room.texts, &mut room.nodes)?;
-            Ok(Some(FlatDocument::new(&room.texts, &room.nodes)))
-        }
-        Err(Error::OutOfMemory) => Err(AllocError),
-        Err(_) => Ok(None),
+    if lay_plain(text, room)? {
+        Ok(Some(FlatDocument::new(&room.texts, &room.nodes)))
+    } else {
+        Ok(None)
     }
 }
 
@@ -93,16 +132,8 @@ pub(crate) fn read_decimal<'a>(
     if read_line(line, &mut room.nodes) {
         return Ok(Ok(FlatDocument::new(line, &room.nodes)));
     }
-    match Tape::parse(text, &mut room.scratch, Vec::new(&room.arena)) {
-        Ok(tape) => match fault_in(tape.nodes()) {
-            Some(fault) => Ok(Err(fault)),
-            None => {
-                lay(tape.nodes(), &mut room.texts, &mut room.nodes)?;
-                Ok(Ok(FlatDocument::new(&room.texts, &room.nodes)))
-            }
-        },
-        Err(Error::OutOfMemory) => Err(AllocError),
-        // A line of that length is not too long for the tape.
-        Err(_) => Ok(Err(DocFault::Unreadable)),
+    match lay_decimal(text, room)? {
+        Some(fault) => Ok(Err(fault)),
+        None => Ok(Ok(FlatDocument::new(&room.texts, &room.nodes))),
     }
 }

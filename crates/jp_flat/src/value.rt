@@ -292,8 +292,14 @@ impl<'d> FlatMembers<'d> {
             Node::Key(from, count) => {
                 let name = document.piece(from, count);
                 let end = document.after(at + 1);
-                let value = FlatValue { document, at: at + 1 };
-                Some((FlatMember { name, value }, FlatMembers { document, at: end }))
+                let value = FlatValue {
+                    document,
+                    at: at + 1,
+                };
+                Some((
+                    FlatMember { name, value },
+                    FlatMembers { document, at: end },
+                ))
             }
             _ => None,
         }

@@ -1,6 +1,9 @@
 -- What is always so of the nodes of a flat document: a working file, which nobody has to believe.
-use Rattle.std.specs.Prelude.{◌≡◌, ℕ, ◌+◌, ◌≤◌, true, List, length, get_or}
+use Rattle.std.specs.Prelude.{◌≡◌, ℕ, ◌+◌, ◌≤◌, true, List, length, get_or, Result, Ok}
 use Rattle.std.specs.Str.{is_utf8}
+use Rattle.jp_doc.specs.Json.{Json}
+use Rattle.jp_doc.specs.declared.fault.DocFault.{DocFault}
+use Rattle.jp_flat.specs.Flat.{value_at}
 use Rattle.jp_flat.specs.inner.Plain.{is_flat}
 use Rattle.jp_flat_nodes.specs.Nodes.{piece, tokens_at, AreLinked}
 use Rattle.jp_flat_nodes.specs.declared.node.Node.{Node}
@@ -26,3 +29,9 @@ pub record IsHeld (text : List ℕ) (nodes : List Node) : Type 0 where
   pub flat : is_flat (tokens_at text nodes) ≡ true
   pub linked : AreLinked (tokens_at text nodes) nodes
   pub pieces : (i : ℕ) → HasPiece text (get_or nodes i Null)
+
+-- the nodes are those of a document whose value is the answer
+pub record IsReadAs (answer : Result Json DocFault) (text : List ℕ) (nodes : List Node) : Type 0 where
+  pub few : length nodes ≤ 16777218
+  pub held : IsHeld text nodes
+  pub value : answer ≡ Ok (value_at (tokens_at text nodes))

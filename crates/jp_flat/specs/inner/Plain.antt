@@ -1,6 +1,6 @@
 -- What the quick reading of a line lets through, and what is so of each flat value: a working file, which
 -- nobody has to believe.
-use Rattle.std.specs.Prelude.{◌≡◌, ◌≢◌, ℕ, suc, ◌-◌, ◌^◌, Bool, true, false, not, ◌&&◌, ◌||◌, ◌==◌}
+use Rattle.std.specs.Prelude.{◌≡◌, ◌≢◌, ℕ, suc, ◌-◌, ◌^◌, Bool, true, false, not, ◌&&◌, ◌==◌}
 use Rattle.std.specs.Prelude.{nat_lt, nat_le}
 use Rattle.std.specs.Prelude.{List, [], ◌∷◌, Option, Some, None}
 use Rattle.std.specs.Prelude.{length, drop, slice_index, if◌then◌else◌}
@@ -15,13 +15,8 @@ use Rattle.json.specs.Word.{after_number}
 use Rattle.serde_json.specs.Read.{max_depth}
 use Rattle.jp_doc.specs.ReadingIn as numbers
 use Rattle.jp_doc.specs.Tree.{text_number}
+use Rattle.jp_flat_nodes.specs.Digits.{are_digits}
 use Rattle.jp_number.specs.Number.{is_short}
-
--- some digits, of which the first is no zero before others
-abbrev pub are_digits : List ℕ → Bool
-are_digits ds =
-    nat_lt 0 (length ds)
-    && (list_all is_ascii_digit ds && (nat_le (length ds) 1 || not (slice_index ds 0 == 48)))
 
 -- no plus stands first, and where all are digits, there are some, and no zero stands before others
 abbrev pub IsLed : List ℕ → Type 0

@@ -1,53 +1,46 @@
-use Rattle.std.proofs.Common.{◌+◌, ◌<◌, ◌∷◌, length, map, drop, ap, ◌∙◌, arith}
-use Rattle.json.specs.Tape.{node_token}
+use Rattle.std.proofs.Common.{◌+◌, ◌<◌, ◌∷◌, length, drop, ap, ◌∙◌, arith}
+use Rattle.std.proofs.lemmas.List.{length-map}
+use Rattle.jp_flat.specs.Document.{document_tokens}
+use Rattle.jp_flat_nodes.specs.Nodes.{token_at}
 use Rattle.jp_flat.proofs.Inside.{items_end, items_within, split_items}
 use Rattle.jp_flat.proofs.value.FlatItems.split_first.Goals as goal
 
-pub after-end-requires : goal.after-end-requires
-after-end-requires c = record {
-  within = items_within c.args.self.nodes.now c.args.self.at c.args.self.flat;
-  linked = c.args.self.linked;
-}
+pub node-requires : goal.node-requires
+node-requires c =
+    let d = c.args.self.document.now in
+    items_within d.text.now d.nodes.now c.args.self.at c.args.self.flat
 
 pub invariant_of-result : goal.invariant_of-result
 invariant_of-result c =
-    let ns = c.args.self.nodes.now in
-    let at = c.args.self.at in
-    let here = c.node_at.ensures (items_within ns at c.args.self.flat) in
+    let d = c.args.self.document.now in
     record {
-      linked = c.args.self.linked;
-      flat = (split_items _ _ _ c.node_at.result c.args.self.flat here
+      flat = (split_items d.text.now _ _ _ c.node.result c.args.self.flat c.node.ensures.token
           (λ e. grind arith) c.after-end.ensures.value).flat;
     }
 
-pub invariant_of-result-in_default : goal.invariant_of-result-in_default
-invariant_of-result-in_default c =
-    let ns = c.args.self.nodes.now in
-    let at = c.args.self.at in
-    let here = c.node_at.ensures (items_within ns at c.args.self.flat) in
+pub invariant_of-others : goal.invariant_of-others
+invariant_of-others c =
+    let d = c.args.self.document.now in
     record {
-      linked = c.args.self.linked;
-      flat = (split_items _ _ _ c.node_at.result c.args.self.flat here (λ e. grind arith)
-          c.after-end.ensures.value).after_flat;
+      flat = (split_items d.text.now _ _ _ c.node.result c.args.self.flat c.node.ensures.token
+          (λ e. grind arith) c.after-end.ensures.value).after_flat;
     }
 
 pub returns-in-EndArray-clause-value : goal.returns-in-EndArray-clause-value
 returns-in-EndArray-clause-value c =
-    let ns = c.args.self.nodes.now in
+    let d = c.args.self.document.now in
     let at = c.args.self.at in
-    let all = map node_token ns in
-    let here = c.node_at.ensures (items_within ns at c.args.self.flat) in
+    let all = document_tokens d in
     items_end (drop at all) (drop (at + 1) all) c.args.self.flat
-    (here ∙ ap (λ n. node_token n ∷ drop (at + 1) all) c.in-EndArray.is)
+    (c.node.ensures.token ∙ ap (λ n. token_at d.text.now n ∷ drop (at + 1) all) c.in-EndArray.is)
 
 pub returns-in_default : goal.returns-in_default
 returns-in_default c =
-    let ns = c.args.self.nodes.now in
+    let d = c.args.self.document.now in
     let at = c.args.self.at in
-    let inside : at < length ns = items_within ns at c.args.self.flat in
-    let here = c.node_at.ensures inside in
+    let inside : at < length d.nodes.now = items_within d.text.now d.nodes.now at c.args.self.flat in
     record {
-      value = (split_items _ _ _ c.node_at.result c.args.self.flat here (λ e. grind arith)
-          c.after-end.ensures.value).value;
-      fewer = omega (arith, c.after-end.ensures.later, inside);
+      value = (split_items d.text.now _ _ _ c.node.result c.args.self.flat c.node.ensures.token
+          (λ e. grind arith) c.after-end.ensures.value).value;
+      fewer = omega (arith, c.after-end.ensures.later, inside, length-map d.nodes.now (token_at d.text.now));
     }

@@ -9,13 +9,14 @@ use Rattle.jp_flat.proofs.value.FlatValue.digits.Goals as goal
 pub returns-in-Number : goal.returns-in-Number
 returns-in-Number c =
     let ts = tokens_of c.args.self in
-    let fit = number_is_fit ts c.node.result _ c.args.self.flat c.node.ensures c.in-Number.is in
-    let tells = subst (λ n. Tells n (value_at ts)) c.in-Number.is
-    (node_tells ts c.node.result c.args.self.flat c.node.ensures) in
-    ap Some (sym (own_text c.in-Number.text.now fit))
-    ∙ sym (ap (λ v. option_map number_text (number_in v)) tells)
+    let bytes = c.args.self.document.now.text.now in
+    let fit = number_is_fit bytes ts c.node.result _ _ c.args.self.flat c.node.ensures.token c.in-Number.is in
+    let tells = subst (λ n. Tells bytes n (value_at ts)) c.in-Number.is
+    (node_tells bytes ts c.node.result c.args.self.flat c.node.ensures.token) in
+    ap Some (c.piece.ensures ∙ sym (own_text _ fit)) ∙ sym (ap (λ v. option_map number_text (number_in v)) tells)
 
 pub returns-in_default : goal.returns-in_default
 returns-in_default c =
-    ap (option_map number_text) (no_number c.node.result _ (λ s e. grind arith)
-    (node_tells (tokens_of c.args.self) c.node.result c.args.self.flat c.node.ensures))
+    let bytes = c.args.self.document.now.text.now in
+    ap (option_map number_text) (no_number bytes c.node.result _ (λ s k e. grind arith)
+    (node_tells bytes (tokens_of c.args.self) c.node.result c.args.self.flat c.node.ensures.token))

@@ -1,46 +1,40 @@
-use Rattle.std.proofs.Common.{◌≡◌, ℕ, ◌+◌, ◌<◌, List, ◌∷◌, length, map, drop, sym, ap, ◌∙◌, subst, arith}
-use Rattle.std.proofs.Common.{true}
+use Rattle.std.proofs.Common.{◌≡◌, ℕ, ◌+◌, List, ◌∷◌, true, drop, ap, ◌∙◌, subst, sym, arith}
 use Rattle.std.proofs.lemmas.List.{drop-drop}
-use Rattle.json.specs.Tape.{node_token}
 use Rattle.json.specs.Token.{begin_array}
-use Rattle.json.specs.declared.tape.Node.{Node}
-use Rattle.json.specs.declared.tape.Node.TheVariants.{Array}
 use Rattle.jp_flat.specs.Flat.{value_at}
-use Rattle.jp_flat.specs.inner.Plain.{is_flat}
 use Rattle.jp_flat.specs.Value.{tokens_of}
-use Rattle.jp_flat.proofs.Shapes.{within, node_tells, no_array}
+use Rattle.jp_flat.specs.inner.Plain.{is_flat}
+use Rattle.jp_flat_nodes.specs.Nodes.{token_at, tokens_at}
+use Rattle.jp_flat_nodes.specs.declared.node.Node.{Node}
+use Rattle.jp_flat_nodes.specs.declared.node.Node.TheVariants.{Array}
+use Rattle.jp_flat.proofs.Shapes.{node_tells, no_array}
 use Rattle.jp_flat.proofs.value.FlatValue.items.Goals as goal
 
-opens : (ns : List Node) (at next a : ℕ) (n : Node) → next ≡ at + 1 → n ≡ Array a
-    → drop at (map node_token ns) ≡ node_token n ∷ drop 1 (drop at (map node_token ns))
-    → drop at (map node_token ns) ≡ begin_array ∷ drop next (map node_token ns)
-opens ns at next a n e is here =
-    let all = map node_token ns in
-    here ∙ ap (λ m. node_token m ∷ drop 1 (drop at all)) is
-    ∙ ap (λ l. begin_array ∷ l) (drop-drop 1 at all ∙ ap (λ k. drop k all) (sym e))
+opens : (bytes : List ℕ) (ns : List Node) (at a : ℕ) (n : Node) → n ≡ Array a
+    → drop at (tokens_at bytes ns) ≡ token_at bytes n ∷ drop 1 (drop at (tokens_at bytes ns))
+    → drop at (tokens_at bytes ns) ≡ begin_array ∷ drop (at + 1) (tokens_at bytes ns)
+opens bytes ns at a n is here =
+    let all = tokens_at bytes ns in
+    here ∙ ap (λ m. token_at bytes m ∷ drop 1 (drop at all)) is
+    ∙ ap (λ l. begin_array ∷ l) (drop-drop 1 at all)
 
 pub invariant_of-result : goal.invariant_of-result
 invariant_of-result c =
-    let ns = c.args.self.nodes.now in
-    let at = c.args.self.at in
-    let inside : at < length ns = within ns at c.args.self.flat in
-    let next : c.saturating_add.result ≡ at + 1 = omega arith in
+    let d = c.args.self.document.now in
     record {
-      linked = c.args.self.linked;
       flat = subst (λ l. is_flat l ≡ true)
-          (opens ns at c.saturating_add.result _ c.node.result next c.in-Array.is
-          c.node.ensures) c.args.self.flat;
+          (opens d.text.now d.nodes.now c.args.self.at _ c.node.result c.in-Array.is c.node.ensures.token)
+          c.args.self.flat;
     }
 
 pub returns-in-Array : goal.returns-in-Array
 returns-in-Array c =
-    let ns = c.args.self.nodes.now in
-    let at = c.args.self.at in
-    let inside : at < length ns = within ns at c.args.self.flat in
-    let next : c.saturating_add.result ≡ at + 1 = omega arith in
-    ap value_at (sym (opens ns at c.saturating_add.result _ c.node.result next c.in-Array.is c.node.ensures))
+    let d = c.args.self.document.now in
+    ap value_at (sym
+    (opens d.text.now d.nodes.now c.args.self.at _ c.node.result c.in-Array.is c.node.ensures.token))
 
 pub returns-in_default : goal.returns-in_default
 returns-in_default c =
-    no_array c.node.result _ (λ a e. grind arith)
-    (node_tells (tokens_of c.args.self) c.node.result c.args.self.flat c.node.ensures)
+    let bytes = c.args.self.document.now.text.now in
+    no_array bytes c.node.result _ (λ a e. grind arith)
+    (node_tells bytes (tokens_of c.args.self) c.node.result c.args.self.flat c.node.ensures.token)

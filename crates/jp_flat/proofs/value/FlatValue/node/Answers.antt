@@ -1,12 +1,17 @@
-use Rattle.std.proofs.Common.{◌∷◌, map, sym, ap, ◌∙◌}
+use Rattle.std.proofs.Common.{◌∷◌, ap, ◌∙◌, sym}
 use Rattle.std.proofs.lemmas.List.{drop-drop}
-use Rattle.json.specs.Tape.{node_token}
+use Rattle.jp_flat.specs.Document.{document_tokens}
+use Rattle.jp_flat_nodes.specs.Nodes.{token_at}
 use Rattle.jp_flat.proofs.Shapes.{within}
 use Rattle.jp_flat.proofs.value.FlatValue.node.Goals as goal
 
-pub returns : goal.returns
-returns c =
-    let ns = c.args.self.nodes.now in
-    let at = c.args.self.at in
-    c.node_at.ensures (within ns at c.args.self.flat)
-    ∙ ap (λ ts. node_token c.node_at.result ∷ ts) (sym (drop-drop 1 at (map node_token ns)))
+pub node-requires : goal.node-requires
+node-requires c =
+    let d = c.args.self.document.now in
+    within d.text.now d.nodes.now c.args.self.at c.args.self.flat
+
+pub returns-clause-token : goal.returns-clause-token
+returns-clause-token c =
+    let d = c.args.self.document.now in
+    c.node.ensures.token ∙ ap (λ ts. token_at d.text.now c.node.result ∷ ts)
+    (sym (drop-drop 1 c.args.self.at (document_tokens d)))
