@@ -57,6 +57,9 @@ fn lay_plain(text: &str, room: &mut Room) -> Result<bool, AllocError>
             if tape.len() > MAX_NODES || !are_plain(tape.nodes()) {
                 return Ok(false);
             }
+            // Without their escapes, texts take no more than the line.
+            room.texts.clear();
+            room.texts.reserve(text.len())?;
             lay(tape.nodes(), &mut room.texts, &mut room.nodes)?;
             Ok(true)
         }
@@ -79,6 +82,8 @@ fn lay_decimal(text: &str, room: &mut Room) -> Result<Option<DocFault>, AllocErr
             if let Some(fault) = fault_in(tape.nodes()) {
                 return Ok(Some(fault));
             }
+            room.texts.clear();
+            room.texts.reserve(text.len())?;
             lay(tape.nodes(), &mut room.texts, &mut room.nodes)?;
             Ok(None)
         }

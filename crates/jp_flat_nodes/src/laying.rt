@@ -77,6 +77,7 @@ pub fn lay(tape: &[Taped<'_>], texts: &mut Vec<u8>, nodes: &mut Vec<Node>) -> Re
 {
     texts.clear();
     nodes.clear();
+    nodes.reserve(tape.len())?;
     for node in tape {
         let own = laid(node, texts)?;
         nodes.push(own)?;

@@ -96,6 +96,10 @@ pub fn read_line(line: &[u8], nodes: &mut Vec<Node>) -> bool
     ensures { IsTrue result → IsRead line.now nodes.new.items }
 {
     nodes.clear();
+    // A node for each eight bytes is about what a line has: so few growths are the rule.
+    if nodes.reserve(line.len() / 8).is_err() {
+        return false;
+    }
     let end = value(line, blanks_end(line, 0), nodes, MAX_DEPTH);
     end == line.len() && nodes.len() <= MAX_NODES
 }

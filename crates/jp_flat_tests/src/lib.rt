@@ -16,6 +16,8 @@ mod kept;
 #[cfg(test)]
 mod lines;
 #[cfg(test)]
+mod one_pass;
+#[cfg(test)]
 mod orders;
 #[cfg(test)]
 mod pairs;
