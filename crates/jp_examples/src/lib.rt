@@ -12,6 +12,7 @@ mod eval;
 mod examples;
 mod explain;
 mod flat;
+mod flat_nodes;
 mod found;
 mod line_scan;
 mod nodes;
