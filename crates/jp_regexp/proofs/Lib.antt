@@ -1,3 +1,4 @@
+pub mod ByteSetLemmas
 pub mod BytesLemmas
 pub mod CharacterLemmas
 pub mod CopyLemmas
@@ -8,6 +9,7 @@ pub mod EmptyLemmas
 pub mod EquivalenceLemmas
 pub mod FindLemmas
 pub mod KindLemmas
+pub mod LaneLemmas
 pub mod MeaningLemmas
 pub mod MemberExamples
 pub mod MemberLemmas
@@ -35,4 +37,5 @@ pub mod TextExamples
 pub mod TurnLemmas
 pub mod UnrolledLemmas
 pub mod WalkLemmas
+pub mod WindowLemmas
 pub mod WithinLemmas

@@ -102,7 +102,7 @@ module _ (cells bytes : List ℕ) (flags : List ByteFlags) (of : IsPrefilter cel
   rest_at : (k : ℕ) → k < length bytes → drop k bytes ≡ slice_index_or bytes k 0 ∷ drop (k + 1) bytes
   rest_at k lt = rw (add-one, drop-cons bytes k 0)
 
-  pass_first : (k : ℕ) (m : ByteFlags) → k < length bytes → m ≡
+  pub pass_first : (k : ℕ) (m : ByteFlags) → k < length bytes → m ≡
       slice_index_or flags (slice_index_or bytes k 0) m
       → m.first ≡ 0 → behind_rest cells bytes k ≡ behind_rest cells bytes (k + 1)
   pass_first k m lt at e =
@@ -110,7 +110,7 @@ module _ (cells bytes : List ℕ) (flags : List ByteFlags) (of : IsPrefilter cel
       ∙ ap (λ s. state_behind cells s (drop (k + 1) bytes))
       (of.first (slice_index_or bytes k 0) m (omega (arith, small k)) (ap (λ x. x.first) (sym at) ∙ e))
 
-  pass_second : (k : ℕ) (m : ByteFlags) → k + 1 < length bytes →
+  pub pass_second : (k : ℕ) (m : ByteFlags) → k + 1 < length bytes →
       m ≡ slice_index_or flags (slice_index_or bytes (k + 1) 0) m → m.second ≡ 0 →
       behind_rest cells bytes k ≡ behind_rest cells bytes (k + 1)
   pass_second k m lt at e =
@@ -123,7 +123,7 @@ module _ (cells bytes : List ℕ) (flags : List ByteFlags) (of : IsPrefilter cel
       (ap (λ d. d.second) (sym at) ∙ e))
       ∙ sym (ap (state_behind cells 0) (rest_at (k + 1) lt))
 
-  pass_third : (k : ℕ) (m : ByteFlags) → k + 1 + 1 < length bytes →
+  pub pass_third : (k : ℕ) (m : ByteFlags) → k + 1 + 1 < length bytes →
       m ≡ slice_index_or flags (slice_index_or bytes (k + 1 + 1) 0) m → m.third ≡ 0 →
       behind_rest cells bytes k ≡ behind_rest cells bytes (k + 1)
   pass_third k m lt at e =

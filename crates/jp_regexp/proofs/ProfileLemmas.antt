@@ -1,9 +1,11 @@
 -- That a pattern is within the limits has one proof, so a value that keeps it quietly keeps it.
 use Rattle.std.proofs.Math.Logic.{∥∥₁_elim}
 use Rattle.std.proofs.Props.{props}
-use Rattle.std.proofs.Common.{ℕ, ◌≤◌, Some, None, Bool, List}
+use Rattle.std.proofs.Common.{ℕ, ◌≤◌, Some, None, Bool, List, length}
 use Rattle.jp_regexp.specs.Unrolled.{Unrolled}
+use Rattle.jp_regexp.specs.inner.ByteSets.{AreInSets}
 use Rattle.jp_regexp.specs.inner.Equivalence.{AreByteClasses}
+use Rattle.jp_regexp.specs.declared.beginnings.Beginnings.{Beginnings}
 use Rattle.jp_regexp.specs.declared.byte_classes.ByteClasses.{ByteClasses}
 use Rattle.jp_regexp.specs.declared.byte_flags.ByteFlags.{ByteFlags}
 use Rattle.jp_regexp.specs.inner.Prefilter.{IsPrefilter}
@@ -40,6 +42,10 @@ kept_dfa p unanchored dfa h = ∥∥₁_elim h (hlevel (props, Rises-prop)) (λ 
 pub kept_prefilter : (cells : List ℕ) (flags : List ByteFlags) → ∥ IsPrefilter cells flags ∥₁ →
     IsPrefilter cells flags
 kept_prefilter cells flags h = ∥∥₁_elim h (hlevel props) (λ of. of)
+
+pub kept_sets : (sets : Beginnings) (flags : List ByteFlags) →
+    ∥ AreInSets sets flags (length flags) ∥₁ → AreInSets sets flags (length flags)
+kept_sets sets flags h = ∥∥₁_elim h (hlevel props) (λ of. of)
 
 pub kept_classes : (p : Unrolled) (classes : ByteClasses) → ∥ AreByteClasses p classes ∥₁ →
     AreByteClasses p classes

@@ -1,4 +1,5 @@
 -- Working files of `jp_regexp`, which private clauses alone cite: nobody has to believe them.
+pub mod ByteSets
 pub mod Dfa
 pub mod Equivalence
 pub mod Gives

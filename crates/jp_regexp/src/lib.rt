@@ -1,8 +1,10 @@
 //! Patterns of I-Regexp (RFC 9485): what they are, their limits, and which texts they match.
 #![tactic(auto)]
 
+mod beginnings;
 mod byte_classes;
 mod byte_flags;
+mod byte_sets;
 mod candidate;
 mod categories;
 mod cursor;

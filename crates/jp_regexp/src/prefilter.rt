@@ -1,10 +1,12 @@
 //! A prefilter of three bytes: where in a text a match may begin.
 
 ghost use Rattle.std.specs.Prelude.{◌≡◌, ◌<◌, ◌≤◌, [], false, drop, IfOk, IfSome, OnOk, List, ℕ, length};
+ghost use Rattle.jp_regexp.specs.inner.ByteSets.{AreInSets};
 ghost use Rattle.jp_regexp.specs.inner.Prefilter.{AreFlagsOf, AreOnes, IsPrefilter, AreTwos, HasPair};
 ghost use Rattle.jp_regexp.specs.inner.Prefilter.{HaveBehind};
 ghost use Rattle.jp_regexp.specs.inner.Prefilter.{KeepsPairs, LeadsTogether};
 
+use crate::beginnings::{Beginnings, LANES, WINDOW};
 use crate::byte_flags::ByteFlags;
 use crate::dfa::{Dfa, STRIDE};
 use std::alloc::{AllocError, Global};
@@ -20,6 +22,9 @@ const MAX_FLAGGED: usize = 16;
 #[derive(Drop)]
 pub struct Prefilter {
     pub flags: Vec<ByteFlags>,
+    /// The flagged bytes as sets, in which sixteen bytes are looked up together.
+    pub beginnings: Beginnings,
+    ghost flagged: { ∥ AreInSets beginnings flags.items (length flags.items) ∥₁ },
 }
 
 /// The states behind some bytes, and behind the same bytes without the first of them.
@@ -38,11 +43,39 @@ impl Prefilter {
     {
         Prefilter {
             flags: Vec::new(alloc),
+            beginnings: Beginnings::new(),
         }
     }
 
     /// How many bytes may be passed from the start: the same state is reached without them.
     pub(crate) fn find(&self, bytes: &[u8]) -> usize
+        requires { length self.now.flags.items ≡ 256 }
+        ensures within { result ≤ length bytes.now }
+        ensures same { (cells : List ℕ) → IsPrefilter cells self.now.flags.items →
+            state_behind cells 0 bytes.now ≡ state_behind cells 0 (drop result bytes.now) }
+    {
+        if bytes.len() < WINDOW {
+            return self.find_slowly(bytes);
+        }
+        let last = bytes.len() - WINDOW;
+        let mut from = 0;
+        while from < last {
+            let found = self.beginnings.among(bytes, from);
+            if found != 0 {
+                return from + found.trailing_zeros() as usize;
+            }
+            from += LANES;
+        }
+        // The last window may overlap the one before it: few bytes are left to be looked at one by one.
+        let found = self.beginnings.among(bytes, last);
+        if found != 0 {
+            return last + found.trailing_zeros() as usize;
+        }
+        last + LANES + self.find_slowly(&bytes[last + LANES..])
+    }
+
+    /// The same, byte by byte: where there are fewer bytes than a window has.
+    fn find_slowly(&self, bytes: &[u8]) -> usize
         requires { length self.now.flags.items ≡ 256 }
         ensures within { result ≤ length bytes.now }
         ensures same { (cells : List ℕ) → IsPrefilter cells self.now.flags.items →
@@ -86,7 +119,8 @@ pub(crate) fn make_prefilter(alloc: Global, dfa: &Dfa) -> Result<Prefilter, Allo
         flags.push(flags_of(dfa, &ones, &twos, byte as u8))?;
     }
     if tell_enough(&flags) {
-        Ok(Prefilter { flags })
+        let beginnings = Beginnings::flagged(&flags);
+        Ok(Prefilter { flags, beginnings })
     } else {
         Ok(Prefilter::new(alloc))
     }

@@ -11,3 +11,5 @@ mod positions;
 mod reading;
 #[cfg(test)]
 mod refusals;
+#[cfg(test)]
+mod searching;

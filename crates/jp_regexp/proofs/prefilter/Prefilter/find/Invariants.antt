@@ -1,10 +1,12 @@
-use Rattle.std.proofs.Common.{ℕ, List}
-use Rattle.jp_regexp.specs.inner.Prefilter.{IsPrefilter}
-use Rattle.jp_regexp.proofs.PrefilterLemmas.{AreCarried, IsPassing}
+use Rattle.std.proofs.Common.{◌+◌, ◌≤◌, ◌-◌}
+use Rattle.jp_regexp.proofs.WindowLemmas.{IsPassed}
 use Rattle.jp_regexp.proofs.prefilter.Prefilter.find.Given as goal
 
-abbrev pub invariant-loop-i : goal.invariant-loop-i
-invariant-loop-i l = record {
-  carried : AreCarried l.i l.one l.two;
-  passing : (cells : List ℕ) → IsPrefilter cells l.self.flags.items → IsPassing cells l.bytes l.i l.one l.two;
+abbrev pub invariant-loop-from : goal.invariant-loop-from
+invariant-loop-from l = record {
+  within : l.from ≤ l.last + 16;
+  passed : IsPassed l.self.flags.items l.bytes l.from;
 }
+
+abbrev pub decreases-loop-from : goal.decreases-loop-from
+decreases-loop-from l = l.last - l.from
