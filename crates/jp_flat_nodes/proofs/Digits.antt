@@ -1,58 +1,77 @@
 -- Digits of a line, and the numbers that they are.
 use Rattle.std.proofs.Common.{◌≡◌, ℕ, zero, suc, ◌+◌, ◌-◌, ◌<◌, ◌≤◌, Bool, true, false, not, ◌&&◌, ◌||◌, ◌==◌}
-use Rattle.std.proofs.Common.{cond, List, [], ◌∷◌, length, take, drop, get_or, Some, None}
-use Rattle.std.proofs.Common.{option_and_then, refl, sym, ap, ap₂, ◌∙◌, subst, arith, add-zero, get_or-drop}
-use Rattle.std.proofs.Common.{length-drop, true≢false, eqb-true, ne_eqb, lt-ltb, le-leb}
-use Rattle.std.proofs.Common.{if◌then◌else◌}
+use Rattle.std.proofs.Common.{cond, List, [], ◌∷◌, ◌++◌, length, take, drop, get_or, Some, None}
+use Rattle.std.proofs.Common.{refl, sym, ap, ◌∙◌, arith, add-zero, get_or-drop}
+use Rattle.std.proofs.Common.{length-drop, eqb-true, ne_eqb, lt-ltb, le-leb}
+use Rattle.std.proofs.lemmas.Bool.{and_parts, leb-true}
 use Rattle.std.proofs.lemmas.List.{length-take}
 use Rattle.std.specs.Char.{is_ascii_digit}
 use Rattle.std.specs.List.{list_all, prefix_len}
-use Rattle.std.specs.Prelude.{slice_index, nat_lt, nat_le}
-use Rattle.json.specs.Print.{IsNumber}
-use Rattle.json.specs.Word.{head, after_digits, after_whole, after_fraction, after_exponent, after_number}
-use Rattle.jp_flat_nodes.specs.Digits.{are_few_digits, is_short_whole}
-use Rattle.jp_flat_nodes.specs.Nodes.{piece}
+use Rattle.std.specs.Prelude.{nat_lt, nat_le}
+use Rattle.json.specs.Word.{head, after_digits, after_whole}
+use Rattle.jp_flat_nodes.specs.Digits.{are_few_digits, is_no_e}
 use Rattle.jp_flat_nodes.specs.inner.Reads.{IsDigits}
-use Rattle.jp_flat_nodes.proofs.Cuts.{first_passes, byte_then}
+use Rattle.jp_flat_nodes.proofs.Cuts.{first_passes}
 
 pub both_true : (a b : Bool) → a ≡ true → b ≡ true → (a && b) ≡ true
 both_true a b h k = rw (h, k) refl
 
--- ---- by the grammar
+-- ---- by the grammar, and what is behind them
 
-passed : (p : ℕ → Bool) (xs : List ℕ) (n : ℕ) → n ≤ prefix_len p xs → prefix_len p (take n xs) ≡ n
-passed p xs zero h = refl
-passed p [] (suc n) h = absurd (omega arith)
-passed p (x ∷ xs) (suc n) h =
-    let first = first_passes (p x) (prefix_len p xs) n h in
-    let rest = passed p xs n first.1 in
-    ap (λ b. cond b (1 + prefix_len p (take n xs)) 0) first.0 ∙ omega (arith, rest)
+abbrev pub NoDigit : List ℕ → Type 0
+NoDigit r = is_ascii_digit (head r) ≡ false
 
-none_left : (xs : List ℕ) (n : ℕ) → drop n (take n xs) ≡ []
-none_left xs zero = refl
-none_left [] (suc n) = refl
-none_left (x ∷ xs) (suc n) = none_left xs n
+none_first : (r : List ℕ) → NoDigit r → prefix_len is_ascii_digit r ≡ 0
+none_first [] h = refl
+none_first (x ∷ r) h = ap (λ b. cond b (1 + prefix_len is_ascii_digit r) 0) h
 
-digits_end : (x m : ℕ) (xs : List ℕ) → suc m ≤ prefix_len is_ascii_digit (x ∷ xs)
-    → after_digits (x ∷ take m xs) ≡ Some []
-digits_end x m xs h =
-    let n : prefix_len is_ascii_digit (x ∷ take m xs) ≡ suc m =
-    passed is_ascii_digit (x ∷ xs) (suc m) h in
-    ap (λ k. cond (k == 0) None (Some (drop k (x ∷ take m xs)))) n
-    ∙ ap (λ b. cond b None (Some (drop m (take m xs)))) (ne_eqb (suc m) 0 (λ e. omega arith))
-    ∙ ap Some (none_left xs m)
+counted : (xs : List ℕ) (m : ℕ) (r : List ℕ) → m ≤ prefix_len is_ascii_digit xs → NoDigit r
+    → prefix_len is_ascii_digit (take m xs ++ r) ≡ m
+counted xs zero r h n = none_first r n
+counted [] (suc m) r h n = absurd (omega arith)
+counted (x ∷ xs) (suc m) r h n =
+    let first = first_passes (is_ascii_digit x) (prefix_len is_ascii_digit xs) m h in
+    let rest = counted xs m r first.1 n in
+    ap (λ b. cond b (1 + prefix_len is_ascii_digit (take m xs ++ r)) 0) first.0 ∙ omega (arith, rest)
 
-by_zero : (x m : ℕ) (xs : List ℕ) (b : Bool) → (b ≡ true → m ≡ 0) → after_digits (x ∷ take m xs) ≡ Some []
-    → cond b (Some (take m xs)) (after_digits (x ∷ take m xs)) ≡ Some []
-by_zero x m xs true h e = ap (λ k. Some (take k xs)) (h refl)
-by_zero x m xs false h e = e
+passed : (xs : List ℕ) (m : ℕ) (r : List ℕ) → m ≤ prefix_len is_ascii_digit xs → drop m (take m xs ++ r) ≡ r
+passed xs zero r h = refl
+passed [] (suc m) r h = absurd (omega arith)
+passed (x ∷ xs) (suc m) r h =
+    passed xs m r (first_passes (is_ascii_digit x) (prefix_len is_ascii_digit xs) m h).1
 
-whole_end : (xs : List ℕ) (n : ℕ) → 0 < n → n ≤ prefix_len is_ascii_digit xs → (get_or xs 0 0 ≡ 48 → n ≤ 1)
-    → after_whole (take n xs) ≡ Some []
-whole_end xs zero some h led = absurd (omega arith)
-whole_end [] (suc m) some h led = absurd (omega arith)
-whole_end (x ∷ xs) (suc m) some h led =
-    by_zero x m xs (x == 48) (λ e. omega (arith, led (eqb-true x 48 e))) (digits_end x m xs h)
+pub digits_then : (xs : List ℕ) (m : ℕ) (r : List ℕ) → 0 < m → m ≤ prefix_len is_ascii_digit xs → NoDigit r
+    → after_digits (take m xs ++ r) ≡ Some r
+digits_then xs m r some h n =
+    let all = take m xs ++ r in
+    ap (λ k. cond (k == 0) None (Some (drop k all))) (counted xs m r h n)
+    ∙ ap (λ b. cond b None (Some (drop m all))) (ne_eqb m 0 (λ e. omega arith)) ∙ ap Some (passed xs m r h)
+
+by_zero : (x m : ℕ) (xs r : List ℕ) (b : Bool) → (b ≡ true → m ≡ 0)
+    → after_digits (x ∷ (take m xs ++ r)) ≡ Some r
+    → cond b (Some (take m xs ++ r)) (after_digits (x ∷ (take m xs ++ r))) ≡ Some r
+by_zero x m xs r true h e = ap (λ k. Some (take k xs ++ r)) (h refl)
+by_zero x m xs r false h e = e
+
+pub whole_then : (xs : List ℕ) (m : ℕ) (r : List ℕ) → 0 < m → m ≤ prefix_len is_ascii_digit xs
+    → (get_or xs 0 0 ≡ 48 → m ≤ 1) → NoDigit r → after_whole (take m xs ++ r) ≡ Some r
+whole_then xs zero r some h led n = absurd (omega arith)
+whole_then [] (suc m) r some h led n = absurd (omega arith)
+whole_then (x ∷ xs) (suc m) r some h led n =
+    by_zero x m xs r (x == 48) (λ e. omega (arith, led (eqb-true x 48 e)))
+    (digits_then (x ∷ xs) (suc m) r some h n)
+
+digit_no_e : (x : ℕ) → is_ascii_digit x ≡ true → is_no_e x ≡ true
+digit_no_e x h =
+    let most : x ≤ 57 = leb-true x 57 (and_parts (nat_le 48 x) (nat_le x 57) h).1 in
+    rw (ne_eqb x 101 (λ e. omega arith), ne_eqb x 69 (λ e. omega arith)) refl
+
+pub digits_no_e : (xs : List ℕ) (m : ℕ) → m ≤ prefix_len is_ascii_digit xs → list_all is_no_e (take m xs) ≡ true
+digits_no_e xs zero h = refl
+digits_no_e [] (suc m) h = refl
+digits_no_e (x ∷ xs) (suc m) h =
+    let first = first_passes (is_ascii_digit x) (prefix_len is_ascii_digit xs) m h in
+    both_true _ _ (digit_no_e x first.0) (digits_no_e xs m first.1)
 
 first_digit : (xs : List ℕ) → 0 < prefix_len is_ascii_digit xs → is_ascii_digit (get_or xs 0 0) ≡ true
 first_digit [] h = absurd (omega arith)
@@ -109,60 +128,7 @@ digits_are line from end is inside some few led =
       inside = inside;
       few = few_digits (drop from line) (end - from) (omega arith) few (omega (arith, length-drop from line))
           (omega arith) zero_alone;
-      whole = whole_end (drop from line) (end - from) (omega arith) (omega arith) zero_alone;
+      passes = λ r. whole_then (drop from line) (end - from) r (omega arith) (omega arith) zero_alone;
+      no_e = digits_no_e (drop from line) (end - from) (omega arith);
       first = ap is_ascii_digit (sym first) ∙ first_digit (drop from line) (omega arith);
     }
-
--- ---- the numbers
-
-then_nothing : (t : List ℕ) → after_whole t ≡ Some []
-    → option_and_then after_exponent (option_and_then after_fraction (after_whole t)) ≡ Some []
-then_nothing t e = ap (λ o. option_and_then after_exponent (option_and_then after_fraction o)) e
-
-no_minus : (x : ℕ) → is_ascii_digit x ≡ true → (x == 45) ≡ false
-no_minus x h = ne_eqb x 45 (λ e. true≢false (sym h ∙ ap is_ascii_digit e))
-
-head_of : (xs : List ℕ) (n : ℕ) → 0 < n → 0 < length xs → head (take n xs) ≡ get_or xs 0 0
-head_of xs zero h some = absurd (omega arith)
-head_of [] (suc n) h some = absurd (omega arith)
-head_of (x ∷ xs) (suc n) h some = refl
-
-pub unsigned_number : (line : List ℕ) (from end : ℕ) → IsDigits line from end
-    → IsNumber (piece line from (end - from)) × (is_short_whole (piece line from (end - from)) ≡ true)
-unfolding after_number
-unsigned_number line from end d =
-    let s = piece line from (end - from) in
-    let start : get_or (drop from line) 0 0 ≡ get_or line from 0 = get_or-drop from line 0 0
-    ∙ ap (λ i. get_or line i 0) (add-zero from) in
-    let front : head s ≡ get_or line from 0 = head_of (drop from line) (end - from) (omega (arith, d.ordered))
-    (omega (arith, length-drop from line, d.ordered, d.inside)) ∙ start in
-    let index : slice_index s 0 ≡ get_or line from 0 =
-    front_of (drop from line) (end - from) (omega (arith, d.ordered)) ∙ start in (
-      ap (λ b. option_and_then after_exponent (option_and_then after_fraction
-          (after_whole (cond b (drop 1 s) s)))) (ap (λ x. x == 45) front ∙ no_minus _ d.first)
-          ∙ then_nothing s d.whole,
-      ap (λ b. if b then are_few_digits (drop 1 s) && not (slice_index (drop 1 s) 0 == 48)
-          else are_few_digits s) (ap (λ x. x == 45) index ∙ no_minus _ d.first) ∙ d.few,
-    )
-
-minus_piece : (line : List ℕ) (at end : ℕ) → at < length line → at + 1 < end → get_or line at 0 ≡ 45
-    → piece line at (end - at) ≡ 45 ∷ piece line (at + 1) (end - (at + 1))
-minus_piece line at end within h e =
-    let n : end - at ≡ suc (end - (at + 1)) = omega arith in
-    ap₂ take n (byte_then line at 45 within e)
-
-pub negative_number : (line : List ℕ) (at end : ℕ) → at < length line → get_or line at 0 ≡ 45
-    → IsDigits line (at + 1) end → (get_or line (at + 1) 0 == 48) ≡ false
-    → IsNumber (piece line at (end - at)) × (is_short_whole (piece line at (end - at)) ≡ true)
-unfolding after_number
-negative_number line at end within minus d some =
-    let s = piece line (at + 1) (end - (at + 1)) in
-    let whole = minus_piece line at end within d.ordered minus in
-    let start : get_or (drop (at + 1) line) 0 0 ≡ get_or line (at + 1) 0 = get_or-drop (at + 1) line 0 0
-    ∙ ap (λ i. get_or line i 0) (add-zero (at + 1)) in
-    let index : slice_index s 0 ≡ get_or line (at + 1) 0 =
-    front_of (drop (at + 1) line) (end - (at + 1)) (omega (arith, d.ordered)) ∙ start in
-    let other : not (slice_index s 0 == 48) ≡ true = ap (λ x. not (x == 48)) index ∙ ap not some in (
-      subst IsNumber (sym whole) (then_nothing s d.whole),
-      ap is_short_whole whole ∙ both_true _ _ d.few other,
-    )

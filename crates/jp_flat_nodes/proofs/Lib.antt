@@ -7,3 +7,4 @@ mod OneNode
 mod Loops
 mod WholeLine
 mod LaidNodes
+mod Fractions

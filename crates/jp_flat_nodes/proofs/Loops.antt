@@ -1,12 +1,12 @@
 -- Items and members that are read one after another.
-use Rattle.std.proofs.Common.{◌≡◌, ℕ, ◌+◌, ◌<◌, ◌≤◌, true, false, List, [], ◌∷◌, ◌++◌, length}
+use Rattle.std.proofs.Common.{◌≡◌, ℕ, ◌+◌, ◌<◌, ◌≤◌, Bool, true, false, List, [], ◌∷◌, ◌++◌, length}
 use Rattle.std.proofs.Common.{drop, get_or, set, refl, sym, ap, ◌∙◌, subst, arith, append_assoc}
 use Rattle.json.specs.Json.{Json, array, object, Items, no_items, item, Members, no_members, member}
 use Rattle.json.specs.Token.{Token, begin_array, end_array, begin_object, end_object, key}
 use Rattle.json.specs.Tree as tree
 use Rattle.json.specs.Tree.{json_tokens, items_tokens, members_tokens, HasNumbers, ItemsHaveNumbers}
 use Rattle.json.specs.Tree.{MembersHaveNumbers}
-use Rattle.jp_flat_nodes.specs.Nodes.{are_short_whole, items_are_short_whole, members_are_short_whole}
+use Rattle.jp_flat_nodes.specs.Nodes.{are_taken, items_are_taken, members_are_taken}
 use Rattle.jp_flat_nodes.specs.inner.Reads.{Grows, Prints, Reads, ReadsKey, ended, begin}
 use Rattle.jp_flat_nodes.specs.declared.node.Node.{Node}
 use Rattle.jp_flat_nodes.specs.declared.node.Node.TheVariants.{Object, EndObject, Array, EndArray}
@@ -70,19 +70,19 @@ all_text line start cursor end stop bracket last opened now made ts j s some tex
 
 -- ---- items
 
-pub record ItemsSoFar (line : List ℕ) (start cursor depth : ℕ) (opened now : List Node) : Type 0 where
+pub record ItemsSoFar (line : List ℕ) (decimals : Bool) (start cursor depth : ℕ) (opened now : List Node) : Type 0 where
   pub made : List Token
   pub so_far : SoFar line start cursor begin_array opened now made
   pub whole : Items → Items
   pub tokens : (js : Items) → made ++ items_tokens js ≡ items_tokens (whole js)
   pub nests : (js : Items) → tree.items_depth js ≤ depth → tree.items_depth (whole js) ≤ depth
   pub numbers : (js : Items) → ItemsHaveNumbers js → ItemsHaveNumbers (whole js)
-  pub short : (js : Items) → items_are_short_whole js ≡ true → items_are_short_whole (whole js) ≡ true
+  pub short : (js : Items) → items_are_taken decimals js ≡ true → items_are_taken decimals (whole js) ≡ true
 
-pub items_begin : (line : List ℕ) (start cursor depth : ℕ) (opened : List Node)
+pub items_begin : (line : List ℕ) (decimals : Bool) (start cursor depth : ℕ) (opened : List Node)
     → start < length line → get_or line start 0 ≡ 91 → Blanks line (start + 1) cursor
-    → ItemsSoFar line start cursor depth opened opened
-items_begin line start cursor depth opened inside byte blanks = record {
+    → ItemsSoFar line decimals start cursor depth opened opened
+items_begin line decimals start cursor depth opened inside byte blanks = record {
   made = [];
   so_far = nothing_yet line start cursor begin_array opened
       (here line false start (start + 1) begin_array refl (byte_then line start 91 inside byte)) refl blanks;
@@ -93,11 +93,11 @@ items_begin line start cursor depth opened inside byte blanks = record {
   short = λ js h. h;
 }
 
-pub items_more : (line : List ℕ) (start cursor end next depth : ℕ) (opened now new : List Node)
-    → ItemsSoFar line start cursor depth opened now → Reads line cursor end depth now new
+pub items_more : (line : List ℕ) (decimals : Bool) (start cursor end next depth : ℕ) (opened now new : List Node)
+    → ItemsSoFar line decimals start cursor depth opened now → Reads line decimals cursor end depth now new
     → drop end line ≡ 44 ∷ drop (end + 1) line → Blanks line (end + 1) next
-    → ItemsSoFar line start next depth opened new
-items_more line start cursor end next depth opened now new s v comma blanks = record {
+    → ItemsSoFar line decimals start next depth opened new
+items_more line decimals start cursor end next depth opened now new s v comma blanks = record {
   made = s.made ++ json_tokens v.value;
   so_far = one_more line start cursor end next begin_array opened now new s.made [] v.value s.so_far
       (value_begins v.value) v.later v.text v.grows comma blanks;
@@ -105,17 +105,17 @@ items_more line start cursor end next depth opened now new s v comma blanks = re
   tokens = λ js. append_assoc s.made (json_tokens v.value) (items_tokens js) ∙ s.tokens (item v.value js);
   nests = λ js h. s.nests (item v.value js) (omega (arith, v.nests));
   numbers = λ js h. s.numbers (item v.value js) (v.numbers, h);
-  short = λ js h. s.short (item v.value js) (both_true _ _ v.whole h);
+  short = λ js h. s.short (item v.value js) (both_true _ _ v.taken h);
 }
 
 -- the array of no items
-pub no_items_close : (line : List ℕ) (start cursor depth : ℕ) (old opened final : List Node) (place : ℕ)
+pub no_items_close : (line : List ℕ) (decimals : Bool) (start cursor depth : ℕ) (old opened final : List Node) (place : ℕ)
     → start < length line → get_or line start 0 ≡ 91 → Blanks line (start + 1) cursor
     → cursor < length line → get_or line cursor 0 ≡ 93
     → place ≡ length old → opened ≡ old ++ (Array 0 ∷ [])
     → final ≡ set (opened ++ (EndArray ∷ [])) place (Array (length opened + 1))
-    → Reads line start (cursor + 1) (depth + 1) old final
-no_items_close line start cursor depth old opened final place inside byte blanks within closing at begun made =
+    → Reads line decimals start (cursor + 1) (depth + 1) old final
+no_items_close line decimals start cursor depth old opened final place inside byte blanks within closing at begun made =
     let text = both line false start (start + 1) (cursor + 1) (begin_array ∷ []) (end_array ∷ [])
     (here line false start (start + 1) begin_array refl (byte_then line start 91 inside byte))
     (one line false (start + 1) cursor (cursor + 1) end_array refl blanks
@@ -124,7 +124,7 @@ no_items_close line start cursor depth old opened final place inside byte blanks
       value = array no_items;
       later = omega (arith, blanks.later);
       numbers = tt;
-      whole = refl;
+      taken = refl;
       nests = omega arith;
       text = text;
       grows = closes line old opened opened final place (array no_items) (record {
@@ -144,13 +144,13 @@ no_items_close line start cursor depth old opened final place inside byte blanks
       });
     }
 
-pub items_close : (line : List ℕ) (start cursor end stop depth : ℕ) (old opened now new final : List Node)
-    (place : ℕ) → ItemsSoFar line start cursor depth opened now → Reads line cursor end depth now new
+pub items_close : (line : List ℕ) (decimals : Bool) (start cursor end stop depth : ℕ) (old opened now new final : List Node)
+    (place : ℕ) → ItemsSoFar line decimals start cursor depth opened now → Reads line decimals cursor end depth now new
     → Blanks line end stop → stop < length line → get_or line stop 0 ≡ 93
     → place ≡ length old → opened ≡ old ++ (Array 0 ∷ [])
     → final ≡ set (new ++ (EndArray ∷ [])) place (Array (length new + 1))
-    → Reads line start (stop + 1) (depth + 1) old final
-items_close line start cursor end stop depth old opened now new final place s v blanks within closing at begun
+    → Reads line decimals start (stop + 1) (depth + 1) old final
+items_close line decimals start cursor end stop depth old opened now new final place s v blanks within closing at begun
     made =
     let js = s.whole (item v.value no_items) in
     let inner = s.made ++ json_tokens v.value in
@@ -163,7 +163,7 @@ items_close line start cursor end stop depth old opened now new final place s v 
       value = array js;
       later = omega (arith, s.so_far.later, v.later, blanks.later);
       numbers = s.numbers (item v.value no_items) (v.numbers, tt);
-      whole = s.short (item v.value no_items) (both_true _ _ v.whole refl);
+      taken = s.short (item v.value no_items) (both_true _ _ v.taken refl);
       nests = omega (arith, s.nests (item v.value no_items) (omega (arith, v.nests)));
       text = subst (λ ts. Prints line false start (stop + 1) (begin_array ∷ ts)) tokens text;
       grows = closes line old opened new final place (array js) (record {
@@ -185,19 +185,19 @@ items_close line start cursor end stop depth old opened now new final place s v 
 
 -- ---- members
 
-pub record MembersSoFar (line : List ℕ) (start cursor depth : ℕ) (opened now : List Node) : Type 0 where
+pub record MembersSoFar (line : List ℕ) (decimals : Bool) (start cursor depth : ℕ) (opened now : List Node) : Type 0 where
   pub made : List Token
   pub so_far : SoFar line start cursor begin_object opened now made
   pub whole : Members → Members
   pub tokens : (ms : Members) → made ++ members_tokens ms ≡ members_tokens (whole ms)
   pub nests : (ms : Members) → tree.members_depth ms ≤ depth → tree.members_depth (whole ms) ≤ depth
   pub numbers : (ms : Members) → MembersHaveNumbers ms → MembersHaveNumbers (whole ms)
-  pub short : (ms : Members) → members_are_short_whole ms ≡ true → members_are_short_whole (whole ms) ≡ true
+  pub short : (ms : Members) → members_are_taken decimals ms ≡ true → members_are_taken decimals (whole ms) ≡ true
 
-pub members_begin : (line : List ℕ) (start cursor depth : ℕ) (opened : List Node)
+pub members_begin : (line : List ℕ) (decimals : Bool) (start cursor depth : ℕ) (opened : List Node)
     → start < length line → get_or line start 0 ≡ 123 → Blanks line (start + 1) cursor
-    → MembersSoFar line start cursor depth opened opened
-members_begin line start cursor depth opened inside byte blanks = record {
+    → MembersSoFar line decimals start cursor depth opened opened
+members_begin line decimals start cursor depth opened inside byte blanks = record {
   made = [];
   so_far = nothing_yet line start cursor begin_object opened
       (here line false start (start + 1) begin_object refl (byte_then line start 123 inside byte)) refl blanks;
@@ -209,36 +209,36 @@ members_begin line start cursor depth opened inside byte blanks = record {
 }
 
 -- a name and its value
-pub record ReadsMember (line : List ℕ) (at end depth : ℕ) (old new : List Node) : Type 0 where
+pub record ReadsMember (line : List ℕ) (decimals : Bool) (at end depth : ℕ) (old new : List Node) : Type 0 where
   pub name : List ℕ
   pub value : Json
   pub later : at < end
   pub numbers : HasNumbers value
-  pub short : are_short_whole value ≡ true
+  pub short : are_taken decimals value ≡ true
   pub nests : tree.depth value ≤ depth
   pub text : Prints line false at end (key name ∷ json_tokens value)
   pub grows : Grows line old new (key name ∷ json_tokens value)
 
-pub member_read : (line : List ℕ) (at inside from end depth : ℕ) (old mid new : List Node)
-    → ReadsKey line at inside old mid → Blanks line inside from → Reads line from end depth mid new
-    → ReadsMember line at end depth old new
-member_read line at inside from end depth old mid new k blanks v = record {
+pub member_read : (line : List ℕ) (decimals : Bool) (at inside from end depth : ℕ) (old mid new : List Node)
+    → ReadsKey line at inside old mid → Blanks line inside from → Reads line decimals from end depth mid new
+    → ReadsMember line decimals at end depth old new
+member_read line decimals at inside from end depth old mid new k blanks v = record {
   name = k.name;
   value = v.value;
   later = omega (arith, k.later, blanks.later, v.later);
   numbers = v.numbers;
-  short = v.whole;
+  short = v.taken;
   nests = v.nests;
   text = both line false at inside end (key k.name ∷ []) (json_tokens v.value) k.text
       (behind line inside from end (json_tokens v.value) (value_begins v.value) blanks v.text);
   grows = then_more line old mid new (key k.name ∷ []) (json_tokens v.value) k.grows v.grows;
 }
 
-pub members_more : (line : List ℕ) (start cursor end next depth : ℕ) (opened now new : List Node)
-    → MembersSoFar line start cursor depth opened now → ReadsMember line cursor end depth now new
+pub members_more : (line : List ℕ) (decimals : Bool) (start cursor end next depth : ℕ) (opened now new : List Node)
+    → MembersSoFar line decimals start cursor depth opened now → ReadsMember line decimals cursor end depth now new
     → drop end line ≡ 44 ∷ drop (end + 1) line → Blanks line (end + 1) next
-    → MembersSoFar line start next depth opened new
-members_more line start cursor end next depth opened now new s m comma blanks =
+    → MembersSoFar line decimals start next depth opened new
+members_more line decimals start cursor end next depth opened now new s m comma blanks =
     let more = key m.name ∷ json_tokens m.value in
     record {
       made = s.made ++ more;
@@ -252,13 +252,13 @@ members_more line start cursor end next depth opened now new s m comma blanks =
     }
 
 -- the object of no members
-pub no_members_close : (line : List ℕ) (start cursor depth : ℕ) (old opened final : List Node) (place : ℕ)
+pub no_members_close : (line : List ℕ) (decimals : Bool) (start cursor depth : ℕ) (old opened final : List Node) (place : ℕ)
     → start < length line → get_or line start 0 ≡ 123 → Blanks line (start + 1) cursor
     → cursor < length line → get_or line cursor 0 ≡ 125
     → place ≡ length old → opened ≡ old ++ (Object 0 ∷ [])
     → final ≡ set (opened ++ (EndObject ∷ [])) place (Object (length opened + 1))
-    → Reads line start (cursor + 1) (depth + 1) old final
-no_members_close line start cursor depth old opened final place inside byte blanks within closing at begun made =
+    → Reads line decimals start (cursor + 1) (depth + 1) old final
+no_members_close line decimals start cursor depth old opened final place inside byte blanks within closing at begun made =
     let text = both line false start (start + 1) (cursor + 1) (begin_object ∷ []) (end_object ∷ [])
     (here line false start (start + 1) begin_object refl (byte_then line start 123 inside byte))
     (one line false (start + 1) cursor (cursor + 1) end_object refl blanks
@@ -267,7 +267,7 @@ no_members_close line start cursor depth old opened final place inside byte blan
       value = object no_members;
       later = omega (arith, blanks.later);
       numbers = tt;
-      whole = refl;
+      taken = refl;
       nests = omega arith;
       text = text;
       grows = closes line old opened opened final place (object no_members) (record {
@@ -287,13 +287,13 @@ no_members_close line start cursor depth old opened final place inside byte blan
       });
     }
 
-pub members_close : (line : List ℕ) (start cursor end stop depth : ℕ) (old opened now new final : List Node)
-    (place : ℕ) → MembersSoFar line start cursor depth opened now → ReadsMember line cursor end depth now new
+pub members_close : (line : List ℕ) (decimals : Bool) (start cursor end stop depth : ℕ) (old opened now new final : List Node)
+    (place : ℕ) → MembersSoFar line decimals start cursor depth opened now → ReadsMember line decimals cursor end depth now new
     → Blanks line end stop → stop < length line → get_or line stop 0 ≡ 125
     → place ≡ length old → opened ≡ old ++ (Object 0 ∷ [])
     → final ≡ set (new ++ (EndObject ∷ [])) place (Object (length new + 1))
-    → Reads line start (stop + 1) (depth + 1) old final
-members_close line start cursor end stop depth old opened now new final place s m blanks within closing at begun
+    → Reads line decimals start (stop + 1) (depth + 1) old final
+members_close line decimals start cursor end stop depth old opened now new final place s m blanks within closing at begun
     made =
     let ms = s.whole (member m.name m.value no_members) in
     let more = key m.name ∷ json_tokens m.value in
@@ -306,7 +306,7 @@ members_close line start cursor end stop depth old opened now new final place s 
       value = object ms;
       later = omega (arith, s.so_far.later, m.later, blanks.later);
       numbers = s.numbers (member m.name m.value no_members) (m.numbers, tt);
-      whole = s.short (member m.name m.value no_members) (both_true _ _ m.short refl);
+      taken = s.short (member m.name m.value no_members) (both_true _ _ m.short refl);
       nests = omega (arith, s.nests (member m.name m.value no_members) (omega (arith, m.nests)));
       text = subst (λ ts. Prints line false start (stop + 1) (begin_object ∷ ts)) tokens text;
       grows = closes line old opened new final place (object ms) (record {

@@ -1,5 +1,5 @@
 -- A line that is one value's text, and its nodes.
-use Rattle.std.proofs.Common.{◌≡◌, ℕ, ◌+◌, ◌<◌, ◌≤◌, false, List, [], ◌∷◌, ◌++◌, length, drop}
+use Rattle.std.proofs.Common.{◌≡◌, ℕ, ◌+◌, ◌<◌, ◌≤◌, Bool, false, List, [], ◌∷◌, ◌++◌, length, drop}
 use Rattle.std.proofs.Common.{option_map, option_and_then, Some, refl, sym, ap, ◌∙◌, subst, arith, append-nil}
 use Rattle.std.proofs.Common.{length-append, append_assoc}
 use Rattle.std.proofs.lemmas.List.{drop_all}
@@ -52,10 +52,10 @@ passes all i end s =
     )
 
 -- the line is a value's text, behind blanks
-pub whole_line : (line : List ℕ) (from end : ℕ) (empty nodes : List Node) → Blanks line 0 from
-    → Reads line from end 127 empty nodes → end ≡ length line → empty ≡ [] → length nodes ≤ 16777218
-    → IsRead line nodes
-whole_line line from end empty nodes blanks r all none few =
+pub whole_line : (line : List ℕ) (decimals : Bool) (from end : ℕ) (empty nodes : List Node) → Blanks line 0 from
+    → Reads line decimals from end 127 empty nodes → end ≡ length line → empty ≡ [] → length nodes ≤ 16777218
+    → IsRead decimals line nodes
+whole_line line decimals from end empty nodes blanks r all none few =
     let p = behind line 0 from end (json_tokens r.value) (value_begins r.value) blanks r.text in
     let printed = ArePrintable-json_tokens r.value r.numbers in
     let rest : drop end line ≡ [] = drop_all end line (omega arith) in
@@ -70,7 +70,7 @@ whole_line line from end empty nodes blanks r all none few =
       is = document_is r.value (tokens line) spelled r.nests;
       spelled = r.numbers;
       nests = r.nests;
-      numbers = r.whole;
+      numbers = r.taken;
       are = are;
       linked = λ i e link. subst (λ ts. Passes ts i e) are (passes (tokens_at line nodes) i e
           (r.grows.linked i e (omega (arith, ap length none)) link));

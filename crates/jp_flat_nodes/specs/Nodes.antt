@@ -10,7 +10,7 @@ use Rattle.json.specs.Token.{Token, begin_object, end_object, begin_array, end_a
 use Rattle.json.specs.Token.{boolean, null}
 use Rattle.json.specs.Tree as tree
 use Rattle.json.specs.Tree.{HasNumbers}
-use Rattle.jp_flat_nodes.specs.Digits.{is_short_whole}
+use Rattle.jp_flat_nodes.specs.Digits.{is_taken}
 use Rattle.jp_flat_nodes.specs.declared.node.Node.{Node}
 use Rattle.jp_flat_nodes.specs.declared.node.Node.TheVariants.{Object, EndObject, Array, EndArray, Key, Text}
 use Rattle.jp_flat_nodes.specs.declared.node.Node.TheVariants.{Number, Truth, Null}
@@ -65,32 +65,32 @@ abbrev pub AreWithin : ℕ → List Node → Type 0
 AreWithin size [] = Unit {0}
 AreWithin size (n ∷ ns) = IsWithin size n × AreWithin size ns
 
--- each number of a value is a short whole one
+-- each number of a value is one that is read
 abbrev mutual
-  pub are_short_whole : Json → Bool
-  are_short_whole json.null = true
-  are_short_whole (json.boolean b) = true
-  are_short_whole (json.number s) = is_short_whole s
-  are_short_whole (json.string s) = true
-  are_short_whole (json.array js) = items_are_short_whole js
-  are_short_whole (json.object ms) = members_are_short_whole ms
+  pub are_taken : Bool → Json → Bool
+  are_taken d json.null = true
+  are_taken d (json.boolean b) = true
+  are_taken d (json.number s) = is_taken d s
+  are_taken d (json.string s) = true
+  are_taken d (json.array js) = items_are_taken d js
+  are_taken d (json.object ms) = members_are_taken d ms
 
-  pub items_are_short_whole : Items → Bool
-  items_are_short_whole no_items = true
-  items_are_short_whole (item j js) = are_short_whole j && items_are_short_whole js
+  pub items_are_taken : Bool → Items → Bool
+  items_are_taken d no_items = true
+  items_are_taken d (item j js) = are_taken d j && items_are_taken d js
 
-  pub members_are_short_whole : Members → Bool
-  members_are_short_whole no_members = true
-  members_are_short_whole (member k j ms) = are_short_whole j && members_are_short_whole ms
+  pub members_are_taken : Bool → Members → Bool
+  members_are_taken d no_members = true
+  members_are_taken d (member k j ms) = are_taken d j && members_are_taken d ms
 
 -- The line is the text of a value with such numbers, which nests no deeper than 127, and the nodes are its
 -- tokens.
-pub record IsRead (line : List ℕ) (nodes : List Node) : Type 0 where
+pub record IsRead (decimals : Bool) (line : List ℕ) (nodes : List Node) : Type 0 where
   pub value : Json
   pub is : document line ≡ Some value
   pub spelled : HasNumbers value
   pub nests : tree.depth value ≤ 127
-  pub numbers : are_short_whole value ≡ true
+  pub numbers : are_taken decimals value ≡ true
   pub are : tokens_at line nodes ≡ tokens line
   pub linked : AreLinked (tokens line) nodes
   pub within : AreWithin (length line) nodes

@@ -22,10 +22,16 @@ fn closing(line: &[u8], from: usize) -> usize
 
 /// Reads a text, which begins at a quote: the place behind it, or `REFUSED`.
 #[inline(always)]
-pub(crate) fn text(line: &[u8], at: usize, nodes: &mut Vec<Node>, depth: u32) -> usize
+pub(crate) fn text(
+    line: &[u8],
+    at: usize,
+    nodes: &mut Vec<Node>,
+    depth: u32,
+    decimals: bool,
+) -> usize
     requires { (length line.now < 2 ^ 32) × (get_or line.now at 0 ≡ 34) }
     ensures { result ≤ length line.now
-        → Reads line.now at result depth nodes.old.items nodes.new.items }
+        → Reads line.now decimals at result depth nodes.old.items nodes.new.items }
 {
     if at >= line.len() {
         return REFUSED;
@@ -73,10 +79,16 @@ fn goes_on(line: &[u8], at: usize, a: u8, b: u8, c: u8) -> bool
 
 /// Reads `true`, `false` or `null`: the place behind it, or `REFUSED`.
 #[inline(always)]
-pub(crate) fn literal(line: &[u8], at: usize, nodes: &mut Vec<Node>, depth: u32) -> usize
+pub(crate) fn literal(
+    line: &[u8],
+    at: usize,
+    nodes: &mut Vec<Node>,
+    depth: u32,
+    decimals: bool,
+) -> usize
     requires { length line.now < 2 ^ 32 }
     ensures { result ≤ length line.now
-        → Reads line.now at result depth nodes.old.items nodes.new.items }
+        → Reads line.now decimals at result depth nodes.old.items nodes.new.items }
 {
     if at >= line.len() {
         return REFUSED;

@@ -10,4 +10,4 @@ mod reading;
 
 pub use laying::lay;
 pub use node::{MAX_NODES, Node};
-pub use reading::read_line;
+pub use reading::{read_decimal_line, read_line};

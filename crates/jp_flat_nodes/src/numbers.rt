@@ -1,13 +1,20 @@
-//! Whole numbers.
+//! Numbers.
 
-ghost use Rattle.std.specs.Prelude.{◌≡◌, ◌≤◌, ◌<◌, ◌^◌, length, get_or};
-ghost use Rattle.jp_flat_nodes.specs.inner.Reads.{IsDigits, Reads};
+ghost use Rattle.std.specs.Prelude.{◌≡◌, ◌≤◌, ◌<◌, ◌^◌, true, length, get_or};
+ghost use Rattle.jp_flat_nodes.specs.inner.Reads.{IsDigits, IsExponent, IsFraction, IsUnsigned, Reads};
+ghost use Rattle.jp_flat_nodes.specs.inner.Reads.{behind_sign};
 
 use crate::bytes::{byte_at, digits_end};
 use crate::node::{Node, REFUSED, put};
 
-/// How many digits are read: whatever they are, the number has 64 bits.
+/// How many digits are read before the point: whatever they are, a whole number of them has 64 bits.
 const MAX_DIGITS: usize = 18;
+
+/// How many bytes a number with a fraction or an exponent has at most, and how many of them are its exponent:
+/// so it is within the limits of numbers.
+const MAX_BYTES: usize = 290;
+
+const MAX_EXPONENT: usize = 10;
 
 /// Where the digits end that begin here, or `REFUSED` where there are none or too many, or a zero stands
 /// before others.
@@ -26,47 +33,127 @@ fn whole_end(line: &[u8], from: usize) -> usize
     end
 }
 
+/// Where the fraction ends that begins here, if one does, or `REFUSED` where no digit is behind its point.
+fn fraction_end(line: &[u8], from: usize) -> usize
+    requires { (length line.now < 2 ^ 32) × (from ≤ length line.now) }
+    ensures { result ≤ length line.now → IsFraction line.now from result }
+{
+    if byte_at(line, from) != b'.' {
+        return from;
+    }
+    let end = digits_end(line, from + 1);
+    if end == from + 1 {
+        return REFUSED;
+    }
+    end
+}
+
+/// Where the digits of an exponent begin: here, or behind its sign.
+fn exponent_start(line: &[u8], from: usize) -> usize
+    requires { (length line.now < 2 ^ 32) × (from ≤ length line.now) }
+    ensures { (result ≡ behind_sign line.now from) × (result ≤ length line.now) }
+{
+    let first = byte_at(line, from);
+    if first == b'-' || first == b'+' {
+        from + 1
+    } else {
+        from
+    }
+}
+
+/// Where the exponent ends that begins here, if one does, or `REFUSED` where it has no digit or too many.
+fn exponent_end(line: &[u8], from: usize) -> usize
+    requires { (length line.now < 2 ^ 32) × (from ≤ length line.now) }
+    ensures { result ≤ length line.now → IsExponent line.now from result }
+{
+    let first = byte_at(line, from);
+    if first != b'e' && first != b'E' {
+        return from;
+    }
+    let start = exponent_start(line, from + 1);
+    let end = digits_end(line, start);
+    if end == start || end - from > MAX_EXPONENT {
+        return REFUSED;
+    }
+    end
+}
+
+/// Where the number ends of which the digits before the point end here, with a fraction and an exponent.
+fn written_end(line: &[u8], from: usize, whole: usize) -> usize
+    requires { (length line.now < 2 ^ 32) × (whole ≤ length line.now) × IsDigits line.now from whole }
+    ensures { result ≤ length line.now → IsUnsigned line.now true from result }
+{
+    let point = fraction_end(line, whole);
+    if point > line.len() {
+        return REFUSED;
+    }
+    let end = exponent_end(line, point);
+    if end > line.len() || end - from > MAX_BYTES {
+        return REFUSED;
+    }
+    end
+}
+
+/// Where the number ends that begins here with a digit, or `REFUSED`.
+#[inline(always)]
+fn unsigned_end(line: &[u8], from: usize, decimals: bool) -> usize
+    requires { (length line.now < 2 ^ 32) × (from ≤ length line.now) }
+    ensures { result ≤ length line.now → IsUnsigned line.now decimals from result }
+{
+    let whole = whole_end(line, from);
+    if !decimals || whole > line.len() {
+        return whole;
+    }
+    written_end(line, from, whole)
+}
+
 /// Reads a number that begins with a digit.
 #[inline(always)]
-fn unsigned(line: &[u8], at: usize, nodes: &mut Vec<Node>, depth: u32) -> usize
+fn unsigned(line: &[u8], at: usize, nodes: &mut Vec<Node>, depth: u32, decimals: bool) -> usize
     requires { (length line.now < 2 ^ 32) × (at ≤ length line.now) }
     ensures { result ≤ length line.now
-        → Reads line.now at result depth nodes.old.items nodes.new.items }
+        → Reads line.now decimals at result depth nodes.old.items nodes.new.items }
 {
-    let end = whole_end(line, at);
+    let end = unsigned_end(line, at, decimals);
     if end > line.len() {
         return REFUSED;
     }
     put(nodes, Node::Number(at as u32, (end - at) as u32), end)
 }
 
-/// Reads a number behind a minus, which is not 0: `-0` is no whole number.
+/// Reads a number behind a minus. It begins with no 0 where numbers are whole: `-0` is no whole number.
 #[inline(always)]
-fn negative(line: &[u8], at: usize, nodes: &mut Vec<Node>, depth: u32) -> usize
+fn negative(line: &[u8], at: usize, nodes: &mut Vec<Node>, depth: u32, decimals: bool) -> usize
     requires { (length line.now < 2 ^ 32) × (at < length line.now) × (get_or line.now at 0 ≡ 45) }
     ensures { result ≤ length line.now
-        → Reads line.now at result depth nodes.old.items nodes.new.items }
+        → Reads line.now decimals at result depth nodes.old.items nodes.new.items }
 {
-    let end = whole_end(line, at + 1);
-    if end > line.len() || byte_at(line, at + 1) == b'0' {
+    let end = unsigned_end(line, at + 1, decimals);
+    if end > line.len() || !decimals && byte_at(line, at + 1) == b'0' {
         return REFUSED;
     }
     put(nodes, Node::Number(at as u32, (end - at) as u32), end)
 }
 
-/// Reads a whole number of at most 18 digits: the place behind it, or `REFUSED`.
+/// Reads a number: the place behind it, or `REFUSED`.
 #[inline(always)]
-pub(crate) fn number(line: &[u8], at: usize, nodes: &mut Vec<Node>, depth: u32) -> usize
+pub(crate) fn number(
+    line: &[u8],
+    at: usize,
+    nodes: &mut Vec<Node>,
+    depth: u32,
+    decimals: bool,
+) -> usize
     requires { length line.now < 2 ^ 32 }
     ensures { result ≤ length line.now
-        → Reads line.now at result depth nodes.old.items nodes.new.items }
+        → Reads line.now decimals at result depth nodes.old.items nodes.new.items }
 {
     if at >= line.len() {
         return REFUSED;
     }
     if line[at] == b'-' {
-        negative(line, at, nodes, depth)
+        negative(line, at, nodes, depth, decimals)
     } else {
-        unsigned(line, at, nodes, depth)
+        unsigned(line, at, nodes, depth, decimals)
     }
 }

@@ -1,6 +1,6 @@
 //! The reading of a line in one pass.
 
-ghost use Rattle.std.specs.Prelude.{◌≡◌, ◌≤◌, ◌<◌, ◌+◌, ◌^◌, IsTrue, length, get_or};
+ghost use Rattle.std.specs.Prelude.{◌≡◌, ◌≤◌, ◌<◌, ◌+◌, ◌^◌, IsTrue, false, length, get_or, true};
 ghost use Rattle.jp_flat_nodes.specs.Nodes.{IsRead};
 ghost use Rattle.jp_flat_nodes.specs.inner.Reads.{Reads};
 
@@ -16,28 +16,28 @@ const MAX_DEPTH: u32 = 127;
 /// brackets may be open inside of it at most.
 #[cycle(reading)]
 #[inline(always)]
-fn value(line: &[u8], at: usize, nodes: &mut Vec<Node>, depth: u32) -> usize
+fn value(line: &[u8], at: usize, nodes: &mut Vec<Node>, depth: u32, decimals: bool) -> usize
     requires { length line.now < 2 ^ 32 }
     ensures { result ≤ length line.now
-        → Reads line.now at result depth nodes.old.items nodes.new.items }
+        → Reads line.now decimals at result depth nodes.old.items nodes.new.items }
 {
     match byte_at(line, at) {
-        b'"' => text(line, at, nodes, depth),
-        b'{' if depth > 0 => object(line, at, nodes, depth - 1),
-        b'[' if depth > 0 => array(line, at, nodes, depth - 1),
+        b'"' => text(line, at, nodes, depth, decimals),
+        b'{' if depth > 0 => object(line, at, nodes, depth - 1, decimals),
+        b'[' if depth > 0 => array(line, at, nodes, depth - 1, decimals),
         b'{' | b'[' => REFUSED,
-        b't' | b'f' | b'n' => literal(line, at, nodes, depth),
-        _ => number(line, at, nodes, depth),
+        b't' | b'f' | b'n' => literal(line, at, nodes, depth, decimals),
+        _ => number(line, at, nodes, depth, decimals),
     }
 }
 
 /// Reads an array, likewise.
 #[cycle(reading)]
 #[inline(never)]
-fn array(line: &[u8], at: usize, nodes: &mut Vec<Node>, depth: u32) -> usize
+fn array(line: &[u8], at: usize, nodes: &mut Vec<Node>, depth: u32, decimals: bool) -> usize
     requires { (length line.now < 2 ^ 32) × (get_or line.now at 0 ≡ 91) }
     ensures { result ≤ length line.now
-        → Reads line.now at result (depth + 1) nodes.old.items nodes.new.items }
+        → Reads line.now decimals at result (depth + 1) nodes.old.items nodes.new.items }
 {
     let place = nodes.len();
     if at >= line.len() || !push(nodes, Node::Array(0)) {
@@ -48,7 +48,7 @@ fn array(line: &[u8], at: usize, nodes: &mut Vec<Node>, depth: u32) -> usize
         return close_array(nodes, place, cursor + 1);
     }
     loop {
-        let end = value(line, cursor, nodes, depth);
+        let end = value(line, cursor, nodes, depth, decimals);
         let stop = blanks_end(line, end);
         match byte_at(line, stop) {
             b',' if stop == end => cursor = blanks_end(line, stop + 1),
@@ -61,10 +61,10 @@ fn array(line: &[u8], at: usize, nodes: &mut Vec<Node>, depth: u32) -> usize
 /// Reads an object, likewise.
 #[cycle(reading)]
 #[inline(never)]
-fn object(line: &[u8], at: usize, nodes: &mut Vec<Node>, depth: u32) -> usize
+fn object(line: &[u8], at: usize, nodes: &mut Vec<Node>, depth: u32, decimals: bool) -> usize
     requires { (length line.now < 2 ^ 32) × (get_or line.now at 0 ≡ 123) }
     ensures { result ≤ length line.now
-        → Reads line.now at result (depth + 1) nodes.old.items nodes.new.items }
+        → Reads line.now decimals at result (depth + 1) nodes.old.items nodes.new.items }
 {
     let place = nodes.len();
     if at >= line.len() || !push(nodes, Node::Object(0)) {
@@ -76,7 +76,7 @@ fn object(line: &[u8], at: usize, nodes: &mut Vec<Node>, depth: u32) -> usize
     }
     loop {
         let inside = key(line, cursor, nodes);
-        let end = value(line, blanks_end(line, inside), nodes, depth);
+        let end = value(line, blanks_end(line, inside), nodes, depth, decimals);
         let stop = blanks_end(line, end);
         match byte_at(line, stop) {
             b',' if stop == end => cursor = blanks_end(line, stop + 1),
@@ -86,6 +86,20 @@ fn object(line: &[u8], at: usize, nodes: &mut Vec<Node>, depth: u32) -> usize
     }
 }
 
+/// Reads a line, with numbers of every kind or with whole ones alone.
+fn read_with(line: &[u8], nodes: &mut Vec<Node>, decimals: bool) -> bool
+    requires { length line.now < 2 ^ 32 }
+    ensures { IsTrue result → IsRead decimals line.now nodes.new.items }
+{
+    nodes.clear();
+    // A node for each eight bytes is about what a line has: so few growths are the rule.
+    if nodes.reserve(line.len() / 8).is_err() {
+        return false;
+    }
+    let end = value(line, blanks_end(line, 0), nodes, MAX_DEPTH, decimals);
+    end == line.len() && nodes.len() <= MAX_NODES
+}
+
 /// Whether the line was read, into the nodes that it has: one for each token of the line. `false` says
 /// nothing: of a line that holds no JSON text, that nests deeper than 127, in which some text has an escape
 /// or some number a fraction, an exponent or more than 18 digits, or in which some blank stands before a
@@ -93,13 +107,16 @@ fn object(line: &[u8], at: usize, nodes: &mut Vec<Node>, depth: u32) -> usize
 /// a node, or there would be more than `MAX_NODES`.
 pub fn read_line(line: &[u8], nodes: &mut Vec<Node>) -> bool
     requires { length line.now < 2 ^ 32 }
-    ensures { IsTrue result → IsRead line.now nodes.new.items }
+    ensures { IsTrue result → IsRead false line.now nodes.new.items }
 {
-    nodes.clear();
-    // A node for each eight bytes is about what a line has: so few growths are the rule.
-    if nodes.reserve(line.len() / 8).is_err() {
-        return false;
-    }
-    let end = value(line, blanks_end(line, 0), nodes, MAX_DEPTH);
-    end == line.len() && nodes.len() <= MAX_NODES
+    read_with(line, nodes, false)
+}
+
+/// The same where numbers may have a fraction and an exponent: `false` where one has more than 18 digits
+/// before its point, more than 300 bytes, or an exponent of more than 10.
+pub fn read_decimal_line(line: &[u8], nodes: &mut Vec<Node>) -> bool
+    requires { length line.now < 2 ^ 32 }
+    ensures { IsTrue result → IsRead true line.now nodes.new.items }
+{
+    read_with(line, nodes, true)
 }

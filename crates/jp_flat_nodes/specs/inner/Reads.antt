@@ -1,16 +1,17 @@
 -- What the reading of a part of a line has found: a working file, which nobody has to believe.
 use Rattle.std.specs.Prelude.{◌≡◌, ℕ, ◌+◌, ◌-◌, ◌≤◌, ◌<◌, Bool, true, false, ◌||◌, ◌==◌, List, [], ◌∷◌, ◌++◌}
-use Rattle.std.specs.Prelude.{map, fold, length, drop, get_or, Some}
+use Rattle.std.specs.Prelude.{◌⊎◌, cond, map, fold, length, take, drop, get_or, Some, option_and_then}
 use Rattle.std.specs.Char.{is_ascii_digit}
+use Rattle.std.specs.List.{list_all, prefix_len}
 use Rattle.json.specs.Json.{Json}
 use Rattle.json.specs.Print.{begins, ends, escape}
 use Rattle.json.specs.Spaced.{AreGaps, print_spaced}
 use Rattle.json.specs.Token.{Token, key}
 use Rattle.json.specs.Tree as tree
 use Rattle.json.specs.Tree.{json_tokens, HasNumbers}
-use Rattle.json.specs.Word.{after_whole}
-use Rattle.jp_flat_nodes.specs.Digits.{are_few_digits}
-use Rattle.jp_flat_nodes.specs.Nodes.{piece, tokens_at, link_of, AreWithin, are_short_whole}
+use Rattle.json.specs.Word.{head, after_whole, after_fraction, after_exponent}
+use Rattle.jp_flat_nodes.specs.Digits.{are_few_digits, is_no_e}
+use Rattle.jp_flat_nodes.specs.Nodes.{piece, tokens_at, link_of, AreWithin, are_taken}
 use Rattle.jp_flat_nodes.specs.declared.node.Node.{Node}
 use Rattle.jp_flat_nodes.specs.declared.node.Node.TheVariants.{Null}
 
@@ -61,11 +62,11 @@ begin [] = false
 begin (t ∷ ts) = begins t
 
 -- the line from `at` on is a value's text, and goes on at `end`; the nodes have its tokens more
-pub record Reads (line : List ℕ) (at end depth : ℕ) (old new : List Node) : Type 0 where
+pub record Reads (line : List ℕ) (decimals : Bool) (at end depth : ℕ) (old new : List Node) : Type 0 where
   pub value : Json
   pub later : at < end
   pub numbers : HasNumbers value
-  pub whole : are_short_whole value ≡ true
+  pub taken : are_taken decimals value ≡ true
   pub nests : tree.depth value ≤ depth
   pub text : Prints line false at end (json_tokens value)
   pub grows : Grows line old new (json_tokens value)
@@ -89,5 +90,44 @@ pub record IsDigits (line : List ℕ) (from end : ℕ) : Type 0 where
   pub ordered : from < end
   pub inside : end ≤ length line
   pub few : are_few_digits (piece line from (end - from)) ≡ true
-  pub whole : after_whole (piece line from (end - from)) ≡ Some []
+  pub passes : (r : List ℕ) → is_ascii_digit (head r) ≡ false
+      → after_whole (piece line from (end - from) ++ r) ≡ Some r
+  pub no_e : list_all is_no_e (piece line from (end - from)) ≡ true
   pub first : is_ascii_digit (get_or line from 0) ≡ true
+
+-- from one place to another stands nothing, or a point and digits
+pub record IsPoint (line : List ℕ) (from end : ℕ) : Type 0 where
+  pub point : get_or line from 0 ≡ 46
+  pub some : from + 1 < end
+  pub inside : end ≤ length line
+  pub digits : end - (from + 1) ≤ prefix_len is_ascii_digit (drop (from + 1) line)
+
+abbrev pub IsFraction : List ℕ → ℕ → ℕ → Type 0
+IsFraction line from end = (end ≡ from) ⊎ IsPoint line from end
+
+-- where the digits of an exponent begin, behind its sign if there is one
+abbrev pub behind_sign : List ℕ → ℕ → ℕ
+behind_sign line from = from + cond ((get_or line from 0 == 45) || (get_or line from 0 == 43)) 1 0
+
+-- from one place to another stands nothing, or an `e` and the digits of an exponent, ten bytes at most
+pub record IsPower (line : List ℕ) (from end : ℕ) : Type 0 where
+  pub letter : ((get_or line from 0 == 101) || (get_or line from 0 == 69)) ≡ true
+  pub some : behind_sign line (from + 1) < end
+  pub inside : end ≤ length line
+  pub few : end - from ≤ 10
+  pub digits : end - behind_sign line (from + 1)
+      ≤ prefix_len is_ascii_digit (drop (behind_sign line (from + 1)) line)
+
+abbrev pub IsExponent : List ℕ → ℕ → ℕ → Type 0
+IsExponent line from end = (end ≡ from) ⊎ IsPower line from end
+
+-- a number that begins with a digit, as it is read
+pub record IsUnsigned (line : List ℕ) (decimals : Bool) (from end : ℕ) : Type 0 where
+  pub ordered : from < end
+  pub inside : end ≤ length line
+  pub first : is_ascii_digit (get_or line from 0) ≡ true
+  pub grammar : option_and_then after_exponent (option_and_then after_fraction
+      (after_whole (piece line from (end - from)))) ≡ Some []
+  pub few : decimals ≡ false → are_few_digits (piece line from (end - from)) ≡ true
+  pub short : decimals ≡ true → end - from ≤ 290
+  pub plain : decimals ≡ true → list_all is_no_e (take (end - from - 10) (piece line from (end - from))) ≡ true

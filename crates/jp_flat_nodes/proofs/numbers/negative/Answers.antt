@@ -1,18 +1,25 @@
-use Rattle.std.proofs.Common.{◌∙◌, ◌-◌, ◌<◌, refl, sym, subst, arith, ne_eqb}
+use Rattle.std.proofs.Common.{◌≡◌, ◌∙◌, ◌-◌, ◌+◌, ◌<◌, ◌==◌, false, get_or, refl, sym, ap, subst, arith}
 use Rattle.jp_flat_nodes.specs.inner.Reads.{Reads}
-use Rattle.jp_flat_nodes.proofs.Digits.{negative_number}
+use Rattle.jp_flat_nodes.proofs.Fractions.{negative_number}
 use Rattle.jp_flat_nodes.proofs.OneNode.{number_leaf}
 use Rattle.jp_flat_nodes.proofs.numbers.negative.Goals as goal
+use Rattle.jp_flat_nodes.proofs.numbers.negative.Goals.{then-not-decimals, else-not-decimals}
 
 pub returns : goal.returns
 returns c h =
     let line = c.args.line.now in
     let at = c.args.at in
-    let end = c.whole_end-end.result in
-    let is = c.whole_end-end.ensures (omega arith) in
+    let d = c.args.decimals in
+    let end = c.unsigned_end-end.result in
+    let is = c.unsigned_end-end.ensures (omega arith) in
     let put = c.put.ensures (omega arith) in
     let later : at < end = omega (arith, is.ordered) in
-    subst (λ e. Reads line at e c.args.depth c.args.nodes.now.items c.put.new.nodes.items) (sym put.0)
-    (number_leaf line at end (end - at) c.args.depth _ _ later is.inside
-    (negative_number line at end (omega arith) c.requires.2 is
-    (ne_eqb _ 48 (λ zero. c.if-byte_at-eq48.false (c.byte_at.ensures.value ∙ zero)))) refl put.1)
+    let some : d ≡ false → (get_or line (at + 1) 0 == 48) ≡ false = λ whole.
+    elim c.if-not-decimals.branch [
+      | then-not-decimals w ↦ ap (λ x. x == 48) (sym w.byte_at.ensures.value) ∙ sym w.value-is
+          ∙ c.if-byte_at-eq48.false
+      | else-not-decimals w ↦ absurd (grind arith)
+    ] in
+    subst (λ e. Reads line d at e c.args.depth c.args.nodes.now.items c.put.new.nodes.items) (sym put.0)
+    (number_leaf line d at end (end - at) c.args.depth _ _ later is.inside
+    (negative_number line d at end (omega arith) c.requires.2 is some) refl put.1)

@@ -13,7 +13,7 @@ decreases-object l = 2 * l.depth + 1
 
 abbrev pub invariant-array-loop-cursor : goal.invariant-array-loop-cursor
 invariant-array-loop-cursor l = record {
-  items : ItemsSoFar l.line l.at l.cursor l.depth l.initial.nodes.items l.nodes.items;
+  items : ItemsSoFar l.line l.decimals l.at l.cursor l.depth l.initial.nodes.items l.nodes.items;
   place : l.place < length l.nodes.items;
 }
 
@@ -22,7 +22,7 @@ decreases-array-loop-cursor l = length l.line - l.cursor
 
 abbrev pub invariant-object-loop-cursor : goal.invariant-object-loop-cursor
 invariant-object-loop-cursor l = record {
-  members : MembersSoFar l.line l.at l.cursor l.depth l.initial.nodes.items l.nodes.items;
+  members : MembersSoFar l.line l.decimals l.at l.cursor l.depth l.initial.nodes.items l.nodes.items;
   place : l.place < length l.nodes.items;
 }
 
