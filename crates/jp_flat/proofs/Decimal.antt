@@ -28,9 +28,8 @@ use Rattle.jp_flat.specs.Document.{document_value, answer_of, grammar_reading}
 use Rattle.jp_flat.specs.declared.document.FlatDocument.{FlatDocument}
 use Rattle.jp_flat.specs.Flat.{value_at}
 use Rattle.jp_flat.specs.inner.Nesting.{nests_from}
-use Rattle.jp_flat.specs.inner.Plain.{is_flat, is_whole_text, is_plain}
+use Rattle.jp_flat.specs.inner.Plain.{is_flat, is_whole_text}
 use Rattle.jp_flat.specs.inner.Rows.{are_short, are_within, pass_answer, pass_fault, by_fault}
-use Rattle.jp_flat.proofs.Fit.{plain_is_short}
 use Rattle.jp_flat.proofs.Faults.{all_rows, answer_is, none_is}
 use Rattle.jp_flat.proofs.Nesting.{tree_is}
 use Rattle.jp_flat.proofs.Numbers as numbers
@@ -186,16 +185,16 @@ pub fault_of_pass : (line : List ℕ) (f : DocFault) → IsUtf8 line → IsSome 
 fault_of_pass line f u made short found =
     by_length line short ∙ fault_some line (text.document line) f u refl made found
 
--- of a value with numbers of 64 bits it finds none
-pub plain_passes : (line : List ℕ) (j : text.Json) → text.document line ≡ Some j → tree.depth j ≤ 127
-    → is_plain j ≡ true → length (tokens line) ≤ max_tokens → pass_fault (tokens line) ≡ None
-plain_passes line j e nests plain few =
+-- of a value with numbers within the limits it finds none
+pub short_passes : (line : List ℕ) (j : text.Json) → text.document line ≡ Some j → tree.depth j ≤ 127
+    → has_long_number j ≡ false → length (tokens line) ≤ max_tokens → pass_fault (tokens line) ≡ None
+short_passes line j e nests short few =
     let found = shallow_tree line j e nests in
     let open_so : nests_from 0 (tokens line) ≡ true = opened (nests_from 0 (tokens line))
     (sym (tree_is line) ∙ found) in
     let within : are_within (tokens line) ≡ true = line_within line
     ∙ all_rows line j e (tree_has_numbers line j found)
-    ∙ ap (λ b. not b && true) (plain_is_short j plain) in
+    ∙ ap (λ b. not b && true) short in
     rw (open_so, within, le-ltb max_tokens (length (tokens line)) few) refl
   where
     opened : (b : Bool) → (if b then text.document line else None) ≡ Some j → b ≡ true

@@ -18,4 +18,5 @@ pub mod Faults
 pub mod Decimal
 pub mod ReadNumbers
 pub mod Pieces
+pub mod Close
 pub mod ReadNodes

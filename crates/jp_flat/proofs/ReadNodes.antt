@@ -23,13 +23,14 @@ use Rattle.jp_flat.specs.inner.Held.{IsHeld, IsReadAs}
 use Rattle.jp_flat.specs.inner.Plain.{is_flat, is_plain, items_are_plain, members_are_plain, is_plain_from}
 use Rattle.jp_flat.specs.inner.Plain.{is_whole_text, is_unsigned_text, is_minus_text, max_tokens}
 use Rattle.jp_flat.specs.inner.Rows.{pass_fault}
-use Rattle.jp_flat.proofs.Decimal.{value_of_pass, plain_passes}
+use Rattle.jp_flat.proofs.Close.{none_is_long}
+use Rattle.jp_flat.proofs.Decimal.{value_of_pass, short_passes}
 use Rattle.jp_flat.proofs.Numbers.{below, both, both_back}
 use Rattle.jp_flat.proofs.Pieces.{pieces_are}
 use Rattle.jp_flat.proofs.Reading.{of_tree, flat_is, read_flat}
 use Rattle.jp_flat_nodes.specs.Digits.{are_digits, are_few_digits, is_short_whole}
-use Rattle.jp_flat_nodes.specs.Nodes.{tokens_at, token_at, AreLinked, AreWithin, IsRead, are_short_whole}
-use Rattle.jp_flat_nodes.specs.Nodes.{items_are_short_whole, members_are_short_whole}
+use Rattle.jp_flat_nodes.specs.Nodes.{tokens_at, token_at, AreLinked, AreWithin, IsRead, are_taken}
+use Rattle.jp_flat_nodes.specs.Nodes.{items_are_taken, members_are_taken}
 use Rattle.jp_flat_nodes.specs.declared.node.Node.{Node}
 
 -- ---- short whole numbers have 64 bits
@@ -65,7 +66,7 @@ short_is_whole s h = whole_if (slice_index s 0 == 45) s h
 -- ---- so a tree of such numbers is plain, where its texts are texts
 
 mutual
-  plain_tree : (j : text.Json) (r : List Token) → AreTexts (json_tokens j ++ r) → are_short_whole j ≡ true
+  plain_tree : (j : text.Json) (r : List Token) → AreTexts (json_tokens j ++ r) → are_taken false j ≡ true
       → (is_plain j ≡ true) × AreTexts r
   plain_tree text.null r h s = (refl, h.1)
   plain_tree (text.boolean b) r h s = (refl, h.1)
@@ -75,26 +76,26 @@ mutual
   plain_tree (text.object ms) r h s = plain_members ms r h.1 s
 
   plain_items : (js : text.Items) (r : List Token) → AreTexts (items_tokens js ++ r)
-      → items_are_short_whole js ≡ true → (items_are_plain js ≡ true) × AreTexts r
+      → items_are_taken false js ≡ true → (items_are_plain js ≡ true) × AreTexts r
   plain_items text.no_items r h s = (refl, h.1)
   plain_items (text.item j js) r h s =
-      let b = both (are_short_whole j) _ s in
+      let b = both (are_taken false j) _ s in
       let one = plain_tree j (items_tokens js ++ r)
       (subst AreTexts (append_assoc (json_tokens j) (items_tokens js) r) h) b.0 in
       let others = plain_items js r one.1 b.1 in
       (both_back _ _ one.0 others.0, others.1)
 
   plain_members : (ms : text.Members) (r : List Token) → AreTexts (members_tokens ms ++ r)
-      → members_are_short_whole ms ≡ true → (members_are_plain ms ≡ true) × AreTexts r
+      → members_are_taken false ms ≡ true → (members_are_plain ms ≡ true) × AreTexts r
   plain_members text.no_members r h s = (refl, h.1)
   plain_members (text.member k j ms) r h s =
-      let b = both (are_short_whole j) _ s in
+      let b = both (are_taken false j) _ s in
       let one = plain_tree j (members_tokens ms ++ r)
       (subst AreTexts (append_assoc (json_tokens j) (members_tokens ms) r) h.1) b.0 in
       let others = plain_members ms r one.1 b.1 in
       (both_back _ _ (is_utf8-from_IsUtf8 k h.0) (both_back _ _ one.0 others.0), others.1)
 
-plain_line : (line : List ℕ) (nodes : List Node) (r : IsRead line nodes) → IsUtf8 line → is_plain r.value ≡ true
+plain_line : (line : List ℕ) (nodes : List Node) (r : IsRead false line nodes) → IsUtf8 line → is_plain r.value ≡ true
 plain_line line nodes r u =
     let spelled = tokens-document line r.value r.is ∙ sym (append-nil (json_tokens r.value)) in
     (plain_tree r.value [] (subst AreTexts spelled (tokens_are_texts line u)) r.numbers).0
@@ -116,7 +117,7 @@ held line bytes nodes are u linked within flat = record {
 }
 
 -- a line that was read in one pass
-pub read_whole : (line : List ℕ) (nodes : List Node) → IsRead line nodes → IsUtf8 line → length line ≤ max_line
+pub read_whole : (line : List ℕ) (nodes : List Node) → IsRead false line nodes → IsUtf8 line → length line ≤ max_line
     → IsReadAs (reading line) line nodes
 read_whole line nodes r u short =
     let flat = of_tree line r.value r.is u short (few_tokens line line nodes r.are r.few) r.nests
@@ -127,12 +128,12 @@ read_whole line nodes r u short =
       value = flat.reads ∙ ap (λ ts. Ok (value_at ts)) (sym r.are);
     }
 
-pub read_grammar : (line : List ℕ) (nodes : List Node) → IsRead line nodes → IsUtf8 line
+pub read_grammar : (line : List ℕ) (nodes : List Node) → IsRead true line nodes → IsUtf8 line
     → length line ≤ max_line → IsReadAs (grammar_reading line) line nodes
 read_grammar line nodes r u short =
     let few = few_tokens line line nodes r.are r.few in
     let value = value_of_pass line u (subst IsSome (sym r.is) refl) short
-    (plain_passes line r.value r.is r.nests (plain_line line nodes r u) few) in
+    (short_passes line r.value r.is r.nests (none_is_long r.value r.spelled r.numbers) few) in
     record {
       few = r.few;
       held = held line line nodes r.are u r.linked r.within value.0;

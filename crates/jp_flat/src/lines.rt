@@ -9,7 +9,7 @@ use crate::document::FlatDocument;
 use crate::nodes::{are_plain, fault_in};
 use bumpalo::Bump;
 use jp_doc::{DocFault, MAX_LINE};
-use jp_flat_nodes::{MAX_NODES, Node, lay, read_line};
+use jp_flat_nodes::{MAX_NODES, Node, lay, read_decimal_line, read_line};
 use json::{Error, Scratch, Tape};
 use std::alloc::{AllocError, Global};
 
@@ -134,7 +134,7 @@ pub(crate) fn read_decimal<'a>(
     let Ok(text) = simdutf8::basic::from_utf8(line) else {
         return Ok(Err(DocFault::Unreadable));
     };
-    if read_line(line, &mut room.nodes) {
+    if read_decimal_line(line, &mut room.nodes) {
         return Ok(Ok(FlatDocument::new(line, &room.nodes)));
     }
     match lay_decimal(text, room)? {
