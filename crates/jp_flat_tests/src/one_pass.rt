@@ -5,7 +5,7 @@ use crate::beside::is_read_alike;
 use bumpalo::Bump;
 use jp_doc::Document;
 use jp_flat::FlatReader;
-use jp_flat_nodes::{MAX_NODES, Node, lay, read_line};
+use jp_flat_nodes::{MAX_NODES, Node, lay, read_decimal_line, read_line};
 use json::{Scratch, Tape};
 use std::alloc::{AllocError, Global};
 
@@ -34,6 +34,20 @@ fn is_as_laid(alloc: Global, line: &str) -> Result<Option<bool>, AllocError> {
     if line.len() > 1_000_000 || !read_line(line.as_bytes(), &mut nodes) {
         return Ok(None);
     }
+    are_laid(alloc, line, &nodes)
+}
+
+/// The same where numbers may have a fraction and an exponent.
+fn is_as_laid_decimal(alloc: Global, line: &str) -> Result<Option<bool>, AllocError> {
+    let mut nodes = Vec::new(alloc);
+    if line.len() > 1_000_000 || !read_decimal_line(line.as_bytes(), &mut nodes) {
+        return Ok(None);
+    }
+    are_laid(alloc, line, &nodes)
+}
+
+/// Whether these are the nodes that are laid of the kit's.
+fn are_laid(alloc: Global, line: &str, nodes: &[Node]) -> Result<Option<bool>, AllocError> {
     let (mut scratch, arena) = (Scratch::new(alloc), Bump::new(alloc));
     let Ok(tape) = Tape::parse(line, &mut scratch, Vec::new(&arena)) else {
         return Ok(Some(false));
@@ -148,6 +162,56 @@ fn lines_that_are_left(rt: HostRuntime) {
     }
 }
 
+/// Numbers that are read in one pass where they may have a fraction and an exponent.
+const DECIMALS: [&str; 16] = [
+    "0",
+    "-0",
+    "-0.0",
+    "0.5",
+    "1.50",
+    "-12.25",
+    "1e3",
+    "1E3",
+    "1e+3",
+    "1e-3",
+    "0e0",
+    "-1.25e-7",
+    "1e123456789",
+    "1e-12345678",
+    "123456789012345678.123456789012345678e+12345678",
+    "[0.8444218515250481,{\"a\":1.5,\"b\":[1e5 ]}]",
+];
+
+/// Numbers that are not: by the grammar, or since they have too many bytes or digits.
+const NO_DECIMALS: [&str; 16] = [
+    "1.",
+    "1.e3",
+    ".5",
+    "1e",
+    "1e+",
+    "1e+-3",
+    "1.5.5",
+    "1e3e3",
+    "1e3.5",
+    "01.5",
+    "-",
+    "-.5",
+    "- 1.5",
+    "1 .5",
+    "1e1234567890",
+    "1234567890123456789.5",
+];
+
+#[test]
+fn numbers_of_every_kind(rt: HostRuntime) {
+    for line in READ.iter().chain(DECIMALS.iter()) {
+        assert!(rt; is_as_laid_decimal(rt.alloc(), line) == Ok(Some(true)), "{line}");
+    }
+    for line in &NO_DECIMALS {
+        assert!(rt; is_as_laid_decimal(rt.alloc(), line) == Ok(None), "{line}");
+    }
+}
+
 /// So many arrays inside one another.
 fn nested(alloc: Global, levels: u32) -> Result<String, AllocError> {
     let mut line = String::new(alloc);
@@ -188,7 +252,8 @@ fn is_read_right(alloc: Global, line: &str, at: usize, byte: u8) -> Result<bool,
         *place = byte;
     }
     if let Ok(text) = std::str::from_utf8(&changed) {
-        if is_as_laid(alloc, text)? == Some(false) {
+        let wrong = Some(false);
+        if is_as_laid(alloc, text)? == wrong || is_as_laid_decimal(alloc, text)? == wrong {
             return Ok(false);
         }
     }
