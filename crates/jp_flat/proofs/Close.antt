@@ -40,7 +40,11 @@ e_is_last ds at plain letter = go (cases_lt at (length ds - 10))
   where
     go : (at < length ds - 10) ⊎ (length ds - 10 ≤ at) → length ds - 10 ≤ at
     go (inl lt) =
-        let inside : at < length (take (length ds - 10) ds) = omega (arith, length-take (length ds - 10) ds) in
+        let inside : at < length (take (length ds - 10) ds) = omega (
+          arith,
+          length-take
+              (length ds - 10) ds,
+        ) in
         let none = all_at (take (length ds - 10) ds) at plain inside in
         absurd (true≢false (sym none ∙ ap is_no_e (get_or-take (length ds - 10) ds at 0 lt) ∙ ap not letter))
     go (inr ge) = ge
@@ -51,7 +55,8 @@ start_later false at = omega arith
 
 exponent_few : (t : Bool) (ds : List ℕ) (at : ℕ) → list_all is_no_e (take (length ds - 10) ds) ≡ true
     → has_exponent ds at ≡ t
-    → length (if t then slice_range ds (exponent_start ds at) (digits_end ds (exponent_start ds at)) else []) ≤ 9
+    → length (if t then slice_range ds (exponent_start ds at) (digits_end ds
+    (exponent_start ds at)) else []) ≤ 9
 exponent_few true ds at plain is =
     let letter = (and_parts ((slice_index ds at == 101) || (slice_index ds at == 69)) _ is).0 in
     let last = e_is_last ds at plain letter in

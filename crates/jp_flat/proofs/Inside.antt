@@ -179,7 +179,8 @@ ends_node bytes (Number from count) p e = absurd (cc)
 ends_node bytes (Truth b) p e = absurd (cc)
 ends_node bytes Null p e = absurd (cc)
 
-pub one_more_item : (bytes : List ℕ) (ts us : List Token) (i : InItems ts) (n : Node) → ts ≡ token_at bytes n ∷ us
+pub one_more_item : (bytes : List ℕ) (ts us : List Token) (i : InItems ts) (n : Node)
+    → ts ≡ token_at bytes n ∷ us
     → (n ≡ EndArray → ⊥) → (j : text.Json) × (js : text.Items) × (i.source ≡ text.item j js)
 one_more_item bytes ts us i n e p = go i.source refl
   where
@@ -215,7 +216,8 @@ pub record Split (ts after : List Token) : Type 0 where
       × (value_at (Token.begin_array ∷ ts) ≡ json.array (json.add_item (value_at ts) vs))
       × (value_at (Token.begin_array ∷ after) ≡ json.array vs)
 
-pub split_items : (bytes : List ℕ) (ts us after : List Token) (n : Node) → is_flat (Token.begin_array ∷ ts) ≡ true
+pub split_items : (bytes : List ℕ) (ts us after : List Token) (n : Node)
+    → is_flat (Token.begin_array ∷ ts) ≡ true
     → ts ≡ token_at bytes n ∷ us → (n ≡ EndArray → ⊥)
     → ((depth : ℕ) (j : text.Json) (rest : List Token) → text.value depth ts ≡ Some (j, rest) → rest ≡ after)
     → Split ts after

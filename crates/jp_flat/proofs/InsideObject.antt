@@ -56,7 +56,8 @@ object_inside ts f ms e = record {
 pub in_members : (ts : List Token) → is_flat (Token.begin_object ∷ ts) ≡ true → InMembers ts
 in_members ts h =
     let f = flat_of (Token.begin_object ∷ ts) h in
-    let sh : (ms : text.Members) × (f.source ≡ text.object ms) = shape [] (Object 0) ts f.source max_depth f.rest
+    let sh : (ms : text.Members) × (f.source ≡ text.object ms) = shape []
+    (Object 0) ts f.source max_depth f.rest
     (read_of_flat (Token.begin_object ∷ ts) f) in
     object_inside ts f sh.0 sh.1
 
@@ -267,7 +268,8 @@ first_is_key (t ∷ ts) = is_key t
 not_key : (ts : List Token) → first_is_key ts ≡ false → NoKey ts
 not_key ts h k us e = true≢false (sym (ap first_is_key e) ∙ h)
 
-pub no_key : (bytes : List ℕ) (n : Node) (us : List Token) → ((from count : ℕ) → n ≡ Key from count → ⊥) → NoKey (token_at bytes n ∷ us)
+pub no_key : (bytes : List ℕ) (n : Node) (us : List Token) → ((from count : ℕ) → n ≡ Key from count → ⊥)
+    → NoKey (token_at bytes n ∷ us)
 no_key bytes (Object a) us p = not_key _ refl
 no_key bytes EndObject us p = not_key _ refl
 no_key bytes (Array a) us p = not_key _ refl

@@ -1,5 +1,6 @@
 -- The texts of a document's nodes are UTF-8.
-use Rattle.std.proofs.Common.{◌≡◌, ℕ, zero, suc, ◌+◌, ◌≤◌, Bool, true, false, cond, ◌&&◌, ◌||◌, ◌==◌, List, []}
+use Rattle.std.proofs.Common.{◌≡◌, ℕ, zero, suc, ◌+◌, ◌≤◌, Bool, true, false, cond, ◌&&◌, ◌||◌, ◌==◌, List}
+use Rattle.std.proofs.Common.{[]}
 use Rattle.std.proofs.Common.{◌∷◌, length, drop, get_or, Option, Some, None, option_and_then, refl}
 use Rattle.std.proofs.Common.{sym, ap, ◌∙◌, arith, eqb-true, lt-ltb}
 use Rattle.std.proofs.Props.{props}
@@ -70,7 +71,8 @@ digits_eat t u e h = go (prefix_len is_ascii_digit t == 0) e
     go false e = digits_before t (ap are_ascii (Some_inj _ _ e) ∙ h)
 
 -- one byte that is known
-byte_eats : (x c : ℕ) (xs : List ℕ) → nat_lt c 128 ≡ true → x ≡ c → are_ascii xs ≡ true → are_ascii (x ∷ xs) ≡ true
+byte_eats : (x c : ℕ) (xs : List ℕ) → nat_lt c 128 ≡ true → x ≡ c → are_ascii xs ≡ true
+    → are_ascii (x ∷ xs) ≡ true
 byte_eats x c xs small e h = both_true _ _ (ap (λ y. nat_lt y 128) e ∙ small) h
 
 sign_eats : (t : List ℕ) → are_ascii (after_sign t) ≡ true → are_ascii t ≡ true

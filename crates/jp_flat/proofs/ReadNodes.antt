@@ -35,7 +35,8 @@ use Rattle.jp_flat_nodes.specs.declared.node.Node.{Node}
 
 -- ---- short whole numbers have 64 bits
 
-few_digits : (ds : List ℕ) → are_few_digits ds ≡ true → (are_digits ds ≡ true) × (digits_value 10 ds < 10 ^ 18)
+few_digits : (ds : List ℕ) → are_few_digits ds ≡ true → (are_digits ds ≡ true) ×
+    (digits_value 10 ds < 10 ^ 18)
 few_digits ds h =
     let b = both (are_digits ds) _ h in
     (b.0, below ds 18 b.0 (leb-true (length ds) 18 b.1))
@@ -55,7 +56,8 @@ unsigned_text ds h =
     both_back _ _ d.0 (lt-ltb _ (2 ^ 64) value)
 
 whole_if : (b : Bool) (s : List ℕ)
-    → (if b then are_few_digits (drop 1 s) && not (slice_index (drop 1 s) 0 == 48) else are_few_digits s) ≡ true
+    → (if b then are_few_digits (drop 1 s) && not (slice_index
+    (drop 1 s) 0 == 48) else are_few_digits s) ≡ true
     → (if b then is_minus_text (drop 1 s) else is_unsigned_text s) ≡ true
 whole_if true s h = minus_text (drop 1 s) h
 whole_if false s h = unsigned_text s h
@@ -95,7 +97,8 @@ mutual
       let others = plain_members ms r one.1 b.1 in
       (both_back _ _ (is_utf8-from_IsUtf8 k h.0) (both_back _ _ one.0 others.0), others.1)
 
-plain_line : (line : List ℕ) (nodes : List Node) (r : IsRead false line nodes) → IsUtf8 line → is_plain r.value ≡ true
+plain_line : (line : List ℕ) (nodes : List Node) (r : IsRead false line nodes) → IsUtf8 line
+    → is_plain r.value ≡ true
 plain_line line nodes r u =
     let spelled = tokens-document line r.value r.is ∙ sym (append-nil (json_tokens r.value)) in
     (plain_tree r.value [] (subst AreTexts spelled (tokens_are_texts line u)) r.numbers).0
@@ -117,7 +120,8 @@ held line bytes nodes are u linked within flat = record {
 }
 
 -- a line that was read in one pass
-pub read_whole : (line : List ℕ) (nodes : List Node) → IsRead false line nodes → IsUtf8 line → length line ≤ max_line
+pub read_whole : (line : List ℕ) (nodes : List Node) → IsRead false line nodes → IsUtf8 line
+    → length line ≤ max_line
     → IsReadAs (reading line) line nodes
 read_whole line nodes r u short =
     let flat = of_tree line r.value r.is u short (few_tokens line line nodes r.are r.few) r.nests

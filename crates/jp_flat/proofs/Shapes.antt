@@ -54,10 +54,12 @@ module _ (bytes : List ℕ) where
       → drop i (tokens_at bytes ns) ≡ token_at bytes (get_or ns i d) ∷ drop (i + 1) (tokens_at bytes ns)
   here ns i d h =
       drop_more (tokens_at bytes ns) i (token_at bytes d) (omega (arith, length-map ns (token_at bytes)))
-      ∙ ap (λ t. t ∷ drop (i + 1) (tokens_at bytes ns)) (get_or-map (token_at bytes) ns i d (token_at bytes d) h)
+      ∙ ap (λ t. t ∷ drop (i + 1) (tokens_at bytes ns)) (get_or-map (token_at bytes) ns i d
+      (token_at bytes d) h)
 
   pub within : (ns : List Node) (i : ℕ) → is_flat (drop i (tokens_at bytes ns)) ≡ true → i < length ns
-  within ns i h = lt_of_not-le (λ k. not_flat (subst (λ ts. is_flat ts ≡ true) (drop_all i (tokens_at bytes ns)
+  within ns i h = lt_of_not-le (λ k. not_flat (subst (λ ts. is_flat ts ≡ true) (drop_all i
+      (tokens_at bytes ns)
       (omega (arith, length-map ns (token_at bytes)))) h))
 
   abbrev pub Shape : Node → List Token → text.Json → List Token → Type 0
@@ -78,8 +80,10 @@ module _ (bytes : List ℕ) where
   shape (Array a) ts j d rest e = made text.array _ j rest (sym (grammar.value_is d _) ∙ e)
   shape EndArray ts j d rest e = not_found (j, rest) (sym (grammar.value_is d _) ∙ e)
   shape (Key from count) ts j d rest e = not_found (j, rest) (sym (grammar.value_is d _) ∙ e)
-  shape (Text from count) ts j d rest e = alone (text.string (piece bytes from count)) j ts rest (sym (grammar.value_is d _) ∙ e)
-  shape (Number from count) ts j d rest e = alone (text.number (piece bytes from count)) j ts rest (sym (grammar.value_is d _) ∙ e)
+  shape (Text from count) ts j d rest e = alone (text.string (piece bytes from count)) j ts rest (sym
+      (grammar.value_is d _) ∙ e)
+  shape (Number from count) ts j d rest e = alone (text.number (piece bytes from count)) j ts rest (sym
+      (grammar.value_is d _) ∙ e)
   shape (Truth b) ts j d rest e = alone (text.boolean b) j ts rest (sym (grammar.value_is d _) ∙ e)
   shape Null ts j d rest e = alone text.null j ts rest (sym (grammar.value_is d _) ∙ e)
 
@@ -178,7 +182,8 @@ module _ (bytes : List ℕ) where
   no_number (Truth b) v p t = sym (ap number_in t)
   no_number Null v p t = sym (ap number_in t)
 
-  pub no_text : (n : Node) (v : Json) → ((from count : ℕ) → n ≡ Text from count → ⊥) → Tells n v → None ≡ text_in v
+  pub no_text : (n : Node) (v : Json) → ((from count : ℕ) → n ≡ Text from count → ⊥) → Tells n v
+      → None ≡ text_in v
   no_text (Object a) v p t = sym (ap text_in t.1)
   no_text EndObject v p t = absurd t
   no_text (Array a) v p t = sym (ap text_in t.1)
@@ -191,9 +196,12 @@ module _ (bytes : List ℕ) where
 
   -- the text of a number is fit
   pub number_is_fit : (ts : List Token) (n : Node) (from count : ℕ) → is_flat ts ≡ true
-      → ts ≡ token_at bytes n ∷ drop 1 ts → n ≡ Number from count → is_fit_number (piece bytes from count) ≡ true
+      → ts ≡ token_at bytes n ∷ drop 1 ts → n ≡ Number from count
+      → is_fit_number (piece bytes from count) ≡ true
   number_is_fit ts n from count h e is =
-      let all : ts ≡ Token.number (piece bytes from count) ∷ drop 1 ts = e ∙ ap (λ m. token_at bytes m ∷ drop 1 ts) is in
-      let f = flat_of (Token.number (piece bytes from count) ∷ drop 1 ts) (subst (λ l. is_flat l ≡ true) all h) in
+      let all : ts ≡ Token.number (piece bytes from count) ∷ drop 1 ts = e
+      ∙ ap (λ m. token_at bytes m ∷ drop 1 ts) is in
+      let f = flat_of (Token.number (piece bytes from count) ∷ drop 1 ts) (subst
+      (λ l. is_flat l ≡ true) all h) in
       let sh = shape (Number from count) (drop 1 ts) f.source max_depth f.rest (read_of_flat _ f) in
       subst (λ j. is_fit j ≡ true) sh.0 f.fit

@@ -10,7 +10,8 @@ use crate::value::FlatValue;
 use jp_flat_nodes::Node;
 use std::str;
 
-/// A document as a flat list of nodes, which lie in the buffers of a reader. Their texts stand in the line, or
+/// A document as a flat list of nodes, which lie in the buffers of a reader. Their texts stand in the line,
+/// or
 /// in a buffer of the reader where the line writes some of them with escapes.
 #[derive(Drop)]
 pub struct FlatDocument<'a> {

@@ -66,7 +66,8 @@ digit_no_e x h =
     let most : x ≤ 57 = leb-true x 57 (and_parts (nat_le 48 x) (nat_le x 57) h).1 in
     rw (ne_eqb x 101 (λ e. omega arith), ne_eqb x 69 (λ e. omega arith)) refl
 
-pub digits_no_e : (xs : List ℕ) (m : ℕ) → m ≤ prefix_len is_ascii_digit xs → list_all is_no_e (take m xs) ≡ true
+pub digits_no_e : (xs : List ℕ) (m : ℕ) → m ≤ prefix_len is_ascii_digit xs
+    → list_all is_no_e (take m xs) ≡ true
 digits_no_e xs zero h = refl
 digits_no_e [] (suc m) h = refl
 digits_no_e (x ∷ xs) (suc m) h =
@@ -80,7 +81,8 @@ first_digit (x ∷ xs) h =
 
 -- ---- by their count
 
-all_digits : (xs : List ℕ) (n : ℕ) → n ≤ prefix_len is_ascii_digit xs → list_all is_ascii_digit (take n xs) ≡ true
+all_digits : (xs : List ℕ) (n : ℕ) → n ≤ prefix_len is_ascii_digit xs
+    → list_all is_ascii_digit (take n xs) ≡ true
 all_digits xs zero h = refl
 all_digits [] (suc n) h = refl
 all_digits (x ∷ xs) (suc n) h =

@@ -1,7 +1,8 @@
 -- Numbers with a fraction and an exponent, by the grammar.
 use Rattle.std.proofs.Common.{◌≡◌, ℕ, zero, suc, ◌+◌, ◌-◌, ◌<◌, ◌≤◌, ◌⊎◌, inl, inr, Bool, true, false, not}
 use Rattle.std.proofs.Common.{◌&&◌, ◌||◌, ◌==◌, cond, List, [], ◌∷◌, ◌++◌, length, take, drop, get_or, Some}
-use Rattle.std.proofs.Common.{option_and_then, refl, sym, ap, ap₂, ◌∙◌, subst, arith, append-nil, append_assoc}
+use Rattle.std.proofs.Common.{option_and_then, refl, sym, ap, ap₂, ◌∙◌, subst, arith, append-nil}
+use Rattle.std.proofs.Common.{append_assoc}
 use Rattle.std.proofs.Common.{eqb-true, ne_eqb, le-leb, length-drop, true≢false, if◌then◌else◌}
 use Rattle.std.proofs.lemmas.Bool.{and_parts, cases_lt}
 use Rattle.std.proofs.lemmas.List.{take-append-le, drop-drop, length-take}
@@ -10,7 +11,8 @@ use Rattle.std.specs.Char.{is_ascii_digit}
 use Rattle.std.specs.List.{list_all, prefix_len}
 use Rattle.std.specs.Prelude.{nat_le, slice_index}
 use Rattle.json.specs.Print.{IsNumber}
-use Rattle.json.specs.Word.{after_number, head, after_digits, after_sign, after_whole, after_fraction, after_exponent}
+use Rattle.json.specs.Word.{after_number, head, after_digits, after_sign, after_whole, after_fraction}
+use Rattle.json.specs.Word.{after_exponent}
 use Rattle.jp_flat_nodes.specs.Digits.{are_few_digits, is_no_e, is_taken}
 use Rattle.jp_flat_nodes.specs.Nodes.{piece}
 use Rattle.jp_flat_nodes.specs.inner.Reads.{IsDigits, IsFraction, IsExponent, IsUnsigned}
@@ -81,20 +83,24 @@ exponent : (c : ℕ) (r : List ℕ) → ((c == 101) || (c == 69)) ≡ true → a
 exponent c r letter digits = go (letter_is c letter)
   where
     go : (c ≡ 101) ⊎ (c ≡ 69) → Exponent (c ∷ r)
-    go (inl e) = subst (λ k. Exponent (k ∷ r)) (sym e) (record { no_digit = refl; no_point = refl; passes = digits })
-    go (inr e) = subst (λ k. Exponent (k ∷ r)) (sym e) (record { no_digit = refl; no_point = refl; passes = digits })
+    go (inl e) = subst (λ k. Exponent (k ∷ r)) (sym e)
+        (record { no_digit = refl; no_point = refl; passes = digits })
+    go (inr e) = subst (λ k. Exponent (k ∷ r)) (sym e)
+        (record { no_digit = refl; no_point = refl; passes = digits })
 
 front_is : (xs : List ℕ) (n : ℕ) → 0 < n → 0 < length xs → head (take n xs) ≡ get_or xs 0 0
 front_is xs zero h some = absurd (omega arith)
 front_is [] (suc n) h some = absurd (omega arith)
 front_is (x ∷ xs) (suc n) h some = refl
 
-behind : (line : List ℕ) (from end : ℕ) → from < length line → get_or (drop from line) 0 0 ≡ get_or line from 0
+behind : (line : List ℕ) (from end : ℕ) → from < length line
+    → get_or (drop from line) 0 0 ≡ get_or line from 0
 behind line from end inside = ap (λ l. get_or l 0 0) (byte_then line from (get_or line from 0) inside refl)
 
 -- the digits behind a sign
 signed : (line : List ℕ) (from end : ℕ) (b : Bool) → from < length line → from + cond b 1 0 < end
-    → end ≤ length line → end - (from + cond b 1 0) ≤ prefix_len is_ascii_digit (drop (from + cond b 1 0) line)
+    → end ≤ length line → end - (from + cond b 1 0) ≤ prefix_len is_ascii_digit (drop
+    (from + cond b 1 0) line)
     → after_digits (cond b (drop 1 (piece line from (end - from))) (piece line from (end - from))) ≡ Some []
 signed line from end true inside some within digits =
     let rest = drop (from + 1) line in
@@ -110,13 +116,15 @@ signed line from end false inside some within digits =
 pub exponent_is : (line : List ℕ) (from end : ℕ) → IsExponent line from end
     → Exponent (piece line from (end - from))
 exponent_is line from end (inl e) =
-    subst Exponent (sym (no_piece line from end e)) (record { no_digit = refl; no_point = refl; passes = refl })
+    subst Exponent (sym (no_piece line from end e))
+    (record { no_digit = refl; no_point = refl; passes = refl })
 exponent_is line from end (inr p) =
     let next = from + 1 in
     let rest = piece line next (end - next) in
     let sign = (get_or line next 0 == 45) || (get_or line next 0 == 43) in
     let inside : next < length line = omega (arith, p.some, p.inside) in
-    let first : head rest ≡ get_or line next 0 = front_is (drop next line) (end - next) (omega (arith, p.some))
+    let first : head rest ≡ get_or line next 0 = front_is (drop next line) (end - next) (omega
+    (arith, p.some))
     (omega (arith, length-drop next line)) ∙ behind line next end inside in
     let digits : after_digits (after_sign rest) ≡ Some [] =
     ap (λ k. after_digits (cond ((k == 45) || (k == 43)) (drop 1 rest) rest)) first
@@ -140,7 +148,8 @@ all_both (x ∷ xs) ys h k =
     let both = and_parts (is_no_e x) (list_all is_no_e xs) h in
     both_true _ _ both.0 (all_both xs ys both.1 k)
 
-split_at : (line : List ℕ) (a b c : ℕ) → a ≤ b → b ≤ c → piece line a (c - a) ≡ piece line a (b - a) ++ piece line b (c - b)
+split_at : (line : List ℕ) (a b c : ℕ) → a ≤ b → b ≤ c → piece line a (c - a) ≡ piece line a
+    (b - a) ++ piece line b (c - b)
 split_at line a b c h k =
     let sum : c - a ≡ (b - a) + (c - b) = omega arith in
     let place : a + (b - a) ≡ b = omega arith in
@@ -182,7 +191,8 @@ written_is line from whole point end d f x inside short =
       ordered = omega (arith, d.ordered, a, b);
       inside = inside;
       first = d.first;
-      grammar = ap (λ l. option_and_then after_exponent (option_and_then after_fraction (after_whole l))) parts
+      grammar = ap (λ l. option_and_then after_exponent (option_and_then after_fraction
+          (after_whole l))) parts
           ∙ ap (λ o. option_and_then after_exponent (option_and_then after_fraction o))
           (d.passes (fs ++ xs) (fraction.first xs power.no_digit))
           ∙ ap (option_and_then after_exponent) (fraction.passes xs power.no_digit power.no_point)
@@ -228,7 +238,8 @@ taken_if false line from end u =
     let inside : from < length line = omega (arith, u.ordered, u.inside) in
     let index : slice_index s 0 ≡ get_or line from 0 =
     ap (λ l. get_or l 0 0) (one_more line from end inside u.ordered) in
-    ap (λ b. if b then are_few_digits (drop 1 s) && not (slice_index (drop 1 s) 0 == 48) else are_few_digits s)
+    ap (λ b. if b then are_few_digits (drop 1 s) && not (slice_index
+    (drop 1 s) 0 == 48) else are_few_digits s)
     (ap (λ x. x == 45) index ∙ no_minus _ u.first) ∙ u.few refl
 
 pub unsigned_number : (line : List ℕ) (decimals : Bool) (from end : ℕ) → IsUnsigned line decimals from end
@@ -263,7 +274,8 @@ minus_taken true line at end u some =
     let size : length s ≡ end - (at + 1) =
     length-take (end - (at + 1)) (drop (at + 1) line) ∙ omega (arith, length-drop (at + 1) line, u.inside) in
     let more : suc (length s) ≡ suc (end - (at + 1)) = ap suc size in
-    both_true _ _ (ap (λ n. nat_le n 300) more ∙ le-leb (suc (end - (at + 1))) 300 (omega (arith, u.short refl)))
+    both_true _ _ (ap (λ n. nat_le n 300) more ∙ le-leb (suc (end - (at + 1))) 300 (omega
+    (arith, u.short refl)))
     (ap (λ n. list_all is_no_e (take (n - 10) (45 ∷ s))) more
     ∙ minus_plain (end - (at + 1)) s (u.plain refl))
 minus_taken false line at end u some =

@@ -111,7 +111,8 @@ within_set size (m ∷ ns) zero n h k = (k, h.1)
 within_set size (m ∷ ns) (suc i) n h k = (h.0, within_set size ns i n h.1 k)
 
 -- what is known where one is closed: `first` began it, and has become `linked`
-pub record Closing (line : List ℕ) (old opened mid final : List Node) (place : ℕ) (value : Json) : Type 0 where
+pub record Closing (line : List ℕ) (old opened mid final : List Node) (place : ℕ)
+    (value : Json) : Type 0 where
   pub first : Node
   pub linked : Node
   pub last : Node

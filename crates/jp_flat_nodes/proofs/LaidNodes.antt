@@ -3,7 +3,8 @@ use Rattle.std.proofs.Common.{◌≡◌, ℕ, ◌+◌, ◌<◌, ◌≤◌, List,
 use Rattle.std.proofs.Common.{Some, None, inl, inr, ◌⊎◌, refl, sym, ap, ap₂, ◌∙◌, subst, arith}
 use Rattle.std.proofs.Common.{length-append, length-drop}
 use Rattle.std.proofs.lemmas.Bool.{cases_lt}
-use Rattle.std.proofs.lemmas.List.{take-append-le, drop-append-le, map-append, get_or_past, get_or-map, length-map}
+use Rattle.std.proofs.lemmas.List.{take-append-le, drop-append-le, map-append, get_or_past, get_or-map}
+use Rattle.std.proofs.lemmas.List.{length-map}
 use Rattle.json.specs.Tape.{node_token, Linked, LinkAt, Passes}
 use Rattle.json.specs.Token as token
 use Rattle.json.specs.Token.{Token}
@@ -70,7 +71,8 @@ none_laid texts nodes e = record {
 }
 
 -- one more
-pub one_laid : (old new : List ℕ) (done all : List tape.Node) (nodes more : List Node) (n : tape.Node) (own : Node)
+pub one_laid : (old new : List ℕ) (done all : List tape.Node) (nodes more : List Node) (n : tape.Node)
+    (own : Node)
     → LaidSoFar old done nodes → IsLaid old new n own → more ≡ nodes ++ (own ∷ []) → all ≡ done ++ (n ∷ [])
     → LaidSoFar new all more
 one_laid old new done all nodes more n own s is made next =

@@ -17,7 +17,8 @@ use Rattle.jp_flat_nodes.proofs.Printing.{both, one, here, behind, after_comma, 
 
 -- The line from `start` on is an opening bracket and these tokens, up to a value or a member that comes next,
 -- which begins at `cursor`; the nodes behind the bracket's are theirs.
-pub record SoFar (line : List ℕ) (start cursor : ℕ) (bracket : Token) (opened now : List Node) (made : List Token) : Type 0 where
+pub record SoFar (line : List ℕ) (start cursor : ℕ) (bracket : Token) (opened now : List Node)
+    (made : List Token) : Type 0 where
   pub later : start < cursor
   pub grows : Grows line opened now made
   pub text : (end : ℕ) (ts : List Token) → begin ts ≡ true → Prints line false cursor end ts
@@ -70,7 +71,8 @@ all_text line start cursor end stop bracket last opened now made ts j s some tex
 
 -- ---- items
 
-pub record ItemsSoFar (line : List ℕ) (decimals : Bool) (start cursor depth : ℕ) (opened now : List Node) : Type 0 where
+pub record ItemsSoFar (line : List ℕ) (decimals : Bool) (start cursor depth : ℕ)
+    (opened now : List Node) : Type 0 where
   pub made : List Token
   pub so_far : SoFar line start cursor begin_array opened now made
   pub whole : Items → Items
@@ -93,7 +95,8 @@ items_begin line decimals start cursor depth opened inside byte blanks = record 
   short = λ js h. h;
 }
 
-pub items_more : (line : List ℕ) (decimals : Bool) (start cursor end next depth : ℕ) (opened now new : List Node)
+pub items_more : (line : List ℕ) (decimals : Bool) (start cursor end next depth : ℕ)
+    (opened now new : List Node)
     → ItemsSoFar line decimals start cursor depth opened now → Reads line decimals cursor end depth now new
     → drop end line ≡ 44 ∷ drop (end + 1) line → Blanks line (end + 1) next
     → ItemsSoFar line decimals start next depth opened new
@@ -109,13 +112,15 @@ items_more line decimals start cursor end next depth opened now new s v comma bl
 }
 
 -- the array of no items
-pub no_items_close : (line : List ℕ) (decimals : Bool) (start cursor depth : ℕ) (old opened final : List Node) (place : ℕ)
+pub no_items_close : (line : List ℕ) (decimals : Bool) (start cursor depth : ℕ)
+    (old opened final : List Node) (place : ℕ)
     → start < length line → get_or line start 0 ≡ 91 → Blanks line (start + 1) cursor
     → cursor < length line → get_or line cursor 0 ≡ 93
     → place ≡ length old → opened ≡ old ++ (Array 0 ∷ [])
     → final ≡ set (opened ++ (EndArray ∷ [])) place (Array (length opened + 1))
     → Reads line decimals start (cursor + 1) (depth + 1) old final
-no_items_close line decimals start cursor depth old opened final place inside byte blanks within closing at begun made =
+no_items_close line decimals start cursor depth old opened final place inside byte blanks within closing at
+    begun made =
     let text = both line false start (start + 1) (cursor + 1) (begin_array ∷ []) (end_array ∷ [])
     (here line false start (start + 1) begin_array refl (byte_then line start 91 inside byte))
     (one line false (start + 1) cursor (cursor + 1) end_array refl blanks
@@ -144,13 +149,16 @@ no_items_close line decimals start cursor depth old opened final place inside by
       });
     }
 
-pub items_close : (line : List ℕ) (decimals : Bool) (start cursor end stop depth : ℕ) (old opened now new final : List Node)
-    (place : ℕ) → ItemsSoFar line decimals start cursor depth opened now → Reads line decimals cursor end depth now new
+pub items_close : (line : List ℕ) (decimals : Bool) (start cursor end stop depth : ℕ)
+    (old opened now new final : List Node)
+    (place : ℕ) → ItemsSoFar line decimals start cursor depth opened now
+    → Reads line decimals cursor end depth now new
     → Blanks line end stop → stop < length line → get_or line stop 0 ≡ 93
     → place ≡ length old → opened ≡ old ++ (Array 0 ∷ [])
     → final ≡ set (new ++ (EndArray ∷ [])) place (Array (length new + 1))
     → Reads line decimals start (stop + 1) (depth + 1) old final
-items_close line decimals start cursor end stop depth old opened now new final place s v blanks within closing at begun
+items_close line decimals start cursor end stop depth old opened now new final place s v blanks within
+    closing at begun
     made =
     let js = s.whole (item v.value no_items) in
     let inner = s.made ++ json_tokens v.value in
@@ -185,14 +193,16 @@ items_close line decimals start cursor end stop depth old opened now new final p
 
 -- ---- members
 
-pub record MembersSoFar (line : List ℕ) (decimals : Bool) (start cursor depth : ℕ) (opened now : List Node) : Type 0 where
+pub record MembersSoFar (line : List ℕ) (decimals : Bool) (start cursor depth : ℕ)
+    (opened now : List Node) : Type 0 where
   pub made : List Token
   pub so_far : SoFar line start cursor begin_object opened now made
   pub whole : Members → Members
   pub tokens : (ms : Members) → made ++ members_tokens ms ≡ members_tokens (whole ms)
   pub nests : (ms : Members) → tree.members_depth ms ≤ depth → tree.members_depth (whole ms) ≤ depth
   pub numbers : (ms : Members) → MembersHaveNumbers ms → MembersHaveNumbers (whole ms)
-  pub short : (ms : Members) → members_are_taken decimals ms ≡ true → members_are_taken decimals (whole ms) ≡ true
+  pub short : (ms : Members) → members_are_taken decimals ms ≡ true
+      → members_are_taken decimals (whole ms) ≡ true
 
 pub members_begin : (line : List ℕ) (decimals : Bool) (start cursor depth : ℕ) (opened : List Node)
     → start < length line → get_or line start 0 ≡ 123 → Blanks line (start + 1) cursor
@@ -200,7 +210,8 @@ pub members_begin : (line : List ℕ) (decimals : Bool) (start cursor depth : �
 members_begin line decimals start cursor depth opened inside byte blanks = record {
   made = [];
   so_far = nothing_yet line start cursor begin_object opened
-      (here line false start (start + 1) begin_object refl (byte_then line start 123 inside byte)) refl blanks;
+      (here line false start (start + 1) begin_object refl
+      (byte_then line start 123 inside byte)) refl blanks;
   whole = λ ms. ms;
   tokens = λ ms. refl;
   nests = λ ms h. h;
@@ -209,7 +220,8 @@ members_begin line decimals start cursor depth opened inside byte blanks = recor
 }
 
 -- a name and its value
-pub record ReadsMember (line : List ℕ) (decimals : Bool) (at end depth : ℕ) (old new : List Node) : Type 0 where
+pub record ReadsMember (line : List ℕ) (decimals : Bool) (at end depth : ℕ)
+    (old new : List Node) : Type 0 where
   pub name : List ℕ
   pub value : Json
   pub later : at < end
@@ -234,15 +246,18 @@ member_read line decimals at inside from end depth old mid new k blanks v = reco
   grows = then_more line old mid new (key k.name ∷ []) (json_tokens v.value) k.grows v.grows;
 }
 
-pub members_more : (line : List ℕ) (decimals : Bool) (start cursor end next depth : ℕ) (opened now new : List Node)
-    → MembersSoFar line decimals start cursor depth opened now → ReadsMember line decimals cursor end depth now new
+pub members_more : (line : List ℕ) (decimals : Bool) (start cursor end next depth : ℕ)
+    (opened now new : List Node)
+    → MembersSoFar line decimals start cursor depth opened now
+    → ReadsMember line decimals cursor end depth now new
     → drop end line ≡ 44 ∷ drop (end + 1) line → Blanks line (end + 1) next
     → MembersSoFar line decimals start next depth opened new
 members_more line decimals start cursor end next depth opened now new s m comma blanks =
     let more = key m.name ∷ json_tokens m.value in
     record {
       made = s.made ++ more;
-      so_far = one_more line start cursor end next begin_object opened now new s.made (key m.name ∷ []) m.value
+      so_far = one_more line start cursor end next begin_object opened now new s.made
+          (key m.name ∷ []) m.value
           s.so_far refl m.later m.text m.grows comma blanks;
       whole = λ ms. s.whole (member m.name m.value ms);
       tokens = λ ms. append_assoc s.made more (members_tokens ms) ∙ s.tokens (member m.name m.value ms);
@@ -252,13 +267,15 @@ members_more line decimals start cursor end next depth opened now new s m comma 
     }
 
 -- the object of no members
-pub no_members_close : (line : List ℕ) (decimals : Bool) (start cursor depth : ℕ) (old opened final : List Node) (place : ℕ)
+pub no_members_close : (line : List ℕ) (decimals : Bool) (start cursor depth : ℕ)
+    (old opened final : List Node) (place : ℕ)
     → start < length line → get_or line start 0 ≡ 123 → Blanks line (start + 1) cursor
     → cursor < length line → get_or line cursor 0 ≡ 125
     → place ≡ length old → opened ≡ old ++ (Object 0 ∷ [])
     → final ≡ set (opened ++ (EndObject ∷ [])) place (Object (length opened + 1))
     → Reads line decimals start (cursor + 1) (depth + 1) old final
-no_members_close line decimals start cursor depth old opened final place inside byte blanks within closing at begun made =
+no_members_close line decimals start cursor depth old opened final place inside byte blanks within closing
+    at begun made =
     let text = both line false start (start + 1) (cursor + 1) (begin_object ∷ []) (end_object ∷ [])
     (here line false start (start + 1) begin_object refl (byte_then line start 123 inside byte))
     (one line false (start + 1) cursor (cursor + 1) end_object refl blanks
@@ -287,13 +304,16 @@ no_members_close line decimals start cursor depth old opened final place inside 
       });
     }
 
-pub members_close : (line : List ℕ) (decimals : Bool) (start cursor end stop depth : ℕ) (old opened now new final : List Node)
-    (place : ℕ) → MembersSoFar line decimals start cursor depth opened now → ReadsMember line decimals cursor end depth now new
+pub members_close : (line : List ℕ) (decimals : Bool) (start cursor end stop depth : ℕ)
+    (old opened now new final : List Node)
+    (place : ℕ) → MembersSoFar line decimals start cursor depth opened now
+    → ReadsMember line decimals cursor end depth now new
     → Blanks line end stop → stop < length line → get_or line stop 0 ≡ 125
     → place ≡ length old → opened ≡ old ++ (Object 0 ∷ [])
     → final ≡ set (new ++ (EndObject ∷ [])) place (Object (length new + 1))
     → Reads line decimals start (stop + 1) (depth + 1) old final
-members_close line decimals start cursor end stop depth old opened now new final place s m blanks within closing at begun
+members_close line decimals start cursor end stop depth old opened now new final place s m blanks within
+    closing at begun
     made =
     let ms = s.whole (member m.name m.value no_members) in
     let more = key m.name ∷ json_tokens m.value in

@@ -52,7 +52,8 @@ passes all i end s =
     )
 
 -- the line is a value's text, behind blanks
-pub whole_line : (line : List ℕ) (decimals : Bool) (from end : ℕ) (empty nodes : List Node) → Blanks line 0 from
+pub whole_line : (line : List ℕ) (decimals : Bool) (from end : ℕ) (empty nodes : List Node)
+    → Blanks line 0 from
     → Reads line decimals from end 127 empty nodes → end ≡ length line → empty ≡ [] → length nodes ≤ 16777218
     → IsRead decimals line nodes
 whole_line line decimals from end empty nodes blanks r all none few =
@@ -81,7 +82,8 @@ whole_line line decimals from end empty nodes blanks r all none few =
     document_is : (j : Json) (ts : List Token) → ts ≡ json_tokens j → tree.depth j ≤ 127
         → option_and_then (λ p. if_last p.0 p.1) (value max_depth ts) ≡ Some j
     document_is j ts e shallow =
-        ap (λ l. option_and_then (λ p. if_last p.0 p.1) (value max_depth l)) (e ∙ sym (append-nil (json_tokens j)))
+        ap (λ l. option_and_then (λ p. if_last p.0 p.1) (value max_depth l)) (e
+        ∙ sym (append-nil (json_tokens j)))
         ∙ ap (option_and_then (λ p. if_last p.0 p.1))
         (value-json_tokens j max_depth [] (omega arith))
 

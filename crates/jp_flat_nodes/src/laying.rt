@@ -1,4 +1,5 @@
-//! What the kit has read of a line, laid as nodes whose texts stand one behind another in a text of their own.
+//! What the kit has read of a line, laid as nodes whose texts stand one behind another in a text of their
+//! own.
 
 ghost use Rattle.std.specs.Prelude.{◌≡◌, ◌≤◌, IfOk, OnOk, length, map};
 ghost use Rattle.json.specs.Tape.{Linked, node_token};

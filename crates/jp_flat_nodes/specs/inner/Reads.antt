@@ -130,4 +130,5 @@ pub record IsUnsigned (line : List ℕ) (decimals : Bool) (from end : ℕ) : Typ
       (after_whole (piece line from (end - from)))) ≡ Some []
   pub few : decimals ≡ false → are_few_digits (piece line from (end - from)) ≡ true
   pub short : decimals ≡ true → end - from ≤ 290
-  pub plain : decimals ≡ true → list_all is_no_e (take (end - from - 10) (piece line from (end - from))) ≡ true
+  pub plain : decimals ≡ true → list_all is_no_e (take (end - from - 10) (piece line from
+      (end - from))) ≡ true

@@ -17,13 +17,15 @@ new-requires-clause-held c =
     let line = c.args.line.now in
     let short : length line ≤ max_line = omega arith in
     subst (IsHeld line) (sym c.deref.ensures.value)
-    (read_grammar line c.read_decimal_line.new.nodes.items (c.if-read_decimal_line.ensures refl) c.in-Ok.ensures.1 short).held
+    (read_grammar line c.read_decimal_line.new.nodes.items
+    (c.if-read_decimal_line.ensures refl) c.in-Ok.ensures.1 short).held
 
 pub returns-then-read_decimal_line : goal.returns-then-read_decimal_line
 returns-then-read_decimal_line c =
     let line = c.args.line.now in
     let short : length line ≤ max_line = omega arith in
-    sym ((read_grammar line c.read_decimal_line.new.nodes.items (c.if-read_decimal_line.ensures refl) c.in-Ok.ensures.1
+    sym ((read_grammar line c.read_decimal_line.new.nodes.items
+    (c.if-read_decimal_line.ensures refl) c.in-Ok.ensures.1
     short).value
     ∙ ap₂ (λ bytes nodes. Ok (value_at (tokens_at bytes nodes))) (sym c.new.ensures.text)
     (sym c.deref.ensures.value ∙ sym c.new.ensures.nodes))

@@ -5,7 +5,8 @@ use Rattle.jp_flat_nodes.proofs.bytes.digits_end.Given as goal
 
 abbrev pub invariant-loop-at : goal.invariant-loop-at
 invariant-loop-at l =
-    (l.from + prefix_len is_ascii_digit (drop l.from l.line) ≡ l.at + prefix_len is_ascii_digit (drop l.at l.line))
+    (l.from + prefix_len is_ascii_digit (drop l.from l.line) ≡ l.at + prefix_len is_ascii_digit
+    (drop l.at l.line))
     × (l.at ≤ length l.line)
 
 abbrev pub decreases-loop-at : goal.decreases-loop-at

@@ -13,8 +13,10 @@ returns-then-goes_on c h =
     let at = c.args.at in
     let put = c.put.ensures (omega arith) in
     let more = c.if-goes_on.ensures refl in
-    subst (λ e. Reads line c.args.decimals at e c.args.depth c.args.nodes.now.items c.put.new.nodes.items) (sym put.0)
-    (leaf line c.args.decimals at (at + 4) c.args.depth _ _ (Truth true) (boolean true) (token.boolean true) (omega arith)
+    subst (λ e. Reads line c.args.decimals at e c.args.depth c.args.nodes.now.items c.put.new.nodes.items)
+    (sym put.0)
+    (leaf line c.args.decimals at (at + 4) c.args.depth _ _ (Truth true) (boolean true)
+    (token.boolean true) (omega arith)
     refl refl tt refl refl refl (byte_then line at 116 (omega arith) (omega arith)
     ∙ ap (λ l. 116 ∷ l) more.1) refl tt put.1)
 
@@ -24,7 +26,9 @@ returns-then-goes_on-2 c h =
     let at = c.args.at in
     let put = c.put-then-goes_on-2.ensures (omega arith) in
     let more = c.if-goes_on-2.ensures refl in
-    subst (λ e. Reads line c.args.decimals at e c.args.depth c.args.nodes.now.items c.put-then-goes_on-2.new.nodes.items)
+    subst
+    (λ e. Reads line c.args.decimals at e c.args.depth c.args.nodes.now.items
+    c.put-then-goes_on-2.new.nodes.items)
     (sym put.0)
     (leaf line c.args.decimals at (at + 4) c.args.depth _ _ Null null token.null (omega arith)
     refl refl tt refl refl refl (byte_then line at 110 (omega arith) (omega arith)
@@ -41,7 +45,8 @@ returns-then-byte_at-eq101 c h =
     let back : at + 4 + 1 ≡ at + 5 = omega arith in
     subst (λ e. Reads line c.args.decimals at e c.args.depth c.args.nodes.now.items
     c.put-then-byte_at-eq101.new.nodes.items) (sym put.0)
-    (leaf line c.args.decimals at (at + 5) c.args.depth _ _ (Truth false) (boolean false) (token.boolean false) (omega arith)
+    (leaf line c.args.decimals at (at + 5) c.args.depth _ _ (Truth false) (boolean false)
+    (token.boolean false) (omega arith)
     refl refl tt refl refl refl (byte_then line at 102 (omega arith) (omega arith)
     ∙ ap (λ l. 102 ∷ l) (more.1 ∙ ap (λ l. 97 ∷ 108 ∷ 115 ∷ l) (last
     ∙ ap (λ i. 101 ∷ drop i line) back))) refl tt put.1)

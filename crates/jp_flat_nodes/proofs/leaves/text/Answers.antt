@@ -9,5 +9,6 @@ returns c h =
     let stop = c.closing-stop.result in
     let is = c.closing-stop.ensures (omega arith) in
     let put = c.put.ensures (omega arith) in
-    text_leaf line c.args.decimals at stop c.put.result (stop - at - 1) c.args.depth _ _ (omega arith) c.requires.1 is
+    text_leaf line c.args.decimals at stop c.put.result (stop - at - 1) c.args.depth _ _
+    (omega arith) c.requires.1 is
     put.0 (omega arith) put.1

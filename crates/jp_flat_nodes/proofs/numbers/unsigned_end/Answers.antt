@@ -3,6 +3,7 @@ use Rattle.jp_flat_nodes.specs.inner.Reads.{IsUnsigned}
 use Rattle.jp_flat_nodes.proofs.Fractions.{digits_alone}
 use Rattle.jp_flat_nodes.proofs.numbers.unsigned_end.Goals as goal
 use Rattle.jp_flat_nodes.proofs.numbers.unsigned_end.Goals.{then-not-decimals-via-then-not-decimals}
+use Rattle.jp_flat_nodes.proofs.numbers.unsigned_end.Goals.{}
 use Rattle.jp_flat_nodes.proofs.numbers.unsigned_end.Goals.{then-not-decimals-via-else-not-decimals+then-whole-line}
 
 pub returns-then-not-decimals : goal.returns-then-not-decimals

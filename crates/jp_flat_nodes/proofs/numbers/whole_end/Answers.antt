@@ -2,6 +2,7 @@ use Rattle.std.proofs.Common.{◌∙◌, arith}
 use Rattle.jp_flat_nodes.proofs.Digits.{digits_are}
 use Rattle.jp_flat_nodes.proofs.numbers.whole_end.Goals as goal
 use Rattle.jp_flat_nodes.proofs.numbers.whole_end.Goals.{else-byte_at-eq48-via-else-byte_at-eq48}
+use Rattle.jp_flat_nodes.proofs.numbers.whole_end.Goals.{}
 use Rattle.jp_flat_nodes.proofs.numbers.whole_end.Goals.{else-byte_at-eq48-via-then-byte_at-eq48+else-end-from-2}
 
 pub returns : goal.returns

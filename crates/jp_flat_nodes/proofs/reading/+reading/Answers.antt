@@ -14,8 +14,10 @@ array-returns-then-byte_at-eq93 t c h =
     let old = c.args.nodes.now.items in
     let closed = c.close_array.ensures (omega arith) in
     let here : c.len-place.result ≡ length old = search rules in
-    subst (λ e. Reads line c.args.decimals c.args.at e (c.args.depth + 1) old c.close_array.new.nodes.items) (sym closed.0)
-    (no_items_close line c.args.decimals c.args.at c.blanks_end-cursor.result c.args.depth old c.push.new.nodes.items
+    subst (λ e. Reads line c.args.decimals c.args.at e
+    (c.args.depth + 1) old c.close_array.new.nodes.items) (sym closed.0)
+    (no_items_close line c.args.decimals c.args.at c.blanks_end-cursor.result c.args.depth old
+    c.push.new.nodes.items
     c.close_array.new.nodes.items c.len-place.result (omega arith) c.requires.1
     (blanks line (c.args.at + 1) c.blanks_end-cursor.result c.blanks_end-cursor.ensures)
     (c.byte_at.ensures.within (λ e. omega arith)) (omega (arith, c.byte_at.ensures.value)) here
@@ -28,7 +30,8 @@ array-loop-cursor-init t c =
     let opened = c.push.new.nodes.items in
     let here : c.len-place.result ≡ length old = search rules in
     record {
-      items = items_begin line c.args.decimals c.args.at c.blanks_end-cursor.result c.args.depth opened (omega arith)
+      items = items_begin line c.args.decimals c.args.at c.blanks_end-cursor.result c.args.depth opened
+          (omega arith)
           c.requires.1 (blanks line (c.args.at + 1) c.blanks_end-cursor.result c.blanks_end-cursor.ensures);
       place = omega (arith, one_longer old opened (Array 0) (c.push.ensures c.if-not-push.false));
     }
@@ -42,9 +45,11 @@ array-loop-cursor-preserved t c =
     let within = c.byte_at-in-loop-cursor.ensures.within (λ e. omega arith) in
     let v = c.value-end.ensures (omega arith) in
     let comma = byte_then line end 44 (omega arith)
-    (ap (λ i. get_or line i 0) (sym c.if-stop-end.true) ∙ omega (arith, c.byte_at-in-loop-cursor.ensures.value)) in
+    (ap (λ i. get_or line i 0) (sym c.if-stop-end.true) ∙ omega
+    (arith, c.byte_at-in-loop-cursor.ensures.value)) in
     record {
-      items = items_more line c.args.decimals c.args.at c.loop-cursor.cursor end c.blanks_end-cursor-in-44.result c.args.depth
+      items = items_more line c.args.decimals c.args.at c.loop-cursor.cursor end
+          c.blanks_end-cursor-in-44.result c.args.depth
           c.push.new.nodes.items now new c.loop-cursor.invariant.items v comma
           (subst (λ k. Blanks line (k + 1) c.blanks_end-cursor-in-44.result) c.if-stop-end.true
           (blanks line (c.blanks_end-stop.result + 1) c.blanks_end-cursor-in-44.result
@@ -73,13 +78,15 @@ array-returns-in-93 t c h =
     let v = c.value-end.ensures (omega (arith, c.blanks_end-stop.ensures)) in
     let closed = c.close_array-in-93.ensures (omega arith) in
     let here : c.len-place.result ≡ length old = search rules in
-    subst (λ e. Reads line c.args.decimals c.args.at e (c.args.depth + 1) old c.close_array-in-93.new.nodes.items)
+    subst (λ e. Reads line c.args.decimals c.args.at e
+    (c.args.depth + 1) old c.close_array-in-93.new.nodes.items)
     (sym closed.0)
     (items_close line c.args.decimals c.args.at c.loop-cursor.cursor c.value-end.result stop c.args.depth old
     c.push.new.nodes.items c.loop-cursor.nodes.items c.value-end.new.nodes.items
     c.close_array-in-93.new.nodes.items c.len-place.result c.loop-cursor.invariant.items v
     (blanks line c.value-end.result stop c.blanks_end-stop.ensures) within
-    (omega (arith, c.byte_at-in-loop-cursor.ensures.value)) here (c.push.ensures c.if-not-push.false) closed.1)
+    (omega (arith, c.byte_at-in-loop-cursor.ensures.value)) here
+    (c.push.ensures c.if-not-push.false) closed.1)
 
 pub object-returns-then-byte_at-eq125 : goal.object-returns-then-byte_at-eq125
 object-returns-then-byte_at-eq125 t c h =
@@ -87,8 +94,10 @@ object-returns-then-byte_at-eq125 t c h =
     let old = c.args.nodes.now.items in
     let closed = c.close_object.ensures (omega arith) in
     let here : c.len-place.result ≡ length old = search rules in
-    subst (λ e. Reads line c.args.decimals c.args.at e (c.args.depth + 1) old c.close_object.new.nodes.items) (sym closed.0)
-    (no_members_close line c.args.decimals c.args.at c.blanks_end-cursor.result c.args.depth old c.push.new.nodes.items
+    subst (λ e. Reads line c.args.decimals c.args.at e
+    (c.args.depth + 1) old c.close_object.new.nodes.items) (sym closed.0)
+    (no_members_close line c.args.decimals c.args.at c.blanks_end-cursor.result c.args.depth old
+    c.push.new.nodes.items
     c.close_object.new.nodes.items c.len-place.result (omega arith) c.requires.1
     (blanks line (c.args.at + 1) c.blanks_end-cursor.result c.blanks_end-cursor.ensures)
     (c.byte_at.ensures.within (λ e. omega arith)) (omega (arith, c.byte_at.ensures.value)) here
@@ -101,7 +110,8 @@ object-loop-cursor-init t c =
     let opened = c.push.new.nodes.items in
     let here : c.len-place.result ≡ length old = search rules in
     record {
-      members = members_begin line c.args.decimals c.args.at c.blanks_end-cursor.result c.args.depth opened (omega arith)
+      members = members_begin line c.args.decimals c.args.at c.blanks_end-cursor.result c.args.depth opened
+          (omega arith)
           c.requires.1 (blanks line (c.args.at + 1) c.blanks_end-cursor.result c.blanks_end-cursor.ensures);
       place = omega (arith, one_longer old opened (Object 0) (c.push.ensures c.if-not-push.false));
     }
@@ -121,9 +131,11 @@ object-loop-cursor-preserved t c =
     (c.key-inside.ensures (omega (arith, v.later, c.blanks_end.ensures)))
     (blanks line inside from c.blanks_end.ensures) v in
     let comma = byte_then line end 44 (omega arith)
-    (ap (λ i. get_or line i 0) (sym c.if-stop-end.true) ∙ omega (arith, c.byte_at-in-loop-cursor.ensures.value)) in
+    (ap (λ i. get_or line i 0) (sym c.if-stop-end.true) ∙ omega
+    (arith, c.byte_at-in-loop-cursor.ensures.value)) in
     record {
-      members = members_more line c.args.decimals c.args.at c.loop-cursor.cursor end c.blanks_end-cursor-in-44.result
+      members = members_more line c.args.decimals c.args.at c.loop-cursor.cursor end
+          c.blanks_end-cursor-in-44.result
           c.args.depth c.push.new.nodes.items now new c.loop-cursor.invariant.members m comma
           (subst (λ k. Blanks line (k + 1) c.blanks_end-cursor-in-44.result) c.if-stop-end.true
           (blanks line (c.blanks_end-stop.result + 1) c.blanks_end-cursor-in-44.result
@@ -164,9 +176,12 @@ object-returns-in-125 t c h =
     (blanks line inside from c.blanks_end.ensures) v in
     let closed = c.close_object-in-125.ensures (omega arith) in
     let here : c.len-place.result ≡ length old = search rules in
-    subst (λ e. Reads line c.args.decimals c.args.at e (c.args.depth + 1) old c.close_object-in-125.new.nodes.items)
+    subst (λ e. Reads line c.args.decimals c.args.at e
+    (c.args.depth + 1) old c.close_object-in-125.new.nodes.items)
     (sym closed.0)
-    (members_close line c.args.decimals c.args.at c.loop-cursor.cursor end stop c.args.depth old c.push.new.nodes.items now
+    (members_close line c.args.decimals c.args.at c.loop-cursor.cursor end stop c.args.depth old
+    c.push.new.nodes.items now
     new c.close_object-in-125.new.nodes.items c.len-place.result c.loop-cursor.invariant.members m
     (blanks line end stop c.blanks_end-stop.ensures) within
-    (omega (arith, c.byte_at-in-loop-cursor.ensures.value)) here (c.push.ensures c.if-not-push.false) closed.1)
+    (omega (arith, c.byte_at-in-loop-cursor.ensures.value)) here
+    (c.push.ensures c.if-not-push.false) closed.1)

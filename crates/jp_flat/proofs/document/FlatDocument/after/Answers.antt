@@ -24,7 +24,8 @@ pub returns-in_default : goal.returns-in_default
 returns-in_default c =
     let d = c.args.self.now in
     record {
-      value = λ depth j rest e. one_token d.text.now _ _ j depth rest (λ a z. grind arith) (λ a z. grind arith)
+      value = λ depth j rest e. one_token d.text.now _ _ j depth rest (λ a z. grind arith)
+          (λ a z. grind arith)
           (ap (value depth) (sym (here d.text.now d.nodes.now c.args.at (Object 0) c.requires)) ∙ e);
       later = omega arith;
     }

@@ -48,7 +48,8 @@ returns-in-Key-clause-value c =
     let here = behind c.args.self c.node.result _ _ c.node.ensures.token c.in-Key.is in
     (split_members _ _ _ _ c.args.self.flat here c.after-end.ensures.value).entries
     ∙ ap (λ k. (chars k, value_at (drop (c.args.self.at + 1) (document_tokens c.args.self.document.now)))
-    ∷ entries_at (drop c.after-end.result (document_tokens c.args.self.document.now))) (sym c.piece-name.ensures)
+    ∷ entries_at (drop c.after-end.result (document_tokens c.args.self.document.now)))
+    (sym c.piece-name.ensures)
 
 pub returns-in-Key-clause-fewer : goal.returns-in-Key-clause-fewer
 returns-in-Key-clause-fewer c =

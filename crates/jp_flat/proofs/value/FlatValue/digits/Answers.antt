@@ -13,7 +13,8 @@ returns-in-Number c =
     let fit = number_is_fit bytes ts c.node.result _ _ c.args.self.flat c.node.ensures.token c.in-Number.is in
     let tells = subst (λ n. Tells bytes n (value_at ts)) c.in-Number.is
     (node_tells bytes ts c.node.result c.args.self.flat c.node.ensures.token) in
-    ap Some (c.piece.ensures ∙ sym (own_text _ fit)) ∙ sym (ap (λ v. option_map number_text (number_in v)) tells)
+    ap Some (c.piece.ensures ∙ sym (own_text _ fit)) ∙ sym (ap (λ v. option_map number_text
+    (number_in v)) tells)
 
 pub returns-in_default : goal.returns-in_default
 returns-in_default c =
