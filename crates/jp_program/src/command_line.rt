@@ -61,7 +61,7 @@ pub(crate) struct Wanted<'a> {
     pub(crate) query: &'a str,
     /// Only whether the query is accepted.
     pub(crate) check: bool,
-    /// Whether a refusal, or the first faulty lines, are to be explained.
+    /// Whether the first faulty lines are to be explained.
     pub(crate) explain: bool,
     pub(crate) settings: Settings,
 }
@@ -136,7 +136,7 @@ fn with_numbers<'a>(alloc: Global, command: Command<'a>) -> Result<Command<'a>, 
 }
 
 /// The command, with the query, whether it is only checked, which numbers are read, whether faulty lines are
-/// passed, and whether a refusal is to be explained.
+/// passed, and whether they are to be explained.
 fn with_query<'a>(alloc: Global, command: Command<'a>) -> Result<Command<'a>, AllocError>
     ensures { IfOk result (λ r. app_of r ≡ query_of (app_of command.entry)) }
 {
@@ -144,8 +144,7 @@ fn with_query<'a>(alloc: Global, command: Command<'a>) -> Result<Command<'a>, Al
     let decimals = "Read every JSON number, exactly, and print it as it stands \
         (default: whole numbers of 64 bits)";
     let keep_going = "Write a line for each faulty line too, and go on";
-    let explain =
-        "Say where a refused query or a faulty line went wrong, in lines behind its fault";
+    let explain = "Say where a faulty line went wrong, in lines behind its fault";
     let command = command.arg(flag(alloc, "check", check))?;
     let command = command.arg(flag(alloc, "decimals", decimals))?;
     let command = command.arg(flag(alloc, "keep-going", keep_going))?;

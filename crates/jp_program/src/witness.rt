@@ -1,6 +1,7 @@
 //! The first faulty lines of a run, for whoever asks where they went wrong.
 
 ghost use Rattle.std.specs.Prelude.{◌≡◌, true};
+ghost use Rattle.jp_run.specs.Status.{status_of};
 
 use crate::command::note_text;
 use jp_doc::DocFault;
@@ -62,6 +63,7 @@ impl Witness {
     /// Writes the texts behind the fault of a line. Behind another fault no line is told, and so no place.
     pub(crate) fn tell_behind<N: Sink>(&self, notes: &mut N, fault: &RunFault)
         ensures untouched { N.failed notes.old ≡ true → notes.new ≡ notes.old }
+        ensures other { status_of fault.now ≡ 2 → notes.new ≡ notes.old }
     {
         if let RunFault::Document { .. } = fault {
             self.tell(notes);

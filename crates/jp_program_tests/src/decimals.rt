@@ -65,8 +65,10 @@ fn filters_compare_exactly(rt: HostRuntime) {
 fn queries_have_them_too(rt: HostRuntime) {
     let line = b"[8.95,8.99,1e1]";
     let cheap = b"1\t$[0]\t8.95\n";
-    let fraction = b"jp: query: fraction\n";
-    let range = b"jp: query: range\n";
+    let fraction = b"jp: query: fraction\n$[?@<8.990]\n     ^\n\
+        a number is whole: no fraction, no exponent; --decimals allows both\n";
+    let range = b"jp: query: range\n$[?@<1e1000000000]\n     ^\n\
+        a number has 1,000 digits at most, its exponent 9\n";
     let query = "$[?@<8.990]";
     assert!(rt; leaves(&rt, &["jp", "--decimals", query], line, 0, cheap, b""));
     assert!(rt; leaves(&rt, &["jp", query], line, 2, b"", fraction));

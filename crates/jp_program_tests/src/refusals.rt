@@ -70,26 +70,18 @@ fn a_refused_command_line(rt: HostRuntime) {
 /// What the program notes of a refused query has room in such an array.
 const LONG_ROOM: usize = 100;
 
-/// A query that is refused, and explained where there is memory for that too.
+/// A query that is refused, and explained where there is memory for that.
 fn explained<R: Threads + AllocGlobal + Sync>(rt: &R) -> Option<bool> {
     let input: &[u8] = b"{";
     let (mut output, mut notes) = ([0u8; ROOM], [0u8; LONG_ROOM]);
     let mut source = FromReader::new(input);
     let mut sink = FromWriter::new(output.as_mut_slice());
     let mut told = FromWriter::new(notes.as_mut_slice());
-    match program(
-        rt,
-        &["jp", "--explain", "$.a b"],
-        &mut source,
-        &mut sink,
-        &mut told,
-    ) {
+    match program(rt, &["jp", "$.a b"], &mut source, &mut sink, &mut told) {
         2 if notes.starts_with(b"jp: query: syntax\n$.a b\n    ^\nexpected . or [: ") => {
             Some(output == [0u8; ROOM])
         }
-        2 if notes.starts_with(b"jp: query: syntax\n\0") => None,
-        // The line of the fault itself wanted memory; the explanation may stand behind.
-        2 if notes.starts_with(b"jp: memory\n$.a b\n    ^\nexpected . or [: ") => None,
+        2 if notes.starts_with(b"jp: query: syntax\njp: memory\n\0") => None,
         5 if notes.starts_with(b"jp: memory\n\0") => None,
         _ => Some(false),
     }
