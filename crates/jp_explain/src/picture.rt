@@ -2,9 +2,10 @@
 
 ghost use Rattle.std.specs.Prelude.{IfOk};
 ghost use Rattle.jp_tree.specs.View.{text_of};
-ghost use Rattle.jp_explain.specs.Picture.{IsPicture};
+ghost use Rattle.jp_explain.specs.Picture.{IsPicture, IsHelp, AreWords};
 
 use crate::characters::columns;
+use crate::cure::cure;
 use crate::explanation::Explanation;
 use crate::line::Line;
 use std::alloc::{AllocError, Global};
@@ -16,6 +17,9 @@ const COLUMNS: usize = 70;
 const COLUMNS_BEFORE: usize = 35;
 
 const COLUMNS_BEHIND: usize = 31;
+
+/// How many characters are shown of what helps.
+const HELP_CHARACTERS: usize = 100;
 
 /// The columns that are set aside for it, so that none takes no room at all.
 fn room(c: char) -> usize {
@@ -72,7 +76,34 @@ fn push_behind(line: &mut Line, text: &str, mark: usize, limit: usize) -> Result
     Ok(())
 }
 
-/// Three lines for a terminal: the query, a caret under the mark, and what is to be said of it.
+/// What helps at the mark, as a line of its own; nothing where that is not known.
+fn help(alloc: Global, query: &str, explanation: &Explanation) -> Result<String, AllocError>
+    ensures { IfOk result (λ s. IsHelp (text_of s)) }
+{
+    match cure(query, explanation) {
+        Some(cure) => {
+            let text = format!(in alloc; "{cure}")?;
+            let mut line = Line::new(alloc);
+            line.push_front(text.as_str(), HELP_CHARACTERS)?;
+            line.above(alloc, "")
+        }
+        None => Ok(String::new(alloc)),
+    }
+}
+
+/// What is to be said of the mark, and what helps there.
+fn words(alloc: Global, query: &str, explanation: &Explanation) -> Result<String, AllocError>
+    ensures { IfOk result (λ s. AreWords (text_of s)) }
+{
+    let help = help(alloc, query, explanation)?;
+    let text = format!(in alloc; "{}", explanation.reason)?;
+    let mut line = Line::new(alloc);
+    line.push_text(text.as_str())?;
+    line.above(alloc, help.as_str())
+}
+
+/// Three lines for a terminal: the query, a caret under the mark, and what is to be said of it. Where it is
+/// known what was meant, a fourth says what is to be written in its place.
 ///
 /// Control characters, and characters that show nothing or change how others stand, are shown as escapes. A
 /// query of more than 70 columns is cut on both sides of the mark, with `..` in the place of what is left
@@ -99,6 +130,6 @@ pub fn write_mark(
     push_before(&mut line, query, first, mark)?;
     let column = line.columns();
     push_behind(&mut line, query, mark, limit)?;
-    let words = format!(in alloc; "{}\n", explanation.reason)?;
+    let words = words(alloc, query, explanation)?;
     line.with_caret(alloc, column, words.as_str())
 }

@@ -9,15 +9,22 @@ use std::thread::Threads;
 
 /// Queries, each with what is told of it: its fault, and where it went wrong.
 const QUERIES: [(&str, &[u8]); 7] = [
-    ("-q", b"jp: query: syntax\n-q\n^\nexpected $\n"),
-    ("", b"jp: query: syntax\n\n^\nexpected $\n"),
+    (
+        "-q",
+        b"jp: query: syntax\n-q\n^\nexpected $\na query begins with $: $.a\n",
+    ),
+    (
+        "",
+        b"jp: query: syntax\n\n^\nexpected $\nthe query is empty: did the shell change it?\n",
+    ),
     (
         "$.a b",
         b"jp: query: syntax\n$.a b\n    ^\nexpected . or [: no blank ends a query\n",
     ),
     (
         "$.\u{9b}-",
-        b"jp: query: syntax\n$.\\u009b-\n        ^\nexpected . or [, or the end\n",
+        b"jp: query: syntax\n$.\\u009b-\n        ^\nexpected . or [, or the end\n\
+          in quotes: $[\"\\u009b-\"]\n",
     ),
     (
         "$.items[?length(@.tags)]",
