@@ -34,8 +34,8 @@ const NOTHING_SEEN: Totals = Totals {
 /// Does what the words ask for, and gives the status to end with. The first word is the program's name.
 ///
 /// Neither end has failed before, and the counts of the source are at most 2^62. A fault is told on `notes`,
-/// in one line, and in further ones that help: of a query always, of lines where the words ask to explain
-/// them. A failure to write them, or the help, is passed over.
+/// in one line, and in further ones that help: of a query where it went wrong, of a line what to do, and
+/// where it went wrong if the words ask for that. A failure to write them, or the help, is passed over.
 ///
 /// The status is 0 where the run finished, or the help, the version or a check was asked for; 2 where the
 /// query is refused; 3 where a line is faulty, also where the answer has gone on past it; 4 where
@@ -208,6 +208,7 @@ fn done<R: Threads + AllocGlobal + Sync, S: Source, K: Sink>(
                 ..
             } = wanted;
             witness.is_asked = explain;
+            witness.keeps_going = settings.keeps_going;
             witness.has_decimals = settings.decimals;
             run(rt, rt.alloc(), source, sink, query, &settings, &*witness)
         }

@@ -16,7 +16,8 @@ fn every_number_is_read(rt: HostRuntime) {
             "--decimals",
             "$.a",
         ];
-        let notes = b"jp: line 2: unreadable\n";
+        let notes = b"jp: line 2: unreadable\n\
+            jp: one document on several lines? tr '\\n' ' ' < FILE | jp ..\n";
         assert!(rt; leaves(&rt, &words, INPUT, 3, b"1\t$['a']\t2.5\n", notes));
         let words = [
             "jp",
@@ -34,7 +35,7 @@ fn every_number_is_read(rt: HostRuntime) {
 
 #[test]
 fn without_it_numbers_are_whole(rt: HostRuntime) {
-    let notes = b"jp: line 1: not whole\n";
+    let notes = b"jp: line 1: not whole\njp: --decimals reads such a number\n";
     assert!(rt; leaves(&rt, &["jp", "$.a"], INPUT, 3, b"", notes));
 }
 
