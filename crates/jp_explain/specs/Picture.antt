@@ -1,6 +1,6 @@
 -- What a terminal is given of a query, and of a line.
-use Rattle.std.specs.Prelude.{ℕ, ◌≡◌, ◌⊎◌, ◌==◌, ◌||◌, ◌&&◌, not, nat_le, Bool, true, [], ◌∷◌, ◌++◌}
-use Rattle.std.specs.Prelude.{replicate}
+use Rattle.std.specs.Prelude.{ℕ, ◌≡◌, ◌≤◌, ◌⊎◌, ◌==◌, ◌||◌, ◌&&◌, not, nat_le, Bool, true, [], ◌∷◌, ◌++◌}
+use Rattle.std.specs.Prelude.{replicate, length}
 use Rattle.std.specs.List.{list_all}
 use Rattle.unicode.specs.Binary.{is_default_ignorable_code_point}
 use Rattle.jp_tree.specs.Tree.{Text}
@@ -39,9 +39,14 @@ IsHelp t = (t ≡ []) ⊎ ((help : Text) × (is_shown help ≡ true) × (t ≡ h
 abbrev pub AreWords : Text → Type 0
 AreWords t = (said : Text) × (help : Text) × (is_shown said ≡ true) × IsHelp help × (t ≡ said ++ (10 ∷ help))
 
--- such a text, whose words are so
-abbrev pub IsPicture : Text → Type 0
-IsPicture t = (words : Text) × AreWords words × IsPictureWith words t
+-- the line shows a text of at most 35 characters, in which none has to be escaped, just as it is
+abbrev pub ShowsShort : Text → Text → Type 0
+ShowsShort t line = is_shown t ≡ true → length t ≤ 35 → line ≡ t
+
+-- such a text, whose words are so, and whose first line shows the query
+abbrev pub IsPicture : Text → Text → Type 0
+IsPicture query t = (line : Text) × (column : ℕ) × (words : Text) × ShowsShort query line
+    × (is_shown line ≡ true) × AreWords words × (t ≡ picture line column words)
 
 -- a line that says something, in which no character has to be escaped, and such a text with no words below it
 abbrev pub IsLinePicture : Text → Type 0

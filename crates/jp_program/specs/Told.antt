@@ -2,6 +2,7 @@
 use Rattle.std.specs.Prelude.{◌≡◌, ℕ, ◌⊎◌, Bool, true, List, ◌++◌, Option, codes}
 use Rattle.std.specs.Str.{chars}
 use Rattle.std.specs.Io.KnownBytes.{Appends}
+use Rattle.jp_tree.specs.Tree.{Text}
 use Rattle.jp_tree.specs.declared.fault.QueryFault.{QueryFault}
 use Rattle.jp_tree.specs.declared.fault.QueryFault.TheVariants.{TooDeep, Syntax, Fraction, Range, IllTyped}
 use Rattle.jp_tree.specs.declared.fault.QueryFault.TheVariants.{Memory}
@@ -22,10 +23,11 @@ refusal_line Memory = memory_line
 
 -- the line of a refusal, and behind it the lines that show where the query went wrong, or that memory was
 -- wanted for them
-abbrev pub IsRefusalNote : QueryFault → List ℕ → Type 0
-IsRefusalNote f bytes = (more : List ℕ) × (bytes ≡ refusal_line f ++ more)
-    × (IsPicture (chars more) ⊎ (more ≡ memory_line))
+abbrev pub IsRefusalNote : Text → QueryFault → List ℕ → Type 0
+IsRefusalNote query f bytes = (more : List ℕ) × (bytes ≡ refusal_line f ++ more)
+    × (IsPicture query (chars more) ⊎ (more ≡ memory_line))
 
 -- the notes were told so behind what they had, or they have failed
-abbrev pub IsTold : QueryFault → Bool → Option (List ℕ) → Option (List ℕ) → Type 0
-IsTold f failed old new = (failed ≡ true) ⊎ ((bytes : List ℕ) × IsRefusalNote f bytes × Appends old new bytes)
+abbrev pub IsTold : Text → QueryFault → Bool → Option (List ℕ) → Option (List ℕ) → Type 0
+IsTold query f failed old new = (failed ≡ true)
+    ⊎ ((bytes : List ℕ) × IsRefusalNote query f bytes × Appends old new bytes)

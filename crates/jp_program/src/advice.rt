@@ -1,6 +1,6 @@
 //! What helps where a command line or a query is refused.
 
-ghost use Rattle.std.specs.Prelude.{◌≡◌, true, Err, IfOk, IfSome, IfNone, IsSome};
+ghost use Rattle.std.specs.Prelude.{◌≡◌, true, Err, IfOk, IfSome, IfNone, IsSomeAnd};
 ghost use Rattle.std.specs.Str.{chars};
 ghost use Rattle.clap.specs.Walk.{texts};
 ghost use Rattle.jp_tree.specs.declared.fault.QueryFault.{QueryFault as Refusal};
@@ -27,7 +27,7 @@ pub(crate) fn tell_of_words<N: Sink>(alloc: Global, notes: &mut N, words: &[&str
     ensures untouched { N.failed notes.old ≡ true → notes.new ≡ notes.old }
     ensures refused { (f : Refusal) (w : Wish) → fault.now ≡ RunFault.Query f → Wants (texts words.now) w
         → IsVerdictIn (numbers_of w.decimals) w.query (Err f)
-        → IsTold f (N.failed notes.new) (N.contents notes.old) (N.contents notes.new) }
+        → IsTold w.query f (N.failed notes.new) (N.contents notes.old) (N.contents notes.new) }
 {
     match fault {
         RunFault::Query(refusal) => tell_refusal(alloc, notes, words, *refusal),
@@ -48,7 +48,7 @@ fn tell_refusal<N: Sink>(alloc: Global, notes: &mut N, words: &[&str], refusal: 
     ensures untouched { N.failed notes.old ≡ true → notes.new ≡ notes.old }
     ensures told { (w : Wish) → Wants (texts words.now) w
         → IsVerdictIn (numbers_of w.decimals) w.query (Err refusal)
-        → IsTold refusal (N.failed notes.new) (N.contents notes.old) (N.contents notes.new) }
+        → IsTold w.query refusal (N.failed notes.new) (N.contents notes.old) (N.contents notes.new) }
 {
     note_text(notes, refusal_line(refusal));
     match explanation(alloc, words) {
@@ -74,9 +74,9 @@ fn refusal_line(refusal: QueryFault) -> &'static str
 
 /// The lines that show where the wanted query went wrong; none where it is accepted, or none is wanted.
 fn explanation(alloc: Global, words: &[&str]) -> Result<Option<String>, RunFault>
-    ensures shown { IfOk result (λ o. IfSome o (λ s. IsPicture (text_of s))) }
-    ensures refused { (f : Refusal) (w : Wish) → Wants (texts words.now) w
-        → IsVerdictIn (numbers_of w.decimals) w.query (Err f) → IfOk result IsSome }
+    ensures { (f : Refusal) (w : Wish) → Wants (texts words.now) w
+        → IsVerdictIn (numbers_of w.decimals) w.query (Err f)
+        → IfOk result (λ o. IsSomeAnd o (λ s. IsPicture w.query (text_of s))) }
 {
     match read_words(alloc, words)? {
         Asked::Query(wanted) => {
@@ -90,7 +90,7 @@ fn explanation(alloc: Global, words: &[&str]) -> Result<Option<String>, RunFault
 /// The lines that show where a query went wrong, whose literals may be these numbers; none of an accepted
 /// one.
 fn lines_of(alloc: Global, query: &str, numbers: Numbers) -> Result<Option<String>, AllocError>
-    ensures shown { IfOk result (λ o. IfSome o (λ s. IsPicture (text_of s))) }
+    ensures shown { IfOk result (λ o. IfSome o (λ s. IsPicture (chars query.now) (text_of s))) }
     ensures accepted { IfOk result (λ o. IfNone o (IsQuery numbers (chars query.now))) }
 {
     match explain(alloc, query, numbers)? {

@@ -70,7 +70,7 @@ pub fn program<R: Threads + AllocGlobal + Sync, S: Source, K: Sink, N: Sink>(
     // memory was wanted for them; or the notes have failed.
     ensures told { (f : Refusal) (w : Wish) → result ≡ 2 → Wants (texts words.now) w
         → IsVerdictIn (numbers_of w.decimals) w.query (Err f)
-        → IsTold f (N.failed notes.new) (N.contents notes.old) (N.contents notes.new) }
+        → IsTold w.query f (N.failed notes.new) (N.contents notes.old) (N.contents notes.new) }
     // 3: the answer before the first faulty line was written, and no read followed the one
     // that completed its batch; or to keep going was asked for, and the answer that does was written and
     // passed on, it has passed faulty lines, and neither end has failed.

@@ -18,7 +18,7 @@ returns-clause-told g c = λ f w two wants v.
     let same = c.in-Err.ensures.refused f w wants v in
     let is = refused_as c.in-Err.fault f c.status-in-Err.result two
     (λ m. c.status-in-Err.ensures ∙ ap status_of m) same.0 in
-    told_still g.N.Sink.failed g.N.Sink.contents f c.args.notes.now c.tell_of_words.new.notes
+    told_still g.N.Sink.failed g.N.Sink.contents w.query f c.args.notes.now c.tell_of_words.new.notes
     c.tell_behind.new.notes (c.tell_behind.ensures.other (sym c.status-in-Err.ensures ∙ two))
     (c.tell_of_words.ensures.refused f w is wants v)
 
