@@ -2,7 +2,7 @@
 _jp() {
     local word=${COMP_WORDS[COMP_CWORD]}
     case ${COMP_WORDS[COMP_CWORD - 1]} in
-        --output)
+        -o | --output)
             mapfile -t COMPREPLY < <(compgen -W 'nodes values texts lines' -- "$word")
             return
             ;;

@@ -1,7 +1,7 @@
 -- Lines in which no character has to be escaped.
 use Rattle.std.proofs.Common.{◌≡◌, ℕ, Bool, true, false, not, List, [], ◌∷◌, ◌++◌, refl, ap, ◌∙◌}
-use Rattle.std.proofs.Common.{append_assoc, ◌<◌, length, get_or, sym, true≢false}
-use Rattle.std.proofs.Common.{Result, Ok, Err}
+use Rattle.std.proofs.Common.{append_assoc, ◌<◌, ◌≤◌, length, get_or, sym, true≢false}
+use Rattle.std.proofs.Common.{Result, Ok, Err, inr}
 use Rattle.std.specs.Prelude.{String, IfOk, OnOk, is_ok, if◌then◌else◌}
 use Rattle.std.specs.declared.alloc.Global.{Global}
 use Rattle.std.specs.Str.{chars, IsUtf8}
@@ -11,8 +11,8 @@ use Rattle.std.proofs.Math.Utf8.{encode, scalars}
 use Rattle.jp_tree.specs.Tree.{Text}
 use Rattle.jp_tree.specs.View.{text_of}
 use Rattle.jp_tokens.proofs.Cuts.{pushed}
-use Rattle.jp_explain.specs.Picture.{is_escaped, is_shown, picture, IsPictureWith, IsPicture}
-use Rattle.jp_explain.specs.Picture.{IsLinePicture}
+use Rattle.jp_explain.specs.Picture.{is_escaped, is_shown, picture, IsPictureWith, IsPicture, ShowsShort}
+use Rattle.jp_explain.specs.Picture.{IsLinePicture, IsHelp, AreWords}
 
 all_pushed : (p : ℕ → Bool) (xs : List ℕ) (c : ℕ) → list_all p xs ≡ true → p c ≡ true
     → list_all p (xs ++ c ∷ []) ≡ true
@@ -52,11 +52,41 @@ pictured (Ok s) line column words given same shown value =
     (line, column, shown, value ∙ ap (picture line column) same)
 pictured (Err e) line column words given same shown value = tt
 
--- the same, whatever the words
-pub some_words : {E : Type 0} (r : Result (String Global) E) (words : Text)
-    → IfOk r (λ s. IsPictureWith words (text_of s)) → IfOk r (λ s. IsPicture (text_of s))
-some_words (Ok s) words shown = (words, shown)
-some_words (Err e) words shown = tt
+-- a line that shows a query with a caret below it, and words
+pub query_pictured : {E : Type 0} (r : Result (String Global) E) (query line : Text) (column : ℕ)
+    (words given : Text) → given ≡ words → ShowsShort query line → is_shown line ≡ true → AreWords words
+    → IfOk r (λ s. text_of s ≡ picture line column given) → IfOk r (λ s. IsPicture query (text_of s))
+query_pictured (Ok s) query line column words given same shows shown right value =
+    (line, column, words, shows, shown, right, value ∙ ap (picture line column) same)
+query_pictured (Err e) query line column words given same shows shown right value = tt
+
+-- what is shown of a text that has no room, where each short one has
+pub cut_short : {E T : Type 0} (r : Result T E) (line : T → Text) (query : Text) (has : Bool) → has ≡ false
+    → (is_shown query ≡ true → length query ≤ 35 → has ≡ true) → IfOk r (λ x. ShowsShort query (line x))
+cut_short (Ok x) line query has off room = λ plain few.
+    let bad : false ≡ true = sym off ∙ room plain few in absurd (cc)
+cut_short (Err e) line query has off room = tt
+
+-- what is shown of a text that has room
+pub whole_short : {E T : Type 0} (r : Result T E) (line : T → Text) (query : Text)
+    → (is_shown query ≡ true → IfOk r (λ x. line x ≡ query)) → IfOk r (λ x. ShowsShort query (line x))
+whole_short (Ok x) line query whole = λ plain few. whole plain
+whole_short (Err e) line query whole = tt
+
+-- a line above nothing
+pub helped : {E : Type 0} (r : Result (String Global) E) (help given : Text) → given ≡ []
+    → is_shown help ≡ true → IfOk r (λ s. text_of s ≡ help ++ (10 ∷ given)) → IfOk r (λ s. IsHelp (text_of s))
+helped (Ok s) help given none shown value =
+    inr (help, shown, value ∙ ap (λ (t : Text). help ++ (10 ∷ t)) none)
+helped (Err e) help given none shown value = tt
+
+-- a line above what helps
+pub worded : {E : Type 0} (r : Result (String Global) E) (said help given : Text) → given ≡ help
+    → is_shown said ≡ true → IsHelp help → IfOk r (λ s. text_of s ≡ said ++ (10 ∷ given))
+    → IfOk r (λ s. AreWords (text_of s))
+worded (Ok s) said help given same shown helps value =
+    (said, help, shown, helps, value ∙ ap (λ (t : Text). said ++ (10 ∷ t)) same)
+worded (Err e) said help given same shown helps value = tt
 
 -- one text, a line feed, and another
 pub with_line_feed : (empty front back one two three : Text) → empty ≡ [] → one ≡ empty ++ front

@@ -1,5 +1,6 @@
 -- What a terminal is given of a query, and of a line.
-use Rattle.std.specs.Prelude.{ℕ, ◌≡◌, ◌==◌, ◌||◌, ◌&&◌, not, nat_le, Bool, true, [], ◌∷◌, ◌++◌, replicate}
+use Rattle.std.specs.Prelude.{ℕ, ◌≡◌, ◌≤◌, ◌⊎◌, ◌==◌, ◌||◌, ◌&&◌, not, nat_le, Bool, true, [], ◌∷◌, ◌++◌}
+use Rattle.std.specs.Prelude.{replicate, length}
 use Rattle.std.specs.List.{list_all}
 use Rattle.unicode.specs.Binary.{is_default_ignorable_code_point}
 use Rattle.jp_tree.specs.Tree.{Text}
@@ -30,8 +31,22 @@ abbrev pub IsPictureWith : Text → Text → Type 0
 IsPictureWith words t = (line : Text) × (column : ℕ) × (is_shown line ≡ true)
     × (t ≡ picture line column words)
 
-abbrev pub IsPicture : Text → Type 0
-IsPicture t = (words : Text) × IsPictureWith words t
+-- what helps, in a line of its own in which no character has to be escaped; or nothing
+abbrev pub IsHelp : Text → Type 0
+IsHelp t = (t ≡ []) ⊎ ((help : Text) × (is_shown help ≡ true) × (t ≡ help ++ 10 ∷ []))
+
+-- a line of words in which no character has to be escaped, and what helps
+abbrev pub AreWords : Text → Type 0
+AreWords t = (said : Text) × (help : Text) × (is_shown said ≡ true) × IsHelp help × (t ≡ said ++ (10 ∷ help))
+
+-- the line shows a text of at most 35 characters, in which none has to be escaped, just as it is
+abbrev pub ShowsShort : Text → Text → Type 0
+ShowsShort t line = is_shown t ≡ true → length t ≤ 35 → line ≡ t
+
+-- such a text, whose words are so, and whose first line shows the query
+abbrev pub IsPicture : Text → Text → Type 0
+IsPicture query t = (line : Text) × (column : ℕ) × (words : Text) × ShowsShort query line
+    × (is_shown line ≡ true) × AreWords words × (t ≡ picture line column words)
 
 -- a line that says something, in which no character has to be escaped, and such a text with no words below it
 abbrev pub IsLinePicture : Text → Type 0

@@ -2,6 +2,7 @@
 #![tactic(auto)]
 
 mod characters;
+mod cure;
 mod escaping;
 mod examples;
 mod explanation;
@@ -9,6 +10,7 @@ mod growth;
 mod line;
 mod line_explanation;
 mod line_picture;
+mod meant;
 mod picture;
 
 pub use escaping::escaped;

@@ -134,6 +134,18 @@ impl Line {
         Ok(())
     }
 
+    /// The line, and below it the text.
+    pub(crate) fn above(&self, alloc: Global, below: &str) -> Result<String, AllocError>
+        ensures shown { is_shown (text_of self.now.text) ≡ true }
+        ensures value { IfOk result (λ s. text_of s ≡ text_of self.now.text ++ (10 ∷ chars below.now)) }
+    {
+        let mut text = String::new(alloc);
+        push_text(&mut text, self.text.as_str())?;
+        push_character(&mut text, '\n')?;
+        push_text(&mut text, below)?;
+        Ok(text)
+    }
+
     /// The line, one with a caret behind so many blanks, and the words.
     pub(crate) fn with_caret(
         &self,

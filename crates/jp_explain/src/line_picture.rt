@@ -1,11 +1,9 @@
 //! A faulty line with its mark, as a terminal shows it.
 
-ghost use Rattle.std.specs.Prelude.{◌≡◌, [], ◌∷◌, ◌++◌, true, IfOk};
-ghost use Rattle.std.specs.Str.{chars};
+ghost use Rattle.std.specs.Prelude.{[], IfOk};
 ghost use Rattle.jp_tree.specs.View.{text_of};
-ghost use Rattle.jp_explain.specs.Picture.{is_shown, IsLinePicture, IsPictureWith};
+ghost use Rattle.jp_explain.specs.Picture.{IsLinePicture, IsPictureWith};
 
-use crate::growth::{push_character, push_text};
 use crate::line::Line;
 use crate::line_explanation::LineExplanation;
 use std::alloc::{AllocError, Global};
@@ -113,18 +111,6 @@ fn head(
     Ok(head)
 }
 
-/// What is to be said, and below it the line around the mark.
-fn joined(alloc: Global, head: &Line, picture: &str) -> Result<String, AllocError>
-    ensures shown { is_shown (text_of head.now.text) ≡ true }
-    ensures value { IfOk result (λ s. text_of s ≡ text_of head.now.text ++ (10 ∷ chars picture.now)) }
-{
-    let mut text = String::new(alloc);
-    push_text(&mut text, head.as_str())?;
-    push_character(&mut text, '\n')?;
-    push_text(&mut text, picture)?;
-    Ok(text)
-}
-
 /// Three lines for a terminal: what is to be said of the line of that number, the bytes around the mark, and
 /// a caret under it.
 ///
@@ -146,5 +132,5 @@ pub fn write_line_mark(
 {
     let head = head(alloc, number, line, explanation)?;
     let picture = marked(alloc, line, explanation.mark.min(line.len()))?;
-    joined(alloc, &head, picture.as_str())
+    head.above(alloc, picture.as_str())
 }

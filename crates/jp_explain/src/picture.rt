@@ -1,10 +1,12 @@
 //! A query with its mark, as a terminal shows it.
 
-ghost use Rattle.std.specs.Prelude.{IfOk};
+ghost use Rattle.std.specs.Prelude.{◌≡◌, ◌≤◌, true, false, length, IfOk};
+ghost use Rattle.std.specs.Str.{chars};
 ghost use Rattle.jp_tree.specs.View.{text_of};
-ghost use Rattle.jp_explain.specs.Picture.{IsPicture};
+ghost use Rattle.jp_explain.specs.Picture.{is_escaped, is_shown, ShowsShort, IsPicture, IsHelp, AreWords};
 
-use crate::characters::columns;
+use crate::characters::{columns, is_escaped};
+use crate::cure::cure;
 use crate::explanation::Explanation;
 use crate::line::Line;
 use std::alloc::{AllocError, Global};
@@ -17,13 +19,21 @@ const COLUMNS_BEFORE: usize = 35;
 
 const COLUMNS_BEHIND: usize = 31;
 
+/// How many characters are shown of what helps.
+const HELP_CHARACTERS: usize = 100;
+
 /// The columns that are set aside for it, so that none takes no room at all.
-fn room(c: char) -> usize {
-    columns(c).max(1)
+fn room(c: char) -> usize
+    ensures { is_escaped c ≡ false → result ≤ 2 }
+{
+    let taken = columns(c).max(1);
+    if is_escaped(c) { taken } else { taken.min(2) }
 }
 
 /// Whether the whole text has room.
-fn has_room(text: &str) -> bool {
+fn has_room(text: &str) -> bool
+    ensures { is_shown (chars text.now) ≡ true → length (chars text.now) ≤ 35 → result ≡ true }
+{
     let mut taken = 0usize;
     for c in text.chars() {
         taken = taken.saturating_add(room(c));
@@ -72,7 +82,82 @@ fn push_behind(line: &mut Line, text: &str, mark: usize, limit: usize) -> Result
     Ok(())
 }
 
-/// Three lines for a terminal: the query, a caret under the mark, and what is to be said of it.
+/// How many columns the first characters of the text take, so many.
+fn columns_before(text: &str, count: usize) -> usize {
+    let mut taken = 0usize;
+    for c in text.chars().take(count) {
+        taken = taken.saturating_add(columns(c));
+    }
+    taken
+}
+
+/// A line that shows a query, and the column of its mark.
+#[derive(Drop)]
+struct Shown {
+    line: Line,
+    column: usize,
+}
+
+/// The whole query.
+fn whole_query(alloc: Global, query: &str, mark: usize) -> Result<Shown, AllocError>
+    ensures { is_shown (chars query.now) ≡ true
+        → IfOk result (λ x. text_of x.line.text ≡ chars query.now) }
+{
+    let mut line = Line::new(alloc);
+    line.push_text(query)?;
+    Ok(Shown {
+        line,
+        column: columns_before(query, mark),
+    })
+}
+
+/// What of it has room around the mark.
+fn cut_query(alloc: Global, query: &str, mark: usize) -> Result<Shown, AllocError> {
+    let mut line = Line::new(alloc);
+    push_before(&mut line, query, first_shown(query, mark), mark)?;
+    let column = line.columns();
+    push_behind(&mut line, query, mark, COLUMNS_BEHIND)?;
+    Ok(Shown { line, column })
+}
+
+/// The query, as far as it has room.
+fn shown_query(alloc: Global, query: &str, mark: usize) -> Result<Shown, AllocError>
+    ensures { IfOk result (λ x. ShowsShort (chars query.now) (text_of x.line.text)) }
+{
+    if has_room(query) {
+        return whole_query(alloc, query, mark);
+    }
+    cut_query(alloc, query, mark)
+}
+
+/// What helps at the mark, as a line of its own; nothing where that is not known.
+fn help(alloc: Global, query: &str, explanation: &Explanation) -> Result<String, AllocError>
+    ensures { IfOk result (λ s. IsHelp (text_of s)) }
+{
+    match cure(query, explanation) {
+        Some(cure) => {
+            let text = format!(in alloc; "{cure}")?;
+            let mut line = Line::new(alloc);
+            line.push_front(text.as_str(), HELP_CHARACTERS)?;
+            line.above(alloc, "")
+        }
+        None => Ok(String::new(alloc)),
+    }
+}
+
+/// What is to be said of the mark, and what helps there.
+fn words(alloc: Global, query: &str, explanation: &Explanation) -> Result<String, AllocError>
+    ensures { IfOk result (λ s. AreWords (text_of s)) }
+{
+    let help = help(alloc, query, explanation)?;
+    let text = format!(in alloc; "{}", explanation.reason)?;
+    let mut line = Line::new(alloc);
+    line.push_text(text.as_str())?;
+    line.above(alloc, help.as_str())
+}
+
+/// Three lines for a terminal: the query, a caret under the mark, and what is to be said of it. Where it is
+/// known what was meant, a fourth says what is to be written in its place.
 ///
 /// Control characters, and characters that show nothing or change how others stand, are shown as escapes. A
 /// query of more than 70 columns is cut on both sides of the mark, with `..` in the place of what is left
@@ -86,19 +171,10 @@ pub fn write_mark(
     query: &str,
     explanation: &Explanation,
 ) -> Result<String, AllocError>
-    // No such character of the query is shown, and so no line feed.
-    ensures { IfOk result (λ s. IsPicture (text_of s)) }
+    // No such character of the query is shown, and so no line feed; a short one stands as it is.
+    ensures { IfOk result (λ s. IsPicture (chars query.now) (text_of s)) }
 {
-    let mark = explanation.mark;
-    let (first, limit) = if has_room(query) {
-        (0, COLUMNS)
-    } else {
-        (first_shown(query, mark), COLUMNS_BEHIND)
-    };
-    let mut line = Line::new(alloc);
-    push_before(&mut line, query, first, mark)?;
-    let column = line.columns();
-    push_behind(&mut line, query, mark, limit)?;
-    let words = format!(in alloc; "{}\n", explanation.reason)?;
-    line.with_caret(alloc, column, words.as_str())
+    let shown = shown_query(alloc, query, explanation.mark)?;
+    let words = words(alloc, query, explanation)?;
+    shown.line.with_caret(alloc, shown.column, words.as_str())
 }

@@ -3,6 +3,8 @@
 #![tactic(auto)]
 
 #[cfg(test)]
+mod cures;
+#[cfg(test)]
 mod decimals;
 #[cfg(test)]
 mod escapes;

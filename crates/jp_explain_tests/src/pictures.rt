@@ -23,7 +23,10 @@ fn shows(alloc: Global, query: &str, wanted: &str) -> Result<bool, AllocError> {
 
 /// A query, and the lines for it.
 const SHOWN: [(&str, &str); 12] = [
-    ("", "\n^\nexpected $\n"),
+    (
+        "",
+        "\n^\nexpected $\nthe query is empty: did the shell change it?\n",
+    ),
     (
         "$.a b",
         "$.a b\n    ^\nexpected . or [: no blank ends a query\n",
@@ -34,41 +37,43 @@ const SHOWN: [(&str, &str); 12] = [
     ),
     (
         "$\n.a-",
-        "$\\u000a.a-\n         ^\nexpected . or [, or the end\n",
+        "$\\u000a.a-\n         ^\nexpected . or [, or the end\nin quotes: $[\"a-\"]\n",
     ),
     (
         "$.\u{65e5}\u{672c}-",
-        "$.\u{65e5}\u{672c}-\n      ^\nexpected . or [, or the end\n",
+        "$.\u{65e5}\u{672c}-\n      ^\nexpected . or [, or the end\nin quotes: $[\"\u{65e5}\u{672c}-\"]\n",
     ),
     (
         "$.e\u{301}-",
-        "$.e\u{301}-\n   ^\nexpected . or [, or the end\n",
+        "$.e\u{301}-\n   ^\nexpected . or [, or the end\nin quotes: $[\"e\u{301}-\"]\n",
     ),
     (
         "$.\u{202e}-",
-        "$.\\u202e-\n        ^\nexpected . or [, or the end\n",
+        "$.\\u202e-\n        ^\nexpected . or [, or the end\nin quotes: $[\"\\u202e-\"]\n",
     ),
     (
         "$.\u{9b}-\u{7f}",
-        "$.\\u009b-\\u007f\n        ^\nexpected . or [, or the end\n",
+        "$.\\u009b-\\u007f\n        ^\nexpected . or [, or the end\nin quotes: $[\"\\u009b-\\u007f\"]\n",
     ),
     (
         "$.\u{1b}[31m",
-        "$.\\u001b[31m\n  ^\nexpected a name, * or another .\n",
+        "$.\\u001b[31m\n  ^\nexpected a name, * or another .\nin quotes: $[\"\\u001b\"]\n",
     ),
     (
         "$.\u{61c}-",
-        "$.\\u061c-\n        ^\nexpected . or [, or the end\n",
+        "$.\\u061c-\n        ^\nexpected . or [, or the end\nin quotes: $[\"\\u061c-\"]\n",
     ),
     // What shows nothing: a soft hyphen, a vowel separator, a variation selector.
     (
         "$.\u{ad}\u{180e}\u{fe0f}-",
-        "$.\\u00ad\\u180e\\ufe0f-\n                    ^\nexpected . or [, or the end\n",
+        "$.\\u00ad\\u180e\\ufe0f-\n                    ^\nexpected . or [, or the end\n\
+          in quotes: $[\"\\u00ad\\u180e\\ufe0f-\"]\n",
     ),
     // A tag, whose escape has two halves.
     (
         "$.\u{e0041}-",
-        "$.\\udb40\\udc41-\n              ^\nexpected . or [, or the end\n",
+        "$.\\udb40\\udc41-\n              ^\nexpected . or [, or the end\n\
+          in quotes: $[\"\\udb40\\udc41-\"]\n",
     ),
 ];
 
@@ -104,14 +109,26 @@ fn cut_queries(rt: HostRuntime) -> Result<(), Fail> {
         shows(
             rt.alloc(),
             whole.as_str(),
-            "$.a-\n   ^\nexpected . or [, or the end\n"
+            "$.a-\n   ^\nexpected . or [, or the end\nin quotes: $[\"a-\"]\n"
         )?
     );
     let fits = around(rt.alloc(), "-", "a", 69, "")?;
-    let wanted = around(rt.alloc(), "-", "a", 69, "\n^\nexpected $\n")?;
+    let wanted = around(
+        rt.alloc(),
+        "-",
+        "a",
+        69,
+        "\n^\nexpected $\na query begins with $: $.a\n",
+    )?;
     assert!(rt; shows(rt.alloc(), fits.as_str(), wanted.as_str())?);
     let behind = around(rt.alloc(), "-", "a", 70, "")?;
-    let wanted = around(rt.alloc(), "-", "a", 30, "..\n^\nexpected $\n")?;
+    let wanted = around(
+        rt.alloc(),
+        "-",
+        "a",
+        30,
+        "..\n^\nexpected $\na query begins with $: $.a\n",
+    )?;
     assert!(rt; shows(rt.alloc(), behind.as_str(), wanted.as_str())?);
     Ok(())
 }
@@ -125,7 +142,7 @@ fn long_query(rt: HostRuntime) -> Result<(), Fail> {
         front.as_str(),
         " ",
         37,
-        "^\nexpected . or [, or the end\n",
+        "^\nexpected . or [, or the end\nin quotes: [\"a-b\"]\n",
     )?;
     assert!(rt; shows(rt.alloc(), long.as_str(), caret.as_str())?);
     Ok(())
@@ -144,7 +161,13 @@ fn deepest_brackets(rt: HostRuntime) -> Result<(), Fail> {
 #[test]
 fn characters_of_no_width_take_room(rt: HostRuntime) -> Result<(), Fail> {
     let marks = around(rt.alloc(), "-", "\u{301}", 100, "")?;
-    let wanted = around(rt.alloc(), "-", "\u{301}", 30, "..\n^\nexpected $\n")?;
+    let wanted = around(
+        rt.alloc(),
+        "-",
+        "\u{301}",
+        30,
+        "..\n^\nexpected $\na query begins with $: $.a\n",
+    )?;
     assert!(rt; shows(rt.alloc(), marks.as_str(), wanted.as_str())?);
     Ok(())
 }

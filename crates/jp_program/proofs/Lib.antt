@@ -1,3 +1,4 @@
+mod Noted
 mod OneWish
 mod Ran
 mod Saying

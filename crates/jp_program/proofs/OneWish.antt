@@ -112,7 +112,7 @@ not_asked words w fault r h none a = err_of r fault h ∙ ap Err (memory_so word
 -- what was asked for is what is wanted
 
 module _ (words : List Text) (a : Asked) (v : code.Wanted) (w : Wanted) where
-  asked_is : a ≡ Query v → IsAsked words a → Wants words w → w ≡ wanted_of v
+  pub asked_is : a ≡ Query v → IsAsked words a → Wants words w → w ≡ wanted_of v
   asked_is e asked wants = one_wish words w (wanted_of v) wants (subst (IsAsked words) e asked)
 
   pub not_checked : {P : Type 0} → a ≡ Query v → IsAsked words a → WantsCheck words w → v.check ≡ false → P

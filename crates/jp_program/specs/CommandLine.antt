@@ -1,6 +1,6 @@
 -- The command line, as data: which options there are, and what the words of one say. What `clap` makes of
 -- words is its own definition (`matches_of`, `fault_of`).
-use Rattle.std.specs.Prelude.{◌≢◌, ◌⊎◌, true, List, [], ◌∷◌, Some, codes}
+use Rattle.std.specs.Prelude.{ℕ, ◌≢◌, ◌⊎◌, true, List, [], ◌∷◌, Some, codes}
 use Rattle.clap.specs.Walk.{Rule, Row, Text}
 use Rattle.clap.specs.Simple.{App, new_app, new_rule, with_rule, on_top, matches_of}
 use Rattle.clap.specs.Kinds.{Kinds, IsAmong}
@@ -19,10 +19,11 @@ number_rule name default = record (new_rule name) {
   defaults = default ∷ [];
 }
 
--- the option that takes a word for a form
+-- the option that takes a word for a form, `-o` too
 abbrev pub output_rule : Rule
 output_rule = record (new_rule (codes "output")) {
   long = Some (codes "output");
+  short = Some 111;
   value_names = 1;
   defaults = codes "nodes" ∷ [];
 }
@@ -30,6 +31,10 @@ output_rule = record (new_rule (codes "output")) {
 -- an option that is there or not
 abbrev pub flag_rule : Text → Rule
 flag_rule name = record (new_rule name) { long = Some name; action = Some SetTrue }
+
+-- the same by a letter too
+abbrev pub letter_rule : Text → ℕ → Rule
+letter_rule name letter = record (flag_rule name) { short = Some letter }
 
 abbrev pub query_rule : Rule
 query_rule = record (new_rule (codes "query")) { value_names = 1; required = true }
@@ -46,11 +51,11 @@ with_numbers a = with_rule (with_rule (with_rule a (number_rule (codes "workers"
 
 abbrev pub with_query : App → App
 with_query a = with_rule (with_rule (with_rule (with_rule (with_rule a (flag_rule (codes "check")))
-    (flag_rule (codes "decimals"))) (flag_rule (codes "keep-going"))) (flag_rule (codes "explain")))
-    query_rule
+    (letter_rule (codes "decimals") 100)) (letter_rule (codes "keep-going") 107))
+    (flag_rule (codes "explain"))) query_rule
 
--- `jp [--output FORM] [--workers N] [--piece N] [--batch N] [--check] [--decimals] [--keep-going] [--explain]
--- QUERY`, with `--help` and `--version`
+-- `jp [-o FORM] [--workers N] [--piece N] [--batch N] [--check] [-d] [-k] [--explain] QUERY`, where `-o` is
+-- `--output`, `-d` is `--decimals` and `-k` is `--keep-going`; with `--help` and `--version`
 abbrev pub jp_app : App
 jp_app = with_query (with_numbers (with_output (with_version (new_app (codes "jp")))))
 

@@ -1,4 +1,5 @@
 pub mod CommandLine
 pub mod Outcome
+pub mod Told
 pub mod Wanted
 pub mod inner

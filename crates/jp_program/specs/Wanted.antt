@@ -9,8 +9,8 @@ use Rattle.jp_run.specs.declared.output.Output.TheVariants.{Nodes, Values, Texts
 use Rattle.jp_program.specs.CommandLine.{said, refusals, IsRefused}
 
 -- the query's text in scalar values, whether it is only checked, what is written, whether documents and the
--- query may have all numbers of JSON, whether the answer keeps going, whether a refusal is to be explained,
--- and the settings
+-- query may have all numbers of JSON, whether the answer keeps going, whether faulty lines are to be
+-- explained, and the settings
 pub record Wanted : Type 0 where
   pub query : List ℕ
   pub check : Bool

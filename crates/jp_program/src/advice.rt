@@ -1,45 +1,101 @@
 //! What helps where a command line or a query is refused.
 
-ghost use Rattle.std.specs.Prelude.{◌≡◌, true, IfOk};
-ghost use Rattle.jp_explain.specs.Picture.{is_shown};
+ghost use Rattle.std.specs.Prelude.{◌≡◌, true, Err, IfOk, IfSome, IfNone, IsSomeAnd};
+ghost use Rattle.std.specs.Str.{chars};
+ghost use Rattle.clap.specs.Walk.{texts};
+ghost use Rattle.jp_tree.specs.declared.fault.QueryFault.{QueryFault as Refusal};
 ghost use Rattle.jp_tree.specs.View.{text_of};
+ghost use Rattle.jp_check.specs.Verdict.{IsVerdictIn};
+ghost use Rattle.jp_explain.specs.Mark.{IsQuery};
+ghost use Rattle.jp_explain.specs.Picture.{is_shown, IsPicture};
+ghost use Rattle.jp_run.specs.Answered.{numbers_of};
+ghost use Rattle.jp_program.specs.Told.{IsTold, refusal_line};
+ghost use Rattle.jp_program.specs.Wanted.{Wanted as Wish, Wants};
 
-use crate::command::{note, tell};
+use crate::command::{note, note_text, tell};
 use crate::command_line::{Asked, matches, output_by, read_words};
 use clap::error::ErrorKind;
 use jp_explain::{escaped, explain, write_mark};
+use jp_number::Numbers;
 use jp_run::{RunFault, Sink};
+use jp_tree::QueryFault;
 use std::alloc::{AllocError, Global};
 
 /// Tells a fault in one line. Behind that of a command line a further one says what is wrong with the words,
-/// or what to do; behind that of a query three show where it went wrong, if the words ask for them. Where
-/// memory for them is refused there are none.
+/// or what to do; behind that of a query further ones show where it went wrong.
 pub(crate) fn tell_of_words<N: Sink>(alloc: Global, notes: &mut N, words: &[&str], fault: &RunFault)
     ensures untouched { N.failed notes.old ≡ true → notes.new ≡ notes.old }
+    ensures refused { (f : Refusal) (w : Wish) → fault.now ≡ RunFault.Query f → Wants (texts words.now) w
+        → IsVerdictIn (numbers_of w.decimals) w.query (Err f)
+        → IsTold w.query f (N.failed notes.new) (N.contents notes.old) (N.contents notes.new) }
 {
-    tell(alloc, notes, fault);
-    let more = match fault {
-        RunFault::Settings => advice_line(alloc, words).ok(),
-        RunFault::Query(_) => explanation(alloc, words).unwrap_or(None),
-        _ => None,
-    };
-    if let Some(lines) = more {
-        note(notes, Ok(lines));
+    match fault {
+        RunFault::Query(refusal) => tell_refusal(alloc, notes, words, *refusal),
+        RunFault::Settings => {
+            tell(alloc, notes, fault);
+            // Where memory for it is refused there is none (README, Why so).
+            if let Ok(line) = advice_line(alloc, words) {
+                note(notes, Ok(line));
+            }
+        }
+        _ => tell(alloc, notes, fault),
     }
 }
 
-/// The lines that show where the wanted query went wrong; none where the words do not ask for them.
-fn explanation(alloc: Global, words: &[&str]) -> Result<Option<String>, RunFault> {
+/// Tells why the wanted query is refused in one line, and behind it where it went wrong, or that memory was
+/// wanted for that.
+fn tell_refusal<N: Sink>(alloc: Global, notes: &mut N, words: &[&str], refusal: QueryFault)
+    ensures untouched { N.failed notes.old ≡ true → notes.new ≡ notes.old }
+    ensures told { (w : Wish) → Wants (texts words.now) w
+        → IsVerdictIn (numbers_of w.decimals) w.query (Err refusal)
+        → IsTold w.query refusal (N.failed notes.new) (N.contents notes.old) (N.contents notes.new) }
+{
+    note_text(notes, refusal_line(refusal));
+    match explanation(alloc, words) {
+        Ok(Some(lines)) => note_text(notes, lines.as_str()),
+        Ok(None) => {}
+        Err(_) => note_text(notes, "jp: memory\n"),
+    }
+}
+
+/// The line of a refusal, with its line feed.
+fn refusal_line(refusal: QueryFault) -> &'static str
+    ensures { result.now ≡ refusal_line refusal }
+{
+    match refusal {
+        QueryFault::TooDeep => "jp: query: too deep\n",
+        QueryFault::Syntax => "jp: query: syntax\n",
+        QueryFault::Fraction => "jp: query: fraction\n",
+        QueryFault::Range => "jp: query: range\n",
+        QueryFault::IllTyped => "jp: query: type\n",
+        QueryFault::Memory => "jp: memory\n",
+    }
+}
+
+/// The lines that show where the wanted query went wrong; none where it is accepted, or none is wanted.
+fn explanation(alloc: Global, words: &[&str]) -> Result<Option<String>, RunFault>
+    ensures { (f : Refusal) (w : Wish) → Wants (texts words.now) w
+        → IsVerdictIn (numbers_of w.decimals) w.query (Err f)
+        → IfOk result (λ o. IsSomeAnd o (λ s. IsPicture w.query (text_of s))) }
+{
     match read_words(alloc, words)? {
-        Asked::Query(wanted) if wanted.explain => match explain(
-            alloc,
-            wanted.query,
-            wanted.settings.numbers(),
-        )? {
-            Some(explanation) => Ok(Some(write_mark(alloc, wanted.query, &explanation)?)),
-            None => Ok(None),
-        },
-        _ => Ok(None),
+        Asked::Query(wanted) => {
+            let lines = lines_of(alloc, wanted.query, wanted.settings.numbers())?;
+            Ok(lines)
+        }
+        Asked::Show(_text) => Ok(None),
+    }
+}
+
+/// The lines that show where a query went wrong, whose literals may be these numbers; none of an accepted
+/// one.
+fn lines_of(alloc: Global, query: &str, numbers: Numbers) -> Result<Option<String>, AllocError>
+    ensures shown { IfOk result (λ o. IfSome o (λ s. IsPicture (chars query.now) (text_of s))) }
+    ensures accepted { IfOk result (λ o. IfNone o (IsQuery numbers (chars query.now))) }
+{
+    match explain(alloc, query, numbers)? {
+        Some(explanation) => Ok(Some(write_mark(alloc, query, &explanation)?)),
+        None => Ok(None),
     }
 }
 

@@ -2,7 +2,7 @@
 
 ghost use Rattle.std.specs.Prelude.{◌≡◌, ◌^◌, ◌<◌, ◌≤◌, ◌⊎◌, ℕ, List, true, false, Some, None, Err, IfOk};
 ghost use Rattle.std.specs.Prelude.{IsErrOf};
-ghost use Rattle.std.specs.Io.KnownBytes.{Consumes, IsAtEnd, Keeps};
+ghost use Rattle.std.specs.Io.KnownBytes.{Appends, Consumes, IsAtEnd, Keeps};
 ghost use Rattle.clap.specs.Walk.{texts};
 ghost use Rattle.jp_doc.specs.declared.fault.DocFault.{DocFault as Fault};
 ghost use Rattle.jp_tree.specs.declared.fault.QueryFault.{QueryFault as Refusal};
@@ -14,6 +14,7 @@ ghost use Rattle.jp_run.specs.Written.{IsPassedOn};
 ghost use Rattle.jp_program.specs.CommandLine.{AsksToShow};
 ghost use Rattle.jp_program.specs.Outcome.{IsStatus, IsTaken, IsAnswered, IsPast, IsFront, IsCutShort};
 ghost use Rattle.jp_program.specs.Outcome.{HasBatchesOut, AreAllReads, AreTooManyLines};
+ghost use Rattle.jp_program.specs.Told.{IsTold};
 ghost use Rattle.jp_program.specs.Wanted.{Wanted as Wish, Wants, WantsCheck, WantsRun, IsWrong};
 
 use crate::advice::tell_of_words;
@@ -33,8 +34,8 @@ const NOTHING_SEEN: Totals = Totals {
 /// Does what the words ask for, and gives the status to end with. The first word is the program's name.
 ///
 /// Neither end has failed before, and the counts of the source are at most 2^62. A fault is told on `notes`,
-/// in one line, and in further ones where the words ask to explain it; a failure to write them, or the help,
-/// is passed over.
+/// in one line, and in further ones that help: of a query where it went wrong, of a line what to do, and
+/// where it went wrong if the words ask for that. A failure to write them, or the help, is passed over.
 ///
 /// The status is 0 where the run finished, or the help, the version or a check was asked for; 2 where the
 /// query is refused; 3 where a line is faulty, also where the answer has gone on past it; 4 where
@@ -65,6 +66,11 @@ pub fn program<R: Threads + AllocGlobal + Sync, S: Source, K: Sink, N: Sink>(
     ensures query { result ≡ 2 → (f : Refusal) × (w : Wish) × Wants (texts words.now) w
         × IsVerdictIn (numbers_of w.decimals) w.query (Err f)
         × (source.new ≡ source.old) × (sink.new ≡ sink.old) }
+    // And the notes have the line of its refusal, and behind it those that show where it went wrong, or that
+    // memory was wanted for them; or the notes have failed.
+    ensures told { (f : Refusal) (w : Wish) → result ≡ 2 → Wants (texts words.now) w
+        → IsVerdictIn (numbers_of w.decimals) w.query (Err f)
+        → IsTold w.query f (N.failed notes.new) (N.contents notes.old) (N.contents notes.new) }
     // 3: the answer before the first faulty line was written, and no read followed the one
     // that completed its batch; or to keep going was asked for, and the answer that does was written and
     // passed on, it has passed faulty lines, and neither end has failed.
@@ -202,6 +208,7 @@ fn done<R: Threads + AllocGlobal + Sync, S: Source, K: Sink>(
                 ..
             } = wanted;
             witness.is_asked = explain;
+            witness.keeps_going = settings.keeps_going;
             witness.has_decimals = settings.decimals;
             run(rt, rt.alloc(), source, sink, query, &settings, &*witness)
         }
@@ -273,6 +280,8 @@ pub(crate) fn note<N: Sink>(notes: &mut N, line: Result<String, AllocError>)
 /// Writes a text where the notes have not failed before, and passes over a failure of that.
 pub(crate) fn note_text<N: Sink>(notes: &mut N, text: &str)
     ensures untouched { N.failed notes.old ≡ true → notes.new ≡ notes.old }
+    ensures told { (N.failed notes.new ≡ true)
+        ⊎ Appends (N.contents notes.old) (N.contents notes.new) text.now }
 {
     if !notes.failed() {
         let _ = write_all(notes, text.as_bytes());

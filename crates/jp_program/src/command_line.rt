@@ -4,8 +4,8 @@ ghost use Rattle.std.specs.Prelude.{◌≡◌, ◌≤◌, ◌^◌, ℕ, Bool, fa
 ghost use Rattle.clap.specs.Walk.{texts};
 ghost use Rattle.clap.specs.Words.{app_of, found_of, rows_of, rule_of, new_app, FailsBy};
 ghost use Rattle.jp_run.specs.declared.output.Output.{Output as Form};
-ghost use Rattle.jp_program.specs.CommandLine.{number_rule, flag_rule, query_rule, output_rule, said};
-ghost use Rattle.jp_program.specs.CommandLine.{refusals, with_version, with_numbers as numbers_of};
+ghost use Rattle.jp_program.specs.CommandLine.{number_rule, flag_rule, letter_rule, query_rule, output_rule};
+ghost use Rattle.jp_program.specs.CommandLine.{said, refusals, with_version, with_numbers as numbers_of};
 ghost use Rattle.jp_program.specs.CommandLine.{with_query as query_of, with_output as output_option_of};
 ghost use Rattle.jp_program.specs.inner.Asked.{IsAsked, IsNotAsked, wanted_of};
 ghost use Rattle.jp_program.specs.Wanted.{Wanted as Wish, Says, SaysNumber, SaysFlag, SaysOutput, AreSaid};
@@ -61,7 +61,7 @@ pub(crate) struct Wanted<'a> {
     pub(crate) query: &'a str,
     /// Only whether the query is accepted.
     pub(crate) check: bool,
-    /// Whether a refusal, or the first faulty lines, are to be explained.
+    /// Whether the first faulty lines are to be explained.
     pub(crate) explain: bool,
     pub(crate) settings: Settings,
 }
@@ -136,7 +136,7 @@ fn with_numbers<'a>(alloc: Global, command: Command<'a>) -> Result<Command<'a>, 
 }
 
 /// The command, with the query, whether it is only checked, which numbers are read, whether faulty lines are
-/// passed, and whether a refusal is to be explained.
+/// passed, and whether they are to be explained.
 fn with_query<'a>(alloc: Global, command: Command<'a>) -> Result<Command<'a>, AllocError>
     ensures { IfOk result (λ r. app_of r ≡ query_of (app_of command.entry)) }
 {
@@ -144,11 +144,10 @@ fn with_query<'a>(alloc: Global, command: Command<'a>) -> Result<Command<'a>, Al
     let decimals = "Read every JSON number, exactly, and print it as it stands \
         (default: whole numbers of 64 bits)";
     let keep_going = "Write a line for each faulty line too, and go on";
-    let explain =
-        "Say where a refused query or a faulty line went wrong, in lines behind its fault";
+    let explain = "Say where a faulty line went wrong, in lines behind its fault";
     let command = command.arg(flag(alloc, "check", check))?;
-    let command = command.arg(flag(alloc, "decimals", decimals))?;
-    let command = command.arg(flag(alloc, "keep-going", keep_going))?;
+    let command = command.arg(lettered(alloc, "decimals", 'd', decimals))?;
+    let command = command.arg(lettered(alloc, "keep-going", 'k', keep_going))?;
     let command = command.arg(flag(alloc, "explain", explain))?;
     command.arg(query(alloc))
 }
@@ -159,6 +158,7 @@ fn output<'a>(alloc: Global) -> Arg<'a>
     ensures local { result.global ≡ false }
 {
     Arg::new(alloc, "output")
+        .short('o')
         .long("output")
         .value_name("FORM")
         .default_value("nodes")
@@ -187,6 +187,14 @@ fn flag<'a>(alloc: Global, name: &'a str, help: &'a str) -> Arg<'a>
         .long(name)
         .action(ArgAction::SetTrue)
         .help(help)
+}
+
+/// The same by a letter too.
+fn lettered<'a>(alloc: Global, name: &'a str, letter: char, help: &'a str) -> Arg<'a>
+    ensures rule { rule_of result ≡ letter_rule name.entry.now letter }
+    ensures local { result.global ≡ false }
+{
+    flag(alloc, name, help).short(letter)
 }
 
 /// The query.

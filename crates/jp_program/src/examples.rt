@@ -1,6 +1,6 @@
 //! Worked examples of what command lines want.
 
-ghost use Rattle.std.specs.Prelude.{[], ◌∷◌, true, codes};
+ghost use Rattle.std.specs.Prelude.{[], ◌∷◌, true, false, codes};
 ghost use Rattle.jp_run.specs.declared.output.Output.TheVariants.{Texts};
 ghost use Rattle.jp_program.specs.CommandLine.{AsksToShow, IsRefused};
 ghost use Rattle.jp_program.specs.Wanted.{Wants, IsWrong};
@@ -20,6 +20,21 @@ fn all_options()
           piece = 2;
           batch = 10;
         }) }
+{}
+
+/// The options that have a letter, together and apart.
+fn letters()
+    ensures { Wants (codes "jp" ∷ codes "-kd" ∷ codes "-o" ∷ codes "texts" ∷ codes "$" ∷ []) (record {
+      query = codes "$";
+      check = false;
+      output = Texts;
+      decimals = true;
+      keeps_going = true;
+      explain = false;
+      workers = 4;
+      piece = 64;
+      batch = 4096;
+    }) }
 {}
 
 /// The help and the version, whatever stands beside them.

@@ -122,6 +122,6 @@ fn all_that_is_contained(rt: HostRuntime) {
 #[test]
 fn faulty_without_the_option(rt: HostRuntime) {
     let words = ["jp", "$..book[?@.price<10]"];
-    let notes = b"jp: line 1: not whole\n";
+    let notes = b"jp: line 1: not whole\njp: --decimals reads such a number\n";
     assert!(rt; leaves(&rt, &words, BOOKSTORE.as_bytes(), 3, b"", notes));
 }

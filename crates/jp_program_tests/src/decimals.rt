@@ -16,7 +16,8 @@ fn every_number_is_read(rt: HostRuntime) {
             "--decimals",
             "$.a",
         ];
-        let notes = b"jp: line 2: unreadable\n";
+        let notes = b"jp: line 2: unreadable\n\
+            jp: one document on several lines? tr '\\n' ' ' < FILE | jp ..\n";
         assert!(rt; leaves(&rt, &words, INPUT, 3, b"1\t$['a']\t2.5\n", notes));
         let words = [
             "jp",
@@ -34,7 +35,7 @@ fn every_number_is_read(rt: HostRuntime) {
 
 #[test]
 fn without_it_numbers_are_whole(rt: HostRuntime) {
-    let notes = b"jp: line 1: not whole\n";
+    let notes = b"jp: line 1: not whole\njp: --decimals reads such a number\n";
     assert!(rt; leaves(&rt, &["jp", "$.a"], INPUT, 3, b"", notes));
 }
 
@@ -65,8 +66,10 @@ fn filters_compare_exactly(rt: HostRuntime) {
 fn queries_have_them_too(rt: HostRuntime) {
     let line = b"[8.95,8.99,1e1]";
     let cheap = b"1\t$[0]\t8.95\n";
-    let fraction = b"jp: query: fraction\n";
-    let range = b"jp: query: range\n";
+    let fraction = b"jp: query: fraction\n$[?@<8.990]\n     ^\n\
+        a number is whole: no fraction, no exponent; --decimals allows both\n";
+    let range = b"jp: query: range\n$[?@<1e1000000000]\n     ^\n\
+        a number has 1,000 digits at most, its exponent 9\n";
     let query = "$[?@<8.990]";
     assert!(rt; leaves(&rt, &["jp", "--decimals", query], line, 0, cheap, b""));
     assert!(rt; leaves(&rt, &["jp", query], line, 2, b"", fraction));

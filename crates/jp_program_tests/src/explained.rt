@@ -30,7 +30,7 @@ fn tells<R: Threads + AllocGlobal + Sync>(
 fn the_first_faulty_line_is_explained(rt: HostRuntime) {
     for workers in &["1", "3"] {
         let words = ["jp", "--workers", *workers, "--piece=1", "--explain", "$.a"];
-        let front = b"jp: line 2: not whole\n";
+        let front = b"jp: line 2: not whole\njp: --decimals reads such a number\n";
         assert!(rt; tells(&rt, &words, b"1\t$['a']\t1\n", front, NOT_WHOLE));
     }
 }

@@ -21,7 +21,8 @@ impl Read for NoReader {
 #[test]
 fn a_faulty_line_is_told(rt: HostRuntime) {
     let output = b"1\t$['a']\t1\n";
-    let notes = b"jp: line 2: unreadable\n";
+    let notes = b"jp: line 2: unreadable\n\
+        jp: one document on several lines? tr '\\n' ' ' < FILE | jp ..\n";
     assert!(rt; leaves(&rt, &["jp", "$.a"], b"{\"a\":1}\n{\n", 3, output, notes));
 }
 

@@ -59,6 +59,19 @@ fn options_stand_before_or_behind(rt: HostRuntime) {
     }
 }
 
+#[test]
+fn options_have_letters(rt: HostRuntime) {
+    let all: [&[&str]; 3] = [
+        &["jp", "-kd", "-o", "values", "$.a"],
+        &["jp", "-d", "-k", "-ovalues", "$.a"],
+        &["jp", "$.a", "-dko", "values"],
+    ];
+    let input = b"{\"a\":1.50}\n{\n";
+    for words in &all {
+        assert!(rt; leaves(&rt, words, input, 3, b"1.50\n", b"jp: faulty lines: 1\n"));
+    }
+}
+
 /// What the help has to name.
 const TAUGHT: &str = "\
 --version
@@ -70,7 +83,9 @@ const TAUGHT: &str = "\
 exactly
 --keep-going
 --explain
---output
+-d, --decimals
+-k, --keep-going
+-o, --output
 nodes, values, texts or lines
 [default: nodes]
 QUERY

@@ -76,7 +76,8 @@ fn faulty_lines_are_counted_in_each_form(rt: HostRuntime) {
                 *form,
                 "$.a",
             ];
-            let notes = b"jp: line 2: unreadable\n";
+            let notes = b"jp: line 2: unreadable\n\
+                jp: one document on several lines? tr '\\n' ' ' < FILE | jp ..\n";
             assert!(rt; leaves(&rt, &words, FAULTY, 3, stopping, notes), "{form}");
             let words = [
                 "jp",

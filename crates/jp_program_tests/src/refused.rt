@@ -3,36 +3,19 @@
 use crate::running::{leaves, run_words};
 use jp_program::refuse_words;
 use jp_run::FromWriter;
-use std::alloc::AllocGlobal;
+use std::alloc::{AllocError, AllocGlobal};
+use std::test::*;
 use std::thread::Threads;
 
-/// Queries, each with what is told of it.
-const QUERIES: [(&str, &[u8]); 5] = [
-    ("-q", b"jp: query: syntax\n"),
-    ("$[?nope(@)]", b"jp: query: type\n"),
-    ("$[9007199254740992]", b"jp: query: range\n"),
-    ("$[?@==1.5]", b"jp: query: fraction\n"),
-    ("", b"jp: query: syntax\n"),
-];
-
-#[test]
-fn queries_are_refused(rt: HostRuntime) {
-    for (query, told) in &QUERIES {
-        for words in &[
-            ["jp", "--workers=2", "--", *query],
-            ["jp", "--check", "--", *query],
-        ] {
-            assert!(rt; leaves(&rt, words, b"{", 2, b"", told), "{query}");
-        }
-    }
-}
-
-/// Queries, each with what `--explain` tells of it.
-const EXPLAINED: [(&str, &[u8]); 4] = [
+/// Queries, each with what is told of it: its fault, and where it went wrong.
+const QUERIES: [(&str, &[u8]); 7] = [
     (
-        "$.items[?length(@.tags)]",
-        b"jp: query: type\n$.items[?length(@.tags)]\n         ^\n\
-          length() gives a value: compare it with something\n",
+        "-q",
+        b"jp: query: syntax\n-q\n^\nexpected $\na query begins with $: $.a\n",
+    ),
+    (
+        "",
+        b"jp: query: syntax\n\n^\nexpected $\nthe query is empty: did the shell change it?\n",
     ),
     (
         "$.a b",
@@ -40,21 +23,53 @@ const EXPLAINED: [(&str, &[u8]); 4] = [
     ),
     (
         "$.\u{9b}-",
-        b"jp: query: syntax\n$.\\u009b-\n        ^\nexpected . or [, or the end\n",
+        b"jp: query: syntax\n$.\\u009b-\n        ^\nexpected . or [, or the end\n\
+          in quotes: $[\"\\u009b-\"]\n",
     ),
-    ("", b"jp: query: syntax\n\n^\nexpected $\n"),
+    (
+        "$.items[?length(@.tags)]",
+        b"jp: query: type\n$.items[?length(@.tags)]\n         ^\n\
+          length() gives a value: compare it with something\n",
+    ),
+    (
+        "$[9007199254740992]",
+        b"jp: query: range\n$[9007199254740992]\n  ^\n\
+          an index is at most 9007199254740991 from zero\n",
+    ),
+    (
+        "$[?@==1.5]",
+        b"jp: query: fraction\n$[?@==1.5]\n      ^\n\
+          a number is whole: no fraction, no exponent; --decimals allows both\n",
+    ),
 ];
 
 #[test]
-fn refusals_are_explained(rt: HostRuntime) {
-    for (query, told) in &EXPLAINED {
-        for words in &[
-            ["jp", "--explain", "--workers=2", "--", *query],
-            ["jp", "--check", "--explain", "--", *query],
-        ] {
-            assert!(rt; leaves(&rt, words, b"{", 2, b"", told), "{query}");
+fn refused_queries_are_explained(rt: HostRuntime) {
+    for (query, told) in &QUERIES {
+        for option in &["--workers=2", "--check", "--explain", "--keep-going"] {
+            let words = ["jp", *option, "--", *query];
+            assert!(rt; leaves(&rt, &words, b"{", 2, b"", told), "{query}");
         }
     }
+}
+
+/// Whether a query whose brackets are nested too deep is told so, and explained.
+fn too_deep_is_told<R: Threads + AllocGlobal + Sync>(rt: &R) -> Result<bool, AllocError> {
+    let mut query = String::new(rt.alloc());
+    query.push_str("$[?")?;
+    for _turn in 0..64 {
+        query.push('(')?;
+    }
+    let left = run_words(rt, &["jp", query.as_str()], b"{");
+    let words = b"\nbrackets and parentheses are nested 64 deep at most\n";
+    let is_told = left.notes.starts_with(b"jp: query: too deep\n$[?((");
+    Ok(left.status == 2 && is_told && left.notes.ends_with(words))
+}
+
+#[test]
+fn a_query_that_is_too_deep_is_explained(rt: HostRuntime) -> Result<(), Fail> {
+    assert!(rt; too_deep_is_told(&rt)?);
+    Ok(())
 }
 
 /// Whether a command line is refused: nothing is written, and two lines or more are noted.

@@ -6,5 +6,5 @@ use Rattle.jp_explain.proofs.line_picture.write_line_mark.Goals as goal
 
 pub returns : goal.returns
 returns c =
-    line_pictured c.joined.result _ (text_of c.in_ok-picture.picture) _ (ap chars c.as_str.ensures.value)
-    c.joined.ensures.shown c.in_ok-picture.ensures c.joined.ensures.value
+    line_pictured c.above.result _ (text_of c.in_ok-picture.picture) _ (ap chars c.as_str.ensures.value)
+    c.above.ensures.shown c.in_ok-picture.ensures c.above.ensures.value

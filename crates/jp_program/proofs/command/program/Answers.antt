@@ -1,4 +1,6 @@
 use Rattle.std.proofs.Common.{◌∙◌, Err, Some, inl, inr, ap, sym}
+use Rattle.jp_run.specs.Status.{status_of}
+use Rattle.jp_program.proofs.Noted.{refused_as, told_still}
 use Rattle.jp_program.proofs.Told.{query_of, document_of, end_of, memory_of, of_two, of_three}
 use Rattle.jp_program.proofs.Told.{answered_kept, front_kept, cut_kept, batches_kept, kept_from}
 use Rattle.jp_program.proofs.Told.{status_so}
@@ -10,6 +12,15 @@ returns-clause-query g c = λ e.
     let q = query_of c.in-Err.fault status in
     let d = c.in-Err.ensures.query q.0 (ap Err q.1) in
     (q.0, d.0, d.1, d.2, d.3, c.pass_on_after.ensures.untouched (inl status) ∙ d.4)
+
+pub returns-clause-told : goal.returns-clause-told
+returns-clause-told g c = λ f w two wants v.
+    let same = c.in-Err.ensures.refused f w wants v in
+    let is = refused_as c.in-Err.fault f c.status-in-Err.result two
+    (λ m. c.status-in-Err.ensures ∙ ap status_of m) same.0 in
+    told_still g.N.Sink.failed g.N.Sink.contents w.query f c.args.notes.now c.tell_of_words.new.notes
+    c.tell_behind.new.notes (c.tell_behind.ensures.other (sym c.status-in-Err.ensures ∙ two))
+    (c.tell_of_words.ensures.refused f w is wants v)
 
 pub returns-clause-document : goal.returns-clause-document
 returns-clause-document g c = λ e.
