@@ -57,10 +57,12 @@ fn are_laid(alloc: Global, line: &str, nodes: &[Node]) -> Result<Option<bool>, A
     }
     let (mut texts, mut laid) = (Vec::new(alloc), Vec::new(alloc));
     lay(tape.nodes(), &mut texts, &mut laid)?;
-    let same = nodes
-        .iter()
-        .zip(laid.iter())
-        .all(|(own, other)| are_alike(*own, line.as_bytes(), *other, &texts));
+    let same = nodes.iter().zip(laid.iter()).all(|(own, other)| are_alike(
+        *own,
+        line.as_bytes(),
+        *other,
+        &texts,
+    ));
     Ok(Some(same && nodes.len() == laid.len()))
 }
 
@@ -205,7 +207,10 @@ const NO_DECIMALS: [&str; 16] = [
 #[test]
 fn numbers_of_every_kind(rt: HostRuntime) {
     for line in READ.iter().chain(DECIMALS.iter()) {
-        assert!(rt; is_as_laid_decimal(rt.alloc(), line) == Ok(Some(true)), "{line}");
+        assert!(rt;
+            is_as_laid_decimal(rt.alloc(), line) == Ok(Some(true)),
+            "{line}"
+        );
     }
     for line in &NO_DECIMALS {
         assert!(rt; is_as_laid_decimal(rt.alloc(), line) == Ok(None), "{line}");
