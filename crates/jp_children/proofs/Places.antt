@@ -9,9 +9,11 @@ use lib.IntN.{nat_abs}
 use Rattle.jp_doc.specs.Json.{Json, null, truth, number, text, array, object, Items, no_items, add_item}
 use Rattle.jp_doc.specs.Json.{item_list}
 use Rattle.jp_doc.specs.Location.{Location, node, index, item_at}
+use Rattle.jp_doc.specs.Reading.{max_items}
 use Rattle.jp_nodes.specs.Nodes.{items_at, node_if_some}
 use Rattle.jp_children.specs.Selected.{index_places, slice_places}
 use Rattle.jp_value.specs.Index.{place_of}
+use Rattle.jp_value.specs.Places.{max_place}
 use Rattle.jp_flat.specs.Value.{item_count}
 use Rattle.jp_value.specs.Slice.{Bounds, slice_bounds, slice_indexes}
 
@@ -91,8 +93,8 @@ pub place_or_none : (at : Location) (v : Json) (z : ℤ) → pos 0 ≤ℤ z
 place_or_none at v (pos i) low = free_place at v i
 place_or_none at v (negsuc i) low = absurd (omega (arith, ints, low))
 
-pub none_above : (at : Location) (v : Json) (z : ℤ) → item_count v ≤ 16777216 → pos 0 ≤ℤ z
-    → pos 4294967295 <ℤ z → [] ≡ items_at (node at v) (index_places z v)
+pub none_above : (at : Location) (v : Json) (z : ℤ) → item_count v ≤ max_items → pos 0 ≤ℤ z
+    → pos max_place <ℤ z → [] ≡ items_at (node at v) (index_places z v)
 none_above at v (pos i) few low high =
     let past : item_count v ≤ i = omega (arith, ints, few, high) in
     sym (ap (items_at (node at v)) (far_place v i past))

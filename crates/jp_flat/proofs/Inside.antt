@@ -83,7 +83,7 @@ array_is ts i = value_is (Token.begin_array ∷ ts) (array_around ts i)
 
 -- an array has no more items than the greatest number
 pub few_items : (ts : List Token) → is_flat (Token.begin_array ∷ ts) ≡ true
-    → item_count (value_at (Token.begin_array ∷ ts)) ≤ 16777216
+    → item_count (value_at (Token.begin_array ∷ ts)) ≤ max_items
 few_items ts h =
     kept.few_items (value_at (Token.begin_array ∷ ts)) max_items
     (kept.flat_is_short (Token.begin_array ∷ ts) h)

@@ -27,12 +27,12 @@ mapped : (vs : List Value) → length (map (λ v. value_of v) vs) ≡ length vs
 mapped [] = refl
 mapped (v ∷ vs) = ap suc (mapped vs)
 
-pub items_are_few : (i : Items) → length (item_values i) ≤ 16777216
+pub items_are_few : (i : Items) → length (item_values i) ≤ max_items
 items_are_few (Tree i) =
     let same = mapped i.items.now in let few = i.short in omega (arith, same, few)
-items_are_few (Flat i) = subst (λ n. n ≤ 16777216) (counted (items_value i)) (few_items _ i.flat)
+items_are_few (Flat i) = subst (λ n. n ≤ max_items) (counted (items_value i)) (few_items _ i.flat)
 
-count_by_level : (v : Json) → has_long_array max_items v ≡ false → item_count v ≤ 16777216
+count_by_level : (v : Json) → has_long_array max_items v ≡ false → item_count v ≤ max_items
 count_by_level null h = omega arith
 count_by_level (truth b) h = omega arith
 count_by_level (number x) h = omega arith
@@ -40,6 +40,6 @@ count_by_level (text s) h = omega arith
 count_by_level (array vs) h = within (length (item_list vs)) (first_false _ _ h)
 count_by_level (object ms) h = omega arith
 
-pub part_is_short : (p : Part) → item_count (part_value p) ≤ 16777216
+pub part_is_short : (p : Part) → item_count (part_value p) ≤ max_items
 part_is_short (part.Tree p) = count_by_level (value_of p.value.now) p.kept.short_arrays
 part_is_short (part.Flat v) = count_by_level (flat_value v) (value_is_short v)

@@ -61,11 +61,11 @@ pub object_parts : (value : Value) (m : BTreeMap (String Global) Value) → valu
     → IsDocumentValue value → All (λ (e : Entry). IsDocumentValue e.1) m.entries
 object_parts value m is p = object_kept m (subst IsDocumentValue is p)
 
-pub within : (n : ℕ) → nat_lt max_items n ≡ false → n ≤ 16777216
+pub within : (n : ℕ) → nat_lt max_items n ≡ false → n ≤ max_items
 within n h = grind (arith, nat_tests)
 
 pub array_is_short : (value : Value) (v : Vec Value Global) → value ≡ variant.Array v
-    → IsDocumentValue value → length v.items ≤ 16777216
+    → IsDocumentValue value → length v.items ≤ max_items
 array_is_short value v is p =
     let short : has_long_array max_items (json.array (items_of (items_view v.items))) ≡ false =
     ap (has_long_array max_items) (sym (array_value value v is)) ∙ p.short_arrays in
@@ -112,8 +112,8 @@ pub items_kept : (value : Value) (v : Vec Value Global) (xs : List Value) → va
 items_kept value v xs is e p = subst (λ l. All IsDocumentValue l) (sym e) (array_parts value v is p)
 
 pub items_few : (value : Value) (v : Vec Value Global) (xs : List Value) → value ≡ variant.Array v
-    → xs ≡ v.items → IsDocumentValue value → length xs ≤ 16777216
-items_few value v xs is e p = subst (λ l. length l ≤ 16777216) (sym e) (array_is_short value v is p)
+    → xs ≡ v.items → IsDocumentValue value → length xs ≤ max_items
+items_few value v xs is e p = subst (λ l. length l ≤ max_items) (sym e) (array_is_short value v is p)
 
 pub array_items : (value : Value) (v : Vec Value Global) (xs : List Value) → value ≡ variant.Array v
     → xs ≡ v.items → value_of value ≡ json.array (items (map (λ w. value_of w) xs))

@@ -1,6 +1,7 @@
 //! Items of an array, in either form.
 
 ghost use Rattle.std.specs.Prelude.{◌≡◌, ◌≤◌, [], ◌∷◌, drop, length, MatchOption};
+ghost use Rattle.jp_doc.specs.Reading.{max_items};
 ghost use Rattle.jp_part.specs.Inside.{item_values};
 ghost use Rattle.jp_part.specs.Part.{part_value};
 
@@ -40,7 +41,7 @@ impl<'v> Items<'v> {
     /// How many these are. Of a flat document it goes over them.
     pub fn count(self) -> u32
         ensures count { result ≡ length (item_values self.entry) }
-        ensures short { result ≤ 16777216 }
+        ensures short { result ≤ max_items }
     {
         match self {
             Items::Tree(items) => items.items.len() as u32,

@@ -7,6 +7,7 @@ ghost use Rattle.jp_doc.specs.Height.{height};
 ghost use Rattle.jp_doc.specs.Json as json;
 ghost use Rattle.jp_doc.specs.Json.{value_of};
 ghost use Rattle.jp_doc.specs.Location.{member_of, item_of};
+ghost use Rattle.jp_doc.specs.Reading.{max_items};
 ghost use Rattle.jp_flat.specs.Document as flat;
 ghost use Rattle.jp_flat.specs.Value.{flat_value, item_count};
 ghost use Rattle.jp_part.specs.Inside.{kind_value, IsInside, IsScalar};
@@ -114,7 +115,7 @@ impl<'v> Part<'v> {
     /// How many items the array has, and 0 of any other value. Of a flat document it goes over them.
     pub fn item_count(self) -> u32
         ensures count { result ≡ item_count (part_value self.entry) }
-        ensures short { result ≤ 16777216 }
+        ensures short { result ≤ max_items }
     {
         match self.inside() {
             Inside::Items(items) => items.count(),

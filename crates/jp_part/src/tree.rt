@@ -7,6 +7,7 @@ ghost use Rattle.std.specs.Str.{chars};
 ghost use Rattle.jp_doc.specs.DocumentValue.{IsDocumentValue};
 ghost use Rattle.jp_doc.specs.Json.{value_of};
 ghost use Rattle.jp_doc.specs.Location.{member_of, item_of};
+ghost use Rattle.jp_doc.specs.Reading.{max_items};
 ghost use Rattle.jp_doc.proofs.RisingProps.{rising_prop};
 ghost use Rattle.std.proofs.Props.{props};
 
@@ -28,7 +29,7 @@ pub struct TreeItems<'v> {
     /// The items.
     pub items: &'v [Value],
     ghost kept: { ∥ All IsDocumentValue items.now ∥₁ },
-    ghost short: { length items.now ≤ 16777216 },
+    ghost short: { length items.now ≤ max_items },
 }
 
 /// The members of an object of a document.

@@ -5,6 +5,11 @@ use Rattle.std.specs.List.{filter, range_with_len}
 use Rattle.jp_value.specs.Slice.{Bounds, meets_rising, meets_falling, numbers_down}
 use Rattle.jp_value.specs.BoundsView.{IsPosition}
 
+-- The greatest place that the code can name: it keeps the place of an item in 32 bits. No array has so many
+-- items (`max_items` of `jp_doc`).
+abbrev pub max_place : ℕ
+max_place = 4294967295
+
 -- the indexes of a slice that come behind this one
 abbrev pub later : Bounds → ℕ → ℕ → List ℕ
 later b len i =

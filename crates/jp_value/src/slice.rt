@@ -3,9 +3,10 @@
 ghost use Rattle.std.specs.Prelude.{◌≡◌, ◌≤◌, ◌<◌, ◌-◌, ◌<ℤ◌, pos, ℕ, option_map, unwrap_or};
 ghost use Rattle.std.specs.Option.{ForSome};
 ghost use Rattle.jp_compiled.specs.Parts.{position_text};
+ghost use Rattle.jp_doc.specs.Reading.{max_items};
 ghost use Rattle.jp_value.specs.BoundsView.{bounds_value, IsPosition};
 ghost use Rattle.jp_value.specs.Literals.{written_value};
-ghost use Rattle.jp_value.specs.Places.{AreWithin, IfPlace, IsPlace, from_place, later};
+ghost use Rattle.jp_value.specs.Places.{AreWithin, IfPlace, IsPlace, from_place, later, max_place};
 ghost use Rattle.jp_value.specs.Slice as spec;
 
 use jp_compiled::{Position, Slice};
@@ -79,7 +80,7 @@ pub fn slice_bounds(start: Option<i64>, end: Option<i64>, step: Option<i64>, len
 
 /// The first index of a slice with a positive step.
 fn first_rising(bounds: Bounds) -> Option<u32>
-    requires within { AreWithin (bounds_value bounds) 4294967295 }
+    requires within { AreWithin (bounds_value bounds) max_place }
     requires rising { pos 0 <ℤ bounds.step }
     ensures indexes { (len : ℕ) → AreWithin (bounds_value bounds) len
         → from_place (bounds_value bounds) len result ≡ spec.slice_indexes (bounds_value bounds) len }
@@ -94,7 +95,7 @@ fn first_rising(bounds: Bounds) -> Option<u32>
 
 /// The first index of a slice with a negative step.
 fn first_falling(bounds: Bounds) -> Option<u32>
-    requires within { AreWithin (bounds_value bounds) 4294967295 }
+    requires within { AreWithin (bounds_value bounds) max_place }
     requires falling { bounds.step <ℤ pos 0 }
     ensures indexes { (len : ℕ) → AreWithin (bounds_value bounds) len
         → from_place (bounds_value bounds) len result ≡ spec.slice_indexes (bounds_value bounds) len }
@@ -109,7 +110,7 @@ fn first_falling(bounds: Bounds) -> Option<u32>
 
 /// The first index of a slice.
 pub fn first_place(bounds: Bounds) -> Option<u32>
-    requires { AreWithin (bounds_value bounds) 4294967295 }
+    requires { AreWithin (bounds_value bounds) max_place }
     ensures indexes { (len : ℕ) → AreWithin (bounds_value bounds) len
         → from_place (bounds_value bounds) len result ≡ spec.slice_indexes (bounds_value bounds) len }
     ensures place { IfPlace (bounds_value bounds) result }
@@ -125,7 +126,7 @@ pub fn first_place(bounds: Bounds) -> Option<u32>
 
 /// The index behind this one in a slice with a positive step.
 fn after_rising(bounds: Bounds, place: u32) -> Option<u32>
-    requires within { AreWithin (bounds_value bounds) 4294967295 }
+    requires within { AreWithin (bounds_value bounds) max_place }
     requires rising { pos 0 <ℤ bounds.step }
     requires place { IsPlace (bounds_value bounds) place }
     ensures indexes { (len : ℕ) → AreWithin (bounds_value bounds) len
@@ -142,7 +143,7 @@ fn after_rising(bounds: Bounds, place: u32) -> Option<u32>
 
 /// The index behind this one in a slice with a negative step.
 fn after_falling(bounds: Bounds, place: u32) -> Option<u32>
-    requires within { AreWithin (bounds_value bounds) 4294967295 }
+    requires within { AreWithin (bounds_value bounds) max_place }
     requires falling { bounds.step <ℤ pos 0 }
     requires place { IsPlace (bounds_value bounds) place }
     ensures indexes { (len : ℕ) → AreWithin (bounds_value bounds) len
@@ -159,7 +160,7 @@ fn after_falling(bounds: Bounds, place: u32) -> Option<u32>
 
 /// The index behind this one.
 pub fn place_after(bounds: Bounds, place: u32) -> Option<u32>
-    requires bounds { AreWithin (bounds_value bounds) 4294967295 }
+    requires bounds { AreWithin (bounds_value bounds) max_place }
     requires place { IsPlace (bounds_value bounds) place }
     ensures indexes { (len : ℕ) → AreWithin (bounds_value bounds) len
         → from_place (bounds_value bounds) len result ≡ later (bounds_value bounds) len place }
@@ -187,7 +188,7 @@ fn written(number: &Option<Position>) -> Option<i64>
 
 /// The bounds that a slice selector has in an array with `len` items.
 pub fn bounds_of(slice: &Slice, len: u32) -> Bounds
-    requires { len ≤ 16777216 }
+    requires { len ≤ max_items }
     ensures within { AreWithin (bounds_value result) len }
     ensures bounds { bounds_value result
         ≡ spec.slice_bounds (written_value (option_map position_text slice.now.first))

@@ -4,13 +4,14 @@ use mir.Val.{SFits}
 use Rattle.std.proofs.lemmas.Int.{to_z-of_z, ints}
 use Rattle.jp_part.specs.Part.{part_value}
 use Rattle.jp_part.proofs.Short.{part_is_short}
+use Rattle.jp_value.specs.Places.{max_place}
 use Rattle.jp_children.proofs.Places.{place_or_none, none_above}
 use Rattle.jp_children.proofs.index.place_in.Goals as goal
 
 pub returns-then-index-from : goal.returns-then-index-from
 returns-then-index-from c = λ at.
     let low : pos 0 ≤ℤ c.args.index = omega (arith, ints, c.if-index-lt0.false) in
-    let high : pos 4294967295 <ℤ c.args.index =
+    let high : pos max_place <ℤ c.args.index =
     omega (arith, ints, c.if-index-from.true, c.from.ensures) in
     none_above at (part_value c.args.value) c.args.index (part_is_short c.args.value) low high
 

@@ -2,6 +2,7 @@ use Rattle.std.proofs.Common.{◌∙◌, sym, ap, arith}
 use Rattle.jp_doc.specs.Json.{items}
 use Rattle.jp_part.specs.Inside.{item_values}
 use Rattle.jp_part.proofs.Short.{items_are_few}
+use Rattle.jp_value.specs.Places.{max_place}
 use Rattle.jp_nodes.specs.ChildNodes.{child_nodes}
 use Rattle.jp_nodes.specs.Nodes.{item_nodes}
 use Rattle.jp_children.proofs.ChildRanges.{take_enough}
@@ -10,5 +11,5 @@ use Rattle.jp_children.proofs.child_range.ChildRange.all.Goals as goal
 pub returns-in-Items-clause-nodes : goal.returns-in-Items-clause-nodes
 returns-in-Items-clause-nodes c = λ at.
     let few = items_are_few c.in-Items.items in
-    ap (λ xs. item_nodes at 0 (items xs)) (take_enough 4294967295 (item_values c.in-Items.items)
+    ap (λ xs. item_nodes at 0 (items xs)) (take_enough max_place (item_values c.in-Items.items)
     (omega (arith, few))) ∙ sym (ap (child_nodes at) c.in-Items.is)
