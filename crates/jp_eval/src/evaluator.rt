@@ -85,8 +85,14 @@ impl<'p> Evaluator<'p> {
             (document_nodes tests (evaluated_query self.old) (part_value root.entry))) }
         ensures query { evaluated_query self.new ≡ evaluated_query self.old }
     {
-        let (alloc, query, asked) = (self.alloc, self.query, self.asked);
-        visit_in(alloc, query, asked, root, &mut self.scratch, visitor)
+        let query = self.query;
+        let context = answer_roots::<V>(self.alloc, root, query.roots.as_slice(), self.asked)?;
+        let segments = query.segments.as_slice();
+        let mut path = empty_path(self.alloc, &mut self.scratch);
+        let mut found = Found::Visitor(visitor);
+        run(&context, segments, root, &mut path, &mut found)?;
+        self.scratch = path.into_scratch();
+        Ok(visitor_of(found))
     }
 
     /// The same as `visit`, where a list of children that the query's own segments walk, and that has at
@@ -133,73 +139,21 @@ impl<'p> Evaluator<'p> {
             (document_nodes tests (evaluated_query self.old) (part_value root.entry))) }
         ensures query { evaluated_query self.new ≡ evaluated_query self.old }
     {
-        let cuts = Cuts::from_floor(floor);
-        let (alloc, query, asked) = (self.alloc, self.query, self.asked);
-        split_in(
+        let query = self.query;
+        let context = answer_roots::<V>(self.alloc, root, query.roots.as_slice(), self.asked)?;
+        let segments = query.segments.as_slice();
+        let mut path = empty_path(self.alloc, &mut self.scratch);
+        let mut found = Found::Visitor(visitor);
+        let splitting = Splitting {
             rt,
             fork,
-            cuts,
-            alloc,
-            query,
-            asked,
-            root,
-            &mut self.scratch,
-            visitor,
-        )
+            context: &context,
+            cuts: Cuts::from_floor(floor),
+        };
+        go_split(&splitting, Task::Run(segments), root, &mut path, &mut found)?;
+        self.scratch = path.into_scratch();
+        Ok(visitor_of(found))
     }
-}
-
-/// Hands the nodes to the visitor, with this scratch memory for the text of the path.
-fn visit_in<V: Visit + Drop>(
-    alloc: Global,
-    query: &Query,
-    asked: Asked,
-    root: Part<'_>,
-    scratch: &mut Scratch,
-    visitor: V,
-) -> Result<V, EvalFault>
-    ensures { IfOk result (λ t. (tests : Tests) → AreRight tests →
-        V.kept t ≡ fold V.put (V.kept visitor)
-        (document_nodes tests (compiled_query query.now) (part_value root.entry))) }
-{
-    let context = answer_roots::<V>(alloc, root, query.roots.as_slice(), asked)?;
-    let segments = query.segments.as_slice();
-    let mut path = empty_path(alloc, scratch);
-    let mut found = Found::Visitor(visitor);
-    run(&context, segments, root, &mut path, &mut found)?;
-    *scratch = path.into_scratch();
-    Ok(visitor_of(found))
-}
-
-/// The same, where long lists are cut.
-fn split_in<R: Threads + Sync, F: Fork + Sync, V: Visit + Drop + Send>(
-    rt: &R,
-    fork: &F,
-    cuts: Cuts,
-    alloc: Global,
-    query: &Query,
-    asked: Asked,
-    root: Part<'_>,
-    scratch: &mut Scratch,
-    visitor: V,
-) -> Result<V, EvalFault>
-    ensures { IfOk result (λ t. (tests : Tests) → AreRight tests →
-        V.kept t ≡ fold V.put (V.kept visitor)
-        (document_nodes tests (compiled_query query.now) (part_value root.entry))) }
-{
-    let context = answer_roots::<V>(alloc, root, query.roots.as_slice(), asked)?;
-    let segments = query.segments.as_slice();
-    let mut path = empty_path(alloc, scratch);
-    let mut found = Found::Visitor(visitor);
-    let splitting = Splitting {
-        rt,
-        fork,
-        context: &context,
-        cuts,
-    };
-    go_split(&splitting, Task::Run(segments), root, &mut path, &mut found)?;
-    *scratch = path.into_scratch();
-    Ok(visitor_of(found))
 }
 
 /// A path stack with no link, whose text has the memory that was kept. A walk that ends in want of memory

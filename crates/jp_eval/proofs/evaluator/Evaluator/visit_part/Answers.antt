@@ -3,12 +3,12 @@ use Rattle.jp_compiled.specs.Parts.{roots_of}
 use Rattle.jp_eval.specs.inner.Base.{base_of}
 use Rattle.jp_eval.proofs.Answering.{visited}
 use Rattle.jp_found.proofs.Keeping.{still_taken}
-use Rattle.jp_eval.proofs.evaluator.visit_in.Goals as goal
+use Rattle.jp_eval.proofs.evaluator.Evaluator.visit_part.Goals as goal
 
-pub returns : goal.returns
-returns g c =
-    visited g.V.Visit.put c.args.query.now (base_of c.in_ok-context.context) c.as_slice-segments.result.now
-    c.args.root c.empty_path-path.result _ _ _ c.as_slice-segments.ensures.value c.empty_path-path.ensures
+pub returns-clause-nodes : goal.returns-clause-nodes
+returns-clause-nodes g c =
+    visited g.V.Visit.put c.args.self.now.query.now (base_of c.in_ok-context.context)
+    c.as_slice-segments.result.now c.args.root c.empty_path-path.result _ _ _ c.as_slice-segments.ensures.value c.empty_path-path.ensures
     (sym c.in_ok-context.ensures.root)
     (ap roots_of (c.in_ok-context.ensures.roots ∙ c.as_slice.ensures.value)) c.visitor_of.ensures
     c.in_ok-run.ensures.found
