@@ -25,7 +25,7 @@ use crate::pieces::Pieces;
 use jp_buffer::LineRef;
 use jp_compiled::Query;
 use jp_doc::{DocFault, Document};
-use jp_eval::{EvalFault, Evaluator, OpenFork, Visit};
+use jp_eval::{Cuts, EvalFault, Evaluator, OpenFork, Visit};
 use jp_flat::FlatReader;
 use jp_number::Numbers;
 use jp_output::Form;
@@ -303,15 +303,16 @@ fn with_fault<F: Form + Drop>(
 enum Walk {
     /// By one thread.
     Straight,
-    /// A long list in it is cut into halves that are walked at once.
-    ByHalves,
+    /// A long list in it is cut so into halves that are walked at once.
+    ByHalves(Cuts),
 }
 
-/// How the document of a line is walked: a short line holds no list that is worth two threads.
+/// How the document of a line is walked: by no more threads than there are workers, or the next power of two.
+/// A short line holds no list that is worth two.
 fn walk_of(pieces: &Pieces, line: &LineRef<'_>) -> Walk {
     // One worker starts no thread, so it walks straight (README, Why so).
     if pieces.workers > 1 && line.bytes.len() >= SPLIT_BYTES {
-        Walk::ByHalves
+        Walk::ByHalves(Cuts::new(SPLIT_FLOOR, pieces.workers))
     } else {
         Walk::Straight
     }
@@ -363,7 +364,7 @@ fn visited<R: Threads + Sync, V: Visit + Drop + Send>(
     ensures query { evaluated_query evaluator.new ≡ evaluated_query evaluator.old }
 {
     match walk {
-        Walk::ByHalves => evaluator.visit_part_split(rt, root, SPLIT_FLOOR, &OpenFork, visitor),
+        Walk::ByHalves(cuts) => evaluator.visit_part_split(rt, root, cuts, &OpenFork, visitor),
         Walk::Straight => evaluator.visit_part(root, visitor),
     }
 }

@@ -1,4 +1,5 @@
 pub mod Nodelist
 pub mod Samples
 pub mod Evaluated
+pub mod Cuts
 pub mod inner

@@ -95,9 +95,9 @@ impl<'p> Evaluator<'p> {
         Ok(visitor_of(found))
     }
 
-    /// The same as `visit`, where a list of children that the query's own segments walk, and that has at
-    /// least `floor` members, is cut into halves that are walked at once, and so is a half. A floor under 2
-    /// counts as 2. What lies within six cuts is walked whole, so that there are at most 64 walks at once.
+    /// The same as `visit`, where a list of children that the query's own segments walk, and that is long
+    /// enough for these cuts, is cut into halves that are walked at once, and so is a half. What lies within
+    /// as many cuts as there may be is walked whole.
     ///
     /// The fork is told of each half by the thread that walks it. A half whose thread can't be started is
     /// walked on the other's.
@@ -109,7 +109,7 @@ impl<'p> Evaluator<'p> {
         &mut self,
         rt: &R,
         document: &Document,
-        floor: u64,
+        cuts: Cuts,
         fork: &F,
         visitor: V,
     ) -> Result<V, EvalFault>
@@ -118,7 +118,7 @@ impl<'p> Evaluator<'p> {
             (document_nodes tests (evaluated_query self.old) (document_value document.now))) }
         ensures query { evaluated_query self.new ≡ evaluated_query self.old }
     {
-        self.visit_part_split(rt, Part::root_of(document), floor, fork, visitor)
+        self.visit_part_split(rt, Part::root_of(document), cuts, fork, visitor)
     }
 
     /// The same as `visit_split`, of a document by its whole value, in whatever form it is read.
@@ -130,7 +130,7 @@ impl<'p> Evaluator<'p> {
         &mut self,
         rt: &R,
         root: Part<'_>,
-        floor: u64,
+        cuts: Cuts,
         fork: &F,
         visitor: V,
     ) -> Result<V, EvalFault>
@@ -148,7 +148,7 @@ impl<'p> Evaluator<'p> {
             rt,
             fork,
             context: &context,
-            cuts: Cuts::from_floor(floor),
+            cuts,
         };
         go_split(&splitting, Task::Run(segments), root, &mut path, &mut found)?;
         self.scratch = path.into_scratch();

@@ -14,19 +14,38 @@ impl Fork for OpenFork {
     fn half(&self, _half: u64) {}
 }
 
-/// How long a list is that is cut, and how many cuts may still lie around it.
+/// From which length on a list is cut, and how many cuts may still lie around it.
 #[derive(Clone, Copy)]
-pub(crate) struct Cuts {
+pub struct Cuts {
     pub(crate) floor: u64,
     pub(crate) left: u8,
 }
 
 impl Cuts {
-    /// Six cuts within one another, and so at most 64 walks at once. A floor under 2 counts as 2.
-    pub(crate) fn from_floor(floor: u64) -> Cuts {
+    ghost use Rattle.std.specs.Prelude.{◌<◌, ◌≤◌, ◌*◌};
+    ghost use Rattle.jp_eval.specs.Cuts.{most_walks};
+
+    /// Cuts of each list of at least `floor` members, so that as many walks of one document go on at once as
+    /// there are threads, or as the next power of two, and 64 at most. A floor under 2 counts as 2, and no
+    /// thread as one, which walks alone.
+    pub fn new(floor: u64, threads: u64) -> Cuts
+        ensures enough { threads ≤ 64 → threads ≤ most_walks result }
+        ensures few { 0 < threads → most_walks result < 2 * threads }
+        ensures most { most_walks result ≤ 64 }
+    {
+        // Each cut makes two walks of one.
+        let left = match threads {
+            0..=1 => 0,
+            2 => 1,
+            3..=4 => 2,
+            5..=8 => 3,
+            9..=16 => 4,
+            17..=32 => 5,
+            _ => 6,
+        };
         Cuts {
             floor: floor.max(2),
-            left: 6,
+            left,
         }
     }
 }

@@ -16,6 +16,6 @@ mod work_items;
 
 pub use evaluator::Evaluator;
 pub use fault::EvalFault;
-pub use fork::{Fork, OpenFork};
+pub use fork::{Cuts, Fork, OpenFork};
 pub use jp_nodes::Visit;
 pub use jp_value::{Bounds, Operand, equal, less, slice_bounds};

@@ -5,7 +5,7 @@
 
 use jp_check::plan;
 use jp_doc::{Document, Location, Step};
-use jp_eval::{Evaluator, OpenFork};
+use jp_eval::{Cuts, Evaluator, OpenFork};
 use jp_flat::FlatReader;
 use jp_nodes::Locations;
 use jp_part::Part;
@@ -39,7 +39,8 @@ fn evaluated_by_halves<R: Threads + Sync>(rt: &R, alloc: Global) -> Option<bool>
         Err(_) => return Some(false),
     };
     let document = Document::read(alloc, DOCUMENT).ok()?;
-    let found = evaluate_split(rt, alloc, &plan, &document, 2, &OpenFork).ok()?;
+    let cuts = Cuts::new(2, 64);
+    let found = evaluate_split(rt, alloc, &plan, &document, cuts, &OpenFork).ok()?;
     Some(are_those(&found))
 }
 

@@ -5,7 +5,7 @@ use crate::selections::{parts_of, paths};
 use crate::uniform::is_right_flat;
 use jp_check::{Plan, plan};
 use jp_doc::{Document, Location, Step};
-use jp_eval::{Evaluator, OpenFork};
+use jp_eval::{Cuts, Evaluator, OpenFork};
 use jp_flat::FlatReader;
 use jp_nodes::Locations;
 use jp_part::Part;
@@ -38,8 +38,8 @@ fn always_selects<R: Threads + Sync>(
     wanted: &str,
 ) -> Result<bool, Fail> {
     for time in 0..200 * FLOORS.len() {
-        let floor = FLOORS[time % FLOORS.len()];
-        let found = evaluate_split(rt, alloc, plan, document, floor, &OpenFork)?;
+        let cuts = Cuts::new(FLOORS[time % FLOORS.len()], 64);
+        let found = evaluate_split(rt, alloc, plan, document, cuts, &OpenFork)?;
         if paths(alloc, found.as_slice())?.as_str() != wanted {
             return Ok(false);
         }
@@ -92,7 +92,7 @@ fn meet<R: Threads + Sync>(rt: &R, alloc: Global) -> Result<bool, Fail> {
     let document = Document::read(alloc, b"[1,2]")?;
     for _time in 0..200u8 {
         let fork = Meeting::new();
-        let found = evaluate_split(rt, alloc, &plan, &document, 2, &fork)?;
+        let found = evaluate_split(rt, alloc, &plan, &document, Cuts::new(2, 2), &fork)?;
         if !fork.met() || paths(alloc, found.as_slice())?.as_str() != "$[0] $[1]" {
             return Ok(false);
         }
@@ -106,19 +106,31 @@ fn halves_meet(rt: HostRuntime) -> Result<(), Fail> {
     Ok(())
 }
 
-/// Whether all of 256 nodes were found, by 63 cuts.
-fn are_all(found: &[Location], fork: &Counting) -> bool {
-    found.len() == 256 && fork.begun() == (63, 63)
+/// How often a list of 256 is cut in all, for so many threads: one time fewer than there are walks at once.
+const CUTS: [(u64, u64); 7] = [
+    (0, 0),
+    (1, 0),
+    (2, 1),
+    (3, 3),
+    (8, 7),
+    (64, 63),
+    (18446744073709551615, 63),
+];
+
+/// Whether all of 256 nodes were found, by so many cuts.
+fn are_all(found: &[Location], fork: &Counting, cuts: u64) -> bool {
+    found.len() == 256 && fork.begun() == (cuts, cuts)
 }
 
-/// Whether a list of 256 is cut so, each of 200 times.
-fn are_sixty_four<R: Threads + Sync>(rt: &R, alloc: Global) -> Result<bool, Fail> {
+/// Whether a list of 256 is cut so often for so many threads, each of 200 times.
+fn is_cut<R: Threads + Sync>(rt: &R, alloc: Global, threads: u64, cuts: u64) -> Result<bool, Fail> {
     let plan = plan(alloc, "$[*]")?;
     let document = Document::read(alloc, numbers(alloc, 256)?.as_bytes())?;
     for _time in 0..200u8 {
         let fork = Counting::new();
-        let found = evaluate_split(rt, alloc, &plan, &document, 2, &fork)?;
-        if !are_all(&found, &fork) {
+        let by = Cuts::new(2, threads);
+        let found = evaluate_split(rt, alloc, &plan, &document, by, &fork)?;
+        if !are_all(&found, &fork, cuts) {
             return Ok(false);
         }
     }
@@ -126,8 +138,10 @@ fn are_sixty_four<R: Threads + Sync>(rt: &R, alloc: Global) -> Result<bool, Fail
 }
 
 #[test]
-fn sixty_four_walks(rt: HostRuntime) -> Result<(), Fail> {
-    assert!(rt; are_sixty_four(&rt, rt.alloc())?);
+fn walks_for_threads(rt: HostRuntime) -> Result<(), Fail> {
+    for (threads, cuts) in CUTS {
+        assert!(rt; is_cut(&rt, rt.alloc(), threads, cuts)?, "{threads}");
+    }
     Ok(())
 }
 
@@ -147,11 +161,11 @@ fn found_flat<R: Threads + Sync>(
         locations: Vec::new(alloc),
     };
     let mut evaluator = Evaluator::new(alloc, plan.compiled());
-    let found = evaluator.visit_part_split(rt, root, floor, fork, none)?;
+    let found = evaluator.visit_part_split(rt, root, Cuts::new(floor, 64), fork, none)?;
     Ok(found.locations)
 }
 
-/// Whether a query's 256 nodes in a line that is read flat are cut so, each of 200 times.
+/// Whether a query's 256 nodes in a line that is read flat are cut into 64 parts, each of 200 times.
 fn are_sixty_four_flat<R: Threads + Sync>(
     rt: &R,
     alloc: Global,
@@ -163,7 +177,7 @@ fn are_sixty_four_flat<R: Threads + Sync>(
     for _time in 0..200u8 {
         let fork = Counting::new();
         let found = found_flat(rt, alloc, &plan, line, floor, &fork)?;
-        if !are_all(&found, &fork) {
+        if !are_all(&found, &fork, 63) {
             return Ok(false);
         }
     }
@@ -201,7 +215,8 @@ fn finds_upper<R: Threads + Sync>(rt: &R, alloc: Global) -> Result<bool, Fail> {
     let document = Document::read(alloc, numbers(alloc, 10000)?.as_bytes())?;
     for time in 0..400u32 {
         let floor = if time % 2 == 0 { 2500 } else { 4096 };
-        let found = evaluate_split(rt, alloc, &plan, &document, floor, &OpenFork)?;
+        let cuts = Cuts::new(floor, 64);
+        let found = evaluate_split(rt, alloc, &plan, &document, cuts, &OpenFork)?;
         if !are_upper(found.as_slice()) {
             return Ok(false);
         }
@@ -235,9 +250,9 @@ fn finds_the_same<R: Threads + Sync>(rt: &R, alloc: Global) -> Result<bool, Fail
     let document = Document::read(alloc, members(alloc, 1000)?.as_bytes())?;
     let whole = evaluate(alloc, &plan, &document)?;
     for time in 0..200usize {
-        let floor = [2, 300, 1000][time % 3];
+        let cuts = Cuts::new([2, 300, 1000][time % 3], 64);
         let fork = Counting::new();
-        let found = evaluate_split(rt, alloc, &plan, &document, floor, &fork)?;
+        let found = evaluate_split(rt, alloc, &plan, &document, cuts, &fork)?;
         if found.as_slice() != whole.as_slice() || fork.begun().0 == 0 {
             return Ok(false);
         }

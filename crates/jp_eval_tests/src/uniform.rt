@@ -4,7 +4,7 @@
 use crate::selections::{parts_of, paths};
 use jp_check::{Plan, plan};
 use jp_doc::Document;
-use jp_eval::{Evaluator, OpenFork};
+use jp_eval::{Cuts, Evaluator, OpenFork};
 use jp_flat::FlatReader;
 use jp_nodes::Locations;
 use jp_part::Part;
@@ -90,7 +90,9 @@ fn selected<R: Threads + Sync>(
     };
     let mut evaluator = Evaluator::new(alloc, plan.compiled());
     let found = match floor {
-        Some(floor) => evaluator.visit_part_split(rt, root, floor, &OpenFork, none)?,
+        Some(floor) => {
+            evaluator.visit_part_split(rt, root, Cuts::new(floor, 64), &OpenFork, none)?
+        }
         None => evaluator.visit_part(root, none)?,
     };
     paths(alloc, found.locations.as_slice())

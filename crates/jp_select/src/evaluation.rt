@@ -10,7 +10,7 @@ ghost use Rattle.jp_eval.specs.Nodelist.{document_nodes};
 
 use jp_check::Plan;
 use jp_doc::{Document, Location};
-use jp_eval::{EvalFault, Evaluator, Fork};
+use jp_eval::{Cuts, EvalFault, Evaluator, Fork};
 use jp_nodes::{Locations, Visit};
 use std::alloc::Global;
 use std::thread::Threads;
@@ -53,9 +53,9 @@ pub fn evaluate(alloc: Global, plan: &Plan, document: &Document) -> Result<Vec<L
     Ok(visitor.locations)
 }
 
-/// The same as `evaluate`, where a list of children that the query's own segments walk, and that has at least
-/// `floor` members, is cut into halves that are walked at once, and so is a half. A floor under 2 counts as
-/// 2. What lies within six cuts is walked whole, so that there are at most 64 walks at once.
+/// The same as `evaluate`, where a list of children that the query's own segments walk, and that is long
+/// enough for these cuts, is cut into halves that are walked at once, and so is a half. What lies within as
+/// many cuts as there may be is walked whole.
 ///
 /// The fork is told of each half by the thread that walks it. A half whose thread can't be started is walked
 /// on the other's.
@@ -68,7 +68,7 @@ pub fn evaluate_split<R: Threads + Sync, F: Fork + Sync>(
     alloc: Global,
     plan: &Plan,
     document: &Document,
-    floor: u64,
+    cuts: Cuts,
     fork: &F,
 ) -> Result<Vec<Location>, EvalFault>
     ensures nodes { IfOk result (λ found. (t : Tests) → AreRight t →
@@ -79,7 +79,7 @@ pub fn evaluate_split<R: Threads + Sync, F: Fork + Sync>(
         locations: Vec::new(alloc),
     };
     let visitor = Evaluator::new(alloc, plan.compiled()).visit_split(
-        rt, document, floor, fork, none,
+        rt, document, cuts, fork, none,
     )?;
     Ok(visitor.locations)
 }
