@@ -176,7 +176,7 @@ cut_in_two a b = ap (λ (c : CutAt). record { ended = c.ended; open_line = c.ope
 pub still_open : (a : List ℕ) → cut (cut a).open_line ≡ record { ended = []; open_line = (cut a).open_line }
 still_open a = ap (λ (c : CutAt). record { ended = c.ended; open_line = c.open_document }) (open_again a)
 
-documents_both : (a b : List ℕ) → all_documents (a ++ b)
+pub documents_both : (a b : List ℕ) → all_documents (a ++ b)
     ≡ (cut a).ended ++ all_documents ((cut a).open_line ++ b)
 documents_both a b =
     let c = cut ((cut a).open_line ++ b) in

@@ -35,13 +35,14 @@ pub fn behind_nothing_open()
 {}
 
 /// Bytes are cut alike in one piece and in two, where those of the open document are cut again with the
-/// second; and what is open, cut again, is open.
-#[tactic(auto, using(crate::proofs::FeedLaws::cut_in_two, crate::proofs::FeedLaws::still_open))]
+/// second, and so are their documents; and what is open, cut again, is open.
 pub fn cut_in_two()
     ensures both { (a b : List ℕ) → cut (a ++ b) ≡ record {
       ended = (cut a).ended ++ (cut ((cut a).open_line ++ b)).ended;
       open_line = (cut ((cut a).open_line ++ b)).open_line;
     } }
+    ensures documents { (a b : List ℕ) → all_documents (a ++ b)
+        ≡ (cut a).ended ++ all_documents ((cut a).open_line ++ b) }
     ensures still_open { (a : List ℕ) → cut (cut a).open_line
         ≡ record { ended = []; open_line = (cut a).open_line } }
 {}
