@@ -188,7 +188,7 @@ impl LineBuffer {
 
 /// Puts bytes in the place of those of a vector, whose memory is let go where they were many. `AllocError` if
 /// a growth was refused: then they are the bytes that they were.
-fn put_instead(place: &mut Vec<u8>, bytes: &[u8]) -> Result<(), AllocError>
+pub fn put_instead(place: &mut Vec<u8>, bytes: &[u8]) -> Result<(), AllocError>
     ensures ok { OnOk result (place.new.items ≡ bytes.now) }
     ensures same { OnErr result (place.new.items ≡ place.old.items) }
 {

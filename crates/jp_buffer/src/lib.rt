@@ -7,6 +7,6 @@ mod examples;
 mod line_ref;
 mod waiting;
 
-pub use buffer::LineBuffer;
+pub use buffer::{LineBuffer, put_instead};
 pub use line_ref::{LineRef, refs_of};
 pub use waiting::{PartSize, WaitingLines};

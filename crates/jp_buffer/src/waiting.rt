@@ -77,7 +77,9 @@ impl WaitingLines {
     }
 
     /// Adds a line that is given in two parts, unless it is blank.
-    pub(crate) fn push(&mut self, number: u64, front: &[u8], back: &[u8]) -> Result<(), AllocError>
+    ///
+    /// `AllocError` if a growth was refused: then nothing has changed.
+    pub fn push(&mut self, number: u64, front: &[u8], back: &[u8]) -> Result<(), AllocError>
         ensures lines { OnOk result
             (self.new ≡ self.old ++ numbered number ((front.now ++ back.now) ∷ [])) }
         ensures same { OnErr result (self.new ≡ self.old) }
@@ -123,7 +125,7 @@ impl WaitingLines {
     /// as there are any.
     ///
     /// `AllocError` if a growth was refused.
-    pub(crate) fn front_parts(
+    pub fn front_parts(
         &self,
         alloc: Global,
         count: usize,
@@ -147,7 +149,7 @@ impl WaitingLines {
     }
 
     /// Keeps so many lines at the front.
-    pub(crate) fn truncate(&mut self, count: usize)
+    pub fn truncate(&mut self, count: usize)
         requires { count ≤ length self.old }
         ensures { self.new ≡ take count self.old }
     {
@@ -165,7 +167,7 @@ impl WaitingLines {
     }
 
     /// Takes so many lines away from the front, and lets their memory go where they are long.
-    pub(crate) fn take_away(&mut self, count: usize)
+    pub fn take_away(&mut self, count: usize)
         requires { count ≤ length self.old }
         ensures { self.new ≡ drop count self.old }
     {

@@ -8,6 +8,7 @@ mod check;
 mod children;
 mod compiled;
 mod doc;
+mod documents;
 mod eval;
 mod examples;
 mod explain;

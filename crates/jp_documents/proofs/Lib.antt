@@ -1,0 +1,11 @@
+pub mod CutLaws
+pub mod ScanLaws
+pub mod RunLaws
+pub mod Vectors
+pub mod FeedLaws
+pub mod NestLaws
+pub mod QuietLaws
+pub mod LexLaws
+pub mod InsideLaws
+pub mod JsonLaws
+pub mod BeginLaws

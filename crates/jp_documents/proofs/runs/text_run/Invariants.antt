@@ -1,0 +1,11 @@
+use Rattle.std.proofs.Common.{◌≡◌, ◌+◌, ◌-◌, ◌≤◌, length, drop}
+use Rattle.jp_documents.specs.inner.Finding.{matters_in_text, run_len}
+use Rattle.jp_documents.proofs.runs.text_run.Given as goal
+
+abbrev pub invariant-loop-at : goal.invariant-loop-at
+invariant-loop-at l =
+    (run_len matters_in_text l.bytes ≡ l.at + run_len matters_in_text (drop l.at l.bytes)) ×
+    (l.at ≤ length l.bytes)
+
+abbrev pub decreases-loop-at : goal.decreases-loop-at
+decreases-loop-at l = length l.bytes - l.at
