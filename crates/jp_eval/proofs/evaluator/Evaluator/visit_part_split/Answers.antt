@@ -8,7 +8,8 @@ use Rattle.jp_eval.proofs.evaluator.Evaluator.visit_part_split.Goals as goal
 pub returns-clause-nodes : goal.returns-clause-nodes
 returns-clause-nodes g c =
     visited g.V.Visit.put c.args.self.now.query.now (base_of c.in_ok-context.context)
-    c.as_slice-segments.result.now c.args.root c.empty_path-path.result _ _ _ c.as_slice-segments.ensures.value c.empty_path-path.ensures
+    c.as_slice-segments.result.now c.args.root c.empty_path-path.result _ _ _
+    c.as_slice-segments.ensures.value c.empty_path-path.ensures
     (sym c.in_ok-context.ensures.root)
     (ap roots_of (c.in_ok-context.ensures.roots ∙ c.as_slice.ensures.value)) c.visitor_of.ensures
     c.in_ok-go_split.ensures.found
