@@ -1,6 +1,5 @@
 -- JSON documents that stand one behind another, over any number of lines: where each begins and ends,
--- whatever
--- the bytes hold.
+-- whatever the bytes hold.
 --
 -- A document begins at the first byte that is no blank: no space, tab, line feed or carriage return.
 -- One that begins with an opening bracket ends with the bracket that closes it: brackets of both kinds count
