@@ -53,6 +53,14 @@ impl Plan {
         &self.compiled
     }
 
+    /// The literal patterns of the query, in the order of the text: each second argument of `match` or
+    /// `search` that is a text, with the pattern that it is, if it is one. It takes no memory.
+    pub fn patterns(&self) -> &[KnownPattern]
+        ensures { known_texts result.now ≡ literal_patterns (planned_query self.now) }
+    {
+        &self.patterns
+    }
+
     /// What is known of the text as a pattern: what it is, if it stands in the query as a literal second
     /// argument of `match` or `search`. It takes no memory.
     pub fn pattern(&self, text: &str) -> Known<'_>

@@ -3,3 +3,4 @@ pub mod Marks
 pub mod Pictures
 pub mod Ignorable
 pub mod OnLiterals
+pub mod Traps

@@ -1,7 +1,7 @@
 -- Lines in which no character has to be escaped.
 use Rattle.std.proofs.Common.{◌≡◌, ℕ, Bool, true, false, not, List, [], ◌∷◌, ◌++◌, refl, ap, ◌∙◌}
 use Rattle.std.proofs.Common.{append_assoc, ◌<◌, ◌≤◌, length, get_or, sym, true≢false}
-use Rattle.std.proofs.Common.{Result, Ok, Err, inr}
+use Rattle.std.proofs.Common.{Result, Ok, Err, inr, subst}
 use Rattle.std.specs.Prelude.{String, IfOk, OnOk, is_ok, if◌then◌else◌}
 use Rattle.std.specs.declared.alloc.Global.{Global}
 use Rattle.std.specs.Str.{chars, IsUtf8}
@@ -12,7 +12,8 @@ use Rattle.jp_tree.specs.Tree.{Text}
 use Rattle.jp_tree.specs.View.{text_of}
 use Rattle.jp_tokens.proofs.Cuts.{pushed}
 use Rattle.jp_explain.specs.Picture.{is_escaped, is_shown, picture, IsPictureWith, IsPicture, ShowsShort}
-use Rattle.jp_explain.specs.Picture.{IsLinePicture, IsHelp, AreWords}
+use Rattle.jp_explain.specs.Picture.{IsLinePicture, IsLinePictureWith, IsHelp, AreWords}
+use Rattle.jp_explain.specs.Picture.{AreWordsAlone, IsPictureAlone}
 
 all_pushed : (p : ℕ → Bool) (xs : List ℕ) (c : ℕ) → list_all p xs ≡ true → p c ≡ true
     → list_all p (xs ++ c ∷ []) ≡ true
@@ -88,6 +89,22 @@ worded (Ok s) said help given same shown helps value =
     (said, help, shown, helps, value ∙ ap (λ (t : Text). said ++ (10 ∷ t)) same)
 worded (Err e) said help given same shown helps value = tt
 
+-- a line above nothing, where there is nothing that helps
+pub worded_alone : {E : Type 0} (r : Result (String Global) E) (said given : Text) → given ≡ []
+    → is_shown said ≡ true → IfOk r (λ s. text_of s ≡ said ++ (10 ∷ given))
+    → IfOk r (λ s. AreWordsAlone (text_of s))
+worded_alone (Ok s) said given same shown value =
+    (said, shown, value ∙ ap (λ (t : Text). said ++ (10 ∷ t)) same)
+worded_alone (Err e) said given same shown value = tt
+
+-- a line with a caret below it, and such words
+pub pictured_alone : {E : Type 0} (r : Result (String Global) E) (line : Text) (column : ℕ)
+    (words given : Text) → given ≡ words → is_shown line ≡ true → AreWordsAlone words
+    → IfOk r (λ s. text_of s ≡ picture line column given) → IfOk r (λ s. IsPictureAlone (text_of s))
+pictured_alone (Ok s) line column words given same shown alone value =
+    (words, alone, (line, column, shown, value ∙ ap (picture line column) same))
+pictured_alone (Err e) line column words given same shown alone value = tt
+
 -- one text, a line feed, and another
 pub with_line_feed : (empty front back one two three : Text) → empty ≡ [] → one ≡ empty ++ front
     → two ≡ one ++ 10 ∷ [] → three ≡ two ++ back → three ≡ front ++ (10 ∷ back)
@@ -95,10 +112,22 @@ with_line_feed empty front back one two three nothing first second third =
     third ∙ ap (λ (t : Text). t ++ back) (second ∙ ap (λ (t : Text). t ++ 10 ∷ []) (first
     ∙ ap (λ (t : Text). t ++ front) nothing)) ∙ append_assoc front (10 ∷ []) back
 
--- what is said, and the lines below it
-pub line_pictured : {E : Type 0} (r : Result (String Global) E) (head below given : Text) → given ≡ below
-    → is_shown head ≡ true → IsPictureWith [] below → IfOk r (λ s. text_of s ≡ head ++ (10 ∷ given))
-    → IfOk r (λ s. IsLinePicture (text_of s))
-line_pictured (Ok s) head below given same shown pictured_below value =
+-- what is said, and the lines below it, under which these words stand
+pub line_pictured : {E : Type 0} (r : Result (String Global) E) (words head below given : Text)
+    → given ≡ below → is_shown head ≡ true → IsPictureWith words below
+    → IfOk r (λ s. text_of s ≡ head ++ (10 ∷ given)) → IfOk r (λ s. IsLinePictureWith words (text_of s))
+line_pictured (Ok s) words head below given same shown pictured_below value =
     (head, below, shown, pictured_below, value ∙ ap (λ (t : Text). head ++ (10 ∷ t)) same)
-line_pictured (Err e) head below given same shown pictured_below value = tt
+line_pictured (Err e) words head below given same shown pictured_below value = tt
+
+-- the same where the words are what helps
+pub line_helped : {E : Type 0} (r : Result (String Global) E) (help : Text) → IsHelp help
+    → IfOk r (λ s. IsLinePictureWith help (text_of s)) → IfOk r (λ s. IsLinePicture (text_of s))
+line_helped (Ok s) help is_help pictured_so = (help, is_help, pictured_so)
+line_helped (Err e) help is_help pictured_so = tt
+
+-- the same where there are none
+pub line_bare : {E : Type 0} (r : Result (String Global) E) (help : Text) → help ≡ []
+    → IfOk r (λ s. IsLinePictureWith help (text_of s)) → IfOk r (λ s. IsLinePictureWith [] (text_of s))
+line_bare r help none pictured_so =
+    subst (λ (t : Text). IfOk r (λ s. IsLinePictureWith t (text_of s))) none pictured_so

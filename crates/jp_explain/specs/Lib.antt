@@ -1,3 +1,5 @@
 pub mod LineMark
 pub mod Mark
+pub mod PatternNotes
 pub mod Picture
+pub mod inner

@@ -39,6 +39,14 @@ IsHelp t = (t ≡ []) ⊎ ((help : Text) × (is_shown help ≡ true) × (t ≡ h
 abbrev pub AreWords : Text → Type 0
 AreWords t = (said : Text) × (help : Text) × (is_shown said ≡ true) × IsHelp help × (t ≡ said ++ (10 ∷ help))
 
+-- the same with nothing that helps
+abbrev pub AreWordsAlone : Text → Type 0
+AreWordsAlone t = (said : Text) × (is_shown said ≡ true) × (t ≡ said ++ (10 ∷ []))
+
+-- such a text, whose words are so
+abbrev pub IsPictureAlone : Text → Type 0
+IsPictureAlone t = (words : Text) × AreWordsAlone words × IsPictureWith words t
+
 -- the line shows a text of at most 35 characters, in which none has to be escaped, just as it is
 abbrev pub ShowsShort : Text → Text → Type 0
 ShowsShort t line = is_shown t ≡ true → length t ≤ 35 → line ≡ t
@@ -48,7 +56,11 @@ abbrev pub IsPicture : Text → Text → Type 0
 IsPicture query t = (line : Text) × (column : ℕ) × (words : Text) × ShowsShort query line
     × (is_shown line ≡ true) × AreWords words × (t ≡ picture line column words)
 
--- a line that says something, in which no character has to be escaped, and such a text with no words below it
+-- a line that says something, in which no character has to be escaped, and such a text with these words
+abbrev pub IsLinePictureWith : Text → Text → Type 0
+IsLinePictureWith words t = (head : Text) × (below : Text) × (is_shown head ≡ true)
+    × IsPictureWith words below × (t ≡ head ++ (10 ∷ below))
+
+-- the same with what helps in the place of words
 abbrev pub IsLinePicture : Text → Type 0
-IsLinePicture t = (head : Text) × (below : Text) × (is_shown head ≡ true) × IsPictureWith [] below
-    × (t ≡ head ++ (10 ∷ below))
+IsLinePicture t = (help : Text) × IsHelp help × IsLinePictureWith help t

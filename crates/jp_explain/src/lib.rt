@@ -3,15 +3,21 @@
 
 mod characters;
 mod cure;
+mod cure_of_start;
+mod cure_table;
 mod escaping;
 mod examples;
 mod explanation;
 mod growth;
 mod line;
 mod line_explanation;
+mod line_helping;
 mod line_picture;
 mod meant;
+mod pattern_note;
 mod picture;
+mod plain_pattern;
+mod words;
 
 pub use escaping::escaped;
 pub use explanation::{Explanation, explain};
@@ -19,5 +25,7 @@ pub use jp_line_scan::{LineExpected, LineReason, LineRule, Literal, LongNumber, 
 pub use jp_query_scan::{Closer, Expected, Reason, Rule};
 pub use jp_types::Function;
 pub use line_explanation::{LineExplanation, explain_line};
+pub use line_helping::line_help;
 pub use line_picture::write_line_mark;
+pub use pattern_note::{PatternNote, Trap, pattern_notes, write_pattern_note};
 pub use picture::write_mark;

@@ -1,11 +1,14 @@
 //! A faulty line with its mark, as a terminal shows it.
 
-ghost use Rattle.std.specs.Prelude.{[], IfOk};
+ghost use Rattle.std.specs.Prelude.{◌≡◌, [], false, IfOk};
+ghost use Rattle.std.specs.Str.{chars};
 ghost use Rattle.jp_tree.specs.View.{text_of};
-ghost use Rattle.jp_explain.specs.Picture.{IsLinePicture, IsPictureWith};
+ghost use Rattle.jp_explain.specs.LineMark.{has_help};
+ghost use Rattle.jp_explain.specs.Picture.{IsLinePicture, IsLinePictureWith, IsPictureWith};
 
 use crate::line::Line;
 use crate::line_explanation::LineExplanation;
+use crate::line_helping::line_of_help;
 use std::alloc::{AllocError, Global};
 
 /// How many bytes of a line are shown.
@@ -48,9 +51,9 @@ fn bytes_between(line: &[u8], start: usize, end: usize) -> &[u8] {
     line.get(start..end).unwrap_or(&[])
 }
 
-/// The line around the mark, with a caret under it.
-fn marked(alloc: Global, line: &[u8], mark: usize) -> Result<String, AllocError>
-    ensures { IfOk result (λ s. IsPictureWith [] (text_of s)) }
+/// The line around the mark, with a caret under it, and the words.
+fn marked(alloc: Global, line: &[u8], mark: usize, words: &str) -> Result<String, AllocError>
+    ensures { IfOk result (λ s. IsPictureWith (chars words.now) (text_of s)) }
 {
     let (start, end) = shown_range(line, mark);
     let mut shown = Line::new(alloc);
@@ -63,7 +66,7 @@ fn marked(alloc: Global, line: &[u8], mark: usize) -> Result<String, AllocError>
     if end < line.len() {
         shown.push_gap()?;
     }
-    shown.with_caret(alloc, column, "")
+    shown.with_caret(alloc, column, words)
 }
 
 /// The path of a number, and its text.
@@ -112,7 +115,7 @@ fn head(
 }
 
 /// Three lines for a terminal: what is to be said of the line of that number, the bytes around the mark, and
-/// a caret under it.
+/// a caret under it. Where it is known what helps ([`line_help`](crate::line_help)), a fourth says it.
 ///
 /// Control characters, characters that show nothing or change how others stand, and bytes that are no UTF-8
 /// are shown as escapes. A line of more than 60 bytes is cut on both sides of the mark, with `..` in the
@@ -128,9 +131,14 @@ pub fn write_line_mark(
     explanation: &LineExplanation,
 ) -> Result<String, AllocError>
     // No such character of the line is shown, and so no line feed.
-    ensures { IfOk result (λ s. IsLinePicture (text_of s)) }
+    ensures shown { IfOk result (λ s. IsLinePicture (text_of s)) }
+    // Nothing stands below the caret where it is not known what helps.
+    ensures bare { has_help explanation.now.reason ≡ false
+        → IfOk result (λ s. IsLinePictureWith [] (text_of s)) }
 {
     let head = head(alloc, number, line, explanation)?;
-    let picture = marked(alloc, line, explanation.mark.min(line.len()))?;
+    let help = line_of_help(alloc, &explanation.reason)?;
+    let mark = explanation.mark.min(line.len());
+    let picture = marked(alloc, line, mark, help.as_str())?;
     head.above(alloc, picture.as_str())
 }

@@ -18,6 +18,31 @@ pub(crate) enum Cure<'q> {
         front: &'q str,
         digits: &'q str,
     },
+    /// A path that lacks its `$`, and perhaps a dot behind it.
+    Rooted {
+        dot: &'static str,
+        path: &'q str,
+    },
+    /// A name that lacks the dot between that sign and itself.
+    Dotted {
+        sign: &'static str,
+        name: &'q str,
+    },
+    /// A text that lacks its quotes, in two parts.
+    Text {
+        start: &'q str,
+        rest: &'q str,
+    },
+    /// The same, or a name that lacks `@.`.
+    Value {
+        start: &'q str,
+        rest: &'q str,
+    },
+    /// A name that lacks `@.`, in two parts.
+    Item {
+        start: &'q str,
+        rest: &'q str,
+    },
     /// A filter of that list, by what is asked of each of its items.
     Filter {
         list: &'q str,
@@ -39,6 +64,14 @@ impl fmt::Display for Cure<'_> {
                     "in quotes: {front}[\"{digits}\"]; an item: {front}[{digits}]"
                 )
             }
+            Cure::Rooted { dot, path } => write!(f, "a query begins with $: ${dot}{path}"),
+            Cure::Dotted { sign, name } => write!(f, "a dot before the name: {sign}.{name}"),
+            Cure::Text { start, rest } => write!(f, "a text in quotes: \"{start}{rest}\""),
+            Cure::Value { start, rest } => write!(
+                f,
+                "a text in quotes: \"{start}{rest}\"; of the item: @.{start}{rest}"
+            ),
+            Cure::Item { start, rest } => write!(f, "of the item: @.{start}{rest}"),
             Cure::Filter {
                 list,
                 item,
@@ -53,12 +86,12 @@ const CALL: Cure<'static> = Cure::Words("a function stands in front, in a filter
 const SEVERAL: Cure<'static> = Cure::Words("may select several: write @.a[?@.b==\"x\"]");
 
 /// What ends a query to its left and to its right, in a filter.
-const OPERAND_ENDS: [char; 14] = [
+pub(crate) const OPERAND_ENDS: [char; 14] = [
     '?', '(', ')', '&', '|', ',', '=', '!', '<', '>', ' ', '\t', '\n', '\r',
 ];
 
 /// What ends a name that should stand in quotes.
-const NAME_ENDS: [char; 24] = [
+pub(crate) const NAME_ENDS: [char; 24] = [
     '.', '[', ']', '?', '(', ')', '&', '|', ',', '=', '!', '<', '>', ' ', '\t', '\n', '\r', '"',
     '\'', '\\', '*', '+', '~', '^',
 ];
@@ -67,7 +100,7 @@ const NAME_ENDS: [char; 24] = [
 const PLURAL: [char; 4] = ['*', ':', '?', ','];
 
 /// The part of the text to its first such character.
-fn front_of<'q>(text: &'q str, ends: &[char]) -> &'q str {
+pub(crate) fn front_of<'q>(text: &'q str, ends: &[char]) -> &'q str {
     match text.split_once(ends) {
         Some((front, _)) => front,
         None => text,
@@ -92,7 +125,7 @@ fn operand_in(text: &str) -> &str {
 }
 
 /// Whether all its characters may stand in a name without quotes.
-fn is_name(text: &str) -> bool {
+pub(crate) fn is_name(text: &str) -> bool {
     text.chars()
         .all(|c| c.is_ascii_alphanumeric() || c == '_' || c >= '\u{80}')
 }

@@ -1,9 +1,10 @@
 //! A query with its mark, as a terminal shows it.
 
-ghost use Rattle.std.specs.Prelude.{◌≡◌, ◌≤◌, true, false, length, IfOk};
+ghost use Rattle.std.specs.Prelude.{◌≡◌, ◌<◌, ◌≤◌, [], true, false, length, IfOk};
 ghost use Rattle.std.specs.Str.{chars};
 ghost use Rattle.jp_tree.specs.View.{text_of};
 ghost use Rattle.jp_explain.specs.Picture.{is_escaped, is_shown, ShowsShort, IsPicture, IsHelp, AreWords};
+ghost use Rattle.jp_explain.specs.Picture.{AreWordsAlone, IsPictureAlone};
 
 use crate::characters::{columns, is_escaped};
 use crate::cure::cure;
@@ -132,7 +133,9 @@ fn shown_query(alloc: Global, query: &str, mark: usize) -> Result<Shown, AllocEr
 
 /// What helps at the mark, as a line of its own; nothing where that is not known.
 fn help(alloc: Global, query: &str, explanation: &Explanation) -> Result<String, AllocError>
-    ensures { IfOk result (λ s. IsHelp (text_of s)) }
+    ensures shown { IfOk result (λ s. IsHelp (text_of s)) }
+    ensures within { length (chars query.now) < explanation.now.mark
+        → IfOk result (λ s. text_of s ≡ []) }
 {
     match cure(query, explanation) {
         Some(cure) => {
@@ -147,7 +150,9 @@ fn help(alloc: Global, query: &str, explanation: &Explanation) -> Result<String,
 
 /// What is to be said of the mark, and what helps there.
 fn words(alloc: Global, query: &str, explanation: &Explanation) -> Result<String, AllocError>
-    ensures { IfOk result (λ s. AreWords (text_of s)) }
+    ensures shown { IfOk result (λ s. AreWords (text_of s)) }
+    ensures within { length (chars query.now) < explanation.now.mark
+        → IfOk result (λ s. AreWordsAlone (text_of s)) }
 {
     let help = help(alloc, query, explanation)?;
     let text = format!(in alloc; "{}", explanation.reason)?;
@@ -172,7 +177,10 @@ pub fn write_mark(
     explanation: &Explanation,
 ) -> Result<String, AllocError>
     // No such character of the query is shown, and so no line feed; a short one stands as it is.
-    ensures { IfOk result (λ s. IsPicture (chars query.now) (text_of s)) }
+    ensures shown { IfOk result (λ s. IsPicture (chars query.now) (text_of s)) }
+    // What helps is told of a place in the query, or at its end, alone.
+    ensures within { length (chars query.now) < explanation.now.mark
+        → IfOk result (λ s. IsPictureAlone (text_of s)) }
 {
     let shown = shown_query(alloc, query, explanation.mark)?;
     let words = words(alloc, query, explanation)?;

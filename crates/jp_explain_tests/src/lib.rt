@@ -1,5 +1,5 @@
 //! Tests of `jp_explain` through its public calls: wrong queries and faulty lines with the mark and the
-//! words, and the lines for a terminal.
+//! words, the lines for a terminal, and what is told of patterns.
 #![tactic(auto)]
 
 #[cfg(test)]
@@ -20,6 +20,8 @@ mod line_table;
 mod literals;
 #[cfg(test)]
 mod near_misses;
+#[cfg(test)]
+mod pattern_table;
 #[cfg(test)]
 mod pictures;
 #[cfg(test)]

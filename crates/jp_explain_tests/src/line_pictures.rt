@@ -1,6 +1,6 @@
 //! Lines of bytes that are not shown as they are, deep ones and long ones, with what is printed of them.
 
-use crate::line_table::{is_printed, printed_by};
+use crate::line_table::{DECIMALS, ONE_LINE, is_printed, printed_by};
 use jp_doc::DocFault;
 use jp_explain::{LineExplanation, LineReason, LineRule, NotWhole, write_line_mark};
 use std::alloc::{AllocError, Global};
@@ -94,7 +94,9 @@ fn deep_lines(rt: HostRuntime) -> Result<(), Fail> {
         30,
         "\n",
     )?;
-    assert!(rt; is_printed_with(rt.alloc(), deepest.as_str(), shown.as_str(), 32)?);
+    let shown = around(rt.alloc(), shown.as_str(), " ", 32, "^\n")?;
+    let wanted = around(rt.alloc(), shown.as_str(), ONE_LINE, 1, "")?;
+    assert!(rt; is_printed(rt.alloc(), deepest.as_bytes(), wanted.as_str())?);
     let deeper = around(rt.alloc(), "", "{\"a\":", 128, "")?;
     let shown = around(
         rt.alloc(),
@@ -162,7 +164,9 @@ fn long_paths_and_numbers(rt: HostRuntime) -> Result<(), Fail> {
     let head = around(rt.alloc(), head.as_str(), "5", 38, ".. is not whole\n..")?;
     let head = around(rt.alloc(), head.as_str(), "n", 28, "\":1.")?;
     let shown = around(rt.alloc(), head.as_str(), "5", 25, "..\n")?;
-    assert!(rt; is_printed_with(rt.alloc(), line.as_str(), shown.as_str(), 32)?);
+    let shown = around(rt.alloc(), shown.as_str(), " ", 32, "^\n")?;
+    let wanted = around(rt.alloc(), shown.as_str(), DECIMALS, 1, "")?;
+    assert!(rt; is_printed(rt.alloc(), line.as_bytes(), wanted.as_str())?);
     Ok(())
 }
 
@@ -205,7 +209,7 @@ fn marks_behind_the_end(rt: HostRuntime) -> Result<(), Fail> {
     let text = write_line_mark(rt.alloc(), 1, b"abc", &told)?;
     assert_eq!(rt;
         text.as_str(),
-        "line 1, $\\u000a:  is not whole\nabc\n  ^\n"
+        "line 1, $\\u000a:  is not whole\nabc\n  ^\n--decimals reads such a number\n"
     );
     Ok(())
 }

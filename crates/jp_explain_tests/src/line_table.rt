@@ -27,40 +27,45 @@ pub(crate) fn is_printed(alloc: Global, line: &[u8], wanted: &str) -> Result<boo
     }
 }
 
-/// Whether what is printed of the line is that it is wrong there, the line itself, and the caret.
-fn is_wrong_at(alloc: Global, line: &str, mark: usize, words: &str) -> Result<bool, AllocError> {
+/// Whether what is printed of the line is that it is wrong there, the line itself, the caret, and this below
+/// it.
+fn is_wrong_above(
+    alloc: Global,
+    line: &str,
+    mark: usize,
+    words: &str,
+    below: &str,
+) -> Result<bool, AllocError> {
     let mut wanted = format!(in alloc; "line 7, byte {mark}: {words}\n{line}\n")?;
     for _byte in 0..mark {
         wanted.push(' ')?;
     }
     wanted.push_str("^\n")?;
+    wanted.push_str(below)?;
     is_printed(alloc, line.as_bytes(), wanted.as_str())
+}
+
+/// The same with nothing below the caret.
+fn is_wrong_at(alloc: Global, line: &str, mark: usize, words: &str) -> Result<bool, AllocError> {
+    is_wrong_above(alloc, line, mark, words, "")
 }
 
 /// An unreadable line of characters that are shown as they are and have one byte and one column each, how
 /// many stand before the mark, and the words.
-const VALUES: [(&str, usize, &str); 29] = [
-    ("", 0, "the line ends: expected a value"),
-    ("  ", 2, "the line ends: expected a value"),
+const VALUES: [(&str, usize, &str); 21] = [
     ("x", 0, "expected a value"),
     ("'a'", 0, "expected a value"),
     ("NaN", 0, "expected a value"),
     ("[1,]", 3, "expected a value"),
     ("[,1]", 1, "expected a value or ]"),
-    ("[", 1, "the line ends: expected a value or ]"),
     ("[1 2]", 3, "expected , or ]"),
     ("[{}}", 3, "expected , or ]"),
-    ("[1", 2, "the line ends: expected , or ]"),
     ("{a:1}", 1, "expected a name in quotes or }"),
-    ("{", 1, "the line ends: expected a name in quotes or }"),
     ("{\"a\":1,}", 7, "expected a name in quotes"),
-    ("{\"a\":1,", 7, "the line ends: expected a name in quotes"),
     ("{\"a\" 1}", 5, "expected :"),
-    ("{\"a\"", 4, "the line ends: expected :"),
     ("{\"a\":}", 5, "expected a value"),
     ("{\"a\":1 \"b\":2}", 7, "expected , or }"),
     ("{\"a\":[]]", 7, "expected , or }"),
-    ("{\"a\":1", 6, "the line ends: expected , or }"),
     ("1 2", 2, "expected the end: one document stands on a line"),
     ("[]]", 2, "expected the end: one document stands on a line"),
     (
@@ -141,7 +146,36 @@ fn wrong_tokens(rt: HostRuntime) -> Result<(), Fail> {
     Ok(())
 }
 
-/// A line with a number that is not whole, and what is printed of it.
+/// The same of lines that end where a document goes on, between two of its tokens.
+const GOES_ON: [(&str, usize, &str); 8] = [
+    ("", 0, "the line ends: expected a value"),
+    ("  ", 2, "the line ends: expected a value"),
+    ("[", 1, "the line ends: expected a value or ]"),
+    ("[1", 2, "the line ends: expected , or ]"),
+    ("{", 1, "the line ends: expected a name in quotes or }"),
+    ("{\"a\":1,", 7, "the line ends: expected a name in quotes"),
+    ("{\"a\"", 4, "the line ends: expected :"),
+    ("{\"a\":1", 6, "the line ends: expected , or }"),
+];
+
+/// What helps with them.
+pub(crate) const ONE_LINE: &str = "one document on several lines? tr '\\n' ' ' < FILE | jp ..\n";
+
+#[test]
+fn lines_that_go_on(rt: HostRuntime) -> Result<(), Fail> {
+    for (line, mark, words) in &GOES_ON {
+        assert!(rt;
+            is_wrong_above(rt.alloc(), line, *mark, words, ONE_LINE)?,
+            "at {line}"
+        );
+    }
+    Ok(())
+}
+
+/// What helps with a number that is not whole.
+pub(crate) const DECIMALS: &str = "--decimals reads such a number\n";
+
+/// A line with a number that is not whole, and what is printed of it but for what helps.
 const NOT_WHOLE: [(&str, &str); 18] = [
     ("0.5", "line 7, $: 0.5 is not whole\n0.5\n^\n"),
     (" -0 ", "line 7, $: -0 is not whole\n -0 \n ^\n"),
@@ -217,8 +251,9 @@ const NOT_WHOLE: [(&str, &str); 18] = [
 #[test]
 fn numbers_not_whole(rt: HostRuntime) -> Result<(), Fail> {
     for (line, wanted) in &NOT_WHOLE {
+        let wanted = format!(in rt.alloc(); "{wanted}{DECIMALS}")?;
         assert!(rt;
-            is_printed(rt.alloc(), line.as_bytes(), wanted)?,
+            is_printed(rt.alloc(), line.as_bytes(), wanted.as_str())?,
             "at {line}"
         );
     }
