@@ -16,8 +16,12 @@ use Rattle.jp_answer.specs.OnFault.{answer_on, passed_on, fault_in}
 use Rattle.jp_answer.specs.Whole.{line_bytes, document_or_fault, faulty_lines}
 use Rattle.jp_answer.specs.declared.on_fault.OnFault.{OnFault}
 use Rattle.jp_answer.specs.declared.on_fault.OnFault.TheVariants.{Stop, KeepGoing}
-use Rattle.jp_answer.proofs.Joined.{rest_none}
 use Rattle.jp_answer.proofs.OnFaults.{passed_document}
+
+rest_none : (number : ℕ) (r : Result Json DocFault) (o : Option (ℕ × DocFault)) → fault_or number r o ≡ None
+    → o ≡ None
+rest_none number (Ok root) o h = h
+rest_none number (Err fault) o h = absurd (cc)
 
 read_here : (number : ℕ) (r : Result Json DocFault) (o : Option (ℕ × DocFault)) → fault_or number r o ≡ None
     → (root : Json) × (r ≡ Ok root)

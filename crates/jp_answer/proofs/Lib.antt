@@ -1,9 +1,6 @@
 pub mod AnswerFields
-pub mod Counting
 pub mod OnFaults
 pub mod Decimals
-pub mod Finding
-pub mod Joined
 pub mod Joining
 pub mod OnLiterals
 pub mod Placing
@@ -12,4 +9,5 @@ pub mod Stopping
 pub mod Streams
 pub mod Tending
 pub mod QueryCrosses
+pub mod RingCrosses
 pub mod NumberedAnswer

@@ -1,11 +1,7 @@
--- That a compiled query may be shared among threads, and pieces and rounds with it.
+-- That a compiled query may be shared among threads, and pieces with it.
 use denote.Param.Send.{IsSync, sendable}
 use Rattle.std.proofs.Crossing.{crosses}
-use Rattle.boxcar.proofs.Sent.{slot_sync}
 use Rattle.jp_answer.specs.contracts.pieces.Pieces as Pieces
-use Rattle.jp_answer.specs.contracts.round.Round as Round
-use Rattle.jp_answer.proofs.row.Progress.TheSendSync as progress
-use Rattle.jp_buffer.proofs.waiting.WaitingLines.TheSendSync as lines_waiting
 use Rattle.jp_buffer.proofs.line_ref.LineRef.TheSendSync as lines
 use denote.Ref.{NamedLft}
 use Rattle.jp_compiled.specs.contracts.compiled.Query as Query
@@ -69,14 +65,3 @@ query_sync = search (query_field, sendable) depth 60 fits 20000
 
 pub pieces_sync : (a : NamedLft) → IsSync (Pieces.the_row a)
 pieces_sync a = search (query_sync, lines.the_sync, crosses, sendable) depth 60 fits 20000
-
-pub round_sync : (a : NamedLft) → IsSync (Round.the_row a)
-round_sync a = search (
-  query_sync,
-  slot_sync,
-  lines_waiting.the_sync,
-  lines_waiting.the_send,
-  progress.the_sync,
-  crosses,
-  sendable,
-) depth 60 fits 20000

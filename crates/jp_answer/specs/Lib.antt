@@ -1,13 +1,12 @@
 pub mod Answer
 pub mod Answered
+pub mod Blocks
 pub mod Faults
 pub mod OnFault
 pub mod Pieces
 pub mod Placed
 pub mod Policy
 pub mod Ranges
-pub mod Rounds
-pub mod Rows
 pub mod Streams
 pub mod Whole
 pub mod Worked

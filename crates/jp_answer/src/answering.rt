@@ -43,7 +43,7 @@ const SPLIT_BYTES: usize = 8192;
 /// What a worker answers lines with, from piece to piece.
 #[derive(Drop)]
 pub(crate) struct Tools<'q> {
-    reader: FlatReader,
+    pub(crate) reader: FlatReader,
     pub(crate) evaluator: Evaluator<'q>,
 }
 

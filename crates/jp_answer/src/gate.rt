@@ -5,7 +5,7 @@ use std::alloc::Global;
 
 /// Is told of each piece, on the thread that works on it; and of faulty lines, if it wants them.
 pub trait Gate {
-    /// Called by a worker after it has got a piece, and before it works on it.
+    /// Called by a worker after it has got a piece, or the block with that number, and before it works on it.
     fn pass(&self, piece: u64);
 
     /// Whether it wants to be told of faulty lines, or of further ones.

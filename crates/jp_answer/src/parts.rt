@@ -71,7 +71,7 @@ fn put(placed: &mut Vec<Option<Outcome>>, part: PieceAnswer)
 }
 
 /// So many places without an answer.
-pub(crate) fn no_answers(alloc: Global, count: usize) -> Result<Vec<Option<Outcome>>, AllocError>
+fn no_answers(alloc: Global, count: usize) -> Result<Vec<Option<Outcome>>, AllocError>
     ensures { IfOk result (λ v. v.items ≡ replicate count None) }
 {
     // All places at once: their number is known.

@@ -121,7 +121,7 @@ fn tend<R: Threads + Sync, G: Gate, F: Form + Drop + Send>(
 }
 
 /// Whether the mark is lower than the piece. Where the answer keeps going there is no mark to look at.
-pub(crate) fn is_left(on_fault: OnFault, board: &Board, seat: &mut Seat, piece: u64) -> bool
+fn is_left(on_fault: OnFault, board: &Board, seat: &mut Seat, piece: u64) -> bool
     requires { IsSeatOf board.now seat.old }
     ensures seat { IsSeatOf board.now seat.new × ((view_of seat.new).claims ≡ (view_of seat.old).claims)
         × ((view_of seat.new).reports ≡ (view_of seat.old).reports) }

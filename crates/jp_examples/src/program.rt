@@ -6,7 +6,7 @@ use std::alloc::AllocGlobal;
 use std::thread::Threads;
 
 /// Does what `jp --workers 2 '$.a'` does, and gives the status.
-fn members_named_a<R: Threads + AllocGlobal + Sync, S: Source, K: Sink, N: Sink>(
+fn members_named_a<R: Threads + AllocGlobal + Sync, S: Source<K>, K: Sink, N: Sink>(
     rt: &R,
     source: &mut S,
     sink: &mut K,

@@ -1,0 +1,283 @@
+//! Blocks that are handed out to workers, while the calling thread gathers their answers in order.
+
+ghost use Rattle.std.specs.Prelude.{◌≡◌, ◌+◌, ◌<◌};
+
+use crate::tasks::{behind, going_on, lines_of, stopping, task_of};
+use jp_answer::{
+    Answerer, Block, Crew, Cutting, LinePolicy, OpenGate, Ring, answer_in_chunks, beside_workers,
+};
+use jp_check::plan;
+use jp_compiled::Query;
+use jp_output::{NodeLines, join_chunks};
+use std::alloc::Global;
+use std::sync::Arc;
+use std::thread::{Threads, yield_now};
+
+/// How many blocks may be out at once.
+const OUT: usize = 16;
+
+/// How often the calling thread looks for an answer while workers are there: some seconds.
+const LOOKS: u32 = 10_000_000;
+
+/// How many runs there are at most until some worker answers.
+const RUNS: u32 = 100;
+
+/// The lines of a block: two documents and what is none.
+const TEXT: &str = "[1]\n[[2]]\n{\n";
+
+type Shared<'q> = Arc<Block<'q, NodeLines>, Global>;
+
+/// So many blocks of three lines.
+fn blocks_of<'q>(
+    alloc: Global,
+    query: &'q Query,
+    policy: LinePolicy,
+    count: u64,
+) -> Option<Vec<Shared<'q>>> {
+    let mut blocks = Vec::new(alloc);
+    for at in 0..count {
+        let first = at.saturating_mul(3).saturating_add(1);
+        let task = task_of(query, policy, lines_of(alloc, TEXT, first)?)?;
+        let Ok(block) = Arc::new(alloc, Block::new(task)) else {
+            return None;
+        };
+        if blocks.push(block).is_err() {
+            return None;
+        }
+    }
+    Some(blocks)
+}
+
+/// The answer to the lines of so many blocks, as one list of lines, by one worker.
+fn answer_of_all<R: Threads + Sync>(
+    crew: &Crew<R, OpenGate>,
+    query: &Query,
+    policy: LinePolicy,
+    count: u64,
+) -> Option<Vec<u8>> {
+    let mut text = String::new(crew.alloc);
+    for _block in 0..count {
+        if text.push_str(TEXT).is_err() {
+            return None;
+        }
+    }
+    let waiting = lines_of(crew.alloc, &text, 1)?;
+    let Ok(lines) = waiting.lines(crew.alloc) else {
+        return None;
+    };
+    if lines.len() > 4_294_967_296 {
+        return None;
+    }
+    let cutting = Cutting {
+        workers: 1,
+        piece: 1,
+    };
+    match answer_in_chunks::<R, OpenGate, NodeLines>(crew, query, &lines, cutting, policy) {
+        Ok(answer) => join_chunks(crew.alloc, answer.chunks).ok(),
+        Err(_) => None,
+    }
+}
+
+/// Hands blocks out with the numbers from this one on.
+fn hand_out<'q>(ring: &Ring<'q, NodeLines>, blocks: &[Shared<'q>], first: u64) -> Option<()> {
+    let mut number = first;
+    for block in blocks {
+        let Ok(shared) = Arc::try_clone(block) else {
+            return None;
+        };
+        ring.hand_out(number, shared);
+        number = number.saturating_add(1);
+    }
+    Some(())
+}
+
+/// Whether some worker answers a block. It is looked for as long as a worker is left, of so many.
+fn is_found(ring: &Ring<'_, NodeLines>, block: &Block<'_, NodeLines>, workers: u64) -> bool {
+    for _look in 0..LOOKS {
+        let is_last = ring.ended() >= workers;
+        if block.found().is_some() {
+            return true;
+        }
+        if is_last {
+            return false;
+        }
+        yield_now();
+    }
+    false
+}
+
+/// How a run goes: by which policy, beside how many workers, of which it is one, over how many blocks, and
+/// whether it takes back those that no worker has taken yet.
+#[derive(Clone, Copy)]
+struct Way {
+    policy: LinePolicy,
+    workers: u64,
+    count: u64,
+    takes_back: bool,
+}
+
+/// Hands blocks out, and gathers their answers in order, up to the first that has stopped. What no worker
+/// answers is answered here. Gives how many blocks workers have answered, or `None` where the bytes are not
+/// these.
+fn gathered<'q, R: Threads + Sync>(
+    crew: &Crew<R, OpenGate>,
+    ring: &Ring<'q, NodeLines>,
+    blocks: &[Shared<'q>],
+    way: Way,
+    wanted: &[u8],
+) -> Option<u64> {
+    let mut answerer = Answerer::new(crew.alloc);
+    let mut by_workers: u64 = 0;
+    let mut rest = wanted;
+    let mut number = 0;
+    for out in blocks.chunks(OUT) {
+        hand_out(ring, out, number)?;
+        for block in out {
+            if way.takes_back && ring.take_back(number) {
+                answerer.fill(crew, block);
+            } else if is_found(ring, block, way.workers.saturating_sub(1)) {
+                by_workers = by_workers.saturating_add(1);
+            } else {
+                answerer.fill(crew, block);
+            }
+            number = number.saturating_add(1);
+            let answer = block.found()?;
+            rest = behind(answer, rest)?;
+            if answer.stopped.is_some() {
+                return rest.is_empty().then_some(by_workers);
+            }
+        }
+    }
+    rest.is_empty().then_some(by_workers)
+}
+
+/// A run in which `$[0]` is asked of the blocks. Gives how many of them other workers have answered, or
+/// `None` where the answers in order are not the answer to all lines.
+fn ran<R: Threads + Sync>(rt: &R, alloc: Global, way: Way) -> Option<u64> {
+    if way.workers < 1 || way.workers > 64 {
+        return None;
+    }
+    let Ok(plan) = plan(alloc, "$[0]") else {
+        return None;
+    };
+    let gate = OpenGate;
+    let crew = Crew {
+        rt,
+        alloc,
+        gate: &gate,
+    };
+    let wanted = answer_of_all(&crew, plan.compiled(), way.policy, way.count)?;
+    let blocks = blocks_of(alloc, plan.compiled(), way.policy, way.count)?;
+    let Ok(ring) = Ring::new(alloc) else {
+        return None;
+    };
+    let mut run = || -> Option<u64> { gathered(&crew, &ring, &blocks, way, &wanted) };
+    beside_workers(&crew, &ring, way.workers, &mut run)
+}
+
+/// A run over 40 blocks which waits for what workers answer.
+fn way_of(policy: LinePolicy, workers: u64) -> Way {
+    Way {
+        policy,
+        workers,
+        count: 40,
+        takes_back: false,
+    }
+}
+
+#[test]
+fn the_same_by_any_number_of_workers(rt: HostRuntime) {
+    for workers in &[1u64, 2, 4, 64] {
+        assert!(rt; ran(&rt, rt.alloc(), way_of(going_on(), *workers)).is_some());
+    }
+}
+
+#[test]
+fn the_same_where_it_stops(rt: HostRuntime) {
+    for workers in &[1u64, 2, 4, 64] {
+        assert!(rt; ran(&rt, rt.alloc(), way_of(stopping(), *workers)).is_some());
+    }
+}
+
+#[test]
+fn the_same_where_blocks_are_taken_back(rt: HostRuntime) {
+    for workers in &[1u64, 2, 4, 64] {
+        let way = Way {
+            policy: going_on(),
+            workers: *workers,
+            count: 40,
+            takes_back: true,
+        };
+        assert!(rt; ran(&rt, rt.alloc(), way).is_some());
+    }
+}
+
+#[test]
+fn many_workers_over_few_blocks(rt: HostRuntime) {
+    let way = Way {
+        policy: going_on(),
+        workers: 64,
+        count: 10,
+        takes_back: false,
+    };
+    assert!(rt; ran(&rt, rt.alloc(), way).is_some());
+}
+
+/// Whether a worker answers some block, in so many runs at most.
+fn does_any_answer<R: Threads + Sync>(rt: &R, alloc: Global) -> bool {
+    for _run in 0..RUNS {
+        match ran(rt, alloc, way_of(going_on(), 2)) {
+            None => return false,
+            Some(0) => {}
+            Some(_) => return true,
+        }
+    }
+    false
+}
+
+#[test]
+fn workers_answer(rt: HostRuntime) {
+    assert!(rt; does_any_answer(&rt, rt.alloc()));
+}
+
+/// What a run does beside workers, and gives, is what its clause says.
+fn counted<R: Threads + Sync>(
+    crew: &Crew<R, OpenGate>,
+    ring: &Ring<'_, NodeLines>,
+    count: &mut u64,
+) -> u64
+    requires { count.old < 10 }
+    ensures given { result ≡ count.old }
+    ensures count { count.new ≡ count.old + 1 }
+{
+    let mut run = || -> u64
+        requires { count.now < 10 }
+        ensures { (result ≡ count.entry.now) × (count.exit.now ≡ count.entry.now + 1) }
+    {
+        let before = *count;
+        *count = before + 1;
+        before
+    };
+    beside_workers(crew, ring, 2, &mut run)
+}
+
+/// Whether a run over an empty ring counts once.
+fn counts_once<R: Threads + Sync>(rt: &R, alloc: Global) -> Option<bool> {
+    let gate = OpenGate;
+    let crew = Crew {
+        rt,
+        alloc,
+        gate: &gate,
+    };
+    let Ok(ring) = Ring::new(alloc) else {
+        return None;
+    };
+    let mut count = 3;
+    let before = counted(&crew, &ring, &mut count);
+    Some(before == 3 && count == 4 && ring.is_closed())
+}
+
+#[test]
+fn a_run_that_hands_nothing_out(rt: HostRuntime) {
+    assert!(rt; counts_once(&rt, rt.alloc()) == Some(true));
+}

@@ -1,0 +1,16 @@
+//! Tests of the blocks and the ring of `jp_answer`: each call on one thread, and what no clause says, that
+//! workers answer the blocks that are handed out.
+#![tactic(auto)]
+
+#[cfg(test)]
+mod beside;
+#[cfg(test)]
+mod forms;
+#[cfg(test)]
+mod one_block;
+#[cfg(test)]
+mod refusals;
+#[cfg(test)]
+mod ring;
+#[cfg(test)]
+mod tasks;
