@@ -1,12 +1,9 @@
-pub mod Batching
 pub mod Chunks
-pub mod Going
+pub mod Coming
+pub mod Ending
 pub mod Handed
 pub mod Handing
-pub mod Holding
-pub mod Numbering
 pub mod Pieces
+pub mod Readings
 pub mod Runs
 pub mod Standing
-pub mod Streaming
-pub mod Taking

@@ -1,5 +1,5 @@
 -- What a run has done, in terms of its query's text.
-use Rattle.std.proofs.Common.{◌≡◌, ℕ, ◌<◌, List, Option, Some, None, Bool, true, false, IfSome, ◌⊎◌, inl}
+use Rattle.std.proofs.Common.{◌≡◌, ℕ, List, Option, Some, None, Bool, true, false, IfSome, ◌⊎◌, inl}
 use Rattle.std.proofs.Common.{inr, Result, Ok}
 use Rattle.std.proofs.Common.{Err, IfErr, OnOk, OnErr, IsErrAnd, ◌∙◌, ap, subst, sym}
 use Rattle.std.specs.Io.KnownBytes.{Appends}
@@ -22,7 +22,11 @@ use Rattle.jp_run.specs.declared.fault.RunFault.TheVariants.{Query, Memory}
 use Rattle.jp_run.specs.inner.Ended.{Ends, StreamEnded}
 use Rattle.jp_run.specs.Handed.{Handed, HandedFront}
 use Rattle.jp_run.specs.Written.{AppendsFront}
-use Rattle.jp_run.proofs.Streaming.{ended_front}
+use Rattle.jp_run.specs.Begun.{Begun, AllSince}
+use Rattle.jp_run.specs.Prompt.{IsPrompt, IsNear}
+use Rattle.jp_run.specs.inner.Standing.{BeginsPrompt, BeginsNear}
+use Rattle.jp_run.proofs.Ending.{ended_front}
+use Rattle.jp_run.proofs.Readings.{since_so}
 
 same_ok : {X E : Type 0} (x y : X) → ◌≡◌ {A = Result X E} (Ok x) (Ok y) → x ≡ y
 same_ok x y e = cc
@@ -109,13 +113,23 @@ module _ (going : Manner) (text : Text) (q : tree.Query) (accepted : IsAcceptedI
     front_known (Some input) s u h = λ b is. subst (λ (b : Answer). AppendsFront s u b.bytes)
         (answer_is input b is) (h right_tests.0 right_tests.1)
 
-    pub front_err : {T : Type 0} (r : Result T RunFault) (batch : ℕ) (some : 0 < batch) (e : Ends)
-        → IfErr r (StreamEnded going q batch e)
+    pub front_err : {T : Type 0} (r : Result T RunFault) (e : Ends) → IfErr r (StreamEnded going q e)
         → OnErr r (IfSome e.source_old (λ input. (b : Answer) → IsAnswerBy going text input b
         → AppendsFront e.sink_old e.sink_new b.bytes))
-    front_err (Ok x) batch some e h = tt
-    front_err (Err f) batch some e h = front_known e.source_old e.sink_old e.sink_new
-        (ended_front going q batch some e f h)
+    front_err (Ok x) e h = tt
+    front_err (Err f) e h = front_known e.source_old e.sink_old e.sink_new (ended_front going q e f h)
+
+    -- what is promised of each read is promised of the text
+    pub prompt_by : (input sink : Option (List ℕ)) (a b : Option (List Begun))
+        → AllSince a b (BeginsPrompt going q input sink) → AllSince a b (IsPrompt going text input sink)
+    prompt_by input sink = since_so (BeginsPrompt going q input sink) (IsPrompt going text input sink)
+        (λ begun h not. let k = h not in (k.0, k.1, (q, accepted, k.2), k.3))
+
+    pub near_by : (most : ℕ) (input sink : Option (List ℕ)) (a b : Option (List Begun))
+        → AllSince a b (BeginsNear most going q input sink)
+        → AllSince a b (IsNear most going text input sink)
+    near_by most input sink = since_so (BeginsNear most going q input sink)
+        (IsNear most going text input sink) (λ begun h. (h.0, h.1, h.2, h.3, (q, accepted, h.4)))
 
 -- what holds of an answer in a form holds of the settings that name it
 module _ (output named : Output) (is : output ≡ named) (decimals keeps_going : Bool) (q : tree.Query) where
@@ -127,8 +141,19 @@ module _ (output named : Output) (is : output ≡ named) (decimals keeps_going :
   handed_in r known s u = subst (λ o. OnOk r (IfSome known
       (λ input. Handed (manner_by o decimals keeps_going) q (lines input) None s u))) (sym is)
 
-  pub ended_in : {T : Type 0} (r : Result T RunFault) (batch : ℕ) (e : Ends)
-      → IfErr r (StreamEnded (manner_by named decimals keeps_going) q batch e)
-      → IfErr r (StreamEnded (manner_by output decimals keeps_going) q batch e)
-  ended_in r batch e =
-      subst (λ o. IfErr r (StreamEnded (manner_by o decimals keeps_going) q batch e)) (sym is)
+  pub ended_in : {T : Type 0} (r : Result T RunFault) (e : Ends)
+      → IfErr r (StreamEnded (manner_by named decimals keeps_going) q e)
+      → IfErr r (StreamEnded (manner_by output decimals keeps_going) q e)
+  ended_in r e = subst (λ o. IfErr r (StreamEnded (manner_by o decimals keeps_going) q e)) (sym is)
+
+  pub prompt_in : (a b : Option (List Begun)) (input sink : Option (List ℕ))
+      → AllSince a b (BeginsPrompt (manner_by named decimals keeps_going) q input sink)
+      → AllSince a b (BeginsPrompt (manner_by output decimals keeps_going) q input sink)
+  prompt_in a b input sink =
+      subst (λ o. AllSince a b (BeginsPrompt (manner_by o decimals keeps_going) q input sink)) (sym is)
+
+  pub near_in : (a b : Option (List Begun)) (most : ℕ) (input sink : Option (List ℕ))
+      → AllSince a b (BeginsNear most (manner_by named decimals keeps_going) q input sink)
+      → AllSince a b (BeginsNear most (manner_by output decimals keeps_going) q input sink)
+  near_in a b most input sink =
+      subst (λ o. AllSince a b (BeginsNear most (manner_by o decimals keeps_going) q input sink)) (sym is)

@@ -1,131 +1,187 @@
--- Where lines stand that are answered batch by batch.
-use Rattle.std.proofs.Common.{◌≡◌, ℕ, ◌+◌, ◌*◌, ◌<◌, ◌≤◌, Bool, List, ◌++◌, length, take, drop, Option}
-use Rattle.std.proofs.Common.{None, sym, ◌∙◌, ap, subst, arith, take-append-drop}
-use Rattle.std.proofs.Common.{length-append, length-drop, zero-mul, take-add, drop-drop}
+-- Where a run stands: what has come, and what of it is answered.
+use Rattle.std.proofs.Common.{◌≡◌, ℕ, ◌+◌, ◌<◌, ◌≤◌, ◌⊎◌, inl, inr, Bool, true, false, List, [], ◌++◌, length}
+use Rattle.std.proofs.Common.{Option, None, refl, sym, ◌∙◌, ap, subst, arith, append_assoc, append-nil}
+use Rattle.std.proofs.Common.{length-append}
+use Rattle.std.proofs.lemmas.List.{nil_from_length}
+use Rattle.std.specs.Io.KnownBytes.{Consumes, IsAtEnd, Keeps}
+use Rattle.std.proofs.KnownBytes.{Consumes-nil, Consumes-trans, Appends-nil, Appends-kept}
 use Rattle.jp_doc.specs.Lines.{Line}
+use Rattle.jp_doc.specs.Feeding.{Progress, nothing_fed, fed, fed_lines}
+use Rattle.jp_doc.proofs.CutLaws.{open_feedless}
 use Rattle.jp_tree.specs.Tree.{Query}
 use Rattle.jp_answer.specs.OnFault.{Manner, passed_in}
-use Rattle.jp_run.specs.declared.fault.RunFault.{RunFault}
-use Rattle.jp_answer.proofs.OnFaults.{passed_joined, passed_few}
-use Rattle.jp_run.specs.Batches.{in_batches, whole_batches}
-use Rattle.jp_run.specs.inner.Ended.{AnswerEnded}
+use Rattle.jp_answer.proofs.OnFaults.{nothing_in, passed_joined, passed_few, passed_none}
+use Rattle.jp_run.specs.Come.{documents_in}
 use Rattle.jp_run.specs.Handed.{Handed}
-use Rattle.jp_run.proofs.Batching.{in_batches_is}
-use Rattle.jp_run.proofs.Handing.{handed_none, handed_both, ended_after, ended_more}
+use Rattle.jp_run.specs.Limits.{max_lines}
+use Rattle.jp_run.specs.inner.Reading.{HasRead, HasCome}
+use Rattle.jp_run.specs.inner.Standing.{IsCounted, HasAnswered, HasSettled, Stands, BeginsPrompt, BeginsNear}
+use Rattle.jp_run.specs.declared.gathering.Came.{Came}
+use Rattle.jp_run.specs.declared.gathering.Came.TheVariants.{More, End, Failure}
+use Rattle.jp_run.specs.declared.stream.Answered.{Answered}
+use Rattle.jp_run.specs.declared.stream.Stream.{Stream}
+use Rattle.jp_run.proofs.Coming.{documents_both, few_documents}
+use Rattle.jp_run.proofs.Handing.{handed_both}
+use Rattle.jp_run.proofs.Pieces.{lines_twice, fed_twice, lines_nothing}
 
--- so many batches are answered, and these lines are left
-pub record Partly (going : Manner) (q : Query) (batch : ℕ) (all rest : List Line)
-    (old now : Option (List ℕ)) : Type 0 where
-  pub batches : ℕ
-  pub left : rest ≡ drop (batches * batch) all
-  pub fit : batches * batch ≤ length all
-  pub handed : Handed going q (take (batches * batch) all) None old now
-
-module _ (going : Manner) (q : Query) (batch : ℕ) (all : List Line) where
-  pub partly_start : (a : Option (List ℕ)) → Partly going q batch all all a a
-  partly_start a = record {
-    batches = 0;
-    left = ap (λ k. drop k all) (sym (zero-mul batch));
-    fit = omega (arith, zero-mul batch);
-    handed = subst (λ k. Handed going q (take k all) None a a) (sym (zero-mul batch)) (handed_none going q a);
+module _ (going : Manner) (q : Query) where
+  pub stands_start : (a s u : Option (List ℕ)) (st : Stream) → Keeps s u → st.buffer.lines ≡ []
+      → st.buffer.progress ≡ nothing_fed → st.come ≡ 0 → st.answered ≡ record { lines = 0; faulty = 0 }
+      → Stands going q a a s u st
+  stands_start a s u st same e f g h = record {
+    front = [];
+    more = [];
+    consumed = Consumes-nil a;
+    progress = f;
+    waiting = e;
+    come = g;
+    lines = ap (λ (n : Answered). n.lines) h;
+    faulty = ap (λ (n : Answered). n.faulty) h ∙ sym (passed_none going.policy);
+    handed = record {
+      whole = record { bytes = []; stopped = None };
+      is = λ t right. nothing_in going.form t q going.policy;
+      stopped = refl;
+      appended = Appends-kept s s u [] (Appends-nil s) same;
+    };
   }
 
-  more_batches : (n : ℕ) → (n + 1) * batch ≡ n * batch + batch
-  more_batches n = omega arith
+  module _ (a b s u : Option (List ℕ)) (st : Stream) (h : Stands going q a b s u st) where
+    pub all_documents : documents_in (h.front ++ h.more) ≡ documents_in h.front ++ st.buffer.lines
+    all_documents = documents_both h.front h.more ∙ ap (λ l. documents_in h.front ++ l) (sym h.waiting)
 
-  pub partly_more : (rest front left : List Line) (a b c : Option (List ℕ))
-      → Partly going q batch all rest a b
-      → batch ≤ length rest → front ≡ take batch rest → left ≡ drop batch rest → Handed going q front None b c
-      → Partly going q batch all left a c
-  partly_more rest front left a b c p enough begins is h =
-      let n : ℕ = p.batches * batch in record {
-        batches = p.batches + 1;
-        left = is ∙ ap (drop batch) p.left ∙ drop-drop batch n all
-            ∙ ap (λ k. drop k all) (sym (more_batches p.batches));
-        fit = omega (arith, p.fit, enough, ap length p.left, length-drop n all, more_batches p.batches);
-        handed = subst (λ (l : List Line). Handed going q l None a c) (ap (λ l. take n all ++ l) begins
-            ∙ ap (λ l. take n all ++ take batch l) p.left ∙ sym (take-add n batch all)
-            ∙ ap (λ k. take k all) (sym (more_batches p.batches)))
-            (handed_both going q (take n all) front None a b c p.handed h);
-      }
+    -- what waited is answered too
+    answered_all : (c v : Option (List ℕ)) (next : Stream) → c ≡ b → HasAnswered going q u v st next
+        → Stands going q a c s v next
+    answered_all c v next e k =
+        let all : List ℕ = h.front ++ h.more in
+        record {
+          front = all;
+          more = [];
+          consumed = subst (λ l. Consumes a c l) (sym (append-nil all))
+              (subst (λ (o : Option (List ℕ)). Consumes a o all) (sym e) h.consumed);
+          progress = k.progress ∙ h.progress ∙ ap (λ l. fed nothing_fed l) (sym (append-nil all));
+          waiting = k.none ∙ sym (lines_nothing (fed nothing_fed all) (open_feedless all));
+          come = k.come;
+          lines = omega (
+            arith,
+            k.lines,
+            h.lines,
+            ap length all_documents,
+            length-append (documents_in h.front) st.buffer.lines,
+          );
+          faulty = omega (
+            arith,
+            k.faulty,
+            h.faulty,
+            ap (passed_in going.policy) all_documents,
+            passed_joined going.policy (documents_in h.front) st.buffer.lines,
+          );
+          handed = subst (λ (l : List Line). Handed going q l None s v) (sym all_documents)
+              (handed_both going q (documents_in h.front) st.buffer.lines None s u v h.handed k.handed);
+        }
 
-  pub partly_ended : (rest front : List Line) (failed : Bool) (a b c : Option (List ℕ)) (f : RunFault)
-      → Partly going q batch all rest a b → front ≡ take batch rest → AnswerEnded going q front failed b c f
-      → AnswerEnded going q all failed a c f
-  partly_ended rest front failed a b c f p begins h =
-      let n : ℕ = p.batches * batch in
-      let whole : AnswerEnded going q (take batch rest ++ drop batch rest) failed b c f =
-      ended_more going q (take batch rest) (drop batch rest) failed b c f
-      (subst (λ (l : List Line). AnswerEnded going q l failed b c f) begins h) in
-      subst (λ (l : List Line). AnswerEnded going q l failed a c f)
-      (ap (λ l. take n all ++ l) (take-append-drop batch rest ∙ p.left) ∙ take-append-drop n all)
-      (ended_after going q (take n all) (take batch rest ++ drop batch rest) failed a b c f p.handed whole)
+    nothing_done : (c v : Option (List ℕ)) (next : Stream) → c ≡ b → next ≡ st → v ≡ u
+        → Stands going q a c s v next
+    nothing_done c v next e f g =
+        subst (λ (o : Option (List ℕ)). Stands going q a o s v next) (sym e)
+        (subst (λ (o : Option (List ℕ)). Stands going q a b s o next) (sym g)
+        (subst (λ (n : Stream). Stands going q a b s u n) (sym f) h))
 
-  partly_all : (rest : List Line) (a b : Option (List ℕ)) (p : Partly going q batch all rest a b)
-      → 0 < batch → length rest < batch → in_batches batch all ≡ p.batches * batch
-  partly_all rest a b p some few = in_batches_is batch p.batches all some p.fit
-      (omega (arith, p.fit, few, ap length p.left, length-drop (p.batches * batch) all))
+    pub settled : (c v : Option (List ℕ)) (next : Stream) → c ≡ b → HasSettled going q u v st next
+        → Stands going q a c s v next
+    settled c v next e (inl k) = nothing_done c v next e k.stream k.sink
+    settled c v next e (inr k) = answered_all c v next e k
 
-  pub partly_count : (rest : List Line) (a b : Option (List ℕ)) → Partly going q batch all rest a b
-      → 0 < batch → length rest < batch → in_batches batch all + length rest ≡ length all
-  partly_count rest a b p some few = omega (
+    pub read_more : (c : Option (List ℕ)) (next : Stream) → HasRead b c st next → Stands going q a c s u next
+    read_more c next r =
+        let cut = append_assoc h.front h.more r.piece in
+        record {
+          front = h.front;
+          more = h.more ++ r.piece;
+          consumed = subst (λ l. Consumes a c l) cut
+              (Consumes-trans a b c (h.front ++ h.more) r.piece h.consumed r.consumed);
+          progress = r.progress ∙ ap (λ (p : Progress). fed p r.piece) h.progress
+              ∙ sym (fed_twice nothing_fed (h.front ++ h.more) r.piece) ∙ ap (λ l. fed nothing_fed l) cut;
+          waiting = r.lines ∙ ap (λ l. l ++ fed_lines st.buffer.progress r.piece) h.waiting
+              ∙ ap (λ (p : Progress). fed_lines (fed nothing_fed h.front) h.more ++ fed_lines p r.piece)
+              (h.progress ∙ fed_twice nothing_fed h.front h.more)
+              ∙ sym (lines_twice (fed nothing_fed h.front) h.more r.piece);
+          come = omega (arith, r.come, h.come, length-append h.more r.piece);
+          lines = ap (λ (n : Answered). n.lines) r.answered ∙ h.lines;
+          faulty = ap (λ (n : Answered). n.faulty) r.answered ∙ h.faulty;
+          handed = h.handed;
+        }
+
+    -- no more lines were answered, or wait, than have come
+    pub few_lines : (most : ℕ) → st.buffer.progress.count ≤ most
+        → st.answered.lines + length st.buffer.lines ≤ most
+    few_lines most few = omega (
+      arith,
+      few,
+      ap (λ (p : Progress). p.count) h.progress,
+      few_documents (h.front ++ h.more),
+      ap length all_documents,
+      length-append (documents_in h.front) st.buffer.lines,
+      h.lines,
+    )
+
+    pub few_faulty : st.answered.faulty ≤ st.answered.lines
+    few_faulty = omega (arith, h.lines, h.faulty, passed_few going.policy (documents_in h.front))
+
+    pub are_counted : st.buffer.progress.count ≤ max_lines → IsCounted st
+    are_counted few = record {
+      lines = omega (arith, few_lines max_lines few);
+      faulty = few_faulty;
+    }
+
+    -- a read that may wait begins where all is answered
+    pub begins_prompt : (ready flushed : Bool) → (ready ≡ true) ⊎ (st.come ≡ 0) → flushed ≡ true
+        → BeginsPrompt going q a s (record { ready = ready; remaining = b; contents = u; flushed = flushed })
+    begins_prompt ready flushed (inl e) f = λ not. absurd (cc)
+    begins_prompt ready flushed (inr e) f = λ not.
+        let none : h.more ≡ [] = nil_from_length h.more (omega (arith, h.come, e)) in
+        let all : h.front ++ h.more ≡ h.front = ap (λ l. h.front ++ l) none ∙ append-nil h.front in (
+          h.front,
+          subst (λ l. Consumes a b l) all h.consumed,
+          h.handed,
+          f,
+        )
+
+    pub begins_near : (most : ℕ) (ready flushed : Bool) → st.come < most → BeginsNear most going q a s
+        (record { ready = ready; remaining = b; contents = u; flushed = flushed })
+    begins_near most ready flushed few = (
+      h.front,
+      h.more,
+      h.consumed,
+      omega (arith, h.come, few),
+      h.handed,
+    )
+
+-- what a read came to
+
+pub more_so : (failed : Bool) (old new : Option (List ℕ)) (before after : Stream) (came : Came)
+    → came ≡ More → HasCome failed old new before after came → (failed ≡ false) × HasRead old new before after
+more_so failed old new before after came e = subst (HasCome failed old new before after) e
+
+pub end_so : (failed : Bool) (old new : Option (List ℕ)) (before after : Stream) (came : Came)
+    → came ≡ End → HasCome failed old new before after came
+    → (failed ≡ false) × HasRead old new before after × IsAtEnd new
+end_so failed old new before after came e = subst (HasCome failed old new before after) e
+
+pub failure_so : (failed : Bool) (old new : Option (List ℕ)) (before after : Stream) (came : Came)
+    → came ≡ Failure → HasCome failed old new before after came
+    → (failed ≡ true) × Keeps old new × (after.buffer ≡ before.buffer) × (after.answered ≡ before.answered)
+failure_so failed old new before after came e = subst (HasCome failed old new before after) e
+
+-- where nothing has changed that is counted
+pub counted_same : (st next : Stream) → next.buffer ≡ st.buffer → next.answered ≡ st.answered → IsCounted st
+    → IsCounted next
+counted_same st next e f h = record {
+  lines = omega (arith, h.lines, ap (λ (n : Answered). n.lines) f, ap (λ b. length b.lines) e);
+  faulty = omega (
     arith,
-    partly_all rest a b p some few,
-    p.fit,
-    ap length p.left,
-    length-drop (p.batches * batch) all,
-  )
-
-  pub partly_handed : (rest : List Line) (a b : Option (List ℕ)) → Partly going q batch all rest a b
-      → 0 < batch → length rest < batch → Handed going q (whole_batches batch all) None a b
-  partly_handed rest a b p some few = subst (λ k. Handed going q (take k all) None a b)
-      (sym (partly_all rest a b p some few)) p.handed
-
-  partly_rest : (rest : List Line) (a b : Option (List ℕ)) → Partly going q batch all rest a b
-      → 0 < batch → length rest < batch → all ≡ whole_batches batch all ++ rest
-  partly_rest rest a b p some few = sym (take-append-drop (in_batches batch all) all)
-      ∙ ap (λ l. whole_batches batch all ++ l) (ap (λ k. drop k all) (partly_all rest a b p some few)
-      ∙ sym p.left)
-
-  -- how many faulty lines were passed in the batches
-  pub partly_passed : (rest : List Line) (a b : Option (List ℕ)) → Partly going q batch all rest a b
-      → 0 < batch → length rest < batch → (n : ℕ)
-      → passed_in going.policy all ≡ n + passed_in going.policy rest → n ≡ passed_in going.policy
-      (whole_batches batch all)
-  partly_passed rest a b p some few n e = omega (
-    arith,
-    e,
-    ap (passed_in going.policy) (partly_rest rest a b p some few),
-    passed_joined going.policy (whole_batches batch all) rest,
-  )
-
-  pub partly_few : (rest : List Line) (a b : Option (List ℕ)) → Partly going q batch all rest a b
-      → 0 < batch → length rest < batch → (n : ℕ)
-      → passed_in going.policy all ≡ n + passed_in going.policy rest → n + length rest ≤ length all
-  partly_few rest a b p some few n e = omega (
-    arith,
-    partly_passed rest a b p some few n e,
-    passed_few going.policy (whole_batches batch all),
-    ap length (partly_rest rest a b p some few),
-    length-append (whole_batches batch all) rest,
-  )
-
--- one batch more was passed
-pub passed_next : (going : Manner) (all rest front left : List Line) (batch n m : ℕ)
-    → passed_in going.policy all ≡ n + passed_in going.policy rest → front ≡ take batch rest → left ≡
-    drop batch rest
-    → m ≡ passed_in going.policy front → passed_in going.policy all ≡ n + m + passed_in going.policy
-    left
-passed_next going all rest front left batch n m e f h k = omega (
-  arith,
-  e,
-  k,
-  ap (passed_in going.policy) f,
-  ap (passed_in going.policy) h,
-  ap (passed_in going.policy) (take-append-drop batch rest),
-  passed_joined going.policy (take batch rest) (drop batch rest),
-)
-
-pub passed_within : (going : Manner) (all left : List Line) (n m : ℕ)
-    → passed_in going.policy all ≡ n + m + passed_in going.policy left → n + m ≤ length all
-passed_within going all left n m e = omega (arith, e, passed_few going.policy all)
+    h.faulty,
+    ap (λ (n : Answered). n.lines) f,
+    ap (λ (n : Answered). n.faulty) f,
+  );
+}

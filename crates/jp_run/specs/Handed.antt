@@ -1,5 +1,5 @@
 -- The answer to lines, in some manner, handed to a sink.
-use Rattle.std.specs.Prelude.{◌≡◌, ℕ, List, Option, None}
+use Rattle.std.specs.Prelude.{◌≡◌, ℕ, List, Option}
 use Rattle.std.specs.Io.KnownBytes.{Appends}
 use Rattle.jp_doc.specs.Lines.{Line}
 use Rattle.jp_doc.specs.declared.fault.DocFault.{DocFault}
@@ -23,21 +23,8 @@ abbrev pub HandedFront : Manner → Query → List Line → Option (List ℕ) �
 HandedFront going q ls old new = (t : Tests) → AreRight t
     → AppendsFront old new (answer_by going.form going.policy t q ls).bytes
 
--- the answer to the lines was handed out, all of it, and perhaps more bytes behind it
-pub record HandedFirst (going : Manner) (q : Query) (ls : List Line) (old new : Option (List ℕ)) : Type 0
-  where
-    pub between : Option (List ℕ)
-    pub handed : Handed going q ls None old between
-    pub more : List ℕ
-    pub appended : Appends between new more
-
 -- the text is accepted, and the answer to the lines of the query that it spells was handed out
 abbrev pub IsHandedBy : Manner → Text → List Line → Option (ℕ × DocFault) → Option (List ℕ)
     → Option (List ℕ) → Type 0
 IsHandedBy going text ls stop old new = (q : Query) × IsAcceptedIn going.policy.numbers text q
     × Handed going q ls stop old new
-
--- the same, and perhaps more bytes were handed out behind it
-abbrev pub IsHandedFirstBy : Manner → Text → List Line → Option (List ℕ) → Option (List ℕ) → Type 0
-IsHandedFirstBy going text ls old new = (q : Query) × IsAcceptedIn going.policy.numbers text q
-    × HandedFirst going q ls old new

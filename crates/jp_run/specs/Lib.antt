@@ -1,9 +1,11 @@
 pub mod Answered
-pub mod Batches
+pub mod Begun
+pub mod Come
 pub mod Counts
 pub mod Forms
 pub mod Handed
 pub mod Limits
+pub mod Prompt
 pub mod Written
 pub mod Settings
 pub mod Status

@@ -8,3 +8,7 @@ max_reads = 2 ^ 40
 -- the most lines, blank ones too
 abbrev pub max_lines : ℕ
 max_lines = 4294967295
+
+-- the most bytes that may have come behind those that are answered, as a read begins, and one
+abbrev pub window : ℕ
+window = 4194304

@@ -1,5 +1,4 @@
-pub mod Ahead
 -- Working files of `jp_run`, which private clauses alone cite: nobody has to believe them.
 pub mod Ended
-pub mod Holding
 pub mod Reading
+pub mod Standing

@@ -4,17 +4,15 @@ ghost use Rattle.std.specs.Prelude.{◌≡◌, ℕ, ◌<◌, length, List, Bool,
 ghost use Rattle.std.specs.Prelude.{OnOk};
 ghost use Rattle.std.specs.Io.KnownBytes.{ReadConsumes, WriteAppends, Keeps};
 ghost use Rattle.std.specs.Io.{ReadsAtMost, WritesAtMost};
-ghost use Rattle.jp_run.specs.Counts.{counted, given_after, ok_count};
+ghost use Rattle.jp_run.specs.Begun.{Begun, OneMore};
+ghost use Rattle.jp_run.specs.Counts.{counted, given_after};
 
 /// A call that failed, for whatever reason.
 #[derive(Clone, Copy, Debug, PartialEq, Eq)]
 pub struct Broken;
 
-/// Where the bytes come from.
-///
-/// An `Err` comes exactly from a call that fails. An Ok `read` hands out at most the buffer's length; 0 for a
-/// buffer that isn't empty is the end of the input.
-pub trait Source {
+/// What is known of where bytes come from, whatever sink its reads are shown.
+pub trait Supply {
     /// The bytes that are still to come, where they are known, as those in memory are.
     ghost remaining: { Self → Option (List ℕ) };
 
@@ -24,22 +22,23 @@ pub trait Source {
     /// The number of bytes that its Ok calls handed out.
     ghost given: { Self → ℕ };
 
-    /// The number of bytes that the last call of `read` handed out.
-    ghost last: { Self → ℕ };
+    /// What stood as each read began, in order, where that is known.
+    ghost begun: { Self → Option (List Begun) };
+
+    /// Whether it was said since the last read that the next one does not wait.
+    ghost told_ready: { Self → Bool };
 
     /// Whether any call so far has failed.
     ghost failed: { Self → Bool };
 
-    /// Hands out bytes at the front of the buffer, and says how many.
-    ///
-    /// `Broken` if the call failed.
-    fn read(&mut self, buf: &mut [u8]) -> Result<usize, Broken>
-        ensures bound { ReadsAtMost result buf.new }
-        ensures bytes { ReadConsumes (remaining self.old) (remaining self.new) result buf.new }
-        ensures reads { reads self.new ≡ counted (reads self.old) 1 }
-        ensures given { given self.new ≡ given_after (given self.old) result }
-        ensures last { last self.new ≡ ok_count result }
-        ensures failed { failed self.new ≡ failed self.old || is_err result };
+    /// Whether the next read does not wait. `false` where that cannot be said.
+    fn is_ready(&mut self) -> bool
+        ensures told { told_ready self.new ≡ result }
+        ensures bytes { remaining self.new ≡ remaining self.old }
+        ensures reads { reads self.new ≡ reads self.old }
+        ensures given { given self.new ≡ given self.old }
+        ensures begun { begun self.new ≡ begun self.old }
+        ensures failed { failed self.new ≡ failed self.old };
 
     /// The number of calls of `read` so far, which stops at 18446744073709551615.
     fn reads(&self) -> u64
@@ -49,13 +48,34 @@ pub trait Source {
     fn given(&self) -> u64
         ensures { result ≡ given self.now };
 
-    /// The number of bytes that the last call of `read` handed out: 0 where it failed or none was made.
-    fn last(&self) -> u64
-        ensures { result ≡ last self.now };
-
     /// Whether any call so far has failed.
     fn failed(&self) -> bool
         ensures { result ≡ failed self.now };
+}
+
+/// Where the bytes come from, beside a sink that each read is shown.
+///
+/// An `Err` comes exactly from a call that fails. An Ok `read` hands out at most the buffer's length; 0 for a
+/// buffer that isn't empty is the end of the input.
+pub trait Source<K: Sink>: Supply {
+    /// Hands out bytes at the front of the buffer, and says how many. Where the read may wait the sink has
+    /// passed on what it has taken.
+    ///
+    /// `Broken` if the call failed.
+    fn read(&mut self, buf: &mut [u8], sink: &K) -> Result<usize, Broken>
+        requires passed_on { Self.told_ready self.old ≡ false → K.flushed sink.now ≡ true }
+        ensures bound { ReadsAtMost result buf.new }
+        ensures bytes { ReadConsumes (Self.remaining self.old) (Self.remaining self.new) result buf.new }
+        ensures reads { Self.reads self.new ≡ counted (Self.reads self.old) 1 }
+        ensures given { Self.given self.new ≡ given_after (Self.given self.old) result }
+        ensures begun { OneMore (Self.begun self.old) (Self.begun self.new) (record {
+          ready = Self.told_ready self.old;
+          remaining = Self.remaining self.old;
+          contents = K.contents sink.now;
+          flushed = K.flushed sink.now;
+        }) }
+        ensures told { Self.told_ready self.new ≡ false }
+        ensures failed { Self.failed self.new ≡ Self.failed self.old || is_err result };
 }
 
 /// Where the bytes go.

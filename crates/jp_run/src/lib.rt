@@ -1,23 +1,20 @@
 //! The answer to a collection of documents, one on a line: from the bytes that come in to those that go out.
 #![tactic(auto)]
 
-mod ahead;
+mod answering;
 mod answers;
-mod batches;
 mod checking;
 mod ends;
 mod examples;
 mod fault;
 mod gathering;
-mod held;
-mod incoming;
 mod job;
 pub mod laws;
 mod outcome;
 mod output;
-mod publishing;
 mod running;
 mod settings;
+mod settling;
 mod std_ends;
 mod stream;
 mod telling;
@@ -25,7 +22,7 @@ mod writing;
 
 pub use answers::{answer, answer_all};
 pub use checking::check_query;
-pub use ends::{Broken, Sink, Source};
+pub use ends::{Broken, Sink, Source, Supply};
 pub use fault::RunFault;
 pub use jp_answer::{DocStop, Gate, OpenGate};
 pub use outcome::{Answer, Whole};

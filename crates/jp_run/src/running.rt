@@ -14,21 +14,24 @@ ghost use Rattle.jp_compiled.specs.Compiled.{compiled_query};
 ghost use Rattle.jp_check.specs.Verdict.{IsAcceptedIn, IsVerdictIn};
 ghost use Rattle.jp_answer.specs.Answer.{Answer};
 ghost use Rattle.jp_run.specs.Answered.{IsAnswerBy, manner_in, manner_of, numbers_of, passed_in};
-ghost use Rattle.jp_run.specs.Batches.{documents_in, whole_batches, WasNotWhole, batches_before};
+ghost use Rattle.jp_run.specs.Begun.{AllSince};
+ghost use Rattle.jp_run.specs.Come.{documents_in};
 ghost use Rattle.jp_run.specs.inner.Ended.{StreamEnded};
-ghost use Rattle.jp_run.specs.Handed.{Handed, IsHandedBy, IsHandedFirstBy};
-ghost use Rattle.jp_run.specs.Limits.{max_reads, max_lines};
+ghost use Rattle.jp_run.specs.inner.Standing.{BeginsNear, BeginsPrompt};
+ghost use Rattle.jp_run.specs.Handed.{Handed, IsHandedBy};
+ghost use Rattle.jp_run.specs.Limits.{max_reads, max_lines, window};
+ghost use Rattle.jp_run.specs.Prompt.{IsNear, IsPrompt};
 ghost use Rattle.jp_run.specs.Written.{AppendsFront, IsPassedOn};
 
-use crate::ahead::read_on;
-use crate::batches::{answer_batches, answer_rest};
 use crate::ends::{Sink, Source};
 use crate::fault::RunFault;
+use crate::gathering::{Came, read_on};
 use crate::job::Job;
 use crate::output::Output;
 use crate::settings::Settings;
+use crate::settling::{answer_before_failure, answer_rest, settle};
 use crate::stream::Stream;
-use crate::writing::tell_stop;
+use crate::writing::pass_on;
 use jp_answer::{Crew, Gate};
 use jp_check::{Plan, plan_in};
 use jp_number::Numbers;
@@ -65,31 +68,32 @@ impl Totals {
 /// Runs a query over all documents of the source, one on a line, and writes what it selects, in the form of
 /// the settings.
 ///
-/// The query is read first. Then the source is read to its end, at most 65,536 bytes a call. As soon as
-/// `batch` documents have come their answer is written, and the sink is flushed, before the next read; the
-/// rest is at the end. They are answered by the workers, of whom there is one for each 16,384 bytes of their
-/// lines at most; where the lines of a batch are long, by parts, while the calling thread reads on. The run
-/// stops at the first faulty line, unless the settings are to keep going: then the totals count it, and it
-/// gives what the form has for it, which for nodes is its fault line and else nothing.
+/// The query is read first. Then the source is read to its end, at most 65,536 bytes a call. Before each read
+/// that may wait, as the source says, all lines whose end has come are answered and written, and the sink is
+/// flushed; while reads do not wait, so are those that have come once there are `batch` of them, or 4 MB at
+/// most: no more than `batch` are answered and written at once. The rest is at the end. They are answered by
+/// the workers, of whom there is one for each 16,384 bytes of their lines at most. The run stops at the first
+/// faulty line, unless the settings are to keep going: then the totals count it, and it gives what the form
+/// has for it, which for nodes is its fault line and else nothing.
 /// Neither end has failed before, and the counts of the source are at most 2^62.
 ///
-/// What is flushed when: each batch's lines as soon as they are written, also those before a faulty line and
-/// those at the end of the input. So a sink that gathers bytes has nothing of the run's while it waits for
-/// input, and nothing after it, unless one of its calls has failed.
+/// What is flushed when: what the sink holds back as the run begins, and each batch's lines as soon as they
+/// are written, also those before a faulty line and those at the end of the input. So a sink that gathers
+/// bytes has nothing of the run's while it waits for input, and nothing after it, unless one of its calls has
+/// failed.
 ///
 /// # Errors
 ///
 /// - [`RunFault::Query`] where the query is refused: nothing was read and nothing was written.
 /// - [`RunFault::Document`] with the first faulty line: exactly the lines of the documents before it were
-/// written, and there was no read after the one that completed its batch.
-/// - [`RunFault::Read`] only where the source failed: exactly the lines of the whole batches among the
-/// documents whose line's end was read were written.
-/// - [`RunFault::Write`] only where the sink failed: a front of the answer was written, with all lines of the
-/// batches that were whole before the last read.
+/// written, and no read that may wait began after its end had come.
+/// - [`RunFault::Read`] only where the source failed: exactly the lines of the documents whose line's end was
+/// read were written.
+/// - [`RunFault::Write`] only where the sink failed: a front of the answer was written.
 /// - [`RunFault::Limit`] only after 2^40 calls of `read`, or past 4,294,967,295 lines: a front of the answer
 /// was written.
 /// - [`RunFault::Memory`] where a growth of memory was refused: a front of the answer was written.
-pub fn run<R: Threads + Sync, S: Source, K: Sink, G: Gate + Sync>(
+pub fn run<R: Threads + Sync, S: Source<K>, K: Sink, G: Gate + Sync>(
     rt: &R,
     alloc: Global,
     source: &mut S,
@@ -140,24 +144,19 @@ pub fn run<R: Threads + Sync, S: Source, K: Sink, G: Gate + Sync>(
     // An answer that keeps going tells no faulty line so.
     ensures goes_on { settings.now.keeps_going ≡ true → (line : ℕ) (fault : Fault)
         → IsErrOf result (RunFault.Document line fault) → ⊥ }
-    // What was read before the last call of `read` had too few documents for the faulty line's batch.
-    ensures no_later_read { (line : ℕ) (fault : Fault) → IsErrOf result (RunFault.Document line fault)
-        → (bytes : List ℕ) × Consumes (S.remaining source.old) (S.remaining source.new) bytes
-        × WasNotWhole settings.now.batch line bytes (S.last source.new) }
-    // The lines of the whole batches among the documents whose line's end was read are written, and no more.
+    // However the run ends: each read that may wait began when the answer to all lines whose end had come
+    // stood in the sink, and was passed on.
+    ensures prompt { AllSince (S.begun source.old) (S.begun source.new) (IsPrompt (manner_of settings.now)
+        (chars query.now) (S.remaining source.old) (K.contents sink.old)) }
+    // Each read, whether it may wait or not: what was not answered lies in the last 4 MB.
+    ensures window { AllSince (S.begun source.old) (S.begun source.new) (IsNear window (manner_of
+        settings.now) (chars query.now) (S.remaining source.old) (K.contents sink.old)) }
+    // The lines of all documents whose line's end was read are written, and no more.
     ensures read { IsErrOf result RunFault.Read → (S.failed source.new ≡ true) × (bytes : List ℕ)
         × Consumes (S.remaining source.old) (S.remaining source.new) bytes
-        × IsHandedBy (manner_of settings.now) (chars query.now)
-        (whole_batches settings.now.batch (documents_in bytes)) None
+        × IsHandedBy (manner_of settings.now) (chars query.now) (documents_in bytes) None
         (K.contents sink.old) (K.contents sink.new) }
     ensures write { IsErrOf result RunFault.Write → K.failed sink.new ≡ true }
-    // Where the sink failed, the lines of the whole batches among the documents whose line's end came before
-    // the last call of `read` are written, all of them: a batch is written before the read behind it.
-    ensures no_read_between { IsErrOf result RunFault.Write → (bytes : List ℕ)
-        × Consumes (S.remaining source.old) (S.remaining source.new) bytes
-        × IsHandedFirstBy (manner_of settings.now) (chars query.now)
-        (batches_before settings.now.batch bytes (S.last source.new))
-        (K.contents sink.old) (K.contents sink.new) }
     ensures limit { IsErrOf result RunFault.Limit → (S.reads source.new ≡ S.reads source.old + max_reads)
         ⊎ ((input : List ℕ) × Consumes (S.remaining source.old) (S.remaining source.new) input
         × (max_lines < line_count input)) }
@@ -178,8 +177,8 @@ pub fn run<R: Threads + Sync, S: Source, K: Sink, G: Gate + Sync>(
     answer_in_form(&job, source, sink)
 }
 
-/// Reads a source to its end, and answers each batch as soon as it has come, in the form that is wanted.
-fn answer_in_form<R: Threads + Sync, S: Source, K: Sink, G: Gate + Sync>(
+/// Reads a source to its end, and answers what comes, in the form that is wanted.
+fn answer_in_form<R: Threads + Sync, S: Source<K>, K: Sink, G: Gate + Sync>(
     job: &Job<R, G>,
     source: &mut S,
     sink: &mut K,
@@ -201,18 +200,22 @@ fn answer_in_form<R: Threads + Sync, S: Source, K: Sink, G: Gate + Sync>(
     ensures still_working { OnOk result ((S.failed source.new ≡ false) × (K.failed sink.new ≡ false)) }
     ensures passed_on { K.flushed sink.old ≡ true → IsPassedOn (K.flushed sink.new) (K.failed sink.new) }
     ensures fault { IfErr result (StreamEnded (manner_of job.now.settings)
-        (compiled_query job.now.query.now)
-        job.now.settings.batch (record {
+        (compiled_query job.now.query.now) (record {
           source_old = S.remaining source.old;
           source_new = S.remaining source.new;
           reads_old = S.reads source.old;
           reads_new = S.reads source.new;
-          last = S.last source.new;
           source_failed = S.failed source.new;
           sink_old = K.contents sink.old;
           sink_new = K.contents sink.new;
           sink_failed = K.failed sink.new;
         })) }
+    ensures prompt { AllSince (S.begun source.old) (S.begun source.new) (BeginsPrompt (manner_of
+        job.now.settings) (compiled_query job.now.query.now) (S.remaining source.old)
+        (K.contents sink.old)) }
+    ensures window { AllSince (S.begun source.old) (S.begun source.new) (BeginsNear window (manner_of
+        job.now.settings) (compiled_query job.now.query.now) (S.remaining source.old)
+        (K.contents sink.old)) }
     ensures few { S.reads source.new ≤ S.reads source.old + max_reads }
 {
     match job.settings.output {
@@ -223,8 +226,8 @@ fn answer_in_form<R: Threads + Sync, S: Source, K: Sink, G: Gate + Sync>(
     }
 }
 
-/// Reads a source to its end, and answers each batch as soon as it has come, in some form.
-fn answer_stream<R: Threads + Sync, S: Source, K: Sink, G: Gate + Sync, F: Form + Drop + Send>(
+/// Reads a source to its end, and answers what comes, in some form.
+fn answer_stream<R: Threads + Sync, S: Source<K>, K: Sink, G: Gate + Sync, F: Form + Drop + Send>(
     job: &Job<R, G>,
     source: &mut S,
     sink: &mut K,
@@ -245,32 +248,38 @@ fn answer_stream<R: Threads + Sync, S: Source, K: Sink, G: Gate + Sync, F: Form 
     ensures still_working { OnOk result ((S.failed source.new ≡ false) × (K.failed sink.new ≡ false)) }
     ensures passed_on { K.flushed sink.old ≡ true → IsPassedOn (K.flushed sink.new) (K.failed sink.new) }
     ensures fault { IfErr result (StreamEnded (manner_in F.says job.now.settings)
-        (compiled_query job.now.query.now)
-        job.now.settings.batch (record {
+        (compiled_query job.now.query.now) (record {
           source_old = S.remaining source.old;
           source_new = S.remaining source.new;
           reads_old = S.reads source.old;
           reads_new = S.reads source.new;
-          last = S.last source.new;
           source_failed = S.failed source.new;
           sink_old = K.contents sink.old;
           sink_new = K.contents sink.new;
           sink_failed = K.failed sink.new;
         })) }
+    ensures prompt { AllSince (S.begun source.old) (S.begun source.new) (BeginsPrompt (manner_in F.says
+        job.now.settings) (compiled_query job.now.query.now) (S.remaining source.old)
+        (K.contents sink.old)) }
+    ensures window { AllSince (S.begun source.old) (S.begun source.new) (BeginsNear window (manner_in F.says
+        job.now.settings) (compiled_query job.now.query.now) (S.remaining source.old)
+        (K.contents sink.old)) }
     ensures few { S.reads source.new ≤ S.reads source.old + max_reads }
 {
     let mut stream = Stream::new(job.crew.alloc, MAX_READS)?;
-    while stream.incoming.left > 0 {
-        let ended = read_on::<R, S, G, F>(job, source, &mut stream)?;
-        // A part with a faulty line ends the run without the reads that its batch still lacks
-        // (README, Why so).
-        tell_stop(sink, &stream.held.answer)?;
-        answer_batches::<R, K, G, F>(job, &mut stream, sink)?;
-        if ended {
-            return answer_rest::<R, K, G, F>(job, &mut stream, sink);
+    // The sink may come with bytes that it holds back.
+    pass_on(sink)?;
+    while stream.left > 0 {
+        settle::<R, S, K, G, F>(job, source, sink, &mut stream)?;
+        match read_on(source, sink, &mut stream)? {
+            Came::More => {}
+            Came::End => return answer_rest::<R, K, G, F>(job, sink, &mut stream),
+            Came::Failure => {
+                return Err(answer_before_failure::<R, K, G, F>(job, sink, &mut stream));
+            }
         }
     }
-    // What the last read completed was answered in the loop (README, Why so).
+    // 2^40 calls are never reached in a lifetime: what waits is not answered for that.
     Err(RunFault::Limit)
 }
 

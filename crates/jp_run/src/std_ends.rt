@@ -1,66 +1,78 @@
 //! Ends over std's readers and writers.
 
-ghost use Rattle.std.specs.Prelude.{◌≡◌, true, false};
+ghost use Rattle.std.specs.Prelude.{◌≡◌, None, true, false};
 
-use crate::ends::{Broken, Sink, Source};
+use crate::ends::{Broken, Sink, Source, Supply};
 use std::io::{Read, Write};
 
 /// A source over a reader of std. Each error of a read, of whatever kind, is a failure.
 #[derive(Drop)]
 pub struct FromReader<R> {
     reader: R,
+    /// Whether the caller says that no read waits.
+    never_waits: bool,
+    told_ready: bool,
     reads: u64,
     given: u64,
-    last: u64,
     failed: bool,
 }
 
 impl<R: Read> FromReader<R> {
-    /// A source from which nothing was read. It takes no memory.
+    /// A source from which nothing was read, and each of whose reads may wait. It takes no memory.
     pub fn new(reader: R) -> FromReader<R>
-        ensures remaining { ⟦<FromReader<R> as Source>⟧.remaining result ≡ R.remaining reader }
-        ensures unread { ⟦<FromReader<R> as Source>⟧.reads result ≡ 0 }
-        ensures none_last { ⟦<FromReader<R> as Source>⟧.last result ≡ 0 }
-        ensures ungiven { ⟦<FromReader<R> as Source>⟧.given result ≡ 0 }
-        ensures working { ⟦<FromReader<R> as Source>⟧.failed result ≡ false }
+        ensures remaining { ⟦<FromReader<R> as Supply>⟧.remaining result ≡ R.remaining reader }
+        ensures unread { ⟦<FromReader<R> as Supply>⟧.reads result ≡ 0 }
+        ensures ungiven { ⟦<FromReader<R> as Supply>⟧.given result ≡ 0 }
+        ensures working { ⟦<FromReader<R> as Supply>⟧.failed result ≡ false }
+    {
+        FromReader::over(reader, false)
+    }
+
+    /// A source from which nothing was read, and none of whose reads waits: that is the caller's word, as of
+    /// a file or of memory. It takes no memory.
+    pub fn never_waits(reader: R) -> FromReader<R>
+        ensures remaining { ⟦<FromReader<R> as Supply>⟧.remaining result ≡ R.remaining reader }
+        ensures unread { ⟦<FromReader<R> as Supply>⟧.reads result ≡ 0 }
+        ensures ungiven { ⟦<FromReader<R> as Supply>⟧.given result ≡ 0 }
+        ensures working { ⟦<FromReader<R> as Supply>⟧.failed result ≡ false }
+    {
+        FromReader::over(reader, true)
+    }
+
+    /// A source from which nothing was read.
+    fn over(reader: R, never_waits: bool) -> FromReader<R>
+        ensures remaining { ⟦<FromReader<R> as Supply>⟧.remaining result ≡ R.remaining reader }
+        ensures unread { ⟦<FromReader<R> as Supply>⟧.reads result ≡ 0 }
+        ensures ungiven { ⟦<FromReader<R> as Supply>⟧.given result ≡ 0 }
+        ensures working { ⟦<FromReader<R> as Supply>⟧.failed result ≡ false }
     {
         FromReader {
             reader,
+            never_waits,
+            told_ready: false,
             reads: 0,
             given: 0,
-            last: 0,
             failed: false,
         }
     }
 }
 
-impl<R: Read> Source for FromReader<R> {
+impl<R: Read> Supply for FromReader<R> {
     ghost remaining = { λ s. R.remaining s.reader };
 
     ghost reads = { λ s. s.reads };
 
     ghost given = { λ s. s.given };
 
-    ghost last = { λ s. s.last };
+    ghost begun = { λ _. None };
+
+    ghost told_ready = { λ s. s.told_ready };
 
     ghost failed = { λ s. s.failed };
 
-    fn read(&mut self, buf: &mut [u8]) -> Result<usize, Broken> {
-        // The counts of the trait stop and do not wrap, so that no call has to be forbidden.
-        self.reads = self.reads.saturating_add(1);
-        match self.reader.read(buf) {
-            Ok(n) => {
-                let handed = n as u64;
-                self.given = self.given.saturating_add(handed);
-                self.last = handed;
-                Ok(n)
-            }
-            Err(_) => {
-                self.last = 0;
-                self.failed = true;
-                Err(Broken)
-            }
-        }
+    fn is_ready(&mut self) -> bool {
+        self.told_ready = self.never_waits;
+        self.told_ready
     }
 
     fn reads(&self) -> u64 {
@@ -71,12 +83,26 @@ impl<R: Read> Source for FromReader<R> {
         self.given
     }
 
-    fn last(&self) -> u64 {
-        self.last
-    }
-
     fn failed(&self) -> bool {
         self.failed
+    }
+}
+
+impl<R: Read, K: Sink> Source<K> for FromReader<R> {
+    fn read(&mut self, buf: &mut [u8], _sink: &K) -> Result<usize, Broken> {
+        self.told_ready = false;
+        // The counts of the trait stop and do not wrap, so that no call has to be forbidden.
+        self.reads = self.reads.saturating_add(1);
+        match self.reader.read(buf) {
+            Ok(n) => {
+                self.given = self.given.saturating_add(n as u64);
+                Ok(n)
+            }
+            Err(_) => {
+                self.failed = true;
+                Err(Broken)
+            }
+        }
     }
 }
 

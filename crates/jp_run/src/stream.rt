@@ -1,25 +1,27 @@
 //! The lines of a run between the source and the sink.
 
-ghost use Rattle.std.specs.Prelude.{◌≡◌, IfOk};
-ghost use Rattle.jp_run.specs.inner.Holding.{IsFresh};
+ghost use Rattle.std.specs.Prelude.{◌≡◌, ◌<◌, IfOk, [], vec_len};
+ghost use Rattle.jp_doc.specs.Feeding.{nothing_fed};
 
-use crate::held::Held;
-use crate::incoming::Incoming;
-use jp_buffer::WaitingLines;
+use jp_buffer::LineBuffer;
 use std::alloc::{AllocError, Global};
 
+/// The number of bytes that one call of `read` is asked for: as many as a pipe of Linux holds.
+const READ_SIZE: usize = 65_536;
+
 /// The lines of a run between the source and the sink, and how far the answer has come.
-///
-/// Of a batch that is not whole, the answer to its first lines may be held; the lines behind those wait.
 #[derive(Drop)]
 pub(crate) struct Stream {
-    /// What comes in, and the lines that wait for their answer.
-    pub(crate) incoming: Incoming,
-    /// What takes the lines of a part while it is answered.
-    pub(crate) part: WaitingLines,
-    /// The answer to the lines of the batch before those that wait.
-    pub(crate) held: Held,
+    /// What a source is read into.
+    pub(crate) scratch: Vec<u8>,
+    /// How many calls of `read` are left.
+    pub(crate) left: u64,
+    /// The lines that have come and wait for their answer.
+    pub(crate) buffer: LineBuffer,
+    /// How many bytes have come since no line waited.
+    pub(crate) come: usize,
     pub(crate) answered: Answered,
+    ghost not_empty: { 0 < vec_len scratch },
 }
 
 /// What has been answered and written.
@@ -34,13 +36,20 @@ pub(crate) struct Answered {
 impl Stream {
     /// No lines, and so many calls of `read` left.
     pub(crate) fn new(alloc: Global, left: u64) -> Result<Stream, AllocError>
-        ensures left { IfOk result (λ s. s.incoming.left ≡ left) }
-        ensures fresh { IfOk result IsFresh }
+        ensures left { IfOk result (λ s. s.left ≡ left) }
+        ensures lines { IfOk result (λ s. s.buffer.lines ≡ []) }
+        ensures progress { IfOk result (λ s. s.buffer.progress ≡ nothing_fed) }
+        ensures come { IfOk result (λ s. s.come ≡ 0) }
+        ensures answered { IfOk result (λ s. s.answered ≡ record { lines = 0; faulty = 0 }) }
     {
+        // A source may write anything into what it is given, also where it fails: so that is no line's
+        // memory.
+        let scratch = vec![in alloc; 0u8; READ_SIZE]?;
         Ok(Stream {
-            incoming: Incoming::new(alloc, left)?,
-            part: WaitingLines::new(alloc),
-            held: Held::new(alloc),
+            scratch,
+            left,
+            buffer: LineBuffer::new(alloc),
+            come: 0,
             answered: Answered {
                 lines: 0,
                 faulty: 0,

@@ -1,8 +1,6 @@
 //! Faulty lines, for a gate that wants them.
 
-ghost use Rattle.jp_answer.specs.Rows.{AreShown};
-
-use jp_answer::{Crew, Gate, Outcome, Published, Round, line_fault};
+use jp_answer::{Crew, Gate, Outcome, line_fault};
 use jp_buffer::LineRef;
 use jp_number::Numbers;
 use std::alloc::AllocError;
@@ -17,28 +15,16 @@ pub(crate) fn tell_gate<R, G: Gate>(
     lines: &[LineRef<'_>],
     answer: &Result<Outcome, AllocError>,
 ) {
-    tell_lines(crew, numbers, lines, faulty_in(answer));
-}
-
-/// The same of the lines that were published in a round.
-pub(crate) fn tell_round<R, G: Gate>(
-    crew: &Crew<R, G>,
-    round: &Round<'_>,
-    published: &Published,
-    answer: &Result<Outcome, AllocError>,
-)
-    requires { AreShown round.now.slots.now published.now }
-{
     let mut left = faulty_in(answer);
-    for at in 0..published.tokens.len() {
+    for line in lines {
         if left == 0 || !crew.gate.wants_faulty() {
             return;
         }
-        let part = round.slots[at].value(&published.tokens[at]);
-        let Ok(lines) = part.lines(crew.alloc) else {
-            continue;
-        };
-        left = tell_lines(crew, round.policy.numbers, &lines, left);
+        if let Ok(Some(fault)) = line_fault(crew.alloc, numbers, line.bytes) {
+            crew.gate
+                .faulty(crew.alloc, line.number, line.bytes, &fault);
+            left -= 1;
+        }
     }
 }
 
@@ -49,25 +35,4 @@ fn faulty_in(answer: &Result<Outcome, AllocError>) -> u64 {
         Ok(answer) => answer.faulty,
         Err(_) => 0,
     }
-}
-
-/// Tells the faulty ones of these lines, so many at most. Gives how many are left to be told.
-fn tell_lines<R, G: Gate>(
-    crew: &Crew<R, G>,
-    numbers: Numbers,
-    lines: &[LineRef<'_>],
-    faulty: u64,
-) -> u64 {
-    let mut left = faulty;
-    for line in lines {
-        if left == 0 || !crew.gate.wants_faulty() {
-            break;
-        }
-        if let Ok(Some(fault)) = line_fault(crew.alloc, numbers, line.bytes) {
-            crew.gate
-                .faulty(crew.alloc, line.number, line.bytes, &fault);
-            left -= 1;
-        }
-    }
-    left
 }

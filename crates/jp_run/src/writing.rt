@@ -82,23 +82,8 @@ pub(crate) fn hand_out<K: Sink>(sink: &mut K, answer: &Outcome) -> Result<(), Ru
     Ok(())
 }
 
-/// Hands an answer out where it has stopped, and tells its faulty line; else it does nothing.
-pub(crate) fn tell_stop<K: Sink>(sink: &mut K, answer: &Outcome) -> Result<(), RunFault>
-    requires { K.failed sink.old ≡ false }
-    ensures going_on { OnOk result ((outcome_of answer.now).stopped ≡ None) }
-    ensures same { OnOk result (sink.new ≡ sink.old) }
-    ensures passed_on { OnErr result (IsPassedOn (K.flushed sink.new) (K.failed sink.new)) }
-    ensures fault { IfErr result (HandingEnded (outcome_of answer.now) (K.failed sink.new)
-        (K.contents sink.old) (K.contents sink.new)) }
-{
-    if answer.stopped.is_none() {
-        return Ok(());
-    }
-    hand_out(sink, answer)
-}
-
 /// Passes on all that was handed over.
-fn pass_on<K: Sink>(sink: &mut K) -> Result<(), RunFault>
+pub(crate) fn pass_on<K: Sink>(sink: &mut K) -> Result<(), RunFault>
     requires { K.failed sink.old ≡ false }
     ensures bytes { Keeps (K.contents sink.old) (K.contents sink.new) }
     ensures flushed { OnOk result (K.flushed sink.new ≡ true) }

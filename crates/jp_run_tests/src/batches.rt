@@ -4,7 +4,7 @@ use crate::fakes::{Holds, OneByte};
 use crate::gates::{Entered, Pair};
 use crate::thousand::{items_of_thousand, thousand};
 use jp_doc::DocFault;
-use jp_run::{FromReader, Gate, OpenGate, RunFault, Settings, Source, Totals, run};
+use jp_run::{FromReader, Gate, OpenGate, RunFault, Settings, Supply, Totals, run};
 use std::alloc::{AllocError, Global};
 use std::test::Fail;
 use std::thread::Threads;
@@ -21,17 +21,19 @@ const TWO: &[u8] = b"{\"a\":1}\n\n{\"a\":null}\n";
 /// Their members with the name `a`.
 const TWO_LINES: &[u8] = b"1\t$['a']\t1\n3\t$['a']\tnull\n";
 
-/// A run over bytes that come one by one, of which one call fails. Gives its end, where it wrote, and how
-/// often it read.
+/// How a run is cut up, and what it reads from: a batch's size, whether no read waits, and the call that
+/// fails.
+type Cut = (u64, bool, u64);
+
+/// A run over bytes that come one by one. Gives its end, where it wrote, and how often it read.
 fn byte_by_byte<R: Threads + Sync>(
     rt: &R,
     alloc: Global,
     query: &str,
     input: &[u8],
-    batch: u64,
-    fails_at: u64,
+    (batch, never_waits, fails_at): Cut,
 ) -> (Result<Totals, RunFault>, Holds, u64) {
-    let mut source = OneByte::new(input, fails_at);
+    let mut source = OneByte::waiting(input, fails_at, never_waits);
     let mut sink = Holds::new(Vec::new(alloc), 3, ROOM);
     let end = match Settings::new(2, 1, batch) {
         Ok(settings) => run(
@@ -71,10 +73,10 @@ fn came<R: Threads + Sync>(
     alloc: Global,
     query: &str,
     input: &[u8],
-    (batch, fails_at): (u64, u64),
+    cut: Cut,
     wanted: &[u8],
 ) -> Outcome {
-    let (end, sink, reads) = byte_by_byte(rt, alloc, query, input, batch, fails_at);
+    let (end, sink, reads) = byte_by_byte(rt, alloc, query, input, cut);
     let stopped = match end {
         Err(RunFault::Document { line, fault }) => Some((line, fault)),
         _ => None,
@@ -92,21 +94,25 @@ fn came<R: Threads + Sync>(
 #[test]
 fn the_same_for_all_batches(rt: HostRuntime) {
     for batch in &[1u64, 2, 10, 1_000, 4_096] {
-        let found = came(&rt, rt.alloc(), "$.a", TWO, (*batch, 0), TWO_LINES);
-        let totals = Totals {
-            lines: 3,
-            documents: 2,
-            faulty: 0,
-        };
-        assert!(rt; found.totals == Some(totals));
-        assert!(rt; found.is_written);
-        assert_eq!(rt; found.reads, 21);
+        for never_waits in &[false, true] {
+            let cut = (*batch, *never_waits, 0);
+            let found = came(&rt, rt.alloc(), "$.a", TWO, cut, TWO_LINES);
+            let totals = Totals {
+                lines: 3,
+                documents: 2,
+                faulty: 0,
+            };
+            assert!(rt; found.totals == Some(totals));
+            assert!(rt; found.is_written);
+            assert_eq!(rt; found.reads, 21);
+        }
     }
 }
 
-/// What is written, and passed on too, once a call has failed: the batches that were whole before it.
+/// What is written, and passed on too, once a call has failed: all lines whose end had come, in whatever
+/// batches, and whether the read may wait or not.
 #[test]
-fn a_failing_read_leaves_whole_batches(rt: HostRuntime) {
+fn a_failing_read_leaves_whole_lines(rt: HostRuntime) {
     for call in 1..=21u64 {
         let written = match call {
             ..=8 => 0,
@@ -114,39 +120,54 @@ fn a_failing_read_leaves_whole_batches(rt: HostRuntime) {
             _ => 25,
         };
         let (front, _) = TWO_LINES.split_at(written);
-        let found = came(&rt, rt.alloc(), "$.a", TWO, (1, call), front);
-        assert!(rt;
-            found.is_read && found.reads == call && found.is_written,
-            "{call}"
-        );
-        assert_eq!(rt; found.passed_on, written);
-        let found = came(&rt, rt.alloc(), "$.a", TWO, (10, call), b"");
-        assert!(rt;
-            found.is_read && found.reads == call && found.is_written,
-            "{call}"
-        );
+        for (batch, never_waits) in &[(1u64, false), (10, false), (1, true), (10, true)] {
+            let cut = (*batch, *never_waits, call);
+            let found = came(&rt, rt.alloc(), "$.a", TWO, cut, front);
+            assert!(rt;
+                found.is_read && found.reads == call && found.is_written,
+                "call {call}, batch {batch}"
+            );
+            assert_eq!(rt; found.passed_on, written);
+        }
     }
 }
 
 /// The lines before a faulty one are passed on, and those of a run that ends well.
 #[test]
 fn what_is_written_is_passed_on(rt: HostRuntime) {
-    let found = came(&rt, rt.alloc(), "$", b"[]\n{\n", (2, 0), b"1\t$\t[]\n");
+    let found = came(
+        &rt,
+        rt.alloc(),
+        "$",
+        b"[]\n{\n",
+        (2, false, 0),
+        b"1\t$\t[]\n",
+    );
     assert!(rt; found.stopped.is_some());
     assert!(rt; found.is_written);
     assert_eq!(rt; found.passed_on, 7);
-    let found = came(&rt, rt.alloc(), "$", b"[]", (2, 0), b"1\t$\t[]\n");
+    let found = came(&rt, rt.alloc(), "$", b"[]", (2, false, 0), b"1\t$\t[]\n");
     assert!(rt; found.totals.is_some());
     assert_eq!(rt; found.passed_on, 7);
 }
 
+/// The faulty line has come with read 2. No read that may wait follows; of those that do not wait the run
+/// goes on until a batch has come, which a batch of two is with read 5, or the end, which read 6 finds.
 #[test]
-fn no_read_follows_the_faulty_batch(rt: HostRuntime) {
-    for (batch, wanted) in &[(1u64, 2u64), (2, 5), (3, 6)] {
-        let found = came(&rt, rt.alloc(), "$", b"{\n[]\n", (*batch, 0), b"");
+fn no_read_that_waits_follows_a_faulty_line(rt: HostRuntime) {
+    for (batch, never_waits, reads) in &[
+        (1u64, false, 2u64),
+        (2, false, 2),
+        (3, false, 2),
+        (1, true, 2),
+        (2, true, 5),
+        (3, true, 6),
+    ] {
+        let cut = (*batch, *never_waits, 0);
+        let found = came(&rt, rt.alloc(), "$", b"{\n[]\n", cut, b"");
         assert!(rt; found.stopped == Some((1, DocFault::Unreadable)));
         assert!(rt; found.is_written);
-        assert_eq!(rt; found.reads, *wanted);
+        assert_eq!(rt; found.reads, *reads, "batch {batch}");
     }
 }
 

@@ -3,7 +3,7 @@
 ghost use Rattle.std.specs.Prelude.{◌≡◌, ◌^◌, ◌≤◌, false};
 
 use crate::fakes::{Holds, OneByte};
-use jp_run::{FromReader, OpenGate, RunFault, Settings, Sink, Source, Totals, run};
+use jp_run::{FromReader, OpenGate, RunFault, Settings, Source, Totals, run};
 use std::alloc::{AllocError, Global};
 use std::thread::Threads;
 
@@ -37,7 +37,7 @@ const ROWS: [(&[u8], &[u8], u64, u64); 5] = [
 ];
 
 /// What a run of `$..a` ends with, by so many workers, in batches of that size.
-fn run_of<R: Threads + Sync, S: Source>(
+fn run_of<R: Threads + Sync, S: Source<Holds>>(
     rt: &R,
     alloc: Global,
     workers: u64,
@@ -126,8 +126,8 @@ fn push_blanks(count: usize, out: &mut String) -> Result<(), AllocError> {
     Ok(())
 }
 
-/// A line of 300 kB, which no read of 65,536 bytes holds, between two short ones. In a large batch it is a
-/// part, for one worker or two.
+/// A line of 300 kB, which no read of 65,536 bytes holds, between two short ones. One worker answers what
+/// comes before it is whole.
 fn long_line(alloc: Global) -> Result<String, AllocError> {
     let mut text = String::new(alloc);
     text.push_str("{\"a\":1}\n{\"a\":[")?;

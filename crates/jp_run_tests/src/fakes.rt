@@ -1,8 +1,8 @@
 //! Ends in memory that hand out or take little, or fail.
 
-ghost use Rattle.std.specs.Prelude.{◌≡◌, Some, false, ◌<◌};
+ghost use Rattle.std.specs.Prelude.{◌≡◌, Some, None, false, ◌<◌};
 
-use jp_run::{Broken, Sink, Source};
+use jp_run::{Broken, Sink, Source, Supply};
 use std::io::{self, ErrorKind, Read, Write};
 
 /// Hands out one byte a call, and fails once, at the call of this number from 1.
@@ -10,13 +10,16 @@ use std::io::{self, ErrorKind, Read, Write};
 pub(crate) struct OneByte<'a> {
     rest: &'a [u8],
     fails_at: u64,
+    /// Whether it says that no read waits.
+    never_waits: bool,
+    told_ready: bool,
     reads: u64,
     given: u64,
-    last: u64,
     failed: bool,
 }
 
 impl<'a> OneByte<'a> {
+    /// Each of whose reads may wait.
     pub(crate) fn new(rest: &'a [u8], fails_at: u64) -> OneByte<'a>
         ensures unread { (result.reads ≡ 0) × (result.given ≡ 0) }
         ensures working { result.failed ≡ false }
@@ -24,28 +27,66 @@ impl<'a> OneByte<'a> {
         OneByte {
             rest,
             fails_at,
+            never_waits: false,
+            told_ready: false,
             reads: 0,
             given: 0,
-            last: 0,
+            failed: false,
+        }
+    }
+
+    /// None of whose reads waits, or each.
+    pub(crate) fn waiting(rest: &'a [u8], fails_at: u64, never_waits: bool) -> OneByte<'a>
+        ensures unread { (result.reads ≡ 0) × (result.given ≡ 0) }
+        ensures working { result.failed ≡ false }
+    {
+        OneByte {
+            rest,
+            fails_at,
+            never_waits,
+            told_ready: false,
+            reads: 0,
+            given: 0,
             failed: false,
         }
     }
 }
 
-impl Source for OneByte<'_> {
+impl Supply for OneByte<'_> {
     ghost remaining = { λ s. Some s.rest.now };
 
     ghost reads = { λ s. s.reads };
 
     ghost given = { λ s. s.given };
 
-    ghost last = { λ s. s.last };
+    ghost begun = { λ _. None };
+
+    ghost told_ready = { λ s. s.told_ready };
 
     ghost failed = { λ s. s.failed };
 
-    fn read(&mut self, buf: &mut [u8]) -> Result<usize, Broken> {
+    fn is_ready(&mut self) -> bool {
+        self.told_ready = self.never_waits;
+        self.told_ready
+    }
+
+    fn reads(&self) -> u64 {
+        self.reads
+    }
+
+    fn given(&self) -> u64 {
+        self.given
+    }
+
+    fn failed(&self) -> bool {
+        self.failed
+    }
+}
+
+impl<K: Sink> Source<K> for OneByte<'_> {
+    fn read(&mut self, buf: &mut [u8], _sink: &K) -> Result<usize, Broken> {
+        self.told_ready = false;
         self.reads = self.reads.saturating_add(1);
-        self.last = 0;
         if self.reads == self.fails_at {
             self.failed = true;
             return Err(Broken);
@@ -61,24 +102,7 @@ impl Source for OneByte<'_> {
         buf[0] = *first;
         self.rest = rest;
         self.given = self.given.saturating_add(1);
-        self.last = 1;
         Ok(1)
-    }
-
-    fn reads(&self) -> u64 {
-        self.reads
-    }
-
-    fn given(&self) -> u64 {
-        self.given
-    }
-
-    fn last(&self) -> u64 {
-        self.last
-    }
-
-    fn failed(&self) -> bool {
-        self.failed
     }
 }
 
@@ -105,13 +129,14 @@ impl Read for FailsAfter<'_> {
     }
 }
 
-/// Takes at most so many bytes a call, so many in all, and then fails. A flush may fail too.
+/// Takes at most so many bytes a call, so many in all, and then fails. So many flushes pass, and then they
+/// fail.
 #[derive(Drop)]
 pub(crate) struct Holds {
     pub(crate) bytes: Vec<u8>,
     most: usize,
     room: usize,
-    flushes: bool,
+    flushes: u64,
     flushed: bool,
     failed: bool,
     /// How many bytes it had taken at the last flush.
@@ -130,7 +155,7 @@ impl Holds {
             bytes,
             most,
             room,
-            flushes: true,
+            flushes: u64::MAX,
             flushed: true,
             failed: false,
             passed_on: 0,
@@ -138,15 +163,15 @@ impl Holds {
         }
     }
 
-    /// The same, but a flush fails.
-    pub(crate) fn without_flush(self) -> Holds
+    /// The same, but so many flushes pass alone.
+    pub(crate) fn with_flushes(self, flushes: u64) -> Holds
         ensures { result.failed ≡ self.failed }
     {
         Holds {
             bytes: self.bytes,
             most: self.most,
             room: self.room,
-            flushes: false,
+            flushes,
             flushed: self.flushed,
             failed: self.failed,
             passed_on: self.passed_on,
@@ -180,13 +205,14 @@ impl Sink for Holds {
     }
 
     fn flush(&mut self) -> Result<(), Broken> {
-        if self.flushes {
-            self.flushed = true;
-            self.passed_on = self.bytes.len();
-            return Ok(());
+        if self.flushes == 0 {
+            self.failed = true;
+            return Err(Broken);
         }
-        self.failed = true;
-        Err(Broken)
+        self.flushes -= 1;
+        self.flushed = true;
+        self.passed_on = self.bytes.len();
+        Ok(())
     }
 
     fn failed(&self) -> bool {

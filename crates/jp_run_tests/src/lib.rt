@@ -26,13 +26,11 @@ mod long_lines;
 #[cfg(test)]
 mod output_forms;
 #[cfg(test)]
-mod parts;
-#[cfg(test)]
 mod ran;
 #[cfg(test)]
-mod refusals;
+mod ready;
 #[cfg(test)]
-mod rounds;
+mod refusals;
 #[cfg(test)]
 mod runs;
 #[cfg(test)]
@@ -41,5 +39,7 @@ mod telling;
 mod thousand;
 #[cfg(test)]
 mod wide;
+#[cfg(test)]
+mod windows;
 #[cfg(test)]
 mod writes_that_fail;

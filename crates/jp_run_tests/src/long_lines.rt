@@ -1,12 +1,18 @@
-//! Lines of which a few are a part of a batch, and what `$[0]` gives there.
+//! Lines of many bytes, and what `$[0]` gives there.
 
 use std::alloc::{AllocError, Global};
 
-/// What stands behind each document: so many bytes that two lines are a part for one worker.
-const BLANKS: usize = 70_000;
+/// What stands behind each document: so many bytes that two lines are more than one worker waits for.
+pub(crate) const BLANKS: usize = 70_000;
 
-/// So many lines, each with its number in an array, but for those that are to be faulty.
-pub(crate) fn long_lines(alloc: Global, count: u64, faulty: &[u64]) -> Result<String, AllocError> {
+/// So many lines, each with its number in an array and so many blanks behind it, but for those that are to be
+/// faulty.
+pub(crate) fn lines_of(
+    alloc: Global,
+    count: u64,
+    blanks: usize,
+    faulty: &[u64],
+) -> Result<String, AllocError> {
     let mut text = String::new(alloc);
     for number in 1..=count {
         if faulty.contains(&number) {
@@ -14,7 +20,7 @@ pub(crate) fn long_lines(alloc: Global, count: u64, faulty: &[u64]) -> Result<St
         } else {
             text.push_str(&format!(in alloc; "[{number}]")?)?;
         }
-        for _blank in 0..BLANKS {
+        for _blank in 0..blanks {
             text.push(' ')?;
         }
         text.push('\n')?;
@@ -23,7 +29,7 @@ pub(crate) fn long_lines(alloc: Global, count: u64, faulty: &[u64]) -> Result<St
 }
 
 /// The lines of `$[0]`, with a fault line in the place of each faulty line.
-pub(crate) fn long_answer(alloc: Global, count: u64, faulty: &[u64]) -> Result<String, AllocError> {
+pub(crate) fn answer_of(alloc: Global, count: u64, faulty: &[u64]) -> Result<String, AllocError> {
     let mut text = String::new(alloc);
     for number in 1..=count {
         if faulty.contains(&number) {

@@ -5,14 +5,14 @@ ghost use Rattle.std.specs.Prelude.{◌≡◌, ◌^◌, ◌≤◌, false};
 use crate::fakes::{FullDisk, Holds, OneByte};
 use crate::ran::{ROOM, ran};
 use jp_doc::DocFault;
-use jp_run::{FromReader, FromWriter, OpenGate, RunFault, Settings, Sink, Source, Totals};
+use jp_run::{FromReader, FromWriter, OpenGate, RunFault, Settings, Sink, Source, Supply, Totals};
 use jp_syntax::QueryFault;
 use std::alloc::{AllocError, Global};
 use std::test::Fail;
 use std::thread::Threads;
 
 /// A run by four workers.
-fn run<R: Threads + Sync, S: Source, K: Sink>(
+fn run<R: Threads + Sync, S: Source<K>, K: Sink>(
     rt: &R,
     alloc: Global,
     source: &mut S,
@@ -352,14 +352,14 @@ fn a_faulty_line_ends_the_run(rt: HostRuntime) {
     assert!(rt; stops(&rt, rt.alloc(), input, (3, DocFault::NotWhole), wanted));
 }
 
-/// Whether a run that reads and writes byte by byte ends well and writes this; how much was given, how often
-/// it read, and how much the last read gave.
-fn byte_by_byte<R: Threads + Sync>(rt: &R, alloc: Global, wanted: &[u8]) -> (bool, [u64; 3]) {
+/// Whether a run that reads and writes byte by byte ends well and writes this; how much was given, and how
+/// often it read.
+fn byte_by_byte<R: Threads + Sync>(rt: &R, alloc: Global, wanted: &[u8]) -> (bool, [u64; 2]) {
     let mut source = OneByte::new(b"{\"a\":1}\n\n{\"a\":null}", 0);
     let mut sink = Holds::new(Vec::new(alloc), 1, ROOM);
     let is_well = run(rt, alloc, &mut source, &mut sink, "$.a").is_ok();
     let is_right = is_well && sink.bytes.as_slice() == wanted;
-    (is_right, [source.given(), source.reads(), source.last()])
+    (is_right, [source.given(), source.reads()])
 }
 
 #[test]
@@ -367,7 +367,7 @@ fn read_and_written_byte_by_byte(rt: HostRuntime) {
     let want = b"1\t$['a']\t1\n3\t$['a']\tnull\n";
     let (is_right, reading) = byte_by_byte(&rt, rt.alloc(), want);
     assert!(rt; is_right);
-    assert_eq!(rt; reading, [19, 20, 0]);
+    assert_eq!(rt; reading, [19, 20]);
 }
 
 /// Whether a run into a writer ends well, and the sink has not failed.
@@ -395,10 +395,10 @@ fn a_writer_that_passes_nothing_on(rt: HostRuntime) {
     assert!(rt; is_told(&rt, rt.alloc()));
 }
 
-/// Whether a run whose flush fails tells so, and has written this.
+/// Whether a run whose second flush fails tells so, and has written this.
 fn is_stuck<R: Threads + Sync>(rt: &R, alloc: Global, wanted: &[u8]) -> bool {
     let mut source = FromReader::new(b"[]\n".as_slice());
-    let mut sink = Holds::new(Vec::new(alloc), ROOM, ROOM).without_flush();
+    let mut sink = Holds::new(Vec::new(alloc), ROOM, ROOM).with_flushes(1);
     let end = run(rt, alloc, &mut source, &mut sink, "$");
     matches!(end, Err(RunFault::Write)) && sink.bytes.as_slice() == wanted
 }

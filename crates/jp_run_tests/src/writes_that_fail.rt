@@ -3,7 +3,7 @@
 ghost use Rattle.std.specs.Prelude.{◌≡◌, ◌<◌, false};
 
 use crate::fakes::{Holds, OneByte};
-use jp_run::{FromReader, OpenGate, RunFault, Settings, Source};
+use jp_run::{FromReader, OpenGate, RunFault, Settings, Supply};
 use std::alloc::Global;
 use std::test::Fail;
 use std::thread::Threads;
@@ -65,13 +65,14 @@ fn reads_until<R: Threads + Sync>(
     rt: &R,
     alloc: Global,
     mut sink: Holds,
-    batch: u64,
+    cut: (u64, bool),
     written: usize,
 ) -> Result<Option<u64>, RunFault>
     requires { sink.failed ≡ false }
 {
+    let (batch, never_waits) = cut;
     let settings = Settings::new(2, 1, batch)?;
-    let mut source = OneByte::new(INPUT, 0);
+    let mut source = OneByte::waiting(INPUT, 0, never_waits);
     let end = jp_run::run(
         rt,
         alloc,
@@ -86,18 +87,36 @@ fn reads_until<R: Threads + Sync>(
     Ok(if tells { Some(source.reads()) } else { None })
 }
 
-/// The first line has 8 bytes with its line feed, and the second document ends with byte 20. So a batch of
-/// one is whole with read 8, a batch of two with read 20, and one of ten never: then read 21 finds the end.
-/// No read follows before the batch is written, or before it is passed on.
+/// The first line has 8 bytes with its line feed, and the second document ends with byte 20. So where reads
+/// may wait the answer to the first is due before read 9. Where they do not a batch of one is whole with
+/// read 8, a batch of two with read 20, and one of ten never: then read 21 finds the end. No read follows
+/// before what is due is written, or before it is passed on.
 #[test]
 fn no_read_before_a_batch_is_out(rt: HostRuntime) -> Result<(), Fail> {
-    for (batch, reads, written) in [(1u64, 8u64, 11usize), (2, 20, 25), (10, 21, 25)] {
+    for (batch, never_waits, reads, written) in [
+        (1u64, false, 8u64, 11usize),
+        (10, false, 8, 11),
+        (1, true, 8, 11),
+        (2, true, 20, 25),
+        (10, true, 21, 25),
+    ] {
+        let cut = (batch, never_waits);
         let full = Holds::new(Vec::new(rt.alloc()), 3, 0);
-        let until = reads_until(&rt, rt.alloc(), full, batch, 0)?;
+        let until = reads_until(&rt, rt.alloc(), full, cut, 0)?;
         assert!(rt; until == Some(reads), "a write fails, batch {batch}");
-        let stuck = Holds::new(Vec::new(rt.alloc()), 3, 100).without_flush();
-        let until = reads_until(&rt, rt.alloc(), stuck, batch, written)?;
+        // The first flush is that of what the sink may hold back as the run begins.
+        let stuck = Holds::new(Vec::new(rt.alloc()), 3, 100).with_flushes(1);
+        let until = reads_until(&rt, rt.alloc(), stuck, cut, written)?;
         assert!(rt; until == Some(reads), "a flush fails, batch {batch}");
     }
+    Ok(())
+}
+
+/// Nothing is read where what the sink holds back as the run begins cannot be passed on.
+#[test]
+fn no_read_before_the_first_flush(rt: HostRuntime) -> Result<(), Fail> {
+    let stuck = Holds::new(Vec::new(rt.alloc()), 3, 100).with_flushes(0);
+    let until = reads_until(&rt, rt.alloc(), stuck, (1, true), 0)?;
+    assert!(rt; until == Some(0));
     Ok(())
 }

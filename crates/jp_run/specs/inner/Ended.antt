@@ -1,9 +1,9 @@
 -- A working file, which nobody has to believe: what stands after each fault of a run's parts, for private
 -- clauses alone.
 use Rattle.std.specs.Prelude.{◌≡◌, ℕ, ◌+◌, ◌<◌, ◌⊎◌, Bool, true, List, Option, Some, None, IfSome}
-use Rattle.std.specs.Io.KnownBytes.{Appends, Consumes, Keeps}
+use Rattle.std.specs.Io.KnownBytes.{Appends, Consumes}
 use Rattle.jp_doc.specs.Lines.{Line, lines, line_count}
-use Rattle.jp_doc.specs.Feeding.{Progress, fed}
+use Rattle.jp_doc.specs.Feeding.{fed}
 use Rattle.jp_tree.specs.Tree as tree
 use Rattle.jp_answer.specs.Answer.{Answer}
 use Rattle.jp_answer.specs.OnFault.{Manner}
@@ -11,21 +11,22 @@ use Rattle.jp_answer.specs.declared.on_fault.OnFault.TheVariants.{Stop}
 use Rattle.jp_run.specs.declared.fault.RunFault.{RunFault}
 use Rattle.jp_run.specs.declared.fault.RunFault.TheVariants.{Query, Document, Read, Write, Limit}
 use Rattle.jp_run.specs.declared.fault.RunFault.TheVariants.{Memory, Settings}
-use Rattle.jp_run.specs.Batches.{documents_in, whole_batches, WasNotWhole, batches_before}
-use Rattle.jp_run.specs.Handed.{Handed, HandedFront, HandedFirst}
+use Rattle.jp_run.specs.declared.stream.Stream.{Stream}
+use Rattle.jp_run.specs.Come.{documents_in}
+use Rattle.jp_run.specs.Handed.{Handed, HandedFront}
 use Rattle.jp_run.specs.Limits.{max_reads, max_lines}
 use Rattle.jp_run.specs.Written.{AppendsFront}
 
--- a read from a source that handed its bytes on to lines that had come so far
-abbrev pub ReadEnded : Progress → Bool → Option (List ℕ) → Option (List ℕ) → RunFault → Type 0
-ReadEnded p failed old new Read = (failed ≡ true) × Keeps old new
-ReadEnded p failed old new Limit = (piece : List ℕ) × Consumes old new piece
-    × (max_lines < (fed p piece).count)
-ReadEnded p failed old new Memory = Unit {0}
-ReadEnded p failed old new (Query fault) = ⊥
-ReadEnded p failed old new (Document line fault) = ⊥
-ReadEnded p failed old new Write = ⊥
-ReadEnded p failed old new Settings = ⊥
+-- a read behind lines that had come so far, which did not fail
+abbrev pub ReadEnded : Stream → Option (List ℕ) → Option (List ℕ) → RunFault → Type 0
+ReadEnded before old new Limit = (piece : List ℕ) × Consumes old new piece
+    × (max_lines < (fed before.buffer.progress piece).count)
+ReadEnded before old new Memory = Unit {0}
+ReadEnded before old new Read = ⊥
+ReadEnded before old new (Query fault) = ⊥
+ReadEnded before old new (Document line fault) = ⊥
+ReadEnded before old new Write = ⊥
+ReadEnded before old new Settings = ⊥
 
 -- the last line, where there were so many in all
 abbrev pub LastEnded : ℕ → RunFault → Type 0
@@ -60,11 +61,16 @@ AnswerEnded going q ls failed old new Limit = ⊥
 AnswerEnded going q ls failed old new Settings = ⊥
 
 -- the same, where there were so many lines in all
-abbrev pub RestEnded : Manner → tree.Query → List Line → ℕ → Bool → Option (List ℕ) → Option (List ℕ) →
-    RunFault
-    → Type 0
+abbrev pub RestEnded : Manner → tree.Query → List Line → ℕ → Bool → Option (List ℕ) → Option (List ℕ)
+    → RunFault → Type 0
 RestEnded going q ls count failed old new Limit = (max_lines < count) × HandedFront going q ls old new
 RestEnded going q ls count failed old new fault = AnswerEnded going q ls failed old new fault
+
+-- the same, where a read had failed
+abbrev pub FailureEnded : Manner → tree.Query → List Line → Bool → Option (List ℕ) → Option (List ℕ)
+    → RunFault → Type 0
+FailureEnded going q ls failed old new Read = Handed going q ls None old new
+FailureEnded going q ls failed old new fault = AnswerEnded going q ls failed old new fault
 
 -- where a source and a sink stood before a run and after it
 pub record Ends : Type 0 where
@@ -72,7 +78,6 @@ pub record Ends : Type 0 where
   pub source_new : Option (List ℕ)
   pub reads_old : ℕ
   pub reads_new : ℕ
-  pub last : ℕ
   pub source_failed : Bool
   pub sink_old : Option (List ℕ)
   pub sink_new : Option (List ℕ)
@@ -82,23 +87,17 @@ pub record Ends : Type 0 where
 abbrev pub InputFront : Manner → tree.Query → Ends → Type 0
 InputFront going q e = IfSome e.source_old (λ input. HandedFront going q (lines input) e.sink_old e.sink_new)
 
--- the answer to the whole batches that had come before the last read was handed out
-abbrev pub BatchesOut : Manner → tree.Query → ℕ → Ends → Type 0
-BatchesOut going q batch e = (bytes : List ℕ) × Consumes e.source_old e.source_new bytes
-    × HandedFirst going q (batches_before batch bytes e.last) e.sink_old e.sink_new
-
--- a run with batches of this size
-abbrev pub StreamEnded : Manner → tree.Query → ℕ → Ends → RunFault → Type 0
-StreamEnded going q batch e (Document line fault) =
+-- a run
+abbrev pub StreamEnded : Manner → tree.Query → Ends → RunFault → Type 0
+StreamEnded going q e (Document line fault) =
     IfSome e.source_old (λ input. Handed going q (lines input) (Some (line, fault)) e.sink_old e.sink_new)
-    × ((bytes : List ℕ) × Consumes e.source_old e.source_new bytes × WasNotWhole batch line bytes e.last)
     × (going.policy.on_fault ≡ Stop)
-StreamEnded going q batch e Read = (e.source_failed ≡ true) × (bytes : List ℕ)
+StreamEnded going q e Read = (e.source_failed ≡ true) × (bytes : List ℕ)
     × Consumes e.source_old e.source_new bytes
-    × Handed going q (whole_batches batch (documents_in bytes)) None e.sink_old e.sink_new
-StreamEnded going q batch e Write = (e.sink_failed ≡ true) × InputFront going q e × BatchesOut going q batch e
-StreamEnded going q batch e Limit = ((e.reads_new ≡ e.reads_old + max_reads) ⊎ ((bytes : List ℕ)
+    × Handed going q (documents_in bytes) None e.sink_old e.sink_new
+StreamEnded going q e Write = (e.sink_failed ≡ true) × InputFront going q e
+StreamEnded going q e Limit = ((e.reads_new ≡ e.reads_old + max_reads) ⊎ ((bytes : List ℕ)
     × Consumes e.source_old e.source_new bytes × (max_lines < line_count bytes))) × InputFront going q e
-StreamEnded going q batch e Memory = InputFront going q e
-StreamEnded going q batch e (Query fault) = ⊥
-StreamEnded going q batch e Settings = ⊥
+StreamEnded going q e Memory = InputFront going q e
+StreamEnded going q e (Query fault) = ⊥
+StreamEnded going q e Settings = ⊥

@@ -1,235 +1,215 @@
-use Rattle.std.proofs.Common.{◌∙◌, ◌+◌, ◌++◌, inl, ap, arith}
-use Rattle.jp_doc.specs.Feeding.{finished_lines}
-use Rattle.jp_answer.specs.Policy.{numbers_in}
-use Rattle.jp_run.specs.Answered.{numbers_of, on_fault_of}
-use Rattle.jp_run.specs.Limits.{max_lines}
-use Rattle.jp_run.proofs.Handing.{told, told_so, ok_so, is_flushed, ended_more, ended_handing}
-use Rattle.jp_run.proofs.Holding.{held_nothing}
-use Rattle.jp_run.proofs.Streaming.{stands_start, stands_passed, stands_front, grown_passed, batch_ended}
-use Rattle.jp_run.proofs.Streaming.{rest_ended, rest_ok, totals_ok, faulty_ok, none_ok}
-use Rattle.jp_run.proofs.Going.{open_so, grown_on, grown_same, reads_ended, goes_kept, held_few, goes_short}
-use Rattle.jp_run.proofs.Going.{goes_few, read_few, count_all, passed_all}
+use Rattle.std.proofs.Common.{◌+◌, List, refl, ap, arith, inl, subst}
+use Rattle.jp_doc.specs.Lines.{Line}
+use Rattle.jp_compiled.specs.Compiled.{compiled_query}
+use Rattle.jp_run.specs.Answered.{manner_in}
+use Rattle.jp_run.specs.Limits.{max_lines, window as window_bytes}
+use Rattle.jp_run.specs.inner.Ended.{FailureEnded}
+use Rattle.jp_run.specs.inner.Standing.{BeginsPrompt, BeginsNear}
+use Rattle.jp_run.proofs.Ending.{stands_front, waiting_ended, limit_ended, failure_ended, rest_ok}
+use Rattle.jp_run.proofs.Ending.{totals_ok, faulty_ok, rest_ended}
+use Rattle.jp_run.proofs.Handing.{told, told_so}
+use Rattle.jp_run.proofs.Readings.{none_yet, one_more}
+use Rattle.jp_run.proofs.Standing.{stands_start, settled, read_more, few_lines, few_faulty, are_counted}
+use Rattle.jp_run.proofs.Standing.{begins_prompt, begins_near, more_so, end_so, failure_so}
+use Rattle.jp_run.proofs.Standing.{counted_same}
 use Rattle.jp_run.proofs.running.answer_stream.Goals as goal
+
+pub loop-stream-init : goal.loop-stream-init
+loop-stream-init g c = record {
+  source_working = c.requires.working.0;
+  sink_working = c.in_ok-pass_on.ensures.working;
+  flushed = c.in_ok-pass_on.ensures.flushed;
+  stands = stands_start _ _ _ _ _ _ c.pass_on.ensures.bytes c.in_ok-stream.ensures.lines
+      c.in_ok-stream.ensures.progress c.in_ok-stream.ensures.come c.in_ok-stream.ensures.answered;
+  few_lines = omega (arith, ap (λ p. p.count) c.in_ok-stream.ensures.progress);
+  reads = ap (λ n. g.S.Supply.reads c.args.source.now + n) c.in_ok-stream.ensures.left;
+  prompt = none_yet _ _ _ refl;
+  window = none_yet _ _ _ refl;
+}
+
+pub settle-requires-clause-counted : goal.settle-requires-clause-counted
+settle-requires-clause-counted g c κs within =
+    are_counted _ _ _ _ _ _ _ c.loop-stream.invariant.stands c.loop-stream.invariant.few_lines
+
+pub returns-in_err-settle-clause-fault : goal.returns-in_err-settle-clause-fault
+returns-in_err-settle-clause-fault g c = told _ _ _ c.from_residual-in_err-settle.ensures.1
+    (waiting_ended _ _ _ _ _ _ _ c.loop-stream.invariant.stands c.in_err-settle.ensures.fault)
+
+pub returns-in_err-read_on-clause-fault : goal.returns-in_err-read_on-clause-fault
+returns-in_err-read_on-clause-fault g c =
+    let se = settled _ _ _ _ _ _ _ c.loop-stream.invariant.stands _ _ _ c.settle.ensures.bytes
+    c.in_ok-settle.ensures.settled in
+    told _ _ _ c.from_residual-in_err-read_on.ensures.1
+    (limit_ended _ _ _ _ _ _ se c.in_err-read_on.ensures.fault)
+
+pub returns-in_err-read_on-clause-prompt : goal.returns-in_err-read_on-clause-prompt
+returns-in_err-read_on-clause-prompt g c =
+    let se = settled _ _ _ _ _ _ _ c.loop-stream.invariant.stands _ _ _ c.settle.ensures.bytes
+    c.in_ok-settle.ensures.settled in
+    one_more (BeginsPrompt (manner_in g.F.Form.says c.args.job.now.settings)
+    (compiled_query c.args.job.now.query.now) (g.S.Supply.remaining c.args.source.now)
+    (g.K.Sink.contents c.args.sink.now)) _ _ _ _ _ c.loop-stream.invariant.prompt c.settle.ensures.begun
+    c.read_on.ensures.begun (begins_prompt _ _ _ _ _ _ _ se _ _ c.in_ok-settle.ensures.prompt
+    c.in_ok-settle.ensures.flushed)
+
+pub returns-in_err-read_on-clause-window : goal.returns-in_err-read_on-clause-window
+returns-in_err-read_on-clause-window g c =
+    let se = settled _ _ _ _ _ _ _ c.loop-stream.invariant.stands _ _ _ c.settle.ensures.bytes
+    c.in_ok-settle.ensures.settled in
+    one_more (BeginsNear window_bytes (manner_in g.F.Form.says c.args.job.now.settings)
+    (compiled_query c.args.job.now.query.now) (g.S.Supply.remaining c.args.source.now)
+    (g.K.Sink.contents c.args.sink.now)) _ _ _ _ _ c.loop-stream.invariant.window c.settle.ensures.begun
+    c.read_on.ensures.begun (begins_near _ _ _ _ _ _ _ se window_bytes
+    (g.S.Supply.told_ready c.settle.new.source) (g.K.Sink.flushed c.settle.new.sink)
+    c.in_ok-settle.ensures.near)
+
+pub answer_rest-requires-clause-few : goal.answer_rest-requires-clause-few
+answer_rest-requires-clause-few g c κs within =
+    let se = settled _ _ _ _ _ _ _ c.loop-stream.invariant.stands _ _ _ c.settle.ensures.bytes
+    c.in_ok-settle.ensures.settled in
+    let end = end_so _ _ _ _ _ _ c.in-End.is c.in_ok-read_on.ensures.came in
+    let done = read_more _ _ _ _ _ _ _ se _ _ end.1 in
+    few_lines _ _ _ _ _ _ _ done max_lines c.in_ok-read_on.ensures.few_lines
+
+pub answer_rest-requires-clause-few_faulty : goal.answer_rest-requires-clause-few_faulty
+answer_rest-requires-clause-few_faulty g c κs within =
+    let se = settled _ _ _ _ _ _ _ c.loop-stream.invariant.stands _ _ _ c.settle.ensures.bytes
+    c.in_ok-settle.ensures.settled in
+    let end = end_so _ _ _ _ _ _ c.in-End.is c.in_ok-read_on.ensures.came in
+    let done = read_more _ _ _ _ _ _ _ se _ _ end.1 in
+    few_faulty _ _ _ _ _ _ _ done
+
+pub returns-in-End-clause-handed : goal.returns-in-End-clause-handed
+returns-in-End-clause-handed g c =
+    let se = settled _ _ _ _ _ _ _ c.loop-stream.invariant.stands _ _ _ c.settle.ensures.bytes
+    c.in_ok-settle.ensures.settled in
+    let end = end_so _ _ _ _ _ _ c.in-End.is c.in_ok-read_on.ensures.came in
+    let done = read_more _ _ _ _ _ _ _ se _ _ end.1 in
+    rest_ok _ _ _ _ _ _ _ _ done end.2 c.answer_rest.result c.answer_rest.ensures.handed
+
+pub returns-in-End-clause-counts : goal.returns-in-End-clause-counts
+returns-in-End-clause-counts g c =
+    let se = settled _ _ _ _ _ _ _ c.loop-stream.invariant.stands _ _ _ c.settle.ensures.bytes
+    c.in_ok-settle.ensures.settled in
+    let end = end_so _ _ _ _ _ _ c.in-End.is c.in_ok-read_on.ensures.came in
+    let done = read_more _ _ _ _ _ _ _ se _ _ end.1 in
+    totals_ok _ _ _ _ _ _ (g.K.Sink.contents c.answer_rest.new.sink) _ done end.2 c.answer_rest.result
+    c.answer_rest.ensures.lines c.answer_rest.ensures.documents
+
+pub returns-in-End-clause-passed : goal.returns-in-End-clause-passed
+returns-in-End-clause-passed g c =
+    let se = settled _ _ _ _ _ _ _ c.loop-stream.invariant.stands _ _ _ c.settle.ensures.bytes
+    c.in_ok-settle.ensures.settled in
+    let end = end_so _ _ _ _ _ _ c.in-End.is c.in_ok-read_on.ensures.came in
+    let done = read_more _ _ _ _ _ _ _ se _ _ end.1 in
+    faulty_ok _ _ _ _ _ _ (g.K.Sink.contents c.answer_rest.new.sink) _ done end.2 c.answer_rest.result
+    c.answer_rest.ensures.passed
+
+pub returns-in-End-clause-fault : goal.returns-in-End-clause-fault
+returns-in-End-clause-fault g c =
+    let se = settled _ _ _ _ _ _ _ c.loop-stream.invariant.stands _ _ _ c.settle.ensures.bytes
+    c.in_ok-settle.ensures.settled in
+    let end = end_so _ _ _ _ _ _ c.in-End.is c.in_ok-read_on.ensures.came in
+    let done = read_more _ _ _ _ _ _ _ se _ _ end.1 in
+    told_so c.answer_rest.result _ _ (λ f k. rest_ended _ _ _ _ _ f done end.2 k)
+    c.answer_rest.ensures.fault
+
+pub returns-in-End-clause-prompt : goal.returns-in-End-clause-prompt
+returns-in-End-clause-prompt g c =
+    let se = settled _ _ _ _ _ _ _ c.loop-stream.invariant.stands _ _ _ c.settle.ensures.bytes
+    c.in_ok-settle.ensures.settled in
+    one_more (BeginsPrompt (manner_in g.F.Form.says c.args.job.now.settings)
+    (compiled_query c.args.job.now.query.now) (g.S.Supply.remaining c.args.source.now)
+    (g.K.Sink.contents c.args.sink.now)) _ _ _ _ _ c.loop-stream.invariant.prompt c.settle.ensures.begun
+    c.read_on.ensures.begun (begins_prompt _ _ _ _ _ _ _ se _ _ c.in_ok-settle.ensures.prompt
+    c.in_ok-settle.ensures.flushed)
+
+pub returns-in-End-clause-window : goal.returns-in-End-clause-window
+returns-in-End-clause-window g c =
+    let se = settled _ _ _ _ _ _ _ c.loop-stream.invariant.stands _ _ _ c.settle.ensures.bytes
+    c.in_ok-settle.ensures.settled in
+    one_more (BeginsNear window_bytes (manner_in g.F.Form.says c.args.job.now.settings)
+    (compiled_query c.args.job.now.query.now) (g.S.Supply.remaining c.args.source.now)
+    (g.K.Sink.contents c.args.sink.now)) _ _ _ _ _ c.loop-stream.invariant.window c.settle.ensures.begun
+    c.read_on.ensures.begun (begins_near _ _ _ _ _ _ _ se window_bytes
+    (g.S.Supply.told_ready c.settle.new.source) (g.K.Sink.flushed c.settle.new.sink)
+    c.in_ok-settle.ensures.near)
+
+pub loop-stream-preserved : goal.loop-stream-preserved
+loop-stream-preserved g c =
+    let se = settled _ _ _ _ _ _ _ c.loop-stream.invariant.stands _ _ _ c.settle.ensures.bytes
+    c.in_ok-settle.ensures.settled in
+    let more = more_so _ _ _ _ _ _ c.in-More.is c.in_ok-read_on.ensures.came in
+    record {
+      source_working = more.0;
+      sink_working = c.in_ok-settle.ensures.working;
+      flushed = c.in_ok-settle.ensures.flushed;
+      stands = read_more _ _ _ _ _ _ _ se _ _ more.1;
+      few_lines = c.in_ok-read_on.ensures.few_lines;
+      reads = omega (
+        arith,
+        c.read_on.ensures.reads,
+        c.read_on.ensures.left,
+        c.settle.ensures.reads,
+        c.settle.ensures.left,
+        c.loop-stream.invariant.reads,
+        c.requires.few,
+      );
+      prompt = one_more (BeginsPrompt (manner_in g.F.Form.says c.args.job.now.settings)
+          (compiled_query c.args.job.now.query.now) (g.S.Supply.remaining c.args.source.now)
+          (g.K.Sink.contents c.args.sink.now)) _ _ _ _ _ c.loop-stream.invariant.prompt c.settle.ensures.begun
+          c.read_on.ensures.begun (begins_prompt _ _ _ _ _ _ _ se _ _ c.in_ok-settle.ensures.prompt
+          c.in_ok-settle.ensures.flushed);
+      window = one_more (BeginsNear window_bytes (manner_in g.F.Form.says c.args.job.now.settings)
+          (compiled_query c.args.job.now.query.now) (g.S.Supply.remaining c.args.source.now)
+          (g.K.Sink.contents c.args.sink.now)) _ _ _ _ _ c.loop-stream.invariant.window c.settle.ensures.begun
+          c.read_on.ensures.begun (begins_near _ _ _ _ _ _ _ se window_bytes
+          (g.S.Supply.told_ready c.settle.new.source) (g.K.Sink.flushed c.settle.new.sink)
+          c.in_ok-settle.ensures.near);
+    }
+
+pub answer_before_failure-requires-clause-counted : goal.answer_before_failure-requires-clause-counted
+answer_before_failure-requires-clause-counted g c κs within =
+    let se = settled _ _ _ _ _ _ _ c.loop-stream.invariant.stands _ _ _ c.settle.ensures.bytes
+    c.in_ok-settle.ensures.settled in
+    let failed = failure_so _ _ _ _ _ _ c.in-Failure.is c.in_ok-read_on.ensures.came in
+    counted_same _ _ failed.2 failed.3 (are_counted _ _ _ _ _ _ _ se
+    (omega (arith, c.in_ok-read_on.ensures.few_lines, ap (λ b. b.progress.count) failed.2)))
+
+pub returns-in-Failure-clause-fault : goal.returns-in-Failure-clause-fault
+returns-in-Failure-clause-fault g c =
+    let se = settled _ _ _ _ _ _ _ c.loop-stream.invariant.stands _ _ _ c.settle.ensures.bytes
+    c.in_ok-settle.ensures.settled in
+    let failed = failure_so _ _ _ _ _ _ c.in-Failure.is c.in_ok-read_on.ensures.came in
+    failure_ended _ _ _ _ _ _ _ se failed.0 failed.1
+    (subst (λ (l : List Line). FailureEnded (manner_in g.F.Form.says c.args.job.now.settings)
+    (compiled_query c.args.job.now.query.now) l (g.K.Sink.failed c.answer_before_failure.new.sink)
+    (g.K.Sink.contents c.settle.new.sink) (g.K.Sink.contents c.answer_before_failure.new.sink)
+    c.answer_before_failure.result) (ap (λ b. b.lines) failed.2) c.answer_before_failure.ensures.fault)
+
+pub returns-in-Failure-clause-prompt : goal.returns-in-Failure-clause-prompt
+returns-in-Failure-clause-prompt g c =
+    let se = settled _ _ _ _ _ _ _ c.loop-stream.invariant.stands _ _ _ c.settle.ensures.bytes
+    c.in_ok-settle.ensures.settled in
+    one_more (BeginsPrompt (manner_in g.F.Form.says c.args.job.now.settings)
+    (compiled_query c.args.job.now.query.now) (g.S.Supply.remaining c.args.source.now)
+    (g.K.Sink.contents c.args.sink.now)) _ _ _ _ _ c.loop-stream.invariant.prompt c.settle.ensures.begun
+    c.read_on.ensures.begun (begins_prompt _ _ _ _ _ _ _ se _ _ c.in_ok-settle.ensures.prompt
+    c.in_ok-settle.ensures.flushed)
+
+pub returns-in-Failure-clause-window : goal.returns-in-Failure-clause-window
+returns-in-Failure-clause-window g c =
+    let se = settled _ _ _ _ _ _ _ c.loop-stream.invariant.stands _ _ _ c.settle.ensures.bytes
+    c.in_ok-settle.ensures.settled in
+    one_more (BeginsNear window_bytes (manner_in g.F.Form.says c.args.job.now.settings)
+    (compiled_query c.args.job.now.query.now) (g.S.Supply.remaining c.args.source.now)
+    (g.K.Sink.contents c.args.sink.now)) _ _ _ _ _ c.loop-stream.invariant.window c.settle.ensures.begun
+    c.read_on.ensures.begun (begins_near _ _ _ _ _ _ _ se window_bytes
+    (g.S.Supply.told_ready c.settle.new.source) (g.K.Sink.flushed c.settle.new.sink)
+    c.in_ok-settle.ensures.near)
 
 pub returns-clause-fault : goal.returns-clause-fault
 returns-clause-fault g c = (
   inl (omega (arith, c.loop-stream.invariant.reads, c.loop-stream-test.false)),
-  stands_front _ _ _ c.args.job.now.settings.in_range.2.0 _ _ _ _ _ _ _ c.loop-stream.invariant.goes.stands,
+  stands_front _ _ _ _ _ _ _ c.loop-stream.invariant.stands,
 )
-
-pub loop-stream-init : goal.loop-stream-init
-loop-stream-init g c =
-    let fresh = c.in_ok-stream.ensures.fresh in
-    record {
-      source_working = c.requires.working.0;
-      sink_working = c.requires.working.1;
-      flushed = λ e. e;
-      going_on = ap (λ a. a.stopped) fresh.answer;
-      goes = record {
-        held = _;
-        is_held = held_nothing _ _ _ fresh.count fresh.answer fresh.passed;
-        stands = stands_start _ _ _ c.args.job.now.settings.in_range.2.0 _ _ _ _ _ fresh.progress fresh.lines
-            fresh.answered;
-      };
-      few_lines = omega (arith, ap (λ p. p.count) fresh.progress);
-      reads = ap (λ n. g.S.Source.reads c.args.source.now + n) c.in_ok-stream.ensures.left;
-    }
-
-pub read_on-requires-clause-open : goal.read_on-requires-clause-open
-read_on-requires-clause-open g c = λ κs outlives.
-    open_so _ _ _ c.args.job.now.settings.in_range.2.0 _ _ _ _ _ _ _ c.loop-stream.invariant.goes.stands
-
-pub read_on-requires-clause-few_reads : goal.read_on-requires-clause-few_reads
-read_on-requires-clause-few_reads g c = λ κs outlives.
-    omega (arith, c.loop-stream.invariant.reads, c.requires.few)
-
-pub read_on-requires-clause-not_whole : goal.read_on-requires-clause-not_whole
-read_on-requires-clause-not_whole g c = λ κs outlives.
-    goes_short _ _ _ c.args.job.now.settings.in_range.2.0 _ _ _ _ _ _ _ _ c.loop-stream.invariant.goes
-
-pub read_on-requires-clause-few_faulty : goal.read_on-requires-clause-few_faulty
-read_on-requires-clause-few_faulty g c = λ κs outlives. held_few _ _ _ _ c.loop-stream.invariant.goes.is_held
-
-pub returns-in_err-ended-clause-fault : goal.returns-in_err-ended-clause-fault
-returns-in_err-ended-clause-fault g c =
-    let go = c.loop-stream.invariant.goes in
-    told _ _ _ c.from_residual-in_err-ended.ensures.1 (reads_ended _ _ _ c.args.job.now.settings.in_range.2.0
-    _ _ _ _ _ _ go.stands (c.in_err-ended.ensures.fault go.held go.is_held))
-
-pub returns-in_err-tell_stop-clause-fault : goal.returns-in_err-tell_stop-clause-fault
-returns-in_err-tell_stop-clause-fault g c =
-    let go = c.loop-stream.invariant.goes in
-    let rd = c.in_ok-ended.ensures.read go.held go.is_held in
-    let gr = grown_on _ _ _ c.args.job.now.settings.in_range.2.0 _ _ _ _ _ _ _ go.stands _ _ _ _ _ rd.read
-    c.in_ok-ended.ensures.answered in
-    told _ _ _ c.from_residual-in_err-tell_stop.ensures.1
-    (batch_ended _ _ _ c.args.job.now.settings.in_range.2.0 _ _ _ _ _ gr _
-    (ended_more _ _ rd.held _ _ _ _ _ (ended_handing _ _ rd.held _ rd.is_held.is _ _ _ _
-    c.in_err-tell_stop.ensures.fault)))
-
-pub answer_batches-requires-clause-few : goal.answer_batches-requires-clause-few
-answer_batches-requires-clause-few g c = λ κs outlives.
-    let go = c.loop-stream.invariant.goes in
-    let rd = c.in_ok-ended.ensures.read go.held go.is_held in
-    let gr = grown_on _ _ _ c.args.job.now.settings.in_range.2.0 _ _ _ _ _ _ _ go.stands _ _ _ _ _ rd.read
-    c.in_ok-ended.ensures.answered in
-    omega (
-      arith,
-      read_few _ _ _ c.args.job.now.settings.in_range.2.0 _ _ _ _ _ _ _ _ _ _ max_lines gr rd.is_held
-          c.in_ok-ended.ensures.few_lines,
-    )
-
-pub answer_batches-requires-clause-few_faulty : goal.answer_batches-requires-clause-few_faulty
-answer_batches-requires-clause-few_faulty g c = λ κs outlives.
-    let go = c.loop-stream.invariant.goes in
-    let rd = c.in_ok-ended.ensures.read go.held go.is_held in
-    let gr = grown_on _ _ _ c.args.job.now.settings.in_range.2.0 _ _ _ _ _ _ _ go.stands _ _ _ _ _ rd.read
-    c.in_ok-ended.ensures.answered in
-    (grown_passed _ _ _ c.args.job.now.settings.in_range.2.0 _ _ _ _ _ _ _ _ gr, held_few _ _ _ _ rd.is_held)
-
-pub returns-in_err-answer_batches-clause-fault : goal.returns-in_err-answer_batches-clause-fault
-returns-in_err-answer_batches-clause-fault g c =
-    let go = c.loop-stream.invariant.goes in
-    let rd = c.in_ok-ended.ensures.read go.held go.is_held in
-    let gr = grown_same _ _ _ c.args.job.now.settings.in_range.2.0 _ _ _ _ _ _ _ _ _
-    (grown_on _ _ _ c.args.job.now.settings.in_range.2.0 _ _ _ _ _ _ _ go.stands _ _ _ _ _ rd.read
-    c.in_ok-ended.ensures.answered) (ap g.K.Sink.contents c.in_ok-tell_stop.ensures.same) in
-    told _ _ _ c.from_residual-in_err-answer_batches.ensures.1
-    (batch_ended _ _ _ c.args.job.now.settings.in_range.2.0 _ _ _ _ _ gr _
-    (c.in_err-answer_batches.ensures.fault rd.held rd.is_held))
-
-pub answer_rest-requires-clause-few : goal.answer_rest-requires-clause-few
-answer_rest-requires-clause-few g c κs within =
-    let go = c.loop-stream.invariant.goes in
-    let rd = c.in_ok-ended.ensures.read go.held go.is_held in
-    let gr = grown_same _ _ _ c.args.job.now.settings.in_range.2.0 _ _ _ _ _ _ _ _ _
-    (grown_on _ _ _ c.args.job.now.settings.in_range.2.0 _ _ _ _ _ _ _ go.stands _ _ _ _ _ rd.read
-    c.in_ok-ended.ensures.answered) (ap g.K.Sink.contents c.in_ok-tell_stop.ensures.same) in
-    let ge = goes_kept _ _ _ c.args.job.now.settings.in_range.2.0 _ _ _ _ _ _ _ _ _ _ _ _ _ gr
-    (c.in_ok-answer_batches.ensures.kept rd.held rd.is_held) c.in_ok-answer_batches.ensures.progress in
-    goes_few _ _ _ c.args.job.now.settings.in_range.2.0 _ _ _ _ _ _ _ _ max_lines ge (omega (
-      arith,
-      ap (λ p. p.count) c.in_ok-answer_batches.ensures.progress,
-      c.in_ok-ended.ensures.few_lines,
-    ))
-
-pub answer_rest-requires-clause-few_faulty : goal.answer_rest-requires-clause-few_faulty
-answer_rest-requires-clause-few_faulty g c κs within =
-    let go = c.loop-stream.invariant.goes in
-    let rd = c.in_ok-ended.ensures.read go.held go.is_held in
-    let gr = grown_same _ _ _ c.args.job.now.settings.in_range.2.0 _ _ _ _ _ _ _ _ _
-    (grown_on _ _ _ c.args.job.now.settings.in_range.2.0 _ _ _ _ _ _ _ go.stands _ _ _ _ _ rd.read
-    c.in_ok-ended.ensures.answered) (ap g.K.Sink.contents c.in_ok-tell_stop.ensures.same) in
-    let ge = goes_kept _ _ _ c.args.job.now.settings.in_range.2.0 _ _ _ _ _ _ _ _ _ _ _ _ _ gr
-    (c.in_ok-answer_batches.ensures.kept rd.held rd.is_held) c.in_ok-answer_batches.ensures.progress in (
-      stands_passed _ _ _ c.args.job.now.settings.in_range.2.0 _ _ _ _ _ _ _ ge.stands,
-      held_few _ _ _ _
-          ge.is_held,
-    )
-
-pub returns-then-ended-clause-handed : goal.returns-then-ended-clause-handed
-returns-then-ended-clause-handed g c =
-    let go = c.loop-stream.invariant.goes in
-    let rd = c.in_ok-ended.ensures.read go.held go.is_held in
-    let gr = grown_same _ _ _ c.args.job.now.settings.in_range.2.0 _ _ _ _ _ _ _ _ _
-    (grown_on _ _ _ c.args.job.now.settings.in_range.2.0 _ _ _ _ _ _ _ go.stands _ _ _ _ _ rd.read
-    c.in_ok-ended.ensures.answered) (ap g.K.Sink.contents c.in_ok-tell_stop.ensures.same) in
-    let ge = goes_kept _ _ _ c.args.job.now.settings.in_range.2.0 _ _ _ _ _ _ _ _ _ _ _ _ _ gr
-    (c.in_ok-answer_batches.ensures.kept rd.held rd.is_held) c.in_ok-answer_batches.ensures.progress in
-    rest_ok _ _ _ c.args.job.now.settings.in_range.2.0 _ _ _ _ _ _ _ _ ge.stands
-    (c.in_ok-ended.ensures.end c.if-ended.true).0 c.answer_rest.result
-    (c.answer_rest.ensures.handed ge.held ge.is_held)
-
-pub returns-then-ended-clause-counts : goal.returns-then-ended-clause-counts
-returns-then-ended-clause-counts g c =
-    let go = c.loop-stream.invariant.goes in
-    let rd = c.in_ok-ended.ensures.read go.held go.is_held in
-    let gr = grown_same _ _ _ c.args.job.now.settings.in_range.2.0 _ _ _ _ _ _ _ _ _
-    (grown_on _ _ _ c.args.job.now.settings.in_range.2.0 _ _ _ _ _ _ _ go.stands _ _ _ _ _ rd.read
-    c.in_ok-ended.ensures.answered) (ap g.K.Sink.contents c.in_ok-tell_stop.ensures.same) in
-    let ge = goes_kept _ _ _ c.args.job.now.settings.in_range.2.0 _ _ _ _ _ _ _ _ _ _ _ _ _ gr
-    (c.in_ok-answer_batches.ensures.kept rd.held rd.is_held) c.in_ok-answer_batches.ensures.progress in
-    totals_ok _ _ _ c.args.job.now.settings.in_range.2.0 _ _ _ _ (g.K.Sink.contents c.answer_rest.new.sink)
-    _ _ _
-    ge.stands (c.in_ok-ended.ensures.end c.if-ended.true).0 c.answer_rest.result c.answer_rest.ensures.lines
-    (ok_so c.answer_rest.result _ _ (λ t e.
-    e ∙ ap (λ n. c.answer_batches.new.stream.answered.lines + n) (count_all _ _ ge.held _ _ _ ge.is_held))
-    c.answer_rest.ensures.documents)
-
-pub returns-then-ended-clause-passed : goal.returns-then-ended-clause-passed
-returns-then-ended-clause-passed g c =
-    let go = c.loop-stream.invariant.goes in
-    let rd = c.in_ok-ended.ensures.read go.held go.is_held in
-    let gr = grown_same _ _ _ c.args.job.now.settings.in_range.2.0 _ _ _ _ _ _ _ _ _
-    (grown_on _ _ _ c.args.job.now.settings.in_range.2.0 _ _ _ _ _ _ _ go.stands _ _ _ _ _ rd.read
-    c.in_ok-ended.ensures.answered) (ap g.K.Sink.contents c.in_ok-tell_stop.ensures.same) in
-    let ge = goes_kept _ _ _ c.args.job.now.settings.in_range.2.0 _ _ _ _ _ _ _ _ _ _ _ _ _ gr
-    (c.in_ok-answer_batches.ensures.kept rd.held rd.is_held) c.in_ok-answer_batches.ensures.progress in
-    faulty_ok _ _ _ c.args.job.now.settings.in_range.2.0 _ _ _ _ (g.K.Sink.contents c.answer_rest.new.sink)
-    _ _ _
-    ge.stands (c.in_ok-ended.ensures.end c.if-ended.true).0 c.answer_rest.result
-    (ok_so c.answer_rest.result _ _ (λ t e.
-    e ∙ ap (λ n. c.answer_batches.new.stream.answered.faulty + n) (passed_all _ _ ge.held _ _ _ ge.is_held))
-    c.answer_rest.ensures.passed)
-
-pub returns-then-ended-clause-none_passed : goal.returns-then-ended-clause-none_passed
-returns-then-ended-clause-none_passed g c =
-    let go = c.loop-stream.invariant.goes in
-    let rd = c.in_ok-ended.ensures.read go.held go.is_held in
-    let gr = grown_same _ _ _ c.args.job.now.settings.in_range.2.0 _ _ _ _ _ _ _ _ _
-    (grown_on _ _ _ c.args.job.now.settings.in_range.2.0 _ _ _ _ _ _ _ go.stands _ _ _ _ _ rd.read
-    c.in_ok-ended.ensures.answered) (ap g.K.Sink.contents c.in_ok-tell_stop.ensures.same) in
-    let ge = goes_kept _ _ _ c.args.job.now.settings.in_range.2.0 _ _ _ _ _ _ _ _ _ _ _ _ _ gr
-    (c.in_ok-answer_batches.ensures.kept rd.held rd.is_held) c.in_ok-answer_batches.ensures.progress in
-    let lines = c.answer_batches.new.stream.incoming.buffer.lines in
-    let fin = finished_lines c.answer_batches.new.stream.incoming.buffer.progress in
-    λ off. none_ok (on_fault_of c.args.job.now.settings.keeps_going)
-    (numbers_in (numbers_of c.args.job.now.settings.decimals)) _ ((ge.held ++ lines) ++ fin) _
-    c.answer_rest.result ge.stands.passed
-    (ok_so c.answer_rest.result _ _ (λ t e. e ∙ ap (λ n. c.answer_batches.new.stream.answered.faulty + n)
-    (passed_all _ _ ge.held lines fin _ ge.is_held))
-    c.answer_rest.ensures.passed) (ap on_fault_of off)
-
-pub returns-then-ended-clause-fault : goal.returns-then-ended-clause-fault
-returns-then-ended-clause-fault g c =
-    let go = c.loop-stream.invariant.goes in
-    let rd = c.in_ok-ended.ensures.read go.held go.is_held in
-    let gr = grown_same _ _ _ c.args.job.now.settings.in_range.2.0 _ _ _ _ _ _ _ _ _
-    (grown_on _ _ _ c.args.job.now.settings.in_range.2.0 _ _ _ _ _ _ _ go.stands _ _ _ _ _ rd.read
-    c.in_ok-ended.ensures.answered) (ap g.K.Sink.contents c.in_ok-tell_stop.ensures.same) in
-    let ge = goes_kept _ _ _ c.args.job.now.settings.in_range.2.0 _ _ _ _ _ _ _ _ _ _ _ _ _ gr
-    (c.in_ok-answer_batches.ensures.kept rd.held rd.is_held) c.in_ok-answer_batches.ensures.progress in
-    told_so c.answer_rest.result _ _ (λ f h. rest_ended _ _ _ c.args.job.now.settings.in_range.2.0 _ _ _ _ _ f
-    ge.stands (c.in_ok-ended.ensures.end c.if-ended.true).0 (c.in_ok-ended.ensures.end c.if-ended.true).1 h)
-    (c.answer_rest.ensures.fault ge.held ge.is_held)
-
-pub loop-stream-preserved : goal.loop-stream-preserved
-loop-stream-preserved g c =
-    let go = c.loop-stream.invariant.goes in
-    let rd = c.in_ok-ended.ensures.read go.held go.is_held in
-    let gr = grown_same _ _ _ c.args.job.now.settings.in_range.2.0 _ _ _ _ _ _ _ _ _
-    (grown_on _ _ _ c.args.job.now.settings.in_range.2.0 _ _ _ _ _ _ _ go.stands _ _ _ _ _ rd.read
-    c.in_ok-ended.ensures.answered) (ap g.K.Sink.contents c.in_ok-tell_stop.ensures.same) in
-    let ge = goes_kept _ _ _ c.args.job.now.settings.in_range.2.0 _ _ _ _ _ _ _ _ _ _ _ _ _ gr
-    (c.in_ok-answer_batches.ensures.kept rd.held rd.is_held) c.in_ok-answer_batches.ensures.progress in
-    let kept = c.in_ok-answer_batches.ensures.kept rd.held rd.is_held in
-    record {
-      source_working = c.in_ok-ended.ensures.working;
-      sink_working = c.in_ok-answer_batches.ensures.working;
-      flushed = λ e. is_flushed _ _ (c.in_ok-answer_batches.ensures.passed_on
-          (ap g.K.Sink.flushed c.in_ok-tell_stop.ensures.same ∙ c.loop-stream.invariant.flushed e))
-          c.in_ok-answer_batches.ensures.working;
-      going_on = kept.0.going_on;
-      goes = ge;
-      few_lines = omega (
-        arith,
-        ap (λ p. p.count) c.in_ok-answer_batches.ensures.progress,
-        c.in_ok-ended.ensures.few_lines,
-      );
-      reads = omega (
-        arith,
-        c.read_on.ensures.reads,
-        c.loop-stream.invariant.reads,
-        c.answer_batches.ensures.left,
-      );
-    }

@@ -3,7 +3,7 @@ use Rattle.jp_compiled.specs.Compiled.{compiled_query}
 use Rattle.jp_run.specs.declared.fault.RunFault.TheVariants.{Document, Read, Write, Limit}
 use Rattle.jp_run.specs.Answered.{manner_of}
 use Rattle.jp_run.proofs.Runs.{not_both, refused_so, at_fault, accepted_ok, answer_known, answer_ok}
-use Rattle.jp_run.proofs.Runs.{front_err, not_going, spelled}
+use Rattle.jp_run.proofs.Runs.{front_err, not_going, spelled, prompt_by, near_by}
 use Rattle.jp_run.proofs.running.run.Goals as goal
 
 pub returns-in_err-plan-clause-refused : goal.returns-in_err-plan-clause-refused
@@ -41,15 +41,10 @@ returns-clause-document g c = λ line fault e. answer_known (manner_of c.args.se
     c.numbers.ensures c.compiled.ensures c.in_ok-plan.ensures.ok) _ _ _ _
     (at_fault _ (Document line fault) _ e c.answer_in_form.ensures.fault).0
 
-pub returns-clause-no_later_read : goal.returns-clause-no_later_read
-returns-clause-no_later_read g c = λ line fault e.
-    let h = at_fault c.answer_in_form.result (Document line fault) _ e c.answer_in_form.ensures.fault in
-    (h.1.0, h.1.1, h.1.2)
-
 pub returns-clause-goes_on : goal.returns-clause-goes_on
 returns-clause-goes_on g c = λ on line fault e.
     let h = at_fault c.answer_in_form.result (Document line fault) _ e c.answer_in_form.ensures.fault in
-    not_going _ on h.2
+    not_going _ on h.1
 
 pub returns-clause-faulty : goal.returns-clause-faulty
 returns-clause-faulty g c = c.answer_in_form.ensures.passed
@@ -71,27 +66,23 @@ returns-clause-read g c = λ e.
 pub returns-clause-write : goal.returns-clause-write
 returns-clause-write g c = λ e. (at_fault c.answer_in_form.result Write _ e c.answer_in_form.ensures.fault).0
 
-pub returns-clause-no_read_between : goal.returns-clause-no_read_between
-returns-clause-no_read_between g c = λ e.
-    let h = at_fault c.answer_in_form.result Write _ e c.answer_in_form.ensures.fault in (
-      h.2.0,
-      h.2.1,
-      (
-        compiled_query c.compiled.result.now,
-        spelled _ _ _ _ _ c.numbers.ensures c.compiled.ensures
-            c.in_ok-plan.ensures.ok,
-        h.2.2,
-      ),
-    )
-
 pub returns-clause-limit : goal.returns-clause-limit
 returns-clause-limit g c = λ e. (at_fault c.answer_in_form.result Limit _ e c.answer_in_form.ensures.fault).0
 
 pub returns-clause-front : goal.returns-clause-front
 returns-clause-front g c = front_err (manner_of c.args.settings.now) _ _ (spelled _ _ _ _ _
     c.numbers.ensures c.compiled.ensures
-    c.in_ok-plan.ensures.ok) c.answer_in_form.result _
-    c.args.settings.now.in_range.2.0 _ c.answer_in_form.ensures.fault
+    c.in_ok-plan.ensures.ok) c.answer_in_form.result _ c.answer_in_form.ensures.fault
+
+pub returns-clause-prompt : goal.returns-clause-prompt
+returns-clause-prompt g c = prompt_by (manner_of c.args.settings.now) _ _ (spelled _ _ _ _ _
+    c.numbers.ensures c.compiled.ensures
+    c.in_ok-plan.ensures.ok) _ _ _ _ c.answer_in_form.ensures.prompt
+
+pub returns-clause-window : goal.returns-clause-window
+returns-clause-window g c = near_by (manner_of c.args.settings.now) _ _ (spelled _ _ _ _ _
+    c.numbers.ensures c.compiled.ensures
+    c.in_ok-plan.ensures.ok) _ _ _ _ _ c.answer_in_form.ensures.window
 
 pub returns-clause-few : goal.returns-clause-few
 returns-clause-few g c = c.answer_in_form.ensures.few

@@ -1,0 +1,12 @@
+use Rattle.jp_answer.specs.Answered.{outcome_of}
+use Rattle.jp_run.proofs.Handing.{told, handing_done, ended_handing}
+use Rattle.jp_run.proofs.answering.answer_batch.Goals as goal
+
+pub returns-in_err-hand_out-clause-fault : goal.returns-in_err-hand_out-clause-fault
+returns-in_err-hand_out-clause-fault g c = told _ _ _ c.from_residual-in_err-hand_out.ensures.1
+    (ended_handing _ _ _ (outcome_of c.in_ok-answer.answer) c.in_ok-answer.ensures.is _ _ _ _
+    c.in_err-hand_out.ensures.fault)
+
+pub returns-clause-handed : goal.returns-clause-handed
+returns-clause-handed g c = handing_done _ _ _ (outcome_of c.in_ok-answer.answer)
+    c.in_ok-answer.ensures.is _ _ c.in_ok-hand_out.ensures.whole c.in_ok-hand_out.ensures.ok

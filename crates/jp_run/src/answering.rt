@@ -1,0 +1,131 @@
+//! Lines that are answered in batches, each handed to the sink, and passed on, before the next begins.
+
+ghost use Rattle.std.specs.Prelude.{◌≡◌, ◌+◌, ◌<◌, ◌≤◌, false, true, None, map, length, take, drop};
+ghost use Rattle.std.specs.Prelude.{IfOk, OnOk, IfErr};
+ghost use Rattle.jp_buffer.specs.Buffered.{line_at};
+ghost use Rattle.jp_compiled.specs.Compiled.{compiled_query};
+ghost use Rattle.jp_run.specs.Answered.{manner_in, passed_in};
+ghost use Rattle.jp_run.specs.inner.Ended.{AnswerEnded};
+ghost use Rattle.jp_run.specs.inner.Standing.{IsAnswerOf};
+ghost use Rattle.jp_run.specs.Handed.{Handed};
+ghost use Rattle.jp_run.specs.Limits.{max_lines};
+ghost use Rattle.jp_run.specs.Written.{IsPassedOn};
+
+use crate::ends::Sink;
+use crate::fault::RunFault;
+use crate::job::Job;
+use crate::settings::Settings;
+use crate::telling::tell_gate;
+use crate::writing::hand_out;
+use jp_answer::{Cutting, Gate, Outcome, answer_in_chunks};
+use jp_buffer::LineRef;
+use jp_output::Form;
+use std::alloc::AllocError;
+use std::thread::Threads;
+
+/// How many bytes of lines a worker is started for: to answer them takes longer than to start a thread.
+const BYTES_EACH: usize = 16_384;
+
+/// How many pieces there are at least for each worker, where there are as many lines: so that one whose
+/// pieces are cheap takes more of them.
+const PIECES_EACH: u64 = 4;
+
+/// Answers lines, one batch after another. Gives how many faulty ones were passed.
+pub(crate) fn answer_lines<R: Threads + Sync, K: Sink, G: Gate + Sync, F: Form + Drop + Send>(
+    job: &Job<R, G>,
+    lines: &[LineRef<'_>],
+    sink: &mut K,
+) -> Result<u64, RunFault>
+    requires working { K.failed sink.old ≡ false }
+    requires flushed { K.flushed sink.old ≡ true }
+    requires few { length lines.now ≤ max_lines + 1 }
+    ensures handed { OnOk result (Handed (manner_in F.says job.now.settings) (compiled_query
+        job.now.query.now) (map line_at lines.now) None (K.contents sink.old) (K.contents sink.new)) }
+    ensures passed { IfOk result (λ n. n ≡ passed_in job.now.settings (map line_at lines.now)) }
+    ensures working { OnOk result (K.failed sink.new ≡ false) }
+    ensures flushed { OnOk result (K.flushed sink.new ≡ true) }
+    ensures passed_on { IsPassedOn (K.flushed sink.new) (K.failed sink.new) }
+    ensures fault { IfErr result (AnswerEnded (manner_in F.says job.now.settings) (compiled_query
+        job.now.query.now) (map line_at lines.now) (K.failed sink.new) (K.contents sink.old) (K.contents
+        sink.new)) }
+{
+    let batch = job.settings.batch as usize;
+    let mut done = 0;
+    let mut faulty = 0;
+    while done < lines.len() {
+        let front = batch_at(lines, done, batch);
+        faulty += answer_batch::<R, K, G, F>(job, front, sink)?;
+        done += front.len();
+    }
+    Ok(faulty)
+}
+
+/// The lines of one batch, from this place on: fewer at the end.
+fn batch_at<'b>(lines: &'b [LineRef<'b>], done: usize, batch: usize) -> &'b [LineRef<'b>]
+    requires some { 0 < batch }
+    requires left { done < length lines.now }
+    ensures front { result.now ≡ take (length result.now) (drop done lines.now) }
+    ensures some { 0 < length result.now }
+    ensures within { done + length result.now ≤ length lines.now }
+{
+    let (_, rest) = lines.split_at(done);
+    let (front, _) = rest.split_at(batch.min(rest.len()));
+    front
+}
+
+/// Answers the lines of a batch, and hands the answer to the sink, which passes it on. Gives how many faulty
+/// ones it passes.
+fn answer_batch<R: Threads + Sync, K: Sink, G: Gate + Sync, F: Form + Drop + Send>(
+    job: &Job<R, G>,
+    lines: &[LineRef<'_>],
+    sink: &mut K,
+) -> Result<u64, RunFault>
+    requires working { K.failed sink.old ≡ false }
+    requires flushed { K.flushed sink.old ≡ true }
+    requires few { length lines.now ≤ max_lines + 1 }
+    ensures handed { OnOk result (Handed (manner_in F.says job.now.settings) (compiled_query
+        job.now.query.now) (map line_at lines.now) None (K.contents sink.old) (K.contents sink.new)) }
+    ensures passed { IfOk result (λ n. n ≡ passed_in job.now.settings (map line_at lines.now)) }
+    ensures working { OnOk result (K.failed sink.new ≡ false) }
+    ensures flushed { OnOk result (K.flushed sink.new ≡ true) }
+    ensures passed_on { IsPassedOn (K.flushed sink.new) (K.failed sink.new) }
+    ensures fault { IfErr result (AnswerEnded (manner_in F.says job.now.settings) (compiled_query
+        job.now.query.now) (map line_at lines.now) (K.failed sink.new) (K.contents sink.old) (K.contents
+        sink.new)) }
+{
+    let answer = answer_to::<R, G, F>(job, lines)?;
+    hand_out(sink, &answer)?;
+    Ok(answer.faulty)
+}
+
+/// The answer to some lines, by as many workers as they are worth.
+fn answer_to<R: Threads + Sync, G: Gate + Sync, F: Form + Drop + Send>(
+    job: &Job<R, G>,
+    lines: &[LineRef<'_>],
+) -> Result<Outcome, AllocError>
+    requires { length lines.now ≤ max_lines + 1 }
+    ensures { IfOk result (IsAnswerOf (manner_in F.says job.now.settings) (compiled_query
+        job.now.query.now) (map line_at lines.now)) }
+{
+    let cutting = cutting_for(&job.settings, lines);
+    let policy = job.settings.policy();
+    let answer = answer_in_chunks::<R, G, F>(&job.crew, job.query, lines, cutting, policy);
+    tell_gate(&job.crew, policy.numbers, lines, &answer);
+    answer
+}
+
+/// How these lines are cut up: among as many workers as are set, but no more than one for each 16,384 bytes,
+/// in pieces of as many lines as are set, or fewer where some worker would have too little.
+fn cutting_for(settings: &Settings, lines: &[LineRef<'_>]) -> Cutting {
+    let mut bytes: usize = 0;
+    for line in lines {
+        // Saturating, so that no bound on the sum has to be required.
+        bytes = bytes.saturating_add(line.bytes.len());
+    }
+    let workers = settings.workers.min((bytes / BYTES_EACH) as u64).max(1);
+    let share = lines.len() as u64 / (workers * PIECES_EACH);
+    Cutting {
+        workers,
+        piece: settings.piece.min(share.max(1)),
+    }
+}

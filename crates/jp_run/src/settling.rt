@@ -1,0 +1,192 @@
+//! When lines that have come are answered: before a read that may wait, and once there are many.
+
+ghost use Rattle.std.specs.Prelude.{◌≡◌, ◌+◌, ◌<◌, ◌≤◌, ◌⊎◌, ◌++◌, false, true, None, length};
+ghost use Rattle.std.specs.Prelude.{IfOk, OnOk, IfErr};
+ghost use Rattle.jp_doc.specs.Feeding.{finished, finished_lines};
+ghost use Rattle.jp_compiled.specs.Compiled.{compiled_query};
+ghost use Rattle.jp_run.specs.Answered.{manner_in, passed_in};
+ghost use Rattle.jp_run.specs.inner.Ended.{AnswerEnded, FailureEnded, RestEnded};
+ghost use Rattle.jp_run.specs.inner.Standing.{HasAnswered, HasSettled, IsCounted};
+ghost use Rattle.jp_run.specs.Handed.{Handed};
+ghost use Rattle.jp_run.specs.Limits.{max_lines, window};
+ghost use Rattle.jp_run.specs.Written.{IsPassedOn};
+
+use crate::answering::answer_lines;
+use crate::ends::{Sink, Supply};
+use crate::fault::RunFault;
+use crate::gathering::take_last;
+use crate::job::Job;
+use crate::running::Totals;
+use crate::settings::Settings;
+use crate::stream::Stream;
+use jp_answer::Gate;
+use jp_buffer::LineBuffer;
+use jp_output::Form;
+use std::thread::Threads;
+
+/// How many bytes may come before they are answered, although the source goes on at once: so many are held
+/// at most, and what one read brings.
+const WINDOW_BYTES: usize = 4_194_304;
+
+/// The same for one worker: few enough to be answered while they lie in the processor's cache.
+const CACHE_BYTES: usize = 131_072;
+
+/// Answers all lines that have come, unless the source says that the next read does not wait and little has
+/// come.
+pub(crate) fn settle<R: Threads + Sync, S: Supply, K: Sink, G: Gate + Sync, F: Form + Drop + Send>(
+    job: &Job<R, G>,
+    source: &mut S,
+    sink: &mut K,
+    stream: &mut Stream,
+) -> Result<(), RunFault>
+    requires working { K.failed sink.old ≡ false }
+    requires flushed { K.flushed sink.old ≡ true }
+    requires counted { IsCounted stream.old }
+    ensures settled { OnOk result (HasSettled (manner_in F.says job.now.settings) (compiled_query
+        job.now.query.now) (K.contents sink.old) (K.contents sink.new) stream.old stream.new) }
+    ensures prompt { OnOk result ((S.told_ready source.new ≡ true) ⊎ (stream.new.come ≡ 0)) }
+    ensures near { OnOk result (stream.new.come < window) }
+    ensures bytes { S.remaining source.new ≡ S.remaining source.old }
+    ensures reads { S.reads source.new ≡ S.reads source.old }
+    ensures begun { S.begun source.new ≡ S.begun source.old }
+    ensures source_working { S.failed source.new ≡ S.failed source.old }
+    ensures left { stream.new.left ≡ stream.old.left }
+    ensures working { OnOk result (K.failed sink.new ≡ false) }
+    ensures flushed { OnOk result (K.flushed sink.new ≡ true) }
+    ensures passed_on { IsPassedOn (K.flushed sink.new) (K.failed sink.new) }
+    ensures fault { IfErr result (AnswerEnded (manner_in F.says job.now.settings) (compiled_query
+        job.now.query.now) stream.old.buffer.lines (K.failed sink.new) (K.contents sink.old)
+        (K.contents sink.new)) }
+{
+    if source.is_ready() && !has_enough(&job.settings, stream) {
+        return Ok(());
+    }
+    answer_come::<R, K, G, F>(job, sink, stream)
+}
+
+/// Whether what has come is answered, although the next read does not wait: a batch of lines, or many bytes.
+fn has_enough(settings: &Settings, stream: &Stream) -> bool
+    ensures { result ≡ false → stream.now.come < window }
+{
+    let bytes = if settings.workers == 1 {
+        CACHE_BYTES
+    } else {
+        WINDOW_BYTES
+    };
+    stream.come >= bytes || stream.buffer.len() as u64 >= settings.batch
+}
+
+/// Answers all lines that have come.
+pub(crate) fn answer_come<R: Threads + Sync, K: Sink, G: Gate + Sync, F: Form + Drop + Send>(
+    job: &Job<R, G>,
+    sink: &mut K,
+    stream: &mut Stream,
+) -> Result<(), RunFault>
+    requires working { K.failed sink.old ≡ false }
+    requires flushed { K.flushed sink.old ≡ true }
+    requires counted { IsCounted stream.old }
+    ensures answered { OnOk result (HasAnswered (manner_in F.says job.now.settings) (compiled_query
+        job.now.query.now) (K.contents sink.old) (K.contents sink.new) stream.old stream.new) }
+    ensures left { stream.new.left ≡ stream.old.left }
+    ensures working { OnOk result (K.failed sink.new ≡ false) }
+    ensures flushed { OnOk result (K.flushed sink.new ≡ true) }
+    ensures passed_on { IsPassedOn (K.flushed sink.new) (K.failed sink.new) }
+    ensures fault { IfErr result (AnswerEnded (manner_in F.says job.now.settings) (compiled_query
+        job.now.query.now) stream.old.buffer.lines (K.failed sink.new) (K.contents sink.old)
+        (K.contents sink.new)) }
+{
+    let count = stream.buffer.len();
+    let faulty = answer_waiting::<R, K, G, F>(job, sink, &stream.buffer)?;
+    stream.answered.lines += count as u64;
+    stream.answered.faulty += faulty;
+    stream.buffer.take_away(count);
+    stream.come = 0;
+    Ok(())
+}
+
+/// Answers the lines of a buffer. Gives how many faulty ones were passed.
+fn answer_waiting<R: Threads + Sync, K: Sink, G: Gate + Sync, F: Form + Drop + Send>(
+    job: &Job<R, G>,
+    sink: &mut K,
+    buffer: &LineBuffer,
+) -> Result<u64, RunFault>
+    requires working { K.failed sink.old ≡ false }
+    requires flushed { K.flushed sink.old ≡ true }
+    requires few { length buffer.now.lines ≤ max_lines + 1 }
+    ensures handed { OnOk result (Handed (manner_in F.says job.now.settings) (compiled_query
+        job.now.query.now) buffer.now.lines None (K.contents sink.old) (K.contents sink.new)) }
+    ensures passed { IfOk result (λ n. n ≡ passed_in job.now.settings buffer.now.lines) }
+    ensures few_faulty { IfOk result (λ n. n ≤ length buffer.now.lines) }
+    ensures working { OnOk result (K.failed sink.new ≡ false) }
+    ensures flushed { OnOk result (K.flushed sink.new ≡ true) }
+    ensures passed_on { IsPassedOn (K.flushed sink.new) (K.failed sink.new) }
+    ensures fault { IfErr result (AnswerEnded (manner_in F.says job.now.settings) (compiled_query
+        job.now.query.now) buffer.now.lines (K.failed sink.new) (K.contents sink.old)
+        (K.contents sink.new)) }
+{
+    // A list of no lines would take memory at each read of a slow source.
+    if buffer.len() == 0 {
+        return Ok(0);
+    }
+    let lines = buffer.lines(job.crew.alloc)?;
+    answer_lines::<R, K, G, F>(job, &lines, sink)
+}
+
+/// Answers the last line too, and what is left.
+pub(crate) fn answer_rest<R: Threads + Sync, K: Sink, G: Gate + Sync, F: Form + Drop + Send>(
+    job: &Job<R, G>,
+    sink: &mut K,
+    stream: &mut Stream,
+) -> Result<Totals, RunFault>
+    requires working { K.failed sink.old ≡ false }
+    requires flushed { K.flushed sink.old ≡ true }
+    requires few_lines { stream.old.buffer.progress.count ≤ max_lines }
+    requires few { stream.old.answered.lines + length stream.old.buffer.lines ≤ max_lines }
+    requires few_faulty { stream.old.answered.faulty ≤ stream.old.answered.lines }
+    ensures handed { OnOk result (Handed (manner_in F.says job.now.settings) (compiled_query
+        job.now.query.now) (stream.old.buffer.lines ++ finished_lines stream.old.buffer.progress) None
+        (K.contents sink.old) (K.contents sink.new)) }
+    ensures lines { IfOk result (λ totals. totals.lines ≡ (finished stream.old.buffer.progress).count) }
+    ensures documents { IfOk result (λ totals. totals.documents ≡ stream.old.answered.lines
+        + length (stream.old.buffer.lines ++ finished_lines stream.old.buffer.progress)) }
+    ensures passed { IfOk result (λ totals. totals.faulty ≡ stream.old.answered.faulty
+        + passed_in job.now.settings
+        (stream.old.buffer.lines ++ finished_lines stream.old.buffer.progress)) }
+    ensures few_lines { IfOk result (λ totals. totals.lines ≤ max_lines) }
+    ensures flushed { OnOk result (K.flushed sink.new ≡ true) }
+    ensures working { OnOk result (K.failed sink.new ≡ false) }
+    ensures passed_on { IsPassedOn (K.flushed sink.new) (K.failed sink.new) }
+    ensures fault { IfErr result (RestEnded (manner_in F.says job.now.settings) (compiled_query
+        job.now.query.now) (stream.old.buffer.lines ++ finished_lines stream.old.buffer.progress)
+        (finished stream.old.buffer.progress).count (K.failed sink.new) (K.contents sink.old)
+        (K.contents sink.new)) }
+{
+    let lines = take_last(&mut stream.buffer)?;
+    answer_come::<R, K, G, F>(job, sink, stream)?;
+    Ok(Totals {
+        lines,
+        documents: stream.answered.lines,
+        faulty: stream.answered.faulty,
+    })
+}
+
+/// Answers all lines that have come, where a read behind them has failed. Gives what is told then: the first
+/// of them that stops the answer, or the failure.
+pub(crate) fn answer_before_failure<
+    R: Threads + Sync,
+    K: Sink,
+    G: Gate + Sync,
+    F: Form + Drop + Send,
+>(job: &Job<R, G>, sink: &mut K, stream: &mut Stream) -> RunFault
+    requires working { K.failed sink.old ≡ false }
+    requires flushed { K.flushed sink.old ≡ true }
+    requires counted { IsCounted stream.old }
+    ensures passed_on { IsPassedOn (K.flushed sink.new) (K.failed sink.new) }
+    ensures fault { FailureEnded (manner_in F.says job.now.settings) (compiled_query job.now.query.now)
+        stream.old.buffer.lines (K.failed sink.new) (K.contents sink.old) (K.contents sink.new) result }
+{
+    match answer_come::<R, K, G, F>(job, sink, stream) {
+        Ok(()) => RunFault::Read,
+        Err(fault) => fault,
+    }
+}
