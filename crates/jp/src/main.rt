@@ -2,28 +2,51 @@
 //! and prints a line for each node that it selects.
 #![tactic(auto)]
 
-use jp_program::{program, refuse_words, tell};
-use jp_run::{FromReader, FromWriter, RunFault, Sink};
-use std::alloc::AllocGlobal;
-use std::env;
-use std::io::{self, ErrorKind, Input, Print};
-use std::process::ExitCode;
-use std::thread::Threads;
+mod standard_input;
 
+ghost use Rattle.std.specs.Prelude.{◌≡◌, ◌^◌, ◌≤◌, false};
+
+use jp_program::{program, refuse_words, tell};
+use jp_run::{FromReader, FromWriter, RunFault, Sink, Source};
+use standard_input::{PIECES, StandardInput, read_beside};
+use std::alloc::{AllocGlobal, Global};
+use std::io::{self, ErrorKind, Input};
+use std::process::ExitCode;
+use std::thread::{self, Threads};
+use std::{env, fs};
+
+/// Runs the program over the words of the command line, and standard input and output. Nothing is held back
+/// before standard output: a run writes the lines of a batch in long chunks.
+///
+/// A file never waits. Anything else is read by a thread beside, or where there is none to be had by this
+/// one, which then answers all that has come before each read.
 fn main(rt: HostRuntime) -> ExitCode {
     let mut notes = FromWriter::new(rt.stderr());
-    let status = match given_words(&rt) {
-        Ok(Some(given)) => run_words(&rt, &given, &mut notes),
-        Ok(None) => Ok(refuse_words(rt.alloc(), &mut notes)),
-        Err(fault) => Err(fault),
+    let mut sink = FromWriter::new(io::writer(&rt));
+    let given = match given_words(&rt) {
+        Ok(Some(given)) => given,
+        Ok(None) => return ExitCode::from(refuse_words(rt.alloc(), &mut notes)),
+        Err(fault) => return end_with(rt.alloc(), &mut notes, &fault),
     };
-    ExitCode::from(match status {
-        Ok(status) => status,
-        Err(fault) => {
-            tell(rt.alloc(), &mut notes, &fault);
-            fault.status()
-        }
-    })
+    if is_file(&rt) {
+        let mut source = FromReader::never_waits(rt.reader());
+        return run_words(&rt, &given, &mut source, &mut sink, &mut notes);
+    }
+    let (Ok((to, from)), Ok((wanted, asked))) = (
+        crossbeam_channel::bounded(rt.alloc(), PIECES),
+        crossbeam_channel::bounded(rt.alloc(), 1),
+    ) else {
+        return end_with(rt.alloc(), &mut notes, &RunFault::Memory);
+    };
+    let beside = thread::spawn(&rt, move || {
+        read_beside(&rt, rt.alloc(), &asked, rt.reader(), &to)
+    });
+    if beside.is_err() {
+        let mut source = FromReader::new(rt.reader());
+        return run_words(&rt, &given, &mut source, &mut sink, &mut notes);
+    }
+    let mut source = StandardInput::new(&rt, wanted, from);
+    run_words(&rt, &given, &mut source, &mut sink, &mut notes)
 }
 
 /// The words of the command line; none where one of them is no UTF-8.
@@ -35,15 +58,37 @@ fn given_words(rt: &HostRuntime) -> Result<Option<Vec<String>>, RunFault> {
     }
 }
 
-/// Runs the program over these words, and standard input and output. Nothing is held back before standard
-/// output: a run writes the lines of a batch in long chunks.
-fn run_words<R: Threads + Sync + AllocGlobal + Input + Print, N: Sink>(
+/// Whether standard input is a file. Where the system does not say it is none.
+fn is_file(rt: &HostRuntime) -> bool {
+    match fs::metadata(rt, "/dev/stdin") {
+        Ok(metadata) => metadata.is_file(),
+        Err(_) => false,
+    }
+}
+
+/// Runs the program over these words and ends, and gives what it ends with.
+fn run_words<R: Threads + AllocGlobal + Sync, S: Source<K>, K: Sink, N: Sink>(
     rt: &R,
     given: &[String],
+    source: &mut S,
+    sink: &mut K,
     notes: &mut N,
-) -> Result<u8, RunFault> {
-    let words: Vec<&str> = given.iter().map(|word| word.as_str()).collect(rt.alloc())?;
-    let mut source = FromReader::new(rt.reader());
-    let mut sink = FromWriter::new(io::writer(rt));
-    Ok(program(rt, &words, &mut source, &mut sink, notes))
+) -> ExitCode
+    requires working { (S.failed source.old ≡ false) × (K.failed sink.old ≡ false) }
+    requires few { (S.reads source.old ≤ 2 ^ 62) × (S.given source.old ≤ 2 ^ 62) }
+{
+    match given
+        .iter()
+        .map(|word| word.as_str())
+        .collect::<Vec<&str>>(rt.alloc())
+    {
+        Ok(words) => ExitCode::from(program(rt, &words, source, sink, notes)),
+        Err(_) => end_with(rt.alloc(), notes, &RunFault::Memory),
+    }
+}
+
+/// Tells a fault, and gives what it ends with.
+fn end_with<N: Sink>(alloc: Global, notes: &mut N, fault: &RunFault) -> ExitCode {
+    tell(alloc, notes, fault);
+    ExitCode::from(fault.status())
 }

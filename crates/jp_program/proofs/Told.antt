@@ -25,7 +25,7 @@ use Rattle.jp_run.specs.declared.fault.RunFault.{RunFault}
 use Rattle.jp_run.specs.declared.fault.RunFault.TheVariants.{Query, Document, Read, Write, Limit}
 use Rattle.jp_run.specs.declared.fault.RunFault.TheVariants.{Memory, Settings}
 use Rattle.jp_answer.specs.Whole.{whole_as, document_or_fault, is_faulty, faulty_lines}
-use Rattle.jp_program.specs.Outcome.{IsAnswered, IsPast, IsFront, IsCutShort, HasBatchesOut}
+use Rattle.jp_program.specs.Outcome.{IsAnswered, IsPast, IsFront, IsCutShort}
 use Rattle.jp_program.specs.Wanted.{Wanted}
 
 -- what was appended still is, where a flush keeps all
@@ -72,25 +72,6 @@ cut_kept w failed a b old new after h k = (
       is = h.3.2.is;
       stopped = h.3.2.stopped;
       appended = kept old new after h.3.2.whole.bytes h.3.2.appended k;
-    },
-  ),
-)
-
-pub batches_kept : (w : Wanted) (failed after_failed : Bool) (last : ℕ) (a b old new after : Option (List ℕ))
-    → HasBatchesOut w failed last a b old new → (failed ≡ true → after_failed ≡ true) → Keeps new after
-    → HasBatchesOut w after_failed last a b old after
-batches_kept w failed after_failed last a b old new after h still k = (
-  still h.0,
-  h.1,
-  h.2,
-  (
-    h.3.0,
-    h.3.1,
-    record {
-      between = h.3.2.between;
-      handed = h.3.2.handed;
-      more = h.3.2.more;
-      appended = kept h.3.2.between new after h.3.2.more h.3.2.appended k;
     },
   ),
 )

@@ -10,10 +10,12 @@ use Rattle.jp_answer.specs.Answer.{Answer}
 use Rattle.jp_answer.specs.Policy.{numbers_in}
 use Rattle.jp_answer.specs.Whole.{Whole, whole_as}
 use Rattle.jp_run.specs.Answered.{IsAnswerBy, numbers_of, manner_by}
-use Rattle.jp_run.specs.Batches.{documents_in, whole_batches, batches_before}
+use Rattle.jp_run.specs.Begun.{Begun, AllSince}
+use Rattle.jp_run.specs.Come.{documents_in}
 use Rattle.jp_run.specs.Forms.{form_of}
-use Rattle.jp_run.specs.Handed.{IsHandedBy, IsHandedFirstBy}
-use Rattle.jp_run.specs.Limits.{max_reads, max_lines}
+use Rattle.jp_run.specs.Handed.{IsHandedBy}
+use Rattle.jp_run.specs.Limits.{max_reads, max_lines, window}
+use Rattle.jp_run.specs.Prompt.{IsPrompt, IsNear}
 use Rattle.jp_run.specs.Written.{AppendsFront}
 use Rattle.jp_program.specs.Wanted.{Wanted}
 
@@ -48,23 +50,25 @@ IsFront w input old new = IfSome input (λ bytes. (a : Answer)
     → IsAnswerBy (manner_by w.output w.decimals w.keeps_going) w.query bytes a
     → AppendsFront old new a.bytes)
 
--- the source has failed, and what was written is the answer to the whole batches, of the wanted size, among
--- the documents whose line's end was read
+-- the source has failed, and what was written is the answer to all documents whose line's end was read
 abbrev pub IsCutShort : Wanted → Bool → Option (List ℕ) → Option (List ℕ) → Option (List ℕ) → Option (List ℕ)
     → Type 0
 IsCutShort w failed source_old source_new old new = (failed ≡ true) × (bytes : List ℕ)
     × Consumes source_old source_new bytes
-    × IsHandedBy (manner_by w.output w.decimals w.keeps_going) w.query
-    (whole_batches w.batch (documents_in bytes)) None old new
+    × IsHandedBy (manner_by w.output w.decimals w.keeps_going) w.query (documents_in bytes) None old new
 
--- the sink has failed, and the answer to the whole batches, of the wanted size, among the documents whose
--- line's end had come before the last read was written, all of it: no read comes before a whole batch is out
-abbrev pub HasBatchesOut : Wanted → Bool → ℕ → Option (List ℕ) → Option (List ℕ) → Option (List ℕ)
+-- each read that may wait has begun when the wanted answer to all lines whose end had come was written and
+-- passed on
+abbrev pub ArePrompt : Wanted → Option (List Begun) → Option (List Begun) → Option (List ℕ)
     → Option (List ℕ) → Type 0
-HasBatchesOut w failed last source_old source_new old new = (failed ≡ true) × (bytes : List ℕ)
-    × Consumes source_old source_new bytes
-    × IsHandedFirstBy (manner_by w.output w.decimals w.keeps_going) w.query
-    (batches_before w.batch bytes last) old new
+ArePrompt w before after input old = AllSince before after
+    (IsPrompt (manner_by w.output w.decimals w.keeps_going) w.query input old)
+
+-- each read has begun when the wanted answer to all but the last 4 MB that had come was written
+abbrev pub AreNear : Wanted → Option (List Begun) → Option (List Begun) → Option (List ℕ)
+    → Option (List ℕ) → Type 0
+AreNear w before after input old = AllSince before after
+    (IsNear window (manner_by w.output w.decimals w.keeps_going) w.query input old)
 
 -- the most calls of `read` were made
 abbrev pub AreAllReads : ℕ → ℕ → Type 0

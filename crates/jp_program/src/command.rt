@@ -2,23 +2,23 @@
 
 ghost use Rattle.std.specs.Prelude.{◌≡◌, ◌^◌, ◌<◌, ◌≤◌, ◌⊎◌, ℕ, List, true, false, Some, None, Err, IfOk};
 ghost use Rattle.std.specs.Prelude.{IsErrOf};
-ghost use Rattle.std.specs.Io.KnownBytes.{Appends, Consumes, IsAtEnd, Keeps};
+ghost use Rattle.std.specs.Io.KnownBytes.{Appends, IsAtEnd, Keeps};
 ghost use Rattle.clap.specs.Walk.{texts};
 ghost use Rattle.jp_doc.specs.declared.fault.DocFault.{DocFault as Fault};
 ghost use Rattle.jp_tree.specs.declared.fault.QueryFault.{QueryFault as Refusal};
 ghost use Rattle.jp_check.specs.Verdict.{IsVerdictIn};
 ghost use Rattle.jp_run.specs.Answered.{numbers_of};
 ghost use Rattle.jp_run.specs.Status.{status_of};
-ghost use Rattle.jp_run.specs.Batches.{WasNotWhole};
 ghost use Rattle.jp_run.specs.Written.{IsPassedOn};
 ghost use Rattle.jp_program.specs.CommandLine.{AsksToShow};
 ghost use Rattle.jp_program.specs.Outcome.{IsStatus, IsTaken, IsAnswered, IsPast, IsFront, IsCutShort};
-ghost use Rattle.jp_program.specs.Outcome.{HasBatchesOut, AreAllReads, AreTooManyLines};
+ghost use Rattle.jp_program.specs.Outcome.{AreAllReads, AreTooManyLines, ArePrompt, AreNear};
 ghost use Rattle.jp_program.specs.Told.{IsTold};
 ghost use Rattle.jp_program.specs.Wanted.{Wanted as Wish, Wants, WantsCheck, WantsRun, IsWrong};
 
 use crate::advice::tell_of_words;
 use crate::command_line::{Asked, Wanted, read_words};
+use crate::pattern_notes::tell_patterns;
 use crate::witness::Witness;
 use jp_run::{RunFault, Sink, Source, Totals, check_query, run, write_all};
 use std::alloc::{AllocError, AllocGlobal, Global};
@@ -35,13 +35,14 @@ const NOTHING_SEEN: Totals = Totals {
 ///
 /// Neither end has failed before, and the counts of the source are at most 2^62. A fault is told on `notes`,
 /// in one line, and in further ones that help: of a query where it went wrong, of a line what to do, and
-/// where it went wrong if the words ask for that. A failure to write them, or the help, is passed over.
+/// where it went wrong if the words ask for that. Before anything is read they are told of literal patterns
+/// that may not match what was meant. A failure to write them, or the help, is passed over.
 ///
 /// The status is 0 where the run finished, or the help, the version or a check was asked for; 2 where the
 /// query is refused; 3 where a line is faulty, also where the answer has gone on past it; 4 where
 /// reading or writing failed, or a limit was passed; 5 where a growth of memory was refused; 64 where the
 /// command line is refused.
-pub fn program<R: Threads + AllocGlobal + Sync, S: Source, K: Sink, N: Sink>(
+pub fn program<R: Threads + AllocGlobal + Sync, S: Source<K>, K: Sink, N: Sink>(
     rt: &R,
     words: &[&str],
     source: &mut S,
@@ -71,28 +72,23 @@ pub fn program<R: Threads + AllocGlobal + Sync, S: Source, K: Sink, N: Sink>(
     ensures told { (f : Refusal) (w : Wish) → result ≡ 2 → Wants (texts words.now) w
         → IsVerdictIn (numbers_of w.decimals) w.query (Err f)
         → IsTold w.query f (N.failed notes.new) (N.contents notes.old) (N.contents notes.new) }
-    // 3: the answer before the first faulty line was written, and no read followed the one
-    // that completed its batch; or to keep going was asked for, and the answer that does was written and
-    // passed on, it has passed faulty lines, and neither end has failed.
+    // 3: the answer before the first faulty line was written; or to keep going was asked for, and the answer
+    // that does was written and passed on, it has passed faulty lines, and neither end has failed.
     ensures document { result ≡ 3 → ((line : ℕ) × (fault : Fault) × (w : Wish)
         × WantsRun (texts words.now) w × (w.keeps_going ≡ false)
         × IsAnswered w (Some (line, fault)) (S.remaining source.old) (K.contents sink.old)
-        (K.contents sink.new)
-        × (bytes : List ℕ) × Consumes (S.remaining source.old) (S.remaining source.new) bytes
-        × WasNotWhole w.batch line bytes (S.last source.new))
+        (K.contents sink.new))
         ⊎ ((w : Wish) × WantsRun (texts words.now) w × (w.keeps_going ≡ true)
         × IsPast w (S.remaining source.old) (K.contents sink.old) (K.contents sink.new)
         × IsAtEnd (S.remaining source.new) × (K.flushed sink.new ≡ true)
         × (S.failed source.new ≡ false) × (K.failed sink.new ≡ false)) }
-    // 4: a front of the wanted answer was written, and the source has failed, or the sink has, where each
-    // batch was written before the read behind it, or a limit was passed.
+    // 4: a front of the wanted answer was written, and the source has failed, or the sink has, or a limit was
+    // passed.
     ensures failed { result ≡ 4 → (w : Wish) × WantsRun (texts words.now) w
         × IsFront w (S.remaining source.old) (K.contents sink.old) (K.contents sink.new)
         × (IsCutShort w (S.failed source.new) (S.remaining source.old) (S.remaining source.new)
         (K.contents sink.old) (K.contents sink.new)
-        ⊎ HasBatchesOut w (K.failed sink.new) (S.last source.new) (S.remaining source.old)
-        (S.remaining source.new) (K.contents sink.old) (K.contents sink.new)
-        ⊎ AreAllReads (S.reads source.old) (S.reads source.new)
+        ⊎ (K.failed sink.new ≡ true) ⊎ AreAllReads (S.reads source.old) (S.reads source.new)
         ⊎ AreTooManyLines (S.remaining source.old) (S.remaining source.new)) }
     // 5: nothing was read or written, or a front of the wanted answer was written.
     ensures memory { result ≡ 5
@@ -114,9 +110,16 @@ pub fn program<R: Threads + AllocGlobal + Sync, S: Source, K: Sink, N: Sink>(
     // After a fault the sink holds nothing back: it was flushed, or one of its calls has failed.
     ensures passed_on { (result ≡ 3) ⊎ (result ≡ 4) ⊎ (result ≡ 5)
         → IsPassedOn (K.flushed sink.new) (K.failed sink.new) }
+    // Each read that may wait began when the answer to all lines whose end had come was written and passed
+    // on, however the command ends.
+    ensures prompt { (w : Wish) → WantsRun (texts words.now) w → ArePrompt w (S.begun source.old)
+        (S.begun source.new) (S.remaining source.old) (K.contents sink.old) }
+    // Each read, whether it may wait or not: what was not answered lies in the last 4 MB.
+    ensures window { (w : Wish) → WantsRun (texts words.now) w → AreNear w (S.begun source.old)
+        (S.begun source.new) (S.remaining source.old) (K.contents sink.old) }
 {
     let mut witness = Witness::new(rt.alloc());
-    match done(rt, words, source, sink, &mut witness) {
+    match done(rt, words, source, sink, notes, &mut witness) {
         Ok(totals) => {
             if totals.faulty > 0 {
                 tell_faulty(rt.alloc(), notes, totals.faulty);
@@ -135,11 +138,12 @@ pub fn program<R: Threads + AllocGlobal + Sync, S: Source, K: Sink, N: Sink>(
 
 /// Does what the words ask for. Gives what a run has seen: nothing where none was asked for. The witness
 /// keeps the first faulty lines, where the words ask to explain them.
-fn done<R: Threads + AllocGlobal + Sync, S: Source, K: Sink>(
+fn done<R: Threads + AllocGlobal + Sync, S: Source<K>, K: Sink, N: Sink>(
     rt: &R,
     words: &[&str],
     source: &mut S,
     sink: &mut K,
+    notes: &mut N,
     witness: &mut Witness,
 ) -> Result<Totals, RunFault>
     requires working { (S.failed source.old ≡ false) × (K.failed sink.old ≡ false) }
@@ -172,17 +176,14 @@ fn done<R: Threads + AllocGlobal + Sync, S: Source, K: Sink>(
     ensures document { (line : ℕ) (fault : Fault) → IsErrOf result (RunFault.Document line fault)
         → (w : Wish) × WantsRun (texts words.now) w × (w.keeps_going ≡ false)
         × IsAnswered w (Some (line, fault)) (S.remaining source.old) (K.contents sink.old)
-        (K.contents sink.new)
-        × (bytes : List ℕ) × Consumes (S.remaining source.old) (S.remaining source.new) bytes
-        × WasNotWhole w.batch line bytes (S.last source.new) }
+        (K.contents sink.new) }
     ensures read { IsErrOf result RunFault.Read → (w : Wish) × WantsRun (texts words.now) w
         × IsFront w (S.remaining source.old) (K.contents sink.old) (K.contents sink.new)
         × IsCutShort w (S.failed source.new) (S.remaining source.old) (S.remaining source.new)
         (K.contents sink.old) (K.contents sink.new) }
     ensures write { IsErrOf result RunFault.Write → (w : Wish) × WantsRun (texts words.now) w
         × IsFront w (S.remaining source.old) (K.contents sink.old) (K.contents sink.new)
-        × HasBatchesOut w (K.failed sink.new) (S.last source.new) (S.remaining source.old)
-        (S.remaining source.new) (K.contents sink.old) (K.contents sink.new) }
+        × (K.failed sink.new ≡ true) }
     ensures limit { IsErrOf result RunFault.Limit → (w : Wish) × WantsRun (texts words.now) w
         × IsFront w (S.remaining source.old) (K.contents sink.old) (K.contents sink.new)
         × (AreAllReads (S.reads source.old) (S.reads source.new)
@@ -190,6 +191,12 @@ fn done<R: Threads + AllocGlobal + Sync, S: Source, K: Sink>(
     ensures memory { IsErrOf result RunFault.Memory → ((source.new ≡ source.old) × (sink.new ≡ sink.old))
         ⊎ ((w : Wish) × WantsRun (texts words.now) w
         × IsFront w (S.remaining source.old) (K.contents sink.old) (K.contents sink.new)) }
+    ensures prompt { (w : Wish) → WantsRun (texts words.now) w → ArePrompt w (S.begun source.old)
+        (S.begun source.new) (S.remaining source.old) (K.contents sink.old) }
+    ensures window { (w : Wish) → WantsRun (texts words.now) w → AreNear w (S.begun source.old)
+        (S.begun source.new) (S.remaining source.old) (K.contents sink.old) }
+    ensures unnoted { (f : Refusal) (w : Wish) → Wants (texts words.now) w
+        → IsVerdictIn (numbers_of w.decimals) w.query (Err f) → notes.new ≡ notes.old }
 {
     match read_words(rt.alloc(), words)? {
         Asked::Show(text) => {
@@ -198,6 +205,7 @@ fn done<R: Threads + AllocGlobal + Sync, S: Source, K: Sink>(
         }
         Asked::Query(wanted) if wanted.check => {
             check_query(rt.alloc(), wanted.query, wanted.settings.numbers())?;
+            tell_patterns(rt.alloc(), notes, wanted.query, wanted.settings.numbers());
             Ok(NOTHING_SEEN)
         }
         Asked::Query(wanted) => {
@@ -210,6 +218,7 @@ fn done<R: Threads + AllocGlobal + Sync, S: Source, K: Sink>(
             witness.is_asked = explain;
             witness.keeps_going = settings.keeps_going;
             witness.has_decimals = settings.decimals;
+            tell_patterns(rt.alloc(), notes, query, settings.numbers());
             run(rt, rt.alloc(), source, sink, query, &settings, &*witness)
         }
     }

@@ -7,6 +7,7 @@ mod command_line;
 mod examples;
 mod laws;
 mod output;
+mod pattern_notes;
 mod version;
 mod witness;
 

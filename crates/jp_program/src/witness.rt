@@ -5,16 +5,10 @@ ghost use Rattle.jp_run.specs.Status.{status_of};
 
 use crate::command::note_text;
 use jp_doc::DocFault;
-use jp_explain::{LineExplanation, LineReason, explain_line, write_line_mark};
+use jp_explain::{LineExplanation, explain_line, line_help, write_line_mark};
 use jp_run::{Gate, RunFault, Sink};
 use once_cell::race::OnceBox;
 use std::alloc::{AllocError, Global};
-
-/// What helps where a number is not whole.
-const DECIMALS: &str = "jp: --decimals reads such a number\n";
-
-/// What helps where the line ends within its document.
-const ONE_LINE: &str = "jp: one document on several lines? tr '\\n' ' ' < FILE | jp ..\n";
 
 /// A gate that keeps a text of each of the first ten faulty lines, where they are to be explained, and else
 /// sees the one at which the run ends.
@@ -25,16 +19,22 @@ pub(crate) struct Witness {
     pub(crate) keeps_going: bool,
     /// Whether lines are read with decimals.
     pub(crate) has_decimals: bool,
-    /// Whether the first faulty line ends within its document, once one was seen.
-    ends_within: OnceBox<bool>,
+    /// The line of what helps with the first faulty line, if that is known, once one was seen.
+    help: OnceBox<Option<String>>,
     texts: [OnceBox<String>; 10],
 }
 
-/// Whether the line ends where a document goes on.
-fn ends_within(explanation: &Option<LineExplanation>) -> bool {
-    match explanation {
-        Some(explanation) => matches!(explanation.reason, LineReason::Ended(_)),
-        None => false,
+/// The line of what helps with a faulty line, if that is known.
+fn help_of(
+    alloc: Global,
+    explanation: &Option<LineExplanation>,
+) -> Result<Option<String>, AllocError> {
+    let Some(explanation) = explanation else {
+        return Ok(None);
+    };
+    match line_help(&explanation.reason) {
+        Some(help) => Ok(Some(format!(in alloc; "jp: {help}\n")?)),
+        None => Ok(None),
     }
 }
 
@@ -45,7 +45,7 @@ impl Witness {
             is_asked: false,
             keeps_going: false,
             has_decimals: false,
-            ends_within: OnceBox::new(alloc),
+            help: OnceBox::new(alloc),
             texts: [
                 OnceBox::new(alloc),
                 OnceBox::new(alloc),
@@ -76,8 +76,8 @@ impl Witness {
     ) -> Result<(), AllocError> {
         let explanation = explain_line(alloc, line, fault, self.has_decimals)?;
         let _ = self
-            .ends_within
-            .set(Box::new(alloc, ends_within(&explanation))?);
+            .help
+            .set(Box::new(alloc, help_of(alloc, &explanation)?)?);
         if !self.is_asked {
             return Ok(());
         }
@@ -91,26 +91,20 @@ impl Witness {
         Ok(())
     }
 
-    /// What helps with the line at which the run has ended, by its fault.
-    fn help(&self, fault: &DocFault) -> Option<&'static str> {
-        match (fault, self.ends_within.get()) {
-            (DocFault::NotWhole, _) => Some(DECIMALS),
-            (DocFault::Unreadable, Some(true)) => Some(ONE_LINE),
-            _ => None,
-        }
-    }
-
     /// Writes what helps, and the texts, behind the fault of a line. Behind another fault no line is told,
     /// and so no place.
     pub(crate) fn tell_behind<N: Sink>(&self, notes: &mut N, fault: &RunFault)
         ensures untouched { N.failed notes.old ≡ true → notes.new ≡ notes.old }
         ensures other { status_of fault.now ≡ 2 → notes.new ≡ notes.old }
     {
-        if let RunFault::Document { fault, .. } = fault {
-            if let Some(line) = self.help(fault) {
-                note_text(notes, line);
-            }
+        let RunFault::Document { .. } = fault else {
+            return;
+        };
+        if self.texts[0].get().is_some() {
+            // They say what helps too.
             self.tell(notes);
+        } else if let Some(Some(help)) = self.help.get() {
+            note_text(notes, help.as_str());
         }
     }
 
@@ -136,7 +130,7 @@ impl Gate for Witness {
         if self.is_asked {
             self.place().is_some()
         } else {
-            !self.keeps_going && self.ends_within.get().is_none()
+            !self.keeps_going && self.help.get().is_none()
         }
     }
 

@@ -10,7 +10,8 @@ use std::thread::Threads;
 const INPUT: &[u8] = b"{\"a\":1}\n{\"a\":[2,0.5]}\n\n{\"a\":";
 
 /// What is told of the second line.
-const NOT_WHOLE: &[u8] = b"line 2, $['a'][1]: 0.5 is not whole\n{\"a\":[2,0.5]}\n        ^\n";
+const NOT_WHOLE: &[u8] = b"line 2, $['a'][1]: 0.5 is not whole\n{\"a\":[2,0.5]}\n        ^\n\
+    --decimals reads such a number\n";
 
 /// Whether the program leaves status 3, this output, and these notes, the two parts one behind the other.
 fn tells<R: Threads + AllocGlobal + Sync>(
@@ -30,14 +31,16 @@ fn tells<R: Threads + AllocGlobal + Sync>(
 fn the_first_faulty_line_is_explained(rt: HostRuntime) {
     for workers in &["1", "3"] {
         let words = ["jp", "--workers", *workers, "--piece=1", "--explain", "$.a"];
-        let front = b"jp: line 2: not whole\njp: --decimals reads such a number\n";
+        let front = b"jp: line 2: not whole\n";
         assert!(rt; tells(&rt, &words, b"1\t$['a']\t1\n", front, NOT_WHOLE));
     }
 }
 
 /// What is told of it and of the last line.
 const BOTH: &[u8] = b"line 2, $['a'][1]: 0.5 is not whole\n{\"a\":[2,0.5]}\n        ^\n\
-    line 4, byte 5: the line ends: expected a value\n{\"a\":\n     ^\n";
+    --decimals reads such a number\n\
+    line 4, byte 5: the line ends: expected a value\n{\"a\":\n     ^\n\
+    one document on several lines? tr '\\n' ' ' < FILE | jp ..\n";
 
 #[test]
 fn faulty_lines_that_are_passed_are_explained(rt: HostRuntime) {

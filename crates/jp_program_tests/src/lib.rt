@@ -14,6 +14,8 @@ mod finished;
 #[cfg(test)]
 mod forms;
 #[cfg(test)]
+mod noted;
+#[cfg(test)]
 mod refusals;
 #[cfg(test)]
 mod refused;

@@ -93,9 +93,6 @@ fn an_explained_query(rt: HostRuntime) {
     assert!(rt; matches!(turns, (Some(true), Some(true) | None) | (None, Some(true))));
 }
 
-/// How the text of a line's place begins.
-const PLACE: &[u8] = b"line 1, byte 1: the line ends";
-
 /// A faulty line that is told, and explained where there is memory for that too.
 fn explained_line<R: Threads + AllocGlobal + Sync>(rt: &R) -> Option<bool> {
     let input: &[u8] = b"{\n";
@@ -107,17 +104,12 @@ fn explained_line<R: Threads + AllocGlobal + Sync>(rt: &R) -> Option<bool> {
     match program(rt, &words, &mut source, &mut sink, &mut told) {
         3 if notes.starts_with(b"jp: line 1: unreadable\n\0") => None,
         // The line of the fault itself wanted memory.
-        3 if notes.starts_with(b"jp: memory\njp: one document on several lines? ") => None,
-        3 if notes.starts_with(b"jp: line 1: unreadable\njp: one document on several lines? ") => {
-            // The text of the place wanted memory, or stands behind that line.
-            let is_whole = notes
-                .split(|byte| *byte == b'\n')
-                .any(|line| line.starts_with(PLACE));
-            if is_whole {
-                Some(output == [0u8; ROOM])
-            } else {
-                None
-            }
+        3 if notes.starts_with(b"jp: memory\n") => None,
+        // The text of the place wanted memory.
+        3 if notes.starts_with(b"jp: line 1: unreadable\njp: one document on several lines? ") =>
+            None,
+        3 if notes.starts_with(b"jp: line 1: unreadable\nline 1, byte 1: the line ends") => {
+            Some(output == [0u8; ROOM])
         }
         5 if notes.starts_with(b"jp: memory\n") => None,
         _ => Some(false),

@@ -1,7 +1,13 @@
-use Rattle.std.proofs.Common.{◌≡◌, true, Some, inl, inr, refl, subst}
+use Rattle.std.proofs.Common.{◌≡◌, true, Some, Err, inl, inr, refl, subst, sym}
+use Rattle.std.specs.Str.{chars}
+use Rattle.jp_number.specs.declared.numbers.Numbers.{Numbers}
+use Rattle.jp_check.specs.Verdict.{IsVerdictIn}
+use Rattle.jp_run.proofs.Readings.{none_yet}
 use Rattle.jp_run.proofs.Runs.{not_both, refused_so}
 use Rattle.jp_program.specs.inner.Asked.{wanted_of, IsAsked}
-use Rattle.jp_program.proofs.OneWish.{not_shown, not_asked, not_checked, verdict_so}
+use Rattle.jp_program.specs.Outcome.{ArePrompt, AreNear}
+use Rattle.jp_program.specs.Wanted.{Wanted}
+use Rattle.jp_program.proofs.OneWish.{not_shown, not_asked, not_checked, asked_is, verdict_so}
 use Rattle.jp_run.specs.declared.fault.RunFault.TheVariants.{Limit, Write}
 use Rattle.jp_program.proofs.Ran.{wants_of, finished_ok, past_ok, taken_by, after_fault}
 use Rattle.jp_program.proofs.Told.{told_stop, stops}
@@ -29,26 +35,21 @@ pub returns-in-Query-2-clause-document : goal.returns-in-Query-2-clause-document
 returns-in-Query-2-clause-document g c = λ line fault e.
     let wants = wants_of _ _ _ c.in-Query.is c.in_ok-text.ensures.asked c.if-wanted.false in
     let wanted = wanted_of c.in-Query.wanted in
-    let off : wanted.keeps_going ≡ true → ⊥ = λ on. c.run.ensures.goes_on on line fault e in
-    let read = c.run.ensures.no_later_read line fault e in (
+    let off : wanted.keeps_going ≡ true → ⊥ = λ on. c.run.ensures.goes_on on line fault e in (
       wanted,
       wants,
       stops wanted.keeps_going off,
       told_stop wanted wanted.keeps_going (Some (line, fault)) _ _ _
           (c.run.ensures.document line fault e) off,
-      read.0,
-      read.1,
-      read.2,
     )
 
 pub returns-in-Query-2-clause-write : goal.returns-in-Query-2-clause-write
-returns-in-Query-2-clause-write g c = λ e.
-    let out = c.run.ensures.no_read_between e in (
-      wanted_of c.in-Query.wanted,
-      wants_of _ _ _ c.in-Query.is c.in_ok-text.ensures.asked c.if-wanted.false,
-      after_fault c.run.result Write _ e c.run.ensures.front,
-      (c.run.ensures.write e, out.0, out.1, out.2),
-    )
+returns-in-Query-2-clause-write g c = λ e. (
+  wanted_of c.in-Query.wanted,
+  wants_of _ _ _ c.in-Query.is c.in_ok-text.ensures.asked c.if-wanted.false,
+  after_fault c.run.result Write _ e c.run.ensures.front,
+  c.run.ensures.write e,
+)
 
 pub returns-in-Query-2-clause-limit : goal.returns-in-Query-2-clause-limit
 returns-in-Query-2-clause-limit g c = λ e. (
@@ -107,3 +108,54 @@ returns-in-Query-2-clause-refused g c = λ f w wants v. c.run.ensures.refused f
 pub returns-in-Query-2-clause-check : goal.returns-in-Query-2-clause-check
 returns-in-Query-2-clause-check g c = λ w wants.
     not_checked _ _ _ w c.in-Query.is c.in_ok-text.ensures.asked wants c.if-wanted.false
+
+pub returns-in-Query-2-clause-prompt : goal.returns-in-Query-2-clause-prompt
+returns-in-Query-2-clause-prompt g c = λ w wants.
+    subst (λ (x : Wanted). ArePrompt x (g.S.Supply.begun c.args.source.now)
+    (g.S.Supply.begun c.run.new.source) (g.S.Supply.remaining c.args.source.now)
+    (g.K.Sink.contents c.args.sink.now))
+    (sym (asked_is _ _ _ w c.in-Query.is c.in_ok-text.ensures.asked wants.0)) c.run.ensures.prompt
+
+pub returns-in-Query-2-clause-window : goal.returns-in-Query-2-clause-window
+returns-in-Query-2-clause-window g c = λ w wants.
+    subst (λ (x : Wanted). AreNear x (g.S.Supply.begun c.args.source.now)
+    (g.S.Supply.begun c.run.new.source) (g.S.Supply.remaining c.args.source.now)
+    (g.K.Sink.contents c.args.sink.now))
+    (sym (asked_is _ _ _ w c.in-Query.is c.in_ok-text.ensures.asked wants.0)) c.run.ensures.window
+
+pub returns-in_err-text-clause-prompt : goal.returns-in_err-text-clause-prompt
+returns-in_err-text-clause-prompt g c = λ w wants. none_yet _ _ _ refl
+
+pub returns-in_err-text-clause-window : goal.returns-in_err-text-clause-window
+returns-in_err-text-clause-window g c = λ w wants. none_yet _ _ _ refl
+
+pub returns-in-Show-clause-prompt : goal.returns-in-Show-clause-prompt
+returns-in-Show-clause-prompt g c = λ w wants. none_yet _ _ _ refl
+
+pub returns-in-Show-clause-window : goal.returns-in-Show-clause-window
+returns-in-Show-clause-window g c = λ w wants. none_yet _ _ _ refl
+
+pub returns-in_err-check_query-in-Query-clause-prompt : goal.returns-in_err-check_query-in-Query-clause-prompt
+returns-in_err-check_query-in-Query-clause-prompt g c = λ w wants. none_yet _ _ _ refl
+
+pub returns-in_err-check_query-in-Query-clause-window : goal.returns-in_err-check_query-in-Query-clause-window
+returns-in_err-check_query-in-Query-clause-window g c = λ w wants. none_yet _ _ _ refl
+
+pub returns-in_ok-check_query-in-Query-clause-prompt : goal.returns-in_ok-check_query-in-Query-clause-prompt
+returns-in_ok-check_query-in-Query-clause-prompt g c = λ w wants. none_yet _ _ _ refl
+
+pub returns-in_ok-check_query-in-Query-clause-window : goal.returns-in_ok-check_query-in-Query-clause-window
+returns-in_ok-check_query-in-Query-clause-window g c = λ w wants. none_yet _ _ _ refl
+
+pub returns-in_ok-check_query-in-Query-clause-unnoted :
+    goal.returns-in_ok-check_query-in-Query-clause-unnoted
+returns-in_ok-check_query-in-Query-clause-unnoted g c = λ f w wants v.
+    let taken = c.in_ok-check_query-in-Query.ensures.ok in
+    not_both _ _ _ taken.0 f c.numbers.ensures taken.1
+    (verdict_so _ _ _ w f c.in-Query.is c.in_ok-text.ensures.asked wants v)
+
+pub returns-in-Query-2-clause-unnoted : goal.returns-in-Query-2-clause-unnoted
+returns-in-Query-2-clause-unnoted g c = λ f w wants v. c.tell_patterns-in-Query-2.ensures.refused f
+    (subst (λ (k : Numbers). IsVerdictIn k (chars c.in-Query.wanted.query.now) (Err f))
+    (sym c.numbers-in-Query-2.ensures)
+    (verdict_so _ _ _ w f c.in-Query.is c.in_ok-text.ensures.asked wants v))

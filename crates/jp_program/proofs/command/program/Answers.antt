@@ -1,8 +1,9 @@
-use Rattle.std.proofs.Common.{◌∙◌, Err, Some, inl, inr, ap, sym}
+use Rattle.std.proofs.Common.{◌∙◌, ℕ, List, Option, Err, Some, inl, inr, ap, subst, sym}
 use Rattle.jp_run.specs.Status.{status_of}
+use Rattle.jp_program.specs.Told.{IsTold}
 use Rattle.jp_program.proofs.Noted.{refused_as, told_still}
 use Rattle.jp_program.proofs.Told.{query_of, document_of, end_of, memory_of, of_two, of_three}
-use Rattle.jp_program.proofs.Told.{answered_kept, front_kept, cut_kept, batches_kept, kept_from}
+use Rattle.jp_program.proofs.Told.{answered_kept, front_kept, cut_kept, kept_from}
 use Rattle.jp_program.proofs.Told.{status_so}
 use Rattle.jp_program.proofs.command.program.Goals as goal
 
@@ -20,7 +21,10 @@ returns-clause-told g c = λ f w two wants v.
     (λ m. c.status-in-Err.ensures ∙ ap status_of m) same.0 in
     told_still g.N.Sink.failed g.N.Sink.contents w.query f c.args.notes.now c.tell_of_words.new.notes
     c.tell_behind.new.notes (c.tell_behind.ensures.other (sym c.status-in-Err.ensures ∙ two))
-    (c.tell_of_words.ensures.refused f w is wants v)
+    (subst (λ (o : Option (List ℕ)). IsTold w.query f (g.N.Sink.failed c.tell_of_words.new.notes) o
+    (g.N.Sink.contents c.tell_of_words.new.notes))
+    (ap g.N.Sink.contents (c.in-Err.ensures.unnoted f w wants v))
+    (c.tell_of_words.ensures.refused f w is wants v))
 
 pub returns-clause-document : goal.returns-clause-document
 returns-clause-document g c = λ e.
@@ -32,9 +36,6 @@ returns-clause-document g c = λ e.
       d.1,
       d.2,
       answered_kept d.0 (Some (f.0, f.1)) _ _ _ _ d.3 c.pass_on_after.ensures.kept,
-      d.4,
-      d.5,
-      d.6,
     )
 
 pub returns-clause-failed : goal.returns-clause-failed
@@ -43,8 +44,7 @@ returns-clause-failed g c = λ e.
     (λ f. let d = c.in-Err.ensures.read (ap Err f) in
     (d.0, d.1, front_kept d.0 _ _ _ _ d.2 kept, inl (cut_kept d.0 _ _ _ _ _ _ d.3 kept)))
     (λ f. let d = c.in-Err.ensures.write (ap Err f) in
-    let out = batches_kept d.0 _ _ _ _ _ _ _ _ d.3 c.pass_on_after.ensures.failed kept in
-    (d.0, d.1, front_kept d.0 _ _ _ _ d.2 kept, inr (inl out)))
+    (d.0, d.1, front_kept d.0 _ _ _ _ d.2 kept, inr (inl (c.pass_on_after.ensures.failed d.3))))
     (λ f. let d = c.in-Err.ensures.limit (ap Err f) in
     (d.0, d.1, front_kept d.0 _ _ _ _ d.2 kept, inr (inr d.3)))
     (end_of c.in-Err.fault (sym c.status-in-Err.ensures ∙ e))
