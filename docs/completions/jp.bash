@@ -1,8 +1,15 @@
 # Completion of jp in bash: its options, and else file names. A query is written by hand.
 _jp() {
-    local word=${COMP_WORDS[COMP_CWORD]}
-    case ${COMP_WORDS[COMP_CWORD - 1]} in
+    local word=${COMP_WORDS[COMP_CWORD]} before=${COMP_WORDS[COMP_CWORD - 1]}
+    # In --output=te the = is a word of its own.
+    if [[ $word == = ]]; then
+        word=
+    elif [[ $before == = ]]; then
+        before=${COMP_WORDS[COMP_CWORD - 2]}
+    fi
+    case $before in
         -o | --output)
+            compopt +o default
             mapfile -t COMPREPLY < <(compgen -W 'nodes values texts lines' -- "$word")
             return
             ;;
