@@ -1,6 +1,6 @@
 //! Standard input, read by a thread beside, so that it can be said whether a read would wait.
 
-ghost use Rattle.std.specs.Prelude.{◌≡◌, ◌≤◌, length, None};
+ghost use Rattle.std.specs.Prelude.{◌≡◌, ◌≤◌, false, length, None};
 
 use crossbeam_channel::{Receiver, Sender};
 use jp_run::{Broken, Sink, Source, Supply};
@@ -64,11 +64,9 @@ pub struct StandardInput<'r, W> {
     from: Receiver<Piece, Global>,
     /// Whether the thread was told that the bytes are wanted.
     asked: bool,
-    /// A piece of which not all is handed out, and how much of it is.
-    held: Option<Vec<u8>>,
+    /// A piece that has come and of which not all is handed out, and how much of it is.
+    held: Option<Piece>,
     place: usize,
-    /// Whether a failure has come, which the next read tells.
-    broken: bool,
     told_ready: bool,
     reads: u64,
     given: u64,
@@ -93,7 +91,6 @@ impl<'r, W: Wait> StandardInput<'r, W> {
             asked: false,
             held: None,
             place: 0,
-            broken: false,
             told_ready: false,
             reads: 0,
             given: 0,
@@ -115,31 +112,26 @@ impl<'r, W: Wait> StandardInput<'r, W> {
         }
     }
 
-    /// Holds a piece.
+    /// Holds a piece, of which nothing is handed out.
     fn hold(&mut self, piece: Piece)
         ensures told { self.new.told_ready ≡ self.old.told_ready }
         ensures reads { self.new.reads ≡ self.old.reads }
         ensures given { self.new.given ≡ self.old.given }
         ensures failed { self.new.failed ≡ self.old.failed }
     {
-        match piece {
-            Piece::Bytes(bytes) => {
-                self.held = Some(bytes);
-                self.place = 0;
-            }
-            Piece::Failed => self.broken = true,
-        }
+        self.held = Some(piece);
+        self.place = 0;
     }
 
     /// Hands out bytes of a piece at the front of the buffer, and says how many. What is left is held.
-    fn hand_out(&mut self, piece: Vec<u8>, buf: &mut [u8]) -> usize
+    fn hand_out(&mut self, bytes: Vec<u8>, buf: &mut [u8]) -> usize
         ensures bound { result ≤ length buf.new }
         ensures told { self.new.told_ready ≡ self.old.told_ready }
         ensures reads { self.new.reads ≡ self.old.reads }
         ensures given { self.new.given ≡ self.old.given }
         ensures failed { self.new.failed ≡ self.old.failed }
     {
-        let rest = match piece.get(self.place..) {
+        let rest = match bytes.get(self.place..) {
             Some(rest) => rest,
             None => &[],
         };
@@ -147,7 +139,7 @@ impl<'r, W: Wait> StandardInput<'r, W> {
         buf[..n].copy_from_slice(&rest[..n]);
         if n < rest.len() {
             self.place = self.place.saturating_add(n);
-            self.held = Some(piece);
+            self.held = Some(Piece::Bytes(bytes));
         }
         n
     }
@@ -168,12 +160,12 @@ impl<W: Wait> Supply for StandardInput<'_, W> {
 
     fn is_ready(&mut self) -> bool {
         self.ask();
-        if self.held.is_none() && !self.broken {
+        if self.held.is_none() {
             if let Ok(piece) = self.from.try_recv(self.rt) {
                 self.hold(piece);
             }
         }
-        self.told_ready = self.held.is_some() || self.broken;
+        self.told_ready = self.held.is_some();
         self.told_ready
     }
 
@@ -195,18 +187,20 @@ impl<W: Wait, K: Sink> Source<K> for StandardInput<'_, W> {
         self.told_ready = false;
         self.reads = self.reads.saturating_add(1);
         self.ask();
-        if self.held.is_none() && !self.broken {
-            match self.from.recv(self.rt) {
-                Ok(piece) => self.hold(piece),
-                // The thread beside has ended, and with it the input.
-                Err(_) => return Ok(0),
+        if self.held.is_none() {
+            if let Ok(piece) = self.from.recv(self.rt) {
+                self.hold(piece);
             }
         }
-        let Some(piece) = self.held.take() else {
-            self.failed = true;
-            return Err(Broken);
+        let n = match self.held.take() {
+            Some(Piece::Bytes(bytes)) => self.hand_out(bytes, buf),
+            Some(Piece::Failed) => {
+                self.failed = true;
+                return Err(Broken);
+            }
+            // The thread beside has ended, and with it the input.
+            None => 0,
         };
-        let n = self.hand_out(piece, buf);
         self.given = self.given.saturating_add(n as u64);
         Ok(n)
     }
