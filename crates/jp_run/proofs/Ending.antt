@@ -127,7 +127,7 @@ module _ (going : Manner) (q : tree.Query) where
 
   -- a read came to a limit
   pub limit_ended : (e : Ends) (b : Option (List ℕ)) (st : Stream) (f : RunFault)
-      → Stands going q e.source_old b e.sink_old e.sink_new st → ReadEnded st b e.source_new f
+      → Stands going q e.source_old b e.sink_old e.sink_new st → ReadEnded st.buffer.progress b e.source_new f
       → StreamEnded going q e f
   limit_ended e b st Limit h k = (
     inr (

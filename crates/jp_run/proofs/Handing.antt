@@ -56,6 +56,10 @@ pub at_ok : {T E P : Type 0} (r : Result T E) → P → OnOk r P
 at_ok (Ok x) p = p
 at_ok (Err f) p = tt
 
+pub both_ok : {T E P Q R : Type 0} (r : Result T E) → (P → Q → R) → OnOk r P → OnOk r Q → OnOk r R
+both_ok (Ok x) h p q = h p q
+both_ok (Err f) h p q = tt
+
 pub also_ok : {T E P : Type 0} (R : Type 0) (r : Result T E) → P → OnOk r R → OnOk r (P × R)
 also_ok R (Ok x) p h = (p, h)
 also_ok R (Err f) p h = tt

@@ -1,9 +1,11 @@
 pub mod Chunks
 pub mod Coming
 pub mod Ending
+pub mod Going
 pub mod Handed
 pub mod Handing
 pub mod Pieces
 pub mod Readings
 pub mod Runs
 pub mod Standing
+pub mod Turning

@@ -50,7 +50,7 @@ module _ (going : Manner) (q : Query) where
     all_documents = documents_both h.front h.more ∙ ap (λ l. documents_in h.front ++ l) (sym h.waiting)
 
     -- what waited is answered too
-    answered_all : (c v : Option (List ℕ)) (next : Stream) → c ≡ b → HasAnswered going q u v st next
+    pub answered_all : (c v : Option (List ℕ)) (next : Stream) → c ≡ b → HasAnswered going q u v st next
         → Stands going q a c s v next
     answered_all c v next e k =
         let all : List ℕ = h.front ++ h.more in
@@ -171,6 +171,7 @@ end_so failed old new before after came e = subst (HasCome failed old new before
 pub failure_so : (failed : Bool) (old new : Option (List ℕ)) (before after : Stream) (came : Came)
     → came ≡ Failure → HasCome failed old new before after came
     → (failed ≡ true) × Keeps old new × (after.buffer ≡ before.buffer) × (after.answered ≡ before.answered)
+    × (after.come ≡ before.come)
 failure_so failed old new before after came e = subst (HasCome failed old new before after) e
 
 -- where nothing has changed that is counted

@@ -15,7 +15,7 @@ use crate::ends::Sink;
 use crate::fault::RunFault;
 use crate::job::Job;
 use crate::settings::Settings;
-use crate::telling::tell_gate;
+use crate::telling::{faulty_in, tell_gate};
 use crate::writing::hand_out;
 use jp_answer::{Cutting, Gate, Outcome, answer_in_chunks};
 use jp_buffer::LineRef;
@@ -109,9 +109,9 @@ fn answer_to<R: Threads + Sync, G: Gate + Sync, F: Form + Drop + Send>(
 {
     let cutting = cutting_for(&job.settings, lines);
     let policy = job.settings.policy();
-    let answer = answer_in_chunks::<R, G, F>(&job.crew, job.query, lines, cutting, policy);
-    tell_gate(&job.crew, policy.numbers, lines, &answer);
-    answer
+    let answer = answer_in_chunks::<R, G, F>(&job.crew, job.query, lines, cutting, policy)?;
+    tell_gate(&job.crew, policy.numbers, lines, faulty_in(&answer));
+    Ok(answer)
 }
 
 /// How these lines are cut up: among as many workers as are set, but no more than one for each 16,384 bytes,

@@ -51,7 +51,8 @@ pub(crate) fn read_on<K: Sink, S: Source<K>>(
       contents = K.contents sink.now;
       flushed = K.flushed sink.now;
     }) }
-    ensures fault { IfErr result (ReadEnded stream.old (S.remaining source.old) (S.remaining source.new)) }
+    ensures fault { IfErr result (ReadEnded stream.old.buffer.progress (S.remaining source.old)
+        (S.remaining source.new)) }
     ensures reads { S.reads source.new ≡ counted (S.reads source.old) 1 }
     ensures left { stream.new.left + 1 ≡ stream.old.left }
 {

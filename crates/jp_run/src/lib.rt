@@ -3,21 +3,26 @@
 
 mod answering;
 mod answers;
+mod beside;
 mod checking;
 mod ends;
 mod examples;
 mod fault;
+mod fronts;
 mod gathering;
 mod job;
 pub mod laws;
+mod out;
 mod outcome;
 mod output;
 mod running;
+mod sending;
 mod settings;
 mod settling;
 mod std_ends;
 mod stream;
 mod telling;
+mod turns;
 mod writing;
 
 pub use answers::{answer, answer_all};

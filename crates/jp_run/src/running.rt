@@ -25,12 +25,13 @@ ghost use Rattle.jp_run.specs.Written.{AppendsFront, IsPassedOn};
 
 use crate::ends::{Sink, Source};
 use crate::fault::RunFault;
-use crate::gathering::{Came, read_on};
+use crate::gathering::Came;
 use crate::job::Job;
 use crate::output::Output;
 use crate::settings::Settings;
-use crate::settling::{answer_before_failure, answer_rest, settle};
+use crate::settling::{answer_before_failure, answer_rest};
 use crate::stream::Stream;
+use crate::turns::turn;
 use crate::writing::pass_on;
 use jp_answer::{Crew, Gate};
 use jp_check::{Plan, plan_in};
@@ -270,8 +271,7 @@ fn answer_stream<R: Threads + Sync, S: Source<K>, K: Sink, G: Gate + Sync, F: Fo
     // The sink may come with bytes that it holds back.
     pass_on(sink)?;
     while stream.left > 0 {
-        settle::<R, S, K, G, F>(job, source, sink, &mut stream)?;
-        match read_on(source, sink, &mut stream)? {
+        match turn::<R, S, K, G, F>(job, source, sink, &mut stream)? {
             Came::More => {}
             Came::End => return answer_rest::<R, K, G, F>(job, sink, &mut stream),
             Came::Failure => {

@@ -26,7 +26,7 @@ use std::thread::Threads;
 
 /// How many bytes may come before they are answered, although the source goes on at once: so many are held
 /// at most, and what one read brings.
-const WINDOW_BYTES: usize = 4_194_304;
+pub(crate) const WINDOW_BYTES: usize = 4_194_304;
 
 /// The same for one worker: few enough to be answered while they lie in the processor's cache.
 const CACHE_BYTES: usize = 131_072;

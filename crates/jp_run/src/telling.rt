@@ -1,11 +1,11 @@
 //! Faulty lines, for a gate that wants them.
 
 use jp_answer::{Crew, Gate, Outcome, line_fault};
-use jp_buffer::LineRef;
+use jp_buffer::{LineRef, WaitingLines};
 use jp_number::Numbers;
-use std::alloc::AllocError;
 
-/// Tells the gate the faulty lines of those that were answered, in their order, as long as it wants them.
+/// Tells the gate the faulty lines of those that were answered, so many, in their order, as long as it wants
+/// them.
 ///
 /// The lines are read again, so that workers keep nothing of a faulty line (README, Why so). Where memory for
 /// that is refused a line is passed over.
@@ -13,9 +13,9 @@ pub(crate) fn tell_gate<R, G: Gate>(
     crew: &Crew<R, G>,
     numbers: Numbers,
     lines: &[LineRef<'_>],
-    answer: &Result<Outcome, AllocError>,
+    faulty: u64,
 ) {
-    let mut left = faulty_in(answer);
+    let mut left = faulty;
     for line in lines {
         if left == 0 || !crew.gate.wants_faulty() {
             return;
@@ -28,11 +28,27 @@ pub(crate) fn tell_gate<R, G: Gate>(
     }
 }
 
+/// The same of lines that are still in their buffer. Where memory for a list of them is refused nothing is
+/// told.
+pub(crate) fn tell_waiting<R, G: Gate>(
+    crew: &Crew<R, G>,
+    numbers: Numbers,
+    lines: &WaitingLines,
+    faulty: u64,
+) {
+    if faulty == 0 || !crew.gate.wants_faulty() {
+        return;
+    }
+    if let Ok(lines) = lines.lines(crew.alloc) {
+        tell_gate(crew, numbers, &lines, faulty);
+    }
+}
+
 /// How many faulty lines an answer passes or ends at.
-fn faulty_in(answer: &Result<Outcome, AllocError>) -> u64 {
-    match answer {
-        Ok(answer) if answer.stopped.is_some() => 1,
-        Ok(answer) => answer.faulty,
-        Err(_) => 0,
+pub(crate) fn faulty_in(answer: &Outcome) -> u64 {
+    if answer.stopped.is_some() {
+        1
+    } else {
+        answer.faulty
     }
 }

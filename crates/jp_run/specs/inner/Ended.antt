@@ -3,7 +3,7 @@
 use Rattle.std.specs.Prelude.{◌≡◌, ℕ, ◌+◌, ◌<◌, ◌⊎◌, Bool, true, List, Option, Some, None, IfSome}
 use Rattle.std.specs.Io.KnownBytes.{Appends, Consumes}
 use Rattle.jp_doc.specs.Lines.{Line, lines, line_count}
-use Rattle.jp_doc.specs.Feeding.{fed}
+use Rattle.jp_doc.specs.Feeding.{Progress, fed}
 use Rattle.jp_tree.specs.Tree as tree
 use Rattle.jp_answer.specs.Answer.{Answer}
 use Rattle.jp_answer.specs.OnFault.{Manner}
@@ -11,16 +11,15 @@ use Rattle.jp_answer.specs.declared.on_fault.OnFault.TheVariants.{Stop}
 use Rattle.jp_run.specs.declared.fault.RunFault.{RunFault}
 use Rattle.jp_run.specs.declared.fault.RunFault.TheVariants.{Query, Document, Read, Write, Limit}
 use Rattle.jp_run.specs.declared.fault.RunFault.TheVariants.{Memory, Settings}
-use Rattle.jp_run.specs.declared.stream.Stream.{Stream}
 use Rattle.jp_run.specs.Come.{documents_in}
 use Rattle.jp_run.specs.Handed.{Handed, HandedFront}
 use Rattle.jp_run.specs.Limits.{max_reads, max_lines}
 use Rattle.jp_run.specs.Written.{AppendsFront}
 
 -- a read behind lines that had come so far, which did not fail
-abbrev pub ReadEnded : Stream → Option (List ℕ) → Option (List ℕ) → RunFault → Type 0
+abbrev pub ReadEnded : Progress → Option (List ℕ) → Option (List ℕ) → RunFault → Type 0
 ReadEnded before old new Limit = (piece : List ℕ) × Consumes old new piece
-    × (max_lines < (fed before.buffer.progress piece).count)
+    × (max_lines < (fed before piece).count)
 ReadEnded before old new Memory = Unit {0}
 ReadEnded before old new Read = ⊥
 ReadEnded before old new (Query fault) = ⊥

@@ -20,4 +20,4 @@ abbrev pub HasCome : Bool → Option (List ℕ) → Option (List ℕ) → Stream
 HasCome failed old new before after More = (failed ≡ false) × HasRead old new before after
 HasCome failed old new before after End = (failed ≡ false) × HasRead old new before after × IsAtEnd new
 HasCome failed old new before after Failure = (failed ≡ true) × Keeps old new
-    × (after.buffer ≡ before.buffer) × (after.answered ≡ before.answered)
+    × (after.buffer ≡ before.buffer) × (after.answered ≡ before.answered) × (after.come ≡ before.come)

@@ -1,0 +1,31 @@
+use Rattle.std.proofs.Common.{◌∙◌}
+use Rattle.jp_compiled.specs.Compiled.{compiled_query}
+use Rattle.jp_run.specs.Answered.{manner_in}
+use Rattle.jp_run.proofs.Going.{going_on}
+use Rattle.jp_run.proofs.Handing.{told}
+use Rattle.jp_run.proofs.fronts.write_found.Goals as goal
+
+pub write_front-requires-clause-going : goal.write_front-requires-clause-going
+write_front-requires-clause-going g c κs within =
+    let going = manner_in g.F.Form.says c.args.job.now.settings in
+    let q = compiled_query c.args.job.now.query.now in
+    let contents = g.K.Sink.contents in
+    going_on going q (contents c.args.sink.now) (contents c.loop-sink.sink) c.args.stream.now
+    c.loop-sink.stream
+    c.args.out.now c.loop-sink.out c.requires.going c.loop-sink.invariant.going c.loop-sink.invariant.asked
+
+pub returns-in_err-write_front-clause-fault : goal.returns-in_err-write_front-clause-fault
+returns-in_err-write_front-clause-fault g c = told _ _ _ c.from_residual.ensures.1
+    (λ old now sink reads_old reads_new failed h. c.in_err-write_front.ensures.fault old now sink reads_old
+    reads_new failed (c.loop-sink.invariant.going old now sink h))
+
+pub loop-sink-preserved : goal.loop-sink-preserved
+loop-sink-preserved g c = record {
+  going = λ old now sink h. c.in_ok-write_front.ensures.going old now sink
+      (c.loop-sink.invariant.going old now sink h);
+  progress = c.in_ok-write_front.ensures.progress ∙ c.loop-sink.invariant.progress;
+  asked = c.write_front.ensures.asked ∙ c.loop-sink.invariant.asked;
+  left = c.write_front.ensures.left ∙ c.loop-sink.invariant.left;
+  working = c.in_ok-write_front.ensures.working;
+  flushed = c.in_ok-write_front.ensures.flushed;
+}

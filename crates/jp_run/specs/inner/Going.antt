@@ -1,0 +1,122 @@
+-- A working file, which nobody has to believe: where a run stands while blocks are out, for private clauses
+-- alone.
+use Rattle.std.specs.Prelude.{◌≡◌, ℕ, ◌+◌, ◌++◌, List, [], ◌∷◌, length, Option, None, Bool}
+use Rattle.std.specs.List.{flat_map}
+use Rattle.std.specs.Arc.{arc_value}
+use Rattle.std.specs.Io.KnownBytes.{Consumes}
+use Rattle.jp_doc.specs.Lines.{Line}
+use Rattle.jp_doc.specs.Feeding.{nothing_fed, fed, fed_lines}
+use Rattle.jp_tree.specs.Tree.{Query}
+use Rattle.jp_compiled.specs.Compiled.{compiled_query}
+use Rattle.jp_output.specs.declared.form.Form as form
+use Rattle.jp_answer.below.jp_nodes.specs.declared.visit.Visit as visit
+use Rattle.jp_answer.specs.OnFault.{Manner, passed_in}
+use Rattle.jp_answer.specs.declared.policy.LinePolicy.{LinePolicy}
+use Rattle.jp_answer.specs.declared.task.Task.{Task}
+use Rattle.jp_run.specs.Come.{documents_in}
+use Rattle.jp_run.specs.Handed.{Handed}
+use Rattle.jp_run.specs.inner.Ended.{StreamEnded}
+use Rattle.jp_run.specs.declared.fault.RunFault.{RunFault}
+use Rattle.jp_run.specs.declared.out.Out.{Out}
+use Rattle.jp_run.specs.declared.out.Sent.{Sent}
+use Rattle.jp_run.specs.declared.stream.Stream.{Stream}
+
+-- pieces, one behind another
+abbrev pub all_bytes : List (List ℕ) → List ℕ
+all_bytes pieces = flat_map (λ piece. piece) pieces
+
+module _ {F : Type 0} {g : form.Ghosts F} {v : visit.Ghosts F} where
+  -- the task of a block that is out
+  abbrev pub sent_task : Sent F g v → Task
+  sent_task s = (arc_value s.block).task
+
+  -- the lines of the blocks that are out
+  abbrev pub sent_lines : List (Sent F g v) → List Line
+  sent_lines [] = []
+  sent_lines (s ∷ rest) = (sent_task s).lines ++ sent_lines rest
+
+  -- the block has the lines that end in a piece behind these bytes, and asks this query of them
+  pub record IsSent (policy : LinePolicy) (q : Query) (before piece : List ℕ) (s : Sent F g v) : Type 0 where
+    pub lines : (sent_task s).lines ≡ fed_lines (fed nothing_fed before) piece
+    pub bytes : s.bytes ≡ length piece
+    pub query : compiled_query (sent_task s).asked.query.now ≡ q
+    pub policy_is : (sent_task s).asked.policy ≡ policy
+
+  -- so do these blocks, of pieces one behind another
+  abbrev pub AreSent : LinePolicy → Query → List ℕ → List (List ℕ) → List (Sent F g v) → Type 0
+  AreSent policy q before [] [] = Unit {0}
+  AreSent policy q before [] (s ∷ rest) = ⊥
+  AreSent policy q before (piece ∷ pieces) [] = ⊥
+  AreSent policy q before (piece ∷ pieces) (s ∷ rest) = IsSent policy q before piece s
+      × AreSent policy q (before ++ piece) pieces rest
+
+  -- All lines whose end is in a front of the bytes that have come are answered; those of the pieces behind it
+  -- are out, and those that came last wait.
+  pub record Goes (going : Manner) (q : Query) (old now sink_old sink_now : Option (List ℕ)) (s : Stream)
+      (out : List (Sent F g v)) (bytes : ℕ) : Type 0 where
+    pub front : List ℕ
+    pub pieces : List (List ℕ)
+    pub last : List ℕ
+    pub consumed : Consumes old now (front ++ (all_bytes pieces ++ last))
+    pub progress : s.buffer.progress ≡ fed nothing_fed (front ++ (all_bytes pieces ++ last))
+    pub sent : AreSent going.policy q front pieces out
+    pub waiting : s.buffer.lines ≡ fed_lines (fed nothing_fed (front ++ all_bytes pieces)) last
+    pub bytes_are : bytes ≡ length (all_bytes pieces)
+    pub come : s.come ≡ length (all_bytes pieces ++ last)
+    pub lines : s.answered.lines ≡ length (documents_in front)
+    pub faulty : s.answered.faulty ≡ passed_in going.policy (documents_in front)
+    pub handed : Handed going q (documents_in front) None sink_old sink_now
+
+  -- this is what is asked of further blocks
+  abbrev pub AsksSo : Manner → Query → Out F g v → Type 0
+  AsksSo going q o = (compiled_query o.asked.query.now ≡ q) × (o.asked.policy ≡ going.policy)
+
+  -- a run stands somewhere
+  abbrev pub IsGoing : Manner → Query → Option (List ℕ) → Stream → Out F g v → Type 0
+  IsGoing going q sink s o = (old : Option (List ℕ)) × (now : Option (List ℕ)) × (sink_old : Option (List ℕ))
+      × Goes going q old now sink_old sink s o.sent.items o.bytes × AsksSo going q o
+
+  -- wherever a run stood, it stands so afterwards
+  abbrev pub GoesOn : Manner → Query → Option (List ℕ) → Option (List ℕ) → Stream → Stream → Out F g v
+      → Out F g v → Type 0
+  GoesOn going q sink sink_new s t o p = (old now sink_old : Option (List ℕ))
+      → Goes going q old now sink_old sink s o.sent.items o.bytes
+      → Goes going q old now sink_old sink_new t p.sent.items p.bytes
+
+  -- wherever a run stood, its end is told truly so
+  abbrev pub GoesToEnd : Manner → Query → Option (List ℕ) → Option (List ℕ) → Bool → Stream → Out F g v
+      → RunFault → Type 0
+  GoesToEnd going q sink sink_new failed s o fault = (old now sink_old : Option (List ℕ))
+      → (reads_old reads_new : ℕ) → (source_failed : Bool)
+      → Goes going q old now sink_old sink s o.sent.items o.bytes
+      → StreamEnded going q (record {
+        source_old = old;
+        source_new = now;
+        reads_old = reads_old;
+        reads_new = reads_new;
+        source_failed = source_failed;
+        sink_old = sink_old;
+        sink_new = sink_new;
+        sink_failed = failed;
+      }) fault
+
+  -- the answer to the lines of a block is written, and counted
+  pub record HasWritten (policy : LinePolicy) (s : Sent F g v) (before after : Stream) : Type 0 where
+    pub buffer : after.buffer ≡ before.buffer
+    pub come : after.come + s.bytes ≡ before.come
+    pub lines : after.answered.lines ≡ before.answered.lines + length (sent_task s).lines
+    pub faulty : after.answered.faulty ≡ before.answered.faulty + passed_in policy (sent_task s).lines
+
+  -- the lines that waited are out in a block
+  pub record HasSent (before after : Stream) (o p : Out F g v) : Type 0 where
+    pub sent : Sent F g v
+    pub out : p.sent.items ≡ o.sent.items ++ sent ∷ []
+    pub same : p.asked ≡ o.asked
+    pub lines : (sent_task sent).lines ≡ before.buffer.lines
+    pub asked : (sent_task sent).asked ≡ o.asked
+    pub bytes : sent.bytes + o.bytes ≡ before.come
+    pub all_bytes_out : p.bytes ≡ before.come
+    pub none : after.buffer.lines ≡ []
+    pub progress : after.buffer.progress ≡ before.buffer.progress
+    pub come : after.come ≡ before.come
+    pub answered : after.answered ≡ before.answered
