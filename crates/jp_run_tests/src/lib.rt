@@ -6,6 +6,8 @@ mod answers;
 #[cfg(test)]
 mod batches;
 #[cfg(test)]
+mod beside;
+#[cfg(test)]
 mod cut_lines;
 #[cfg(test)]
 mod decimals;

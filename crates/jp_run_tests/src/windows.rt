@@ -174,23 +174,26 @@ fn came<R: Threads + Sync>(
 }
 
 /// The second line has come with read 3. Where reads may wait no further one follows. Where they do not, one
-/// worker answers it with 131,072 bytes that have come since it answered the first, with read 4; several
-/// answer all eight lines, which come with read 9, once read 10 has found the end.
+/// worker answers it with 131,072 bytes that have come since it answered the first, with read 4; several read
+/// on until its answer has come, and find the end with read 10.
 #[test]
 fn a_faulty_line_ends_the_run(rt: HostRuntime) -> Result<(), Fail> {
-    for (workers, never_waits, reads) in &[
-        (1u64, false, 3u64),
-        (2, false, 3),
-        (64, false, 3),
-        (1, true, 4),
-        (2, true, 10),
-        (64, true, 10),
+    for (workers, never_waits, least, most) in &[
+        (1u64, false, 3u64, 3u64),
+        (2, false, 3, 3),
+        (64, false, 3, 3),
+        (1, true, 4, 4),
+        (2, true, 3, 10),
+        (64, true, 3, 10),
     ] {
         let settings = Settings::new(*workers, 64, BATCH)?;
         let source = (*never_waits, ALL_READS);
         let found = came(&rt, rt.alloc(), &settings, source, 1)?;
         assert!(rt; found.is_second && found.is_written, "{workers} workers");
-        assert_eq!(rt; found.reads, *reads, "{workers} workers");
+        assert!(rt;
+            found.reads >= *least && found.reads <= *most,
+            "{workers} workers"
+        );
     }
     Ok(())
 }
