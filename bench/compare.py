@@ -2,7 +2,7 @@
 
 The first run of each program goes to a file, and its bytes are compared with those of the program by hand
 before anything is timed. The timed runs go to /dev/null; the programs take turns within a round, and the best
-round counts.
+round counts, of those during which nothing else ran on the machine.
 """
 import filecmp
 import json
@@ -31,18 +31,40 @@ GOALS = [("values", "the same query in the form of nodes", "all", "jp", 0.6),
          ("grep", "the program by hand", "grep", "by_hand", 0.35)]
 
 
+class Watch:
+    """What the whole machine did while something was timed, by /proc/stat, in seconds of processor time. These
+    are counted in ticks, so that a little stays unknown of a short run."""
+
+    # What others may take: a share of a processor, and what a few ticks are.
+    SHARE, UNKNOWN = 0.12, 0.04
+
+    def __init__(self):
+        self.before = self.worked()
+
+    @staticmethod
+    def worked():
+        with open("/proc/stat") as told:
+            user, nice, system, _, _, *interrupts = [int(count) for count in told.readline().split()[1:8]]
+        return (user + nice + system + sum(interrupts)) / os.sysconf("SC_CLK_TCK")
+
+    def is_alone(self, own, wall):
+        """Whether nothing else ran beside what took so much processor time in so many seconds."""
+        return self.worked() - self.before - own <= self.SHARE * wall + self.UNKNOWN
+
+
 class Run:
     """One run, under a small process that tells the peak of memory (a fork of this one would count)."""
 
     def __init__(self, words, source, sink, notes):
         watched = [TIME, "-o", notes, "-f", "%M", "timeout", PATIENCE, *words]
         with open(source, "rb") as stdin, open(sink, "wb") as stdout:
-            start = time.perf_counter()
+            watch, start = Watch(), time.perf_counter()
             child = subprocess.Popen(watched, stdin=stdin, stdout=stdout, stderr=subprocess.DEVNULL)
             _, status, used = os.wait4(child.pid, 0)
             self.wall = time.perf_counter() - start
         child.returncode = self.status = os.waitstatus_to_exitcode(status)
         self.processor = used.ru_utime + used.ru_stime
+        self.alone = watch.is_alone(self.processor, self.wall)
         with open(notes) as told:
             self.memory = int((told.read().split() or ["0"])[-1]) / 1024
 
@@ -53,14 +75,25 @@ class Processes:
     COUNT = 4
 
     def __init__(self, words, source):
-        start = time.perf_counter()
+        watch, start = Watch(), time.perf_counter()
         children = []
         for _ in range(self.COUNT):
             with open(source, "rb") as stdin:
                 children.append(subprocess.Popen(words, stdin=stdin, stdout=subprocess.DEVNULL,
                                                  stderr=subprocess.DEVNULL))
-        self.failed = [child for child in children if child.wait() != 0]
+        self.failed, own = False, 0
+        for child in children:
+            _, status, used = os.wait4(child.pid, 0)
+            child.returncode = os.waitstatus_to_exitcode(status)
+            self.failed |= child.returncode != 0
+            own += used.ru_utime + used.ru_stime
         self.wall = time.perf_counter() - start
+        self.alone = watch.is_alone(own, self.wall)
+
+
+def rank(run):
+    """Runs during which nothing else ran come first, and then the fast ones."""
+    return not run.alone, run.wall
 
 
 class Program:
@@ -76,7 +109,7 @@ class Program:
         """Keeps the least time and the most memory."""
         best = self.best or run
         run.memory = best.memory = max(run.memory, best.memory)
-        self.best = min(run, best, key=lambda each: each.wall)
+        self.best = min(run, best, key=rank)
 
 
 def programs_for(case, paths, others):
@@ -148,7 +181,7 @@ def measure(case, arguments, paths, others, room):
                                  % (program.name, timed.status, case.name))
                 program.keep(timed)
     best = {program.name: program.best for program in programs}
-    best[PROCESSES] = min(at_once, key=lambda each: each.wall)
+    best[PROCESSES] = min(at_once, key=rank)
     return best, os.path.getsize(source) / 1e6
 
 
@@ -240,6 +273,10 @@ def summary(measured, names):
     busy = max(run.wall / max(run.processor, 1e-3) for runs, _ in measured.values()
                for name, run in runs.items() if name.endswith("1"))
     said.append("the best run of one thread took at most %.2f times its processor time" % busy)
+    beside = ["%s of `%s`" % (name, case) for case, (runs, _) in measured.items()
+              for name, run in runs.items() if not run.alone]
+    said.append("something else ran during each run of: " + ", ".join(beside) if beside
+                else "nothing else ran during any of these runs")
     return "\n".join(textwrap.fill("- " + line, 110, subsequent_indent="  ") for line in said)
 
 
