@@ -18,6 +18,14 @@ after_joined_by bytes None a b = ap (λ all. record { bytes = all; stopped = b.s
     (append_assoc bytes a.bytes b.bytes))
 after_joined_by bytes (Some stop) a b = refl
 
+assoc_by : (stop : Option (ℕ × DocFault)) (a b c : Answer) → a.stopped ≡ stop
+    → joined (unless_stopped stop a b) c ≡ unless_stopped stop a (joined b c)
+assoc_by None a b c e = sym (after_joined_by a.bytes b.stopped b c)
+assoc_by (Some s) a b c e = ap (λ (t : Option (ℕ × DocFault)). unless_stopped t a c) e
+
+pub joined_assoc : (a b c : Answer) → joined (joined a b) c ≡ joined a (joined b c)
+joined_assoc a b c = assoc_by a.stopped a b c refl
+
 module _ (form : OutputForm) (t : Tests) (q : Query) where
   line_joined : (l : Line) (r : Result Json DocFault) (a b : Answer)
       → line_answer form t q l r (joined a b) ≡ joined (line_answer form t q l r a) b

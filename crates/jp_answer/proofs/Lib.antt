@@ -3,11 +3,9 @@ pub mod OnFaults
 pub mod Decimals
 pub mod Joining
 pub mod OnLiterals
-pub mod Placing
-pub mod Settling
+pub mod Gathering
 pub mod Stopping
 pub mod Streams
-pub mod Tending
 pub mod QueryCrosses
 pub mod RingCrosses
 pub mod NumberedAnswer

@@ -19,12 +19,11 @@ use Rattle.jp_buffer.specs.declared.line_ref.LineRef as code
 use Rattle.jp_tree.specs.Tree.{Query}
 use Rattle.jp_regexp.specs.Tests.{Tests}
 use Rattle.jp_output.specs.OutputForm.{OutputForm}
-use Rattle.jp_answer.specs.Answer.{Answer, after, line_answer, document_bytes, answer_as, joined}
+use Rattle.jp_answer.specs.Answer.{Answer, nothing, after, line_answer, document_bytes, answer_as, joined}
 use Rattle.jp_answer.specs.Faults.{fault_or, first_fault}
 use Rattle.jp_answer.specs.OnFault.{answer_by, answer_on, stop_in, stop_on, passed_in, passed_on, given}
 use Rattle.jp_answer.specs.OnFault.{fault_in}
 use Rattle.jp_answer.specs.Policy.{numbers_in}
-use Rattle.jp_answer.specs.Placed.{nothing}
 use Rattle.jp_answer.specs.Whole.{whole_as, both, line_bytes, document_or_fault, is_faulty, faulty_lines}
 use Rattle.jp_answer.specs.declared.on_fault.OnFault.{OnFault}
 use Rattle.jp_answer.specs.declared.on_fault.OnFault.TheVariants.{Stop, KeepGoing}

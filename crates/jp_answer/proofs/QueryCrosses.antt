@@ -1,9 +1,6 @@
--- That a compiled query may be shared among threads, and pieces with it.
+-- That a compiled query may be shared among threads.
 use denote.Param.Send.{IsSync, sendable}
 use Rattle.std.proofs.Crossing.{crosses}
-use Rattle.jp_answer.specs.contracts.pieces.Pieces as Pieces
-use Rattle.jp_buffer.proofs.line_ref.LineRef.TheSendSync as lines
-use denote.Ref.{NamedLft}
 use Rattle.jp_compiled.specs.contracts.compiled.Query as Query
 use Rattle.jp_compiled.specs.contracts.query.Logical as Logical
 use Rattle.jp_compiled.specs.contracts.query.RootPart as RootPart
@@ -62,6 +59,3 @@ query_field = search (segment_sync, part_sync, crosses, sendable) depth 60 fits 
 
 pub query_sync : IsSync Query.the_row
 query_sync = search (query_field, sendable) depth 60 fits 20000
-
-pub pieces_sync : (a : NamedLft) → IsSync (Pieces.the_row a)
-pieces_sync a = search (query_sync, lines.the_sync, crosses, sendable) depth 60 fits 20000

@@ -7,8 +7,7 @@ use Rattle.jp_doc.specs.Lines.{Line, all_lines, lines, line_count}
 use Rattle.jp_doc.specs.declared.fault.DocFault.{DocFault}
 use Rattle.jp_doc.proofs.CutLaws.{numbered_both}
 use Rattle.jp_doc.proofs.LineLaws.{lines_of_both}
-use Rattle.jp_answer.specs.Answer.{Answer, joined, unless_stopped}
-use Rattle.jp_answer.specs.Placed.{nothing}
+use Rattle.jp_answer.specs.Answer.{Answer, nothing, joined, unless_stopped}
 use Rattle.jp_answer.specs.Streams.{AreWholeLines, line_feeds, AreBlocks, placed_blocks, in_turn}
 
 whole_both : (a b : List ℕ) → AreWholeLines a → all_lines (a ++ b) ≡ all_lines a ++ all_lines b
@@ -49,7 +48,7 @@ joined_nothing_by None a e =
     ∙ ap (λ stop. record { bytes = a.bytes; stopped = stop }) (sym e)
 joined_nothing_by (Some stop) a e = refl
 
-joined_nothing : (a : Answer) → joined a nothing ≡ a
+pub joined_nothing : (a : Answer) → joined a nothing ≡ a
 joined_nothing a = joined_nothing_by a.stopped a refl
 
 -- what answers lines, and lines behind others in turn

@@ -16,6 +16,10 @@ pub record Answer : Type 0 where
   pub bytes : List ℕ
   pub stopped : Option (ℕ × DocFault)
 
+-- no bytes, and not stopped
+abbrev pub nothing : Answer
+nothing = record { bytes = []; stopped = None }
+
 -- bytes, and then an answer
 abbrev pub after : List ℕ → Answer → Answer
 after bytes a = record { bytes = bytes ++ a.bytes; stopped = a.stopped }

@@ -3,10 +3,9 @@ pub mod Answered
 pub mod Blocks
 pub mod Faults
 pub mod OnFault
-pub mod Pieces
-pub mod Placed
 pub mod Policy
+pub mod Queued
 pub mod Ranges
 pub mod Streams
 pub mod Whole
-pub mod Worked
+pub mod inner

@@ -1,8 +1,7 @@
 -- Streams that are cut between lines, and answered block by block.
 use Rattle.std.specs.Prelude.{◌≡◌, ⊤, ℕ, ◌+◌, ◌⊎◌, List, [], ◌∷◌, ◌++◌, replicate}
 use Rattle.jp_doc.specs.Lines.{line_count}
-use Rattle.jp_answer.specs.Answer.{Answer, joined}
-use Rattle.jp_answer.specs.Placed.{nothing}
+use Rattle.jp_answer.specs.Answer.{Answer, nothing, joined}
 
 -- nothing, or bytes whose last is a line feed
 abbrev pub AreWholeLines : List ℕ → Type 0

@@ -1,16 +1,18 @@
-//! What a thread answers blocks with.
+//! What a thread answers lines with.
 
-ghost use Rattle.std.specs.Prelude.{◌≡◌, IfOk};
+ghost use Rattle.std.specs.Prelude.{◌≤◌, IfOk, length, map};
+ghost use Rattle.jp_buffer.specs.Buffered.{line_at};
 ghost use Rattle.jp_compiled.specs.Compiled.{compiled_query};
-ghost use Rattle.jp_eval.specs.Evaluated.{evaluated_query};
-ghost use Rattle.jp_answer.specs.Blocks.{IsTaskAnswer};
+ghost use Rattle.jp_board.specs.Limits.{max_pieces};
+ghost use Rattle.jp_answer.specs.Blocks.{IsAnswerTo, IsTaskAnswer};
+ghost use Rattle.jp_answer.specs.OnFault.{manner};
 
 use crate::answering::{Tools, answer_lines};
+use crate::asked::Asked;
 use crate::block::Block;
-use crate::crew::{Crew, Cutting};
+use crate::crew::Crew;
 use crate::outcome::Outcome;
-use crate::pieces::Pieces;
-use crate::task::Task;
+use jp_buffer::LineRef;
 use jp_eval::Evaluator;
 use jp_flat::FlatReader;
 use jp_output::Form;
@@ -18,7 +20,7 @@ use std::alloc::{AllocError, Global};
 use std::mem;
 use std::thread::Threads;
 
-/// What a thread answers blocks with, one after another: a reader, whose memory is used again. It does not
+/// What a thread answers lines with, one block after another: a reader, whose memory is used again. It does not
 /// cross from thread to thread.
 #[derive(Drop)]
 pub struct Answerer {
@@ -33,6 +35,30 @@ impl Answerer {
         }
     }
 
+    /// The answer to lines, 4,294,967,296 at most, one after another on the calling thread, of which this is
+    /// asked.
+    ///
+    /// `AllocError` if a growth was refused.
+    pub fn answer_lines<R: Threads + Sync, G, F: Form + Drop + Send>(
+        &mut self,
+        crew: &Crew<R, G>,
+        asked: &Asked<'_>,
+        lines: &[LineRef<'_>],
+    ) -> Result<Outcome, AllocError>
+        requires { length lines.now ≤ max_pieces }
+        ensures { IfOk result (IsAnswerTo (manner F.says asked.now.policy) (compiled_query
+            asked.now.query.now) (map line_at lines.now)) }
+    {
+        // The evaluator is of these lines' own query: no clause says that all ask the same (README, Why so).
+        let mut tools = Tools {
+            reader: mem::replace(&mut self.reader, FlatReader::new(crew.alloc)),
+            evaluator: Evaluator::new(crew.alloc, asked.query),
+        };
+        let answer = answer_lines::<R, G, F>(crew, asked, &mut tools, lines);
+        self.reader = tools.reader;
+        answer
+    }
+
     /// The answer to a block's task, which is not put into its place.
     ///
     /// `AllocError` if a growth was refused.
@@ -43,14 +69,8 @@ impl Answerer {
     ) -> Result<Outcome, AllocError>
         ensures { IfOk result (IsTaskAnswer F.says block.now.task) }
     {
-        // The evaluator is the block's own: no clause says that all blocks ask the same (README, Why so).
-        let mut tools = Tools {
-            reader: mem::replace(&mut self.reader, FlatReader::new(crew.alloc)),
-            evaluator: Evaluator::new(crew.alloc, block.task.asked.query),
-        };
-        let answer = answer_task::<R, G, F>(crew, &mut tools, &block.task);
-        self.reader = tools.reader;
-        answer
+        let lines = block.task.lines.lines(crew.alloc)?;
+        self.answer_lines::<R, G, F>(crew, &block.task.asked, &lines)
     }
 
     /// Answers a block's task and puts the answer into its place, unless memory is wanted. No clause says
@@ -64,22 +84,4 @@ impl Answerer {
             block.put(answer);
         }
     }
-}
-
-/// The answer to a task in a form, by tools for its query.
-fn answer_task<R: Threads + Sync, G, F: Form + Drop + Send>(
-    crew: &Crew<R, G>,
-    tools: &mut Tools<'_>,
-    task: &Task<'_>,
-) -> Result<Outcome, AllocError>
-    requires { evaluated_query tools.old.evaluator ≡ compiled_query task.now.asked.query.now }
-    ensures { IfOk result (IsTaskAnswer F.says task.now) }
-{
-    let lines = task.lines.lines(crew.alloc)?;
-    let cutting = Cutting {
-        workers: task.asked.workers,
-        piece: 1,
-    };
-    let pieces = Pieces::new(task.asked.query, &lines, cutting, task.asked.policy);
-    answer_lines::<R, G, F>(crew, &pieces, tools, &lines)
 }

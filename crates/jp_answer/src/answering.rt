@@ -18,12 +18,11 @@ ghost use Rattle.jp_answer.specs.OnFault.{answer_by, stop_in, passed_in, given, 
 ghost use Rattle.jp_answer.specs.Policy.{reading_by};
 ghost use Rattle.jp_answer.specs.declared.on_fault.OnFault.TheVariants.{Stop, KeepGoing};
 
+use crate::asked::Asked;
 use crate::crew::Crew;
 use crate::on_fault::OnFault;
 use crate::outcome::{DocStop, Outcome};
-use crate::pieces::Pieces;
 use jp_buffer::LineRef;
-use jp_compiled::Query;
 use jp_doc::{DocFault, Document};
 use jp_eval::{Cuts, EvalFault, Evaluator, OpenFork, Visit};
 use jp_flat::FlatReader;
@@ -40,23 +39,11 @@ const SPLIT_FLOOR: u64 = 4096;
 /// How long a line is at least that may hold such a list: each member takes two bytes or more.
 const SPLIT_BYTES: usize = 8192;
 
-/// What a worker answers lines with, from piece to piece.
+/// What a thread answers lines with, one after another.
 #[derive(Drop)]
 pub(crate) struct Tools<'q> {
     pub(crate) reader: FlatReader,
     pub(crate) evaluator: Evaluator<'q>,
-}
-
-impl<'q> Tools<'q> {
-    /// Tools for this query. They take no memory.
-    pub(crate) fn new(alloc: Global, query: &'q Query) -> Tools<'q>
-        ensures { evaluated_query result.evaluator ≡ compiled_query query.now }
-    {
-        Tools {
-            reader: FlatReader::new(alloc),
-            evaluator: Evaluator::new(alloc, query),
-        }
-    }
 }
 
 /// The answer to lines in a form, each read and evaluated in turn, by tools for their query. A faulty line
@@ -65,29 +52,29 @@ impl<'q> Tools<'q> {
 /// `AllocError` if a growth was refused.
 pub(crate) fn answer_lines<R: Threads + Sync, G, F: Form + Drop + Send>(
     crew: &Crew<R, G>,
-    pieces: &Pieces,
+    asked: &Asked<'_>,
     tools: &mut Tools<'_>,
     lines: &[LineRef<'_>],
 ) -> Result<Outcome, AllocError>
     requires few { length lines.now ≤ max_pieces }
-    requires query { evaluated_query tools.old.evaluator ≡ compiled_query pieces.now.query.now }
-    ensures answer { IfOk result (λ a. (t : Tests) → AreRight t → answer_by F.says pieces.now.policy t
-        (compiled_query pieces.now.query.now) (map line_at lines.now) ≡ outcome_of a) }
-    ensures stopped { IfOk result (λ a. stop_in pieces.now.policy (map line_at lines.now)
+    requires query { evaluated_query tools.old.evaluator ≡ compiled_query asked.now.query.now }
+    ensures answer { IfOk result (λ a. (t : Tests) → AreRight t → answer_by F.says asked.now.policy t
+        (compiled_query asked.now.query.now) (map line_at lines.now) ≡ outcome_of a) }
+    ensures stopped { IfOk result (λ a. stop_in asked.now.policy (map line_at lines.now)
         ≡ (outcome_of a).stopped) }
-    ensures passed { IfOk result (λ a. passed_in pieces.now.policy (map line_at lines.now)
+    ensures passed { IfOk result (λ a. passed_in asked.now.policy (map line_at lines.now)
         ≡ a.faulty) }
     ensures query { evaluated_query tools.new.evaluator ≡ evaluated_query tools.old.evaluator }
 {
     let mut written = F::new(crew.alloc);
     let mut faulty = 0;
     for line in lines {
-        let (more, fault) = add_line(crew, pieces, tools, line, written)?;
+        let (more, fault) = add_line(crew, asked, tools, line, written)?;
         written = more;
         let Some(fault) = fault else {
             continue;
         };
-        match pieces.policy.on_fault {
+        match asked.policy.on_fault {
             OnFault::Stop => {
                 let stop = DocStop {
                     line: line.number,
@@ -114,21 +101,21 @@ pub(crate) fn answer_lines<R: Threads + Sync, G, F: Form + Drop + Send>(
 /// by the numbers that it may have.
 fn add_line<R: Threads + Sync, G, F: Form + Drop + Send>(
     crew: &Crew<R, G>,
-    pieces: &Pieces,
+    asked: &Asked<'_>,
     tools: &mut Tools<'_>,
     line: &LineRef<'_>,
     written: F,
 ) -> Result<(F, Option<DocFault>), AllocError>
     ensures lines { IfOk result (λ r. (t : Tests) → AreRight t → F.written r.0
-        ≡ F.written written ++ given F.says pieces.now.policy.on_fault t
+        ≡ F.written written ++ given F.says asked.now.policy.on_fault t
         (evaluated_query tools.old.evaluator) (line_at line.now)
-        (reading_by pieces.now.policy line.now.bytes.now)) }
-    ensures fault { IfOk result (λ r. r.1 ≡ fault_in (reading_by pieces.now.policy line.now.bytes.now)) }
+        (reading_by asked.now.policy line.now.bytes.now)) }
+    ensures fault { IfOk result (λ r. r.1 ≡ fault_in (reading_by asked.now.policy line.now.bytes.now)) }
     ensures query { evaluated_query tools.new.evaluator ≡ evaluated_query tools.old.evaluator }
 {
-    match pieces.policy.numbers {
-        Numbers::Whole => add_whole(crew, pieces, tools, line, written),
-        Numbers::Decimals => add_decimal(crew, pieces, tools, line, written),
+    match asked.policy.numbers {
+        Numbers::Whole => add_whole(crew, asked, tools, line, written),
+        Numbers::Decimals => add_decimal(crew, asked, tools, line, written),
     }
 }
 
@@ -136,13 +123,13 @@ fn add_line<R: Threads + Sync, G, F: Form + Drop + Send>(
 /// the tree's reading alone tells faults.
 fn add_whole<R: Threads + Sync, G, F: Form + Drop + Send>(
     crew: &Crew<R, G>,
-    pieces: &Pieces,
+    asked: &Asked<'_>,
     tools: &mut Tools<'_>,
     line: &LineRef<'_>,
     written: F,
 ) -> Result<(F, Option<DocFault>), AllocError>
     ensures lines { IfOk result (λ r. (t : Tests) → AreRight t → F.written r.0
-        ≡ F.written written ++ given F.says pieces.now.policy.on_fault t
+        ≡ F.written written ++ given F.says asked.now.policy.on_fault t
         (evaluated_query tools.old.evaluator) (line_at line.now) (reading line.now.bytes.now)) }
     ensures fault { IfOk result (λ r. r.1 ≡ fault_in (reading line.now.bytes.now)) }
     ensures query { evaluated_query tools.new.evaluator ≡ evaluated_query tools.old.evaluator }
@@ -150,10 +137,10 @@ fn add_whole<R: Threads + Sync, G, F: Form + Drop + Send>(
     let Some(document) = tools.reader.read(line.bytes)? else {
         // So the tree does not stand beside what was read of the line.
         tools.reader.release();
-        return add_tree(crew, pieces, &mut tools.evaluator, line, written);
+        return add_tree(crew, asked, &mut tools.evaluator, line, written);
     };
     let root = Part::root_of_flat(&document);
-    let walk = walk_of(pieces, line);
+    let walk = walk_of(asked, line);
     let more = with_nodes(crew.rt, &mut tools.evaluator, line, (root, walk), written)?;
     Ok((more, None))
 }
@@ -161,13 +148,13 @@ fn add_whole<R: Threads + Sync, G, F: Form + Drop + Send>(
 /// The same, where the line is read as a tree.
 fn add_tree<R: Threads + Sync, G, F: Form + Drop + Send>(
     crew: &Crew<R, G>,
-    pieces: &Pieces,
+    asked: &Asked<'_>,
     evaluator: &mut Evaluator<'_>,
     line: &LineRef<'_>,
     written: F,
 ) -> Result<(F, Option<DocFault>), AllocError>
     ensures lines { IfOk result (λ r. (t : Tests) → AreRight t → F.written r.0
-        ≡ F.written written ++ given F.says pieces.now.policy.on_fault t
+        ≡ F.written written ++ given F.says asked.now.policy.on_fault t
         (evaluated_query evaluator.old) (line_at line.now) (reading line.now.bytes.now)) }
     ensures fault { IfOk result (λ r. r.1 ≡ fault_in (reading line.now.bytes.now)) }
     ensures query { evaluated_query evaluator.new ≡ evaluated_query evaluator.old }
@@ -175,7 +162,7 @@ fn add_tree<R: Threads + Sync, G, F: Form + Drop + Send>(
     match Document::read(crew.alloc, line.bytes) {
         Ok(document) => {
             let root = Part::root_of(&document);
-            let walk = walk_of(pieces, line);
+            let walk = walk_of(asked, line);
             let more = with_nodes(crew.rt, evaluator, line, (root, walk), written)?;
             Ok((more, None))
         }
@@ -183,7 +170,7 @@ fn add_tree<R: Threads + Sync, G, F: Form + Drop + Send>(
         Err(fault) => {
             let more = with_fault(
                 crew.alloc,
-                pieces.policy.on_fault,
+                asked.policy.on_fault,
                 line.number,
                 &fault,
                 written,
@@ -197,13 +184,13 @@ fn add_tree<R: Threads + Sync, G, F: Form + Drop + Send>(
 /// only where that finds it over a limit.
 fn add_decimal<R: Threads + Sync, G, F: Form + Drop + Send>(
     crew: &Crew<R, G>,
-    pieces: &Pieces,
+    asked: &Asked<'_>,
     tools: &mut Tools<'_>,
     line: &LineRef<'_>,
     written: F,
 ) -> Result<(F, Option<DocFault>), AllocError>
     ensures lines { IfOk result (λ r. (t : Tests) → AreRight t → F.written r.0
-        ≡ F.written written ++ given F.says pieces.now.policy.on_fault t
+        ≡ F.written written ++ given F.says asked.now.policy.on_fault t
         (evaluated_query tools.old.evaluator) (line_at line.now) (reading_in decimals line.now.bytes.now)) }
     ensures fault { IfOk result (λ r. r.1 ≡ fault_in (reading_in decimals line.now.bytes.now)) }
     ensures query { evaluated_query tools.new.evaluator ≡ evaluated_query tools.old.evaluator }
@@ -211,7 +198,7 @@ fn add_decimal<R: Threads + Sync, G, F: Form + Drop + Send>(
     let fault = match tools.reader.read_decimal(line.bytes)? {
         Ok(document) => {
             let root = Part::root_of_flat(&document);
-            let walk = walk_of(pieces, line);
+            let walk = walk_of(asked, line);
             let more = with_nodes(crew.rt, &mut tools.evaluator, line, (root, walk), written)?;
             return Ok((more, None));
         }
@@ -221,7 +208,7 @@ fn add_decimal<R: Threads + Sync, G, F: Form + Drop + Send>(
         DocFault::LongLine | DocFault::Unreadable => {
             let more = with_fault(
                 crew.alloc,
-                pieces.policy.on_fault,
+                asked.policy.on_fault,
                 line.number,
                 &fault,
                 written,
@@ -231,7 +218,7 @@ fn add_decimal<R: Threads + Sync, G, F: Form + Drop + Send>(
         _ => {
             // So the tree does not stand beside what was read of the line.
             tools.reader.release();
-            add_over(crew, pieces, &mut tools.evaluator, line, fault, written)
+            add_over(crew, asked, &mut tools.evaluator, line, fault, written)
         }
     }
 }
@@ -240,7 +227,7 @@ fn add_decimal<R: Threads + Sync, G, F: Form + Drop + Send>(
 /// numbers it may have a value still.
 fn add_over<R: Threads + Sync, G, F: Form + Drop + Send>(
     crew: &Crew<R, G>,
-    pieces: &Pieces,
+    asked: &Asked<'_>,
     evaluator: &mut Evaluator<'_>,
     line: &LineRef<'_>,
     fault: DocFault,
@@ -250,7 +237,7 @@ fn add_over<R: Threads + Sync, G, F: Form + Drop + Send>(
         → reading_in decimals line.now.bytes.now ≡ Err fault }
     requires memory { fault ≢ DocFault.Memory }
     ensures lines { IfOk result (λ r. (t : Tests) → AreRight t → F.written r.0
-        ≡ F.written written ++ given F.says pieces.now.policy.on_fault t
+        ≡ F.written written ++ given F.says asked.now.policy.on_fault t
         (evaluated_query evaluator.old) (line_at line.now) (reading_in decimals line.now.bytes.now)) }
     ensures fault { IfOk result (λ r. r.1 ≡ fault_in (reading_in decimals line.now.bytes.now)) }
     ensures query { evaluated_query evaluator.new ≡ evaluated_query evaluator.old }
@@ -258,7 +245,7 @@ fn add_over<R: Threads + Sync, G, F: Form + Drop + Send>(
     match Document::read(crew.alloc, line.bytes) {
         Ok(document) => {
             let root = Part::root_of(&document);
-            let walk = walk_of(pieces, line);
+            let walk = walk_of(asked, line);
             let more = with_nodes(crew.rt, evaluator, line, (root, walk), written)?;
             Ok((more, None))
         }
@@ -266,7 +253,7 @@ fn add_over<R: Threads + Sync, G, F: Form + Drop + Send>(
         Err(_) => {
             let more = with_fault(
                 crew.alloc,
-                pieces.policy.on_fault,
+                asked.policy.on_fault,
                 line.number,
                 &fault,
                 written,
@@ -309,10 +296,10 @@ enum Walk {
 
 /// How the document of a line is walked: by no more threads than there are workers, or the next power of two.
 /// A short line holds no list that is worth two.
-fn walk_of(pieces: &Pieces, line: &LineRef<'_>) -> Walk {
+fn walk_of(asked: &Asked<'_>, line: &LineRef<'_>) -> Walk {
     // One worker starts no thread, so it walks straight (README, Why so).
-    if pieces.workers > 1 && line.bytes.len() >= SPLIT_BYTES {
-        Walk::ByHalves(Cuts::new(SPLIT_FLOOR, pieces.workers))
+    if asked.workers > 1 && line.bytes.len() >= SPLIT_BYTES {
+        Walk::ByHalves(Cuts::new(SPLIT_FLOOR, asked.workers))
     } else {
         Walk::Straight
     }

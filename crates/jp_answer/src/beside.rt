@@ -9,7 +9,6 @@ use crate::answerer::Answerer;
 use crate::crew::Crew;
 use crate::gate::Gate;
 use crate::ring::{Claimed, Ring};
-use crate::workers::{close, open};
 use jp_board::{Board, Seat};
 use jp_output::Form;
 use std::alloc::AllocError;
@@ -47,12 +46,12 @@ pub fn beside_workers<R: Threads + Sync, G: Gate + Sync, F: Form + Drop + Send, 
     if workers == 1 {
         return run();
     }
-    let Ok((board, seats)) = open(crew.alloc, BLOCKS, workers - 1) else {
+    let Ok((board, seats)) = Board::new(crew.alloc, BLOCKS, workers - 1) else {
         return run();
     };
     let (done, given) = at_once::<R, G, F, P, X>(crew, ring, &board, seats, run);
     if let Ok(seats) = done {
-        close(board, seats);
+        drop(board.close(seats));
     }
     given
 }

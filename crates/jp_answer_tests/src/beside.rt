@@ -2,13 +2,11 @@
 
 ghost use Rattle.std.specs.Prelude.{◌≡◌, ◌+◌, ◌<◌};
 
-use crate::tasks::{behind, going_on, lines_of, stopping, task_of};
-use jp_answer::{
-    Answerer, Block, Crew, Cutting, LinePolicy, OpenGate, Ring, answer_in_chunks, beside_workers,
-};
+use crate::tasks::{behind, by_one_thread, going_on, lines_of, many_lines, stopping, task_of};
+use jp_answer::{Answerer, Block, Crew, LinePolicy, OpenGate, Ring, beside_workers};
 use jp_check::plan;
 use jp_compiled::Query;
-use jp_output::{NodeLines, join_chunks};
+use jp_output::NodeLines;
 use std::alloc::Global;
 use std::sync::Arc;
 use std::thread::{Threads, yield_now};
@@ -46,36 +44,6 @@ fn blocks_of<'q>(
         }
     }
     Some(blocks)
-}
-
-/// The answer to the lines of so many blocks, as one list of lines, by one worker.
-fn answer_of_all<R: Threads + Sync>(
-    crew: &Crew<R, OpenGate>,
-    query: &Query,
-    policy: LinePolicy,
-    count: u64,
-) -> Option<Vec<u8>> {
-    let mut text = String::new(crew.alloc);
-    for _block in 0..count {
-        if text.push_str(TEXT).is_err() {
-            return None;
-        }
-    }
-    let waiting = lines_of(crew.alloc, &text, 1)?;
-    let Ok(lines) = waiting.lines(crew.alloc) else {
-        return None;
-    };
-    if lines.len() > 4_294_967_296 {
-        return None;
-    }
-    let cutting = Cutting {
-        workers: 1,
-        piece: 1,
-    };
-    match answer_in_chunks::<R, OpenGate, NodeLines>(crew, query, &lines, cutting, policy) {
-        Ok(answer) => join_chunks(crew.alloc, answer.chunks).ok(),
-        Err(_) => None,
-    }
 }
 
 /// Hands blocks out with the numbers from this one on.
@@ -166,7 +134,8 @@ fn ran<R: Threads + Sync>(rt: &R, alloc: Global, way: Way) -> Option<u64> {
         alloc,
         gate: &gate,
     };
-    let wanted = answer_of_all(&crew, plan.compiled(), way.policy, way.count)?;
+    let lines = many_lines(alloc, TEXT, way.count)?;
+    let wanted = by_one_thread(&crew, plan.compiled(), way.policy, &lines)?;
     let blocks = blocks_of(alloc, plan.compiled(), way.policy, way.count)?;
     let Ok(ring) = Ring::new(alloc) else {
         return None;

@@ -1,10 +1,12 @@
 //! What these tests share: tasks, and the bytes of answers.
 
-use jp_answer::{Asked, LinePolicy, OnFault, Outcome, Task};
+use jp_answer::{Answerer, Asked, Crew, LinePolicy, OnFault, Outcome, Task};
 use jp_buffer::WaitingLines;
 use jp_compiled::Query;
 use jp_number::Numbers;
+use jp_output::{NodeLines, join_chunks};
 use std::alloc::Global;
+use std::thread::Threads;
 
 /// The policy by which an answer ends before a faulty line.
 pub(crate) fn stopping() -> LinePolicy {
@@ -33,6 +35,42 @@ pub(crate) fn lines_of(alloc: Global, text: &str, first: u64) -> Option<WaitingL
         number = number.saturating_add(1);
     }
     Some(lines)
+}
+
+/// The lines of a text so many times, one after another.
+pub(crate) fn many_lines(alloc: Global, text: &str, count: u64) -> Option<WaitingLines> {
+    let mut all = String::new(alloc);
+    for _time in 0..count {
+        if all.push_str(text).is_err() {
+            return None;
+        }
+    }
+    lines_of(alloc, &all, 1)
+}
+
+/// The bytes of the answer to lines by one thread, which answers them all at once.
+pub(crate) fn by_one_thread<R: Threads + Sync, G>(
+    crew: &Crew<R, G>,
+    query: &Query,
+    policy: LinePolicy,
+    lines: &WaitingLines,
+) -> Option<Vec<u8>> {
+    let Ok(lines) = lines.lines(crew.alloc) else {
+        return None;
+    };
+    if lines.len() > 4_294_967_296 {
+        return None;
+    }
+    let asked = Asked {
+        query,
+        policy,
+        workers: 1,
+    };
+    let mut answerer = Answerer::new(crew.alloc);
+    match answerer.answer_lines::<R, G, NodeLines>(crew, &asked, &lines) {
+        Ok(answer) => join_chunks(crew.alloc, answer.chunks).ok(),
+        Err(_) => None,
+    }
 }
 
 /// A task for one worker, of these lines.

@@ -1,6 +1,6 @@
 -- Lines that stand one behind another.
 use Rattle.std.proofs.Common.{◌≡◌, ℕ, zero, suc, ◌+◌, ◌≤◌, List, [], ◌∷◌, ◌++◌, refl, sym, ◌∙◌, ap}
-use Rattle.std.proofs.Common.{take, drop, length, arith, length-append, length-drop, take-append-drop}
+use Rattle.std.proofs.Common.{take, drop, length, arith, length-append, length-drop}
 use Rattle.std.proofs.lemmas.List.{take_all, take-append-le, drop-append-le, take-take, drop-take, drop-drop}
 use Rattle.std.proofs.lemmas.List.{nil_from_length, length-take-le}
 use Rattle.jp_buffer.specs.Buffered.{total_bytes}
@@ -101,33 +101,3 @@ total_in bytes (s ∷ ss) e = omega (
   length-take-le s.len bytes (omega (arith, e)),
   total_in (drop s.len bytes) ss (omega (arith, e, length-drop s.len bytes)),
 )
-
--- the lines at the front of those that stand there
-pub lines_taken : (k : ℕ) (bytes : List ℕ) (spans : List Span)
-    → lines_in bytes (take k spans) ≡ take k (lines_in bytes spans)
-lines_taken zero bytes spans = refl
-lines_taken (suc k) bytes [] = refl
-lines_taken (suc k) bytes (s ∷ ss) =
-    ap (λ ls. (s.number, take s.len bytes) ∷ ls) (lines_taken k (drop s.len bytes) ss)
-
--- lines that are taken away in two
-pub lines_split : (k : ℕ) (bytes text after : List ℕ) (spans front behind : List Span)
-    → front ≡ take k spans → behind ≡ drop k spans → text ≡ take (bytes_of front) bytes
-    → after ≡ drop (bytes_of front) bytes
-    → lines_in text front ++ lines_in after behind ≡ lines_in bytes spans
-lines_split k bytes text after spans front behind f b t a =
-    ap (λ l. l ++ lines_in after behind) (ap (λ l. lines_in l front) t
-    ∙ ap (λ ss. lines_in (take (bytes_of ss) bytes) ss) f ∙ lines_front k bytes spans)
-    ∙ ap (λ l. take k (lines_in bytes spans) ++ l) (ap (λ l. lines_in l behind) a
-    ∙ ap (λ ss. lines_in (drop (bytes_of ss) bytes) behind) f
-    ∙ ap (λ ss. lines_in (drop (bytes_of (take k spans)) bytes) ss) b ∙ lines_behind k bytes spans)
-    ∙ take-append-drop k (lines_in bytes spans)
-
--- bytes and spans of no lines are none
-pub no_spans : (bytes : List ℕ) (spans : List Span) → lines_in bytes spans ≡ [] → spans ≡ []
-no_spans bytes spans e =
-    nil_from_length spans (sym (lines_count bytes spans) ∙ ap length e)
-
-pub no_bytes : (bytes : List ℕ) (spans : List Span) → lines_in bytes spans ≡ []
-    → length bytes ≡ bytes_of spans → bytes ≡ []
-no_bytes bytes spans e h = nil_from_length bytes (h ∙ ap bytes_of (no_spans bytes spans e))

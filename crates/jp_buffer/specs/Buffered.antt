@@ -1,6 +1,5 @@
 -- Lines that wait in a buffer, and how far the lines of their stream have come.
 use Rattle.std.specs.Prelude.{ℕ, ◌+◌, List, [], ◌∷◌, length}
-use Rattle.std.specs.List.{flat_map}
 use Rattle.jp_doc.specs.Feeding.{Progress, nothing_fed}
 use Rattle.jp_doc.specs.Lines.{Line}
 use Rattle.jp_buffer.specs.declared.line_ref.LineRef.{LineRef}
@@ -13,10 +12,6 @@ line_at l = (l.number, l.bytes.now)
 abbrev pub total_bytes : List Line → ℕ
 total_bytes [] = 0
 total_bytes (l ∷ ls) = length l.1 + total_bytes ls
-
--- the lines of some parts, one part after another
-abbrev pub all_lines : List (List Line) → List Line
-all_lines parts = flat_map (λ ls. ls) parts
 
 -- how far the lines have come, and those of them that wait, in order
 pub record Buffered : Type 0 where

@@ -2,12 +2,12 @@
 
 ghost use Rattle.std.specs.Prelude.{◌≡◌, ◌≤◌, ◌++◌, map, take, drop, length, IfOk, OnOk, OnErr};
 ghost use Rattle.jp_doc.specs.Feeding.{fed, fed_lines, finished, finished_lines, max_lines};
-ghost use Rattle.jp_buffer.specs.Buffered.{line_at, nothing_buffered, total_bytes, all_lines};
+ghost use Rattle.jp_buffer.specs.Buffered.{line_at, nothing_buffered, total_bytes};
 ghost use Rattle.jp_buffer.specs.inner.Waiting.{Begins};
 
 use crate::cutting::push_lines;
 use crate::line_ref::LineRef;
-use crate::waiting::{PartSize, WaitingLines};
+use crate::waiting::WaitingLines;
 use jp_doc::{LONG_LINE, first_line};
 use std::alloc::{AllocError, Global};
 use std::marker::Model;
@@ -133,24 +133,6 @@ impl LineBuffer {
         ensures { IfOk result (λ lines. map line_at lines.items ≡ self.now.lines) }
     {
         self.waiting.lines(alloc)
-    }
-
-    /// So many lines at the front, copied into parts of this size. They use the buffers that are spare, as
-    /// long as there are any, so that a stream that is answered by parts takes memory for its first parts
-    /// alone.
-    ///
-    /// `AllocError` if a growth was refused.
-    pub fn front_parts(
-        &self,
-        alloc: Global,
-        count: usize,
-        size: PartSize,
-        spare: &mut Vec<WaitingLines>,
-    ) -> Result<Vec<WaitingLines>, AllocError>
-        requires { count ≤ length self.now.lines }
-        ensures { IfOk result (λ parts. all_lines parts.items ≡ take count self.now.lines) }
-    {
-        self.waiting.front_parts(alloc, count, size, spare)
     }
 
     /// Takes so many lines away from the front. Their memory is used again, but for that of long lines.

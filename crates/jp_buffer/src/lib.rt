@@ -9,4 +9,4 @@ mod waiting;
 
 pub use buffer::{LineBuffer, put_instead};
 pub use line_ref::{LineRef, refs_of};
-pub use waiting::{PartSize, WaitingLines};
+pub use waiting::WaitingLines;

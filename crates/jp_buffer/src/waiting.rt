@@ -3,7 +3,7 @@
 ghost use Rattle.std.specs.Prelude.{◌≡◌, ◌+◌, ◌<◌, ◌≤◌, ◌^◌, [], ◌∷◌, ◌++◌, map, take, drop, length};
 ghost use Rattle.std.specs.Prelude.{IfOk, OnOk, OnErr, vec_len};
 ghost use Rattle.jp_doc.specs.Feeding.{numbered};
-ghost use Rattle.jp_buffer.specs.Buffered.{line_at, total_bytes, all_lines};
+ghost use Rattle.jp_buffer.specs.Buffered.{line_at, total_bytes};
 ghost use Rattle.jp_buffer.specs.inner.Waiting.{Begins, bytes_of, lines_in};
 
 use crate::line_ref::LineRef;
@@ -16,16 +16,6 @@ use std::marker::Model;
 struct Span {
     number: u64,
     len: usize,
-}
-
-/// How large a part of some lines is: so many lines at most, and, where it is more than one line, so many
-/// bytes.
-#[derive(Clone, Copy, Debug, Drop)]
-pub struct PartSize {
-    /// The greatest number of lines; 0 counts as 1.
-    pub lines: usize,
-    /// The greatest number of bytes of several lines.
-    pub bytes: usize,
 }
 
 /// Lines that wait for their answer, whose bytes stand in one buffer.
@@ -90,6 +80,18 @@ impl WaitingLines {
         self.append(number, front, back)
     }
 
+    /// Adds lines as they are, blank ones too.
+    ///
+    /// `AllocError` if a growth was refused: then some of them may have been added.
+    pub fn extend(&mut self, lines: &[LineRef<'_>]) -> Result<(), AllocError>
+        ensures { OnOk result (self.new ≡ self.old ++ map line_at lines.now) }
+    {
+        for line in lines {
+            self.append(line.number, line.bytes, &[])?;
+        }
+        Ok(())
+    }
+
     /// Adds a line that is given in two parts.
     fn append(&mut self, number: u64, front: &[u8], back: &[u8]) -> Result<(), AllocError>
         ensures lines { OnOk result (self.new ≡ self.old ++ (number, front.now ++ back.now) ∷ []) }
@@ -121,33 +123,6 @@ impl WaitingLines {
         Ok(lines)
     }
 
-    /// So many lines at the front, copied into parts of this size, in buffers of those that are spare as long
-    /// as there are any.
-    ///
-    /// `AllocError` if a growth was refused.
-    pub fn front_parts(
-        &self,
-        alloc: Global,
-        count: usize,
-        size: PartSize,
-        spare: &mut Vec<WaitingLines>,
-    ) -> Result<Vec<WaitingLines>, AllocError>
-        requires { count ≤ length self.now }
-        ensures { IfOk result (λ parts. all_lines parts.items ≡ take count self.now) }
-    {
-        let mut parts = Vec::new(alloc);
-        let (mut spans, _) = self.spans.split_at(count);
-        let mut bytes = self.bytes.as_slice();
-        while !spans.is_empty() {
-            let (front, behind) = spans.split_at(fitting(spans, size));
-            let (text, after) = bytes.split_at(total_len(front));
-            parts.push(copied(alloc, front, text, spare)?)?;
-            spans = behind;
-            bytes = after;
-        }
-        Ok(parts)
-    }
-
     /// Keeps so many lines at the front.
     pub fn truncate(&mut self, count: usize)
         requires { count ≤ length self.old }
@@ -177,42 +152,6 @@ impl WaitingLines {
         take_front(&mut self.spans, count);
         let_go(&mut self.bytes, end, count);
     }
-}
-
-/// How many lines make a part of this size: one at least.
-fn fitting(spans: &[Span], size: PartSize) -> usize
-    requires { 0 < length spans.now }
-    ensures some { 0 < result }
-    ensures within { result ≤ length spans.now }
-{
-    let mut count = 0;
-    let mut bytes: usize = 0;
-    for span in spans {
-        // Saturating, so that no bound on the sum has to be required.
-        bytes = bytes.saturating_add(span.len);
-        if count > 0 && (count >= size.lines || bytes > size.bytes) {
-            return count;
-        }
-        count += 1;
-    }
-    count
-}
-
-/// A copy of lines, in a spare buffer, if there is one.
-fn copied(
-    alloc: Global,
-    spans: &[Span],
-    bytes: &[u8],
-    spare: &mut Vec<WaitingLines>,
-) -> Result<WaitingLines, AllocError>
-    requires { length bytes.now ≡ bytes_of spans.now }
-    ensures { IfOk result (λ part. part ≡ lines_in bytes.now spans.now) }
-{
-    let mut part = spare.pop().unwrap_or_else(|| WaitingLines::new(alloc));
-    part.clear();
-    part.bytes.extend_from_slice(bytes)?;
-    part.spans.extend_from_slice(spans)?;
-    Ok(part)
 }
 
 /// Appends a line that is given in two parts. An `Err` may leave more behind the bytes.

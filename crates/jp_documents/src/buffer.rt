@@ -2,14 +2,14 @@
 
 ghost use Rattle.std.specs.Prelude.{◌≡◌, ◌≤◌, ◌++◌, map, take, drop, length, IfOk, OnOk, OnErr};
 ghost use Rattle.jp_doc.specs.Feeding.{finished, finished_lines, max_lines};
-ghost use Rattle.jp_buffer.specs.Buffered.{line_at, nothing_buffered, total_bytes, all_lines};
+ghost use Rattle.jp_buffer.specs.Buffered.{line_at, nothing_buffered, total_bytes};
 ghost use Rattle.jp_documents.specs.Feeding.{fed, fed_documents};
 ghost use Rattle.jp_documents.specs.inner.Finding.{Begins};
 
 use crate::cutting::push_documents;
 use crate::first::{First, first_document};
 use crate::place::Place;
-use jp_buffer::{LineRef, PartSize, WaitingLines, put_instead};
+use jp_buffer::{LineRef, WaitingLines, put_instead};
 use jp_doc::LONG_LINE;
 use std::alloc::{AllocError, Global};
 use std::marker::Model;
@@ -140,23 +140,6 @@ impl DocumentBuffer {
         ensures { IfOk result (λ documents. map line_at documents.items ≡ self.now.lines) }
     {
         self.waiting.lines(alloc)
-    }
-
-    /// So many documents at the front, copied into parts of this size. They use the buffers that are spare,
-    /// as long as there are any.
-    ///
-    /// `AllocError` if a growth was refused.
-    pub fn front_parts(
-        &self,
-        alloc: Global,
-        count: usize,
-        size: PartSize,
-        spare: &mut Vec<WaitingLines>,
-    ) -> Result<Vec<WaitingLines>, AllocError>
-        requires { count ≤ length self.now.lines }
-        ensures { IfOk result (λ parts. all_lines parts.items ≡ take count self.now.lines) }
-    {
-        self.waiting.front_parts(alloc, count, size, spare)
     }
 
     /// Takes so many documents away from the front. Their memory is used again, but for that of long ones.

@@ -1,7 +1,7 @@
-//! Documents that are taken away, handed out and copied into parts.
+//! Documents that are taken away and handed out.
 
 use crate::calls::{are, feed, finish, take_away};
-use jp_buffer::{PartSize, WaitingLines};
+use jp_buffer::WaitingLines;
 use jp_documents::DocumentBuffer;
 use std::alloc::{AllocError, Global};
 use std::test::Fail;
@@ -102,34 +102,5 @@ fn are_handed_out(alloc: Global) -> Result<bool, AllocError> {
 #[test]
 fn documents_handed_out(rt: HostRuntime) -> Result<(), Fail> {
     assert!(rt; are_handed_out(rt.alloc())?);
-    Ok(())
-}
-
-/// Whether the first documents are copied into parts of two.
-fn are_in_parts(alloc: Global) -> Result<bool, AllocError> {
-    let mut buffer = DocumentBuffer::new(alloc);
-    let mut spare = Vec::new(alloc);
-    let size = PartSize {
-        lines: 2,
-        bytes: 1_000,
-    };
-    if !feed(&mut buffer, b"[1][\n2]{}4 ")? || buffer.len() < 3 {
-        return Ok(false);
-    }
-    let parts = buffer.front_parts(alloc, 3, size, &mut spare)?;
-    let (Some(front), Some(back)) = (parts.first(), parts.get(1)) else {
-        return Ok(false);
-    };
-    Ok(
-        parts.len() == 2
-            && has(alloc, front, &[(1, b"[1]"), (2, b"[\n2]")], 7)?
-            && has(alloc, back, &[(3, b"{}")], 2)?
-            && buffer.len() == 4,
-    )
-}
-
-#[test]
-fn documents_in_parts(rt: HostRuntime) -> Result<(), Fail> {
-    assert!(rt; are_in_parts(rt.alloc())?);
     Ok(())
 }

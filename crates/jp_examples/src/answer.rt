@@ -1,4 +1,4 @@
-use jp_answer::{Crew, Cutting, LinePolicy, OnFault, OpenGate, Outcome, answer_in_chunks};
+use jp_answer::{Asked, Crew, LinePolicy, OnFault, OpenGate, Outcome, answer_by_workers};
 use jp_buffer::LineRef;
 use jp_compiled::Query;
 use jp_number::Numbers;
@@ -22,13 +22,13 @@ fn by_workers<R: Threads + Sync>(
         alloc,
         gate: &gate,
     };
-    let cutting = Cutting {
+    let asked = Asked {
+        query,
+        policy: LinePolicy {
+            numbers: Numbers::Whole,
+            on_fault: OnFault::Stop,
+        },
         workers: 4,
-        piece: 64,
     };
-    let policy = LinePolicy {
-        numbers: Numbers::Whole,
-        on_fault: OnFault::Stop,
-    };
-    Some(answer_in_chunks::<R, OpenGate, NodeLines>(&crew, query, lines, cutting, policy))
+    Some(answer_by_workers::<R, OpenGate, NodeLines>(&crew, asked, lines, 64))
 }

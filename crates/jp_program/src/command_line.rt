@@ -128,7 +128,7 @@ fn with_numbers<'a>(alloc: Global, command: Command<'a>) -> Result<Command<'a>, 
     ensures { IfOk result (λ r. app_of r ≡ numbers_of (app_of command.entry)) }
 {
     let workers = "How many threads answer at once, 1 to 64";
-    let piece = "How many documents a thread takes at a time, 1 to 1000000";
+    let piece = "How many documents a thread takes at least, or 32 KB of them, 1 to 1000000";
     let batch = "How many documents are answered and written together at most, 1 to 1000000";
     let command = command.arg(number(alloc, "workers", "4", workers))?;
     let command = command.arg(number(alloc, "piece", "64", piece))?;

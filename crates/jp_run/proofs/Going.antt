@@ -12,21 +12,22 @@ use Rattle.jp_output.specs.OutputForm.{OutputForm}
 use Rattle.jp_answer.below.jp_nodes.specs.declared.visit.Visit as visit
 use Rattle.jp_compiled.specs.Compiled.{compiled_query}
 use Rattle.jp_answer.specs.OnFault.{Manner, manner, passed_in}
+use Rattle.jp_answer.specs.Queued.{sent_lines, sent_task}
 use Rattle.jp_answer.specs.declared.asked.Asked.{Asked}
 use Rattle.jp_answer.specs.declared.policy.LinePolicy.{LinePolicy}
+use Rattle.jp_answer.specs.declared.queue.Queue.{Queue}
+use Rattle.jp_answer.specs.declared.queue.Sent.{Sent}
 use Rattle.jp_answer.proofs.OnFaults.{passed_joined}
 use Rattle.jp_run.specs.Come.{documents_in}
 use Rattle.jp_run.specs.Handed.{Handed}
 use Rattle.jp_run.specs.inner.Ended.{Ends, AnswerEnded, StreamEnded}
-use Rattle.jp_run.specs.inner.Going.{all_bytes, sent_task, sent_lines, IsSent, AreSent, Goes, HasWritten}
-use Rattle.jp_run.specs.inner.Going.{AsksSo, GoesOn, HasSent, IsGoing}
+use Rattle.jp_run.specs.inner.Going.{all_bytes, IsSent, AreSent, Goes, HasWritten}
+use Rattle.jp_run.specs.inner.Going.{AsksSo, GoesOn, WentOut, IsGoing}
 use Rattle.jp_run.specs.inner.Reading.{HasRead}
 use Rattle.jp_run.specs.inner.Standing.{HasAnswered, Stands}
 use Rattle.jp_run.specs.declared.fault.RunFault.{RunFault}
 use Rattle.jp_run.specs.declared.fault.RunFault.TheVariants.{Memory}
 use Rattle.jp_run.specs.Limits.{max_lines}
-use Rattle.jp_run.specs.declared.out.Out.{Out}
-use Rattle.jp_run.specs.declared.out.Sent.{Sent}
 use Rattle.jp_run.specs.declared.stream.Answered.{Answered}
 use Rattle.jp_run.specs.declared.stream.Stream.{Stream}
 use Rattle.jp_run.proofs.Coming.{documents_both}
@@ -176,8 +177,8 @@ module _ {F : Type 0} {g : form.Ghosts F} {v : visit.Ghosts F} where
           }
 
     -- the lines that waited are out
-    pub goes_sent : (st next : Stream) (o p : Out F g v) → Goes going q a b s u st o.sent.items o.bytes
-        → AsksSo going q o → HasSent st next o p → Goes going q a b s u next p.sent.items p.bytes
+    pub goes_sent : (st next : Stream) (o p : Queue F g v) → Goes going q a b s u st o.sent.items o.bytes
+        → AsksSo going q o → WentOut st next o p → Goes going q a b s u next p.sent.items p.bytes
     goes_sent st next o p h asks k =
         let more : all_bytes (h.pieces ++ h.last ∷ []) ≡ all_bytes h.pieces ++ h.last =
         bytes_more h.pieces h.last in
@@ -416,7 +417,7 @@ module _ {F : Type 0} {g : form.Ghosts F} {v : visit.Ghosts F} where
         (goes_start going q a b s u st h))
 
   -- a run still stands somewhere
-  pub going_on : (going : Manner) (q : Query) (u w : Option (List ℕ)) (st next : Stream) (o p : Out F g v)
+  pub going_on : (going : Manner) (q : Query) (u w : Option (List ℕ)) (st next : Stream) (o p : Queue F g v)
       → IsGoing going q u st o → GoesOn going q u w st next o p → p.asked ≡ o.asked
       → IsGoing going q w next p
   going_on going q u w st next o p h k e = (

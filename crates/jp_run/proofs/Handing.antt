@@ -13,12 +13,12 @@ use Rattle.jp_tree.specs.Tree as tree
 use Rattle.jp_regexp.specs.Tests.{Tests, AreRight}
 use Rattle.jp_answer.specs.Answer.{Answer, after, joined, unless_stopped}
 use Rattle.jp_answer.specs.Answered.{outcome_of}
+use Rattle.jp_answer.specs.Blocks.{IsAnswerTo}
 use Rattle.jp_answer.specs.OnFault.{Manner, manner, answer_by, passed_in}
 use Rattle.jp_answer.specs.declared.outcome.Outcome.{Outcome}
 use Rattle.jp_answer.specs.declared.policy.LinePolicy.{LinePolicy}
 use Rattle.jp_output.specs.OutputForm.{OutputForm}
 use Rattle.jp_answer.proofs.OnFaults.{formed_joined, nothing_in, passed_few}
-use Rattle.jp_run.specs.inner.Standing.{IsAnswerOf}
 use Rattle.jp_run.specs.declared.fault.RunFault.{RunFault}
 use Rattle.jp_run.specs.declared.fault.RunFault.TheVariants.{Query, Document, Read, Write, Limit}
 use Rattle.jp_run.specs.declared.fault.RunFault.TheVariants.{Memory, Settings}
@@ -203,20 +203,9 @@ module _ (going : Manner) (q : tree.Query) where
     pub handing_done : whole.stopped ≡ None → Appends a b whole.bytes → Handed going q ls None a b
     handing_done h k = record { whole = whole; is = is; stopped = h; appended = k }
 
--- an answer, where memory sufficed
-pub answer_so : {E : Type 0} (going : Manner) (q : tree.Query) (ls : List Line) (r : Result Outcome E)
-    → IfOk r (λ a. (t : Tests) → AreRight t → answer_by going.form going.policy t q ls ≡ outcome_of a)
-    → IfOk r (λ a. passed_in going.policy ls ≡ a.faulty) → IfOk r (IsAnswerOf going q ls)
-answer_so going q ls (Ok a) is passed = record {
-  is = is;
-  passed = passed;
-  few = omega (arith, passed, passed_few going.policy ls);
-}
-answer_so going q ls (Err e) is passed = tt
-
--- the same by a policy
-pub in_manner : {E : Type 0} (form : OutputForm) (done meant : LinePolicy) (q : tree.Query) (ls : List Line)
-    (r : Result Outcome E) → done ≡ meant → IfOk r (IsAnswerOf (manner form done) q ls)
-    → IfOk r (IsAnswerOf (manner form meant) q ls)
-in_manner form done meant q ls r e h =
-    subst (λ (k : LinePolicy). IfOk r (IsAnswerOf (manner form k) q ls)) e h
+-- the answer by a policy, and to a query, that are the same
+pub in_manner : (form : OutputForm) (done meant : LinePolicy) (q r : tree.Query) (ls : List Line) (a : Outcome)
+    → done ≡ meant → q ≡ r → IsAnswerTo (manner form done) q ls a → IsAnswerTo (manner form meant) r ls a
+in_manner form done meant q r ls a e f h =
+    subst (λ (k : LinePolicy). IsAnswerTo (manner form k) r ls a) e
+    (subst (λ (x : tree.Query). IsAnswerTo (manner form done) x ls a) f h)

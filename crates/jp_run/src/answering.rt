@@ -4,9 +4,9 @@ ghost use Rattle.std.specs.Prelude.{◌≡◌, ◌+◌, ◌<◌, ◌≤◌, fals
 ghost use Rattle.std.specs.Prelude.{IfOk, OnOk, IfErr};
 ghost use Rattle.jp_buffer.specs.Buffered.{line_at};
 ghost use Rattle.jp_compiled.specs.Compiled.{compiled_query};
+ghost use Rattle.jp_answer.specs.Blocks.{IsAnswerTo};
 ghost use Rattle.jp_run.specs.Answered.{manner_in, passed_in};
 ghost use Rattle.jp_run.specs.inner.Ended.{AnswerEnded};
-ghost use Rattle.jp_run.specs.inner.Standing.{IsAnswerOf};
 ghost use Rattle.jp_run.specs.Handed.{Handed};
 ghost use Rattle.jp_run.specs.Limits.{max_lines};
 ghost use Rattle.jp_run.specs.Written.{IsPassedOn};
@@ -14,21 +14,13 @@ ghost use Rattle.jp_run.specs.Written.{IsPassedOn};
 use crate::ends::Sink;
 use crate::fault::RunFault;
 use crate::job::Job;
-use crate::settings::Settings;
 use crate::telling::{faulty_in, tell_gate};
 use crate::writing::hand_out;
-use jp_answer::{Cutting, Gate, Outcome, answer_in_chunks};
+use jp_answer::{Answerer, Gate, Outcome};
 use jp_buffer::LineRef;
 use jp_output::Form;
 use std::alloc::AllocError;
 use std::thread::Threads;
-
-/// How many bytes of lines a worker is started for: to answer them takes longer than to start a thread.
-const BYTES_EACH: usize = 16_384;
-
-/// How many pieces there are at least for each worker, where there are as many lines: so that one whose
-/// pieces are cheap takes more of them.
-const PIECES_EACH: u64 = 4;
 
 /// Answers lines, one batch after another. Gives how many faulty ones were passed.
 pub(crate) fn answer_lines<R: Threads + Sync, K: Sink, G: Gate + Sync, F: Form + Drop + Send>(
@@ -98,34 +90,19 @@ fn answer_batch<R: Threads + Sync, K: Sink, G: Gate + Sync, F: Form + Drop + Sen
     Ok(answer.faulty)
 }
 
-/// The answer to some lines, by as many workers as they are worth.
+/// The answer to some lines, on this thread.
 fn answer_to<R: Threads + Sync, G: Gate + Sync, F: Form + Drop + Send>(
     job: &Job<R, G>,
     lines: &[LineRef<'_>],
 ) -> Result<Outcome, AllocError>
     requires { length lines.now ≤ max_lines + 1 }
-    ensures { IfOk result (IsAnswerOf (manner_in F.says job.now.settings) (compiled_query
+    ensures { IfOk result (IsAnswerTo (manner_in F.says job.now.settings) (compiled_query
         job.now.query.now) (map line_at lines.now)) }
 {
-    let cutting = cutting_for(&job.settings, lines);
-    let policy = job.settings.policy();
-    let answer = answer_in_chunks::<R, G, F>(&job.crew, job.query, lines, cutting, policy)?;
-    tell_gate(&job.crew, policy.numbers, lines, faulty_in(&answer));
+    let asked = job.asked();
+    // One for these lines alone: what it keeps of a long line is let go with it.
+    let mut answerer = Answerer::new(job.crew.alloc);
+    let answer = answerer.answer_lines::<R, G, F>(&job.crew, &asked, lines)?;
+    tell_gate(&job.crew, asked.policy.numbers, lines, faulty_in(&answer));
     Ok(answer)
-}
-
-/// How these lines are cut up: among as many workers as are set, but no more than one for each 16,384 bytes,
-/// in pieces of as many lines as are set, or fewer where some worker would have too little.
-fn cutting_for(settings: &Settings, lines: &[LineRef<'_>]) -> Cutting {
-    let mut bytes: usize = 0;
-    for line in lines {
-        // Saturating, so that no bound on the sum has to be required.
-        bytes = bytes.saturating_add(line.bytes.len());
-    }
-    let workers = settings.workers.min((bytes / BYTES_EACH) as u64).max(1);
-    let share = lines.len() as u64 / (workers * PIECES_EACH);
-    Cutting {
-        workers,
-        piece: settings.piece.min(share.max(1)),
-    }
 }

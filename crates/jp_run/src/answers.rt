@@ -12,7 +12,7 @@ ghost use Rattle.jp_run.specs.Limits.{max_lines};
 
 use crate::fault::RunFault;
 use crate::outcome::{Answer, Whole};
-use jp_answer::{Crew, Cutting, Gate, LinePolicy, OnFault, answer_in_chunks};
+use jp_answer::{Asked, Crew, Gate, LinePolicy, OnFault, answer_by_workers};
 use jp_buffer::refs_of;
 use jp_check::Plan;
 use jp_doc::Line;
@@ -48,14 +48,16 @@ pub fn answer<R: Threads + Sync, G: Gate + Sync>(
     ensures fault { OnErr result (IsErrOf result RunFault.Memory) }
 {
     let crew = Crew { rt, alloc, gate };
-    let cutting = Cutting { workers, piece };
-    let policy = LinePolicy {
-        numbers: Numbers::Whole,
-        on_fault: OnFault::Stop,
+    let asked = Asked {
+        query: plan.compiled(),
+        policy: LinePolicy {
+            numbers: Numbers::Whole,
+            on_fault: OnFault::Stop,
+        },
+        workers,
     };
     let lines = refs_of(alloc, lines)?;
-    let query = plan.compiled();
-    let answer = answer_in_chunks::<R, G, NodeLines>(&crew, query, &lines, cutting, policy)?;
+    let answer = answer_by_workers::<R, G, NodeLines>(&crew, asked, &lines, piece)?;
     Ok(Answer {
         bytes: join_chunks(alloc, answer.chunks)?,
         stopped: answer.stopped,
@@ -89,14 +91,16 @@ pub fn answer_all<R: Threads + Sync, G: Gate + Sync>(
     ensures fault { OnErr result (IsErrOf result RunFault.Memory) }
 {
     let crew = Crew { rt, alloc, gate };
-    let cutting = Cutting { workers, piece };
-    let policy = LinePolicy {
-        numbers: Numbers::Whole,
-        on_fault: OnFault::KeepGoing,
+    let asked = Asked {
+        query: plan.compiled(),
+        policy: LinePolicy {
+            numbers: Numbers::Whole,
+            on_fault: OnFault::KeepGoing,
+        },
+        workers,
     };
     let lines = refs_of(alloc, lines)?;
-    let query = plan.compiled();
-    let answer = answer_in_chunks::<R, G, NodeLines>(&crew, query, &lines, cutting, policy)?;
+    let answer = answer_by_workers::<R, G, NodeLines>(&crew, asked, &lines, piece)?;
     Ok(Whole {
         bytes: join_chunks(alloc, answer.chunks)?,
         faulty: answer.faulty,

@@ -13,10 +13,9 @@ use crate::fault::RunFault;
 use crate::fronts::{make_room, write_all, write_found};
 use crate::gathering::{Came, read_on};
 use crate::job::Job;
-use crate::out::Out;
 use crate::sending::send_come;
 use crate::stream::Stream;
-use jp_answer::{Gate, beside_workers};
+use jp_answer::{Gate, Queue, beside_workers};
 use jp_output::Form;
 use std::thread::Threads;
 
@@ -33,7 +32,7 @@ pub(crate) fn answer_beside<
     source: &mut S,
     sink: &mut K,
     stream: &mut Stream,
-    out: &mut Out<'_, '_, F>,
+    out: &mut Queue<'_, '_, F>,
 ) -> Result<Came, RunFault>
     requires working { (S.failed source.old ≡ false) × (K.failed sink.old ≡ false) }
     requires flushed { K.flushed sink.old ≡ true }
@@ -104,7 +103,7 @@ fn read_beside<R: Threads + Sync, S: Source<K>, K: Sink, G: Gate + Sync, F: Form
     source: &mut S,
     sink: &mut K,
     stream: &mut Stream,
-    out: &mut Out<'_, '_, F>,
+    out: &mut Queue<'_, '_, F>,
 ) -> Result<Came, RunFault>
     requires working { (S.failed source.old ≡ false) × (K.failed sink.old ≡ false) }
     requires flushed { K.flushed sink.old ≡ true }
@@ -154,7 +153,7 @@ fn finish<R: Threads + Sync, K: Sink, G: Gate + Sync, F: Form + Drop + Send>(
     job: &Job<R, G>,
     sink: &mut K,
     stream: &mut Stream,
-    out: &mut Out<'_, '_, F>,
+    out: &mut Queue<'_, '_, F>,
     came: Came,
 ) -> Result<Came, RunFault>
     requires working { K.failed sink.old ≡ false }
@@ -186,7 +185,7 @@ fn serve<R: Threads + Sync, K: Sink, G: Gate + Sync, F: Form + Drop + Send>(
     job: &Job<R, G>,
     sink: &mut K,
     stream: &mut Stream,
-    out: &mut Out<'_, '_, F>,
+    out: &mut Queue<'_, '_, F>,
 ) -> Result<(), RunFault>
     requires working { K.failed sink.old ≡ false }
     requires flushed { K.flushed sink.old ≡ true }

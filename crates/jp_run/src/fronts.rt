@@ -4,37 +4,31 @@ ghost use Rattle.std.specs.Prelude.{◌≡◌, ◌+◌, ◌<◌, ◌≤◌, [], 
 ghost use Rattle.jp_compiled.specs.Compiled.{compiled_query};
 ghost use Rattle.jp_answer.specs.Blocks.{IsTaskAnswer};
 ghost use Rattle.jp_answer.specs.OnFault.{manner};
+ghost use Rattle.jp_answer.specs.Queued.{sent_task};
 ghost use Rattle.jp_run.specs.Answered.{manner_in};
 ghost use Rattle.jp_run.specs.Handed.{Handed};
 ghost use Rattle.jp_run.specs.inner.Ended.{AnswerEnded};
-ghost use Rattle.jp_run.specs.inner.Going.{GoesOn, GoesToEnd, HasWritten, IsGoing, sent_task};
+ghost use Rattle.jp_run.specs.inner.Going.{GoesOn, GoesToEnd, HasWritten, IsGoing};
 ghost use Rattle.jp_run.specs.Limits.{max_lines, window};
 ghost use Rattle.jp_run.specs.Written.{IsPassedOn};
 
 use crate::ends::Sink;
 use crate::fault::RunFault;
 use crate::job::Job;
-use crate::out::{Out, Sent};
 use crate::settling::{WINDOW_BYTES, answer_come};
 use crate::stream::Stream;
 use crate::telling::{faulty_in, tell_waiting};
 use crate::writing::hand_out;
-use jp_answer::{Answerer, Gate, Outcome};
+use jp_answer::{Answerer, Gate, Outcome, Queue, Sent};
 use jp_output::Form;
-use std::thread::{Threads, yield_now};
-
-/// How many blocks may be out at once.
-const MOST_OUT: usize = 16;
-
-/// How often the answer to the front block is looked for before it is made here.
-const LOOKS: u32 = 20_000;
+use std::thread::Threads;
 
 /// Writes the answers that are there, up to the first that is not.
 pub(crate) fn write_found<R: Threads + Sync, K: Sink, G: Gate + Sync, F: Form + Drop + Send>(
     job: &Job<R, G>,
     sink: &mut K,
     stream: &mut Stream,
-    out: &mut Out<'_, '_, F>,
+    out: &mut Queue<'_, '_, F>,
 ) -> Result<(), RunFault>
     requires working { K.failed sink.old ≡ false }
     requires flushed { K.flushed sink.old ≡ true }
@@ -65,7 +59,7 @@ pub(crate) fn make_room<R: Threads + Sync, K: Sink, G: Gate + Sync, F: Form + Dr
     job: &Job<R, G>,
     sink: &mut K,
     stream: &mut Stream,
-    out: &mut Out<'_, '_, F>,
+    out: &mut Queue<'_, '_, F>,
 ) -> Result<(), RunFault>
     requires working { K.failed sink.old ≡ false }
     requires flushed { K.flushed sink.old ≡ true }
@@ -86,7 +80,7 @@ pub(crate) fn make_room<R: Threads + Sync, K: Sink, G: Gate + Sync, F: Form + Dr
         out.old) }
     ensures near { OnOk result (stream.new.come < window) }
 {
-    while out.sent.len() >= MOST_OUT {
+    while out.is_full() {
         write_next::<R, K, G, F>(job, sink, stream, out)?;
     }
     if stream.come >= WINDOW_BYTES {
@@ -101,7 +95,7 @@ pub(crate) fn write_all<R: Threads + Sync, K: Sink, G: Gate + Sync, F: Form + Dr
     job: &Job<R, G>,
     sink: &mut K,
     stream: &mut Stream,
-    out: &mut Out<'_, '_, F>,
+    out: &mut Queue<'_, '_, F>,
 ) -> Result<(), RunFault>
     requires working { K.failed sink.old ≡ false }
     requires flushed { K.flushed sink.old ≡ true }
@@ -133,7 +127,7 @@ pub(crate) fn answer_behind<R: Threads + Sync, K: Sink, G: Gate + Sync, F: Form 
     job: &Job<R, G>,
     sink: &mut K,
     stream: &mut Stream,
-    out: &mut Out<'_, '_, F>,
+    out: &mut Queue<'_, '_, F>,
 ) -> Result<(), RunFault>
     requires working { K.failed sink.old ≡ false }
     requires flushed { K.flushed sink.old ≡ true }
@@ -166,7 +160,7 @@ fn write_next<R: Threads + Sync, K: Sink, G: Gate + Sync, F: Form + Drop + Send>
     job: &Job<R, G>,
     sink: &mut K,
     stream: &mut Stream,
-    out: &mut Out<'_, '_, F>,
+    out: &mut Queue<'_, '_, F>,
 ) -> Result<(), RunFault>
     requires working { K.failed sink.old ≡ false }
     requires flushed { K.flushed sink.old ≡ true }
@@ -188,49 +182,8 @@ fn write_next<R: Threads + Sync, K: Sink, G: Gate + Sync, F: Form + Drop + Send>
         out.old) }
     ensures fewer { OnOk result (length out.new.sent.items + 1 ≡ length out.old.sent.items) }
 {
-    await_front::<R, G, F>(job, out);
+    out.await_front(&job.crew);
     write_front::<R, K, G, F>(job, sink, stream, out)
-}
-
-/// Looks for the answer to the front block, for a while. As long as there is a block that no worker has taken
-/// this thread answers it meanwhile.
-fn await_front<R: Threads + Sync, G: Gate + Sync, F: Form + Drop + Send>(
-    job: &Job<R, G>,
-    out: &mut Out<'_, '_, F>,
-)
-    ensures asked { out.new.asked ≡ out.old.asked }
-    ensures sent { out.new.sent ≡ out.old.sent }
-    ensures bytes { out.new.bytes ≡ out.old.bytes }
-{
-    let mut helps = true;
-    for _look in 0..LOOKS {
-        if out.has_front() {
-            return;
-        }
-        if helps {
-            helps = help::<R, G, F>(job, out);
-        } else {
-            yield_now();
-        }
-    }
-}
-
-/// Answers the first block that no worker has taken. Gives whether there was one.
-fn help<R: Threads + Sync, G: Gate + Sync, F: Form + Drop + Send>(
-    job: &Job<R, G>,
-    out: &mut Out<'_, '_, F>,
-) -> bool
-    ensures asked { out.new.asked ≡ out.old.asked }
-    ensures sent { out.new.sent ≡ out.old.sent }
-    ensures bytes { out.new.bytes ≡ out.old.bytes }
-{
-    for sent in &out.sent {
-        if out.ring.take_back(sent.number) {
-            out.answerer.fill(&job.crew, &sent.block);
-            return true;
-        }
-    }
-    false
 }
 
 /// Writes the answer to the front block, which is made here where it has not come.
@@ -238,7 +191,7 @@ fn write_front<R: Threads + Sync, K: Sink, G: Gate + Sync, F: Form + Drop + Send
     job: &Job<R, G>,
     sink: &mut K,
     stream: &mut Stream,
-    out: &mut Out<'_, '_, F>,
+    out: &mut Queue<'_, '_, F>,
 ) -> Result<(), RunFault>
     requires working { K.failed sink.old ≡ false }
     requires flushed { K.flushed sink.old ≡ true }

@@ -12,7 +12,6 @@ mod fronts;
 mod gathering;
 mod job;
 pub mod laws;
-mod out;
 mod outcome;
 mod output;
 mod running;

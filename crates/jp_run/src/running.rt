@@ -72,8 +72,8 @@ impl Totals {
 /// The query is read first. Then the source is read to its end, at most 65,536 bytes a call. Before each read
 /// that may wait, as the source says, all lines whose end has come are answered and written, and the sink is
 /// flushed; while reads do not wait, so are those that have come once there are `batch` of them, or 4 MB at
-/// most: no more than `batch` are answered and written at once. The rest is at the end. They are answered by
-/// the workers, of whom there is one for each 16,384 bytes of their lines at most. The run stops at the first
+/// most: no more than `batch` are answered and written at once. The rest is at the end. While reads do not
+/// wait and much has come the workers answer, of whom the calling thread is one; else it answers alone. The run stops at the first
 /// faulty line, unless the settings are to keep going: then the totals count it, and it gives what the form
 /// has for it, which for nodes is its fault line and else nothing.
 /// Neither end has failed before, and the counts of the source are at most 2^62.

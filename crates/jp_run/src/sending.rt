@@ -3,7 +3,7 @@
 ghost use Rattle.std.specs.Prelude.{◌≡◌, ◌≤◌, false, true, length, OnOk, IfErr};
 ghost use Rattle.jp_compiled.specs.Compiled.{compiled_query};
 ghost use Rattle.jp_run.specs.Answered.{manner_in};
-ghost use Rattle.jp_run.specs.inner.Going.{GoesOn, GoesToEnd, HasSent, IsGoing};
+ghost use Rattle.jp_run.specs.inner.Going.{GoesOn, GoesToEnd, WentOut, IsGoing};
 ghost use Rattle.jp_run.specs.Limits.{max_lines};
 ghost use Rattle.jp_run.specs.Written.{IsPassedOn};
 
@@ -11,16 +11,14 @@ use crate::ends::Sink;
 use crate::fault::RunFault;
 use crate::fronts::{answer_behind, write_all};
 use crate::job::Job;
-use crate::out::{Out, Sent};
+use crate::settings::Settings;
 use crate::stream::Stream;
-use jp_answer::{Block, Gate, Task};
-use jp_buffer::WaitingLines;
+use jp_answer::{Gate, Queue};
 use jp_output::Form;
 use std::alloc::{AllocError, Global};
-use std::sync::Arc;
 use std::thread::Threads;
 
-/// How many bytes of lines make a block.
+/// How many bytes of lines make a block, though they are fewer lines than a piece.
 const BLOCK_BYTES: usize = 32_768;
 
 /// Hands the lines that wait out as a block, where they are enough for one. Where they are more than a batch
@@ -29,7 +27,7 @@ pub(crate) fn send_come<R: Threads + Sync, K: Sink, G: Gate + Sync, F: Form + Dr
     job: &Job<R, G>,
     sink: &mut K,
     stream: &mut Stream,
-    out: &mut Out<'_, '_, F>,
+    out: &mut Queue<'_, '_, F>,
 ) -> Result<(), RunFault>
     requires working { K.failed sink.old ≡ false }
     requires flushed { K.flushed sink.old ≡ true }
@@ -53,41 +51,32 @@ pub(crate) fn send_come<R: Threads + Sync, K: Sink, G: Gate + Sync, F: Form + Dr
         write_all::<R, K, G, F>(job, sink, stream, out)?;
         return answer_behind::<R, K, G, F>(job, sink, stream, out);
     }
-    if stream.buffer.total_bytes() < BLOCK_BYTES {
-        return Ok(());
+    if is_enough(&job.settings, stream) {
+        send_block(job.crew.alloc, stream, out)?;
     }
-    send_block(job.crew.alloc, stream, out)?;
     Ok(())
+}
+
+/// Whether the lines that wait are a block: a piece of them, or many bytes.
+fn is_enough(settings: &Settings, stream: &Stream) -> bool {
+    stream.buffer.len() as u64 >= settings.piece || stream.buffer.total_bytes() >= BLOCK_BYTES
 }
 
 /// Hands the lines that wait out as a block.
 fn send_block<F: Form + Drop>(
     alloc: Global,
     stream: &mut Stream,
-    out: &mut Out<'_, '_, F>,
+    out: &mut Queue<'_, '_, F>,
 ) -> Result<(), AllocError>
     requires few_lines { length stream.old.buffer.lines ≤ max_lines }
     requires bytes { out.old.bytes ≤ stream.old.come }
-    ensures sent { OnOk result (HasSent stream.old stream.new out.old out.new) }
+    ensures sent { OnOk result (WentOut stream.old stream.new out.old out.new) }
     ensures asked { out.new.asked ≡ out.old.asked }
     ensures left { stream.new.left ≡ stream.old.left }
 {
-    let mut lines = out.spare.pop().unwrap_or_else(|| WaitingLines::new(alloc));
-    lines.clear();
+    let mut lines = out.buffer(alloc);
     stream.buffer.exchange(&mut lines);
-    let task = Task {
-        asked: out.asked,
-        lines,
-    };
-    let block = Arc::new(alloc, Block::new(task))?;
-    out.ring.hand_out(out.next, Arc::try_clone(&block)?);
-    let sent = Sent {
-        number: out.next,
-        bytes: stream.come - out.bytes,
-        block,
-    };
-    out.next = out.next.saturating_add(1);
+    out.send(alloc, lines, stream.come - out.bytes)?;
     out.bytes = stream.come;
-    out.sent.push_back(sent)?;
     Ok(())
 }

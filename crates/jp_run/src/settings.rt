@@ -21,7 +21,7 @@ const MAX_DOCUMENTS: u64 = 1_000_000;
 pub struct Settings {
     /// The number of workers, 1 to 64.
     pub workers: u64,
-    /// The number of documents of a piece, 1 to 1,000,000; the last may have fewer.
+    /// The least number of documents of a piece, 1 to 1,000,000: fewer are one where they are 32,768 bytes.
     pub piece: u64,
     /// The number of documents of a batch, 1 to 1,000,000; the last may have fewer.
     pub batch: u64,

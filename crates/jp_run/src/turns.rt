@@ -12,10 +12,9 @@ use crate::ends::{Sink, Source};
 use crate::fault::RunFault;
 use crate::gathering::{Came, read_on};
 use crate::job::Job;
-use crate::out::Out;
 use crate::settling::settle;
 use crate::stream::Stream;
-use jp_answer::{Asked, Gate, Ring};
+use jp_answer::{Gate, Queue, Ring};
 use jp_output::Form;
 use std::thread::Threads;
 
@@ -104,12 +103,7 @@ fn read_blocks<R: Threads + Sync, S: Source<K>, K: Sink, G: Gate + Sync, F: Form
         (K.contents sink.new) (K.failed sink.new) stream.old) }
 {
     let ring: Ring<'_, F> = Ring::new(job.crew.alloc)?;
-    let asked = Asked {
-        query: job.query,
-        policy: job.settings.policy(),
-        workers: job.settings.workers,
-    };
-    let mut out = Out::new(job.crew.alloc, &ring, asked);
+    let mut out = Queue::new(job.crew.alloc, &ring, job.asked());
     answer_beside::<R, S, K, G, F>(job, source, sink, stream, &mut out)
 }
 

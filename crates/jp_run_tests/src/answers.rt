@@ -156,7 +156,7 @@ fn the_first_piece_waits_for_the_third(rt: HostRuntime) {
 }
 
 #[test]
-fn pieces_above_a_mark_are_left(rt: HostRuntime) {
+fn pieces_behind_a_faulty_one_are_left(rt: HostRuntime) {
     let gate = Recorder(AtomicU64::new(0));
     let input = ("$", b"1\n2\n{\n4\n5\n6\n7\n8\n9\n10\n".as_slice());
     let stop = DocStop {

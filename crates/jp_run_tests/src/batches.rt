@@ -12,8 +12,8 @@ use std::thread::Threads;
 /// More bytes than any of these runs writes.
 const ROOM: usize = 1_000_000;
 
-/// More bytes than a worker is started for.
-const WORTH_A_WORKER: usize = 20_000;
+/// More bytes than are answered without workers.
+const WORTH_A_BLOCK: usize = 70_000;
 
 /// Two documents, with a blank line between them.
 const TWO: &[u8] = b"{\"a\":1}\n\n{\"a\":null}\n";
@@ -171,10 +171,10 @@ fn no_read_that_waits_follows_a_faulty_line(rt: HostRuntime) {
     }
 }
 
-/// A document on a line that is long enough for a worker of its own.
+/// A document on a line that is long enough for a block of its own.
 fn push_long(document: &str, out: &mut String) -> Result<(), AllocError> {
     out.push_str(document)?;
-    for _blank in 0..WORTH_A_WORKER {
+    for _blank in 0..WORTH_A_BLOCK {
         out.push(' ')?;
     }
     out.push('\n')?;
@@ -192,13 +192,13 @@ fn is_run_by_two<R: Threads + Sync, G: Gate + Sync>(
     let mut text = String::new(alloc);
     push_long("[]", &mut text)?;
     push_long("{}", &mut text)?;
-    let mut source = FromReader::new(text.as_bytes());
+    let mut source = FromReader::never_waits(text.as_bytes());
     let mut sink = Holds::new(Vec::new(alloc), ROOM, ROOM);
     let end = run(rt, alloc, &mut source, &mut sink, "$", &settings, gate);
     Ok(end.is_ok() && sink.bytes.as_slice() == b"1\t$\t[]\n2\t$\t{}\n".as_slice())
 }
 
-/// Two documents are two pieces, however large a piece may be.
+/// Two long documents are two blocks, however large a piece may be.
 #[test]
 fn two_workers_at_once_in_a_batch(rt: HostRuntime) -> Result<(), Fail> {
     for piece in &[1u64, 64] {

@@ -1,11 +1,11 @@
 //! Runs over more bytes than a few blocks hold, whose reads do not wait: workers answer beside the reads.
 
 use crate::fakes::{FailsAfter, Holds};
+use crate::gates::{Entered, Pair};
 use crate::long_lines::{answer_of, lines_of};
 use jp_doc::DocFault;
 use jp_run::{FromReader, Gate, OpenGate, RunFault, Settings, Totals, run};
 use std::alloc::Global;
-use std::sync::atomic::{AtomicU64, Ordering};
 use std::test::Fail;
 use std::thread::Threads;
 
@@ -19,9 +19,6 @@ const ROOM: usize = 1_000_000;
 
 /// More reads than there are.
 const ALL_READS: u64 = 1_000;
-
-/// How many runs there are at most until some worker answers a late block.
-const RUNS: u32 = 100;
 
 /// A run of `$[0]` over the text, of whose reads so many pass, into a sink with so much room.
 fn run_of<R: Threads + Sync, G: Gate + Sync>(
@@ -226,39 +223,22 @@ fn a_write_fails(rt: HostRuntime) -> Result<(), Fail> {
     Ok(())
 }
 
-/// How often a worker has passed with a block's number above those that a batch has pieces.
-#[derive(Drop)]
-struct Late(AtomicU64);
-
-impl Gate for Late {
-    fn pass(&self, number: u64) {
-        if number > 16 {
-            self.0.fetch_add(1, Ordering::SeqCst);
-        }
-    }
-}
-
-/// Whether a worker beside the reads answers some block, in so many runs at most.
-fn does_any_answer<R: Threads + Sync>(
-    rt: &R,
-    alloc: Global,
-    text: &str,
-    settings: &Settings,
-) -> bool {
-    for _run in 0..RUNS {
-        let gate = Late(AtomicU64::new(0));
-        let _end = run_of(rt, alloc, text, settings, (ALL_READS, ROOM), &gate);
-        if gate.0.load(Ordering::SeqCst) > 0 {
-            return true;
-        }
-    }
-    false
-}
-
+/// The first two blocks wait for each other: so the calling thread answers one, and a worker the other.
 #[test]
-fn workers_answer(rt: HostRuntime) -> Result<(), Fail> {
+fn a_worker_answers(rt: HostRuntime) -> Result<(), Fail> {
     let text = lines_of(rt.alloc(), LINES, BLANKS, &[])?;
     let settings = Settings::new(2, 64, 4_096)?;
-    assert!(rt; does_any_answer(&rt, rt.alloc(), &text, &settings));
+    let gate = Pair(Entered::new());
+    let (end, _) = run_of(
+        &rt,
+        rt.alloc(),
+        &text,
+        &settings,
+        (ALL_READS, ROOM),
+        &gate,
+    );
+    assert!(rt; end.is_ok());
+    assert_eq!(rt; gate.0.failures(), 0);
+    assert_eq!(rt; gate.0.seen(), [true, true, true]);
     Ok(())
 }

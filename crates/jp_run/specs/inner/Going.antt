@@ -2,23 +2,21 @@
 -- alone.
 use Rattle.std.specs.Prelude.{◌≡◌, ℕ, ◌+◌, ◌++◌, List, [], ◌∷◌, length, Option, None, Bool}
 use Rattle.std.specs.List.{flat_map}
-use Rattle.std.specs.Arc.{arc_value}
 use Rattle.std.specs.Io.KnownBytes.{Consumes}
-use Rattle.jp_doc.specs.Lines.{Line}
 use Rattle.jp_doc.specs.Feeding.{nothing_fed, fed, fed_lines}
 use Rattle.jp_tree.specs.Tree.{Query}
 use Rattle.jp_compiled.specs.Compiled.{compiled_query}
 use Rattle.jp_output.specs.declared.form.Form as form
 use Rattle.jp_answer.below.jp_nodes.specs.declared.visit.Visit as visit
 use Rattle.jp_answer.specs.OnFault.{Manner, passed_in}
+use Rattle.jp_answer.specs.Queued.{sent_lines, sent_task}
 use Rattle.jp_answer.specs.declared.policy.LinePolicy.{LinePolicy}
-use Rattle.jp_answer.specs.declared.task.Task.{Task}
+use Rattle.jp_answer.specs.declared.queue.Queue.{Queue}
+use Rattle.jp_answer.specs.declared.queue.Sent.{Sent}
 use Rattle.jp_run.specs.Come.{documents_in}
 use Rattle.jp_run.specs.Handed.{Handed}
 use Rattle.jp_run.specs.inner.Ended.{StreamEnded}
 use Rattle.jp_run.specs.declared.fault.RunFault.{RunFault}
-use Rattle.jp_run.specs.declared.out.Out.{Out}
-use Rattle.jp_run.specs.declared.out.Sent.{Sent}
 use Rattle.jp_run.specs.declared.stream.Stream.{Stream}
 
 -- pieces, one behind another
@@ -26,15 +24,6 @@ abbrev pub all_bytes : List (List ℕ) → List ℕ
 all_bytes pieces = flat_map (λ piece. piece) pieces
 
 module _ {F : Type 0} {g : form.Ghosts F} {v : visit.Ghosts F} where
-  -- the task of a block that is out
-  abbrev pub sent_task : Sent F g v → Task
-  sent_task s = (arc_value s.block).task
-
-  -- the lines of the blocks that are out
-  abbrev pub sent_lines : List (Sent F g v) → List Line
-  sent_lines [] = []
-  sent_lines (s ∷ rest) = (sent_task s).lines ++ sent_lines rest
-
   -- the block has the lines that end in a piece behind these bytes, and asks this query of them
   pub record IsSent (policy : LinePolicy) (q : Query) (before piece : List ℕ) (s : Sent F g v) : Type 0 where
     pub lines : (sent_task s).lines ≡ fed_lines (fed nothing_fed before) piece
@@ -68,23 +57,23 @@ module _ {F : Type 0} {g : form.Ghosts F} {v : visit.Ghosts F} where
     pub handed : Handed going q (documents_in front) None sink_old sink_now
 
   -- this is what is asked of further blocks
-  abbrev pub AsksSo : Manner → Query → Out F g v → Type 0
+  abbrev pub AsksSo : Manner → Query → Queue F g v → Type 0
   AsksSo going q o = (compiled_query o.asked.query.now ≡ q) × (o.asked.policy ≡ going.policy)
 
   -- a run stands somewhere
-  abbrev pub IsGoing : Manner → Query → Option (List ℕ) → Stream → Out F g v → Type 0
+  abbrev pub IsGoing : Manner → Query → Option (List ℕ) → Stream → Queue F g v → Type 0
   IsGoing going q sink s o = (old : Option (List ℕ)) × (now : Option (List ℕ)) × (sink_old : Option (List ℕ))
       × Goes going q old now sink_old sink s o.sent.items o.bytes × AsksSo going q o
 
   -- wherever a run stood, it stands so afterwards
-  abbrev pub GoesOn : Manner → Query → Option (List ℕ) → Option (List ℕ) → Stream → Stream → Out F g v
-      → Out F g v → Type 0
+  abbrev pub GoesOn : Manner → Query → Option (List ℕ) → Option (List ℕ) → Stream → Stream → Queue F g v
+      → Queue F g v → Type 0
   GoesOn going q sink sink_new s t o p = (old now sink_old : Option (List ℕ))
       → Goes going q old now sink_old sink s o.sent.items o.bytes
       → Goes going q old now sink_old sink_new t p.sent.items p.bytes
 
   -- wherever a run stood, its end is told truly so
-  abbrev pub GoesToEnd : Manner → Query → Option (List ℕ) → Option (List ℕ) → Bool → Stream → Out F g v
+  abbrev pub GoesToEnd : Manner → Query → Option (List ℕ) → Option (List ℕ) → Bool → Stream → Queue F g v
       → RunFault → Type 0
   GoesToEnd going q sink sink_new failed s o fault = (old now sink_old : Option (List ℕ))
       → (reads_old reads_new : ℕ) → (source_failed : Bool)
@@ -108,7 +97,7 @@ module _ {F : Type 0} {g : form.Ghosts F} {v : visit.Ghosts F} where
     pub faulty : after.answered.faulty ≡ before.answered.faulty + passed_in policy (sent_task s).lines
 
   -- the lines that waited are out in a block
-  pub record HasSent (before after : Stream) (o p : Out F g v) : Type 0 where
+  pub record WentOut (before after : Stream) (o p : Queue F g v) : Type 0 where
     pub sent : Sent F g v
     pub out : p.sent.items ≡ o.sent.items ++ sent ∷ []
     pub same : p.asked ≡ o.asked

@@ -15,12 +15,6 @@ use Rattle.jp_run.specs.Handed.{Handed}
 use Rattle.jp_run.specs.Limits.{max_lines}
 use Rattle.jp_run.specs.declared.stream.Stream.{Stream}
 
--- the answer to these lines, in a form
-pub record IsAnswerOf (going : Manner) (q : Query) (ls : List Line) (a : Outcome) : Type 0 where
-  pub is : (t : Tests) → AreRight t → answer_by going.form going.policy t q ls ≡ outcome_of a
-  pub passed : passed_in going.policy ls ≡ a.faulty
-  pub few : a.faulty ≤ length ls
-
 -- there are no more lines than are counted
 pub record IsCounted (s : Stream) : Type 0 where
   pub lines : s.answered.lines + length s.buffer.lines ≤ max_lines + 1

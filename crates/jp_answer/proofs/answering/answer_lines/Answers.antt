@@ -12,14 +12,14 @@ pub loop-line-preserved-in_default : goal.loop-line-preserved-in_default
 loop-line-preserved-in_default g c =
     let form = g.F.Form.says in
     let bytes = g.F.Form.written in
-    let k = c.args.pieces.now.policy in
+    let k = c.args.asked.now.policy in
     let lines = c.args.lines.now in
     let kept = c.loop-line.invariant in
     let none = sym c.in_ok-more.ensures.fault ∙ c.in_default.is in
     record {
       query = c.in_ok-more.ensures.query ∙ kept.query;
       answer = λ t right. answer_more k lines c.loop-line.line-index c.loop-line-test.true form t
-          (compiled_query c.args.pieces.now.query.now) (evaluated_query c.loop-line.tools.evaluator)
+          (compiled_query c.args.asked.now.query.now) (evaluated_query c.loop-line.tools.evaluator)
           (bytes c.loop-line.written)
           (bytes c.in_ok-more.more) kept.query (kept.answer t right)
           (c.in_ok-more.ensures.lines t right) (inr none);
@@ -30,8 +30,8 @@ loop-line-preserved-in_default g c =
 
 pub returns-in-Stop-clause-answer : goal.returns-in-Stop-clause-answer
 returns-in-Stop-clause-answer g c = λ t right. answer_last
-    c.args.pieces.now.policy c.args.lines.now c.loop-line.line-index c.loop-line-test.true g.F.Form.says t
-    (compiled_query c.args.pieces.now.query.now) (evaluated_query c.loop-line.tools.evaluator)
+    c.args.asked.now.policy c.args.lines.now c.loop-line.line-index c.loop-line-test.true g.F.Form.says t
+    (compiled_query c.args.asked.now.query.now) (evaluated_query c.loop-line.tools.evaluator)
     (g.F.Form.written c.loop-line.written)
     (bytes_in c.in_ok-into_chunks-in-Stop.field-0.items) c.in-Some.fault c.loop-line.invariant.query
     (c.loop-line.invariant.answer t right)
@@ -39,16 +39,16 @@ returns-in-Stop-clause-answer g c = λ t right. answer_last
     (sym c.in_ok-more.ensures.fault ∙ c.in-Some.is)
 
 pub returns-in-Stop-clause-stopped : goal.returns-in-Stop-clause-stopped
-returns-in-Stop-clause-stopped g c = stop_last c.args.pieces.now.policy c.args.lines.now
+returns-in-Stop-clause-stopped g c = stop_last c.args.asked.now.policy c.args.lines.now
     c.loop-line.line-index c.loop-line-test.true c.in-Some.fault
     c.loop-line.invariant.stopped c.in-Stop.is (sym c.in_ok-more.ensures.fault ∙ c.in-Some.is)
 
 pub overflow_add-faulty : goal.overflow_add-faulty
 overflow_add-faulty g c = omega (
   arith,
-  passed_fits c.args.pieces.now.policy c.args.lines.now c.loop-line.line-index
+  passed_fits c.args.asked.now.policy c.args.lines.now c.loop-line.line-index
       c.loop-line-test.true c.loop-line.faulty
-      (passed_one c.args.pieces.now.policy c.args.lines.now c.loop-line.line-index
+      (passed_one c.args.asked.now.policy c.args.lines.now c.loop-line.line-index
       c.loop-line-test.true c.loop-line.faulty c.in-Some.fault c.loop-line.invariant.passed
       c.in-KeepGoing.is (sym c.in_ok-more.ensures.fault ∙ c.in-Some.is)),
   c.requires.few,
@@ -58,14 +58,14 @@ pub loop-line-preserved : goal.loop-line-preserved
 loop-line-preserved g c =
     let form = g.F.Form.says in
     let bytes = g.F.Form.written in
-    let k = c.args.pieces.now.policy in
+    let k = c.args.asked.now.policy in
     let lines = c.args.lines.now in
     let kept = c.loop-line.invariant in
     let found = sym c.in_ok-more.ensures.fault ∙ c.in-Some.is in
     record {
       query = c.in_ok-more.ensures.query ∙ kept.query;
       answer = λ t right. answer_more k lines c.loop-line.line-index c.loop-line-test.true form t
-          (compiled_query c.args.pieces.now.query.now) (evaluated_query c.loop-line.tools.evaluator)
+          (compiled_query c.args.asked.now.query.now) (evaluated_query c.loop-line.tools.evaluator)
           (bytes c.loop-line.written)
           (bytes c.in_ok-more.more) kept.query (kept.answer t right)
           (c.in_ok-more.ensures.lines t right) (inl c.in-KeepGoing.is);
@@ -76,8 +76,8 @@ loop-line-preserved g c =
     }
 
 pub returns-clause-answer : goal.returns-clause-answer
-returns-clause-answer g c = λ t right. answer_end g.F.Form.says c.args.pieces.now.policy t
-    (compiled_query c.args.pieces.now.query.now) (map line_at c.args.lines.now)
+returns-clause-answer g c = λ t right. answer_end g.F.Form.says c.args.asked.now.policy t
+    (compiled_query c.args.asked.now.query.now) (map line_at c.args.lines.now)
     (map line_at (drop c.loop-line.line-index c.args.lines.now))
     (g.F.Form.written c.loop-line.written)
     (bytes_in c.in_ok-chunks.chunks.items)

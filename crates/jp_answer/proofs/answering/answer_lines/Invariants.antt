@@ -9,15 +9,15 @@ use Rattle.jp_answer.proofs.answering.answer_lines.Given as goal
 
 abbrev pub invariant-loop-line : goal.invariant-loop-line
 invariant-loop-line g l = record {
-  query : evaluated_query l.tools.evaluator ≡ compiled_query l.pieces.query.now;
-  answer : (t : Tests) → AreRight t → answer_by g.F.Form.says l.pieces.policy t
-      (compiled_query l.pieces.query.now)
+  query : evaluated_query l.tools.evaluator ≡ compiled_query l.asked.query.now;
+  answer : (t : Tests) → AreRight t → answer_by g.F.Form.says l.asked.policy t
+      (compiled_query l.asked.query.now)
       (map line_at l.lines)
-      ≡ after (g.F.Form.written l.written) (answer_by g.F.Form.says l.pieces.policy t
-      (compiled_query l.pieces.query.now)
+      ≡ after (g.F.Form.written l.written) (answer_by g.F.Form.says l.asked.policy t
+      (compiled_query l.asked.query.now)
       (map line_at (drop l.line-index l.lines)));
-  stopped : stop_in l.pieces.policy (map line_at l.lines)
-      ≡ stop_in l.pieces.policy (map line_at (drop l.line-index l.lines));
-  passed : passed_in l.pieces.policy (map line_at l.lines)
-      ≡ l.faulty + passed_in l.pieces.policy (map line_at (drop l.line-index l.lines));
+  stopped : stop_in l.asked.policy (map line_at l.lines)
+      ≡ stop_in l.asked.policy (map line_at (drop l.line-index l.lines));
+  passed : passed_in l.asked.policy (map line_at l.lines)
+      ≡ l.faulty + passed_in l.asked.policy (map line_at (drop l.line-index l.lines));
 }

@@ -4,9 +4,9 @@ use Rattle.jp_run.proofs.answering.answer_batch.Goals as goal
 
 pub returns-in_err-hand_out-clause-fault : goal.returns-in_err-hand_out-clause-fault
 returns-in_err-hand_out-clause-fault g c = told _ _ _ c.from_residual-in_err-hand_out.ensures.1
-    (ended_handing _ _ _ (outcome_of c.in_ok-answer.answer) c.in_ok-answer.ensures.is _ _ _ _
+    (ended_handing _ _ _ (outcome_of c.in_ok-answer.answer) c.in_ok-answer.ensures.answer _ _ _ _
     c.in_err-hand_out.ensures.fault)
 
 pub returns-clause-handed : goal.returns-clause-handed
 returns-clause-handed g c = handing_done _ _ _ (outcome_of c.in_ok-answer.answer)
-    c.in_ok-answer.ensures.is _ _ c.in_ok-hand_out.ensures.whole c.in_ok-hand_out.ensures.ok
+    c.in_ok-answer.ensures.answer _ _ c.in_ok-hand_out.ensures.whole c.in_ok-hand_out.ensures.ok

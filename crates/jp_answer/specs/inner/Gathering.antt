@@ -1,0 +1,63 @@
+-- A working file, which nobody has to believe: what is gathered while blocks are out, for private clauses
+-- alone.
+use Rattle.std.specs.Prelude.{◌≡◌, ◌+◌, ◌≤◌, ◌⊎◌, ◌++◌, List, length, None, All, option_map}
+use Rattle.jp_board.specs.Limits.{max_pieces}
+use Rattle.jp_doc.specs.Lines.{Line}
+use Rattle.jp_compiled.specs.Compiled.{compiled_query}
+use Rattle.jp_regexp.specs.Tests.{Tests, AreRight}
+use Rattle.jp_nodes.specs.declared.visit.Visit as visit
+use Rattle.jp_output.specs.OutputForm.{OutputForm}
+use Rattle.jp_output.specs.declared.form.Form as form
+use Rattle.jp_answer.specs.Answer.{Answer, joined}
+use Rattle.jp_answer.specs.OnFault.{answer_by, stop_in, passed_in}
+use Rattle.jp_answer.specs.Queued.{sent_lines, sent_task}
+use Rattle.jp_answer.specs.declared.asked.Asked.{Asked}
+use Rattle.jp_answer.specs.declared.gathered.Gathered.{Gathered}
+use Rattle.jp_answer.specs.declared.on_fault.OnFault.TheVariants.{Stop}
+use Rattle.jp_answer.specs.declared.queue.Queue.{Queue}
+use Rattle.jp_answer.specs.declared.queue.Sent.{Sent}
+use Rattle.jp_answer.specs.declared.task.Task.{Task}
+
+-- what was gathered, but for its count
+abbrev pub gathered_of : Gathered → Answer
+gathered_of a = record {
+  bytes = a.bytes.items;
+  stopped = option_map (λ s. (s.line, s.fault)) a.stopped;
+}
+
+-- all that is asked of the lines was gathered
+pub record IsAllOf (form : OutputForm) (asked : Asked) (ls : List Line) (done : Gathered) : Type 0 where
+  pub answer : (t : Tests) → AreRight t → answer_by form asked.policy t (compiled_query asked.query.now) ls
+      ≡ gathered_of done
+  pub passed : passed_in asked.policy ls ≡ done.faulty
+
+-- the answer to the task was put behind what was gathered
+pub record HasPut (form : OutputForm) (task : Task) (before after : Gathered) : Type 0 where
+  pub answer : (t : Tests) → AreRight t → gathered_of after ≡ joined (gathered_of before)
+      (answer_by form task.asked.policy t (compiled_query task.asked.query.now) task.lines)
+  pub passed : after.faulty ≡ before.faulty + passed_in task.asked.policy task.lines
+  pub stopped : (gathered_of after).stopped ≡ stop_in task.asked.policy task.lines
+
+module _ {F : Type 0} {g : form.Ghosts F} {v : visit.Ghosts F} where
+  -- The answer to all lines is what was gathered, then that to the lines of the blocks that are out, and then
+  -- that to the rest.
+  pub record Gathers (form : OutputForm) (asked : Asked) (all rest : List Line) (out : List (Sent F g v))
+      (done : Gathered) : Type 0 where
+    pub answer : (t : Tests) → AreRight t
+        → answer_by form asked.policy t (compiled_query asked.query.now) all
+        ≡ joined (gathered_of done)
+        (answer_by form asked.policy t (compiled_query asked.query.now) (sent_lines out ++ rest))
+    pub passed : passed_in asked.policy all ≡ done.faulty + passed_in asked.policy (sent_lines out ++ rest)
+    pub asks : All (λ s. (sent_task s).asked ≡ asked) out
+    pub stops : ((gathered_of done).stopped ≡ None) ⊎ (asked.policy.on_fault ≡ Stop)
+    pub few : length all ≤ max_pieces
+
+  -- some lines are gathered so
+  abbrev pub IsGathering : OutputForm → Queue F g v → Gathered → Type 0
+  IsGathering form o done = (all : List Line) × (rest : List Line)
+      × Gathers form o.asked all rest o.sent.items done
+
+  -- whichever lines are gathered so, they are so afterwards
+  abbrev pub GathersOn : OutputForm → Queue F g v → Queue F g v → Gathered → Gathered → Type 0
+  GathersOn form o p before after = (all rest : List Line)
+      → Gathers form o.asked all rest o.sent.items before → Gathers form o.asked all rest p.sent.items after
