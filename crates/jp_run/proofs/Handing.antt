@@ -12,13 +12,12 @@ use Rattle.jp_doc.specs.declared.fault.DocFault.{DocFault}
 use Rattle.jp_tree.specs.Tree as tree
 use Rattle.jp_regexp.specs.Tests.{Tests, AreRight}
 use Rattle.jp_answer.specs.Answer.{Answer, after, joined, unless_stopped}
-use Rattle.jp_answer.specs.Answered.{outcome_of}
 use Rattle.jp_answer.specs.Blocks.{IsAnswerTo}
-use Rattle.jp_answer.specs.OnFault.{Manner, manner, answer_by, passed_in}
+use Rattle.jp_answer.specs.OnFault.{Manner, manner, answer_by}
 use Rattle.jp_answer.specs.declared.outcome.Outcome.{Outcome}
 use Rattle.jp_answer.specs.declared.policy.LinePolicy.{LinePolicy}
 use Rattle.jp_output.specs.OutputForm.{OutputForm}
-use Rattle.jp_answer.proofs.OnFaults.{formed_joined, nothing_in, passed_few}
+use Rattle.jp_answer.proofs.OnFaults.{formed_joined, nothing_in}
 use Rattle.jp_run.specs.declared.fault.RunFault.{RunFault}
 use Rattle.jp_run.specs.declared.fault.RunFault.TheVariants.{Query, Document, Read, Write, Limit}
 use Rattle.jp_run.specs.declared.fault.RunFault.TheVariants.{Memory, Settings}

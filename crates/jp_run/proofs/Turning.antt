@@ -7,11 +7,11 @@ use Rattle.jp_answer.below.jp_nodes.specs.declared.visit.Visit as visit
 use Rattle.jp_answer.specs.OnFault.{Manner}
 use Rattle.jp_run.specs.inner.Going.{all_bytes, Goes}
 use Rattle.jp_run.specs.inner.Reading.{HasCome}
+use Rattle.jp_answer.specs.declared.queue.Sent.{Sent}
 use Rattle.jp_run.specs.inner.Standing.{Stands}
 use Rattle.jp_run.specs.inner.Turning.{CameSo}
 use Rattle.jp_run.specs.declared.gathering.Came.{Came}
 use Rattle.jp_run.specs.declared.gathering.Came.TheVariants.{More, End, Failure}
-use Rattle.jp_run.specs.declared.out.Sent.{Sent}
 use Rattle.jp_run.specs.declared.stream.Answered.{Answered}
 use Rattle.jp_run.specs.declared.stream.Stream.{Stream}
 use Rattle.jp_run.proofs.Going.{goes_read}

@@ -51,9 +51,10 @@ pub(crate) fn send_come<R: Threads + Sync, K: Sink, G: Gate + Sync, F: Form + Dr
         write_all::<R, K, G, F>(job, sink, stream, out)?;
         return answer_behind::<R, K, G, F>(job, sink, stream, out);
     }
-    if is_enough(&job.settings, stream) {
-        send_block(job.crew.alloc, stream, out)?;
+    if !is_enough(&job.settings, stream) {
+        return Ok(());
     }
+    send_block(job.crew.alloc, stream, out)?;
     Ok(())
 }
 

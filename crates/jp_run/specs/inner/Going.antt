@@ -9,7 +9,7 @@ use Rattle.jp_compiled.specs.Compiled.{compiled_query}
 use Rattle.jp_output.specs.declared.form.Form as form
 use Rattle.jp_answer.below.jp_nodes.specs.declared.visit.Visit as visit
 use Rattle.jp_answer.specs.OnFault.{Manner, passed_in}
-use Rattle.jp_answer.specs.Queued.{sent_lines, sent_task}
+use Rattle.jp_answer.specs.Queued.{sent_task}
 use Rattle.jp_answer.specs.declared.policy.LinePolicy.{LinePolicy}
 use Rattle.jp_answer.specs.declared.queue.Queue.{Queue}
 use Rattle.jp_answer.specs.declared.queue.Sent.{Sent}

@@ -2,13 +2,9 @@
 -- alone.
 use Rattle.std.specs.Prelude.{◌≡◌, ℕ, ◌+◌, ◌<◌, ◌≤◌, ◌⊎◌, ◌++◌, List, [], length, Option, None, false, true}
 use Rattle.std.specs.Io.KnownBytes.{Consumes}
-use Rattle.jp_doc.specs.Lines.{Line}
 use Rattle.jp_doc.specs.Feeding.{nothing_fed, fed, fed_lines}
 use Rattle.jp_tree.specs.Tree.{Query}
-use Rattle.jp_answer.specs.Answered.{outcome_of}
-use Rattle.jp_answer.specs.OnFault.{Manner, answer_by, passed_in}
-use Rattle.jp_answer.specs.declared.outcome.Outcome.{Outcome}
-use Rattle.jp_regexp.specs.Tests.{Tests, AreRight}
+use Rattle.jp_answer.specs.OnFault.{Manner, passed_in}
 use Rattle.jp_run.specs.Begun.{Begun}
 use Rattle.jp_run.specs.Come.{documents_in}
 use Rattle.jp_run.specs.Handed.{Handed}

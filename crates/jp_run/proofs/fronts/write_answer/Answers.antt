@@ -1,7 +1,7 @@
 use Rattle.std.proofs.Common.{arith}
 use Rattle.jp_answer.proofs.OnFaults.{passed_few}
 use Rattle.jp_answer.specs.Answered.{outcome_of}
-use Rattle.jp_run.specs.inner.Going.{sent_task}
+use Rattle.jp_answer.specs.Queued.{sent_task}
 use Rattle.jp_run.proofs.Handing.{told, handing_done, ended_handing}
 use Rattle.jp_run.proofs.fronts.write_answer.Goals as goal
 

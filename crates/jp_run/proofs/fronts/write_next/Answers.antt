@@ -10,6 +10,6 @@ write_front-requires-clause-going g c κs within =
     let q = compiled_query c.args.job.now.query.now in
     let u = g.K.Sink.contents c.args.sink.now in
     let st = c.args.stream.now in
-    going_on going q u u st st c.args.out.now c.await_front.new.out c.requires.going
+    going_on going q u u st st c.args.out.now c.await_front.new.self c.requires.going
     (λ old now sink h. goes_same going q old now sink u st _ _ _ _ (ap (λ d. d.items)
     c.await_front.ensures.sent) c.await_front.ensures.bytes h) c.await_front.ensures.asked

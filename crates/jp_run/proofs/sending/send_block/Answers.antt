@@ -1,15 +1,11 @@
-use Rattle.std.proofs.Common.{◌-◌, rules, refl}
+use Rattle.std.proofs.Common.{rules}
 use Rattle.jp_run.proofs.sending.send_block.Goals as goal
 
 pub returns-clause-sent : goal.returns-clause-sent
 returns-clause-sent g c = record {
-  sent = record {
-    number = c.args.out.now.next;
-    bytes = c.args.stream.now.come - c.args.out.now.bytes;
-    block = c.in_ok-block.block;
-  };
+  sent = c.in_ok-send.ensures.sent.sent;
   out = search rules;
-  same = refl;
+  same = search rules;
   lines = search rules;
   asked = search rules;
   bytes = search rules;
