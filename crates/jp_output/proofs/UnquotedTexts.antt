@@ -14,6 +14,7 @@ use Rattle.json.specs.Print.{escape_byte}
 use Rattle.jp_doc.specs.Json.{Json, null, truth, number, text, array, object, Text}
 use Rattle.jp_doc.specs.Location.{Location, node}
 use Rattle.jp_flat.specs.Value.{text_in}
+use Rattle.jp_output.specs.RawText.{raw_text}
 use Rattle.jp_output.specs.UnquotedText.{unquoted_byte, unquoted_text, text_line}
 
 -- what stands for a byte
@@ -39,6 +40,14 @@ text_unquoted (truth b) s e = absurd (none-some s (sym e))
 text_unquoted (number x) s e = absurd (none-some s (sym e))
 text_unquoted (array vs) s e = absurd (none-some s (sym e))
 text_unquoted (object ms) s e = absurd (none-some s (sym e))
+
+pub text_raw : (v : Json) (s : Text) → Some s ≡ text_in v → raw_text v ≡ encode_utf8_all s
+text_raw (text t) s e = ap (λ x. encode_utf8_all x) (sym (same_Some s t e))
+text_raw null s e = absurd (none-some s (sym e))
+text_raw (truth b) s e = absurd (none-some s (sym e))
+text_raw (number x) s e = absurd (none-some s (sym e))
+text_raw (array vs) s e = absurd (none-some s (sym e))
+text_raw (object ms) s e = absurd (none-some s (sym e))
 
 -- reading back: a byte, and what follows it
 

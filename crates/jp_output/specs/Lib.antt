@@ -5,5 +5,6 @@ pub mod InputLine
 pub mod NumberedLines
 pub mod OutputForm
 pub mod OutputLine
+pub mod RawText
 pub mod UnquotedText
 pub mod inner

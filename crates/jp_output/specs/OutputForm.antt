@@ -8,6 +8,7 @@ use Rattle.jp_doc.specs.declared.fault.DocFault.{DocFault}
 use Rattle.jp_output.specs.FaultLine.{fault_line}
 use Rattle.jp_output.specs.InputLine.{input_line}
 use Rattle.jp_output.specs.OutputLine.{node_line, line_of, value_text}
+use Rattle.jp_output.specs.RawText.{raw_text}
 use Rattle.jp_output.specs.UnquotedText.{unquoted_text}
 
 -- the bytes for a line's document, of which these nodes are selected, and for a faulty line with this number
@@ -33,6 +34,10 @@ value_lines = lines_of value_text
 -- the form of texts: the same, where a text stands without its quotes
 abbrev pub text_lines : OutputForm
 text_lines = lines_of unquoted_text
+
+-- the form of raw texts: the same, where a text stands as it is, line feeds and all
+abbrev pub raw_lines : OutputForm
+raw_lines = lines_of raw_text
 
 -- the form of input lines: each line that has a node which is selected, as it came
 abbrev pub input_lines : OutputForm

@@ -11,8 +11,9 @@ ghost use Rattle.jp_output.specs.Chunks.{bytes_in};
 ghost use Rattle.jp_output.specs.FaultLine.{fault_line};
 ghost use Rattle.jp_output.specs.Fields.{times, HasThreeFields, IsOneLine, third_field, third_fields};
 ghost use Rattle.jp_output.specs.NumberedLines.{first_field, first_fields, lines_numbered};
-ghost use Rattle.jp_output.specs.OutputForm.{node_lines, value_lines, text_lines, input_lines};
+ghost use Rattle.jp_output.specs.OutputForm.{node_lines, value_lines, text_lines, raw_lines, input_lines};
 ghost use Rattle.jp_output.specs.OutputLine.{value_text, line_text, value_line};
+ghost use Rattle.jp_output.specs.RawText.{raw_text};
 ghost use Rattle.jp_output.specs.UnquotedText.{unquoted_text, text_line};
 
 /// Compact texts: of each kind of value, with no space between its parts, items and members as they stand.
@@ -136,6 +137,20 @@ fn values_and_texts()
     ensures in_an_array { unquoted_text (array (items (text (codes "a") ∷ []))) ≡ codes "[\"a\"]" }
     ensures within { ¬ IsOneLine (10 ∷ 97 ∷ 10 ∷ []) }
     ensures not_ended { ¬ IsOneLine (10 ∷ 97 ∷ []) }
+{}
+
+/// Texts as they are: a quotation mark, a backslash, a line feed; within an array they are as ever.
+#[tactic(auto, unfolding(crate::proofs::OnLiterals::lines_on_literals))]
+fn raw_texts()
+    ensures quote { raw_text (text (codes "a\"b")) ≡ codes "a\"b" }
+    ensures backslash { raw_text (text (codes "a\\b")) ≡ codes "a\\b" }
+    ensures line_feed { raw_text (text (97 ∷ 10 ∷ 98 ∷ [])) ≡ 97 ∷ 10 ∷ 98 ∷ [] }
+    ensures text_in_utf8 { raw_text (text (128512 ∷ [])) ≡ 240 ∷ 159 ∷ 152 ∷ 128 ∷ [] }
+    ensures number { raw_text (number (whole (negsuc 4))) ≡ codes "-5" }
+    ensures in_an_array { raw_text (array (items (text (codes "a") ∷ []))) ≡ codes "[\"a\"]" }
+    ensures line { raw_lines.of_document (3, codes "7") (node [] (text (codes "a")) ∷ node [] (text []) ∷ [])
+        ≡ codes "a" ++ 10 ∷ 10 ∷ [] }
+    ensures faulty { raw_lines.of_fault 3 Unreadable ≡ [] }
 {}
 
 /// The forms of line 3, with two nodes that are the same: the line ends with a carriage return.

@@ -31,7 +31,7 @@ pub(crate) fn append_unquoted(
 }
 
 /// The text that a value is, if it is one.
-fn text_of<'v>(value: Part<'v>) -> Option<&'v str>
+pub(crate) fn text_of<'v>(value: Part<'v>) -> Option<&'v str>
     ensures { option_map (λ s. chars s.now) result ≡ text_in (part_value value.entry) }
 {
     match value {

@@ -3,6 +3,7 @@
 ghost use Rattle.std.specs.Prelude.{◌≡◌, ◌++◌, OnOk};
 ghost use Rattle.jp_part.specs.Part.{part_value};
 
+use crate::raw_text::append_raw;
 use crate::unquoted_text::append_unquoted;
 use crate::value_text::append_value;
 use jp_part::Part;
@@ -60,5 +61,23 @@ impl ValueForm for Unquoted {
         out: &mut Vec<u8>,
     ) -> Result<(), AllocError> {
         append_unquoted(alloc, value, scratch, out)
+    }
+}
+
+/// The compact text of each value, but a text stands as it is, with no quote and no escape.
+pub struct Raw;
+
+impl ValueForm for Raw {
+    ghost use Rattle.jp_output.specs.RawText.{raw_text};
+
+    ghost text = { raw_text };
+
+    fn append(
+        alloc: Global,
+        value: Part<'_>,
+        scratch: &mut Vec<u8>,
+        out: &mut Vec<u8>,
+    ) -> Result<(), AllocError> {
+        append_raw(alloc, value, scratch, out)
     }
 }

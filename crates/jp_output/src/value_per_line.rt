@@ -5,7 +5,7 @@ ghost use Rattle.jp_part.specs.Part.{part_value};
 
 use crate::form::Form;
 use crate::output_buffer::OutputBuffer;
-use crate::value_form::{Compact, Unquoted, ValueForm};
+use crate::value_form::{Compact, Raw, Unquoted, ValueForm};
 use jp_doc::DocFault;
 use jp_nodes::Visit;
 use jp_part::Part;
@@ -19,6 +19,9 @@ pub type ValueLines = ValuePerLine<Compact>;
 /// The same, but a text stands without its two quotes, and with `"` in place of `\"`. So each is one line,
 /// and different texts have different lines.
 pub type TextLines = ValuePerLine<Unquoted>;
+
+/// The same, but a text stands as it is, line feeds and all: so a text may be no line or several.
+pub type RawLines = ValuePerLine<Raw>;
 
 /// Takes nodes as the texts of their values, each with a line feed, behind those before.
 ///

@@ -13,7 +13,7 @@ use Rattle.jp_run.specs.Answered.{numbers_of}
 use Rattle.jp_run.specs.declared.fault.RunFault.{RunFault}
 use Rattle.jp_run.specs.declared.fault.RunFault.TheVariants.{Memory}
 use Rattle.jp_run.specs.declared.output.Output.{Output}
-use Rattle.jp_run.specs.declared.output.Output.TheVariants.{Nodes, Values, Texts, Lines}
+use Rattle.jp_run.specs.declared.output.Output.TheVariants.{Nodes, Values, Texts, Raw, Lines}
 use Rattle.jp_program.specs.CommandLine.{said, refusals, AsksToShow}
 use Rattle.jp_program.specs.Wanted.{Wanted, SaysNumber, flag_text, output_text, Wants, WantsCheck, IsWrong}
 use Rattle.jp_program.specs.inner.Asked.{IsAsked, IsNotAsked, wanted_of}
@@ -45,12 +45,14 @@ number_same name rows m n a b = sym a.3
 
 -- which form a word names, by its first byte
 abbrev named : ℕ → Output
-named b = if b == 110 then Nodes else (if b == 118 then Values else (if b == 116 then Texts else Lines))
+named b = if b == 110 then Nodes else (if b == 118 then Values else (if b == 116 then Texts else
+    (if b == 114 then Raw else Lines)))
 
 named_is : (x : Output) → named (first (Some (output_text x))) ≡ x
 named_is Nodes = refl
 named_is Values = refl
 named_is Texts = refl
+named_is Raw = refl
 named_is Lines = refl
 
 output_same : (x y : Output) → ◌≡◌ (Some (output_text x)) (Some (output_text y)) → x ≡ y

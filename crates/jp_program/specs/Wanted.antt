@@ -5,7 +5,7 @@ use Rattle.std.specs.Str.Parse.{IsNumeral, digits_value, without_leading_plus}
 use Rattle.clap.specs.Walk.{Text, Row, first_of, one_of}
 use Rattle.jp_run.specs.Settings.{AreSettings}
 use Rattle.jp_run.specs.declared.output.Output.{Output}
-use Rattle.jp_run.specs.declared.output.Output.TheVariants.{Nodes, Values, Texts, Lines}
+use Rattle.jp_run.specs.declared.output.Output.TheVariants.{Nodes, Values, Texts, Raw, Lines}
 use Rattle.jp_program.specs.CommandLine.{said, refusals, IsRefused}
 
 -- the query's text in scalar values, whether it is only checked, what is written, whether documents and the
@@ -40,6 +40,7 @@ abbrev pub output_text : Output → Text
 output_text Nodes = codes "nodes"
 output_text Values = codes "values"
 output_text Texts = codes "texts"
+output_text Raw = codes "raw"
 output_text Lines = codes "lines"
 
 -- the option's text is the word for this form

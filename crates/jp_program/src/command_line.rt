@@ -26,13 +26,14 @@ every JSON number is read, exactly, and printed as it stands, and a query may ha
 OUTPUT is a line for each node that the query selects, in order: the number of the document's line, a tab,
 the node's normalized path, a tab, the node's value. No other tab stands in it: cut -f3 gives the values.
 With --output values a line is the value alone; with texts too, but a text stands without its quotes, and
-\\\" as \"; with lines it is the whole line of the input, once, if at least one node is selected in it.
+\\\" as \"; with raw a text stands as it is, line feeds and all; with lines it is the whole line of the
+input, once, if at least one node is selected in it.
 
 A QUERY that begins with - is given behind --. Beside the functions of RFC 9535 it may call two of our own:
 xor(A, B), exactly one of the two is true, and distinct(NODES), the nodes with each location once.
 
 The first faulty line ends the run. With --keep-going it gives a line of its own instead: its
-number, a tab, !, a tab, what is wrong with it. In the other three forms it gives none, and is counted.
+number, a tab, !, a tab, what is wrong with it. In the other forms it gives none, and is counted.
 
 Status: 0 finished, whether or not anything was selected; 2 the query is refused; 3 a line is faulty;
 4 reading or writing failed, or a limit was passed; 5 out of memory; 64 the command line is refused.
@@ -162,7 +163,7 @@ fn output<'a>(alloc: Global) -> Arg<'a>
         .long("output")
         .value_name("FORM")
         .default_value("nodes")
-        .help("What is written: nodes, values, texts or lines")
+        .help("What is written: nodes, values, texts, raw or lines")
 }
 
 /// An option that takes a number.

@@ -15,6 +15,7 @@ pub(crate) fn output_of(word: &str) -> Option<Output>
         "nodes" => Some(Output::Nodes),
         "values" => Some(Output::Values),
         "texts" => Some(Output::Texts),
+        "raw" => Some(Output::Raw),
         "lines" => Some(Output::Lines),
         _ => None,
     }

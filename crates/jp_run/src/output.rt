@@ -10,6 +10,8 @@ pub enum Output {
     Values,
     /// The same, but a text stands without its two quotes, and with `"` in place of `\"`.
     Texts,
+    /// The same, but a text stands as it is, line feeds and all.
+    Raw,
     /// The document's line as it came, where at least one node is selected. A faulty line has none.
     Lines,
 }

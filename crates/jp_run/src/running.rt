@@ -36,7 +36,7 @@ use crate::writing::pass_on;
 use jp_answer::{Crew, Gate};
 use jp_check::{Plan, plan_in};
 use jp_number::Numbers;
-use jp_output::{Form, InputLines, NodeLines, TextLines, ValueLines};
+use jp_output::{Form, InputLines, NodeLines, RawLines, TextLines, ValueLines};
 use jp_syntax::QueryFault;
 use std::alloc::Global;
 use std::thread::Threads;
@@ -223,6 +223,7 @@ fn answer_in_form<R: Threads + Sync, S: Source<K>, K: Sink, G: Gate + Sync>(
         Output::Nodes => answer_stream::<R, S, K, G, NodeLines>(job, source, sink),
         Output::Values => answer_stream::<R, S, K, G, ValueLines>(job, source, sink),
         Output::Texts => answer_stream::<R, S, K, G, TextLines>(job, source, sink),
+        Output::Raw => answer_stream::<R, S, K, G, RawLines>(job, source, sink),
         Output::Lines => answer_stream::<R, S, K, G, InputLines>(job, source, sink),
     }
 }

@@ -3,7 +3,7 @@ use Rattle.std.specs.Str.Parse.{digits_value, without_leading_plus}
 use Rattle.clap.specs.Walk.{Text, one_of, first_of}
 use Rattle.clap.proofs.OnLiterals.{clap_on_literals}
 use Rattle.jp_run.specs.declared.output.Output.{Output}
-use Rattle.jp_run.specs.declared.output.Output.TheVariants.{Nodes, Values, Texts, Lines}
+use Rattle.jp_run.specs.declared.output.Output.TheVariants.{Nodes, Values, Texts, Raw, Lines}
 use Rattle.jp_program.specs.CommandLine.{said, refusals}
 use Rattle.jp_program.specs.Wanted.{output_text}
 use Rattle.jp_program.proofs.examples.out_of_range.Goals as goal
@@ -40,6 +40,7 @@ word_begins : (o : Output) → 107 < first (output_text o)
 word_begins Nodes = let is : first (output_text Nodes) ≡ 110 = refl in omega (arith, is)
 word_begins Values = let is : first (output_text Values) ≡ 118 = refl in omega (arith, is)
 word_begins Texts = let is : first (output_text Texts) ≡ 116 = refl in omega (arith, is)
+word_begins Raw = let is : first (output_text Raw) ≡ 114 = refl in omega (arith, is)
 word_begins Lines = let is : first (output_text Lines) ≡ 108 = refl in omega (arith, is)
 
 no_form : (word : Text) (o : Output) (said : Option Text) → said ≡ Some word → said ≡ Some (output_text o)

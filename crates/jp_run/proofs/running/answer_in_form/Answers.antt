@@ -50,6 +50,22 @@ pub returns-in-Texts-clause-window : goal.returns-in-Texts-clause-window
 returns-in-Texts-clause-window g c =
     near_in _ _ c.in-Texts.is _ _ _ _ _ _ _ _ c.answer_stream-in-Texts.ensures.window
 
+pub returns-in-Raw-clause-handed : goal.returns-in-Raw-clause-handed
+returns-in-Raw-clause-handed g c =
+    handed_in _ _ c.in-Raw.is _ _ _ _ _ _ _ c.answer_stream-in-Raw.ensures.handed
+
+pub returns-in-Raw-clause-fault : goal.returns-in-Raw-clause-fault
+returns-in-Raw-clause-fault g c =
+    ended_in _ _ c.in-Raw.is _ _ _ c.answer_stream-in-Raw.result _ c.answer_stream-in-Raw.ensures.fault
+
+pub returns-in-Raw-clause-prompt : goal.returns-in-Raw-clause-prompt
+returns-in-Raw-clause-prompt g c =
+    prompt_in _ _ c.in-Raw.is _ _ _ _ _ _ _ c.answer_stream-in-Raw.ensures.prompt
+
+pub returns-in-Raw-clause-window : goal.returns-in-Raw-clause-window
+returns-in-Raw-clause-window g c =
+    near_in _ _ c.in-Raw.is _ _ _ _ _ _ _ _ c.answer_stream-in-Raw.ensures.window
+
 pub returns-in-Lines-clause-handed : goal.returns-in-Lines-clause-handed
 returns-in-Lines-clause-handed g c =
     handed_in _ _ c.in-Lines.is _ _ _ _ _ _ _ c.answer_stream-in-Lines.ensures.handed
