@@ -22,8 +22,15 @@ use jp_tree::QueryFault;
 use std::alloc::{AllocError, Global};
 
 /// Tells a fault in one line. Behind that of a command line a further one says what is wrong with the words,
-/// or what to do; behind that of a query further ones show where it went wrong.
-pub(crate) fn tell_of_words<N: Sink>(alloc: Global, notes: &mut N, words: &[&str], fault: &RunFault)
+/// or what to do; behind that of a query further ones show where it went wrong. A write that failed since the
+/// reader has gone is not told.
+pub(crate) fn tell_of_words<N: Sink>(
+    alloc: Global,
+    notes: &mut N,
+    words: &[&str],
+    fault: &RunFault,
+    lost_reader: bool,
+)
     ensures untouched { N.failed notes.old ≡ true → notes.new ≡ notes.old }
     ensures refused { (f : Refusal) (w : Wish) → fault.now ≡ RunFault.Query f → Wants (texts words.now) w
         → IsVerdictIn (numbers_of w.decimals) w.query (Err f)
@@ -38,6 +45,8 @@ pub(crate) fn tell_of_words<N: Sink>(alloc: Global, notes: &mut N, words: &[&str
                 note(notes, Ok(line));
             }
         }
+        // Whoever has stopped reading knows it.
+        RunFault::Write if lost_reader => {}
         _ => tell(alloc, notes, fault),
     }
 }

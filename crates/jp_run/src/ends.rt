@@ -114,4 +114,10 @@ pub trait Sink {
     /// Whether any call so far has failed.
     fn failed(&self) -> bool
         ensures { result ≡ failed self.now };
+
+    /// Whether a call has failed because nobody reads any more what is written. A sink that cannot say says
+    /// no; no clause speaks of it.
+    fn lost_reader(&self) -> bool {
+        false
+    }
 }

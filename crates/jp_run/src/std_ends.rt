@@ -3,7 +3,7 @@
 ghost use Rattle.std.specs.Prelude.{◌≡◌, None, true, false};
 
 use crate::ends::{Broken, Sink, Source, Supply};
-use std::io::{Read, Write};
+use std::io::{ErrorKind, Read, Write};
 
 /// A source over a reader of std. Each error of a read, of whatever kind, is a failure.
 #[derive(Drop)]
@@ -112,6 +112,7 @@ pub struct FromWriter<W> {
     writer: W,
     failed: bool,
     flushed: bool,
+    lost_reader: bool,
 }
 
 impl<W: Write> FromWriter<W> {
@@ -124,6 +125,7 @@ impl<W: Write> FromWriter<W> {
             writer,
             failed: false,
             flushed: true,
+            lost_reader: false,
         }
     }
 }
@@ -141,8 +143,13 @@ impl<W: Write> Sink for FromWriter<W> {
                 self.flushed = false;
                 Ok(n)
             }
-            _ => {
+            Ok(_) => {
                 self.failed = true;
+                Err(Broken)
+            }
+            Err(error) => {
+                self.failed = true;
+                self.lost_reader = error.kind() == ErrorKind::BrokenPipe;
                 Err(Broken)
             }
         }
@@ -154,8 +161,9 @@ impl<W: Write> Sink for FromWriter<W> {
                 self.flushed = true;
                 Ok(())
             }
-            Err(_) => {
+            Err(error) => {
                 self.failed = true;
+                self.lost_reader = error.kind() == ErrorKind::BrokenPipe;
                 Err(Broken)
             }
         }
@@ -163,5 +171,9 @@ impl<W: Write> Sink for FromWriter<W> {
 
     fn failed(&self) -> bool {
         self.failed
+    }
+
+    fn lost_reader(&self) -> bool {
+        self.lost_reader
     }
 }
