@@ -4,7 +4,7 @@ use crate::tasks::{going_on, has_bytes, lines_of, task_of};
 use jp_answer::{Answerer, Block, Crew, OpenGate};
 use jp_check::plan;
 use jp_compiled::Query;
-use jp_output::{Form, InputLines, NodeLines, TextLines, ValueLines};
+use jp_output::{Form, InputLines, NodeLines, RawLines, TextLines, ValueLines};
 use std::alloc::Global;
 use std::thread::Threads;
 
@@ -61,6 +61,11 @@ fn values(rt: HostRuntime) {
 #[test]
 fn texts(rt: HostRuntime) {
     assert!(rt; is_form::<HostRuntime, TextLines>(&rt, rt.alloc(), "a\nb\n") == Some(true));
+}
+
+#[test]
+fn raw(rt: HostRuntime) {
+    assert!(rt; is_form::<HostRuntime, RawLines>(&rt, rt.alloc(), "a\nb\n") == Some(true));
 }
 
 #[test]

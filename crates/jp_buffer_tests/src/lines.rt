@@ -217,3 +217,33 @@ fn lines_handed_out(rt: HostRuntime) -> Result<(), Fail> {
     assert!(rt; is_used_again(rt.alloc(), &mut buffer, &mut part)?);
     Ok(())
 }
+
+/// Whether lines that are added as they are wait, blank ones too.
+fn are_added(alloc: Global) -> Result<bool, AllocError> {
+    let more = [
+        LineRef {
+            number: 7,
+            bytes: b"[]",
+        },
+        LineRef {
+            number: 2,
+            bytes: b" ",
+        },
+        LineRef {
+            number: 2,
+            bytes: b"",
+        },
+    ];
+    let mut part = WaitingLines::new(alloc);
+    part.push(1, b"nu", b"ll")?;
+    part.push(2, b" ", b"")?;
+    part.extend(&more)?;
+    part.extend(&[])?;
+    has(alloc, &part, &[(1, b"null"), (7, b"[]"), (2, b" "), (2, b"")], 7)
+}
+
+#[test]
+fn lines_added_as_they_are(rt: HostRuntime) -> Result<(), Fail> {
+    assert!(rt; are_added(rt.alloc())?);
+    Ok(())
+}

@@ -1,11 +1,11 @@
-//! The forms of the answer, with ample memory: values, texts and lines of the input, over trees and flat
-//! documents.
+//! The forms of the answer, with ample memory: values, texts, raw texts and lines of the input, over trees and
+//! flat documents.
 
 use jp_check::{Plan, plan};
 use jp_doc::{DocFault, Document};
 use jp_flat::FlatReader;
 use jp_nodes::Visit;
-use jp_output::{Form, InputLines, TextLines, ValueLines, join_chunks};
+use jp_output::{Form, InputLines, RawLines, TextLines, ValueLines, join_chunks};
 use jp_part::Part;
 use jp_path_stack::PathStack;
 use jp_select::visit_nodes;
@@ -128,6 +128,28 @@ fn values_and_texts(rt: HostRuntime) -> Result<(), Fail> {
     for (document, value, text) in &ROWS {
         assert!(rt;
             writes_both(rt.alloc(), &mut reader, document, value, text)?,
+            "{document}"
+        );
+    }
+    Ok(())
+}
+
+/// Documents, and what the form of raw texts writes of them.
+const RAW: [(&str, &[u8]); 6] = [
+    ("\"\"", b"\n"),
+    ("\"say \\\"\\u00fc\\ud83d\\ude00\\\"\"", b"say \"\xc3\xbc\xf0\x9f\x98\x80\"\n"),
+    ("\"a\\\\b\\/\"", b"a\\b/\n"),
+    ("\"one\\r\\ntwo\\tthree\"", b"one\r\ntwo\tthree\n"),
+    ("\"\\u0000\\b\\u001f\"", b"\0\x08\x1f\n"),
+    ("[ \"a\\\"\" , 1 ]", b"[\"a\\\"\",1]\n"),
+];
+
+#[test]
+fn raw_texts(rt: HostRuntime) -> Result<(), Fail> {
+    let mut reader = FlatReader::new(rt.alloc());
+    for (document, text) in &RAW {
+        assert!(rt;
+            writes::<RawLines>(rt.alloc(), &mut reader, document.as_bytes(), 1, text)?,
             "{document}"
         );
     }

@@ -4,7 +4,7 @@ use crate::running::leaves;
 use jp_program::program;
 use jp_run::{FromReader, FromWriter};
 use std::alloc::AllocGlobal;
-use std::io::{self, ErrorKind, Read};
+use std::io::{self, ErrorKind, Read, Write};
 use std::test::Fail;
 use std::thread::Threads;
 
@@ -103,6 +103,55 @@ fn tells_sink<R: Threads + AllocGlobal + Sync>(rt: &R) -> bool {
 #[test]
 fn a_sink_that_fails_is_told(rt: HostRuntime) {
     assert!(rt; tells_sink(&rt));
+}
+
+/// A writer that fails in this way, or passes writes and fails as it flushes.
+#[derive(Drop)]
+struct NoWriter {
+    kind: ErrorKind,
+    takes: bool,
+}
+
+impl Write for NoWriter {
+    fn write(&mut self, buf: &[u8]) -> io::Result<usize> {
+        if self.takes {
+            return Ok(buf.len());
+        }
+        Err(self.kind.into())
+    }
+
+    fn flush(&mut self) -> io::Result<()> {
+        if self.takes {
+            return Err(self.kind.into());
+        }
+        Ok(())
+    }
+}
+
+/// What the program tells where its sink fails so. `None` where it does not end with 4.
+fn told_of<R: Threads + AllocGlobal + Sync>(
+    rt: &R,
+    kind: ErrorKind,
+    takes: bool,
+) -> Option<Vec<u8>> {
+    let mut notes = Vec::new(rt.alloc());
+    let input: &[u8] = b"{\"a\":1}";
+    let mut source = FromReader::new(input);
+    let mut sink = FromWriter::new(NoWriter { kind, takes });
+    let mut told = FromWriter::new(&mut notes);
+    let status = program(rt, &["jp", "$.a"], &mut source, &mut sink, &mut told);
+    (status == 4).then_some(notes)
+}
+
+/// Of a reader of the output that has gone nothing is told, and of any other failure that it failed.
+#[test]
+fn a_reader_that_has_gone_is_not_told(rt: HostRuntime) {
+    for takes in &[false, true] {
+        let gone = told_of(&rt, ErrorKind::BrokenPipe, *takes);
+        assert!(rt; matches!(gone, Some(notes) if notes.is_empty()));
+        let full = told_of(&rt, ErrorKind::StorageFull, *takes);
+        assert!(rt; matches!(full, Some(notes) if notes.as_slice() == b"jp: write\n".as_slice()));
+    }
 }
 
 /// Neither the help nor a note needs to find room.

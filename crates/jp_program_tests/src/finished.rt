@@ -86,7 +86,7 @@ exactly
 -d, --decimals
 -k, --keep-going
 -o, --output
-nodes, values, texts or lines
+nodes, values, texts, raw or lines
 [default: nodes]
 QUERY
 [default: 4]

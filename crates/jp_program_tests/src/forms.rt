@@ -8,7 +8,7 @@ const INPUT: &[u8] = b"{\"level\":\"error\", \"msg\":\"say \\\"hi\\\"\\\\\\n\",\
     {\"level\":\"info\"}\n{\"level\":\"error\",\"msg\":null}";
 
 /// Words, each with what they give there.
-const RUNS: [(&[&str], &[u8]); 8] = [
+const RUNS: [(&[&str], &[u8]); 10] = [
     (
         &["jp", "--output", "nodes", "$.level"],
         b"1\t$['level']\t\"error\"\n3\t$['level']\t\"info\"\n4\t$['level']\t\"error\"\n",
@@ -20,6 +20,15 @@ const RUNS: [(&[&str], &[u8]); 8] = [
     (
         &["jp", "--output", "texts", "$['n','msg','msg']"],
         b"[1,2]\nsay \"hi\"\\\\\\n\nsay \"hi\"\\\\\\n\nnull\nnull\n",
+    ),
+    (
+        &["jp", "--output", "raw", "$['n','msg','msg']"],
+        b"[1,2]\nsay \"hi\"\\\n\nsay \"hi\"\\\n\nnull\nnull\n",
+    ),
+    (
+        &["jp", "-oraw", "$"],
+        b"{\"level\":\"error\",\"msg\":\"say \\\"hi\\\"\\\\\\n\",\"n\":[1,2]}\n{\"level\":\"info\"}\n\
+          {\"level\":\"error\",\"msg\":null}\n",
     ),
     // Inside of an array a text keeps its quotes.
     (
@@ -51,7 +60,7 @@ fn each_form_is_written(rt: HostRuntime) {
 const FAULTY: &[u8] = b"{\"a\":\"x\"}\n{\n{\"a\":2}\n";
 
 /// Forms, each with what `$.a` gives there where the run keeps going, and where it stops.
-const FAULTY_RUNS: [(&str, &[u8], &[u8]); 4] = [
+const FAULTY_RUNS: [(&str, &[u8], &[u8]); 5] = [
     (
         "nodes",
         b"1\t$['a']\t\"x\"\n2\t!\tunreadable\n3\t$['a']\t2\n",
@@ -59,6 +68,7 @@ const FAULTY_RUNS: [(&str, &[u8], &[u8]); 4] = [
     ),
     ("values", b"\"x\"\n2\n", b"\"x\"\n"),
     ("texts", b"x\n2\n", b"x\n"),
+    ("raw", b"x\n2\n", b"x\n"),
     ("lines", b"{\"a\":\"x\"}\n{\"a\":2}\n", b"{\"a\":\"x\"}\n"),
 ];
 

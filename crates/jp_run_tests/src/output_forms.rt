@@ -32,7 +32,7 @@ fn ran<R: Threads + Sync>(
 const CUTS: [(u64, u64, u64); 5] = [(1, 1, 1), (1, 10, 2), (2, 1, 10), (4, 1, 2), (4, 10, 10)];
 
 /// Forms, each with what is written where the run keeps going, and where it stops.
-const FORMS: [(Output, &[u8], &[u8]); 4] = [
+const FORMS: [(Output, &[u8], &[u8]); 5] = [
     (
         Output::Nodes,
         b"1\t$['a'][0]\t\"x\"\n1\t$['a'][1]\t1\n4\t!\tunreadable\n5\t$['a'][0]\t\"\\\"\"\n",
@@ -40,6 +40,7 @@ const FORMS: [(Output, &[u8], &[u8]); 4] = [
     ),
     (Output::Values, b"\"x\"\n1\n\"\\\"\"\n", b"\"x\"\n1\n"),
     (Output::Texts, b"x\n1\n\"\n", b"x\n1\n"),
+    (Output::Raw, b"x\n1\n\"\n", b"x\n1\n"),
     (
         Output::Lines,
         b"{\"a\":[\"x\", 1]}\r\n{\"a\":[\"\\\"\"]}\n",
