@@ -18,10 +18,10 @@ use Rattle.jp_output.specs.OutputForm.{OutputForm}
 use Rattle.jp_output.specs.declared.form.Form as form
 use Rattle.jp_answer.specs.Answer.{Answer, joined, nothing, unless_stopped}
 use Rattle.jp_answer.specs.Blocks.{IsTaskAnswer}
-use Rattle.jp_answer.specs.OnFault.{answer_by, passed_in, passed_on, stop_in, stop_on}
+use Rattle.jp_answer.specs.OnFault.{passed_in, passed_on, stop_in, stop_on}
 use Rattle.jp_answer.specs.Policy.{numbers_in}
 use Rattle.jp_answer.specs.Queued.{sent_lines, sent_task}
-use Rattle.jp_answer.specs.inner.Gathering.{Gathers, GathersOn, HasPut, IsAllOf, gathered_of}
+use Rattle.jp_answer.specs.inner.Gathering.{asked_answer, Gathers, GathersOn, HasPut, IsAllOf, gathered_of}
 use Rattle.jp_answer.specs.declared.asked.Asked.{Asked}
 use Rattle.jp_answer.specs.declared.gathered.Gathered.{Gathered}
 use Rattle.jp_answer.specs.declared.on_fault.OnFault.{OnFault}
@@ -78,7 +78,7 @@ module _ {F : Type 0} {g : form.Ghosts F} {v : visit.Ghosts F} where
     pub gathers_start : (done : Gathered) → length all ≤ max_pieces → gathered_of done ≡ nothing
         → done.faulty ≡ 0 → Gathers {F = F} {g = g} {v = v} f asked all all [] done
     gathers_start done few e n = record {
-      answer = λ t right. sym (joined_first (gathered_of done) (answer_by f asked.policy t (compiled_query asked.query.now) all) e);
+      answer = λ t right. sym (joined_first (gathered_of done) (asked_answer f asked t all) e);
       passed = omega (arith, n);
       asks = All-nil _;
       stops = inl (ap (λ (a : Answer). a.stopped) e);
@@ -96,7 +96,7 @@ module _ {F : Type 0} {g : form.Ghosts F} {v : visit.Ghosts F} where
         ∙ ap (λ l. l ++ more) (sym (lines_push out s)) in
         record {
           answer = λ t right. h.answer t right
-              ∙ ap (λ l. joined (gathered_of done) (answer_by f asked.policy t (compiled_query asked.query.now) l)) same;
+              ∙ ap (λ l. joined (gathered_of done) (asked_answer f asked t l)) same;
           passed = omega (arith, h.passed, ap (passed_in asked.policy) same);
           asks = All-push (λ (x : Sent F g v). (sent_task x).asked ≡ asked) out s h.asks asks;
           stops = h.stops;
@@ -111,19 +111,20 @@ module _ {F : Type 0} {g : form.Ghosts F} {v : visit.Ghosts F} where
         let ls : List Line = (sent_task s).lines in
         let more : List Line = sent_lines out ++ rest in
         let cut : sent_lines (s ∷ out) ++ rest ≡ ls ++ more = append_assoc ls (sent_lines out) rest in
-        let asks : (sent_task s).asked ≡ asked = All-head (λ (x : Sent F g v). (sent_task x).asked ≡ asked) s out h.asks in
+        let asks : (sent_task s).asked ≡ asked =
+        All-head (λ (x : Sent F g v). (sent_task x).asked ≡ asked) s out h.asks in
         let same : (sent_task s).asked.policy ≡ asked.policy = ap (λ (a : Asked). a.policy) asks in
         record {
           answer = λ t right.
-              let first : Answer = answer_by f asked.policy t (compiled_query asked.query.now) ls in
+              let first : Answer = asked_answer f asked t ls in
               let put : gathered_of after ≡ joined (gathered_of done) first =
-              k.answer t right ∙ ap (λ (a : Asked). joined (gathered_of done)
-              (answer_by f a.policy t (compiled_query a.query.now) ls)) asks in
+              k.answer t right ∙ ap (λ (a : Asked). joined (gathered_of done) (asked_answer f a t ls)) asks in
               h.answer t right
-              ∙ ap (λ l. joined (gathered_of done) (answer_by f asked.policy t (compiled_query asked.query.now) l)) cut
-              ∙ ap (joined (gathered_of done)) (formed_joined f t (compiled_query asked.query.now) asked.policy ls more)
-              ∙ sym (joined_assoc (gathered_of done) first (answer_by f asked.policy t (compiled_query asked.query.now) more))
-              ∙ ap (λ (a : Answer). joined a (answer_by f asked.policy t (compiled_query asked.query.now) more)) (sym put);
+              ∙ ap (λ l. joined (gathered_of done) (asked_answer f asked t l)) cut
+              ∙ ap (joined (gathered_of done))
+              (formed_joined f t (compiled_query asked.query.now) asked.policy ls more)
+              ∙ sym (joined_assoc (gathered_of done) first (asked_answer f asked t more))
+              ∙ ap (λ (a : Answer). joined a (asked_answer f asked t more)) (sym put);
           passed = omega (
             arith,
             h.passed,
@@ -143,16 +144,22 @@ module _ {F : Type 0} {g : form.Ghosts F} {v : visit.Ghosts F} where
         → Gathers f asked all rest out done
         → (sent_lines out ++ rest ≡ []) ⊎ IsSome (gathered_of done).stopped → IsAllOf f asked all done
     all_gathered rest out done h (inl none) = record {
-      answer = λ t right. h.answer t right ∙ ap (λ l. joined (gathered_of done) (answer_by f asked.policy t (compiled_query asked.query.now) l)) none
-          ∙ ap (joined (gathered_of done)) (nothing_in f t (compiled_query asked.query.now) asked.policy) ∙ joined_nothing (gathered_of done);
+      answer = λ t right. h.answer t right
+          ∙ ap (λ l. joined (gathered_of done) (asked_answer f asked t l)) none
+          ∙ ap (joined (gathered_of done)) (nothing_in f t (compiled_query asked.query.now) asked.policy)
+          ∙ joined_nothing (gathered_of done);
       passed = omega (arith, h.passed, ap (passed_in asked.policy) none, passed_none asked.policy);
     }
     all_gathered rest out done h (inr ends) = record {
       answer = λ t right. h.answer t right
           ∙ first_ends (gathered_of done).stopped (gathered_of done)
-          (answer_by f asked.policy t (compiled_query asked.query.now) (sent_lines out ++ rest)) ends;
+          (asked_answer f asked t (sent_lines out ++ rest)) ends;
       passed = ⊎_elim (λ e. absurd (not_both (gathered_of done).stopped e ends))
-          (λ e. omega (arith, h.passed, none_on (numbers_in asked.policy.numbers) asked.policy.on_fault (sent_lines out ++ rest) e))
+          (λ e. omega (
+            arith,
+            h.passed,
+            none_on (numbers_in asked.policy.numbers) asked.policy.on_fault (sent_lines out ++ rest) e,
+          ))
           h.stops;
     }
 
@@ -169,11 +176,13 @@ cut_lines lines i n = ap (map line_at) (sym (take-append-drop n (drop i lines)))
     ∙ ap (λ l. map line_at (take n (drop i lines)) ++ map line_at l) (drop-drop n i lines)
 
 -- what is told of a stop
-pub none_told : (s : Option DocStop) → false ≡ is_some s → option_map {U = ℕ × DocFault} (λ x. (x.line, x.fault)) s ≡ None
+pub none_told : (s : Option DocStop) → false ≡ is_some s
+    → option_map {U = ℕ × DocFault} (λ x. (x.line, x.fault)) s ≡ None
 none_told None e = refl
 none_told (Some x) e = absurd (cc)
 
-pub some_told : (s : Option DocStop) → true ≡ is_some s → IsSome (option_map {U = ℕ × DocFault} (λ x. (x.line, x.fault)) s)
+pub some_told : (s : Option DocStop) → true ≡ is_some s
+    → IsSome (option_map {U = ℕ × DocFault} (λ x. (x.line, x.fault)) s)
 some_told None e = absurd (cc)
 some_told (Some x) e = refl
 

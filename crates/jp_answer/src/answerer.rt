@@ -20,8 +20,8 @@ use std::alloc::{AllocError, Global};
 use std::mem;
 use std::thread::Threads;
 
-/// What a thread answers lines with, one block after another: a reader, whose memory is used again. It does not
-/// cross from thread to thread.
+/// What a thread answers lines with, one block after another: a reader, whose memory is used again. It does
+/// not cross from thread to thread.
 #[derive(Drop)]
 pub struct Answerer {
     reader: FlatReader,

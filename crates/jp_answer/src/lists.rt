@@ -26,8 +26,8 @@ use jp_output::Form;
 use std::alloc::{AllocError, Global};
 use std::thread::Threads;
 
-/// The answer to lines in a form, by as many workers as are asked for, each of which claims `piece` lines at a
-/// time: there are no more of them than pieces. The calling thread is one of the workers.
+/// The answer to lines in a form, by as many workers as are asked for, each of which claims `piece` lines at
+/// a time: there are no more of them than pieces. The calling thread is one of the workers.
 ///
 /// It is the same for every number of workers, every size of a piece, every gate, and in whatever order the
 /// workers take their steps. There are at most 4,294,967,296 lines, and 1 to 1,000,000 of them are a piece.

@@ -239,7 +239,12 @@ fn are_added(alloc: Global) -> Result<bool, AllocError> {
     part.push(2, b" ", b"")?;
     part.extend(&more)?;
     part.extend(&[])?;
-    has(alloc, &part, &[(1, b"null"), (7, b"[]"), (2, b" "), (2, b"")], 7)
+    has(
+        alloc,
+        &part,
+        &[(1, b"null"), (7, b"[]"), (2, b" "), (2, b"")],
+        7,
+    )
 }
 
 #[test]

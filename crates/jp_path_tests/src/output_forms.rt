@@ -1,5 +1,5 @@
-//! The forms of the answer, with ample memory: values, texts, raw texts and lines of the input, over trees and
-//! flat documents.
+//! The forms of the answer, with ample memory: values, texts, raw texts and lines of the input, over trees
+//! and flat documents.
 
 use jp_check::{Plan, plan};
 use jp_doc::{DocFault, Document};
@@ -137,7 +137,10 @@ fn values_and_texts(rt: HostRuntime) -> Result<(), Fail> {
 /// Documents, and what the form of raw texts writes of them.
 const RAW: [(&str, &[u8]); 6] = [
     ("\"\"", b"\n"),
-    ("\"say \\\"\\u00fc\\ud83d\\ude00\\\"\"", b"say \"\xc3\xbc\xf0\x9f\x98\x80\"\n"),
+    (
+        "\"say \\\"\\u00fc\\ud83d\\ude00\\\"\"",
+        b"say \"\xc3\xbc\xf0\x9f\x98\x80\"\n",
+    ),
     ("\"a\\\\b\\/\"", b"a\\b/\n"),
     ("\"one\\r\\ntwo\\tthree\"", b"one\r\ntwo\tthree\n"),
     ("\"\\u0000\\b\\u001f\"", b"\0\x08\x1f\n"),

@@ -36,7 +36,8 @@ const NOTHING_SEEN: Totals = Totals {
 /// Neither end has failed before, and the counts of the source are at most 2^62. A fault is told on `notes`,
 /// in one line, and in further ones that help: of a query where it went wrong, of a line what to do, and
 /// where it went wrong if the words ask for that. Of a sink whose reader has gone nothing is told. Before
-/// anything is read they are told of literal patterns that may not match what was meant. A failure to write them, or the help, is passed over.
+/// anything is read they are told of literal patterns that may not match what was meant. A failure to write
+/// them, or the help, is passed over.
 ///
 /// The status is 0 where the run finished, or the help, the version or a check was asked for; 2 where the
 /// query is refused; 3 where a line is faulty, also where the answer has gone on past it; 4 where

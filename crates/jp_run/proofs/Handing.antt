@@ -203,8 +203,9 @@ module _ (going : Manner) (q : tree.Query) where
     handing_done h k = record { whole = whole; is = is; stopped = h; appended = k }
 
 -- the answer by a policy, and to a query, that are the same
-pub in_manner : (form : OutputForm) (done meant : LinePolicy) (q r : tree.Query) (ls : List Line) (a : Outcome)
-    → done ≡ meant → q ≡ r → IsAnswerTo (manner form done) q ls a → IsAnswerTo (manner form meant) r ls a
+pub in_manner : (form : OutputForm) (done meant : LinePolicy) (q r : tree.Query) (ls : List Line)
+    (a : Outcome) → done ≡ meant → q ≡ r → IsAnswerTo (manner form done) q ls a
+    → IsAnswerTo (manner form meant) r ls a
 in_manner form done meant q r ls a e f h =
     subst (λ (k : LinePolicy). IsAnswerTo (manner form k) r ls a) e
     (subst (λ (x : tree.Query). IsAnswerTo (manner form done) x ls a) f h)

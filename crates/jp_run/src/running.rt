@@ -73,9 +73,9 @@ impl Totals {
 /// that may wait, as the source says, all lines whose end has come are answered and written, and the sink is
 /// flushed; while reads do not wait, so are those that have come once there are `batch` of them, or 4 MB at
 /// most: no more than `batch` are answered and written at once. The rest is at the end. While reads do not
-/// wait and much has come the workers answer, of whom the calling thread is one; else it answers alone. The run stops at the first
-/// faulty line, unless the settings are to keep going: then the totals count it, and it gives what the form
-/// has for it, which for nodes is its fault line and else nothing.
+/// wait and much has come the workers answer, of whom the calling thread is one; else it answers alone. The
+/// run stops at the first faulty line, unless the settings are to keep going: then the totals count it, and
+/// it gives what the form has for it, which for nodes is its fault line and else nothing.
 /// Neither end has failed before, and the counts of the source are at most 2^62.
 ///
 /// What is flushed when: what the sink holds back as the run begins, and each batch's lines as soon as they

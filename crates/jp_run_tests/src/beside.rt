@@ -229,14 +229,7 @@ fn a_worker_answers(rt: HostRuntime) -> Result<(), Fail> {
     let text = lines_of(rt.alloc(), LINES, BLANKS, &[])?;
     let settings = Settings::new(2, 64, 4_096)?;
     let gate = Pair(Entered::new());
-    let (end, _) = run_of(
-        &rt,
-        rt.alloc(),
-        &text,
-        &settings,
-        (ALL_READS, ROOM),
-        &gate,
-    );
+    let (end, _) = run_of(&rt, rt.alloc(), &text, &settings, (ALL_READS, ROOM), &gate);
     assert!(rt; end.is_ok());
     assert_eq!(rt; gate.0.failures(), 0);
     assert_eq!(rt; gate.0.seen(), [true, true, true]);

@@ -25,16 +25,19 @@ gathered_of a = record {
   stopped = option_map (λ s. (s.line, s.fault)) a.stopped;
 }
 
+-- the answer to lines, of which this is asked
+abbrev pub asked_answer : OutputForm → Asked → Tests → List Line → Answer
+asked_answer form asked t ls = answer_by form asked.policy t (compiled_query asked.query.now) ls
+
 -- all that is asked of the lines was gathered
 pub record IsAllOf (form : OutputForm) (asked : Asked) (ls : List Line) (done : Gathered) : Type 0 where
-  pub answer : (t : Tests) → AreRight t → answer_by form asked.policy t (compiled_query asked.query.now) ls
-      ≡ gathered_of done
+  pub answer : (t : Tests) → AreRight t → asked_answer form asked t ls ≡ gathered_of done
   pub passed : passed_in asked.policy ls ≡ done.faulty
 
 -- the answer to the task was put behind what was gathered
 pub record HasPut (form : OutputForm) (task : Task) (before after : Gathered) : Type 0 where
-  pub answer : (t : Tests) → AreRight t → gathered_of after ≡ joined (gathered_of before)
-      (answer_by form task.asked.policy t (compiled_query task.asked.query.now) task.lines)
+  pub answer : (t : Tests) → AreRight t → gathered_of after
+      ≡ joined (gathered_of before) (asked_answer form task.asked t task.lines)
   pub passed : after.faulty ≡ before.faulty + passed_in task.asked.policy task.lines
   pub stopped : (gathered_of after).stopped ≡ stop_in task.asked.policy task.lines
 
@@ -43,10 +46,8 @@ module _ {F : Type 0} {g : form.Ghosts F} {v : visit.Ghosts F} where
   -- that to the rest.
   pub record Gathers (form : OutputForm) (asked : Asked) (all rest : List Line) (out : List (Sent F g v))
       (done : Gathered) : Type 0 where
-    pub answer : (t : Tests) → AreRight t
-        → answer_by form asked.policy t (compiled_query asked.query.now) all
-        ≡ joined (gathered_of done)
-        (answer_by form asked.policy t (compiled_query asked.query.now) (sent_lines out ++ rest))
+    pub answer : (t : Tests) → AreRight t → asked_answer form asked t all
+        ≡ joined (gathered_of done) (asked_answer form asked t (sent_lines out ++ rest))
     pub passed : passed_in asked.policy all ≡ done.faulty + passed_in asked.policy (sent_lines out ++ rest)
     pub asks : All (λ s. (sent_task s).asked ≡ asked) out
     pub stops : ((gathered_of done).stopped ≡ None) ⊎ (asked.policy.on_fault ≡ Stop)

@@ -6,8 +6,7 @@ use Rattle.jp_answer.proofs.lists.take_all.Goals as goal
 pub take_front-requires-clause-gathers : goal.take_front-requires-clause-gathers
 take_front-requires-clause-gathers g c κs within =
     let h = c.requires.gathers in
-    let kept = c.loop-out.invariant in
-    (
+    let kept = c.loop-out.invariant in (
       h.0,
       h.1,
       subst (λ a. Gathers g.F.Form.says a h.0 h.1 c.loop-out.out.sent.items c.loop-out.done) (sym kept.asked)
