@@ -129,26 +129,65 @@ fn plain_advice(alloc: Global, words: &[&str]) -> Result<String, AllocError> {
     match matches(alloc, words) {
         Ok(matches) => match output_by(&matches) {
             Some(_) => format!(in alloc; "jp: a number is out of its range; try jp --help"),
-            None => format!(in alloc; "jp: --output takes nodes, values, texts or lines"),
+            None => format!(in alloc; "jp: --output takes nodes, values, texts, raw or lines"),
         },
         Err(error) => {
             let text = format!(in alloc; "{error}")?;
-            advice_by(alloc, error.kind(), &text)
+            advice_by(alloc, words, error.kind(), &text)
         }
     }
 }
 
 /// The same, by what the reader of the words says: its first line, and its tip where that names an option.
-fn advice_by(alloc: Global, kind: ErrorKind, text: &str) -> Result<String, AllocError> {
+fn advice_by(
+    alloc: Global,
+    words: &[&str],
+    kind: ErrorKind,
+    text: &str,
+) -> Result<String, AllocError> {
     let said = said_in(text);
     match (kind, tip_in(text)) {
         (ErrorKind::MissingRequiredArgument, _) => {
-            format!(in alloc; "jp: there is no query; try jp --help")
+            let cure = missing_cure(words);
+            format!(in alloc; "jp: there is no query; {cure}")
         }
         (_, Some(tip)) if tip.starts_with("a similar") => format!(in alloc; "jp: {said}; {tip}"),
-        (ErrorKind::UnknownArgument, None) => format!(in alloc; "jp: {said}; a file is given by <"),
+        (ErrorKind::UnknownArgument, None) => {
+            let cure = cure_of(unexpected_in(said));
+            format!(in alloc; "jp: {said}; {cure}")
+        }
         (_, _) => format!(in alloc; "jp: {said}; try jp --help"),
     }
+}
+
+/// What to do where there is no query. A word that looks like one was taken by the option before it.
+fn missing_cure(words: &[&str]) -> &'static str {
+    for word in words {
+        if word.starts_with('$') {
+            return "an option before it has taken it: -o FORM, --workers N";
+        }
+    }
+    "try jp --help"
+}
+
+/// What to do with a word behind the query: a dash, a query behind a file's name, a part of a query that the
+/// shell has split, or else a file's name.
+fn cure_of(word: &str) -> &'static str {
+    match word {
+        "-" => "without it standard input is read",
+        "==" | "!=" | "<=" | ">=" | "&&" | "||" => "is the query in single quotes?",
+        _ if word.ends_with(']') => "is the query in single quotes?",
+        _ if word.starts_with('$') => "the query stands first, and a file is given by <",
+        _ => "a file is given by <",
+    }
+}
+
+/// The word that the first line calls unexpected.
+fn unexpected_in(said: &str) -> &str {
+    let rest = said
+        .strip_prefix("unexpected argument '")
+        .unwrap_or_default();
+    rest.strip_suffix("' found").unwrap_or_default()
 }
 
 /// The first line, without what stands before it.

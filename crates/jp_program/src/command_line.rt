@@ -45,6 +45,9 @@ Examples:
   jp '$[?$.level==\"error\" && @==$.msg]' < app.log
   jp --workers 8 '$.items[?@.count > 10]' < orders.jsonl
   jp --check '$[?count(@.*) > 1]'
+  jp --explain '$.id' < mixed.jsonl
+  tr '\\n' ' ' < service.json | jp '$.service.port'
+  user=$(tr '\\n' ' ' < service.json | jp --decimals '$.service.user') && test -n \"$user\"
   jp --keep-going '$.id' < log.jsonl | awk -F'\\t' '{ print > ($2 == \"!\" ? \"bad\" : \"good\") }'";
 
 /// What the command line asks for.

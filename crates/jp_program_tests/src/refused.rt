@@ -111,12 +111,37 @@ fn command_lines_are_refused(rt: HostRuntime) {
 }
 
 /// Words, each with the line that helps.
-const ADVICE: [(&[&str], &[u8]); 10] = [
+const ADVICE: [(&[&str], &[u8]); 17] = [
     (&["jp"], b"jp: there is no query; try jp --help\n"),
     (
         &["jp", "$", "file"],
         b"jp: unexpected argument 'file' found; a file is given by <\n",
     ),
+    (
+        &["jp", "$.a", "-"],
+        b"jp: unexpected argument '-' found; without it standard input is read\n",
+    ),
+    (
+        &["jp", "app.log", "$.a"],
+        b"jp: unexpected argument '$.a' found; the query stands first, and a file is given by <\n",
+    ),
+    (
+        &["jp", "$.a[?@.b", "==", "1]"],
+        b"jp: unexpected argument '==' found; is the query in single quotes?\n",
+    ),
+    (
+        &["jp", "$.a[", "'b']"],
+        b"jp: unexpected argument ''b']' found; is the query in single quotes?\n",
+    ),
+    (
+        &["jp", "--output", "$.a"],
+        b"jp: there is no query; an option before it has taken it: -o FORM, --workers N\n",
+    ),
+    (
+        &["jp", "-o", "$"],
+        b"jp: there is no query; an option before it has taken it: -o FORM, --workers N\n",
+    ),
+    (&["jp", "--check"], b"jp: there is no query; try jp --help\n"),
     (
         &["jp", "--worker", "8", "$"],
         b"jp: unexpected argument '--worker' found; a similar argument exists: '--workers'\n",
@@ -131,7 +156,7 @@ const ADVICE: [(&[&str], &[u8]); 10] = [
     ),
     (
         &["jp", "--output", "value", "--workers", "65", "$"],
-        b"jp: --output takes nodes, values, texts or lines\n",
+        b"jp: --output takes nodes, values, texts, raw or lines\n",
     ),
     // No word reaches a terminal as it is.
     (
