@@ -140,7 +140,7 @@ fn read_beside<R: Threads + Sync, S: Source<K>, K: Sink, G: Gate + Sync, F: Form
         if !source.is_ready() || out.ring.ended() > 0 {
             return finish::<R, K, G, F>(job, sink, stream, out, Came::More);
         }
-        match read_on(source, sink, stream)? {
+        match read_on(source, sink, stream, job.settings.batch)? {
             Came::More => {}
             last => return finish::<R, K, G, F>(job, sink, stream, out, last),
         }

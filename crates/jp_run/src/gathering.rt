@@ -1,6 +1,7 @@
 //! The lines of a source, as its bytes come in.
 
 ghost use Rattle.std.specs.Prelude.{◌≡◌, ◌+◌, ◌<◌, ◌≤◌, ◌++◌, false, true, IfOk, OnOk, OnErr, IfErr, IsErrOf};
+ghost use Rattle.std.specs.Prelude.{vec_len};
 ghost use Rattle.jp_doc.specs.Feeding.{finished, finished_lines};
 ghost use Rattle.jp_run.specs.Begun.{OneMore};
 ghost use Rattle.jp_run.specs.Counts.{counted};
@@ -17,6 +18,9 @@ use jp_buffer::LineBuffer;
 /// pieces.
 const MAX_LINES: u64 = 4_294_967_295;
 
+/// The number of bytes that a read is asked for at least: enough for 4,096 lines of two bytes.
+const LEAST_READ: usize = 8_192;
+
 /// What a read came to.
 #[derive(Clone, Copy, Drop)]
 pub(crate) enum Came {
@@ -29,13 +33,14 @@ pub(crate) enum Came {
 }
 
 /// Reads once, and adds the lines that are complete then. Where the read failed the lines stand as they
-/// stood.
+/// stood. Where it brought more lines than these the next one asks for fewer bytes.
 ///
 /// `Limit` past 4,294,967,295 lines.
 pub(crate) fn read_on<K: Sink, S: Source<K>>(
     source: &mut S,
     sink: &K,
     stream: &mut Stream,
+    most: u64,
 ) -> Result<Came, RunFault>
     requires working { S.failed source.old ≡ false }
     requires passed_on { S.told_ready source.old ≡ false → K.flushed sink.now ≡ true }
@@ -61,11 +66,25 @@ pub(crate) fn read_on<K: Sink, S: Source<K>>(
         return Ok(Came::Failure);
     };
     let (piece, _) = stream.scratch.split_at(n);
+    let before = stream.buffer.len();
     stream.buffer.feed(piece)?;
     // Tested before the lines of this read are answered (README, Why so).
     within_limit(&stream.buffer)?;
     stream.come += n;
+    let lines = stream.buffer.len().saturating_sub(before) as u64;
+    narrow(&mut stream.scratch, lines > most);
     Ok(if n == 0 { Came::End } else { Came::More })
+}
+
+/// Halves the room of a read that was too wide, but leaves 8,192 bytes.
+fn narrow(scratch: &mut Vec<u8>, is_wide: bool)
+    requires { 0 < vec_len scratch.old }
+    ensures { 0 < vec_len scratch.new }
+{
+    let half = scratch.len() / 2;
+    if is_wide && half >= LEAST_READ {
+        scratch.truncate(half);
+    }
 }
 
 /// Adds the last line, if there is one. Gives how many lines there are in all, blank ones too.

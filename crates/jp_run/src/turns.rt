@@ -12,6 +12,7 @@ use crate::ends::{Sink, Source};
 use crate::fault::RunFault;
 use crate::gathering::{Came, read_on};
 use crate::job::Job;
+use crate::settings::Settings;
 use crate::settling::settle;
 use crate::stream::Stream;
 use jp_answer::{Gate, Queue, Ring};
@@ -20,6 +21,9 @@ use std::thread::Threads;
 
 /// How many bytes wait at least where workers are started: fewer are answered while threads would start.
 const MANY_BYTES: usize = 65_536;
+
+/// The same for lines that are a batch.
+const MANY_LINES: u64 = 1_024;
 
 /// Answers what has come, or leaves it waiting, and reads: once, or where many bytes wait, reads do not wait
 /// and there are several workers, as long as that is so. Gives what the last read came to.
@@ -56,7 +60,7 @@ pub(crate) fn turn<R: Threads + Sync, S: Source<K>, K: Sink, G: Gate + Sync, F: 
         job.now.query.now) (S.remaining source.old) (S.remaining source.new) (K.contents sink.old)
         (K.contents sink.new) (K.failed sink.new) stream.old) }
 {
-    if job.settings.workers == 1 || stream.come < MANY_BYTES {
+    if job.settings.workers == 1 || !has_much(&job.settings, stream) {
         return settle_and_read::<R, S, K, G, F>(job, source, sink, stream);
     }
     if !source.is_ready() {
@@ -66,6 +70,11 @@ pub(crate) fn turn<R: Threads + Sync, S: Source<K>, K: Sink, G: Gate + Sync, F: 
         Came::More => settle_and_read::<R, S, K, G, F>(job, source, sink, stream),
         last => Ok(last),
     }
+}
+
+/// Whether workers are worth it: where many bytes wait, or a batch of many lines.
+fn has_much(settings: &Settings, stream: &Stream) -> bool {
+    stream.come >= MANY_BYTES || stream.buffer.len() as u64 >= settings.batch.max(MANY_LINES)
 }
 
 /// Reads on as long as reads do not wait, through a ring of its own.
@@ -142,6 +151,6 @@ fn settle_and_read<R: Threads + Sync, S: Source<K>, K: Sink, G: Gate + Sync, F: 
         (K.contents sink.new) (K.failed sink.new) stream.old) }
 {
     settle::<R, S, K, G, F>(job, source, sink, stream)?;
-    let came = read_on(source, sink, stream)?;
+    let came = read_on(source, sink, stream, job.settings.batch)?;
     Ok(came)
 }
