@@ -22,8 +22,8 @@ use std::thread::Threads;
 /// How many bytes wait at least where workers are started: fewer are answered while threads would start.
 const MANY_BYTES: usize = 65_536;
 
-/// The same for lines that are a batch.
-const MANY_LINES: u64 = 1_024;
+/// How many lines at least, where they are fewer bytes: and half a batch, which a narrower read brings.
+const MANY_LINES: u64 = 512;
 
 /// Answers what has come, or leaves it waiting, and reads: once, or where many bytes wait, reads do not wait
 /// and there are several workers, as long as that is so. Gives what the last read came to.
@@ -72,9 +72,11 @@ pub(crate) fn turn<R: Threads + Sync, S: Source<K>, K: Sink, G: Gate + Sync, F: 
     }
 }
 
-/// Whether workers are worth it: where many bytes wait, or a batch of many lines.
+/// Whether workers are worth it: where many bytes wait, or many lines. More than a batch are no block.
 fn has_much(settings: &Settings, stream: &Stream) -> bool {
-    stream.come >= MANY_BYTES || stream.buffer.len() as u64 >= settings.batch.max(MANY_LINES)
+    let lines = stream.buffer.len() as u64;
+    lines <= settings.batch
+        && (stream.come >= MANY_BYTES || lines >= MANY_LINES.max(settings.batch / 2))
 }
 
 /// Reads on as long as reads do not wait, through a ring of its own.
