@@ -141,7 +141,10 @@ const ADVICE: [(&[&str], &[u8]); 17] = [
         &["jp", "-o", "$"],
         b"jp: there is no query; an option before it has taken it: -o FORM, --workers N\n",
     ),
-    (&["jp", "--check"], b"jp: there is no query; try jp --help\n"),
+    (
+        &["jp", "--check"],
+        b"jp: there is no query; try jp --help\n",
+    ),
     (
         &["jp", "--worker", "8", "$"],
         b"jp: unexpected argument '--worker' found; a similar argument exists: '--workers'\n",
