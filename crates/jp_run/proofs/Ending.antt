@@ -26,11 +26,13 @@ use Rattle.jp_run.specs.Come.{documents_in}
 use Rattle.jp_run.specs.inner.Ended.{Ends, InputFront, ReadEnded, AnswerEnded, RestEnded, FailureEnded}
 use Rattle.jp_run.specs.inner.Ended.{StreamEnded}
 use Rattle.jp_run.specs.inner.Standing.{Stands}
+use Rattle.jp_run.specs.inner.Wrote.{HasBytes, HasBytesMore}
 use Rattle.jp_run.specs.Handed.{Handed, HandedFront}
 use Rattle.jp_run.proofs.Coming.{lines_more, lines_whole, count_whole, count_below}
 use Rattle.jp_run.proofs.Handing.{handed_both, handed_stopped, handed_front, front_more, front_after}
 use Rattle.jp_run.proofs.Pieces.{fed_twice}
 use Rattle.jp_run.proofs.Standing.{all_documents}
+use Rattle.jp_run.proofs.Wrote.{wrote_more}
 
 -- what bytes that begin with these say
 known : (P : List ℕ → Type 0) (old now : Option (List ℕ)) (bytes : List ℕ) → Consumes old now bytes
@@ -233,6 +235,22 @@ module _ (going : Manner) (q : tree.Query) where
           → IfOk r (λ t. IfSome a (λ input. t.faulty ≡ passed_in going.policy (lines input)))
       faulty_ok (Ok t) k = rest_passed t.faulty k
       faulty_ok (Err f) k = tt
+
+      rest_wrote : (wrote : Bool)
+          → HasBytesMore going q (st.buffer.lines ++ finished_lines st.buffer.progress)
+          st.answered.wrote wrote
+          → IfSome a (λ input. HasBytes going q (lines input) wrote)
+      unfolding rest
+      rest_wrote wrote k = known_all (λ input. HasBytes going q (lines input) wrote) a b (h.front ++ h.more)
+          h.consumed end (subst (λ (l : List Line). HasBytes going q l wrote) (sym lines_are)
+          (wrote_more going q (documents_in h.front) rest s u st.answered.wrote wrote h.handed h.wrote k))
+
+      pub wrote_ok : {E : Type 0} (r : Result Totals E)
+          → IfOk r (λ t. HasBytesMore going q (st.buffer.lines ++ finished_lines st.buffer.progress)
+          st.answered.wrote t.wrote)
+          → IfOk r (λ t. IfSome a (λ input. HasBytes going q (lines input) t.wrote))
+      wrote_ok (Ok t) k = rest_wrote t.wrote k
+      wrote_ok (Err f) k = tt
 
       pub rest_ok : {T E : Type 0} (r : Result T E)
           → OnOk r (Handed going q (st.buffer.lines ++ finished_lines st.buffer.progress) None u v)

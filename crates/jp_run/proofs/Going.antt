@@ -25,6 +25,7 @@ use Rattle.jp_run.specs.inner.Going.{all_bytes, IsSent, AreSent, Goes, HasWritte
 use Rattle.jp_run.specs.inner.Going.{AsksSo, GoesOn, WentOut, IsGoing}
 use Rattle.jp_run.specs.inner.Reading.{HasRead}
 use Rattle.jp_run.specs.inner.Standing.{HasAnswered, Stands}
+use Rattle.jp_run.specs.inner.Wrote.{HasBytes}
 use Rattle.jp_run.specs.declared.fault.RunFault.{RunFault}
 use Rattle.jp_run.specs.declared.fault.RunFault.TheVariants.{Memory}
 use Rattle.jp_run.specs.Limits.{max_lines}
@@ -35,6 +36,7 @@ use Rattle.jp_run.proofs.Ending.{stands_front, waiting_ended}
 use Rattle.jp_run.proofs.Handing.{handed_both, ended_more}
 use Rattle.jp_run.proofs.Pieces.{lines_twice, fed_twice, lines_nothing}
 use Rattle.jp_run.proofs.Standing.{few_faulty, few_lines, settled}
+use Rattle.jp_run.proofs.Wrote.{wrote_more}
 
 bytes_more : (pieces : List (List ℕ)) (piece : List ℕ) → all_bytes (pieces ++ piece ∷ [])
     ≡ all_bytes pieces ++ piece
@@ -108,6 +110,7 @@ module _ {F : Type 0} {g : form.Ghosts F} {v : visit.Ghosts F} where
       come = h.come;
       lines = h.lines;
       faulty = h.faulty;
+      wrote = h.wrote;
       handed = h.handed;
     }
 
@@ -133,6 +136,7 @@ module _ {F : Type 0} {g : form.Ghosts F} {v : visit.Ghosts F} where
         come = h.come;
         lines = h.lines;
         faulty = h.faulty;
+        wrote = h.wrote;
         handed = h.handed;
       }
 
@@ -173,6 +177,7 @@ module _ {F : Type 0} {g : form.Ghosts F} {v : visit.Ghosts F} where
             );
             lines = ap (λ (k : Answered). k.lines) r.answered ∙ h.lines;
             faulty = ap (λ (k : Answered). k.faulty) r.answered ∙ h.faulty;
+            wrote = λ t right. ap (λ (k : Answered). k.wrote) r.answered ∙ h.wrote t right;
             handed = h.handed;
           }
 
@@ -211,6 +216,7 @@ module _ {F : Type 0} {g : form.Ghosts F} {v : visit.Ghosts F} where
           come = omega (arith, k.come, h.come, ap length whole);
           lines = ap (λ (m : Answered). m.lines) k.answered ∙ h.lines;
           faulty = ap (λ (m : Answered). m.faulty) k.answered ∙ h.faulty;
+          wrote = λ t right. ap (λ (m : Answered). m.wrote) k.answered ∙ h.wrote t right;
           handed = h.handed;
         }
 
@@ -247,12 +253,15 @@ module _ {F : Type 0} {g : form.Ghosts F} {v : visit.Ghosts F} where
         first.is_sent.policy_is k)
 
     pub goes_written : (next : Stream) (m : ℕ) (w : Option (List ℕ))
-        → HasWritten (sent_task f).asked.policy f st next → m + f.bytes ≡ n
+        → HasWritten (manner form (sent_task f).asked.policy) (compiled_query (sent_task f).asked.query.now)
+        f st next → m + f.bytes ≡ n
         → Handed (manner form (sent_task f).asked.policy) (compiled_query (sent_task f).asked.query.now)
         (sent_task f).lines None u w → Goes (manner form policy) q a b s w next out m
     goes_written next m w written e handed =
-        let k : HasWritten policy f st next =
-        subst (λ (p : LinePolicy). HasWritten p f st next) first.is_sent.policy_is written in
+        let k : HasWritten (manner form policy) q f st next =
+        subst (λ (r : Query). HasWritten (manner form policy) r f st next) first.is_sent.query
+        (subst (λ (p : LinePolicy). HasWritten (manner form p)
+        (compiled_query (sent_task f).asked.query.now) f st next) first.is_sent.policy_is written) in
         let done = asked_handed w handed in
         let p : List ℕ = first.piece in
         let rest : List ℕ = all_bytes first.rest in
@@ -304,6 +313,9 @@ module _ {F : Type 0} {g : form.Ghosts F} {v : visit.Ghosts F} where
             ap (passed_in policy) lines_are,
             passed_joined policy (documents_in h.front) (sent_task f).lines,
           );
+          wrote = subst (λ (l : List Line). HasBytes (manner form policy) q l next.answered.wrote)
+              (sym lines_are) (wrote_more (manner form policy) q (documents_in h.front) (sent_task f).lines s
+              u st.answered.wrote next.answered.wrote h.handed h.wrote k.wrote);
           handed = subst (λ (l : List Line). Handed (manner form policy) q l None s w) (sym lines_are)
               (handed_both (manner form policy) q (documents_in h.front) (sent_task f).lines None s u w
               h.handed done);

@@ -7,5 +7,7 @@ pub mod Handing
 pub mod Pieces
 pub mod Readings
 pub mod Runs
+pub mod Selecting
 pub mod Standing
 pub mod Turning
+pub mod Wrote

@@ -1,7 +1,7 @@
 -- What a run has done, in terms of its query's text.
 use Rattle.std.proofs.Common.{◌≡◌, ℕ, List, Option, Some, None, Bool, true, false, IfSome, ◌⊎◌, inl}
 use Rattle.std.proofs.Common.{inr, Result, Ok}
-use Rattle.std.proofs.Common.{Err, IfErr, OnOk, OnErr, IsErrAnd, ◌∙◌, ap, subst, sym}
+use Rattle.std.proofs.Common.{Err, IfErr, IfOk, OnOk, OnErr, IsErrAnd, ◌∙◌, ap, subst, sym, nat_lt, length}
 use Rattle.std.specs.Io.KnownBytes.{Appends}
 use Rattle.jp_doc.specs.Lines.{lines}
 use Rattle.jp_doc.specs.declared.fault.DocFault.{DocFault}
@@ -18,6 +18,7 @@ use Rattle.jp_answer.specs.OnFault.{Manner, answer_by}
 use Rattle.jp_answer.specs.declared.on_fault.OnFault.TheVariants.{Stop}
 use Rattle.jp_run.specs.declared.fault.RunFault.{RunFault}
 use Rattle.jp_run.specs.declared.output.Output.{Output}
+use Rattle.jp_run.specs.declared.running.Totals.{Totals}
 use Rattle.jp_run.specs.declared.fault.RunFault.TheVariants.{Query, Memory}
 use Rattle.jp_run.specs.inner.Ended.{Ends, StreamEnded}
 use Rattle.jp_run.specs.Handed.{Handed, HandedFront}
@@ -25,6 +26,7 @@ use Rattle.jp_run.specs.Written.{AppendsFront}
 use Rattle.jp_run.specs.Begun.{Begun, AllSince}
 use Rattle.jp_run.specs.Prompt.{IsPrompt, IsNear}
 use Rattle.jp_run.specs.inner.Standing.{BeginsPrompt, BeginsNear}
+use Rattle.jp_run.specs.inner.Wrote.{HasBytes}
 use Rattle.jp_run.proofs.Ending.{ended_front}
 use Rattle.jp_run.proofs.Readings.{since_so}
 
@@ -98,6 +100,20 @@ module _ (going : Manner) (text : Text) (q : tree.Query) (accepted : IsAcceptedI
     answer_ok (Ok x) known s u h = answer_known None known s u h
     answer_ok (Err f) known s u h = tt
 
+    pub answer_wrote : (r : Result Totals RunFault) (known s u : Option (List ℕ))
+        → OnOk r (IfSome known (λ input. Handed going q (lines input) None s u))
+        → IfOk r (λ totals. IfSome known (λ input. HasBytes going q (lines input) totals.wrote))
+        → IfOk r (λ totals. IfSome known (λ input. (a : Answer) × IsAnswerBy going text input a
+        × (totals.wrote ≡ nat_lt 0 (length a.bytes))))
+    answer_wrote (Ok totals) None s u h k = tt
+    answer_wrote (Ok totals) (Some input) s u h k = (
+      h.whole,
+      (q, accepted, h.is),
+      k right_tests.0 right_tests.1
+          ∙ ap (λ (a : Answer). nat_lt 0 (length a.bytes)) (h.is right_tests.0 right_tests.1),
+    )
+    answer_wrote (Err f) known s u h k = tt
+
     answer_is : (input : List ℕ) (b : Answer) → IsAnswerBy going text input b
         → answer_by going.form going.policy right_tests.0 q (lines input) ≡ b
     answer_is input b h =
@@ -140,6 +156,14 @@ module _ (output named : Output) (is : output ≡ named) (decimals keeps_going :
       (λ input. Handed (manner_by output decimals keeps_going) q (lines input) None s u))
   handed_in r known s u = subst (λ o. OnOk r (IfSome known
       (λ input. Handed (manner_by o decimals keeps_going) q (lines input) None s u))) (sym is)
+
+  pub wrote_in : (r : Result Totals RunFault) (known : Option (List ℕ))
+      → IfOk r (λ totals. IfSome known
+      (λ input. HasBytes (manner_by named decimals keeps_going) q (lines input) totals.wrote))
+      → IfOk r (λ totals. IfSome known
+      (λ input. HasBytes (manner_by output decimals keeps_going) q (lines input) totals.wrote))
+  wrote_in r known = subst (λ o. IfOk r (λ (totals : Totals). IfSome known
+      (λ input. HasBytes (manner_by o decimals keeps_going) q (lines input) totals.wrote))) (sym is)
 
   pub ended_in : {T : Type 0} (r : Result T RunFault) (e : Ends)
       → IfErr r (StreamEnded (manner_by named decimals keeps_going) q e)

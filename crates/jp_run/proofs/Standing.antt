@@ -16,6 +16,7 @@ use Rattle.jp_run.specs.Handed.{Handed}
 use Rattle.jp_run.specs.Limits.{max_lines}
 use Rattle.jp_run.specs.inner.Reading.{HasRead, HasCome}
 use Rattle.jp_run.specs.inner.Standing.{IsCounted, HasAnswered, HasSettled, Stands, BeginsPrompt, BeginsNear}
+use Rattle.jp_run.specs.inner.Wrote.{HasBytes}
 use Rattle.jp_run.specs.declared.gathering.Came.{Came}
 use Rattle.jp_run.specs.declared.gathering.Came.TheVariants.{More, End, Failure}
 use Rattle.jp_run.specs.declared.stream.Answered.{Answered}
@@ -23,10 +24,12 @@ use Rattle.jp_run.specs.declared.stream.Stream.{Stream}
 use Rattle.jp_run.proofs.Coming.{documents_both, few_documents}
 use Rattle.jp_run.proofs.Handing.{handed_both}
 use Rattle.jp_run.proofs.Pieces.{lines_twice, fed_twice, lines_nothing}
+use Rattle.jp_run.proofs.Wrote.{wrote_none, wrote_more}
 
 module _ (going : Manner) (q : Query) where
   pub stands_start : (a s u : Option (List ℕ)) (st : Stream) → Keeps s u → st.buffer.lines ≡ []
-      → st.buffer.progress ≡ nothing_fed → st.come ≡ 0 → st.answered ≡ record { lines = 0; faulty = 0 }
+      → st.buffer.progress ≡ nothing_fed → st.come ≡ 0
+      → st.answered ≡ record { lines = 0; faulty = 0; wrote = false }
       → Stands going q a a s u st
   stands_start a s u st same e f g h = record {
     front = [];
@@ -37,6 +40,7 @@ module _ (going : Manner) (q : Query) where
     come = g;
     lines = ap (λ (n : Answered). n.lines) h;
     faulty = ap (λ (n : Answered). n.faulty) h ∙ sym (passed_none going.policy);
+    wrote = λ t right. ap (λ (n : Answered). n.wrote) h ∙ wrote_none going q t right;
     handed = record {
       whole = record { bytes = []; stopped = None };
       is = λ t right. nothing_in going.form t q going.policy;
@@ -76,6 +80,9 @@ module _ (going : Manner) (q : Query) where
             ap (passed_in going.policy) all_documents,
             passed_joined going.policy (documents_in h.front) st.buffer.lines,
           );
+          wrote = subst (λ (l : List Line). HasBytes going q l next.answered.wrote) (sym all_documents)
+              (wrote_more going q (documents_in h.front) st.buffer.lines s u st.answered.wrote
+              next.answered.wrote h.handed h.wrote k.wrote);
           handed = subst (λ (l : List Line). Handed going q l None s v) (sym all_documents)
               (handed_both going q (documents_in h.front) st.buffer.lines None s u v h.handed k.handed);
         }
@@ -109,6 +116,7 @@ module _ (going : Manner) (q : Query) where
           come = omega (arith, r.come, h.come, length-append h.more r.piece);
           lines = ap (λ (n : Answered). n.lines) r.answered ∙ h.lines;
           faulty = ap (λ (n : Answered). n.faulty) r.answered ∙ h.faulty;
+          wrote = λ t right. ap (λ (n : Answered). n.wrote) r.answered ∙ h.wrote t right;
           handed = h.handed;
         }
 

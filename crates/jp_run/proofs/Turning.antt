@@ -38,6 +38,7 @@ module _ (going : Manner) (q : Query) (a b c s u : Option (List ℕ)) (st next :
     come = k.4 ∙ h.come;
     lines = ap (λ (n : Answered). n.lines) k.3 ∙ h.lines;
     faulty = ap (λ (n : Answered). n.faulty) k.3 ∙ h.faulty;
+    wrote = λ t right. ap (λ (n : Answered). n.wrote) k.3 ∙ h.wrote t right;
     handed = h.handed;
   }
 
@@ -59,5 +60,6 @@ module _ (going : Manner) (q : Query) (a b c s u : Option (List ℕ)) (st next :
     come = k.4 ∙ h.come;
     lines = ap (λ (m : Answered). m.lines) k.3 ∙ h.lines;
     faulty = ap (λ (m : Answered). m.faulty) k.3 ∙ h.faulty;
+    wrote = λ t right. ap (λ (m : Answered). m.wrote) k.3 ∙ h.wrote t right;
     handed = h.handed;
   }

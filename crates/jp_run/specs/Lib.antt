@@ -7,6 +7,7 @@ pub mod Handed
 pub mod Limits
 pub mod Prompt
 pub mod Written
+pub mod Selecting
 pub mod Settings
 pub mod Status
 pub mod inner

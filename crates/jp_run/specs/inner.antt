@@ -4,3 +4,4 @@ pub mod Going
 pub mod Reading
 pub mod Standing
 pub mod Turning
+pub mod Wrote

@@ -7,6 +7,7 @@ ghost use Rattle.jp_compiled.specs.Compiled.{compiled_query};
 ghost use Rattle.jp_answer.specs.Blocks.{IsAnswerTo};
 ghost use Rattle.jp_run.specs.Answered.{manner_in, passed_in};
 ghost use Rattle.jp_run.specs.inner.Ended.{AnswerEnded};
+ghost use Rattle.jp_run.specs.inner.Wrote.{HasBytes};
 ghost use Rattle.jp_run.specs.Handed.{Handed};
 ghost use Rattle.jp_run.specs.Limits.{max_lines};
 ghost use Rattle.jp_run.specs.Written.{IsPassedOn};
@@ -14,26 +15,29 @@ ghost use Rattle.jp_run.specs.Written.{IsPassedOn};
 use crate::ends::Sink;
 use crate::fault::RunFault;
 use crate::job::Job;
+use crate::stream::Passed;
 use crate::telling::{faulty_in, tell_gate};
-use crate::writing::hand_out;
+use crate::writing::{hand_out, has_bytes};
 use jp_answer::{Answerer, Gate, Outcome};
 use jp_buffer::LineRef;
 use jp_output::Form;
 use std::alloc::AllocError;
 use std::thread::Threads;
 
-/// Answers lines, one batch after another. Gives how many faulty ones were passed.
+/// Answers lines, one batch after another.
 pub(crate) fn answer_lines<R: Threads + Sync, K: Sink, G: Gate + Sync, F: Form + Drop + Send>(
     job: &Job<R, G>,
     lines: &[LineRef<'_>],
     sink: &mut K,
-) -> Result<u64, RunFault>
+) -> Result<Passed, RunFault>
     requires working { K.failed sink.old ≡ false }
     requires flushed { K.flushed sink.old ≡ true }
     requires few { length lines.now ≤ max_lines + 1 }
     ensures handed { OnOk result (Handed (manner_in F.says job.now.settings) (compiled_query
         job.now.query.now) (map line_at lines.now) None (K.contents sink.old) (K.contents sink.new)) }
-    ensures passed { IfOk result (λ n. n ≡ passed_in job.now.settings (map line_at lines.now)) }
+    ensures passed { IfOk result (λ p. p.faulty ≡ passed_in job.now.settings (map line_at lines.now)) }
+    ensures wrote { IfOk result (λ p. HasBytes (manner_in F.says job.now.settings) (compiled_query
+        job.now.query.now) (map line_at lines.now) p.wrote) }
     ensures working { OnOk result (K.failed sink.new ≡ false) }
     ensures flushed { OnOk result (K.flushed sink.new ≡ true) }
     ensures passed_on { IsPassedOn (K.flushed sink.new) (K.failed sink.new) }
@@ -44,12 +48,15 @@ pub(crate) fn answer_lines<R: Threads + Sync, K: Sink, G: Gate + Sync, F: Form +
     let batch = job.settings.batch as usize;
     let mut done = 0;
     let mut faulty = 0;
+    let mut wrote = false;
     while done < lines.len() {
-        let front = batch_at(lines, done, batch);
-        faulty += answer_batch::<R, K, G, F>(job, front, sink)?;
+        let front = batch_at(&*lines, done, batch);
+        let passed = answer_batch::<R, K, G, F>(job, front, sink)?;
+        faulty += passed.faulty;
+        wrote |= passed.wrote;
         done += front.len();
     }
-    Ok(faulty)
+    Ok(Passed { faulty, wrote })
 }
 
 /// The lines of one batch, from this place on: fewer at the end.
@@ -65,19 +72,20 @@ fn batch_at<'b>(lines: &'b [LineRef<'b>], done: usize, batch: usize) -> &'b [Lin
     front
 }
 
-/// Answers the lines of a batch, and hands the answer to the sink, which passes it on. Gives how many faulty
-/// ones it passes.
+/// Answers the lines of a batch, and hands the answer to the sink, which passes it on.
 fn answer_batch<R: Threads + Sync, K: Sink, G: Gate + Sync, F: Form + Drop + Send>(
     job: &Job<R, G>,
     lines: &[LineRef<'_>],
     sink: &mut K,
-) -> Result<u64, RunFault>
+) -> Result<Passed, RunFault>
     requires working { K.failed sink.old ≡ false }
     requires flushed { K.flushed sink.old ≡ true }
     requires few { length lines.now ≤ max_lines + 1 }
     ensures handed { OnOk result (Handed (manner_in F.says job.now.settings) (compiled_query
         job.now.query.now) (map line_at lines.now) None (K.contents sink.old) (K.contents sink.new)) }
-    ensures passed { IfOk result (λ n. n ≡ passed_in job.now.settings (map line_at lines.now)) }
+    ensures passed { IfOk result (λ p. p.faulty ≡ passed_in job.now.settings (map line_at lines.now)) }
+    ensures wrote { IfOk result (λ p. HasBytes (manner_in F.says job.now.settings) (compiled_query
+        job.now.query.now) (map line_at lines.now) p.wrote) }
     ensures working { OnOk result (K.failed sink.new ≡ false) }
     ensures flushed { OnOk result (K.flushed sink.new ≡ true) }
     ensures passed_on { IsPassedOn (K.flushed sink.new) (K.failed sink.new) }
@@ -87,7 +95,10 @@ fn answer_batch<R: Threads + Sync, K: Sink, G: Gate + Sync, F: Form + Drop + Sen
 {
     let answer = answer_to::<R, G, F>(job, lines)?;
     hand_out(sink, &answer)?;
-    Ok(answer.faulty)
+    Ok(Passed {
+        faulty: answer.faulty,
+        wrote: has_bytes(&answer),
+    })
 }
 
 /// The answer to some lines, on this thread.

@@ -18,7 +18,7 @@ use crate::job::Job;
 use crate::settling::{WINDOW_BYTES, answer_come};
 use crate::stream::Stream;
 use crate::telling::{faulty_in, tell_waiting};
-use crate::writing::hand_out;
+use crate::writing::{hand_out, has_bytes};
 use jp_answer::{Answerer, Gate, Outcome, Queue, Sent};
 use jp_output::Form;
 use std::thread::Threads;
@@ -238,8 +238,8 @@ fn write_block<R: Threads + Sync, K: Sink, G: Gate + Sync, F: Form + Drop + Send
     ensures handed { OnOk result (Handed (manner F.says (sent_task front.now).asked.policy) (compiled_query
         (sent_task front.now).asked.query.now) (sent_task front.now).lines None (K.contents sink.old)
         (K.contents sink.new)) }
-    ensures written { OnOk result (HasWritten (sent_task front.now).asked.policy front.now stream.old
-        stream.new) }
+    ensures written { OnOk result (HasWritten (manner F.says (sent_task front.now).asked.policy)
+        (compiled_query (sent_task front.now).asked.query.now) front.now stream.old stream.new) }
     ensures left { stream.new.left ≡ stream.old.left }
     ensures working { OnOk result (K.failed sink.new ≡ false) }
     ensures flushed { OnOk result (K.flushed sink.new ≡ true) }
@@ -272,8 +272,8 @@ fn write_answer<R: Threads + Sync, K: Sink, G: Gate + Sync, F: Form + Drop + Sen
     ensures handed { OnOk result (Handed (manner F.says (sent_task front.now).asked.policy) (compiled_query
         (sent_task front.now).asked.query.now) (sent_task front.now).lines None (K.contents sink.old)
         (K.contents sink.new)) }
-    ensures written { OnOk result (HasWritten (sent_task front.now).asked.policy front.now stream.old
-        stream.new) }
+    ensures written { OnOk result (HasWritten (manner F.says (sent_task front.now).asked.policy)
+        (compiled_query (sent_task front.now).asked.query.now) front.now stream.old stream.new) }
     ensures left { stream.new.left ≡ stream.old.left }
     ensures working { OnOk result (K.failed sink.new ≡ false) }
     ensures flushed { OnOk result (K.flushed sink.new ≡ true) }
@@ -287,6 +287,7 @@ fn write_answer<R: Threads + Sync, K: Sink, G: Gate + Sync, F: Form + Drop + Sen
     hand_out(sink, answer)?;
     stream.answered.lines += lines.len() as u64;
     stream.answered.faulty += answer.faulty;
+    stream.answered.wrote |= has_bytes(answer);
     stream.come -= front.bytes;
     Ok(())
 }

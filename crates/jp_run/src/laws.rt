@@ -1,15 +1,18 @@
 //! Laws of the definitions, each the contract of a function that does nothing.
 
-ghost use Rattle.std.specs.Prelude.{◌≡◌, ℕ, Bool, false, true, List, None};
-ghost use Rattle.jp_doc.specs.Lines.{lines};
+ghost use Rattle.std.specs.Prelude.{◌≡◌, ◌↔◌, ℕ, Bool, false, true, List, [], None};
+ghost use Rattle.jp_doc.specs.Lines.{Line, lines};
 ghost use Rattle.jp_doc.specs.ReadingIn.{whole_numbers};
 ghost use Rattle.jp_tree.specs.Tree.{Text, Query};
 ghost use Rattle.jp_regexp.specs.Tests.{Tests, AreRight};
 ghost use Rattle.jp_check.specs.Verdict.{IsAcceptedIn};
 ghost use Rattle.jp_answer.specs.Answer.{Answer};
 ghost use Rattle.jp_answer.specs.Faults.{first_fault};
-ghost use Rattle.jp_answer.specs.OnFault.{answer_in};
+ghost use Rattle.jp_answer.specs.OnFault.{answer_by, answer_in};
+ghost use Rattle.jp_answer.specs.Policy.{numbers_in};
 ghost use Rattle.jp_run.specs.Answered.{IsAnswerBy, IsAnswerTo, manner_by, numbers_of, policy_of};
+ghost use Rattle.jp_run.specs.Forms.{form_of};
+ghost use Rattle.jp_run.specs.Selecting.{SelectsNothing};
 ghost use Rattle.jp_run.specs.declared.output.Output.{Output};
 ghost use Rattle.jp_run.specs.declared.output.Output.TheVariants.{Nodes};
 
@@ -31,4 +34,13 @@ pub fn same_with_decimals()
         → first_fault whole_numbers (lines input) ≡ None
         → IsAnswerBy (manner_by output false k) text input a
         → IsAnswerBy (manner_by output true k) text input a }
+{}
+
+/// Where no line is faulty an answer has no byte exactly where no node of any document is selected: in every
+/// form, whichever numbers it has, whether or not it keeps going.
+pub fn nothing_selected()
+    ensures { (output : Output) (d k : Bool) (t : Tests) (q : Query) (ls : List Line)
+        → first_fault (numbers_in (numbers_of d)) ls ≡ None
+        → ((answer_by (form_of output) (policy_of d k) t q ls).bytes ≡ [])
+        ↔ SelectsNothing (numbers_in (numbers_of d)) t q ls }
 {}

@@ -1,7 +1,7 @@
 //! A run over a collection.
 
 ghost use Rattle.std.specs.Prelude.{◌≡◌, ◌+◌, ◌^◌, ◌<◌, ◌≤◌, ◌⊎◌, ◌↔◌, ℕ, List, length, false, true, Some};
-ghost use Rattle.std.specs.Prelude.{None, Err, IfOk, IfErr, OnOk, OnErr, IfSome, IsErrOf};
+ghost use Rattle.std.specs.Prelude.{None, Err, IfOk, IfErr, OnOk, OnErr, IfSome, IsErrOf, nat_lt};
 ghost use Rattle.std.specs.Io.KnownBytes.{Appends, Consumes, IsAtEnd};
 ghost use Rattle.std.specs.Str.{chars};
 ghost use Rattle.jp_doc.specs.Lines.{lines, line_count};
@@ -18,6 +18,7 @@ ghost use Rattle.jp_run.specs.Begun.{AllSince};
 ghost use Rattle.jp_run.specs.Come.{documents_in};
 ghost use Rattle.jp_run.specs.inner.Ended.{StreamEnded};
 ghost use Rattle.jp_run.specs.inner.Standing.{BeginsNear, BeginsPrompt};
+ghost use Rattle.jp_run.specs.inner.Wrote.{HasBytes};
 ghost use Rattle.jp_run.specs.Handed.{Handed, IsHandedBy};
 ghost use Rattle.jp_run.specs.Limits.{max_reads, max_lines, window};
 ghost use Rattle.jp_run.specs.Prompt.{IsNear, IsPrompt};
@@ -54,6 +55,9 @@ pub struct Totals {
     pub documents: u64,
     /// The number of faulty lines: 0 where the answer doesn't keep going.
     pub faulty: u64,
+    /// Whether the answer has a byte: it has none exactly where nothing is selected and no faulty line was
+    /// told.
+    pub wrote: bool,
 }
 
 impl Totals {
@@ -119,6 +123,10 @@ pub fn run<R: Threads + Sync, S: Source<K>, K: Sink, G: Gate + Sync>(
         (λ input. totals.faulty ≡ passed_in settings.now (lines input))) }
     // None, whatever the source tells of its bytes.
     ensures none_passed { settings.now.keeps_going ≡ false → IfOk result (λ totals. totals.faulty ≡ 0) }
+    // Whether the answer has a byte.
+    ensures wrote { IfOk result (λ totals. IfSome (S.remaining source.old) (λ input. (a : Answer)
+        × IsAnswerBy (manner_of settings.now) (chars query.now) input a
+        × (totals.wrote ≡ nat_lt 0 (length a.bytes)))) }
     ensures few_lines { IfOk result (λ totals. totals.lines ≤ max_lines) }
     ensures end { OnOk result (IsAtEnd (S.remaining source.new)) }
     ensures flushed { OnOk result (K.flushed sink.new ≡ true) }
@@ -195,6 +203,8 @@ fn answer_in_form<R: Threads + Sync, S: Source<K>, K: Sink, G: Gate + Sync>(
     ensures passed { IfOk result (λ totals. IfSome (S.remaining source.old)
         (λ input. totals.faulty ≡ passed_in job.now.settings (lines input))) }
     ensures none_passed { job.now.settings.keeps_going ≡ false → IfOk result (λ totals. totals.faulty ≡ 0) }
+    ensures wrote { IfOk result (λ totals. IfSome (S.remaining source.old) (λ input. HasBytes
+        (manner_of job.now.settings) (compiled_query job.now.query.now) (lines input) totals.wrote)) }
     ensures few_lines { IfOk result (λ totals. totals.lines ≤ max_lines) }
     ensures end { OnOk result (IsAtEnd (S.remaining source.new)) }
     ensures flushed { OnOk result (K.flushed sink.new ≡ true) }
@@ -244,6 +254,9 @@ fn answer_stream<R: Threads + Sync, S: Source<K>, K: Sink, G: Gate + Sync, F: Fo
     ensures passed { IfOk result (λ totals. IfSome (S.remaining source.old)
         (λ input. totals.faulty ≡ passed_in job.now.settings (lines input))) }
     ensures none_passed { job.now.settings.keeps_going ≡ false → IfOk result (λ totals. totals.faulty ≡ 0) }
+    ensures wrote { IfOk result (λ totals. IfSome (S.remaining source.old) (λ input. HasBytes
+        (manner_in F.says job.now.settings) (compiled_query job.now.query.now) (lines input)
+        totals.wrote)) }
     ensures few_lines { IfOk result (λ totals. totals.lines ≤ max_lines) }
     ensures end { OnOk result (IsAtEnd (S.remaining source.new)) }
     ensures flushed { OnOk result (K.flushed sink.new ≡ true) }

@@ -7,6 +7,7 @@ ghost use Rattle.jp_compiled.specs.Compiled.{compiled_query};
 ghost use Rattle.jp_run.specs.Answered.{manner_in, passed_in};
 ghost use Rattle.jp_run.specs.inner.Ended.{AnswerEnded, FailureEnded, RestEnded};
 ghost use Rattle.jp_run.specs.inner.Standing.{HasAnswered, HasSettled, IsCounted};
+ghost use Rattle.jp_run.specs.inner.Wrote.{HasBytes, HasBytesMore};
 ghost use Rattle.jp_run.specs.Handed.{Handed};
 ghost use Rattle.jp_run.specs.Limits.{max_lines, window};
 ghost use Rattle.jp_run.specs.Written.{IsPassedOn};
@@ -18,7 +19,7 @@ use crate::gathering::take_last;
 use crate::job::Job;
 use crate::running::Totals;
 use crate::settings::Settings;
-use crate::stream::Stream;
+use crate::stream::{Passed, Stream};
 use jp_answer::Gate;
 use jp_buffer::LineBuffer;
 use jp_output::Form;
@@ -96,27 +97,30 @@ pub(crate) fn answer_come<R: Threads + Sync, K: Sink, G: Gate + Sync, F: Form + 
         (K.contents sink.new)) }
 {
     let count = stream.buffer.len();
-    let faulty = answer_waiting::<R, K, G, F>(job, sink, &stream.buffer)?;
+    let passed = answer_waiting::<R, K, G, F>(job, sink, &stream.buffer)?;
     stream.answered.lines += count as u64;
-    stream.answered.faulty += faulty;
+    stream.answered.faulty += passed.faulty;
+    stream.answered.wrote |= passed.wrote;
     stream.buffer.take_away(count);
     stream.come = 0;
     Ok(())
 }
 
-/// Answers the lines of a buffer. Gives how many faulty ones were passed.
+/// Answers the lines of a buffer.
 fn answer_waiting<R: Threads + Sync, K: Sink, G: Gate + Sync, F: Form + Drop + Send>(
     job: &Job<R, G>,
     sink: &mut K,
     buffer: &LineBuffer,
-) -> Result<u64, RunFault>
+) -> Result<Passed, RunFault>
     requires working { K.failed sink.old ≡ false }
     requires flushed { K.flushed sink.old ≡ true }
     requires few { length buffer.now.lines ≤ max_lines + 1 }
     ensures handed { OnOk result (Handed (manner_in F.says job.now.settings) (compiled_query
         job.now.query.now) buffer.now.lines None (K.contents sink.old) (K.contents sink.new)) }
-    ensures passed { IfOk result (λ n. n ≡ passed_in job.now.settings buffer.now.lines) }
-    ensures few_faulty { IfOk result (λ n. n ≤ length buffer.now.lines) }
+    ensures passed { IfOk result (λ p. p.faulty ≡ passed_in job.now.settings buffer.now.lines) }
+    ensures few_faulty { IfOk result (λ p. p.faulty ≤ length buffer.now.lines) }
+    ensures wrote { IfOk result (λ p. HasBytes (manner_in F.says job.now.settings) (compiled_query
+        job.now.query.now) buffer.now.lines p.wrote) }
     ensures working { OnOk result (K.failed sink.new ≡ false) }
     ensures flushed { OnOk result (K.flushed sink.new ≡ true) }
     ensures passed_on { IsPassedOn (K.flushed sink.new) (K.failed sink.new) }
@@ -126,7 +130,10 @@ fn answer_waiting<R: Threads + Sync, K: Sink, G: Gate + Sync, F: Form + Drop + S
 {
     // A list of no lines would take memory at each read of a slow source.
     if buffer.len() == 0 {
-        return Ok(0);
+        return Ok(Passed {
+            faulty: 0,
+            wrote: false,
+        });
     }
     let lines = buffer.lines(job.crew.alloc)?;
     answer_lines::<R, K, G, F>(job, &lines, sink)
@@ -152,6 +159,9 @@ pub(crate) fn answer_rest<R: Threads + Sync, K: Sink, G: Gate + Sync, F: Form + 
     ensures passed { IfOk result (λ totals. totals.faulty ≡ stream.old.answered.faulty
         + passed_in job.now.settings
         (stream.old.buffer.lines ++ finished_lines stream.old.buffer.progress)) }
+    ensures wrote { IfOk result (λ totals. HasBytesMore (manner_in F.says job.now.settings) (compiled_query
+        job.now.query.now) (stream.old.buffer.lines ++ finished_lines stream.old.buffer.progress)
+        stream.old.answered.wrote totals.wrote) }
     ensures few_lines { IfOk result (λ totals. totals.lines ≤ max_lines) }
     ensures flushed { OnOk result (K.flushed sink.new ≡ true) }
     ensures working { OnOk result (K.failed sink.new ≡ false) }
@@ -167,6 +177,7 @@ pub(crate) fn answer_rest<R: Threads + Sync, K: Sink, G: Gate + Sync, F: Form + 
         lines,
         documents: stream.answered.lines,
         faulty: stream.answered.faulty,
+        wrote: stream.answered.wrote,
     })
 }
 

@@ -25,7 +25,7 @@ impl<R: Read> FromReader<R> {
         ensures ungiven { ⟦<FromReader<R> as Supply>⟧.given result ≡ 0 }
         ensures working { ⟦<FromReader<R> as Supply>⟧.failed result ≡ false }
     {
-        FromReader::over(reader, false)
+        FromReader::over(reader, false, false)
     }
 
     /// A source from which nothing was read, and none of whose reads waits: that is the caller's word, as of
@@ -36,15 +36,25 @@ impl<R: Read> FromReader<R> {
         ensures ungiven { ⟦<FromReader<R> as Supply>⟧.given result ≡ 0 }
         ensures working { ⟦<FromReader<R> as Supply>⟧.failed result ≡ false }
     {
-        FromReader::over(reader, true)
+        FromReader::over(reader, true, false)
     }
 
-    /// A source from which nothing was read.
-    fn over(reader: R, never_waits: bool) -> FromReader<R>
+    /// A source that has failed before its first read, as one that could not be opened. It takes no memory.
+    pub fn broken(reader: R) -> FromReader<R>
         ensures remaining { ⟦<FromReader<R> as Supply>⟧.remaining result ≡ R.remaining reader }
         ensures unread { ⟦<FromReader<R> as Supply>⟧.reads result ≡ 0 }
         ensures ungiven { ⟦<FromReader<R> as Supply>⟧.given result ≡ 0 }
-        ensures working { ⟦<FromReader<R> as Supply>⟧.failed result ≡ false }
+        ensures failed { ⟦<FromReader<R> as Supply>⟧.failed result ≡ true }
+    {
+        FromReader::over(reader, false, true)
+    }
+
+    /// A source from which nothing was read.
+    fn over(reader: R, never_waits: bool, failed: bool) -> FromReader<R>
+        ensures remaining { ⟦<FromReader<R> as Supply>⟧.remaining result ≡ R.remaining reader }
+        ensures unread { ⟦<FromReader<R> as Supply>⟧.reads result ≡ 0 }
+        ensures ungiven { ⟦<FromReader<R> as Supply>⟧.given result ≡ 0 }
+        ensures failed { ⟦<FromReader<R> as Supply>⟧.failed result ≡ failed }
     {
         FromReader {
             reader,
@@ -52,7 +62,7 @@ impl<R: Read> FromReader<R> {
             told_ready: false,
             reads: 0,
             given: 0,
-            failed: false,
+            failed,
         }
     }
 }

@@ -1,6 +1,6 @@
 //! The lines of a run between the source and the sink.
 
-ghost use Rattle.std.specs.Prelude.{◌≡◌, ◌<◌, IfOk, [], vec_len};
+ghost use Rattle.std.specs.Prelude.{◌≡◌, ◌<◌, IfOk, [], vec_len, false};
 ghost use Rattle.jp_doc.specs.Feeding.{nothing_fed};
 
 use jp_buffer::LineBuffer;
@@ -31,6 +31,17 @@ pub(crate) struct Answered {
     pub(crate) lines: u64,
     /// How many faulty lines the answer has passed.
     pub(crate) faulty: u64,
+    /// Whether any byte was written.
+    pub(crate) wrote: bool,
+}
+
+/// What some lines, which are answered, add to that.
+#[derive(Clone, Copy, Drop)]
+pub(crate) struct Passed {
+    /// How many faulty lines their answer passes.
+    pub(crate) faulty: u64,
+    /// Whether it has a byte.
+    pub(crate) wrote: bool,
 }
 
 impl Stream {
@@ -40,7 +51,7 @@ impl Stream {
         ensures lines { IfOk result (λ s. s.buffer.lines ≡ []) }
         ensures progress { IfOk result (λ s. s.buffer.progress ≡ nothing_fed) }
         ensures come { IfOk result (λ s. s.come ≡ 0) }
-        ensures answered { IfOk result (λ s. s.answered ≡ record { lines = 0; faulty = 0 }) }
+        ensures answered { IfOk result (λ s. s.answered ≡ record { lines = 0; faulty = 0; wrote = false }) }
     {
         // A source may write anything into what it is given, also where it fails: so that is no line's
         // memory.
@@ -53,6 +64,7 @@ impl Stream {
             answered: Answered {
                 lines: 0,
                 faulty: 0,
+                wrote: false,
             },
         })
     }

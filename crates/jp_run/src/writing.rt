@@ -1,6 +1,6 @@
 //! An answer to a sink.
 
-ghost use Rattle.std.specs.Prelude.{◌≡◌, false, true, None, OnOk, OnErr, IfErr};
+ghost use Rattle.std.specs.Prelude.{◌≡◌, false, true, nat_lt, length, None, OnOk, OnErr, IfErr};
 ghost use Rattle.std.specs.Io.KnownBytes.{Appends, Keeps};
 ghost use Rattle.jp_answer.specs.Answered.{outcome_of};
 ghost use Rattle.jp_output.specs.Chunks.{bytes_in};
@@ -53,6 +53,18 @@ fn write_chunks<K: Sink>(sink: &mut K, chunks: &[Vec<u8>]) -> Result<(), Broken>
         };
     }
     Ok(())
+}
+
+/// Whether an answer has a byte.
+pub(crate) fn has_bytes(answer: &Outcome) -> bool
+    ensures { result ≡ nat_lt 0 (length (outcome_of answer.now).bytes) }
+{
+    for chunk in &answer.chunks {
+        if !chunk.is_empty() {
+            return true;
+        }
+    }
+    false
 }
 
 /// Hands over the bytes of an answer and passes them on, and then tells its faulty line, if there is one.

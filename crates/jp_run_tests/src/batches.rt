@@ -101,6 +101,7 @@ fn the_same_for_all_batches(rt: HostRuntime) {
                 lines: 3,
                 documents: 2,
                 faulty: 0,
+                wrote: true,
             };
             assert!(rt; found.totals == Some(totals));
             assert!(rt; found.is_written);

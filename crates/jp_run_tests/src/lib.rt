@@ -45,3 +45,5 @@ mod wide;
 mod windows;
 #[cfg(test)]
 mod writes_that_fail;
+#[cfg(test)]
+mod wrote;

@@ -61,6 +61,7 @@ fn goes_on<R: Threads + Sync>(
         lines: 5,
         documents: 4,
         faulty: 1,
+        wrote: true,
     };
     let is_counted = matches!(end, Ok(found) if found == wanted_totals && found.status() == 3);
     Ok(is_counted && bytes.as_slice() == wanted)

@@ -282,12 +282,14 @@ fn lines_and_documents_are_counted(rt: HostRuntime) {
         lines: 3,
         documents: 2,
         faulty: 0,
+        wrote: true,
     };
     assert!(rt; counts(&rt, rt.alloc(), "$.a", b"{\"a\":1}\n\n{\"a\":null}", totals));
     let none = Totals {
         lines: 0,
         documents: 0,
         faulty: 0,
+        wrote: false,
     };
     assert!(rt; counts(&rt, rt.alloc(), "$", b"", none));
 }

@@ -16,6 +16,7 @@ use Rattle.jp_answer.specs.declared.queue.Sent.{Sent}
 use Rattle.jp_run.specs.Come.{documents_in}
 use Rattle.jp_run.specs.Handed.{Handed}
 use Rattle.jp_run.specs.inner.Ended.{StreamEnded}
+use Rattle.jp_run.specs.inner.Wrote.{HasBytes, HasBytesMore}
 use Rattle.jp_run.specs.declared.fault.RunFault.{RunFault}
 use Rattle.jp_run.specs.declared.stream.Stream.{Stream}
 
@@ -54,6 +55,7 @@ module _ {F : Type 0} {g : form.Ghosts F} {v : visit.Ghosts F} where
     pub come : s.come ≡ length (all_bytes pieces ++ last)
     pub lines : s.answered.lines ≡ length (documents_in front)
     pub faulty : s.answered.faulty ≡ passed_in going.policy (documents_in front)
+    pub wrote : HasBytes going q (documents_in front) s.answered.wrote
     pub handed : Handed going q (documents_in front) None sink_old sink_now
 
   -- this is what is asked of further blocks
@@ -90,11 +92,13 @@ module _ {F : Type 0} {g : form.Ghosts F} {v : visit.Ghosts F} where
       }) fault
 
   -- the answer to the lines of a block is written, and counted
-  pub record HasWritten (policy : LinePolicy) (s : Sent F g v) (before after : Stream) : Type 0 where
+  pub record HasWritten (going : Manner) (q : Query) (s : Sent F g v) (before after : Stream) : Type 0 where
     pub buffer : after.buffer ≡ before.buffer
     pub come : after.come + s.bytes ≡ before.come
     pub lines : after.answered.lines ≡ before.answered.lines + length (sent_task s).lines
-    pub faulty : after.answered.faulty ≡ before.answered.faulty + passed_in policy (sent_task s).lines
+    pub faulty : after.answered.faulty ≡ before.answered.faulty
+        + passed_in going.policy (sent_task s).lines
+    pub wrote : HasBytesMore going q (sent_task s).lines before.answered.wrote after.answered.wrote
 
   -- the lines that waited are out in a block
   pub record WentOut (before after : Stream) (o p : Queue F g v) : Type 0 where

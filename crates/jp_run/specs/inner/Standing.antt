@@ -9,6 +9,7 @@ use Rattle.jp_run.specs.Begun.{Begun}
 use Rattle.jp_run.specs.Come.{documents_in}
 use Rattle.jp_run.specs.Handed.{Handed}
 use Rattle.jp_run.specs.Limits.{max_lines}
+use Rattle.jp_run.specs.inner.Wrote.{HasBytes, HasBytesMore}
 use Rattle.jp_run.specs.declared.stream.Stream.{Stream}
 
 -- there are no more lines than are counted
@@ -25,6 +26,7 @@ pub record HasAnswered (going : Manner) (q : Query) (sink_old sink_new : Option 
   pub progress : after.buffer.progress ≡ before.buffer.progress
   pub lines : after.answered.lines ≡ before.answered.lines + length before.buffer.lines
   pub faulty : after.answered.faulty ≡ before.answered.faulty + passed_in going.policy before.buffer.lines
+  pub wrote : HasBytesMore going q before.buffer.lines before.answered.wrote after.answered.wrote
 
 -- so is it, or nothing was done
 pub record IsLeft (sink_old sink_new : Option (List ℕ)) (before after : Stream) : Type 0 where
@@ -46,6 +48,7 @@ pub record Stands (going : Manner) (q : Query) (old now sink_old sink_now : Opti
   pub come : s.come ≡ length more
   pub lines : s.answered.lines ≡ length (documents_in front)
   pub faulty : s.answered.faulty ≡ passed_in going.policy (documents_in front)
+  pub wrote : HasBytes going q (documents_in front) s.answered.wrote
   pub handed : Handed going q (documents_in front) None sink_old sink_now
 
 -- what is promised of each read, of the query that is walked

@@ -1,5 +1,10 @@
+use Rattle.std.proofs.Common.{map}
+use Rattle.jp_buffer.specs.Buffered.{line_at}
+use Rattle.jp_compiled.specs.Compiled.{compiled_query}
 use Rattle.jp_answer.specs.Answered.{outcome_of}
+use Rattle.jp_run.specs.Answered.{manner_in}
 use Rattle.jp_run.proofs.Handing.{told, handing_done, ended_handing}
+use Rattle.jp_run.proofs.Wrote.{wrote_whole}
 use Rattle.jp_run.proofs.answering.answer_batch.Goals as goal
 
 pub returns-in_err-hand_out-clause-fault : goal.returns-in_err-hand_out-clause-fault
@@ -10,3 +15,8 @@ returns-in_err-hand_out-clause-fault g c = told _ _ _ c.from_residual-in_err-han
 pub returns-clause-handed : goal.returns-clause-handed
 returns-clause-handed g c = handing_done _ _ _ (outcome_of c.in_ok-answer.answer)
     c.in_ok-answer.ensures.answer _ _ c.in_ok-hand_out.ensures.whole c.in_ok-hand_out.ensures.ok
+
+pub returns-clause-wrote : goal.returns-clause-wrote
+returns-clause-wrote g c = wrote_whole (manner_in g.F.Form.says c.args.job.now.settings)
+    (compiled_query c.args.job.now.query.now) (map line_at c.args.lines.now)
+    (outcome_of c.in_ok-answer.answer) _ c.in_ok-answer.ensures.answer c.has_bytes.ensures

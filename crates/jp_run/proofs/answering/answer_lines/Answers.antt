@@ -1,5 +1,5 @@
-use Rattle.std.proofs.Common.{◌≡◌, ◌∙◌, ℕ, ◌+◌, ◌++◌, List, sym, ap, subst, map, take, drop, None}
-use Rattle.std.proofs.Common.{arith, length, length-take-le, take-append-drop}
+use Rattle.std.proofs.Common.{◌≡◌, ◌∙◌, ℕ, ◌+◌, ◌||◌, ◌++◌, List, sym, ap, subst, map, take, drop, None}
+use Rattle.std.proofs.Common.{arith, length, length-take-le, take-append-drop, refl}
 use Rattle.std.proofs.Math.Seq.{take-add}
 use Rattle.std.proofs.lemmas.List.{take-map, drop-map, length-map}
 use Rattle.jp_buffer.specs.Buffered.{line_at}
@@ -11,7 +11,9 @@ use Rattle.jp_answer.proofs.OnFaults.{passed_joined, passed_few, passed_none}
 use Rattle.jp_run.specs.Answered.{manner_in}
 use Rattle.jp_run.specs.Handed.{Handed}
 use Rattle.jp_run.specs.inner.Ended.{AnswerEnded}
+use Rattle.jp_run.specs.inner.Wrote.{HasBytes}
 use Rattle.jp_run.proofs.Handing.{told, handed_none, handed_both, ended_after, ended_more}
+use Rattle.jp_run.proofs.Wrote.{wrote_none, wrote_more, wrote_or}
 use Rattle.jp_run.proofs.answering.answer_lines.Goals as goal
 
 -- the batch that is answered next, and what is answered with it
@@ -42,10 +44,12 @@ loop-done-init g c = record {
   handed = handed_none (manner_in g.F.Form.says c.args.job.now.settings)
       (compiled_query c.args.job.now.query.now) (g.K.Sink.contents c.args.sink.now);
   passed = sym (passed_none (manner_in g.F.Form.says c.args.job.now.settings).policy);
+  wrote = wrote_none (manner_in g.F.Form.says c.args.job.now.settings)
+      (compiled_query c.args.job.now.query.now);
 }
 
-pub returns-in_err-faulty-clause-fault : goal.returns-in_err-faulty-clause-fault
-returns-in_err-faulty-clause-fault g c =
+pub returns-in_err-passed-clause-fault : goal.returns-in_err-passed-clause-fault
+returns-in_err-passed-clause-fault g c =
     let going = manner_in g.F.Form.says c.args.job.now.settings in
     let q = compiled_query c.args.job.now.query.now in
     let lines = c.args.lines.now in
@@ -56,12 +60,12 @@ returns-in_err-faulty-clause-fault g c =
     let b = g.K.Sink.contents c.loop-done.sink in
     let e = g.K.Sink.contents c.answer_batch.new.sink in
     told _ _ _ c.from_residual.ensures.1
-    (subst (λ (l : List Line). AnswerEnded going q l failed a e c.in_err-faulty.field-0.0)
+    (subst (λ (l : List Line). AnswerEnded going q l failed a e c.in_err-passed.field-0.0)
     (whole lines front done c.batch_at-front.ensures.front)
     (ended_after going q (take done (map line_at lines)) (map line_at front
     ++ drop (length front) (drop done (map line_at lines))) failed a b e _ c.loop-done.invariant.handed
     (ended_more going q (map line_at front) (drop (length front) (drop done (map line_at lines))) failed b e _
-    c.in_err-faulty.ensures.fault)))
+    c.in_err-passed.ensures.fault)))
 
 pub overflow_add-faulty : goal.overflow_add-faulty
 overflow_add-faulty g c =
@@ -72,7 +76,7 @@ overflow_add-faulty g c =
     omega (
       arith,
       c.loop-done.invariant.passed,
-      c.in_ok-faulty.ensures.passed,
+      c.in_ok-passed.ensures.passed,
       passed_few policy (take done (map line_at lines)),
       passed_few policy (map line_at front),
       length-take-le done (map line_at lines) (omega (
@@ -98,17 +102,25 @@ loop-done-preserved g c =
     let e = g.K.Sink.contents c.answer_batch.new.sink in
     let more = both lines front done c.batch_at-front.ensures.front in
     record {
-      working = c.in_ok-faulty.ensures.working;
-      flushed = c.in_ok-faulty.ensures.flushed;
+      working = c.in_ok-passed.ensures.working;
+      flushed = c.in_ok-passed.ensures.flushed;
       within = c.batch_at-front.ensures.within;
       handed = subst (λ (l : List Line). Handed going q l None a e) (sym more)
           (handed_both going q (take done (map line_at lines)) (map line_at front) None a b e
-          c.loop-done.invariant.handed c.in_ok-faulty.ensures.handed);
+          c.loop-done.invariant.handed c.in_ok-passed.ensures.handed);
       passed = omega (
         arith,
         c.loop-done.invariant.passed,
-        c.in_ok-faulty.ensures.passed,
+        c.in_ok-passed.ensures.passed,
         ap (passed_in going.policy) more,
         passed_joined going.policy (take done (map line_at lines)) (map line_at front),
       );
+      wrote =
+          let before = c.loop-done.wrote in
+          let wrote = c.in_ok-passed.passed.wrote in
+          subst (λ (l : List Line). HasBytes going q l (before || wrote)) (sym more)
+          (wrote_more going q (take done (map line_at lines)) (map line_at front) a b before
+          (before || wrote) c.loop-done.invariant.handed c.loop-done.invariant.wrote
+          (wrote_or going q (map line_at front) before wrote (before || wrote) refl
+          c.in_ok-passed.ensures.wrote));
     }

@@ -3,6 +3,7 @@ use Rattle.jp_buffer.specs.Buffered.{line_at}
 use Rattle.jp_compiled.specs.Compiled.{compiled_query}
 use Rattle.jp_run.specs.Answered.{manner_in, passed_in}
 use Rattle.jp_run.specs.Handed.{Handed}
+use Rattle.jp_run.specs.inner.Wrote.{HasBytes}
 use Rattle.jp_run.proofs.answering.answer_lines.Given as goal
 
 abbrev pub invariant-loop-done : goal.invariant-loop-done
@@ -15,6 +16,8 @@ invariant-loop-done g l =
       handed : Handed (manner_in g.F.Form.says l.job.settings) (compiled_query l.job.query.now) before None
           (g.K.Sink.contents l.fn.sink) (g.K.Sink.contents l.sink);
       passed : l.faulty ≡ passed_in l.job.settings before;
+      wrote : HasBytes (manner_in g.F.Form.says l.job.settings) (compiled_query l.job.query.now) before
+          l.wrote;
     }
 
 abbrev pub decreases-loop-done : goal.decreases-loop-done

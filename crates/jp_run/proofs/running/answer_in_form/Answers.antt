@@ -1,9 +1,13 @@
-use Rattle.jp_run.proofs.Runs.{handed_in, ended_in, prompt_in, near_in}
+use Rattle.jp_run.proofs.Runs.{handed_in, ended_in, prompt_in, near_in, wrote_in}
 use Rattle.jp_run.proofs.running.answer_in_form.Goals as goal
 
 pub returns-in-Nodes-clause-handed : goal.returns-in-Nodes-clause-handed
 returns-in-Nodes-clause-handed g c =
     handed_in _ _ c.in-Nodes.is _ _ _ _ _ _ _ c.answer_stream.ensures.handed
+
+pub returns-in-Nodes-clause-wrote : goal.returns-in-Nodes-clause-wrote
+returns-in-Nodes-clause-wrote g c =
+    wrote_in _ _ c.in-Nodes.is _ _ _ c.answer_stream.result _ c.answer_stream.ensures.wrote
 
 pub returns-in-Nodes-clause-fault : goal.returns-in-Nodes-clause-fault
 returns-in-Nodes-clause-fault g c =
@@ -20,6 +24,11 @@ returns-in-Nodes-clause-window g c =
 pub returns-in-Values-clause-handed : goal.returns-in-Values-clause-handed
 returns-in-Values-clause-handed g c =
     handed_in _ _ c.in-Values.is _ _ _ _ _ _ _ c.answer_stream-in-Values.ensures.handed
+
+pub returns-in-Values-clause-wrote : goal.returns-in-Values-clause-wrote
+returns-in-Values-clause-wrote g c =
+    wrote_in _ _ c.in-Values.is _ _ _ c.answer_stream-in-Values.result _
+    c.answer_stream-in-Values.ensures.wrote
 
 pub returns-in-Values-clause-fault : goal.returns-in-Values-clause-fault
 returns-in-Values-clause-fault g c =
@@ -38,6 +47,11 @@ pub returns-in-Texts-clause-handed : goal.returns-in-Texts-clause-handed
 returns-in-Texts-clause-handed g c =
     handed_in _ _ c.in-Texts.is _ _ _ _ _ _ _ c.answer_stream-in-Texts.ensures.handed
 
+pub returns-in-Texts-clause-wrote : goal.returns-in-Texts-clause-wrote
+returns-in-Texts-clause-wrote g c =
+    wrote_in _ _ c.in-Texts.is _ _ _ c.answer_stream-in-Texts.result _
+    c.answer_stream-in-Texts.ensures.wrote
+
 pub returns-in-Texts-clause-fault : goal.returns-in-Texts-clause-fault
 returns-in-Texts-clause-fault g c =
     ended_in _ _ c.in-Texts.is _ _ _ c.answer_stream-in-Texts.result _ c.answer_stream-in-Texts.ensures.fault
@@ -54,6 +68,11 @@ pub returns-in-Raw-clause-handed : goal.returns-in-Raw-clause-handed
 returns-in-Raw-clause-handed g c =
     handed_in _ _ c.in-Raw.is _ _ _ _ _ _ _ c.answer_stream-in-Raw.ensures.handed
 
+pub returns-in-Raw-clause-wrote : goal.returns-in-Raw-clause-wrote
+returns-in-Raw-clause-wrote g c =
+    wrote_in _ _ c.in-Raw.is _ _ _ c.answer_stream-in-Raw.result _
+    c.answer_stream-in-Raw.ensures.wrote
+
 pub returns-in-Raw-clause-fault : goal.returns-in-Raw-clause-fault
 returns-in-Raw-clause-fault g c =
     ended_in _ _ c.in-Raw.is _ _ _ c.answer_stream-in-Raw.result _ c.answer_stream-in-Raw.ensures.fault
@@ -69,6 +88,11 @@ returns-in-Raw-clause-window g c =
 pub returns-in-Lines-clause-handed : goal.returns-in-Lines-clause-handed
 returns-in-Lines-clause-handed g c =
     handed_in _ _ c.in-Lines.is _ _ _ _ _ _ _ c.answer_stream-in-Lines.ensures.handed
+
+pub returns-in-Lines-clause-wrote : goal.returns-in-Lines-clause-wrote
+returns-in-Lines-clause-wrote g c =
+    wrote_in _ _ c.in-Lines.is _ _ _ c.answer_stream-in-Lines.result _
+    c.answer_stream-in-Lines.ensures.wrote
 
 pub returns-in-Lines-clause-fault : goal.returns-in-Lines-clause-fault
 returns-in-Lines-clause-fault g c =

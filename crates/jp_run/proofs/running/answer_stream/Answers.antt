@@ -2,7 +2,8 @@ use Rattle.std.proofs.KnownBytes.{Keeps-refl}
 use Rattle.std.proofs.Common.{◌+◌, ap, arith, inl, refl, subst}
 use Rattle.jp_run.specs.Limits.{max_lines}
 use Rattle.jp_run.specs.inner.Turning.{CameSo}
-use Rattle.jp_run.proofs.Ending.{stands_front, failure_ended, rest_ok, totals_ok, faulty_ok, rest_ended}
+use Rattle.jp_run.proofs.Ending.{stands_front, failure_ended, rest_ok, totals_ok, faulty_ok, wrote_ok}
+use Rattle.jp_run.proofs.Ending.{rest_ended}
 use Rattle.jp_run.proofs.Handing.{told, told_so}
 use Rattle.jp_run.proofs.Readings.{none_yet}
 use Rattle.jp_run.proofs.Standing.{stands_start, few_lines, few_faulty, are_counted}
@@ -65,6 +66,13 @@ returns-in-End-clause-passed g c =
     let end = subst (CameSo _ _) c.in-End.is c.in_ok-turn.ensures.came in
     faulty_ok _ _ _ _ _ _ (g.K.Sink.contents c.answer_rest.new.sink) _ done end.1 c.answer_rest.result
     c.answer_rest.ensures.passed
+
+pub returns-in-End-clause-wrote : goal.returns-in-End-clause-wrote
+returns-in-End-clause-wrote g c =
+    let done = c.in_ok-turn.ensures.stands _ _ c.loop-stream.invariant.stands in
+    let end = subst (CameSo _ _) c.in-End.is c.in_ok-turn.ensures.came in
+    wrote_ok _ _ _ _ _ _ (g.K.Sink.contents c.answer_rest.new.sink) _ done end.1 c.answer_rest.result
+    c.answer_rest.ensures.wrote
 
 pub returns-in-End-clause-fault : goal.returns-in-End-clause-fault
 returns-in-End-clause-fault g c =

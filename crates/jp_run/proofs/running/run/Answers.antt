@@ -3,7 +3,7 @@ use Rattle.jp_compiled.specs.Compiled.{compiled_query}
 use Rattle.jp_run.specs.declared.fault.RunFault.TheVariants.{Document, Read, Write, Limit}
 use Rattle.jp_run.specs.Answered.{manner_of}
 use Rattle.jp_run.proofs.Runs.{not_both, refused_so, at_fault, accepted_ok, answer_known, answer_ok}
-use Rattle.jp_run.proofs.Runs.{front_err, not_going, spelled, prompt_by, near_by}
+use Rattle.jp_run.proofs.Runs.{front_err, not_going, spelled, prompt_by, near_by, answer_wrote}
 use Rattle.jp_run.proofs.running.run.Goals as goal
 
 pub returns-in_err-plan-clause-refused : goal.returns-in_err-plan-clause-refused
@@ -48,6 +48,12 @@ returns-clause-goes_on g c = λ on line fault e.
 
 pub returns-clause-faulty : goal.returns-clause-faulty
 returns-clause-faulty g c = c.answer_in_form.ensures.passed
+
+pub returns-clause-wrote : goal.returns-clause-wrote
+returns-clause-wrote g c = answer_wrote (manner_of c.args.settings.now) _ _ (spelled _ _ _ _ _
+    c.numbers.ensures c.compiled.ensures
+    c.in_ok-plan.ensures.ok) c.answer_in_form.result _ _ _ c.answer_in_form.ensures.handed
+    c.answer_in_form.ensures.wrote
 
 pub returns-clause-read : goal.returns-clause-read
 returns-clause-read g c = λ e.
