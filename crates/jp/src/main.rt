@@ -1,25 +1,30 @@
-//! The command `jp`: runs one JSONPath query (RFC 9535) over the documents on standard input, one on a line,
-//! and prints a line for each node that it selects.
+//! The command `jp`: runs one JSONPath query (RFC 9535) over the documents on standard input or in files, one
+//! on a line, and prints a line for each node that it selects.
 #![tactic(auto)]
 
 mod standard_input;
+mod system_inputs;
+mod system_source;
 
 ghost use Rattle.std.specs.Prelude.{◌≡◌, ◌^◌, ◌≤◌, false};
 
-use jp_program::{program, refuse_words, tell};
-use jp_run::{FromReader, FromWriter, RunFault, Sink, Source};
+use jp_program::{Inputs, program, refuse_words, tell};
+use jp_run::{FromWriter, RunFault, Sink, Source};
 use standard_input::{PIECES, StandardInput, read_beside};
 use std::alloc::{AllocGlobal, Global};
 use std::io::{self, ErrorKind, Input};
 use std::process::ExitCode;
 use std::thread::{self, Threads};
 use std::{env, fs};
+use system_inputs::SystemInputs;
+use system_source::SystemSource;
 
-/// Runs the program over the words of the command line, and standard input and output. Nothing is held back
-/// before standard output: a run writes the lines of a batch in long chunks.
+/// Runs the program over the words of the command line, the system's files, and standard input and output.
+/// Nothing is held back before standard output: a run writes the lines of a batch in long chunks.
 ///
-/// A file never waits. Anything else is read by a thread beside, or where there is none to be had by this
-/// one, which then answers all that has come before each read.
+/// A file never waits. Any other standard input is read by a thread beside, which reads nothing where files
+/// are named, or where there is none to be had by this one, which then answers all that has come before each
+/// read.
 fn main(rt: HostRuntime) -> ExitCode {
     let mut notes = FromWriter::new(rt.stderr());
     let mut sink = FromWriter::new(io::writer(&rt));
@@ -28,9 +33,11 @@ fn main(rt: HostRuntime) -> ExitCode {
         Ok(None) => return ExitCode::from(refuse_words(rt.alloc(), &mut notes)),
         Err(fault) => return end_with(rt.alloc(), &mut notes, &fault),
     };
-    if is_file(&rt) {
-        let mut source = FromReader::never_waits(rt.reader());
-        return run_words(&rt, &given, &mut source, &mut sink, &mut notes);
+    let never_waits = is_file(&rt);
+    let mut inputs = SystemInputs::new(&rt, never_waits);
+    if never_waits {
+        let mut source = SystemSource::input(rt.reader(), true);
+        return run_words(&rt, &given, &mut inputs, &mut source, &mut sink, &mut notes);
     }
     let (Ok((to, from)), Ok((wanted, asked))) = (
         crossbeam_channel::bounded(rt.alloc(), PIECES),
@@ -42,11 +49,11 @@ fn main(rt: HostRuntime) -> ExitCode {
         read_beside(&rt, rt.alloc(), &asked, rt.reader(), &to)
     });
     if beside.is_err() {
-        let mut source = FromReader::new(rt.reader());
-        return run_words(&rt, &given, &mut source, &mut sink, &mut notes);
+        let mut source = SystemSource::input(rt.reader(), false);
+        return run_words(&rt, &given, &mut inputs, &mut source, &mut sink, &mut notes);
     }
-    let mut source = StandardInput::new(&rt, wanted, from);
-    run_words(&rt, &given, &mut source, &mut sink, &mut notes)
+    let mut source = SystemSource::beside(StandardInput::new(&rt, wanted, from));
+    run_words(&rt, &given, &mut inputs, &mut source, &mut sink, &mut notes)
 }
 
 /// The words of the command line; none where one of them is no UTF-8.
@@ -67,22 +74,24 @@ fn is_file(rt: &HostRuntime) -> bool {
 }
 
 /// Runs the program over these words and ends, and gives what it ends with.
-fn run_words<R: Threads + AllocGlobal + Sync, S: Source<K>, K: Sink, N: Sink>(
+fn run_words<R: Threads + AllocGlobal + Sync, I: Inputs<S>, S: Source<K>, K: Sink, N: Sink>(
     rt: &R,
     given: &[String],
+    inputs: &mut I,
     source: &mut S,
     sink: &mut K,
     notes: &mut N,
 ) -> ExitCode
     requires working { (S.failed source.old ≡ false) × (K.failed sink.old ≡ false) }
-    requires few { (S.reads source.old ≤ 2 ^ 62) × (S.given source.old ≤ 2 ^ 62) }
+    requires few { (S.reads source.old ≤ 2 ^ 62) × (S.given source.old ≤ 2 ^ 62)
+        × (I.opens inputs.old ≤ 2 ^ 62) }
 {
     match given
         .iter()
         .map(|word| word.as_str())
         .collect::<Vec<&str>>(rt.alloc())
     {
-        Ok(words) => ExitCode::from(program(rt, &words, source, sink, notes)),
+        Ok(words) => ExitCode::from(program(rt, &words, inputs, source, sink, notes)),
         Err(_) => end_with(rt.alloc(), notes, &RunFault::Memory),
     }
 }

@@ -1,5 +1,7 @@
+mod Naming
 mod Noted
 mod OneWish
 mod Ran
 mod Saying
 mod Told
+mod Turns

@@ -61,22 +61,40 @@ output_same x y e = sym (named_is x) ∙ ap (λ o. named (first o)) e ∙ named_
 pub one_wish : (words : List Text) (v w : Wanted) → Wants words v → Wants words w → v ≡ w
 one_wish words v w a b =
     ap (λ (q : List ℕ). record v { query = q }) (same_some v.query w.query (sym a.1.query ∙ b.1.query))
-    ∙ ap (λ (c : Bool). record v { query = w.query; check = c })
+    ∙ ap (λ (f : List Text). record v { query = w.query; files = f }) (sym a.1.files.0 ∙ b.1.files.0)
+    ∙ ap (λ (c : Bool). record v { query = w.query; files = w.files; check = c })
     (flag_same v.check w.check (sym a.1.check ∙ b.1.check))
-    ∙ ap (λ (o : Output). record v { query = w.query; check = w.check; output = o })
+    ∙ ap (λ (o : Output). record v { query = w.query; files = w.files; check = w.check; output = o })
     (output_same v.output w.output (sym a.1.output ∙ b.1.output))
-    ∙ ap (λ (d : Bool). record v { query = w.query; check = w.check; output = w.output; decimals = d })
+    ∙ ap (λ (d : Bool). record w {
+      decimals = d;
+      keeps_going = v.keeps_going;
+      explain = v.explain;
+      exit_status = v.exit_status;
+      workers = v.workers;
+      piece = v.piece;
+      batch = v.batch;
+    })
     (flag_same v.decimals w.decimals (sym a.1.decimals ∙ b.1.decimals))
     ∙ ap (λ (k : Bool). record w {
       keeps_going = k;
       explain = v.explain;
+      exit_status = v.exit_status;
       workers = v.workers;
       piece = v.piece;
       batch = v.batch;
     })
     (flag_same v.keeps_going w.keeps_going (sym a.1.keeps_going ∙ b.1.keeps_going))
-    ∙ ap (λ (x : Bool). record w { explain = x; workers = v.workers; piece = v.piece; batch = v.batch })
+    ∙ ap (λ (x : Bool). record w {
+      explain = x;
+      exit_status = v.exit_status;
+      workers = v.workers;
+      piece = v.piece;
+      batch = v.batch;
+    })
     (flag_same v.explain w.explain (sym a.1.explain ∙ b.1.explain))
+    ∙ ap (λ (e : Bool). record w { exit_status = e; workers = v.workers; piece = v.piece; batch = v.batch })
+    (flag_same v.exit_status w.exit_status (sym a.1.exit_status ∙ b.1.exit_status))
     ∙ ap (λ (n : ℕ). record w { workers = n; piece = v.piece; batch = v.batch })
     (number_same (codes "workers") (said words) v.workers w.workers a.1.settings.0 b.1.settings.0)
     ∙ ap (λ (n : ℕ). record w { piece = n; batch = v.batch })

@@ -1,12 +1,13 @@
 -- What `get_one` reads is what is said of an option.
 use Rattle.std.proofs.Common.{◌≡◌, ◌∙◌, ℕ, ◌≤◌, ◌<◌, ◌^◌, Bool, true, false, List, Option, Some, None}
-use Rattle.std.proofs.Common.{IfSome, option_map, codes}
+use Rattle.std.proofs.Common.{IfSome, option_map, unwrap_or, codes, []}
 use Rattle.std.proofs.Common.{Result, Ok, Err, refl, sym, ap, arith}
+use Rattle.std.specs.Borrow.{Bor}
 use Rattle.std.specs.Prelude.{IsNone}
 use Rattle.std.specs.Str.Parse.{ParsesUnsigned, ParsesBool}
 use Rattle.clap.specs.Matches.{ReadsOne}
 use Rattle.std.specs.Str.{chars}
-use Rattle.clap.specs.Walk.{Text, Row, first_of, one_of}
+use Rattle.clap.specs.Walk.{Text, Row, texts, all_of, first_of, one_of}
 use Rattle.jp_run.specs.declared.output.Output.{Output}
 use Rattle.jp_program.specs.Wanted.{SaysNumber, SaysFlag, flag_text, SaysOutput, output_text}
 
@@ -88,3 +89,15 @@ module _ (name : Text) (rows : List Row) (o : Option Text) (is : o ≡ first_of 
 
   pub query_none : o ≡ None → (text : List ℕ) → option_map chars (first_of name rows) ≡ Some text → ⊥
   query_none e text said = let none = ap (option_map chars) (sym is ∙ e) in absurd (cc)
+
+-- the files are what is said of them
+module _ (rows : List Row) (got : Option (Bor (List (Bor Text))))
+    (is : option_map (λ s. texts s.now) got ≡ all_of (codes "file") rows) where
+  pub files_some : (given : Bor (List (Bor Text))) → got ≡ Some given
+      → unwrap_or (all_of (codes "file") rows) [] ≡ texts given.now
+  files_some given e = ap (λ (o : Option (List Text)). unwrap_or o [])
+      (sym is ∙ ap (option_map (λ (s : Bor (List (Bor Text))). texts s.now)) e)
+
+  pub files_none : got ≡ None → unwrap_or (all_of (codes "file") rows) [] ≡ []
+  files_none e = ap (λ (o : Option (List Text)). unwrap_or o [])
+      (sym is ∙ ap (option_map (λ (s : Bor (List (Bor Text))). texts s.now)) e)

@@ -1,8 +1,8 @@
 -- What a run has told still holds once its sink is flushed, and says what its status says.
-use Rattle.std.proofs.Common.{◌≡◌, ◌∙◌, ℕ, ◌<◌, ◌⊎◌, inl, inr, Bool, true, false, List, [], ◌∷◌, ◌++◌, length}
+use Rattle.std.proofs.Common.{◌≡◌, ◌∙◌, ℕ, ◌⊎◌, inl, inr, Bool, true, false, List, [], ◌∷◌, ◌++◌, length}
 use Rattle.std.proofs.Common.{cond, Option, Some, None, IfSome, Result, Ok, Err, refl, ap, sym}
 use Rattle.std.proofs.Common.{arith, subst}
-use Rattle.std.proofs.KnownBytes.{Keeps-refl}
+use Rattle.std.proofs.KnownBytes.{Appends-nil}
 use Rattle.std.specs.Prelude.{is_err}
 use Rattle.std.specs.List.{filter}
 use Rattle.std.specs.Io.KnownBytes.{Appends, Keeps}
@@ -25,7 +25,8 @@ use Rattle.jp_run.specs.declared.fault.RunFault.{RunFault}
 use Rattle.jp_run.specs.declared.fault.RunFault.TheVariants.{Query, Document, Read, Write, Limit}
 use Rattle.jp_run.specs.declared.fault.RunFault.TheVariants.{Memory, Settings}
 use Rattle.jp_answer.specs.Whole.{whole_as, document_or_fault, is_faulty, faulty_lines}
-use Rattle.jp_program.specs.Outcome.{IsAnswered, IsPast, IsFront, IsCutShort}
+use Rattle.jp_run.specs.Counts.{counted}
+use Rattle.jp_program.specs.Outcome.{HasFailed, IsAnswered, Passes, IsFront, IsCutShort}
 use Rattle.jp_program.specs.Wanted.{Wanted}
 
 -- what was appended still is, where a flush keeps all
@@ -36,11 +37,6 @@ kept None new after bytes a k = tt
 kept (Some x) None after bytes a k = absurd a
 kept (Some x) (Some y) None bytes a k = absurd k
 kept (Some x) (Some y) (Some z) bytes a k = k ∙ a
-
-pub kept_same : {A : Type 0} (contents : A → Option (List ℕ)) (old new : A) → new ≡ old
-    → Keeps (contents old) (contents new)
-kept_same contents old new e =
-    subst (λ s. Keeps (contents old) (contents s)) (sym e) (Keeps-refl (contents old))
 
 pub kept_from : {A : Type 0} (contents : A → Option (List ℕ)) (old new after : A) → new ≡ old
     → Keeps (contents new) (contents after) → Keeps (contents old) (contents after)
@@ -57,6 +53,15 @@ pub front_kept : (w : Wanted) (input old new after : Option (List ℕ)) → IsFr
 front_kept w None old new after f k = tt
 front_kept w (Some bytes) old new after f k =
     λ a is. let front = f a is in (front.0, front.1, kept old new after _ front.2 k)
+
+-- nothing is a front
+pub front_none : (w : Wanted) (input old new : Option (List ℕ)) → new ≡ old → IsFront w input old new
+front_none w None old new same = tt
+front_none w (Some bytes) old new same = λ a is. (
+  0,
+  omega arith,
+  subst (λ o. Appends old o []) (sym same) (Appends-nil old),
+)
 
 pub cut_kept : (w : Wanted) (failed : Bool) (a b old new after : Option (List ℕ))
     → IsCutShort w failed a b old new → Keeps new after → IsCutShort w failed a b old after
@@ -75,6 +80,29 @@ cut_kept w failed a b old new after h k = (
     },
   ),
 )
+
+pub failed_kept : (w : Wanted) (rest : Option (List ℕ)) (reads reads_new : ℕ)
+    (source_failed sink_failed : Bool) (still : Bool) (input old new after : Option (List ℕ))
+    → HasFailed w (record {
+      rest = rest;
+      reads = reads;
+      reads_new = reads_new;
+      source_failed = source_failed;
+      sink_failed = sink_failed;
+    }) input old new → Keeps new after → (sink_failed ≡ true → still ≡ true) → HasFailed w (record {
+      rest = rest;
+      reads = reads;
+      reads_new = reads_new;
+      source_failed = source_failed;
+      sink_failed = still;
+    }) input old after
+failed_kept w rest reads reads_new source_failed sink_failed still input old new after (front, inl cut) k on =
+    (front_kept w input old new after front k, inl (cut_kept w source_failed input rest old new after cut k))
+failed_kept w rest reads reads_new source_failed sink_failed still input old new after (front, inr (inl is))
+    k on =
+    (front_kept w input old new after front k, inr (inl (on is)))
+failed_kept w rest reads reads_new source_failed sink_failed still input old new after
+    (front, inr (inr limit)) k on = (front_kept w input old new after front k, inr (inr limit))
 
 -- where no line is faulty, the answer that keeps going is the other one
 
@@ -126,16 +154,17 @@ module _ (w : Wanted) where
     h.3,
   )
 
-  pub past : (input old new : Option (List ℕ)) (n : ℕ) → IsToldIn true w None input old new
-      → IfSome input (λ bytes. n ≡ faulty_lines numbers (lines bytes)) → 0 < n → IsPast w input old new
-  past None old new n h c lt = tt
-  past (Some bytes) old new n h c lt = (
+  pub passes : (input old new : Option (List ℕ)) (n before : ℕ) → IsToldIn true w None input old new
+      → IfSome input (λ bytes. n ≡ faulty_lines numbers (lines bytes))
+      → Passes w input (old, before) (new, counted before n)
+  passes None old new n before h c = tt
+  passes (Some bytes) old new n before h c = (
     h.1.0,
     h.1.1,
     record { bytes = h.0.bytes; faulty = n },
     λ t right. ap (λ (r : Answer). record { bytes = r.bytes; faulty = faulty_lines numbers (lines bytes) })
         (h.1.2 t right) ∙ ap (λ k. record { bytes = h.0.bytes; faulty = k }) (sym c),
-    lt,
+    refl,
     h.3,
   )
 
@@ -144,15 +173,6 @@ stops false off = refl
 stops true off = absurd (off refl)
 
 -- which faults have a status
-
-pub none_of : (f : RunFault) → status_of f ≡ 0 → ⊥
-none_of (Query fault) e = omega (arith, e)
-none_of (Document line fault) e = omega (arith, e)
-none_of Read e = omega (arith, e)
-none_of Write e = omega (arith, e)
-none_of Limit e = omega (arith, e)
-none_of Memory e = omega (arith, e)
-none_of Settings e = omega (arith, e)
 
 pub query_of : (f : RunFault) → status_of f ≡ 2 → (fault : QueryFault) × (f ≡ Query fault)
 query_of (Query fault) e = (fault, refl)
@@ -191,21 +211,7 @@ memory_of Limit e = absurd (omega arith)
 memory_of Memory e = refl
 memory_of Settings e = absurd (omega arith)
 
-pub settings_of : (f : RunFault) → status_of f ≡ 64 → f ≡ Settings
-settings_of (Query fault) e = absurd (omega arith)
-settings_of (Document line fault) e = absurd (omega arith)
-settings_of Read e = absurd (omega arith)
-settings_of Write e = absurd (omega arith)
-settings_of Limit e = absurd (omega arith)
-settings_of Memory e = absurd (omega arith)
-settings_of Settings e = refl
-
 -- a refused query ends in its fault or in want of memory
-pub never_both : {T P : Type 0} (x : T) (f g : RunFault) → ◌≡◌ {A = Result T RunFault} (Ok x) (Err f)
-    ⊎ ◌≡◌ {A = Result T RunFault} (Ok x) (Err g) → P
-never_both x f g (inl e) = absurd (cc)
-never_both x f g (inr e) = absurd (cc)
-
 fault_same : {T : Type 0} (f g : RunFault) → ◌≡◌ {A = Result T RunFault} (Err f) (Err g) → f ≡ g
 fault_same f g e = cc
 

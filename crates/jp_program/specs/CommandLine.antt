@@ -4,6 +4,7 @@ use Rattle.std.specs.Prelude.{ℕ, ◌≢◌, ◌⊎◌, true, List, [], ◌∷�
 use Rattle.clap.specs.Walk.{Rule, Row, Text}
 use Rattle.clap.specs.Simple.{App, new_app, new_rule, with_rule, on_top, matches_of}
 use Rattle.clap.specs.Kinds.{Kinds, IsAmong}
+use Rattle.clap.specs.Lexer.{usize_max}
 use Rattle.clap.specs.Faults.{fault_of}
 use Rattle.clap.specs.declared.builder.action.ArgAction.TheVariants.{SetTrue}
 use Rattle.clap.specs.declared.builder.value_parser.ValueParser.TheVariants as vp
@@ -39,6 +40,13 @@ letter_rule name letter = record (flag_rule name) { short = Some letter }
 abbrev pub query_rule : Rule
 query_rule = record (new_rule (codes "query")) { value_names = 1; required = true }
 
+-- the files behind the query, as many as there are
+abbrev pub files_rule : Rule
+files_rule = record (new_rule (codes "file")) {
+  value_names = 1;
+  range = Some (record { start_inclusive = 0; end_inclusive = usize_max });
+}
+
 abbrev pub with_version : App → App
 with_version = on_top (λ s. record s { has_version = true })
 
@@ -49,15 +57,19 @@ abbrev pub with_numbers : App → App
 with_numbers a = with_rule (with_rule (with_rule a (number_rule (codes "workers") (codes "4")))
     (number_rule (codes "piece") (codes "64"))) (number_rule (codes "batch") (codes "4096"))
 
-abbrev pub with_query : App → App
-with_query a = with_rule (with_rule (with_rule (with_rule (with_rule a (flag_rule (codes "check")))
+abbrev pub with_flags : App → App
+with_flags a = with_rule (with_rule (with_rule (with_rule (with_rule a (flag_rule (codes "check")))
     (letter_rule (codes "decimals") 100)) (letter_rule (codes "keep-going") 107))
-    (flag_rule (codes "explain"))) query_rule
+    (flag_rule (codes "explain"))) (letter_rule (codes "exit-status") 101)
 
--- `jp [-o FORM] [--workers N] [--piece N] [--batch N] [--check] [-d] [-k] [--explain] QUERY`, where `-o` is
--- `--output`, `-d` is `--decimals` and `-k` is `--keep-going`; with `--help` and `--version`
+abbrev pub with_query : App → App
+with_query a = with_rule (with_rule a query_rule) files_rule
+
+-- `jp [-o FORM] [--workers N] [--piece N] [--batch N] [--check] [-d] [-k] [--explain] [-e] QUERY [FILE]...`,
+-- where `-o` is `--output`, `-d` is `--decimals`, `-k` is `--keep-going` and `-e` is `--exit-status`; with
+-- `--help` and `--version`
 abbrev pub jp_app : App
-jp_app = with_query (with_numbers (with_output (with_version (new_app (codes "jp")))))
+jp_app = with_query (with_flags (with_numbers (with_output (with_version (new_app (codes "jp"))))))
 
 -- what the words say of each option, the first of which is the program's name
 unfoldable pub said : List Text → List Row

@@ -1,4 +1,5 @@
 pub mod CommandLine
+pub mod Inputs
 pub mod Outcome
 pub mod Told
 pub mod Wanted

@@ -13,7 +13,9 @@ ghost use Rattle.jp_program.specs.Told.{IsTold, refusal_line};
 ghost use Rattle.jp_program.specs.Wanted.{Wanted as Wish, Wants};
 
 use crate::command::{note, note_text, tell};
-use crate::command_line::{Asked, matches, output_by, read_words};
+use crate::command_line::{Asked, files_by, matches, output_by, read_words};
+use crate::file_notes::{RunEnd, tell_of_run};
+use clap::ArgMatches;
 use clap::error::ErrorKind;
 use jp_explain::{escaped, explain, write_mark};
 use jp_number::Numbers;
@@ -29,7 +31,7 @@ pub(crate) fn tell_of_words<N: Sink>(
     notes: &mut N,
     words: &[&str],
     fault: &RunFault,
-    lost_reader: bool,
+    end: &RunEnd,
 )
     ensures untouched { N.failed notes.old ≡ true → notes.new ≡ notes.old }
     ensures refused { (f : Refusal) (w : Wish) → fault.now ≡ RunFault.Query f → Wants (texts words.now) w
@@ -46,8 +48,8 @@ pub(crate) fn tell_of_words<N: Sink>(
             }
         }
         // Whoever has stopped reading knows it.
-        RunFault::Write if lost_reader => {}
-        _ => tell(alloc, notes, fault),
+        RunFault::Write if end.lost_reader => {}
+        _ => tell_of_run(alloc, notes, words, fault, end),
     }
 }
 
@@ -127,10 +129,7 @@ fn plain_advice(alloc: Global, words: &[&str]) -> Result<String, AllocError> {
     // A second reading of the words, so that the contracts of the first need not speak of texts
     // (README, Why so).
     match matches(alloc, words) {
-        Ok(matches) => match output_by(&matches) {
-            Some(_) => format!(in alloc; "jp: a number is out of its range; try jp --help"),
-            None => format!(in alloc; "jp: --output takes nodes, values, texts, raw or lines"),
-        },
+        Ok(matches) => String::from_str(alloc, wrong_value(alloc, &matches)?),
         Err(error) => {
             let text = format!(in alloc; "{error}")?;
             advice_by(alloc, words, error.kind(), &text)
@@ -152,12 +151,19 @@ fn advice_by(
             format!(in alloc; "jp: there is no query; {cure}")
         }
         (_, Some(tip)) if tip.starts_with("a similar") => format!(in alloc; "jp: {said}; {tip}"),
-        (ErrorKind::UnknownArgument, None) => {
-            let cure = cure_of(unexpected_in(said));
-            format!(in alloc; "jp: {said}; {cure}")
-        }
         (_, _) => format!(in alloc; "jp: {said}; try jp --help"),
     }
+}
+
+/// Which value of words that are read is wrong.
+fn wrong_value(alloc: Global, matches: &ArgMatches<'_>) -> Result<&'static str, AllocError> {
+    if output_by(matches).is_none() {
+        return Ok("jp: --output takes nodes, values, texts, raw or lines");
+    }
+    if files_by(alloc, matches)?.is_none() {
+        return Ok("jp: a file's name has a control character");
+    }
+    Ok("jp: a number is out of its range; try jp --help")
 }
 
 /// What to do where there is no query. A word that looks like one was taken by the option before it.
@@ -170,24 +176,10 @@ fn missing_cure(words: &[&str]) -> &'static str {
     "try jp --help"
 }
 
-/// What to do with a word behind the query: a dash, a query behind a file's name, a part of a query that the
-/// shell has split, or else a file's name.
-fn cure_of(word: &str) -> &'static str {
-    match word {
-        "-" => "without it standard input is read",
-        "==" | "!=" | "<=" | ">=" | "&&" | "||" => "is the query in single quotes?",
-        _ if word.ends_with(']') => "is the query in single quotes?",
-        _ if word.starts_with('$') => "the query stands first, and a file is given by <",
-        _ => "a file is given by <",
-    }
-}
-
-/// The word that the first line calls unexpected.
-fn unexpected_in(said: &str) -> &str {
-    let rest = said
-        .strip_prefix("unexpected argument '")
-        .unwrap_or_default();
-    rest.strip_suffix("' found").unwrap_or_default()
+/// Whether the name of a file looks like a part of a query that the shell has split.
+pub(crate) fn looks_like_query(name: &str) -> bool {
+    let is_operator = matches!(name, "==" | "!=" | "<=" | ">=" | "&&" | "||");
+    is_operator || name.ends_with(']') || name.starts_with('$')
 }
 
 /// The first line, without what stands before it.

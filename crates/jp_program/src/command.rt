@@ -1,7 +1,7 @@
 //! What the command does.
 
 ghost use Rattle.std.specs.Prelude.{◌≡◌, ◌^◌, ◌<◌, ◌≤◌, ◌⊎◌, ℕ, List, true, false, Some, None, Err, IfOk};
-ghost use Rattle.std.specs.Prelude.{IsErrOf};
+ghost use Rattle.std.specs.Prelude.{IfErr, IsErrOf, OnOk, []};
 ghost use Rattle.std.specs.Io.KnownBytes.{Appends, IsAtEnd, Keeps};
 ghost use Rattle.clap.specs.Walk.{texts};
 ghost use Rattle.jp_doc.specs.declared.fault.DocFault.{DocFault as Fault};
@@ -11,13 +11,19 @@ ghost use Rattle.jp_run.specs.Answered.{numbers_of};
 ghost use Rattle.jp_run.specs.Status.{status_of};
 ghost use Rattle.jp_run.specs.Written.{IsPassedOn};
 ghost use Rattle.jp_program.specs.CommandLine.{AsksToShow};
-ghost use Rattle.jp_program.specs.Outcome.{IsStatus, IsTaken, IsAnswered, IsPast, IsFront, IsCutShort};
-ghost use Rattle.jp_program.specs.Outcome.{AreAllReads, AreTooManyLines, ArePrompt, AreNear};
+ghost use Rattle.jp_program.specs.Inputs.{EachInTurn, EndsIn, inputs_of};
+ghost use Rattle.jp_program.specs.Outcome.{IsStatus, IsTaken, IsAnswered, ArePassed, IsWhole, IsFront};
+ghost use Rattle.jp_program.specs.Outcome.{AreEmptyAnswers, AreKnownEmptyAnswers, HasFailed, AreOpened};
+ghost use Rattle.jp_program.specs.Outcome.{ArePrompt, AreNear, reads_before};
+ghost use Rattle.jp_program.specs.inner.Ended.{HasEnded};
 ghost use Rattle.jp_program.specs.Told.{IsTold};
 ghost use Rattle.jp_program.specs.Wanted.{Wanted as Wish, Wants, WantsCheck, WantsRun, IsWrong};
 
 use crate::advice::tell_of_words;
-use crate::command_line::{Asked, Wanted, read_words};
+use crate::command_line::{Asked, read_words};
+use crate::each::{Search, answer_files};
+use crate::file_notes::RunEnd;
+use crate::inputs::Inputs;
 use crate::pattern_notes::tell_patterns;
 use crate::witness::Witness;
 use jp_run::{RunFault, Sink, Source, Totals, check_query, run, write_all};
@@ -25,112 +31,152 @@ use std::alloc::{AllocError, AllocGlobal, Global};
 use std::thread::Threads;
 
 /// What no run has seen: the totals of a check, and of the help.
-const NOTHING_SEEN: Totals = Totals {
+pub(crate) const NOTHING_SEEN: Totals = Totals {
     lines: 0,
     documents: 0,
     faulty: 0,
+    wrote: false,
 };
 
 /// Does what the words ask for, and gives the status to end with. The first word is the program's name.
 ///
-/// Neither end has failed before, and the counts of the source are at most 2^62. A fault is told on `notes`,
-/// in one line, and in further ones that help: of a query where it went wrong, of a line what to do, and
-/// where it went wrong if the words ask for that. Of a sink whose reader has gone nothing is told. Before
-/// anything is read they are told of literal patterns that may not match what was meant. A failure to write
-/// them, or the help, is passed over.
+/// A run reads the source, where no file is named, and else each file in turn, which is opened in its place.
+/// Neither end has failed before, and the counts of the source and of the inputs are at most 2^62. A fault is
+/// told on `notes`, in one line, and in further ones that help: of a query where it went wrong, of a line
+/// what to do, and where it went wrong if the words ask for that, of a file that cannot be read why. Of a
+/// sink whose reader has gone nothing is told. Before anything is read they are told of literal patterns that
+/// may not match what was meant. A failure to write them, or the help, is passed over.
 ///
-/// The status is 0 where the run finished, or the help, the version or a check was asked for; 2 where the
-/// query is refused; 3 where a line is faulty, also where the answer has gone on past it; 4 where
-/// reading or writing failed, or a limit was passed; 5 where a growth of memory was refused; 64 where the
-/// command line is refused.
-pub fn program<R: Threads + AllocGlobal + Sync, S: Source<K>, K: Sink, N: Sink>(
+/// The status is 0 where the run finished, or the help, the version or a check was asked for; 1 where the run
+/// finished, selected nothing, and the words ask for that to be told so; 2 where the query is refused; 3
+/// where a line is faulty, also where the answer has gone on past it; 4 where reading or writing failed, or a
+/// limit was passed; 5 where a growth of memory was refused; 64 where the command line is refused.
+pub fn program<R: Threads + AllocGlobal + Sync, S: Source<K>, I: Inputs<S>, K: Sink, N: Sink>(
     rt: &R,
     words: &[&str],
+    inputs: &mut I,
     source: &mut S,
     sink: &mut K,
     notes: &mut N,
 ) -> u8
     requires working { (S.failed source.old ≡ false) × (K.failed sink.old ≡ false) }
-    requires few { (S.reads source.old ≤ 2 ^ 62) × (S.given source.old ≤ 2 ^ 62) }
+    requires few { (S.reads source.old ≤ 2 ^ 62) × (S.given source.old ≤ 2 ^ 62)
+        × (I.opens inputs.old ≤ 2 ^ 62) }
     // There is no other status.
     ensures statuses { IsStatus result }
-    // 0: the help or the version was asked for, and nothing was read; or a check of a query that is accepted,
-    // and nothing was read or written; or a run, whose query is accepted and has no faulty line before it:
-    // its answer to the whole input was written and passed on, and neither end has failed.
-    ensures finished { result ≡ 0 → (AsksToShow (texts words.now) × (source.new ≡ source.old))
+    // 0 or 1: the help or the version was asked for, and nothing was read; or a check of a query that is
+    // accepted, and nothing was read or written; or a run, whose query is accepted and has no faulty line
+    // before it: its answer to each whole input in turn was written and passed on, each file was opened once,
+    // and no end has failed.
+    ensures finished { (result ≡ 0) ⊎ (result ≡ 1)
+        → (AsksToShow (texts words.now) × (source.new ≡ source.old))
         ⊎ ((w : Wish) × WantsCheck (texts words.now) w × IsTaken w
         × (source.new ≡ source.old) × (sink.new ≡ sink.old))
         ⊎ ((w : Wish) × WantsRun (texts words.now) w × IsTaken w
-        × IsAnswered w None (S.remaining source.old) (K.contents sink.old) (K.contents sink.new)
+        × EachInTurn (IsAnswered w None) (inputs_of w.files (I.holds inputs.old) (S.remaining source.old))
+        (K.contents sink.old) (K.contents sink.new)
+        × AreOpened w (I.opens inputs.old) (I.opens inputs.new) (I.broken inputs.old) (I.broken inputs.new)
         × IsAtEnd (S.remaining source.new) × (K.flushed sink.new ≡ true)
         × (S.failed source.new ≡ false) × (K.failed sink.new ≡ false)) }
-    // 2: the wanted query is refused, and nothing was read or written.
+    // 1: this status is asked for where nothing is selected, and nothing is, in any input.
+    ensures nothing { result ≡ 1 → (w : Wish) × WantsRun (texts words.now) w × (w.exit_status ≡ true)
+        × AreEmptyAnswers w (inputs_of w.files (I.holds inputs.old) (S.remaining source.old)) }
+    // 0, although it is asked for: something is selected.
+    ensures something { (w : Wish) → result ≡ 0 → WantsRun (texts words.now) w → w.exit_status ≡ true
+        → AreKnownEmptyAnswers w (inputs_of w.files (I.holds inputs.old) (S.remaining source.old)) → ⊥ }
+    // 2: the wanted query is refused, and nothing was opened, read or written.
     ensures query { result ≡ 2 → (f : Refusal) × (w : Wish) × Wants (texts words.now) w
         × IsVerdictIn (numbers_of w.decimals) w.query (Err f)
-        × (source.new ≡ source.old) × (sink.new ≡ sink.old) }
+        × (inputs.new ≡ inputs.old) × (source.new ≡ source.old) × (sink.new ≡ sink.old) }
     // And the notes have the line of its refusal, and behind it those that show where it went wrong, or that
     // memory was wanted for them; or the notes have failed.
     ensures told { (f : Refusal) (w : Wish) → result ≡ 2 → Wants (texts words.now) w
         → IsVerdictIn (numbers_of w.decimals) w.query (Err f)
         → IsTold w.query f (N.failed notes.new) (N.contents notes.old) (N.contents notes.new) }
-    // 3: the answer before the first faulty line was written; or to keep going was asked for, and the answer
-    // that does was written and passed on, it has passed faulty lines, and neither end has failed.
+    // 3: the answer to each input before some one was written, and of that one the answer before its first
+    // faulty line; or to keep going was asked for, and the answer that does was written and passed on, it has
+    // passed faulty lines, and no end has failed.
     ensures document { result ≡ 3 → ((line : ℕ) × (fault : Fault) × (w : Wish)
         × WantsRun (texts words.now) w × (w.keeps_going ≡ false)
-        × IsAnswered w (Some (line, fault)) (S.remaining source.old) (K.contents sink.old)
+        × EndsIn (IsWhole w) (IsAnswered w (Some (line, fault))) w.files (I.holds inputs.old)
+        (S.remaining source.old) (I.opens inputs.old) (I.opens inputs.new) (K.contents sink.old)
         (K.contents sink.new))
         ⊎ ((w : Wish) × WantsRun (texts words.now) w × (w.keeps_going ≡ true)
-        × IsPast w (S.remaining source.old) (K.contents sink.old) (K.contents sink.new)
+        × ArePassed w (inputs_of w.files (I.holds inputs.old) (S.remaining source.old))
+        (K.contents sink.old) (K.contents sink.new)
+        × AreOpened w (I.opens inputs.old) (I.opens inputs.new) (I.broken inputs.old) (I.broken inputs.new)
         × IsAtEnd (S.remaining source.new) × (K.flushed sink.new ≡ true)
         × (S.failed source.new ≡ false) × (K.failed sink.new ≡ false)) }
-    // 4: a front of the wanted answer was written, and the source has failed, or the sink has, or a limit was
-    // passed.
+    // 4: the answer to each input before some one was written, and of that one a front of the wanted answer;
+    // it has failed, or the sink has, or a limit was passed, and no file behind it was opened.
     ensures failed { result ≡ 4 → (w : Wish) × WantsRun (texts words.now) w
-        × IsFront w (S.remaining source.old) (K.contents sink.old) (K.contents sink.new)
-        × (IsCutShort w (S.failed source.new) (S.remaining source.old) (S.remaining source.new)
-        (K.contents sink.old) (K.contents sink.new)
-        ⊎ (K.failed sink.new ≡ true) ⊎ AreAllReads (S.reads source.old) (S.reads source.new)
-        ⊎ AreTooManyLines (S.remaining source.old) (S.remaining source.new)) }
-    // 5: nothing was read or written, or a front of the wanted answer was written.
+        × EndsIn (IsWhole w) (HasFailed w (record {
+          rest = S.remaining source.new;
+          reads = reads_before w.files (S.reads source.old);
+          reads_new = S.reads source.new;
+          source_failed = S.failed source.new;
+          sink_failed = K.failed sink.new;
+        })) w.files (I.holds inputs.old) (S.remaining source.old) (I.opens inputs.old) (I.opens inputs.new)
+        (K.contents sink.old) (K.contents sink.new) }
+    // 5: nothing was opened, read or written, or the answer to each input before some one was written, and of
+    // that one a front of the wanted answer.
     ensures memory { result ≡ 5
-        → ((source.new ≡ source.old) × Keeps (K.contents sink.old) (K.contents sink.new))
+        → ((inputs.new ≡ inputs.old) × (source.new ≡ source.old)
+        × Keeps (K.contents sink.old) (K.contents sink.new))
         ⊎ ((w : Wish) × WantsRun (texts words.now) w
-        × IsFront w (S.remaining source.old) (K.contents sink.old) (K.contents sink.new)) }
-    // 64: the words are wrong, or a number is out of its range, or there is no such form, and nothing was
-    // read or written.
+        × EndsIn (IsWhole w) (IsFront w) w.files (I.holds inputs.old)
+        (S.remaining source.old) (I.opens inputs.old) (I.opens inputs.new) (K.contents sink.old)
+        (K.contents sink.new)) }
+    // 64: the words are wrong, or a number is out of its range, or there is no such form, or a name is none,
+    // and nothing was opened, read or written.
     ensures command_line { result ≡ 64 → IsWrong (texts words.now)
-        × (source.new ≡ source.old) × (sink.new ≡ sink.old) }
-    // A query that is refused ends with 2, or with 5 for want of memory, and nothing was read or written.
+        × (inputs.new ≡ inputs.old) × (source.new ≡ source.old) × (sink.new ≡ sink.old) }
+    // A query that is refused ends with 2, or with 5 for want of memory, and nothing was opened, read or
+    // written.
     ensures refused { (f : Refusal) (w : Wish) → Wants (texts words.now) w
         → IsVerdictIn (numbers_of w.decimals) w.query (Err f)
-        → ((result ≡ 2) ⊎ (result ≡ 5)) × (source.new ≡ source.old)
+        → ((result ≡ 2) ⊎ (result ≡ 5)) × (inputs.new ≡ inputs.old) × (source.new ≡ source.old)
         × Keeps (K.contents sink.old) (K.contents sink.new) }
-    // A check reads and writes nothing, whatever its status.
+    // A check opens, reads and writes nothing, whatever its status.
     ensures check { (w : Wish) → WantsCheck (texts words.now) w
-        → (source.new ≡ source.old) × Keeps (K.contents sink.old) (K.contents sink.new) }
+        → (inputs.new ≡ inputs.old) × (source.new ≡ source.old)
+        × Keeps (K.contents sink.old) (K.contents sink.new) }
     // After a fault the sink holds nothing back: it was flushed, or one of its calls has failed.
     ensures passed_on { (result ≡ 3) ⊎ (result ≡ 4) ⊎ (result ≡ 5)
         → IsPassedOn (K.flushed sink.new) (K.failed sink.new) }
-    // Each read that may wait began when the answer to all lines whose end had come was written and passed
-    // on, however the command ends.
-    ensures prompt { (w : Wish) → WantsRun (texts words.now) w → ArePrompt w (S.begun source.old)
-        (S.begun source.new) (S.remaining source.old) (K.contents sink.old) }
-    // Each read, whether it may wait or not: what was not answered lies in the last 4 MB.
-    ensures window { (w : Wish) → WantsRun (texts words.now) w → AreNear w (S.begun source.old)
+    // Where no file is named each read that may wait began when the answer to all lines whose end had come
+    // was written and passed on, however the command ends.
+    ensures prompt { (w : Wish) → WantsRun (texts words.now) w → w.files ≡ [] → ArePrompt w (S.begun
+        source.old) (S.begun source.new) (S.remaining source.old) (K.contents sink.old) }
+    // Each read there, whether it may wait or not: what was not answered lies in the last 4 MB.
+    ensures window { (w : Wish) → WantsRun (texts words.now) w → w.files ≡ [] → AreNear w (S.begun source.old)
         (S.begun source.new) (S.remaining source.old) (K.contents sink.old) }
 {
+    let opened = inputs.opens();
     let mut witness = Witness::new(rt.alloc());
-    match done(rt, words, source, sink, notes, &mut witness) {
+    match done(rt, words, inputs, source, sink, notes, &mut witness) {
         Ok(totals) => {
             if totals.faulty > 0 {
                 tell_faulty(rt.alloc(), notes, totals.faulty);
                 witness.tell(notes);
+                return totals.status();
             }
-            totals.status()
+            if witness.is_asked && !totals.wrote {
+                tell_nothing_selected(rt.alloc(), notes, totals.documents);
+            }
+            if witness.tells_nothing && !totals.wrote {
+                return 1;
+            }
+            0
         }
         Err(fault) => {
             pass_on_after(sink, &fault);
-            tell_of_words(rt.alloc(), notes, words, &fault, sink.lost_reader());
+            let end = RunEnd {
+                lost_reader: sink.lost_reader(),
+                opened: inputs.opens().saturating_sub(opened),
+                reason: inputs.reason(rt.alloc(), source).unwrap_or_default(),
+            };
+            tell_of_words(rt.alloc(), notes, words, &fault, &end);
             witness.tell_behind(notes, &fault);
             fault.status()
         }
@@ -139,62 +185,75 @@ pub fn program<R: Threads + AllocGlobal + Sync, S: Source<K>, K: Sink, N: Sink>(
 
 /// Does what the words ask for. Gives what a run has seen: nothing where none was asked for. The witness
 /// keeps the first faulty lines, where the words ask to explain them.
-fn done<R: Threads + AllocGlobal + Sync, S: Source<K>, K: Sink, N: Sink>(
+fn done<R: Threads + AllocGlobal + Sync, S: Source<K>, I: Inputs<S>, K: Sink, N: Sink>(
     rt: &R,
     words: &[&str],
+    inputs: &mut I,
     source: &mut S,
     sink: &mut K,
     notes: &mut N,
     witness: &mut Witness,
 ) -> Result<Totals, RunFault>
     requires working { (S.failed source.old ≡ false) × (K.failed sink.old ≡ false) }
-    requires few { (S.reads source.old ≤ 2 ^ 62) × (S.given source.old ≤ 2 ^ 62) }
+    requires few { (S.reads source.old ≤ 2 ^ 62) × (S.given source.old ≤ 2 ^ 62)
+        × (I.opens inputs.old ≤ 2 ^ 62) }
+    requires quiet { witness.old.tells_nothing ≡ false }
     ensures finished { IfOk result (λ totals. totals.faulty ≡ 0
         → (AsksToShow (texts words.now) × (source.new ≡ source.old))
         ⊎ ((w : Wish) × WantsCheck (texts words.now) w × IsTaken w
         × (source.new ≡ source.old) × (sink.new ≡ sink.old))
         ⊎ ((w : Wish) × WantsRun (texts words.now) w × IsTaken w
-        × IsAnswered w None (S.remaining source.old) (K.contents sink.old) (K.contents sink.new)
+        × EachInTurn (IsAnswered w None) (inputs_of w.files (I.holds inputs.old) (S.remaining source.old))
+        (K.contents sink.old) (K.contents sink.new)
+        × AreOpened w (I.opens inputs.old) (I.opens inputs.new) (I.broken inputs.old) (I.broken inputs.new)
         × IsAtEnd (S.remaining source.new) × (K.flushed sink.new ≡ true)
         × (S.failed source.new ≡ false) × (K.failed sink.new ≡ false))) }
     ensures past { IfOk result (λ totals. 0 < totals.faulty → (w : Wish)
         × WantsRun (texts words.now) w × (w.keeps_going ≡ true)
-        × IsPast w (S.remaining source.old) (K.contents sink.old) (K.contents sink.new)
+        × ArePassed w (inputs_of w.files (I.holds inputs.old) (S.remaining source.old))
+        (K.contents sink.old) (K.contents sink.new)
+        × AreOpened w (I.opens inputs.old) (I.opens inputs.new) (I.broken inputs.old) (I.broken inputs.new)
         × IsAtEnd (S.remaining source.new) × (K.flushed sink.new ≡ true)
         × (S.failed source.new ≡ false) × (K.failed sink.new ≡ false)) }
+    // Whether status 1 is asked for, and whether it is to be given.
+    ensures asked { (w : Wish) → WantsRun (texts words.now) w
+        → OnOk result (witness.new.tells_nothing ≡ w.exit_status) }
+    ensures asks { witness.new.tells_nothing ≡ true → OnOk result ((w : Wish)
+        × WantsRun (texts words.now) w × (w.exit_status ≡ true)) }
+    ensures nothing { (w : Wish) → WantsRun (texts words.now) w → IfOk result (λ totals. totals.wrote ≡ false
+        → AreEmptyAnswers w (inputs_of w.files (I.holds inputs.old) (S.remaining source.old))) }
+    ensures something { (w : Wish) → WantsRun (texts words.now) w → IfOk result (λ totals. totals.wrote ≡ true
+        → AreKnownEmptyAnswers w (inputs_of w.files (I.holds inputs.old) (S.remaining source.old)) → ⊥) }
     ensures passed_on { IfOk result (λ totals. 0 < totals.faulty → K.flushed sink.new ≡ true) }
     ensures refused { (f : Refusal) (w : Wish) → Wants (texts words.now) w
         → IsVerdictIn (numbers_of w.decimals) w.query (Err f)
         → (IsErrOf result (RunFault.Query f) ⊎ IsErrOf result RunFault.Memory)
-        × (source.new ≡ source.old) × (sink.new ≡ sink.old) }
+        × (inputs.new ≡ inputs.old) × (source.new ≡ source.old) × (sink.new ≡ sink.old) }
     ensures check { (w : Wish) → WantsCheck (texts words.now) w
-        → (source.new ≡ source.old) × (sink.new ≡ sink.old) }
+        → (inputs.new ≡ inputs.old) × (source.new ≡ source.old) × (sink.new ≡ sink.old) }
     ensures query { (f : Refusal) → IsErrOf result (RunFault.Query f) → (w : Wish) × Wants (texts words.now) w
         × IsVerdictIn (numbers_of w.decimals) w.query (Err f)
-        × (source.new ≡ source.old) × (sink.new ≡ sink.old) }
+        × (inputs.new ≡ inputs.old) × (source.new ≡ source.old) × (sink.new ≡ sink.old) }
     ensures settings { IsErrOf result RunFault.Settings → IsWrong (texts words.now)
-        × (source.new ≡ source.old) × (sink.new ≡ sink.old) }
-    ensures document { (line : ℕ) (fault : Fault) → IsErrOf result (RunFault.Document line fault)
-        → (w : Wish) × WantsRun (texts words.now) w × (w.keeps_going ≡ false)
-        × IsAnswered w (Some (line, fault)) (S.remaining source.old) (K.contents sink.old)
-        (K.contents sink.new) }
-    ensures read { IsErrOf result RunFault.Read → (w : Wish) × WantsRun (texts words.now) w
-        × IsFront w (S.remaining source.old) (K.contents sink.old) (K.contents sink.new)
-        × IsCutShort w (S.failed source.new) (S.remaining source.old) (S.remaining source.new)
-        (K.contents sink.old) (K.contents sink.new) }
-    ensures write { IsErrOf result RunFault.Write → (w : Wish) × WantsRun (texts words.now) w
-        × IsFront w (S.remaining source.old) (K.contents sink.old) (K.contents sink.new)
-        × (K.failed sink.new ≡ true) }
-    ensures limit { IsErrOf result RunFault.Limit → (w : Wish) × WantsRun (texts words.now) w
-        × IsFront w (S.remaining source.old) (K.contents sink.old) (K.contents sink.new)
-        × (AreAllReads (S.reads source.old) (S.reads source.new)
-        ⊎ AreTooManyLines (S.remaining source.old) (S.remaining source.new)) }
-    ensures memory { IsErrOf result RunFault.Memory → ((source.new ≡ source.old) × (sink.new ≡ sink.old))
-        ⊎ ((w : Wish) × WantsRun (texts words.now) w
-        × IsFront w (S.remaining source.old) (K.contents sink.old) (K.contents sink.new)) }
-    ensures prompt { (w : Wish) → WantsRun (texts words.now) w → ArePrompt w (S.begun source.old)
-        (S.begun source.new) (S.remaining source.old) (K.contents sink.old) }
-    ensures window { (w : Wish) → WantsRun (texts words.now) w → AreNear w (S.begun source.old)
+        × (inputs.new ≡ inputs.old) × (source.new ≡ source.old) × (sink.new ≡ sink.old) }
+    // Any other fault: nothing was opened, read or written, or a run ended so.
+    ensures fault { IfErr result (HasEnded (texts words.now) (record {
+      holds = I.holds inputs.old;
+      first = S.remaining source.old;
+      opens = I.opens inputs.old;
+      opens_new = I.opens inputs.new;
+      contents = K.contents sink.old;
+      contents_new = K.contents sink.new;
+    }) (record {
+      rest = S.remaining source.new;
+      reads = S.reads source.old;
+      reads_new = S.reads source.new;
+      source_failed = S.failed source.new;
+      sink_failed = K.failed sink.new;
+    }) ((inputs.new ≡ inputs.old) × (source.new ≡ source.old) × (sink.new ≡ sink.old))) }
+    ensures prompt { (w : Wish) → WantsRun (texts words.now) w → w.files ≡ [] → ArePrompt w (S.begun
+        source.old) (S.begun source.new) (S.remaining source.old) (K.contents sink.old) }
+    ensures window { (w : Wish) → WantsRun (texts words.now) w → w.files ≡ [] → AreNear w (S.begun source.old)
         (S.begun source.new) (S.remaining source.old) (K.contents sink.old) }
     ensures unnoted { (f : Refusal) (w : Wish) → Wants (texts words.now) w
         → IsVerdictIn (numbers_of w.decimals) w.query (Err f) → notes.new ≡ notes.old }
@@ -204,23 +263,31 @@ fn done<R: Threads + AllocGlobal + Sync, S: Source<K>, K: Sink, N: Sink>(
             show(sink, text.as_str());
             Ok(NOTHING_SEEN)
         }
-        Asked::Query(wanted) if wanted.check => {
-            check_query(rt.alloc(), wanted.query, wanted.settings.numbers())?;
-            tell_patterns(rt.alloc(), notes, wanted.query, wanted.settings.numbers());
-            Ok(NOTHING_SEEN)
-        }
         Asked::Query(wanted) => {
-            let Wanted {
-                query,
-                settings,
-                explain,
-                ..
-            } = wanted;
-            witness.is_asked = explain;
-            witness.keeps_going = settings.keeps_going;
-            witness.has_decimals = settings.decimals;
-            tell_patterns(rt.alloc(), notes, query, settings.numbers());
-            run(rt, rt.alloc(), source, sink, query, &settings, &*witness)
+            let numbers = wanted.settings.numbers();
+            if wanted.check {
+                check_query(rt.alloc(), wanted.query, numbers)?;
+                tell_patterns(rt.alloc(), notes, wanted.query, numbers);
+                return Ok(NOTHING_SEEN);
+            }
+            witness.is_asked = wanted.explain;
+            witness.keeps_going = wanted.settings.keeps_going;
+            witness.has_decimals = wanted.settings.decimals;
+            witness.tells_nothing = wanted.exit_status;
+            tell_patterns(rt.alloc(), notes, wanted.query, numbers);
+            let names = wanted.files.as_slice();
+            if names.is_empty() {
+                let (query, settings) = (wanted.query, &wanted.settings);
+                return run(rt, rt.alloc(), source, sink, query, settings, &*witness);
+            }
+            let search = Search {
+                rt,
+                gate: &*witness,
+                wanted: &wanted,
+            };
+            // Before any file is opened.
+            check_query(rt.alloc(), search.wanted.query, numbers)?;
+            answer_files(&search, names, inputs, source, sink)
         }
     }
 }
@@ -275,6 +342,16 @@ fn tell_faulty<N: Sink>(alloc: Global, notes: &mut N, faulty: u64)
     ensures untouched { N.failed notes.old ≡ true → notes.new ≡ notes.old }
 {
     note(notes, format!(in alloc; "jp: faulty lines: {faulty}\n"));
+}
+
+/// Tells that nothing is selected in so many documents, in one line, and passes over a failure of that.
+fn tell_nothing_selected<N: Sink>(alloc: Global, notes: &mut N, documents: u64)
+    ensures untouched { N.failed notes.old ≡ true → notes.new ≡ notes.old }
+{
+    note(
+        notes,
+        format!(in alloc; "jp: 0 nodes in {documents} documents\n"),
+    );
 }
 
 /// Writes a line, or that memory was wanted for it, where the notes have not failed before.

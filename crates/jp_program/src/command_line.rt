@@ -1,14 +1,18 @@
 //! What the command line asks for.
 
-ghost use Rattle.std.specs.Prelude.{◌≡◌, ◌≤◌, ◌^◌, ℕ, Bool, false, IfOk, IfErr, IfSome, IsNone, codes};
-ghost use Rattle.clap.specs.Walk.{texts};
+ghost use Rattle.std.specs.Prelude.{◌≡◌, ◌≤◌, ◌^◌, ◌↔◌, ℕ, Bool, true, false, IfOk, IfErr, IfSome, IsNone};
+ghost use Rattle.std.specs.Prelude.{List, codes};
+ghost use Rattle.std.specs.List.{All};
+ghost use Rattle.clap.specs.Walk.{Text, texts};
 ghost use Rattle.clap.specs.Words.{app_of, found_of, rows_of, rule_of, new_app, FailsBy};
 ghost use Rattle.jp_run.specs.declared.output.Output.{Output as Form};
-ghost use Rattle.jp_program.specs.CommandLine.{number_rule, flag_rule, letter_rule, query_rule, output_rule};
-ghost use Rattle.jp_program.specs.CommandLine.{said, refusals, with_version, with_numbers as numbers_of};
-ghost use Rattle.jp_program.specs.CommandLine.{with_query as query_of, with_output as output_option_of};
+ghost use Rattle.jp_program.specs.CommandLine.{number_rule, flag_rule, letter_rule, query_rule, files_rule};
+ghost use Rattle.jp_program.specs.CommandLine.{output_rule, said, refusals, with_version};
+ghost use Rattle.jp_program.specs.CommandLine.{with_output as output_option_of, with_numbers as numbers_of};
+ghost use Rattle.jp_program.specs.CommandLine.{with_flags as flags_of, with_query as query_of};
 ghost use Rattle.jp_program.specs.inner.Asked.{IsAsked, IsNotAsked, wanted_of};
 ghost use Rattle.jp_program.specs.Wanted.{Wanted as Wish, Says, SaysNumber, SaysFlag, SaysOutput, AreSaid};
+ghost use Rattle.jp_program.specs.Wanted.{IsName, SaysFiles};
 
 use crate::output::output_of;
 use crate::version::VERSION;
@@ -19,9 +23,10 @@ use std::alloc::{AllocError, Global};
 
 /// What the help says behind the options.
 const MORE: &str = "\
-INPUT is read from standard input, one JSON document on each line; blank lines are counted and hold none.
-All numbers have to be whole, of 64 bits: a line with a fraction or an exponent is faulty. With --decimals
-every JSON number is read, exactly, and printed as it stands, and a query may have such numbers too.
+INPUT is read from each FILE in turn, or from standard input where there is none, one JSON document on each
+line, which are counted from 1 in each; blank lines are counted and hold none. No line of the output names its
+file. All numbers have to be whole, of 64 bits: a line with a fraction or an exponent is faulty. With
+--decimals every JSON number is read, exactly, and printed as it stands, and a query may have such numbers.
 
 OUTPUT is a line for each node that the query selects, in order: the number of the document's line, a tab,
 the node's normalized path, a tab, the node's value. No other tab stands in it: cut -f3 gives the values.
@@ -35,12 +40,13 @@ xor(A, B), exactly one of the two is true, and distinct(NODES), the nodes with e
 The first faulty line ends the run. With --keep-going it gives a line of its own instead: its
 number, a tab, !, a tab, what is wrong with it. In the other forms it gives none, and is counted.
 
-Status: 0 finished, whether or not anything was selected; 2 the query is refused; 3 a line is faulty;
-4 reading or writing failed, or a limit was passed; 5 out of memory; 64 the command line is refused.
+Status: 0 finished; 1 finished, and nothing was selected, if --exit-status asks for it; 2 the query is
+refused; 3 a line is faulty; 4 reading or writing failed, or a limit was passed; 5 out of memory; 64 the
+command line is refused.
 
 Examples:
-  jp '$.msg' < app.log
-  jp --output lines '$[?$.level==\"error\"]' < app.log
+  jp '$.msg' app.log
+  jp --output lines '$[?$.level==\"error\"]' app.log
   jp --output texts '$.msg' < app.log
   jp '$[?$.level==\"error\" && @==$.msg]' < app.log
   jp --workers 8 '$.items[?@.count > 10]' < orders.jsonl
@@ -60,13 +66,17 @@ pub(crate) enum Asked<'a> {
 }
 
 /// A query, and what is to be done with it.
-#[derive(Clone, Copy, Drop)]
+#[derive(Drop)]
 pub(crate) struct Wanted<'a> {
     pub(crate) query: &'a str,
+    /// The names of the files, in the order of the words.
+    pub(crate) files: Vec<&'a str>,
     /// Only whether the query is accepted.
     pub(crate) check: bool,
     /// Whether the first faulty lines are to be explained.
     pub(crate) explain: bool,
+    /// Whether the status is to tell that nothing was selected.
+    pub(crate) exit_status: bool,
     pub(crate) settings: Settings,
 }
 
@@ -81,7 +91,7 @@ pub(crate) fn read_words<'a>(alloc: Global, words: &'a [&'a str]) -> Result<Aske
     ensures fault { IfErr result (IsNotAsked (texts words.entry.now)) }
 {
     match matches(alloc, words) {
-        Ok(matches) => match wanted_by(&matches) {
+        Ok(matches) => match wanted_by(alloc, &matches)? {
             Some(wanted) => Ok(Asked::Query(wanted)),
             None => Err(RunFault::Settings),
         },
@@ -100,10 +110,8 @@ pub(crate) fn matches<'a>(alloc: Global, words: &'a [&'a str]) -> Result<ArgMatc
     ensures said { IfOk result (λ m. rows_of (found_of m) ≡ said (texts words.entry.now)) }
     ensures fault { FailsBy (refusals (texts words.entry.now)) result }
 {
-    let command = with_query(
-        alloc,
-        with_numbers(alloc, with_output(alloc, named(alloc)?)?)?,
-    )?;
+    let command = with_numbers(alloc, with_output(alloc, named(alloc)?)?)?;
+    let command = with_query(alloc, with_flags(alloc, command)?)?;
     command.try_get_matches_from(words)
 }
 
@@ -139,21 +147,31 @@ fn with_numbers<'a>(alloc: Global, command: Command<'a>) -> Result<Command<'a>, 
     command.arg(number(alloc, "batch", "4096", batch))
 }
 
-/// The command, with the query, whether it is only checked, which numbers are read, whether faulty lines are
-/// passed, and whether they are to be explained.
-fn with_query<'a>(alloc: Global, command: Command<'a>) -> Result<Command<'a>, AllocError>
-    ensures { IfOk result (λ r. app_of r ≡ query_of (app_of command.entry)) }
+/// The command, with the options that are there or not: whether the query is only checked, which numbers are
+/// read, whether faulty lines are passed, whether they are to be explained, and whether the status tells that
+/// nothing was selected.
+fn with_flags<'a>(alloc: Global, command: Command<'a>) -> Result<Command<'a>, AllocError>
+    ensures { IfOk result (λ r. app_of r ≡ flags_of (app_of command.entry)) }
 {
     let check = "Read nothing, and say only whether QUERY is accepted";
     let decimals = "Read every JSON number, exactly, and print it as it stands \
         (default: whole numbers of 64 bits)";
     let keep_going = "Write a line for each faulty line too, and go on";
     let explain = "Say where a faulty line went wrong, in lines behind its fault";
+    let exit_status = "End with 1 where nothing was selected";
     let command = command.arg(flag(alloc, "check", check))?;
     let command = command.arg(lettered(alloc, "decimals", 'd', decimals))?;
     let command = command.arg(lettered(alloc, "keep-going", 'k', keep_going))?;
     let command = command.arg(flag(alloc, "explain", explain))?;
-    command.arg(query(alloc))
+    command.arg(lettered(alloc, "exit-status", 'e', exit_status))
+}
+
+/// The command, with the query, and the files behind it.
+fn with_query<'a>(alloc: Global, command: Command<'a>) -> Result<Command<'a>, AllocError>
+    ensures { IfOk result (λ r. app_of r ≡ query_of (app_of command.entry)) }
+{
+    let command = command.arg(query(alloc))?;
+    command.arg(files(alloc))
 }
 
 /// The option that takes a form.
@@ -212,9 +230,33 @@ fn query<'a>(alloc: Global) -> Arg<'a>
         .help("A JSONPath query (RFC 9535)")
 }
 
+/// The files.
+fn files<'a>(alloc: Global) -> Arg<'a>
+    ensures rule { rule_of result ≡ files_rule }
+    ensures local { result.global ≡ false }
+{
+    Arg::new(alloc, "file")
+        .value_name("FILE")
+        .num_args(0..)
+        .help("Files to read, in turn; - is standard input, as is none")
+}
+
 /// The query, and what is to be done with it; none where a number is out of its range, or there is no such
-/// form.
-fn wanted_by<'a>(matches: &ArgMatches<'a>) -> Option<Wanted<'a>>
+/// form, or a file's name has a control character.
+fn wanted_by<'a>(alloc: Global, matches: &ArgMatches<'a>) -> Result<Option<Wanted<'a>>, AllocError>
+    ensures some { IfOk result (λ o. IfSome o (λ w. Says (rows_of (found_of matches.now)) (wanted_of w))) }
+    ensures none { IfOk result (λ o. IsNone o
+        → (w : Wish) → Says (rows_of (found_of matches.now)) w → ⊥) }
+{
+    let Some(files) = files_by(alloc, matches)? else {
+        return Ok(None);
+    };
+    Ok(wanted_of_files(matches, files))
+}
+
+/// The same of these files.
+fn wanted_of_files<'a>(matches: &ArgMatches<'a>, files: Vec<&'a str>) -> Option<Wanted<'a>>
+    requires said { SaysFiles (rows_of (found_of matches.now)) (texts files.items) }
     ensures some { IfSome result (λ w. Says (rows_of (found_of matches.now)) (wanted_of w)) }
     ensures none { IsNone result → (w : Wish) → Says (rows_of (found_of matches.now)) w → ⊥ }
 {
@@ -224,13 +266,70 @@ fn wanted_by<'a>(matches: &ArgMatches<'a>) -> Option<Wanted<'a>>
     let decimals = flag_by(matches, "decimals")?;
     let keep_going = flag_by(matches, "keep-going")?;
     let explain = flag_by(matches, "explain")?;
+    let exit_status = flag_by(matches, "exit-status")?;
     let settings = settings_by(matches, output, decimals, keep_going)?;
     Some(Wanted {
         query,
+        files,
         check,
         explain,
+        exit_status,
         settings,
     })
+}
+
+/// The files that are named, in the order of the words; none where a name has a control character.
+pub(crate) fn files_by<'a>(
+    alloc: Global,
+    matches: &ArgMatches<'a>,
+) -> Result<Option<Vec<&'a str>>, AllocError>
+    ensures some { IfOk result (λ o. IfSome o
+        (λ files. SaysFiles (rows_of (found_of matches.now)) (texts files.items))) }
+    ensures none { IfOk result (λ o. IsNone o
+        → (files : List Text) → SaysFiles (rows_of (found_of matches.now)) files → ⊥) }
+{
+    let Some(given) = matches.get_strs("file") else {
+        return Ok(Some(Vec::new(alloc)));
+    };
+    if !are_names(given) {
+        return Ok(None);
+    }
+    Ok(Some(copied(alloc, given)?))
+}
+
+/// Whether no name has a control character.
+fn are_names(names: &[&str]) -> bool
+    ensures { result ≡ true ↔ All (λ name. IsName name.now) names.now }
+{
+    for name in names {
+        if !is_name(name) {
+            return false;
+        }
+    }
+    true
+}
+
+/// Whether a name has no control character.
+fn is_name(name: &str) -> bool
+    ensures { result ≡ true ↔ IsName name.now }
+{
+    for c in name.chars() {
+        if c.is_control() {
+            return false;
+        }
+    }
+    true
+}
+
+/// The same names, in a list of their own.
+fn copied<'a>(alloc: Global, names: &[&'a str]) -> Result<Vec<&'a str>, AllocError>
+    ensures { IfOk result (λ copy. copy.items ≡ names.now) }
+{
+    let mut copy = Vec::new(alloc);
+    for name in names {
+        copy.push(*name)?;
+    }
+    Ok(copy)
 }
 
 /// The settings; none where a number is out of its range.

@@ -4,7 +4,10 @@
 mod advice;
 mod command;
 mod command_line;
+mod each;
 mod examples;
+mod file_notes;
+mod inputs;
 mod laws;
 mod output;
 mod pattern_notes;
@@ -12,3 +15,4 @@ mod version;
 mod witness;
 
 pub use command::{program, refuse_words, tell};
+pub use inputs::Inputs;

@@ -1,6 +1,6 @@
 //! The first faulty lines of a run: what helps with the first, and where they went wrong, if that is asked.
 
-ghost use Rattle.std.specs.Prelude.{◌≡◌, true};
+ghost use Rattle.std.specs.Prelude.{◌≡◌, true, false};
 ghost use Rattle.jp_run.specs.Status.{status_of};
 
 use crate::command::note_text;
@@ -19,6 +19,8 @@ pub(crate) struct Witness {
     pub(crate) keeps_going: bool,
     /// Whether lines are read with decimals.
     pub(crate) has_decimals: bool,
+    /// Whether the status is to tell that nothing is selected.
+    pub(crate) tells_nothing: bool,
     /// The line of what helps with the first faulty line, if that is known, once one was seen.
     help: OnceBox<Option<String>>,
     texts: [OnceBox<String>; 10],
@@ -40,11 +42,14 @@ fn help_of(
 
 impl Witness {
     /// A witness that is not asked, and keeps nothing. It takes no memory.
-    pub(crate) fn new(alloc: Global) -> Witness {
+    pub(crate) fn new(alloc: Global) -> Witness
+        ensures { result.tells_nothing ≡ false }
+    {
         Witness {
             is_asked: false,
             keeps_going: false,
             has_decimals: false,
+            tells_nothing: false,
             help: OnceBox::new(alloc),
             texts: [
                 OnceBox::new(alloc),

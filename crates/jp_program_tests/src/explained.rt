@@ -1,8 +1,9 @@
 //! Faulty lines that are explained.
 
 use crate::running::run_words;
+use crate::shelf::{Shelf, in_memory};
 use jp_program::program;
-use jp_run::{FromReader, FromWriter};
+use jp_run::FromWriter;
 use std::alloc::AllocGlobal;
 use std::thread::Threads;
 
@@ -63,10 +64,11 @@ fn faulty_lines_that_are_passed_are_explained(rt: HostRuntime) {
 fn tells_the_sink<R: Threads + AllocGlobal + Sync>(rt: &R, words: &[&str]) -> bool {
     let mut room = [0u8; 5];
     let mut notes = Vec::new(rt.alloc());
-    let mut source = FromReader::new(INPUT);
+    let mut source = in_memory(INPUT);
     let mut sink = FromWriter::new(room.as_mut_slice());
     let mut told = FromWriter::new(&mut notes);
-    let status = program(rt, words, &mut source, &mut sink, &mut told);
+    let mut shelf = Shelf::new(&[]);
+    let status = program(rt, words, &mut shelf, &mut source, &mut sink, &mut told);
     status == 4 && notes.as_slice() == b"jp: write\n".as_slice()
 }
 

@@ -1,22 +1,13 @@
 //! Faulty lines, and ends that fail.
 
 use crate::running::leaves;
+use crate::shelf::{Held, Shelf, in_memory};
 use jp_program::program;
 use jp_run::{FromReader, FromWriter};
 use std::alloc::AllocGlobal;
-use std::io::{self, ErrorKind, Read, Write};
+use std::io::{self, ErrorKind, Write};
 use std::test::Fail;
 use std::thread::Threads;
-
-/// A reader that fails.
-#[derive(Drop)]
-struct NoReader;
-
-impl Read for NoReader {
-    fn read(&mut self, _buf: &mut [u8]) -> io::Result<usize> {
-        Err(ErrorKind::ConnectionReset.into())
-    }
-}
 
 #[test]
 fn a_faulty_line_is_told(rt: HostRuntime) {
@@ -75,10 +66,21 @@ fn no_faulty_line_is_passed(rt: HostRuntime) {
 fn tells_source<R: Threads + AllocGlobal + Sync>(rt: &R) -> bool {
     let mut output = Vec::new(rt.alloc());
     let mut notes = Vec::new(rt.alloc());
-    let mut source = FromReader::new(NoReader);
+    let mut source = FromReader::new(Held {
+        rest: &[],
+        reads: 0,
+    });
     let mut sink = FromWriter::new(&mut output);
     let mut told = FromWriter::new(&mut notes);
-    let status = program(rt, &["jp", "$.a"], &mut source, &mut sink, &mut told);
+    let mut shelf = Shelf::new(&[]);
+    let status = program(
+        rt,
+        &["jp", "$.a"],
+        &mut shelf,
+        &mut source,
+        &mut sink,
+        &mut told,
+    );
     status == 4 && output.is_empty() && notes.as_slice() == b"jp: read\n".as_slice()
 }
 
@@ -92,10 +94,18 @@ fn tells_sink<R: Threads + AllocGlobal + Sync>(rt: &R) -> bool {
     let mut room = [0u8; 5];
     let mut notes = Vec::new(rt.alloc());
     let input: &[u8] = b"{\"a\":1}";
-    let mut source = FromReader::new(input);
+    let mut source = in_memory(input);
     let mut sink = FromWriter::new(room.as_mut_slice());
     let mut told = FromWriter::new(&mut notes);
-    let status = program(rt, &["jp", "$.a"], &mut source, &mut sink, &mut told);
+    let mut shelf = Shelf::new(&[]);
+    let status = program(
+        rt,
+        &["jp", "$.a"],
+        &mut shelf,
+        &mut source,
+        &mut sink,
+        &mut told,
+    );
     let is_front = room.as_slice() == "1\t$['".as_bytes();
     status == 4 && is_front && notes.as_slice() == b"jp: write\n".as_slice()
 }
@@ -137,10 +147,18 @@ fn tells_of<R: Threads + AllocGlobal + Sync>(
 ) -> bool {
     let mut notes = Vec::new(rt.alloc());
     let input: &[u8] = b"{\"a\":1}";
-    let mut source = FromReader::new(input);
+    let mut source = in_memory(input);
     let mut sink = FromWriter::new(NoWriter { kind, takes });
     let mut told = FromWriter::new(&mut notes);
-    let status = program(rt, &["jp", "$.a"], &mut source, &mut sink, &mut told);
+    let mut shelf = Shelf::new(&[]);
+    let status = program(
+        rt,
+        &["jp", "$.a"],
+        &mut shelf,
+        &mut source,
+        &mut sink,
+        &mut told,
+    );
     status == 4 && notes.as_slice() == wanted
 }
 
@@ -160,11 +178,12 @@ fn unwritten_notes_are_passed_over(rt: HostRuntime) -> Result<(), Fail> {
     for (words, status) in &[(["jp", "--help"], 0), (["jp", "$["], 2), (["jp", "-x"], 64)] {
         let mut none = [0u8; 0];
         let mut no_notes = [0u8; 3];
-        let mut source = FromReader::new(input);
+        let mut source = in_memory(input);
         let mut sink = FromWriter::new(none.as_mut_slice());
         let mut told = FromWriter::new(no_notes.as_mut_slice());
+        let mut shelf = Shelf::new(&[]);
         assert_eq!(rt;
-            program(&rt, words, &mut source, &mut sink, &mut told),
+            program(&rt, words, &mut shelf, &mut source, &mut sink, &mut told),
             *status
         );
     }

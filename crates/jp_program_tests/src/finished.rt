@@ -61,8 +61,9 @@ fn options_stand_before_or_behind(rt: HostRuntime) {
 
 #[test]
 fn options_have_letters(rt: HostRuntime) {
-    let all: [&[&str]; 3] = [
+    let all: [&[&str]; 4] = [
         &["jp", "-kd", "-o", "values", "$.a"],
+        &["jp", "-kdeovalues", "$.a"],
         &["jp", "-d", "-k", "-ovalues", "$.a"],
         &["jp", "$.a", "-dko", "values"],
     ];
@@ -70,6 +71,26 @@ fn options_have_letters(rt: HostRuntime) {
     for words in &all {
         assert!(rt; leaves(&rt, words, input, 3, b"1.50\n", b"jp: faulty lines: 1\n"));
     }
+}
+
+#[test]
+fn the_status_tells_whether_anything_is_selected(rt: HostRuntime) {
+    for option in &["-e", "--exit-status"] {
+        assert!(rt; leaves(&rt, &["jp", *option, "$.a"], INPUT, 0, OUTPUT, b""));
+        assert!(rt; leaves(&rt, &["jp", *option, "$.b"], INPUT, 1, b"", b""));
+        assert!(rt; leaves(&rt, &["jp", *option, "$.b"], b"", 1, b"", b""));
+        assert!(rt;
+            leaves(
+                &rt,
+                &["jp", *option, "-o", "raw", "$"],
+                b"\"\"",
+                0,
+                b"\n",
+                b""
+            )
+        );
+    }
+    assert!(rt; leaves(&rt, &["jp", "$.b"], INPUT, 0, b"", b""));
 }
 
 /// What the help has to name.
@@ -83,12 +104,15 @@ const TAUGHT: &str = "\
 exactly
 --keep-going
 --explain
+-e, --exit-status
 -d, --decimals
 -k, --keep-going
 -o, --output
 nodes, values, texts, raw or lines
 [default: nodes]
 QUERY
+[FILE]...
+each FILE in turn
 [default: 4]
 [default: 64]
 [default: 4096]
@@ -100,6 +124,7 @@ RFC 9535
 xor(A, B)
 distinct(NODES)
 Status:
+nothing was selected
 standard input
 Examples:";
 
@@ -131,6 +156,21 @@ fn a_check_reads_nothing(rt: HostRuntime) {
         )
     );
     assert!(rt; leaves(&rt, &["jp", "--check", "$.a"], b"{", 0, b"", b""));
+}
+
+/// Files behind the query, by each name that there may be.
+#[test]
+fn a_check_takes_files(rt: HostRuntime) {
+    let all: [&[&str]; 4] = [
+        &["jp", "--check", "$.a", "x", "-", "x"],
+        &["jp", "$.a", "x", "-e", "y", "--check", "--", "-d"],
+        &["jp", "--check", "$.a", "", "$.b", "a b", "*?[0]"],
+        // The characters beside those of control.
+        &["jp", "--check", "$.a", " ~", "\u{a0}\u{2028}", "\u{202e}"],
+    ];
+    for words in &all {
+        assert!(rt; leaves(&rt, words, b"{", 0, b"", b""));
+    }
 }
 
 /// Whether a text is the version's line.

@@ -10,6 +10,8 @@ mod explained;
 #[cfg(test)]
 mod faults;
 #[cfg(test)]
+mod files;
+#[cfg(test)]
 mod finished;
 #[cfg(test)]
 mod forms;
@@ -23,3 +25,5 @@ mod refused;
 mod running;
 #[cfg(test)]
 mod settings;
+#[cfg(test)]
+mod shelf;

@@ -3,8 +3,9 @@
 //! A turn says whether the answer was right, or nothing where it was want of memory. Each is made twice: one
 //! growth is refused at most, so one of the two answers.
 
+use crate::shelf::{Shelf, in_memory};
 use jp_program::program;
-use jp_run::{FromReader, FromWriter};
+use jp_run::FromWriter;
 use std::alloc::AllocGlobal;
 use std::thread::Threads;
 
@@ -25,10 +26,11 @@ fn ran<R: Threads + AllocGlobal + Sync>(rt: &R) -> Option<bool> {
     ];
     let input: &[u8] = b"{\"a\":1}\n\n{\"a\":null}\n";
     let (mut output, mut notes) = ([0u8; ROOM], [0u8; ROOM]);
-    let mut source = FromReader::new(input);
+    let mut source = in_memory(input);
     let mut sink = FromWriter::new(output.as_mut_slice());
     let mut told = FromWriter::new(notes.as_mut_slice());
-    match program(rt, &words, &mut source, &mut sink, &mut told) {
+    let mut shelf = Shelf::new(&[]);
+    match program(rt, &words, &mut shelf, &mut source, &mut sink, &mut told) {
         0 => Some(output.starts_with(b"1\t$['a']\t1\n3\t$['a']\tnull\n\0")),
         5 if notes.starts_with(b"jp: memory\n\0") => None,
         _ => Some(false),
@@ -45,12 +47,14 @@ fn a_run(rt: HostRuntime) {
 fn refused<R: Threads + AllocGlobal + Sync>(rt: &R) -> Option<bool> {
     let input: &[u8] = b"";
     let (mut output, mut notes) = ([0u8; ROOM], [0u8; ROOM]);
-    let mut source = FromReader::new(input);
+    let mut source = in_memory(input);
     let mut sink = FromWriter::new(output.as_mut_slice());
     let mut told = FromWriter::new(notes.as_mut_slice());
+    let mut shelf = Shelf::new(&[]);
     match program(
         rt,
         &["jp", "--nope", "$"],
+        &mut shelf,
         &mut source,
         &mut sink,
         &mut told,
@@ -74,10 +78,18 @@ const LONG_ROOM: usize = 200;
 fn explained<R: Threads + AllocGlobal + Sync>(rt: &R) -> Option<bool> {
     let input: &[u8] = b"{";
     let (mut output, mut notes) = ([0u8; ROOM], [0u8; LONG_ROOM]);
-    let mut source = FromReader::new(input);
+    let mut source = in_memory(input);
     let mut sink = FromWriter::new(output.as_mut_slice());
     let mut told = FromWriter::new(notes.as_mut_slice());
-    match program(rt, &["jp", "$.a b"], &mut source, &mut sink, &mut told) {
+    let mut shelf = Shelf::new(&[]);
+    match program(
+        rt,
+        &["jp", "$.a b"],
+        &mut shelf,
+        &mut source,
+        &mut sink,
+        &mut told,
+    ) {
         2 if notes.starts_with(b"jp: query: syntax\n$.a b\n    ^\nexpected . or [: ") => {
             Some(output == [0u8; ROOM])
         }
@@ -97,11 +109,12 @@ fn an_explained_query(rt: HostRuntime) {
 fn explained_line<R: Threads + AllocGlobal + Sync>(rt: &R) -> Option<bool> {
     let input: &[u8] = b"{\n";
     let (mut output, mut notes) = ([0u8; ROOM], [0u8; LONG_ROOM]);
-    let mut source = FromReader::new(input);
+    let mut source = in_memory(input);
     let mut sink = FromWriter::new(output.as_mut_slice());
     let mut told = FromWriter::new(notes.as_mut_slice());
+    let mut shelf = Shelf::new(&[]);
     let words = ["jp", "--explain", "--workers=1", "$"];
-    match program(rt, &words, &mut source, &mut sink, &mut told) {
+    match program(rt, &words, &mut shelf, &mut source, &mut sink, &mut told) {
         3 if notes.starts_with(b"jp: line 1: unreadable\n\0") => None,
         // The line of the fault itself wanted memory.
         3 if notes.starts_with(b"jp: memory\n") => None,

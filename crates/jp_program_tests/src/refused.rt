@@ -81,9 +81,8 @@ fn is_refused<R: Threads + AllocGlobal + Sync>(rt: &R, words: &[&str]) -> bool {
 
 #[test]
 fn command_lines_are_refused(rt: HostRuntime) {
-    let all: [&[&str]; 21] = [
+    let all: [&[&str]; 26] = [
         &["jp"],
-        &["jp", "$", "$"],
         &["jp", "-q"],
         &["jp", "--nope", "$"],
         &["jp", "$", "--workers"],
@@ -98,12 +97,19 @@ fn command_lines_are_refused(rt: HostRuntime) {
         &["jp", "--batch", "1000001", "$"],
         &["jp", "--check"],
         &["jp", "--explain", "--explain", "$"],
+        &["jp", "-e", "--exit-status", "$"],
         &["jp", "--output", "csv", "$"],
         &["jp", "--output=", "$"],
         &["jp", "--output=Values", "$"],
         &["jp", "--output=lines", "--output=lines", "$"],
+        // Control characters in the names of files.
+        &["jp", "$", "\0"],
+        &["jp", "$", "x", "a\u{1f}b"],
+        &["jp", "--check", "$", "\u{7f}"],
+        &["jp", "$", "--", "\u{9f}", "x"],
         // The command line is tested before the query.
         &["jp", "--batch", "0", "$["],
+        &["jp", "$[", "a\n"],
     ];
     for words in &all {
         assert!(rt; is_refused(&rt, words));
@@ -111,28 +117,8 @@ fn command_lines_are_refused(rt: HostRuntime) {
 }
 
 /// Words, each with the line that helps.
-const ADVICE: [(&[&str], &[u8]); 17] = [
+const ADVICE: [(&[&str], &[u8]); 13] = [
     (&["jp"], b"jp: there is no query; try jp --help\n"),
-    (
-        &["jp", "$", "file"],
-        b"jp: unexpected argument 'file' found; a file is given by <\n",
-    ),
-    (
-        &["jp", "$.a", "-"],
-        b"jp: unexpected argument '-' found; without it standard input is read\n",
-    ),
-    (
-        &["jp", "app.log", "$.a"],
-        b"jp: unexpected argument '$.a' found; the query stands first, and a file is given by <\n",
-    ),
-    (
-        &["jp", "$.a[?@.b", "==", "1]"],
-        b"jp: unexpected argument '==' found; is the query in single quotes?\n",
-    ),
-    (
-        &["jp", "$.a[", "'b']"],
-        b"jp: unexpected argument ''b']' found; is the query in single quotes?\n",
-    ),
     (
         &["jp", "--output", "$.a"],
         b"jp: there is no query; an option before it has taken it: -o FORM, --workers N\n",
@@ -161,14 +147,18 @@ const ADVICE: [(&[&str], &[u8]); 17] = [
         &["jp", "--output", "value", "--workers", "65", "$"],
         b"jp: --output takes nodes, values, texts, raw or lines\n",
     ),
-    // No word reaches a terminal as it is.
     (
-        &["jp", "$", "a\u{1b}[31m"],
-        b"jp: unexpected argument 'a\\u001b[31m' found; a file is given by <\n",
+        &["jp", "$", "app.log\n"],
+        b"jp: a file's name has a control character\n",
     ),
     (
-        &["jp", "$", "\u{9b}1\u{202e}2\u{61c}3\u{7f}"],
-        b"jp: unexpected argument '\\u009b1\\u202e2\\u061c3\\u007f' found; a file is given by <\n",
+        &["jp", "--workers", "65", "$", "x", "\u{9b}1"],
+        b"jp: a file's name has a control character\n",
+    ),
+    // No word reaches a terminal as it is.
+    (
+        &["jp", "$", "--\u{9b}1\u{202e}2\u{61c}3\u{7f}"],
+        b"jp: unexpected argument '--\\u009b1\\u202e2\\u061c3\\u007f' found; try jp --help\n",
     ),
     (
         &["jp", "--worker\u{1b}", "8", "$"],

@@ -1,7 +1,8 @@
 //! The program over ends in memory.
 
-use jp_program::program;
-use jp_run::{FromReader, FromWriter};
+use crate::shelf::{HeldFile, Shelf, in_memory};
+use jp_program::{Inputs, program};
+use jp_run::FromWriter;
 use std::alloc::AllocGlobal;
 use std::thread::Threads;
 
@@ -11,6 +12,8 @@ pub(crate) struct Outcome {
     pub(crate) status: u8,
     pub(crate) output: Vec<u8>,
     pub(crate) notes: Vec<u8>,
+    /// How often a file was opened.
+    pub(crate) opens: u64,
 }
 
 /// What the program leaves for these words and this input.
@@ -19,16 +22,29 @@ pub(crate) fn run_words<R: Threads + AllocGlobal + Sync>(
     words: &[&str],
     input: &[u8],
 ) -> Outcome {
+    run_files(rt, words, &[], input)
+}
+
+/// What the program leaves for these words, with these files, and this standard input where none is named.
+pub(crate) fn run_files<R: Threads + AllocGlobal + Sync>(
+    rt: &R,
+    words: &[&str],
+    files: &[HeldFile<'_>],
+    input: &[u8],
+) -> Outcome {
     let mut output = Vec::new(rt.alloc());
     let mut notes = Vec::new(rt.alloc());
-    let mut source = FromReader::new(input);
+    let mut source = in_memory(input);
     let mut sink = FromWriter::new(&mut output);
     let mut told = FromWriter::new(&mut notes);
-    let status = program(rt, words, &mut source, &mut sink, &mut told);
+    let mut shelf = Shelf::new(files);
+    let status = program(rt, words, &mut shelf, &mut source, &mut sink, &mut told);
+    let opens = shelf.opens();
     Outcome {
         status,
         output,
         notes,
+        opens,
     }
 }
 

@@ -1,23 +1,11 @@
 //! Settings that a run obeys, and what it passes on.
 
+use crate::shelf::{Held, Shelf};
 use jp_program::program;
 use jp_run::{FromReader, FromWriter};
 use std::alloc::{AllocGlobal, Global};
-use std::io::{self, ErrorKind, Read, Write};
+use std::io::{self, ErrorKind, Write};
 use std::thread::Threads;
-
-/// Hands out its bytes at the first call, and fails at each other one.
-#[derive(Drop)]
-struct OneRead<'a>(Option<&'a [u8]>);
-
-impl Read for OneRead<'_> {
-    fn read(&mut self, buf: &mut [u8]) -> io::Result<usize> {
-        let Some(mut bytes) = self.0.take() else {
-            return Err(ErrorKind::ConnectionReset.into());
-        };
-        bytes.read(buf)
-    }
-}
 
 /// Takes all, and knows how many bytes it had taken at the first flush that found some of its own, and at the
 /// last.
@@ -59,10 +47,14 @@ fn cut_short<R: Threads + AllocGlobal + Sync>(
         passed_on: 0,
     };
     let mut notes = Vec::new(rt.alloc());
-    let mut source = FromReader::new(OneRead(Some(front)));
+    let mut source = FromReader::new(Held {
+        rest: front,
+        reads: 1,
+    });
     let mut sink = FromWriter::new(&mut gathers);
     let mut told = FromWriter::new(&mut notes);
-    let status = program(rt, words, &mut source, &mut sink, &mut told);
+    let mut shelf = Shelf::new(&[]);
+    let status = program(rt, words, &mut shelf, &mut source, &mut sink, &mut told);
     let Gathers {
         taken,
         first,

@@ -1,7 +1,7 @@
 -- A working file, which nobody has to believe: what is read of the words, for private clauses alone.
 use Rattle.std.specs.Prelude.{◌≡◌, ◌⊎◌, List}
 use Rattle.std.specs.Str.{chars}
-use Rattle.clap.specs.Walk.{Text}
+use Rattle.clap.specs.Walk.{Text, texts}
 use Rattle.jp_run.specs.declared.fault.RunFault.{RunFault}
 use Rattle.jp_run.specs.declared.fault.RunFault.TheVariants.{Memory, Settings}
 use Rattle.jp_program.specs.CommandLine.{AsksToShow}
@@ -14,11 +14,13 @@ use Rattle.jp_program.specs.declared.command_line.Wanted as code
 abbrev pub wanted_of : code.Wanted → Wanted
 wanted_of w = record {
   query = chars w.query.now;
+  files = texts w.files.items;
   check = w.check;
   output = w.settings.output;
   decimals = w.settings.decimals;
   keeps_going = w.settings.keeps_going;
   explain = w.explain;
+  exit_status = w.exit_status;
   workers = w.settings.workers;
   piece = w.settings.piece;
   batch = w.settings.batch;

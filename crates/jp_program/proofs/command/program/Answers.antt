@@ -1,10 +1,15 @@
-use Rattle.std.proofs.Common.{◌∙◌, ℕ, List, Option, Err, Some, inl, inr, ap, subst, sym}
+use Rattle.std.proofs.Common.{◌∙◌, ℕ, List, Option, Err, Some, inl, inr, ap}
+use Rattle.std.proofs.Common.{subst, sym, arith}
+use Rattle.std.proofs.lemmas.Grind.{common_steps}
 use Rattle.jp_run.specs.Status.{status_of}
+use Rattle.jp_run.specs.declared.fault.RunFault.TheVariants.{Document, Read, Write, Limit, Memory}
+use Rattle.jp_run.proofs.Runs.{at_fault}
 use Rattle.jp_program.specs.Told.{IsTold}
 use Rattle.jp_program.proofs.Noted.{refused_as, told_still}
 use Rattle.jp_program.proofs.Told.{query_of, document_of, end_of, memory_of, of_two, of_three}
-use Rattle.jp_program.proofs.Told.{answered_kept, front_kept, cut_kept, kept_from}
+use Rattle.jp_program.proofs.Told.{answered_kept, front_kept, failed_kept, kept_from}
 use Rattle.jp_program.proofs.Told.{status_so}
+use Rattle.jp_program.proofs.Turns.{in_weaker}
 use Rattle.jp_program.proofs.command.program.Goals as goal
 
 pub returns-clause-query : goal.returns-clause-query
@@ -12,7 +17,7 @@ returns-clause-query g c = λ e.
     let status = sym c.status-in-Err.ensures ∙ e in
     let q = query_of c.in-Err.fault status in
     let d = c.in-Err.ensures.query q.0 (ap Err q.1) in
-    (q.0, d.0, d.1, d.2, d.3, c.pass_on_after.ensures.untouched (inl status) ∙ d.4)
+    (q.0, d.0, d.1, d.2, d.3, d.4, c.pass_on_after.ensures.untouched (inl status) ∙ d.5)
 
 pub returns-clause-told : goal.returns-clause-told
 returns-clause-told g c = λ f w two wants v.
@@ -29,42 +34,73 @@ returns-clause-told g c = λ f w two wants v.
 pub returns-clause-document : goal.returns-clause-document
 returns-clause-document g c = λ e.
     let f = document_of c.in-Err.fault (sym c.status-in-Err.ensures ∙ e) in
-    let d = c.in-Err.ensures.document f.0 f.1 (ap Err f.2) in inl (
+    let kept = c.pass_on_after.ensures.kept in
+    let d =
+    at_fault c.done.result (Document f.0 f.1) _ (c.in-Err.is ∙ ap Err f.2) c.done.ensures.fault in inl (
       f.0,
       f.1,
       d.0,
       d.1,
       d.2,
-      answered_kept d.0 (Some (f.0, f.1)) _ _ _ _ d.3 c.pass_on_after.ensures.kept,
+      in_weaker _ _ _ _ _ _ _ _
+          (λ input mid h. answered_kept d.0 (Some (f.0, f.1)) input mid _ _ h kept) d.0.files _ _ d.3,
     )
 
 pub returns-clause-failed : goal.returns-clause-failed
 returns-clause-failed g c = λ e.
-    let kept = c.pass_on_after.ensures.kept in of_three
-    (λ f. let d = c.in-Err.ensures.read (ap Err f) in
-    (d.0, d.1, front_kept d.0 _ _ _ _ d.2 kept, inl (cut_kept d.0 _ _ _ _ _ _ d.3 kept)))
-    (λ f. let d = c.in-Err.ensures.write (ap Err f) in
-    (d.0, d.1, front_kept d.0 _ _ _ _ d.2 kept, inr (inl (c.pass_on_after.ensures.failed d.3))))
-    (λ f. let d = c.in-Err.ensures.limit (ap Err f) in
-    (d.0, d.1, front_kept d.0 _ _ _ _ d.2 kept, inr (inr d.3)))
+    let kept = c.pass_on_after.ensures.kept in
+    let still = c.pass_on_after.ensures.failed in of_three
+    (λ is. let d = at_fault c.done.result Read _ (c.in-Err.is ∙ ap Err is) c.done.ensures.fault in (
+      d.0,
+      d.1,
+      in_weaker _ _ _ _ _ _ _ _
+          (λ input mid h. failed_kept d.0 _ _ _ _ _ _ input mid _ _ h kept still) d.0.files _ _ d.2,
+    ))
+    (λ is. let d = at_fault c.done.result Write _ (c.in-Err.is ∙ ap Err is) c.done.ensures.fault in (
+      d.0,
+      d.1,
+      in_weaker _ _ _ _ _ _ _ _
+          (λ input mid h. failed_kept d.0 _ _ _ _ _ _ input mid _ _ h kept still) d.0.files _ _ d.2,
+    ))
+    (λ is. let d = at_fault c.done.result Limit _ (c.in-Err.is ∙ ap Err is) c.done.ensures.fault in (
+      d.0,
+      d.1,
+      in_weaker _ _ _ _ _ _ _ _
+          (λ input mid h. failed_kept d.0 _ _ _ _ _ _ input mid _ _ h kept still) d.0.files _ _ d.2,
+    ))
     (end_of c.in-Err.fault (sym c.status-in-Err.ensures ∙ e))
 
 pub returns-clause-memory : goal.returns-clause-memory
 returns-clause-memory g c = λ e.
-    let kept = c.pass_on_after.ensures.kept in of_two
-    (λ same. inl (same.0, kept_from g.K.Sink.contents _ _ _ same.1 kept))
-    (λ d. inr (d.0, d.1, front_kept d.0 _ _ _ _ d.2 kept))
-    (c.in-Err.ensures.memory (ap Err (memory_of c.in-Err.fault (sym c.status-in-Err.ensures ∙ e))))
+    let kept = c.pass_on_after.ensures.kept in
+    let is = memory_of c.in-Err.fault (sym c.status-in-Err.ensures ∙ e) in of_two
+    (λ same. inl (same.0, same.1, kept_from g.K.Sink.contents _ _ _ same.2 kept))
+    (λ d. inr (
+      d.0,
+      d.1,
+      in_weaker _ _ _ _ _ _ _ _ (λ input mid h. front_kept d.0 input mid _ _ h kept)
+          d.0.files _ _ d.2,
+    ))
+    (at_fault c.done.result Memory _ (c.in-Err.is ∙ ap Err is) c.done.ensures.fault)
 
 pub returns-clause-refused : goal.returns-clause-refused
 returns-clause-refused g c = λ f w wants v.
     let same = c.in-Err.ensures.refused f w wants v in (
       status_so c.in-Err.fault f c.status-in-Err.result c.status-in-Err.ensures same.0,
       same.1,
-      kept_from g.K.Sink.contents _ _ _ same.2 c.pass_on_after.ensures.kept,
+      same.2,
+      kept_from g.K.Sink.contents _ _ _ same.3 c.pass_on_after.ensures.kept,
     )
 
 pub returns-clause-check : goal.returns-clause-check
 returns-clause-check g c = λ w wants.
     let same = c.in-Err.ensures.check w wants in
-    (same.0, kept_from g.K.Sink.contents _ _ _ same.1 c.pass_on_after.ensures.kept)
+    (same.0, same.1, kept_from g.K.Sink.contents _ _ _ same.2 c.pass_on_after.ensures.kept)
+
+pub returns-then-not-totals-2-clause-finished : goal.returns-then-not-totals-2-clause-finished
+returns-then-not-totals-2-clause-finished g c = λ e.
+    c.in-Ok.ensures.finished (grind (arith, common_steps, c.if-totals-gt0.false))
+
+pub returns-in-Ok-clause-finished : goal.returns-in-Ok-clause-finished
+returns-in-Ok-clause-finished g c = λ e.
+    c.in-Ok.ensures.finished (grind (arith, common_steps, c.if-totals-gt0.false))

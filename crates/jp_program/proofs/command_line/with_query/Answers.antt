@@ -4,10 +4,6 @@ use Rattle.clap.specs.Words.{app_of, with_rule}
 use Rattle.jp_program.proofs.command_line.with_query.Goals as goal
 
 pub returns : goal.returns
-returns c = IfOk-weaker c.arg-5.result _ _ (λ r h. h.shape c.query.ensures.local
-    ∙ ap₂ with_rule (c.in_ok-command-4.ensures.shape c.flag-2.ensures.local
-    ∙ ap₂ with_rule (c.in_ok-command-3.ensures.shape c.lettered-2.ensures.local
-    ∙ ap₂ with_rule (c.in_ok-command-2.ensures.shape c.lettered.ensures.local
-    ∙ ap₂ with_rule (c.in_ok-command.ensures.shape c.flag.ensures.local
-    ∙ ap (with_rule (app_of c.args.command)) c.flag.ensures.rule) c.lettered.ensures.rule)
-    c.lettered-2.ensures.rule) c.flag-2.ensures.rule) c.query.ensures.rule) c.arg-5.ensures
+returns c = IfOk-weaker c.arg-2.result _ _ (λ r h. h.shape c.files.ensures.local
+    ∙ ap₂ with_rule (c.in_ok-command.ensures.shape c.query.ensures.local
+    ∙ ap (with_rule (app_of c.args.command)) c.query.ensures.rule) c.files.ensures.rule) c.arg-2.ensures

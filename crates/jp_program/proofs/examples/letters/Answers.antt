@@ -1,6 +1,8 @@
 use Rattle.std.proofs.Common.{refl, arith, [], ◌∷◌}
+use Rattle.std.proofs.lemmas.List.Elements.{All-nil}
 use Rattle.clap.proofs.OnLiterals.{clap_on_literals}
 use Rattle.jp_program.specs.CommandLine.{said, refusals}
+use Rattle.jp_program.specs.Wanted.{IsName}
 use Rattle.jp_program.proofs.examples.letters.Goals as goal
 
 pub returns : goal.returns
@@ -9,11 +11,13 @@ returns c = (
   refl,
   record {
     query = refl;
+    files = (refl, All-nil IsName);
     check = refl;
     output = refl;
     decimals = refl;
     keeps_going = refl;
     explain = refl;
+    exit_status = refl;
     settings = (
       (52 ∷ [], refl, (omega arith, (omega arith, tt)), refl),
       (54 ∷ 52 ∷ [], refl, (omega arith, (omega arith, (omega arith, tt))), refl),

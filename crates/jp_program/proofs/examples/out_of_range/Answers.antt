@@ -1,11 +1,16 @@
 use Rattle.std.proofs.Common.{◌≡◌, ◌∙◌, ℕ, ◌<◌, List, refl, sym, ap, arith, inr, [], ◌∷◌, Some, Option, codes}
+use Rattle.std.proofs.Common.{subst, unwrap_or}
+use Rattle.std.proofs.lemmas.List.Elements.{All-head}
+use Rattle.std.specs.List.{All}
+use Rattle.std.specs.Str.{chars}
 use Rattle.std.specs.Str.Parse.{digits_value, without_leading_plus}
-use Rattle.clap.specs.Walk.{Text, one_of, first_of}
+use Rattle.clap.specs.Walk.{Text, all_of, one_of, first_of}
 use Rattle.clap.proofs.OnLiterals.{clap_on_literals}
 use Rattle.jp_run.specs.declared.output.Output.{Output}
 use Rattle.jp_run.specs.declared.output.Output.TheVariants.{Nodes, Values, Texts, Raw, Lines}
 use Rattle.jp_program.specs.CommandLine.{said, refusals}
-use Rattle.jp_program.specs.Wanted.{output_text}
+use Rattle.jp_program.specs.Wanted.{IsName, output_text}
+use Rattle.jp_program.proofs.Naming.{controlled}
 use Rattle.jp_program.proofs.examples.out_of_range.Goals as goal
 
 some_same : (x y : Text) → ◌≡◌ (Some x) (Some y) → x ≡ y
@@ -78,4 +83,20 @@ returns-clause-letters c = inr (
   refl,
   λ w s. no_form (codes "Nodes") w.output (first_of (codes "output") (said capital)) capital_is s.output
       (let is : first (codes "Nodes") ≡ 78 = refl in omega (arith, is)),
+)
+
+line_feed : List Text
+line_feed = codes "jp" ∷ codes "$" ∷ codes "x\n" ∷ []
+
+files_are : unwrap_or (all_of (codes "file") (said line_feed)) [] ≡ codes "x\n" ∷ []
+unfolding clap_on_literals said refusals line_feed
+files_are = refl
+
+pub returns-clause-name : goal.returns-clause-name
+unfolding clap_on_literals said refusals line_feed
+returns-clause-name c = inr (
+  refl,
+  λ w s.
+      let names : All IsName (codes "x\n" ∷ []) = subst (All IsName) (sym s.files.0 ∙ files_are) s.files.1 in
+      controlled (chars (codes "x\n")) 1 10 (omega arith) refl refl (All-head IsName (codes "x\n") [] names),
 )

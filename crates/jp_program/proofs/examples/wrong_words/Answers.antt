@@ -10,10 +10,6 @@ pub returns-clause-no_query : goal.returns-clause-no_query
 unfolding clap_on_literals said refusals
 returns-clause-no_query c = (MissingRequiredArgument, inl refl, λ e. absurd (cc), λ e. absurd (cc))
 
-pub returns-clause-two_queries : goal.returns-clause-two_queries
-unfolding clap_on_literals said refusals
-returns-clause-two_queries c = (UnknownArgument, inl refl, λ e. absurd (cc), λ e. absurd (cc))
-
 pub returns-clause-unknown : goal.returns-clause-unknown
 unfolding clap_on_literals said refusals
 returns-clause-unknown c = (UnknownArgument, inl refl, λ e. absurd (cc), λ e. absurd (cc))

@@ -1,0 +1,192 @@
+-- Inputs in turn: one more of them, and where they ended.
+use Rattle.std.proofs.Common.{◌≡◌, ◌∙◌, ℕ, ◌+◌, ◌<◌, List, [], ◌∷◌, ◌++◌, take, drop, suc, length}
+use Rattle.std.proofs.Common.{get_or, map}
+use Rattle.std.proofs.Common.{Option, Bool, true, false, ◌||◌, refl, sym, ap, subst, arith}
+use Rattle.std.proofs.Common.{take-append-drop, length-take-le}
+use Rattle.std.proofs.Math.ListN.{length-map}
+use Rattle.std.proofs.Math.Seq.{drop-cons}
+use Rattle.std.proofs.lemmas.List.{get_or-map, take_more}
+use Rattle.std.proofs.lemmas.List.Elements.{All-push, All-contains, Contains-push, All-nil, All-cons}
+use Rattle.std.proofs.lemmas.List.Elements.{All-head, All-tail}
+use Rattle.std.specs.Borrow.{Bor}
+use Rattle.std.specs.List.{All}
+use Rattle.clap.specs.Walk.{Text, texts}
+use Rattle.jp_run.specs.Counts.{counted}
+use Rattle.jp_program.specs.Inputs.{Input, EachInTurn, EndsAt, EndsIn, inputs_of}
+
+pub each_more : {A : Type 0} (Did : Input → A → A → Type 0) (inputs : List Input) (input : Input)
+    (old mid new : A) → EachInTurn Did inputs old mid → Did input mid new
+    → EachInTurn Did (inputs ++ input ∷ []) old new
+each_more Did [] input old mid new h d = subst (λ s. Did input s new) h d
+each_more Did (x ∷ []) input old mid new h d = (mid, h, d)
+each_more Did (x ∷ y ∷ inputs) input old mid new h d =
+    (h.0, h.1, each_more Did (y ∷ inputs) input h.0 mid new h.2 d)
+
+-- what each was done with, said more weakly
+pub each_weaker : {A : Type 0} (Did Does : Input → A → A → Type 0)
+    → ((input : Input) (old new : A) → Did input old new → Does input old new) → (inputs : List Input)
+    (old new : A) → EachInTurn Did inputs old new → EachInTurn Does inputs old new
+each_weaker Did Does k [] old new h = h
+each_weaker Did Does k (x ∷ []) old new h = k x old new h
+each_weaker Did Does k (x ∷ y ∷ inputs) old new h =
+    (h.0, k x old h.0 h.1, each_weaker Did Does k (y ∷ inputs) h.0 new h.2)
+
+-- the input of the name at a place
+pub input_at : (holds : Text → Input) (names : List (Bor Text)) (i : ℕ) (d : Bor Text) → i < length names
+    → holds (get_or names i d).now ≡ get_or (map holds (texts names)) i (holds (get_or names i d).now)
+input_at holds names i d h =
+    let text : get_or (texts names) i (get_or names i d).now ≡ (get_or names i d).now =
+    get_or-map (λ (s : Bor Text). s.now) names i d (get_or names i d).now h in
+    let long : i < length (texts names) = rw length-map h in
+    sym (get_or-map holds (texts names) i (get_or names i d).now (holds (get_or names i d).now) long
+    ∙ ap holds text)
+
+pub inputs_long : (holds : Text → Input) (names : List (Bor Text))
+    → length (map holds (texts names)) ≡ length names
+inputs_long holds names = rw length-map (rw length-map refl)
+
+-- the inputs before a place and the one there
+module _ (inputs : List Input) (i : ℕ) (input : Input) (h : i < length inputs)
+    (is : input ≡ get_or inputs i input) where
+  front_more : take (i + 1) inputs ≡ take i inputs ++ input ∷ []
+  front_more = take_more inputs i input h ∙ ap (λ x. take i inputs ++ x ∷ []) (sym is)
+
+  pub turn_more : {A : Type 0} (Did : Input → A → A → Type 0) (old mid new : A)
+      → EachInTurn Did (take i inputs) old mid → Did input mid new
+      → EachInTurn Did (take (i + 1) inputs) old new
+  turn_more Did old mid new each did = subst (λ xs. EachInTurn Did xs old new)
+      (sym front_more) (each_more Did (take i inputs) input old mid new each did)
+
+  -- all of them: those before, this one, and those behind
+  cut_at : inputs ≡ take i inputs ++ input ∷ drop (suc i) inputs
+  cut_at = sym (take-append-drop i inputs) ∙ ap (λ xs. take i inputs ++ xs)
+      (drop-cons inputs i input h ∙ ap (λ x. x ∷ drop (suc i) inputs) (sym is))
+
+  pub ended_at : (Did Ended : Input → Option (List ℕ) → Option (List ℕ) → Type 0)
+      (old mid new : Option (List ℕ)) (a b : ℕ) → EachInTurn Did (take i inputs) old mid
+      → Ended input mid new → b ≡ counted a (i + 1) → EndsAt Did Ended inputs a b old new
+  ended_at Did Ended old mid new a b each ended e = record {
+    front = take i inputs;
+    input = input;
+    behind = drop (suc i) inputs;
+    mid = mid;
+    inputs_are = cut_at;
+    before = each;
+    ended = ended;
+    opened = e ∙ ap (λ n. counted a (n + 1)) (sym (length-take-le i inputs (omega (arith, h))));
+  }
+
+-- where it ended, said more weakly, or of another sink
+module _ (Did Ended Ends : Input → Option (List ℕ) → Option (List ℕ) → Type 0) (a b : ℕ)
+    (old new after : Option (List ℕ)) (k : (input : Input) (mid : Option (List ℕ)) → Ended input mid new
+    → Ends input mid after) where
+  pub ends_weaker : (inputs : List Input) → EndsAt Did Ended inputs a b old new
+      → EndsAt Did Ends inputs a b old after
+  ends_weaker inputs h = record {
+    front = h.front;
+    input = h.input;
+    behind = h.behind;
+    mid = h.mid;
+    inputs_are = h.inputs_are;
+    before = h.before;
+    ended = k h.input h.mid h.ended;
+    opened = h.opened;
+  }
+
+  pub in_weaker : (files : List Text) (holds : Text → Input) (first : Input)
+      → EndsIn Did Ended files holds first a b old new → EndsIn Did Ends files holds first a b old after
+  in_weaker [] holds first h = k first old h
+  in_weaker (name ∷ names) holds first h = ends_weaker (map holds (name ∷ names)) h
+
+-- where no file is named there is standard input alone
+module _ (files : List Text) (none : files ≡ []) (holds : Text → Input) (first : Input) where
+  pub alone : {A : Type 0} (Did : Input → A → A → Type 0) (old new : A) → Did first old new
+      → EachInTurn Did (inputs_of files holds first) old new
+  alone Did old new h = subst (λ fs. EachInTurn Did (inputs_of fs holds first) old new) (sym none) h
+
+  pub ended_alone : (Did Ended : Input → Option (List ℕ) → Option (List ℕ) → Type 0) (a b : ℕ)
+      (old new : Option (List ℕ)) → Ended first old new → EndsIn Did Ended files holds first a b old new
+  ended_alone Did Ended a b old new h =
+      subst (λ fs. EndsIn Did Ended fs holds first a b old new) (sym none) h
+
+-- where files are named there is no other input
+pub named : (files : List Text) (holds : Text → Input) (first : Input) → 0 < length files
+    → inputs_of files holds first ≡ map holds files
+named [] holds first some = absurd (omega (arith, some))
+named (name ∷ names) holds first some = refl
+
+pub ended_named : (Did Ended : Input → Option (List ℕ) → Option (List ℕ) → Type 0) (files : List Text)
+    (holds : Text → Input) (first : Input) (a b : ℕ) (old new : Option (List ℕ)) → 0 < length files
+    → EndsAt Did Ended (map holds files) a b old new → EndsIn Did Ended files holds first a b old new
+ended_named Did Ended [] holds first a b old new some h = absurd (omega (arith, some))
+ended_named Did Ended (name ∷ names) holds first a b old new some h = h
+
+-- all of them have some property
+module _ (P : Input → Type 0) where
+  all_left : (xs ys : List Input) → All P (xs ++ ys) → All P xs
+  all_left [] ys all = All-nil P
+  all_left (x ∷ xs) ys all =
+      All-cons P x xs (All-head P x (xs ++ ys) all) (all_left xs ys (All-tail P x (xs ++ ys) all))
+
+  pub all_but_last : (inputs : List Input) (i : ℕ) (input : Input) (h : i < length inputs)
+      → input ≡ get_or inputs i input → All P (take (i + 1) inputs) → All P (take i inputs) × P input
+  all_but_last inputs i input h is all =
+      let more : take (i + 1) inputs ≡ take i inputs ++ input ∷ [] =
+      take_more inputs i input h ∙ ap (λ x. take i inputs ++ x ∷ []) (sym is) in
+      let both : All P (take i inputs ++ input ∷ []) = subst (λ xs. All P xs) more all in (
+        all_left (take i inputs) (input ∷ []) both,
+        All-contains P (take i inputs ++ input ∷ []) input both (Contains-push (take i inputs) input),
+      )
+
+  pub all_and_last : (inputs : List Input) (i : ℕ) (input : Input) (h : i < length inputs)
+      → input ≡ get_or inputs i input → All P (take i inputs) → P input → All P (take (i + 1) inputs)
+  all_and_last inputs i input h is all p =
+      let more : take (i + 1) inputs ≡ take i inputs ++ input ∷ [] =
+      take_more inputs i input h ∙ ap (λ x. take i inputs ++ x ∷ []) (sym is) in
+      subst (λ xs. All P xs) (sym more) (All-push P (take i inputs) input all p)
+
+-- what was written for two
+pub none_of_two : (a b both : Bool) → both ≡ a || b → both ≡ false → (a ≡ false) × (b ≡ false)
+none_of_two false b both is e = (refl, sym is ∙ e)
+none_of_two true b both is e = absurd (let k : true ≡ false = sym is ∙ e in cc)
+
+pub one_of_two : {P : Type 0} (a b both : Bool) → both ≡ a || b → both ≡ true → (a ≡ true → P)
+    → (b ≡ true → P) → P
+one_of_two true b both is e p q = p refl
+one_of_two false b both is e p q = q (sym is ∙ e)
+
+-- the same of files by their names, of which what opens them says what they hold
+module _ (holds held : Text → Input) (same : held ≡ holds) (names : List (Bor Text)) (i : ℕ) (d : Bor Text)
+    (h : i < length names) where
+  abbrev inputs : List Input
+  inputs = map holds (texts names)
+
+  long : i < length inputs
+  long = subst (λ n. i < n) (sym (inputs_long holds names)) h
+
+  here : holds (get_or names i d).now ≡ get_or inputs i (holds (get_or names i d).now)
+  here = input_at holds names i d h
+
+  pub file_more : {A : Type 0} (Did : Input → A → A → Type 0) (old mid new : A)
+      → EachInTurn Did (take i inputs) old mid → Did (held (get_or names i d).now) mid new
+      → EachInTurn Did (take (i + 1) inputs) old new
+  file_more Did old mid new each did = turn_more inputs i _ long here Did old mid new each
+      (subst (λ (f : Text → Input). Did (f (get_or names i d).now) mid new) same did)
+
+  pub file_ended : (Did Ended : Input → Option (List ℕ) → Option (List ℕ) → Type 0)
+      (old mid new : Option (List ℕ)) (a b : ℕ) → EachInTurn Did (take i inputs) old mid
+      → Ended (held (get_or names i d).now) mid new → b ≡ counted a (i + 1)
+      → EndsAt Did Ended inputs a b old new
+  file_ended Did Ended old mid new a b each ended e = ended_at inputs i _ long here Did Ended old mid new a b
+      each (subst (λ (f : Text → Input). Ended (f (get_or names i d).now) mid new) same ended) e
+
+  pub all_files_but_last : (P : Input → Type 0) → All P (take (i + 1) inputs)
+      → All P (take i inputs) × P (held (get_or names i d).now)
+  all_files_but_last P all =
+      let both = all_but_last P inputs i _ long here all in
+      (both.0, subst (λ (f : Text → Input). P (f (get_or names i d).now)) (sym same) both.1)
+
+  pub all_files_and_last : (P : Input → Type 0) → All P (take i inputs) → P (held (get_or names i d).now)
+      → All P (take (i + 1) inputs)
+  all_files_and_last P all p = all_and_last P inputs i _ long here all
+      (subst (λ (f : Text → Input). P (f (get_or names i d).now)) same p)
