@@ -20,7 +20,7 @@ _jp() {
     esac
     if [[ $word != -* ]]; then return; fi
     local options='--output --workers --piece --batch --check --decimals --keep-going'
-    options+=' --explain --help --version'
+    options+=' --explain --exit-status --help --version'
     mapfile -t COMPREPLY < <(compgen -W "$options" -- "$word")
 }
 # Where the function offers nothing, as behind < and >, bash completes file names.
