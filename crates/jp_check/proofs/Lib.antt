@@ -13,3 +13,5 @@ pub mod OnLiterals
 pub mod WithDecimals
 pub mod Uniformity
 pub mod Listing
+pub mod FilterTexts
+pub mod FilterVerdicts

@@ -2,3 +2,4 @@
 pub mod Making
 pub mod Uniform
 pub mod QuerySets
+pub mod OneFilter

@@ -3,7 +3,7 @@
 ghost use Rattle.std.specs.Prelude.{◌≡◌, ◌≤◌, ◌↔◌, ◌&&◌, Result, Ok, Err, true, false};
 ghost use Rattle.jp_number.specs.declared.numbers.Numbers.{Numbers};
 ghost use Rattle.jp_number.specs.declared.numbers.Numbers.TheVariants.{Decimals};
-ghost use Rattle.jp_tree.specs.Tree.{Text, Query};
+ghost use Rattle.jp_tree.specs.Tree.{Text, Query, Logical};
 ghost use Rattle.jp_tree.specs.Spelling.{Spells};
 ghost use Rattle.jp_tokens.specs.Depth.{bracket_depth, max_depth};
 ghost use Rattle.jp_tree.specs.declared.fault.QueryFault.{QueryFault};
@@ -12,6 +12,7 @@ ghost use Rattle.jp_tree.specs.declared.fault.QueryFault.TheVariants.{IllTyped, 
 ghost use Rattle.jp_types.specs.Numbers.{are_whole, has_fraction, in_range_in};
 ghost use Rattle.jp_types.specs.Typing.{query_typed};
 ghost use Rattle.jp_check.specs.Verdict.{verdict_of, verdict_in, IsAccepted, IsAcceptedIn, IsVerdictIn};
+ghost use Rattle.jp_check.specs.Filter.{IsFilterVerdictIn};
 
 /// A tree is accepted where it has no fraction that is refused, its numbers are in range and it is
 /// well-typed, and then as it is. Where literals may be all numbers, no fraction is refused.
@@ -58,4 +59,11 @@ pub fn one_verdict()
 pub fn accepted_with_decimals()
     ensures tree { (q : Query) → verdict_of q ≡ Ok q → verdict_in Decimals q ≡ Ok q }
     ensures text { (t : Text) (q : Query) → IsAccepted t q → IsAcceptedIn Decimals t q }
+{}
+
+/// A text has at most one verdict as a filter.
+#[tactic(auto, using(crate::proofs::FilterVerdicts::one_filter_verdict))]
+pub fn one_filter_verdict()
+    ensures { (numbers : Numbers) (t : Text) (r s : Result Logical QueryFault)
+        → IsFilterVerdictIn numbers t r → IsFilterVerdictIn numbers t s → r ≡ s }
 {}

@@ -4,6 +4,8 @@
 mod accepted;
 mod checking;
 mod examples;
+mod filter_plan;
+mod filters;
 mod known;
 pub mod laws;
 mod leaves;
@@ -14,5 +16,7 @@ mod uniform;
 
 pub use accepted::Plan;
 pub use checking::{check, plan, plan_in};
+pub use filter_plan::FilterPlan;
+pub use filters::{filter_in, filter_query_text};
 pub use jp_types::{Function, function_named};
 pub use known::Known;

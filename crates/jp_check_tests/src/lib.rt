@@ -4,6 +4,8 @@
 #[cfg(test)]
 mod decimals;
 #[cfg(test)]
+mod filters;
+#[cfg(test)]
 mod hostile;
 #[cfg(test)]
 mod plans;

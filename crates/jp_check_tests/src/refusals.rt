@@ -3,7 +3,7 @@
 //! A turn says whether the answer was right, or nothing where it was want of memory. Each is made twice: one
 //! growth is refused at most, so one of the two answers.
 
-use jp_check::{plan, plan_in};
+use jp_check::{filter_in, plan, plan_in};
 use jp_number::Numbers;
 use jp_syntax::QueryFault;
 use std::alloc::Global;
@@ -26,6 +26,23 @@ fn ill_typed(alloc: Global) -> Option<bool> {
     }
 }
 
+/// Whether a filter is accepted.
+fn accepted_filter(alloc: Global) -> Option<bool> {
+    match filter_in(alloc, "match(@.a,'x*')&&$.b", Numbers::Whole) {
+        Ok(_) => Some(true),
+        Err(QueryFault::Memory) => None,
+        Err(_) => Some(false),
+    }
+}
+
+/// Whether more than a filter is refused.
+fn more_refused(alloc: Global) -> Option<bool> {
+    match filter_in(alloc, "@.a,?@.b", Numbers::Whole).err() {
+        Some(QueryFault::Memory) => None,
+        fault => Some(fault == Some(QueryFault::Syntax)),
+    }
+}
+
 #[test]
 fn an_accepted_query(rt: HostRuntime) {
     let turns = (accepted(rt.alloc()), accepted(rt.alloc()));
@@ -35,5 +52,17 @@ fn an_accepted_query(rt: HostRuntime) {
 #[test]
 fn an_ill_typed_query(rt: HostRuntime) {
     let turns = (ill_typed(rt.alloc()), ill_typed(rt.alloc()));
+    assert!(rt; matches!(turns, (Some(true), Some(true) | None) | (None, Some(true))));
+}
+
+#[test]
+fn an_accepted_filter(rt: HostRuntime) {
+    let turns = (accepted_filter(rt.alloc()), accepted_filter(rt.alloc()));
+    assert!(rt; matches!(turns, (Some(true), Some(true) | None) | (None, Some(true))));
+}
+
+#[test]
+fn more_than_a_filter(rt: HostRuntime) {
+    let turns = (more_refused(rt.alloc()), more_refused(rt.alloc()));
     assert!(rt; matches!(turns, (Some(true), Some(true) | None) | (None, Some(true))));
 }

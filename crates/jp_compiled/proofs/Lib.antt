@@ -1,3 +1,4 @@
 pub mod CompiledViews
 pub mod PatternSets
 pub mod RootsListed
+pub mod OneFilter

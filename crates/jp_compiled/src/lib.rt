@@ -3,6 +3,7 @@
 
 mod compiled;
 mod known;
+mod only_filter;
 mod query;
 
 pub use compiled::Query;

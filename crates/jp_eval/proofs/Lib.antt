@@ -5,6 +5,7 @@ pub mod Listed
 pub mod NumbersKept
 pub mod Chains
 pub mod Answering
+pub mod Filtering
 pub mod Idle
 pub mod WalkSteps
 pub mod CompiledParts
@@ -12,4 +13,5 @@ pub mod Uniformity
 pub mod Answered
 pub mod WorkItems
 mod Crossing
+pub mod FilterCrosses
 pub mod RootsUniform

@@ -1,5 +1,6 @@
 pub mod Nodelist
 pub mod Samples
 pub mod Evaluated
+pub mod Filter
 pub mod Cuts
 pub mod inner

@@ -3,6 +3,7 @@
 #![tactic(auto)]
 
 mod context;
+mod document_filter;
 mod evaluator;
 mod examples;
 mod fault;
@@ -14,6 +15,7 @@ mod walk;
 mod wide;
 mod work_items;
 
+pub use document_filter::DocumentFilter;
 pub use evaluator::Evaluator;
 pub use fault::EvalFault;
 pub use fork::{Cuts, Fork, OpenFork};

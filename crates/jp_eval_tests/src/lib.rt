@@ -2,6 +2,8 @@
 #![tactic(auto)]
 
 #[cfg(test)]
+mod filters;
+#[cfg(test)]
 mod forks;
 #[cfg(test)]
 mod numbers;

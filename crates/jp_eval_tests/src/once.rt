@@ -20,7 +20,12 @@ const PIECE: &str = "AAAAAAAAAAAAAAAAAAAAAAAAAAAAAAAAAAAAAAAAAAAAAAAAAAAAAAAAAAA
 const PIECES: u32 = 250_000;
 
 /// Appends the texts of many items or members, each with its number between two texts.
-fn push_many(alloc: Global, text: &mut String, before: &str, behind: &str) -> Result<(), Fail> {
+pub(crate) fn push_many(
+    alloc: Global,
+    text: &mut String,
+    before: &str,
+    behind: &str,
+) -> Result<(), Fail> {
     for number in 0..MANY {
         if number > 0 {
             text.push(',')?;

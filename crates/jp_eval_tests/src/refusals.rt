@@ -3,11 +3,12 @@
 //! A turn says whether the answer was right, or nothing where it was want of memory. Each is made twice: one
 //! growth is refused at most, so one of the two answers.
 
-use jp_check::plan;
+use jp_check::{filter_in, plan};
 use jp_doc::{Document, Location, Step};
-use jp_eval::{Cuts, Evaluator, OpenFork};
+use jp_eval::{Cuts, DocumentFilter, Evaluator, OpenFork};
 use jp_flat::FlatReader;
 use jp_nodes::Locations;
+use jp_number::Numbers;
 use jp_part::Part;
 use jp_select::{evaluate, evaluate_split};
 use jp_syntax::QueryFault;
@@ -135,5 +136,24 @@ fn a_flat_slice_down(rt: HostRuntime) {
 fn a_flat_descent(rt: HostRuntime) {
     let line = b"{\"a\":{\"b\":{\"a\":1}},\"c\":[{\"a\":2}]}";
     let turns = flat_turns(rt.alloc(), "$..a", line, 3);
+    assert!(rt; matches!(turns, (Some(true), Some(true) | None) | (None, Some(true))));
+}
+
+/// Whether a filter is true of the document.
+fn admitted(alloc: Global) -> Option<bool> {
+    let filter = "@.d[?@.a==$.c[0]]&&count(distinct($.c[0,1,0]))==2";
+    let plan = match filter_in(alloc, filter, Numbers::Whole) {
+        Ok(plan) => plan,
+        Err(QueryFault::Memory) => return None,
+        Err(_) => return Some(false),
+    };
+    let document = Document::read(alloc, DOCUMENT).ok()?;
+    let filter = DocumentFilter::new(alloc, plan.compiled())?;
+    filter.admits(Part::root_of(&document)).ok()
+}
+
+#[test]
+fn a_filter_of_a_document(rt: HostRuntime) {
+    let turns = (admitted(rt.alloc()), admitted(rt.alloc()));
     assert!(rt; matches!(turns, (Some(true), Some(true) | None) | (None, Some(true))));
 }
