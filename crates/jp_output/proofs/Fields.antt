@@ -55,13 +55,13 @@ either P false x y h g = g refl
 
 -- counts
 
-times_both : (b : ℕ) (xs ys : List ℕ) → times b (xs ++ ys) ≡ times b xs + times b ys
+pub times_both : (b : ℕ) (xs ys : List ℕ) → times b (xs ++ ys) ≡ times b xs + times b ys
 times_both b xs ys = sum_by-append (λ c. cond (c == b) 1 0) xs ys
 
-times_first : (b x : ℕ) (xs : List ℕ) → times b (x ∷ xs) ≡ cond (x == b) 1 0 + times b xs
+pub times_first : (b x : ℕ) (xs : List ℕ) → times b (x ∷ xs) ≡ cond (x == b) 1 0 + times b xs
 times_first b x xs = sum_by-cons (λ c. cond (c == b) 1 0) x xs
 
-times_none : (b : ℕ) → times b [] ≡ 0
+pub times_none : (b : ℕ) → times b [] ≡ 0
 times_none b = omega (arith, count_by-le-length (λ c. c == b) [])
 
 high_differs : (b x : ℕ) → b < 32 → 32 ≤ x → ◌≡◌ {A = ℕ} (cond (x == b) 1 0) 0

@@ -1,6 +1,7 @@
 pub mod FieldBytes
 pub mod Fields
 pub mod FlatTexts
+pub mod FourFields
 pub mod LinesWithNodes
 pub mod NumberedLines
 pub mod NumberFields

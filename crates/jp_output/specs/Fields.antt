@@ -19,6 +19,20 @@ pub record HasThreeFields (line : List ℕ) : Type 0 where
 abbrev pub AreLinesOfThree : List ℕ → Type 0
 AreLinesOfThree bytes = (ls : List (List ℕ)) × AllByRecursion HasThreeFields ls × (concat ls ≡ bytes)
 
+-- four fields: there are three tabs, and one line feed, which is the last byte
+pub record HasFourFields (line : List ℕ) : Type 0 where
+  pub tabs : times 9 line ≡ 3
+  pub line_feeds : times 10 line ≡ 1
+  pub ends : (front : List ℕ) × (line ≡ front ++ 10 ∷ [])
+
+-- such lines, one after another
+abbrev pub AreLinesOfFour : List ℕ → Type 0
+AreLinesOfFour bytes = (ls : List (List ℕ)) × AllByRecursion HasFourFields ls × (concat ls ≡ bytes)
+
+-- a name with no tab and no line feed, so that it can be a field
+abbrev pub IsFieldName : List ℕ → Type 0
+IsFieldName name = (times 9 name ≡ 0) × (times 10 name ≡ 0)
+
 -- one line: there is one line feed, which is the last byte
 pub record IsOneLine (line : List ℕ) : Type 0 where
   pub line_feeds : times 10 line ≡ 1

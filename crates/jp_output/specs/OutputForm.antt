@@ -1,5 +1,5 @@
 -- A form of the answer: what it says of a line.
-use Rattle.std.specs.Prelude.{ℕ, List, []}
+use Rattle.std.specs.Prelude.{ℕ, List, [], ◌++◌}
 use Rattle.std.specs.List.{flat_map}
 use Rattle.jp_doc.specs.Json.{Json}
 use Rattle.jp_doc.specs.Lines.{Line}
@@ -21,6 +21,13 @@ abbrev pub node_lines : OutputForm
 node_lines = record {
   of_document = λ l ns. flat_map (node_line l.0) ns;
   of_fault = fault_line;
+}
+
+-- the form of output lines, each behind these bytes
+abbrev pub node_lines_behind : List ℕ → OutputForm
+node_lines_behind head = record {
+  of_document = λ l ns. flat_map (λ n. head ++ node_line l.0 n) ns;
+  of_fault = λ number fault. head ++ fault_line number fault;
 }
 
 -- the text of each value, in some way of writing values, on a line of its own; nothing for a faulty line

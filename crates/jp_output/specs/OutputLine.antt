@@ -54,9 +54,10 @@ line_text number at v = decimal number ++ (9 ∷ encode_utf8_all (path_text at) 
 abbrev pub node_line : ℕ → Node → List ℕ
 node_line number n = line_text number n.location n.value
 
--- The lines of documents so far, with the number of the last one: what a further node of it does to them.
-abbrev pub put_line : ℕ × List ℕ → Node → ℕ × List ℕ
-put_line (number, bytes) n = (number, bytes ++ node_line number n)
+-- The bytes behind which each line stands, the number of the last document, and the lines of documents so
+-- far: what a further node of it does to them.
+abbrev pub put_line : List ℕ × ℕ × List ℕ → Node → List ℕ × ℕ × List ℕ
+put_line (head, number, bytes) n = (head, number, bytes ++ (head ++ node_line number n))
 
 -- the value's text, in some way of writing values, and a line feed
 abbrev pub line_of : (Json → List ℕ) → Node → List ℕ

@@ -1,3 +1,4 @@
 -- Working files of `jp_output`, which proofs and private clauses alone cite: nobody has to believe them.
 pub mod Buffered
+pub mod Heads
 pub mod Taken

@@ -9,9 +9,11 @@ ghost use Rattle.jp_doc.specs.declared.fault.DocFault.TheVariants.{LongNumber, L
 ghost use Rattle.jp_number.specs.Number.{whole};
 ghost use Rattle.jp_output.specs.Chunks.{bytes_in};
 ghost use Rattle.jp_output.specs.FaultLine.{fault_line};
-ghost use Rattle.jp_output.specs.Fields.{times, HasThreeFields, IsOneLine, third_field, third_fields};
+ghost use Rattle.jp_output.specs.Fields.{times, HasThreeFields, HasFourFields, IsFieldName, IsOneLine};
+ghost use Rattle.jp_output.specs.Fields.{third_field, third_fields};
 ghost use Rattle.jp_output.specs.NumberedLines.{first_field, first_fields, lines_numbered};
-ghost use Rattle.jp_output.specs.OutputForm.{node_lines, value_lines, text_lines, raw_lines, input_lines};
+ghost use Rattle.jp_output.specs.OutputForm.{node_lines, node_lines_behind, value_lines, text_lines};
+ghost use Rattle.jp_output.specs.OutputForm.{raw_lines, input_lines};
 ghost use Rattle.jp_output.specs.OutputLine.{value_text, line_text, value_line};
 ghost use Rattle.jp_output.specs.RawText.{raw_text};
 ghost use Rattle.jp_output.specs.UnquotedText.{unquoted_text, text_line};
@@ -170,6 +172,25 @@ fn forms()
     ensures faulty_value { value_lines.of_fault 3 Unreadable ≡ [] }
     ensures faulty_text { text_lines.of_fault 3 Unreadable ≡ [] }
     ensures faulty_line { input_lines.of_fault 3 Unreadable ≡ [] }
+{}
+
+/// Lines behind a name and a tab, of two nodes, of none and of a faulty line; what has not four fields; and
+/// which names can be fields.
+#[tactic(auto, unfolding(crate::proofs::OnLiterals::lines_on_literals))]
+fn heads()
+    ensures nodes { (node_lines_behind (codes "a b" ++ 9 ∷ [])).of_document (3, codes "7")
+        (node [] (text (codes "7")) ∷ node (index 0 ∷ []) null ∷ [])
+        ≡ codes "a b" ++ 9 ∷ codes "3" ++ 9 ∷ codes "$" ++ 9 ∷ codes "\"7\"" ++ 10 ∷
+        codes "a b" ++ 9 ∷ codes "3" ++ 9 ∷ codes "$[0]" ++ 9 ∷ codes "null" ++ 10 ∷ [] }
+    ensures no_node { (node_lines_behind (codes "a b" ++ 9 ∷ [])).of_document (3, codes "7") [] ≡ [] }
+    ensures faulty { (node_lines_behind (codes "a b" ++ 9 ∷ [])).of_fault 3 Unreadable
+        ≡ codes "a b" ++ 9 ∷ codes "3" ++ 9 ∷ codes "!" ++ 9 ∷ codes "unreadable" ++ 10 ∷ [] }
+    ensures three_tabs { ¬ HasFourFields (9 ∷ 9 ∷ 10 ∷ []) }
+    ensures not_ended { ¬ HasFourFields (9 ∷ 9 ∷ 9 ∷ 10 ∷ 97 ∷ []) }
+    ensures name { IsFieldName (codes "a b") }
+    ensures empty_name { IsFieldName [] }
+    ensures tab_within { ¬ IsFieldName (97 ∷ 9 ∷ []) }
+    ensures line_feed_within { ¬ IsFieldName (97 ∷ 10 ∷ []) }
 {}
 
 /// Bytes in chunks: of none, of one, and of three, where one stands twice.

@@ -6,6 +6,7 @@ ghost use Rattle.jp_path_stack.specs.Appended.{Extends};
 ghost use Rattle.jp_doc.specs.FaultWords.{fault_words};
 ghost use Rattle.jp_output.specs.FaultLine.{fault_line};
 
+use crate::head::Head;
 use crate::output_line::append_number;
 use jp_doc::DocFault;
 use std::alloc::{AllocError, Global};
@@ -26,8 +27,21 @@ pub fn write_fault(
     ensures ok { OnOk result (out.new.items ≡ out.old.items ++ fault_line number fault.now) }
     ensures err { OnErr result (out.new.items ≡ out.old.items) }
 {
+    write_fault_behind(&Head::none(), number, fault, out)
+}
+
+/// The same, behind a head.
+pub(crate) fn write_fault_behind(
+    head: &Head,
+    number: u64,
+    fault: &DocFault,
+    out: &mut Vec<u8>,
+) -> Result<(), AllocError>
+    ensures ok { OnOk result (out.new.items ≡ out.old.items ++ (head.now ++ fault_line number fault.now)) }
+    ensures err { OnErr result (out.new.items ≡ out.old.items) }
+{
     let before = out.len();
-    match append_fault(number, fault, out) {
+    match append_fault(head, number, fault, out) {
         Ok(()) => Ok(()),
         Err(error) => {
             out.truncate(before);
@@ -37,11 +51,17 @@ pub fn write_fault(
 }
 
 /// Appends the parts of a line, and on an error some of them.
-fn append_fault(number: u64, fault: &DocFault, out: &mut Vec<u8>) -> Result<(), AllocError>
+fn append_fault(
+    head: &Head,
+    number: u64,
+    fault: &DocFault,
+    out: &mut Vec<u8>,
+) -> Result<(), AllocError>
     ensures ok { OnOk result (out.new.items ≡ out.old.items
-        ++ (decimal number ++ (9 ∷ 33 ∷ 9 ∷ fault_words fault.now ++ 10 ∷ []))) }
+        ++ (head.now ++ (decimal number ++ (9 ∷ 33 ∷ 9 ∷ fault_words fault.now ++ 10 ∷ [])))) }
     ensures kept { Extends out.old.items out.new.items }
 {
+    head.append_to(out)?;
     append_number(number, out)?;
     out.push(b'!')?;
     out.push(b'\t')?;

@@ -7,6 +7,7 @@ ghost use Rattle.jp_doc.specs.declared.fault.DocFault.TheVariants.{Memory};
 ghost use Rattle.jp_output.specs.Chunks.{bytes_in};
 ghost use Rattle.jp_output.specs.OutputForm.{OutputForm};
 
+use crate::head::Head;
 use jp_doc::DocFault;
 use jp_nodes::Visit;
 use std::alloc::{AllocError, Global};
@@ -15,8 +16,11 @@ use std::alloc::{AllocError, Global};
 ///
 /// A line is begun, then its document's nodes are visited, then it is ended; or its fault is told.
 pub trait Form: Visit {
-    /// What the form says of a line.
-    ghost says: { OutputForm };
+    /// What the form says of a line, with these bytes for the head of a line.
+    ghost says: { List ℕ → OutputForm };
+
+    /// What this one says of a line.
+    ghost form: { Self → OutputForm };
 
     /// The bytes that are written so far.
     ghost written: { Self → List ℕ };
@@ -27,24 +31,29 @@ pub trait Form: Visit {
     /// The bytes once the line, which is these, has ended.
     ghost ended: { Self → List ℕ → List ℕ };
 
-    /// Nothing is written yet. It takes no memory.
-    fn new(alloc: Global) -> Self
-        ensures { written result ≡ [] };
+    /// Nothing is written yet. The form has this head, if its lines have any. It takes no memory.
+    fn new(alloc: Global, head: &Head) -> Self
+        ensures written { written result ≡ [] }
+        ensures form { form result ≡ says head.now };
 
     /// Begins the line with this number.
     fn begin(&mut self, number: u64)
-        ensures { HasBegun self.new number (written self.old) };
+        ensures begun { HasBegun self.new number (written self.old) }
+        ensures form { form self.new ≡ form self.old };
 
     /// Ends the line of these bytes. `AllocError` if a growth was refused.
     fn end(&mut self, line: &[u8]) -> Result<(), AllocError>
-        ensures { OnOk result (written self.new ≡ ended self.old line.now) };
+        ensures ended { OnOk result (written self.new ≡ ended self.old line.now) }
+        ensures form { form self.new ≡ form self.old };
 
     /// Tells that the line with this number is faulty. Condition: the fault is not `Memory`.
     ///
     /// `AllocError` if a growth was refused.
     fn push_fault(&mut self, alloc: Global, number: u64, fault: &DocFault) -> Result<(), AllocError>
         requires { fault.now ≢ Memory }
-        ensures { OnOk result (written self.new ≡ written self.old ++ says.of_fault number fault.now) };
+        ensures written { OnOk result
+            (written self.new ≡ written self.old ++ (form self.old).of_fault number fault.now) }
+        ensures form { form self.new ≡ form self.old };
 
     /// The bytes, in chunks as they were written. `AllocError` if a growth was refused.
     fn into_chunks(self) -> Result<Vec<Vec<u8>>, AllocError>
@@ -54,5 +63,10 @@ pub trait Form: Visit {
     ghost writes: { (begun visited : Self) (number : ℕ) (before line : List ℕ) (ns : List Node)
         → HasBegun begun number before
         → Self.Visit.kept visited ≡ fold Self.Visit.put (Self.Visit.kept begun) ns
-        → ended visited line ≡ before ++ says.of_document (number, line) ns };
+        → ended visited line ≡ before ++ (form begun).of_document (number, line) ns };
+
+    /// Nodes do not change what the form says.
+    ghost form_stays: { (begun visited : Self) (ns : List Node)
+        → Self.Visit.kept visited ≡ fold Self.Visit.put (Self.Visit.kept begun) ns
+        → form visited ≡ form begun };
 }

@@ -3,6 +3,7 @@
 ghost use Rattle.std.specs.Prelude.{◌≡◌, false, []};
 
 use crate::form::Form;
+use crate::head::Head;
 use crate::output_buffer::OutputBuffer;
 use jp_doc::DocFault;
 use jp_nodes::Visit;
@@ -82,12 +83,14 @@ impl Visit for InputLines {
 }
 
 impl Form for InputLines {
-    ghost use Rattle.std.specs.Prelude.{◌≡◌, false};
+    ghost use Rattle.std.specs.Prelude.{◌≡◌, false, refl};
     ghost use Rattle.jp_output.specs.InputLine.{end_line};
     ghost use Rattle.jp_output.specs.OutputForm.{input_lines};
     ghost use Rattle.jp_output.specs.inner.Taken.{selected_written};
 
-    ghost says = { input_lines };
+    ghost says = { λ _. input_lines };
+
+    ghost form = { λ _. input_lines };
 
     ghost written = { λ lines. lines.1 };
 
@@ -95,7 +98,7 @@ impl Form for InputLines {
 
     ghost ended = { end_line };
 
-    fn new(alloc: Global) -> Self {
+    fn new(alloc: Global, _head: &Head) -> Self {
         InputLines::empty(alloc)
     }
 
@@ -126,4 +129,6 @@ impl Form for InputLines {
     }
 
     ghost writes = { λ begun visited _ before line ns. selected_written begun visited before line ns };
+
+    ghost form_stays = { λ _ _ _ _. refl };
 }

@@ -12,10 +12,11 @@ ghost use Rattle.jp_doc.specs.NumbersWithin.{HasWholeNumbers, HasJsonNumbers};
 ghost use Rattle.jp_doc.specs.declared.fault.DocFault.{DocFault};
 ghost use Rattle.jp_output.specs.FaultLine.{fault_line};
 ghost use Rattle.jp_output.specs.Fields.{times, HasThreeFields, AreLinesOfThree, IsOneLine, third_fields};
-ghost use Rattle.jp_output.specs.Fields.{NodesHaveJsonNumbers};
+ghost use Rattle.jp_output.specs.Fields.{HasFourFields, AreLinesOfFour, IsFieldName, NodesHaveJsonNumbers};
 ghost use Rattle.jp_output.specs.NumberedLines.{of_documents, lines_of_documents, AreNumberedAbove};
 ghost use Rattle.jp_output.specs.NumberedLines.{first_fields, lines_numbered};
-ghost use Rattle.jp_output.specs.OutputForm.{node_lines, value_lines, text_lines, input_lines};
+ghost use Rattle.jp_output.specs.OutputForm.{node_lines, node_lines_behind, value_lines, text_lines};
+ghost use Rattle.jp_output.specs.OutputForm.{input_lines};
 ghost use Rattle.jp_output.specs.OutputLine.{value_text, node_line, put_line, value_line};
 ghost use Rattle.jp_output.specs.UnquotedText.{text_line};
 
@@ -39,11 +40,34 @@ pub fn three_fields()
         → times 10 (flat_map (node_line number) ns) ≡ length ns }
 {}
 
-/// The lines that a visitor writes of several nodes are those of each in turn, behind what stood there.
+/// With no bytes for a head the form of output lines behind a head is that of output lines.
+pub fn no_head()
+    ensures { node_lines_behind [] ≡ node_lines }
+{}
+
+/// A line of three fields has four behind a name, which has no tab and no line feed, and a tab: three tabs,
+/// and one line feed, which is the last byte. So have all lines of the form of output lines behind a name and
+/// a tab, of whatever nodes whose numbers are those of RFC 8259, and of a faulty line. There are as many as
+/// nodes.
+pub fn four_fields()
+    ensures behind_a_name { (name line : List ℕ) → IsFieldName name → HasThreeFields line
+        → HasFourFields (name ++ 9 ∷ line) }
+    ensures nodes { (name : List ℕ) (l : Line) (ns : List Node) → IsFieldName name → NodesHaveJsonNumbers ns
+        → AreLinesOfFour ((node_lines_behind (name ++ 9 ∷ [])).of_document l ns) }
+    ensures fault { (name : List ℕ) (number : ℕ) (f : DocFault) → IsFieldName name
+        → HasFourFields ((node_lines_behind (name ++ 9 ∷ [])).of_fault number f) }
+    ensures one_each { (name : List ℕ) (l : Line) (ns : List Node) → IsFieldName name
+        → NodesHaveJsonNumbers ns
+        → times 10 ((node_lines_behind (name ++ 9 ∷ [])).of_document l ns) ≡ length ns }
+{}
+
+/// The lines that a visitor writes of several nodes are those of each in turn, each behind the head, and all
+/// behind what stood there.
 #[tactic(auto, using(crate::specs::inner::Taken::lines_fold))]
 pub fn lines_of_nodes()
-    ensures { (number : ℕ) (bytes : List ℕ) (ns : List Node) → fold put_line (number, bytes) ns
-        ≡ (number, bytes ++ flat_map (node_line number) ns) }
+    ensures { (head : List ℕ) (number : ℕ) (bytes : List ℕ) (ns : List Node)
+        → fold put_line (head, number, bytes) ns
+        ≡ (head, number, bytes ++ flat_map (λ n. head ++ node_line number n) ns) }
 {}
 
 /// The form of values has the third fields of the form of output lines, of whatever nodes, in their order and

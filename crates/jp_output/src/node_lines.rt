@@ -9,8 +9,9 @@ ghost use Rattle.jp_output.specs.Chunks.{bytes_in};
 ghost use Rattle.jp_output.specs.OutputLine.{line_text};
 
 use crate::chunks::join_chunks;
-use crate::fault_line::write_fault;
+use crate::fault_line::write_fault_behind;
 use crate::form::Form;
+use crate::head::Head;
 use crate::output_buffer::OutputBuffer;
 use crate::output_line::append_number;
 use crate::value_text::append_value;
@@ -21,13 +22,16 @@ use jp_path_stack::PathStack;
 use std::alloc::{AllocError, Global};
 use std::marker::Model;
 
-/// Takes nodes as the output lines of a document with a number, behind those of the documents before it.
+/// Takes nodes as the output lines of a document with a number, behind those of the documents before it. Each
+/// line, and each fault line, has a head.
 ///
-/// Its meaning is that number and the bytes of all lines so far. A node takes no allocation but the growth of
-/// what is written, since the scratch buffer that its value's text is made in is used again, and a list of
-/// members for each object of a flat document. The lines of a visitor that is appended stay where they are.
+/// Its meaning is the head, that number and the bytes of all lines so far. A node takes no allocation but the
+/// growth of what is written, since the scratch buffer that its value's text is made in is used again, and a
+/// list of members for each object of a flat document. The lines of a visitor that is appended stay where
+/// they are.
 #[derive(Drop)]
 pub struct NodeLines {
+    head: Head,
     number: u64,
     scratch: Vec<u8>,
     lines: OutputBuffer,
@@ -37,9 +41,9 @@ impl Model for NodeLines {
     ghost use Rattle.std.specs.Prelude.{ℕ, List};
     ghost use Rattle.jp_output.specs.inner.Buffered.{buffered};
 
-    ghost Value = { ℕ × List ℕ };
+    ghost Value = { List ℕ × ℕ × List ℕ };
 
-    ghost view = { λ t. (t.number, buffered t.lines) };
+    ghost view = { λ t. (t.head, t.number, buffered t.lines) };
 }
 
 impl NodeLines {
@@ -47,11 +51,19 @@ impl NodeLines {
     ghost use Rattle.jp_doc.specs.declared.fault.DocFault.TheVariants.{Memory};
     ghost use Rattle.jp_output.specs.FaultLine.{fault_line};
 
-    /// No lines, of a document with the number 0. It takes no memory.
+    /// No lines, of a document with the number 0, with nothing before each. It takes no memory.
     pub fn new(alloc: Global) -> NodeLines
-        ensures { result ≡ (0, []) }
+        ensures { result ≡ ([], 0, []) }
+    {
+        NodeLines::behind(alloc, &Head::none())
+    }
+
+    /// The same, but each line stands behind this head. It takes no memory.
+    pub fn behind(alloc: Global, head: &Head) -> NodeLines
+        ensures { result ≡ (head.now, 0, []) }
     {
         NodeLines {
+            head: head.again(),
             number: 0,
             scratch: Vec::new(alloc),
             lines: OutputBuffer::new(alloc),
@@ -60,7 +72,7 @@ impl NodeLines {
 
     /// Begins the lines of a document with this number.
     pub fn begin(&mut self, number: u64)
-        ensures { self.new ≡ (number, self.old.1) }
+        ensures { self.new ≡ (self.old.0, number, self.old.2) }
     {
         self.number = number;
     }
@@ -68,24 +80,33 @@ impl NodeLines {
     /// Appends the fault line of the line with this number. Condition: the fault is not `Memory`.
     ///
     /// After an `AllocError`, which says that a growth was refused, the lines are as before.
-    pub fn push_fault(&mut self, alloc: Global, fault: &DocFault) -> Result<(), AllocError>
+    pub fn push_fault(
+        &mut self,
+        // Not used: no memory is taken but the growth of the lines (README, Why so).
+        _alloc: Global,
+        fault: &DocFault,
+    ) -> Result<(), AllocError>
         requires { fault.now ≢ Memory }
-        ensures ok { OnOk result (self.new ≡ (self.old.0, self.old.1 ++ fault_line self.old.0 fault.now)) }
+        ensures ok { OnOk result (self.new ≡ (
+          self.old.0,
+          self.old.1,
+          self.old.2 ++ (self.old.0 ++ fault_line self.old.1 fault.now),
+        )) }
         ensures err { OnErr result (self.new ≡ self.old) }
     {
-        write_fault(alloc, self.number, fault, &mut self.lines.out)
+        write_fault_behind(&self.head, self.number, fault, &mut self.lines.out)
     }
 
     /// The bytes of all lines, in chunks as they were written. `AllocError` if a growth was refused.
     pub fn into_chunks(self) -> Result<Vec<Vec<u8>>, AllocError>
-        ensures { IfOk result (λ chunks. bytes_in chunks.items ≡ self.1) }
+        ensures { IfOk result (λ chunks. bytes_in chunks.items ≡ self.2) }
     {
         self.lines.into_chunks()
     }
 
     /// The bytes of all lines. `AllocError` if a growth was refused.
     pub fn into_bytes(self, alloc: Global) -> Result<Vec<u8>, AllocError>
-        ensures { IfOk result (λ v. v.items ≡ self.1) }
+        ensures { IfOk result (λ v. v.items ≡ self.2) }
     {
         join_chunks(alloc, self.into_chunks()?)
     }
@@ -95,13 +116,13 @@ impl Visit for NodeLines {
     ghost use Rattle.std.specs.Prelude.{ℕ, List, [], refl};
     ghost use Rattle.jp_output.specs.OutputLine.{put_line};
 
-    ghost Kept = { ℕ × List ℕ };
+    ghost Kept = { List ℕ × ℕ × List ℕ };
 
     ghost kept = { λ t. t };
 
     ghost put = { put_line };
 
-    ghost emptied = { λ lines. (lines.0, []) };
+    ghost emptied = { λ lines. (lines.0, lines.1, []) };
 
     ghost emptied_stays = { λ _ _. refl };
 
@@ -113,6 +134,7 @@ impl Visit for NodeLines {
     ) -> Result<(), AllocError> {
         write_node(
             alloc,
+            &self.head,
             self.number,
             path_stack,
             value,
@@ -127,6 +149,7 @@ impl Visit for NodeLines {
 
     fn fresh(&self, alloc: Global) -> Self {
         NodeLines {
+            head: self.head.again(),
             number: self.number,
             scratch: Vec::new(alloc),
             lines: OutputBuffer::new(alloc),
@@ -140,19 +163,21 @@ impl Visit for NodeLines {
 
 impl Form for NodeLines {
     ghost use Rattle.std.specs.Prelude.{◌≡◌};
-    ghost use Rattle.jp_output.specs.OutputForm.{node_lines};
-    ghost use Rattle.jp_output.specs.inner.Taken.{lines_written};
+    ghost use Rattle.jp_output.specs.OutputForm.{node_lines_behind};
+    ghost use Rattle.jp_output.specs.inner.Taken.{head_stays, lines_written};
 
-    ghost says = { node_lines };
+    ghost says = { node_lines_behind };
 
-    ghost written = { λ lines. lines.1 };
+    ghost form = { λ lines. node_lines_behind lines.0 };
 
-    ghost HasBegun = { λ lines number before. lines ≡ (number, before) };
+    ghost written = { λ lines. lines.2 };
 
-    ghost ended = { λ lines line. lines.1 };
+    ghost HasBegun = { λ lines number before. (lines.1 ≡ number) × (lines.2 ≡ before) };
 
-    fn new(alloc: Global) -> Self {
-        NodeLines::new(alloc)
+    ghost ended = { λ lines line. lines.2 };
+
+    fn new(alloc: Global, head: &Head) -> Self {
+        NodeLines::behind(alloc, head)
     }
 
     fn begin(&mut self, number: u64) {
@@ -178,6 +203,8 @@ impl Form for NodeLines {
     }
 
     ghost writes = { lines_written };
+
+    ghost form_stays = { head_stays };
 }
 
 /// Appends the output line of the node at the path stack, with a scratch buffer for its value's text.
@@ -185,6 +212,7 @@ impl Form for NodeLines {
 /// After an `AllocError`, which says that a growth was refused, `out` is as before.
 fn write_node(
     alloc: Global,
+    head: &Head,
     number: u64,
     path_stack: &mut PathStack<'_>,
     value: Part<'_>,
@@ -192,13 +220,13 @@ fn write_node(
     out: &mut Vec<u8>,
 ) -> Result<(), AllocError>
     ensures same { path_stack.new ≡ path_stack.old }
-    ensures ok { OnOk result (out.new.items
-        ≡ out.old.items ++ line_text number (link_steps path_stack.old) (part_value value.entry)) }
+    ensures ok { OnOk result (out.new.items ≡ out.old.items ++ (head.now ++ line_text number
+        (link_steps path_stack.old) (part_value value.entry))) }
     ensures err { OnErr result (out.new.items ≡ out.old.items) }
 {
     // Written straight to the output, and cut off again where memory is refused (README, Why so).
     let before = out.len();
-    match append_parts(alloc, number, path_stack, value, scratch, out) {
+    match append_parts(alloc, head, number, path_stack, value, scratch, out) {
         Ok(()) => Ok(()),
         Err(error) => {
             out.truncate(before);
@@ -210,6 +238,7 @@ fn write_node(
 /// Appends the parts of a line, and on an error some of them.
 fn append_parts(
     alloc: Global,
+    head: &Head,
     number: u64,
     path_stack: &mut PathStack<'_>,
     value: Part<'_>,
@@ -217,10 +246,11 @@ fn append_parts(
     out: &mut Vec<u8>,
 ) -> Result<(), AllocError>
     ensures same { path_stack.new ≡ path_stack.old }
-    ensures ok { OnOk result (out.new.items
-        ≡ out.old.items ++ line_text number (link_steps path_stack.old) (part_value value.entry)) }
+    ensures ok { OnOk result (out.new.items ≡ out.old.items ++ (head.now ++ line_text number
+        (link_steps path_stack.old) (part_value value.entry))) }
     ensures kept { Extends out.old.items out.new.items }
 {
+    head.append_to(out)?;
     append_number(number, out)?;
     path_stack.append_path(out)?;
     out.push(b'\t')?;

@@ -4,6 +4,7 @@ ghost use Rattle.std.specs.Prelude.{◌≡◌, ◌∷◌, [], ◌++◌, OnOk};
 ghost use Rattle.jp_part.specs.Part.{part_value};
 
 use crate::form::Form;
+use crate::head::Head;
 use crate::output_buffer::OutputBuffer;
 use crate::value_form::{Compact, Raw, Unquoted, ValueForm};
 use jp_doc::DocFault;
@@ -94,12 +95,14 @@ impl<T: ValueForm> Visit for ValuePerLine<T> {
 }
 
 impl<T: ValueForm> Form for ValuePerLine<T> {
-    ghost use Rattle.std.specs.Prelude.{◌≡◌};
+    ghost use Rattle.std.specs.Prelude.{◌≡◌, refl};
     ghost use Rattle.jp_output.specs.OutputForm.{lines_of};
     ghost use Rattle.jp_output.specs.OutputLine.{line_of};
     ghost use Rattle.jp_output.specs.inner.Taken.{bytes_written};
 
-    ghost says = { lines_of T.text };
+    ghost says = { λ _. lines_of T.text };
+
+    ghost form = { λ _. lines_of T.text };
 
     ghost written = { λ lines. lines };
 
@@ -107,7 +110,7 @@ impl<T: ValueForm> Form for ValuePerLine<T> {
 
     ghost ended = { λ lines _. lines };
 
-    fn new(alloc: Global) -> Self {
+    fn new(alloc: Global, _head: &Head) -> Self {
         ValuePerLine::empty(alloc)
     }
 
@@ -131,6 +134,8 @@ impl<T: ValueForm> Form for ValuePerLine<T> {
     }
 
     ghost writes = { λ begun visited _ before _ ns. bytes_written (line_of T.text) begun visited before ns };
+
+    ghost form_stays = { λ _ _ _ _. refl };
 }
 
 /// Appends the text of a value and a line feed, with a scratch buffer for pieces of it.

@@ -4,6 +4,8 @@
 #[cfg(test)]
 mod forms;
 #[cfg(test)]
+mod heads;
+#[cfg(test)]
 mod output_forms;
 #[cfg(test)]
 mod queries;

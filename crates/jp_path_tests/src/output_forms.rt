@@ -5,7 +5,7 @@ use jp_check::{Plan, plan};
 use jp_doc::{DocFault, Document};
 use jp_flat::FlatReader;
 use jp_nodes::Visit;
-use jp_output::{Form, InputLines, RawLines, TextLines, ValueLines, join_chunks};
+use jp_output::{Form, Head, InputLines, RawLines, TextLines, ValueLines, join_chunks};
 use jp_part::Part;
 use jp_path_stack::PathStack;
 use jp_select::visit_nodes;
@@ -65,7 +65,7 @@ pub(crate) fn written<F: Form + Drop>(
     value: Part<'_>,
     nodes: u32,
 ) -> Result<Vec<u8>, AllocError> {
-    let mut form = F::new(alloc);
+    let mut form = F::new(alloc, &Head::none());
     form.begin(7);
     add_nodes(alloc, &mut form, value, nodes)?;
     form.end(line)?;
@@ -190,7 +190,7 @@ fn with_document<F: Form + Drop>(
 /// What a form writes of two documents, each with the fault of another line behind it.
 fn answered<F: Form + Drop>(alloc: Global, query: &str) -> Result<Vec<u8>, Fail> {
     let plan = plan(alloc, query)?;
-    let none = F::new(alloc);
+    let none = F::new(alloc, &Head::none());
     let one = with_document(alloc, &plan, none, 1, "[\"b\",1, \"b\"]")?;
     let two = with_document(alloc, &plan, one, 3, "[ 2,{}]")?;
     Ok(all_written(alloc, two)?)
@@ -231,7 +231,7 @@ fn halved<F: Form + Drop>(
     value: Part<'_>,
     (first, second): (u32, u32),
 ) -> Result<Vec<u8>, AllocError> {
-    let mut form = F::new(alloc);
+    let mut form = F::new(alloc, &Head::none());
     form.begin(1);
     add_nodes(alloc, &mut form, value, first)?;
     let mut half = form.fresh(alloc);
@@ -297,7 +297,7 @@ fn long_halves(rt: HostRuntime) -> Result<(), Fail> {
 /// Whether the form of lines is full at first, after a node and at the next line, and whether it writes the
 /// first line alone.
 fn fullness(alloc: Global, value: Part<'_>) -> Result<([bool; 3], bool), Fail> {
-    let mut lines = InputLines::new(alloc);
+    let mut lines = InputLines::new(alloc, &Head::none());
     lines.begin(1);
     let at_first = lines.is_full();
     lines.node(alloc, &mut PathStack::new(alloc), value)?;
@@ -312,7 +312,7 @@ fn fullness(alloc: Global, value: Part<'_>) -> Result<([bool; 3], bool), Fail> {
 
 /// Whether a form is full after a node.
 fn is_full_after<F: Form + Drop>(alloc: Global, value: Part<'_>) -> Result<bool, AllocError> {
-    let mut form = F::new(alloc);
+    let mut form = F::new(alloc, &Head::none());
     form.node(alloc, &mut PathStack::new(alloc), value)?;
     Ok(form.is_full())
 }

@@ -4,6 +4,7 @@
 //! growth is refused at most, so one of the two answers.
 
 use crate::forms::line_of;
+use crate::heads::line_behind;
 use crate::output_forms::written;
 use jp_doc::{Document, Location, Step};
 use jp_flat::FlatReader;
@@ -63,6 +64,19 @@ fn flat_line(alloc: Global) -> Result<bool, AllocError> {
 
 fn flat_line_or_none(alloc: Global) -> Option<bool> {
     flat_line(alloc).ok()
+}
+
+/// The line of a tree behind a name.
+fn headed_line(alloc: Global) -> Result<bool, AllocError> {
+    let Ok(tree) = Document::read(alloc, b"[1]") else {
+        return Err(AllocError);
+    };
+    let line = line_behind(alloc, "a.jsonl", Part::root_of(&tree))?;
+    Ok(line.as_slice() == b"a.jsonl\t7\t$\t[1]\n".as_slice())
+}
+
+fn headed_line_or_none(alloc: Global) -> Option<bool> {
+    headed_line(alloc).ok()
 }
 
 /// The value of a flat text twice, the text, and its line.
@@ -125,6 +139,15 @@ fn an_output_line(rt: HostRuntime) {
 #[test]
 fn the_line_of_a_flat_value(rt: HostRuntime) {
     let turns = (flat_line_or_none(rt.alloc()), flat_line_or_none(rt.alloc()));
+    assert!(rt; matches!(turns, (Some(true), Some(true) | None) | (None, Some(true))));
+}
+
+#[test]
+fn a_line_behind_a_name(rt: HostRuntime) {
+    let turns = (
+        headed_line_or_none(rt.alloc()),
+        headed_line_or_none(rt.alloc()),
+    );
     assert!(rt; matches!(turns, (Some(true), Some(true) | None) | (None, Some(true))));
 }
 

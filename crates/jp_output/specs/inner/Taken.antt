@@ -1,31 +1,45 @@
 -- A working file, which nobody has to believe: the lines of several nodes, for proofs alone.
 use Rattle.std.proofs.Common.{◌≡◌, ℕ, Bool, true, false, ◌||◌, List, [], ◌∷◌, ◌++◌, refl, ap, sym, ◌∙◌}
-use Rattle.std.proofs.Common.{append_assoc, append-nil}
+use Rattle.std.proofs.Common.{append_assoc, append-nil, ap₂}
 use Rattle.std.specs.List.{fold, flat_map}
 use Rattle.jp_doc.specs.Location.{Node}
 use Rattle.jp_output.specs.InputLine.{input_line, put_selected, end_line}
+use Rattle.jp_output.specs.OutputForm.{node_lines_behind}
 use Rattle.jp_output.specs.OutputLine.{node_line, put_line, put_bytes}
 
-pub lines_fold : (number : ℕ) (bytes : List ℕ) (ns : List Node) → fold put_line (number, bytes) ns
-    ≡ (number, bytes ++ flat_map (node_line number) ns)
-lines_fold number bytes [] = ap (λ bs. (number, bs)) (sym (append-nil bytes))
-lines_fold number bytes (n ∷ ns) =
-    lines_fold number (bytes ++ node_line number n) ns
-    ∙ ap (λ bs. (number, bs)) (append_assoc bytes (node_line number n) (flat_map (node_line number) ns))
+-- the lines of nodes, each behind a head
+abbrev pub lines_behind : List ℕ → ℕ → List Node → List ℕ
+lines_behind head number ns = flat_map (λ n. head ++ node_line number n) ns
+
+pub lines_fold : (head : List ℕ) (number : ℕ) (bytes : List ℕ) (ns : List Node)
+    → fold put_line (head, number, bytes) ns ≡ (head, number, bytes ++ lines_behind head number ns)
+lines_fold head number bytes [] = ap (λ bs. (head, number, bs)) (sym (append-nil bytes))
+lines_fold head number bytes (n ∷ ns) =
+    lines_fold head number (bytes ++ (head ++ node_line number n)) ns
+    ∙ ap (λ bs. (head, number, bs))
+    (append_assoc bytes (head ++ node_line number n) (lines_behind head number ns))
 
 -- the lines of one visitor behind those of another, of the same document
-pub lines_append : (number : ℕ) (bytes : List ℕ) (more : ℕ × List ℕ) (ns : List Node)
-    → more ≡ fold put_line (number, []) ns → (number, bytes ++ more.1) ≡ fold put_line (number, bytes) ns
-lines_append number bytes more ns e =
-    ap (λ k. (number, bytes ++ k.1)) (e ∙ lines_fold number [] ns) ∙ sym (lines_fold number bytes ns)
+pub lines_append : (head : List ℕ) (number : ℕ) (bytes : List ℕ) (more : List ℕ × ℕ × List ℕ)
+    (ns : List Node) → more ≡ fold put_line (head, number, []) ns
+    → (head, number, bytes ++ more.2) ≡ fold put_line (head, number, bytes) ns
+lines_append head number bytes more ns e =
+    ap (λ (k : List ℕ × ℕ × List ℕ). (head, number, bytes ++ k.2)) (e ∙ lines_fold head number [] ns)
+    ∙ sym (lines_fold head number bytes ns)
+
+-- the head stays, and so does what the form says
+pub head_stays : (begun visited : List ℕ × ℕ × List ℕ) (ns : List Node) → visited ≡ fold put_line begun ns
+    → node_lines_behind visited.0 ≡ node_lines_behind begun.0
+head_stays (head, number, bytes) visited ns v =
+    ap (λ (l : List ℕ × ℕ × List ℕ). node_lines_behind l.0) (v ∙ lines_fold head number bytes ns)
 
 -- a line that was begun and visited has the lines of its nodes
-pub lines_written : (begun visited : ℕ × List ℕ) (number : ℕ) (before line : List ℕ) (ns : List Node)
-    → begun ≡ (number, before) → visited ≡ fold put_line begun ns
-    → visited.1 ≡ before ++ flat_map (node_line number) ns
-lines_written begun visited number before line ns b v =
-    ap (λ (l : ℕ × List ℕ). l.1)
-    (v ∙ ap (λ (l : ℕ × List ℕ). fold put_line l ns) b ∙ lines_fold number before ns)
+pub lines_written : (begun visited : List ℕ × ℕ × List ℕ) (number : ℕ) (before line : List ℕ)
+    (ns : List Node) → (begun.1 ≡ number) × (begun.2 ≡ before) → visited ≡ fold put_line begun ns
+    → visited.2 ≡ before ++ lines_behind begun.0 number ns
+lines_written (head, begun, bytes) visited number before line ns b v =
+    ap (λ (l : List ℕ × ℕ × List ℕ). l.2) (v ∙ lines_fold head begun bytes ns)
+    ∙ ap₂ (λ (k : ℕ) (bs : List ℕ). bs ++ lines_behind head k ns) b.0 b.1
 
 -- where each node gives bytes of its own
 module _ (of_node : Node → List ℕ) where
