@@ -2,34 +2,33 @@
 use Rattle.std.proofs.Common.{◌≡◌, List, [], ◌∷◌, Result, Ok, Err, flat_map, refl}
 use Rattle.jp_doc.specs.Json.{Json}
 use Rattle.jp_doc.specs.Lines.{Line}
-use Rattle.jp_doc.specs.NumbersWithin.{IsJsonNumber, HasJsonNumbers}
+use Rattle.jp_doc.specs.NumbersWithin.{HasJsonNumbers}
 use Rattle.jp_doc.specs.ReadingIn.{Numbers, reading_in}
 use Rattle.jp_doc.proofs.ReadingInLaws.{read_numbers}
 use Rattle.jp_doc.specs.declared.fault.DocFault.{DocFault}
-use Rattle.jp_tree.specs.Tree.{Query}
 use Rattle.jp_regexp.specs.Tests.{Tests}
-use Rattle.jp_eval.specs.Nodelist.{document_nodes}
-use Rattle.jp_eval.proofs.NumbersKept.{numbers_kept}
 use Rattle.jp_output.specs.FaultLine.{fault_line}
 use Rattle.jp_output.specs.Fields.{AreLinesOfThree}
 use Rattle.jp_output.specs.OutputForm.{node_lines}
 use Rattle.jp_output.proofs.Fields.{fault_fields, fields_both, fields_one, fields_none, nodes_fields}
 use Rattle.jp_answer.specs.Answer.{Answer, answer_as, line_answer, document_lines}
+use Rattle.jp_answer.specs.FilteredQuery.{FilteredQuery, selected_nodes}
 use Rattle.jp_answer.specs.OnFault.{answer_on, answer_in}
 use Rattle.jp_answer.specs.Policy.{numbers_in}
 use Rattle.jp_answer.specs.Whole.{line_bytes, document_or_fault}
 use Rattle.jp_answer.specs.declared.on_fault.OnFault.{OnFault}
 use Rattle.jp_answer.specs.declared.on_fault.OnFault.TheVariants.{Stop, KeepGoing}
 use Rattle.jp_answer.specs.declared.policy.LinePolicy.{LinePolicy}
+use Rattle.jp_answer.proofs.Chosen.{selected_numbers}
 
-module _ (t : Tests) (q : Query) where
+module _ (t : Tests) (q : FilteredQuery) where
   -- what a line is read as has numbers of JSON alone
   abbrev HasNumbers : Result Json DocFault → Type 0
   HasNumbers r = (root : Json) → r ≡ Ok root → HasJsonNumbers root
 
   of_nodes : (l : Line) (root : Json) → HasNumbers (Ok root) → AreLinesOfThree (document_lines t q l.0 root)
   of_nodes l root h =
-      nodes_fields l.0 (document_nodes t q root) (numbers_kept IsJsonNumber t q root (h root refl))
+      nodes_fields l.0 (selected_nodes t root q) (selected_numbers t q root (h root refl))
 
   line_fields : (l : Line) (r : Result Json DocFault) (a : Answer) → HasNumbers r → AreLinesOfThree a.bytes
       → AreLinesOfThree (line_answer node_lines t q l r a).bytes

@@ -7,11 +7,11 @@ use Rattle.jp_doc.specs.Reading.{reading}
 use Rattle.jp_doc.specs.ReadingIn.{whole_numbers, decimals, reading_in}
 use Rattle.jp_doc.specs.declared.fault.DocFault.{DocFault}
 use Rattle.jp_doc.proofs.ReadingInLaws.{same_reading}
-use Rattle.jp_tree.specs.Tree.{Query}
 use Rattle.jp_regexp.specs.Tests.{Tests}
 use Rattle.jp_output.specs.OutputForm.{OutputForm}
 use Rattle.jp_answer.specs.Answer.{answer_as, line_answer}
 use Rattle.jp_answer.specs.Faults.{fault_or, first_fault}
+use Rattle.jp_answer.specs.FilteredQuery.{FilteredQuery}
 use Rattle.jp_answer.specs.OnFault.{answer_on, passed_on, fault_in}
 use Rattle.jp_answer.specs.Whole.{line_bytes, document_or_fault, faulty_lines}
 use Rattle.jp_answer.specs.declared.on_fault.OnFault.{OnFault}
@@ -39,7 +39,7 @@ later : (l : Line) (ls : List Line) → first_fault whole_numbers (l ∷ ls) ≡
     → first_fault whole_numbers ls ≡ None
 later l ls h = rest_none l.0 (reading l.1) (first_fault whole_numbers ls) h
 
-module _ (form : OutputForm) (t : Tests) (q : Query) where
+module _ (form : OutputForm) (t : Tests) (q : FilteredQuery) where
   same_stopping : (ls : List Line) → first_fault whole_numbers ls ≡ None
       → answer_as decimals form t q ls ≡ answer_as whole_numbers form t q ls
   same_stopping [] h = refl

@@ -5,12 +5,12 @@ use Rattle.jp_doc.specs.Json.{Json}
 use Rattle.jp_doc.specs.Lines.{Line}
 use Rattle.jp_doc.specs.ReadingIn.{Numbers, reading_in}
 use Rattle.jp_doc.specs.declared.fault.DocFault.{DocFault}
-use Rattle.jp_tree.specs.Tree.{Query}
 use Rattle.jp_regexp.specs.Tests.{Tests}
 use Rattle.jp_answer.specs.Faults.{fault_or, first_fault}
 use Rattle.jp_output.specs.OutputForm.{OutputForm}
 use Rattle.jp_answer.specs.Answer.{Answer, after, line_answer, document_bytes, answer_as, joined}
 use Rattle.jp_answer.specs.Answer.{unless_stopped}
+use Rattle.jp_answer.specs.FilteredQuery.{FilteredQuery}
 
 pub after_joined_by : (bytes : List ℕ) (stop : Option (ℕ × DocFault)) (a b : Answer)
     → after bytes (unless_stopped stop a b) ≡ unless_stopped stop (after bytes a) b
@@ -26,7 +26,7 @@ assoc_by (Some s) a b c e = ap (λ (t : Option (ℕ × DocFault)). unless_stoppe
 pub joined_assoc : (a b c : Answer) → joined (joined a b) c ≡ joined a (joined b c)
 joined_assoc a b c = assoc_by a.stopped a b c refl
 
-module _ (form : OutputForm) (t : Tests) (q : Query) where
+module _ (form : OutputForm) (t : Tests) (q : FilteredQuery) where
   line_joined : (l : Line) (r : Result Json DocFault) (a b : Answer)
       → line_answer form t q l r (joined a b) ≡ joined (line_answer form t q l r a) b
   line_joined l (Ok root) a b = after_joined_by (document_bytes form t q l root) a.stopped a b

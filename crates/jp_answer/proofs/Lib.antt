@@ -1,4 +1,5 @@
 pub mod AnswerFields
+pub mod Chosen
 pub mod OnFaults
 pub mod Decimals
 pub mod Joining
@@ -6,6 +7,5 @@ pub mod OnLiterals
 pub mod Gathering
 pub mod Stopping
 pub mod Streams
-pub mod QueryCrosses
 pub mod RingCrosses
 pub mod NumberedAnswer

@@ -5,20 +5,19 @@ use Rattle.std.specs.List.{AllByRecursion, filter, enumerate_from}
 use Rattle.jp_doc.specs.Json.{Json}
 use Rattle.jp_doc.specs.Lines.{Line, lines, all_lines, is_blank, line_count}
 use Rattle.jp_doc.specs.Location.{Node}
-use Rattle.jp_doc.specs.NumbersWithin.{IsJsonNumber, HasJsonNumbers}
+use Rattle.jp_doc.specs.NumbersWithin.{HasJsonNumbers}
 use Rattle.jp_doc.specs.ReadingIn.{Numbers, reading_in}
 use Rattle.jp_doc.proofs.ReadingInLaws.{read_numbers}
 use Rattle.jp_doc.specs.declared.fault.DocFault.{DocFault}
-use Rattle.jp_tree.specs.Tree.{Query}
 use Rattle.jp_regexp.specs.Tests.{Tests}
-use Rattle.jp_eval.specs.Nodelist.{document_nodes}
-use Rattle.jp_eval.proofs.NumbersKept.{numbers_kept}
 use Rattle.jp_output.specs.Fields.{NodesHaveJsonNumbers}
 use Rattle.jp_output.specs.NumberedLines.{AreNumberedAbove, of_documents, lines_of_documents, first_fields}
 use Rattle.jp_output.specs.NumberedLines.{lines_numbered}
 use Rattle.jp_output.specs.OutputForm.{OutputForm, node_lines, input_lines}
 use Rattle.jp_output.proofs.NumberedLines.{lines_are}
 use Rattle.jp_answer.specs.Answer.{Answer, answer_as, line_answer}
+use Rattle.jp_answer.specs.FilteredQuery.{FilteredQuery, selected_nodes}
+use Rattle.jp_answer.proofs.Chosen.{selected_numbers}
 
 -- lines without nodes
 abbrev unread : List Line → List (Line × List Node)
@@ -32,10 +31,10 @@ unread_numbers : (ls : List Line) → AllByRecursion (λ d. NodesHaveJsonNumbers
 unread_numbers [] = tt
 unread_numbers (l ∷ ls) = (tt, unread_numbers ls)
 
-module _ (n : Numbers) (t : Tests) (q : Query) where
+module _ (n : Numbers) (t : Tests) (q : FilteredQuery) where
   -- each line with its selected nodes, and from the first faulty one on with none
   abbrev on_line : Line → Result Json DocFault → List Line → List (Line × List Node) → List (Line × List Node)
-  on_line l (Ok root) ls ds = (l, document_nodes t q root) ∷ ds
+  on_line l (Ok root) ls ds = (l, selected_nodes t root q) ∷ ds
   on_line l (Err fault) ls ds = unread (l ∷ ls)
 
   abbrev documents : List Line → List (Line × List Node)
@@ -55,7 +54,7 @@ module _ (n : Numbers) (t : Tests) (q : Query) where
       → ((root : Json) → r ≡ Ok root → HasJsonNumbers root) → (ls : List Line)
       → (ds : List (Line × List Node)) → AllByRecursion (λ d. NodesHaveJsonNumbers d.1) ds
       → AllByRecursion (λ d. NodesHaveJsonNumbers d.1) (on_line l r ls ds)
-  numbers_of_one l (Ok root) h ls ds rest = (numbers_kept IsJsonNumber t q root (h root refl), rest)
+  numbers_of_one l (Ok root) h ls ds rest = (selected_numbers t q root (h root refl), rest)
   numbers_of_one l (Err fault) h ls ds rest = unread_numbers (l ∷ ls)
 
   their_numbers : (ls : List Line) → AllByRecursion (λ d. NodesHaveJsonNumbers d.1) (documents ls)
@@ -71,7 +70,7 @@ module _ (n : Numbers) (t : Tests) (q : Query) where
     said_of_one : (l : Line) (r : Result Json DocFault) (ls : List Line) (ds : List (Line × List Node))
         (a : Answer) → of_documents form ds ≡ a.bytes
         → of_documents form (on_line l r ls ds) ≡ (line_answer form t q l r a).bytes
-    said_of_one l (Ok root) ls ds a h = ap (λ b. form.of_document l (document_nodes t q root) ++ b) h
+    said_of_one l (Ok root) ls ds a h = ap (λ b. form.of_document l (selected_nodes t root q) ++ b) h
     said_of_one l (Err fault) ls ds a h = unsaid (l ∷ ls)
 
     said : (ls : List Line) → of_documents form (documents ls) ≡ (answer_as n form t q ls).bytes

@@ -1,7 +1,7 @@
 -- The answer, whatever is done where a line is faulty: of lines that come in two parts, and of one line more.
 use Rattle.std.proofs.Common.{◌≡◌, ℕ, zero, suc, ◌+◌, ◌≤◌, List, [], ◌∷◌, ◌++◌}
 use Rattle.std.proofs.Common.{length, Option, Some, None, Result, Ok, Err, refl, ap, sym, ◌∙◌, arith}
-use Rattle.std.proofs.Common.{length-append, append-nil}
+use Rattle.std.proofs.Common.{length-append, append-nil, ap₂}
 use Rattle.std.proofs.Common.{append_assoc, cond, ◌<◌, ◌⊎◌, inl, inr, add-one, drop, get_or, map}
 use Rattle.std.proofs.Math.Seq.{drop-cons}
 use Rattle.std.specs.Prelude.{is_err}
@@ -16,11 +16,11 @@ use Rattle.jp_doc.specs.Lines.{Line}
 use Rattle.jp_doc.specs.ReadingIn.{Numbers, reading_in}
 use Rattle.jp_doc.specs.declared.fault.DocFault.{DocFault}
 use Rattle.jp_buffer.specs.declared.line_ref.LineRef as code
-use Rattle.jp_tree.specs.Tree.{Query}
 use Rattle.jp_regexp.specs.Tests.{Tests}
 use Rattle.jp_output.specs.OutputForm.{OutputForm}
 use Rattle.jp_answer.specs.Answer.{Answer, nothing, after, line_answer, document_bytes, answer_as, joined}
 use Rattle.jp_answer.specs.Faults.{fault_or, first_fault}
+use Rattle.jp_answer.specs.FilteredQuery.{FilteredQuery}
 use Rattle.jp_answer.specs.OnFault.{answer_by, answer_on, stop_in, stop_on, passed_in, passed_on, given}
 use Rattle.jp_answer.specs.OnFault.{fault_in}
 use Rattle.jp_answer.specs.Policy.{numbers_in}
@@ -48,7 +48,7 @@ module _ (n : Numbers) where
   none_passed Stop = refl
   none_passed KeepGoing = refl
 
-  module _ (form : OutputForm) (t : Tests) (q : Query) where
+  module _ (form : OutputForm) (t : Tests) (q : FilteredQuery) where
     bytes_joined : (a b : List Line) → (whole_as n form t q (a ++ b)).bytes
         ≡ (whole_as n form t q a).bytes ++ (whole_as n form t q b).bytes
     bytes_joined a b = flat_map-append (line_bytes n form t q) a b
@@ -178,7 +178,7 @@ passed_few p ls = few_passed (numbers_in p.numbers) p.on_fault ls
 pub passed_none : (p : LinePolicy) → passed_in p [] ≡ 0
 passed_none p = none_passed (numbers_in p.numbers) p.on_fault
 
-module _ (form : OutputForm) (t : Tests) (q : Query) where
+module _ (form : OutputForm) (t : Tests) (q : FilteredQuery) where
   pub formed_joined : (p : LinePolicy) (a b : List Line) → answer_by form p t q (a ++ b)
       ≡ joined (answer_by form p t q a) (answer_by form p t q b)
   formed_joined p a b = both_formed (numbers_in p.numbers) form t q p.on_fault a b
@@ -241,31 +241,40 @@ module _ (how : LinePolicy) (lines : List code.LineRef) (i : ℕ) (h : i < lengt
   here : now ≡ line_at l ∷ later
   here = next_line lines i l h (is_there lines i h)
 
-  pub answer_more : (form : OutputForm) (t : Tests) (q p : Query) (old new : List ℕ) → p ≡ q
-      → answer_by form how t q all ≡ after old (answer_by form how t q now)
-      → new ≡ old ++ given form k t p (line_at l) (reading_in numbers l.bytes.now)
+  said_so : (form said : OutputForm) (t : Tests) (q p : FilteredQuery) (old : List ℕ) → said ≡ form → p ≡ q
+      → old ++ given said k t p (line_at l) (reading_in numbers l.bytes.now)
+      ≡ old ++ given form k t q (line_at l) (reading_in numbers l.bytes.now)
+  said_so form said t q p old is same =
+      ap₂ (λ (f : OutputForm) (r : FilteredQuery). old ++ given f k t r (line_at l)
+      (reading_in numbers l.bytes.now))
+      is same
+
+  pub answer_more : (form said : OutputForm) (t : Tests) (q p : FilteredQuery) (old new : List ℕ) → said
+      ≡ form
+      → p ≡ q → answer_by form how t q all ≡ after old (answer_by form how t q now)
+      → new ≡ old ++ given said k t p (line_at l) (reading_in numbers l.bytes.now)
       → (k ≡ KeepGoing) ⊎ (fault_here ≡ None)
       → answer_by form how t q all ≡ after new (answer_by form how t q later)
-  answer_more form t q p old new same e f g =
+  answer_more form said t q p old new is same e f g =
       let gives : List ℕ = given form k t q (line_at l) (reading_in numbers l.bytes.now) in
       let a : Answer = answer_by form how t q later in
       e ∙ ap (λ (ls : List Line). after old (answer_by form how t q ls)) here
       ∙ ap (after old) (goes_on numbers form t q k (line_at l) later g)
       ∙ ap (λ bs. record { bytes = bs; stopped = a.stopped }) (sym (append_assoc old gives a.bytes))
       ∙ ap (λ bs. after bs a)
-      (sym (f ∙ ap (λ q. old ++ given form k t q (line_at l) (reading_in numbers l.bytes.now)) same))
+      (sym (f ∙ said_so form said t q p old is same))
 
-  pub answer_last : (form : OutputForm) (t : Tests) (q p : Query) (old new : List ℕ) (fault : DocFault) → p
-      ≡ q
-      → answer_by form how t q all ≡ after old (answer_by form how t q now)
-      → new ≡ old ++ given form k t p (line_at l) (reading_in numbers l.bytes.now) → k ≡ Stop
+  pub answer_last : (form said : OutputForm) (t : Tests) (q p : FilteredQuery) (old new : List ℕ)
+      (fault : DocFault)
+      → said ≡ form → p ≡ q → answer_by form how t q all ≡ after old (answer_by form how t q now)
+      → new ≡ old ++ given said k t p (line_at l) (reading_in numbers l.bytes.now) → k ≡ Stop
       → fault_here ≡ Some fault
       → answer_by form how t q all ≡ record { bytes = new; stopped = Some (l.number, fault) }
-  answer_last form t q p old new fault same e f ends found =
+  answer_last form said t q p old new fault is same e f ends found =
       e ∙ ap (λ (ls : List Line). after old (answer_by form how t q ls)) here
       ∙ ap (after old) (ends_at numbers form t q k (line_at l) later fault ends found)
       ∙ ap (λ bs. record { bytes = bs; stopped = Some (l.number, fault) })
-      (sym (f ∙ ap (λ q. old ++ given form k t q (line_at l) (reading_in numbers l.bytes.now)) same))
+      (sym (f ∙ said_so form said t q p old is same))
 
   pub stop_more : stop_in how all ≡ stop_in how now → (k ≡ KeepGoing) ⊎ (fault_here ≡ None)
       → stop_in how all ≡ stop_in how later
@@ -294,7 +303,7 @@ module _ (how : LinePolicy) (lines : List code.LineRef) (i : ℕ) (h : i < lengt
   passed_fits n e = omega (arith, e, passed_few how all, length-map lines line_at)
 
 -- once no line is left, what was written is the answer
-pub answer_end : (form : OutputForm) (how : LinePolicy) (t : Tests) (q : Query) (all left : List Line)
+pub answer_end : (form : OutputForm) (how : LinePolicy) (t : Tests) (q : FilteredQuery) (all left : List Line)
     (written bytes : List ℕ) → left ≡ [] → answer_by form how t q all ≡ after written (answer_by form how t q
     left) → bytes ≡ written
     → answer_by form how t q all ≡ record { bytes = bytes; stopped = None }

@@ -9,6 +9,7 @@ use Rattle.jp_tree.specs.Tree.{Query}
 use Rattle.jp_regexp.specs.Tests.{Tests}
 use Rattle.jp_output.specs.FaultLine.{fault_line}
 use Rattle.jp_answer.specs.Answer.{Answer, answer, line_answer, document_lines}
+use Rattle.jp_answer.specs.FilteredQuery.{unfiltered}
 use Rattle.jp_output.specs.OutputForm.{node_lines}
 use Rattle.jp_answer.specs.Whole.{whole, document_or_fault, FollowsStop}
 
@@ -19,11 +20,11 @@ Begins bytes a = (rest : List ℕ) × (bytes ≡ a.bytes ++ rest) × FollowsStop
 module _ (t : Tests) (q : Query) where
   one_more : (l : Line) (ls : List Line) (r : Result Json DocFault)
       → Begins (whole t q ls).bytes (answer t q ls)
-      → Begins (document_or_fault node_lines t q l r ++ (whole t q ls).bytes)
-      (line_answer node_lines t q l r (answer t q ls))
+      → Begins (document_or_fault node_lines t (unfiltered q) l r ++ (whole t q ls).bytes)
+      (line_answer node_lines t (unfiltered q) l r (answer t q ls))
   unfolding Begins
   one_more l ls (Ok root) b =
-      let first : List ℕ = document_lines t q l.0 root in (
+      let first : List ℕ = document_lines t (unfiltered q) l.0 root in (
         b.0,
         ap (λ bs. first ++ bs) b.1 ∙ sym (append_assoc first (answer t q ls).bytes b.0),
         b.2,

@@ -7,9 +7,9 @@ use Rattle.jp_doc.specs.ReadingIn.{Numbers, whole_numbers, reading_in}
 use Rattle.jp_doc.specs.declared.fault.DocFault.{DocFault}
 use Rattle.jp_tree.specs.Tree.{Query}
 use Rattle.jp_regexp.specs.Tests.{Tests}
-use Rattle.jp_eval.specs.Nodelist.{document_nodes}
 use Rattle.jp_output.specs.OutputForm.{OutputForm, node_lines}
 use Rattle.jp_output.specs.OutputLine.{node_line}
+use Rattle.jp_answer.specs.FilteredQuery.{FilteredQuery, unfiltered, selected_nodes}
 
 -- the bytes, and the first faulty line with its fault, if there is one
 pub record Answer : Type 0 where
@@ -24,11 +24,11 @@ nothing = record { bytes = []; stopped = None }
 abbrev pub after : List ℕ → Answer → Answer
 after bytes a = record { bytes = bytes ++ a.bytes; stopped = a.stopped }
 
--- In a form, of a query:
-module _ (form : OutputForm) (tests : Tests) (q : Query) where
+-- In a form, of a query of the documents that a filter chooses:
+module _ (form : OutputForm) (tests : Tests) (q : FilteredQuery) where
   -- what is said of the document of a line
   abbrev pub document_bytes : Line → Json → List ℕ
-  document_bytes l root = form.of_document l (document_nodes tests q root)
+  document_bytes l root = form.of_document l (selected_nodes tests root q)
 
   -- A line's answer, and then the answer to the others: a faulty line ends it.
   abbrev pub line_answer : Line → Result Json DocFault → Answer → Answer
@@ -37,18 +37,18 @@ module _ (form : OutputForm) (tests : Tests) (q : Query) where
 
 -- the answer to numbered lines, where documents may have these numbers: what is said in a form of the
 -- documents before the first faulty line, in order
-abbrev pub answer_as : Numbers → OutputForm → Tests → Query → List Line → Answer
+abbrev pub answer_as : Numbers → OutputForm → Tests → FilteredQuery → List Line → Answer
 answer_as numbers form tests q [] = record { bytes = []; stopped = None }
 answer_as numbers form tests q (l ∷ ls) =
     line_answer form tests q l (reading_in numbers l.1) (answer_as numbers form tests q ls)
 
 -- in the form of output lines: those of the nodes that a query selects in a document with this number
-abbrev pub document_lines : Tests → Query → ℕ → Json → List ℕ
-document_lines tests q number root = flat_map (node_line number) (document_nodes tests q root)
+abbrev pub document_lines : Tests → FilteredQuery → ℕ → Json → List ℕ
+document_lines tests q number root = flat_map (node_line number) (selected_nodes tests root q)
 
--- the answer to numbered lines, whose numbers are whole
+-- the answer to numbered lines, whose numbers are whole, of a query of every document
 abbrev pub answer : Tests → Query → List Line → Answer
-answer tests q ls = answer_as whole_numbers node_lines tests q ls
+answer tests q ls = answer_as whole_numbers node_lines tests (unfiltered q) ls
 
 -- the answer to a byte stream
 abbrev pub stream_answer : Tests → Query → List ℕ → Answer

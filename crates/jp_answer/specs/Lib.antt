@@ -1,7 +1,9 @@
 pub mod Answer
 pub mod Answered
+pub mod Asking
 pub mod Blocks
 pub mod Faults
+pub mod FilteredQuery
 pub mod OnFault
 pub mod Policy
 pub mod Queued

@@ -11,6 +11,7 @@ use Rattle.jp_regexp.specs.Tests.{Tests}
 use Rattle.jp_output.specs.FaultLine.{fault_line}
 use Rattle.jp_output.specs.OutputForm.{OutputForm, node_lines}
 use Rattle.jp_answer.specs.Answer.{document_bytes}
+use Rattle.jp_answer.specs.FilteredQuery.{FilteredQuery, unfiltered}
 
 -- the bytes, and the number of faulty lines
 pub record Whole : Type 0 where
@@ -18,14 +19,14 @@ pub record Whole : Type 0 where
   pub faulty : ℕ
 
 -- in a form: what is said of a line's document, or of a faulty line
-module _ (form : OutputForm) (tests : Tests) (q : Query) where
+module _ (form : OutputForm) (tests : Tests) (q : FilteredQuery) where
   abbrev pub document_or_fault : Line → Result Json DocFault → List ℕ
   document_or_fault l (Ok root) = document_bytes form tests q l root
   document_or_fault l (Err fault) = form.of_fault l.0 fault
 
 -- where documents may have these numbers:
 module _ (numbers : Numbers) where
-  abbrev pub line_bytes : OutputForm → Tests → Query → Line → List ℕ
+  abbrev pub line_bytes : OutputForm → Tests → FilteredQuery → Line → List ℕ
   line_bytes form tests q l = document_or_fault form tests q l (reading_in numbers l.1)
 
   -- the line holds no document
@@ -36,15 +37,15 @@ module _ (numbers : Numbers) where
   faulty_lines ls = length (filter is_faulty ls)
 
   -- the answer to numbered lines: over all of them in order, and how many are faulty
-  abbrev pub whole_as : OutputForm → Tests → Query → List Line → Whole
+  abbrev pub whole_as : OutputForm → Tests → FilteredQuery → List Line → Whole
   whole_as form tests q ls = record {
     bytes = flat_map (line_bytes form tests q) ls;
     faulty = faulty_lines ls;
   }
 
--- the same in the form of output lines and fault lines, where numbers are whole
+-- the same in the form of output lines and fault lines, where numbers are whole, of a query of every document
 abbrev pub whole : Tests → Query → List Line → Whole
-whole tests q ls = whole_as whole_numbers node_lines tests q ls
+whole tests q ls = whole_as whole_numbers node_lines tests (unfiltered q) ls
 
 -- the answer to a byte stream
 abbrev pub stream_whole : Tests → Query → List ℕ → Whole

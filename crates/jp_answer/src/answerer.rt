@@ -2,8 +2,8 @@
 
 ghost use Rattle.std.specs.Prelude.{◌≤◌, IfOk, length, map};
 ghost use Rattle.jp_buffer.specs.Buffered.{line_at};
-ghost use Rattle.jp_compiled.specs.Compiled.{compiled_query};
 ghost use Rattle.jp_board.specs.Limits.{max_pieces};
+ghost use Rattle.jp_answer.specs.Asking.{asked_query};
 ghost use Rattle.jp_answer.specs.Blocks.{IsAnswerTo, IsTaskAnswer};
 ghost use Rattle.jp_answer.specs.OnFault.{manner};
 
@@ -11,13 +11,12 @@ use crate::answering::{Tools, answer_lines};
 use crate::asked::Asked;
 use crate::block::Block;
 use crate::crew::Crew;
+use crate::filtered::FilteredEvaluator;
 use crate::outcome::Outcome;
 use jp_buffer::LineRef;
-use jp_eval::Evaluator;
 use jp_flat::FlatReader;
 use jp_output::Form;
 use std::alloc::{AllocError, Global};
-use std::mem;
 use std::thread::Threads;
 
 /// What a thread answers lines with, one block after another: a reader, whose memory is used again. It does
@@ -46,17 +45,15 @@ impl Answerer {
         lines: &[LineRef<'_>],
     ) -> Result<Outcome, AllocError>
         requires { length lines.now ≤ max_pieces }
-        ensures { IfOk result (IsAnswerTo (manner F.says asked.now.policy) (compiled_query
-            asked.now.query.now) (map line_at lines.now)) }
+        ensures { IfOk result (IsAnswerTo (manner (F.says asked.now.head.now) asked.now.policy)
+            (asked_query asked.now) (map line_at lines.now)) }
     {
         // The evaluator is of these lines' own query: no clause says that all ask the same (README, Why so).
         let mut tools = Tools {
-            reader: mem::replace(&mut self.reader, FlatReader::new(crew.alloc)),
-            evaluator: Evaluator::new(crew.alloc, asked.query),
+            reader: &mut self.reader,
+            evaluator: FilteredEvaluator::new(crew.alloc, asked),
         };
-        let answer = answer_lines::<R, G, F>(crew, asked, &mut tools, lines);
-        self.reader = tools.reader;
-        answer
+        answer_lines::<R, G, F>(crew, asked, &mut tools, lines)
     }
 
     /// The answer to a block's task, which is not put into its place.

@@ -7,24 +7,24 @@ ghost use Rattle.jp_doc.specs.Location.{Node};
 ghost use Rattle.jp_doc.specs.Reading.{reading};
 ghost use Rattle.jp_doc.specs.ReadingIn.{decimals, reading_in};
 ghost use Rattle.jp_part.specs.Part.{part_value};
-ghost use Rattle.jp_compiled.specs.Compiled.{compiled_query};
-ghost use Rattle.jp_eval.specs.Evaluated.{evaluated_query};
-ghost use Rattle.jp_eval.specs.Nodelist.{document_nodes};
 ghost use Rattle.jp_regexp.specs.Tests.{Tests, AreRight};
 ghost use Rattle.jp_board.specs.Limits.{max_pieces};
 ghost use Rattle.jp_answer.specs.Answer.{document_bytes};
 ghost use Rattle.jp_answer.specs.Answered.{outcome_of};
+ghost use Rattle.jp_answer.specs.Asking.{asked_query};
 ghost use Rattle.jp_answer.specs.OnFault.{answer_by, stop_in, passed_in, given, fault_in};
 ghost use Rattle.jp_answer.specs.Policy.{reading_by};
 ghost use Rattle.jp_answer.specs.declared.on_fault.OnFault.TheVariants.{Stop, KeepGoing};
+ghost use Rattle.jp_answer.specs.inner.Filtered.{filtered_query};
 
 use crate::asked::Asked;
 use crate::crew::Crew;
+use crate::filtered::FilteredEvaluator;
 use crate::on_fault::OnFault;
 use crate::outcome::{DocStop, Outcome};
+use crate::walking::{Walk, walk_of};
 use jp_buffer::LineRef;
 use jp_doc::{DocFault, Document};
-use jp_eval::{Cuts, EvalFault, Evaluator, OpenFork, Visit};
 use jp_flat::FlatReader;
 use jp_number::Numbers;
 use jp_output::Form;
@@ -32,18 +32,11 @@ use jp_part::Part;
 use std::alloc::{AllocError, Global};
 use std::thread::Threads;
 
-/// How many members a list has at least whose halves are walked at once. A half starts a thread of its own,
-/// for which fewer are too few.
-const SPLIT_FLOOR: u64 = 4096;
-
-/// How long a line is at least that may hold such a list: each member takes two bytes or more.
-const SPLIT_BYTES: usize = 8192;
-
 /// What a thread answers lines with, one after another.
 #[derive(Drop)]
-pub(crate) struct Tools<'q> {
-    pub(crate) reader: FlatReader,
-    pub(crate) evaluator: Evaluator<'q>,
+pub(crate) struct Tools<'r, 'q> {
+    pub(crate) reader: &'r mut FlatReader,
+    pub(crate) evaluator: FilteredEvaluator<'q>,
 }
 
 /// The answer to lines in a form, each read and evaluated in turn, by tools for their query. A faulty line
@@ -53,20 +46,20 @@ pub(crate) struct Tools<'q> {
 pub(crate) fn answer_lines<R: Threads + Sync, G, F: Form + Drop + Send>(
     crew: &Crew<R, G>,
     asked: &Asked<'_>,
-    tools: &mut Tools<'_>,
+    tools: &mut Tools<'_, '_>,
     lines: &[LineRef<'_>],
 ) -> Result<Outcome, AllocError>
     requires few { length lines.now ≤ max_pieces }
-    requires query { evaluated_query tools.old.evaluator ≡ compiled_query asked.now.query.now }
-    ensures answer { IfOk result (λ a. (t : Tests) → AreRight t → answer_by F.says asked.now.policy t
-        (compiled_query asked.now.query.now) (map line_at lines.now) ≡ outcome_of a) }
+    requires query { filtered_query tools.old.evaluator ≡ asked_query asked.now }
+    ensures answer { IfOk result (λ a. (t : Tests) → AreRight t → answer_by (F.says asked.now.head.now)
+        asked.now.policy t (asked_query asked.now) (map line_at lines.now) ≡ outcome_of a) }
     ensures stopped { IfOk result (λ a. stop_in asked.now.policy (map line_at lines.now)
         ≡ (outcome_of a).stopped) }
     ensures passed { IfOk result (λ a. passed_in asked.now.policy (map line_at lines.now)
         ≡ a.faulty) }
-    ensures query { evaluated_query tools.new.evaluator ≡ evaluated_query tools.old.evaluator }
+    ensures query { filtered_query tools.new.evaluator ≡ filtered_query tools.old.evaluator }
 {
-    let mut written = F::new(crew.alloc);
+    let mut written = F::new(crew.alloc, asked.head);
     let mut faulty = 0;
     for line in lines {
         let (more, fault) = add_line(crew, asked, tools, line, written)?;
@@ -102,16 +95,17 @@ pub(crate) fn answer_lines<R: Threads + Sync, G, F: Form + Drop + Send>(
 fn add_line<R: Threads + Sync, G, F: Form + Drop + Send>(
     crew: &Crew<R, G>,
     asked: &Asked<'_>,
-    tools: &mut Tools<'_>,
+    tools: &mut Tools<'_, '_>,
     line: &LineRef<'_>,
     written: F,
 ) -> Result<(F, Option<DocFault>), AllocError>
     ensures lines { IfOk result (λ r. (t : Tests) → AreRight t → F.written r.0
-        ≡ F.written written ++ given F.says asked.now.policy.on_fault t
-        (evaluated_query tools.old.evaluator) (line_at line.now)
+        ≡ F.written written ++ given (F.form written) asked.now.policy.on_fault t
+        (filtered_query tools.old.evaluator) (line_at line.now)
         (reading_by asked.now.policy line.now.bytes.now)) }
     ensures fault { IfOk result (λ r. r.1 ≡ fault_in (reading_by asked.now.policy line.now.bytes.now)) }
-    ensures query { evaluated_query tools.new.evaluator ≡ evaluated_query tools.old.evaluator }
+    ensures form { IfOk result (λ r. (t : Tests) → AreRight t → F.form r.0 ≡ F.form written) }
+    ensures query { filtered_query tools.new.evaluator ≡ filtered_query tools.old.evaluator }
 {
     match asked.policy.numbers {
         Numbers::Whole => add_whole(crew, asked, tools, line, written),
@@ -124,15 +118,16 @@ fn add_line<R: Threads + Sync, G, F: Form + Drop + Send>(
 fn add_whole<R: Threads + Sync, G, F: Form + Drop + Send>(
     crew: &Crew<R, G>,
     asked: &Asked<'_>,
-    tools: &mut Tools<'_>,
+    tools: &mut Tools<'_, '_>,
     line: &LineRef<'_>,
     written: F,
 ) -> Result<(F, Option<DocFault>), AllocError>
     ensures lines { IfOk result (λ r. (t : Tests) → AreRight t → F.written r.0
-        ≡ F.written written ++ given F.says asked.now.policy.on_fault t
-        (evaluated_query tools.old.evaluator) (line_at line.now) (reading line.now.bytes.now)) }
+        ≡ F.written written ++ given (F.form written) asked.now.policy.on_fault t
+        (filtered_query tools.old.evaluator) (line_at line.now) (reading line.now.bytes.now)) }
     ensures fault { IfOk result (λ r. r.1 ≡ fault_in (reading line.now.bytes.now)) }
-    ensures query { evaluated_query tools.new.evaluator ≡ evaluated_query tools.old.evaluator }
+    ensures form { IfOk result (λ r. (t : Tests) → AreRight t → F.form r.0 ≡ F.form written) }
+    ensures query { filtered_query tools.new.evaluator ≡ filtered_query tools.old.evaluator }
 {
     let Some(document) = tools.reader.read(line.bytes)? else {
         // So the tree does not stand beside what was read of the line.
@@ -141,7 +136,7 @@ fn add_whole<R: Threads + Sync, G, F: Form + Drop + Send>(
     };
     let root = Part::root_of_flat(&document);
     let walk = walk_of(asked, line);
-    let more = with_nodes(crew.rt, &mut tools.evaluator, line, (root, walk), written)?;
+    let more = with_nodes(crew, &mut tools.evaluator, line, (root, walk), written)?;
     Ok((more, None))
 }
 
@@ -149,21 +144,22 @@ fn add_whole<R: Threads + Sync, G, F: Form + Drop + Send>(
 fn add_tree<R: Threads + Sync, G, F: Form + Drop + Send>(
     crew: &Crew<R, G>,
     asked: &Asked<'_>,
-    evaluator: &mut Evaluator<'_>,
+    evaluator: &mut FilteredEvaluator<'_>,
     line: &LineRef<'_>,
     written: F,
 ) -> Result<(F, Option<DocFault>), AllocError>
     ensures lines { IfOk result (λ r. (t : Tests) → AreRight t → F.written r.0
-        ≡ F.written written ++ given F.says asked.now.policy.on_fault t
-        (evaluated_query evaluator.old) (line_at line.now) (reading line.now.bytes.now)) }
+        ≡ F.written written ++ given (F.form written) asked.now.policy.on_fault t
+        (filtered_query evaluator.old) (line_at line.now) (reading line.now.bytes.now)) }
     ensures fault { IfOk result (λ r. r.1 ≡ fault_in (reading line.now.bytes.now)) }
-    ensures query { evaluated_query evaluator.new ≡ evaluated_query evaluator.old }
+    ensures form { IfOk result (λ r. (t : Tests) → AreRight t → F.form r.0 ≡ F.form written) }
+    ensures query { filtered_query evaluator.new ≡ filtered_query evaluator.old }
 {
     match Document::read(crew.alloc, line.bytes) {
         Ok(document) => {
             let root = Part::root_of(&document);
             let walk = walk_of(asked, line);
-            let more = with_nodes(crew.rt, evaluator, line, (root, walk), written)?;
+            let more = with_nodes(crew, evaluator, line, (root, walk), written)?;
             Ok((more, None))
         }
         Err(DocFault::Memory) => Err(AllocError),
@@ -185,21 +181,22 @@ fn add_tree<R: Threads + Sync, G, F: Form + Drop + Send>(
 fn add_decimal<R: Threads + Sync, G, F: Form + Drop + Send>(
     crew: &Crew<R, G>,
     asked: &Asked<'_>,
-    tools: &mut Tools<'_>,
+    tools: &mut Tools<'_, '_>,
     line: &LineRef<'_>,
     written: F,
 ) -> Result<(F, Option<DocFault>), AllocError>
     ensures lines { IfOk result (λ r. (t : Tests) → AreRight t → F.written r.0
-        ≡ F.written written ++ given F.says asked.now.policy.on_fault t
-        (evaluated_query tools.old.evaluator) (line_at line.now) (reading_in decimals line.now.bytes.now)) }
+        ≡ F.written written ++ given (F.form written) asked.now.policy.on_fault t
+        (filtered_query tools.old.evaluator) (line_at line.now) (reading_in decimals line.now.bytes.now)) }
     ensures fault { IfOk result (λ r. r.1 ≡ fault_in (reading_in decimals line.now.bytes.now)) }
-    ensures query { evaluated_query tools.new.evaluator ≡ evaluated_query tools.old.evaluator }
+    ensures form { IfOk result (λ r. (t : Tests) → AreRight t → F.form r.0 ≡ F.form written) }
+    ensures query { filtered_query tools.new.evaluator ≡ filtered_query tools.old.evaluator }
 {
     let fault = match tools.reader.read_decimal(line.bytes)? {
         Ok(document) => {
             let root = Part::root_of_flat(&document);
             let walk = walk_of(asked, line);
-            let more = with_nodes(crew.rt, &mut tools.evaluator, line, (root, walk), written)?;
+            let more = with_nodes(crew, &mut tools.evaluator, line, (root, walk), written)?;
             return Ok((more, None));
         }
         Err(fault) => fault,
@@ -228,7 +225,7 @@ fn add_decimal<R: Threads + Sync, G, F: Form + Drop + Send>(
 fn add_over<R: Threads + Sync, G, F: Form + Drop + Send>(
     crew: &Crew<R, G>,
     asked: &Asked<'_>,
-    evaluator: &mut Evaluator<'_>,
+    evaluator: &mut FilteredEvaluator<'_>,
     line: &LineRef<'_>,
     fault: DocFault,
     written: F,
@@ -237,16 +234,17 @@ fn add_over<R: Threads + Sync, G, F: Form + Drop + Send>(
         → reading_in decimals line.now.bytes.now ≡ Err fault }
     requires memory { fault ≢ DocFault.Memory }
     ensures lines { IfOk result (λ r. (t : Tests) → AreRight t → F.written r.0
-        ≡ F.written written ++ given F.says asked.now.policy.on_fault t
-        (evaluated_query evaluator.old) (line_at line.now) (reading_in decimals line.now.bytes.now)) }
+        ≡ F.written written ++ given (F.form written) asked.now.policy.on_fault t
+        (filtered_query evaluator.old) (line_at line.now) (reading_in decimals line.now.bytes.now)) }
     ensures fault { IfOk result (λ r. r.1 ≡ fault_in (reading_in decimals line.now.bytes.now)) }
-    ensures query { evaluated_query evaluator.new ≡ evaluated_query evaluator.old }
+    ensures form { IfOk result (λ r. (t : Tests) → AreRight t → F.form r.0 ≡ F.form written) }
+    ensures query { filtered_query evaluator.new ≡ filtered_query evaluator.old }
 {
     match Document::read(crew.alloc, line.bytes) {
         Ok(document) => {
             let root = Part::root_of(&document);
             let walk = walk_of(asked, line);
-            let more = with_nodes(crew.rt, evaluator, line, (root, walk), written)?;
+            let more = with_nodes(crew, evaluator, line, (root, walk), written)?;
             Ok((more, None))
         }
         Err(DocFault::Memory) => Err(AllocError),
@@ -273,9 +271,10 @@ fn with_fault<F: Form + Drop>(
 ) -> Result<F, AllocError>
     requires { fault.now ≢ DocFault.Memory }
     ensures going { on_fault ≡ KeepGoing → IfOk result (λ w. F.written w
-        ≡ F.written written ++ F.says.of_fault number fault.now) }
+        ≡ F.written written ++ (F.form written).of_fault number fault.now) }
     ensures stopping { on_fault ≡ Stop → IfOk result (λ w. F.written w
         ≡ F.written written) }
+    ensures form { IfOk result (λ w. F.form w ≡ F.form written) }
 {
     let mut more = written;
     match on_fault {
@@ -285,43 +284,23 @@ fn with_fault<F: Form + Drop>(
     Ok(more)
 }
 
-/// How a document is walked.
-#[derive(Clone, Copy, Drop)]
-enum Walk {
-    /// By one thread.
-    Straight,
-    /// A long list in it is cut so into halves that are walked at once.
-    ByHalves(Cuts),
-}
-
-/// How the document of a line is walked: by no more threads than there are workers, or the next power of two.
-/// A short line holds no list that is worth two.
-fn walk_of(asked: &Asked<'_>, line: &LineRef<'_>) -> Walk {
-    // One worker starts no thread, so it walks straight (README, Why so).
-    if asked.workers > 1 && line.bytes.len() >= SPLIT_BYTES {
-        Walk::ByHalves(Cuts::new(SPLIT_FLOOR, asked.workers))
-    } else {
-        Walk::Straight
-    }
-}
-
 /// What was written so far, and what is said of the document of a line, of which the query selects nodes.
-fn with_nodes<R: Threads + Sync, F: Form + Drop + Send>(
-    rt: &R,
-    evaluator: &mut Evaluator<'_>,
+fn with_nodes<R: Threads + Sync, G, F: Form + Drop + Send>(
+    crew: &Crew<R, G>,
+    evaluator: &mut FilteredEvaluator<'_>,
     line: &LineRef<'_>,
     walked: (Part<'_>, Walk),
     written: F,
 ) -> Result<F, AllocError>
     ensures lines { IfOk result (λ w. (t : Tests) → AreRight t → F.written w
-        ≡ F.written written ++ document_bytes F.says t (evaluated_query evaluator.old)
+        ≡ F.written written ++ document_bytes (F.form written) t (filtered_query evaluator.old)
         (line_at line.now) (part_value walked.entry.0)) }
-    ensures query { evaluated_query evaluator.new ≡ evaluated_query evaluator.old }
+    ensures form { IfOk result (λ w. (t : Tests) → AreRight t → F.form w ≡ F.form written) }
+    ensures query { filtered_query evaluator.new ≡ filtered_query evaluator.old }
 {
-    let (root, walk) = walked;
     let mut visitor = written;
     visitor.begin(line.number);
-    let Ok(more) = visited(rt, evaluator, root, walk, visitor) else {
+    let Ok(more) = evaluator.visit(crew, walked, visitor) else {
         return Err(AllocError);
     };
     end_line(line, more)
@@ -329,29 +308,13 @@ fn with_nodes<R: Threads + Sync, F: Form + Drop + Send>(
 
 /// What was written once a line has ended that had begun, and whose document was visited.
 fn end_line<F: Form + Drop>(line: &LineRef<'_>, visited: F) -> Result<F, AllocError>
-    ensures { IfOk result (λ w. (begun : F) (before : List ℕ) (ns : List Node)
+    ensures written { IfOk result (λ w. (begun : F) (before : List ℕ) (ns : List Node)
         → F.HasBegun begun line.now.number before → F.kept visited ≡ fold F.put (F.kept begun) ns
-        → F.written w ≡ before ++ F.says.of_document (line_at line.now) ns) }
+        → F.written w ≡ before ++ (F.form begun).of_document (line_at line.now) ns) }
+    ensures form { IfOk result (λ w. (begun : F) (ns : List Node)
+        → F.kept visited ≡ fold F.put (F.kept begun) ns → F.form w ≡ F.form begun) }
 {
     let mut more = visited;
     more.end(line.bytes)?;
     Ok(more)
-}
-
-/// The visitor once it has taken the nodes.
-fn visited<R: Threads + Sync, V: Visit + Drop + Send>(
-    rt: &R,
-    evaluator: &mut Evaluator<'_>,
-    root: Part<'_>,
-    walk: Walk,
-    visitor: V,
-) -> Result<V, EvalFault>
-    ensures nodes { IfOk result (λ w. (t : Tests) → AreRight t → V.kept w ≡ fold V.put (V.kept visitor)
-        (document_nodes t (evaluated_query evaluator.old) (part_value root.entry))) }
-    ensures query { evaluated_query evaluator.new ≡ evaluated_query evaluator.old }
-{
-    match walk {
-        Walk::ByHalves(cuts) => evaluator.visit_part_split(rt, root, cuts, &OpenFork, visitor),
-        Walk::Straight => evaluator.visit_part(root, visitor),
-    }
 }

@@ -4,12 +4,18 @@ ghost use Rattle.jp_answer.specs.Ranges.{AreWorkers};
 
 use crate::policy::LinePolicy;
 use jp_compiled::Query;
+use jp_eval::DocumentFilter;
+use jp_output::Head;
 
 /// What is asked of each block of a run.
 #[derive(Clone, Copy, Drop)]
 pub struct Asked<'q> {
     /// The query.
     pub query: &'q Query,
+    /// The filter of which the documents are true that are answered, if there is one.
+    pub filter: Option<DocumentFilter<'q>>,
+    /// What stands before each line, in a form whose lines have a head.
+    pub head: &'q Head,
     /// How lines are read, and what is done where one is faulty.
     pub policy: LinePolicy,
     /// How many workers there are, 1 to 64: a long list of a document is walked by no more threads at once,

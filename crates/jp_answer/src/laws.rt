@@ -1,6 +1,6 @@
 //! Laws of the definitions, each the contract of a function that does nothing.
 
-ghost use Rattle.std.specs.Prelude.{◌≡◌, ◌<◌, ◌+◌, ◌^◌, ◌++◌, ℕ, None, List, length, map};
+ghost use Rattle.std.specs.Prelude.{◌≡◌, ◌<◌, ◌+◌, ◌^◌, ◌++◌, ℕ, None, List, [], length, map};
 ghost use Rattle.std.specs.List.{concat};
 ghost use Rattle.jp_doc.specs.Json.{Json};
 ghost use Rattle.jp_doc.specs.Lines.{Line, lines, line_count};
@@ -8,14 +8,15 @@ ghost use Rattle.jp_doc.specs.NumbersWithin.{HasJsonNumbers};
 ghost use Rattle.jp_doc.specs.ReadingIn.{Numbers, whole_numbers, decimals};
 ghost use Rattle.jp_tree.specs.Tree.{Query};
 ghost use Rattle.jp_regexp.specs.Tests.{Tests};
-ghost use Rattle.jp_eval.specs.Nodelist.{document_nodes};
 ghost use Rattle.jp_output.specs.Fields.{times, AreLinesOfThree};
 ghost use Rattle.jp_output.specs.NumberedLines.{AreNumberedAbove, first_fields, lines_numbered};
 ghost use Rattle.jp_output.specs.OutputForm.{OutputForm, node_lines, input_lines};
 ghost use Rattle.jp_answer.specs.Answer.{answer, answer_as, joined, document_lines, stream_answer};
 ghost use Rattle.jp_answer.specs.Faults.{first_fault};
+ghost use Rattle.jp_answer.specs.FilteredQuery.{FilteredQuery, chosen_lines, selected_nodes};
+ghost use Rattle.jp_answer.specs.FilteredQuery.{unfiltered};
 ghost use Rattle.jp_answer.specs.OnFault.{answer_in, answer_by, passed_in};
-ghost use Rattle.jp_answer.specs.Policy.{policy};
+ghost use Rattle.jp_answer.specs.Policy.{numbers_in, policy};
 ghost use Rattle.jp_answer.specs.Streams.{AreWholeLines, line_feeds, AreBlocks, placed_blocks, in_turn};
 ghost use Rattle.jp_answer.specs.declared.on_fault.OnFault.{OnFault};
 ghost use Rattle.jp_answer.specs.declared.on_fault.OnFault.TheVariants.{KeepGoing};
@@ -55,10 +56,10 @@ pub fn streams()
         ≡ joined (stream_answer t q a) (stream_answer t q (line_feeds (line_count a) ++ b)) }
     ensures whole { (t : Tests) (q : Query) (a b : List ℕ) → AreWholeLines a → stream_whole t q (a ++ b)
         ≡ both (stream_whole t q a) (stream_whole t q (line_feeds (line_count a) ++ b)) }
-    ensures either { (f : OutputForm) (k : LinePolicy) (t : Tests) (q : Query) (a b : List ℕ)
+    ensures either { (f : OutputForm) (k : LinePolicy) (t : Tests) (q : FilteredQuery) (a b : List ℕ)
         → AreWholeLines a → answer_by f k t q (lines (a ++ b))
         ≡ joined (answer_by f k t q (lines a)) (answer_by f k t q (lines (line_feeds (line_count a) ++ b))) }
-    ensures blocks { (f : OutputForm) (k : LinePolicy) (t : Tests) (q : Query) (bs : List (List ℕ))
+    ensures blocks { (f : OutputForm) (k : LinePolicy) (t : Tests) (q : FilteredQuery) (bs : List (List ℕ))
         → AreBlocks bs → answer_by f k t q (lines (concat bs))
         ≡ in_turn (map (λ b. answer_by f k t q (lines b)) (placed_blocks 0 bs)) }
     ensures count { (a b : List ℕ) → AreWholeLines a → line_count (a ++ b) ≡ line_count a + line_count b }
@@ -68,20 +69,21 @@ pub fn streams()
 /// and one line feed, its last byte. A document has as many of them as nodes, where its numbers are those of
 /// RFC 8259 (6), as all that are read are.
 pub fn three_fields()
-    ensures answer { (k : LinePolicy) (t : Tests) (q : Query) (ls : List Line)
+    ensures answer { (k : LinePolicy) (t : Tests) (q : FilteredQuery) (ls : List Line)
         → AreLinesOfThree (answer_in k t q ls).bytes }
-    ensures one_each { (t : Tests) (q : Query) (number : ℕ) (root : Json) → HasJsonNumbers root
-        → times 10 (document_lines t q number root) ≡ length (document_nodes t q root) }
+    ensures one_each { (t : Tests) (q : FilteredQuery) (number : ℕ) (root : Json) → HasJsonNumbers root
+        → times 10 (document_lines t q number root) ≡ length (selected_nodes t root q) }
 {}
 
 /// The answer in the form of input lines has exactly the lines whose numbers stand as first fields in the
 /// answer in output lines, each once, in their order, as they came: of lines whose numbers rise, and so of a
 /// stream. Each answer stops at the first faulty line.
 pub fn lines_of_first_fields()
-    ensures lines { (n : Numbers) (t : Tests) (q : Query) (ls : List Line) → AreNumberedAbove 0 ls
+    ensures lines { (n : Numbers) (t : Tests) (q : FilteredQuery) (ls : List Line) → AreNumberedAbove 0 ls
         → (answer_as n input_lines t q ls).bytes
         ≡ lines_numbered (first_fields (answer_as n node_lines t q ls).bytes) ls }
-    ensures stream { (n : Numbers) (t : Tests) (q : Query) (bytes : List ℕ) → line_count bytes < 2 ^ 64
+    ensures stream { (n : Numbers) (t : Tests) (q : FilteredQuery) (bytes : List ℕ)
+        → line_count bytes < 2 ^ 64
         → (answer_as n input_lines t q (lines bytes)).bytes
         ≡ lines_numbered (first_fields (answer_as n node_lines t q (lines bytes)).bytes) (lines bytes) }
 {}
@@ -89,9 +91,9 @@ pub fn lines_of_first_fields()
 /// The answer that keeps going has the bytes of the whole one, and never stops.
 pub fn forms()
     ensures bytes { (t : Tests) (q : Query) (ls : List Line)
-        → (answer_in (policy Whole KeepGoing) t q ls).bytes ≡ (whole t q ls).bytes }
+        → (answer_in (policy Whole KeepGoing) t (unfiltered q) ls).bytes ≡ (whole t q ls).bytes }
     ensures end { (t : Tests) (q : Query) (ls : List Line)
-        → (answer_in (policy Whole KeepGoing) t q ls).stopped ≡ None }
+        → (answer_in (policy Whole KeepGoing) t (unfiltered q) ls).stopped ≡ None }
 {}
 
 /// The two forms agree up to the first faulty line: the bytes of the answer that keeps going are those of the
@@ -108,11 +110,20 @@ pub fn stops_before()
 /// Where no line is faulty by whole numbers alone, the answer with decimals is the same, in every form, and
 /// no line is faulty with them either. So decimals change nothing of an answer that meets no faulty line.
 pub fn same_with_decimals()
-    ensures answer { (f : OutputForm) (k : OnFault) (t : Tests) (q : Query) (ls : List Line)
+    ensures answer { (f : OutputForm) (k : OnFault) (t : Tests) (q : FilteredQuery) (ls : List Line)
         → first_fault whole_numbers ls ≡ None
         → answer_by f (policy Decimals k) t q ls ≡ answer_by f (policy Whole k) t q ls }
     ensures no_fault { (ls : List Line) → first_fault whole_numbers ls ≡ None
         → first_fault decimals ls ≡ None }
     ensures none_passed { (k : OnFault) (ls : List Line) → first_fault whole_numbers ls ≡ None
         → passed_in (policy Decimals k) ls ≡ 0 }
+{}
+
+/// The answer of a query of the documents that a filter chooses is that of the query to the lines of these
+/// documents and the faulty ones, with their numbers: in every form that says nothing of a document without
+/// nodes, as each of the five does, and by every policy.
+pub fn chosen_answers()
+    ensures { (f : OutputForm) (k : LinePolicy) (t : Tests) (q : FilteredQuery) (ls : List Line)
+        → ((l : Line) → f.of_document l [] ≡ []) → answer_by f k t q ls
+        ≡ answer_by f k t (unfiltered q.query) (chosen_lines (numbers_in k.numbers) t q.filter ls) }
 {}

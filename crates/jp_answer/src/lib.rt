@@ -9,6 +9,7 @@ mod block;
 mod crew;
 mod examples;
 mod faults;
+mod filtered;
 mod gate;
 mod gathered;
 pub mod laws;
@@ -19,6 +20,7 @@ mod policy;
 mod queue;
 mod ring;
 mod task;
+mod walking;
 
 pub use answerer::Answerer;
 pub use asked::Asked;

@@ -3,10 +3,10 @@
 ghost use Rattle.std.specs.Prelude.{◌≡◌, ◌+◌, ◌<◌, ◌≤◌, ◌⊎◌, None, [], length, map, take, drop, IfOk, OnOk};
 ghost use Rattle.std.specs.Prelude.{IsSome};
 ghost use Rattle.jp_buffer.specs.Buffered.{line_at};
-ghost use Rattle.jp_compiled.specs.Compiled.{compiled_query};
 ghost use Rattle.jp_regexp.specs.Tests.{Tests, AreRight};
 ghost use Rattle.jp_board.specs.Limits.{max_pieces};
 ghost use Rattle.jp_answer.specs.Answered.{outcome_of};
+ghost use Rattle.jp_answer.specs.Asking.{asked_query};
 ghost use Rattle.jp_answer.specs.OnFault.{answer_by, passed_in};
 ghost use Rattle.jp_answer.specs.Queued.{HasSent, sent_task};
 ghost use Rattle.jp_answer.specs.Ranges.{AreDocuments, AreWorkers};
@@ -43,9 +43,8 @@ pub fn answer_by_workers<R: Threads + Sync, G: Gate + Sync, F: Form + Drop + Sen
     requires lines { length lines.now ≤ max_pieces }
     requires piece { AreDocuments piece }
     ensures answer { IfOk result (λ a. (t : Tests) → AreRight t →
-        answer_by F.says asked.entry.policy t (compiled_query asked.entry.query.now)
-        (map line_at lines.now)
-        ≡ outcome_of a) }
+        answer_by (F.says asked.entry.head.now) asked.entry.policy t
+        (asked_query asked.entry) (map line_at lines.now) ≡ outcome_of a) }
     ensures passed { IfOk result (λ a. passed_in asked.entry.policy (map line_at lines.now) ≡ a.faulty) }
 {
     let ring: Ring<'_, F> = Ring::new(crew.alloc)?;

@@ -2,11 +2,12 @@
 
 ghost use Rattle.std.specs.Prelude.{◌≡◌, ◌+◌, ◌<◌};
 
-use crate::tasks::{behind, by_one_thread, going_on, lines_of, many_lines, stopping, task_of};
-use jp_answer::{Answerer, Block, Crew, LinePolicy, OpenGate, Ring, beside_workers};
+use crate::tasks::{
+    asked_of, behind, by_one_thread, going_on, lines_of, many_lines, stopping, task_of,
+};
+use jp_answer::{Answerer, Asked, Block, Crew, LinePolicy, OpenGate, Ring, beside_workers};
 use jp_check::plan;
-use jp_compiled::Query;
-use jp_output::NodeLines;
+use jp_output::{Head, NodeLines};
 use std::alloc::Global;
 use std::sync::Arc;
 use std::thread::{Threads, yield_now};
@@ -26,16 +27,11 @@ const TEXT: &str = "[1]\n[[2]]\n{\n";
 type Shared<'q> = Arc<Block<'q, NodeLines>, Global>;
 
 /// So many blocks of three lines.
-fn blocks_of<'q>(
-    alloc: Global,
-    query: &'q Query,
-    policy: LinePolicy,
-    count: u64,
-) -> Option<Vec<Shared<'q>>> {
+fn blocks_of<'q>(alloc: Global, asked: Asked<'q>, count: u64) -> Option<Vec<Shared<'q>>> {
     let mut blocks = Vec::new(alloc);
     for at in 0..count {
         let first = at.saturating_mul(3).saturating_add(1);
-        let task = task_of(query, policy, lines_of(alloc, TEXT, first)?)?;
+        let task = task_of(asked, lines_of(alloc, TEXT, first)?)?;
         let Ok(block) = Arc::new(alloc, Block::new(task)) else {
             return None;
         };
@@ -119,15 +115,12 @@ fn gathered<'q, R: Threads + Sync>(
     rest.is_empty().then_some(by_workers)
 }
 
-/// A run in which `$[0]` is asked of the blocks. Gives how many of them other workers have answered, or
-/// `None` where the answers in order are not the answer to all lines.
-fn ran<R: Threads + Sync>(rt: &R, alloc: Global, way: Way) -> Option<u64> {
+/// A run in which this is asked of the blocks. Gives how many of them other workers have answered, or `None`
+/// where the answers in order are not the answer to all lines.
+fn ran_of<R: Threads + Sync>(rt: &R, alloc: Global, asked: Asked<'_>, way: Way) -> Option<u64> {
     if way.workers < 1 || way.workers > 64 {
         return None;
     }
-    let Ok(plan) = plan(alloc, "$[0]") else {
-        return None;
-    };
     let gate = OpenGate;
     let crew = Crew {
         rt,
@@ -135,13 +128,24 @@ fn ran<R: Threads + Sync>(rt: &R, alloc: Global, way: Way) -> Option<u64> {
         gate: &gate,
     };
     let lines = many_lines(alloc, TEXT, way.count)?;
-    let wanted = by_one_thread(&crew, plan.compiled(), way.policy, &lines)?;
-    let blocks = blocks_of(alloc, plan.compiled(), way.policy, way.count)?;
+    let wanted = by_one_thread(&crew, &asked, &lines)?;
+    let blocks = blocks_of(alloc, asked, way.count)?;
     let Ok(ring) = Ring::new(alloc) else {
         return None;
     };
     let mut run = || -> Option<u64> { gathered(&crew, &ring, &blocks, way, &wanted) };
     beside_workers(&crew, &ring, way.workers, &mut run)
+}
+
+/// The same, where `$[0]` is asked, behind a name.
+fn ran<R: Threads + Sync>(rt: &R, alloc: Global, way: Way) -> Option<u64> {
+    let Ok(plan) = plan(alloc, "$[0]") else {
+        return None;
+    };
+    let Ok(head) = Head::of_name(alloc, "b.jsonl") else {
+        return None;
+    };
+    ran_of(rt, alloc, asked_of(plan.compiled(), &head, way.policy), way)
 }
 
 /// A run over 40 blocks which waits for what workers answer.

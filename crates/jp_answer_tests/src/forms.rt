@@ -1,10 +1,9 @@
 //! Blocks in each form of the answer, and what is taken back of them.
 
-use crate::tasks::{going_on, has_bytes, lines_of, task_of};
-use jp_answer::{Answerer, Block, Crew, OpenGate};
+use crate::tasks::{asked_of, going_on, has_bytes, lines_of, task_of};
+use jp_answer::{Answerer, Asked, Block, Crew, OpenGate};
 use jp_check::plan;
-use jp_compiled::Query;
-use jp_output::{Form, InputLines, NodeLines, RawLines, TextLines, ValueLines};
+use jp_output::{Form, Head, InputLines, NodeLines, RawLines, TextLines, ValueLines};
 use std::alloc::Global;
 use std::thread::Threads;
 
@@ -15,7 +14,7 @@ const TEXT: &str = "[\"a\",1]\n{\n[\"b\"]\n";
 fn are_written<R: Threads + Sync, F: Form + Drop + Send>(
     rt: &R,
     alloc: Global,
-    query: &Query,
+    asked: Asked<'_>,
     wanted: &str,
 ) -> Option<bool> {
     let gate = OpenGate;
@@ -24,8 +23,8 @@ fn are_written<R: Threads + Sync, F: Form + Drop + Send>(
         alloc,
         gate: &gate,
     };
-    let first: Block<'_, F> = Block::new(task_of(query, going_on(), lines_of(alloc, TEXT, 1)?)?);
-    let second: Block<'_, F> = Block::new(task_of(query, going_on(), lines_of(alloc, TEXT, 1)?)?);
+    let first: Block<'_, F> = Block::new(task_of(asked, lines_of(alloc, TEXT, 1)?)?);
+    let second: Block<'_, F> = Block::new(task_of(asked, lines_of(alloc, TEXT, 1)?)?);
     let mut answerer = Answerer::new(alloc);
     answerer.fill(&crew, &first);
     answerer.fill(&crew, &second);
@@ -34,28 +33,54 @@ fn are_written<R: Threads + Sync, F: Form + Drop + Send>(
     Some(are_right && lines.len() == 0)
 }
 
-/// The same of the first items of the lines.
-fn is_form<R: Threads + Sync, F: Form + Drop + Send>(
+/// The same of the first items of the lines, behind a head.
+fn is_behind<R: Threads + Sync, F: Form + Drop + Send>(
     rt: &R,
     alloc: Global,
+    head: &Head,
     wanted: &str,
 ) -> Option<bool> {
     let Ok(plan) = plan(alloc, "$[0]") else {
         return None;
     };
-    are_written::<R, F>(rt, alloc, plan.compiled(), wanted)
+    let asked = asked_of(plan.compiled(), head, going_on());
+    are_written::<R, F>(rt, alloc, asked, wanted)
+}
+
+/// The same, with no head.
+fn is_form<R: Threads + Sync, F: Form + Drop + Send>(
+    rt: &R,
+    alloc: Global,
+    wanted: &str,
+) -> Option<bool> {
+    is_behind::<R, F>(rt, alloc, &Head::none(), wanted)
+}
+
+/// The same, behind the name `x`.
+fn is_named<R: Threads + Sync, F: Form + Drop + Send>(
+    rt: &R,
+    alloc: Global,
+    wanted: &str,
+) -> Option<bool> {
+    let Ok(head) = Head::of_name(alloc, "x") else {
+        return None;
+    };
+    is_behind::<R, F>(rt, alloc, &head, wanted)
 }
 
 #[test]
 fn node_lines(rt: HostRuntime) {
     let wanted = "1\t$[0]\t\"a\"\n2\t!\tunreadable\n3\t$[0]\t\"b\"\n";
     assert!(rt; is_form::<HostRuntime, NodeLines>(&rt, rt.alloc(), wanted) == Some(true));
+    let behind = "x\t1\t$[0]\t\"a\"\nx\t2\t!\tunreadable\nx\t3\t$[0]\t\"b\"\n";
+    assert!(rt; is_named::<HostRuntime, NodeLines>(&rt, rt.alloc(), behind) == Some(true));
 }
 
 #[test]
 fn values(rt: HostRuntime) {
     let wanted = "\"a\"\n\"b\"\n";
     assert!(rt; is_form::<HostRuntime, ValueLines>(&rt, rt.alloc(), wanted) == Some(true));
+    assert!(rt; is_named::<HostRuntime, ValueLines>(&rt, rt.alloc(), wanted) == Some(true));
 }
 
 #[test]
@@ -72,4 +97,5 @@ fn raw(rt: HostRuntime) {
 fn lines(rt: HostRuntime) {
     let wanted = "[\"a\",1]\n[\"b\"]\n";
     assert!(rt; is_form::<HostRuntime, InputLines>(&rt, rt.alloc(), wanted) == Some(true));
+    assert!(rt; is_named::<HostRuntime, InputLines>(&rt, rt.alloc(), wanted) == Some(true));
 }

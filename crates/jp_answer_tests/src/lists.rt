@@ -1,12 +1,11 @@
 //! Lists of lines, answered by any number of workers in pieces of any size.
 
-use crate::tasks::{behind, by_one_thread, going_on, many_lines, stopping};
-use jp_answer::{Asked, Crew, LinePolicy, OpenGate, Outcome, answer_by_workers};
+use crate::tasks::{asked_of, behind, by_one_thread, going_on, many_lines, stopping};
+use jp_answer::{Asked, Crew, OpenGate, Outcome, answer_by_workers};
 use jp_buffer::{LineRef, WaitingLines};
 use jp_check::plan;
-use jp_compiled::Query;
 use jp_doc::DocFault;
-use jp_output::NodeLines;
+use jp_output::{Head, NodeLines};
 use std::alloc::Global;
 use std::thread::Threads;
 
@@ -14,12 +13,12 @@ use std::thread::Threads;
 const TEXT: &str = "[1]\n[[2]]\n{\n";
 
 /// How lines are answered: what is asked of them, by how many workers, in pieces of how many lines.
-type Way<'q> = (&'q Query, LinePolicy, u64, u64);
+type Way<'q> = (Asked<'q>, u64, u64);
 
 /// The answer to lines in some way. `None` where it is want of memory, or the way is out of range.
 fn answered<R: Threads + Sync>(
     crew: &Crew<R, OpenGate>,
-    (query, policy, workers, piece): Way<'_>,
+    (asked, workers, piece): Way<'_>,
     lines: &[LineRef<'_>],
 ) -> Option<Outcome> {
     let in_range = (1..=64).contains(&workers) && (1..=1_000_000).contains(&piece);
@@ -27,8 +26,10 @@ fn answered<R: Threads + Sync>(
         return None;
     }
     let asked = Asked {
-        query,
-        policy,
+        query: asked.query,
+        filter: asked.filter,
+        head: asked.head,
+        policy: asked.policy,
         workers,
     };
     answer_by_workers::<R, OpenGate, NodeLines>(crew, asked, lines, piece).ok()
@@ -41,8 +42,7 @@ fn is_same<R: Threads + Sync>(
     lines: &WaitingLines,
     faulty: u64,
 ) -> Option<bool> {
-    let (query, policy, _, _) = way;
-    let wanted = by_one_thread(crew, query, policy, lines)?;
+    let wanted = by_one_thread(crew, &way.0, lines)?;
     let Ok(lines) = lines.lines(crew.alloc) else {
         return None;
     };
@@ -50,9 +50,10 @@ fn is_same<R: Threads + Sync>(
     Some(behind(&answer, &wanted)?.is_empty() && answer.faulty == faulty)
 }
 
-/// Whether the same is answered by these workers, whatever the pieces, of forty times three lines.
+/// Whether the same is answered by these workers behind a name, whatever the pieces, of forty times three
+/// lines.
 fn are_same<R: Threads + Sync>(rt: &R, alloc: Global, workers: u64) -> Option<bool> {
-    let Ok(plan) = plan(alloc, "$[0]") else {
+    let (Ok(plan), Ok(head)) = (plan(alloc, "$[0]"), Head::of_name(alloc, "b.jsonl")) else {
         return None;
     };
     let gate = OpenGate;
@@ -62,10 +63,14 @@ fn are_same<R: Threads + Sync>(rt: &R, alloc: Global, workers: u64) -> Option<bo
         gate: &gate,
     };
     let lines = many_lines(alloc, TEXT, 40)?;
+    let (going, stopped) = (
+        asked_of(plan.compiled(), &head, going_on()),
+        asked_of(plan.compiled(), &head, stopping()),
+    );
     let mut same = true;
     for piece in &[1u64, 2, 7, 64, 1_000_000] {
-        let going = (plan.compiled(), going_on(), workers, *piece);
-        let stopped = (plan.compiled(), stopping(), workers, *piece);
+        let going = (going, workers, *piece);
+        let stopped = (stopped, workers, *piece);
         same = same && is_same(&crew, going, &lines, 40)? && is_same(&crew, stopped, &lines, 0)?;
     }
     Some(same)
@@ -97,7 +102,9 @@ fn is_answer<R: Threads + Sync>(
         alloc,
         gate: &gate,
     };
-    let answer = answered(&crew, (plan.compiled(), stopping(), 2, 1), lines)?;
+    let head = Head::none();
+    let asked = asked_of(plan.compiled(), &head, stopping());
+    let answer = answered(&crew, (asked, 2, 1), lines)?;
     let found = match answer.stopped {
         Some(stop) => Some((stop.line, stop.fault)),
         None => None,

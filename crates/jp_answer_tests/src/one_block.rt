@@ -1,12 +1,11 @@
 //! Blocks that are answered on one thread.
 
-use crate::tasks::{going_on, has_bytes, lines_of, stopping, task_of};
-use jp_answer::{Answerer, Block, Crew, DocStop, LinePolicy, OnFault, OpenGate, Outcome};
+use crate::tasks::{asked_of, going_on, has_bytes, lines_of, stopping, task_of};
+use jp_answer::{Answerer, Asked, Block, Crew, DocStop, LinePolicy, OnFault, OpenGate, Outcome};
 use jp_check::plan;
-use jp_compiled::Query;
 use jp_doc::DocFault;
 use jp_number::Numbers;
-use jp_output::NodeLines;
+use jp_output::{Head, NodeLines};
 use std::alloc::Global;
 use std::thread::Threads;
 
@@ -17,8 +16,7 @@ const TEXT: &str = "{\"a\":1}\n{\n{\"a\":2}\n{\"a\":1.5}\n";
 fn filled<R: Threads + Sync>(
     rt: &R,
     alloc: Global,
-    query: &Query,
-    policy: LinePolicy,
+    asked: Asked<'_>,
     wanted: (&str, u64, Option<DocStop>),
 ) -> Option<bool> {
     let gate = OpenGate;
@@ -27,7 +25,7 @@ fn filled<R: Threads + Sync>(
         alloc,
         gate: &gate,
     };
-    let task = task_of(query, policy, lines_of(alloc, TEXT, 1)?)?;
+    let task = task_of(asked, lines_of(alloc, TEXT, 1)?)?;
     let block: Block<'_, NodeLines> = Block::new(task);
     let was_empty = block.found().is_none();
     Answerer::new(alloc).fill(&crew, &block);
@@ -48,17 +46,28 @@ fn second_line() -> Option<DocStop> {
     })
 }
 
-/// Whether a block of the four lines, of which `$.a` is asked by a policy, is answered so.
-fn is_filled<R: Threads + Sync>(
+/// Whether a block of the four lines, of which `$.a` is asked behind a head by a policy, is answered so.
+fn is_filled_behind<R: Threads + Sync>(
     rt: &R,
     alloc: Global,
+    head: &Head,
     policy: LinePolicy,
     wanted: (&str, u64, Option<DocStop>),
 ) -> Option<bool> {
     let Ok(plan) = plan(alloc, "$.a") else {
         return None;
     };
-    filled(rt, alloc, plan.compiled(), policy, wanted)
+    filled(rt, alloc, asked_of(plan.compiled(), head, policy), wanted)
+}
+
+/// The same, with no head.
+fn is_filled<R: Threads + Sync>(
+    rt: &R,
+    alloc: Global,
+    policy: LinePolicy,
+    wanted: (&str, u64, Option<DocStop>),
+) -> Option<bool> {
+    is_filled_behind(rt, alloc, &Head::none(), policy, wanted)
 }
 
 #[test]
@@ -75,6 +84,29 @@ fn passes_faulty_lines(rt: HostRuntime) {
         None,
     );
     assert!(rt; is_filled(&rt, rt.alloc(), going_on(), wanted) == Some(true));
+}
+
+/// The same, behind a name.
+fn is_filled_named<R: Threads + Sync>(
+    rt: &R,
+    alloc: Global,
+    name: &str,
+    wanted: (&str, u64, Option<DocStop>),
+) -> Option<bool> {
+    let Ok(head) = Head::of_name(alloc, name) else {
+        return None;
+    };
+    is_filled_behind(rt, alloc, &head, going_on(), wanted)
+}
+
+#[test]
+fn lines_behind_a_name(rt: HostRuntime) {
+    let wanted = (
+        "a b\t1\t$['a']\t1\na b\t2\t!\tunreadable\na b\t3\t$['a']\t2\na b\t4\t!\tnot whole\n",
+        2,
+        None,
+    );
+    assert!(rt; is_filled_named(&rt, rt.alloc(), "a b", wanted) == Some(true));
 }
 
 #[test]

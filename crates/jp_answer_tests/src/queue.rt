@@ -1,10 +1,9 @@
 //! A queue of blocks with no worker.
 
-use crate::tasks::{has_bytes, lines_of, stopping};
+use crate::tasks::{asked_of, has_bytes, lines_of, stopping};
 use jp_answer::{Asked, Crew, Gate, Queue, Ring};
 use jp_check::plan;
-use jp_compiled::Query;
-use jp_output::NodeLines;
+use jp_output::{Head, NodeLines};
 use std::alloc::Global;
 use std::sync::atomic::{AtomicU64, Ordering};
 use std::thread::Threads;
@@ -56,7 +55,7 @@ fn takes<R: Threads + Sync>(
 }
 
 /// Whether 16 blocks fill the queue, and the calling thread answers them in order, each once.
-fn is_in_order<R: Threads + Sync>(rt: &R, alloc: Global, query: &Query) -> Option<bool> {
+fn is_in_order<R: Threads + Sync>(rt: &R, alloc: Global, asked: Asked<'_>) -> Option<bool> {
     let gate = Passed(AtomicU64::new(0));
     let crew = Crew {
         rt,
@@ -65,11 +64,6 @@ fn is_in_order<R: Threads + Sync>(rt: &R, alloc: Global, query: &Query) -> Optio
     };
     let Ok(ring) = Ring::new(alloc) else {
         return None;
-    };
-    let asked = Asked {
-        query,
-        policy: stopping(),
-        workers: 1,
     };
     let mut queue = Queue::new(alloc, &ring, asked);
     send(&mut queue, alloc, 15)?;
@@ -87,18 +81,15 @@ fn in_order(rt: HostRuntime) {
     let Ok(plan) = plan(rt.alloc(), "$") else {
         return;
     };
-    assert!(rt; is_in_order(&rt, rt.alloc(), plan.compiled()) == Some(true));
+    let head = Head::none();
+    let asked = asked_of(plan.compiled(), &head, stopping());
+    assert!(rt; is_in_order(&rt, rt.alloc(), asked) == Some(true));
 }
 
 /// Whether a queue has a buffer of no lines, and gives another where none is spare.
-fn has_buffers(alloc: Global, query: &Query) -> Option<bool> {
+fn has_buffers(alloc: Global, asked: Asked<'_>) -> Option<bool> {
     let Ok(ring) = Ring::new(alloc) else {
         return None;
-    };
-    let asked = Asked {
-        query,
-        policy: stopping(),
-        workers: 1,
     };
     let mut queue: Queue<'_, '_, NodeLines> = Queue::new(alloc, &ring, asked);
     let buffers = (queue.buffer(alloc), queue.buffer(alloc));
@@ -114,5 +105,7 @@ fn buffers(rt: HostRuntime) {
     let Ok(plan) = plan(rt.alloc(), "$") else {
         return;
     };
-    assert!(rt; has_buffers(rt.alloc(), plan.compiled()) == Some(true));
+    let head = Head::none();
+    let asked = asked_of(plan.compiled(), &head, stopping());
+    assert!(rt; has_buffers(rt.alloc(), asked) == Some(true));
 }

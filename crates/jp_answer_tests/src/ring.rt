@@ -1,10 +1,9 @@
 //! A ring with no worker.
 
-use crate::tasks::{lines_of, stopping, task_of};
-use jp_answer::{Block, Ring};
+use crate::tasks::{asked_of, lines_of, stopping, task_of};
+use jp_answer::{Asked, Block, Ring};
 use jp_check::plan;
-use jp_compiled::Query;
-use jp_output::NodeLines;
+use jp_output::{Head, NodeLines};
 use std::alloc::Global;
 use std::sync::Arc;
 
@@ -12,10 +11,10 @@ use std::sync::Arc;
 fn handed<'q>(
     ring: &Ring<'q, NodeLines>,
     alloc: Global,
-    query: &'q Query,
+    asked: Asked<'q>,
     number: u64,
 ) -> Option<Arc<Block<'q, NodeLines>, Global>> {
-    let task = task_of(query, stopping(), lines_of(alloc, "[1]\n", 1)?)?;
+    let task = task_of(asked, lines_of(alloc, "[1]\n", 1)?)?;
     let Ok(own) = Arc::new(alloc, Block::new(task)) else {
         return None;
     };
@@ -27,12 +26,12 @@ fn handed<'q>(
 }
 
 /// Whether a block that was handed out is taken back once, and its buffer then.
-fn is_taken_back(alloc: Global, query: &Query) -> Option<bool> {
+fn is_taken_back(alloc: Global, asked: Asked<'_>) -> Option<bool> {
     let Ok(ring) = Ring::new(alloc) else {
         return None;
     };
     let was_there = ring.take_back(0);
-    let own = handed(&ring, alloc, query, 0)?;
+    let own = handed(&ring, alloc, asked, 0)?;
     let turns = (
         was_there,
         ring.take_back(0),
@@ -50,16 +49,18 @@ fn taken_back(rt: HostRuntime) {
     let Ok(plan) = plan(rt.alloc(), "$") else {
         return;
     };
-    assert!(rt; is_taken_back(rt.alloc(), plan.compiled()) == Some(true));
+    let head = Head::none();
+    let asked = asked_of(plan.compiled(), &head, stopping());
+    assert!(rt; is_taken_back(rt.alloc(), asked) == Some(true));
 }
 
 /// Whether the block 16 numbers on stands in the place of one that nobody has taken.
-fn is_in_its_place(alloc: Global, query: &Query) -> Option<bool> {
+fn is_in_its_place(alloc: Global, asked: Asked<'_>) -> Option<bool> {
     let Ok(ring) = Ring::new(alloc) else {
         return None;
     };
     for number in 0..17u64 {
-        handed(&ring, alloc, query, number)?;
+        handed(&ring, alloc, asked, number)?;
     }
     let turns = (ring.take_back(0), ring.take_back(1), ring.take_back(16));
     Some(turns == (false, true, true) && ring.ended() == 0 && !ring.is_closed())
@@ -70,5 +71,7 @@ fn in_its_place(rt: HostRuntime) {
     let Ok(plan) = plan(rt.alloc(), "$") else {
         return;
     };
-    assert!(rt; is_in_its_place(rt.alloc(), plan.compiled()) == Some(true));
+    let head = Head::none();
+    let asked = asked_of(plan.compiled(), &head, stopping());
+    assert!(rt; is_in_its_place(rt.alloc(), asked) == Some(true));
 }

@@ -4,7 +4,7 @@ use jp_answer::{Answerer, Asked, Crew, LinePolicy, OnFault, Outcome, Task};
 use jp_buffer::WaitingLines;
 use jp_compiled::Query;
 use jp_number::Numbers;
-use jp_output::{NodeLines, join_chunks};
+use jp_output::{Head, NodeLines, join_chunks};
 use std::alloc::Global;
 use std::thread::Threads;
 
@@ -48,11 +48,21 @@ pub(crate) fn many_lines(alloc: Global, text: &str, count: u64) -> Option<Waitin
     lines_of(alloc, &all, 1)
 }
 
+/// What is asked by a query behind a head, by a policy, of one worker.
+pub(crate) fn asked_of<'q>(query: &'q Query, head: &'q Head, policy: LinePolicy) -> Asked<'q> {
+    Asked {
+        query,
+        filter: None,
+        head,
+        policy,
+        workers: 1,
+    }
+}
+
 /// The bytes of the answer to lines by one thread, which answers them all at once.
 pub(crate) fn by_one_thread<R: Threads + Sync, G>(
     crew: &Crew<R, G>,
-    query: &Query,
-    policy: LinePolicy,
+    asked: &Asked<'_>,
     lines: &WaitingLines,
 ) -> Option<Vec<u8>> {
     let Ok(lines) = lines.lines(crew.alloc) else {
@@ -61,32 +71,18 @@ pub(crate) fn by_one_thread<R: Threads + Sync, G>(
     if lines.len() > 4_294_967_296 {
         return None;
     }
-    let asked = Asked {
-        query,
-        policy,
-        workers: 1,
-    };
     let mut answerer = Answerer::new(crew.alloc);
-    match answerer.answer_lines::<R, G, NodeLines>(crew, &asked, &lines) {
+    match answerer.answer_lines::<R, G, NodeLines>(crew, asked, &lines) {
         Ok(answer) => join_chunks(crew.alloc, answer.chunks).ok(),
         Err(_) => None,
     }
 }
 
-/// A task for one worker, of these lines.
-pub(crate) fn task_of<'q>(
-    query: &'q Query,
-    policy: LinePolicy,
-    lines: WaitingLines,
-) -> Option<Task<'q>> {
+/// A task of these lines.
+pub(crate) fn task_of<'q>(asked: Asked<'q>, lines: WaitingLines) -> Option<Task<'q>> {
     if lines.len() > 4_294_967_296 {
         return None;
     }
-    let asked = Asked {
-        query,
-        policy,
-        workers: 1,
-    };
     Some(Task { asked, lines })
 }
 

@@ -1,8 +1,8 @@
 use Rattle.std.proofs.Common.{◌∙◌, sym, ap, inl, inr, arith, drop, map, drop_of_length-le}
 use Rattle.jp_buffer.specs.Buffered.{line_at}
 use Rattle.std.proofs.lemmas.Grind.{common_steps}
-use Rattle.jp_compiled.specs.Compiled.{compiled_query}
-use Rattle.jp_eval.specs.Evaluated.{evaluated_query}
+use Rattle.jp_answer.specs.Asking.{asked_query}
+use Rattle.jp_answer.specs.inner.Filtered.{filtered_query}
 use Rattle.jp_output.specs.Chunks.{bytes_in}
 use Rattle.jp_answer.proofs.OnFaults.{answer_more, answer_last, stop_more, stop_last, passed_more, passed_one}
 use Rattle.jp_answer.proofs.OnFaults.{passed_fits, answer_end}
@@ -10,7 +10,7 @@ use Rattle.jp_answer.proofs.answering.answer_lines.Goals as goal
 
 pub loop-line-preserved-in_default : goal.loop-line-preserved-in_default
 loop-line-preserved-in_default g c =
-    let form = g.F.Form.says in
+    let form = g.F.Form.says c.args.asked.now.head.now in
     let bytes = g.F.Form.written in
     let k = c.args.asked.now.policy in
     let lines = c.args.lines.now in
@@ -18,10 +18,11 @@ loop-line-preserved-in_default g c =
     let none = sym c.in_ok-more.ensures.fault ∙ c.in_default.is in
     record {
       query = c.in_ok-more.ensures.query ∙ kept.query;
-      answer = λ t right. answer_more k lines c.loop-line.line-index c.loop-line-test.true form t
-          (compiled_query c.args.asked.now.query.now) (evaluated_query c.loop-line.tools.evaluator)
-          (bytes c.loop-line.written)
-          (bytes c.in_ok-more.more) kept.query (kept.answer t right)
+      form = λ t right. c.in_ok-more.ensures.form t right ∙ kept.form t right;
+      answer = λ t right. answer_more k lines c.loop-line.line-index c.loop-line-test.true form
+          (g.F.Form.form c.loop-line.written) t (asked_query c.args.asked.now)
+          (filtered_query c.loop-line.tools.evaluator) (bytes c.loop-line.written)
+          (bytes c.in_ok-more.more) (kept.form t right) kept.query (kept.answer t right)
           (c.in_ok-more.ensures.lines t right) (inr none);
       stopped = stop_more k lines c.loop-line.line-index c.loop-line-test.true kept.stopped (inr none);
       passed = passed_more k lines c.loop-line.line-index c.loop-line-test.true c.loop-line.faulty kept.passed
@@ -30,11 +31,12 @@ loop-line-preserved-in_default g c =
 
 pub returns-in-Stop-clause-answer : goal.returns-in-Stop-clause-answer
 returns-in-Stop-clause-answer g c = λ t right. answer_last
-    c.args.asked.now.policy c.args.lines.now c.loop-line.line-index c.loop-line-test.true g.F.Form.says t
-    (compiled_query c.args.asked.now.query.now) (evaluated_query c.loop-line.tools.evaluator)
+    c.args.asked.now.policy c.args.lines.now c.loop-line.line-index c.loop-line-test.true
+    (g.F.Form.says c.args.asked.now.head.now) (g.F.Form.form c.loop-line.written) t
+    (asked_query c.args.asked.now) (filtered_query c.loop-line.tools.evaluator)
     (g.F.Form.written c.loop-line.written)
-    (bytes_in c.in_ok-into_chunks-in-Stop.field-0.items) c.in-Some.fault c.loop-line.invariant.query
-    (c.loop-line.invariant.answer t right)
+    (bytes_in c.in_ok-into_chunks-in-Stop.field-0.items) c.in-Some.fault
+    (c.loop-line.invariant.form t right) c.loop-line.invariant.query (c.loop-line.invariant.answer t right)
     (c.in_ok-into_chunks-in-Stop.ensures ∙ c.in_ok-more.ensures.lines t right) c.in-Stop.is
     (sym c.in_ok-more.ensures.fault ∙ c.in-Some.is)
 
@@ -56,7 +58,7 @@ overflow_add-faulty g c = omega (
 
 pub loop-line-preserved : goal.loop-line-preserved
 loop-line-preserved g c =
-    let form = g.F.Form.says in
+    let form = g.F.Form.says c.args.asked.now.head.now in
     let bytes = g.F.Form.written in
     let k = c.args.asked.now.policy in
     let lines = c.args.lines.now in
@@ -64,10 +66,11 @@ loop-line-preserved g c =
     let found = sym c.in_ok-more.ensures.fault ∙ c.in-Some.is in
     record {
       query = c.in_ok-more.ensures.query ∙ kept.query;
-      answer = λ t right. answer_more k lines c.loop-line.line-index c.loop-line-test.true form t
-          (compiled_query c.args.asked.now.query.now) (evaluated_query c.loop-line.tools.evaluator)
-          (bytes c.loop-line.written)
-          (bytes c.in_ok-more.more) kept.query (kept.answer t right)
+      form = λ t right. c.in_ok-more.ensures.form t right ∙ kept.form t right;
+      answer = λ t right. answer_more k lines c.loop-line.line-index c.loop-line-test.true form
+          (g.F.Form.form c.loop-line.written) t (asked_query c.args.asked.now)
+          (filtered_query c.loop-line.tools.evaluator) (bytes c.loop-line.written)
+          (bytes c.in_ok-more.more) (kept.form t right) kept.query (kept.answer t right)
           (c.in_ok-more.ensures.lines t right) (inl c.in-KeepGoing.is);
       stopped = stop_more k lines c.loop-line.line-index c.loop-line-test.true kept.stopped
           (inl c.in-KeepGoing.is);
@@ -76,8 +79,9 @@ loop-line-preserved g c =
     }
 
 pub returns-clause-answer : goal.returns-clause-answer
-returns-clause-answer g c = λ t right. answer_end g.F.Form.says c.args.asked.now.policy t
-    (compiled_query c.args.asked.now.query.now) (map line_at c.args.lines.now)
+returns-clause-answer g c = λ t right. answer_end (g.F.Form.says c.args.asked.now.head.now)
+    c.args.asked.now.policy t
+    (asked_query c.args.asked.now) (map line_at c.args.lines.now)
     (map line_at (drop c.loop-line.line-index c.args.lines.now))
     (g.F.Form.written c.loop-line.written)
     (bytes_in c.in_ok-chunks.chunks.items)

@@ -1,7 +1,7 @@
 use Rattle.std.proofs.Common.{◌≡◌, ◌+◌, drop, map}
 use Rattle.jp_buffer.specs.Buffered.{line_at}
-use Rattle.jp_compiled.specs.Compiled.{compiled_query}
-use Rattle.jp_eval.specs.Evaluated.{evaluated_query}
+use Rattle.jp_answer.specs.Asking.{asked_query}
+use Rattle.jp_answer.specs.inner.Filtered.{filtered_query}
 use Rattle.jp_regexp.specs.Tests.{Tests, AreRight}
 use Rattle.jp_answer.specs.Answer.{after}
 use Rattle.jp_answer.specs.OnFault.{answer_by, stop_in, passed_in}
@@ -9,12 +9,13 @@ use Rattle.jp_answer.proofs.answering.answer_lines.Given as goal
 
 abbrev pub invariant-loop-line : goal.invariant-loop-line
 invariant-loop-line g l = record {
-  query : evaluated_query l.tools.evaluator ≡ compiled_query l.asked.query.now;
-  answer : (t : Tests) → AreRight t → answer_by g.F.Form.says l.asked.policy t
-      (compiled_query l.asked.query.now)
+  query : filtered_query l.tools.evaluator ≡ asked_query l.asked;
+  form : (t : Tests) → AreRight t → g.F.Form.form l.written ≡ g.F.Form.says l.asked.head.now;
+  answer : (t : Tests) → AreRight t → answer_by (g.F.Form.says l.asked.head.now) l.asked.policy t
+      (asked_query l.asked)
       (map line_at l.lines)
-      ≡ after (g.F.Form.written l.written) (answer_by g.F.Form.says l.asked.policy t
-      (compiled_query l.asked.query.now)
+      ≡ after (g.F.Form.written l.written) (answer_by (g.F.Form.says l.asked.head.now) l.asked.policy t
+      (asked_query l.asked)
       (map line_at (drop l.line-index l.lines)));
   stopped : stop_in l.asked.policy (map line_at l.lines)
       ≡ stop_in l.asked.policy (map line_at (drop l.line-index l.lines));

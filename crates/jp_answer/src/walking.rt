@@ -1,0 +1,32 @@
+//! How the document of a line is walked.
+
+use crate::asked::Asked;
+use jp_buffer::LineRef;
+use jp_eval::Cuts;
+
+/// How many members a list has at least whose halves are walked at once. A half starts a thread of its own,
+/// for which fewer are too few.
+const SPLIT_FLOOR: u64 = 4096;
+
+/// How long a line is at least that may hold such a list: each member takes two bytes or more.
+const SPLIT_BYTES: usize = 8192;
+
+/// How a document is walked.
+#[derive(Clone, Copy, Drop)]
+pub(crate) enum Walk {
+    /// By one thread.
+    Straight,
+    /// A long list in it is cut so into halves that are walked at once.
+    ByHalves(Cuts),
+}
+
+/// How the document of a line is walked: by no more threads than there are workers, or the next power of two.
+/// A short line holds no list that is worth two.
+pub(crate) fn walk_of(asked: &Asked<'_>, line: &LineRef<'_>) -> Walk {
+    // One worker starts no thread, so it walks straight (README, Why so).
+    if asked.workers > 1 && line.bytes.len() >= SPLIT_BYTES {
+        Walk::ByHalves(Cuts::new(SPLIT_FLOOR, asked.workers))
+    } else {
+        Walk::Straight
+    }
+}
