@@ -30,18 +30,26 @@ pub fn line_help(reason: &LineReason) -> Option<&'static str>
     match reason {
         LineReason::NotWhole(_) => Some("--decimals reads such a number"),
         LineReason::Ended(expected) if may_go_on(*expected) => {
-            Some("one document on several lines? tr '\\n' ' ' < FILE | jp ..")
+            Some("a document over several lines? --documents reads it")
         }
         _ => None,
     }
 }
 
-/// The same as a line of its own; nothing where it is not known.
-pub(crate) fn line_of_help(alloc: Global, reason: &LineReason) -> Result<String, AllocError>
+/// The same of a document over lines: no document goes on behind it.
+pub fn document_help(reason: &LineReason) -> Option<&'static str> {
+    match reason {
+        LineReason::NotWhole(_) => line_help(reason),
+        _ => None,
+    }
+}
+
+/// What helps as a line of its own; nothing where it is not known.
+pub(crate) fn line_of_help(alloc: Global, help: Option<&'static str>) -> Result<String, AllocError>
     ensures shown { IfOk result (λ s. IsHelp (text_of s)) }
-    ensures none { has_help reason.now ≡ false → IfOk result (λ s. text_of s ≡ []) }
+    ensures none { is_some help.entry ≡ false → IfOk result (λ s. text_of s ≡ []) }
 {
-    match line_help(reason) {
+    match help {
         Some(words) => {
             let mut line = Line::new(alloc);
             line.push_text(words)?;

@@ -8,7 +8,7 @@ ghost use Rattle.jp_explain.specs.Picture.{IsLinePicture, IsLinePictureWith, IsP
 
 use crate::line::Line;
 use crate::line_explanation::LineExplanation;
-use crate::line_helping::line_of_help;
+use crate::line_helping::{line_help, line_of_help};
 use std::alloc::{AllocError, Global};
 
 /// How many bytes of a line are shown.
@@ -47,12 +47,17 @@ fn shown_range(line: &[u8], mark: usize) -> (usize, usize) {
 }
 
 /// The bytes of the line from one place to another.
-fn bytes_between(line: &[u8], start: usize, end: usize) -> &[u8] {
+pub(crate) fn bytes_between(line: &[u8], start: usize, end: usize) -> &[u8] {
     line.get(start..end).unwrap_or(&[])
 }
 
 /// The line around the mark, with a caret under it, and the words.
-fn marked(alloc: Global, line: &[u8], mark: usize, words: &str) -> Result<String, AllocError>
+pub(crate) fn marked(
+    alloc: Global,
+    line: &[u8],
+    mark: usize,
+    words: &str,
+) -> Result<String, AllocError>
     ensures { IfOk result (λ s. IsPictureWith (chars words.now) (text_of s)) }
 {
     let (start, end) = shown_range(line, mark);
@@ -81,21 +86,22 @@ fn push_number(head: &mut Line, path: &str, number: &[u8]) -> Result<(), AllocEr
     Ok(())
 }
 
-/// What is to be said of the mark: the number that begins there and what is wrong with it, or the words.
-fn push_reason(
+/// What is to be said of the mark, which stands behind so many bytes of its line: the number that begins
+/// there and what is wrong with it, or the words.
+pub(crate) fn push_reason(
     alloc: Global,
     head: &mut Line,
-    line: &[u8],
+    text: &[u8],
     explanation: &LineExplanation,
+    byte: usize,
 ) -> Result<(), AllocError> {
-    let mark = explanation.mark;
     let reason = &explanation.reason;
     let words = match reason.number() {
         Some((path, end)) => {
-            push_number(head, path, bytes_between(line, mark, end))?;
+            push_number(head, path, bytes_between(text, explanation.mark, end))?;
             format!(in alloc; " {reason}")?
         }
-        None => format!(in alloc; "byte {mark}: {reason}")?,
+        None => format!(in alloc; "byte {byte}: {reason}")?,
     };
     head.push_text(words.as_str())
 }
@@ -110,7 +116,7 @@ fn head(
     let mut head = Line::new(alloc);
     let front = format!(in alloc; "line {number}, ")?;
     head.push_text(front.as_str())?;
-    push_reason(alloc, &mut head, line, explanation)?;
+    push_reason(alloc, &mut head, line, explanation, explanation.mark)?;
     Ok(head)
 }
 
@@ -137,7 +143,7 @@ pub fn write_line_mark(
         → IfOk result (λ s. IsLinePictureWith [] (text_of s)) }
 {
     let head = head(alloc, number, line, explanation)?;
-    let help = line_of_help(alloc, &explanation.reason)?;
+    let help = line_of_help(alloc, line_help(&explanation.reason))?;
     let mark = explanation.mark.min(line.len());
     let picture = marked(alloc, line, mark, help.as_str())?;
     head.above(alloc, picture.as_str())

@@ -7,6 +7,8 @@ mod cures;
 #[cfg(test)]
 mod decimals;
 #[cfg(test)]
+mod document_pictures;
+#[cfg(test)]
 mod escapes;
 #[cfg(test)]
 mod fronts;

@@ -159,7 +159,7 @@ const GOES_ON: [(&str, usize, &str); 8] = [
 ];
 
 /// What helps with them.
-pub(crate) const ONE_LINE: &str = "one document on several lines? tr '\\n' ' ' < FILE | jp ..\n";
+pub(crate) const ONE_LINE: &str = "a document over several lines? --documents reads it\n";
 
 #[test]
 fn lines_that_go_on(rt: HostRuntime) -> Result<(), Fail> {
