@@ -5,30 +5,31 @@ use Rattle.std.proofs.Common.{length-append}
 use Rattle.std.proofs.Common.{Result, Ok, Err, IfOk, OnOk}
 use Rattle.std.specs.Io.KnownBytes.{Consumes, IsAtEnd, Keeps}
 use Rattle.std.proofs.KnownBytes.{Consumes-trans, Consumes-kept}
-use Rattle.jp_doc.specs.Lines.{Line, lines, line_count}
-use Rattle.jp_doc.specs.Feeding.{Progress, nothing_fed, fed, finished, finished_lines}
+use Rattle.jp_doc.specs.Lines.{Line}
+use Rattle.jp_doc.specs.Feeding.{Progress, nothing_fed, finished, finished_lines}
 use Rattle.jp_doc.specs.declared.fault.DocFault.{DocFault}
-use Rattle.jp_tree.specs.Tree as tree
+use Rattle.jp_answer.specs.FilteredQuery.{FilteredQuery}
 use Rattle.jp_regexp.proofs.RightTests.{right_tests}
 use Rattle.jp_answer.specs.Answer.{Answer}
 use Rattle.jp_doc.specs.ReadingIn.{Numbers}
-use Rattle.jp_answer.specs.OnFault.{Manner, stop_on, passed_in, passed_on}
+use Rattle.jp_answer.specs.OnFault.{stop_on, passed_in, passed_on}
 use Rattle.jp_answer.specs.Policy.{numbers_in}
 use Rattle.jp_answer.specs.declared.on_fault.OnFault.{OnFault}
 use Rattle.jp_answer.specs.declared.on_fault.OnFault.TheVariants.{Stop, KeepGoing}
 use Rattle.jp_answer.proofs.OnFaults.{stop_so, passed_joined}
+use Rattle.jp_run.specs.Manner.{Manner}
 use Rattle.jp_run.specs.declared.fault.RunFault.{RunFault}
-use Rattle.jp_run.specs.declared.fault.RunFault.TheVariants.{Query, Document, Read, Write, Limit}
+use Rattle.jp_run.specs.declared.fault.RunFault.TheVariants.{Query, Filter, Document, Read, Write, Limit}
 use Rattle.jp_run.specs.declared.fault.RunFault.TheVariants.{Memory, Settings}
 use Rattle.jp_run.specs.declared.running.Totals.{Totals}
 use Rattle.jp_run.specs.declared.stream.Stream.{Stream}
-use Rattle.jp_run.specs.Come.{documents_in}
+use Rattle.jp_run.specs.Cutting.{documents, documents_in, fed, part_count}
 use Rattle.jp_run.specs.inner.Ended.{Ends, InputFront, ReadEnded, AnswerEnded, RestEnded, FailureEnded}
 use Rattle.jp_run.specs.inner.Ended.{StreamEnded}
 use Rattle.jp_run.specs.inner.Standing.{Stands}
 use Rattle.jp_run.specs.inner.Wrote.{HasBytes, HasBytesMore}
 use Rattle.jp_run.specs.Handed.{Handed, HandedFront}
-use Rattle.jp_run.proofs.Coming.{lines_more, lines_whole, count_whole, count_below}
+use Rattle.jp_run.proofs.Coming.{documents_more, documents_whole, count_whole, count_below}
 use Rattle.jp_run.proofs.Handing.{handed_both, handed_stopped, handed_front, front_more, front_after}
 use Rattle.jp_run.proofs.Pieces.{fed_twice}
 use Rattle.jp_run.proofs.Standing.{all_documents}
@@ -54,7 +55,7 @@ no_stop : (k : OnFault) (n : Numbers) (ls : List Line) (s : ℕ × DocFault) →
 no_stop Stop n ls s e = refl
 no_stop KeepGoing n ls s e = absurd (cc)
 
-module _ (going : Manner) (q : tree.Query) where
+module _ (going : Manner) (q : FilteredQuery) where
   never_going : (ls : List Line) (s : ℕ × DocFault) (a b : Option (List ℕ))
       → Handed going q ls (Some s) a b → going.policy.on_fault ≡ Stop
   never_going ls s a b h = no_stop going.policy.on_fault (numbers_in going.policy.numbers) ls s
@@ -63,53 +64,58 @@ module _ (going : Manner) (q : tree.Query) where
 
   -- what was handed out of the first lines is a front of the whole
   input_front : (a c s u : Option (List ℕ)) (bytes : List ℕ) → Consumes a c bytes
-      → HandedFront going q (documents_in bytes) s u
-      → IfSome a (λ input. HandedFront going q (lines input) s u)
-  input_front a c s u bytes h front = known (λ input. HandedFront going q (lines input) s u) a c bytes h
-      (λ rest. let more = lines_more bytes rest in
+      → HandedFront going q (documents_in going.cutting bytes) s u
+      → IfSome a (λ input. HandedFront going q (documents going.cutting input) s u)
+  input_front a c s u bytes h front = known (λ input. HandedFront going q (documents going.cutting input) s u)
+      a c bytes h
+      (λ rest. let more = documents_more going.cutting bytes rest in
       subst (λ (l : List Line). HandedFront going q l s u) (sym more.1)
-      (front_more going q (documents_in bytes) more.0 s u front))
+      (front_more going q (documents_in going.cutting bytes) more.0 s u front))
 
   stopped_front : (a s u : Option (List ℕ)) (stop : ℕ × DocFault)
-      → IfSome a (λ input. Handed going q (lines input) (Some stop) s u)
-      → IfSome a (λ input. HandedFront going q (lines input) s u)
+      → IfSome a (λ input. Handed going q (documents going.cutting input) (Some stop) s u)
+      → IfSome a (λ input. HandedFront going q (documents going.cutting input) s u)
   stopped_front None s u stop h = tt
-  stopped_front (Some input) s u stop h = handed_front going q (lines input) (Some stop) s u h
+  stopped_front (Some input) s u stop h = handed_front going q (documents going.cutting input) (Some stop) s u
+      h
 
   -- however a run ends, a front of the whole was handed out
   pub ended_front : (e : Ends) (f : RunFault) → StreamEnded going q e f → InputFront going q e
   ended_front e (Document line fault) h = stopped_front e.source_old e.sink_old e.sink_new (line, fault) h.0
   ended_front e Read h = input_front e.source_old e.source_new e.sink_old e.sink_new h.1 h.2
-      (handed_front going q (documents_in h.1) None e.sink_old e.sink_new h.3)
+      (handed_front going q (documents_in going.cutting h.1) None e.sink_old e.sink_new h.3)
   ended_front e Write h = h.1
   ended_front e Limit h = h.1
   ended_front e Memory h = h
   ended_front e (Query fault) h = absurd h
+  ended_front e (Filter fault) h = absurd h
   ended_front e Settings h = absurd h
 
   module _ (a b s u : Option (List ℕ)) (st : Stream) (h : Stands going q a b s u st) where
-    pub stands_front : IfSome a (λ input. HandedFront going q (lines input) s u)
+    pub stands_front : IfSome a (λ input. HandedFront going q (documents going.cutting input) s u)
     stands_front = input_front a b s u (h.front ++ h.more) h.consumed
         (subst (λ (l : List Line). HandedFront going q l s u) (sym (all_documents going q a b s u st h))
-        (front_more going q (documents_in h.front) st.buffer.lines s u
-        (handed_front going q (documents_in h.front) None s u h.handed)))
+        (front_more going q (documents_in going.cutting h.front) st.buffer.lines s u
+        (handed_front going q (documents_in going.cutting h.front) None s u h.handed)))
 
     waiting_front : (v : Option (List ℕ)) → HandedFront going q st.buffer.lines u v
-        → IfSome a (λ input. HandedFront going q (lines input) s v)
+        → IfSome a (λ input. HandedFront going q (documents going.cutting input) s v)
     waiting_front v k = input_front a b s v (h.front ++ h.more) h.consumed
         (subst (λ (l : List Line). HandedFront going q l s v) (sym (all_documents going q a b s u st h))
-        (front_after going q (documents_in h.front) st.buffer.lines s u v h.handed k))
+        (front_after going q (documents_in going.cutting h.front) st.buffer.lines s u v h.handed k))
 
     waiting_stopped : (v : Option (List ℕ)) (stop : ℕ × DocFault)
         → Handed going q st.buffer.lines (Some stop) u v
-        → IfSome a (λ input. Handed going q (lines input) (Some stop) s v)
-    waiting_stopped v stop k = known (λ input. Handed going q (lines input) (Some stop) s v) a b
+        → IfSome a (λ input. Handed going q (documents going.cutting input) (Some stop) s v)
+    waiting_stopped v stop k = known (λ input. Handed going q (documents going.cutting input) (Some stop) s v)
+        a b
         (h.front ++ h.more) h.consumed
-        (λ rest. let more = lines_more (h.front ++ h.more) rest in
+        (λ rest. let more = documents_more going.cutting (h.front ++ h.more) rest in
         subst (λ (l : List Line). Handed going q l (Some stop) s v)
         (ap (λ l. l ++ more.0) (sym (all_documents going q a b s u st h)) ∙ sym more.1)
-        (handed_stopped going q (documents_in h.front ++ st.buffer.lines) more.0 stop s v
-        (handed_both going q (documents_in h.front) st.buffer.lines (Some stop) s u v h.handed k)))
+        (handed_stopped going q (documents_in going.cutting h.front ++ st.buffer.lines) more.0 stop s v
+        (handed_both going q (documents_in going.cutting h.front) st.buffer.lines (Some stop) s u v h.handed
+        k)))
 
   -- the lines that waited were not answered to their end
   pub waiting_ended : (e : Ends) (b u : Option (List ℕ)) (st : Stream) (f : RunFault)
@@ -123,13 +129,15 @@ module _ (going : Manner) (q : tree.Query) where
       (k.0, waiting_front e.source_old b e.sink_old u st h e.sink_new k.1)
   waiting_ended e b u st Memory h k = waiting_front e.source_old b e.sink_old u st h e.sink_new k
   waiting_ended e b u st (Query fault) h k = absurd k
+  waiting_ended e b u st (Filter fault) h k = absurd k
   waiting_ended e b u st Read h k = absurd k
   waiting_ended e b u st Limit h k = absurd k
   waiting_ended e b u st Settings h k = absurd k
 
   -- a read came to a limit
   pub limit_ended : (e : Ends) (b : Option (List ℕ)) (st : Stream) (f : RunFault)
-      → Stands going q e.source_old b e.sink_old e.sink_new st → ReadEnded st.buffer.progress b e.source_new f
+      → Stands going q e.source_old b e.sink_old e.sink_new st
+      → ReadEnded st.buffer.cutting st.buffer.progress b e.source_new f
       → StreamEnded going q e f
   limit_ended e b st Limit h k = (
     inr (
@@ -138,9 +146,10 @@ module _ (going : Manner) (q : tree.Query) where
       omega (
         arith,
         k.2,
-        ap (λ (p : Progress). (fed p k.0).count) h.progress,
-        ap (λ (p : Progress). p.count) (fed_twice nothing_fed (h.front ++ h.more) k.0),
-        count_below ((h.front ++ h.more) ++ k.0),
+        ap (λ c. (fed c st.buffer.progress k.0).count) h.cutting,
+        ap (λ (p : Progress). (fed going.cutting p k.0).count) h.progress,
+        ap (λ (p : Progress). p.count) (fed_twice going.cutting nothing_fed (h.front ++ h.more) k.0),
+        count_below going.cutting ((h.front ++ h.more) ++ k.0),
       ),
     ),
     stands_front e.source_old b e.sink_old e.sink_new st h,
@@ -148,6 +157,7 @@ module _ (going : Manner) (q : tree.Query) where
   limit_ended e b st Memory h k = stands_front e.source_old b e.sink_old e.sink_new st h
   limit_ended e b st Read h k = absurd k
   limit_ended e b st (Query fault) h k = absurd k
+  limit_ended e b st (Filter fault) h k = absurd k
   limit_ended e b st (Document line fault) h k = absurd k
   limit_ended e b st Write h k = absurd k
   limit_ended e b st Settings h k = absurd k
@@ -162,12 +172,14 @@ module _ (going : Manner) (q : tree.Query) where
     Consumes-kept e.source_old b e.source_new (h.front ++ h.more) h.consumed same,
     subst (λ (l : List Line). Handed going q l None e.sink_old e.sink_new)
         (sym (all_documents going q e.source_old b e.sink_old u st h))
-        (handed_both going q (documents_in h.front) st.buffer.lines None e.sink_old u e.sink_new h.handed m),
+        (handed_both going q (documents_in going.cutting h.front) st.buffer.lines None e.sink_old u e.sink_new
+        h.handed m),
   )
   failure_ended e b u st (Document line fault) h k same m = waiting_ended e b u st (Document line fault) h m
   failure_ended e b u st Write h k same m = waiting_ended e b u st Write h m
   failure_ended e b u st Memory h k same m = waiting_ended e b u st Memory h m
   failure_ended e b u st (Query fault) h k same m = absurd m
+  failure_ended e b u st (Filter fault) h k same m = absurd m
   failure_ended e b u st Limit h k same m = absurd m
   failure_ended e b u st Settings h k same m = absurd m
 
@@ -177,84 +189,100 @@ module _ (going : Manner) (q : tree.Query) where
       rest : List Line
       rest = st.buffer.lines ++ finished_lines st.buffer.progress
 
-      lines_are : lines (h.front ++ h.more) ≡ documents_in h.front ++ rest
+      lines_are : documents going.cutting (h.front ++ h.more) ≡ documents_in going.cutting h.front ++ rest
       unfolding rest
-      lines_are = lines_whole (h.front ++ h.more)
-          ∙ ap (λ l. l ++ finished_lines (fed nothing_fed (h.front ++ h.more)))
+      lines_are = documents_whole going.cutting (h.front ++ h.more)
+          ∙ ap (λ l. l ++ finished_lines (fed going.cutting nothing_fed (h.front ++ h.more)))
           (all_documents going q a b s u st h)
-          ∙ append_assoc (documents_in h.front) st.buffer.lines (finished_lines (fed nothing_fed
+          ∙ append_assoc (documents_in going.cutting h.front) st.buffer.lines
+          (finished_lines (fed going.cutting nothing_fed
           (h.front ++ h.more)))
-          ∙ ap (λ (p : Progress). documents_in h.front ++ (st.buffer.lines ++ finished_lines p))
+          ∙ ap (λ (p : Progress). documents_in going.cutting h.front ++ (st.buffer.lines ++ finished_lines p))
           (sym h.progress)
 
       rest_front : HandedFront going q (st.buffer.lines ++ finished_lines st.buffer.progress) u v
-          → IfSome a (λ input. HandedFront going q (lines input) s v)
+          → IfSome a (λ input. HandedFront going q (documents going.cutting input) s v)
       unfolding rest
-      rest_front k = known_all (λ input. HandedFront going q (lines input) s v) a b (h.front ++ h.more)
+      rest_front k = known_all (λ input. HandedFront going q (documents going.cutting input) s v) a b (h.front
+          ++ h.more)
           h.consumed end
           (subst (λ (l : List Line). HandedFront going q l s v) (sym lines_are)
-          (front_after going q (documents_in h.front) rest s u v h.handed k))
+          (front_after going q (documents_in going.cutting h.front) rest s u v h.handed k))
 
       rest_handed : (stop : Option (ℕ × DocFault))
           → Handed going q (st.buffer.lines ++ finished_lines st.buffer.progress) stop u v
-          → IfSome a (λ input. Handed going q (lines input) stop s v)
+          → IfSome a (λ input. Handed going q (documents going.cutting input) stop s v)
       unfolding rest
-      rest_handed stop k = known_all (λ input. Handed going q (lines input) stop s v) a b
+      rest_handed stop k = known_all (λ input. Handed going q (documents going.cutting input) stop s v) a b
           (h.front ++ h.more) h.consumed end
           (subst (λ (l : List Line). Handed going q l stop s v) (sym lines_are)
-          (handed_both going q (documents_in h.front) rest stop s u v h.handed k))
+          (handed_both going q (documents_in going.cutting h.front) rest stop s u v h.handed k))
 
-      rest_counts : (all documents : ℕ) → all ≡ (finished st.buffer.progress).count
-          → documents ≡ st.answered.lines
+      rest_counts : (all seen : ℕ) → all ≡ (finished st.buffer.progress).count
+          → seen ≡ st.answered.lines
           + length (st.buffer.lines ++ finished_lines st.buffer.progress)
-          → IfSome a (λ input. (all ≡ line_count input) × (documents ≡ length (lines input)))
+          → IfSome a (λ input. (all ≡ part_count going.cutting input)
+          × (seen ≡ length (documents going.cutting input)))
       unfolding rest
-      rest_counts all documents e f = known_all
-          (λ input. (all ≡ line_count input) × (documents ≡ length (lines input))) a b (h.front ++ h.more)
+      rest_counts all seen e f = known_all
+          (λ input. (all ≡ part_count going.cutting input) × (seen
+          ≡ length (documents going.cutting input))) a b (h.front ++ h.more)
           h.consumed end (
-            e ∙ ap (λ (p : Progress). (finished p).count) h.progress ∙ count_whole (h.front ++ h.more),
-            omega (arith, f, h.lines, ap length lines_are, length-append (documents_in h.front) rest),
+            e ∙ ap (λ (p : Progress). (finished p).count) h.progress
+                ∙ count_whole going.cutting (h.front ++ h.more),
+            omega (
+              arith,
+              f,
+              h.lines,
+              ap length lines_are,
+              length-append (documents_in going.cutting h.front)
+                  rest,
+            ),
           )
 
       rest_passed : (faulty : ℕ) → faulty ≡ st.answered.faulty
           + passed_in going.policy (st.buffer.lines ++ finished_lines st.buffer.progress)
-          → IfSome a (λ input. faulty ≡ passed_in going.policy (lines input))
+          → IfSome a (λ input. faulty ≡ passed_in going.policy (documents going.cutting input))
       unfolding rest
-      rest_passed faulty e = known_all (λ input. faulty ≡ passed_in going.policy (lines input)) a b
+      rest_passed faulty e = known_all (λ input. faulty ≡ passed_in going.policy
+          (documents going.cutting input)) a b
           (h.front ++ h.more) h.consumed end (omega (
             arith,
             e,
             h.faulty,
             ap (passed_in going.policy) lines_are,
-            passed_joined going.policy (documents_in h.front) rest,
+            passed_joined going.policy (documents_in going.cutting h.front) rest,
           ))
 
       pub faulty_ok : {E : Type 0} (r : Result Totals E)
           → IfOk r (λ t. t.faulty ≡ st.answered.faulty
           + passed_in going.policy (st.buffer.lines ++ finished_lines st.buffer.progress))
-          → IfOk r (λ t. IfSome a (λ input. t.faulty ≡ passed_in going.policy (lines input)))
+          → IfOk r (λ t. IfSome a (λ input. t.faulty ≡ passed_in going.policy
+          (documents going.cutting input)))
       faulty_ok (Ok t) k = rest_passed t.faulty k
       faulty_ok (Err f) k = tt
 
       rest_wrote : (wrote : Bool)
           → HasBytesMore going q (st.buffer.lines ++ finished_lines st.buffer.progress)
           st.answered.wrote wrote
-          → IfSome a (λ input. HasBytes going q (lines input) wrote)
+          → IfSome a (λ input. HasBytes going q (documents going.cutting input) wrote)
       unfolding rest
-      rest_wrote wrote k = known_all (λ input. HasBytes going q (lines input) wrote) a b (h.front ++ h.more)
+      rest_wrote wrote k = known_all (λ input. HasBytes going q (documents going.cutting input) wrote) a b
+          (h.front ++ h.more)
           h.consumed end (subst (λ (l : List Line). HasBytes going q l wrote) (sym lines_are)
-          (wrote_more going q (documents_in h.front) rest s u st.answered.wrote wrote h.handed h.wrote k))
+          (wrote_more going q (documents_in going.cutting h.front) rest s u st.answered.wrote wrote h.handed
+          h.wrote k))
 
       pub wrote_ok : {E : Type 0} (r : Result Totals E)
           → IfOk r (λ t. HasBytesMore going q (st.buffer.lines ++ finished_lines st.buffer.progress)
           st.answered.wrote t.wrote)
-          → IfOk r (λ t. IfSome a (λ input. HasBytes going q (lines input) t.wrote))
+          → IfOk r (λ t. IfSome a (λ input. HasBytes going q (documents going.cutting input) t.wrote))
       wrote_ok (Ok t) k = rest_wrote t.wrote k
       wrote_ok (Err f) k = tt
 
       pub rest_ok : {T E : Type 0} (r : Result T E)
           → OnOk r (Handed going q (st.buffer.lines ++ finished_lines st.buffer.progress) None u v)
-          → OnOk r (IfSome a (λ input. Handed going q (lines input) None s v))
+          → OnOk r (IfSome a (λ input. Handed going q (documents going.cutting input) None s v))
       rest_ok (Ok x) k = rest_handed None k
       rest_ok (Err f) k = tt
 
@@ -262,8 +290,8 @@ module _ (going : Manner) (q : tree.Query) where
           → IfOk r (λ t. t.lines ≡ (finished st.buffer.progress).count)
           → IfOk r (λ t. t.documents ≡ st.answered.lines
           + length (st.buffer.lines ++ finished_lines st.buffer.progress))
-          → IfOk r (λ t. IfSome a (λ input. (t.lines ≡ line_count input)
-          × (t.documents ≡ length (lines input))))
+          → IfOk r (λ t. IfSome a (λ input. (t.lines ≡ part_count going.cutting input)
+          × (t.documents ≡ length (documents going.cutting input))))
       totals_ok (Ok t) k m = rest_counts t.lines t.documents k m
       totals_ok (Err f) k m = tt
 
@@ -286,7 +314,7 @@ module _ (going : Manner) (q : tree.Query) where
         arith,
         k.0,
         ap (λ (p : Progress). (finished p).count) h.progress,
-        count_whole (h.front ++ h.more),
+        count_whole going.cutting (h.front ++ h.more),
       ),
     ),
     rest_front e.source_old e.source_new e.sink_old u e.sink_new st h end k.1,
@@ -294,17 +322,19 @@ module _ (going : Manner) (q : tree.Query) where
   rest_ended e u st Memory h end k =
       rest_front e.source_old e.source_new e.sink_old u e.sink_new st h end k
   rest_ended e u st (Query fault) h end k = absurd k
+  rest_ended e u st (Filter fault) h end k = absurd k
   rest_ended e u st Read h end k = absurd k
   rest_ended e u st Settings h end k = absurd k
 
 -- what is left at the end of an input was not answered to its end
-module _ (going : Manner) (q : tree.Query) (ls : List Line) (count : ℕ) (failed : Bool) where
+module _ (going : Manner) (q : FilteredQuery) (ls : List Line) (count : ℕ) (failed : Bool) where
   pub rest_answer : (a b : Option (List ℕ)) (f : RunFault) → AnswerEnded going q ls failed a b f
       → RestEnded going q ls count failed a b f
   rest_answer a b (Document line fault) h = h
   rest_answer a b Write h = h
   rest_answer a b Memory h = h
   rest_answer a b (Query fault) h = absurd h
+  rest_answer a b (Filter fault) h = absurd h
   rest_answer a b Read h = absurd h
   rest_answer a b Limit h = absurd h
   rest_answer a b Settings h = absurd h

@@ -4,25 +4,22 @@ use Rattle.std.proofs.Common.{inr, refl, sym, ◌∙◌, ap, subst, arith, appen
 use Rattle.std.specs.Io.KnownBytes.{Consumes}
 use Rattle.std.proofs.KnownBytes.{Consumes-trans}
 use Rattle.jp_doc.specs.Lines.{Line}
-use Rattle.jp_doc.specs.Feeding.{Progress, nothing_fed, fed, fed_lines}
-use Rattle.jp_doc.proofs.CutLaws.{open_feedless}
-use Rattle.jp_tree.specs.Tree.{Query}
+use Rattle.jp_doc.specs.Feeding.{Progress, nothing_fed}
+use Rattle.jp_answer.specs.FilteredQuery.{FilteredQuery}
 use Rattle.jp_output.specs.declared.form.Form as form
-use Rattle.jp_output.specs.OutputForm.{OutputForm}
 use Rattle.jp_answer.below.jp_nodes.specs.declared.visit.Visit as visit
-use Rattle.jp_compiled.specs.Compiled.{compiled_query}
-use Rattle.jp_answer.specs.OnFault.{Manner, manner, passed_in}
+use Rattle.jp_answer.specs.OnFault.{passed_in}
 use Rattle.jp_answer.specs.Queued.{sent_lines, sent_task}
-use Rattle.jp_answer.specs.declared.asked.Asked.{Asked}
-use Rattle.jp_answer.specs.declared.policy.LinePolicy.{LinePolicy}
 use Rattle.jp_answer.specs.declared.queue.Queue.{Queue}
 use Rattle.jp_answer.specs.declared.queue.Sent.{Sent}
 use Rattle.jp_answer.proofs.OnFaults.{passed_joined}
-use Rattle.jp_run.specs.Come.{documents_in}
+use Rattle.jp_run.specs.Manner.{Manner}
+use Rattle.jp_run.specs.Cutting.{documents_in, fed, fed_lines}
 use Rattle.jp_run.specs.Handed.{Handed}
 use Rattle.jp_run.specs.inner.Ended.{Ends, AnswerEnded, StreamEnded}
 use Rattle.jp_run.specs.inner.Going.{all_bytes, IsSent, AreSent, Goes, HasWritten}
-use Rattle.jp_run.specs.inner.Going.{AsksSo, GoesOn, WentOut, IsGoing}
+use Rattle.jp_run.specs.inner.Going.{AsksSo, GoesOn, WentOut, IsGoing, manner_asked}
+use Rattle.jp_run.specs.inner.Input.{Input}
 use Rattle.jp_run.specs.inner.Reading.{HasRead}
 use Rattle.jp_run.specs.inner.Standing.{HasAnswered, Stands}
 use Rattle.jp_run.specs.inner.Wrote.{HasBytes}
@@ -36,6 +33,7 @@ use Rattle.jp_run.proofs.Ending.{stands_front, waiting_ended}
 use Rattle.jp_run.proofs.Handing.{handed_both, ended_more}
 use Rattle.jp_run.proofs.Pieces.{lines_twice, fed_twice, lines_nothing}
 use Rattle.jp_run.proofs.Standing.{few_faulty, few_lines, settled}
+use Rattle.jp_answer.specs.Asking.{asked_query}
 use Rattle.jp_run.proofs.Wrote.{wrote_more}
 
 bytes_more : (pieces : List (List ℕ)) (piece : List ℕ) → all_bytes (pieces ++ piece ∷ [])
@@ -46,47 +44,49 @@ bytes_more (p ∷ pieces) piece = ap (λ l. p ++ l) (bytes_more pieces piece)
 
 module _ {F : Type 0} {g : form.Ghosts F} {v : visit.Ghosts F} where
   -- the lines of blocks are those that their pieces complete
-  sent_waiting : (policy : LinePolicy) (q : Query) (before : List ℕ) (pieces : List (List ℕ))
-      (out : List (Sent F g v)) → AreSent policy q before pieces out
-      → sent_lines out ≡ fed_lines (fed nothing_fed before) (all_bytes pieces)
-  sent_waiting policy q before [] [] h = sym (lines_nothing (fed nothing_fed before) (open_feedless before))
-  sent_waiting policy q before [] (s ∷ out) h = absurd h
-  sent_waiting policy q before (p ∷ pieces) [] h = absurd h
-  sent_waiting policy q before (p ∷ pieces) (s ∷ out) h = ap (λ l. l ++ sent_lines out) h.0.lines
-      ∙ ap (λ l. fed_lines (fed nothing_fed before) p ++ l)
-      (sent_waiting policy q (before ++ p) pieces out h.1
-      ∙ ap (λ (k : Progress). fed_lines k (all_bytes pieces)) (fed_twice nothing_fed before p))
-      ∙ sym (lines_twice (fed nothing_fed before) p (all_bytes pieces))
+  sent_waiting : (going : Manner) (q : FilteredQuery) (before : List ℕ) (pieces : List (List ℕ))
+      (out : List (Sent F g v)) → AreSent going q before pieces out
+      → sent_lines out ≡ fed_lines going.cutting (fed going.cutting nothing_fed before) (all_bytes pieces)
+  sent_waiting going q before [] [] h = sym (lines_nothing going.cutting before)
+  sent_waiting going q before [] (s ∷ out) h = absurd h
+  sent_waiting going q before (p ∷ pieces) [] h = absurd h
+  sent_waiting going q before (p ∷ pieces) (s ∷ out) h = ap (λ l. l ++ sent_lines out) h.0.lines
+      ∙ ap (λ l. fed_lines going.cutting (fed going.cutting nothing_fed before) p ++ l)
+      (sent_waiting going q (before ++ p) pieces out h.1
+      ∙ ap (λ (k : Progress). fed_lines going.cutting k (all_bytes pieces))
+      (fed_twice going.cutting nothing_fed before p))
+      ∙ sym (lines_twice going.cutting (fed going.cutting nothing_fed before) p (all_bytes pieces))
 
   -- one more block
-  sent_more : (policy : LinePolicy) (q : Query) (before : List ℕ) (pieces : List (List ℕ)) (piece : List ℕ)
-      (out : List (Sent F g v)) (s : Sent F g v) → AreSent policy q before pieces out
-      → IsSent policy q (before ++ all_bytes pieces) piece s
-      → AreSent policy q before (pieces ++ piece ∷ []) (out ++ s ∷ [])
-  sent_more policy q before [] piece [] s h k =
-      (subst (λ l. IsSent policy q l piece s) (append-nil before) k, tt)
-  sent_more policy q before [] piece (t ∷ out) s h k = absurd h
-  sent_more policy q before (p ∷ pieces) piece [] s h k = absurd h
-  sent_more policy q before (p ∷ pieces) piece (t ∷ out) s h k = (
+  sent_more : (going : Manner) (q : FilteredQuery) (before : List ℕ) (pieces : List (List ℕ)) (piece : List ℕ)
+      (out : List (Sent F g v)) (s : Sent F g v) → AreSent going q before pieces out
+      → IsSent going q (before ++ all_bytes pieces) piece s
+      → AreSent going q before (pieces ++ piece ∷ []) (out ++ s ∷ [])
+  sent_more going q before [] piece [] s h k =
+      (subst (λ l. IsSent going q l piece s) (append-nil before) k, tt)
+  sent_more going q before [] piece (t ∷ out) s h k = absurd h
+  sent_more going q before (p ∷ pieces) piece [] s h k = absurd h
+  sent_more going q before (p ∷ pieces) piece (t ∷ out) s h k = (
     h.0,
-    sent_more policy q (before ++ p) pieces piece out s h.1
-        (subst (λ l. IsSent policy q l piece s) (sym (append_assoc before p (all_bytes pieces))) k),
+    sent_more going q (before ++ p) pieces piece out s h.1
+        (subst (λ l. IsSent going q l piece s) (sym (append_assoc before p (all_bytes pieces))) k),
   )
 
   -- the piece of the front block
-  record First (policy : LinePolicy) (q : Query) (before : List ℕ) (pieces : List (List ℕ)) (s : Sent F g v)
+  record First (going : Manner) (q : FilteredQuery) (before : List ℕ) (pieces : List (List ℕ))
+      (s : Sent F g v)
       (out : List (Sent F g v)) : Type 0 where
     piece : List ℕ
     rest : List (List ℕ)
     are : pieces ≡ piece ∷ rest
-    is_sent : IsSent policy q before piece s
-    are_sent : AreSent policy q (before ++ piece) rest out
+    is_sent : IsSent going q before piece s
+    are_sent : AreSent going q (before ++ piece) rest out
 
-  first_of : (policy : LinePolicy) (q : Query) (before : List ℕ) (pieces : List (List ℕ))
-      (s : Sent F g v) (out : List (Sent F g v)) → AreSent policy q before pieces (s ∷ out)
-      → First policy q before pieces s out
-  first_of policy q before [] s out h = absurd h
-  first_of policy q before (p ∷ pieces) s out h = record {
+  first_of : (going : Manner) (q : FilteredQuery) (before : List ℕ) (pieces : List (List ℕ))
+      (s : Sent F g v) (out : List (Sent F g v)) → AreSent going q before pieces (s ∷ out)
+      → First going q before pieces s out
+  first_of going q before [] s out h = absurd h
+  first_of going q before (p ∷ pieces) s out h = record {
     piece = p;
     rest = pieces;
     are = refl;
@@ -94,7 +94,7 @@ module _ {F : Type 0} {g : form.Ghosts F} {v : visit.Ghosts F} where
     are_sent = h.1;
   }
 
-  module _ (going : Manner) (q : Query) (a b s u : Option (List ℕ)) where
+  module _ (going : Manner) (q : FilteredQuery) (a b s u : Option (List ℕ)) where
     -- no block is out
     pub goes_start : (st : Stream) → Stands going q a b s u st → Goes {F = F} {g = g} {v = v} going q a b s
         u st [] 0
@@ -103,9 +103,11 @@ module _ {F : Type 0} {g : form.Ghosts F} {v : visit.Ghosts F} where
       pieces = [];
       last = h.more;
       consumed = h.consumed;
+      cutting = h.cutting;
       progress = h.progress;
       sent = tt;
-      waiting = h.waiting ∙ ap (λ l. fed_lines (fed nothing_fed l) h.more) (sym (append-nil h.front));
+      waiting = h.waiting ∙ ap (λ l. fed_lines going.cutting (fed going.cutting nothing_fed l) h.more)
+          (sym (append-nil h.front));
       bytes_are = refl;
       come = h.come;
       lines = h.lines;
@@ -119,7 +121,11 @@ module _ {F : Type 0} {g : form.Ghosts F} {v : visit.Ghosts F} where
       pub goes_stands : Stands going q a b s u (record {
         scratch = st.scratch;
         left = st.left;
-        buffer = record { progress = st.buffer.progress; lines = sent_lines out ++ st.buffer.lines };
+        buffer = record {
+          cutting = st.buffer.cutting;
+          progress = st.buffer.progress;
+          lines = sent_lines out ++ st.buffer.lines;
+        };
         come = st.come;
         answered = st.answered;
         not_empty = st.not_empty;
@@ -128,11 +134,15 @@ module _ {F : Type 0} {g : form.Ghosts F} {v : visit.Ghosts F} where
         front = h.front;
         more = all_bytes h.pieces ++ h.last;
         consumed = h.consumed;
+        cutting = h.cutting;
         progress = h.progress;
-        waiting = ap (λ l. l ++ st.buffer.lines) (sent_waiting going.policy q h.front h.pieces out h.sent)
-            ∙ ap (λ l. fed_lines (fed nothing_fed h.front) (all_bytes h.pieces) ++ l) (h.waiting
-            ∙ ap (λ (k : Progress). fed_lines k h.last) (fed_twice nothing_fed h.front (all_bytes h.pieces)))
-            ∙ sym (lines_twice (fed nothing_fed h.front) (all_bytes h.pieces) h.last);
+        waiting = ap (λ l. l ++ st.buffer.lines) (sent_waiting going q h.front h.pieces out h.sent)
+            ∙ ap (λ l. fed_lines going.cutting (fed going.cutting nothing_fed h.front) (all_bytes h.pieces)
+            ++ l) (h.waiting
+            ∙ ap (λ (k : Progress). fed_lines going.cutting k h.last)
+            (fed_twice going.cutting nothing_fed h.front (all_bytes h.pieces)))
+            ∙ sym (lines_twice going.cutting (fed going.cutting nothing_fed h.front) (all_bytes h.pieces)
+            h.last);
         come = h.come;
         lines = h.lines;
         faulty = h.faulty;
@@ -158,14 +168,20 @@ module _ {F : Type 0} {g : form.Ghosts F} {v : visit.Ghosts F} where
             consumed = subst (λ l. Consumes a c l) cut
                 (Consumes-trans a b c (h.front ++ (all_bytes h.pieces ++ h.last)) r.piece h.consumed
                 r.consumed);
-            progress = r.progress ∙ ap (λ (p : Progress). fed p r.piece) h.progress
-                ∙ sym (fed_twice nothing_fed (h.front ++ (all_bytes h.pieces ++ h.last)) r.piece)
-                ∙ ap (λ l. fed nothing_fed l) cut;
+            cutting = r.cutting ∙ h.cutting;
+            progress = r.progress ∙ ap (λ c. fed c st.buffer.progress r.piece) h.cutting
+                ∙ ap (λ (p : Progress). fed going.cutting p r.piece) h.progress
+                ∙ sym (fed_twice going.cutting nothing_fed (h.front
+                ++ (all_bytes h.pieces ++ h.last)) r.piece)
+                ∙ ap (λ l. fed going.cutting nothing_fed l) cut;
             sent = h.sent;
-            waiting = r.lines ∙ ap (λ l. l ++ fed_lines st.buffer.progress r.piece) h.waiting
-                ∙ ap (λ (p : Progress). fed_lines (fed nothing_fed before) h.last ++ fed_lines p r.piece)
-                (h.progress ∙ ap (λ l. fed nothing_fed l) whole ∙ fed_twice nothing_fed before h.last)
-                ∙ sym (lines_twice (fed nothing_fed before) h.last r.piece);
+            waiting = r.lines ∙ ap (λ c. st.buffer.lines ++ fed_lines c st.buffer.progress r.piece) h.cutting
+                ∙ ap (λ l. l ++ fed_lines going.cutting st.buffer.progress r.piece) h.waiting
+                ∙ ap (λ (p : Progress). fed_lines going.cutting (fed going.cutting nothing_fed before) h.last
+                ++ fed_lines going.cutting p r.piece)
+                (h.progress ∙ ap (λ l. fed going.cutting nothing_fed l) whole
+                ∙ fed_twice going.cutting nothing_fed before h.last)
+                ∙ sym (lines_twice going.cutting (fed going.cutting nothing_fed before) h.last r.piece);
             bytes_are = h.bytes_are;
             come = omega (
               arith,
@@ -194,9 +210,10 @@ module _ {F : Type 0} {g : form.Ghosts F} {v : visit.Ghosts F} where
           pieces = h.pieces ++ h.last ∷ [];
           last = [];
           consumed = subst (λ l. Consumes a b (h.front ++ l)) whole h.consumed;
-          progress = k.progress ∙ h.progress ∙ ap (λ l. fed nothing_fed (h.front ++ l)) whole;
-          sent = subst (λ (l : List (Sent F g v)). AreSent going.policy q h.front (h.pieces ++ h.last ∷ []) l)
-              (sym k.out) (sent_more going.policy q h.front h.pieces h.last o.sent.items k.sent h.sent
+          cutting = k.cutting ∙ h.cutting;
+          progress = k.progress ∙ h.progress ∙ ap (λ l. fed going.cutting nothing_fed (h.front ++ l)) whole;
+          sent = subst (λ (l : List (Sent F g v)). AreSent going q h.front (h.pieces ++ h.last ∷ []) l)
+              (sym k.out) (sent_more going q h.front h.pieces h.last o.sent.items k.sent h.sent
               (record {
                 lines = k.lines ∙ h.waiting;
                 bytes = omega (
@@ -206,12 +223,11 @@ module _ {F : Type 0} {g : form.Ghosts F} {v : visit.Ghosts F} where
                   h.come,
                   length-append (all_bytes h.pieces) h.last,
                 );
-                query = ap (λ (d : Asked). compiled_query d.query.now) k.asked ∙ asks.0;
-                policy_is = ap (λ (d : Asked). d.policy) k.asked ∙ asks.1;
+                query = ap asked_query k.asked ∙ asks.0;
+                manner_is = ap (manner_asked g going.cutting) k.asked ∙ asks.1;
               }));
-          waiting = k.none ∙ sym (lines_nothing
-              (fed nothing_fed (h.front ++ all_bytes (h.pieces ++ h.last ∷ [])))
-              (open_feedless (h.front ++ all_bytes (h.pieces ++ h.last ∷ []))));
+          waiting = k.none ∙ sym (lines_nothing going.cutting
+              (h.front ++ all_bytes (h.pieces ++ h.last ∷ [])));
           bytes_are = omega (arith, k.all_bytes_out, h.come, ap length more);
           come = omega (arith, k.come, h.come, ap length whole);
           lines = ap (λ (m : Answered). m.lines) k.answered ∙ h.lines;
@@ -227,41 +243,43 @@ module _ {F : Type 0} {g : form.Ghosts F} {v : visit.Ghosts F} where
     goes_answered st next n w h k = settled going q a b s u st (goes_stands st [] n h) b w next refl (inr k)
 
   -- the answer to the front block is written
-  module _ (form : OutputForm) (policy : LinePolicy) (q : Query) (a b s u : Option (List ℕ)) (st : Stream)
+  module _ (going : Manner) (q : FilteredQuery) (a b s u : Option (List ℕ)) (st : Stream)
       (f : Sent F g v) (out : List (Sent F g v)) (n : ℕ)
-      (h : Goes (manner form policy) q a b s u st (f ∷ out) n) where
-    first : First policy q h.front h.pieces f out
-    first = first_of policy q h.front h.pieces f out h.sent
+      (h : Goes going q a b s u st (f ∷ out) n) where
+    first : First going q h.front h.pieces f out
+    first = first_of going q h.front h.pieces f out h.sent
 
     -- what the block asks is asked in this run
-    asked_handed : (w : Option (List ℕ)) → Handed (manner form (sent_task f).asked.policy)
-        (compiled_query (sent_task f).asked.query.now) (sent_task f).lines None u w
-        → Handed (manner form policy) q (sent_task f).lines None u w
-    asked_handed w k = subst (λ (r : Query). Handed (manner form policy) r (sent_task f).lines None u w)
-        first.is_sent.query (subst (λ (p : LinePolicy). Handed (manner form p)
-        (compiled_query (sent_task f).asked.query.now) (sent_task f).lines None u w)
-        first.is_sent.policy_is k)
+    asked_handed : (w : Option (List ℕ)) → Handed (manner_asked g going.cutting (sent_task f).asked)
+        (asked_query (sent_task f).asked) (sent_task f).lines None u w
+        → Handed going q (sent_task f).lines None u w
+    asked_handed w k = subst (λ (r : FilteredQuery). Handed going r (sent_task f).lines None u w)
+        first.is_sent.query (subst (λ (m : Manner). Handed m
+        (asked_query (sent_task f).asked) (sent_task f).lines None u w)
+        first.is_sent.manner_is k)
 
     pub asked_ended : (w : Option (List ℕ)) (failed : Bool) (fault : RunFault)
-        → AnswerEnded (manner form (sent_task f).asked.policy)
-        (compiled_query (sent_task f).asked.query.now) (sent_task f).lines failed u w fault
-        → AnswerEnded (manner form policy) q (sent_task f).lines failed u w fault
+        → AnswerEnded (manner_asked g going.cutting (sent_task f).asked)
+        (asked_query (sent_task f).asked) (sent_task f).lines failed u w fault
+        → AnswerEnded going q (sent_task f).lines failed u w fault
     asked_ended w failed fault k =
-        subst (λ (r : Query). AnswerEnded (manner form policy) r (sent_task f).lines failed u w fault)
-        first.is_sent.query (subst (λ (p : LinePolicy). AnswerEnded (manner form p)
-        (compiled_query (sent_task f).asked.query.now) (sent_task f).lines failed u w fault)
-        first.is_sent.policy_is k)
+        subst (λ (r : FilteredQuery). AnswerEnded going r (sent_task f).lines failed u w fault)
+        first.is_sent.query (subst (λ (m : Manner). AnswerEnded m
+        (asked_query (sent_task f).asked) (sent_task f).lines failed u w fault)
+        first.is_sent.manner_is k)
 
     pub goes_written : (next : Stream) (m : ℕ) (w : Option (List ℕ))
-        → HasWritten (manner form (sent_task f).asked.policy) (compiled_query (sent_task f).asked.query.now)
+        → HasWritten (manner_asked g going.cutting (sent_task f).asked)
+        (asked_query (sent_task f).asked)
         f st next → m + f.bytes ≡ n
-        → Handed (manner form (sent_task f).asked.policy) (compiled_query (sent_task f).asked.query.now)
-        (sent_task f).lines None u w → Goes (manner form policy) q a b s w next out m
+        → Handed (manner_asked g going.cutting (sent_task f).asked)
+        (asked_query (sent_task f).asked)
+        (sent_task f).lines None u w → Goes going q a b s w next out m
     goes_written next m w written e handed =
-        let k : HasWritten (manner form policy) q f st next =
-        subst (λ (r : Query). HasWritten (manner form policy) r f st next) first.is_sent.query
-        (subst (λ (p : LinePolicy). HasWritten (manner form p)
-        (compiled_query (sent_task f).asked.query.now) f st next) first.is_sent.policy_is written) in
+        let k : HasWritten going q f st next =
+        subst (λ (r : FilteredQuery). HasWritten going r f st next) first.is_sent.query
+        (subst (λ (m : Manner). HasWritten m
+        (asked_query (sent_task f).asked) f st next) first.is_sent.manner_is written) in
         let done = asked_handed w handed in
         let p : List ℕ = first.piece in
         let rest : List ℕ = all_bytes first.rest in
@@ -269,17 +287,22 @@ module _ {F : Type 0} {g : form.Ghosts F} {v : visit.Ghosts F} where
         let cut : h.front ++ (all_bytes h.pieces ++ h.last) ≡ (h.front ++ p) ++ (rest ++ h.last) =
         ap (λ l. h.front ++ (l ++ h.last)) are ∙ ap (λ l. h.front ++ l) (append_assoc p rest h.last)
         ∙ sym (append_assoc h.front p (rest ++ h.last)) in
-        let lines_are : documents_in (h.front ++ p) ≡ documents_in h.front ++ (sent_task f).lines =
-        documents_both h.front p ∙ ap (λ l. documents_in h.front ++ l) (sym first.is_sent.lines) in
+        let lines_are : documents_in going.cutting (h.front ++ p) ≡ documents_in going.cutting h.front
+        ++ (sent_task f).lines =
+        documents_both going.cutting h.front p ∙ ap (λ l. documents_in going.cutting h.front
+        ++ l) (sym first.is_sent.lines) in
         record {
           front = h.front ++ p;
           pieces = first.rest;
           last = h.last;
           consumed = subst (λ l. Consumes a b l) cut h.consumed;
-          progress = ap (λ c. c.progress) k.buffer ∙ h.progress ∙ ap (λ l. fed nothing_fed l) cut;
+          cutting = ap (λ (i : Input). i.cutting) k.buffer ∙ h.cutting;
+          progress = ap (λ (i : Input). i.progress) k.buffer ∙ h.progress ∙ ap
+              (λ l. fed going.cutting nothing_fed l) cut;
           sent = first.are_sent;
-          waiting = ap (λ c. c.lines) k.buffer ∙ h.waiting
-              ∙ ap (λ l. fed_lines (fed nothing_fed l) h.last) (ap (λ l. h.front ++ l) are
+          waiting = ap (λ (i : Input). i.lines) k.buffer ∙ h.waiting
+              ∙ ap (λ l. fed_lines going.cutting (fed going.cutting nothing_fed l) h.last) (ap
+              (λ l. h.front ++ l) are
               ∙ sym (append_assoc h.front p rest));
           bytes_are = omega (
             arith,
@@ -304,20 +327,20 @@ module _ {F : Type 0} {g : form.Ghosts F} {v : visit.Ghosts F} where
             k.lines,
             h.lines,
             ap length lines_are,
-            length-append (documents_in h.front) (sent_task f).lines,
+            length-append (documents_in going.cutting h.front) (sent_task f).lines,
           );
           faulty = omega (
             arith,
             k.faulty,
             h.faulty,
-            ap (passed_in policy) lines_are,
-            passed_joined policy (documents_in h.front) (sent_task f).lines,
+            ap (passed_in going.policy) lines_are,
+            passed_joined going.policy (documents_in going.cutting h.front) (sent_task f).lines,
           );
-          wrote = subst (λ (l : List Line). HasBytes (manner form policy) q l next.answered.wrote)
-              (sym lines_are) (wrote_more (manner form policy) q (documents_in h.front) (sent_task f).lines s
+          wrote = subst (λ (l : List Line). HasBytes going q l next.answered.wrote)
+              (sym lines_are) (wrote_more going q (documents_in going.cutting h.front) (sent_task f).lines s
               u st.answered.wrote next.answered.wrote h.handed h.wrote k.wrote);
-          handed = subst (λ (l : List Line). Handed (manner form policy) q l None s w) (sym lines_are)
-              (handed_both (manner form policy) q (documents_in h.front) (sent_task f).lines None s u w
+          handed = subst (λ (l : List Line). Handed going q l None s w) (sym lines_are)
+              (handed_both going q (documents_in going.cutting h.front) (sent_task f).lines None s u w
               h.handed done);
         }
 
@@ -342,7 +365,7 @@ module _ {F : Type 0} {g : form.Ghosts F} {v : visit.Ghosts F} where
     )
 
   -- the lines of the front block were not answered to their end
-  pub goes_ended : (going : Manner) (q : Query) (e : Ends) (u : Option (List ℕ)) (st : Stream)
+  pub goes_ended : (going : Manner) (q : FilteredQuery) (e : Ends) (u : Option (List ℕ)) (st : Stream)
       (f : Sent F g v) (out : List (Sent F g v)) (n : ℕ) (fault : RunFault)
       → Goes going q e.source_old e.source_new e.sink_old u st (f ∷ out) n
       → AnswerEnded going q (sent_task f).lines e.sink_failed u e.sink_new fault
@@ -350,7 +373,11 @@ module _ {F : Type 0} {g : form.Ghosts F} {v : visit.Ghosts F} where
   goes_ended going q e u st f out n fault h k = waiting_ended going q e e.source_new u (record {
     scratch = st.scratch;
     left = st.left;
-    buffer = record { progress = st.buffer.progress; lines = sent_lines (f ∷ out) ++ st.buffer.lines };
+    buffer = record {
+      cutting = st.buffer.cutting;
+      progress = st.buffer.progress;
+      lines = sent_lines (f ∷ out) ++ st.buffer.lines;
+    };
     come = st.come;
     answered = st.answered;
     not_empty = st.not_empty;
@@ -361,19 +388,24 @@ module _ {F : Type 0} {g : form.Ghosts F} {v : visit.Ghosts F} where
       fault k))
 
   -- memory was refused
-  pub goes_memory : (going : Manner) (q : Query) (e : Ends) (st : Stream) (out : List (Sent F g v)) (n : ℕ)
+  pub goes_memory : (going : Manner) (q : FilteredQuery) (e : Ends) (st : Stream) (out : List (Sent F g v))
+      (n : ℕ)
       → Goes going q e.source_old e.source_new e.sink_old e.sink_new st out n → StreamEnded going q e Memory
   goes_memory going q e st out n h = stands_front going q e.source_old e.source_new e.sink_old e.sink_new
       (record {
         scratch = st.scratch;
         left = st.left;
-        buffer = record { progress = st.buffer.progress; lines = sent_lines out ++ st.buffer.lines };
+        buffer = record {
+          cutting = st.buffer.cutting;
+          progress = st.buffer.progress;
+          lines = sent_lines out ++ st.buffer.lines;
+        };
         come = st.come;
         answered = st.answered;
         not_empty = st.not_empty;
       }) (goes_stands going q e.source_old e.source_new e.sink_old e.sink_new st out n h)
 
-  module _ (going : Manner) (q : Query) (a b s u : Option (List ℕ)) where
+  module _ (going : Manner) (q : FilteredQuery) (a b s u : Option (List ℕ)) where
     -- no more lines are answered, are out, or wait than have come
     pub few_going : (st : Stream) (out : List (Sent F g v)) (n : ℕ) → Goes going q a b s u st out n
         → st.buffer.progress.count ≤ max_lines
@@ -383,7 +415,11 @@ module _ {F : Type 0} {g : form.Ghosts F} {v : visit.Ghosts F} where
       few_lines going q a b s u (record {
         scratch = st.scratch;
         left = st.left;
-        buffer = record { progress = st.buffer.progress; lines = sent_lines out ++ st.buffer.lines };
+        buffer = record {
+          cutting = st.buffer.cutting;
+          progress = st.buffer.progress;
+          lines = sent_lines out ++ st.buffer.lines;
+        };
         come = st.come;
         answered = st.answered;
         not_empty = st.not_empty;
@@ -410,7 +446,11 @@ module _ {F : Type 0} {g : form.Ghosts F} {v : visit.Ghosts F} where
     few_faulty_going st out n h = few_faulty going q a b s u (record {
       scratch = st.scratch;
       left = st.left;
-      buffer = record { progress = st.buffer.progress; lines = sent_lines out ++ st.buffer.lines };
+      buffer = record {
+        cutting = st.buffer.cutting;
+        progress = st.buffer.progress;
+        lines = sent_lines out ++ st.buffer.lines;
+      };
       come = st.come;
       answered = st.answered;
       not_empty = st.not_empty;
@@ -429,7 +469,8 @@ module _ {F : Type 0} {g : form.Ghosts F} {v : visit.Ghosts F} where
         (goes_start going q a b s u st h))
 
   -- a run still stands somewhere
-  pub going_on : (going : Manner) (q : Query) (u w : Option (List ℕ)) (st next : Stream) (o p : Queue F g v)
+  pub going_on : (going : Manner) (q : FilteredQuery) (u w : Option (List ℕ)) (st next : Stream)
+      (o p : Queue F g v)
       → IsGoing going q u st o → GoesOn going q u w st next o p → p.asked ≡ o.asked
       → IsGoing going q w next p
   going_on going q u w st next o p h k e = (
@@ -437,5 +478,5 @@ module _ {F : Type 0} {g : form.Ghosts F} {v : visit.Ghosts F} where
     h.1,
     h.2,
     k h.0 h.1 h.2 h.3,
-    (ap (λ (d : Asked). compiled_query d.query.now) e ∙ h.4.0, ap (λ (d : Asked). d.policy) e ∙ h.4.1),
+    (ap asked_query e ∙ h.4.0, ap (manner_asked g going.cutting) e ∙ h.4.1),
   )

@@ -9,17 +9,18 @@ use Rattle.std.specs.Io.KnownBytes.{Appends}
 use Rattle.std.proofs.KnownBytes.{Appends-nil, Appends-trans}
 use Rattle.jp_doc.specs.Lines.{Line}
 use Rattle.jp_doc.specs.declared.fault.DocFault.{DocFault}
-use Rattle.jp_tree.specs.Tree as tree
+use Rattle.jp_answer.specs.FilteredQuery.{FilteredQuery}
 use Rattle.jp_regexp.specs.Tests.{Tests, AreRight}
 use Rattle.jp_answer.specs.Answer.{Answer, after, joined, unless_stopped}
 use Rattle.jp_answer.specs.Blocks.{IsAnswerTo}
-use Rattle.jp_answer.specs.OnFault.{Manner, manner, answer_by}
+use Rattle.jp_answer.specs.OnFault.{manner, answer_by}
 use Rattle.jp_answer.specs.declared.outcome.Outcome.{Outcome}
 use Rattle.jp_answer.specs.declared.policy.LinePolicy.{LinePolicy}
 use Rattle.jp_output.specs.OutputForm.{OutputForm}
 use Rattle.jp_answer.proofs.OnFaults.{formed_joined, nothing_in}
+use Rattle.jp_run.specs.Manner.{Manner}
 use Rattle.jp_run.specs.declared.fault.RunFault.{RunFault}
-use Rattle.jp_run.specs.declared.fault.RunFault.TheVariants.{Query, Document, Read, Write, Limit}
+use Rattle.jp_run.specs.declared.fault.RunFault.TheVariants.{Query, Filter, Document, Read, Write, Limit}
 use Rattle.jp_run.specs.declared.fault.RunFault.TheVariants.{Memory, Settings}
 use Rattle.jp_run.specs.inner.Ended.{HandingEnded, AnswerEnded}
 use Rattle.jp_run.specs.Handed.{Handed, HandedFront}
@@ -90,7 +91,7 @@ bytes_by : (stop : Option (ℕ × DocFault)) (a b : Answer) → (more : List ℕ
 bytes_by None a b = (b.bytes, refl)
 bytes_by (Some s) a b = ([], sym (append-nil a.bytes))
 
-module _ (going : Manner) (q : tree.Query) where
+module _ (going : Manner) (q : FilteredQuery) where
   pub handed_none : (a : Option (List ℕ)) → Handed going q [] None a a
   handed_none a = record {
     whole = record { bytes = []; stopped = None };
@@ -163,6 +164,7 @@ module _ (going : Manner) (q : tree.Query) where
   ended_more xs ys failed a b Write h = (h.0, front_more xs ys a b h.1)
   ended_more xs ys failed a b Memory h = front_more xs ys a b h
   ended_more xs ys failed a b (Query fault) h = absurd h
+  ended_more xs ys failed a b (Filter fault) h = absurd h
   ended_more xs ys failed a b Read h = absurd h
   ended_more xs ys failed a b Limit h = absurd h
   ended_more xs ys failed a b Settings h = absurd h
@@ -174,6 +176,7 @@ module _ (going : Manner) (q : tree.Query) where
   ended_after xs ys failed a b c Write g h = (h.0, front_after xs ys a b c g h.1)
   ended_after xs ys failed a b c Memory g h = front_after xs ys a b c g h
   ended_after xs ys failed a b c (Query fault) g h = absurd h
+  ended_after xs ys failed a b c (Filter fault) g h = absurd h
   ended_after xs ys failed a b c Read g h = absurd h
   ended_after xs ys failed a b c Limit g h = absurd h
   ended_after xs ys failed a b c Settings g h = absurd h
@@ -194,6 +197,7 @@ module _ (going : Manner) (q : tree.Query) where
       λ t right. subst (λ (r : Answer). AppendsFront a b r.bytes) (sym (is t right)) h.1,
     )
     ended_handing failed (Query fault) h = absurd h
+    ended_handing failed (Filter fault) h = absurd h
     ended_handing failed Read h = absurd h
     ended_handing failed Limit h = absurd h
     ended_handing failed Memory h = absurd h
@@ -202,10 +206,11 @@ module _ (going : Manner) (q : tree.Query) where
     pub handing_done : whole.stopped ≡ None → Appends a b whole.bytes → Handed going q ls None a b
     handing_done h k = record { whole = whole; is = is; stopped = h; appended = k }
 
--- the answer by a policy, and to a query, that are the same
-pub in_manner : (form : OutputForm) (done meant : LinePolicy) (q r : tree.Query) (ls : List Line)
-    (a : Outcome) → done ≡ meant → q ≡ r → IsAnswerTo (manner form done) q ls a
-    → IsAnswerTo (manner form meant) r ls a
-in_manner form done meant q r ls a e f h =
-    subst (λ (k : LinePolicy). IsAnswerTo (manner form k) r ls a) e
-    (subst (λ (x : tree.Query). IsAnswerTo (manner form done) x ls a) f h)
+-- the answer behind a head, by a policy, and to a query, that are the same
+pub in_manner : (form : List ℕ → OutputForm) (before behind : List ℕ) (done meant : LinePolicy)
+    (q r : FilteredQuery) (ls : List Line) (a : Outcome) → before ≡ behind → done ≡ meant → q ≡ r
+    → IsAnswerTo (manner (form before) done) q ls a → IsAnswerTo (manner (form behind) meant) r ls a
+in_manner form before behind done meant q r ls a d e f h =
+    subst (λ (b : List ℕ). IsAnswerTo (manner (form b) meant) r ls a) d
+    (subst (λ (k : LinePolicy). IsAnswerTo (manner (form before) k) r ls a) e
+    (subst (λ (x : FilteredQuery). IsAnswerTo (manner (form before) done) x ls a) f h))

@@ -1,33 +1,36 @@
 -- Bytes that are fed in two pieces.
-use Rattle.std.proofs.Common.{◌≡◌, ℕ, ◌+◌, false, List, [], ◌++◌, length, sym, ◌∙◌, ap, arith, append_assoc}
+use Rattle.std.proofs.Common.{◌≡◌, ℕ, ◌+◌, List, [], ◌++◌, length, sym, ◌∙◌, ap, arith, append_assoc}
 use Rattle.std.proofs.Common.{append-nil, length-append}
-use Rattle.jp_doc.specs.Feeding.{Cut, cut, has_line_feed, numbered, Progress, fed, fed_lines}
-use Rattle.jp_doc.proofs.CutLaws.{cut_open, cut_both, numbered_both}
+use Rattle.jp_doc.specs.Feeding.{Cut, Progress, nothing_fed, numbered}
+use Rattle.jp_doc.proofs.CutLaws.{numbered_both}
+use Rattle.jp_run.specs.Cutting.{cut, fed, fed_lines}
+use Rattle.jp_run.specs.declared.cutting.Cutting.{Cutting}
+use Rattle.jp_run.proofs.Cuttings.{cut_again, cut_both}
 
-pub lines_twice : (p : Progress) (a b : List ℕ) → fed_lines p (a ++ b) ≡ fed_lines p a ++ fed_lines (fed p
-    a) b
-lines_twice p a b =
+pub lines_twice : (c : Cutting) (p : Progress) (a b : List ℕ)
+    → fed_lines c p (a ++ b) ≡ fed_lines c p a ++ fed_lines c (fed c p a) b
+lines_twice c p a b =
     let front : List ℕ = p.open_line ++ a in
-    ap (λ l. numbered (p.count + 1) (cut l).ended) (sym (append_assoc p.open_line a b))
-    ∙ ap (λ (c : Cut). numbered (p.count + 1) c.ended) (cut_both front b)
-    ∙ numbered_both (p.count + 1) ((fed p a).count + 1) (cut front).ended
-    (cut ((cut front).open_line ++ b)).ended (omega arith)
+    ap (λ l. numbered (p.count + 1) (cut c l).ended) (sym (append_assoc p.open_line a b))
+    ∙ ap (λ (k : Cut). numbered (p.count + 1) k.ended) (cut_both c front b)
+    ∙ numbered_both (p.count + 1) ((fed c p a).count + 1) (cut c front).ended
+    (cut c ((cut c front).open_line ++ b)).ended (omega arith)
 
-pub fed_twice : (p : Progress) (a b : List ℕ) → fed p (a ++ b) ≡ fed (fed p a) b
-fed_twice p a b =
+pub fed_twice : (c : Cutting) (p : Progress) (a b : List ℕ) → fed c p (a ++ b) ≡ fed c (fed c p a) b
+fed_twice c p a b =
     let front : List ℕ = p.open_line ++ a in
-    let later : Cut = cut ((cut front).open_line ++ b) in
-    let counts : p.count + length ((cut front).ended ++ later.ended) ≡ p.count + length (cut front).ended
-    + length later.ended = omega (arith, length-append (cut front).ended later.ended) in
-    ap (λ l. record { count = p.count + length (cut l).ended; open_line = (cut l).open_line })
+    let later : Cut = cut c ((cut c front).open_line ++ b) in
+    let counts : p.count + length ((cut c front).ended ++ later.ended) ≡ p.count + length (cut c front).ended
+    + length later.ended = omega (arith, length-append (cut c front).ended later.ended) in
+    ap (λ l. record { count = p.count + length (cut c l).ended; open_line = (cut c l).open_line })
     (sym (append_assoc p.open_line a b))
-    ∙ ap (λ (c : Cut). record { count = p.count + length c.ended; open_line = c.open_line }) (cut_both front
-    b)
+    ∙ ap (λ (k : Cut). record { count = p.count + length k.ended; open_line = k.open_line })
+    (cut_both c front b)
     ∙ ap (λ k. record { count = k; open_line = later.open_line }) counts
 
-nothing_cut : (p : Progress) → has_line_feed p.open_line ≡ false
-    → cut (p.open_line ++ []) ≡ record { ended = []; open_line = p.open_line }
-nothing_cut p h = ap cut (append-nil p.open_line) ∙ cut_open p.open_line h
-
-pub lines_nothing : (p : Progress) → has_line_feed p.open_line ≡ false → fed_lines p [] ≡ []
-lines_nothing p h = ap (λ (c : Cut). numbered (p.count + 1) c.ended) (nothing_cut p h)
+-- nothing more ends in no bytes
+pub lines_nothing : (c : Cutting) (bytes : List ℕ) → fed_lines c (fed c nothing_fed bytes) [] ≡ []
+lines_nothing c bytes =
+    let p : Progress = fed c nothing_fed bytes in
+    ap (λ l. numbered (p.count + 1) (cut c l).ended) (append-nil (cut c bytes).open_line)
+    ∙ ap (λ (k : Cut). numbered (p.count + 1) k.ended) (cut_again c bytes)

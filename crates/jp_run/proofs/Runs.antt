@@ -1,76 +1,51 @@
 -- What a run has done, in terms of its query's text.
-use Rattle.std.proofs.Common.{◌≡◌, ℕ, List, Option, Some, None, Bool, true, false, IfSome, ◌⊎◌, inl}
-use Rattle.std.proofs.Common.{inr, Result, Ok}
-use Rattle.std.proofs.Common.{Err, IfErr, IfOk, OnOk, OnErr, IsErrAnd, ◌∙◌, ap, subst, sym, nat_lt, length}
+use Rattle.std.proofs.Common.{◌≡◌, ℕ, ◌+◌, ◌≤◌, List, Option, Some, None, Bool, true, false, IfSome, inl}
+use Rattle.std.proofs.Common.{Result, Ok}
+use Rattle.std.proofs.Common.{Err, IfErr, IfOk, OnOk, OnErr, IsErrAnd, ◌∙◌, ap, subst, sym, nat_lt, arith}
+use Rattle.std.proofs.Common.{length, refl}
+use Rattle.std.specs.Prelude.{IsErrOf}
 use Rattle.std.specs.Io.KnownBytes.{Appends}
-use Rattle.jp_doc.specs.Lines.{lines}
+use Rattle.std.proofs.KnownBytes.{Appends-nil}
 use Rattle.jp_doc.specs.declared.fault.DocFault.{DocFault}
-use Rattle.jp_tree.specs.Tree as tree
-use Rattle.jp_tree.specs.Tree.{Text}
-use Rattle.jp_tree.specs.declared.fault.QueryFault.{QueryFault}
 use Rattle.jp_regexp.proofs.RightTests.{right_tests}
 use Rattle.jp_number.specs.declared.numbers.Numbers.{Numbers}
-use Rattle.jp_check.specs.Verdict.{IsAcceptedIn, IsVerdictIn}
-use Rattle.jp_check.proofs.OneVerdict.{one_verdict}
 use Rattle.jp_answer.specs.Answer.{Answer}
-use Rattle.jp_run.specs.Answered.{IsAnswerBy, manner_by, on_fault_of}
-use Rattle.jp_answer.specs.OnFault.{Manner, answer_by}
+use Rattle.jp_answer.specs.FilteredQuery.{FilteredQuery}
+use Rattle.jp_run.specs.AskedTexts.{AskedTexts, AreAcceptedIn}
+use Rattle.jp_run.specs.Manner.{Manner}
+use Rattle.jp_run.specs.Answered.{IsAnswerBy, head_of, manner_by, manner_of, numbers_of, on_fault_of}
+use Rattle.jp_run.specs.Cutting.{documents}
+use Rattle.jp_answer.specs.OnFault.{answer_by}
 use Rattle.jp_answer.specs.declared.on_fault.OnFault.TheVariants.{Stop}
+use Rattle.jp_run.specs.declared.ends.Sink as sink
+use Rattle.jp_run.specs.declared.ends.Supply as supply
+use Rattle.jp_run.specs.declared.job.Job.{Job}
 use Rattle.jp_run.specs.declared.fault.RunFault.{RunFault}
+use Rattle.jp_run.specs.declared.fault.RunFault.TheVariants.{Query, Filter, Document, Read, Write, Limit}
+use Rattle.jp_run.specs.declared.fault.RunFault.TheVariants.{Memory, Settings}
 use Rattle.jp_run.specs.declared.output.Output.{Output}
 use Rattle.jp_run.specs.declared.running.Totals.{Totals}
-use Rattle.jp_run.specs.declared.fault.RunFault.TheVariants.{Query, Memory}
+use Rattle.jp_run.specs.declared.settings.Settings as settings
 use Rattle.jp_run.specs.inner.Ended.{Ends, StreamEnded}
 use Rattle.jp_run.specs.Handed.{Handed, HandedFront}
-use Rattle.jp_run.specs.Written.{AppendsFront}
+use Rattle.jp_run.specs.Limits.{max_reads, window as window_bytes}
+use Rattle.jp_run.specs.Written.{AppendsFront, IsPassedOn}
 use Rattle.jp_run.specs.Begun.{Begun, AllSince}
 use Rattle.jp_run.specs.Prompt.{IsPrompt, IsNear}
+use Rattle.jp_run.specs.Ran.{IsRunOf}
+use Rattle.jp_run.specs.Status.{status_of}
+use Rattle.jp_run.specs.inner.Running.{HasRun}
 use Rattle.jp_run.specs.inner.Standing.{BeginsPrompt, BeginsNear}
 use Rattle.jp_run.specs.inner.Wrote.{HasBytes}
+use Rattle.jp_run.proofs.Accepted.{one_asked}
 use Rattle.jp_run.proofs.Ending.{ended_front}
-use Rattle.jp_run.proofs.Readings.{since_so}
-
-same_ok : {X E : Type 0} (x y : X) → ◌≡◌ {A = Result X E} (Ok x) (Ok y) → x ≡ y
-same_ok x y e = cc
-
-same_err : {X E : Type 0} (x y : E) → ◌≡◌ {A = Result X E} (Err x) (Err y) → x ≡ y
-same_err x y e = cc
-
--- what is told of a text by these numbers is told by those, where they are the same
-by_numbers : (n m : Numbers) (text : Text) (f : QueryFault) → n ≡ m → IsVerdictIn m text (Err f)
-    → IsVerdictIn n text (Err f)
-by_numbers n m text f same = subst (λ k. IsVerdictIn k text (Err f)) (sym same)
-
-pub not_both : {P : Type 0} (n m : Numbers) (text : Text) (q : tree.Query) (f : QueryFault) → n ≡ m
-    → IsAcceptedIn n text q → IsVerdictIn m text (Err f) → P
-not_both n m text q f same h g = let e : ◌≡◌ {A = Result tree.Query QueryFault} (Ok q) (Err f) =
-    one_verdict n text (Ok q) (Err f) h (by_numbers n m text f same g) in absurd cc
-
--- the query that is walked is the one that was accepted
-pub spelled : (n m : Numbers) (text : Text) (q accepted : tree.Query) → n ≡ m → q ≡ accepted
-    → IsAcceptedIn n text accepted → IsAcceptedIn m text q
-spelled n m text q accepted same e h =
-    subst (λ k. IsAcceptedIn k text q) same (subst (IsAcceptedIn n text) (sym e) h)
+use Rattle.jp_run.specs.inner.Jobs.{job_query}
+use Rattle.jp_run.proofs.Readings.{none_yet, since_so}
 
 -- an answer that keeps going does not stop
 pub not_going : (keeps_going : Bool) → keeps_going ≡ true → on_fault_of keeps_going ≡ Stop → ⊥
 not_going true on off = cc
 not_going false on off = cc
-
--- a refused text ends in want of memory or in its fault
-err_of : {T E : Type 0} (r : Result T E) (e : E) → IsErrAnd r (λ f. f ≡ e) → r ≡ Err e
-err_of (Ok x) e h = absurd h
-err_of (Err f) e h = ap Err h
-
-pub refused_so : {T : Type 0} (n m : Numbers) (text : Text) (f : QueryFault) (fault : RunFault)
-    (r : Result T RunFault) → n ≡ m → IsErrAnd r (λ e. e ≡ fault)
-    → (fault ≡ Memory) ⊎ ((g : QueryFault) × (fault ≡ Query g) × IsVerdictIn n text (Err g))
-    → IsVerdictIn m text (Err f) → (r ≡ Err (Query f)) ⊎ (r ≡ Err Memory)
-refused_so n m text f fault r is h (inl e) v = inr (err_of r fault h ∙ ap Err e)
-refused_so n m text f fault r is h (inr (g, e, w)) v =
-    let same : ◌≡◌ {A = Result tree.Query QueryFault} (Err g) (Err f) =
-    one_verdict n text (Err g) (Err f) w (by_numbers n m text f is v) in
-    inl (err_of r fault h ∙ ap Err (e ∙ ap Query (same_err g f same)))
 
 -- what stands after the fault that was told
 pub at_fault : {T : Type 0} (r : Result T RunFault) (f : RunFault) (P : RunFault → Type 0) → r ≡ Err f
@@ -78,106 +53,216 @@ pub at_fault : {T : Type 0} (r : Result T RunFault) (f : RunFault) (P : RunFault
 at_fault (Ok x) f P e h = absurd (cc)
 at_fault (Err g) f P e h = let same : g ≡ f = cc in subst P same h
 
-pub accepted_ok : {T : Type 0} (n m : Numbers) (text : Text) (q : tree.Query) → n ≡ m
-    → IsAcceptedIn n text q → (r : Result T RunFault) → OnOk r ((q : tree.Query) × IsAcceptedIn m text q)
-accepted_ok n m text q same accepted (Ok x) = (q, subst (λ k. IsAcceptedIn k text q) same accepted)
-accepted_ok n m text q same accepted (Err f) = tt
+pub never_err : {X E P : Type 0} {x : X} {f : E} → ◌≡◌ {A = Result X E} (Ok x) (Err f) → P
+never_err e = absurd cc
 
-module _ (going : Manner) (text : Text) (q : tree.Query) (accepted : IsAcceptedIn going.policy.numbers text q)
-  where
-    -- the answer that was handed out is that to the text
-    pub answer_known : (stop : Option (ℕ × DocFault)) (known s u : Option (List ℕ))
-        → IfSome known (λ input. Handed going q (lines input) stop s u)
-        → IfSome known (λ input. (a : Answer) × IsAnswerBy going text input a × (a.stopped ≡ stop)
-        × Appends s u a.bytes)
-    answer_known stop None s u h = tt
-    answer_known stop (Some input) s u h = (h.whole, (q, accepted, h.is), h.stopped, h.appended)
+pub accepted_ok : {T : Type 0} {n m : Numbers} {asked : AskedTexts} {q : FilteredQuery} → n ≡ m
+    → AreAcceptedIn n asked q → (r : Result T RunFault)
+    → OnOk r ((q : FilteredQuery) × AreAcceptedIn m asked q)
+accepted_ok {asked = asked} {q = q} same accepted (Ok x) =
+    (q, subst (λ n. AreAcceptedIn n asked q) same accepted)
+accepted_ok same accepted (Err f) = tt
 
-    pub answer_ok : {T : Type 0} (r : Result T RunFault) (known s u : Option (List ℕ))
-        → OnOk r (IfSome known (λ input. Handed going q (lines input) None s u))
-        → OnOk r (IfSome known (λ input. (a : Answer) × IsAnswerBy going text input a × (a.stopped ≡ None)
-        × Appends s u a.bytes))
-    answer_ok (Ok x) known s u h = answer_known None known s u h
-    answer_ok (Err f) known s u h = tt
+-- what is said of all texts that are accepted with these numbers
+pub asked_so : {n m : Numbers} {asked : AskedTexts} {q : FilteredQuery} {P : AskedTexts → Type 0} → n ≡ m
+    → AreAcceptedIn n asked q → ((asked : AskedTexts) → AreAcceptedIn m asked q → P asked) → P asked
+asked_so {asked = asked} {q = q} same accepted said =
+    said asked (subst (λ n. AreAcceptedIn n asked q) same accepted)
 
-    pub answer_wrote : (r : Result Totals RunFault) (known s u : Option (List ℕ))
-        → OnOk r (IfSome known (λ input. Handed going q (lines input) None s u))
-        → IfOk r (λ totals. IfSome known (λ input. HasBytes going q (lines input) totals.wrote))
-        → IfOk r (λ totals. IfSome known (λ input. (a : Answer) × IsAnswerBy going text input a
-        × (totals.wrote ≡ nat_lt 0 (length a.bytes))))
-    answer_wrote (Ok totals) None s u h k = tt
-    answer_wrote (Ok totals) (Some input) s u h k = (
-      h.whole,
-      (q, accepted, h.is),
-      k right_tests.0 right_tests.1
-          ∙ ap (λ (a : Answer). nat_lt 0 (length a.bytes)) (h.is right_tests.0 right_tests.1),
-    )
-    answer_wrote (Err f) known s u h k = tt
+-- a run that has written nothing has written a front
+pub none_written : {T : Type 0} (going : Manner) (asked : AskedTexts) (r : Result T RunFault)
+    (known sink : Option (List ℕ)) → OnErr r (IfSome known (λ input. (b : Answer)
+    → IsAnswerBy going asked input b → AppendsFront sink sink b.bytes))
+none_written going asked (Ok x) known sink = tt
+none_written going asked (Err f) None sink = tt
+none_written going asked (Err f) (Some input) sink = λ b is. (0, omega arith, Appends-nil sink)
 
-    answer_is : (input : List ℕ) (b : Answer) → IsAnswerBy going text input b
-        → answer_by going.form going.policy right_tests.0 q (lines input) ≡ b
-    answer_is input b h =
-        let same : q ≡ h.0 =
-        same_ok q h.0 (one_verdict going.policy.numbers text (Ok q) (Ok h.0) accepted h.1) in
-        ap (λ q. answer_by going.form going.policy right_tests.0 q (lines input)) same ∙ h.2 right_tests.0
-        right_tests.1
+module _ (going : Manner) (asked : AskedTexts) (q : FilteredQuery)
+    (accepted : AreAcceptedIn going.policy.numbers asked q) where
+  -- the answer that was handed out is that to the text
+  pub answer_known : (stop : Option (ℕ × DocFault)) (known s u : Option (List ℕ))
+      → IfSome known (λ input. Handed going q (documents going.cutting input) stop s u)
+      → IfSome known (λ input. (a : Answer) × IsAnswerBy going asked input a × (a.stopped ≡ stop)
+      × Appends s u a.bytes)
+  answer_known stop None s u h = tt
+  answer_known stop (Some input) s u h = (h.whole, (q, accepted, h.is), h.stopped, h.appended)
 
-    front_known : (known s u : Option (List ℕ))
-        → IfSome known (λ input. HandedFront going q (lines input) s u)
-        → IfSome known (λ input. (b : Answer) → IsAnswerBy going text input b → AppendsFront s u b.bytes)
-    front_known None s u h = tt
-    front_known (Some input) s u h = λ b is. subst (λ (b : Answer). AppendsFront s u b.bytes)
-        (answer_is input b is) (h right_tests.0 right_tests.1)
+  pub answer_ok : {T : Type 0} (r : Result T RunFault) (known s u : Option (List ℕ))
+      → OnOk r (IfSome known (λ input. Handed going q (documents going.cutting input) None s u))
+      → OnOk r (IfSome known (λ input. (a : Answer) × IsAnswerBy going asked input a × (a.stopped ≡ None)
+      × Appends s u a.bytes))
+  answer_ok (Ok x) known s u h = answer_known None known s u h
+  answer_ok (Err f) known s u h = tt
 
-    pub front_err : {T : Type 0} (r : Result T RunFault) (e : Ends) → IfErr r (StreamEnded going q e)
-        → OnErr r (IfSome e.source_old (λ input. (b : Answer) → IsAnswerBy going text input b
-        → AppendsFront e.sink_old e.sink_new b.bytes))
-    front_err (Ok x) e h = tt
-    front_err (Err f) e h = front_known e.source_old e.sink_old e.sink_new (ended_front going q e f h)
+  pub answer_wrote : (r : Result Totals RunFault) (known s u : Option (List ℕ))
+      → OnOk r (IfSome known (λ input. Handed going q (documents going.cutting input) None s u))
+      → IfOk r (λ totals. IfSome known (λ input. HasBytes going q (documents going.cutting input)
+      totals.wrote))
+      → IfOk r (λ totals. IfSome known (λ input. (a : Answer) × IsAnswerBy going asked input a
+      × (totals.wrote ≡ nat_lt 0 (length a.bytes))))
+  answer_wrote (Ok totals) None s u h k = tt
+  answer_wrote (Ok totals) (Some input) s u h k = (
+    h.whole,
+    (q, accepted, h.is),
+    k right_tests.0 right_tests.1
+        ∙ ap (λ (a : Answer). nat_lt 0 (length a.bytes)) (h.is right_tests.0 right_tests.1),
+  )
+  answer_wrote (Err f) known s u h k = tt
 
-    -- what is promised of each read is promised of the text
-    pub prompt_by : (input sink : Option (List ℕ)) (a b : Option (List Begun))
-        → AllSince a b (BeginsPrompt going q input sink) → AllSince a b (IsPrompt going text input sink)
-    prompt_by input sink = since_so (BeginsPrompt going q input sink) (IsPrompt going text input sink)
-        (λ begun h not. let k = h not in (k.0, k.1, (q, accepted, k.2), k.3))
+  answer_is : (input : List ℕ) (b : Answer) → IsAnswerBy going asked input b
+      → answer_by going.form going.policy right_tests.0 q (documents going.cutting input) ≡ b
+  answer_is input b h =
+      let same : q ≡ h.0 = one_asked going.policy.numbers asked q h.0 accepted h.1 in
+      ap (λ q. answer_by going.form going.policy right_tests.0 q (documents going.cutting input)) same
+      ∙ h.2 right_tests.0
+      right_tests.1
 
-    pub near_by : (most : ℕ) (input sink : Option (List ℕ)) (a b : Option (List Begun))
-        → AllSince a b (BeginsNear most going q input sink)
-        → AllSince a b (IsNear most going text input sink)
-    near_by most input sink = since_so (BeginsNear most going q input sink)
-        (IsNear most going text input sink) (λ begun h. (h.0, h.1, h.2, h.3, (q, accepted, h.4)))
+  front_known : (known s u : Option (List ℕ))
+      → IfSome known (λ input. HandedFront going q (documents going.cutting input) s u)
+      → IfSome known (λ input. (b : Answer) → IsAnswerBy going asked input b → AppendsFront s u b.bytes)
+  front_known None s u h = tt
+  front_known (Some input) s u h = λ b is. subst (λ (b : Answer). AppendsFront s u b.bytes)
+      (answer_is input b is) (h right_tests.0 right_tests.1)
 
--- what holds of an answer in a form holds of the settings that name it
-module _ (output named : Output) (is : output ≡ named) (decimals keeps_going : Bool) (q : tree.Query) where
-  pub handed_in : {T : Type 0} (r : Result T RunFault) (known s u : Option (List ℕ))
-      → OnOk r (IfSome known
-      (λ input. Handed (manner_by named decimals keeps_going) q (lines input) None s u))
-      → OnOk r (IfSome known
-      (λ input. Handed (manner_by output decimals keeps_going) q (lines input) None s u))
-  handed_in r known s u = subst (λ o. OnOk r (IfSome known
-      (λ input. Handed (manner_by o decimals keeps_going) q (lines input) None s u))) (sym is)
+  pub front_err : {T : Type 0} (r : Result T RunFault) (e : Ends) → IfErr r (StreamEnded going q e)
+      → OnErr r (IfSome e.source_old (λ input. (b : Answer) → IsAnswerBy going asked input b
+      → AppendsFront e.sink_old e.sink_new b.bytes))
+  front_err (Ok x) e h = tt
+  front_err (Err f) e h = front_known e.source_old e.sink_old e.sink_new (ended_front going q e f h)
 
-  pub wrote_in : (r : Result Totals RunFault) (known : Option (List ℕ))
-      → IfOk r (λ totals. IfSome known
-      (λ input. HasBytes (manner_by named decimals keeps_going) q (lines input) totals.wrote))
-      → IfOk r (λ totals. IfSome known
-      (λ input. HasBytes (manner_by output decimals keeps_going) q (lines input) totals.wrote))
-  wrote_in r known = subst (λ o. IfOk r (λ (totals : Totals). IfSome known
-      (λ input. HasBytes (manner_by o decimals keeps_going) q (lines input) totals.wrote))) (sym is)
+  -- what is promised of each read is promised of the text
+  pub prompt_by : (input sink : Option (List ℕ)) (a b : Option (List Begun))
+      → AllSince a b (BeginsPrompt going q input sink) → AllSince a b (IsPrompt going asked input sink)
+  prompt_by input sink = since_so (BeginsPrompt going q input sink) (IsPrompt going asked input sink)
+      (λ begun h not. let k = h not in (k.0, k.1, (q, accepted, k.2), k.3))
 
-  pub ended_in : {T : Type 0} (r : Result T RunFault) (e : Ends)
-      → IfErr r (StreamEnded (manner_by named decimals keeps_going) q e)
-      → IfErr r (StreamEnded (manner_by output decimals keeps_going) q e)
-  ended_in r e = subst (λ o. IfErr r (StreamEnded (manner_by o decimals keeps_going) q e)) (sym is)
+  pub near_by : (most : ℕ) (input sink : Option (List ℕ)) (a b : Option (List Begun))
+      → AllSince a b (BeginsNear most going q input sink)
+      → AllSince a b (IsNear most going asked input sink)
+  near_by most input sink = since_so (BeginsNear most going q input sink)
+      (IsNear most going asked input sink) (λ begun h. (h.0, h.1, h.2, h.3, (q, accepted, h.4)))
 
-  pub prompt_in : (a b : Option (List Begun)) (input sink : Option (List ℕ))
-      → AllSince a b (BeginsPrompt (manner_by named decimals keeps_going) q input sink)
-      → AllSince a b (BeginsPrompt (manner_by output decimals keeps_going) q input sink)
-  prompt_in a b input sink =
-      subst (λ o. AllSince a b (BeginsPrompt (manner_by o decimals keeps_going) q input sink)) (sym is)
+-- what is done in a form is done by the settings that name it
+pub ran_in : {R G S K : Type 0} {source : supply.Ghosts S} {k : sink.Ghosts K} {job : Job R G} {a b : S}
+    {u w : K} {r : Result Totals RunFault} (named : Output) → job.settings.output ≡ named
+    → HasRun (manner_by job.settings.cutting named (head_of job.settings) job.settings.decimals
+    job.settings.keeps_going) source k job a b u w r
+    → HasRun (manner_of job.settings) source k job a b u w r
+ran_in {source = source} {k = k} {job = job} {a = a} {b = b} {u = u} {w = w} {r = r} named is =
+    subst (λ (o : Output). HasRun (manner_by job.settings.cutting o (head_of job.settings)
+    job.settings.decimals job.settings.keeps_going) source k job a b u w r) (sym is)
 
-  pub near_in : (a b : Option (List Begun)) (most : ℕ) (input sink : Option (List ℕ))
-      → AllSince a b (BeginsNear most (manner_by named decimals keeps_going) q input sink)
-      → AllSince a b (BeginsNear most (manner_by output decimals keeps_going) q input sink)
-  near_in a b most input sink =
-      subst (λ o. AllSince a b (BeginsNear most (manner_by o decimals keeps_going) q input sink)) (sym is)
+-- a run that a fault has ended
+module _ {R G S K : Type 0} {going : Manner} {source : supply.Ghosts S} {k : sink.Ghosts K} {job : Job R G}
+    {a b : S} {u w : K} where
+  pub not_run : (f : RunFault) {r : Result Totals RunFault} → IsErrAnd r (λ e. e ≡ f)
+      → StreamEnded going (job_query job) (record {
+        source_old = source.remaining a;
+        source_new = source.remaining b;
+        reads_old = source.reads a;
+        reads_new = source.reads b;
+        source_failed = source.failed b;
+        sink_old = k.contents u;
+        sink_new = k.contents w;
+        sink_failed = k.failed w;
+      }) f
+      → IsPassedOn (k.flushed w) (k.failed w)
+      → AllSince (source.begun a) (source.begun b) (BeginsPrompt going (job_query job)
+      (source.remaining a) (k.contents u))
+      → AllSince (source.begun a) (source.begun b) (BeginsNear window_bytes going
+      (job_query job) (source.remaining a) (k.contents u))
+      → source.reads b ≤ source.reads a + max_reads → HasRun going source k job a b u w r
+  not_run f {r = Ok x} e ended passed_on prompt window few = absurd e
+  not_run f {r = Err y} e ended passed_on prompt window few = record {
+    handed = tt;
+    counts = tt;
+    passed = tt;
+    none_passed = λ off. tt;
+    wrote = tt;
+    few_lines = tt;
+    end = tt;
+    flushed = tt;
+    still_working = tt;
+    passed_on = λ flushed. passed_on;
+    fault = subst (StreamEnded going (job_query job) _) (sym e) ended;
+    prompt = prompt;
+    window = window;
+    few = few;
+  }
+
+-- no text is told to be refused by a run
+never_refused : {T : Type 0} (going : Manner) (q : FilteredQuery) (e : Ends) (r : Result T RunFault)
+    → IfErr r (StreamEnded going q e) → (f : RunFault) → IsErrOf r f → status_of f ≡ 2 → ⊥
+never_refused going q e r h (Query f) is two = at_fault r (Query f) (StreamEnded going q e) is h
+never_refused going q e r h (Filter f) is two = at_fault r (Filter f) (StreamEnded going q e) is h
+never_refused going q e r h (Document line fault) is two = absurd (omega arith)
+never_refused going q e r h Read is two = absurd (omega arith)
+never_refused going q e r h Write is two = absurd (omega arith)
+never_refused going q e r h Limit is two = absurd (omega arith)
+never_refused going q e r h Memory is two = absurd (omega arith)
+never_refused going q e r h Settings is two = absurd (omega arith)
+
+-- what was run of a job is a run of texts that are accepted and spell what it asks
+pub run_of : {R G S K : Type 0} {source : supply.Ghosts S} {k : sink.Ghosts K} {job : Job R G} {a b : S}
+    {u w : K} {r : Result Totals RunFault} (asked : AskedTexts)
+    → AreAcceptedIn (numbers_of job.settings.decimals) asked (job_query job)
+    → HasRun (manner_of job.settings) source k job a b u w r
+    → IsRunOf asked job.settings source k a b u w r
+run_of {source = source} {k = k} {job = job} {a = a} {b = b} {u = u} {w = w} {r = r} asked accepted ran =
+    let going : Manner = manner_of job.settings in
+    let q : FilteredQuery = job_query job in
+    record {
+      answer = answer_ok going asked q accepted r _ _ _ ran.handed;
+      counts = ran.counts;
+      faulty = ran.passed;
+      none_passed = ran.none_passed;
+      wrote = answer_wrote going asked q accepted r _ _ _ ran.handed ran.wrote;
+      few_lines = ran.few_lines;
+      end = ran.end;
+      flushed = ran.flushed;
+      still_working = ran.still_working;
+      passed_on = ran.passed_on;
+      document = λ line fault e. answer_known going asked q accepted _ _ _ _
+          (at_fault r (Document line fault) _ e ran.fault).0;
+      goes_on = λ on line fault e. not_going _ on (at_fault r (Document line fault) _ e ran.fault).1;
+      prompt = prompt_by going asked q accepted _ _ _ _ ran.prompt;
+      window = near_by going asked q accepted _ _ _ _ _ ran.window;
+      read = λ e. let h = at_fault r Read _ e ran.fault in (h.0, h.1, h.2, (q, accepted, h.3));
+      write = λ e. (at_fault r Write _ e ran.fault).0;
+      limit = λ e. (at_fault r Limit _ e ran.fault).0;
+      taken = never_refused going q _ r ran.fault;
+      settings_fine = λ e. at_fault r Settings _ e ran.fault;
+      front = front_err going asked q accepted r _ ran.fault;
+      few = ran.few;
+    }
+
+-- want of memory before anything was done
+pub not_begun : {S K : Type 0} {source : supply.Ghosts S} {k : sink.Ghosts K} {a : S} {u : K}
+    {r : Result Totals RunFault} (asked : AskedTexts) (s : settings.Settings) → IsErrAnd r (λ e. e ≡ Memory)
+    → IsRunOf asked s source k a a u u r
+not_begun {r = Ok x} asked s e = absurd e
+not_begun {source = source} {k = k} {a = a} {u = u} {r = Err f} asked s e =
+    subst (λ f. IsRunOf asked s source k a a u u (Err f)) (sym e) (record {
+      answer = tt;
+      counts = tt;
+      faulty = tt;
+      none_passed = λ off. tt;
+      wrote = tt;
+      few_lines = tt;
+      end = tt;
+      flushed = tt;
+      still_working = tt;
+      passed_on = λ flushed. inl flushed;
+      document = λ line fault is. absurd cc;
+      goes_on = λ on line fault is. cc;
+      prompt = none_yet _ _ _ refl;
+      window = none_yet _ _ _ refl;
+      read = λ is. absurd cc;
+      write = λ is. absurd cc;
+      limit = λ is. absurd cc;
+      taken = λ f is two. let same : Memory ≡ f = cc in
+          let five : 5 ≡ status_of f = ap status_of same in omega (arith, two, five);
+      settings_fine = λ is. cc;
+      front = none_written {T = Totals} (manner_of s) asked (Err Memory) _ _;
+      few = omega arith;
+    })

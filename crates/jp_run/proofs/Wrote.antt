@@ -3,11 +3,12 @@ use Rattle.std.proofs.Common.{◌≡◌, ℕ, Bool, false, ◌||◌, nat_lt, Lis
 use Rattle.std.proofs.Common.{true, refl, sym, ◌∙◌, ap, arith}
 use Rattle.std.proofs.lemmas.Bool.Decides.{nat_tests}
 use Rattle.jp_doc.specs.Lines.{Line}
-use Rattle.jp_tree.specs.Tree.{Query}
+use Rattle.jp_answer.specs.FilteredQuery.{FilteredQuery}
 use Rattle.jp_regexp.specs.Tests.{Tests, AreRight}
 use Rattle.jp_answer.specs.Answer.{Answer, unless_stopped}
-use Rattle.jp_answer.specs.OnFault.{Manner, answer_by}
+use Rattle.jp_answer.specs.OnFault.{answer_by}
 use Rattle.jp_answer.proofs.OnFaults.{formed_joined, nothing_in}
+use Rattle.jp_run.specs.Manner.{Manner}
 use Rattle.jp_run.specs.Handed.{Handed}
 use Rattle.jp_run.specs.inner.Wrote.{HasBytes, HasBytesMore}
 
@@ -20,7 +21,7 @@ some_of_both [] ys = refl
 some_of_both (x ∷ xs) ys =
     some_byte x (xs ++ ys) ∙ sym (ap (λ b. b || nat_lt 0 (length ys)) (some_byte x xs))
 
-module _ (going : Manner) (q : Query) where
+module _ (going : Manner) (q : FilteredQuery) where
   pub wrote_none : HasBytes going q [] false
   wrote_none = λ t right. sym (ap (λ (a : Answer). nat_lt 0 (length a.bytes))
       (nothing_in going.form t q going.policy))

@@ -1,12 +1,14 @@
 -- What a query text is answered with over a byte stream, and what the answers of `src/` stand for.
-use Rattle.std.specs.Prelude.{◌≡◌, ℕ, Bool, true, false, List, option_map}
-use Rattle.jp_doc.specs.Lines.{Line, lines}
+use Rattle.std.specs.Prelude.{◌≡◌, ℕ, Bool, true, false, List, [], ◌∷◌, ◌++◌, Option, None, Some}
+use Rattle.std.specs.Prelude.{option_map}
+use Rattle.jp_doc.specs.Lines.{Line}
 use Rattle.jp_tree.specs.Tree.{Text, Query}
 use Rattle.jp_regexp.specs.Tests.{Tests, AreRight}
-use Rattle.jp_check.specs.Verdict.{IsAccepted, IsAcceptedIn}
+use Rattle.jp_check.specs.Verdict.{IsAccepted}
 use Rattle.jp_answer.specs.Answer.{Answer, stream_answer}
+use Rattle.jp_answer.specs.FilteredQuery.{FilteredQuery}
 use Rattle.jp_output.specs.OutputForm.{OutputForm}
-use Rattle.jp_answer.specs.OnFault.{Manner, manner, answer_by, passed_in as lines_passed}
+use Rattle.jp_answer.specs.OnFault.{answer_by, passed_in as lines_passed}
 use Rattle.jp_answer.specs.Policy.{policy}
 use Rattle.jp_answer.specs.declared.on_fault.OnFault.{OnFault}
 use Rattle.jp_answer.specs.declared.on_fault.OnFault.TheVariants.{Stop, KeepGoing}
@@ -14,7 +16,11 @@ use Rattle.jp_answer.specs.declared.policy.LinePolicy.{LinePolicy}
 use Rattle.jp_number.specs.declared.numbers.Numbers.{Numbers}
 use Rattle.jp_number.specs.declared.numbers.Numbers.TheVariants.{Whole as Integers, Decimals}
 use Rattle.jp_answer.specs.Whole.{Whole}
+use Rattle.jp_run.specs.AskedTexts.{AskedTexts, AreAcceptedIn}
+use Rattle.jp_run.specs.Cutting.{documents}
 use Rattle.jp_run.specs.Forms.{form_of}
+use Rattle.jp_run.specs.Manner.{Manner, manner}
+use Rattle.jp_run.specs.declared.cutting.Cutting.{Cutting}
 use Rattle.jp_run.specs.declared.output.Output.{Output}
 use Rattle.jp_run.specs.declared.settings.Settings.{Settings}
 use Rattle.jp_run.specs.declared.outcome.Answer as stopping
@@ -34,15 +40,24 @@ numbers_of true = Decimals
 abbrev pub policy_of : Bool → Bool → LinePolicy
 policy_of decimals keeps_going = policy (numbers_of decimals) (on_fault_of keeps_going)
 
-abbrev pub manner_by : Output → Bool → Bool → Manner
-manner_by output decimals keeps_going = manner (form_of output) (policy_of decimals keeps_going)
+-- what each line stands behind: the name and a tab, if there is a name
+abbrev pub head_behind : Option (List ℕ) → List ℕ
+head_behind None = []
+head_behind (Some name) = name ++ 9 ∷ []
+
+abbrev pub head_of : Settings → List ℕ
+head_of s = head_behind (option_map (λ name. name.now) s.name)
+
+abbrev pub manner_by : Cutting → Output → List ℕ → Bool → Bool → Manner
+manner_by cutting output head decimals keeps_going =
+    manner cutting (form_of output head) (policy_of decimals keeps_going)
 
 -- by the settings, in their form and in some form
 abbrev pub manner_of : Settings → Manner
-manner_of s = manner_by s.output s.decimals s.keeps_going
+manner_of s = manner_by s.cutting s.output (head_of s) s.decimals s.keeps_going
 
-abbrev pub manner_in : OutputForm → Settings → Manner
-manner_in form s = manner form (policy_of s.decimals s.keeps_going)
+abbrev pub manner_in : (List ℕ → OutputForm) → Settings → Manner
+manner_in form s = manner s.cutting (form (head_of s)) (policy_of s.decimals s.keeps_going)
 
 -- how many faulty lines the answer passes
 abbrev pub passed_in : Settings → List Line → ℕ
@@ -53,10 +68,11 @@ abbrev pub IsAnswerTo : Text → List ℕ → Answer → Type 0
 IsAnswerTo text input a = (q : Query) × IsAccepted text q
     × ((t : Tests) → AreRight t → stream_answer t q input ≡ a)
 
--- the text is accepted with the numbers of the manner, and this is the answer in that manner
-abbrev pub IsAnswerBy : Manner → Text → List ℕ → Answer → Type 0
-IsAnswerBy going text input a = (q : Query) × IsAcceptedIn going.policy.numbers text q
-    × ((t : Tests) → AreRight t → answer_by going.form going.policy t q (lines input) ≡ a)
+-- what is asked is accepted with the numbers of the manner, and this is the answer in that manner to the
+-- input, which is cut as the manner says
+abbrev pub IsAnswerBy : Manner → AskedTexts → List ℕ → Answer → Type 0
+IsAnswerBy going asked input a = (q : FilteredQuery) × AreAcceptedIn going.policy.numbers asked q
+    × ((t : Tests) → AreRight t → answer_by going.form going.policy t q (documents going.cutting input) ≡ a)
 
 -- what an `Answer` of `src/` stands for
 abbrev pub answer_of : stopping.Answer → Answer

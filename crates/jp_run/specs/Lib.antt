@@ -1,11 +1,15 @@
 pub mod Answered
+pub mod AskedTexts
 pub mod Begun
-pub mod Come
 pub mod Counts
+pub mod Cutting
 pub mod Forms
 pub mod Handed
 pub mod Limits
+pub mod Manner
+pub mod Prepared
 pub mod Prompt
+pub mod Ran
 pub mod Written
 pub mod Selecting
 pub mod Settings

@@ -1,16 +1,14 @@
 //! Lines that are answered in batches, each handed to the sink, and passed on, before the next begins.
 
-ghost use Rattle.std.specs.Prelude.{◌≡◌, ◌+◌, ◌<◌, ◌≤◌, false, true, None, map, length, take, drop};
-ghost use Rattle.std.specs.Prelude.{IfOk, OnOk, IfErr};
+ghost use Rattle.std.specs.Prelude.{◌≡◌, ◌+◌, ◌<◌, ◌≤◌, map, length, take, drop, IfOk};
 ghost use Rattle.jp_buffer.specs.Buffered.{line_at};
-ghost use Rattle.jp_compiled.specs.Compiled.{compiled_query};
 ghost use Rattle.jp_answer.specs.Blocks.{IsAnswerTo};
-ghost use Rattle.jp_run.specs.Answered.{manner_in, passed_in};
-ghost use Rattle.jp_run.specs.inner.Ended.{AnswerEnded};
-ghost use Rattle.jp_run.specs.inner.Wrote.{HasBytes};
-ghost use Rattle.jp_run.specs.Handed.{Handed};
+ghost use Rattle.jp_run.specs.Answered.{manner_in};
+ghost use Rattle.jp_run.specs.inner.Answering.{HasHandedOut};
+ghost use Rattle.jp_run.specs.inner.Ready.{IsReady};
 ghost use Rattle.jp_run.specs.Limits.{max_lines};
-ghost use Rattle.jp_run.specs.Written.{IsPassedOn};
+ghost use Rattle.jp_run.specs.inner.Jobs.{job_query};
+ghost use Rattle.jp_run.specs.Manner.{of_documents};
 
 use crate::ends::Sink;
 use crate::fault::RunFault;
@@ -30,20 +28,10 @@ pub(crate) fn answer_lines<R: Threads + Sync, K: Sink, G: Gate + Sync, F: Form +
     lines: &[LineRef<'_>],
     sink: &mut K,
 ) -> Result<Passed, RunFault>
-    requires working { K.failed sink.old ≡ false }
-    requires flushed { K.flushed sink.old ≡ true }
+    requires ready { IsReady K.Sink sink.old }
     requires few { length lines.now ≤ max_lines + 1 }
-    ensures handed { OnOk result (Handed (manner_in F.says job.now.settings) (compiled_query
-        job.now.query.now) (map line_at lines.now) None (K.contents sink.old) (K.contents sink.new)) }
-    ensures passed { IfOk result (λ p. p.faulty ≡ passed_in job.now.settings (map line_at lines.now)) }
-    ensures wrote { IfOk result (λ p. HasBytes (manner_in F.says job.now.settings) (compiled_query
-        job.now.query.now) (map line_at lines.now) p.wrote) }
-    ensures working { OnOk result (K.failed sink.new ≡ false) }
-    ensures flushed { OnOk result (K.flushed sink.new ≡ true) }
-    ensures passed_on { IsPassedOn (K.flushed sink.new) (K.failed sink.new) }
-    ensures fault { IfErr result (AnswerEnded (manner_in F.says job.now.settings) (compiled_query
-        job.now.query.now) (map line_at lines.now) (K.failed sink.new) (K.contents sink.old) (K.contents
-        sink.new)) }
+    ensures handed_out { HasHandedOut F.says K.Sink job.now (map line_at lines.now) sink.old sink.new
+        result }
 {
     let batch = job.settings.batch as usize;
     let mut done = 0;
@@ -78,20 +66,10 @@ fn answer_batch<R: Threads + Sync, K: Sink, G: Gate + Sync, F: Form + Drop + Sen
     lines: &[LineRef<'_>],
     sink: &mut K,
 ) -> Result<Passed, RunFault>
-    requires working { K.failed sink.old ≡ false }
-    requires flushed { K.flushed sink.old ≡ true }
+    requires ready { IsReady K.Sink sink.old }
     requires few { length lines.now ≤ max_lines + 1 }
-    ensures handed { OnOk result (Handed (manner_in F.says job.now.settings) (compiled_query
-        job.now.query.now) (map line_at lines.now) None (K.contents sink.old) (K.contents sink.new)) }
-    ensures passed { IfOk result (λ p. p.faulty ≡ passed_in job.now.settings (map line_at lines.now)) }
-    ensures wrote { IfOk result (λ p. HasBytes (manner_in F.says job.now.settings) (compiled_query
-        job.now.query.now) (map line_at lines.now) p.wrote) }
-    ensures working { OnOk result (K.failed sink.new ≡ false) }
-    ensures flushed { OnOk result (K.flushed sink.new ≡ true) }
-    ensures passed_on { IsPassedOn (K.flushed sink.new) (K.failed sink.new) }
-    ensures fault { IfErr result (AnswerEnded (manner_in F.says job.now.settings) (compiled_query
-        job.now.query.now) (map line_at lines.now) (K.failed sink.new) (K.contents sink.old) (K.contents
-        sink.new)) }
+    ensures handed_out { HasHandedOut F.says K.Sink job.now (map line_at lines.now) sink.old sink.new
+        result }
 {
     let answer = answer_to::<R, G, F>(job, lines)?;
     hand_out(sink, &answer)?;
@@ -107,8 +85,8 @@ fn answer_to<R: Threads + Sync, G: Gate + Sync, F: Form + Drop + Send>(
     lines: &[LineRef<'_>],
 ) -> Result<Outcome, AllocError>
     requires { length lines.now ≤ max_lines + 1 }
-    ensures { IfOk result (IsAnswerTo (manner_in F.says job.now.settings) (compiled_query
-        job.now.query.now) (map line_at lines.now)) }
+    ensures { IfOk result (IsAnswerTo (of_documents (manner_in F.says job.now.settings)) (job_query
+        job.now) (map line_at lines.now)) }
 {
     let asked = job.asked();
     // One for these lines alone: what it keeps of a long line is let go with it.

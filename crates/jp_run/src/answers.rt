@@ -4,7 +4,12 @@ ghost use Rattle.std.specs.Prelude.{◌≡◌, ◌+◌, ◌≤◌, length, map, 
 ghost use Rattle.jp_doc.specs.Lines.{line_of};
 ghost use Rattle.jp_check.specs.Plan.{planned_query};
 ghost use Rattle.jp_regexp.specs.Tests.{Tests, AreRight};
+ghost use Rattle.jp_number.specs.declared.numbers.Numbers.TheVariants.{Whole as Integers};
+ghost use Rattle.jp_compiled.specs.Compiled.{compiled_query};
 ghost use Rattle.jp_answer.specs.Answer.{answer as answer_to};
+ghost use Rattle.jp_answer.specs.Asking.{asked_query};
+ghost use Rattle.jp_answer.specs.FilteredQuery.{unfiltered};
+ghost use Rattle.jp_answer.specs.Policy.{policy};
 ghost use Rattle.jp_answer.specs.Ranges.{AreWorkers, AreDocuments};
 ghost use Rattle.jp_answer.specs.Whole.{whole};
 ghost use Rattle.jp_run.specs.Answered.{answer_of, whole_of};
@@ -15,9 +20,10 @@ use crate::outcome::{Answer, Whole};
 use jp_answer::{Asked, Crew, Gate, LinePolicy, OnFault, answer_by_workers};
 use jp_buffer::refs_of;
 use jp_check::Plan;
+use jp_compiled::Query;
 use jp_doc::Line;
 use jp_number::Numbers;
-use jp_output::{NodeLines, join_chunks};
+use jp_output::{Head, NodeLines, join_chunks};
 use std::alloc::Global;
 use std::thread::Threads;
 
@@ -48,14 +54,8 @@ pub fn answer<R: Threads + Sync, G: Gate + Sync>(
     ensures fault { OnErr result (IsErrOf result RunFault.Memory) }
 {
     let crew = Crew { rt, alloc, gate };
-    let asked = Asked {
-        query: plan.compiled(),
-        policy: LinePolicy {
-            numbers: Numbers::Whole,
-            on_fault: OnFault::Stop,
-        },
-        workers,
-    };
+    let head = Head::none();
+    let asked = asked_of(plan.compiled(), &head, OnFault::Stop, workers);
     let lines = refs_of(alloc, lines)?;
     let answer = answer_by_workers::<R, G, NodeLines>(&crew, asked, &lines, piece)?;
     Ok(Answer {
@@ -91,18 +91,31 @@ pub fn answer_all<R: Threads + Sync, G: Gate + Sync>(
     ensures fault { OnErr result (IsErrOf result RunFault.Memory) }
 {
     let crew = Crew { rt, alloc, gate };
-    let asked = Asked {
-        query: plan.compiled(),
-        policy: LinePolicy {
-            numbers: Numbers::Whole,
-            on_fault: OnFault::KeepGoing,
-        },
-        workers,
-    };
+    let head = Head::none();
+    let asked = asked_of(plan.compiled(), &head, OnFault::KeepGoing, workers);
     let lines = refs_of(alloc, lines)?;
     let answer = answer_by_workers::<R, G, NodeLines>(&crew, asked, &lines, piece)?;
     Ok(Whole {
         bytes: join_chunks(alloc, answer.chunks)?,
         faulty: answer.faulty,
     })
+}
+
+/// What is asked of lines whose numbers are whole: a query of every document.
+fn asked_of<'q>(query: &'q Query, head: &'q Head, on_fault: OnFault, workers: u64) -> Asked<'q>
+    requires { AreWorkers workers }
+    ensures query { asked_query result ≡ unfiltered (compiled_query query.now) }
+    ensures head { result.head.now ≡ head.now }
+    ensures policy { result.policy ≡ policy Integers on_fault }
+{
+    Asked {
+        query,
+        filter: None,
+        head,
+        policy: LinePolicy {
+            numbers: Numbers::Whole,
+            on_fault,
+        },
+        workers,
+    }
 }

@@ -1,12 +1,9 @@
 //! What comes is answered beside workers, as long as reads do not wait.
 
-ghost use Rattle.std.specs.Prelude.{◌≡◌, ◌+◌, ◌<◌, ◌≤◌, ◌^◌, [], false, true, IfOk, OnOk, IfErr};
-ghost use Rattle.jp_compiled.specs.Compiled.{compiled_query};
-ghost use Rattle.jp_run.specs.Answered.{manner_in};
-ghost use Rattle.jp_run.specs.inner.Going.{AsksSo, GoesOn, GoesToEnd, IsGoing};
-ghost use Rattle.jp_run.specs.inner.Turning.{AllNear, AllPrompt, CameSo, IsStanding, StandsOn, StandsToEnd};
-ghost use Rattle.jp_run.specs.Limits.{max_lines, window};
-ghost use Rattle.jp_run.specs.Written.{IsPassedOn};
+ghost use Rattle.std.specs.Prelude.{◌≡◌, ◌<◌, ◌≤◌, [], IfOk, OnOk};
+ghost use Rattle.jp_run.specs.inner.Serving.{HasServed, IsUnused, MayServe};
+ghost use Rattle.jp_run.specs.inner.Turned.{HasTurned, MayTurn};
+ghost use Rattle.jp_run.specs.Limits.{window};
 
 use crate::ends::{Sink, Source};
 use crate::fault::RunFault;
@@ -34,65 +31,19 @@ pub(crate) fn answer_beside<
     stream: &mut Stream,
     out: &mut Queue<'_, '_, F>,
 ) -> Result<Came, RunFault>
-    requires working { (S.failed source.old ≡ false) × (K.failed sink.old ≡ false) }
-    requires flushed { K.flushed sink.old ≡ true }
-    requires standing { IsStanding (manner_in F.says job.now.settings) (compiled_query job.now.query.now)
-        (S.remaining source.old) (K.contents sink.old) stream.old }
-    requires none { out.old.sent.items ≡ [] }
-    requires bytes { out.old.bytes ≡ 0 }
-    requires asks { AsksSo (manner_in F.says job.now.settings) (compiled_query job.now.query.now) out.old }
-    requires few_lines { stream.old.buffer.progress.count ≤ max_lines }
-    requires some_left { 0 < stream.old.left }
-    requires few { S.reads source.old + stream.old.left ≤ 2 ^ 63 }
-    ensures stands { OnOk result (StandsOn (manner_in F.says job.now.settings) (compiled_query
-        job.now.query.now) (S.remaining source.old) (S.remaining source.new) (K.contents sink.old)
-        (K.contents sink.new) stream.old stream.new) }
-    ensures came { IfOk result (CameSo (S.failed source.new) (S.remaining source.new)) }
-    ensures few_lines { OnOk result (stream.new.buffer.progress.count ≤ max_lines) }
-    ensures reads { S.reads source.new + stream.new.left ≡ S.reads source.old + stream.old.left }
+    requires turning { MayTurn F.says S.Supply K.Sink job.now source.old sink.old stream.old }
+    requires unused { IsUnused job.now out.old }
+    ensures turned { HasTurned F.says S.Supply K.Sink job.now source.old source.new sink.old sink.new
+        stream.old stream.new result }
     ensures left { OnOk result ((0 < stream.new.left) × (stream.new.left ≤ stream.old.left)) }
-    ensures prompt { AllPrompt (manner_in F.says job.now.settings) (compiled_query job.now.query.now)
-        (S.remaining source.old) (K.contents sink.old) stream.old (S.begun source.old) (S.begun
-        source.new) }
-    ensures window { AllNear (manner_in F.says job.now.settings) (compiled_query job.now.query.now)
-        (S.remaining source.old) (K.contents sink.old) stream.old (S.begun source.old) (S.begun
-        source.new) }
-    ensures working { OnOk result (K.failed sink.new ≡ false) }
-    ensures flushed { OnOk result (K.flushed sink.new ≡ true) }
-    ensures passed_on { IsPassedOn (K.flushed sink.new) (K.failed sink.new) }
-    ensures fault { IfErr result (StandsToEnd (manner_in F.says job.now.settings) (compiled_query
-        job.now.query.now) (S.remaining source.old) (S.remaining source.new) (K.contents sink.old)
-        (K.contents sink.new) (K.failed sink.new) stream.old) }
 {
     let ring = out.ring;
     let mut reading = || -> Result<Came, RunFault>
-        requires { (out.now.sent.items ≡ []) × (out.now.bytes ≡ 0)
-            × (AsksSo (manner_in F.says job.now.settings) (compiled_query job.now.query.now) out.now)
-            × ((S.failed source.now ≡ false) × (K.failed sink.now ≡ false)) × (K.flushed sink.now ≡ true) ×
-            (IsStanding (manner_in F.says job.now.settings) (compiled_query job.now.query.now) (S.remaining
-            source.now) (K.contents sink.now) stream.now) × (stream.now.buffer.progress.count ≤ max_lines) ×
-            (0 < stream.now.left) × (S.reads source.now + stream.now.left ≤ 2 ^ 63) }
-        ensures { (OnOk result (StandsOn (manner_in F.says job.entry.now.settings) (compiled_query
-            job.entry.now.query.now)
-            (S.remaining source.entry.now) (S.remaining source.exit.now) (K.contents sink.entry.now)
-            (K.contents sink.exit.now) stream.entry.now stream.exit.now)) × (IfOk result (CameSo (S.failed
-            source.exit.now) (S.remaining source.exit.now))) × (OnOk result
-            (stream.exit.now.buffer.progress.count ≤ max_lines)) × (S.reads source.exit.now +
-            stream.exit.now.left ≡ S.reads source.entry.now + stream.entry.now.left) × (OnOk result ((0 <
-            stream.exit.now.left) × (stream.exit.now.left ≤ stream.entry.now.left))) × (AllPrompt (manner_in
-            F.says job.entry.now.settings) (compiled_query job.entry.now.query.now) (S.remaining
-            source.entry.now)
-            (K.contents sink.entry.now) stream.entry.now (S.begun source.entry.now) (S.begun
-            source.exit.now)) × (AllNear (manner_in F.says job.entry.now.settings) (compiled_query
-            job.entry.now.query.now) (S.remaining source.entry.now) (K.contents sink.entry.now)
-            stream.entry.now
-            (S.begun source.entry.now) (S.begun source.exit.now)) × (OnOk result (K.failed sink.exit.now ≡
-            false)) × (OnOk result (K.flushed sink.exit.now ≡ true)) × (IsPassedOn (K.flushed sink.exit.now)
-            (K.failed sink.exit.now)) × (IfErr result (StandsToEnd (manner_in F.says job.entry.now.settings)
-            (compiled_query job.entry.now.query.now) (S.remaining source.entry.now) (S.remaining
-            source.exit.now)
-            (K.contents sink.entry.now) (K.contents sink.exit.now) (K.failed sink.exit.now)
-            stream.entry.now)) }
+        requires { MayTurn F.says S.Supply K.Sink job.now source.now sink.now stream.now
+            × IsUnused job.now out.now }
+        ensures { HasTurned F.says S.Supply K.Sink job.entry.now source.entry.now source.exit.now
+            sink.entry.now sink.exit.now stream.entry.now stream.exit.now result
+            × OnOk result ((0 < stream.exit.now.left) × (stream.exit.now.left ≤ stream.entry.now.left)) }
     { read_beside::<R, S, K, G, F>(job, source, sink, stream, out) };
     beside_workers(&job.crew, ring, job.settings.workers, &mut reading)
 }
@@ -105,35 +56,11 @@ fn read_beside<R: Threads + Sync, S: Source<K>, K: Sink, G: Gate + Sync, F: Form
     stream: &mut Stream,
     out: &mut Queue<'_, '_, F>,
 ) -> Result<Came, RunFault>
-    requires working { (S.failed source.old ≡ false) × (K.failed sink.old ≡ false) }
-    requires flushed { K.flushed sink.old ≡ true }
-    requires standing { IsStanding (manner_in F.says job.now.settings) (compiled_query job.now.query.now)
-        (S.remaining source.old) (K.contents sink.old) stream.old }
-    requires none { out.old.sent.items ≡ [] }
-    requires bytes { out.old.bytes ≡ 0 }
-    requires asks { AsksSo (manner_in F.says job.now.settings) (compiled_query job.now.query.now) out.old }
-    requires few_lines { stream.old.buffer.progress.count ≤ max_lines }
-    requires some_left { 0 < stream.old.left }
-    requires few { S.reads source.old + stream.old.left ≤ 2 ^ 63 }
-    ensures stands { OnOk result (StandsOn (manner_in F.says job.now.settings) (compiled_query
-        job.now.query.now) (S.remaining source.old) (S.remaining source.new) (K.contents sink.old)
-        (K.contents sink.new) stream.old stream.new) }
-    ensures came { IfOk result (CameSo (S.failed source.new) (S.remaining source.new)) }
-    ensures few_lines { OnOk result (stream.new.buffer.progress.count ≤ max_lines) }
-    ensures reads { S.reads source.new + stream.new.left ≡ S.reads source.old + stream.old.left }
+    requires turning { MayTurn F.says S.Supply K.Sink job.now source.old sink.old stream.old }
+    requires unused { IsUnused job.now out.old }
+    ensures turned { HasTurned F.says S.Supply K.Sink job.now source.old source.new sink.old sink.new
+        stream.old stream.new result }
     ensures left { OnOk result ((0 < stream.new.left) × (stream.new.left ≤ stream.old.left)) }
-    ensures prompt { AllPrompt (manner_in F.says job.now.settings) (compiled_query job.now.query.now)
-        (S.remaining source.old) (K.contents sink.old) stream.old (S.begun source.old) (S.begun
-        source.new) }
-    ensures window { AllNear (manner_in F.says job.now.settings) (compiled_query job.now.query.now)
-        (S.remaining source.old) (K.contents sink.old) stream.old (S.begun source.old) (S.begun
-        source.new) }
-    ensures working { OnOk result (K.failed sink.new ≡ false) }
-    ensures flushed { OnOk result (K.flushed sink.new ≡ true) }
-    ensures passed_on { IsPassedOn (K.flushed sink.new) (K.failed sink.new) }
-    ensures fault { IfErr result (StandsToEnd (manner_in F.says job.now.settings) (compiled_query
-        job.now.query.now) (S.remaining source.old) (S.remaining source.new) (K.contents sink.old)
-        (K.contents sink.new) (K.failed sink.new) stream.old) }
 {
     while stream.left > 1 {
         serve::<R, K, G, F>(job, sink, stream, out)?;
@@ -156,23 +83,9 @@ fn finish<R: Threads + Sync, K: Sink, G: Gate + Sync, F: Form + Drop + Send>(
     out: &mut Queue<'_, '_, F>,
     came: Came,
 ) -> Result<Came, RunFault>
-    requires working { K.failed sink.old ≡ false }
-    requires flushed { K.flushed sink.old ≡ true }
-    requires going { IsGoing (manner_in F.says job.now.settings) (compiled_query job.now.query.now)
-        (K.contents sink.old) stream.old out.old }
-    requires few_lines { stream.old.buffer.progress.count ≤ max_lines }
-    ensures going { OnOk result (GoesOn (manner_in F.says job.now.settings) (compiled_query
-        job.now.query.now) (K.contents sink.old) (K.contents sink.new) stream.old stream.new out.old
-        out.new) }
-    ensures progress { OnOk result (stream.new.buffer.progress ≡ stream.old.buffer.progress) }
-    ensures asked { out.new.asked ≡ out.old.asked }
-    ensures left { stream.new.left ≡ stream.old.left }
-    ensures working { OnOk result (K.failed sink.new ≡ false) }
-    ensures flushed { OnOk result (K.flushed sink.new ≡ true) }
-    ensures passed_on { IsPassedOn (K.flushed sink.new) (K.failed sink.new) }
-    ensures fault { IfErr result (GoesToEnd (manner_in F.says job.now.settings) (compiled_query
-        job.now.query.now) (K.contents sink.old) (K.contents sink.new) (K.failed sink.new) stream.old
-        out.old) }
+    requires serving { MayServe K.Sink job.now sink.old stream.old out.old }
+    ensures served { HasServed K.Sink job.now sink.old sink.new stream.old stream.new out.old out.new
+        result }
     ensures none { OnOk result (out.new.sent.items ≡ []) }
     ensures came { IfOk result (λ r. r ≡ came) }
 {
@@ -187,23 +100,9 @@ fn serve<R: Threads + Sync, K: Sink, G: Gate + Sync, F: Form + Drop + Send>(
     stream: &mut Stream,
     out: &mut Queue<'_, '_, F>,
 ) -> Result<(), RunFault>
-    requires working { K.failed sink.old ≡ false }
-    requires flushed { K.flushed sink.old ≡ true }
-    requires going { IsGoing (manner_in F.says job.now.settings) (compiled_query job.now.query.now)
-        (K.contents sink.old) stream.old out.old }
-    requires few_lines { stream.old.buffer.progress.count ≤ max_lines }
-    ensures going { OnOk result (GoesOn (manner_in F.says job.now.settings) (compiled_query
-        job.now.query.now) (K.contents sink.old) (K.contents sink.new) stream.old stream.new out.old
-        out.new) }
-    ensures progress { OnOk result (stream.new.buffer.progress ≡ stream.old.buffer.progress) }
-    ensures asked { out.new.asked ≡ out.old.asked }
-    ensures left { stream.new.left ≡ stream.old.left }
-    ensures working { OnOk result (K.failed sink.new ≡ false) }
-    ensures flushed { OnOk result (K.flushed sink.new ≡ true) }
-    ensures passed_on { IsPassedOn (K.flushed sink.new) (K.failed sink.new) }
-    ensures fault { IfErr result (GoesToEnd (manner_in F.says job.now.settings) (compiled_query
-        job.now.query.now) (K.contents sink.old) (K.contents sink.new) (K.failed sink.new) stream.old
-        out.old) }
+    requires serving { MayServe K.Sink job.now sink.old stream.old out.old }
+    ensures served { HasServed K.Sink job.now sink.old sink.new stream.old stream.new out.old out.new
+        result }
     ensures near { OnOk result (stream.new.come < window) }
 {
     send_come::<R, K, G, F>(job, sink, stream, out)?;

@@ -15,6 +15,9 @@ pub enum RunFault {
     /// The query is refused. Nothing was read and nothing was written.
     #[error("{0}")]
     Query(QueryFault),
+    /// The filter is refused. Nothing was read and nothing was written.
+    #[error("{}", filter_words(.0))]
+    Filter(QueryFault),
     /// The first faulty line and its fault. Exactly the lines of the documents before it were written.
     #[error("line {line}: {fault}")]
     Document {
@@ -40,6 +43,18 @@ pub enum RunFault {
     Settings,
 }
 
+/// The words for a filter that is refused: those for a query, of the option that has it.
+fn filter_words(fault: &QueryFault) -> &'static str {
+    match fault {
+        QueryFault::TooDeep => "where: too deep",
+        QueryFault::Syntax => "where: syntax",
+        QueryFault::Fraction => "where: fraction",
+        QueryFault::Range => "where: range",
+        QueryFault::IllTyped => "where: type",
+        QueryFault::Memory => "memory",
+    }
+}
+
 impl From<AllocError> for RunFault {
     ghost from_gives = { λ _ e. e ≡ Memory };
 
@@ -49,13 +64,13 @@ impl From<AllocError> for RunFault {
 }
 
 impl RunFault {
-    /// The status that a program ends with: 2 for the query, 3 for a document, 4 for an end or a limit, 5 for
-    /// memory, 64 for the settings.
+    /// The status that a program ends with: 2 for the query or the filter, 3 for a document, 4 for an end or
+    /// a limit, 5 for memory, 64 for the settings.
     pub fn status(&self) -> u8
         ensures { result ≡ status_of self.now }
     {
         match self {
-            RunFault::Query(_) => 2,
+            RunFault::Query(_) | RunFault::Filter(_) => 2,
             RunFault::Document { .. } => 3,
             RunFault::Read | RunFault::Write | RunFault::Limit => 4,
             RunFault::Memory => 5,

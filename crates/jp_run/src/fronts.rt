@@ -1,16 +1,10 @@
 //! The answers to blocks that are out, written in order: from the front.
 
-ghost use Rattle.std.specs.Prelude.{◌≡◌, ◌+◌, ◌<◌, ◌≤◌, [], false, true, None, length, OnOk, IfErr};
-ghost use Rattle.jp_compiled.specs.Compiled.{compiled_query};
+ghost use Rattle.std.specs.Prelude.{◌≡◌, ◌+◌, ◌<◌, [], length, OnOk};
 ghost use Rattle.jp_answer.specs.Blocks.{IsTaskAnswer};
-ghost use Rattle.jp_answer.specs.OnFault.{manner};
 ghost use Rattle.jp_answer.specs.Queued.{sent_task};
-ghost use Rattle.jp_run.specs.Answered.{manner_in};
-ghost use Rattle.jp_run.specs.Handed.{Handed};
-ghost use Rattle.jp_run.specs.inner.Ended.{AnswerEnded};
-ghost use Rattle.jp_run.specs.inner.Going.{GoesOn, GoesToEnd, HasWritten, IsGoing};
-ghost use Rattle.jp_run.specs.Limits.{max_lines, window};
-ghost use Rattle.jp_run.specs.Written.{IsPassedOn};
+ghost use Rattle.jp_run.specs.inner.Serving.{HasServed, HasWrittenBlock, MayServe, MayWrite};
+ghost use Rattle.jp_run.specs.Limits.{window};
 
 use crate::ends::Sink;
 use crate::fault::RunFault;
@@ -30,23 +24,9 @@ pub(crate) fn write_found<R: Threads + Sync, K: Sink, G: Gate + Sync, F: Form + 
     stream: &mut Stream,
     out: &mut Queue<'_, '_, F>,
 ) -> Result<(), RunFault>
-    requires working { K.failed sink.old ≡ false }
-    requires flushed { K.flushed sink.old ≡ true }
-    requires going { IsGoing (manner_in F.says job.now.settings) (compiled_query job.now.query.now)
-        (K.contents sink.old) stream.old out.old }
-    requires few_lines { stream.old.buffer.progress.count ≤ max_lines }
-    ensures going { OnOk result (GoesOn (manner_in F.says job.now.settings) (compiled_query
-        job.now.query.now) (K.contents sink.old) (K.contents sink.new) stream.old stream.new out.old
-        out.new) }
-    ensures progress { OnOk result (stream.new.buffer.progress ≡ stream.old.buffer.progress) }
-    ensures asked { out.new.asked ≡ out.old.asked }
-    ensures left { stream.new.left ≡ stream.old.left }
-    ensures working { OnOk result (K.failed sink.new ≡ false) }
-    ensures flushed { OnOk result (K.flushed sink.new ≡ true) }
-    ensures passed_on { IsPassedOn (K.flushed sink.new) (K.failed sink.new) }
-    ensures fault { IfErr result (GoesToEnd (manner_in F.says job.now.settings) (compiled_query
-        job.now.query.now) (K.contents sink.old) (K.contents sink.new) (K.failed sink.new) stream.old
-        out.old) }
+    requires serving { MayServe K.Sink job.now sink.old stream.old out.old }
+    ensures served { HasServed K.Sink job.now sink.old sink.new stream.old stream.new out.old out.new
+        result }
 {
     while out.has_front() {
         write_front::<R, K, G, F>(job, sink, stream, out)?;
@@ -61,23 +41,9 @@ pub(crate) fn make_room<R: Threads + Sync, K: Sink, G: Gate + Sync, F: Form + Dr
     stream: &mut Stream,
     out: &mut Queue<'_, '_, F>,
 ) -> Result<(), RunFault>
-    requires working { K.failed sink.old ≡ false }
-    requires flushed { K.flushed sink.old ≡ true }
-    requires going { IsGoing (manner_in F.says job.now.settings) (compiled_query job.now.query.now)
-        (K.contents sink.old) stream.old out.old }
-    requires few_lines { stream.old.buffer.progress.count ≤ max_lines }
-    ensures going { OnOk result (GoesOn (manner_in F.says job.now.settings) (compiled_query
-        job.now.query.now) (K.contents sink.old) (K.contents sink.new) stream.old stream.new out.old
-        out.new) }
-    ensures progress { OnOk result (stream.new.buffer.progress ≡ stream.old.buffer.progress) }
-    ensures asked { out.new.asked ≡ out.old.asked }
-    ensures left { stream.new.left ≡ stream.old.left }
-    ensures working { OnOk result (K.failed sink.new ≡ false) }
-    ensures flushed { OnOk result (K.flushed sink.new ≡ true) }
-    ensures passed_on { IsPassedOn (K.flushed sink.new) (K.failed sink.new) }
-    ensures fault { IfErr result (GoesToEnd (manner_in F.says job.now.settings) (compiled_query
-        job.now.query.now) (K.contents sink.old) (K.contents sink.new) (K.failed sink.new) stream.old
-        out.old) }
+    requires serving { MayServe K.Sink job.now sink.old stream.old out.old }
+    ensures served { HasServed K.Sink job.now sink.old sink.new stream.old stream.new out.old out.new
+        result }
     ensures near { OnOk result (stream.new.come < window) }
 {
     while out.is_full() {
@@ -97,23 +63,9 @@ pub(crate) fn write_all<R: Threads + Sync, K: Sink, G: Gate + Sync, F: Form + Dr
     stream: &mut Stream,
     out: &mut Queue<'_, '_, F>,
 ) -> Result<(), RunFault>
-    requires working { K.failed sink.old ≡ false }
-    requires flushed { K.flushed sink.old ≡ true }
-    requires going { IsGoing (manner_in F.says job.now.settings) (compiled_query job.now.query.now)
-        (K.contents sink.old) stream.old out.old }
-    requires few_lines { stream.old.buffer.progress.count ≤ max_lines }
-    ensures going { OnOk result (GoesOn (manner_in F.says job.now.settings) (compiled_query
-        job.now.query.now) (K.contents sink.old) (K.contents sink.new) stream.old stream.new out.old
-        out.new) }
-    ensures progress { OnOk result (stream.new.buffer.progress ≡ stream.old.buffer.progress) }
-    ensures asked { out.new.asked ≡ out.old.asked }
-    ensures left { stream.new.left ≡ stream.old.left }
-    ensures working { OnOk result (K.failed sink.new ≡ false) }
-    ensures flushed { OnOk result (K.flushed sink.new ≡ true) }
-    ensures passed_on { IsPassedOn (K.flushed sink.new) (K.failed sink.new) }
-    ensures fault { IfErr result (GoesToEnd (manner_in F.says job.now.settings) (compiled_query
-        job.now.query.now) (K.contents sink.old) (K.contents sink.new) (K.failed sink.new) stream.old
-        out.old) }
+    requires serving { MayServe K.Sink job.now sink.old stream.old out.old }
+    ensures served { HasServed K.Sink job.now sink.old sink.new stream.old stream.new out.old out.new
+        result }
     ensures none { OnOk result (out.new.sent.items ≡ []) }
 {
     while !out.sent.is_empty() {
@@ -129,24 +81,10 @@ pub(crate) fn answer_behind<R: Threads + Sync, K: Sink, G: Gate + Sync, F: Form 
     stream: &mut Stream,
     out: &mut Queue<'_, '_, F>,
 ) -> Result<(), RunFault>
-    requires working { K.failed sink.old ≡ false }
-    requires flushed { K.flushed sink.old ≡ true }
-    requires going { IsGoing (manner_in F.says job.now.settings) (compiled_query job.now.query.now)
-        (K.contents sink.old) stream.old out.old }
-    requires few_lines { stream.old.buffer.progress.count ≤ max_lines }
+    requires serving { MayServe K.Sink job.now sink.old stream.old out.old }
     requires none { out.old.sent.items ≡ [] }
-    ensures going { OnOk result (GoesOn (manner_in F.says job.now.settings) (compiled_query
-        job.now.query.now) (K.contents sink.old) (K.contents sink.new) stream.old stream.new out.old
-        out.new) }
-    ensures progress { OnOk result (stream.new.buffer.progress ≡ stream.old.buffer.progress) }
-    ensures asked { out.new.asked ≡ out.old.asked }
-    ensures left { stream.new.left ≡ stream.old.left }
-    ensures working { OnOk result (K.failed sink.new ≡ false) }
-    ensures flushed { OnOk result (K.flushed sink.new ≡ true) }
-    ensures passed_on { IsPassedOn (K.flushed sink.new) (K.failed sink.new) }
-    ensures fault { IfErr result (GoesToEnd (manner_in F.says job.now.settings) (compiled_query
-        job.now.query.now) (K.contents sink.old) (K.contents sink.new) (K.failed sink.new) stream.old
-        out.old) }
+    ensures served { HasServed K.Sink job.now sink.old sink.new stream.old stream.new out.old out.new
+        result }
     ensures none { OnOk result (out.new.sent.items ≡ []) }
     ensures come { OnOk result (stream.new.come ≡ 0) }
 {
@@ -162,24 +100,10 @@ fn write_next<R: Threads + Sync, K: Sink, G: Gate + Sync, F: Form + Drop + Send>
     stream: &mut Stream,
     out: &mut Queue<'_, '_, F>,
 ) -> Result<(), RunFault>
-    requires working { K.failed sink.old ≡ false }
-    requires flushed { K.flushed sink.old ≡ true }
-    requires going { IsGoing (manner_in F.says job.now.settings) (compiled_query job.now.query.now)
-        (K.contents sink.old) stream.old out.old }
-    requires few_lines { stream.old.buffer.progress.count ≤ max_lines }
+    requires serving { MayServe K.Sink job.now sink.old stream.old out.old }
     requires some { 0 < length out.old.sent.items }
-    ensures going { OnOk result (GoesOn (manner_in F.says job.now.settings) (compiled_query
-        job.now.query.now) (K.contents sink.old) (K.contents sink.new) stream.old stream.new out.old
-        out.new) }
-    ensures progress { OnOk result (stream.new.buffer.progress ≡ stream.old.buffer.progress) }
-    ensures asked { out.new.asked ≡ out.old.asked }
-    ensures left { stream.new.left ≡ stream.old.left }
-    ensures working { OnOk result (K.failed sink.new ≡ false) }
-    ensures flushed { OnOk result (K.flushed sink.new ≡ true) }
-    ensures passed_on { IsPassedOn (K.flushed sink.new) (K.failed sink.new) }
-    ensures fault { IfErr result (GoesToEnd (manner_in F.says job.now.settings) (compiled_query
-        job.now.query.now) (K.contents sink.old) (K.contents sink.new) (K.failed sink.new) stream.old
-        out.old) }
+    ensures served { HasServed K.Sink job.now sink.old sink.new stream.old stream.new out.old out.new
+        result }
     ensures fewer { OnOk result (length out.new.sent.items + 1 ≡ length out.old.sent.items) }
 {
     out.await_front(&job.crew);
@@ -193,24 +117,10 @@ fn write_front<R: Threads + Sync, K: Sink, G: Gate + Sync, F: Form + Drop + Send
     stream: &mut Stream,
     out: &mut Queue<'_, '_, F>,
 ) -> Result<(), RunFault>
-    requires working { K.failed sink.old ≡ false }
-    requires flushed { K.flushed sink.old ≡ true }
-    requires going { IsGoing (manner_in F.says job.now.settings) (compiled_query job.now.query.now)
-        (K.contents sink.old) stream.old out.old }
-    requires few_lines { stream.old.buffer.progress.count ≤ max_lines }
+    requires serving { MayServe K.Sink job.now sink.old stream.old out.old }
     requires some { 0 < length out.old.sent.items }
-    ensures going { OnOk result (GoesOn (manner_in F.says job.now.settings) (compiled_query
-        job.now.query.now) (K.contents sink.old) (K.contents sink.new) stream.old stream.new out.old
-        out.new) }
-    ensures progress { OnOk result (stream.new.buffer.progress ≡ stream.old.buffer.progress) }
-    ensures asked { out.new.asked ≡ out.old.asked }
-    ensures left { stream.new.left ≡ stream.old.left }
-    ensures working { OnOk result (K.failed sink.new ≡ false) }
-    ensures flushed { OnOk result (K.flushed sink.new ≡ true) }
-    ensures passed_on { IsPassedOn (K.flushed sink.new) (K.failed sink.new) }
-    ensures fault { IfErr result (GoesToEnd (manner_in F.says job.now.settings) (compiled_query
-        job.now.query.now) (K.contents sink.old) (K.contents sink.new) (K.failed sink.new) stream.old
-        out.old) }
+    ensures served { HasServed K.Sink job.now sink.old sink.new stream.old stream.new out.old out.new
+        result }
     ensures fewer { OnOk result (length out.new.sent.items + 1 ≡ length out.old.sent.items) }
 {
     let Some(front) = out.sent.pop_front() else {
@@ -230,23 +140,9 @@ fn write_block<R: Threads + Sync, K: Sink, G: Gate + Sync, F: Form + Drop + Send
     front: &Sent<'_, F>,
     answerer: &mut Answerer,
 ) -> Result<(), RunFault>
-    requires working { K.failed sink.old ≡ false }
-    requires flushed { K.flushed sink.old ≡ true }
-    requires few_lines { stream.old.answered.lines + length (sent_task front.now).lines ≤ max_lines }
-    requires few_faulty { stream.old.answered.faulty ≤ stream.old.answered.lines }
-    requires come { front.now.bytes ≤ stream.old.come }
-    ensures handed { OnOk result (Handed (manner F.says (sent_task front.now).asked.policy) (compiled_query
-        (sent_task front.now).asked.query.now) (sent_task front.now).lines None (K.contents sink.old)
-        (K.contents sink.new)) }
-    ensures written { OnOk result (HasWritten (manner F.says (sent_task front.now).asked.policy)
-        (compiled_query (sent_task front.now).asked.query.now) front.now stream.old stream.new) }
-    ensures left { stream.new.left ≡ stream.old.left }
-    ensures working { OnOk result (K.failed sink.new ≡ false) }
-    ensures flushed { OnOk result (K.flushed sink.new ≡ true) }
-    ensures passed_on { IsPassedOn (K.flushed sink.new) (K.failed sink.new) }
-    ensures fault { IfErr result (AnswerEnded (manner F.says (sent_task front.now).asked.policy)
-        (compiled_query (sent_task front.now).asked.query.now) (sent_task front.now).lines
-        (K.failed sink.new) (K.contents sink.old) (K.contents sink.new)) }
+    requires writing { MayWrite K.Sink sink.old stream.old front.now }
+    ensures block { HasWrittenBlock K.Sink job.now front.now sink.old sink.new stream.old stream.new
+        result }
 {
     if let Some(answer) = front.block.found() {
         return write_answer::<R, K, G, F>(job, sink, stream, front, answer);
@@ -263,24 +159,10 @@ fn write_answer<R: Threads + Sync, K: Sink, G: Gate + Sync, F: Form + Drop + Sen
     front: &Sent<'_, F>,
     answer: &Outcome,
 ) -> Result<(), RunFault>
-    requires working { K.failed sink.old ≡ false }
-    requires flushed { K.flushed sink.old ≡ true }
+    requires writing { MayWrite K.Sink sink.old stream.old front.now }
     requires answer { IsTaskAnswer F.says (sent_task front.now) answer.now }
-    requires few_lines { stream.old.answered.lines + length (sent_task front.now).lines ≤ max_lines }
-    requires few_faulty { stream.old.answered.faulty ≤ stream.old.answered.lines }
-    requires come { front.now.bytes ≤ stream.old.come }
-    ensures handed { OnOk result (Handed (manner F.says (sent_task front.now).asked.policy) (compiled_query
-        (sent_task front.now).asked.query.now) (sent_task front.now).lines None (K.contents sink.old)
-        (K.contents sink.new)) }
-    ensures written { OnOk result (HasWritten (manner F.says (sent_task front.now).asked.policy)
-        (compiled_query (sent_task front.now).asked.query.now) front.now stream.old stream.new) }
-    ensures left { stream.new.left ≡ stream.old.left }
-    ensures working { OnOk result (K.failed sink.new ≡ false) }
-    ensures flushed { OnOk result (K.flushed sink.new ≡ true) }
-    ensures passed_on { IsPassedOn (K.flushed sink.new) (K.failed sink.new) }
-    ensures fault { IfErr result (AnswerEnded (manner F.says (sent_task front.now).asked.policy)
-        (compiled_query (sent_task front.now).asked.query.now) (sent_task front.now).lines
-        (K.failed sink.new) (K.contents sink.old) (K.contents sink.new)) }
+    ensures block { HasWrittenBlock K.Sink job.now front.now sink.old sink.new stream.old stream.new
+        result }
 {
     let lines = &front.block.task.lines;
     tell_waiting(&job.crew, job.settings.numbers(), lines, faulty_in(answer));

@@ -11,8 +11,8 @@ ghost use Rattle.jp_run.specs.Limits.{max_lines, window};
 
 use crate::ends::{Sink, Source};
 use crate::fault::RunFault;
+use crate::input::InputBuffer;
 use crate::stream::Stream;
-use jp_buffer::LineBuffer;
 
 /// The greatest number of lines: with the one that the end may complete there are as many as a board takes
 /// pieces.
@@ -56,8 +56,8 @@ pub(crate) fn read_on<K: Sink, S: Source<K>>(
       contents = K.contents sink.now;
       flushed = K.flushed sink.now;
     }) }
-    ensures fault { IfErr result (ReadEnded stream.old.buffer.progress (S.remaining source.old)
-        (S.remaining source.new)) }
+    ensures fault { IfErr result (ReadEnded stream.old.buffer.cutting stream.old.buffer.progress
+        (S.remaining source.old) (S.remaining source.new)) }
     ensures reads { S.reads source.new ≡ counted (S.reads source.old) 1 }
     ensures left { stream.new.left + 1 ≡ stream.old.left }
 {
@@ -90,11 +90,12 @@ fn narrow(scratch: &mut Vec<u8>, is_wide: bool)
 /// Adds the last line, if there is one. Gives how many lines there are in all, blank ones too.
 ///
 /// `Limit` if they are more than 4,294,967,295.
-pub(crate) fn take_last(buffer: &mut LineBuffer) -> Result<u64, RunFault>
+pub(crate) fn take_last(buffer: &mut InputBuffer) -> Result<u64, RunFault>
     requires few_lines { buffer.old.progress.count ≤ max_lines }
     ensures lines { OnOk result (buffer.new.lines
         ≡ buffer.old.lines ++ finished_lines buffer.old.progress) }
     ensures count { IfOk result (λ count. count ≡ (finished buffer.old.progress).count) }
+    ensures cutting { buffer.new.cutting ≡ buffer.old.cutting }
     ensures few_lines { IfOk result (λ count. count ≤ max_lines) }
     ensures fault { IfErr result (LastEnded (finished buffer.old.progress).count) }
 {
@@ -105,7 +106,7 @@ pub(crate) fn take_last(buffer: &mut LineBuffer) -> Result<u64, RunFault>
 /// The number of lines that have ended.
 ///
 /// `Limit` if they are more than 4,294,967,295.
-fn within_limit(buffer: &LineBuffer) -> Result<u64, RunFault>
+fn within_limit(buffer: &InputBuffer) -> Result<u64, RunFault>
     ensures ok { IfOk result (λ count. (count ≡ buffer.now.progress.count)
         × (buffer.now.progress.count ≤ max_lines)) }
     ensures limit { OnErr result (IsErrOf result RunFault.Limit × (max_lines < buffer.now.progress.count)) }

@@ -1,29 +1,43 @@
 //! What a run is given throughout.
 
+ghost use Rattle.std.specs.Prelude.{◌≡◌};
+ghost use Rattle.jp_run.specs.Answered.{head_of};
+
 use crate::settings::Settings;
 use jp_answer::{Asked, Crew};
 use jp_compiled::Query;
+use jp_eval::DocumentFilter;
+use jp_output::Head;
 
-/// What a run is given throughout: what its workers are given, the query, and how the run is cut up.
+/// What a run is given throughout: what its workers are given, the query, the filter that chooses documents,
+/// how the run is cut up, and what each line stands behind.
 #[derive(Drop)]
 pub(crate) struct Job<'a, R, G> {
     pub(crate) crew: Crew<'a, R, G>,
     pub(crate) query: &'a Query,
-    pub(crate) settings: Settings,
+    pub(crate) filter: Option<DocumentFilter<'a>>,
+    pub(crate) settings: Settings<'a>,
+    /// The name of the settings, and a tab.
+    pub(crate) head: &'a Head,
+    pub(crate) ghost headed: { head.now ≡ head_of settings },
 }
 
 impl<'a, R, G> Job<'a, R, G> {
-    ghost use Rattle.std.specs.Prelude.{◌≡◌};
+    ghost use Rattle.jp_answer.specs.Asking.{asked_query};
     ghost use Rattle.jp_run.specs.Answered.{policy_of};
+    ghost use Rattle.jp_run.specs.inner.Jobs.{job_query};
 
     /// What is asked of all lines of the run.
     pub(crate) fn asked(&self) -> Asked<'a>
-        ensures query { result.query.now ≡ self.now.query.now }
+        ensures query { asked_query result ≡ job_query self.now }
+        ensures head { result.head.now ≡ head_of self.now.settings }
         ensures policy { result.policy
             ≡ policy_of self.now.settings.decimals self.now.settings.keeps_going }
     {
         Asked {
             query: self.query,
+            filter: self.filter,
+            head: self.head,
             policy: self.settings.policy(),
             workers: self.settings.workers,
         }

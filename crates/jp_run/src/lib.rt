@@ -1,19 +1,22 @@
-//! The answer to a collection of documents, one on a line: from the bytes that come in to those that go out.
+//! The answer to a collection of documents, one on a line or one behind another: from the bytes that come in
+//! to those that go out.
 #![tactic(auto)]
 
 mod answering;
 mod answers;
 mod beside;
-mod checking;
+mod cutting;
 mod ends;
 mod examples;
 mod fault;
 mod fronts;
 mod gathering;
+mod input;
 mod job;
 pub mod laws;
 mod outcome;
 mod output;
+mod prepared;
 mod running;
 mod sending;
 mod settings;
@@ -25,12 +28,13 @@ mod turns;
 mod writing;
 
 pub use answers::{answer, answer_all};
-pub use checking::check_query;
+pub use cutting::Cutting;
 pub use ends::{Broken, Sink, Source, Supply};
 pub use fault::RunFault;
-pub use jp_answer::{DocStop, Gate, OpenGate};
+pub use jp_answer::{Crew, DocStop, Gate, OpenGate};
 pub use outcome::{Answer, Whole};
 pub use output::Output;
+pub use prepared::Prepared;
 pub use running::{Totals, run};
 pub use settings::Settings;
 pub use std_ends::{FromReader, FromWriter};

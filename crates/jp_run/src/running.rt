@@ -4,22 +4,18 @@ ghost use Rattle.std.specs.Prelude.{◌≡◌, ◌+◌, ◌^◌, ◌<◌, ◌≤
 ghost use Rattle.std.specs.Prelude.{None, Err, IfOk, IfErr, OnOk, OnErr, IfSome, IsErrOf, nat_lt};
 ghost use Rattle.std.specs.Io.KnownBytes.{Appends, Consumes, IsAtEnd};
 ghost use Rattle.std.specs.Str.{chars};
-ghost use Rattle.jp_doc.specs.Lines.{lines, line_count};
 ghost use Rattle.jp_doc.specs.declared.fault.DocFault.{DocFault as Fault};
-ghost use Rattle.jp_tree.specs.Tree.{Query};
 ghost use Rattle.jp_tree.specs.declared.fault.QueryFault.{QueryFault as Refusal};
 ghost use Rattle.jp_tokens.specs.Depth.{bracket_depth, max_depth};
-ghost use Rattle.jp_check.specs.Plan.{planned_query};
-ghost use Rattle.jp_compiled.specs.Compiled.{compiled_query};
-ghost use Rattle.jp_check.specs.Verdict.{IsAcceptedIn, IsVerdictIn};
+ghost use Rattle.jp_check.specs.Verdict.{IsVerdictIn};
 ghost use Rattle.jp_answer.specs.Answer.{Answer};
+ghost use Rattle.jp_answer.specs.FilteredQuery.{FilteredQuery};
 ghost use Rattle.jp_run.specs.Answered.{IsAnswerBy, manner_in, manner_of, numbers_of, passed_in};
+ghost use Rattle.jp_run.specs.AskedTexts.{AreAcceptedIn, AreRefusedIn, IsFilterRefused, asked_by};
 ghost use Rattle.jp_run.specs.Begun.{AllSince};
-ghost use Rattle.jp_run.specs.Come.{documents_in};
-ghost use Rattle.jp_run.specs.inner.Ended.{StreamEnded};
-ghost use Rattle.jp_run.specs.inner.Standing.{BeginsNear, BeginsPrompt};
-ghost use Rattle.jp_run.specs.inner.Wrote.{HasBytes};
-ghost use Rattle.jp_run.specs.Handed.{Handed, IsHandedBy};
+ghost use Rattle.jp_run.specs.Cutting.{documents, documents_in, part_count};
+ghost use Rattle.jp_run.specs.inner.Running.{HasRun};
+ghost use Rattle.jp_run.specs.Handed.{IsHandedBy};
 ghost use Rattle.jp_run.specs.Limits.{max_reads, max_lines, window};
 ghost use Rattle.jp_run.specs.Prompt.{IsNear, IsPrompt};
 ghost use Rattle.jp_run.specs.Written.{AppendsFront, IsPassedOn};
@@ -29,14 +25,13 @@ use crate::fault::RunFault;
 use crate::gathering::Came;
 use crate::job::Job;
 use crate::output::Output;
+use crate::prepared::Prepared;
 use crate::settings::Settings;
 use crate::settling::{answer_before_failure, answer_rest};
 use crate::stream::Stream;
 use crate::turns::turn;
 use crate::writing::pass_on;
 use jp_answer::{Crew, Gate};
-use jp_check::{Plan, plan_in};
-use jp_number::Numbers;
 use jp_output::{Form, InputLines, NodeLines, RawLines, TextLines, ValueLines};
 use jp_syntax::QueryFault;
 use std::alloc::Global;
@@ -73,14 +68,17 @@ impl Totals {
 /// Runs a query over all documents of the source, one on a line, and writes what it selects, in the form of
 /// the settings.
 ///
-/// The query is read first. Then the source is read to its end, at most 65,536 bytes a call. Before each read
-/// that may wait, as the source says, all lines whose end has come are answered and written, and the sink is
-/// flushed; while reads do not wait, so are those that have come once there are `batch` of them, or 4 MB at
-/// most: no more than `batch` are answered and written at once. The rest is at the end. While reads do not
-/// wait and much has come the workers answer, of whom the calling thread is one; else it answers alone. The
-/// run stops at the first faulty line, unless the settings are to keep going: then the totals count it, and
-/// it gives what the form has for it, which for nodes is its fault line and else nothing.
-/// Neither end has failed before, and the counts of the source are at most 2^62.
+/// Where the settings have a name, each line of nodes and each fault line stands behind it and a tab.
+///
+/// The query is read first, and the filter of the settings, if there is one: then the documents alone are
+/// answered of which it is true. Then the source is read to its end, at most 65,536 bytes a call. Before each
+/// read that may wait, as the source says, all lines whose end has come are answered and written, and the
+/// sink is flushed; while reads do not wait, so are those that have come once there are `batch` of them, or 4
+/// MB at most: no more than `batch` are answered and written at once. The rest is at the end. While reads do
+/// not wait and much has come the workers answer, of whom the calling thread is one; else it answers alone.
+/// The run stops at the first faulty line, unless the settings are to keep going: then the totals count it,
+/// and it gives what the form has for it, which for nodes is its fault line and else nothing. Neither end has
+/// failed before, and the counts of the source are at most 2^62.
 ///
 /// What is flushed when: what the sink holds back as the run begins, and each batch's lines as soon as they
 /// are written, also those before a faulty line and those at the end of the input. So a sink that gathers
@@ -90,6 +88,8 @@ impl Totals {
 /// # Errors
 ///
 /// - [`RunFault::Query`] where the query is refused: nothing was read and nothing was written.
+/// - [`RunFault::Filter`] where the query is not, and the filter is refused: nothing was read and nothing was
+/// written.
 /// - [`RunFault::Document`] with the first faulty line: exactly the lines of the documents before it were
 /// written, and no read that may wait began after its end had come.
 /// - [`RunFault::Read`] only where the source failed: exactly the lines of the documents whose line's end was
@@ -104,28 +104,29 @@ pub fn run<R: Threads + Sync, S: Source<K>, K: Sink, G: Gate + Sync>(
     source: &mut S,
     sink: &mut K,
     query: &str,
-    settings: &Settings,
+    settings: &Settings<'_>,
     gate: &G,
 ) -> Result<Totals, RunFault>
     requires working { (S.failed source.old ≡ false) × (K.failed sink.old ≡ false) }
     requires few { (S.reads source.old ≤ 2 ^ 62) × (S.given source.old ≤ 2 ^ 62) }
     // A finished run has read the whole input and written the answer to it, which has no faulty line; neither
     // end has failed.
-    ensures accepted { OnOk result ((q : Query) × IsAcceptedIn (numbers_of settings.now.decimals)
-        (chars query.now) q) }
+    ensures accepted { OnOk result ((q : FilteredQuery) × AreAcceptedIn (numbers_of settings.now.decimals)
+        (asked_by query.now settings.now) q) }
     ensures answer { OnOk result (IfSome (S.remaining source.old) (λ input. (a : Answer)
-        × IsAnswerBy (manner_of settings.now) (chars query.now) input a
+        × IsAnswerBy (manner_of settings.now) (asked_by query.now settings.now) input a
         × (a.stopped ≡ None) × Appends (K.contents sink.old) (K.contents sink.new) a.bytes)) }
     ensures counts { IfOk result (λ totals. IfSome (S.remaining source.old)
-        (λ input. (totals.lines ≡ line_count input) × (totals.documents ≡ length (lines input)))) }
+        (λ input. (totals.lines ≡ part_count settings.now.cutting input)
+        × (totals.documents ≡ length (documents settings.now.cutting input)))) }
     // The faulty lines that the answer passed: none where it doesn't keep going.
     ensures faulty { IfOk result (λ totals. IfSome (S.remaining source.old)
-        (λ input. totals.faulty ≡ passed_in settings.now (lines input))) }
+        (λ input. totals.faulty ≡ passed_in settings.now (documents settings.now.cutting input))) }
     // None, whatever the source tells of its bytes.
     ensures none_passed { settings.now.keeps_going ≡ false → IfOk result (λ totals. totals.faulty ≡ 0) }
     // Whether the answer has a byte.
     ensures wrote { IfOk result (λ totals. IfSome (S.remaining source.old) (λ input. (a : Answer)
-        × IsAnswerBy (manner_of settings.now) (chars query.now) input a
+        × IsAnswerBy (manner_of settings.now) (asked_by query.now settings.now) input a
         × (totals.wrote ≡ nat_lt 0 (length a.bytes)))) }
     ensures few_lines { IfOk result (λ totals. totals.lines ≤ max_lines) }
     ensures end { OnOk result (IsAtEnd (S.remaining source.new)) }
@@ -145,10 +146,21 @@ pub fn run<R: Threads + Sync, S: Source<K>, K: Sink, G: Gate + Sync>(
     ensures refused { (f : Refusal) → IsVerdictIn (numbers_of settings.now.decimals) (chars query.now) (Err f)
         → (IsErrOf result (RunFault.Query f) ⊎ IsErrOf result RunFault.Memory)
         × (source.new ≡ source.old) × (sink.new ≡ sink.old) }
+    // The filter's fault is its text's verdict, and nothing was read or written.
+    ensures filter { (f : Refusal) → IsErrOf result (RunFault.Filter f)
+        → AreRefusedIn (numbers_of settings.now.decimals) (asked_by query.now settings.now)
+        (RunFault.Filter f) × (source.new ≡ source.old) × (sink.new ≡ sink.old) }
+    // A filter that is refused ends in its fault, or in that of the query, or in want of memory, and nothing
+    // was read or written.
+    ensures filter_refused { (f : Refusal) → IsFilterRefused (numbers_of settings.now.decimals)
+        (asked_by query.now settings.now).filter f
+        → (IsErrOf result (RunFault.Filter f) ⊎ IsErrOf result RunFault.Memory
+        ⊎ ((g : Refusal) × IsErrOf result (RunFault.Query g)))
+        × (source.new ≡ source.old) × (sink.new ≡ sink.old) }
     // The first faulty line and its fault are told, and all before it was written.
     ensures document { (line : ℕ) (fault : Fault) → IsErrOf result (RunFault.Document line fault)
         → IfSome (S.remaining source.old) (λ input. (a : Answer)
-        × IsAnswerBy (manner_of settings.now) (chars query.now) input a
+        × IsAnswerBy (manner_of settings.now) (asked_by query.now settings.now) input a
         × (a.stopped ≡ Some (line, fault)) × Appends (K.contents sink.old) (K.contents sink.new) a.bytes) }
     // An answer that keeps going tells no faulty line so.
     ensures goes_on { settings.now.keeps_going ≡ true → (line : ℕ) (fault : Fault)
@@ -156,78 +168,42 @@ pub fn run<R: Threads + Sync, S: Source<K>, K: Sink, G: Gate + Sync>(
     // However the run ends: each read that may wait began when the answer to all lines whose end had come
     // stood in the sink, and was passed on.
     ensures prompt { AllSince (S.begun source.old) (S.begun source.new) (IsPrompt (manner_of settings.now)
-        (chars query.now) (S.remaining source.old) (K.contents sink.old)) }
+        (asked_by query.now settings.now) (S.remaining source.old) (K.contents sink.old)) }
     // Each read, whether it may wait or not: what was not answered lies in the last 4 MB.
     ensures window { AllSince (S.begun source.old) (S.begun source.new) (IsNear window (manner_of
-        settings.now) (chars query.now) (S.remaining source.old) (K.contents sink.old)) }
+        settings.now) (asked_by query.now settings.now) (S.remaining source.old) (K.contents sink.old)) }
     // The lines of all documents whose line's end was read are written, and no more.
     ensures read { IsErrOf result RunFault.Read → (S.failed source.new ≡ true) × (bytes : List ℕ)
         × Consumes (S.remaining source.old) (S.remaining source.new) bytes
-        × IsHandedBy (manner_of settings.now) (chars query.now) (documents_in bytes) None
-        (K.contents sink.old) (K.contents sink.new) }
+        × IsHandedBy (manner_of settings.now) (asked_by query.now settings.now)
+        (documents_in settings.now.cutting bytes) None (K.contents sink.old) (K.contents sink.new) }
     ensures write { IsErrOf result RunFault.Write → K.failed sink.new ≡ true }
     ensures limit { IsErrOf result RunFault.Limit → (S.reads source.new ≡ S.reads source.old + max_reads)
         ⊎ ((input : List ℕ) × Consumes (S.remaining source.old) (S.remaining source.new) input
-        × (max_lines < line_count input)) }
+        × (max_lines < part_count settings.now.cutting input)) }
     // Settings are never out of range here.
     ensures settings { IsErrOf result RunFault.Settings → ⊥ }
     // Whatever the fault, a front of the answer was written.
     ensures front { OnErr result (IfSome (S.remaining source.old) (λ input. (a : Answer)
-        → IsAnswerBy (manner_of settings.now) (chars query.now) input a
+        → IsAnswerBy (manner_of settings.now) (asked_by query.now settings.now) input a
         → AppendsFront (K.contents sink.old) (K.contents sink.new) a.bytes)) }
     ensures few { S.reads source.new ≤ S.reads source.old + max_reads }
 {
-    let plan = plan_of(alloc, query, settings.numbers())?;
-    let job = Job {
-        crew: Crew { rt, alloc, gate },
-        query: plan.compiled(),
-        settings: *settings,
-    };
-    answer_in_form(&job, source, sink)
+    let prepared = Prepared::new(alloc, query, settings.filter, settings.numbers())?;
+    let crew = Crew { rt, alloc, gate };
+    prepared.run(&crew, settings, source, sink)
 }
 
 /// Reads a source to its end, and answers what comes, in the form that is wanted.
-fn answer_in_form<R: Threads + Sync, S: Source<K>, K: Sink, G: Gate + Sync>(
+pub(crate) fn answer_in_form<R: Threads + Sync, S: Source<K>, K: Sink, G: Gate + Sync>(
     job: &Job<R, G>,
     source: &mut S,
     sink: &mut K,
 ) -> Result<Totals, RunFault>
     requires working { (S.failed source.old ≡ false) × (K.failed sink.old ≡ false) }
     requires few { S.reads source.old ≤ 2 ^ 62 }
-    ensures handed { OnOk result (IfSome (S.remaining source.old) (λ input. Handed
-        (manner_of job.now.settings)
-        (compiled_query job.now.query.now) (lines input) None
-        (K.contents sink.old) (K.contents sink.new))) }
-    ensures counts { IfOk result (λ totals. IfSome (S.remaining source.old)
-        (λ input. (totals.lines ≡ line_count input) × (totals.documents ≡ length (lines input)))) }
-    ensures passed { IfOk result (λ totals. IfSome (S.remaining source.old)
-        (λ input. totals.faulty ≡ passed_in job.now.settings (lines input))) }
-    ensures none_passed { job.now.settings.keeps_going ≡ false → IfOk result (λ totals. totals.faulty ≡ 0) }
-    ensures wrote { IfOk result (λ totals. IfSome (S.remaining source.old) (λ input. HasBytes
-        (manner_of job.now.settings) (compiled_query job.now.query.now) (lines input) totals.wrote)) }
-    ensures few_lines { IfOk result (λ totals. totals.lines ≤ max_lines) }
-    ensures end { OnOk result (IsAtEnd (S.remaining source.new)) }
-    ensures flushed { OnOk result (K.flushed sink.new ≡ true) }
-    ensures still_working { OnOk result ((S.failed source.new ≡ false) × (K.failed sink.new ≡ false)) }
-    ensures passed_on { K.flushed sink.old ≡ true → IsPassedOn (K.flushed sink.new) (K.failed sink.new) }
-    ensures fault { IfErr result (StreamEnded (manner_of job.now.settings)
-        (compiled_query job.now.query.now) (record {
-          source_old = S.remaining source.old;
-          source_new = S.remaining source.new;
-          reads_old = S.reads source.old;
-          reads_new = S.reads source.new;
-          source_failed = S.failed source.new;
-          sink_old = K.contents sink.old;
-          sink_new = K.contents sink.new;
-          sink_failed = K.failed sink.new;
-        })) }
-    ensures prompt { AllSince (S.begun source.old) (S.begun source.new) (BeginsPrompt (manner_of
-        job.now.settings) (compiled_query job.now.query.now) (S.remaining source.old)
-        (K.contents sink.old)) }
-    ensures window { AllSince (S.begun source.old) (S.begun source.new) (BeginsNear window (manner_of
-        job.now.settings) (compiled_query job.now.query.now) (S.remaining source.old)
-        (K.contents sink.old)) }
-    ensures few { S.reads source.new ≤ S.reads source.old + max_reads }
+    ensures ran { HasRun (manner_of job.now.settings) S.Supply K.Sink job.now source.old source.new
+        sink.old sink.new result }
 {
     match job.settings.output {
         Output::Nodes => answer_stream::<R, S, K, G, NodeLines>(job, source, sink),
@@ -246,42 +222,10 @@ fn answer_stream<R: Threads + Sync, S: Source<K>, K: Sink, G: Gate + Sync, F: Fo
 ) -> Result<Totals, RunFault>
     requires working { (S.failed source.old ≡ false) × (K.failed sink.old ≡ false) }
     requires few { S.reads source.old ≤ 2 ^ 62 }
-    ensures handed { OnOk result (IfSome (S.remaining source.old) (λ input. Handed (manner_in F.says
-        job.now.settings) (compiled_query job.now.query.now) (lines input) None (K.contents
-        sink.old) (K.contents sink.new))) }
-    ensures counts { IfOk result (λ totals. IfSome (S.remaining source.old)
-        (λ input. (totals.lines ≡ line_count input) × (totals.documents ≡ length (lines input)))) }
-    ensures passed { IfOk result (λ totals. IfSome (S.remaining source.old)
-        (λ input. totals.faulty ≡ passed_in job.now.settings (lines input))) }
-    ensures none_passed { job.now.settings.keeps_going ≡ false → IfOk result (λ totals. totals.faulty ≡ 0) }
-    ensures wrote { IfOk result (λ totals. IfSome (S.remaining source.old) (λ input. HasBytes
-        (manner_in F.says job.now.settings) (compiled_query job.now.query.now) (lines input)
-        totals.wrote)) }
-    ensures few_lines { IfOk result (λ totals. totals.lines ≤ max_lines) }
-    ensures end { OnOk result (IsAtEnd (S.remaining source.new)) }
-    ensures flushed { OnOk result (K.flushed sink.new ≡ true) }
-    ensures still_working { OnOk result ((S.failed source.new ≡ false) × (K.failed sink.new ≡ false)) }
-    ensures passed_on { K.flushed sink.old ≡ true → IsPassedOn (K.flushed sink.new) (K.failed sink.new) }
-    ensures fault { IfErr result (StreamEnded (manner_in F.says job.now.settings)
-        (compiled_query job.now.query.now) (record {
-          source_old = S.remaining source.old;
-          source_new = S.remaining source.new;
-          reads_old = S.reads source.old;
-          reads_new = S.reads source.new;
-          source_failed = S.failed source.new;
-          sink_old = K.contents sink.old;
-          sink_new = K.contents sink.new;
-          sink_failed = K.failed sink.new;
-        })) }
-    ensures prompt { AllSince (S.begun source.old) (S.begun source.new) (BeginsPrompt (manner_in F.says
-        job.now.settings) (compiled_query job.now.query.now) (S.remaining source.old)
-        (K.contents sink.old)) }
-    ensures window { AllSince (S.begun source.old) (S.begun source.new) (BeginsNear window (manner_in F.says
-        job.now.settings) (compiled_query job.now.query.now) (S.remaining source.old)
-        (K.contents sink.old)) }
-    ensures few { S.reads source.new ≤ S.reads source.old + max_reads }
+    ensures ran { HasRun (manner_in F.says job.now.settings) S.Supply K.Sink job.now source.old source.new
+        sink.old sink.new result }
 {
-    let mut stream = Stream::new(job.crew.alloc, MAX_READS)?;
+    let mut stream = Stream::new(job.crew.alloc, job.settings.cutting, MAX_READS)?;
     // The sink may come with bytes that it holds back.
     pass_on(sink)?;
     while stream.left > 0 {
@@ -295,24 +239,4 @@ fn answer_stream<R: Threads + Sync, S: Source<K>, K: Sink, G: Gate + Sync, F: Fo
     }
     // 2^40 calls are never reached in a lifetime: what waits is not answered for that.
     Err(RunFault::Limit)
-}
-
-/// The plan of a query's text, whose literals may be these numbers. A run begins so.
-///
-/// # Errors
-///
-/// [`RunFault::Query`] where the query is refused, and [`RunFault::Memory`] where a growth of memory was
-/// refused.
-pub(crate) fn plan_of(alloc: Global, query: &str, numbers: Numbers) -> Result<Plan, RunFault>
-    ensures ok { IfOk result (λ p. IsAcceptedIn numbers (chars query.now) (planned_query p)) }
-    ensures fault { IfErr result (λ fault. (fault ≡ RunFault.Memory)
-        ⊎ ((f : Refusal) × (fault ≡ RunFault.Query f) × IsVerdictIn numbers (chars query.now) (Err f))) }
-    ensures too_deep { IsErrOf result (RunFault.Query QueryFault.TooDeep)
-        ↔ (max_depth < bracket_depth (chars query.now)) }
-{
-    match plan_in(alloc, query, numbers) {
-        Ok(plan) => Ok(plan),
-        Err(QueryFault::Memory) => Err(RunFault::Memory),
-        Err(fault) => Err(RunFault::Query(fault)),
-    }
 }

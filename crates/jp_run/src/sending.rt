@@ -1,11 +1,9 @@
 //! Lines that have come are put into blocks, which go out to workers.
 
-ghost use Rattle.std.specs.Prelude.{◌≡◌, ◌≤◌, false, true, length, OnOk, IfErr};
-ghost use Rattle.jp_compiled.specs.Compiled.{compiled_query};
-ghost use Rattle.jp_run.specs.Answered.{manner_in};
-ghost use Rattle.jp_run.specs.inner.Going.{GoesOn, GoesToEnd, WentOut, IsGoing};
+ghost use Rattle.std.specs.Prelude.{◌≡◌, ◌≤◌, length, OnOk};
+ghost use Rattle.jp_run.specs.inner.Going.{WentOut};
+ghost use Rattle.jp_run.specs.inner.Serving.{HasServed, MayServe};
 ghost use Rattle.jp_run.specs.Limits.{max_lines};
-ghost use Rattle.jp_run.specs.Written.{IsPassedOn};
 
 use crate::ends::Sink;
 use crate::fault::RunFault;
@@ -29,23 +27,9 @@ pub(crate) fn send_come<R: Threads + Sync, K: Sink, G: Gate + Sync, F: Form + Dr
     stream: &mut Stream,
     out: &mut Queue<'_, '_, F>,
 ) -> Result<(), RunFault>
-    requires working { K.failed sink.old ≡ false }
-    requires flushed { K.flushed sink.old ≡ true }
-    requires going { IsGoing (manner_in F.says job.now.settings) (compiled_query job.now.query.now)
-        (K.contents sink.old) stream.old out.old }
-    requires few_lines { stream.old.buffer.progress.count ≤ max_lines }
-    ensures going { OnOk result (GoesOn (manner_in F.says job.now.settings) (compiled_query
-        job.now.query.now) (K.contents sink.old) (K.contents sink.new) stream.old stream.new out.old
-        out.new) }
-    ensures progress { OnOk result (stream.new.buffer.progress ≡ stream.old.buffer.progress) }
-    ensures asked { out.new.asked ≡ out.old.asked }
-    ensures left { stream.new.left ≡ stream.old.left }
-    ensures working { OnOk result (K.failed sink.new ≡ false) }
-    ensures flushed { OnOk result (K.flushed sink.new ≡ true) }
-    ensures passed_on { IsPassedOn (K.flushed sink.new) (K.failed sink.new) }
-    ensures fault { IfErr result (GoesToEnd (manner_in F.says job.now.settings) (compiled_query
-        job.now.query.now) (K.contents sink.old) (K.contents sink.new) (K.failed sink.new) stream.old
-        out.old) }
+    requires serving { MayServe K.Sink job.now sink.old stream.old out.old }
+    ensures served { HasServed K.Sink job.now sink.old sink.new stream.old stream.new out.old out.new
+        result }
 {
     if stream.buffer.len() as u64 > job.settings.batch {
         write_all::<R, K, G, F>(job, sink, stream, out)?;
@@ -59,7 +43,7 @@ pub(crate) fn send_come<R: Threads + Sync, K: Sink, G: Gate + Sync, F: Form + Dr
 }
 
 /// Whether the lines that wait are a block: a piece of them, or many bytes.
-fn is_enough(settings: &Settings, stream: &Stream) -> bool {
+fn is_enough(settings: &Settings<'_>, stream: &Stream) -> bool {
     stream.buffer.len() as u64 >= settings.piece || stream.buffer.total_bytes() >= BLOCK_BYTES
 }
 

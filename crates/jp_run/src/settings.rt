@@ -1,12 +1,15 @@
 //! How a run is cut up.
 
-ghost use Rattle.std.specs.Prelude.{◌≡◌, ◌↔◌, false, true, IsOk, IfOk, OnErr, IsErrOf};
+ghost use Rattle.std.specs.Prelude.{◌≡◌, ◌↔◌, false, true, None, Some, IsOk, IfOk, OnErr, IsErrOf};
 ghost use Rattle.jp_run.specs.Settings.{AreSettings};
 
+use crate::cutting::Cutting;
 use crate::fault::RunFault;
 use crate::output::Output;
 use jp_answer::{LinePolicy, OnFault};
 use jp_number::Numbers;
+use jp_output::Head;
+use std::alloc::{AllocError, Global};
 
 /// The greatest number of workers: a board has so many seats.
 const MAX_WORKERS: u64 = 64;
@@ -15,10 +18,11 @@ const MAX_WORKERS: u64 = 64;
 /// memory.
 const MAX_DOCUMENTS: u64 = 1_000_000;
 
-/// How many workers answer, how many documents are a piece, how many a batch, which numbers there may be,
-/// whether the answer keeps going, and which form it has.
+/// How many workers answer, how many documents are a piece, how many a batch, how the input is cut into
+/// documents, which numbers there may be, whether the answer keeps going, which form it has, what name stands
+/// before its lines, and which filter chooses documents.
 #[derive(Clone, Copy, Debug, PartialEq, Eq, Drop)]
-pub struct Settings {
+pub struct Settings<'n> {
     /// The number of workers, 1 to 64.
     pub workers: u64,
     /// The least number of documents of a piece, 1 to 1,000,000: fewer are one where they are 32,768 bytes.
@@ -30,26 +34,36 @@ pub struct Settings {
     /// Whether documents and the literals of the query may have every number of JSON (RFC 8259, 6), and not
     /// whole ones alone.
     pub decimals: bool,
+    /// How the input is cut into documents.
+    pub cutting: Cutting,
     /// What is written.
     pub output: Output,
+    /// The name before each line of nodes and each fault line, with a tab, in the form that has these.
+    pub name: Option<&'n str>,
+    /// The text of the filter of which the documents are true that are answered: what may stand behind `?` in
+    /// `$[?FILTER]` (RFC 9535, 2.3.5), where both `@` and `$` are the whole document.
+    pub filter: Option<&'n str>,
     pub ghost in_range: { AreSettings workers piece batch },
 }
 
-impl Settings {
-    ghost use Rattle.jp_run.specs.Answered.{numbers_of, policy_of};
+impl<'n> Settings<'n> {
+    ghost use Rattle.jp_run.specs.Answered.{head_of, numbers_of, policy_of};
 
-    /// The settings, which take no memory. Numbers are whole, and the answer ends at the first faulty line,
-    /// and has a line for each node.
+    /// The settings, which take no memory. A document is a line, numbers are whole, and the answer ends at
+    /// the first faulty line, and has a line for each node of every document, with no name before it.
     ///
     /// # Errors
     ///
     /// [`RunFault::Settings`] for a number of workers outside 1 to 64, or of documents outside 1 to
     /// 1,000,000.
-    pub fn new(workers: u64, piece: u64, batch: u64) -> Result<Settings, RunFault>
+    pub fn new(workers: u64, piece: u64, batch: u64) -> Result<Settings<'n>, RunFault>
         ensures settings { IfOk result (λ s. (s.workers ≡ workers) × (s.piece ≡ piece) × (s.batch ≡ batch)) }
         ensures ends { IfOk result (λ s. s.keeps_going ≡ false) }
         ensures whole { IfOk result (λ s. s.decimals ≡ false) }
         ensures nodes { IfOk result (λ s. s.output ≡ Output.Nodes) }
+        ensures lines { IfOk result (λ s. s.cutting ≡ Cutting.Lines) }
+        ensures no_name { IfOk result (λ s. s.name ≡ None) }
+        ensures no_filter { IfOk result (λ s. s.filter ≡ None) }
         ensures in_range { IsOk result ↔ AreSettings workers piece batch }
         ensures fault { OnErr result (IsErrOf result RunFault.Settings) }
     {
@@ -65,7 +79,10 @@ impl Settings {
             batch,
             keeps_going: false,
             decimals: false,
+            cutting: Cutting::Lines,
             output: Output::Nodes,
+            name: None,
+            filter: None,
         })
     }
 
@@ -95,10 +112,11 @@ impl Settings {
     }
 
     /// The same settings, but for an answer that keeps going after a faulty line. It takes no memory.
-    pub fn keep_going(self) -> Settings
-        ensures same { (result.workers ≡ self.workers) × (result.piece ≡ self.piece)
-            × (result.batch ≡ self.batch) × (result.output ≡ self.output)
-            × (result.decimals ≡ self.decimals) }
+    pub fn keep_going(self) -> Settings<'n>
+        ensures same { (result.workers ≡ self.entry.workers) × (result.piece ≡ self.entry.piece)
+            × (result.batch ≡ self.entry.batch) × (result.output ≡ self.entry.output)
+            × (result.decimals ≡ self.entry.decimals) × (result.name ≡ self.entry.name)
+            × (result.cutting ≡ self.entry.cutting) × (result.filter ≡ self.entry.filter) }
         ensures going { result.keeps_going ≡ true }
     {
         Settings {
@@ -107,16 +125,20 @@ impl Settings {
             batch: self.batch,
             keeps_going: true,
             decimals: self.decimals,
+            cutting: self.cutting,
             output: self.output,
+            name: self.name,
+            filter: self.filter,
         }
     }
 
     /// The same settings, but for documents and literals of the query that may have every number of JSON
     /// (RFC 8259, 6). It takes no memory.
-    pub fn with_decimals(self) -> Settings
-        ensures same { (result.workers ≡ self.workers) × (result.piece ≡ self.piece)
-            × (result.batch ≡ self.batch) × (result.output ≡ self.output)
-            × (result.keeps_going ≡ self.keeps_going) }
+    pub fn with_decimals(self) -> Settings<'n>
+        ensures same { (result.workers ≡ self.entry.workers) × (result.piece ≡ self.entry.piece)
+            × (result.batch ≡ self.entry.batch) × (result.output ≡ self.entry.output)
+            × (result.keeps_going ≡ self.entry.keeps_going) × (result.name ≡ self.entry.name)
+            × (result.cutting ≡ self.entry.cutting) × (result.filter ≡ self.entry.filter) }
         ensures decimals { result.decimals ≡ true }
     {
         Settings {
@@ -125,15 +147,19 @@ impl Settings {
             batch: self.batch,
             keeps_going: self.keeps_going,
             decimals: true,
+            cutting: self.cutting,
             output: self.output,
+            name: self.name,
+            filter: self.filter,
         }
     }
 
     /// The same settings, but for an answer in this form. It takes no memory.
-    pub fn with_output(self, output: Output) -> Settings
-        ensures same { (result.workers ≡ self.workers) × (result.piece ≡ self.piece)
-            × (result.batch ≡ self.batch) × (result.keeps_going ≡ self.keeps_going)
-            × (result.decimals ≡ self.decimals) }
+    pub fn with_output(self, output: Output) -> Settings<'n>
+        ensures same { (result.workers ≡ self.entry.workers) × (result.piece ≡ self.entry.piece)
+            × (result.batch ≡ self.entry.batch) × (result.keeps_going ≡ self.entry.keeps_going)
+            × (result.decimals ≡ self.entry.decimals) × (result.name ≡ self.entry.name)
+            × (result.cutting ≡ self.entry.cutting) × (result.filter ≡ self.entry.filter) }
         ensures output { result.output ≡ output }
     {
         Settings {
@@ -142,7 +168,86 @@ impl Settings {
             batch: self.batch,
             keeps_going: self.keeps_going,
             decimals: self.decimals,
+            cutting: self.cutting,
             output,
+            name: self.name,
+            filter: self.filter,
+        }
+    }
+
+    /// The same settings, but for an answer whose lines of nodes and fault lines stand behind this name and a
+    /// tab, or behind none. It takes no memory.
+    pub fn with_name(self, name: Option<&'n str>) -> Settings<'n>
+        ensures same { (result.workers ≡ self.entry.workers) × (result.piece ≡ self.entry.piece)
+            × (result.batch ≡ self.entry.batch) × (result.keeps_going ≡ self.entry.keeps_going)
+            × (result.decimals ≡ self.entry.decimals) × (result.output ≡ self.entry.output)
+            × (result.cutting ≡ self.entry.cutting) × (result.filter ≡ self.entry.filter) }
+        ensures name { result.name ≡ name.entry }
+    {
+        Settings {
+            workers: self.workers,
+            piece: self.piece,
+            batch: self.batch,
+            keeps_going: self.keeps_going,
+            decimals: self.decimals,
+            cutting: self.cutting,
+            output: self.output,
+            name,
+            filter: self.filter,
+        }
+    }
+
+    /// The same settings, but for an input that is cut so. It takes no memory.
+    pub fn with_cutting(self, cutting: Cutting) -> Settings<'n>
+        ensures same { (result.workers ≡ self.entry.workers) × (result.piece ≡ self.entry.piece)
+            × (result.batch ≡ self.entry.batch) × (result.keeps_going ≡ self.entry.keeps_going)
+            × (result.decimals ≡ self.entry.decimals) × (result.output ≡ self.entry.output)
+            × (result.name ≡ self.entry.name) × (result.filter ≡ self.entry.filter) }
+        ensures cutting { result.cutting ≡ cutting }
+    {
+        Settings {
+            workers: self.workers,
+            piece: self.piece,
+            batch: self.batch,
+            keeps_going: self.keeps_going,
+            decimals: self.decimals,
+            cutting,
+            output: self.output,
+            name: self.name,
+            filter: self.filter,
+        }
+    }
+
+    /// The same settings, but for an answer of the documents alone of which the filter of this text is true,
+    /// or of all. It takes no memory.
+    pub fn with_filter(self, filter: Option<&'n str>) -> Settings<'n>
+        ensures same { (result.workers ≡ self.entry.workers) × (result.piece ≡ self.entry.piece)
+            × (result.batch ≡ self.entry.batch) × (result.keeps_going ≡ self.entry.keeps_going)
+            × (result.decimals ≡ self.entry.decimals) × (result.output ≡ self.entry.output)
+            × (result.name ≡ self.entry.name) × (result.cutting ≡ self.entry.cutting) }
+        ensures filter { result.filter ≡ filter.entry }
+    {
+        Settings {
+            workers: self.workers,
+            piece: self.piece,
+            batch: self.batch,
+            keeps_going: self.keeps_going,
+            decimals: self.decimals,
+            cutting: self.cutting,
+            output: self.output,
+            name: self.name,
+            filter,
+        }
+    }
+
+    /// What each line stands behind, in a form whose lines have a head. `AllocError` if memory was refused:
+    /// none is taken where there is no name.
+    pub(crate) fn head(&self, alloc: Global) -> Result<Head, AllocError>
+        ensures { IfOk result (λ head. head ≡ head_of self.now) }
+    {
+        match self.name {
+            Some(name) => Head::of_name(alloc, name),
+            None => Ok(Head::none()),
         }
     }
 }

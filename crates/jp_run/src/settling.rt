@@ -3,25 +3,27 @@
 ghost use Rattle.std.specs.Prelude.{◌≡◌, ◌+◌, ◌<◌, ◌≤◌, ◌⊎◌, ◌++◌, false, true, None, length};
 ghost use Rattle.std.specs.Prelude.{IfOk, OnOk, IfErr};
 ghost use Rattle.jp_doc.specs.Feeding.{finished, finished_lines};
-ghost use Rattle.jp_compiled.specs.Compiled.{compiled_query};
 ghost use Rattle.jp_run.specs.Answered.{manner_in, passed_in};
+ghost use Rattle.jp_run.specs.inner.Answering.{HasHandedOut};
 ghost use Rattle.jp_run.specs.inner.Ended.{AnswerEnded, FailureEnded, RestEnded};
+ghost use Rattle.jp_run.specs.inner.Ready.{IsReady, StaysReady};
 ghost use Rattle.jp_run.specs.inner.Standing.{HasAnswered, HasSettled, IsCounted};
-ghost use Rattle.jp_run.specs.inner.Wrote.{HasBytes, HasBytesMore};
+ghost use Rattle.jp_run.specs.inner.Wrote.{HasBytesMore};
 ghost use Rattle.jp_run.specs.Handed.{Handed};
 ghost use Rattle.jp_run.specs.Limits.{max_lines, window};
+ghost use Rattle.jp_run.specs.inner.Jobs.{job_query};
 ghost use Rattle.jp_run.specs.Written.{IsPassedOn};
 
 use crate::answering::answer_lines;
 use crate::ends::{Sink, Supply};
 use crate::fault::RunFault;
 use crate::gathering::take_last;
+use crate::input::InputBuffer;
 use crate::job::Job;
 use crate::running::Totals;
 use crate::settings::Settings;
 use crate::stream::{Passed, Stream};
 use jp_answer::Gate;
-use jp_buffer::LineBuffer;
 use jp_output::Form;
 use std::thread::Threads;
 
@@ -40,11 +42,10 @@ pub(crate) fn settle<R: Threads + Sync, S: Supply, K: Sink, G: Gate + Sync, F: F
     sink: &mut K,
     stream: &mut Stream,
 ) -> Result<(), RunFault>
-    requires working { K.failed sink.old ≡ false }
-    requires flushed { K.flushed sink.old ≡ true }
+    requires ready { IsReady K.Sink sink.old }
     requires counted { IsCounted stream.old }
-    ensures settled { OnOk result (HasSettled (manner_in F.says job.now.settings) (compiled_query
-        job.now.query.now) (K.contents sink.old) (K.contents sink.new) stream.old stream.new) }
+    ensures settled { OnOk result (HasSettled (manner_in F.says job.now.settings) (job_query
+        job.now) (K.contents sink.old) (K.contents sink.new) stream.old stream.new) }
     ensures prompt { OnOk result ((S.told_ready source.new ≡ true) ⊎ (stream.new.come ≡ 0)) }
     ensures near { OnOk result (stream.new.come < window) }
     ensures bytes { S.remaining source.new ≡ S.remaining source.old }
@@ -52,11 +53,9 @@ pub(crate) fn settle<R: Threads + Sync, S: Supply, K: Sink, G: Gate + Sync, F: F
     ensures begun { S.begun source.new ≡ S.begun source.old }
     ensures source_working { S.failed source.new ≡ S.failed source.old }
     ensures left { stream.new.left ≡ stream.old.left }
-    ensures working { OnOk result (K.failed sink.new ≡ false) }
-    ensures flushed { OnOk result (K.flushed sink.new ≡ true) }
-    ensures passed_on { IsPassedOn (K.flushed sink.new) (K.failed sink.new) }
-    ensures fault { IfErr result (AnswerEnded (manner_in F.says job.now.settings) (compiled_query
-        job.now.query.now) stream.old.buffer.lines (K.failed sink.new) (K.contents sink.old)
+    ensures ready { StaysReady K.Sink sink.new result }
+    ensures fault { IfErr result (AnswerEnded (manner_in F.says job.now.settings) (job_query
+        job.now) stream.old.buffer.lines (K.failed sink.new) (K.contents sink.old)
         (K.contents sink.new)) }
 {
     if source.is_ready() && !has_enough(&job.settings, stream) {
@@ -66,7 +65,7 @@ pub(crate) fn settle<R: Threads + Sync, S: Supply, K: Sink, G: Gate + Sync, F: F
 }
 
 /// Whether what has come is answered, although the next read does not wait: a batch of lines, or many bytes.
-fn has_enough(settings: &Settings, stream: &Stream) -> bool
+fn has_enough(settings: &Settings<'_>, stream: &Stream) -> bool
     ensures { result ≡ false → stream.now.come < window }
 {
     let bytes = if settings.workers == 1 {
@@ -83,17 +82,14 @@ pub(crate) fn answer_come<R: Threads + Sync, K: Sink, G: Gate + Sync, F: Form + 
     sink: &mut K,
     stream: &mut Stream,
 ) -> Result<(), RunFault>
-    requires working { K.failed sink.old ≡ false }
-    requires flushed { K.flushed sink.old ≡ true }
+    requires ready { IsReady K.Sink sink.old }
     requires counted { IsCounted stream.old }
-    ensures answered { OnOk result (HasAnswered (manner_in F.says job.now.settings) (compiled_query
-        job.now.query.now) (K.contents sink.old) (K.contents sink.new) stream.old stream.new) }
+    ensures answered { OnOk result (HasAnswered (manner_in F.says job.now.settings) (job_query
+        job.now) (K.contents sink.old) (K.contents sink.new) stream.old stream.new) }
     ensures left { stream.new.left ≡ stream.old.left }
-    ensures working { OnOk result (K.failed sink.new ≡ false) }
-    ensures flushed { OnOk result (K.flushed sink.new ≡ true) }
-    ensures passed_on { IsPassedOn (K.flushed sink.new) (K.failed sink.new) }
-    ensures fault { IfErr result (AnswerEnded (manner_in F.says job.now.settings) (compiled_query
-        job.now.query.now) stream.old.buffer.lines (K.failed sink.new) (K.contents sink.old)
+    ensures ready { StaysReady K.Sink sink.new result }
+    ensures fault { IfErr result (AnswerEnded (manner_in F.says job.now.settings) (job_query
+        job.now) stream.old.buffer.lines (K.failed sink.new) (K.contents sink.old)
         (K.contents sink.new)) }
 {
     let count = stream.buffer.len();
@@ -110,23 +106,12 @@ pub(crate) fn answer_come<R: Threads + Sync, K: Sink, G: Gate + Sync, F: Form + 
 fn answer_waiting<R: Threads + Sync, K: Sink, G: Gate + Sync, F: Form + Drop + Send>(
     job: &Job<R, G>,
     sink: &mut K,
-    buffer: &LineBuffer,
+    buffer: &InputBuffer,
 ) -> Result<Passed, RunFault>
-    requires working { K.failed sink.old ≡ false }
-    requires flushed { K.flushed sink.old ≡ true }
+    requires ready { IsReady K.Sink sink.old }
     requires few { length buffer.now.lines ≤ max_lines + 1 }
-    ensures handed { OnOk result (Handed (manner_in F.says job.now.settings) (compiled_query
-        job.now.query.now) buffer.now.lines None (K.contents sink.old) (K.contents sink.new)) }
-    ensures passed { IfOk result (λ p. p.faulty ≡ passed_in job.now.settings buffer.now.lines) }
+    ensures handed_out { HasHandedOut F.says K.Sink job.now buffer.now.lines sink.old sink.new result }
     ensures few_faulty { IfOk result (λ p. p.faulty ≤ length buffer.now.lines) }
-    ensures wrote { IfOk result (λ p. HasBytes (manner_in F.says job.now.settings) (compiled_query
-        job.now.query.now) buffer.now.lines p.wrote) }
-    ensures working { OnOk result (K.failed sink.new ≡ false) }
-    ensures flushed { OnOk result (K.flushed sink.new ≡ true) }
-    ensures passed_on { IsPassedOn (K.flushed sink.new) (K.failed sink.new) }
-    ensures fault { IfErr result (AnswerEnded (manner_in F.says job.now.settings) (compiled_query
-        job.now.query.now) buffer.now.lines (K.failed sink.new) (K.contents sink.old)
-        (K.contents sink.new)) }
 {
     // A list of no lines would take memory at each read of a slow source.
     if buffer.len() == 0 {
@@ -145,13 +130,12 @@ pub(crate) fn answer_rest<R: Threads + Sync, K: Sink, G: Gate + Sync, F: Form + 
     sink: &mut K,
     stream: &mut Stream,
 ) -> Result<Totals, RunFault>
-    requires working { K.failed sink.old ≡ false }
-    requires flushed { K.flushed sink.old ≡ true }
+    requires ready { IsReady K.Sink sink.old }
     requires few_lines { stream.old.buffer.progress.count ≤ max_lines }
     requires few { stream.old.answered.lines + length stream.old.buffer.lines ≤ max_lines }
     requires few_faulty { stream.old.answered.faulty ≤ stream.old.answered.lines }
-    ensures handed { OnOk result (Handed (manner_in F.says job.now.settings) (compiled_query
-        job.now.query.now) (stream.old.buffer.lines ++ finished_lines stream.old.buffer.progress) None
+    ensures handed { OnOk result (Handed (manner_in F.says job.now.settings) (job_query
+        job.now) (stream.old.buffer.lines ++ finished_lines stream.old.buffer.progress) None
         (K.contents sink.old) (K.contents sink.new)) }
     ensures lines { IfOk result (λ totals. totals.lines ≡ (finished stream.old.buffer.progress).count) }
     ensures documents { IfOk result (λ totals. totals.documents ≡ stream.old.answered.lines
@@ -159,15 +143,13 @@ pub(crate) fn answer_rest<R: Threads + Sync, K: Sink, G: Gate + Sync, F: Form + 
     ensures passed { IfOk result (λ totals. totals.faulty ≡ stream.old.answered.faulty
         + passed_in job.now.settings
         (stream.old.buffer.lines ++ finished_lines stream.old.buffer.progress)) }
-    ensures wrote { IfOk result (λ totals. HasBytesMore (manner_in F.says job.now.settings) (compiled_query
-        job.now.query.now) (stream.old.buffer.lines ++ finished_lines stream.old.buffer.progress)
+    ensures wrote { IfOk result (λ totals. HasBytesMore (manner_in F.says job.now.settings) (job_query
+        job.now) (stream.old.buffer.lines ++ finished_lines stream.old.buffer.progress)
         stream.old.answered.wrote totals.wrote) }
     ensures few_lines { IfOk result (λ totals. totals.lines ≤ max_lines) }
-    ensures flushed { OnOk result (K.flushed sink.new ≡ true) }
-    ensures working { OnOk result (K.failed sink.new ≡ false) }
-    ensures passed_on { IsPassedOn (K.flushed sink.new) (K.failed sink.new) }
-    ensures fault { IfErr result (RestEnded (manner_in F.says job.now.settings) (compiled_query
-        job.now.query.now) (stream.old.buffer.lines ++ finished_lines stream.old.buffer.progress)
+    ensures ready { StaysReady K.Sink sink.new result }
+    ensures fault { IfErr result (RestEnded (manner_in F.says job.now.settings) (job_query
+        job.now) (stream.old.buffer.lines ++ finished_lines stream.old.buffer.progress)
         (finished stream.old.buffer.progress).count (K.failed sink.new) (K.contents sink.old)
         (K.contents sink.new)) }
 {
@@ -189,11 +171,10 @@ pub(crate) fn answer_before_failure<
     G: Gate + Sync,
     F: Form + Drop + Send,
 >(job: &Job<R, G>, sink: &mut K, stream: &mut Stream) -> RunFault
-    requires working { K.failed sink.old ≡ false }
-    requires flushed { K.flushed sink.old ≡ true }
+    requires ready { IsReady K.Sink sink.old }
     requires counted { IsCounted stream.old }
     ensures passed_on { IsPassedOn (K.flushed sink.new) (K.failed sink.new) }
-    ensures fault { FailureEnded (manner_in F.says job.now.settings) (compiled_query job.now.query.now)
+    ensures fault { FailureEnded (manner_in F.says job.now.settings) (job_query job.now)
         stream.old.buffer.lines (K.failed sink.new) (K.contents sink.old) (K.contents sink.new) result }
 {
     match answer_come::<R, K, G, F>(job, sink, stream) {

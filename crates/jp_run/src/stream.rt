@@ -1,9 +1,10 @@
 //! The lines of a run between the source and the sink.
 
-ghost use Rattle.std.specs.Prelude.{◌≡◌, ◌<◌, IfOk, [], vec_len, false};
-ghost use Rattle.jp_doc.specs.Feeding.{nothing_fed};
+ghost use Rattle.std.specs.Prelude.{◌≡◌, ◌<◌, IfOk, vec_len, false};
+ghost use Rattle.jp_run.specs.inner.Input.{nothing_come};
 
-use jp_buffer::LineBuffer;
+use crate::cutting::Cutting;
+use crate::input::InputBuffer;
 use std::alloc::{AllocError, Global};
 
 /// The number of bytes that one call of `read` is asked for: as many as a pipe of Linux holds.
@@ -17,7 +18,7 @@ pub(crate) struct Stream {
     /// How many calls of `read` are left.
     pub(crate) left: u64,
     /// The lines that have come and wait for their answer.
-    pub(crate) buffer: LineBuffer,
+    pub(crate) buffer: InputBuffer,
     /// How many bytes have come since no line waited.
     pub(crate) come: usize,
     pub(crate) answered: Answered,
@@ -45,11 +46,10 @@ pub(crate) struct Passed {
 }
 
 impl Stream {
-    /// No lines, and so many calls of `read` left.
-    pub(crate) fn new(alloc: Global, left: u64) -> Result<Stream, AllocError>
+    /// No lines, cut so, and so many calls of `read` left.
+    pub(crate) fn new(alloc: Global, cutting: Cutting, left: u64) -> Result<Stream, AllocError>
         ensures left { IfOk result (λ s. s.left ≡ left) }
-        ensures lines { IfOk result (λ s. s.buffer.lines ≡ []) }
-        ensures progress { IfOk result (λ s. s.buffer.progress ≡ nothing_fed) }
+        ensures buffer { IfOk result (λ s. s.buffer ≡ nothing_come cutting) }
         ensures come { IfOk result (λ s. s.come ≡ 0) }
         ensures answered { IfOk result (λ s. s.answered ≡ record { lines = 0; faulty = 0; wrote = false }) }
     {
@@ -59,7 +59,7 @@ impl Stream {
         Ok(Stream {
             scratch,
             left,
-            buffer: LineBuffer::new(alloc),
+            buffer: InputBuffer::new(alloc, cutting),
             come: 0,
             answered: Answered {
                 lines: 0,

@@ -168,16 +168,27 @@ fn pieces_behind_a_faulty_one_are_left(rt: HostRuntime) {
     assert_eq!(rt; gate.0.load(Ordering::SeqCst), 111);
 }
 
+/// Whether these are settings of so many workers, and documents of a piece and of a batch.
+fn has_sizes(found: &Result<Settings<'_>, RunFault>, sizes: (u64, u64, u64)) -> bool {
+    match found {
+        Ok(settings) => (settings.workers, settings.piece, settings.batch) == sizes,
+        Err(_) => false,
+    }
+}
+
+/// Whether there are no such settings.
+fn is_out_of_range(found: &Result<Settings<'_>, RunFault>) -> bool {
+    match found {
+        Ok(_) => false,
+        Err(fault) => matches!(fault, RunFault::Settings),
+    }
+}
+
 #[test]
 fn settings_have_their_ranges(rt: HostRuntime) {
     for (workers, piece, batch) in [(1, 1, 1), (64, 1_000_000, 1_000_000)] {
         let found = Settings::new(workers, piece, batch);
-        assert!(rt;
-            matches!(
-                found,
-                Ok(s) if (s.workers, s.piece, s.batch) == (workers, piece, batch)
-            )
-        );
+        assert!(rt; has_sizes(&found, (workers, piece, batch)));
     }
     for (workers, piece, batch) in [
         (0, 1, 1),
@@ -188,6 +199,6 @@ fn settings_have_their_ranges(rt: HostRuntime) {
         (1, 1, 1_000_001),
     ] {
         let found = Settings::new(workers, piece, batch);
-        assert!(rt; matches!(found, Err(RunFault::Settings)));
+        assert!(rt; is_out_of_range(&found));
     }
 }

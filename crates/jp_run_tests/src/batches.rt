@@ -216,7 +216,7 @@ fn is_run<R: Threads + Sync>(
     rt: &R,
     alloc: Global,
     text: &str,
-    settings: &Settings,
+    settings: &Settings<'_>,
     lines: &str,
 ) -> bool {
     let mut source = FromReader::new(text.as_bytes());

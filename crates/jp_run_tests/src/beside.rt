@@ -25,7 +25,7 @@ fn run_of<R: Threads + Sync, G: Gate + Sync>(
     rt: &R,
     alloc: Global,
     text: &str,
-    settings: &Settings,
+    settings: &Settings<'_>,
     (passing, room): (u64, usize),
     gate: &G,
 ) -> (Result<Totals, RunFault>, Vec<u8>) {

@@ -31,7 +31,7 @@ fn writes<R: Threads + Sync>(
     rt: &R,
     alloc: Global,
     input: (&str, &[u8]),
-    settings: Settings,
+    settings: Settings<'_>,
     wanted: (u64, &[u8]),
 ) -> bool {
     let (end, bytes) = ran_by_bytes(rt, alloc, input.0, input.1, &settings);

@@ -182,7 +182,7 @@ fn two_workers_at_once(rt: HostRuntime) {
 }
 
 /// Whether a run without the option ends at the first faulty line, and writes what the lines before it give.
-fn is_ended<R: Threads + Sync>(rt: &R, alloc: Global, settings: &Settings) -> bool {
+fn is_ended<R: Threads + Sync>(rt: &R, alloc: Global, settings: &Settings<'_>) -> bool {
     let (end, bytes) = ran(rt, alloc, "$.a", FOUR, settings);
     let first = "1\t$['a']\t1\n";
     matches!(end, Err(RunFault::Document { line: 2, .. })) && bytes.as_slice() == first.as_bytes()

@@ -12,8 +12,11 @@ mod cut_lines;
 #[cfg(test)]
 mod decimals;
 #[cfg(test)]
+mod documents;
+#[cfg(test)]
 mod fakes;
 #[cfg(test)]
+mod filters;
 mod forms;
 #[cfg(test)]
 mod gates;
@@ -25,6 +28,8 @@ mod keep_going;
 mod literals;
 #[cfg(test)]
 mod long_lines;
+#[cfg(test)]
+mod names;
 #[cfg(test)]
 mod output_forms;
 #[cfg(test)]

@@ -2,7 +2,7 @@
 
 use crate::ran::ran_by_bytes;
 use jp_number::Numbers;
-use jp_run::{Output, RunFault, Settings, check_query};
+use jp_run::{Output, Prepared, RunFault, Settings};
 use jp_syntax::QueryFault;
 use std::alloc::Global;
 use std::test::Fail;
@@ -32,7 +32,7 @@ fn writes<R: Threads + Sync>(
     rt: &R,
     alloc: Global,
     query: &str,
-    settings: Settings,
+    settings: Settings<'_>,
     wanted: &str,
 ) -> bool {
     let (end, bytes) = ran_by_bytes(rt, alloc, query, NUMBERS, &settings);
@@ -54,7 +54,7 @@ fn filters_compare_with_them_exactly(rt: HostRuntime) -> Result<(), Fail> {
 
 /// The fault of a query, where it is refused, by the numbers that its literals may be.
 fn fault_of(alloc: Global, query: &str, numbers: Numbers) -> Option<QueryFault> {
-    match check_query(alloc, query, numbers) {
+    match Prepared::new(alloc, query, None, numbers) {
         Err(RunFault::Query(fault)) => Some(fault),
         _ => None,
     }
@@ -93,7 +93,7 @@ fn ends_with<R: Threads + Sync>(
     rt: &R,
     alloc: Global,
     query: &str,
-    settings: Settings,
+    settings: Settings<'_>,
     wanted: QueryFault,
 ) -> bool {
     let (end, _) = ran_by_bytes(rt, alloc, query, NUMBERS, &settings);

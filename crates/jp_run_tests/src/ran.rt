@@ -1,7 +1,7 @@
 //! What runs end with, and what they write.
 
 use crate::fakes::{Holds, OneByte};
-use jp_run::{FromReader, OpenGate, RunFault, Settings, Totals, run};
+use jp_run::{Crew, FromReader, OpenGate, Prepared, RunFault, Settings, Totals, run};
 use std::alloc::Global;
 use std::thread::Threads;
 
@@ -14,7 +14,7 @@ pub(crate) fn ran<R: Threads + Sync>(
     alloc: Global,
     query: &str,
     input: &[u8],
-    settings: &Settings,
+    settings: &Settings<'_>,
 ) -> (Result<Totals, RunFault>, Vec<u8>) {
     let mut source = FromReader::new(input);
     let mut sink = Holds::new(Vec::new(alloc), ROOM, ROOM);
@@ -30,13 +30,32 @@ pub(crate) fn ran<R: Threads + Sync>(
     (end, sink.bytes)
 }
 
-/// The same, read a byte at a time and written three at a time.
+/// The same of what is prepared.
+pub(crate) fn ran_prepared<R: Threads + Sync>(
+    rt: &R,
+    alloc: Global,
+    prepared: &Prepared,
+    input: &[u8],
+    settings: &Settings<'_>,
+) -> (Result<Totals, RunFault>, Vec<u8>) {
+    let mut source = FromReader::new(input);
+    let mut sink = Holds::new(Vec::new(alloc), ROOM, ROOM);
+    let crew = Crew {
+        rt,
+        alloc,
+        gate: &OpenGate,
+    };
+    let end = prepared.run(&crew, settings, &mut source, &mut sink);
+    (end, sink.bytes)
+}
+
+/// A run of a query over these bytes, read a byte at a time and written three at a time.
 pub(crate) fn ran_by_bytes<R: Threads + Sync>(
     rt: &R,
     alloc: Global,
     query: &str,
     input: &[u8],
-    settings: &Settings,
+    settings: &Settings<'_>,
 ) -> (Result<Totals, RunFault>, Vec<u8>) {
     ran_cut_short(rt, alloc, query, input, settings, (0, ROOM))
 }
@@ -47,7 +66,7 @@ pub(crate) fn ran_cut_short<R: Threads + Sync>(
     alloc: Global,
     query: &str,
     input: &[u8],
-    settings: &Settings,
+    settings: &Settings<'_>,
     (fails_at, room): (u64, usize),
 ) -> (Result<Totals, RunFault>, Vec<u8>) {
     let mut source = OneByte::new(input, fails_at);

@@ -47,6 +47,34 @@ fn a_run_by_four_workers(rt: HostRuntime) {
     assert!(rt; matches!(turns, (Some(true), Some(true) | None) | (None, Some(true))));
 }
 
+/// The same lines behind a name, by two workers.
+fn named<R: Threads + Sync>(rt: &R, alloc: Global) -> Option<bool> {
+    let settings = Settings::new(2, 1, 2).ok()?.with_name(Some("x"));
+    let mut source = FromReader::new(INPUT);
+    let mut sink = Holds::new(Vec::with_capacity(alloc, ROOM).ok()?, ROOM, ROOM);
+    let end = jp_run::run(
+        rt,
+        alloc,
+        &mut source,
+        &mut sink,
+        "$[?@.a>0]",
+        &settings,
+        &OpenGate,
+    );
+    let all: &[u8] = b"x\t1\t$['x']\t{\"a\":1}\nx\t3\t$[1]\t{\"a\":2}\nx\t5\t$[1]\t{\"a\":3}\n";
+    match end {
+        Ok(totals) => Some(totals.documents == 4 && sink.bytes.as_slice() == all),
+        Err(RunFault::Memory) if all.starts_with(&sink.bytes) => None,
+        Err(_) => Some(false),
+    }
+}
+
+#[test]
+fn a_run_behind_a_name(rt: HostRuntime) {
+    let turns = (named(&rt, rt.alloc()), named(&rt, rt.alloc()));
+    assert!(rt; matches!(turns, (Some(true), Some(true) | None) | (None, Some(true))));
+}
+
 /// A faulty line in a batch of its own: where memory is wanted too, nothing of that batch is written.
 fn stopped<R: Threads + Sync>(rt: &R, alloc: Global) -> Option<bool> {
     let settings = Settings::new(2, 1, 1).ok()?;

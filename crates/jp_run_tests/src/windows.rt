@@ -27,7 +27,7 @@ fn run_of<R: Threads + Sync, G: Gate + Sync>(
     rt: &R,
     alloc: Global,
     text: &str,
-    settings: &Settings,
+    settings: &Settings<'_>,
     (never_waits, passing): (bool, u64),
     gate: &G,
 ) -> (Result<Totals, RunFault>, Vec<u8>, u64) {
@@ -56,7 +56,7 @@ fn finishes<R: Threads + Sync, G: Gate + Sync>(
     alloc: Global,
     count: u64,
     faulty: &[u64],
-    settings: &Settings,
+    settings: &Settings<'_>,
     gate: &G,
 ) -> bool {
     let Ok(text) = lines_of(alloc, count, BLANKS, faulty) else {
@@ -150,7 +150,7 @@ struct Outcome {
 fn came<R: Threads + Sync>(
     rt: &R,
     alloc: Global,
-    settings: &Settings,
+    settings: &Settings<'_>,
     source: (bool, u64),
     answered: u64,
 ) -> Result<Outcome, AllocError> {

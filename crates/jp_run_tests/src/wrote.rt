@@ -82,7 +82,7 @@ fn is_told_of_blocks<R: Threads + Sync>(
     alloc: Global,
     text: &str,
     (query, wrote): (&str, bool),
-    settings: &Settings,
+    settings: &Settings<'_>,
 ) -> bool {
     let mut source = FromReader::never_waits(text.as_bytes());
     let mut sink = Holds::new(Vec::new(alloc), ROOM, ROOM);

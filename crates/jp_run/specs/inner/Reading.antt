@@ -1,7 +1,7 @@
 -- A working file, which nobody has to believe: what a read has brought, for private clauses alone.
 use Rattle.std.specs.Prelude.{◌≡◌, ℕ, ◌+◌, ◌++◌, Bool, true, false, List, length, Option}
 use Rattle.std.specs.Io.KnownBytes.{Consumes, IsAtEnd, Keeps}
-use Rattle.jp_doc.specs.Feeding.{fed, fed_lines}
+use Rattle.jp_run.specs.Cutting.{fed, fed_lines}
 use Rattle.jp_run.specs.declared.gathering.Came.{Came}
 use Rattle.jp_run.specs.declared.gathering.Came.TheVariants.{More, End, Failure}
 use Rattle.jp_run.specs.declared.stream.Stream.{Stream}
@@ -10,8 +10,10 @@ use Rattle.jp_run.specs.declared.stream.Stream.{Stream}
 pub record HasRead (old new : Option (List ℕ)) (before after : Stream) : Type 0 where
   pub piece : List ℕ
   pub consumed : Consumes old new piece
-  pub progress : after.buffer.progress ≡ fed before.buffer.progress piece
-  pub lines : after.buffer.lines ≡ before.buffer.lines ++ fed_lines before.buffer.progress piece
+  pub cutting : after.buffer.cutting ≡ before.buffer.cutting
+  pub progress : after.buffer.progress ≡ fed before.buffer.cutting before.buffer.progress piece
+  pub lines : after.buffer.lines
+      ≡ before.buffer.lines ++ fed_lines before.buffer.cutting before.buffer.progress piece
   pub come : after.come ≡ before.come + length piece
   pub answered : after.answered ≡ before.answered
 

@@ -1,8 +1,8 @@
 -- A working file, which nobody has to believe: where a turn of a run leads, for private clauses alone.
 use Rattle.std.specs.Prelude.{◌≡◌, ℕ, Bool, true, false, List, Option}
 use Rattle.std.specs.Io.KnownBytes.{IsAtEnd}
-use Rattle.jp_tree.specs.Tree.{Query}
-use Rattle.jp_answer.specs.OnFault.{Manner}
+use Rattle.jp_answer.specs.FilteredQuery.{FilteredQuery}
+use Rattle.jp_run.specs.Manner.{Manner}
 use Rattle.jp_run.specs.Begun.{Begun, AllSince}
 use Rattle.jp_run.specs.Limits.{window}
 use Rattle.jp_run.specs.inner.Ended.{StreamEnded}
@@ -13,18 +13,19 @@ use Rattle.jp_run.specs.declared.gathering.Came.TheVariants.{More, End, Failure}
 use Rattle.jp_run.specs.declared.stream.Stream.{Stream}
 
 -- a run stands somewhere
-abbrev pub IsStanding : Manner → Query → Option (List ℕ) → Option (List ℕ) → Stream → Type 0
+abbrev pub IsStanding : Manner → FilteredQuery → Option (List ℕ) → Option (List ℕ) → Stream → Type 0
 IsStanding going q now sink s = (old : Option (List ℕ)) × (sink_old : Option (List ℕ))
     × Stands going q old now sink_old sink s
 
 -- wherever a run stood, it stands so afterwards
-abbrev pub StandsOn : Manner → Query → Option (List ℕ) → Option (List ℕ) → Option (List ℕ) → Option (List ℕ)
+abbrev pub StandsOn : Manner → FilteredQuery → Option (List ℕ) → Option (List ℕ) → Option (List ℕ)
+    → Option (List ℕ)
     → Stream → Stream → Type 0
 StandsOn going q now new sink sink_new s t = (old sink_old : Option (List ℕ))
     → Stands going q old now sink_old sink s → Stands going q old new sink_old sink_new t
 
 -- wherever a run stood, its end is told truly so
-abbrev pub StandsToEnd : Manner → Query → Option (List ℕ) → Option (List ℕ) → Option (List ℕ)
+abbrev pub StandsToEnd : Manner → FilteredQuery → Option (List ℕ) → Option (List ℕ) → Option (List ℕ)
     → Option (List ℕ) → Bool → Stream → RunFault → Type 0
 StandsToEnd going q now new sink sink_new failed s fault = (old sink_old : Option (List ℕ))
     → (reads_old reads_new : ℕ) → (source_failed : Bool) → Stands going q old now sink_old sink s
@@ -40,13 +41,14 @@ StandsToEnd going q now new sink sink_new failed s fault = (old sink_old : Optio
     }) fault
 
 -- wherever a run stood, and whatever reads were promised so, these too began as it is promised
-abbrev pub AllPrompt : Manner → Query → Option (List ℕ) → Option (List ℕ) → Stream → Option (List Begun)
+abbrev pub AllPrompt : Manner → FilteredQuery → Option (List ℕ) → Option (List ℕ) → Stream
+    → Option (List Begun)
     → Option (List Begun) → Type 0
 AllPrompt going q now sink s reads more = (old sink_old : Option (List ℕ)) → (first : Option (List Begun))
     → Stands going q old now sink_old sink s → AllSince first reads (BeginsPrompt going q old sink_old)
     → AllSince first more (BeginsPrompt going q old sink_old)
 
-abbrev pub AllNear : Manner → Query → Option (List ℕ) → Option (List ℕ) → Stream → Option (List Begun)
+abbrev pub AllNear : Manner → FilteredQuery → Option (List ℕ) → Option (List ℕ) → Stream → Option (List Begun)
     → Option (List Begun) → Type 0
 AllNear going q now sink s reads more = (old sink_old : Option (List ℕ)) → (first : Option (List Begun))
     → Stands going q old now sink_old sink s → AllSince first reads (BeginsNear window going q old sink_old)

@@ -1,11 +1,10 @@
 use Rattle.std.proofs.Common.{◌≡◌, ◌∙◌, ℕ, ◌+◌, ◌||◌, ◌++◌, List, sym, ap, subst, map, take, drop, None}
-use Rattle.std.proofs.Common.{arith, length, length-take-le, take-append-drop, refl}
+use Rattle.std.proofs.Common.{arith, length, length-take-le, take-append-drop, refl, rules}
 use Rattle.std.proofs.Math.Seq.{take-add}
 use Rattle.std.proofs.lemmas.List.{take-map, drop-map, length-map}
 use Rattle.jp_buffer.specs.Buffered.{line_at}
 use Rattle.jp_buffer.specs.declared.line_ref.LineRef as code
 use Rattle.jp_doc.specs.Lines.{Line}
-use Rattle.jp_compiled.specs.Compiled.{compiled_query}
 use Rattle.jp_answer.specs.OnFault.{passed_in}
 use Rattle.jp_answer.proofs.OnFaults.{passed_joined, passed_few, passed_none}
 use Rattle.jp_run.specs.Answered.{manner_in}
@@ -14,6 +13,7 @@ use Rattle.jp_run.specs.inner.Ended.{AnswerEnded}
 use Rattle.jp_run.specs.inner.Wrote.{HasBytes}
 use Rattle.jp_run.proofs.Handing.{told, handed_none, handed_both, ended_after, ended_more}
 use Rattle.jp_run.proofs.Wrote.{wrote_none, wrote_more, wrote_or}
+use Rattle.jp_run.specs.inner.Jobs.{job_query}
 use Rattle.jp_run.proofs.answering.answer_lines.Goals as goal
 
 -- the batch that is answered next, and what is answered with it
@@ -38,20 +38,19 @@ module _ (lines front : List code.LineRef) (done : ℕ)
 
 pub loop-done-init : goal.loop-done-init
 loop-done-init g c = record {
-  working = c.requires.working;
-  flushed = c.requires.flushed;
+  ready = c.requires.ready;
   within = omega arith;
   handed = handed_none (manner_in g.F.Form.says c.args.job.now.settings)
-      (compiled_query c.args.job.now.query.now) (g.K.Sink.contents c.args.sink.now);
+      (job_query c.args.job.now) (g.K.Sink.contents c.args.sink.now);
   passed = sym (passed_none (manner_in g.F.Form.says c.args.job.now.settings).policy);
   wrote = wrote_none (manner_in g.F.Form.says c.args.job.now.settings)
-      (compiled_query c.args.job.now.query.now);
+      (job_query c.args.job.now);
 }
 
-pub returns-in_err-passed-clause-fault : goal.returns-in_err-passed-clause-fault
-returns-in_err-passed-clause-fault g c =
+pub returns-in_err-passed : goal.returns-in_err-passed
+returns-in_err-passed g c =
     let going = manner_in g.F.Form.says c.args.job.now.settings in
-    let q = compiled_query c.args.job.now.query.now in
+    let q = job_query c.args.job.now in
     let lines = c.args.lines.now in
     let front = c.batch_at-front.result.now in
     let done = c.loop-done.done in
@@ -59,13 +58,23 @@ returns-in_err-passed-clause-fault g c =
     let a = g.K.Sink.contents c.args.sink.now in
     let b = g.K.Sink.contents c.loop-done.sink in
     let e = g.K.Sink.contents c.answer_batch.new.sink in
-    told _ _ _ c.from_residual.ensures.1
-    (subst (λ (l : List Line). AnswerEnded going q l failed a e c.in_err-passed.field-0.0)
-    (whole lines front done c.batch_at-front.ensures.front)
-    (ended_after going q (take done (map line_at lines)) (map line_at front
-    ++ drop (length front) (drop done (map line_at lines))) failed a b e _ c.loop-done.invariant.handed
-    (ended_more going q (map line_at front) (drop (length front) (drop done (map line_at lines))) failed b e _
-    c.in_err-passed.ensures.fault)))
+    record {
+      handed_out = record {
+        ready = search rules;
+        handed = search rules;
+        passed = search rules;
+        wrote = search rules;
+        fault = told _ _ _ c.from_residual.ensures.1
+            (subst (λ (l : List Line). AnswerEnded going q l failed a e c.in_err-passed.field-0.0)
+            (whole lines front done c.batch_at-front.ensures.front)
+            (ended_after going q (take done (map line_at lines)) (map line_at front
+            ++ drop (length front) (drop done (map line_at lines))) failed a b e _
+            c.loop-done.invariant.handed
+            (ended_more going q (map line_at front) (drop (length front) (drop done (map line_at lines)))
+            failed b e _
+            c.in_err-passed.ensures.handed_out.fault)));
+      };
+    }
 
 pub overflow_add-faulty : goal.overflow_add-faulty
 overflow_add-faulty g c =
@@ -76,7 +85,7 @@ overflow_add-faulty g c =
     omega (
       arith,
       c.loop-done.invariant.passed,
-      c.in_ok-passed.ensures.passed,
+      c.in_ok-passed.ensures.handed_out.passed,
       passed_few policy (take done (map line_at lines)),
       passed_few policy (map line_at front),
       length-take-le done (map line_at lines) (omega (
@@ -93,7 +102,7 @@ overflow_add-faulty g c =
 pub loop-done-preserved : goal.loop-done-preserved
 loop-done-preserved g c =
     let going = manner_in g.F.Form.says c.args.job.now.settings in
-    let q = compiled_query c.args.job.now.query.now in
+    let q = job_query c.args.job.now in
     let lines = c.args.lines.now in
     let front = c.batch_at-front.result.now in
     let done = c.loop-done.done in
@@ -102,16 +111,18 @@ loop-done-preserved g c =
     let e = g.K.Sink.contents c.answer_batch.new.sink in
     let more = both lines front done c.batch_at-front.ensures.front in
     record {
-      working = c.in_ok-passed.ensures.working;
-      flushed = c.in_ok-passed.ensures.flushed;
+      ready = record {
+        working = c.in_ok-passed.ensures.handed_out.ready.working;
+        flushed = c.in_ok-passed.ensures.handed_out.ready.flushed;
+      };
       within = c.batch_at-front.ensures.within;
       handed = subst (λ (l : List Line). Handed going q l None a e) (sym more)
           (handed_both going q (take done (map line_at lines)) (map line_at front) None a b e
-          c.loop-done.invariant.handed c.in_ok-passed.ensures.handed);
+          c.loop-done.invariant.handed c.in_ok-passed.ensures.handed_out.handed);
       passed = omega (
         arith,
         c.loop-done.invariant.passed,
-        c.in_ok-passed.ensures.passed,
+        c.in_ok-passed.ensures.handed_out.passed,
         ap (passed_in going.policy) more,
         passed_joined going.policy (take done (map line_at lines)) (map line_at front),
       );
@@ -122,5 +133,5 @@ loop-done-preserved g c =
           (wrote_more going q (take done (map line_at lines)) (map line_at front) a b before
           (before || wrote) c.loop-done.invariant.handed c.loop-done.invariant.wrote
           (wrote_or going q (map line_at front) before wrote (before || wrote) refl
-          c.in_ok-passed.ensures.wrote));
+          c.in_ok-passed.ensures.handed_out.wrote));
     }

@@ -1,31 +1,17 @@
-use Rattle.std.proofs.Common.{◌∙◌}
-use Rattle.jp_compiled.specs.Compiled.{compiled_query}
-use Rattle.jp_run.specs.Answered.{manner_in}
-use Rattle.jp_run.proofs.Going.{going_on}
-use Rattle.jp_run.proofs.Handing.{told}
+use Rattle.jp_run.proofs.Serving.{both_served, none_served, passed_up, served_on}
 use Rattle.jp_run.proofs.fronts.write_found.Goals as goal
 
-pub write_front-requires-clause-going : goal.write_front-requires-clause-going
-write_front-requires-clause-going g c κs within =
-    let going = manner_in g.F.Form.says c.args.job.now.settings in
-    let q = compiled_query c.args.job.now.query.now in
-    let contents = g.K.Sink.contents in
-    going_on going q (contents c.args.sink.now) (contents c.loop-sink.sink) c.args.stream.now
-    c.loop-sink.stream
-    c.args.out.now c.loop-sink.out c.requires.going c.loop-sink.invariant.going c.loop-sink.invariant.asked
+pub loop-sink-init : goal.loop-sink-init
+loop-sink-init g c = none_served c.requires.serving
 
-pub returns-in_err-write_front-clause-fault : goal.returns-in_err-write_front-clause-fault
-returns-in_err-write_front-clause-fault g c = told _ _ _ c.from_residual.ensures.1
-    (λ old now sink reads_old reads_new failed h. c.in_err-write_front.ensures.fault old now sink reads_old
-    reads_new failed (c.loop-sink.invariant.going old now sink h))
+pub write_front-requires-clause-serving : goal.write_front-requires-clause-serving
+write_front-requires-clause-serving g c κs within = served_on c.requires.serving c.loop-sink.invariant
+
+pub returns-in_err-write_front : goal.returns-in_err-write_front
+returns-in_err-write_front g c = record {
+  served = passed_up c.from_residual.ensures.1
+      (both_served c.loop-sink.invariant c.in_err-write_front.ensures.served);
+}
 
 pub loop-sink-preserved : goal.loop-sink-preserved
-loop-sink-preserved g c = record {
-  going = λ old now sink h. c.in_ok-write_front.ensures.going old now sink
-      (c.loop-sink.invariant.going old now sink h);
-  progress = c.in_ok-write_front.ensures.progress ∙ c.loop-sink.invariant.progress;
-  asked = c.write_front.ensures.asked ∙ c.loop-sink.invariant.asked;
-  left = c.write_front.ensures.left ∙ c.loop-sink.invariant.left;
-  working = c.in_ok-write_front.ensures.working;
-  flushed = c.in_ok-write_front.ensures.flushed;
-}
+loop-sink-preserved g c = both_served c.loop-sink.invariant c.in_ok-write_front.ensures.served

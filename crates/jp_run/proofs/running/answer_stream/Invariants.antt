@@ -1,21 +1,21 @@
-use Rattle.std.proofs.Common.{◌≡◌, ◌+◌, ◌≤◌, false, true}
-use Rattle.jp_compiled.specs.Compiled.{compiled_query}
+use Rattle.std.proofs.Common.{◌≡◌, ◌+◌, ◌≤◌, false}
 use Rattle.jp_run.specs.Answered.{manner_in}
 use Rattle.jp_run.specs.Begun.{AllSince}
 use Rattle.jp_run.specs.Limits.{max_lines, max_reads, window as window_bytes}
+use Rattle.jp_run.specs.inner.Ready.{IsReady}
 use Rattle.jp_run.specs.inner.Standing.{Stands, BeginsPrompt, BeginsNear}
+use Rattle.jp_run.specs.inner.Jobs.{job_query}
 use Rattle.jp_run.proofs.running.answer_stream.Given as goal
 
 abbrev pub invariant-loop-stream : goal.invariant-loop-stream
 invariant-loop-stream g l =
     let going = manner_in g.F.Form.says l.job.settings in
-    let q = compiled_query l.job.query.now in
+    let q = job_query l.job in
     let input = g.S.Supply.remaining l.fn.source in
     let output = g.K.Sink.contents l.fn.sink in
     record {
       source_working : g.S.Supply.failed l.source ≡ false;
-      sink_working : g.K.Sink.failed l.sink ≡ false;
-      flushed : g.K.Sink.flushed l.sink ≡ true;
+      ready : IsReady g.K.Sink l.sink;
       stands : Stands going q input (g.S.Supply.remaining l.source) output (g.K.Sink.contents l.sink)
           l.stream;
       few_lines : l.stream.buffer.progress.count ≤ max_lines;

@@ -1,94 +1,146 @@
 use Rattle.std.proofs.Common.{refl}
-use Rattle.jp_compiled.specs.Compiled.{compiled_query}
-use Rattle.jp_run.specs.declared.fault.RunFault.TheVariants.{Document, Read, Write, Limit}
-use Rattle.jp_run.specs.Answered.{manner_of}
-use Rattle.jp_run.proofs.Runs.{not_both, refused_so, at_fault, accepted_ok, answer_known, answer_ok}
-use Rattle.jp_run.proofs.Runs.{front_err, not_going, spelled, prompt_by, near_by, answer_wrote}
+use Rattle.jp_run.specs.declared.fault.RunFault.TheVariants.{Query, Filter}
+use Rattle.jp_tree.specs.declared.fault.QueryFault.TheVariants.{TooDeep}
+use Rattle.jp_run.proofs.Runs.{accepted_ok, asked_so, never_err}
+use Rattle.jp_run.proofs.Accepted.{filter_refused_so, no_filter_refused, none_refused, refusal_told}
+use Rattle.jp_run.proofs.Accepted.{refused_so}
 use Rattle.jp_run.proofs.running.run.Goals as goal
 
-pub returns-in_err-plan-clause-refused : goal.returns-in_err-plan-clause-refused
-returns-in_err-plan-clause-refused g c =
-    λ f v. (
-      refused_so _ _ _ f _ _ c.numbers.ensures c.from_residual.ensures.1
-          c.in_err-plan.ensures.fault v,
-      refl,
-      refl,
-    )
+pub returns-in_err-prepared-clause-query : goal.returns-in_err-prepared-clause-query
+returns-in_err-prepared-clause-query g c = λ f e. (
+  refusal_told _ _ _ c.numbers.ensures (Query f) _ _ c.from_residual.ensures.1 c.in_err-prepared.ensures.fault
+      (λ memory. cc) e,
+  refl,
+  refl,
+)
 
-pub answer_in_form-requires-clause-working : goal.answer_in_form-requires-clause-working
-answer_in_form-requires-clause-working g c = λ κs outlives. c.requires.working
+pub returns-in_err-prepared-clause-refused : goal.returns-in_err-prepared-clause-refused
+returns-in_err-prepared-clause-refused g c = λ f v. (
+  refused_so _ _ _ c.numbers.ensures (Query f) _ _ c.from_residual.ensures.1 c.in_err-prepared.ensures.fault
+      v,
+  refl,
+  refl,
+)
 
-pub answer_in_form-requires-clause-few : goal.answer_in_form-requires-clause-few
-answer_in_form-requires-clause-few g c = λ κs outlives. c.requires.few.0
+pub returns-in_err-prepared-clause-filter : goal.returns-in_err-prepared-clause-filter
+returns-in_err-prepared-clause-filter g c = λ f e. (
+  refusal_told _ _ _ c.numbers.ensures (Filter f) _ _ c.from_residual.ensures.1
+      c.in_err-prepared.ensures.fault
+      (λ memory. cc) e,
+  refl,
+  refl,
+)
+
+pub returns-in_err-prepared-clause-filter_refused : goal.returns-in_err-prepared-clause-filter_refused
+returns-in_err-prepared-clause-filter_refused g c = λ f v. (
+  filter_refused_so _ _ _ c.numbers.ensures f _ _ c.from_residual.ensures.1 c.in_err-prepared.ensures.fault v,
+  refl,
+  refl,
+)
 
 pub returns-clause-accepted : goal.returns-clause-accepted
-returns-clause-accepted g c = accepted_ok _ _ _ _ c.numbers.ensures c.in_ok-plan.ensures.ok _
+returns-clause-accepted g c =
+    accepted_ok c.numbers.ensures c.in_ok-prepared.ensures.ok c.run.result
 
 pub returns-clause-refused : goal.returns-clause-refused
-returns-clause-refused g c = λ f v. not_both _ _ _ _ f c.numbers.ensures c.in_ok-plan.ensures.ok v
+returns-clause-refused g c = λ f v.
+    none_refused _ _ _ c.numbers.ensures _ (Query f) c.in_ok-prepared.ensures.ok v
+
+pub returns-clause-filter_refused : goal.returns-clause-filter_refused
+returns-clause-filter_refused g c = λ f v.
+    no_filter_refused _ _ _ c.numbers.ensures _ f c.in_ok-prepared.ensures.ok v
 
 pub returns-clause-answer : goal.returns-clause-answer
-returns-clause-answer g c = answer_ok (manner_of c.args.settings.now) _ _ (spelled _ _ _ _ _
-    c.numbers.ensures c.compiled.ensures
-    c.in_ok-plan.ensures.ok) _ _ _ _ c.answer_in_form.ensures.handed
+returns-clause-answer g c =
+    (asked_so c.numbers.ensures c.in_ok-prepared.ensures.ok c.run.ensures.ran).answer
 
 pub returns-clause-counts : goal.returns-clause-counts
-returns-clause-counts g c = c.answer_in_form.ensures.counts
-
-pub returns-clause-document : goal.returns-clause-document
-returns-clause-document g c = λ line fault e. answer_known (manner_of c.args.settings.now) _ _
-    (spelled _ _ _ _ _
-    c.numbers.ensures c.compiled.ensures c.in_ok-plan.ensures.ok) _ _ _ _
-    (at_fault _ (Document line fault) _ e c.answer_in_form.ensures.fault).0
-
-pub returns-clause-goes_on : goal.returns-clause-goes_on
-returns-clause-goes_on g c = λ on line fault e.
-    let h = at_fault c.answer_in_form.result (Document line fault) _ e c.answer_in_form.ensures.fault in
-    not_going _ on h.1
+returns-clause-counts g c =
+    (asked_so c.numbers.ensures c.in_ok-prepared.ensures.ok c.run.ensures.ran).counts
 
 pub returns-clause-faulty : goal.returns-clause-faulty
-returns-clause-faulty g c = c.answer_in_form.ensures.passed
+returns-clause-faulty g c =
+    (asked_so c.numbers.ensures c.in_ok-prepared.ensures.ok c.run.ensures.ran).faulty
+
+pub returns-clause-none_passed : goal.returns-clause-none_passed
+returns-clause-none_passed g c =
+    (asked_so c.numbers.ensures c.in_ok-prepared.ensures.ok c.run.ensures.ran).none_passed
 
 pub returns-clause-wrote : goal.returns-clause-wrote
-returns-clause-wrote g c = answer_wrote (manner_of c.args.settings.now) _ _ (spelled _ _ _ _ _
-    c.numbers.ensures c.compiled.ensures
-    c.in_ok-plan.ensures.ok) c.answer_in_form.result _ _ _ c.answer_in_form.ensures.handed
-    c.answer_in_form.ensures.wrote
+returns-clause-wrote g c =
+    (asked_so c.numbers.ensures c.in_ok-prepared.ensures.ok c.run.ensures.ran).wrote
 
-pub returns-clause-read : goal.returns-clause-read
-returns-clause-read g c = λ e.
-    let h = at_fault c.answer_in_form.result Read _ e c.answer_in_form.ensures.fault in (
-      h.0,
-      h.1,
-      h.2,
-      (
-        compiled_query c.compiled.result.now,
-        spelled _ _ _ _ _ c.numbers.ensures c.compiled.ensures
-            c.in_ok-plan.ensures.ok,
-        h.3,
-      ),
-    )
+pub returns-clause-few_lines : goal.returns-clause-few_lines
+returns-clause-few_lines g c =
+    (asked_so c.numbers.ensures c.in_ok-prepared.ensures.ok c.run.ensures.ran).few_lines
 
-pub returns-clause-write : goal.returns-clause-write
-returns-clause-write g c = λ e. (at_fault c.answer_in_form.result Write _ e c.answer_in_form.ensures.fault).0
+pub returns-clause-end : goal.returns-clause-end
+returns-clause-end g c =
+    (asked_so c.numbers.ensures c.in_ok-prepared.ensures.ok c.run.ensures.ran).end
 
-pub returns-clause-limit : goal.returns-clause-limit
-returns-clause-limit g c = λ e. (at_fault c.answer_in_form.result Limit _ e c.answer_in_form.ensures.fault).0
+pub returns-clause-flushed : goal.returns-clause-flushed
+returns-clause-flushed g c =
+    (asked_so c.numbers.ensures c.in_ok-prepared.ensures.ok c.run.ensures.ran).flushed
 
-pub returns-clause-front : goal.returns-clause-front
-returns-clause-front g c = front_err (manner_of c.args.settings.now) _ _ (spelled _ _ _ _ _
-    c.numbers.ensures c.compiled.ensures
-    c.in_ok-plan.ensures.ok) c.answer_in_form.result _ c.answer_in_form.ensures.fault
+pub returns-clause-still_working : goal.returns-clause-still_working
+returns-clause-still_working g c =
+    (asked_so c.numbers.ensures c.in_ok-prepared.ensures.ok c.run.ensures.ran).still_working
+
+pub returns-clause-passed_on : goal.returns-clause-passed_on
+returns-clause-passed_on g c =
+    (asked_so c.numbers.ensures c.in_ok-prepared.ensures.ok c.run.ensures.ran).passed_on
+
+pub returns-clause-document : goal.returns-clause-document
+returns-clause-document g c =
+    (asked_so c.numbers.ensures c.in_ok-prepared.ensures.ok c.run.ensures.ran).document
+
+pub returns-clause-goes_on : goal.returns-clause-goes_on
+returns-clause-goes_on g c =
+    (asked_so c.numbers.ensures c.in_ok-prepared.ensures.ok c.run.ensures.ran).goes_on
 
 pub returns-clause-prompt : goal.returns-clause-prompt
-returns-clause-prompt g c = prompt_by (manner_of c.args.settings.now) _ _ (spelled _ _ _ _ _
-    c.numbers.ensures c.compiled.ensures
-    c.in_ok-plan.ensures.ok) _ _ _ _ c.answer_in_form.ensures.prompt
+returns-clause-prompt g c =
+    (asked_so c.numbers.ensures c.in_ok-prepared.ensures.ok c.run.ensures.ran).prompt
 
 pub returns-clause-window : goal.returns-clause-window
-returns-clause-window g c = near_by (manner_of c.args.settings.now) _ _ (spelled _ _ _ _ _
-    c.numbers.ensures c.compiled.ensures
-    c.in_ok-plan.ensures.ok) _ _ _ _ _ c.answer_in_form.ensures.window
+returns-clause-window g c =
+    (asked_so c.numbers.ensures c.in_ok-prepared.ensures.ok c.run.ensures.ran).window
+
+pub returns-clause-read : goal.returns-clause-read
+returns-clause-read g c =
+    (asked_so c.numbers.ensures c.in_ok-prepared.ensures.ok c.run.ensures.ran).read
+
+pub returns-clause-write : goal.returns-clause-write
+returns-clause-write g c =
+    (asked_so c.numbers.ensures c.in_ok-prepared.ensures.ok c.run.ensures.ran).write
+
+pub returns-clause-limit : goal.returns-clause-limit
+returns-clause-limit g c =
+    (asked_so c.numbers.ensures c.in_ok-prepared.ensures.ok c.run.ensures.ran).limit
 
 pub returns-clause-few : goal.returns-clause-few
-returns-clause-few g c = c.answer_in_form.ensures.few
+returns-clause-few g c =
+    (asked_so c.numbers.ensures c.in_ok-prepared.ensures.ok c.run.ensures.ran).few
+
+pub returns-clause-front : goal.returns-clause-front
+returns-clause-front g c =
+    (asked_so c.numbers.ensures c.in_ok-prepared.ensures.ok c.run.ensures.ran).front
+
+pub returns-clause-settings : goal.returns-clause-settings
+returns-clause-settings g c =
+    (asked_so c.numbers.ensures c.in_ok-prepared.ensures.ok c.run.ensures.ran).settings_fine
+
+pub returns-clause-query : goal.returns-clause-query
+returns-clause-query g c = λ f e.
+    absurd ((asked_so c.numbers.ensures c.in_ok-prepared.ensures.ok c.run.ensures.ran).taken (Query f) e refl)
+
+pub returns-clause-filter : goal.returns-clause-filter
+returns-clause-filter g c = λ f e.
+    absurd ((asked_so c.numbers.ensures c.in_ok-prepared.ensures.ok c.run.ensures.ran).taken (Filter f) e refl)
+
+pub returns-clause-too_deep : goal.returns-clause-too_deep
+returns-clause-too_deep g c = (
+  λ e. absurd ((asked_so c.numbers.ensures c.in_ok-prepared.ensures.ok c.run.ensures.ran).taken
+      (Query TooDeep) e refl),
+  λ deep. never_err (c.in_ok-prepared.ensures.too_deep.1 deep),
+)

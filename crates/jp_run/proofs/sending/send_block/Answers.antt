@@ -11,6 +11,7 @@ returns-clause-sent g c = record {
   bytes = search rules;
   all_bytes_out = search rules;
   none = search rules;
+  cutting = search rules;
   progress = search rules;
   come = search rules;
   answered = search rules;

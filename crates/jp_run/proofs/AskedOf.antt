@@ -1,0 +1,26 @@
+-- What is asked of lines whose numbers are whole: a query of every document.
+use Rattle.std.proofs.Common.{◌≡◌, ◌∙◌, ℕ, List, [], ap, sym}
+use Rattle.jp_doc.specs.Lines.{Line}
+use Rattle.jp_number.specs.declared.numbers.Numbers.TheVariants.{Whole}
+use Rattle.jp_tree.specs.Tree.{Query}
+use Rattle.jp_regexp.specs.Tests.{Tests}
+use Rattle.jp_output.specs.OutputForm.{node_lines_behind}
+use Rattle.jp_answer.specs.Asking.{asked_query}
+use Rattle.jp_answer.specs.FilteredQuery.{FilteredQuery, unfiltered}
+use Rattle.jp_answer.specs.OnFault.{answer_by}
+use Rattle.jp_answer.specs.Policy.{policy}
+use Rattle.jp_answer.specs.declared.asked.Asked.{Asked}
+use Rattle.jp_answer.specs.declared.on_fault.OnFault.{OnFault}
+use Rattle.jp_answer.specs.declared.policy.LinePolicy.{LinePolicy}
+
+pub asked_so : (asked : Asked) (head : List ℕ) (q : Query) (k : OnFault) (t : Tests) (lines : List Line)
+    → asked_query asked ≡ unfiltered q → asked.head.now ≡ head → asked.policy ≡ policy Whole k → head ≡ []
+    → answer_by (node_lines_behind []) (policy Whole k) t (unfiltered q) lines
+    ≡ answer_by (node_lines_behind asked.head.now) asked.policy t (asked_query asked) lines
+asked_so asked head q k t lines same heads policies none =
+    ap (λ (h : List ℕ). answer_by (node_lines_behind h) (policy Whole k) t (unfiltered q) lines)
+    (sym (heads ∙ none))
+    ∙ ap (λ (p : LinePolicy). answer_by (node_lines_behind asked.head.now) p t (unfiltered q) lines)
+    (sym policies)
+    ∙ ap (λ (r : FilteredQuery). answer_by (node_lines_behind asked.head.now) asked.policy t r lines) (sym
+    same)

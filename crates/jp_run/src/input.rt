@@ -1,0 +1,147 @@
+//! The documents of an input that wait for their answer.
+
+ghost use Rattle.std.specs.Prelude.{◌≡◌, ◌≤◌, ◌++◌, map, drop, length, IfOk, OnOk, OnErr};
+ghost use Rattle.jp_buffer.specs.Buffered.{line_at};
+ghost use Rattle.jp_doc.specs.Feeding.{finished, finished_lines, max_lines};
+ghost use Rattle.jp_run.specs.Cutting.{fed, fed_lines};
+ghost use Rattle.jp_run.specs.inner.Input.{nothing_come};
+
+use crate::cutting::Cutting;
+use jp_buffer::{LineBuffer, LineRef, WaitingLines};
+use jp_documents::DocumentBuffer;
+use std::alloc::{AllocError, Global};
+use std::marker::Model;
+
+/// The documents of an input that wait for their answer, and the bytes of the one that is open, whichever way
+/// the input is cut.
+#[derive(Drop)]
+pub(crate) struct InputBuffer {
+    parts: Parts,
+}
+
+/// A buffer that cuts so.
+#[derive(Drop)]
+enum Parts {
+    Lines(LineBuffer),
+    Documents(DocumentBuffer),
+}
+
+impl Model for InputBuffer {
+    ghost use Rattle.jp_run.specs.inner.Input.{Input, input_of};
+
+    ghost Value = { Input };
+
+    ghost view = { λ b. input_of b.parts };
+}
+
+impl InputBuffer {
+    /// Nothing has come yet. It takes no memory.
+    pub(crate) fn new(alloc: Global, cutting: Cutting) -> InputBuffer
+        ensures { result ≡ nothing_come cutting }
+    {
+        let parts = match cutting {
+            Cutting::Lines => Parts::Lines(LineBuffer::new(alloc)),
+            Cutting::Documents => Parts::Documents(DocumentBuffer::new(alloc)),
+        };
+        InputBuffer { parts }
+    }
+
+    /// How many parts have ended, those that were taken away too, and blank lines.
+    pub(crate) fn count(&self) -> u64
+        ensures { result ≡ self.now.progress.count }
+    {
+        match &self.parts {
+            Parts::Lines(buffer) => buffer.count(),
+            Parts::Documents(buffer) => buffer.count(),
+        }
+    }
+
+    /// How many documents wait.
+    pub(crate) fn len(&self) -> usize
+        ensures { result ≡ length self.now.lines }
+    {
+        match &self.parts {
+            Parts::Lines(buffer) => buffer.len(),
+            Parts::Documents(buffer) => buffer.len(),
+        }
+    }
+
+    /// How many bytes the documents that wait have together.
+    pub(crate) fn total_bytes(&self) -> usize {
+        match &self.parts {
+            Parts::Lines(buffer) => buffer.total_bytes(),
+            Parts::Documents(buffer) => buffer.total_bytes(),
+        }
+    }
+
+    /// Hands out the documents that wait, and has these wait in their place.
+    pub(crate) fn exchange(&mut self, lines: &mut WaitingLines)
+        ensures out { lines.new ≡ self.old.lines }
+        ensures within { self.new.lines ≡ lines.old }
+        ensures progress { self.new.progress ≡ self.old.progress }
+        ensures cutting { self.new.cutting ≡ self.old.cutting }
+    {
+        match &mut self.parts {
+            Parts::Lines(buffer) => buffer.exchange(lines),
+            Parts::Documents(buffer) => buffer.exchange(lines),
+        }
+    }
+
+    /// Adds the documents that the piece completes.
+    ///
+    /// `AllocError` if a growth was refused: then nothing has changed.
+    pub(crate) fn feed(&mut self, piece: &[u8]) -> Result<(), AllocError>
+        requires { self.old.progress.count ≤ max_lines }
+        ensures lines { OnOk result (self.new.lines
+            ≡ self.old.lines ++ fed_lines self.old.cutting self.old.progress piece.now) }
+        ensures progress { OnOk result (self.new.progress
+            ≡ fed self.old.cutting self.old.progress piece.now) }
+        ensures cutting { self.new.cutting ≡ self.old.cutting }
+        ensures same { OnErr result (self.new ≡ self.old) }
+    {
+        match &mut self.parts {
+            Parts::Lines(buffer) => buffer.feed(piece),
+            Parts::Documents(buffer) => buffer.feed(piece),
+        }
+    }
+
+    /// Ends what is open, and adds it unless it is a blank line.
+    ///
+    /// `AllocError` if a growth was refused: then nothing has changed.
+    pub(crate) fn finish(&mut self) -> Result<(), AllocError>
+        requires { self.old.progress.count ≤ max_lines }
+        ensures lines { OnOk result (self.new.lines
+            ≡ self.old.lines ++ finished_lines self.old.progress) }
+        ensures progress { OnOk result (self.new.progress ≡ finished self.old.progress) }
+        ensures cutting { self.new.cutting ≡ self.old.cutting }
+        ensures same { OnErr result (self.new ≡ self.old) }
+    {
+        match &mut self.parts {
+            Parts::Lines(buffer) => buffer.finish(),
+            Parts::Documents(buffer) => buffer.finish(),
+        }
+    }
+
+    /// The documents that wait, in order. `AllocError` if the list was refused its memory.
+    pub(crate) fn lines(&self, alloc: Global) -> Result<Vec<LineRef<'_>>, AllocError>
+        ensures { IfOk result (λ lines. map line_at lines.items ≡ self.now.lines) }
+    {
+        match &self.parts {
+            Parts::Lines(buffer) => buffer.lines(alloc),
+            Parts::Documents(buffer) => buffer.lines(alloc),
+        }
+    }
+
+    /// Takes so many documents away from the front.
+    pub(crate) fn take_away(&mut self, count: usize)
+        requires { count ≤ length self.old.lines }
+        ensures lines { self.new.lines ≡ drop count self.old.lines }
+        ensures progress { self.new.progress ≡ self.old.progress }
+        ensures cutting { self.new.cutting ≡ self.old.cutting }
+    {
+        match &mut self.parts {
+            Parts::Lines(buffer) => buffer.take_away(count),
+            Parts::Documents(buffer) => buffer.take_away(count),
+        }
+    }
+}
