@@ -1,7 +1,11 @@
+mod Fields
+mod Going
+mod Manners
 mod Naming
 mod Noted
 mod OneWish
 mod Ran
 mod Saying
+mod Splits
 mod Told
 mod Turns

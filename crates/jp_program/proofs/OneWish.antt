@@ -1,7 +1,8 @@
 -- Words want one thing, and what is asked for is that.
 use Rattle.std.proofs.Common.{◌≡◌, ◌∙◌, ℕ, inl, inr, Bool, true, false, List, [], ◌∷◌, Option, Some, None}
 use Rattle.std.proofs.Common.{refl, sym, Result, Ok, Err, IsErrAnd, ap, subst, length, unwrap_or, codes}
-use Rattle.std.proofs.Common.{arith, ◌==◌, if◌then◌else◌}
+use Rattle.std.proofs.Common.{arith, ◌==◌, ◌||◌, if◌then◌else◌}
+use Rattle.std.specs.Prelude.{nat_lt}
 use Rattle.std.specs.Str.{chars}
 use Rattle.std.specs.Str.Parse.{digits_value, without_leading_plus}
 use Rattle.clap.specs.Walk.{Text, Row}
@@ -9,13 +10,19 @@ use Rattle.clap.specs.Kinds.{Kinds, IsAmong}
 use Rattle.clap.specs.declared.error.kind.ErrorKind.{ErrorKind}
 use Rattle.jp_tree.specs.declared.fault.QueryFault.{QueryFault}
 use Rattle.jp_check.specs.Verdict.{IsVerdictIn}
+use Rattle.jp_run.specs.AskedTexts.{IsFilterRefused}
 use Rattle.jp_run.specs.Answered.{numbers_of}
+use Rattle.jp_run.specs.Status.{status_of}
 use Rattle.jp_run.specs.declared.fault.RunFault.{RunFault}
 use Rattle.jp_run.specs.declared.fault.RunFault.TheVariants.{Memory}
+use Rattle.jp_run.specs.declared.cutting.Cutting.{Cutting}
+use Rattle.jp_run.specs.declared.cutting.Cutting.TheVariants as cutting
 use Rattle.jp_run.specs.declared.output.Output.{Output}
 use Rattle.jp_run.specs.declared.output.Output.TheVariants.{Nodes, Values, Texts, Raw, Lines}
 use Rattle.jp_program.specs.CommandLine.{said, refusals, AsksToShow}
-use Rattle.jp_program.specs.Wanted.{Wanted, SaysNumber, flag_text, output_text, Wants, WantsCheck, IsWrong}
+use Rattle.jp_program.specs.Outcome.{IsRefusedWish}
+use Rattle.jp_program.specs.Wanted.{Wanted, SaysNames, SaysNumber, cuts_documents, flag_text, output_text}
+use Rattle.jp_program.specs.Wanted.{Wants, WantsCheck, IsWrong}
 use Rattle.jp_program.specs.inner.Asked.{IsAsked, IsNotAsked, wanted_of}
 use Rattle.jp_program.specs.declared.command_line.Asked.{Asked}
 use Rattle.jp_program.specs.declared.command_line.Asked.TheVariants.{Query}
@@ -43,6 +50,13 @@ number_same : (name : Text) (rows : List Row) (m n : ℕ) → SaysNumber name ro
 number_same name rows m n a b = sym a.3
     ∙ ap (λ t. digits_value 10 (without_leading_plus t)) (same_some a.0 b.0 (sym a.1 ∙ b.1)) ∙ b.3
 
+-- the option and the files say whether lines name theirs
+names_same : (rows : List Row) (xs ys : List Text) (m n : Bool) → SaysNames rows xs m → SaysNames rows ys n
+    → xs ≡ ys → m ≡ n
+names_same rows xs ys m n a b same = a.2
+    ∙ ap (λ (t : Bool). t || nat_lt 1 (length xs)) (flag_same a.0 b.0 (sym a.1 ∙ b.1))
+    ∙ ap (λ (fs : List Text). b.0 || nat_lt 1 (length fs)) same ∙ sym b.2
+
 -- which form a word names, by its first byte
 abbrev named : ℕ → Output
 named b = if b == 110 then Nodes else (if b == 118 then Values else (if b == 116 then Texts else
@@ -55,16 +69,58 @@ named_is Texts = refl
 named_is Raw = refl
 named_is Lines = refl
 
+-- what the flag says of the way of cutting
+abbrev cutting_of : Bool → Cutting
+cutting_of false = cutting.Lines
+cutting_of true = cutting.Documents
+
+cut_so : (c : Cutting) → cutting_of (cuts_documents c) ≡ c
+cut_so cutting.Lines = refl
+cut_so cutting.Documents = refl
+
+cutting_same : (x y : Cutting)
+    → ◌≡◌ (Some (flag_text (cuts_documents x))) (Some (flag_text (cuts_documents y))) → x ≡ y
+cutting_same x y e = sym (cut_so x) ∙ ap cutting_of (flag_same (cuts_documents x) (cuts_documents y) e)
+    ∙ cut_so y
+
 output_same : (x y : Output) → ◌≡◌ (Some (output_text x)) (Some (output_text y)) → x ≡ y
 output_same x y e = sym (named_is x) ∙ ap (λ o. named (first o)) e ∙ named_is y
 
 pub one_wish : (words : List Text) (v w : Wanted) → Wants words v → Wants words w → v ≡ w
 one_wish words v w a b =
     ap (λ (q : List ℕ). record v { query = q }) (same_some v.query w.query (sym a.1.query ∙ b.1.query))
-    ∙ ap (λ (f : List Text). record v { query = w.query; files = f }) (sym a.1.files.0 ∙ b.1.files.0)
-    ∙ ap (λ (c : Bool). record v { query = w.query; files = w.files; check = c })
+    ∙ ap (λ (f : Option (List ℕ)). record v { query = w.query; filter = f }) (sym a.1.filter ∙ b.1.filter)
+    ∙ ap (λ (f : List Text). record v { query = w.query; filter = w.filter; files = f })
+    (sym a.1.files.0 ∙ b.1.files.0)
+    ∙ ap (λ (n : Bool). record v { query = w.query; filter = w.filter; files = w.files; names = n })
+    (names_same (said words) v.files w.files v.names w.names a.1.names b.1.names
+    (sym a.1.files.0 ∙ b.1.files.0))
+    ∙ ap (λ (c : Cutting). record v {
+      query = w.query;
+      filter = w.filter;
+      files = w.files;
+      names = w.names;
+      cutting = c;
+    })
+    (cutting_same v.cutting w.cutting (sym a.1.cutting ∙ b.1.cutting))
+    ∙ ap (λ (c : Bool). record v {
+      query = w.query;
+      filter = w.filter;
+      files = w.files;
+      names = w.names;
+      cutting = w.cutting;
+      check = c;
+    })
     (flag_same v.check w.check (sym a.1.check ∙ b.1.check))
-    ∙ ap (λ (o : Output). record v { query = w.query; files = w.files; check = w.check; output = o })
+    ∙ ap (λ (o : Output). record v {
+      query = w.query;
+      filter = w.filter;
+      files = w.files;
+      names = w.names;
+      cutting = w.cutting;
+      check = w.check;
+      output = o;
+    })
     (output_same v.output w.output (sym a.1.output ∙ b.1.output))
     ∙ ap (λ (d : Bool). record w {
       decimals = d;
@@ -125,9 +181,24 @@ err_of : {T E : Type 0} (r : Result T E) (e : E) → IsErrAnd r (λ f. f ≡ e) 
 err_of (Ok x) e h = absurd h
 err_of (Err f) e h = ap Err h
 
+err_same : {T : Type 0} (f g : RunFault) → ◌≡◌ {A = Result T RunFault} (Err f) (Err g) → f ≡ g
+err_same f g e = cc
+
 pub not_asked : {T : Type 0} (words : List Text) (w : Wanted) (fault : RunFault) (r : Result T RunFault)
     → IsErrAnd r (λ e. e ≡ fault) → IsNotAsked words fault → Wants words w → r ≡ Err Memory
 not_asked words w fault r h none a = err_of r fault h ∙ ap Err (memory_so words w fault a none)
+
+-- nothing is refused then
+not_two : {P : Type 0} (words : List Text) (f : RunFault) → IsNotAsked words f → status_of f ≡ 2 → P
+not_two words f (inl h) two =
+    let is : status_of f ≡ 64 = ap status_of h.0 in absurd (omega (arith, two, is))
+not_two words f (inr e) two = let is : status_of f ≡ 5 = ap status_of e in absurd (omega (arith, two, is))
+
+pub not_text : {T P : Type 0} (words : List Text) (fault f : RunFault) (r : Result T RunFault)
+    → IsErrAnd r (λ e. e ≡ fault) → IsNotAsked words fault → r ≡ Err f → status_of f ≡ 2 → P
+not_text {T} words fault f r h none e two =
+    let same : f ≡ fault = err_same {T = T} f fault (sym e ∙ err_of r fault h) in
+    not_two words f (subst (IsNotAsked words) (sym same) none) two
 
 -- what was asked for is what is wanted
 
@@ -140,10 +211,23 @@ module _ (words : List Text) (a : Asked) (v : code.Wanted) (w : Wanted) where
       let same : w ≡ wanted_of v = asked_is e asked wants.0 in
       let on : true ≡ false = sym wants.1 ∙ ap (λ (x : Wanted). x.check) same ∙ off in absurd (cc)
 
-module _ (words : List Text) (a : Asked) (v : code.Wanted) (w : Wanted) (f : QueryFault) where
-  pub verdict_so : a ≡ Query v → IsAsked words a → Wants words w
+module _ (words : List Text) (a : Asked) (v : code.Wanted) (w : Wanted) where
+  -- what is refused of it is refused of what was wanted
+  pub refused_wish : (f : RunFault) → a ≡ Query v → IsAsked words a → Wants words w → IsRefusedWish w f
+      → IsRefusedWish (wanted_of v) f
+  refused_wish f e asked wants = subst (λ (x : Wanted). IsRefusedWish x f)
+      (asked_is words a v w e asked wants)
+
+  pub verdict_so : (f : QueryFault) → a ≡ Query v → IsAsked words a → Wants words w
       → IsVerdictIn (numbers_of w.decimals) w.query (Err f)
       → IsVerdictIn (numbers_of v.settings.decimals) (chars v.query.now) (Err f)
-  verdict_so e asked wants =
+  verdict_so f e asked wants =
       subst (λ (x : Wanted). IsVerdictIn (numbers_of x.decimals) x.query (Err f))
+      (asked_is words a v w e asked wants)
+
+  pub filter_so : (f : QueryFault) → a ≡ Query v → IsAsked words a → Wants words w
+      → IsFilterRefused (numbers_of w.decimals) w.filter f
+      → IsFilterRefused (numbers_of v.settings.decimals) (wanted_of v).filter f
+  filter_so f e asked wants =
+      subst (λ (x : Wanted). IsFilterRefused (numbers_of x.decimals) x.filter f)
       (asked_is words a v w e asked wants)

@@ -2,46 +2,51 @@
 use Rattle.std.proofs.Common.{◌≡◌, ◌∙◌, ℕ, ◌<◌, ◌≤◌, ◌^◌, ◌⊎◌, inl, inr, Bool, true, false, List, []}
 use Rattle.std.proofs.Common.{◌∷◌, length, map}
 use Rattle.std.proofs.Common.{Option, Some, None, IfSome, Result, Ok, Err, IfOk, IfErr, OnOk, OnErr}
-use Rattle.std.proofs.Common.{IsErrAnd, refl, subst, sym, ap, arith}
+use Rattle.std.proofs.Common.{refl, subst, sym, ap, arith}
 use Rattle.std.proofs.KnownBytes.{Consumes-nil}
-use Rattle.std.proofs.lemmas.Result.{IfErr-weaker}
 use Rattle.std.proofs.lemmas.List.Elements.{All-nil, All-cons, All-head}
 use Rattle.std.proofs.lemmas.Grind.{common_steps}
-use Rattle.std.specs.Prelude.{IsErrOf, IsSomeAnd, nat_lt, ◌==◌}
+use Rattle.std.specs.Prelude.{IsErrOf, nat_lt, ◌==◌}
 use Rattle.std.specs.Io.KnownBytes.{IsAtEnd, Consumes}
 use Rattle.std.proofs.Math.ListN.{length-map}
 use Rattle.std.specs.Borrow.{Bor}
 use Rattle.clap.specs.Walk.{Text, texts}
-use Rattle.jp_doc.specs.Lines.{lines}
 use Rattle.jp_doc.specs.declared.fault.DocFault.{DocFault}
 use Rattle.jp_number.specs.declared.numbers.Numbers.{Numbers}
-use Rattle.jp_tree.specs.Tree.{Query as Tree}
-use Rattle.jp_tree.specs.declared.fault.QueryFault.{QueryFault}
-use Rattle.jp_check.specs.Verdict.{IsAcceptedIn, IsVerdictIn}
-use Rattle.jp_check.proofs.OneVerdict.{one_verdict}
 use Rattle.jp_regexp.proofs.RightTests.{right_tests}
 use Rattle.jp_answer.specs.Answer.{Answer}
-use Rattle.jp_answer.specs.OnFault.{Manner, answer_by, passed_in}
-use Rattle.jp_run.specs.Answered.{IsAnswerBy, numbers_of, policy_of, manner_by}
+use Rattle.jp_answer.specs.FilteredQuery.{FilteredQuery}
+use Rattle.jp_answer.specs.OnFault.{answer_by, passed_in}
+use Rattle.jp_run.specs.Manner.{Manner}
+use Rattle.jp_run.specs.AskedTexts.{AreAcceptedIn, AskedTexts}
+use Rattle.jp_run.specs.Answered.{IsAnswerBy, numbers_of, policy_of}
 use Rattle.jp_run.specs.Counts.{counted}
+use Rattle.jp_run.specs.Cutting.{documents, documents_in}
 use Rattle.jp_run.specs.Handed.{Handed}
+use Rattle.jp_run.specs.Status.{status_of}
+use Rattle.jp_run.specs.declared.cutting.Cutting.{Cutting}
+use Rattle.jp_run.specs.declared.cutting.Cutting.TheVariants.{Lines, Documents}
 use Rattle.jp_run.specs.declared.fault.RunFault.{RunFault}
 use Rattle.jp_run.specs.declared.fault.RunFault.TheVariants as fault_
 use Rattle.jp_run.specs.declared.fault.RunFault.TheVariants.{Document, Read, Write, Limit, Memory, Settings}
 use Rattle.jp_run.specs.declared.running.Totals.{Totals}
+use Rattle.jp_run.proofs.Accepted.{one_asked}
 use Rattle.jp_run.proofs.Handing.{handed_none}
+use Rattle.jp_run.proofs.Runs.{at_fault}
 use Rattle.jp_program.specs.inner.Asked.{IsAsked, wanted_of}
-use Rattle.jp_program.specs.inner.Ended.{Course, HasEnded, RunEnded, left_of}
-use Rattle.jp_program.specs.Inputs.{Input, EachInTurn, EndsAt, EndsIn, inputs_of}
-use Rattle.jp_program.specs.Outcome.{IsTaken, IsAnswered, ArePassed, Passes, IsWhole, IsFront, IsCutShort}
-use Rattle.jp_program.specs.Outcome.{Left, AreAllReads, AreOpened, AreTooManyLines, reads_before}
-use Rattle.jp_program.specs.Outcome.{HasEmptyAnswer, AreEmptyAnswers, AreKnownEmptyAnswers}
+use Rattle.jp_program.specs.inner.Ended.{EndsSo, FilesEnded, HasEnded, RunEnded}
+use Rattle.jp_program.specs.Inputs.{Course, EachInTurn, EndsIn, Held, Input, inputs_of, named, standard}
+use Rattle.jp_program.specs.Outcome.{IsTaken, IsAnswered, ArePassed, Passes, IsFront, IsCutShort, HasFailed}
+use Rattle.jp_program.specs.Outcome.{AreFailed, IsWholeOrCut, Left, AreAllReads, AreOpened, AreTooManyLines}
+use Rattle.jp_program.specs.Outcome.{IsRefusedWish, asked_in, ends_run, left_of, manner_for, reads_before}
+use Rattle.jp_program.specs.Outcome.{IsEmptyAnswer, IsKnownEmptyAnswer, AreEmptyAnswers}
+use Rattle.jp_program.specs.Outcome.{AreKnownEmptyAnswers}
 use Rattle.jp_program.specs.Wanted.{Wanted, WantsRun}
 use Rattle.jp_program.specs.declared.command_line.Asked.{Asked}
 use Rattle.jp_program.specs.declared.command_line.Asked.TheVariants.{Query}
 use Rattle.jp_program.specs.declared.command_line.Wanted as code
 use Rattle.jp_program.proofs.Told.{IsToldIn, fine, passes, told_stop, stops, front_none}
-use Rattle.jp_program.proofs.Turns.{alone, ended_alone, ended_named, named}
+use Rattle.jp_program.proofs.Turns.{all_named, alone, ended_alone, ended_named, ends_weaker, in_weaker}
 
 pub wants_of : (words : List Text) (a : Asked) (w : code.Wanted) → a ≡ Query w → IsAsked words a
     → w.check ≡ false → WantsRun words (wanted_of w)
@@ -49,123 +54,223 @@ wants_of words a w e asked off = (subst (IsAsked words) e asked, off)
 
 -- what a check has accepted is accepted by the numbers that were wanted
 pub taken_by : (n : Numbers) (w : Wanted) → n ≡ numbers_of w.decimals
-    → (q : Tree) × IsAcceptedIn n w.query q → IsTaken w
-taken_by n w same h = (h.0, subst (λ k. IsAcceptedIn k w.query h.0) same h.1)
+    → (q : FilteredQuery) × AreAcceptedIn n (asked_in w) q → IsTaken w
+taken_by n w same h = (h.0, subst (λ k. AreAcceptedIn k (asked_in w) h.0) same h.1)
+
+-- and so is what was prepared
+pub prepared_by : (n : Numbers) (w : Wanted) (q : FilteredQuery) → n ≡ numbers_of w.decimals
+    → AreAcceptedIn n (asked_in w) q → AreAcceptedIn (numbers_of w.decimals) (asked_in w) q
+prepared_by n w q same = subst (λ k. AreAcceptedIn k (asked_in w) q) same
+
+-- want of memory has another one
+pub no_memory : (f : RunFault) → status_of f ≡ 2 → f ≡ Memory → ⊥
+no_memory f two is = let five : status_of f ≡ 5 = ap status_of is in omega (arith, two, five)
 
 -- what one run over an input has done, in the words of what was wanted
-module _ (w : Wanted) (input old new : Option (List ℕ)) where
+module _ (w : Wanted) (input : Input) (old new : Option (List ℕ)) where
   pub finished_ok : (r : Result Totals RunFault) → OnOk r (IsToldIn w.keeps_going w None input old new)
-      → IfOk r (λ totals. IfSome input (λ bytes. totals.faulty
-      ≡ passed_in (policy_of w.decimals w.keeps_going) (lines bytes)))
+      → IfOk r (λ totals. IfSome input.1 (λ bytes. totals.faulty
+      ≡ passed_in (policy_of w.decimals w.keeps_going) (documents w.cutting bytes)))
       → IfOk r (λ totals. totals.faulty ≡ 0 → IsAnswered w None input old new)
   finished_ok (Ok totals) told faulty = λ e. fine w w.keeps_going input old new totals.faulty told faulty e
   finished_ok (Err fault) told faulty = tt
 
   pub passes_ok : w.keeps_going ≡ true → (r : Result Totals RunFault)
       → OnOk r (IsToldIn w.keeps_going w None input old new)
-      → IfOk r (λ totals. IfSome input (λ bytes. totals.faulty
-      ≡ passed_in (policy_of w.decimals w.keeps_going) (lines bytes)))
+      → IfOk r (λ totals. IfSome input.1 (λ bytes. totals.faulty
+      ≡ passed_in (policy_of w.decimals w.keeps_going) (documents w.cutting bytes)))
       → IfOk r (λ totals. (n : ℕ) → Passes w input (old, n) (new, counted n totals.faulty))
   passes_ok is (Ok totals) told faulty = λ n. passes w input old new totals.faulty n
       (subst (λ g. IsToldIn g w None input old new) is told)
-      (subst (λ g. IfSome input (λ bytes. totals.faulty ≡ passed_in (policy_of w.decimals g) (lines bytes)))
-      is faulty)
+      (subst (λ g. IfSome input.1 (λ bytes. totals.faulty
+      ≡ passed_in (policy_of w.decimals g) (documents w.cutting bytes))) is faulty)
   passes_ok is (Err fault) told faulty = tt
 
+-- of no byte there is no document
+no_documents : (c : Cutting) → documents_in c [] ≡ []
+no_documents Lines = refl
+no_documents Documents = refl
+
 -- how one run over an input ended, in the words of what was wanted
-module _ (w : Wanted) (e : Left) (input old new : Option (List ℕ)) where
+module _ (w : Wanted) (e : Left) (input : Input) (old new : Option (List ℕ)) where
   pub run_ended : (r : Result Totals RunFault)
-      → ((f : QueryFault) → IsErrOf r (fault_.Query f) → IsVerdictIn (numbers_of w.decimals) w.query (Err f))
+      → ((f : RunFault) → IsErrOf r f → status_of f ≡ 2 → IsRefusedWish w f)
       → (w.keeps_going ≡ true → (line : ℕ) (fault : DocFault) → IsErrOf r (Document line fault) → ⊥)
       → ((line : ℕ) (fault : DocFault) → IsErrOf r (Document line fault)
       → IsToldIn w.keeps_going w (Some (line, fault)) input old new)
       → (IsErrOf r Read → IsCutShort w e.source_failed input e.rest old new)
       → (IsErrOf r Write → e.sink_failed ≡ true)
-      → (IsErrOf r Limit → AreAllReads e.reads e.reads_new ⊎ AreTooManyLines input e.rest)
+      → (IsErrOf r Limit → AreAllReads e.reads e.reads_new ⊎ AreTooManyLines w input.1 e.rest)
       → (IsErrOf r Settings → ⊥) → OnErr r (IsFront w input old new)
       → IfErr r (λ f. RunEnded w e f input old new)
   run_ended (Ok totals) query going document read write limit settings front = tt
-  run_ended (Err (fault_.Query f)) query going document read write limit settings front = query f refl
+  run_ended (Err (fault_.Query f)) query going document read write limit settings front =
+      query (fault_.Query f) refl refl
+  run_ended (Err (fault_.Filter f)) query going document read write limit settings front =
+      query (fault_.Filter f) refl refl
   run_ended (Err (Document line fault)) query going document read write limit settings front =
       told_stop w w.keeps_going (Some (line, fault)) input old new (document line fault refl)
       (λ on. going on line fault refl)
-  run_ended (Err Read) query going document read write limit settings front = (front, inl (read refl))
-  run_ended (Err Write) query going document read write limit settings front =
-      (front, inr (inl (write refl)))
-  run_ended (Err Limit) query going document read write limit settings front =
-      (front, inr (inr (limit refl)))
+  run_ended (Err Read) query going document read write limit settings front = (front, read refl)
+  run_ended (Err Write) query going document read write limit settings front = (front, write refl)
+  run_ended (Err Limit) query going document read write limit settings front = (front, limit refl)
   run_ended (Err Memory) query going document read write limit settings front = front
   run_ended (Err Settings) query going document read write limit settings front = absurd (settings refl)
 
   -- an input that could not be opened is cut short before its first byte
-  pub unopened : IsTaken w → e.source_failed ≡ true → e.rest ≡ input → new ≡ old
+  pub unopened : IsTaken w → e.source_failed ≡ true → e.rest ≡ input.1 → new ≡ old
       → RunEnded w e Read input old new
   unopened taken failed rest same = (
     front_none w input old new same,
-    inl (
+    (
       failed,
       [],
-      subst (λ o. Consumes input o []) (sym rest) (Consumes-nil input),
+      subst (λ o. Consumes input.1 o []) (sym rest) (Consumes-nil input.1),
       (
         taken.0,
         taken.1,
-        subst (λ o. Handed (manner_by w.output w.decimals w.keeps_going) taken.0 [] None old o) (sym same)
-            (handed_none (manner_by w.output w.decimals w.keeps_going) taken.0 old),
+        subst (λ l. Handed (manner_for w input.0 w.keeps_going) taken.0 l None old new)
+            (sym (no_documents w.cutting))
+            (subst (λ o. Handed (manner_for w input.0 w.keeps_going) taken.0 [] None old o) (sym same)
+            (handed_none (manner_for w input.0 w.keeps_going) taken.0 old)),
       ),
     ),
   )
 
+-- what is left of a file, of which there were no reads before it was opened
+abbrev pub file_left : Left → Left
+file_left e = record {
+  rest = e.rest;
+  reads = 0;
+  reads_new = e.reads_new;
+  source_failed = e.source_failed;
+  sink_failed = e.sink_failed;
+}
+
+reads_none : (files : List Text) (reads : ℕ) → 0 < length files → 0 ≡ reads_before files reads
+reads_none [] reads some = absurd (omega (arith, some))
+reads_none (name ∷ names) reads some = refl
+
+ends_all : (files : List Text) (going failed : Bool) → going ≡ false → failed ≡ ends_run files going failed
+ends_all [] going failed off = refl
+ends_all (name ∷ names) false failed off = refl
+ends_all (name ∷ names) true failed off = absurd (cc)
+
+-- what a run over a file leaves, unless the answer goes on past it, is what it leaves to the end
+left_so : (w : Wanted) → 0 < length w.files → (e : Left) (f : RunFault)
+    → (w.keeps_going ≡ true → f ≡ Read → ⊥) → (input : Input) (old new : Option (List ℕ))
+    → RunEnded w (file_left e) f input old new → RunEnded w (left_of w e) f input old new
+left_so w some e (fault_.Query f) not input old new h = h
+left_so w some e (fault_.Filter f) not input old new h = h
+left_so w some e (Document line fault) not input old new h = h
+left_so w some e Read not input old new h = (
+  h.0,
+  subst (λ b. IsCutShort w b input e.rest old new)
+      (ends_all w.files w.keeps_going e.source_failed (stops w.keeps_going (λ on. not on refl))) h.1,
+)
+left_so w some e Write not input old new h = h
+left_so w some e Limit not input old new h = (
+  h.0,
+  subst (λ n. AreAllReads n e.reads_new ⊎ AreTooManyLines w input.1 e.rest)
+      (reads_none w.files e.reads some) h.1,
+)
+left_so w some e Memory not input old new h = h
+left_so w some e Settings not input old new h = h
+
+-- all of it is left where no file is named
+pub left_alone : (w : Wanted) → w.files ≡ [] → (e : Left) → e ≡ left_of w e
+left_alone w none e = ap (λ (fs : List Text). record {
+  rest = e.rest;
+  reads = reads_before fs e.reads;
+  reads_new = e.reads_new;
+  source_failed = ends_run fs w.keeps_going e.source_failed;
+  sink_failed = e.sink_failed;
+}) (sym none)
+
 -- all ended so, where no file is named, or files are
-module _ (words : List Text) (w : Wanted) (wants : WantsRun words w) (c : Course) (e : Left) (Undone : Type 0)
-  where
-    so_by : (f : RunFault)
-        → (w.keeps_going ≡ true → (line : ℕ) (fault : DocFault) → f ≡ Document line fault → ⊥)
-        → EndsIn (IsWhole w) (RunEnded w (left_of w e) f) w.files c.holds c.first c.opens c.opens_new
-        c.contents c.contents_new → HasEnded words c e Undone f
-    so_by (fault_.Query f) going h = tt
-    so_by (Document line fault) going h =
-        (w, wants, stops w.keeps_going (λ on. going on line fault refl), h)
-    so_by Read going h = (w, wants, h)
-    so_by Write going h = (w, wants, h)
-    so_by Limit going h = (w, wants, h)
-    so_by Memory going h = inr (w, wants, h)
-    so_by Settings going h = tt
+module _ (words : List Text) (w : Wanted) (wants : WantsRun words w) (holds : Text → Held) (first : Held)
+    (c : Course) (e : Left) (Undone : Type 0) where
+  so_by : (f : RunFault)
+      → (w.keeps_going ≡ true → (line : ℕ) (fault : DocFault) → f ≡ Document line fault → ⊥)
+      → EndsIn (IsWholeOrCut w) (RunEnded w (left_of w e) f) w.files holds first c
+      → HasEnded words holds first c e Undone f
+  so_by (fault_.Query f) going h = tt
+  so_by (fault_.Filter f) going h = tt
+  so_by (Document line fault) going h =
+      (w, wants, stops w.keeps_going (λ on. going on line fault refl), h)
+  so_by Read going h = (
+    w,
+    wants,
+    inl (in_weaker (IsWholeOrCut w) (RunEnded w (left_of w e) Read) (HasFailed w (left_of w e)) c
+        c.contents_new (λ input mid k. (k.0, inl k.1)) w.files holds first h),
+  )
+  so_by Write going h = (
+    w,
+    wants,
+    inl (in_weaker (IsWholeOrCut w) (RunEnded w (left_of w e) Write) (HasFailed w (left_of w e)) c
+        c.contents_new (λ input mid k. (k.0, inr (inl k.1))) w.files holds first h),
+  )
+  so_by Limit going h = (
+    w,
+    wants,
+    inl (in_weaker (IsWholeOrCut w) (RunEnded w (left_of w e) Limit) (HasFailed w (left_of w e)) c
+        c.contents_new (λ input mid k. (k.0, inr (inr k.1))) w.files holds first h),
+  )
+  so_by Memory going h = inr (w, wants, h)
+  so_by Settings going h = tt
 
-    pub ended_so : (r : Result Totals RunFault)
-        → (w.keeps_going ≡ true → (line : ℕ) (fault : DocFault) → IsErrOf r (Document line fault) → ⊥)
-        → IfErr r (λ f. EndsIn (IsWhole w) (RunEnded w (left_of w e) f) w.files c.holds c.first c.opens
-        c.opens_new c.contents c.contents_new) → IfErr r (HasEnded words c e Undone)
-    ended_so (Ok totals) going h = tt
-    ended_so (Err f) going h = so_by f (λ on line fault is. going on line fault (ap Err is)) h
+  pub run_so : w.files ≡ [] → (r : Result Totals RunFault)
+      → (w.keeps_going ≡ true → (line : ℕ) (fault : DocFault) → IsErrOf r (Document line fault) → ⊥)
+      → IfErr r (λ f. RunEnded w e f (standard first) c.contents c.contents_new)
+      → IfErr r (HasEnded words holds first c e Undone)
+  run_so none (Ok totals) going h = tt
+  run_so none (Err f) going h = so_by f (λ on line fault is. going on line fault (ap Err is))
+      (ended_alone w.files none holds first (IsWholeOrCut w) (RunEnded w (left_of w e) f) c
+      (subst (λ l. RunEnded w l f (standard first) c.contents c.contents_new) (left_alone w none e) h))
 
-    pub run_so : w.files ≡ [] → (r : Result Totals RunFault)
-        → (w.keeps_going ≡ true → (line : ℕ) (fault : DocFault) → IsErrOf r (Document line fault) → ⊥)
-        → IfErr r (λ f. RunEnded w e f c.first c.contents c.contents_new)
-        → IfErr r (HasEnded words c e Undone)
-    run_so none r going h = ended_so r going (IfErr-weaker r
-        (λ f. RunEnded w e f c.first c.contents c.contents_new)
-        (λ f. EndsIn (IsWhole w) (RunEnded w (left_of w e) f) w.files c.holds c.first c.opens
-        c.opens_new c.contents c.contents_new)
-        (λ f k. ended_alone w.files none c.holds c.first (IsWhole w) (RunEnded w (left_of w e) f) c.opens
-        c.opens_new c.contents c.contents_new (subst (λ n. RunEnded w (record {
-          rest = e.rest;
-          reads = n;
-          reads_new = e.reads_new;
-          source_failed = e.source_failed;
-          sink_failed = e.sink_failed;
-        }) f c.first c.contents c.contents_new) (ap (λ fs. reads_before fs e.reads) (sym none)) k)) h)
+  pub files_so : 0 < length w.files → (r : Result Totals RunFault)
+      → (w.keeps_going ≡ true → (line : ℕ) (fault : DocFault) → IsErrOf r (Document line fault) → ⊥)
+      → IfErr r (FilesEnded w (file_left e) (map (named holds) w.files) c)
+      → IfErr r (HasEnded words holds first c e Undone)
+  files_so some (Ok totals) going h = tt
+  files_so some (Err f) going (inl (not, at)) = so_by f (λ on line fault is. going on line fault (ap Err is))
+      (ended_named (IsWholeOrCut w) (RunEnded w (left_of w e) f) w.files holds first c some
+      (ends_weaker (IsWholeOrCut w) (RunEnded w (file_left e) f) (RunEnded w (left_of w e) f) c c.contents_new
+      (λ input mid k. left_so w some e f not input mid c.contents_new k) (map (named holds) w.files) at))
+  files_so some (Err f) going (inr (is, gone)) =
+      subst (HasEnded words holds first c e Undone) (sym is) (w, wants, inr gone)
 
-    pub files_so : 0 < length w.files → (d : Left) → d ≡ left_of w e → (r : Result Totals RunFault)
-        → (w.keeps_going ≡ true → (line : ℕ) (fault : DocFault) → IsErrOf r (Document line fault) → ⊥)
-        → IfErr r (λ f. EndsAt (IsWhole w) (RunEnded w d f) (map c.holds w.files) c.opens c.opens_new
-        c.contents c.contents_new) → IfErr r (HasEnded words c e Undone)
-    files_so some d is r going h = ended_so r going (IfErr-weaker r (λ f. EndsAt (IsWhole w) (RunEnded w d f)
-        (map c.holds w.files) c.opens c.opens_new c.contents c.contents_new)
-        (λ f. EndsIn (IsWhole w) (RunEnded w (left_of w e) f) w.files c.holds c.first c.opens
-        c.opens_new c.contents c.contents_new)
-        (λ f k. ended_named (IsWhole w) (RunEnded w (left_of w e) f) w.files c.holds c.first c.opens
-        c.opens_new c.contents c.contents_new some (subst (λ l. EndsAt (IsWhole w) (RunEnded w l f)
-        (map c.holds w.files) c.opens c.opens_new c.contents c.contents_new) is k)) h)
+-- an end that has failed, or a limit that was passed
+end_so_by : (words : List Text) (holds : Text → Held) (first : Held) (c : Course) (e : Left)
+    (Undone : Type 0) (f : RunFault) → (f ≡ Read) ⊎ (f ≡ Write) ⊎ (f ≡ Limit)
+    → HasEnded words holds first c e Undone f
+    → EndsSo words (λ w. AreFailed w e holds first c)
+end_so_by words holds first c e Undone f (inl is) h = subst (HasEnded words holds first c e Undone) is h
+end_so_by words holds first c e Undone f (inr (inl is)) h =
+    subst (HasEnded words holds first c e Undone) is h
+end_so_by words holds first c e Undone f (inr (inr is)) h =
+    subst (HasEnded words holds first c e Undone) is h
+
+pub end_so : (words : List Text) (holds : Text → Held) (first : Held) (c : Course) (e : Left)
+    (Undone : Type 0) (f : RunFault) (r : Result Totals RunFault) → r ≡ Err f
+    → (f ≡ Read) ⊎ (f ≡ Write) ⊎ (f ≡ Limit) → IfErr r (HasEnded words holds first c e Undone)
+    → EndsSo words (λ w. AreFailed w e holds first c)
+end_so words holds first c e Undone f r is which h = end_so_by words holds first c e Undone f which
+    (at_fault r f (HasEnded words holds first c e Undone) is h)
+
+-- of files a refusal is why what was wanted is refused
+pub query_ended : (w : Wanted) (e : Left) (inputs : List Input) (c : Course) (f : RunFault) → status_of f ≡ 2
+    → FilesEnded w e inputs c f → IsRefusedWish w f
+query_ended w e inputs c (fault_.Query f) two (inl (not, at)) = at.ended
+query_ended w e inputs c (fault_.Query f) two (inr (is, gone)) = absurd (cc)
+query_ended w e inputs c (fault_.Filter f) two (inl (not, at)) = at.ended
+query_ended w e inputs c (fault_.Filter f) two (inr (is, gone)) = absurd (cc)
+query_ended w e inputs c (Document line fault) two h = absurd (omega arith)
+query_ended w e inputs c Read two h = absurd (omega arith)
+query_ended w e inputs c Write two h = absurd (omega arith)
+query_ended w e inputs c Limit two h = absurd (omega arith)
+query_ended w e inputs c Memory two h = absurd (omega arith)
+query_ended w e inputs c Settings two h = absurd (omega arith)
 
 -- all went well
 module _ (words : List Text) (w : Wanted) (wants : WantsRun words w) (Each Opened : Wanted → Type 0)
@@ -198,10 +303,10 @@ goes true n none some = refl
 goes false n none some = absurd (let is = none refl in omega (arith, is, some))
 
 -- one input alone
-module _ (w : Wanted) (holds : Text → Input) (first old new : Option (List ℕ)) (none : w.files ≡ []) where
+module _ (w : Wanted) (holds : Text → Held) (first old new : Option (List ℕ)) (none : w.files ≡ []) where
   pub past_alone : (r : Result Totals RunFault)
       → (w.keeps_going ≡ true
-      → IfOk r (λ totals. (n : ℕ) → Passes w first (old, n) (new, counted n totals.faulty)))
+      → IfOk r (λ totals. (n : ℕ) → Passes w (standard first) (old, n) (new, counted n totals.faulty)))
       → (w.keeps_going ≡ false → IfOk r (λ totals. totals.faulty ≡ 0))
       → IfOk r (λ totals. 0 < totals.faulty → (w.keeps_going ≡ true)
       × ArePassed w (inputs_of w.files holds first) old new)
@@ -217,53 +322,42 @@ module _ (w : Wanted) (holds : Text → Input) (first old new : Option (List ℕ
   past_alone (Err fault) each no_fault = tt
 
   pub finished_alone : (r : Result Totals RunFault)
-      → IfOk r (λ totals. totals.faulty ≡ 0 → IsAnswered w None first old new)
+      → IfOk r (λ totals. totals.faulty ≡ 0 → IsAnswered w None (standard first) old new)
       → IfOk r (λ totals. totals.faulty ≡ 0
       → EachInTurn (IsAnswered w None) (inputs_of w.files holds first) old new)
   finished_alone (Ok totals) h = λ e. alone w.files none holds first (IsAnswered w None) old new (h e)
   finished_alone (Err fault) h = tt
 
--- of a refused query its fault is the verdict
-pub no_refusal : {T : Type 0} (n m : Numbers) (text : Text) (f : QueryFault) (fault : RunFault)
-    (r : Result T RunFault) → n ≡ m → IsErrAnd r (λ e. e ≡ fault)
-    → (fault ≡ Memory) ⊎ ((g : QueryFault) × (fault ≡ fault_.Query g) × IsVerdictIn n text (Err g))
-    → r ≡ Err (fault_.Query f) → IsVerdictIn m text (Err f)
-no_refusal n m text f fault (Ok x) same is h e = absurd (cc)
-no_refusal n m text f fault (Err g) same is (inl k) e = absurd (cc)
-no_refusal n m text f fault (Err g) same is (inr (told, k, v)) e =
-    let one : told ≡ f = cc in
-    subst (λ k. IsVerdictIn k text (Err f)) same (subst (λ t. IsVerdictIn n text (Err t)) one v)
-
 -- the same of files by their names
-module _ (w : Wanted) (some : 0 < length w.files) (holds : Text → Input) (first : Input) where
+module _ (w : Wanted) (some : 0 < length w.files) (holds : Text → Held) (first : Held) where
   pub finished_files : (r : Result Totals RunFault) (old new : Option (List ℕ))
       → IfOk r (λ totals. totals.faulty ≡ 0
-      → EachInTurn (IsAnswered w None) (map holds w.files) old new)
+      → EachInTurn (IsAnswered w None) (map (named holds) w.files) old new)
       → IfOk r (λ totals. totals.faulty ≡ 0
       → EachInTurn (IsAnswered w None) (inputs_of w.files holds first) old new)
   finished_files r old new h = subst (λ xs. IfOk r (λ totals. totals.faulty ≡ 0
-      → EachInTurn (IsAnswered w None) xs old new)) (sym (named w.files holds first some)) h
+      → EachInTurn (IsAnswered w None) xs old new)) (sym (all_named w.files holds first some)) h
 
   pub past_files : (r : Result Totals RunFault) (old new : Option (List ℕ))
       → IfOk r (λ totals. 0 < totals.faulty → (w.keeps_going ≡ true)
-      × ArePassed w (map holds w.files) old new)
+      × ArePassed w (map (named holds) w.files) old new)
       → IfOk r (λ totals. 0 < totals.faulty → (w.keeps_going ≡ true)
       × ArePassed w (inputs_of w.files holds first) old new)
   past_files r old new h = subst (λ xs. IfOk r (λ totals. 0 < totals.faulty → (w.keeps_going ≡ true)
-      × ArePassed w xs old new)) (sym (named w.files holds first some)) h
+      × ArePassed w xs old new)) (sym (all_named w.files holds first some)) h
 
   pub nothing_files : (r : Result Totals RunFault)
-      → IfOk r (λ totals. totals.wrote ≡ false → AreEmptyAnswers w (map holds w.files))
+      → IfOk r (λ totals. totals.wrote ≡ false → AreEmptyAnswers w (map (named holds) w.files))
       → IfOk r (λ totals. totals.wrote ≡ false → AreEmptyAnswers w (inputs_of w.files holds first))
   nothing_files r h = subst (λ xs. IfOk r (λ totals. totals.wrote ≡ false → AreEmptyAnswers w xs))
-      (sym (named w.files holds first some)) h
+      (sym (all_named w.files holds first some)) h
 
   pub something_files : (r : Result Totals RunFault)
-      → IfOk r (λ totals. totals.wrote ≡ true → AreKnownEmptyAnswers w (map holds w.files) → ⊥)
+      → IfOk r (λ totals. totals.wrote ≡ true → AreKnownEmptyAnswers w (map (named holds) w.files) → ⊥)
       → IfOk r (λ totals. totals.wrote ≡ true
       → AreKnownEmptyAnswers w (inputs_of w.files holds first) → ⊥)
   something_files r h = subst (λ xs. IfOk r (λ totals. totals.wrote ≡ true → AreKnownEmptyAnswers w xs → ⊥))
-      (sym (named w.files holds first some)) h
+      (sym (all_named w.files holds first some)) h
 
 names_long : (names : List (Bor Text)) → length (texts names) ≡ length names
 names_long names = rw length-map refl
@@ -284,35 +378,12 @@ some_files b (name ∷ names) items same is e =
 pub both_files : (w : Wanted) → 0 < length w.files → w.files ≡ [] → ⊥
 both_files w some none = let is : length w.files ≡ 0 = ap length none in omega (arith, some, is)
 
--- of a file there were no reads before
-reads_none : (files : List Text) (reads : ℕ) → 0 < length files → 0 ≡ reads_before files reads
-reads_none [] reads some = absurd (omega (arith, some))
-reads_none (name ∷ names) reads some = refl
-
-pub left_files : (w : Wanted) → 0 < length w.files → (e : Left) → ◌≡◌ {A = Left} (record {
-  rest = e.rest;
-  reads = 0;
-  reads_new = e.reads_new;
-  source_failed = e.source_failed;
-  sink_failed = e.sink_failed;
-}) (left_of w e)
-left_files w some e = ap (λ (n : ℕ). record {
-  rest = e.rest;
-  reads = n;
-  reads_new = e.reads_new;
-  source_failed = e.source_failed;
-  sink_failed = e.sink_failed;
-}) (reads_none w.files e.reads some)
-
 pub opened_files : (r : Result Totals RunFault) (w : Wanted) (names : List (Bor Text)) (a b c d : ℕ)
     → w.files ≡ texts names → OnOk r (b ≡ counted a (length names)) → OnOk r (d ≡ c)
     → OnOk r (AreOpened w a b c d)
 opened_files (Ok totals) w names a b c d is opened broken =
     (opened ∙ ap (counted a) (sym (ap length is ∙ names_long names)), broken)
 opened_files (Err fault) w names a b c d is opened broken = tt
-
-same_query : (x y : Tree) → ◌≡◌ {A = Result Tree QueryFault} (Ok x) (Ok y) → x ≡ y
-same_query x y e = cc
 
 -- where no file is named none was opened
 pub opened_none : (w : Wanted) → w.files ≡ [] → (n b : ℕ) → n ≤ 2 ^ 62 → AreOpened w n n b b
@@ -324,65 +395,62 @@ is_empty : (bytes : List ℕ) → nat_lt 0 (length bytes) ≡ false → bytes �
 is_empty [] e = refl
 is_empty (b ∷ bytes) e = let some : 0 < length (b ∷ bytes) = omega arith in absurd (grind (arith, e, some))
 
--- the answer to a text is one
-one_answer : (going : Manner) (text : Text) (input : List ℕ) (a b : Answer) → IsAnswerBy going text input a
-    → IsAnswerBy going text input b → a ≡ b
-one_answer going text input a b h k =
-    let same : h.0 ≡ k.0 =
-    same_query h.0 k.0 (one_verdict going.policy.numbers text (Ok h.0) (Ok k.0) h.1 k.1) in
+-- the answer to what is asked is one
+one_answer : (going : Manner) (asked : AskedTexts) (input : List ℕ) (a b : Answer)
+    → IsAnswerBy going asked input a → IsAnswerBy going asked input b → a ≡ b
+one_answer going asked input a b h k =
+    let same : h.0 ≡ k.0 = one_asked going.policy.numbers asked h.0 k.0 h.1 k.1 in
     sym (h.2 right_tests.0 right_tests.1)
-    ∙ ap (λ q. answer_by going.form going.policy right_tests.0 q (lines input)) same
+    ∙ ap (λ q. answer_by going.form going.policy right_tests.0 q (documents going.cutting input)) same
     ∙ k.2 right_tests.0 right_tests.1
 
 module _ (w : Wanted) where
-  abbrev pub Tells : Option (List ℕ) → Bool → Type 0
-  Tells input wrote = IfSome input (λ bytes. (a : Answer)
-      × IsAnswerBy (manner_by w.output w.decimals w.keeps_going) w.query bytes a
+  abbrev pub Tells : Input → Bool → Type 0
+  Tells input wrote = IfSome input.1 (λ bytes. (a : Answer)
+      × IsAnswerBy (manner_for w input.0 w.keeps_going) (asked_in w) bytes a
       × (wrote ≡ nat_lt 0 (length a.bytes)))
 
-  nothing_known : (input : Option (List ℕ)) (wrote : Bool) → Tells input wrote → wrote ≡ false
-      → IfSome input (HasEmptyAnswer w)
-  nothing_known None wrote h e = tt
-  nothing_known (Some bytes) wrote h e = (h.0, h.1, is_empty h.0.bytes (sym h.2 ∙ e))
+  nothing_known : (input : Input) (wrote : Bool) → Tells input wrote → wrote ≡ false → IsEmptyAnswer w input
+  nothing_known (name, None) wrote h e = tt
+  nothing_known (name, Some bytes) wrote h e = (h.0, h.1, is_empty h.0.bytes (sym h.2 ∙ e))
 
-  something_known : (input : Option (List ℕ)) (wrote : Bool) → Tells input wrote → wrote ≡ true
-      → IsSomeAnd input (HasEmptyAnswer w) → ⊥
-  something_known None wrote h e k = k
-  something_known (Some bytes) wrote h e k =
-      let same : h.0 ≡ k.0 = one_answer (manner_by w.output w.decimals w.keeps_going) w.query bytes h.0 k.0
-      h.1 k.1 in
+  something_known : (input : Input) (wrote : Bool) → Tells input wrote → wrote ≡ true
+      → IsKnownEmptyAnswer w input → ⊥
+  something_known (name, None) wrote h e k = k
+  something_known (name, Some bytes) wrote h e k =
+      let same : h.0 ≡ k.0 = one_answer (manner_for w name w.keeps_going) (asked_in w) bytes h.0 k.0 h.1 k.1
+      in
       let none : nat_lt 0 (length h.0.bytes) ≡ false =
       ap (λ (a : Answer). nat_lt 0 (length a.bytes)) same ∙ ap (λ bs. nat_lt 0 (length bs)) k.2 in
       absurd (let is : true ≡ false = sym e ∙ h.2 ∙ none in cc)
 
-  pub nothing_ok : (input : Option (List ℕ)) (r : Result Totals RunFault)
-      → IfOk r (λ totals. Tells input totals.wrote)
-      → IfOk r (λ totals. totals.wrote ≡ false → IfSome input (HasEmptyAnswer w))
+  pub nothing_ok : (input : Input) (r : Result Totals RunFault) → IfOk r (λ totals. Tells input totals.wrote)
+      → IfOk r (λ totals. totals.wrote ≡ false → IsEmptyAnswer w input)
   nothing_ok input (Ok totals) h = nothing_known input totals.wrote h
   nothing_ok input (Err fault) h = tt
 
-  pub something_ok : (input : Option (List ℕ)) (r : Result Totals RunFault)
+  pub something_ok : (input : Input) (r : Result Totals RunFault)
       → IfOk r (λ totals. Tells input totals.wrote)
-      → IfOk r (λ totals. totals.wrote ≡ true → IsSomeAnd input (HasEmptyAnswer w) → ⊥)
+      → IfOk r (λ totals. totals.wrote ≡ true → IsKnownEmptyAnswer w input → ⊥)
   something_ok input (Ok totals) h = something_known input totals.wrote h
   something_ok input (Err fault) h = tt
 
   -- of one input alone
-  module _ (none : w.files ≡ []) (holds : Text → Input) (first : Input) where
-    inputs_alone : inputs_of w.files holds first ≡ first ∷ []
+  module _ (none : w.files ≡ []) (holds : Text → Held) (first : Held) where
+    inputs_alone : inputs_of w.files holds first ≡ standard first ∷ []
     inputs_alone = ap (λ fs. inputs_of fs holds first) none
 
-    pub nothing_alone : (r : Result Totals RunFault) → IfOk r (λ totals. Tells first totals.wrote)
+    pub nothing_alone : (r : Result Totals RunFault)
+        → IfOk r (λ totals. totals.wrote ≡ false → IsEmptyAnswer w (standard first))
         → IfOk r (λ totals. totals.wrote ≡ false → AreEmptyAnswers w (inputs_of w.files holds first))
     nothing_alone (Ok totals) h = λ e. subst (AreEmptyAnswers w) (sym inputs_alone)
-        (All-cons (λ input. IfSome input (HasEmptyAnswer w)) first [] (nothing_known first totals.wrote h e)
-        (All-nil (λ input. IfSome input (HasEmptyAnswer w))))
+        (All-cons (IsEmptyAnswer w) (standard first) [] (h e) (All-nil (IsEmptyAnswer w)))
     nothing_alone (Err fault) h = tt
 
-    pub something_alone : (r : Result Totals RunFault) → IfOk r (λ totals. Tells first totals.wrote)
+    pub something_alone : (r : Result Totals RunFault)
+        → IfOk r (λ totals. totals.wrote ≡ true → IsKnownEmptyAnswer w (standard first) → ⊥)
         → IfOk r (λ totals. totals.wrote ≡ true
         → AreKnownEmptyAnswers w (inputs_of w.files holds first) → ⊥)
-    something_alone (Ok totals) h = λ e all. something_known first totals.wrote h e
-        (All-head (λ input. IsSomeAnd input (HasEmptyAnswer w)) first []
+    something_alone (Ok totals) h = λ e all. h e (All-head (IsKnownEmptyAnswer w) (standard first) []
         (subst (AreKnownEmptyAnswers w) inputs_alone all))
     something_alone (Err fault) h = tt

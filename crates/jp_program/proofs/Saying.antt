@@ -1,15 +1,17 @@
 -- What `get_one` reads is what is said of an option.
 use Rattle.std.proofs.Common.{◌≡◌, ◌∙◌, ℕ, ◌≤◌, ◌<◌, ◌^◌, Bool, true, false, List, Option, Some, None}
 use Rattle.std.proofs.Common.{IfSome, option_map, unwrap_or, codes, []}
-use Rattle.std.proofs.Common.{Result, Ok, Err, refl, sym, ap, arith}
+use Rattle.std.proofs.Common.{Result, Ok, Err, refl, sym, ap, arith, subst}
 use Rattle.std.specs.Borrow.{Bor}
 use Rattle.std.specs.Prelude.{IsNone}
 use Rattle.std.specs.Str.Parse.{ParsesUnsigned, ParsesBool}
 use Rattle.clap.specs.Matches.{ReadsOne}
 use Rattle.std.specs.Str.{chars}
 use Rattle.clap.specs.Walk.{Text, Row, texts, all_of, first_of, one_of}
+use Rattle.jp_run.specs.declared.cutting.Cutting.{Cutting}
 use Rattle.jp_run.specs.declared.output.Output.{Output}
-use Rattle.jp_program.specs.Wanted.{SaysNumber, SaysFlag, flag_text, SaysOutput, output_text}
+use Rattle.jp_program.specs.Wanted.{SaysCutting, SaysNumber, SaysFlag, cuts_documents, flag_text, SaysOutput}
+use Rattle.jp_program.specs.Wanted.{AreSaid, SaysFilter, output_text}
 
 -- a text that is read as an option's value, by the type's own reading
 module _ {T E : Type 0} (reads : List ℕ → Result T E → Type 0) (o : Option Text) where
@@ -82,6 +84,11 @@ module _ (rows : List Row) (o : Option Text) (is : o ≡ first_of (codes "output
       let both : ◌≡◌ (Some word) (Some (output_text x)) = sym e ∙ is ∙ s in
       h none x (let same : word ≡ output_text x = cc in same)
 
+-- the way of cutting is what the flag says
+pub cutting_said : (rows : List Row) (there : Bool) (c : Cutting) → SaysFlag (codes "documents") rows there
+    → there ≡ cuts_documents c → SaysCutting rows c
+cutting_said rows there c s e = subst (SaysFlag (codes "documents") rows) e s
+
 -- the query's text is what is said of it
 module _ (name : Text) (rows : List Row) (o : Option Text) (is : o ≡ first_of name rows) where
   pub query_some : (s : Text) → o ≡ Some s → option_map chars (first_of name rows) ≡ Some (chars s)
@@ -89,6 +96,24 @@ module _ (name : Text) (rows : List Row) (o : Option Text) (is : o ≡ first_of 
 
   pub query_none : o ≡ None → (text : List ℕ) → option_map chars (first_of name rows) ≡ Some text → ⊥
   query_none e text said = let none = ap (option_map chars) (sym is ∙ e) in absurd (cc)
+
+-- so is the filter's
+twice : (r : Option (Bor Text)) → option_map chars (option_map (λ s. s.now) r) ≡ option_map (λ f. chars f.now)
+    r
+twice None = refl
+twice (Some s) = refl
+
+pub filter_said : (rows : List Row) (o : Option Text) → o ≡ first_of (codes "where") rows
+    → (r : Option (Bor Text)) → option_map (λ s. s.now) r ≡ o → SaysFilter rows
+    (option_map (λ f. chars f.now) r)
+filter_said rows o is r said = ap (option_map chars) (sym is ∙ sym said) ∙ twice r
+
+-- the same sizes are said
+pub sizes_kept : (rows : List Row) (v p b w q d : ℕ) → w ≡ v → q ≡ p → d ≡ b → AreSaid rows v p b
+    → AreSaid rows w q d
+sizes_kept rows v p b w q d same piece batch h =
+    subst (λ n. AreSaid rows n q d) (sym same) (subst (λ n. AreSaid rows v n d) (sym piece)
+    (subst (λ n. AreSaid rows v p n) (sym batch) h))
 
 -- the files are what is said of them
 module _ (rows : List Row) (got : Option (Bor (List (Bor Text))))

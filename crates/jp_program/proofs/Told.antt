@@ -7,26 +7,26 @@ use Rattle.std.specs.Prelude.{is_err}
 use Rattle.std.specs.List.{filter}
 use Rattle.std.specs.Io.KnownBytes.{Appends, Keeps}
 use Rattle.jp_doc.specs.Json.{Json}
-use Rattle.jp_doc.specs.Lines.{Line, lines}
+use Rattle.jp_doc.specs.Lines.{Line}
 use Rattle.jp_doc.specs.ReadingIn.{Numbers, reading_in}
 use Rattle.jp_doc.specs.declared.fault.DocFault.{DocFault}
-use Rattle.jp_tree.specs.Tree as tree
-use Rattle.jp_tree.specs.Tree.{Text}
-use Rattle.jp_tree.specs.declared.fault.QueryFault.{QueryFault}
 use Rattle.jp_regexp.specs.Tests.{Tests}
+use Rattle.jp_answer.specs.FilteredQuery.{FilteredQuery}
 use Rattle.jp_answer.specs.Answer.{Answer, answer_as, after, line_answer, document_bytes}
 use Rattle.jp_output.specs.OutputForm.{OutputForm}
 use Rattle.jp_answer.specs.OnFault.{passed_in}
 use Rattle.jp_answer.specs.Policy.{numbers_in}
-use Rattle.jp_run.specs.Answered.{IsAnswerBy, numbers_of, policy_of, manner_by}
-use Rattle.jp_run.specs.Forms.{form_of}
+use Rattle.jp_run.specs.Answered.{IsAnswerBy, numbers_of, policy_of}
+use Rattle.jp_run.specs.Cutting.{documents}
 use Rattle.jp_run.specs.Status.{status_of}
 use Rattle.jp_run.specs.declared.fault.RunFault.{RunFault}
-use Rattle.jp_run.specs.declared.fault.RunFault.TheVariants.{Query, Document, Read, Write, Limit}
+use Rattle.jp_run.specs.declared.fault.RunFault.TheVariants.{Query, Filter, Document, Read, Write, Limit}
 use Rattle.jp_run.specs.declared.fault.RunFault.TheVariants.{Memory, Settings}
 use Rattle.jp_answer.specs.Whole.{whole_as, document_or_fault, is_faulty, faulty_lines}
 use Rattle.jp_run.specs.Counts.{counted}
-use Rattle.jp_program.specs.Outcome.{HasFailed, IsAnswered, Passes, IsFront, IsCutShort}
+use Rattle.jp_program.specs.Inputs.{Input}
+use Rattle.jp_program.specs.Outcome.{HasFailed, IsAnswered, Passes, IsFront, IsCutShort, IsWhole}
+use Rattle.jp_program.specs.Outcome.{IsRefusedWish, asked_in, form_for, manner_for}
 use Rattle.jp_program.specs.Wanted.{Wanted}
 
 -- what was appended still is, where a flush keeps all
@@ -42,28 +42,35 @@ pub kept_from : {A : Type 0} (contents : A → Option (List ℕ)) (old new after
     → Keeps (contents new) (contents after) → Keeps (contents old) (contents after)
 kept_from contents old new after e k = subst (λ s. Keeps (contents s) (contents after)) e k
 
-pub answered_kept : (w : Wanted) (stopped : Option (ℕ × DocFault)) (input old new after : Option (List ℕ))
-    → IsAnswered w stopped input old new → Keeps new after → IsAnswered w stopped input old after
-answered_kept w stopped None old new after t k = tt
-answered_kept w stopped (Some bytes) old new after t k =
+pub answered_kept : (w : Wanted) (stopped : Option (ℕ × DocFault)) (input : Input)
+    (old new after : Option (List ℕ)) → IsAnswered w stopped input old new → Keeps new after
+    → IsAnswered w stopped input old after
+answered_kept w stopped (name, None) old new after t k = tt
+answered_kept w stopped (name, Some bytes) old new after t k =
     (t.0, t.1, t.2, kept old new after t.0.bytes t.3 k)
 
-pub front_kept : (w : Wanted) (input old new after : Option (List ℕ)) → IsFront w input old new
+pub whole_kept : (w : Wanted) (input : Input) (old new after : Option (List ℕ)) → IsWhole w input old new
+    → Keeps new after → IsWhole w input old after
+whole_kept w (name, None) old new after t k = tt
+whole_kept w (name, Some bytes) old new after t k = (t.0, t.1, t.2, kept old new after t.0.bytes t.3 k)
+
+pub front_kept : (w : Wanted) (input : Input) (old new after : Option (List ℕ)) → IsFront w input old new
     → Keeps new after → IsFront w input old after
-front_kept w None old new after f k = tt
-front_kept w (Some bytes) old new after f k =
+front_kept w (name, None) old new after f k = tt
+front_kept w (name, Some bytes) old new after f k =
     λ a is. let front = f a is in (front.0, front.1, kept old new after _ front.2 k)
 
 -- nothing is a front
-pub front_none : (w : Wanted) (input old new : Option (List ℕ)) → new ≡ old → IsFront w input old new
-front_none w None old new same = tt
-front_none w (Some bytes) old new same = λ a is. (
+pub front_none : (w : Wanted) (input : Input) (old new : Option (List ℕ)) → new ≡ old
+    → IsFront w input old new
+front_none w (name, None) old new same = tt
+front_none w (name, Some bytes) old new same = λ a is. (
   0,
   omega arith,
   subst (λ o. Appends old o []) (sym same) (Appends-nil old),
 )
 
-pub cut_kept : (w : Wanted) (failed : Bool) (a b old new after : Option (List ℕ))
+pub cut_kept : (w : Wanted) (failed : Bool) (a : Input) (b old new after : Option (List ℕ))
     → IsCutShort w failed a b old new → Keeps new after → IsCutShort w failed a b old after
 cut_kept w failed a b old new after h k = (
   h.0,
@@ -82,7 +89,7 @@ cut_kept w failed a b old new after h k = (
 )
 
 pub failed_kept : (w : Wanted) (rest : Option (List ℕ)) (reads reads_new : ℕ)
-    (source_failed sink_failed : Bool) (still : Bool) (input old new after : Option (List ℕ))
+    (source_failed sink_failed : Bool) (still : Bool) (input : Input) (old new after : Option (List ℕ))
     → HasFailed w (record {
       rest = rest;
       reads = reads;
@@ -106,7 +113,7 @@ failed_kept w rest reads reads_new source_failed sink_failed still input old new
 
 -- where no line is faulty, the answer that keeps going is the other one
 
-module _ (n : Numbers) (form : OutputForm) (t : Tests) (q : tree.Query) where
+module _ (n : Numbers) (form : OutputForm) (t : Tests) (q : FilteredQuery) where
   agree_by : (l : Line) (ls : List Line) (r : Result Json DocFault)
       → length (cond (is_err r) (l ∷ filter (is_faulty n) ls) (filter (is_faulty n) ls)) ≡ 0
       → (faulty_lines n ls ≡ 0
@@ -122,47 +129,53 @@ module _ (n : Numbers) (form : OutputForm) (t : Tests) (q : tree.Query) where
   agree (l ∷ ls) e = agree_by l ls (reading_in n l.1) e (agree ls)
 
 -- the wanted answer, of an answer that keeps going or not, which stopped there, was appended
-abbrev pub IsToldIn : Bool → Wanted → Option (ℕ × DocFault) → Option (List ℕ) → Option (List ℕ)
+abbrev pub IsToldIn : Bool → Wanted → Option (ℕ × DocFault) → Input → Option (List ℕ)
     → Option (List ℕ) → Type 0
-IsToldIn going w stopped input old new = IfSome input (λ bytes. (a : Answer)
-    × IsAnswerBy (manner_by w.output w.decimals going) w.query bytes a × (a.stopped ≡ stopped)
+IsToldIn going w stopped input old new = IfSome input.1 (λ bytes. (a : Answer)
+    × IsAnswerBy (manner_for w input.0 going) (asked_in w) bytes a × (a.stopped ≡ stopped)
     × Appends old new a.bytes)
 
 module _ (w : Wanted) where
   abbrev numbers : Numbers
   numbers = numbers_in (numbers_of w.decimals)
 
-  pub told_stop : (going : Bool) (stopped : Option (ℕ × DocFault)) (input old new : Option (List ℕ))
+  pub told_stop : (going : Bool) (stopped : Option (ℕ × DocFault)) (input : Input) (old new : Option (List ℕ))
       → IsToldIn going w stopped input old new → (going ≡ true → ⊥) → IsAnswered w stopped input old new
-  told_stop false stopped None old new h off = tt
-  told_stop false stopped (Some bytes) old new h off = h
+  told_stop false stopped (name, None) old new h off = tt
+  told_stop false stopped (name, Some bytes) old new h off = h
   told_stop true stopped input old new h off = absurd (off refl)
 
-  pub fine : (going : Bool) (input old new : Option (List ℕ)) (n : ℕ) → IsToldIn going w None input old new
-      → IfSome input (λ bytes. n ≡ passed_in (policy_of w.decimals going) (lines bytes)) → n ≡ 0
-      → IsAnswered w None input old new
-  fine going None old new n h c e = tt
-  fine false (Some bytes) old new n h c e = h
-  fine true (Some bytes) old new n h c e = (
+  pub fine : (going : Bool) (input : Input) (old new : Option (List ℕ)) (n : ℕ)
+      → IsToldIn going w None input old new
+      → IfSome input.1 (λ bytes. n ≡ passed_in (policy_of w.decimals going) (documents w.cutting bytes))
+      → n ≡ 0 → IsAnswered w None input old new
+  fine going (name, None) old new n h c e = tt
+  fine false (name, Some bytes) old new n h c e = h
+  fine true (name, Some bytes) old new n h c e = (
     h.0,
     (
       h.1.0,
       h.1.1,
-      λ t right. agree numbers (form_of w.output) t h.1.0 (lines bytes) (sym c ∙ e) ∙ h.1.2 t right,
+      λ t right. agree numbers (form_for w name) t h.1.0 (documents w.cutting bytes) (sym c ∙ e)
+          ∙ h.1.2 t right,
     ),
     h.2,
     h.3,
   )
 
-  pub passes : (input old new : Option (List ℕ)) (n before : ℕ) → IsToldIn true w None input old new
-      → IfSome input (λ bytes. n ≡ faulty_lines numbers (lines bytes))
+  pub passes : (input : Input) (old new : Option (List ℕ)) (n before : ℕ)
+      → IsToldIn true w None input old new
+      → IfSome input.1 (λ bytes. n ≡ faulty_lines numbers (documents w.cutting bytes))
       → Passes w input (old, before) (new, counted before n)
-  passes None old new n before h c = tt
-  passes (Some bytes) old new n before h c = (
+  passes (name, None) old new n before h c = tt
+  passes (name, Some bytes) old new n before h c = (
     h.1.0,
     h.1.1,
     record { bytes = h.0.bytes; faulty = n },
-    λ t right. ap (λ (r : Answer). record { bytes = r.bytes; faulty = faulty_lines numbers (lines bytes) })
+    λ t right. ap (λ (r : Answer). record {
+      bytes = r.bytes;
+      faulty = faulty_lines numbers (documents w.cutting bytes);
+    })
         (h.1.2 t right) ∙ ap (λ k. record { bytes = h.0.bytes; faulty = k }) (sym c),
     refl,
     h.3,
@@ -174,18 +187,10 @@ stops true off = absurd (off refl)
 
 -- which faults have a status
 
-pub query_of : (f : RunFault) → status_of f ≡ 2 → (fault : QueryFault) × (f ≡ Query fault)
-query_of (Query fault) e = (fault, refl)
-query_of (Document line fault) e = absurd (omega arith)
-query_of Read e = absurd (omega arith)
-query_of Write e = absurd (omega arith)
-query_of Limit e = absurd (omega arith)
-query_of Memory e = absurd (omega arith)
-query_of Settings e = absurd (omega arith)
-
 pub document_of : (f : RunFault) → status_of f ≡ 3
     → (line : ℕ) × (fault : DocFault) × (f ≡ Document line fault)
 document_of (Query fault) e = absurd (omega arith)
+document_of (Filter fault) e = absurd (omega arith)
 document_of (Document line fault) e = (line, fault, refl)
 document_of Read e = absurd (omega arith)
 document_of Write e = absurd (omega arith)
@@ -195,6 +200,7 @@ document_of Settings e = absurd (omega arith)
 
 pub end_of : (f : RunFault) → status_of f ≡ 4 → (f ≡ Read) ⊎ (f ≡ Write) ⊎ (f ≡ Limit)
 end_of (Query fault) e = absurd (omega arith)
+end_of (Filter fault) e = absurd (omega arith)
 end_of (Document line fault) e = absurd (omega arith)
 end_of Read e = inl refl
 end_of Write e = inr (inl refl)
@@ -204,6 +210,7 @@ end_of Settings e = absurd (omega arith)
 
 pub memory_of : (f : RunFault) → status_of f ≡ 5 → f ≡ Memory
 memory_of (Query fault) e = absurd (omega arith)
+memory_of (Filter fault) e = absurd (omega arith)
 memory_of (Document line fault) e = absurd (omega arith)
 memory_of Read e = absurd (omega arith)
 memory_of Write e = absurd (omega arith)
@@ -215,17 +222,24 @@ memory_of Settings e = absurd (omega arith)
 fault_same : {T : Type 0} (f g : RunFault) → ◌≡◌ {A = Result T RunFault} (Err f) (Err g) → f ≡ g
 fault_same f g e = cc
 
-pub status_so : {T : Type 0} (fault : RunFault) (f : QueryFault) (status : ℕ) → status ≡ status_of fault
-    → ◌≡◌ {A = Result T RunFault} (Err fault) (Err (Query f))
+-- a refusal ends with 2
+pub refused_status : (w : Wanted) (f : RunFault) → IsRefusedWish w f → status_of f ≡ 2
+refused_status w (Query f) h = refl
+refused_status w (Filter f) h = refl
+refused_status w (Document line fault) h = absurd h
+refused_status w Read h = absurd h
+refused_status w Write h = absurd h
+refused_status w Limit h = absurd h
+refused_status w Memory h = absurd h
+refused_status w Settings h = absurd h
+
+pub status_so : {T : Type 0} (w : Wanted) (fault f : RunFault) (status : ℕ) → IsRefusedWish w f
+    → status ≡ status_of fault → ◌≡◌ {A = Result T RunFault} (Err fault) (Err f)
     ⊎ ◌≡◌ {A = Result T RunFault} (Err fault) (Err Memory) → (status ≡ 2) ⊎ (status ≡ 5)
-status_so fault f status s (inl e) = inl (s ∙ ap status_of (fault_same fault (Query f) e))
-status_so fault f status s (inr e) = inr (s ∙ ap status_of (fault_same fault Memory e))
+status_so w fault f status v s (inl e) =
+    inl (s ∙ ap status_of (fault_same fault f e) ∙ refused_status w f v)
+status_so w fault f status v s (inr e) = inr (s ∙ ap status_of (fault_same fault Memory e))
 
 pub of_two : {A B C : Type 0} → (A → C) → (B → C) → A ⊎ B → C
 of_two f g (inl a) = f a
 of_two f g (inr b) = g b
-
-pub of_three : {A B C D : Type 0} → (A → D) → (B → D) → (C → D) → A ⊎ B ⊎ C → D
-of_three f g h (inl a) = f a
-of_three f g h (inr (inl b)) = g b
-of_three f g h (inr (inr c)) = h c

@@ -29,6 +29,10 @@ output_rule = record (new_rule (codes "output")) {
   defaults = codes "nodes" ∷ [];
 }
 
+-- the option that takes a filter of documents
+abbrev pub filter_rule : Rule
+filter_rule = record (new_rule (codes "where")) { long = Some (codes "where"); value_names = 1 }
+
 -- an option that is there or not
 abbrev pub flag_rule : Text → Rule
 flag_rule name = record (new_rule name) { long = Some name; action = Some SetTrue }
@@ -53,23 +57,28 @@ with_version = on_top (λ s. record s { has_version = true })
 abbrev pub with_output : App → App
 with_output a = with_rule a output_rule
 
+abbrev pub with_filter : App → App
+with_filter a = with_rule a filter_rule
+
 abbrev pub with_numbers : App → App
 with_numbers a = with_rule (with_rule (with_rule a (number_rule (codes "workers") (codes "4")))
     (number_rule (codes "piece") (codes "64"))) (number_rule (codes "batch") (codes "4096"))
 
 abbrev pub with_flags : App → App
-with_flags a = with_rule (with_rule (with_rule (with_rule (with_rule a (flag_rule (codes "check")))
-    (letter_rule (codes "decimals") 100)) (letter_rule (codes "keep-going") 107))
-    (flag_rule (codes "explain"))) (letter_rule (codes "exit-status") 101)
+with_flags a = with_rule (with_rule (with_rule (with_rule (with_rule (with_rule (with_rule a
+    (flag_rule (codes "check"))) (letter_rule (codes "decimals") 100)) (letter_rule (codes "keep-going") 107))
+    (flag_rule (codes "explain"))) (letter_rule (codes "exit-status") 101)) (flag_rule (codes "documents")))
+    (flag_rule (codes "with-filename"))
 
 abbrev pub with_query : App → App
 with_query a = with_rule (with_rule a query_rule) files_rule
 
--- `jp [-o FORM] [--workers N] [--piece N] [--batch N] [--check] [-d] [-k] [--explain] [-e] QUERY [FILE]...`,
--- where `-o` is `--output`, `-d` is `--decimals`, `-k` is `--keep-going` and `-e` is `--exit-status`; with
--- `--help` and `--version`
+-- `jp [-o FORM] [--where FILTER] [--workers N] [--piece N] [--batch N] [--check] [-d] [-k] [--explain] [-e]
+-- [--documents] [--with-filename] QUERY [FILE]...`, where `-o` is `--output`, `-d` is `--decimals`, `-k` is
+-- `--keep-going` and `-e` is `--exit-status`; with `--help` and `--version`
 abbrev pub jp_app : App
-jp_app = with_query (with_flags (with_numbers (with_output (with_version (new_app (codes "jp"))))))
+jp_app = with_query (with_flags (with_numbers (with_filter (with_output (with_version
+    (new_app (codes "jp")))))))
 
 -- what the words say of each option, the first of which is the program's name
 unfoldable pub said : List Text → List Row

@@ -1,22 +1,30 @@
 -- What a command line wants.
-use Rattle.std.specs.Prelude.{◌≡◌, ◌⊎◌, ℕ, Bool, true, false, List, [], Some, option_map, unwrap_or, codes}
+use Rattle.std.specs.Prelude.{◌≡◌, ◌⊎◌, ◌||◌, ℕ, Bool, true, false, List, [], Option, Some, length}
+use Rattle.std.specs.Prelude.{option_map}
+use Rattle.std.specs.Prelude.{unwrap_or, codes, nat_lt}
 use Rattle.std.specs.Char.{is_control}
 use Rattle.std.specs.List.{All}
 use Rattle.std.specs.Str.{chars}
 use Rattle.std.specs.Str.Parse.{IsNumeral, digits_value, without_leading_plus}
 use Rattle.clap.specs.Walk.{Text, Row, all_of, first_of, one_of}
 use Rattle.jp_run.specs.Settings.{AreSettings}
+use Rattle.jp_run.specs.declared.cutting.Cutting.{Cutting}
+use Rattle.jp_run.specs.declared.cutting.Cutting.TheVariants as cutting
 use Rattle.jp_run.specs.declared.output.Output.{Output}
 use Rattle.jp_run.specs.declared.output.Output.TheVariants.{Nodes, Values, Texts, Raw, Lines}
 use Rattle.jp_program.specs.CommandLine.{said, refusals, IsRefused}
 
--- the query's text in scalar values, the files by their names in bytes, whether the query is only checked,
--- what is written, whether documents and the query may have all numbers of JSON, whether the answer keeps
--- going, whether faulty lines are to be explained, whether the status tells that nothing was selected, and
--- the settings
+-- the query's text in scalar values, and that of a filter of documents, if there is one, the files by their
+-- names in bytes, whether lines are to name theirs, how each is cut into documents, whether what is asked is
+-- only checked, what is written, whether documents, the query and the filter may have all numbers of JSON,
+-- whether the answer keeps going, whether faulty lines are to be explained, whether the status tells that
+-- nothing was selected, and the settings
 pub record Wanted : Type 0 where
   pub query : List ℕ
+  pub filter : Option (List ℕ)
   pub files : List Text
+  pub names : Bool
+  pub cutting : Cutting
   pub check : Bool
   pub output : Output
   pub decimals : Bool
@@ -36,9 +44,21 @@ abbrev pub flag_text : Bool → Text
 flag_text true = codes "true"
 flag_text false = codes "false"
 
+-- the text of the option that takes a filter is this, where the option is there
+abbrev pub SaysFilter : List Row → Option (List ℕ) → Type 0
+SaysFilter rows filter = option_map chars (first_of (codes "where") rows) ≡ filter
+
 -- an option is there or not
 abbrev pub SaysFlag : Text → List Row → Bool → Type 0
 SaysFlag name rows is_there = one_of name rows ≡ Some (flag_text is_there)
+
+-- an input is cut into documents over lines, or into lines, by whether that option is there
+abbrev pub cuts_documents : Cutting → Bool
+cuts_documents cutting.Lines = false
+cuts_documents cutting.Documents = true
+
+abbrev pub SaysCutting : List Row → Cutting → Type 0
+SaysCutting rows cutting = SaysFlag (codes "documents") rows (cuts_documents cutting)
 
 -- the word for a form of the answer
 abbrev pub output_text : Output → Text
@@ -60,6 +80,11 @@ IsName name = All (λ c. is_control c ≡ false) (chars name)
 abbrev pub SaysFiles : List Row → List Text → Type 0
 SaysFiles rows files = (unwrap_or (all_of (codes "file") rows) [] ≡ files) × All IsName files
 
+-- lines name their file where the option is there, and where two files or more are named
+abbrev pub SaysNames : List Row → List Text → Bool → Type 0
+SaysNames rows files names = (there : Bool) × SaysFlag (codes "with-filename") rows there
+    × (names ≡ (there || nat_lt 1 (length files)))
+
 -- the numbers of the three options, in their ranges
 abbrev pub AreSaid : List Row → ℕ → ℕ → ℕ → Type 0
 AreSaid rows workers piece batch = SaysNumber (codes "workers") rows workers
@@ -69,7 +94,10 @@ AreSaid rows workers piece batch = SaysNumber (codes "workers") rows workers
 -- what is said of each option is this
 pub record Says (rows : List Row) (w : Wanted) : Type 0 where
   pub query : option_map chars (first_of (codes "query") rows) ≡ Some w.query
+  pub filter : SaysFilter rows w.filter
   pub files : SaysFiles rows w.files
+  pub names : SaysNames rows w.files w.names
+  pub cutting : SaysCutting rows w.cutting
   pub check : SaysFlag (codes "check") rows w.check
   pub output : SaysOutput rows w.output
   pub decimals : SaysFlag (codes "decimals") rows w.decimals

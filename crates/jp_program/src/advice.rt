@@ -1,6 +1,6 @@
 //! What helps where a command line or a query is refused.
 
-ghost use Rattle.std.specs.Prelude.{◌≡◌, true, Err, IfOk, IfSome, IfNone, IsSomeAnd};
+ghost use Rattle.std.specs.Prelude.{◌≡◌, true, Err, IfOk, IfSome, IfNone, IsSomeAnd, string_bytes};
 ghost use Rattle.std.specs.Str.{chars};
 ghost use Rattle.clap.specs.Walk.{texts};
 ghost use Rattle.jp_tree.specs.declared.fault.QueryFault.{QueryFault as Refusal};
@@ -9,12 +9,15 @@ ghost use Rattle.jp_check.specs.Verdict.{IsVerdictIn};
 ghost use Rattle.jp_explain.specs.Mark.{IsQuery};
 ghost use Rattle.jp_explain.specs.Picture.{is_shown, IsPicture};
 ghost use Rattle.jp_run.specs.Answered.{numbers_of};
-ghost use Rattle.jp_program.specs.Told.{IsTold, refusal_line};
+ghost use Rattle.jp_program.specs.Outcome.{IsRefusedWish};
+ghost use Rattle.jp_program.specs.Told.{IsExplained, IsTold, query_line};
 ghost use Rattle.jp_program.specs.Wanted.{Wanted as Wish, Wants};
 
 use crate::command::{note, note_text, tell};
 use crate::command_line::{Asked, files_by, matches, output_by, read_words};
 use crate::file_notes::{RunEnd, tell_of_run};
+use crate::filter_advice::tell_filter_refusal;
+use crate::split::with_question;
 use clap::ArgMatches;
 use clap::error::ErrorKind;
 use jp_explain::{escaped, explain, write_mark};
@@ -34,12 +37,12 @@ pub(crate) fn tell_of_words<N: Sink>(
     end: &RunEnd,
 )
     ensures untouched { N.failed notes.old ≡ true → notes.new ≡ notes.old }
-    ensures refused { (f : Refusal) (w : Wish) → fault.now ≡ RunFault.Query f → Wants (texts words.now) w
-        → IsVerdictIn (numbers_of w.decimals) w.query (Err f)
-        → IsTold w.query f (N.failed notes.new) (N.contents notes.old) (N.contents notes.new) }
+    ensures refused { (w : Wish) → Wants (texts words.now) w → IsRefusedWish w fault.now
+        → IsTold w fault.now (N.failed notes.new) (N.contents notes.old) (N.contents notes.new) }
 {
     match fault {
         RunFault::Query(refusal) => tell_refusal(alloc, notes, words, *refusal),
+        RunFault::Filter(refusal) => tell_filter_refusal(alloc, notes, words, *refusal),
         RunFault::Settings => {
             tell(alloc, notes, fault);
             // Where memory for it is refused there is none (README, Why so).
@@ -53,15 +56,16 @@ pub(crate) fn tell_of_words<N: Sink>(
     }
 }
 
-/// Tells why the wanted query is refused in one line, and behind it where it went wrong, or that memory was
-/// wanted for that.
+/// Tells why the wanted query is refused in one line, and behind it where it went wrong, with the question
+/// for its quotes, where the shell seems to have split it; or that memory was wanted for that.
 fn tell_refusal<N: Sink>(alloc: Global, notes: &mut N, words: &[&str], refusal: QueryFault)
     ensures untouched { N.failed notes.old ≡ true → notes.new ≡ notes.old }
     ensures told { (w : Wish) → Wants (texts words.now) w
         → IsVerdictIn (numbers_of w.decimals) w.query (Err refusal)
-        → IsTold w.query refusal (N.failed notes.new) (N.contents notes.old) (N.contents notes.new) }
+        → IsTold w (RunFault.Query refusal) (N.failed notes.new) (N.contents notes.old)
+        (N.contents notes.new) }
 {
-    note_text(notes, refusal_line(refusal));
+    note_text(notes, query_line(refusal));
     match explanation(alloc, words) {
         Ok(Some(lines)) => note_text(notes, lines.as_str()),
         Ok(None) => {}
@@ -70,8 +74,8 @@ fn tell_refusal<N: Sink>(alloc: Global, notes: &mut N, words: &[&str], refusal: 
 }
 
 /// The line of a refusal, with its line feed.
-fn refusal_line(refusal: QueryFault) -> &'static str
-    ensures { result.now ≡ refusal_line refusal }
+fn query_line(refusal: QueryFault) -> &'static str
+    ensures { result.now ≡ query_line refusal }
 {
     match refusal {
         QueryFault::TooDeep => "jp: query: too deep\n",
@@ -83,16 +87,21 @@ fn refusal_line(refusal: QueryFault) -> &'static str
     }
 }
 
-/// The lines that show where the wanted query went wrong; none where it is accepted, or none is wanted.
+/// The lines that show where the wanted query went wrong, and the question for its quotes, where the shell
+/// seems to have split it; none where it is accepted, or none is wanted.
 fn explanation(alloc: Global, words: &[&str]) -> Result<Option<String>, RunFault>
     ensures { (f : Refusal) (w : Wish) → Wants (texts words.now) w
         → IsVerdictIn (numbers_of w.decimals) w.query (Err f)
-        → IfOk result (λ o. IsSomeAnd o (λ s. IsPicture w.query (text_of s))) }
+        → IfOk result (λ o. IsSomeAnd o (λ s. IsExplained w (string_bytes s))) }
 {
     match read_words(alloc, words)? {
         Asked::Query(wanted) => {
             let lines = lines_of(alloc, wanted.query, wanted.settings.numbers())?;
-            Ok(lines)
+            let Some(lines) = lines else {
+                return Ok(None);
+            };
+            let files = wanted.files.as_slice();
+            Ok(Some(with_question(lines, wanted.query, files)?))
         }
         Asked::Show(_text) => Ok(None),
     }
@@ -100,7 +109,11 @@ fn explanation(alloc: Global, words: &[&str]) -> Result<Option<String>, RunFault
 
 /// The lines that show where a query went wrong, whose literals may be these numbers; none of an accepted
 /// one.
-fn lines_of(alloc: Global, query: &str, numbers: Numbers) -> Result<Option<String>, AllocError>
+pub(crate) fn lines_of(
+    alloc: Global,
+    query: &str,
+    numbers: Numbers,
+) -> Result<Option<String>, AllocError>
     ensures shown { IfOk result (λ o. IfSome o (λ s. IsPicture (chars query.now) (text_of s))) }
     ensures accepted { IfOk result (λ o. IfNone o (IsQuery numbers (chars query.now))) }
 {
@@ -174,12 +187,6 @@ fn missing_cure(words: &[&str]) -> &'static str {
         }
     }
     "try jp --help"
-}
-
-/// Whether the name of a file looks like a part of a query that the shell has split.
-pub(crate) fn looks_like_query(name: &str) -> bool {
-    let is_operator = matches!(name, "==" | "!=" | "<=" | ">=" | "&&" | "||");
-    is_operator || name.ends_with(']') || name.starts_with('$')
 }
 
 /// The first line, without what stands before it.

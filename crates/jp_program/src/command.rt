@@ -5,28 +5,28 @@ ghost use Rattle.std.specs.Prelude.{IfErr, IsErrOf, OnOk, []};
 ghost use Rattle.std.specs.Io.KnownBytes.{Appends, IsAtEnd, Keeps};
 ghost use Rattle.clap.specs.Walk.{texts};
 ghost use Rattle.jp_doc.specs.declared.fault.DocFault.{DocFault as Fault};
-ghost use Rattle.jp_tree.specs.declared.fault.QueryFault.{QueryFault as Refusal};
-ghost use Rattle.jp_check.specs.Verdict.{IsVerdictIn};
-ghost use Rattle.jp_run.specs.Answered.{numbers_of};
+ghost use Rattle.jp_run.specs.declared.fault.RunFault.{RunFault as End};
 ghost use Rattle.jp_run.specs.Status.{status_of};
 ghost use Rattle.jp_run.specs.Written.{IsPassedOn};
 ghost use Rattle.jp_program.specs.CommandLine.{AsksToShow};
 ghost use Rattle.jp_program.specs.Inputs.{EachInTurn, EndsIn, inputs_of};
-ghost use Rattle.jp_program.specs.Outcome.{IsStatus, IsTaken, IsAnswered, ArePassed, IsWhole, IsFront};
-ghost use Rattle.jp_program.specs.Outcome.{AreEmptyAnswers, AreKnownEmptyAnswers, HasFailed, AreOpened};
-ghost use Rattle.jp_program.specs.Outcome.{ArePrompt, AreNear, reads_before};
+ghost use Rattle.jp_program.specs.Outcome.{IsStatus, IsTaken, IsAnswered, ArePassed, IsWholeOrCut, IsFront};
+ghost use Rattle.jp_program.specs.Outcome.{IsRefusedWish};
+ghost use Rattle.jp_program.specs.Outcome.{AreEmptyAnswers, AreKnownEmptyAnswers, AreFailed, AreOpened};
+ghost use Rattle.jp_program.specs.Outcome.{ArePrompt, AreNear};
 ghost use Rattle.jp_program.specs.inner.Ended.{HasEnded};
 ghost use Rattle.jp_program.specs.Told.{IsTold};
 ghost use Rattle.jp_program.specs.Wanted.{Wanted as Wish, Wants, WantsCheck, WantsRun, IsWrong};
 
 use crate::advice::tell_of_words;
 use crate::command_line::{Asked, read_words};
-use crate::each::{Search, answer_files};
+use crate::each::answer_files;
 use crate::file_notes::RunEnd;
 use crate::inputs::Inputs;
 use crate::pattern_notes::tell_patterns;
+use crate::turn::{Search, run_named};
 use crate::witness::Witness;
-use jp_run::{RunFault, Sink, Source, Totals, check_query, run, write_all};
+use jp_run::{Prepared, RunFault, Sink, Source, Totals, write_all};
 use std::alloc::{AllocError, AllocGlobal, Global};
 use std::thread::Threads;
 
@@ -48,9 +48,10 @@ pub(crate) const NOTHING_SEEN: Totals = Totals {
 /// may not match what was meant. A failure to write them, or the help, is passed over.
 ///
 /// The status is 0 where the run finished, or the help, the version or a check was asked for; 1 where the run
-/// finished, selected nothing, and the words ask for that to be told so; 2 where the query is refused; 3
-/// where a line is faulty, also where the answer has gone on past it; 4 where reading or writing failed, or a
-/// limit was passed; 5 where a growth of memory was refused; 64 where the command line is refused.
+/// finished, selected nothing, and the words ask for that to be told so; 2 where the query, or the filter, is
+/// refused; 3 where a line is faulty, also where the answer has gone on past it; 4 where reading or writing
+/// failed, also where the answer has gone on past a file, or a limit was passed; 5 where a growth of memory
+/// was refused; 64 where the command line is refused.
 pub fn program<R: Threads + AllocGlobal + Sync, S: Source<K>, I: Inputs<S>, K: Sink, N: Sink>(
     rt: &R,
     words: &[&str],
@@ -64,14 +65,14 @@ pub fn program<R: Threads + AllocGlobal + Sync, S: Source<K>, I: Inputs<S>, K: S
         × (I.opens inputs.old ≤ 2 ^ 62) }
     // There is no other status.
     ensures statuses { IsStatus result }
-    // 0 or 1: the help or the version was asked for, and nothing was read; or a check of a query that is
-    // accepted, and nothing was read or written; or a run, whose query is accepted and has no faulty line
-    // before it: its answer to each whole input in turn was written and passed on, each file was opened once,
-    // and no end has failed.
+    // 0 or 1: the help or the version was asked for, and nothing was opened or read; or a check of a query
+    // that is accepted, and nothing was opened, read or written; or a run, whose query is accepted and has no
+    // faulty line before it: its answer to each whole input in turn was written and passed on, each file was
+    // opened once, and no end has failed.
     ensures finished { (result ≡ 0) ⊎ (result ≡ 1)
-        → (AsksToShow (texts words.now) × (source.new ≡ source.old))
+        → (AsksToShow (texts words.now) × (inputs.new ≡ inputs.old) × (source.new ≡ source.old))
         ⊎ ((w : Wish) × WantsCheck (texts words.now) w × IsTaken w
-        × (source.new ≡ source.old) × (sink.new ≡ sink.old))
+        × (inputs.new ≡ inputs.old) × (source.new ≡ source.old) × (sink.new ≡ sink.old))
         ⊎ ((w : Wish) × WantsRun (texts words.now) w × IsTaken w
         × EachInTurn (IsAnswered w None) (inputs_of w.files (I.holds inputs.old) (S.remaining source.old))
         (K.contents sink.old) (K.contents sink.new)
@@ -84,23 +85,29 @@ pub fn program<R: Threads + AllocGlobal + Sync, S: Source<K>, I: Inputs<S>, K: S
     // 0, although it is asked for: something is selected.
     ensures something { (w : Wish) → result ≡ 0 → WantsRun (texts words.now) w → w.exit_status ≡ true
         → AreKnownEmptyAnswers w (inputs_of w.files (I.holds inputs.old) (S.remaining source.old)) → ⊥ }
-    // 2: the wanted query is refused, and nothing was opened, read or written.
-    ensures query { result ≡ 2 → (f : Refusal) × (w : Wish) × Wants (texts words.now) w
-        × IsVerdictIn (numbers_of w.decimals) w.query (Err f)
+    // 2: the wanted query is refused, or the filter is, and nothing was opened, read or written.
+    ensures query { result ≡ 2 → (f : End) × (w : Wish) × Wants (texts words.now) w
+        × IsRefusedWish w f
         × (inputs.new ≡ inputs.old) × (source.new ≡ source.old) × (sink.new ≡ sink.old) }
-    // And the notes have the line of its refusal, and behind it those that show where it went wrong, or that
-    // memory was wanted for them; or the notes have failed.
-    ensures told { (f : Refusal) (w : Wish) → result ≡ 2 → Wants (texts words.now) w
-        → IsVerdictIn (numbers_of w.decimals) w.query (Err f)
-        → IsTold w.query f (N.failed notes.new) (N.contents notes.old) (N.contents notes.new) }
+    // And the notes have the line of that refusal, and behind it those that show where it went wrong, and the
+    // question for the query's quotes, where the shell seems to have split it; or that memory was wanted for
+    // them; or the notes have failed.
+    ensures told { (f : End) (w : Wish) → result ≡ 2 → Wants (texts words.now) w → IsRefusedWish w f
+        → IsTold w f (N.failed notes.new) (N.contents notes.old) (N.contents notes.new) }
     // 3: the answer to each input before some one was written, and of that one the answer before its first
     // faulty line; or to keep going was asked for, and the answer that does was written and passed on, it has
     // passed faulty lines, and no end has failed.
     ensures document { result ≡ 3 → ((line : ℕ) × (fault : Fault) × (w : Wish)
         × WantsRun (texts words.now) w × (w.keeps_going ≡ false)
-        × EndsIn (IsWhole w) (IsAnswered w (Some (line, fault))) w.files (I.holds inputs.old)
-        (S.remaining source.old) (I.opens inputs.old) (I.opens inputs.new) (K.contents sink.old)
-        (K.contents sink.new))
+        × EndsIn (IsWholeOrCut w) (IsAnswered w (Some (line, fault))) w.files (I.holds inputs.old)
+        (S.remaining source.old) (record {
+          opens = I.opens inputs.old;
+          opens_new = I.opens inputs.new;
+          broken = I.broken inputs.old;
+          broken_new = I.broken inputs.new;
+          contents = K.contents sink.old;
+          contents_new = K.contents sink.new;
+        }))
         ⊎ ((w : Wish) × WantsRun (texts words.now) w × (w.keeps_going ≡ true)
         × ArePassed w (inputs_of w.files (I.holds inputs.old) (S.remaining source.old))
         (K.contents sink.old) (K.contents sink.new)
@@ -108,39 +115,55 @@ pub fn program<R: Threads + AllocGlobal + Sync, S: Source<K>, I: Inputs<S>, K: S
         × IsAtEnd (S.remaining source.new) × (K.flushed sink.new ≡ true)
         × (S.failed source.new ≡ false) × (K.failed sink.new ≡ false)) }
     // 4: the answer to each input before some one was written, and of that one a front of the wanted answer;
-    // it has failed, or the sink has, or a limit was passed, and no file behind it was opened.
+    // it has failed, or the sink has, or a limit was passed, and no file behind it was opened. Or to keep
+    // going was asked for, and each file was opened once; of each the answer was written, or it was cut short
+    // by a failure of its own, and that to all documents whose line's end was read; at least one has failed.
     ensures failed { result ≡ 4 → (w : Wish) × WantsRun (texts words.now) w
-        × EndsIn (IsWhole w) (HasFailed w (record {
+        × AreFailed w (record {
           rest = S.remaining source.new;
-          reads = reads_before w.files (S.reads source.old);
+          reads = S.reads source.old;
           reads_new = S.reads source.new;
           source_failed = S.failed source.new;
           sink_failed = K.failed sink.new;
-        })) w.files (I.holds inputs.old) (S.remaining source.old) (I.opens inputs.old) (I.opens inputs.new)
-        (K.contents sink.old) (K.contents sink.new) }
+        }) (I.holds inputs.old) (S.remaining source.old) (record {
+          opens = I.opens inputs.old;
+          opens_new = I.opens inputs.new;
+          broken = I.broken inputs.old;
+          broken_new = I.broken inputs.new;
+          contents = K.contents sink.old;
+          contents_new = K.contents sink.new;
+        }) }
     // 5: nothing was opened, read or written, or the answer to each input before some one was written, and of
     // that one a front of the wanted answer.
     ensures memory { result ≡ 5
         → ((inputs.new ≡ inputs.old) × (source.new ≡ source.old)
         × Keeps (K.contents sink.old) (K.contents sink.new))
         ⊎ ((w : Wish) × WantsRun (texts words.now) w
-        × EndsIn (IsWhole w) (IsFront w) w.files (I.holds inputs.old)
-        (S.remaining source.old) (I.opens inputs.old) (I.opens inputs.new) (K.contents sink.old)
-        (K.contents sink.new)) }
+        × EndsIn (IsWholeOrCut w) (IsFront w) w.files (I.holds inputs.old) (S.remaining source.old)
+        (record {
+          opens = I.opens inputs.old;
+          opens_new = I.opens inputs.new;
+          broken = I.broken inputs.old;
+          broken_new = I.broken inputs.new;
+          contents = K.contents sink.old;
+          contents_new = K.contents sink.new;
+        })) }
     // 64: the words are wrong, or a number is out of its range, or there is no such form, or a name is none,
     // and nothing was opened, read or written.
     ensures command_line { result ≡ 64 → IsWrong (texts words.now)
         × (inputs.new ≡ inputs.old) × (source.new ≡ source.old) × (sink.new ≡ sink.old) }
-    // A query that is refused ends with 2, or with 5 for want of memory, and nothing was opened, read or
-    // written.
-    ensures refused { (f : Refusal) (w : Wish) → Wants (texts words.now) w
-        → IsVerdictIn (numbers_of w.decimals) w.query (Err f)
+    // A query or a filter that is refused ends with 2, or with 5 for want of memory, and nothing was opened,
+    // read or written.
+    ensures refused { (f : End) (w : Wish) → Wants (texts words.now) w → IsRefusedWish w f
         → ((result ≡ 2) ⊎ (result ≡ 5)) × (inputs.new ≡ inputs.old) × (source.new ≡ source.old)
         × Keeps (K.contents sink.old) (K.contents sink.new) }
     // A check opens, reads and writes nothing, whatever its status.
     ensures check { (w : Wish) → WantsCheck (texts words.now) w
         → (inputs.new ≡ inputs.old) × (source.new ≡ source.old)
         × Keeps (K.contents sink.old) (K.contents sink.new) }
+    // However a run ends that does not keep going: no input that had failed was left for another one.
+    ensures unbroken { (w : Wish) → WantsRun (texts words.now) w → w.keeps_going ≡ false
+        → I.broken inputs.new ≡ I.broken inputs.old }
     // After a fault the sink holds nothing back: it was flushed, or one of its calls has failed.
     ensures passed_on { (result ≡ 3) ⊎ (result ≡ 4) ⊎ (result ≡ 5)
         → IsPassedOn (K.flushed sink.new) (K.failed sink.new) }
@@ -172,9 +195,11 @@ pub fn program<R: Threads + AllocGlobal + Sync, S: Source<K>, I: Inputs<S>, K: S
         Err(fault) => {
             pass_on_after(sink, &fault);
             let end = RunEnd {
+                cutting: witness.cutting,
                 lost_reader: sink.lost_reader(),
                 opened: inputs.opens().saturating_sub(opened),
                 reason: inputs.reason(rt.alloc(), source).unwrap_or_default(),
+                passes_files: witness.passes_files,
             };
             tell_of_words(rt.alloc(), notes, words, &fault, &end);
             witness.tell_behind(notes, &fault);
@@ -199,9 +224,9 @@ fn done<R: Threads + AllocGlobal + Sync, S: Source<K>, I: Inputs<S>, K: Sink, N:
         × (I.opens inputs.old ≤ 2 ^ 62) }
     requires quiet { witness.old.tells_nothing ≡ false }
     ensures finished { IfOk result (λ totals. totals.faulty ≡ 0
-        → (AsksToShow (texts words.now) × (source.new ≡ source.old))
+        → (AsksToShow (texts words.now) × (inputs.new ≡ inputs.old) × (source.new ≡ source.old))
         ⊎ ((w : Wish) × WantsCheck (texts words.now) w × IsTaken w
-        × (source.new ≡ source.old) × (sink.new ≡ sink.old))
+        × (inputs.new ≡ inputs.old) × (source.new ≡ source.old) × (sink.new ≡ sink.old))
         ⊎ ((w : Wish) × WantsRun (texts words.now) w × IsTaken w
         × EachInTurn (IsAnswered w None) (inputs_of w.files (I.holds inputs.old) (S.remaining source.old))
         (K.contents sink.old) (K.contents sink.new)
@@ -224,39 +249,40 @@ fn done<R: Threads + AllocGlobal + Sync, S: Source<K>, I: Inputs<S>, K: Sink, N:
         → AreEmptyAnswers w (inputs_of w.files (I.holds inputs.old) (S.remaining source.old))) }
     ensures something { (w : Wish) → WantsRun (texts words.now) w → IfOk result (λ totals. totals.wrote ≡ true
         → AreKnownEmptyAnswers w (inputs_of w.files (I.holds inputs.old) (S.remaining source.old)) → ⊥) }
+    ensures unbroken { (w : Wish) → WantsRun (texts words.now) w → w.keeps_going ≡ false
+        → I.broken inputs.new ≡ I.broken inputs.old }
     ensures passed_on { IfOk result (λ totals. 0 < totals.faulty → K.flushed sink.new ≡ true) }
-    ensures refused { (f : Refusal) (w : Wish) → Wants (texts words.now) w
-        → IsVerdictIn (numbers_of w.decimals) w.query (Err f)
-        → (IsErrOf result (RunFault.Query f) ⊎ IsErrOf result RunFault.Memory)
+    ensures refused { (f : End) (w : Wish) → Wants (texts words.now) w → IsRefusedWish w f
+        → (IsErrOf result f ⊎ IsErrOf result RunFault.Memory)
         × (inputs.new ≡ inputs.old) × (source.new ≡ source.old) × (sink.new ≡ sink.old) }
     ensures check { (w : Wish) → WantsCheck (texts words.now) w
         → (inputs.new ≡ inputs.old) × (source.new ≡ source.old) × (sink.new ≡ sink.old) }
-    ensures query { (f : Refusal) → IsErrOf result (RunFault.Query f) → (w : Wish) × Wants (texts words.now) w
-        × IsVerdictIn (numbers_of w.decimals) w.query (Err f)
-        × (inputs.new ≡ inputs.old) × (source.new ≡ source.old) × (sink.new ≡ sink.old) }
+    ensures query { (f : End) → IsErrOf result f → status_of f ≡ 2 → (w : Wish) × Wants (texts words.now) w
+        × IsRefusedWish w f × (inputs.new ≡ inputs.old) × (source.new ≡ source.old) × (sink.new ≡ sink.old) }
     ensures settings { IsErrOf result RunFault.Settings → IsWrong (texts words.now)
         × (inputs.new ≡ inputs.old) × (source.new ≡ source.old) × (sink.new ≡ sink.old) }
     // Any other fault: nothing was opened, read or written, or a run ended so.
-    ensures fault { IfErr result (HasEnded (texts words.now) (record {
-      holds = I.holds inputs.old;
-      first = S.remaining source.old;
-      opens = I.opens inputs.old;
-      opens_new = I.opens inputs.new;
-      contents = K.contents sink.old;
-      contents_new = K.contents sink.new;
-    }) (record {
-      rest = S.remaining source.new;
-      reads = S.reads source.old;
-      reads_new = S.reads source.new;
-      source_failed = S.failed source.new;
-      sink_failed = K.failed sink.new;
-    }) ((inputs.new ≡ inputs.old) × (source.new ≡ source.old) × (sink.new ≡ sink.old))) }
+    ensures fault { IfErr result (HasEnded (texts words.now) (I.holds inputs.old) (S.remaining source.old)
+        (record {
+          opens = I.opens inputs.old;
+          opens_new = I.opens inputs.new;
+          broken = I.broken inputs.old;
+          broken_new = I.broken inputs.new;
+          contents = K.contents sink.old;
+          contents_new = K.contents sink.new;
+        }) (record {
+          rest = S.remaining source.new;
+          reads = S.reads source.old;
+          reads_new = S.reads source.new;
+          source_failed = S.failed source.new;
+          sink_failed = K.failed sink.new;
+        }) ((inputs.new ≡ inputs.old) × (source.new ≡ source.old) × (sink.new ≡ sink.old))) }
     ensures prompt { (w : Wish) → WantsRun (texts words.now) w → w.files ≡ [] → ArePrompt w (S.begun
         source.old) (S.begun source.new) (S.remaining source.old) (K.contents sink.old) }
     ensures window { (w : Wish) → WantsRun (texts words.now) w → w.files ≡ [] → AreNear w (S.begun source.old)
         (S.begun source.new) (S.remaining source.old) (K.contents sink.old) }
-    ensures unnoted { (f : Refusal) (w : Wish) → Wants (texts words.now) w
-        → IsVerdictIn (numbers_of w.decimals) w.query (Err f) → notes.new ≡ notes.old }
+    ensures unnoted { (f : End) (w : Wish) → Wants (texts words.now) w → IsRefusedWish w f
+        → notes.new ≡ notes.old }
 {
     match read_words(rt.alloc(), words)? {
         Asked::Show(text) => {
@@ -264,30 +290,32 @@ fn done<R: Threads + AllocGlobal + Sync, S: Source<K>, I: Inputs<S>, K: Sink, N:
             Ok(NOTHING_SEEN)
         }
         Asked::Query(wanted) => {
+            // Before anything is told, and any file is opened.
             let numbers = wanted.settings.numbers();
+            let filter = wanted.settings.filter;
+            let prepared = Prepared::new(rt.alloc(), wanted.query, filter, numbers)?;
+            tell_patterns(rt.alloc(), notes, wanted.query, numbers);
             if wanted.check {
-                check_query(rt.alloc(), wanted.query, numbers)?;
-                tell_patterns(rt.alloc(), notes, wanted.query, numbers);
                 return Ok(NOTHING_SEEN);
             }
             witness.is_asked = wanted.explain;
             witness.keeps_going = wanted.settings.keeps_going;
             witness.has_decimals = wanted.settings.decimals;
+            witness.cutting = wanted.settings.cutting;
             witness.tells_nothing = wanted.exit_status;
-            tell_patterns(rt.alloc(), notes, wanted.query, numbers);
             let names = wanted.files.as_slice();
-            if names.is_empty() {
-                let (query, settings) = (wanted.query, &wanted.settings);
-                return run(rt, rt.alloc(), source, sink, query, settings, &*witness);
-            }
+            let is_alone = names.is_empty();
+            witness.passes_files = wanted.settings.keeps_going && !is_alone;
             let search = Search {
                 rt,
-                gate: &*witness,
+                witness: &*witness,
                 wanted: &wanted,
+                prepared: &prepared,
             };
-            // Before any file is opened.
-            check_query(rt.alloc(), search.wanted.query, numbers)?;
-            answer_files(&search, names, inputs, source, sink)
+            if is_alone {
+                return run_named(&search, "-", source, sink);
+            }
+            answer_files(&search, names, inputs, source, sink, notes)
         }
     }
 }
@@ -311,7 +339,7 @@ fn pass_on_after<K: Sink>(sink: &mut K, fault: &RunFault)
     ensures failed { K.failed sink.old ≡ true → K.failed sink.new ≡ true }
 {
     match fault {
-        RunFault::Query(_) | RunFault::Settings => {}
+        RunFault::Query(_) | RunFault::Filter(_) | RunFault::Settings => {}
         _ => {
             // A failure of this is passed over: it is the run's fault that is told (README, Why so).
             let _ = sink.flush();
@@ -338,7 +366,7 @@ pub fn refuse_words<N: Sink>(alloc: Global, notes: &mut N) -> u8
 }
 
 /// Tells how many faulty lines were passed, in one line, and passes over a failure of that.
-fn tell_faulty<N: Sink>(alloc: Global, notes: &mut N, faulty: u64)
+pub(crate) fn tell_faulty<N: Sink>(alloc: Global, notes: &mut N, faulty: u64)
     ensures untouched { N.failed notes.old ≡ true → notes.new ≡ notes.old }
 {
     note(notes, format!(in alloc; "jp: faulty lines: {faulty}\n"));

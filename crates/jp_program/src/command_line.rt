@@ -7,53 +7,63 @@ ghost use Rattle.clap.specs.Walk.{Text, texts};
 ghost use Rattle.clap.specs.Words.{app_of, found_of, rows_of, rule_of, new_app, FailsBy};
 ghost use Rattle.jp_run.specs.declared.output.Output.{Output as Form};
 ghost use Rattle.jp_program.specs.CommandLine.{number_rule, flag_rule, letter_rule, query_rule, files_rule};
-ghost use Rattle.jp_program.specs.CommandLine.{output_rule, said, refusals, with_version};
+ghost use Rattle.jp_program.specs.CommandLine.{filter_rule, output_rule, said, refusals, with_version};
 ghost use Rattle.jp_program.specs.CommandLine.{with_output as output_option_of, with_numbers as numbers_of};
+ghost use Rattle.jp_program.specs.CommandLine.{with_filter as filter_option_of};
 ghost use Rattle.jp_program.specs.CommandLine.{with_flags as flags_of, with_query as query_of};
 ghost use Rattle.jp_program.specs.inner.Asked.{IsAsked, IsNotAsked, wanted_of};
 ghost use Rattle.jp_program.specs.Wanted.{Wanted as Wish, Says, SaysNumber, SaysFlag, SaysOutput, AreSaid};
-ghost use Rattle.jp_program.specs.Wanted.{IsName, SaysFiles};
+ghost use Rattle.jp_program.specs.Wanted.{IsName, SaysFiles, SaysNames, cuts_documents};
 
 use crate::output::output_of;
 use crate::version::VERSION;
 use clap::error::ErrorKind;
 use clap::{Arg, ArgAction, ArgMatches, Command, Error, value_parser};
-use jp_run::{Output, RunFault, Settings};
+use jp_run::{Cutting, Output, RunFault, Settings};
 use std::alloc::{AllocError, Global};
 
 /// What the help says behind the options.
 const MORE: &str = "\
 INPUT is read from each FILE in turn, or from standard input where there is none, one JSON document on each
-line, which are counted from 1 in each; blank lines are counted and hold none. No line of the output names its
-file. All numbers have to be whole, of 64 bits: a line with a fraction or an exponent is faulty. With
---decimals every JSON number is read, exactly, and printed as it stands, and a query may have such numbers.
+line, which are counted from 1 in each; blank lines are counted and hold none. With --documents they stand one
+behind another over any number of lines, as a configuration does, and are counted themselves. All
+numbers have to be whole, of 64 bits: a line with a fraction or an exponent is faulty. With --decimals every
+JSON number is read, exactly, and printed as it stands, and a query may have such numbers.
 
-OUTPUT is a line for each node that the query selects, in order: the number of the document's line, a tab,
-the node's normalized path, a tab, the node's value. No other tab stands in it: cut -f3 gives the values.
-With --output values a line is the value alone; with texts too, but a text stands without its quotes, and
-\\\" as \"; with raw a text stands as it is, line feeds and all; with lines it is the whole line of the
-input, once, if at least one node is selected in it.
+OUTPUT is a line for each node that the query selects, in order: the number of the document's line, or of the
+document, a tab, the node's normalized path, a tab, the node's value. No other tab stands in it: cut -f3 gives
+the values. Where two FILEs or more are named, or with --with-filename, the name of the line's file and a tab
+stand before it, - for standard input: then cut -f4 does. With --output values a line is the value alone; with
+texts too, but a text stands without its quotes, and \\\" as \"; with raw a text stands as it is, line feeds
+and all; with lines it is the whole line of the input, or the document, once, if at least one node is selected
+in it. None of these names its file.
+
+With --where FILTER only documents are answered of which FILTER is true: what may stand behind ? in
+$[?FILTER], where both @ and $ are the whole document.
 
 A QUERY that begins with - is given behind --. Beside the functions of RFC 9535 it may call two of our own:
 xor(A, B), exactly one of the two is true, and distinct(NODES), the nodes with each location once.
 
-The first faulty line ends the run. With --keep-going it gives a line of its own instead: its
-number, a tab, !, a tab, what is wrong with it. In the other forms it gives none, and is counted.
+The first faulty line, or document, ends the run. With --keep-going it gives a line of its own instead: its
+number, a tab, !, a tab, what is wrong with it, behind its file's name as a node's line. In the other forms it
+gives none, and is counted.
+A file that cannot be read ends the run too; with --keep-going those behind it are answered.
 
-Status: 0 finished; 1 finished, and nothing was selected, if --exit-status asks for it; 2 the query is
-refused; 3 a line is faulty; 4 reading or writing failed, or a limit was passed; 5 out of memory; 64 the
-command line is refused.
+Status: 0 finished; 1 finished, and nothing was selected, if --exit-status asks for it; 2 the query, or the
+filter, is refused; 3 a line, or a document, is faulty; 4 reading or writing failed, or a limit was passed; 5
+out of memory; 64 the command line is refused.
 
 Examples:
   jp '$.msg' app.log
+  jp -d --documents '$.service.port' service.json
+  jp -de --documents '$.service.user' service.json
   jp --output lines '$[?$.level==\"error\"]' app.log
   jp --output texts '$.msg' < app.log
+  jp --where '@.level==\"error\"' '$.msg' < app.log
   jp '$[?$.level==\"error\" && @==$.msg]' < app.log
   jp --workers 8 '$.items[?@.count > 10]' < orders.jsonl
   jp --check '$[?count(@.*) > 1]'
   jp --explain '$.id' < mixed.jsonl
-  tr '\\n' ' ' < service.json | jp '$.service.port'
-  user=$(tr '\\n' ' ' < service.json | jp --decimals '$.service.user') && test -n \"$user\"
   jp --keep-going '$.id' < log.jsonl | awk -F'\\t' '{ print > ($2 == \"!\" ? \"bad\" : \"good\") }'";
 
 /// What the command line asks for.
@@ -71,13 +81,15 @@ pub(crate) struct Wanted<'a> {
     pub(crate) query: &'a str,
     /// The names of the files, in the order of the words.
     pub(crate) files: Vec<&'a str>,
+    /// Whether lines of nodes, and those of faults, name their file.
+    pub(crate) names: bool,
     /// Only whether the query is accepted.
     pub(crate) check: bool,
     /// Whether the first faulty lines are to be explained.
     pub(crate) explain: bool,
     /// Whether the status is to tell that nothing was selected.
     pub(crate) exit_status: bool,
-    pub(crate) settings: Settings,
+    pub(crate) settings: Settings<'a>,
 }
 
 /// What the words ask for, the first of which is the program's name.
@@ -110,8 +122,9 @@ pub(crate) fn matches<'a>(alloc: Global, words: &'a [&'a str]) -> Result<ArgMatc
     ensures said { IfOk result (λ m. rows_of (found_of m) ≡ said (texts words.entry.now)) }
     ensures fault { FailsBy (refusals (texts words.entry.now)) result }
 {
-    let command = with_numbers(alloc, with_output(alloc, named(alloc)?)?)?;
-    let command = with_query(alloc, with_flags(alloc, command)?)?;
+    let command = with_filter(alloc, with_output(alloc, named(alloc)?)?)?;
+    let command = with_flags(alloc, with_numbers(alloc, command)?)?;
+    let command = with_query(alloc, command)?;
     command.try_get_matches_from(words)
 }
 
@@ -135,6 +148,13 @@ fn with_output<'a>(alloc: Global, command: Command<'a>) -> Result<Command<'a>, A
     command.arg(output(alloc))
 }
 
+/// The command, with the option that takes a filter of documents.
+fn with_filter<'a>(alloc: Global, command: Command<'a>) -> Result<Command<'a>, AllocError>
+    ensures { IfOk result (λ r. app_of r ≡ filter_option_of (app_of command.entry)) }
+{
+    command.arg(filter(alloc))
+}
+
 /// The command, with the options that take a number.
 fn with_numbers<'a>(alloc: Global, command: Command<'a>) -> Result<Command<'a>, AllocError>
     ensures { IfOk result (λ r. app_of r ≡ numbers_of (app_of command.entry)) }
@@ -148,22 +168,27 @@ fn with_numbers<'a>(alloc: Global, command: Command<'a>) -> Result<Command<'a>, 
 }
 
 /// The command, with the options that are there or not: whether the query is only checked, which numbers are
-/// read, whether faulty lines are passed, whether they are to be explained, and whether the status tells that
-/// nothing was selected.
+/// read, whether faulty lines are passed, whether they are to be explained, whether the status tells that
+/// nothing was selected, whether documents go over lines, and whether lines name their file.
 fn with_flags<'a>(alloc: Global, command: Command<'a>) -> Result<Command<'a>, AllocError>
     ensures { IfOk result (λ r. app_of r ≡ flags_of (app_of command.entry)) }
 {
     let check = "Read nothing, and say only whether QUERY is accepted";
     let decimals = "Read every JSON number, exactly, and print it as it stands \
         (default: whole numbers of 64 bits)";
-    let keep_going = "Write a line for each faulty line too, and go on";
+    let keep_going = "Write a line for each faulty line too, and go on, also past files that fail";
     let explain = "Say where a faulty line went wrong, in lines behind its fault";
     let exit_status = "End with 1 where nothing was selected";
+    let documents = "Read documents over any number of lines, one behind another";
+    let with_filename =
+        "Begin each line with its file's name, as where there are two files or more";
     let command = command.arg(flag(alloc, "check", check))?;
     let command = command.arg(lettered(alloc, "decimals", 'd', decimals))?;
     let command = command.arg(lettered(alloc, "keep-going", 'k', keep_going))?;
     let command = command.arg(flag(alloc, "explain", explain))?;
-    command.arg(lettered(alloc, "exit-status", 'e', exit_status))
+    let command = command.arg(lettered(alloc, "exit-status", 'e', exit_status))?;
+    let command = command.arg(flag(alloc, "documents", documents))?;
+    command.arg(flag(alloc, "with-filename", with_filename))
 }
 
 /// The command, with the query, and the files behind it.
@@ -185,6 +210,17 @@ fn output<'a>(alloc: Global) -> Arg<'a>
         .value_name("FORM")
         .default_value("nodes")
         .help("What is written: nodes, values, texts, raw or lines")
+}
+
+/// The option that takes a filter of documents.
+fn filter<'a>(alloc: Global) -> Arg<'a>
+    ensures rule { rule_of result ≡ filter_rule }
+    ensures local { result.global ≡ false }
+{
+    Arg::new(alloc, "where")
+        .long("where")
+        .value_name("FILTER")
+        .help("Answer only documents of which this is true, as @.level==\"error\"")
 }
 
 /// An option that takes a number.
@@ -261,21 +297,34 @@ fn wanted_of_files<'a>(matches: &ArgMatches<'a>, files: Vec<&'a str>) -> Option<
     ensures none { IsNone result → (w : Wish) → Says (rows_of (found_of matches.now)) w → ⊥ }
 {
     let query = matches.get_str("query")?;
+    let names = names_by(matches, &files)?;
     let output = output_by(matches)?;
     let check = flag_by(matches, "check")?;
     let decimals = flag_by(matches, "decimals")?;
     let keep_going = flag_by(matches, "keep-going")?;
     let explain = flag_by(matches, "explain")?;
     let exit_status = flag_by(matches, "exit-status")?;
-    let settings = settings_by(matches, output, decimals, keep_going)?;
+    let documents = flag_by(matches, "documents")?;
+    let settings = settings_by(matches, cutting_of(documents), output, decimals, keep_going)?;
     Some(Wanted {
         query,
         files,
+        names,
         check,
         explain,
         exit_status,
-        settings,
+        settings: settings.with_filter(matches.get_str("where")),
     })
+}
+
+/// Whether lines name their file, of these; none where that is not said.
+fn names_by(matches: &ArgMatches<'_>, files: &Vec<&str>) -> Option<bool>
+    ensures some { IfSome result (SaysNames (rows_of (found_of matches.now)) (texts files.now.items)) }
+    ensures none { IsNone result → (names : Bool)
+        → SaysNames (rows_of (found_of matches.now)) (texts files.now.items) names → ⊥ }
+{
+    let there = flag_by(matches, "with-filename")?;
+    Some(there || files.len() > 1)
 }
 
 /// The files that are named, in the order of the words; none where a name has a control character.
@@ -332,34 +381,77 @@ fn copied<'a>(alloc: Global, names: &[&'a str]) -> Result<Vec<&'a str>, AllocErr
     Ok(copy)
 }
 
+/// How input is cut, by whether documents go over lines.
+fn cutting_of(documents: bool) -> Cutting
+    ensures { documents ≡ cuts_documents result }
+{
+    if documents {
+        Cutting::Documents
+    } else {
+        Cutting::Lines
+    }
+}
+
 /// The settings; none where a number is out of its range.
 fn settings_by(
     matches: &ArgMatches<'_>,
+    cutting: Cutting,
     output: Output,
     decimals: bool,
     keep_going: bool,
-) -> Option<Settings>
+) -> Option<Settings<'static>>
     ensures some { IfSome result (λ s. AreSaid (rows_of (found_of matches.now)) s.workers s.piece s.batch) }
+    ensures cutting { IfSome result (λ s. s.cutting ≡ cutting) }
     ensures form { IfSome result (λ s. s.output ≡ output) }
     ensures decimals { IfSome result (λ s. s.decimals ≡ decimals) }
     ensures going { IfSome result (λ s. s.keeps_going ≡ keep_going) }
     ensures none { IsNone result → (w p b : ℕ) → AreSaid (rows_of (found_of matches.now)) w p b → ⊥ }
 {
+    let settings = sizes_by(matches)?;
+    Some(settings_with(settings, cutting, output, decimals, keep_going))
+}
+
+/// The settings of these numbers, all else as by default; none where a number is out of its range.
+fn sizes_by(matches: &ArgMatches<'_>) -> Option<Settings<'static>>
+    ensures some { IfSome result (λ s. AreSaid (rows_of (found_of matches.now)) s.workers s.piece s.batch) }
+    ensures whole { IfSome result (λ s. s.decimals ≡ false) }
+    ensures ends { IfSome result (λ s. s.keeps_going ≡ false) }
+    ensures none { IsNone result → (w p b : ℕ) → AreSaid (rows_of (found_of matches.now)) w p b → ⊥ }
+{
     let workers = number_by(matches, "workers")?;
     let piece = number_by(matches, "piece")?;
     let batch = number_by(matches, "batch")?;
-    let settings = Settings::new(workers, piece, batch).ok()?;
-    let settings = settings.with_output(output);
+    Settings::new(workers, piece, batch).ok()
+}
+
+/// The same settings, but for these, where the numbers are whole and the answer ends at a faulty line.
+fn settings_with(
+    settings: Settings<'static>,
+    cutting: Cutting,
+    output: Output,
+    decimals: bool,
+    keep_going: bool,
+) -> Settings<'static>
+    requires whole { settings.decimals ≡ false }
+    requires ends { settings.keeps_going ≡ false }
+    ensures same { (result.workers ≡ settings.entry.workers) × (result.piece ≡ settings.entry.piece)
+        × (result.batch ≡ settings.entry.batch) }
+    ensures cutting { result.cutting ≡ cutting }
+    ensures form { result.output ≡ output }
+    ensures decimals { result.decimals ≡ decimals }
+    ensures going { result.keeps_going ≡ keep_going }
+{
+    let settings = settings.with_cutting(cutting).with_output(output);
     let settings = if decimals {
         settings.with_decimals()
     } else {
         settings
     };
-    Some(if keep_going {
+    if keep_going {
         settings.keep_going()
     } else {
         settings
-    })
+    }
 }
 
 /// The form that is said; none where there is no such form.

@@ -1,17 +1,23 @@
-//! Worked examples of what command lines want.
+//! Worked examples of what command lines want, and of queries that the shell has split.
 
-ghost use Rattle.std.specs.Prelude.{[], ◌∷◌, true, false, codes};
+ghost use Rattle.std.specs.Prelude.{◌≡◌, [], ◌∷◌, true, false, codes};
+ghost use Rattle.jp_run.specs.declared.cutting.Cutting.TheVariants as Cutting;
 ghost use Rattle.jp_run.specs.declared.output.Output.TheVariants.{Nodes, Texts, Lines};
 ghost use Rattle.jp_program.specs.CommandLine.{AsksToShow, IsRefused};
+ghost use Rattle.jp_program.specs.Split.{looks_like_query, question, question_line};
 ghost use Rattle.jp_program.specs.Wanted.{Wants, IsWrong};
 
 /// Each option, in both of its forms, and a query that begins with `-`.
 fn all_options()
     ensures { Wants (codes "jp" ∷ codes "--workers" ∷ codes "8" ∷ codes "--piece=2" ∷ codes "--batch"
         ∷ codes "+10" ∷ codes "--check" ∷ codes "--decimals" ∷ codes "--keep-going" ∷ codes "--explain"
-        ∷ codes "--exit-status" ∷ codes "--output=texts" ∷ codes "--" ∷ codes "-q" ∷ []) (record {
+        ∷ codes "--exit-status" ∷ codes "--output=texts" ∷ codes "--documents" ∷ codes "--with-filename"
+        ∷ codes "--" ∷ codes "-q" ∷ []) (record {
           query = codes "-q";
+          filter = None;
           files = [];
+          names = true;
+          cutting = Cutting.Documents;
           check = true;
           output = Texts;
           decimals = true;
@@ -28,7 +34,10 @@ fn all_options()
 fn letters()
     ensures { Wants (codes "jp" ∷ codes "-kde" ∷ codes "-o" ∷ codes "texts" ∷ codes "$" ∷ []) (record {
       query = codes "$";
+      filter = None;
       files = [];
+      names = false;
+      cutting = Cutting.Lines;
       check = false;
       output = Texts;
       decimals = true;
@@ -41,11 +50,70 @@ fn letters()
     }) }
 {}
 
+/// A file alone: its name stands before no line, unless that is asked for.
+fn one_file()
+    ensures unnamed { Wants (codes "jp" ∷ codes "$" ∷ codes "x" ∷ []) (record {
+      query = codes "$";
+      filter = None;
+      files = codes "x" ∷ [];
+      names = false;
+      cutting = Cutting.Lines;
+      check = false;
+      output = Nodes;
+      decimals = false;
+      keeps_going = false;
+      explain = false;
+      exit_status = false;
+      workers = 4;
+      piece = 64;
+      batch = 4096;
+    }) }
+    ensures named { Wants (codes "jp" ∷ codes "--with-filename" ∷ codes "$" ∷ codes "x" ∷ []) (record {
+      query = codes "$";
+      filter = None;
+      files = codes "x" ∷ [];
+      names = true;
+      cutting = Cutting.Lines;
+      check = false;
+      output = Nodes;
+      decimals = false;
+      keeps_going = false;
+      explain = false;
+      exit_status = false;
+      workers = 4;
+      piece = 64;
+      batch = 4096;
+    }) }
+{}
+
+/// Two files: the name of each stands before its lines.
+fn two_files()
+    ensures { Wants (codes "jp" ∷ codes "$" ∷ codes "x" ∷ codes "y" ∷ []) (record {
+      query = codes "$";
+      filter = None;
+      files = codes "x" ∷ codes "y" ∷ [];
+      names = true;
+      cutting = Cutting.Lines;
+      check = false;
+      output = Nodes;
+      decimals = false;
+      keeps_going = false;
+      explain = false;
+      exit_status = false;
+      workers = 4;
+      piece = 64;
+      batch = 4096;
+    }) }
+{}
+
 /// Files behind the query, in the order of the words: one that stands twice is named twice.
 fn files()
     ensures { Wants (codes "jp" ∷ codes "$" ∷ codes "x" ∷ codes "-" ∷ codes "x" ∷ []) (record {
       query = codes "$";
+      filter = None;
       files = codes "x" ∷ codes "-" ∷ codes "x" ∷ [];
+      names = true;
+      cutting = Cutting.Lines;
       check = false;
       output = Nodes;
       decimals = false;
@@ -63,7 +131,10 @@ fn options_between_files()
     ensures { Wants (codes "jp" ∷ codes "-e" ∷ codes "$" ∷ codes "x" ∷ codes "-o" ∷ codes "lines" ∷ codes "y"
         ∷ codes "-k" ∷ codes "--" ∷ codes "-d" ∷ []) (record {
           query = codes "$";
+          filter = None;
           files = codes "x" ∷ codes "y" ∷ codes "-d" ∷ [];
+          names = true;
+          cutting = Cutting.Lines;
           check = false;
           output = Lines;
           decimals = false;
@@ -99,4 +170,23 @@ fn out_of_range()
     ensures form { IsWrong (codes "jp" ∷ codes "--output" ∷ codes "csv" ∷ codes "$" ∷ []) }
     ensures letters { IsWrong (codes "jp" ∷ codes "--output=Nodes" ∷ codes "$" ∷ []) }
     ensures name { IsWrong (codes "jp" ∷ codes "$" ∷ codes "x\n" ∷ []) }
+{}
+
+/// Names that look like parts of a query, and names that do not.
+fn parts_of_queries()
+    ensures operator { looks_like_query (codes "==") ≡ true }
+    ensures end { looks_like_query (codes "1]") ≡ true }
+    ensures middle { looks_like_query (codes "1].name") ≡ true }
+    ensures query_within { looks_like_query (codes "@.c") ≡ true }
+    ensures numbered { looks_like_query (codes "a[1].json") ≡ false }
+    ensures variable { looks_like_query (codes "$HOME.json") ≡ false }
+    ensures comparison { looks_like_query (codes "x==y") ≡ false }
+{}
+
+/// A query that the shell has split is asked for its quotes; one with a file is not, nor is a file before the
+/// query.
+fn split_queries()
+    ensures asked { question (codes "$.a[?@.b") (codes "==" ∷ codes "1]" ∷ []) ≡ question_line }
+    ensures unasked { question (codes "$.a[?@.b") (codes "a.json" ∷ []) ≡ [] }
+    ensures other_order { question (codes "a.json") (codes "$.a" ∷ []) ≡ [] }
 {}

@@ -1,23 +1,34 @@
-//! What is told of the file at which a run has ended.
+//! What is told of the file at which a run has ended, and of one that it has passed.
 
 ghost use Rattle.std.specs.Prelude.{◌≡◌, true};
 
-use crate::advice::looks_like_query;
 use crate::command::{note, note_text, tell};
 use crate::command_line::{Asked, read_words};
+use crate::split::{QUESTION, looks_like_query};
 use jp_explain::escaped;
-use jp_run::{RunFault, Sink};
-use std::alloc::Global;
+use jp_run::{Cutting, RunFault, Sink};
+use std::alloc::{AllocError, Global};
 
 /// What is known of the end of a run, beside its fault.
 #[derive(Drop)]
 pub(crate) struct RunEnd {
+    /// How the input is cut.
+    pub(crate) cutting: Cutting,
     /// Whether nobody reads any more what is written.
     pub(crate) lost_reader: bool,
     /// How many files were opened: the run ended at the last of them.
     pub(crate) opened: u64,
     /// Why that one could not be read, in the system's words.
     pub(crate) reason: Option<String>,
+    /// Whether files that cannot be read are passed: each was told as it came.
+    pub(crate) passes_files: bool,
+}
+
+impl RunEnd {
+    /// Whether this fault was told before the run has ended.
+    fn was_told(&self, fault: &RunFault) -> bool {
+        self.passes_files && matches!(fault, RunFault::Read)
+    }
 }
 
 /// A file's name, with escapes for a terminal, and whether it is one of several.
@@ -25,11 +36,13 @@ pub(crate) struct RunEnd {
 struct NamedFile {
     name: String,
     has_others: bool,
-    looks_like_query: bool,
+    /// Whether it looks like a part of a query.
+    asks_for_quotes: bool,
 }
 
 /// Tells the fault of a run in one line, which names the file at which it ended, if it is one of several. Of
-/// a file that could not be read a further line says why.
+/// a file that could not be read a further line says why. What was told of files that were passed is not told
+/// again.
 pub(crate) fn tell_of_run<N: Sink>(
     alloc: Global,
     notes: &mut N,
@@ -39,8 +52,11 @@ pub(crate) fn tell_of_run<N: Sink>(
 )
     ensures untouched { N.failed notes.old ≡ true → notes.new ≡ notes.old }
 {
+    if end.was_told(fault) {
+        return;
+    }
     let Ok(Some(file)) = file_at(alloc, words, end.opened) else {
-        tell(alloc, notes, fault);
+        note(notes, fault_line(alloc, fault, end.cutting, None));
         return;
     };
     match fault {
@@ -49,10 +65,50 @@ pub(crate) fn tell_of_run<N: Sink>(
             tell_reason(alloc, notes, &file, &end.reason);
         }
         RunFault::Document { .. } | RunFault::Limit if file.has_others => {
-            let name = file.name.as_str();
-            note(notes, format!(in alloc; "jp: {name}: {fault}\n"));
+            let name = Some(file.name.as_str());
+            note(notes, fault_line(alloc, fault, end.cutting, name));
         }
-        _ => tell(alloc, notes, fault),
+        _ => note(notes, fault_line(alloc, fault, end.cutting, None)),
+    }
+}
+
+/// The line that tells a fault, with the name of its file, if that is given. A document over lines is told by
+/// its own number.
+fn fault_line(
+    alloc: Global,
+    fault: &RunFault,
+    cutting: Cutting,
+    name: Option<&str>,
+) -> Result<String, AllocError> {
+    let words = match (cutting, fault) {
+        (Cutting::Documents, RunFault::Document { line, fault }) => {
+            format!(in alloc; "document {line}: {fault}")?
+        }
+        _ => format!(in alloc; "{fault}")?,
+    };
+    match name {
+        Some(name) => format!(in alloc; "jp: {name}: {words}\n"),
+        None => format!(in alloc; "jp: {words}\n"),
+    }
+}
+
+/// Tells that a file could not be read, and was passed: the fault with the first one alone, and of each its
+/// name and why.
+pub(crate) fn tell_failed_file<N: Sink>(
+    alloc: Global,
+    notes: &mut N,
+    name: &str,
+    reason: &Option<String>,
+    is_first: bool,
+)
+    ensures untouched { N.failed notes.old ≡ true → notes.new ≡ notes.old }
+{
+    if is_first {
+        tell(alloc, notes, &RunFault::Read);
+    }
+    match named(alloc, name, true) {
+        Ok(file) => tell_reason(alloc, notes, &file, reason),
+        Err(_) => note_text(notes, "jp: memory\n"),
     }
 }
 
@@ -65,8 +121,8 @@ fn tell_reason<N: Sink>(alloc: Global, notes: &mut N, file: &NamedFile, reason: 
         Some(reason) => note(notes, format!(in alloc; "jp: {name}: {reason}\n")),
         None => note(notes, format!(in alloc; "jp: {name}\n")),
     }
-    if file.looks_like_query {
-        note_text(notes, "jp: is the query in single quotes?\n");
+    if file.asks_for_quotes {
+        note_text(notes, QUESTION);
     }
 }
 
@@ -79,11 +135,16 @@ fn file_at(alloc: Global, words: &[&str], opened: u64) -> Result<Option<NamedFil
         return Ok(None);
     };
     match wanted.files.get(last as usize) {
-        Some(name) => Ok(Some(NamedFile {
-            name: escaped(alloc, name)?,
-            has_others: wanted.files.len() > 1,
-            looks_like_query: looks_like_query(name),
-        })),
+        Some(name) => Ok(Some(named(alloc, name, wanted.files.len() > 1)?)),
         None => Ok(None),
     }
+}
+
+/// A file by its name.
+fn named(alloc: Global, name: &str, has_others: bool) -> Result<NamedFile, AllocError> {
+    Ok(NamedFile {
+        name: escaped(alloc, name)?,
+        has_others,
+        asks_for_quotes: looks_like_query(name),
+    })
 }

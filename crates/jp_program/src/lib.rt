@@ -7,10 +7,13 @@ mod command_line;
 mod each;
 mod examples;
 mod file_notes;
+mod filter_advice;
 mod inputs;
 mod laws;
 mod output;
 mod pattern_notes;
+mod split;
+mod turn;
 mod version;
 mod witness;
 

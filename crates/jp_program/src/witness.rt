@@ -5,13 +5,16 @@ ghost use Rattle.jp_run.specs.Status.{status_of};
 
 use crate::command::note_text;
 use jp_doc::DocFault;
-use jp_explain::{LineExplanation, explain_line, line_help, write_line_mark};
-use jp_run::{Gate, RunFault, Sink};
+use jp_explain::{
+    LineExplanation, document_help, escaped, explain_line, line_help, write_document_mark,
+    write_line_mark,
+};
+use jp_run::{Cutting, Gate, RunFault, Sink};
 use once_cell::race::OnceBox;
 use std::alloc::{AllocError, Global};
 
-/// A gate that keeps a text of each of the first ten faulty lines, where they are to be explained, and else
-/// sees the one at which the run ends.
+/// What keeps a text of each of the first ten faulty lines, where they are to be explained, and else sees the
+/// one at which the run ends.
 #[derive(Drop)]
 pub(crate) struct Witness {
     pub(crate) is_asked: bool,
@@ -19,8 +22,12 @@ pub(crate) struct Witness {
     pub(crate) keeps_going: bool,
     /// Whether lines are read with decimals.
     pub(crate) has_decimals: bool,
+    /// How the input is cut: documents over lines are told by their own numbers.
+    pub(crate) cutting: Cutting,
     /// Whether the status is to tell that nothing is selected.
     pub(crate) tells_nothing: bool,
+    /// Whether the run goes on past files that cannot be read.
+    pub(crate) passes_files: bool,
     /// The line of what helps with the first faulty line, if that is known, once one was seen.
     help: OnceBox<Option<String>>,
     texts: [OnceBox<String>; 10],
@@ -30,14 +37,28 @@ pub(crate) struct Witness {
 fn help_of(
     alloc: Global,
     explanation: &Option<LineExplanation>,
+    cutting: Cutting,
 ) -> Result<Option<String>, AllocError> {
     let Some(explanation) = explanation else {
         return Ok(None);
     };
-    match line_help(&explanation.reason) {
+    let help = match cutting {
+        Cutting::Lines => line_help(&explanation.reason),
+        Cutting::Documents => document_help(&explanation.reason),
+    };
+    match help {
         Some(help) => Ok(Some(format!(in alloc; "jp: {help}\n")?)),
         None => Ok(None),
     }
+}
+
+/// A text behind a file's name, with escapes for a terminal, if a name is given.
+fn behind_name(alloc: Global, name: Option<&str>, text: String) -> Result<String, AllocError> {
+    let Some(name) = name else {
+        return Ok(text);
+    };
+    let name = escaped(alloc, name)?;
+    format!(in alloc; "{name}: {text}")
 }
 
 impl Witness {
@@ -49,7 +70,9 @@ impl Witness {
             is_asked: false,
             keeps_going: false,
             has_decimals: false,
+            cutting: Cutting::Lines,
             tells_nothing: false,
+            passes_files: false,
             help: OnceBox::new(alloc),
             texts: [
                 OnceBox::new(alloc),
@@ -71,40 +94,71 @@ impl Witness {
         self.texts.iter().find(|place| place.get().is_none())
     }
 
-    /// Keeps what there is to say of a faulty line.
-    fn keep(
+    /// Whether it is to be told of further faulty lines.
+    fn wants_faulty(&self) -> bool {
+        if self.is_asked {
+            self.place().is_some()
+        } else {
+            !self.keeps_going && self.help.get().is_none()
+        }
+    }
+
+    /// What there is to say of a faulty line where it is to be explained.
+    fn text_of(
         &self,
         alloc: Global,
         number: u64,
         line: &[u8],
         fault: &DocFault,
+        explanation: &Option<LineExplanation>,
+    ) -> Result<String, AllocError> {
+        match (self.cutting, explanation) {
+            (Cutting::Lines, Some(told)) => write_line_mark(alloc, number, line, told),
+            (Cutting::Documents, Some(told)) => write_document_mark(alloc, number, line, told),
+            (Cutting::Lines, None) => format!(in alloc; "line {number}: {fault}\n"),
+            (Cutting::Documents, None) => format!(in alloc; "document {number}: {fault}\n"),
+        }
+    }
+
+    /// Keeps what there is to say of a faulty line, behind the name of its file, if that is given.
+    fn keep(
+        &self,
+        alloc: Global,
+        name: Option<&str>,
+        number: u64,
+        line: &[u8],
+        fault: &DocFault,
     ) -> Result<(), AllocError> {
         let explanation = explain_line(alloc, line, fault, self.has_decimals)?;
-        let _ = self
-            .help
-            .set(Box::new(alloc, help_of(alloc, &explanation)?)?);
+        let _ = self.help.set(Box::new(alloc, help_of(alloc, &explanation, self.cutting)?)?);
         if !self.is_asked {
             return Ok(());
         }
-        let text = match explanation {
-            Some(explanation) => write_line_mark(alloc, number, line, &explanation)?,
-            None => format!(in alloc; "line {number}: {fault}\n")?,
-        };
+        let text = self.text_of(alloc, number, line, fault, &explanation)?;
         if let Some(place) = self.place() {
-            let _ = place.set(Box::new(alloc, text)?);
+            let _ = place.set(Box::new(alloc, behind_name(alloc, name, text)?)?);
         }
         Ok(())
     }
 
-    /// Writes what helps, and the texts, behind the fault of a line. Behind another fault no line is told,
-    /// and so no place.
+    /// Writes what helps, and the texts, behind the fault of a line, and the texts behind files that were
+    /// passed, since the faulty lines are told there too. Behind another fault no line is told, and so no
+    /// place.
     pub(crate) fn tell_behind<N: Sink>(&self, notes: &mut N, fault: &RunFault)
         ensures untouched { N.failed notes.old ≡ true → notes.new ≡ notes.old }
         ensures other { status_of fault.now ≡ 2 → notes.new ≡ notes.old }
     {
-        let RunFault::Document { .. } = fault else {
-            return;
-        };
+        match fault {
+            RunFault::Document { .. } => self.tell_help(notes),
+            RunFault::Read if self.passes_files => self.tell(notes),
+            _ => {}
+        }
+    }
+
+    /// Writes the texts, or what helps, where there are none.
+    fn tell_help<N: Sink>(&self, notes: &mut N)
+        ensures untouched { N.failed notes.old ≡ true → notes.new ≡ notes.old }
+    {
         if self.texts[0].get().is_some() {
             // They say what helps too.
             self.tell(notes);
@@ -128,19 +182,23 @@ impl Witness {
     }
 }
 
-impl Gate for Witness {
+/// A witness of the faulty lines of one file, or of standard input.
+#[derive(Drop)]
+pub(crate) struct NamedWitness<'w, 'n> {
+    pub(crate) witness: &'w Witness,
+    /// The name of the file, where its lines are to be told with it.
+    pub(crate) name: Option<&'n str>,
+}
+
+impl Gate for NamedWitness<'_, '_> {
     fn pass(&self, _piece: u64) {}
 
     fn wants_faulty(&self) -> bool {
-        if self.is_asked {
-            self.place().is_some()
-        } else {
-            !self.keeps_going && self.help.get().is_none()
-        }
+        self.witness.wants_faulty()
     }
 
     fn faulty(&self, alloc: Global, number: u64, line: &[u8], fault: &DocFault) {
         // Where memory for it is refused there is none, as for each note.
-        let _ = self.keep(alloc, number, line, fault);
+        let _ = self.witness.keep(alloc, self.name, number, line, fault);
     }
 }

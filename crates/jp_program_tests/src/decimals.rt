@@ -17,7 +17,7 @@ fn every_number_is_read(rt: HostRuntime) {
             "$.a",
         ];
         let notes = b"jp: line 2: unreadable\n\
-            jp: one document on several lines? tr '\\n' ' ' < FILE | jp ..\n";
+            jp: a document over several lines? --documents reads it\n";
         assert!(rt; leaves(&rt, &words, INPUT, 3, b"1\t$['a']\t2.5\n", notes));
         let words = [
             "jp",

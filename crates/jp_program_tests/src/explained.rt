@@ -41,7 +41,7 @@ fn the_first_faulty_line_is_explained(rt: HostRuntime) {
 const BOTH: &[u8] = b"line 2, $['a'][1]: 0.5 is not whole\n{\"a\":[2,0.5]}\n        ^\n\
     --decimals reads such a number\n\
     line 4, byte 5: the line ends: expected a value\n{\"a\":\n     ^\n\
-    one document on several lines? tr '\\n' ' ' < FILE | jp ..\n";
+    a document over several lines? --documents reads it\n";
 
 #[test]
 fn faulty_lines_that_are_passed_are_explained(rt: HostRuntime) {

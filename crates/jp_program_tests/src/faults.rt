@@ -13,7 +13,7 @@ use std::thread::Threads;
 fn a_faulty_line_is_told(rt: HostRuntime) {
     let output = b"1\t$['a']\t1\n";
     let notes = b"jp: line 2: unreadable\n\
-        jp: one document on several lines? tr '\\n' ' ' < FILE | jp ..\n";
+        jp: a document over several lines? --documents reads it\n";
     assert!(rt; leaves(&rt, &["jp", "$.a"], b"{\"a\":1}\n{\n", 3, output, notes));
 }
 

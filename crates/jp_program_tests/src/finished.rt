@@ -120,6 +120,8 @@ each FILE in turn
 1 to 1000000
 numbers have to be whole
 cut -f3
+--with-filename
+cut -f4
 RFC 9535
 xor(A, B)
 distinct(NODES)

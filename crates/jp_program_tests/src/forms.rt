@@ -87,7 +87,7 @@ fn faulty_lines_are_counted_in_each_form(rt: HostRuntime) {
                 "$.a",
             ];
             let notes = b"jp: line 2: unreadable\n\
-                jp: one document on several lines? tr '\\n' ' ' < FILE | jp ..\n";
+                jp: a document over several lines? --documents reads it\n";
             assert!(rt; leaves(&rt, &words, FAULTY, 3, stopping, notes), "{form}");
             let words = [
                 "jp",

@@ -6,11 +6,17 @@ mod bookstore;
 #[cfg(test)]
 mod decimals;
 #[cfg(test)]
+mod documents;
+#[cfg(test)]
 mod explained;
+#[cfg(test)]
+mod explained_files;
 #[cfg(test)]
 mod faults;
 #[cfg(test)]
 mod files;
+#[cfg(test)]
+mod filters;
 #[cfg(test)]
 mod finished;
 #[cfg(test)]
@@ -27,3 +33,5 @@ mod running;
 mod settings;
 #[cfg(test)]
 mod shelf;
+#[cfg(test)]
+mod split;

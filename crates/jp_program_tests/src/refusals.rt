@@ -3,7 +3,7 @@
 //! A turn says whether the answer was right, or nothing where it was want of memory. Each is made twice: one
 //! growth is refused at most, so one of the two answers.
 
-use crate::shelf::{Shelf, in_memory};
+use crate::shelf::{HeldFile, Shelf, in_memory};
 use jp_program::program;
 use jp_run::FromWriter;
 use std::alloc::AllocGlobal;
@@ -119,7 +119,7 @@ fn explained_line<R: Threads + AllocGlobal + Sync>(rt: &R) -> Option<bool> {
         // The line of the fault itself wanted memory.
         3 if notes.starts_with(b"jp: memory\n") => None,
         // The text of the place wanted memory.
-        3 if notes.starts_with(b"jp: line 1: unreadable\njp: one document on several lines? ") =>
+        3 if notes.starts_with(b"jp: line 1: unreadable\njp: a document over several lines? ") =>
             None,
         3 if notes.starts_with(b"jp: line 1: unreadable\nline 1, byte 1: the line ends") => {
             Some(output == [0u8; ROOM])
@@ -132,5 +132,47 @@ fn explained_line<R: Threads + AllocGlobal + Sync>(rt: &R) -> Option<bool> {
 #[test]
 fn an_explained_line(rt: HostRuntime) {
     let turns = (explained_line(&rt), explained_line(&rt));
+    assert!(rt; matches!(turns, (Some(true), Some(true) | None) | (None, Some(true))));
+}
+
+/// A file that cannot be opened is passed, and the one behind it is answered.
+fn passed<R: Threads + AllocGlobal + Sync>(rt: &R) -> Option<bool> {
+    let files = [HeldFile {
+        name: "a",
+        bytes: b"{\"a\":1}\n",
+        opens: true,
+        reads: u64::MAX,
+    }];
+    let input: &[u8] = b"";
+    let (mut output, mut notes) = ([0u8; ROOM], [0u8; LONG_ROOM]);
+    let mut source = in_memory(input);
+    let mut sink = FromWriter::new(output.as_mut_slice());
+    let mut told = FromWriter::new(notes.as_mut_slice());
+    let mut shelf = Shelf::new(&files);
+    let words = ["jp", "-k", "--workers=1", "$.a", "shut", "a"];
+    let status = program(rt, &words, &mut shelf, &mut source, &mut sink, &mut told);
+    let is_answered = output.starts_with(b"a\t1\t$['a']\t1\n\0");
+    match status {
+        4 if notes.starts_with(b"jp: read\njp: shut: it is not on the shelf\n\0") => {
+            Some(is_answered)
+        }
+        // The reason wanted memory, or its line did.
+        4 if notes.starts_with(b"jp: read\njp: shut\n\0") && is_answered => None,
+        4 if notes.starts_with(b"jp: read\njp: memory\n\0") && is_answered => None,
+        // So did the line of the fault.
+        4
+            if notes.starts_with(b"jp: memory\njp: shut: it is not on the shelf\n\0")
+                && is_answered => { None }
+        5 if notes.starts_with(b"jp: memory\n\0") => None,
+        5 if notes.starts_with(b"jp: read\njp: shut: it is not on the shelf\njp: memory\n\0") => {
+            None
+        }
+        _ => Some(false),
+    }
+}
+
+#[test]
+fn a_passed_file(rt: HostRuntime) {
+    let turns = (passed(&rt), passed(&rt));
     assert!(rt; matches!(turns, (Some(true), Some(true) | None) | (None, Some(true))));
 }

@@ -1,10 +1,15 @@
 -- A working file, which nobody has to believe: what is read of the words, for private clauses alone.
-use Rattle.std.specs.Prelude.{◌≡◌, ◌⊎◌, List}
+use Rattle.std.specs.Prelude.{◌≡◌, ◌⊎◌, List, option_map}
 use Rattle.std.specs.Str.{chars}
 use Rattle.clap.specs.Walk.{Text, texts}
+use Rattle.jp_run.specs.Answered.{numbers_of}
+use Rattle.jp_run.specs.AskedTexts.{AreAcceptedIn}
+use Rattle.jp_run.specs.Prepared.{prepared_query}
 use Rattle.jp_run.specs.declared.fault.RunFault.{RunFault}
 use Rattle.jp_run.specs.declared.fault.RunFault.TheVariants.{Memory, Settings}
+use Rattle.jp_run.specs.declared.prepared.Prepared.{Prepared}
 use Rattle.jp_program.specs.CommandLine.{AsksToShow}
+use Rattle.jp_program.specs.Outcome.{asked_in}
 use Rattle.jp_program.specs.Wanted.{Wanted, Wants, IsWrong}
 use Rattle.jp_program.specs.declared.command_line.Asked.{Asked}
 use Rattle.jp_program.specs.declared.command_line.Asked.TheVariants.{Show, Query}
@@ -14,7 +19,10 @@ use Rattle.jp_program.specs.declared.command_line.Wanted as code
 abbrev pub wanted_of : code.Wanted → Wanted
 wanted_of w = record {
   query = chars w.query.now;
+  filter = option_map (λ f. chars f.now) w.settings.filter;
   files = texts w.files.items;
+  names = w.names;
+  cutting = w.settings.cutting;
   check = w.check;
   output = w.settings.output;
   decimals = w.settings.decimals;
@@ -25,6 +33,10 @@ wanted_of w = record {
   piece = w.settings.piece;
   batch = w.settings.batch;
 }
+
+-- this is what was prepared of the wanted texts, by the wanted numbers
+abbrev pub IsPrepared : code.Wanted → Prepared → Type 0
+IsPrepared w p = AreAcceptedIn (numbers_of w.settings.decimals) (asked_in (wanted_of w)) (prepared_query p)
 
 -- what is asked for is what the words ask for
 abbrev pub IsAsked : List Text → Asked → Type 0

@@ -1,58 +1,47 @@
 -- A working file, which nobody has to believe: how a run ended, for private clauses alone.
-use Rattle.std.specs.Prelude.{◌≡◌, ℕ, ◌⊎◌, false, List, Option, Some, Err}
+use Rattle.std.specs.Prelude.{◌≡◌, ℕ, ◌⊎◌, true, false, List, Option, Some}
 use Rattle.clap.specs.Walk.{Text}
-use Rattle.jp_check.specs.Verdict.{IsVerdictIn}
-use Rattle.jp_run.specs.Answered.{numbers_of}
 use Rattle.jp_run.specs.declared.fault.RunFault.{RunFault}
-use Rattle.jp_run.specs.declared.fault.RunFault.TheVariants.{Query, Document, Read, Write, Limit}
+use Rattle.jp_run.specs.declared.fault.RunFault.TheVariants.{Query, Filter, Document, Read, Write, Limit}
 use Rattle.jp_run.specs.declared.fault.RunFault.TheVariants.{Memory, Settings}
-use Rattle.jp_program.specs.Inputs.{Input, EndsIn}
-use Rattle.jp_program.specs.Outcome.{Left, IsAnswered, IsWhole, IsFront, HasFailed, reads_before}
+use Rattle.jp_program.specs.Inputs.{Course, EndsAt, EndsIn, Held, Input}
+use Rattle.jp_program.specs.Outcome.{AreAllReads, AreFailed, AreTooManyLines, HasGoneOn, IsAnswered}
+use Rattle.jp_program.specs.Outcome.{IsCutShort, IsFront, IsRefusedWish, IsWholeOrCut, Left}
 use Rattle.jp_program.specs.Wanted.{Wanted, WantsRun}
 
 -- the run over an input ended so
 abbrev pub RunEnded : Wanted → Left → RunFault → Input → Option (List ℕ) → Option (List ℕ) → Type 0
 RunEnded w e (Document line fault) input old new = IsAnswered w (Some (line, fault)) input old new
-RunEnded w e Read input old new = HasFailed w e input old new
-RunEnded w e Write input old new = HasFailed w e input old new
-RunEnded w e Limit input old new = HasFailed w e input old new
+RunEnded w e Read input old new = IsFront w input old new
+    × IsCutShort w e.source_failed input e.rest old new
+RunEnded w e Write input old new = IsFront w input old new × (e.sink_failed ≡ true)
+RunEnded w e Limit input old new = IsFront w input old new
+    × (AreAllReads e.reads e.reads_new ⊎ AreTooManyLines w input.1 e.rest)
 RunEnded w e Memory input old new = IsFront w input old new
-RunEnded w e (Query fault) input old new = IsVerdictIn (numbers_of w.decimals) w.query (Err fault)
+RunEnded w e (Query fault) input old new = IsRefusedWish w (Query fault)
+RunEnded w e (Filter fault) input old new = IsRefusedWish w (Filter fault)
 RunEnded w e Settings input old new = ⊥
 
--- what the inputs hold, how many were opened before and are now, and what was written before and is now
-pub record Course : Type 0 where
-  pub holds : Text → Input
-  pub first : Input
-  pub opens : ℕ
-  pub opens_new : ℕ
-  pub contents : Option (List ℕ)
-  pub contents_new : Option (List ℕ)
+-- the run over files ended so at one of them, which is none that the answer goes on past, or behind them all
+abbrev pub FilesEnded : Wanted → Left → List Input → Course → RunFault → Type 0
+FilesEnded w e inputs c fault = ((w.keeps_going ≡ true → fault ≡ Read → ⊥)
+    × EndsAt (IsWholeOrCut w) (RunEnded w e fault) inputs c)
+    ⊎ ((fault ≡ Read) × HasGoneOn w e.source_failed inputs c)
 
--- a run was wanted, and this was done with the input at which it ended
-abbrev pub EndsSo : List Text → Course → (Wanted → Input → Option (List ℕ) → Option (List ℕ) → Type 0)
-    → Type 0
-EndsSo words c Ended = (w : Wanted) × WantsRun words w
-    × EndsIn (IsWhole w) (Ended w) w.files c.holds c.first c.opens c.opens_new c.contents c.contents_new
-
--- the same of what is left, of an input that may be a file
-abbrev pub left_of : Wanted → Left → Left
-left_of w e = record {
-  rest = e.rest;
-  reads = reads_before w.files e.reads;
-  reads_new = e.reads_new;
-  source_failed = e.source_failed;
-  sink_failed = e.sink_failed;
-}
+-- a run was wanted, and it ended so
+abbrev pub EndsSo : List Text → (Wanted → Type 0) → Type 0
+EndsSo words Ended = (w : Wanted) × WantsRun words w × Ended w
 
 -- all ended so, or in want of memory before anything was done; another clause speaks of what is refused
-abbrev pub HasEnded : List Text → Course → Left → Type 0 → RunFault → Type 0
-HasEnded words c e Undone (Document line fault) = (w : Wanted) × WantsRun words w × (w.keeps_going ≡ false)
-    × EndsIn (IsWhole w) (IsAnswered w (Some (line, fault))) w.files c.holds c.first c.opens c.opens_new
-    c.contents c.contents_new
-HasEnded words c e Undone Read = EndsSo words c (λ w. HasFailed w (left_of w e))
-HasEnded words c e Undone Write = EndsSo words c (λ w. HasFailed w (left_of w e))
-HasEnded words c e Undone Limit = EndsSo words c (λ w. HasFailed w (left_of w e))
-HasEnded words c e Undone Memory = Undone ⊎ EndsSo words c IsFront
-HasEnded words c e Undone (Query fault) = Unit {0}
-HasEnded words c e Undone Settings = Unit {0}
+abbrev pub HasEnded : List Text → (Text → Held) → Held → Course → Left → Type 0 → RunFault → Type 0
+HasEnded words holds first c e Undone (Document line fault) = (w : Wanted) × WantsRun words w
+    × (w.keeps_going ≡ false)
+    × EndsIn (IsWholeOrCut w) (IsAnswered w (Some (line, fault))) w.files holds first c
+HasEnded words holds first c e Undone Read = EndsSo words (λ w. AreFailed w e holds first c)
+HasEnded words holds first c e Undone Write = EndsSo words (λ w. AreFailed w e holds first c)
+HasEnded words holds first c e Undone Limit = EndsSo words (λ w. AreFailed w e holds first c)
+HasEnded words holds first c e Undone Memory = Undone
+    ⊎ EndsSo words (λ w. EndsIn (IsWholeOrCut w) (IsFront w) w.files holds first c)
+HasEnded words holds first c e Undone (Query fault) = Unit {0}
+HasEnded words holds first c e Undone (Filter fault) = Unit {0}
+HasEnded words holds first c e Undone Settings = Unit {0}

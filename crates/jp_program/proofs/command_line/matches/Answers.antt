@@ -6,8 +6,8 @@ use Rattle.clap.specs.Words.{is_simple_and_free, FailsBy, HasMatchesOf}
 use Rattle.clap.specs.declared.parser.matches.ArgMatches.{ArgMatches}
 use Rattle.clap.specs.declared.error.Error.{Error}
 use Rattle.clap.proofs.OnLiterals.{clap_on_literals}
-use Rattle.jp_program.specs.CommandLine.{jp_app, said, refusals, with_output, with_numbers, with_flags}
-use Rattle.jp_program.specs.CommandLine.{with_query}
+use Rattle.jp_program.specs.CommandLine.{jp_app, said, refusals, with_filter, with_output, with_numbers}
+use Rattle.jp_program.specs.CommandLine.{with_flags, with_query}
 use Rattle.jp_program.proofs.command_line.matches.Goals as goal
 
 simple : is_simple jp_app ≡ true
@@ -31,20 +31,22 @@ pub returns-clause-said : goal.returns-clause-said
 unfolding said
 returns-clause-said c =
     let output_is = c.in_ok-with_output.ensures ∙ ap with_output c.in_ok-named.ensures in
-    let numbers_are = c.in_ok-command.ensures ∙ ap with_numbers output_is in
-    let flags_are = c.in_ok-with_flags.ensures ∙ ap with_flags numbers_are in
-    let app_is : app_of c.in_ok-command-2.command ≡ jp_app =
-    c.in_ok-command-2.ensures ∙ ap with_query flags_are in
-    rows_are (app_of c.in_ok-command-2.command) jp_app (map (λ s. s.now) c.args.words.now)
+    let filter_is = c.in_ok-command.ensures ∙ ap with_filter output_is in
+    let numbers_are = c.in_ok-with_numbers.ensures ∙ ap with_numbers filter_is in
+    let flags_are = c.in_ok-command-2.ensures ∙ ap with_flags numbers_are in
+    let app_is : app_of c.in_ok-command-3.command ≡ jp_app =
+    c.in_ok-command-3.ensures ∙ ap with_query flags_are in
+    rows_are (app_of c.in_ok-command-3.command) jp_app (map (λ s. s.now) c.args.words.now)
     c.try_get_matches_from.result app_is simple c.try_get_matches_from.ensures.matches
 
 pub returns-clause-fault : goal.returns-clause-fault
 unfolding refusals
 returns-clause-fault c =
     let output_is = c.in_ok-with_output.ensures ∙ ap with_output c.in_ok-named.ensures in
-    let numbers_are = c.in_ok-command.ensures ∙ ap with_numbers output_is in
-    let flags_are = c.in_ok-with_flags.ensures ∙ ap with_flags numbers_are in
-    let app_is : app_of c.in_ok-command-2.command ≡ jp_app =
-    c.in_ok-command-2.ensures ∙ ap with_query flags_are in
-    fails_so (app_of c.in_ok-command-2.command) jp_app (map (λ s. s.now) c.args.words.now)
+    let filter_is = c.in_ok-command.ensures ∙ ap with_filter output_is in
+    let numbers_are = c.in_ok-with_numbers.ensures ∙ ap with_numbers filter_is in
+    let flags_are = c.in_ok-command-2.ensures ∙ ap with_flags numbers_are in
+    let app_is : app_of c.in_ok-command-3.command ≡ jp_app =
+    c.in_ok-command-3.ensures ∙ ap with_query flags_are in
+    fails_so (app_of c.in_ok-command-3.command) jp_app (map (λ s. s.now) c.args.words.now)
     c.try_get_matches_from.result app_is free c.try_get_matches_from.ensures.kinds

@@ -1,8 +1,9 @@
 use Rattle.std.proofs.Common.{◌∙◌, codes, option_map, ap, sym, refl, subst}
+use Rattle.std.specs.Str.{chars}
 use Rattle.clap.specs.Words.{found_of, rows_of, first_value}
 use Rattle.clap.proofs.WalkLemmas.{first_value-rows}
-use Rattle.jp_program.specs.Wanted.{SaysFlag, SaysOutput}
-use Rattle.jp_program.proofs.Saying.{query_some, query_none}
+use Rattle.jp_program.specs.Wanted.{SaysCutting, SaysFilter, SaysFlag, SaysNames, SaysOutput}
+use Rattle.jp_program.proofs.Saying.{cutting_said, filter_said, query_some, query_none, sizes_kept}
 use Rattle.jp_program.proofs.command_line.wanted_of_files.Goals as goal
 
 pub returns-in_err-query-clause-none : goal.returns-in_err-query-clause-none
@@ -12,6 +13,11 @@ returns-in_err-query-clause-none c = λ h w s.
     (first_value-rows found (codes "query"))
     (sym c.get_str.ensures ∙ ap (option_map (λ s. s.now)) (c.in_err-query.was)) w.query s.query
 
+pub returns-in_err-names-clause-none : goal.returns-in_err-names-clause-none
+returns-in_err-names-clause-none c = λ h w s. c.in_err-names.ensures.none refl w.names
+    (subst (λ fs. SaysNames (rows_of (found_of c.args.matches.now)) fs w.names)
+    (sym s.files.0 ∙ c.requires.said.0) s.names)
+
 pub returns-in_err-settings-clause-none : goal.returns-in_err-settings-clause-none
 returns-in_err-settings-clause-none c = λ h w s.
     c.in_err-settings.ensures.none refl w.workers w.piece w.batch s.settings
@@ -19,19 +25,28 @@ returns-in_err-settings-clause-none c = λ h w s.
 pub returns-clause-some : goal.returns-clause-some
 returns-clause-some c =
     let found = found_of c.args.matches.now in
+    let kept = c.with_filter.ensures.same in
     record {
       query = query_some (codes "query") (rows_of found) (first_value found (codes "query"))
           (first_value-rows found (codes "query")) c.in_ok-query.query.now
           (sym c.get_str.ensures ∙ ap (option_map (λ s. s.now)) (c.in_ok-query.was));
+      filter = subst (λ r. SaysFilter (rows_of found) (option_map (λ f. chars f.now) r))
+          (sym c.with_filter.ensures.filter) (filter_said (rows_of found) (first_value found (codes "where"))
+          (first_value-rows found (codes "where")) c.get_str-2.result c.get_str-2.ensures);
       files = c.requires.said;
+      names = c.in_ok-names.ensures.some;
+      cutting = subst (SaysCutting (rows_of found)) (sym (kept.7 ∙ c.in_ok-settings.ensures.cutting))
+          (cutting_said (rows_of found) _ _ c.in_ok-documents.ensures.some c.cutting_of.ensures);
       check = c.in_ok-check.ensures.some;
-      output = subst (SaysOutput (rows_of found)) (sym c.in_ok-settings.ensures.form)
+      output = subst (SaysOutput (rows_of found)) (sym (kept.5 ∙ c.in_ok-settings.ensures.form))
           c.in_ok-output.ensures.some;
-      decimals = subst (SaysFlag (codes "decimals") (rows_of found)) (sym c.in_ok-settings.ensures.decimals)
+      decimals = subst (SaysFlag (codes "decimals") (rows_of found))
+          (sym (kept.4 ∙ c.in_ok-settings.ensures.decimals))
           c.in_ok-decimals.ensures.some;
-      keeps_going = subst (SaysFlag (codes "keep-going") (rows_of found)) (sym c.in_ok-settings.ensures.going)
+      keeps_going = subst (SaysFlag (codes "keep-going") (rows_of found))
+          (sym (kept.3 ∙ c.in_ok-settings.ensures.going))
           c.in_ok-keep_going.ensures.some;
       explain = c.in_ok-explain.ensures.some;
       exit_status = c.in_ok-exit_status.ensures.some;
-      settings = c.in_ok-settings.ensures.some;
+      settings = sizes_kept (rows_of found) _ _ _ _ _ _ kept.0 kept.1 kept.2 c.in_ok-settings.ensures.some;
     }

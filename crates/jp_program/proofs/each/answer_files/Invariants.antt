@@ -3,29 +3,35 @@ use Rattle.std.specs.Io.KnownBytes.{IsAtEnd}
 use Rattle.clap.specs.Walk.{texts}
 use Rattle.jp_run.specs.Counts.{counted}
 use Rattle.jp_program.specs.inner.Asked.{wanted_of}
-use Rattle.jp_program.specs.Inputs.{Input, EachInTurn}
-use Rattle.jp_program.specs.Outcome.{IsAnswered, IsWhole, Passes}
+use Rattle.jp_program.specs.Inputs.{EachInTurn, Input, counted_if, named}
+use Rattle.jp_program.specs.Outcome.{IsAnswered, Passes}
 use Rattle.jp_program.specs.Outcome.{AreEmptyAnswers, AreKnownEmptyAnswers}
 use Rattle.jp_program.specs.Wanted.{Wanted}
+use Rattle.jp_program.proofs.Going.{HaveCome}
 use Rattle.jp_program.proofs.each.answer_files.Given as goal
 
 abbrev pub invariant-loop-name : goal.invariant-loop-name
 invariant-loop-name g l =
     let w : Wanted = wanted_of l.search.wanted.now in
-    let done : List Input = take l.name-index (map (g.I.Inputs.holds l.fn.inputs) (texts l.names)) in
+    let done : List Input = take l.name-index (map (named (g.I.Inputs.holds l.fn.inputs))
+    (texts l.names)) in
     let old : Option (List ℕ) = g.K.Sink.contents l.fn.sink in
     let now : Option (List ℕ) = g.K.Sink.contents l.sink in
     record {
       same : g.I.Inputs.holds l.inputs ≡ g.I.Inputs.holds l.fn.inputs;
       opens : g.I.Inputs.opens l.inputs ≡ counted (g.I.Inputs.opens l.fn.inputs) l.name-index;
-      broken : g.I.Inputs.broken l.inputs ≡ g.I.Inputs.broken l.fn.inputs;
-      working : (g.S.Supply.failed l.source ≡ false) × (g.K.Sink.failed l.sink ≡ false);
-      whole : EachInTurn (IsWhole w) done old now;
-      passes : w.keeps_going ≡ true → EachInTurn (Passes w) done (old, 0) (now, l.seen.faulty);
-      finished : l.seen.faulty ≡ 0 → EachInTurn (IsAnswered w None) done old now;
-      none_passed : w.keeps_going ≡ false → l.seen.faulty ≡ 0;
-      nothing : l.seen.wrote ≡ false → AreEmptyAnswers w done;
-      something : l.seen.wrote ≡ true → AreKnownEmptyAnswers w done → ⊥;
-      end : 0 < l.name-index → IsAtEnd (g.S.Supply.remaining l.source);
-      flushed : 0 < l.name-index → g.K.Sink.flushed l.sink ≡ true;
+      come : HaveCome w done old now (g.I.Inputs.broken l.fn.inputs)
+          (counted_if (g.S.Supply.failed l.source) (g.I.Inputs.broken l.inputs)) l.seen.has_failed;
+      source : l.seen.has_failed ≡ false → g.S.Supply.failed l.source ≡ false;
+      working : g.K.Sink.failed l.sink ≡ false;
+      none_failed : w.keeps_going ≡ false → l.seen.has_failed ≡ false;
+      passes : l.seen.has_failed ≡ false → w.keeps_going ≡ true
+          → EachInTurn (Passes w) done (old, 0) (now, l.seen.totals.faulty);
+      finished : l.seen.has_failed ≡ false → l.seen.totals.faulty ≡ 0
+          → EachInTurn (IsAnswered w None) done old now;
+      none_passed : w.keeps_going ≡ false → l.seen.totals.faulty ≡ 0;
+      nothing : l.seen.has_failed ≡ false → l.seen.totals.wrote ≡ false → AreEmptyAnswers w done;
+      something : l.seen.has_failed ≡ false → l.seen.totals.wrote ≡ true → AreKnownEmptyAnswers w done → ⊥;
+      end : l.seen.has_failed ≡ false → 0 < l.name-index → IsAtEnd (g.S.Supply.remaining l.source);
+      flushed : l.seen.has_failed ≡ false → 0 < l.name-index → g.K.Sink.flushed l.sink ≡ true;
     }

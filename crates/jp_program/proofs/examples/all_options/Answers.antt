@@ -1,4 +1,4 @@
-use Rattle.std.proofs.Common.{refl, arith, [], ◌∷◌}
+use Rattle.std.proofs.Common.{true, refl, arith, [], ◌∷◌}
 use Rattle.std.proofs.lemmas.List.Elements.{All-nil}
 use Rattle.clap.proofs.OnLiterals.{clap_on_literals}
 use Rattle.jp_program.specs.CommandLine.{said, refusals}
@@ -11,7 +11,10 @@ returns c = (
   refl,
   record {
     query = refl;
+    filter = refl;
     files = (refl, All-nil IsName);
+    names = (true, refl, refl);
+    cutting = refl;
     check = refl;
     output = refl;
     decimals = refl;

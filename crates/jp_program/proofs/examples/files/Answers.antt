@@ -1,4 +1,4 @@
-use Rattle.std.proofs.Common.{refl, arith, [], ◌∷◌, codes}
+use Rattle.std.proofs.Common.{false, refl, arith, [], ◌∷◌, codes}
 use Rattle.clap.proofs.OnLiterals.{clap_on_literals}
 use Rattle.jp_program.specs.CommandLine.{said, refusals}
 use Rattle.jp_program.proofs.Naming.{all_names}
@@ -10,7 +10,10 @@ returns c = (
   refl,
   record {
     query = refl;
+    filter = refl;
     files = (refl, all_names (codes "x" ∷ codes "-" ∷ codes "x" ∷ []) refl);
+    names = (false, refl, refl);
+    cutting = refl;
     check = refl;
     output = refl;
     decimals = refl;

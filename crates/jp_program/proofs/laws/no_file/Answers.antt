@@ -1,15 +1,18 @@
-use Rattle.std.proofs.Common.{◌≡◌, ℕ, ◌<◌, List, Option, Some, None, IfSome, arith, subst}
+use Rattle.std.proofs.Common.{◌≡◌, ℕ, ◌<◌, List, [], ◌∷◌, map, Bool, Option, Some, None, IfSome, inl, inr}
+use Rattle.std.proofs.Common.{arith, ap, subst, sym, codes}
 use Rattle.std.specs.Io.KnownBytes.{Appends}
-use Rattle.jp_doc.specs.Lines.{lines}
-use Rattle.jp_tree.specs.Tree.{Query}
 use Rattle.jp_regexp.specs.Tests.{Tests, AreRight}
-use Rattle.jp_check.specs.Verdict.{IsAcceptedIn}
+use Rattle.jp_answer.specs.FilteredQuery.{FilteredQuery}
 use Rattle.jp_answer.specs.Policy.{numbers_in}
 use Rattle.jp_answer.specs.Whole.{Whole, whole_as}
 use Rattle.jp_run.specs.Answered.{numbers_of}
-use Rattle.jp_run.specs.Forms.{form_of}
-use Rattle.jp_program.specs.Outcome.{Passes}
+use Rattle.jp_run.specs.AskedTexts.{AreAcceptedIn}
+use Rattle.jp_run.specs.Cutting.{documents}
+use Rattle.jp_program.specs.Inputs.{Course, EndsIn, Held, Input, Standing, named, standard}
+use Rattle.jp_program.specs.Outcome.{AreFailed, HasFailed, HasGoneOn, IsWholeOrCut, Left, Passes, form_for}
+use Rattle.jp_program.specs.Outcome.{asked_in, left_of}
 use Rattle.jp_program.specs.Wanted.{Wanted}
+use Rattle.jp_program.proofs.Ran.{left_alone}
 use Rattle.jp_program.proofs.Told.{IsToldIn}
 use Rattle.jp_program.proofs.laws.no_file.Goals as goal
 
@@ -17,18 +20,37 @@ pub returns-clause-answered : goal.returns-clause-answered
 returns-clause-answered c = λ w holds first old new h. h
 
 pub returns-clause-stopped : goal.returns-clause-stopped
-returns-clause-stopped c = λ w stop holds first a b old new h. h
+returns-clause-stopped c = λ w stop holds first course h. h
+
+-- no file was passed where none is named
+none_gone : (w : Wanted) (failed : Bool) (inputs : List Input) (course : Course) → inputs ≡ []
+    → HasGoneOn w failed inputs course → ⊥
+none_gone w failed [] course none h =
+    let zero : h.0 ≡ 0 = ap (λ (s : Standing). s.1) h.2 in omega (arith, h.1, zero)
+none_gone w failed (x ∷ xs) course none h = absurd (cc)
+
+failed_alone : (w : Wanted) (e : Left) (holds : List ℕ → Held) (first : Held) (course : Course)
+    → w.files ≡ [] → AreFailed w e holds first course
+    → HasFailed w e (standard first) course.contents course.contents_new
+failed_alone w e holds first course none (inl h) =
+    let same = sym (left_alone w none e) in
+    subst (λ l. HasFailed w l (standard first) course.contents course.contents_new) same
+    (subst (λ fs. EndsIn (IsWholeOrCut w) (HasFailed w (left_of w e)) fs holds first course) none h)
+failed_alone w e holds first course none (inr h) =
+    absurd (none_gone w e.source_failed (map (named holds) w.files) course (ap (map (named holds)) none) h)
 
 pub returns-clause-failed : goal.returns-clause-failed
-returns-clause-failed c = λ w e holds first a b old new h. h
+returns-clause-failed c = failed_alone
 
 pub returns-clause-front : goal.returns-clause-front
-returns-clause-front c = λ w holds first a b old new h. h
+returns-clause-front c = λ w holds first course h. h
 
-passed_by : (w : Wanted) (input old new : Option (List ℕ)) (n : ℕ) → 0 < n → Passes w input (old, 0) (new, n)
-    → IfSome input (λ bytes. (q : Query) × IsAcceptedIn (numbers_of w.decimals) w.query q × (x : Whole)
-    × ((t : Tests) → AreRight t → whole_as (numbers_in (numbers_of w.decimals)) (form_of w.output) t q
-    (lines bytes) ≡ x) × (0 < x.faulty) × Appends old new x.bytes)
+passed_by : (w : Wanted) (first old new : Option (List ℕ)) (n : ℕ) → 0 < n
+    → Passes w (standard first) (old, 0) (new, n)
+    → IfSome first (λ bytes. (q : FilteredQuery) × AreAcceptedIn (numbers_of w.decimals) (asked_in w) q
+    × (x : Whole)
+    × ((t : Tests) → AreRight t → whole_as (numbers_in (numbers_of w.decimals)) (form_for w (codes "-")) t q
+    (documents w.cutting bytes) ≡ x) × (0 < x.faulty) × Appends old new x.bytes)
 passed_by w None old new n some h = tt
 passed_by w (Some bytes) old new n some h = (h.0, h.1, h.2, h.3, omega (arith, h.4, some), h.5)
 

@@ -1,0 +1,68 @@
+-- The manner of a run, by its settings and by what was wanted; and what a run tells, by its manner.
+use Rattle.std.proofs.Common.{◌≡◌, ◌∙◌, ℕ, ◌+◌, ◌<◌, ◌⊎◌, Bool, true, false, List, [], ◌∷◌, ◌++◌}
+use Rattle.std.proofs.Common.{Option, Some, None, IfSome, if◌then◌else◌, length, ap, sym, option_map, subst}
+use Rattle.std.specs.Prelude.{nat_lt}
+use Rattle.std.specs.Borrow.{Bor}
+use Rattle.std.specs.Io.KnownBytes.{Appends, Consumes}
+use Rattle.clap.specs.Walk.{Text}
+use Rattle.jp_doc.specs.declared.fault.DocFault.{DocFault}
+use Rattle.jp_answer.specs.Answer.{Answer}
+use Rattle.jp_answer.specs.FilteredQuery.{FilteredQuery}
+use Rattle.jp_run.specs.AskedTexts.{AreAcceptedIn, AskedTexts}
+use Rattle.jp_run.specs.Answered.{IsAnswerBy, head_behind, manner_by, numbers_of}
+use Rattle.jp_run.specs.Cutting.{documents_in, part_count}
+use Rattle.jp_run.specs.Handed.{IsHandedBy}
+use Rattle.jp_run.specs.Limits.{max_lines, max_reads}
+use Rattle.jp_run.specs.Manner.{Manner}
+use Rattle.jp_run.specs.Written.{AppendsFront}
+use Rattle.jp_run.specs.declared.cutting.Cutting.{Cutting}
+use Rattle.jp_run.specs.declared.output.Output.{Output}
+
+-- a manner is one by what it is made of
+pub manner_so : (c d : Cutting) (o p : Output) (h k : List ℕ) (a b x y : Bool) → c ≡ d → o ≡ p → h ≡ k → a ≡ b
+    → x ≡ y → manner_by c o h a x ≡ manner_by d p k b y
+manner_so c d o p h k a b x y cutting output head decimals going =
+    ap (λ (z : Cutting). manner_by z o h a x) cutting ∙ ap (λ (z : Output). manner_by d z h a x) output
+    ∙ ap (λ (z : List ℕ). manner_by d p z a x) head ∙ ap (λ (z : Bool). manner_by d p k z x) decimals
+    ∙ ap (λ (z : Bool). manner_by d p k b z) going
+
+-- what each line stands behind, where lines are to name their file, and where they are not
+module _ (names : Bool) (name : Bor Text) (given : Option (Bor Text)) where
+  pub head_named : names ≡ true → given ≡ Some name → head_behind (option_map (λ n. n.now) given)
+      ≡ (if names then name.now ++ 9 ∷ [] else [])
+  head_named on is = ap (λ (o : Option (Bor Text)). head_behind (option_map (λ n. n.now) o)) is
+      ∙ sym (ap (λ (b : Bool). if b then name.now ++ 9 ∷ [] else []) on)
+
+  pub head_unnamed : names ≡ false → given ≡ None → head_behind (option_map (λ n. n.now) given)
+      ≡ (if names then name.now ++ 9 ∷ [] else [])
+  head_unnamed off is = ap (λ (o : Option (Bor Text)). head_behind (option_map (λ n. n.now) o)) is
+      ∙ sym (ap (λ (b : Bool). if b then name.now ++ 9 ∷ [] else []) off)
+
+-- what is accepted with the numbers that are wanted is accepted with those of the settings
+pub accepted_so : {d e : Bool} {asked : AskedTexts} {q : FilteredQuery} → d ≡ e
+    → AreAcceptedIn (numbers_of e) asked q → AreAcceptedIn (numbers_of d) asked q
+accepted_so {asked = asked} {q = q} same = subst (λ d. AreAcceptedIn (numbers_of d) asked q) (sym same)
+
+-- what a run tells of an input, by its manner
+
+abbrev pub ToldBy : Manner → AskedTexts → Option (ℕ × DocFault) → Option (List ℕ) → Option (List ℕ)
+    → Option (List ℕ) → Type 0
+ToldBy m asked stopped input old new = IfSome input (λ bytes. (a : Answer) × IsAnswerBy m asked bytes a
+    × (a.stopped ≡ stopped) × Appends old new a.bytes)
+
+abbrev pub WroteBy : Manner → AskedTexts → Option (List ℕ) → Bool → Type 0
+WroteBy m asked input wrote = IfSome input (λ bytes. (a : Answer) × IsAnswerBy m asked bytes a
+    × (wrote ≡ nat_lt 0 (length a.bytes)))
+
+abbrev pub FrontBy : Manner → AskedTexts → Option (List ℕ) → Option (List ℕ) → Option (List ℕ) → Type 0
+FrontBy m asked input old new = IfSome input (λ bytes. (a : Answer) → IsAnswerBy m asked bytes a
+    → AppendsFront old new a.bytes)
+
+abbrev pub CutBy : Manner → AskedTexts → Bool → Option (List ℕ) → Option (List ℕ) → Option (List ℕ)
+    → Option (List ℕ) → Type 0
+CutBy m asked failed input rest old new = (failed ≡ true) × (bytes : List ℕ) × Consumes input rest bytes
+    × IsHandedBy m asked (documents_in m.cutting bytes) None old new
+
+abbrev pub LimitBy : Manner → ℕ → ℕ → Option (List ℕ) → Option (List ℕ) → Type 0
+LimitBy m reads reads_new input rest = (reads_new ≡ reads + max_reads)
+    ⊎ ((bytes : List ℕ) × Consumes input rest bytes × (max_lines < part_count m.cutting bytes))

@@ -1,0 +1,65 @@
+use Rattle.std.proofs.Common.{true, false, refl, arith, [], ◌∷◌, codes}
+use Rattle.clap.proofs.OnLiterals.{clap_on_literals}
+use Rattle.jp_program.specs.CommandLine.{said, refusals}
+use Rattle.jp_program.proofs.Naming.{all_names}
+use Rattle.jp_program.proofs.examples.one_file.Goals as goal
+
+pub returns-clause-unnamed : goal.returns-clause-unnamed
+unfolding clap_on_literals said refusals
+returns-clause-unnamed c = (
+  refl,
+  record {
+    query = refl;
+    filter = refl;
+    files = (refl, all_names (codes "x" ∷ []) refl);
+    names = (false, refl, refl);
+    cutting = refl;
+    check = refl;
+    output = refl;
+    decimals = refl;
+    keeps_going = refl;
+    explain = refl;
+    exit_status = refl;
+    settings = (
+      (52 ∷ [], refl, (omega arith, (omega arith, tt)), refl),
+      (54 ∷ 52 ∷ [], refl, (omega arith, (omega arith, (omega arith, tt))), refl),
+      (
+        52 ∷ 48 ∷ 57 ∷ 54 ∷ [],
+        refl,
+        (omega arith, (omega arith, (omega arith, (omega arith, (omega arith, tt))))),
+        refl,
+      ),
+      ((omega arith, omega arith), (omega arith, omega arith), (omega arith, omega arith)),
+    );
+  },
+)
+
+pub returns-clause-named : goal.returns-clause-named
+unfolding clap_on_literals said refusals
+returns-clause-named c = (
+  refl,
+  record {
+    query = refl;
+    filter = refl;
+    files = (refl, all_names (codes "x" ∷ []) refl);
+    names = (true, refl, refl);
+    cutting = refl;
+    check = refl;
+    output = refl;
+    decimals = refl;
+    keeps_going = refl;
+    explain = refl;
+    exit_status = refl;
+    settings = (
+      (52 ∷ [], refl, (omega arith, (omega arith, tt)), refl),
+      (54 ∷ 52 ∷ [], refl, (omega arith, (omega arith, (omega arith, tt))), refl),
+      (
+        52 ∷ 48 ∷ 57 ∷ 54 ∷ [],
+        refl,
+        (omega arith, (omega arith, (omega arith, (omega arith, (omega arith, tt))))),
+        refl,
+      ),
+      ((omega arith, omega arith), (omega arith, omega arith), (omega arith, omega arith)),
+    );
+  },
+)
