@@ -13,14 +13,14 @@ _jp() {
             mapfile -t COMPREPLY < <(compgen -W 'nodes values texts raw lines' -- "$word")
             return
             ;;
-        --workers | --piece | --batch)
+        --where | --workers | --piece | --batch)
             compopt +o default
             return
             ;;
     esac
     if [[ $word != -* ]]; then return; fi
-    local options='--output --workers --piece --batch --check --decimals --keep-going'
-    options+=' --explain --exit-status --help --version'
+    local options='--output --where --workers --piece --batch --check --decimals --keep-going'
+    options+=' --explain --exit-status --documents --with-filename --help --version'
     mapfile -t COMPREPLY < <(compgen -W "$options" -- "$word")
 }
 # Where the function offers nothing, as behind < and >, bash completes file names.

@@ -2,7 +2,7 @@ use jp_answer::{Asked, Crew, LinePolicy, OnFault, OpenGate, Outcome, answer_by_w
 use jp_buffer::LineRef;
 use jp_compiled::Query;
 use jp_number::Numbers;
-use jp_output::NodeLines;
+use jp_output::{Head, NodeLines};
 use std::alloc::{AllocError, Global};
 use std::thread::Threads;
 
@@ -22,13 +22,21 @@ fn by_workers<R: Threads + Sync>(
         alloc,
         gate: &gate,
     };
-    let asked = Asked {
+    let head = Head::none();
+    let asked = asked_of(query, &head);
+    Some(answer_by_workers::<R, OpenGate, NodeLines>(&crew, asked, lines, 64))
+}
+
+/// What is asked of every document.
+fn asked_of<'q>(query: &'q Query, head: &'q Head) -> Asked<'q> {
+    Asked {
         query,
+        filter: None,
+        head,
         policy: LinePolicy {
             numbers: Numbers::Whole,
             on_fault: OnFault::Stop,
         },
         workers: 4,
-    };
-    Some(answer_by_workers::<R, OpenGate, NodeLines>(&crew, asked, lines, 64))
+    }
 }
