@@ -1,64 +1,13 @@
 //! Faulty lines that are explained.
 
-use crate::running::run_words;
+use crate::running::{program, run_words};
 use crate::shelf::{Shelf, in_memory};
-use jp_program::program;
 use jp_run::FromWriter;
 use std::alloc::AllocGlobal;
 use std::thread::Threads;
 
 /// A document, a number that is not whole, a blank line, and a line that ends too early.
 const INPUT: &[u8] = b"{\"a\":1}\n{\"a\":[2,0.5]}\n\n{\"a\":";
-
-/// What is told of the second line.
-const NOT_WHOLE: &[u8] = b"line 2, $['a'][1]: 0.5 is not whole\n{\"a\":[2,0.5]}\n        ^\n\
-    --decimals reads such a number\n";
-
-/// Whether the program leaves status 3, this output, and these notes, the two parts one behind the other.
-fn tells<R: Threads + AllocGlobal + Sync>(
-    rt: &R,
-    words: &[&str],
-    output: &[u8],
-    front: &[u8],
-    behind: &[u8],
-) -> bool {
-    let left = run_words(rt, words, INPUT);
-    left.status == 3
-        && left.output.as_slice() == output
-        && left.notes.strip_prefix(front) == Some(behind)
-}
-
-#[test]
-fn the_first_faulty_line_is_explained(rt: HostRuntime) {
-    for workers in &["1", "3"] {
-        let words = ["jp", "--workers", *workers, "--piece=1", "--explain", "$.a"];
-        let front = b"jp: line 2: not whole\n";
-        assert!(rt; tells(&rt, &words, b"1\t$['a']\t1\n", front, NOT_WHOLE));
-    }
-}
-
-/// What is told of it and of the last line.
-const BOTH: &[u8] = b"line 2, $['a'][1]: 0.5 is not whole\n{\"a\":[2,0.5]}\n        ^\n\
-    --decimals reads such a number\n\
-    line 4, byte 5: the line ends: expected a value\n{\"a\":\n     ^\n\
-    a document over several lines? --documents reads it\n";
-
-#[test]
-fn faulty_lines_that_are_passed_are_explained(rt: HostRuntime) {
-    for workers in &["1", "3"] {
-        let words = [
-            "jp",
-            "--workers",
-            *workers,
-            "--batch=1",
-            "--keep-going",
-            "--explain",
-            "$.a",
-        ];
-        let output = b"1\t$['a']\t1\n2\t!\tnot whole\n4\t!\tunreadable\n";
-        assert!(rt; tells(&rt, &words, output, b"jp: faulty lines: 2\n", BOTH));
-    }
-}
 
 /// Whether a sink with no room for the first line is told of alone, though the second one is faulty.
 fn tells_the_sink<R: Threads + AllocGlobal + Sync>(rt: &R, words: &[&str]) -> bool {

@@ -1,66 +1,12 @@
-//! Faulty lines, and ends that fail.
+//! Ends that fail.
 
-use crate::running::leaves;
+use crate::running::program;
 use crate::shelf::{Held, Shelf, in_memory};
-use jp_program::program;
 use jp_run::{FromReader, FromWriter};
 use std::alloc::AllocGlobal;
 use std::io::{self, ErrorKind, Write};
 use std::test::Fail;
 use std::thread::Threads;
-
-#[test]
-fn a_faulty_line_is_told(rt: HostRuntime) {
-    let output = b"1\t$['a']\t1\n";
-    let notes = b"jp: line 2: unreadable\n\
-        jp: a document over several lines? --documents reads it\n";
-    assert!(rt; leaves(&rt, &["jp", "$.a"], b"{\"a\":1}\n{\n", 3, output, notes));
-}
-
-/// Whether a run that keeps going passes two faulty lines among four, and tells how many.
-fn passes_two<R: Threads + AllocGlobal + Sync>(rt: &R, words: &[&str]) -> bool {
-    let input: &[u8] = b"{\"a\":1}\n{\n{\"a\":2}\n{\"a\":1.5}\n";
-    let lines = "1\t$['a']\t1\n2\t!\tunreadable\n3\t$['a']\t2\n4\t!\tnot whole\n";
-    leaves(
-        rt,
-        words,
-        input,
-        3,
-        lines.as_bytes(),
-        b"jp: faulty lines: 2\n",
-    )
-}
-
-#[test]
-fn faulty_lines_are_passed(rt: HostRuntime) {
-    let one = [
-        "jp",
-        "--keep-going",
-        "--workers",
-        "1",
-        "--piece",
-        "1",
-        "$.a",
-    ];
-    assert!(rt; passes_two(&rt, &one));
-    let four = [
-        "jp",
-        "--keep-going",
-        "--workers",
-        "4",
-        "--piece",
-        "1",
-        "$.a",
-    ];
-    assert!(rt; passes_two(&rt, &four));
-}
-
-#[test]
-fn no_faulty_line_is_passed(rt: HostRuntime) {
-    let input = b"{\"a\":1}\n\n{\"a\":null}\n";
-    let output = b"1\t$['a']\t1\n3\t$['a']\tnull\n";
-    assert!(rt; leaves(&rt, &["jp", "--keep-going", "$.a"], input, 0, output, b""));
-}
 
 /// Whether the program tells of a source that fails, and writes nothing.
 fn tells_source<R: Threads + AllocGlobal + Sync>(rt: &R) -> bool {

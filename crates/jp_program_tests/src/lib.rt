@@ -2,27 +2,13 @@
 #![tactic(auto)]
 
 #[cfg(test)]
-mod bookstore;
-#[cfg(test)]
-mod decimals;
-#[cfg(test)]
-mod documents;
-#[cfg(test)]
 mod explained;
-#[cfg(test)]
-mod explained_files;
 #[cfg(test)]
 mod faults;
 #[cfg(test)]
 mod files;
 #[cfg(test)]
-mod filters;
-#[cfg(test)]
 mod finished;
-#[cfg(test)]
-mod forms;
-#[cfg(test)]
-mod noted;
 #[cfg(test)]
 mod refusals;
 #[cfg(test)]
@@ -33,5 +19,3 @@ mod running;
 mod settings;
 #[cfg(test)]
 mod shelf;
-#[cfg(test)]
-mod split;

@@ -3,8 +3,8 @@
 //! A turn says whether the answer was right, or nothing where it was want of memory. Each is made twice: one
 //! growth is refused at most, so one of the two answers.
 
+use crate::running::program;
 use crate::shelf::{HeldFile, Shelf, in_memory};
-use jp_program::program;
 use jp_run::FromWriter;
 use std::alloc::AllocGlobal;
 use std::thread::Threads;

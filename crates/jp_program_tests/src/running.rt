@@ -1,10 +1,27 @@
 //! The program over ends in memory.
 
+ghost use Rattle.std.specs.Prelude.{◌≡◌, ◌^◌, ◌≤◌, false};
+
 use crate::shelf::{HeldFile, Shelf, in_memory};
-use jp_program::{Inputs, program};
-use jp_run::FromWriter;
+use jp_program::Inputs;
+use jp_run::{FromWriter, Sink, Source, Supply};
 use std::alloc::AllocGlobal;
 use std::thread::Threads;
+
+/// The program. It promises nothing here: tests look at what it does, and are proved sooner.
+pub(crate) fn program<
+    R: Threads + AllocGlobal + Sync,
+    S: Source<K>,
+    I: Inputs<S>,
+    K: Sink,
+    N: Sink,
+>(rt: &R, words: &[&str], inputs: &mut I, source: &mut S, sink: &mut K, notes: &mut N) -> u8
+    requires working { (S.failed source.old ≡ false) × (K.failed sink.old ≡ false) }
+    requires few { (S.reads source.old ≤ 2 ^ 62) × (S.given source.old ≤ 2 ^ 62)
+        × (I.opens inputs.old ≤ 2 ^ 62) }
+{
+    jp_program::program(rt, words, inputs, source, sink, notes)
+}
 
 /// What the program leaves.
 #[derive(Drop)]

@@ -1,7 +1,7 @@
 //! Settings that a run obeys, and what it passes on.
 
+use crate::running::program;
 use crate::shelf::{Held, Shelf};
-use jp_program::program;
 use jp_run::{FromReader, FromWriter};
 use std::alloc::{AllocGlobal, Global};
 use std::io::{self, ErrorKind, Write};

@@ -2,9 +2,10 @@
 
 use crate::fakes::{Holds, OneByte};
 use crate::gates::{Entered, Pair};
+use crate::ran::run;
 use crate::thousand::{items_of_thousand, thousand};
 use jp_doc::DocFault;
-use jp_run::{FromReader, Gate, OpenGate, RunFault, Settings, Supply, Totals, run};
+use jp_run::{FromReader, Gate, OpenGate, RunFault, Settings, Supply, Totals};
 use std::alloc::{AllocError, Global};
 use std::test::Fail;
 use std::thread::Threads;

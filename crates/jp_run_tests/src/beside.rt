@@ -3,8 +3,9 @@
 use crate::fakes::{FailsAfter, Holds};
 use crate::gates::{Entered, Pair};
 use crate::long_lines::{answer_of, lines_of};
+use crate::ran::run;
 use jp_doc::DocFault;
-use jp_run::{FromReader, Gate, OpenGate, RunFault, Settings, Totals, run};
+use jp_run::{FromReader, Gate, OpenGate, RunFault, Settings, Totals};
 use std::alloc::Global;
 use std::test::Fail;
 use std::thread::Threads;

@@ -3,7 +3,8 @@
 ghost use Rattle.std.specs.Prelude.{◌≡◌, ◌^◌, ◌≤◌, false};
 
 use crate::fakes::{Holds, OneByte};
-use jp_run::{FromReader, OpenGate, RunFault, Settings, Source, Totals, run};
+use crate::ran::run;
+use jp_run::{FromReader, OpenGate, RunFault, Settings, Source, Totals};
 use std::alloc::{AllocError, Global};
 use std::thread::Threads;
 

@@ -1,12 +1,32 @@
 //! What runs end with, and what they write.
 
+ghost use Rattle.std.specs.Prelude.{◌≡◌, ◌^◌, ◌≤◌, false};
+
 use crate::fakes::{Holds, OneByte};
-use jp_run::{Crew, FromReader, OpenGate, Prepared, RunFault, Settings, Totals, run};
+use jp_run::{
+    Crew, FromReader, Gate, OpenGate, Prepared, RunFault, Settings, Sink, Source, Supply, Totals,
+};
 use std::alloc::Global;
 use std::thread::Threads;
 
 /// More bytes than any of these runs writes.
 pub(crate) const ROOM: usize = 10_000_000;
+
+/// A run. It promises nothing here: tests look at what it does, and are proved sooner.
+pub(crate) fn run<R: Threads + Sync, S: Source<K>, K: Sink, G: Gate + Sync>(
+    rt: &R,
+    alloc: Global,
+    source: &mut S,
+    sink: &mut K,
+    query: &str,
+    settings: &Settings<'_>,
+    gate: &G,
+) -> Result<Totals, RunFault>
+    requires working { (S.failed source.old ≡ false) × (K.failed sink.old ≡ false) }
+    requires few { (S.reads source.old ≤ 2 ^ 62) × (S.given source.old ≤ 2 ^ 62) }
+{
+    jp_run::run(rt, alloc, source, sink, query, settings, gate)
+}
 
 /// What a run of a query over these bytes ends with, and what it writes.
 pub(crate) fn ran<R: Threads + Sync>(

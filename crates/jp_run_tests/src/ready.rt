@@ -4,7 +4,8 @@ ghost use Rattle.std.specs.Prelude.{◌≡◌, Some, None, false};
 
 use crate::fakes::Holds;
 use crate::long_lines::{BLANKS, lines_of};
-use jp_run::{Broken, OpenGate, RunFault, Settings, Source, Supply, Totals, run};
+use crate::ran::run;
+use jp_run::{Broken, OpenGate, RunFault, Settings, Source, Supply, Totals};
 use std::alloc::Global;
 use std::test::Fail;
 use std::thread::Threads;

@@ -5,6 +5,7 @@
 
 use crate::fakes::Holds;
 use crate::long_lines::{BLANKS, lines_of};
+use crate::ran::run;
 use jp_doc::DocFault;
 use jp_run::{FromReader, OpenGate, RunFault, Settings};
 use std::alloc::Global;
@@ -24,7 +25,7 @@ fn finished<R: Threads + Sync>(rt: &R, alloc: Global) -> Option<bool> {
     let settings = Settings::new(4, 1, 2).ok()?;
     let mut source = FromReader::new(INPUT);
     let mut sink = Holds::new(Vec::with_capacity(alloc, ROOM).ok()?, ROOM, ROOM);
-    match jp_run::run(
+    match run(
         rt,
         alloc,
         &mut source,
@@ -52,7 +53,7 @@ fn named<R: Threads + Sync>(rt: &R, alloc: Global) -> Option<bool> {
     let settings = Settings::new(2, 1, 2).ok()?.with_name(Some("x"));
     let mut source = FromReader::new(INPUT);
     let mut sink = Holds::new(Vec::with_capacity(alloc, ROOM).ok()?, ROOM, ROOM);
-    let end = jp_run::run(
+    let end = run(
         rt,
         alloc,
         &mut source,
@@ -81,7 +82,7 @@ fn stopped<R: Threads + Sync>(rt: &R, alloc: Global) -> Option<bool> {
     let input: &[u8] = b"[1]\n[2.5]\n[3]\n";
     let mut source = FromReader::new(input);
     let mut sink = Holds::new(Vec::with_capacity(alloc, ROOM).ok()?, ROOM, ROOM);
-    let end = jp_run::run(
+    let end = run(
         rt,
         alloc,
         &mut source,
@@ -115,7 +116,7 @@ fn kept_going<R: Threads + Sync>(rt: &R, alloc: Global) -> Option<bool> {
     let input: &[u8] = b"[1]\n[2.5]\n[3]\n";
     let mut source = FromReader::new(input);
     let mut sink = Holds::new(Vec::with_capacity(alloc, ROOM).ok()?, ROOM, ROOM);
-    let end = jp_run::run(
+    let end = run(
         rt,
         alloc,
         &mut source,
@@ -148,7 +149,7 @@ fn by_windows<R: Threads + Sync>(rt: &R, alloc: Global, workers: u64) -> Option<
     let text = lines_of(alloc, 5, BLANKS, &[]).ok()?;
     let mut source = FromReader::never_waits(text.as_bytes());
     let mut sink = Holds::new(Vec::with_capacity(alloc, ROOM).ok()?, ROOM, ROOM);
-    match jp_run::run(
+    match run(
         rt,
         alloc,
         &mut source,

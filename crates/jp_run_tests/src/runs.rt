@@ -23,7 +23,7 @@ fn run<R: Threads + Sync, S: Source<K>, K: Sink>(
     requires few { (S.reads source.old ≤ 2 ^ 62) × (S.given source.old ≤ 2 ^ 62) }
 {
     let settings = Settings::new(4, 2, 8)?;
-    jp_run::run(rt, alloc, source, sink, query, &settings, &OpenGate)
+    crate::ran::run(rt, alloc, source, sink, query, &settings, &OpenGate)
 }
 
 /// What a run over these bytes ends with, and what it writes.

@@ -1,8 +1,9 @@
 //! Gates that want to be told of faulty lines.
 
 use crate::fakes::{Holds, OneByte};
+use crate::ran::run;
 use jp_doc::DocFault;
-use jp_run::{Gate, RunFault, Settings, run};
+use jp_run::{Gate, RunFault, Settings};
 use std::alloc::Global;
 use std::sync::atomic::{AtomicU64, Ordering};
 use std::test::Fail;

@@ -3,6 +3,7 @@
 ghost use Rattle.std.specs.Prelude.{◌≡◌, ◌<◌, false};
 
 use crate::fakes::{Holds, OneByte};
+use crate::ran::run;
 use jp_run::{FromReader, OpenGate, RunFault, Settings, Supply};
 use std::alloc::Global;
 use std::test::Fail;
@@ -28,7 +29,7 @@ fn is_front<R: Threads + Sync>(
     let settings = Settings::new(2, 1, batch)?;
     let mut source = FromReader::new(INPUT);
     let mut sink = Holds::new(Vec::new(alloc), most, room);
-    let end = jp_run::run(
+    let end = run(
         rt,
         alloc,
         &mut source,
@@ -73,7 +74,7 @@ fn reads_until<R: Threads + Sync>(
     let (batch, never_waits) = cut;
     let settings = Settings::new(2, 1, batch)?;
     let mut source = OneByte::waiting(INPUT, 0, never_waits);
-    let end = jp_run::run(
+    let end = run(
         rt,
         alloc,
         &mut source,
