@@ -4,7 +4,7 @@ use crate::gates::{Entered, FirstWaits, Pair, Recorder};
 use crate::thousand::{items_of_thousand, thousand};
 use jp_check::plan;
 use jp_doc::{DocFault, Line, Lines};
-use jp_run::{Answer, DocStop, Gate, OpenGate, RunFault, Settings, answer};
+use jp_run::{Answer, DocStop, Gate, OpenGate, Settings, answer};
 use std::alloc::{AllocError, Global};
 use std::sync::atomic::{AtomicU64, Ordering};
 use std::test::Fail;
@@ -166,39 +166,4 @@ fn pieces_behind_a_faulty_one_are_left(rt: HostRuntime) {
     let wanted = (b"1\t$\t1\n2\t$\t2\n".as_slice(), Some(stop));
     assert!(rt; is_answered(&rt, rt.alloc(), input, (1, 1), &gate, wanted));
     assert_eq!(rt; gate.0.load(Ordering::SeqCst), 111);
-}
-
-/// Whether these are settings of so many workers, and documents of a piece and of a batch.
-fn has_sizes(found: &Result<Settings<'_>, RunFault>, sizes: (u64, u64, u64)) -> bool {
-    match found {
-        Ok(settings) => (settings.workers, settings.piece, settings.batch) == sizes,
-        Err(_) => false,
-    }
-}
-
-/// Whether there are no such settings.
-fn is_out_of_range(found: &Result<Settings<'_>, RunFault>) -> bool {
-    match found {
-        Ok(_) => false,
-        Err(fault) => matches!(fault, RunFault::Settings),
-    }
-}
-
-#[test]
-fn settings_have_their_ranges(rt: HostRuntime) {
-    for (workers, piece, batch) in [(1, 1, 1), (64, 1_000_000, 1_000_000)] {
-        let found = Settings::new(workers, piece, batch);
-        assert!(rt; has_sizes(&found, (workers, piece, batch)));
-    }
-    for (workers, piece, batch) in [
-        (0, 1, 1),
-        (65, 1, 1),
-        (1, 0, 1),
-        (1, 1_000_001, 1),
-        (1, 1, 0),
-        (1, 1, 1_000_001),
-    ] {
-        let found = Settings::new(workers, piece, batch);
-        assert!(rt; is_out_of_range(&found));
-    }
 }

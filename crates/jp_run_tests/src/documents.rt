@@ -3,7 +3,6 @@
 ghost use Rattle.std.specs.Prelude.{◌≡◌, false};
 
 use crate::ran::{ran, ran_by_bytes, ran_cut_short};
-use jp_doc::DocFault;
 use jp_run::{Cutting, Output, RunFault, Settings, Totals};
 use std::alloc::{AllocError, Global};
 use std::thread::Threads;
@@ -94,50 +93,6 @@ fn rows<R: Threads + Sync>(rt: &R, alloc: Global) -> Result<bool, RunFault> {
     Ok(true)
 }
 
-/// A document that is none, between two: the run stops there, or goes on past it.
-const FAULTY: &[u8] = b"{\n\"a\": 1\n}\n{\n\"a\": tru\n}\n{\n\"a\": 3\n}\n";
-
-fn a_faulty_document<R: Threads + Sync>(rt: &R, alloc: Global) -> Result<bool, RunFault> {
-    let settings = settings_of(2, 4096)?;
-    let (end, bytes) = ran(rt, alloc, "$.a", FAULTY, &settings);
-    let stops = match end {
-        Err(RunFault::Document { line, fault }) => line == 2 && fault == DocFault::Unreadable,
-        _ => false,
-    };
-    let front = bytes.as_slice() == b"1\t$['a']\t1\n".as_slice();
-    let (end, bytes) = ran(rt, alloc, "$.a", FAULTY, &settings.keep_going());
-    let goes_on = match end {
-        Ok(totals) => totals.documents == 3 && totals.faulty == 1,
-        Err(_) => false,
-    };
-    let whole = bytes.as_slice() == b"1\t$['a']\t1\n2\t!\tunreadable\n3\t$['a']\t3\n".as_slice();
-    Ok(stops && front && goes_on && whole)
-}
-
-/// What `--output lines` and values write of documents: each as it came, and the compact text.
-fn other_forms<R: Threads + Sync>(rt: &R, alloc: Global) -> Result<bool, RunFault> {
-    let settings = settings_of(1, 4096)?;
-    let input: &[u8] = b"{\n\"a\": [1, 2]\n}\n{\"b\":1}";
-    let (_, lines) = ran(
-        rt,
-        alloc,
-        "$.a",
-        input,
-        &settings.with_output(Output::Lines),
-    );
-    let (_, values) = ran(
-        rt,
-        alloc,
-        "$.a",
-        input,
-        &settings.with_output(Output::Values),
-    );
-    Ok(
-        lines.as_slice() == b"{\n\"a\": [1, 2]\n}\n".as_slice()
-            && values.as_slice() == b"[1,2]\n".as_slice(),
-    )
-}
-
 /// A read that fails: documents whose end was read are answered, also one whose line has not ended.
 fn a_read_that_fails<R: Threads + Sync>(rt: &R, alloc: Global) -> Result<bool, RunFault> {
     let settings = settings_of(1, 4096)?;
@@ -148,25 +103,6 @@ fn a_read_that_fails<R: Threads + Sync>(rt: &R, alloc: Global) -> Result<bool, R
         _ => false,
     };
     Ok(failed && bytes.as_slice() == b"1\t$['a']\t1\n2\t$['a']\t2\n".as_slice())
-}
-
-/// Settings keep how input is cut, and everything else.
-fn settings_keep_their_cutting() -> Result<bool, RunFault> {
-    let settings = settings_of(3, 5)?;
-    let other = settings
-        .keep_going()
-        .with_decimals()
-        .with_output(Output::Raw);
-    let lines = other.with_cutting(Cutting::Lines);
-    Ok(
-        other.cutting == Cutting::Documents
-            && other.workers == 3
-            && other.batch == 5
-            && lines.cutting == Cutting::Lines
-            && lines.output == Output::Raw
-            && lines.keeps_going
-            && lines.decimals,
-    )
 }
 
 /// A list of so many lists over lines, and behind it a document.
@@ -205,23 +141,8 @@ fn rows_however_they_are_read(rt: HostRuntime) {
 }
 
 #[test]
-fn a_faulty_document_between_two(rt: HostRuntime) {
-    assert!(rt; a_faulty_document(&rt, rt.alloc()).unwrap_or(false));
-}
-
-#[test]
-fn lines_and_values(rt: HostRuntime) {
-    assert!(rt; other_forms(&rt, rt.alloc()).unwrap_or(false));
-}
-
-#[test]
 fn what_was_read_whole_is_answered(rt: HostRuntime) {
     assert!(rt; a_read_that_fails(&rt, rt.alloc()).unwrap_or(false));
-}
-
-#[test]
-fn settings_say_how_input_is_cut(rt: HostRuntime) {
-    assert!(rt; settings_keep_their_cutting().unwrap_or(false));
 }
 
 #[test]

@@ -1,7 +1,7 @@
 //! Runs and answers that keep going after a faulty line.
 
 use crate::gates::{Entered, Pair};
-use crate::ran::{ROOM, ran, ran_cut_short};
+use crate::ran::{ROOM, ran_cut_short};
 use jp_check::plan;
 use jp_doc::{Line, Lines};
 use jp_run::{Gate, OpenGate, RunFault, Settings, Totals, Whole, answer_all};
@@ -179,19 +179,4 @@ fn two_workers_at_once(rt: HostRuntime) {
     assert!(rt; is_answered(&rt, rt.alloc(), (2, 1), &gate));
     assert_eq!(rt; gate.0.failures(), 0);
     assert_eq!(rt; gate.0.seen(), [true, true, true]);
-}
-
-/// Whether a run without the option ends at the first faulty line, and writes what the lines before it give.
-fn is_ended<R: Threads + Sync>(rt: &R, alloc: Global, settings: &Settings<'_>) -> bool {
-    let (end, bytes) = ran(rt, alloc, "$.a", FOUR, settings);
-    let first = "1\t$['a']\t1\n";
-    matches!(end, Err(RunFault::Document { line: 2, .. })) && bytes.as_slice() == first.as_bytes()
-}
-
-/// Without the option, the first faulty line ends the run.
-#[test]
-fn the_option_is_off_at_first(rt: HostRuntime) -> Result<(), Fail> {
-    let settings = Settings::new(4, 1, 10)?;
-    assert!(rt; is_ended(&rt, rt.alloc(), &settings));
-    Ok(())
 }

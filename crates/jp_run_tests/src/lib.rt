@@ -10,13 +10,10 @@ mod beside;
 #[cfg(test)]
 mod cut_lines;
 #[cfg(test)]
-mod decimals;
-#[cfg(test)]
 mod documents;
 #[cfg(test)]
 mod fakes;
 #[cfg(test)]
-mod filters;
 mod forms;
 #[cfg(test)]
 mod gates;
@@ -25,13 +22,13 @@ mod hostile;
 #[cfg(test)]
 mod keep_going;
 #[cfg(test)]
-mod literals;
-#[cfg(test)]
 mod long_lines;
 #[cfg(test)]
 mod names;
 #[cfg(test)]
 mod output_forms;
+#[cfg(test)]
+mod prepared;
 #[cfg(test)]
 mod ran;
 #[cfg(test)]
@@ -40,6 +37,8 @@ mod ready;
 mod refusals;
 #[cfg(test)]
 mod runs;
+#[cfg(test)]
+mod settings;
 #[cfg(test)]
 mod telling;
 #[cfg(test)]

@@ -132,19 +132,3 @@ fn the_same_by_any_number_of_workers(rt: HostRuntime) -> Result<(), Fail> {
     }
     Ok(())
 }
-
-#[test]
-fn settings_keep_their_name(rt: HostRuntime) -> Result<(), Fail> {
-    let settings = Settings::new(3, 5, 7)?;
-    assert_eq!(rt; settings.name, None);
-    let named = settings.with_name(Some("a")).with_name(Some("b"));
-    let others = named
-        .keep_going()
-        .with_decimals()
-        .with_output(Output::Texts);
-    assert_eq!(rt; others.name, Some("b"));
-    assert_eq!(rt; (named.workers, named.piece, named.batch), (3, 5, 7));
-    assert!(rt; others.keeps_going && others.decimals && others.output == Output::Texts);
-    assert!(rt; others.with_name(Some("c")).keeps_going && named != settings);
-    Ok(())
-}

@@ -122,17 +122,3 @@ fn a_front_of_each_form_stands_where_the_sink_fails(rt: HostRuntime) -> Result<(
     }
     Ok(())
 }
-
-#[test]
-fn settings_keep_their_form(rt: HostRuntime) -> Result<(), Fail> {
-    let settings = Settings::new(3, 5, 7)?;
-    assert_eq!(rt; settings.output, Output::Nodes);
-    let lines = settings.with_output(Output::Lines);
-    assert_eq!(rt; lines.keep_going().output, Output::Lines);
-    assert_eq!(rt;
-        (lines.workers, lines.piece, lines.batch, lines.keeps_going),
-        (3, 5, 7, false)
-    );
-    assert!(rt; lines.keep_going().with_output(Output::Texts).keeps_going);
-    Ok(())
-}

@@ -55,6 +55,7 @@ fn fault_at(place: u64) -> Option<(RunFault, u8, &'static str)> {
         4 => Some((RunFault::Limit, 4, "limit")),
         5 => Some((RunFault::Memory, 5, "memory")),
         6 => Some((RunFault::Settings, 64, "command line")),
+        7 => Some((RunFault::Filter(QueryFault::IllTyped), 2, "where: type")),
         _ => None,
     }
 }
@@ -66,7 +67,7 @@ fn has_text(alloc: Global, fault: &RunFault, text: &str) -> Result<bool, AllocEr
 
 #[test]
 fn faults_have_their_texts(rt: HostRuntime) -> Result<(), Fail> {
-    for place in 0..7u64 {
+    for place in 0..8u64 {
         let Some((fault, status, text)) = fault_at(place) else {
             panic!(rt; "no fault at {place}");
         };
