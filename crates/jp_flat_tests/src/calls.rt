@@ -161,3 +161,30 @@ fn numbers_of_lines(rt: HostRuntime) {
         assert!(rt; is_numbered(&mut reader, line, *number));
     }
 }
+
+/// Whether the items are numbers with the texts `9.90`, `1e+2` and `12`, of which the last alone is whole.
+fn have_their_texts(root: FlatValue<'_>) -> Option<bool> {
+    let first = root.item(0)?;
+    let second = root.item(1)?;
+    let third = root.item(2)?;
+    let texts = [first.digits(), second.digits(), third.digits()];
+    let wholes = (first.whole(), third.whole());
+    Some(
+        matches!(first.kind(), Kind::Number("9.90"))
+            && texts == [Some("9.90"), Some("1e+2"), Some("12")]
+            && wholes == (None, Some(12)),
+    )
+}
+
+fn reads_texts(alloc: Global) -> Option<bool> {
+    let mut reader = FlatReader::new(alloc);
+    match reader.read_decimal(b"[9.90,1e+2,12]") {
+        Ok(Ok(document)) => have_their_texts(document.root()),
+        _ => None,
+    }
+}
+
+#[test]
+fn numbers_by_their_texts(rt: HostRuntime) {
+    assert!(rt; reads_texts(rt.alloc()) == Some(true));
+}

@@ -10,8 +10,6 @@ mod beside;
 #[cfg(test)]
 mod calls;
 #[cfg(test)]
-mod decimals;
-#[cfg(test)]
 mod kept;
 #[cfg(test)]
 mod lines;

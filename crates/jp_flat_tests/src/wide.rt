@@ -60,20 +60,11 @@ fn is_gathered(alloc: Global, step: u32, twice: bool) -> Result<bool, Fail> {
     gathers_all(alloc, &mut reader, &line)
 }
 
+/// Names in no order, falling, and each twice.
 #[test]
-fn names_in_no_order(rt: HostRuntime) -> Result<(), Fail> {
-    assert!(rt; is_gathered(rt.alloc(), STEP, false)?);
-    Ok(())
-}
-
-#[test]
-fn names_in_falling_order(rt: HostRuntime) -> Result<(), Fail> {
-    assert!(rt; is_gathered(rt.alloc(), COUNT - 1, false)?);
-    Ok(())
-}
-
-#[test]
-fn names_that_come_twice(rt: HostRuntime) -> Result<(), Fail> {
-    assert!(rt; is_gathered(rt.alloc(), STEP, true)?);
+fn names_in_any_order(rt: HostRuntime) -> Result<(), Fail> {
+    for (step, twice) in &[(STEP, false), (COUNT - 1, false), (STEP, true)] {
+        assert!(rt; is_gathered(rt.alloc(), *step, *twice)?, "{step}");
+    }
     Ok(())
 }
