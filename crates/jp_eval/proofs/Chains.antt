@@ -51,6 +51,12 @@ module _ (base : Base) where
   unfolding reached
   reached-end ns = refl
 
+  -- a segment, and then those behind it
+  pub reached-step : (s : Segment) (ss : List Segment) (ns : List Node)
+      → reached base (s ∷ ss) ns ≡ reached base ss (reached base (s ∷ []) ns)
+  unfolding reached
+  reached-step s ss ns = refl
+
   pub reached-flat_map : {X : Type 0} (ss : List Segment) (f : X → List Node) (xs : List X)
       → reached base ss (flat_map f xs) ≡ flat_map (λ x. reached base ss (f x)) xs
   reached-flat_map ss f [] = reached-none ss

@@ -8,6 +8,7 @@ pub mod Answering
 pub mod Filtering
 pub mod Idle
 pub mod WalkSteps
+pub mod OneNode
 pub mod CompiledParts
 pub mod Uniformity
 pub mod Answered

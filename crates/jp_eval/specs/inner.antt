@@ -5,3 +5,4 @@ pub mod Opened
 pub mod Rooted
 pub mod Walk
 pub mod Finding
+pub mod OneNode

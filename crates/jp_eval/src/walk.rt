@@ -17,6 +17,7 @@ ghost use Rattle.jp_eval.specs.inner.Walk.{picked, picked_by, reached, is_true, 
 ghost use Rattle.jp_eval.specs.inner.Walk.{done};
 
 use crate::context::Context;
+use crate::singular::answer_of;
 use jp_children::{ChildRange, place_in, sliced};
 use jp_compiled::{Logical, Nodes, Segment, Selector, Value as Giver, Want};
 use jp_found::{
@@ -430,8 +431,12 @@ fn ask<'v, V: Visit + Drop>(
     // One function asks for each want, here and of `$` queries alike (README, Why so).
     match nodes {
         Nodes::Here(segments) => {
+            let segments = segments.as_slice();
+            if let Some(answer) = answer_of(want, segments, value) {
+                return Ok(answer);
+            }
             let mut found = none_found::<'v, V>(context.alloc, want);
-            run(context, segments.as_slice(), value, path, &mut found)?;
+            run(context, segments, value, path, &mut found)?;
             match into_aggregate(found) {
                 Some(answer) => Ok(answer),
                 None => unreachable!(),

@@ -515,11 +515,22 @@ ask-returns-in-Some-clause-answer g t c =
     let base = base_of c.args.context.now in
     let n = here c.args.path.now c.args.value in
     let want = c.args.want in
-    let nodes = nodes_here base n c.in-Here.segments c.as_slice.result.now want c.as_slice.ensures.value
+    let nodes = nodes_here base n c.in-Here.segments c.as_slice-segments.result.now want c.as_slice-segments.ensures.value
+    ∙ sym (ap (λ q. nodes_given base q want n) c.in-Here.is) in
+    ap (λ ns. tells want ns c.in-Some.answer) (sym nodes)
+    ∙ c.in-Some.ensures base (link_steps c.args.path.now)
+
+pub ask-returns-in-Some-into_aggregate-clause-answer
+    : goal.ask-returns-in-Some-into_aggregate-clause-answer
+ask-returns-in-Some-into_aggregate-clause-answer g t c =
+    let base = base_of c.args.context.now in
+    let n = here c.args.path.now c.args.value in
+    let want = c.args.want in
+    let nodes = nodes_here base n c.in-Here.segments c.as_slice-segments.result.now want c.as_slice-segments.ensures.value
     ∙ sym (ap (λ q. nodes_given base q want n) c.in-Here.is) in
     let held = c.in_ok-run-in-Here.ensures.found
     ∙ ap₂ (plus (put_found g.V.Visit.put)) c.none_found-found.ensures nodes in
-    c.in-Some.ensures.answer want (nodes_given base c.args.nodes.now want n) held
+    c.in-Some-into_aggregate.ensures.answer want (nodes_given base c.args.nodes.now want n) held
 
 pub ask-unreachable-requires : goal.ask-unreachable-requires
 ask-unreachable-requires g t c =
