@@ -3,10 +3,6 @@
 #![tactic(auto)]
 
 #[cfg(test)]
-mod cures;
-#[cfg(test)]
-mod decimals;
-#[cfg(test)]
 mod document_pictures;
 #[cfg(test)]
 mod escapes;
@@ -20,8 +16,6 @@ mod line_pictures;
 mod line_table;
 #[cfg(test)]
 mod literals;
-#[cfg(test)]
-mod near_misses;
 #[cfg(test)]
 mod pattern_table;
 #[cfg(test)]
