@@ -1,10 +1,12 @@
 -- The texts of arrays and objects, a piece at a time.
-use Rattle.std.proofs.Common.{◌≡◌, ◌≢◌, ℕ, ◌≤◌, Bool, true, false, List, [], ◌∷◌, ◌++◌, ap, sym, subst}
+use Rattle.std.proofs.Common.{◌≡◌, ℕ, ◌≤◌, Bool, true, false, List, [], ◌∷◌, ◌++◌, refl, ap, sym, subst}
 use Rattle.std.proofs.Common.{◌∙◌, append_assoc, arith}
+use Rattle.std.proofs.lemmas.Bool.{and_parts}
 use Rattle.std.proofs.lemmas.Bool.Decides.{nat_tests}
+use Rattle.std.specs.List.{list_all}
 use Rattle.std.specs.Prelude.{encode_utf8_all}
 use Rattle.std.specs.Str.{chars}
-use Rattle.json.specs.Print.{escape_byte, quoted}
+use Rattle.json.specs.Print.{escape, escape_byte, quoted}
 use Rattle.serde_json.specs.Written.{comma_if}
 use Rattle.jp_doc.specs.Height.{height}
 use Rattle.jp_doc.specs.Json.{Json, Items, no_items, array, object}
@@ -12,13 +14,21 @@ use Rattle.jp_flat.specs.Gathered.{gathered}
 use Rattle.jp_flat.specs.Value.{flat_value}
 use Rattle.jp_flat.specs.declared.value.FlatMember.{FlatMember}
 use Rattle.jp_part.specs.Inside.{items_inside}
+use Rattle.jp_path_stack.specs.Bare.{stands_bare}
 use Rattle.jp_output.specs.OutputLine.{value_text}
 use Rattle.jp_output.proofs.Texts.{items_left, members_left, array_left, object_left}
 
 -- a byte that stands as it is
-pub plain_byte : (b : ℕ) → 32 ≤ b → b ≢ 34 → b ≢ 92 → escape_byte b ≡ b ∷ []
+plain_byte : (b : ℕ) → stands_bare 34 b ≡ true → escape_byte b ≡ b ∷ []
 unfolding escape_byte
-plain_byte b h q s = grind (arith, nat_tests)
+plain_byte b h = grind (arith, nat_tests)
+
+-- a text of such bytes has no escape
+pub bare_text : (bs : List ℕ) → list_all (stands_bare 34) bs ≡ true → escape bs ≡ bs
+bare_text [] h = refl
+bare_text (b ∷ bs) h =
+    let p = and_parts (stands_bare 34 b) (list_all (stands_bare 34) bs) h in
+    rw (plain_byte b p.0, bare_text bs p.1) refl
 
 -- the text of the items that are left, and the closing bracket
 abbrev pub items_rest : Bool → Json → List ℕ

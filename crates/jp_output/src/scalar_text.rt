@@ -1,11 +1,12 @@
 //! The texts of values with nothing inside (RFC 8259), appended.
 
-ghost use Rattle.std.specs.Prelude.{◌≡◌, ◌++◌, IsTrue, OnOk, codes};
+ghost use Rattle.std.specs.Prelude.{◌≡◌, ◌++◌, OnOk, codes};
 ghost use Rattle.std.specs.Str.{chars};
 ghost use Rattle.json.specs.Print.{escape, quoted};
 ghost use Rattle.jp_output.specs.OutputLine.{truth_text, quoted_text};
 ghost use Rattle.jp_path_stack.specs.Appended.{Extends};
 
+use jp_path_stack::is_bare;
 use json::Writer;
 use std::alloc::{AllocError, Global};
 use std::mem;
@@ -40,23 +41,11 @@ pub(crate) fn append_quoted(
     ensures ok { OnOk result (out.new.items ≡ out.old.items ++ quoted_text (chars text.now)) }
     ensures kept { Extends out.old.items out.new.items }
 {
-    if is_bare(text.as_bytes()) {
+    if is_bare(text.as_bytes(), b'"') {
         return append_bare(text, out);
     }
     make_quoted(alloc, text, scratch)?;
     out.extend_from_slice(scratch.as_slice())
-}
-
-/// Whether no byte needs an escape.
-fn is_bare(bytes: &[u8]) -> bool
-    ensures { IsTrue result → escape bytes.now ≡ bytes.now }
-{
-    for byte in bytes {
-        if *byte < 32 || *byte == b'"' || *byte == b'\\' {
-            return false;
-        }
-    }
-    true
 }
 
 /// Appends a text that needs no escape.

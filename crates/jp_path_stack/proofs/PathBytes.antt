@@ -3,7 +3,7 @@ use Rattle.std.proofs.Common.{◌≡◌, ℕ, ◌/◌, ◌%◌, ◌<◌, ◌≤�
 use Rattle.std.proofs.Common.{◌==◌, Bool, true, false, cond, List, [], ◌∷◌, ◌++◌, refl, ap, sym, ◌∙◌, arith}
 use Rattle.std.proofs.Common.{append_assoc, decimal, codes, inl, inr, ◌⊎◌}
 use Rattle.std.specs.Prelude.{nat_lt, encode_utf8_all}
-use Rattle.std.specs.List.{flat_map, AllByRecursion}
+use Rattle.std.specs.List.{flat_map, list_all, AllByRecursion}
 use Rattle.std.specs.Str.{chars, IsUtf8, IsAscii}
 use Rattle.std.proofs.lemmas.Str.{chars_from_encodes, IsUtf8-append, IsUtf8-from_ascii, encodes-append}
 use Rattle.std.proofs.lemmas.Str.{encode_ascii, encodes-chars, scalars-chars, encodes-IsAscii}
@@ -15,6 +15,7 @@ use Rattle.std.proofs.lemmas.Bool.Decides.{nat_tests}
 use borrow.Author.Tests.{ltb-true, ltb-false}
 use lib.Utf8.{encode, next, scalar, scalars, low_scalar}
 use Rattle.jp_doc.specs.Location.{name, index}
+use Rattle.jp_path_stack.specs.Bare.{stands_bare}
 use Rattle.jp_path_stack.specs.Path.{escaped, hex_digit, step_text}
 
 -- a text of ASCII alone is its own bytes
@@ -59,6 +60,16 @@ escaped_own c h =
 -- what is beyond ASCII stands bare
 bare : (c : ℕ) → 128 ≤ c → escaped c ≡ c ∷ []
 bare c h = grind (arith, nat_tests)
+
+-- so does each byte of a name that none is escaped in
+one_bare : (c : ℕ) → stands_bare 39 c ≡ true → escaped c ≡ c ∷ []
+one_bare c h = grind (arith, nat_tests)
+
+pub name_bare : (bs : List ℕ) → list_all (stands_bare 39) bs ≡ true → flat_map escaped bs ≡ bs
+name_bare [] h = refl
+name_bare (b ∷ bs) h =
+    let p = and_parts (stands_bare 39 b) (list_all (stands_bare 39) bs) h in
+    rw (one_bare b p.0, name_bare bs p.1) refl
 
 -- all bytes are beyond ASCII
 abbrev AreBeyond : List ℕ → Type 0

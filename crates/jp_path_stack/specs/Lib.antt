@@ -1,4 +1,5 @@
 pub mod Path
+pub mod Bare
 pub mod Links
 pub mod Appended
 pub mod inner

@@ -1,6 +1,6 @@
 //! The text of one step of a normalized path (RFC 9535, 2.7).
 
-ghost use Rattle.std.specs.Prelude.{◌≡◌, ◌++◌, ◌<◌, ◌∷◌, ◌/◌, ◌%◌, [], OnOk, IsTrue, encode_utf8_all};
+ghost use Rattle.std.specs.Prelude.{◌≡◌, ◌++◌, ◌<◌, ◌∷◌, ◌/◌, ◌%◌, [], OnOk, encode_utf8_all};
 ghost use Rattle.std.specs.List.{flat_map};
 ghost use Rattle.std.specs.Str.{chars, IsUtf8};
 ghost use Rattle.jp_doc.specs.Location as at;
@@ -8,6 +8,7 @@ ghost use Rattle.jp_path_stack.specs.Appended.{Extends};
 ghost use Rattle.jp_path_stack.specs.Links.{link_bytes};
 ghost use Rattle.jp_path_stack.specs.Path.{step_text, escaped, hex_digit as hex_digit_of};
 
+use crate::bare_text::is_bare;
 use crate::link::Link;
 use itoa::Buffer;
 use std::alloc::AllocError;
@@ -59,25 +60,13 @@ fn append_escaped(name: &str, out: &mut Vec<u8>) -> Result<(), AllocError>
     ensures kept { Extends out.old.items out.new.items }
 {
     // Most names have no escape: they are copied at once, and not byte by byte.
-    if is_bare(name.as_bytes()) {
+    if is_bare(name.as_bytes(), b'\'') {
         return out.extend_from_slice(name.as_bytes());
     }
     for byte in name.as_bytes() {
         append_byte(*byte, out)?;
     }
     Ok(())
-}
-
-/// Whether no byte has an escape.
-fn is_bare(bytes: &[u8]) -> bool
-    ensures { IsTrue result → flat_map escaped bytes.now ≡ bytes.now }
-{
-    for byte in bytes {
-        if *byte < 32 || *byte == b'\'' || *byte == b'\\' {
-            return false;
-        }
-    }
-    true
 }
 
 /// Appends a byte, or its escape.
