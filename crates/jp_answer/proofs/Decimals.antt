@@ -1,22 +1,21 @@
 -- The answer with decimals where no line is faulty without, and what is wrong with a line with them.
-use Rattle.std.proofs.Common.{◌≡◌, ℕ, List, [], ◌∷◌, ◌++◌, Option, Some, None, Result, Ok, Err, refl, sym, ap}
-use Rattle.std.proofs.Common.{◌∙◌, flat_map}
+use Rattle.std.proofs.Common.{◌≡◌, ℕ, List, [], ◌∷◌, Option, Some, None, Result, Ok, Err, refl, sym, ap, ◌∙◌}
+use Rattle.jp_number.specs.declared.numbers.Numbers.TheVariants.{Whole, Decimals}
 use Rattle.jp_doc.specs.Json.{Json}
 use Rattle.jp_doc.specs.Lines.{Line}
 use Rattle.jp_doc.specs.Reading.{reading}
-use Rattle.jp_doc.specs.ReadingIn.{whole_numbers, decimals, reading_in}
+use Rattle.jp_doc.specs.ReadingIn.{reading_in}
 use Rattle.jp_doc.specs.declared.fault.DocFault.{DocFault}
 use Rattle.jp_doc.proofs.ReadingInLaws.{same_reading}
 use Rattle.jp_regexp.specs.Tests.{Tests}
 use Rattle.jp_output.specs.OutputForm.{OutputForm}
-use Rattle.jp_answer.specs.Answer.{answer_as, line_answer}
-use Rattle.jp_answer.specs.Faults.{fault_or, first_fault}
+use Rattle.jp_answer.specs.Answer.{joined}
+use Rattle.jp_answer.specs.Faults.{fault_in, fault_or, faulty_lines, first_fault}
 use Rattle.jp_answer.specs.FilteredQuery.{FilteredQuery}
-use Rattle.jp_answer.specs.OnFault.{answer_on, passed_on, fault_in}
-use Rattle.jp_answer.specs.Whole.{line_bytes, document_or_fault, faulty_lines}
 use Rattle.jp_answer.specs.declared.on_fault.OnFault.{OnFault}
 use Rattle.jp_answer.specs.declared.on_fault.OnFault.TheVariants.{Stop, KeepGoing}
-use Rattle.jp_answer.proofs.OnFaults.{passed_document}
+use Rattle.jp_answer.proofs.Joining.{answer_on, cons_on, line_answer, none_before, none_on}
+use Rattle.jp_answer.proofs.OnFaults.{passed_document, passed_on}
 
 rest_none : (number : ℕ) (r : Result Json DocFault) (o : Option (ℕ × DocFault)) → fault_or number r o ≡ None
     → o ≡ None
@@ -30,54 +29,43 @@ read_here number (Err f) o h = absurd (cc)
 
 -- the line is read the same
 same_line : (l : Line) (o : Option (ℕ × DocFault)) → fault_or l.0 (reading l.1) o ≡ None
-    → reading_in decimals l.1 ≡ reading l.1
+    → reading_in Decimals l.1 ≡ reading l.1
 same_line l o h =
     let (root, is) = read_here l.0 (reading l.1) o h in
-    same_reading decimals l.1 root is ∙ sym is
+    same_reading Decimals l.1 root is ∙ sym is
 
-later : (l : Line) (ls : List Line) → first_fault whole_numbers (l ∷ ls) ≡ None
-    → first_fault whole_numbers ls ≡ None
-later l ls h = rest_none l.0 (reading l.1) (first_fault whole_numbers ls) h
+later : (l : Line) (ls : List Line) → first_fault Whole (l ∷ ls) ≡ None
+    → first_fault Whole ls ≡ None
+later l ls h = rest_none l.0 (reading l.1) (first_fault Whole ls) h
 
-module _ (form : OutputForm) (t : Tests) (q : FilteredQuery) where
-  same_stopping : (ls : List Line) → first_fault whole_numbers ls ≡ None
-      → answer_as decimals form t q ls ≡ answer_as whole_numbers form t q ls
-  same_stopping [] h = refl
-  same_stopping (l ∷ ls) h =
-      ap (λ r. line_answer form t q l r (answer_as decimals form t q ls))
-      (same_line l (first_fault whole_numbers ls) h)
-      ∙ ap (line_answer form t q l (reading l.1)) (same_stopping ls (later l ls h))
+module _ (form : OutputForm) (t : Tests) (q : FilteredQuery) (k : OnFault) where
+  pub same_answer : (ls : List Line) → first_fault Whole ls ≡ None
+      → answer_on Decimals form t q k ls ≡ answer_on Whole form t q k ls
+  same_answer [] h = none_on Decimals form t q k ∙ sym (none_on Whole form t q k)
+  same_answer (l ∷ ls) h =
+      cons_on Decimals form t q k l ls
+      ∙ ap (λ r. joined (line_answer form t q k l r) (answer_on Decimals form t q k ls))
+      (same_line l (first_fault Whole ls) h)
+      ∙ ap (joined (line_answer form t q k l (reading l.1))) (same_answer ls (later l ls h))
+      ∙ sym (cons_on Whole form t q k l ls)
 
-  same_bytes : (ls : List Line) → first_fault whole_numbers ls ≡ None
-      → flat_map (line_bytes decimals form t q) ls ≡ flat_map (line_bytes whole_numbers form t q) ls
-  same_bytes [] h = refl
-  same_bytes (l ∷ ls) h =
-      ap (λ r. document_or_fault form t q l r ++ flat_map (line_bytes decimals form t q) ls)
-      (same_line l (first_fault whole_numbers ls) h)
-      ∙ ap (λ bs. line_bytes whole_numbers form t q l ++ bs) (same_bytes ls (later l ls h))
-
-  pub same_answer : (k : OnFault) (ls : List Line) → first_fault whole_numbers ls ≡ None
-      → answer_on decimals k form t q ls ≡ answer_on whole_numbers k form t q ls
-  same_answer Stop ls h = same_stopping ls h
-  same_answer KeepGoing ls h = ap (λ bs. record { bytes = bs; stopped = None }) (same_bytes ls h)
-
-pub no_fault : (ls : List Line) → first_fault whole_numbers ls ≡ None → first_fault decimals ls ≡ None
+pub no_fault : (ls : List Line) → first_fault Whole ls ≡ None → first_fault Decimals ls ≡ None
 no_fault [] h = refl
 no_fault (l ∷ ls) h =
     let none = later l ls h in
-    ap (λ r. fault_or l.0 r (first_fault decimals ls)) (same_line l (first_fault whole_numbers ls) h)
+    ap (λ r. fault_or l.0 r (first_fault Decimals ls)) (same_line l (first_fault Whole ls) h)
     ∙ ap (fault_or l.0 (reading l.1)) (no_fault ls none ∙ sym none) ∙ h
 
-none_faulty : (ls : List Line) → first_fault whole_numbers ls ≡ None → faulty_lines decimals ls ≡ 0
+none_faulty : (ls : List Line) → first_fault Whole ls ≡ None → faulty_lines Decimals ls ≡ 0
 none_faulty [] h = refl
 none_faulty (l ∷ ls) h =
-    let (root, is) = read_here l.0 (reading l.1) (first_fault whole_numbers ls) h in
-    passed_document decimals KeepGoing l ls (ap fault_in (same_reading decimals l.1 root is))
+    let (root, is) = read_here l.0 (reading l.1) (first_fault Whole ls) h in
+    passed_document Decimals KeepGoing l ls (ap fault_in (same_reading Decimals l.1 root is))
     ∙ none_faulty ls (later l ls h)
 
-pub none_passed : (k : OnFault) (ls : List Line) → first_fault whole_numbers ls ≡ None
-    → passed_on decimals k ls ≡ 0
-none_passed Stop ls h = refl
+pub none_passed : (k : OnFault) (ls : List Line) → first_fault Whole ls ≡ None
+    → passed_on Decimals k ls ≡ 0
+none_passed Stop ls h = none_before Decimals ls
 none_passed KeepGoing ls h = none_faulty ls h
 
 is_fault : (r : Result Json DocFault) (f : DocFault) → Some f ≡ fault_in r → r ≡ Err f
@@ -86,6 +74,6 @@ is_fault (Err g) f e = let same : f ≡ g = cc in ap (λ (h : DocFault). Err h) 
 
 -- what is wrong with a line with decimals where it has no value of whole numbers
 pub wrong_so : (line : List ℕ) (f g : DocFault)
-    → ((h : DocFault) → reading line ≡ Err h → reading_in decimals line ≡ Err f)
-    → Some g ≡ fault_in (reading line) → Some f ≡ fault_in (reading_in decimals line)
+    → ((h : DocFault) → reading line ≡ Err h → reading_in Decimals line ≡ Err f)
+    → Some g ≡ fault_in (reading line) → Some f ≡ fault_in (reading_in Decimals line)
 wrong_so line f g told e = sym (ap fault_in (told g (is_fault (reading line) g e)))

@@ -7,19 +7,19 @@ use Rattle.std.specs.Prelude.{IsSome, is_some}
 use Rattle.std.proofs.lemmas.List.{drop-drop, map-append}
 use Rattle.std.proofs.lemmas.List.Elements.{All-head, All-nil, All-push, All-tail}
 use Rattle.jp_board.specs.Limits.{max_pieces}
+use Rattle.jp_number.specs.declared.numbers.Numbers.{Numbers}
 use Rattle.jp_buffer.specs.Buffered.{line_at}
 use Rattle.jp_buffer.specs.declared.line_ref.LineRef.{LineRef}
 use Rattle.jp_doc.specs.Lines.{Line}
-use Rattle.jp_doc.specs.ReadingIn.{Numbers}
 use Rattle.jp_doc.specs.declared.fault.DocFault.{DocFault}
 use Rattle.jp_nodes.specs.declared.visit.Visit as visit
 use Rattle.jp_output.specs.OutputForm.{OutputForm}
 use Rattle.jp_output.specs.declared.form.Form as form
 use Rattle.jp_answer.specs.Answer.{Answer, joined, nothing, unless_stopped}
+use Rattle.jp_answer.specs.Answered.{outcome_of}
 use Rattle.jp_answer.specs.Asking.{asked_query}
 use Rattle.jp_answer.specs.Blocks.{IsTaskAnswer}
-use Rattle.jp_answer.specs.OnFault.{passed_in, passed_on, stop_in, stop_on}
-use Rattle.jp_answer.specs.Policy.{numbers_in}
+use Rattle.jp_answer.specs.Policy.{passed_in, stop_in, stop_on}
 use Rattle.jp_answer.specs.Queued.{sent_lines, sent_task}
 use Rattle.jp_answer.specs.inner.Gathering.{asked_answer, Gathers, GathersOn, HasPut, IsAllOf, gathered_of}
 use Rattle.jp_answer.specs.declared.asked.Asked.{Asked}
@@ -32,8 +32,9 @@ use Rattle.jp_answer.specs.declared.policy.LinePolicy.{LinePolicy}
 use Rattle.jp_answer.specs.declared.queue.Queue.{Queue}
 use Rattle.jp_answer.specs.declared.queue.Sent.{Sent}
 use Rattle.jp_answer.specs.declared.task.Task.{Task}
-use Rattle.jp_answer.proofs.Joining.{joined_assoc}
+use Rattle.jp_answer.proofs.Joining.{joined_assoc, none_before, nothing_first}
 use Rattle.jp_answer.proofs.OnFaults.{formed_joined, nothing_in, passed_few, passed_joined, passed_none}
+use Rattle.jp_answer.proofs.OnFaults.{passed_on}
 use Rattle.jp_answer.proofs.Streams.{joined_nothing}
 
 -- an answer that stops says so of its policy
@@ -42,10 +43,10 @@ stops_on n Stop ls = inr refl
 stops_on n KeepGoing ls = inl refl
 
 stops_in : (p : LinePolicy) (ls : List Line) → (stop_in p ls ≡ None) ⊎ (p.on_fault ≡ Stop)
-stops_in p ls = stops_on (numbers_in p.numbers) p.on_fault ls
+stops_in p ls = stops_on p.numbers p.on_fault ls
 
 none_on : (n : Numbers) (k : OnFault) (ls : List Line) → k ≡ Stop → passed_on n k ls ≡ 0
-none_on n Stop ls e = refl
+none_on n Stop ls e = none_before n ls
 none_on n KeepGoing ls e = absurd (cc)
 
 -- what has stopped is all
@@ -58,7 +59,20 @@ not_both None e h = absurd (cc)
 not_both (Some s) e h = absurd (cc)
 
 joined_first : (d : Answer) (a : Answer) → d ≡ nothing → joined d a ≡ a
-joined_first d a e = ap (λ (x : Answer). joined x a) e
+joined_first d a e = ap (λ (x : Answer). joined x a) e ∙ nothing_first a
+
+-- the answer to a task is put behind what was gathered, which has not stopped
+pub has_put : (form : List ℕ → OutputForm) (task : Task) (before after : Gathered) (more : Outcome)
+    → (gathered_of before).stopped ≡ None → IsTaskAnswer form task more
+    → gathered_of after ≡ joined (gathered_of before) (outcome_of more) → HasPut form task before after
+has_put form task before after more unstopped is put =
+    let plain : gathered_of after ≡ unless_stopped None (gathered_of before) (outcome_of more) =
+    put ∙ ap (λ s. unless_stopped s (gathered_of before) (outcome_of more)) unstopped in
+    record {
+      answer = λ t right. put ∙ ap (joined (gathered_of before)) (sym (is.answer t right));
+      passed = ap (λ (a : Answer). a.faulty) plain ∙ ap (λ n. before.faulty + n) (sym is.passed);
+      stopped = ap (λ (a : Answer). a.stopped) plain ∙ sym is.stopped;
+    }
 
 module _ {F : Type 0} {g : form.Ghosts F} {v : visit.Ghosts F} where
   lines_push : (out : List (Sent F g v)) (s : Sent F g v)
@@ -159,7 +173,7 @@ module _ {F : Type 0} {g : form.Ghosts F} {v : visit.Ghosts F} where
           (λ e. omega (
             arith,
             h.passed,
-            none_on (numbers_in asked.policy.numbers) asked.policy.on_fault (sent_lines out ++ rest) e,
+            none_on asked.policy.numbers asked.policy.on_fault (sent_lines out ++ rest) e,
           ))
           h.stops;
     }

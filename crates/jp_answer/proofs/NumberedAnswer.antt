@@ -2,11 +2,12 @@
 use Rattle.std.proofs.Common.{◌≡◌, ℕ, ◌+◌, ◌<◌, ◌≤◌, ◌^◌, Bool, true, false, not, cond, List, [], ◌∷◌, ◌++◌}
 use Rattle.std.proofs.Common.{length, map, Result, Ok, Err, refl, sym, ap, ap₂, ◌∙◌, subst, arith}
 use Rattle.std.specs.List.{AllByRecursion, filter, enumerate_from}
+use Rattle.jp_number.specs.declared.numbers.Numbers.{Numbers}
 use Rattle.jp_doc.specs.Json.{Json}
 use Rattle.jp_doc.specs.Lines.{Line, lines, all_lines, is_blank, line_count}
 use Rattle.jp_doc.specs.Location.{Node}
 use Rattle.jp_doc.specs.NumbersWithin.{HasJsonNumbers}
-use Rattle.jp_doc.specs.ReadingIn.{Numbers, reading_in}
+use Rattle.jp_doc.specs.ReadingIn.{reading_in}
 use Rattle.jp_doc.proofs.ReadingInLaws.{read_numbers}
 use Rattle.jp_doc.specs.declared.fault.DocFault.{DocFault}
 use Rattle.jp_regexp.specs.Tests.{Tests}
@@ -15,9 +16,11 @@ use Rattle.jp_output.specs.NumberedLines.{AreNumberedAbove, of_documents, lines_
 use Rattle.jp_output.specs.NumberedLines.{lines_numbered}
 use Rattle.jp_output.specs.OutputForm.{OutputForm, node_lines, input_lines}
 use Rattle.jp_output.proofs.NumberedLines.{lines_are}
-use Rattle.jp_answer.specs.Answer.{Answer, answer_as, line_answer}
+use Rattle.jp_answer.specs.Answer.{Answer, joined}
 use Rattle.jp_answer.specs.FilteredQuery.{FilteredQuery, selected_nodes}
+use Rattle.jp_answer.specs.declared.on_fault.OnFault.TheVariants.{Stop}
 use Rattle.jp_answer.proofs.Chosen.{selected_numbers}
+use Rattle.jp_answer.proofs.Joining.{answer_on, cons_on, line_answer, none_on}
 
 -- lines without nodes
 abbrev unread : List Line → List (Line × List Node)
@@ -69,18 +72,19 @@ module _ (n : Numbers) (t : Tests) (q : FilteredQuery) where
 
     said_of_one : (l : Line) (r : Result Json DocFault) (ls : List Line) (ds : List (Line × List Node))
         (a : Answer) → of_documents form ds ≡ a.bytes
-        → of_documents form (on_line l r ls ds) ≡ (line_answer form t q l r a).bytes
+        → of_documents form (on_line l r ls ds) ≡ (joined (line_answer form t q Stop l r) a).bytes
     said_of_one l (Ok root) ls ds a h = ap (λ b. form.of_document l (selected_nodes t root q) ++ b) h
     said_of_one l (Err fault) ls ds a h = unsaid (l ∷ ls)
 
-    said : (ls : List Line) → of_documents form (documents ls) ≡ (answer_as n form t q ls).bytes
-    said [] = refl
+    said : (ls : List Line) → of_documents form (documents ls) ≡ (answer_on n form t q Stop ls).bytes
+    said [] = sym (ap (λ (a : Answer). a.bytes) (none_on n form t q Stop))
     said (l ∷ ls) =
-        said_of_one l (reading_in n l.1) ls (documents ls) (answer_as n form t q ls) (said ls)
+        said_of_one l (reading_in n l.1) ls (documents ls) (answer_on n form t q Stop ls) (said ls)
+        ∙ sym (ap (λ (a : Answer). a.bytes) (cons_on n form t q Stop l ls))
 
   pub numbered_answer : (ls : List Line) → AreNumberedAbove 0 ls
-      → (answer_as n input_lines t q ls).bytes
-      ≡ lines_numbered (first_fields (answer_as n node_lines t q ls).bytes) ls
+      → (answer_on n input_lines t q Stop ls).bytes
+      ≡ lines_numbered (first_fields (answer_on n node_lines t q Stop ls).bytes) ls
   numbered_answer ls h =
       sym (said input_lines (λ l. refl) ls)
       ∙ lines_are 0 (documents ls) (subst (AreNumberedAbove 0) (sym (their_lines ls)) h) (their_numbers ls)

@@ -1,6 +1,6 @@
 -- The lines of a stream that is cut between two lines, and the answer to it block by block.
 use Rattle.std.proofs.Common.{◌≡◌, ℕ, zero, suc, ◌+◌, inl, inr, List, [], ◌∷◌, ◌++◌, Option, Some, None}
-use Rattle.std.proofs.Common.{refl, ap, sym, ◌∙◌, arith, length, map, length-append, append-nil}
+use Rattle.std.proofs.Common.{refl, ap, ap₂, sym, ◌∙◌, arith, length, map, length-append, append-nil}
 use Rattle.std.specs.List.{concat}
 use Rattle.jp_doc.specs.Feeding.{numbered}
 use Rattle.jp_doc.specs.Lines.{Line, all_lines, lines, line_count}
@@ -44,8 +44,9 @@ lines_both a b whole =
 joined_nothing_by : (stop : Option (ℕ × DocFault)) (a : Answer) → a.stopped ≡ stop
     → unless_stopped stop a nothing ≡ a
 joined_nothing_by None a e =
-    ap (λ bytes. record { bytes = bytes; stopped = None }) (append-nil a.bytes)
-    ∙ ap (λ stop. record { bytes = a.bytes; stopped = stop }) (sym e)
+    let count : a.faulty + 0 ≡ a.faulty = omega arith in
+    ap₂ (λ bytes n. record { bytes = bytes; stopped = None; faulty = n }) (append-nil a.bytes) count
+    ∙ ap (λ stop. record { bytes = a.bytes; stopped = stop; faulty = a.faulty }) (sym e)
 joined_nothing_by (Some stop) a e = refl
 
 pub joined_nothing : (a : Answer) → joined a nothing ≡ a

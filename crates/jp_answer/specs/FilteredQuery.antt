@@ -1,10 +1,11 @@
 -- What is asked of each document: a query, of those that make a filter true.
 use Rattle.std.specs.Prelude.{Bool, true, List, [], Option, Some, None, Result, Ok, Err, cond}
 use Rattle.std.specs.List.{filter as lines_of}
+use Rattle.jp_number.specs.declared.numbers.Numbers.{Numbers}
 use Rattle.jp_doc.specs.Json.{Json}
 use Rattle.jp_doc.specs.Lines.{Line}
 use Rattle.jp_doc.specs.Location.{Node}
-use Rattle.jp_doc.specs.ReadingIn.{Numbers, reading_in}
+use Rattle.jp_doc.specs.ReadingIn.{reading_in}
 use Rattle.jp_doc.specs.declared.fault.DocFault.{DocFault}
 use Rattle.jp_tree.specs.Tree.{Query, Logical}
 use Rattle.jp_regexp.specs.Tests.{Tests}

@@ -4,10 +4,8 @@ pub mod Asking
 pub mod Blocks
 pub mod Faults
 pub mod FilteredQuery
-pub mod OnFault
 pub mod Policy
 pub mod Queued
 pub mod Ranges
 pub mod Streams
-pub mod Whole
 pub mod inner

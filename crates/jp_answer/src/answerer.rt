@@ -5,7 +5,6 @@ ghost use Rattle.jp_buffer.specs.Buffered.{line_at};
 ghost use Rattle.jp_board.specs.Limits.{max_pieces};
 ghost use Rattle.jp_answer.specs.Asking.{asked_query};
 ghost use Rattle.jp_answer.specs.Blocks.{IsAnswerTo, IsTaskAnswer};
-ghost use Rattle.jp_answer.specs.OnFault.{manner};
 
 use crate::answering::{Tools, answer_lines};
 use crate::asked::Asked;
@@ -45,7 +44,7 @@ impl Answerer {
         lines: &[LineRef<'_>],
     ) -> Result<Outcome, AllocError>
         requires { length lines.now ≤ max_pieces }
-        ensures { IfOk result (IsAnswerTo (manner (F.says asked.now.head.now) asked.now.policy)
+        ensures { IfOk result (IsAnswerTo (F.says asked.now.head.now) asked.now.policy
             (asked_query asked.now) (map line_at lines.now)) }
     {
         // The evaluator is of these lines' own query: no clause says that all ask the same (README, Why so).

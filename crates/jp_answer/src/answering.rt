@@ -2,20 +2,22 @@
 
 ghost use Rattle.std.specs.Prelude.{◌≡◌, ◌≢◌, ◌≤◌, ◌++◌, ℕ, List, Err, IfOk, length, map};
 ghost use Rattle.std.specs.List.{fold};
+ghost use Rattle.jp_number.specs.declared.numbers.Numbers.TheVariants.{Decimals};
 ghost use Rattle.jp_buffer.specs.Buffered.{line_at};
 ghost use Rattle.jp_doc.specs.Location.{Node};
 ghost use Rattle.jp_doc.specs.Reading.{reading};
-ghost use Rattle.jp_doc.specs.ReadingIn.{decimals, reading_in};
+ghost use Rattle.jp_doc.specs.ReadingIn.{reading_in};
 ghost use Rattle.jp_part.specs.Part.{part_value};
 ghost use Rattle.jp_regexp.specs.Tests.{Tests, AreRight};
 ghost use Rattle.jp_board.specs.Limits.{max_pieces};
-ghost use Rattle.jp_answer.specs.Answer.{document_bytes};
+ghost use Rattle.jp_answer.specs.Answer.{answer_by, document_bytes};
 ghost use Rattle.jp_answer.specs.Answered.{outcome_of};
 ghost use Rattle.jp_answer.specs.Asking.{asked_query};
-ghost use Rattle.jp_answer.specs.OnFault.{answer_by, stop_in, passed_in, given, fault_in};
-ghost use Rattle.jp_answer.specs.Policy.{reading_by};
+ghost use Rattle.jp_answer.specs.Faults.{fault_in};
+ghost use Rattle.jp_answer.specs.Policy.{reading_by, stop_in, passed_in};
 ghost use Rattle.jp_answer.specs.declared.on_fault.OnFault.TheVariants.{Stop, KeepGoing};
 ghost use Rattle.jp_answer.specs.inner.Filtered.{filtered_query};
+ghost use Rattle.jp_answer.specs.inner.Giving.{given};
 
 use crate::asked::Asked;
 use crate::crew::Crew;
@@ -187,8 +189,8 @@ fn add_decimal<R: Threads + Sync, G, F: Form + Drop + Send>(
 ) -> Result<(F, Option<DocFault>), AllocError>
     ensures lines { IfOk result (λ r. (t : Tests) → AreRight t → F.written r.0
         ≡ F.written written ++ given (F.form written) asked.now.policy.on_fault t
-        (filtered_query tools.old.evaluator) (line_at line.now) (reading_in decimals line.now.bytes.now)) }
-    ensures fault { IfOk result (λ r. r.1 ≡ fault_in (reading_in decimals line.now.bytes.now)) }
+        (filtered_query tools.old.evaluator) (line_at line.now) (reading_in Decimals line.now.bytes.now)) }
+    ensures fault { IfOk result (λ r. r.1 ≡ fault_in (reading_in Decimals line.now.bytes.now)) }
     ensures form { IfOk result (λ r. (t : Tests) → AreRight t → F.form r.0 ≡ F.form written) }
     ensures query { filtered_query tools.new.evaluator ≡ filtered_query tools.old.evaluator }
 {
@@ -231,12 +233,12 @@ fn add_over<R: Threads + Sync, G, F: Form + Drop + Send>(
     written: F,
 ) -> Result<(F, Option<DocFault>), AllocError>
     requires fault { (f : DocFault) → reading line.now.bytes.now ≡ Err f
-        → reading_in decimals line.now.bytes.now ≡ Err fault }
+        → reading_in Decimals line.now.bytes.now ≡ Err fault }
     requires memory { fault ≢ DocFault.Memory }
     ensures lines { IfOk result (λ r. (t : Tests) → AreRight t → F.written r.0
         ≡ F.written written ++ given (F.form written) asked.now.policy.on_fault t
-        (filtered_query evaluator.old) (line_at line.now) (reading_in decimals line.now.bytes.now)) }
-    ensures fault { IfOk result (λ r. r.1 ≡ fault_in (reading_in decimals line.now.bytes.now)) }
+        (filtered_query evaluator.old) (line_at line.now) (reading_in Decimals line.now.bytes.now)) }
+    ensures fault { IfOk result (λ r. r.1 ≡ fault_in (reading_in Decimals line.now.bytes.now)) }
     ensures form { IfOk result (λ r. (t : Tests) → AreRight t → F.form r.0 ≡ F.form written) }
     ensures query { filtered_query evaluator.new ≡ filtered_query evaluator.old }
 {

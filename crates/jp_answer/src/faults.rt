@@ -2,9 +2,9 @@
 
 ghost use Rattle.std.specs.Prelude.{◌≡◌, IfOk};
 ghost use Rattle.jp_doc.specs.Reading.{reading};
-ghost use Rattle.jp_doc.specs.ReadingIn.{decimals, reading_in};
-ghost use Rattle.jp_answer.specs.OnFault.{fault_in};
-ghost use Rattle.jp_answer.specs.Policy.{numbers_in};
+ghost use Rattle.jp_doc.specs.ReadingIn.{reading_in};
+ghost use Rattle.jp_number.specs.declared.numbers.Numbers.TheVariants.{Decimals};
+ghost use Rattle.jp_answer.specs.Faults.{fault_in};
 
 use jp_doc::{DocFault, Document};
 use jp_flat::FlatReader;
@@ -19,7 +19,7 @@ pub fn line_fault(
     numbers: Numbers,
     line: &[u8],
 ) -> Result<Option<DocFault>, AllocError>
-    ensures { IfOk result (λ o. o ≡ fault_in (reading_in (numbers_in numbers) line.now)) }
+    ensures { IfOk result (λ o. o ≡ fault_in (reading_in numbers line.now)) }
 {
     match numbers {
         Numbers::Whole => whole_fault(alloc, line),
@@ -41,7 +41,7 @@ fn whole_fault(alloc: Global, line: &[u8]) -> Result<Option<DocFault>, AllocErro
 /// The same, where they need not be whole: it is what the grammar alone tells, unless the line has a value of
 /// whole numbers.
 fn decimal_fault(alloc: Global, line: &[u8]) -> Result<Option<DocFault>, AllocError>
-    ensures { IfOk result (λ o. o ≡ fault_in (reading_in decimals line.now)) }
+    ensures { IfOk result (λ o. o ≡ fault_in (reading_in Decimals line.now)) }
 {
     let mut reader = FlatReader::new(alloc);
     let fault = match reader.read_decimal(line)? {

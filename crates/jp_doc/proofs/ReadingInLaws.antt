@@ -12,7 +12,9 @@ use Rattle.jp_doc.specs.Height.{height}
 use Rattle.jp_doc.specs.Json.{Json}
 use Rattle.jp_doc.specs.NumbersWithin.{AllNumbers, HasJsonNumbers}
 use Rattle.jp_doc.specs.Reading.{max_line, max_items, has_long_array, reading}
-use Rattle.jp_doc.specs.ReadingIn.{Numbers, whole_numbers, decimals, max_tokens, has_long_number}
+use Rattle.jp_number.specs.declared.numbers.Numbers.{Numbers}
+use Rattle.jp_number.specs.declared.numbers.Numbers.TheVariants.{Whole, Decimals}
+use Rattle.jp_doc.specs.ReadingIn.{max_tokens, has_long_number}
 use Rattle.jp_doc.specs.ReadingIn.{document_of, tree_reading, or_else, reading_in}
 use Rattle.jp_doc.specs.Rising.{IsRising}
 use Rattle.jp_doc.specs.Tree.{tree_of, tree_json}
@@ -30,13 +32,13 @@ use Rattle.jp_number.specs.Number.{IsShort}
 -- ---- with decimals nothing that is read changes
 
 pub same_reading : (n : Numbers) (line : List ℕ) (v : Json) → reading line ≡ Ok v → reading_in n line ≡ Ok v
-same_reading whole_numbers line v e = e
-same_reading decimals line v e = ap (λ r. or_else r (tree_reading line)) e
+same_reading Whole line v e = e
+same_reading Decimals line v e = ap (λ r. or_else r (tree_reading line)) e
 
 pub same_long_line : (n : Numbers) (line : List ℕ) → reading line ≡ Err LongLine
     → reading_in n line ≡ Err LongLine
-same_long_line whole_numbers line e = e
-same_long_line decimals line e = ap (λ r. or_else r (tree_reading line)) e
+same_long_line Whole line e = e
+same_long_line Decimals line e = ap (λ r. or_else r (tree_reading line)) e
 
 -- ---- what the tree tells
 
@@ -83,7 +85,7 @@ too_long line P short e = let long = long_line_is_long line e in absurd (omega (
 
 -- of a line that is not too long the tree alone tells, where it has a value, or where `reading` has none
 pub value_by_tree : (line : List ℕ) (v : Json) → length line ≤ max_line → tree_reading line ≡ Ok v
-    → reading_in decimals line ≡ Ok v
+    → reading_in Decimals line ≡ Ok v
 value_by_tree line v short h = go (reading line) refl
   where
     go : (r : Result Json DocFault) → reading line ≡ r → or_else r (tree_reading line) ≡ Ok v
@@ -99,7 +101,7 @@ value_by_tree line v short h = go (reading line) refl
     go (Err Memory) e = h
 
 pub fault_by_tree : (line : List ℕ) (f : DocFault) → length line ≤ max_line → reading line ≡ Err f
-    → reading_in decimals line ≡ tree_reading line
+    → reading_in Decimals line ≡ tree_reading line
 fault_by_tree line LongLine short e = too_long line _ short e
 fault_by_tree line Unreadable short e = ap (λ r. or_else r (tree_reading line)) e
 fault_by_tree line NotWhole short e = ap (λ r. or_else r (tree_reading line)) e
@@ -159,8 +161,8 @@ of_either line (Err LongArray) v e h = of_decimals line v h
 of_either line (Err Memory) v e h = of_decimals line v h
 
 is_read : (n : Numbers) (line : List ℕ) (v : Json) → reading_in n line ≡ Ok v → IsRead v
-is_read whole_numbers line v h = of_whole line v h
-is_read decimals line v h = of_either line (reading line) v refl h
+is_read Whole line v h = of_whole line v h
+is_read Decimals line v h = of_either line (reading line) v refl h
 
 pub read_rises : (n : Numbers) (line : List ℕ) (v : Json) → reading_in n line ≡ Ok v → IsRising v
 read_rises n line v h = (is_read n line v h).rises

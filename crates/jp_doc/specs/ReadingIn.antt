@@ -8,14 +8,11 @@ use Rattle.jp_doc.specs.Json.{Json}
 use Rattle.jp_doc.specs.Reading.{max_items, reading}
 use Rattle.jp_doc.specs.Tree.{tree_of, text_number, tree_json}
 use Rattle.jp_number.specs.Number.{is_short}
+use Rattle.jp_number.specs.declared.numbers.Numbers.{Numbers}
+use Rattle.jp_number.specs.declared.numbers.Numbers.TheVariants.{Whole, Decimals}
 use Rattle.jp_doc.specs.declared.fault.DocFault.{DocFault}
 use Rattle.jp_doc.specs.declared.fault.DocFault.TheVariants.{LongLine, Unreadable, NotWhole, LongNumber}
 use Rattle.jp_doc.specs.declared.fault.DocFault.TheVariants.{LongArray, Memory}
-
--- whole ones of 64 bits alone, or all those of RFC 8259 within the limits
-pub data Numbers : Type 0 where
-  whole_numbers : Numbers
-  decimals : Numbers
 
 -- the greatest number of tokens: those of an array of the greatest number of items, and its brackets
 abbrev pub max_tokens : ℕ
@@ -64,5 +61,5 @@ or_else (Err Memory) other = other
 -- The document that a line holds, or the first of the faults that applies. What is read with whole numbers
 -- alone is read so with all.
 abbrev pub reading_in : Numbers → List ℕ → Result Json DocFault
-reading_in whole_numbers line = reading line
-reading_in decimals line = or_else (reading line) (tree_reading line)
+reading_in Whole line = reading line
+reading_in Decimals line = or_else (reading line) (tree_reading line)

@@ -24,7 +24,9 @@ ghost use Rattle.jp_doc.specs.Height.{height};
 ghost use Rattle.jp_doc.specs.Location.{Step, Location, location_of, step_of, child_at, value_at};
 ghost use Rattle.jp_doc.specs.NumbersWithin.{AllNumbers, HasWholeNumbers, HasJsonNumbers};
 ghost use Rattle.jp_doc.specs.Reading.{max_line, max_items, has_long_array, crate_reading, reading};
-ghost use Rattle.jp_doc.specs.ReadingIn.{Numbers, decimals, tree_reading, reading_in};
+ghost use Rattle.jp_number.specs.declared.numbers.Numbers.{Numbers};
+ghost use Rattle.jp_number.specs.declared.numbers.Numbers.TheVariants.{Decimals};
+ghost use Rattle.jp_doc.specs.ReadingIn.{tree_reading, reading_in};
 ghost use Rattle.jp_doc.specs.Rising.{IsRising, MembersRise, NamesAreUtf8};
 ghost use Rattle.jp_doc.specs.Tree.{tree_of, tree_json};
 ghost use Rattle.jp_number.specs.Number.{IsShort};
@@ -80,9 +82,9 @@ pub fn read_with_all_numbers()
 /// its fault, where `reading` has one.
 pub fn read_by_the_grammar()
     ensures value { (line : List ℕ) (v : Json) → length line ≤ max_line → tree_reading line ≡ Ok v
-        → reading_in decimals line ≡ Ok v }
+        → reading_in Decimals line ≡ Ok v }
     ensures fault { (line : List ℕ) (f : DocFault) → length line ≤ max_line → reading line ≡ Err f
-        → reading_in decimals line ≡ tree_reading line }
+        → reading_in Decimals line ≡ tree_reading line }
 {}
 
 /// What is true of every value that is read.

@@ -58,6 +58,7 @@ fn slices()
 {}
 
 /// `$[?@.a==@.b]` and `$[?@.a<=@.b]` on `[{},{"a":null},{"a":1,"b":1}]`: two nothings are equal.
+#[tactic(auto, unfolding(jp_number::proofs::OnLiterals::numbers_on_literals))]
 fn nothings()
     ensures equal { (t : Tests) →
         map (λ n. n.location) (document_nodes t
@@ -74,6 +75,7 @@ fn nothings()
 {}
 
 /// `$[?count(@['a','a'])==2]` on `[{"a":1}]`: the node is counted twice.
+#[tactic(auto, unfolding(jp_number::proofs::OnLiterals::numbers_on_literals))]
 fn counts()
     ensures twice { (t : Tests) →
         document_nodes t (filtered (compares
@@ -86,6 +88,7 @@ fn counts()
 
 /// `$[?@.a&&!@.b||@.c==1]` on `[{"a":0},{"a":0,"b":0},{"b":0,"c":1}]`, and `$.a[?@==$.b]` on
 /// `{"a":[1,2],"b":2}`.
+#[tactic(auto, unfolding(jp_number::proofs::OnLiterals::numbers_on_literals))]
 fn logic()
     ensures parts { (t : Tests) →
         map (λ n. n.location) (document_nodes t (filtered (tree.any (tree.logicals (
@@ -104,6 +107,7 @@ fn logic()
 {}
 
 /// `$[?@>=null]` on `[null,1]`, `$[?@<'b']` on `["a","b",1]`, `$[?@.a==-0]` on `[{"a":0}]`.
+#[tactic(auto, unfolding(jp_number::proofs::OnLiterals::numbers_on_literals))]
 fn comparisons()
     ensures null_with_null { (t : Tests) →
         document_nodes t (filtered (compares current Ge (tree.literal tree.null))) (arr (null ∷ num 1 ∷ []))
@@ -157,6 +161,7 @@ fn first_steps()
 
 /// `$..a` on `{"a":{"a":1}}`, `$['b',*]` on an object, and a filter on one: members in the order of their
 /// names.
+#[tactic(auto, unfolding(jp_number::proofs::OnLiterals::numbers_on_literals))]
 fn members()
     ensures at_each_level { (t : Tests) →
         document_nodes t (from_root (tree.descendant (tree.name (codes "a") ∷ []) ∷ []))
@@ -207,6 +212,7 @@ fn slices_by_steps()
 {}
 
 /// `!`, literals of each kind, and `@` and `$` inside a filter of a filter.
+#[tactic(auto, unfolding(jp_number::proofs::OnLiterals::numbers_on_literals))]
 fn tests()
     ensures negated { (t : Tests) → kept t (tree.negation (tree.test (member_of_current (codes "a"))))
         ≡ (item 0 ∷ []) ∷ [] }
@@ -247,6 +253,7 @@ fn one_of_two()
 {}
 
 /// `$[?count(distinct(@['b','a','b']))==2]` on `[{"a":1,"b":1}]`.
+#[tactic(auto, unfolding(jp_number::proofs::OnLiterals::numbers_on_literals))]
 fn each_location_once()
     ensures counted { (t : Tests) →
         map (λ n. n.location) (document_nodes t (filtered (compares (tree.value_call

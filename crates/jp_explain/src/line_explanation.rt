@@ -5,7 +5,8 @@ ghost use Rattle.serde_json.specs.Read.{read as read_text};
 ghost use Rattle.serde_json.specs.View.{view};
 ghost use Rattle.serde_json.specs.Written.{has_float};
 ghost use Rattle.jp_doc.specs.Reading.{max_line, reading};
-ghost use Rattle.jp_doc.specs.ReadingIn.{decimals, reading_in};
+ghost use Rattle.jp_number.specs.declared.numbers.Numbers.TheVariants.{Decimals};
+ghost use Rattle.jp_doc.specs.ReadingIn.{reading_in};
 ghost use Rattle.jp_explain.specs.LineMark.{IsNumber, IsLongNumber, IsSilent};
 
 use jp_doc::DocFault;
@@ -14,6 +15,7 @@ use jp_line_scan::{
     LineReason, LongNumber, NotWhole, first_fault, first_fault_of_decimals, first_long_number,
     has_number_not_whole, lead, long_length, number_length, place_of,
 };
+use jp_number::Numbers;
 use jp_path_stack::PathStack;
 use serde_json::Value;
 use std::alloc::{AllocError, Global};
@@ -33,14 +35,13 @@ pub struct LineExplanation {
 fn explain_unreadable(
     alloc: Global,
     line: &[u8],
-    has_decimals: bool,
+    numbers: Numbers,
 ) -> Result<Option<LineExplanation>, AllocError>
     ensures { IfOk result (λ o. IfSome o (λ x. x.mark ≤ length line.now)) }
 {
-    let found = if has_decimals {
-        first_fault_of_decimals(alloc, line)?
-    } else {
-        first_fault(alloc, line)?
+    let found = match numbers {
+        Numbers::Decimals => first_fault_of_decimals(alloc, line)?,
+        Numbers::Whole => first_fault(alloc, line)?,
     };
     match found {
         Some((place, reason)) => Ok(Some(LineExplanation {
@@ -123,7 +124,7 @@ fn marked_number(line: &[u8], path: String, place: usize) -> Option<LineExplanat
 /// Whether the line has a number over the limits, by the grammar of JSON alone.
 fn has_long_number(alloc: Global, line: &[u8]) -> Result<bool, AllocError>
     ensures { IfOk result (λ b. IsTrue b → (g : DocFault) → reading line.now ≡ Err g
-        → reading_in decimals line.now ≡ Err DocFault.LongNumber) }
+        → reading_in Decimals line.now ≡ Err DocFault.LongNumber) }
 {
     let mut reader = FlatReader::new(alloc);
     match reader.read_decimal(line)? {
@@ -136,7 +137,7 @@ fn has_long_number(alloc: Global, line: &[u8]) -> Result<bool, AllocError>
 fn explain_long_number(alloc: Global, line: &[u8]) -> Result<Option<LineExplanation>, AllocError>
     ensures number { IfOk result (λ o. IfSome o (λ x. IsLongNumber x line.now)) }
     ensures fault { IfOk result (λ o. IfSome o (λ _. (g : DocFault) → reading line.now ≡ Err g
-        → reading_in decimals line.now ≡ Err DocFault.LongNumber)) }
+        → reading_in Decimals line.now ≡ Err DocFault.LongNumber)) }
 {
     if !has_long_number(alloc, line)? {
         return Ok(None);
@@ -164,7 +165,7 @@ fn marked_long_number(line: &[u8], path: String, place: usize) -> Option<LineExp
     })
 }
 
-/// Where a faulty line went wrong, and what is to be said of that place.
+/// Where a faulty line went wrong that was read by these numbers, and what is to be said of that place.
 ///
 /// Of an unreadable line it is the first byte at which reading can't go on by the grammar of RFC 8259, or at
 /// which begins what a rule forbids: half of a surrogate pair and, where the line was read without decimals,
@@ -180,7 +181,7 @@ pub fn explain_line(
     alloc: Global,
     line: &[u8],
     fault: &DocFault,
-    has_decimals: bool,
+    numbers: Numbers,
 ) -> Result<Option<LineExplanation>, AllocError>
     // Three faults alone have a place.
     ensures silent { IsSilent fault.now → result ≡ Ok None }
@@ -198,10 +199,10 @@ pub fn explain_line(
     // It is told of lines alone that have this fault with decimals, where they have one with whole numbers.
     ensures long_number { fault.now ≡ DocFault.LongNumber → IfOk result (λ o. IfSome o (λ _.
         (g : DocFault) → reading line.now ≡ Err g
-        → reading_in decimals line.now ≡ Err DocFault.LongNumber)) }
+        → reading_in Decimals line.now ≡ Err DocFault.LongNumber)) }
 {
     match fault {
-        DocFault::Unreadable => explain_unreadable(alloc, line, has_decimals),
+        DocFault::Unreadable => explain_unreadable(alloc, line, numbers),
         DocFault::NotWhole => explain_not_whole(alloc, line),
         DocFault::LongNumber => explain_long_number(alloc, line),
         DocFault::LongLine | DocFault::LongArray | DocFault::Memory => Ok(None),

@@ -7,6 +7,7 @@
 
 use jp_doc::DocFault;
 use jp_explain::explain_line;
+use jp_number::Numbers;
 use std::alloc::{AllocError, Global};
 use std::test::*;
 
@@ -258,7 +259,12 @@ const ROWS: &str = "\
 
 /// Whether the line is explained with that mark.
 fn is_marked(alloc: Global, line: &str, mark: usize) -> Result<bool, AllocError> {
-    match explain_line(alloc, line.as_bytes(), &DocFault::Unreadable, false)? {
+    match explain_line(
+        alloc,
+        line.as_bytes(),
+        &DocFault::Unreadable,
+        Numbers::Whole,
+    )? {
         Some(told) => Ok(told.mark == mark),
         None => Ok(false),
     }

@@ -3,6 +3,7 @@
 
 use jp_doc::{DocFault, Document};
 use jp_explain::{explain_line, write_line_mark};
+use jp_number::Numbers;
 use std::alloc::{AllocError, Global};
 use std::test::*;
 
@@ -13,7 +14,7 @@ fn printed(alloc: Global, line: &[u8]) -> Result<Option<String>, AllocError> {
         Err(DocFault::Memory) => return Err(AllocError),
         Err(fault) => fault,
     };
-    match explain_line(alloc, line, &fault, false)? {
+    match explain_line(alloc, line, &fault, Numbers::Whole)? {
         Some(told) => Ok(Some(write_line_mark(alloc, 7, line, &told)?)),
         None => Ok(None),
     }
@@ -28,8 +29,8 @@ pub(crate) fn is_printed(alloc: Global, line: &[u8], wanted: &str) -> Result<boo
 }
 
 /// The mark of an unreadable line.
-fn mark_of(alloc: Global, line: &[u8], has_decimals: bool) -> Result<Option<usize>, AllocError> {
-    match explain_line(alloc, line, &DocFault::Unreadable, has_decimals)? {
+fn mark_of(alloc: Global, line: &[u8], numbers: Numbers) -> Result<Option<usize>, AllocError> {
+    match explain_line(alloc, line, &DocFault::Unreadable, numbers)? {
         Some(told) => Ok(Some(told.mark)),
         None => Ok(None),
     }
@@ -39,8 +40,8 @@ fn mark_of(alloc: Global, line: &[u8], has_decimals: bool) -> Result<Option<usiz
 #[test]
 fn beyond_a_float(rt: HostRuntime) -> Result<(), Fail> {
     let line = b"[1e999,}".as_slice();
-    assert_eq!(rt; mark_of(rt.alloc(), line, false)?, Some(1));
-    assert_eq!(rt; mark_of(rt.alloc(), line, true)?, Some(7));
+    assert_eq!(rt; mark_of(rt.alloc(), line, Numbers::Whole)?, Some(1));
+    assert_eq!(rt; mark_of(rt.alloc(), line, Numbers::Decimals)?, Some(7));
     Ok(())
 }
 
@@ -58,7 +59,7 @@ const RIGHT: [&str; 8] = [
 
 /// Whether nothing is told of the line with that fault.
 fn is_silent(alloc: Global, line: &[u8], fault: DocFault) -> Result<bool, AllocError> {
-    Ok(explain_line(alloc, line, &fault, false)?.is_none())
+    Ok(explain_line(alloc, line, &fault, Numbers::Whole)?.is_none())
 }
 
 #[test]

@@ -36,7 +36,7 @@ fn shown(alloc: Global) -> Option<bool> {
 }
 
 fn line_explained(alloc: Global, line: &[u8], fault: DocFault, mark: usize) -> Option<bool> {
-    match explain_line(alloc, line, &fault, false) {
+    match explain_line(alloc, line, &fault, Numbers::Whole) {
         Ok(Some(told)) => Some(told.mark == mark),
         Ok(None) => Some(false),
         Err(_) => None,

@@ -18,7 +18,8 @@ use Rattle.json.specs.declared.error.Error.TheVariants.{Invalid, OutOfMemory, To
 use Rattle.json.proofs.Numbered.{ArePrintableOrBad-tokens}
 use Rattle.jp_doc.specs.Json.{Json}
 use Rattle.jp_doc.specs.Reading.{max_line}
-use Rattle.jp_doc.specs.ReadingIn.{decimals, max_tokens, has_long_number, tree_reading, reading_in}
+use Rattle.jp_number.specs.declared.numbers.Numbers.TheVariants.{Decimals}
+use Rattle.jp_doc.specs.ReadingIn.{max_tokens, has_long_number, tree_reading, reading_in}
 use Rattle.jp_doc.specs.Tree.{tree_of, text_number, tree_json}
 use Rattle.jp_doc.specs.declared.fault.DocFault.{DocFault}
 use Rattle.jp_doc.specs.declared.fault.DocFault.TheVariants.{LongLine, Unreadable, LongNumber, LongArray}
@@ -229,13 +230,13 @@ no_text line none short = sym (no_text_if (is_utf8 line) line refl none) ∙ sym
 
 value_if : (b : Bool) (line : List ℕ) (v : Json) → nat_lt max_line (length line) ≡ b
     → ◌≡◌ {A = Result Json DocFault} (if b then Err LongLine else tree_reading line) (Ok v)
-    → reading_in decimals line ≡ Ok v
+    → reading_in Decimals line ≡ Ok v
 value_if true line v e h = absurd (cc)
 value_if false line v e h = value_by_tree line v (ltb-false max_line (length line) e) h
 
 pub value_told : {E : Type 0} (line : List ℕ) (r : Result (Result FlatDocument DocFault) E)
     → IfOk r (λ a. answer_of a ≡ grammar_reading line)
-    → IfOk r (λ a. IfOk a (λ d. reading_in decimals line ≡ Ok (document_value d)))
+    → IfOk r (λ a. IfOk a (λ d. reading_in Decimals line ≡ Ok (document_value d)))
 value_told line (Ok (Ok d)) h = value_if (nat_lt max_line (length line)) line (document_value d) refl (sym h)
 value_told line (Ok (Err f)) h = tt
 value_told line (Err e) h = tt

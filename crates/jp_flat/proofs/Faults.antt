@@ -13,7 +13,8 @@ use Rattle.json.specs.Tree.{MembersHaveNumbers}
 use Rattle.json.proofs.Unique.Spelling.{tokens-document}
 use Rattle.jp_doc.specs.Json.{Json}
 use Rattle.jp_doc.specs.Reading.{max_line}
-use Rattle.jp_doc.specs.ReadingIn.{decimals, max_tokens, has_long_number, items_have_long_number}
+use Rattle.jp_number.specs.declared.numbers.Numbers.TheVariants.{Decimals}
+use Rattle.jp_doc.specs.ReadingIn.{max_tokens, has_long_number, items_have_long_number}
 use Rattle.jp_doc.specs.ReadingIn.{members_have_long_number, document_of, tree_reading, reading_in}
 use Rattle.jp_doc.specs.Tree.{tree_of, text_number, tree_json}
 use Rattle.jp_doc.specs.declared.fault.DocFault.{DocFault}
@@ -107,5 +108,5 @@ none_is line u e = by_tree line None u (no_tree line e)
 
 -- and what is read so is what is read with decimals
 pub value_is_read : (line : List ℕ) (j : text.Json) (v : Json) → length line ≤ max_line → IsUtf8 line
-    → text.document line ≡ Some j → pass_answer (tokens line) j ≡ Ok v → reading_in decimals line ≡ Ok v
+    → text.document line ≡ Some j → pass_answer (tokens line) j ≡ Ok v → reading_in Decimals line ≡ Ok v
 value_is_read line j v short u e h = value_by_tree line v short (answer_is line j u e ∙ h)

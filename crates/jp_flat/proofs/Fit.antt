@@ -11,8 +11,7 @@ use Rattle.jp_doc.specs.ReadingIn.{has_long_number, items_have_long_number, memb
 use Rattle.jp_doc.specs.Tree.{text_number}
 use Rattle.jp_doc.proofs.Found.{first_false, second_false}
 use Rattle.jp_doc.proofs.TreeNames.{NamesAreTexts, ItemNamesAreTexts, MemberNamesAreTexts}
-use Rattle.jp_number.specs.Number.{written, IsShort, is_short}
-use Rattle.jp_number.specs.Profile.{number_text}
+use Rattle.jp_number.specs.Number.{written, IsShort, is_short, number_text}
 use Rattle.jp_number.proofs.Limits.{short_by_test}
 use Rattle.jp_flat.specs.inner.Plain.{is_empty_rest, is_fit_number, is_fit, items_are_fit, members_are_fit}
 use Rattle.jp_flat.specs.inner.Plain.{is_whole_text, is_plain, items_are_plain, members_are_plain}

@@ -2,7 +2,8 @@
 
 ghost use Rattle.std.specs.Prelude.{◌≡◌, Ok, Err, IfOk, IfErr, IfSome};
 ghost use Rattle.jp_doc.specs.Reading.{reading};
-ghost use Rattle.jp_doc.specs.ReadingIn.{decimals, reading_in};
+ghost use Rattle.jp_number.specs.declared.numbers.Numbers.TheVariants.{Decimals};
+ghost use Rattle.jp_doc.specs.ReadingIn.{reading_in};
 ghost use Rattle.jp_flat.specs.Document.{document_value, answer_of, grammar_reading};
 
 use crate::document::FlatDocument;
@@ -57,9 +58,9 @@ impl FlatReader {
     ) -> Result<Result<FlatDocument<'a>, DocFault>, AllocError>
         ensures answer { IfOk result (λ r. answer_of r ≡ grammar_reading line.now) }
         ensures value { IfOk result (λ r. IfOk r (λ d.
-            reading_in decimals line.now ≡ Ok (document_value d))) }
+            reading_in Decimals line.now ≡ Ok (document_value d))) }
         ensures fault { IfOk result (λ r. IfErr r (λ f. (g : DocFault) → reading line.now ≡ Err g
-            → reading_in decimals line.now ≡ Err f)) }
+            → reading_in Decimals line.now ≡ Err f)) }
     {
         self.release();
         self.was_long = line.len() > LONG_LINE;

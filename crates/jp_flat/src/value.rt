@@ -70,7 +70,7 @@ impl<'d> FlatValue<'d> {
     ghost use Rattle.jp_doc.specs.Location.{member_of, item_of};
     ghost use Rattle.jp_flat.specs.Value.{flat_value, tokens_of, items_value, members_value, text_in};
     ghost use Rattle.jp_flat.specs.Value.{number_in, item_count, IsKind, IsNoArray, IsNoObject};
-    ghost use Rattle.jp_number.specs.Profile.{number_text};
+    ghost use Rattle.jp_number.specs.Number.{number_text};
     ghost use Rattle.jp_number.specs.View.{number_of};
 
     /// The whole value of a document.

@@ -6,12 +6,11 @@ use Rattle.std.proofs.lemmas.Int.{ints}
 use Rattle.std.proofs.Math.Nat.{mul-lt-mul_of_pos_right, mul_comm, mul_assoc}
 use Rattle.std.proofs.lemmas.Cmp.{int_cmp_total, eq_by_cmp_equiv}
 use Rattle.std.specs.Cmp.{IsTotalOrder, IsEquivalence, int_ranks, int_cmp_is}
-use Rattle.std.specs.Ordering.{int_cmp, is_eq, is_lt, ordering_reverse, MatchOrdering}
+use Rattle.std.specs.Ordering.{int_cmp, int_eq, is_eq, is_lt, ordering_reverse, MatchOrdering}
 use Rattle.std.specs.declared.cmp.Ordering.{Ordering}
 use Rattle.std.specs.declared.cmp.Ordering.TheVariants.{Less, Equal, Greater}
 use Rattle.fast_float.specs.Text.{tens_down}
 use Rattle.jp_number.specs.Number.{Number, whole, written, parts, top, bottom, order, is_equal, is_below}
-use Rattle.jp_number.specs.Profile as profile
 use Rattle.jp_number.proofs.Places.{ten_some}
 use Rattle.jp_number.proofs.Signs.{scaled}
 
@@ -97,36 +96,17 @@ pub whole_order : (x y : ℤ) → order (whole x) (whole y) ≡ int_cmp x y
 unfolding order top bottom
 whole_order x y = ap (λ z. int_cmp z (y *ℤ pos 1)) (by_one x) ∙ ap (λ z. int_cmp x z) (by_one y)
 
--- equality and order by cases are those by value
-pub whole_equal : (x y : ℤ) → profile.is_equal (whole x) (whole y) ≡ is_equal (whole x) (whole y)
-whole_equal x y = sym (ap is_eq (whole_order x y))
+-- and so are being equal and being below
+pub whole_equal : (x y : ℤ) → is_equal (whole x) (whole y) ≡ int_eq x y
+whole_equal x y = ap is_eq (whole_order x y)
 
-less_by : (less more : Bool) → less ≡ is_lt (cond less Less (cond more Greater Equal))
+less_by : (less more : Bool) → is_lt (cond less Less (cond more Greater Equal)) ≡ less
 less_by true more = refl
 less_by false true = refl
 less_by false false = refl
 
-pub whole_below : (x y : ℤ) → profile.is_below (whole x) (whole y) ≡ is_below (whole x) (whole y)
-whole_below x y = less_by (int_lt x y) (int_lt y x) ∙ sym (ap is_lt (whole_order x y))
-
-pub profile_equal : (n m : Number) → profile.is_equal n m ≡ is_equal n m
-profile_equal (whole x) (whole y) = whole_equal x y
-profile_equal (whole x) (written t) = refl
-profile_equal (written s) m = refl
-
-pub profile_below : (n m : Number) → profile.is_below n m ≡ is_below n m
-profile_below (whole x) (whole y) = whole_below x y
-profile_below (whole x) (written t) = refl
-profile_below (written s) m = refl
-
--- so to have one value by cases is an equivalence too
-pub profile_equality : IsEquivalence profile.is_equal
-profile_equality = record {
-  refl = λ n. profile_equal n n ∙ equality.refl n;
-  symm = λ n m. profile_equal n m ∙ equality.symm n m ∙ sym (profile_equal m n);
-  congr = λ n m k h. profile_equal n k ∙ equality.congr n m k (sym (profile_equal n m) ∙ h)
-      ∙ sym (profile_equal m k);
-}
+pub whole_below : (x y : ℤ) → is_below (whole x) (whole y) ≡ int_lt x y
+whole_below x y = ap is_lt (whole_order x y) ∙ less_by (int_lt x y) (int_lt y x)
 
 pub compared : (x y : ℤ) (o : Ordering) → o ≡ int_cmp x y → o ≡ order (whole x) (whole y)
 compared x y o e = e ∙ sym (whole_order x y)

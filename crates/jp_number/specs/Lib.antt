@@ -1,4 +1,3 @@
 pub mod Number
-pub mod Profile
 pub mod View
 pub mod inner

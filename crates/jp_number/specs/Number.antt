@@ -1,8 +1,9 @@
--- A JSON number (RFC 8259, 6), its value as a fraction of whole numbers, and the order of two.
+-- A JSON number (RFC 8259, 6), its value as a fraction of whole numbers, the order of two, and its text.
 use Rattle.std.specs.Prelude.{ℕ, ◌+◌, ◌*◌, ◌^◌, ◌≤◌, ◌==◌, nat_le, ℤ, pos, ◌*ℤ◌, Bool, true, ◌&&◌, List}
 use Rattle.std.specs.Prelude.{length, drop}
 use Rattle.std.specs.Prelude.{slice_index}
 use Rattle.std.specs.Prelude.{if◌then◌else◌}
+use Rattle.std.specs.Fmt.{signed_decimal}
 use Rattle.std.specs.Ordering.{int_cmp, is_eq, is_lt}
 use Rattle.std.specs.declared.cmp.Ordering.{Ordering}
 use Rattle.fast_float.specs.Text.{Parts, scan, digits_of, tens_up, tens_down, with_sign}
@@ -34,11 +35,18 @@ bottom (written s) = 10 ^ tens_down (parts s)
 unfoldable pub order : Number → Number → Ordering
 order n m = int_cmp (top n *ℤ pos (bottom m)) (top m *ℤ pos (bottom n))
 
+-- two numbers have one value; the first is less
 abbrev pub is_equal : Number → Number → Bool
 is_equal n m = is_eq (order n m)
 
 abbrev pub is_below : Number → Number → Bool
 is_below n m = is_lt (order n m)
+
+-- The text of a number: of a whole one its digits, behind a minus where it is below zero, and of any other
+-- the text that writes it.
+abbrev pub number_text : Number → List ℕ
+number_text (whole z) = signed_decimal z
+number_text (written s) = s
 
 -- The limits, which RFC 8259 leaves to each reader: the most digits in all, and in the exponent.
 abbrev pub max_digits : ℕ

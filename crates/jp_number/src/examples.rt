@@ -2,8 +2,7 @@
 
 ghost use Rattle.std.specs.Prelude.{◌≡◌, codes, pos, negsuc, true, false};
 ghost use Rattle.std.specs.declared.cmp.Ordering.TheVariants.{Less, Equal, Greater};
-ghost use Rattle.jp_number.specs.Number.{whole, written, top, bottom, order};
-ghost use Rattle.jp_number.specs.Profile as profile;
+ghost use Rattle.jp_number.specs.Number.{whole, written, top, bottom, order, is_equal, is_below, number_text};
 
 /// The value of a text as a fraction.
 #[tactic(auto, unfolding(crate::proofs::OnLiterals::numbers_on_literals))]
@@ -41,17 +40,17 @@ fn different_numbers()
     ensures beside_a_whole_number { order (whole (pos 10)) (written (codes "9.99")) ≡ Greater }
 {}
 
-/// Numbers of the profile: equality, order and text.
+/// Equality, order and text of numbers of both kinds.
 #[tactic(auto, unfolding(crate::proofs::OnLiterals::numbers_on_literals))]
-fn numbers_of_the_profile()
-    ensures same { profile.is_equal (whole (negsuc 6)) (whole (negsuc 6)) ≡ true }
-    ensures other_sign { profile.is_equal (whole (negsuc 6)) (whole (pos 7)) ≡ false }
-    ensures below { profile.is_below (whole (negsuc 6)) (whole (negsuc 5)) ≡ true }
-    ensures not_below_itself { profile.is_below (whole (pos 7)) (whole (pos 7)) ≡ false }
-    ensures text { profile.number_text (whole (pos 70)) ≡ codes "70" }
-    ensures text_below_zero { profile.number_text (whole (negsuc 6)) ≡ codes "-7" }
-    ensures same_value { profile.is_equal (whole (pos 1)) (written (codes "1.0")) ≡ true }
-    ensures other_value { profile.is_equal (written (codes "0.10")) (written (codes "0.11")) ≡ false }
-    ensures below_a_whole_number { profile.is_below (written (codes "9.99")) (whole (pos 10)) ≡ true }
-    ensures text_as_written { profile.number_text (written (codes "9.90")) ≡ codes "9.90" }
+fn equal_below_text()
+    ensures same { is_equal (whole (negsuc 6)) (whole (negsuc 6)) ≡ true }
+    ensures other_sign { is_equal (whole (negsuc 6)) (whole (pos 7)) ≡ false }
+    ensures below { is_below (whole (negsuc 6)) (whole (negsuc 5)) ≡ true }
+    ensures not_below_itself { is_below (whole (pos 7)) (whole (pos 7)) ≡ false }
+    ensures text { number_text (whole (pos 70)) ≡ codes "70" }
+    ensures text_below_zero { number_text (whole (negsuc 6)) ≡ codes "-7" }
+    ensures same_value { is_equal (whole (pos 1)) (written (codes "1.0")) ≡ true }
+    ensures other_value { is_equal (written (codes "0.10")) (written (codes "0.11")) ≡ false }
+    ensures below_a_whole_number { is_below (written (codes "9.99")) (whole (pos 10)) ≡ true }
+    ensures text_as_written { number_text (written (codes "9.90")) ≡ codes "9.90" }
 {}

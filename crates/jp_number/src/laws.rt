@@ -1,14 +1,13 @@
 //! Laws of the order, each proved for every number.
 
-ghost use Rattle.std.specs.Prelude.{◌≡◌, ◌↔◌, ℤ, FitsSigned, IsTrue};
+ghost use Rattle.std.specs.Prelude.{◌≡◌, ◌↔◌, ℤ, FitsSigned, IsTrue, int_lt};
 ghost use Rattle.std.specs.Cmp.{IsTotalOrder, IsEquivalence};
 ghost use Rattle.std.specs.Fmt.{signed_decimal};
 ghost use Rattle.std.specs.Int.{w128};
-ghost use Rattle.std.specs.Ordering.{int_cmp};
+ghost use Rattle.std.specs.Ordering.{int_cmp, int_eq};
 ghost use Rattle.std.specs.declared.cmp.Ordering.TheVariants.{Equal};
 ghost use Rattle.jp_number.specs.Number.{Number, whole, written, order, is_equal, is_below, IsShort};
 ghost use Rattle.jp_number.specs.Number.{is_short};
-ghost use Rattle.jp_number.specs.Profile as profile;
 
 /// The order is total, where numbers of one value count as one: the other way round it is the opposite, what
 /// is below what is below is below, and numbers of one value stand alike to all others.
@@ -23,23 +22,11 @@ pub fn equality()
     ensures { IsEquivalence is_equal }
 {}
 
-/// On whole numbers the order is that of ℤ.
-#[tactic(auto, using(crate::proofs::Order::whole_order))]
+/// On whole numbers the order is that of ℤ, and so are being equal and being below.
 pub fn whole_numbers()
-    ensures { (x y : ℤ) → order (whole x) (whole y) ≡ int_cmp x y }
-{}
-
-/// Numbers of documents and of queries are equal, and one is below another, where their values are so.
-#[tactic(auto, using(crate::proofs::Order::profile_equal, crate::proofs::Order::profile_below))]
-pub fn numbers_of_the_profile()
-    ensures equal { (n m : Number) → profile.is_equal n m ≡ is_equal n m }
-    ensures below { (n m : Number) → profile.is_below n m ≡ is_below n m }
-{}
-
-/// For numbers of documents and of queries to be equal is an equivalence.
-#[tactic(auto, using(crate::proofs::Order::profile_equality))]
-pub fn equality_of_the_profile()
-    ensures { IsEquivalence profile.is_equal }
+    ensures order { (x y : ℤ) → order (whole x) (whole y) ≡ int_cmp x y }
+    ensures equal { (x y : ℤ) → is_equal (whole x) (whole y) ≡ int_eq x y }
+    ensures below { (x y : ℤ) → is_below (whole x) (whole y) ≡ int_lt x y }
 {}
 
 /// A whole number of 128 bits has the value of its own text, which is within the limits.

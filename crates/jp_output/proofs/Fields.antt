@@ -23,8 +23,7 @@ use Rattle.jp_doc.specs.declared.fault.DocFault.TheVariants.{LongArray, Memory}
 use Rattle.jp_doc.specs.FaultWords.{fault_words}
 use Rattle.jp_doc.specs.NumbersWithin.{IsJsonNumber, HasJsonNumbers, AllNumbersOfItems}
 use Rattle.jp_doc.specs.NumbersWithin.{AllNumbersOfMembers}
-use Rattle.jp_number.specs.Number.{Number, whole, written}
-use Rattle.jp_number.specs.Profile.{number_text}
+use Rattle.jp_number.specs.Number.{Number, whole, written, number_text}
 use Rattle.jp_output.proofs.FieldBytes.{IsField}
 use Rattle.jp_output.proofs.NumberFields.{text_of_a_number}
 use Rattle.jp_output.specs.FaultLine.{fault_line}

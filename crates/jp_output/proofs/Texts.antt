@@ -16,8 +16,7 @@ use Rattle.jp_doc.specs.Json.{Members, no_members, add_member, value_of, number_
 use Rattle.jp_doc.specs.Json.{members_data}
 use Rattle.jp_doc.specs.NumbersWithin.{IsWhole, HasWholeNumbers, AllNumbersOfItems, AllNumbersOfMembers}
 use Rattle.jp_doc.proofs.NumberLaws.{json_is_whole}
-use Rattle.jp_number.specs.Number.{Number, whole, written}
-use Rattle.jp_number.specs.Profile.{number_text}
+use Rattle.jp_number.specs.Number.{Number, whole, written, number_text}
 use Rattle.jp_output.specs.OutputLine.{truth_text, quoted_text, value_text, items_text, further_items}
 use Rattle.jp_output.specs.OutputLine.{members_text, further_members}
 

@@ -5,7 +5,7 @@ use Rattle.jp_doc.specs.Json as json
 use Rattle.jp_doc.specs.Json.{Text, Json, null, truth, text, array, object, Items, no_items, add_item}
 use Rattle.jp_doc.specs.Json.{Members, no_members, add_member}
 use Rattle.jp_doc.specs.Location.{Location, Node}
-use Rattle.jp_number.specs.Profile.{number_text}
+use Rattle.jp_number.specs.Number.{number_text}
 use Rattle.jp_path_stack.specs.Path.{path_text}
 
 -- the name of a truth value (RFC 8259, 3)

@@ -12,7 +12,9 @@ use Rattle.serde_json.specs.Read.{read}
 use Rattle.jp_doc.specs.Json.{Json}
 use Rattle.jp_doc.specs.Location.{Location, value_at}
 use Rattle.jp_doc.specs.Reading.{reading}
-use Rattle.jp_doc.specs.ReadingIn.{Numbers, whole_numbers, decimals, max_tokens, has_long_number}
+use Rattle.jp_number.specs.declared.numbers.Numbers.{Numbers}
+use Rattle.jp_number.specs.declared.numbers.Numbers.TheVariants.{Whole, Decimals}
+use Rattle.jp_doc.specs.ReadingIn.{max_tokens, has_long_number}
 use Rattle.jp_doc.specs.ReadingIn.{document_of, tree_reading, or_else, reading_in}
 use Rattle.jp_doc.specs.Tree.{tree_of, tree_json}
 use Rattle.jp_doc.specs.declared.fault.DocFault.{DocFault}
@@ -88,8 +90,8 @@ of_either (Err LongArray) line root e h = of_decimals line root h
 of_either (Err Memory) line root e h = of_decimals line root h
 
 is_of_tree : (n : Numbers) (line : List ℕ) (root : Json) → reading_in n line ≡ Ok root → IsOfTree line root
-is_of_tree whole_numbers line root e = of_whole line root e
-is_of_tree decimals line root e = of_either (reading line) line root refl e
+is_of_tree Whole line root e = of_whole line root e
+is_of_tree Decimals line root e = of_either (reading line) line root refl e
 
 line_names : (n : Numbers) (line : List ℕ) (root : Json) → reading_in n line ≡ Ok root → HasScalarNames root
 line_names n line root e =

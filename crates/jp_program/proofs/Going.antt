@@ -5,6 +5,8 @@ use Rattle.std.proofs.Common.{refl, sym, ap, arith}
 use Rattle.std.specs.Borrow.{Bor}
 use Rattle.std.specs.Io.KnownBytes.{Keeps}
 use Rattle.clap.specs.Walk.{Text, texts}
+use Rattle.jp_answer.specs.declared.on_fault.OnFault.{OnFault}
+use Rattle.jp_answer.specs.declared.on_fault.OnFault.TheVariants.{Stop, KeepGoing}
 use Rattle.jp_program.specs.Inputs.{Course, EachInTurn, Held, Input, Standing, counted_if, counted_times}
 use Rattle.jp_program.specs.Inputs.{named}
 use Rattle.jp_program.specs.Outcome.{AreFailed, HasFailed, HasGoneOn, IsCut, IsWhole, IsWholeOrCut}
@@ -31,10 +33,10 @@ not_both : {A : Type 0} (b : Bool) → b ≡ true → b ≡ false → A
 not_both b on off = absurd (let k : true ≡ false = sym on ∙ off in cc)
 
 -- none fails unless the answer keeps going
-pub never_failed : {P : Type 0} (going some : Bool) → going ≡ false → (some ≡ true → (going ≡ true) × P)
-    → some ≡ false
+pub never_failed : {P : Type 0} (going : OnFault) (some : Bool) → going ≡ Stop
+    → (some ≡ true → (going ≡ KeepGoing) × P) → some ≡ false
 never_failed going false off cut = refl
-never_failed going true off cut = not_both going (cut refl).0 off
+never_failed going true off cut = absurd (let both : KeepGoing ≡ Stop = sym (cut refl).0 ∙ off in cc)
 
 pub none_of_both : (a b both : Bool) → both ≡ a || b → a ≡ false → b ≡ false → both ≡ false
 none_of_both false b both is a_off b_off = is ∙ b_off
@@ -48,7 +50,7 @@ module _ (w : Wanted) (holds held : Text → Held) (same : held ≡ holds) (name
       → HaveCome w (take i (map (named holds) (texts names))) old mid broken total before
       → both ≡ before || next → broken_new ≡ total → source_failed ≡ next
       → (next ≡ false → IsWhole w (named held (get_or names i d).now) mid new)
-      → (next ≡ true → (w.keeps_going ≡ true) × IsCut w (named held (get_or names i d).now) mid new)
+      → (next ≡ true → (w.on_fault ≡ KeepGoing) × IsCut w (named held (get_or names i d).now) mid new)
       → HaveCome w (take (i + 1) (map (named holds) (texts names))) old new broken
       (counted_if source_failed broken_new) both
   come_more false come flag count fails whole cut = (
@@ -131,7 +133,7 @@ module _ (w : Wanted) where
         source_failed = source_failed;
         sink_failed = still;
       }))) c after (λ input mid failed. failed_kept w rest (reads_before w.files reads)
-      reads_new (ends_run w.files w.keeps_going source_failed) sink_failed still input mid c.contents_new
+      reads_new (ends_run w.files w.on_fault source_failed) sink_failed still input mid c.contents_new
       after failed k on) w.files holds first h)
   are_failed_kept rest reads reads_new source_failed sink_failed still holds first c after (inr h) k on =
       inr (gone_kept source_failed (map (named holds) w.files) c after h k)

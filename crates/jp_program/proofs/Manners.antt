@@ -8,23 +8,29 @@ use Rattle.clap.specs.Walk.{Text}
 use Rattle.jp_doc.specs.declared.fault.DocFault.{DocFault}
 use Rattle.jp_answer.specs.Answer.{Answer}
 use Rattle.jp_answer.specs.FilteredQuery.{FilteredQuery}
+use Rattle.jp_answer.specs.Policy.{policy}
+use Rattle.jp_answer.specs.declared.on_fault.OnFault.{OnFault}
+use Rattle.jp_number.specs.declared.numbers.Numbers.{Numbers}
 use Rattle.jp_run.specs.AskedTexts.{AreAcceptedIn, AskedTexts}
-use Rattle.jp_run.specs.Answered.{IsAnswerBy, head_behind, manner_by, numbers_of}
+use Rattle.jp_run.specs.Answered.{IsAnswerBy, head_behind}
 use Rattle.jp_run.specs.Cutting.{documents_in, part_count}
 use Rattle.jp_run.specs.Handed.{IsHandedBy}
 use Rattle.jp_run.specs.Limits.{max_lines, max_reads}
-use Rattle.jp_run.specs.Manner.{Manner}
+use Rattle.jp_run.specs.Forms.{form_of}
+use Rattle.jp_run.specs.Manner.{Manner, manner}
 use Rattle.jp_run.specs.Written.{AppendsFront}
 use Rattle.jp_run.specs.declared.cutting.Cutting.{Cutting}
 use Rattle.jp_run.specs.declared.output.Output.{Output}
 
 -- a manner is one by what it is made of
-pub manner_so : (c d : Cutting) (o p : Output) (h k : List ℕ) (a b x y : Bool) → c ≡ d → o ≡ p → h ≡ k → a ≡ b
-    → x ≡ y → manner_by c o h a x ≡ manner_by d p k b y
-manner_so c d o p h k a b x y cutting output head decimals going =
-    ap (λ (z : Cutting). manner_by z o h a x) cutting ∙ ap (λ (z : Output). manner_by d z h a x) output
-    ∙ ap (λ (z : List ℕ). manner_by d p z a x) head ∙ ap (λ (z : Bool). manner_by d p k z x) decimals
-    ∙ ap (λ (z : Bool). manner_by d p k b z) going
+pub manner_so : (c d : Cutting) (o p : Output) (h k : List ℕ) (a b : Numbers) (x y : OnFault) → c ≡ d → o ≡ p
+    → h ≡ k → a ≡ b → x ≡ y → manner c (form_of o h) (policy a x) ≡ manner d (form_of p k) (policy b y)
+manner_so c d o p h k a b x y cutting output head numbers on_fault =
+    ap (λ (z : Cutting). manner z (form_of o h) (policy a x)) cutting
+    ∙ ap (λ (z : Output). manner d (form_of z h) (policy a x)) output
+    ∙ ap (λ (z : List ℕ). manner d (form_of p z) (policy a x)) head
+    ∙ ap (λ (z : Numbers). manner d (form_of p k) (policy z x)) numbers
+    ∙ ap (λ (z : OnFault). manner d (form_of p k) (policy b z)) on_fault
 
 -- what each line stands behind, where lines are to name their file, and where they are not
 module _ (names : Bool) (name : Bor Text) (given : Option (Bor Text)) where
@@ -39,9 +45,9 @@ module _ (names : Bool) (name : Bor Text) (given : Option (Bor Text)) where
       ∙ sym (ap (λ (b : Bool). if b then name.now ++ 9 ∷ [] else []) off)
 
 -- what is accepted with the numbers that are wanted is accepted with those of the settings
-pub accepted_so : {d e : Bool} {asked : AskedTexts} {q : FilteredQuery} → d ≡ e
-    → AreAcceptedIn (numbers_of e) asked q → AreAcceptedIn (numbers_of d) asked q
-accepted_so {asked = asked} {q = q} same = subst (λ d. AreAcceptedIn (numbers_of d) asked q) (sym same)
+pub accepted_so : {n m : Numbers} {asked : AskedTexts} {q : FilteredQuery} → n ≡ m
+    → AreAcceptedIn m asked q → AreAcceptedIn n asked q
+accepted_so {asked = asked} {q = q} same = subst (λ (k : Numbers). AreAcceptedIn k asked q) (sym same)
 
 -- what a run tells of an input, by its manner
 

@@ -10,8 +10,11 @@ use Rattle.clap.specs.Kinds.{Kinds, IsAmong}
 use Rattle.clap.specs.declared.error.kind.ErrorKind.{ErrorKind}
 use Rattle.jp_tree.specs.declared.fault.QueryFault.{QueryFault}
 use Rattle.jp_check.specs.Verdict.{IsVerdictIn}
+use Rattle.jp_answer.specs.declared.on_fault.OnFault.{OnFault}
+use Rattle.jp_answer.specs.declared.on_fault.OnFault.TheVariants.{Stop, KeepGoing}
+use Rattle.jp_number.specs.declared.numbers.Numbers.{Numbers}
+use Rattle.jp_number.specs.declared.numbers.Numbers.TheVariants.{Whole, Decimals}
 use Rattle.jp_run.specs.AskedTexts.{IsFilterRefused}
-use Rattle.jp_run.specs.Answered.{numbers_of}
 use Rattle.jp_run.specs.Status.{status_of}
 use Rattle.jp_run.specs.declared.fault.RunFault.{RunFault}
 use Rattle.jp_run.specs.declared.fault.RunFault.TheVariants.{Memory}
@@ -21,8 +24,8 @@ use Rattle.jp_run.specs.declared.output.Output.{Output}
 use Rattle.jp_run.specs.declared.output.Output.TheVariants.{Nodes, Values, Texts, Raw, Lines}
 use Rattle.jp_program.specs.CommandLine.{said, refusals, AsksToShow}
 use Rattle.jp_program.specs.Outcome.{IsRefusedWish}
-use Rattle.jp_program.specs.Wanted.{Wanted, SaysNames, SaysNumber, cuts_documents, flag_text, output_text}
-use Rattle.jp_program.specs.Wanted.{Wants, WantsCheck, IsWrong}
+use Rattle.jp_program.specs.Wanted.{Wanted, SaysNames, SaysNumber, cuts_documents, flag_text, has_decimals}
+use Rattle.jp_program.specs.Wanted.{Wants, WantsCheck, IsWrong, keeps_going, output_text}
 use Rattle.jp_program.specs.inner.Asked.{IsAsked, IsNotAsked, wanted_of}
 use Rattle.jp_program.specs.declared.command_line.Asked.{Asked}
 use Rattle.jp_program.specs.declared.command_line.Asked.TheVariants.{Query}
@@ -83,6 +86,20 @@ cutting_same : (x y : Cutting)
 cutting_same x y e = sym (cut_so x) ∙ ap cutting_of (flag_same (cuts_documents x) (cuts_documents y) e)
     ∙ cut_so y
 
+numbers_same : (x y : Numbers)
+    → ◌≡◌ (Some (flag_text (has_decimals x))) (Some (flag_text (has_decimals y))) → x ≡ y
+numbers_same Whole Whole e = refl
+numbers_same Decimals Decimals e = refl
+numbers_same Whole Decimals e = absurd (let off : false ≡ true = flag_same false true e in cc)
+numbers_same Decimals Whole e = absurd (let on : true ≡ false = flag_same true false e in cc)
+
+on_fault_same : (x y : OnFault)
+    → ◌≡◌ (Some (flag_text (keeps_going x))) (Some (flag_text (keeps_going y))) → x ≡ y
+on_fault_same Stop Stop e = refl
+on_fault_same KeepGoing KeepGoing e = refl
+on_fault_same Stop KeepGoing e = absurd (let off : false ≡ true = flag_same false true e in cc)
+on_fault_same KeepGoing Stop e = absurd (let on : true ≡ false = flag_same true false e in cc)
+
 output_same : (x y : Output) → ◌≡◌ (Some (output_text x)) (Some (output_text y)) → x ≡ y
 output_same x y e = sym (named_is x) ∙ ap (λ o. named (first o)) e ∙ named_is y
 
@@ -122,25 +139,25 @@ one_wish words v w a b =
       output = o;
     })
     (output_same v.output w.output (sym a.1.output ∙ b.1.output))
-    ∙ ap (λ (d : Bool). record w {
-      decimals = d;
-      keeps_going = v.keeps_going;
+    ∙ ap (λ (n : Numbers). record w {
+      numbers = n;
+      on_fault = v.on_fault;
       explain = v.explain;
       exit_status = v.exit_status;
       workers = v.workers;
       piece = v.piece;
       batch = v.batch;
     })
-    (flag_same v.decimals w.decimals (sym a.1.decimals ∙ b.1.decimals))
-    ∙ ap (λ (k : Bool). record w {
-      keeps_going = k;
+    (numbers_same v.numbers w.numbers (sym a.1.numbers ∙ b.1.numbers))
+    ∙ ap (λ (k : OnFault). record w {
+      on_fault = k;
       explain = v.explain;
       exit_status = v.exit_status;
       workers = v.workers;
       piece = v.piece;
       batch = v.batch;
     })
-    (flag_same v.keeps_going w.keeps_going (sym a.1.keeps_going ∙ b.1.keeps_going))
+    (on_fault_same v.on_fault w.on_fault (sym a.1.on_fault ∙ b.1.on_fault))
     ∙ ap (λ (x : Bool). record w {
       explain = x;
       exit_status = v.exit_status;
@@ -219,15 +236,15 @@ module _ (words : List Text) (a : Asked) (v : code.Wanted) (w : Wanted) where
       (asked_is words a v w e asked wants)
 
   pub verdict_so : (f : QueryFault) → a ≡ Query v → IsAsked words a → Wants words w
-      → IsVerdictIn (numbers_of w.decimals) w.query (Err f)
-      → IsVerdictIn (numbers_of v.settings.decimals) (chars v.query.now) (Err f)
+      → IsVerdictIn w.numbers w.query (Err f)
+      → IsVerdictIn v.settings.numbers (chars v.query.now) (Err f)
   verdict_so f e asked wants =
-      subst (λ (x : Wanted). IsVerdictIn (numbers_of x.decimals) x.query (Err f))
+      subst (λ (x : Wanted). IsVerdictIn x.numbers x.query (Err f))
       (asked_is words a v w e asked wants)
 
   pub filter_so : (f : QueryFault) → a ≡ Query v → IsAsked words a → Wants words w
-      → IsFilterRefused (numbers_of w.decimals) w.filter f
-      → IsFilterRefused (numbers_of v.settings.decimals) (wanted_of v).filter f
+      → IsFilterRefused w.numbers w.filter f
+      → IsFilterRefused v.settings.numbers (wanted_of v).filter f
   filter_so f e asked wants =
-      subst (λ (x : Wanted). IsFilterRefused (numbers_of x.decimals) x.filter f)
+      subst (λ (x : Wanted). IsFilterRefused x.numbers x.filter f)
       (asked_is words a v w e asked wants)

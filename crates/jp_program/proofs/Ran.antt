@@ -14,12 +14,14 @@ use Rattle.clap.specs.Walk.{Text, texts}
 use Rattle.jp_doc.specs.declared.fault.DocFault.{DocFault}
 use Rattle.jp_number.specs.declared.numbers.Numbers.{Numbers}
 use Rattle.jp_regexp.proofs.RightTests.{right_tests}
-use Rattle.jp_answer.specs.Answer.{Answer}
+use Rattle.jp_answer.specs.Answer.{Answer, answer_by}
 use Rattle.jp_answer.specs.FilteredQuery.{FilteredQuery}
-use Rattle.jp_answer.specs.OnFault.{answer_by, passed_in}
+use Rattle.jp_answer.specs.Policy.{passed_in, policy}
+use Rattle.jp_answer.specs.declared.on_fault.OnFault.{OnFault}
+use Rattle.jp_answer.specs.declared.on_fault.OnFault.TheVariants.{Stop, KeepGoing}
 use Rattle.jp_run.specs.Manner.{Manner}
 use Rattle.jp_run.specs.AskedTexts.{AreAcceptedIn, AskedTexts}
-use Rattle.jp_run.specs.Answered.{IsAnswerBy, numbers_of, policy_of}
+use Rattle.jp_run.specs.Answered.{IsAnswerBy}
 use Rattle.jp_run.specs.Counts.{counted}
 use Rattle.jp_run.specs.Cutting.{documents, documents_in}
 use Rattle.jp_run.specs.Handed.{Handed}
@@ -53,13 +55,13 @@ pub wants_of : (words : List Text) (a : Asked) (w : code.Wanted) → a ≡ Query
 wants_of words a w e asked off = (subst (IsAsked words) e asked, off)
 
 -- what a check has accepted is accepted by the numbers that were wanted
-pub taken_by : (n : Numbers) (w : Wanted) → n ≡ numbers_of w.decimals
+pub taken_by : (n : Numbers) (w : Wanted) → n ≡ w.numbers
     → (q : FilteredQuery) × AreAcceptedIn n (asked_in w) q → IsTaken w
 taken_by n w same h = (h.0, subst (λ k. AreAcceptedIn k (asked_in w) h.0) same h.1)
 
 -- and so is what was prepared
-pub prepared_by : (n : Numbers) (w : Wanted) (q : FilteredQuery) → n ≡ numbers_of w.decimals
-    → AreAcceptedIn n (asked_in w) q → AreAcceptedIn (numbers_of w.decimals) (asked_in w) q
+pub prepared_by : (n : Numbers) (w : Wanted) (q : FilteredQuery) → n ≡ w.numbers
+    → AreAcceptedIn n (asked_in w) q → AreAcceptedIn w.numbers (asked_in w) q
 prepared_by n w q same = subst (λ k. AreAcceptedIn k (asked_in w) q) same
 
 -- want of memory has another one
@@ -68,22 +70,22 @@ no_memory f two is = let five : status_of f ≡ 5 = ap status_of is in omega (ar
 
 -- what one run over an input has done, in the words of what was wanted
 module _ (w : Wanted) (input : Input) (old new : Option (List ℕ)) where
-  pub finished_ok : (r : Result Totals RunFault) → OnOk r (IsToldIn w.keeps_going w None input old new)
+  pub finished_ok : (r : Result Totals RunFault) → OnOk r (IsToldIn w.on_fault w None input old new)
       → IfOk r (λ totals. IfSome input.1 (λ bytes. totals.faulty
-      ≡ passed_in (policy_of w.decimals w.keeps_going) (documents w.cutting bytes)))
+      ≡ passed_in (policy w.numbers w.on_fault) (documents w.cutting bytes)))
       → IfOk r (λ totals. totals.faulty ≡ 0 → IsAnswered w None input old new)
-  finished_ok (Ok totals) told faulty = λ e. fine w w.keeps_going input old new totals.faulty told faulty e
+  finished_ok (Ok totals) told faulty = λ e. fine w w.on_fault input old new totals.faulty told faulty e
   finished_ok (Err fault) told faulty = tt
 
-  pub passes_ok : w.keeps_going ≡ true → (r : Result Totals RunFault)
-      → OnOk r (IsToldIn w.keeps_going w None input old new)
+  pub passes_ok : w.on_fault ≡ KeepGoing → (r : Result Totals RunFault)
+      → OnOk r (IsToldIn w.on_fault w None input old new)
       → IfOk r (λ totals. IfSome input.1 (λ bytes. totals.faulty
-      ≡ passed_in (policy_of w.decimals w.keeps_going) (documents w.cutting bytes)))
+      ≡ passed_in (policy w.numbers w.on_fault) (documents w.cutting bytes)))
       → IfOk r (λ totals. (n : ℕ) → Passes w input (old, n) (new, counted n totals.faulty))
   passes_ok is (Ok totals) told faulty = λ n. passes w input old new totals.faulty n
-      (subst (λ g. IsToldIn g w None input old new) is told)
-      (subst (λ g. IfSome input.1 (λ bytes. totals.faulty
-      ≡ passed_in (policy_of w.decimals g) (documents w.cutting bytes))) is faulty)
+      (subst (λ (g : OnFault). IsToldIn g w None input old new) is told)
+      (subst (λ (g : OnFault). IfSome input.1 (λ bytes. totals.faulty
+      ≡ passed_in (policy w.numbers g) (documents w.cutting bytes))) is faulty)
   passes_ok is (Err fault) told faulty = tt
 
 -- of no byte there is no document
@@ -95,9 +97,9 @@ no_documents Documents = refl
 module _ (w : Wanted) (e : Left) (input : Input) (old new : Option (List ℕ)) where
   pub run_ended : (r : Result Totals RunFault)
       → ((f : RunFault) → IsErrOf r f → status_of f ≡ 2 → IsRefusedWish w f)
-      → (w.keeps_going ≡ true → (line : ℕ) (fault : DocFault) → IsErrOf r (Document line fault) → ⊥)
+      → (w.on_fault ≡ KeepGoing → (line : ℕ) (fault : DocFault) → IsErrOf r (Document line fault) → ⊥)
       → ((line : ℕ) (fault : DocFault) → IsErrOf r (Document line fault)
-      → IsToldIn w.keeps_going w (Some (line, fault)) input old new)
+      → IsToldIn w.on_fault w (Some (line, fault)) input old new)
       → (IsErrOf r Read → IsCutShort w e.source_failed input e.rest old new)
       → (IsErrOf r Write → e.sink_failed ≡ true)
       → (IsErrOf r Limit → AreAllReads e.reads e.reads_new ⊎ AreTooManyLines w input.1 e.rest)
@@ -109,7 +111,7 @@ module _ (w : Wanted) (e : Left) (input : Input) (old new : Option (List ℕ)) w
   run_ended (Err (fault_.Filter f)) query going document read write limit settings front =
       query (fault_.Filter f) refl refl
   run_ended (Err (Document line fault)) query going document read write limit settings front =
-      told_stop w w.keeps_going (Some (line, fault)) input old new (document line fault refl)
+      told_stop w w.on_fault (Some (line, fault)) input old new (document line fault refl)
       (λ on. going on line fault refl)
   run_ended (Err Read) query going document read write limit settings front = (front, read refl)
   run_ended (Err Write) query going document read write limit settings front = (front, write refl)
@@ -129,10 +131,10 @@ module _ (w : Wanted) (e : Left) (input : Input) (old new : Option (List ℕ)) w
       (
         taken.0,
         taken.1,
-        subst (λ l. Handed (manner_for w input.0 w.keeps_going) taken.0 l None old new)
+        subst (λ l. Handed (manner_for w input.0 w.on_fault) taken.0 l None old new)
             (sym (no_documents w.cutting))
-            (subst (λ o. Handed (manner_for w input.0 w.keeps_going) taken.0 [] None old o) (sym same)
-            (handed_none (manner_for w input.0 w.keeps_going) taken.0 old)),
+            (subst (λ o. Handed (manner_for w input.0 w.on_fault) taken.0 [] None old o) (sym same)
+            (handed_none (manner_for w input.0 w.on_fault) taken.0 old)),
       ),
     ),
   )
@@ -151,14 +153,15 @@ reads_none : (files : List Text) (reads : ℕ) → 0 < length files → 0 ≡ re
 reads_none [] reads some = absurd (omega (arith, some))
 reads_none (name ∷ names) reads some = refl
 
-ends_all : (files : List Text) (going failed : Bool) → going ≡ false → failed ≡ ends_run files going failed
+ends_all : (files : List Text) (going : OnFault) (failed : Bool) → going ≡ Stop
+    → failed ≡ ends_run files going failed
 ends_all [] going failed off = refl
-ends_all (name ∷ names) false failed off = refl
-ends_all (name ∷ names) true failed off = absurd (cc)
+ends_all (name ∷ names) Stop failed off = refl
+ends_all (name ∷ names) KeepGoing failed off = absurd (cc)
 
 -- what a run over a file leaves, unless the answer goes on past it, is what it leaves to the end
 left_so : (w : Wanted) → 0 < length w.files → (e : Left) (f : RunFault)
-    → (w.keeps_going ≡ true → f ≡ Read → ⊥) → (input : Input) (old new : Option (List ℕ))
+    → (w.on_fault ≡ KeepGoing → f ≡ Read → ⊥) → (input : Input) (old new : Option (List ℕ))
     → RunEnded w (file_left e) f input old new → RunEnded w (left_of w e) f input old new
 left_so w some e (fault_.Query f) not input old new h = h
 left_so w some e (fault_.Filter f) not input old new h = h
@@ -166,7 +169,7 @@ left_so w some e (Document line fault) not input old new h = h
 left_so w some e Read not input old new h = (
   h.0,
   subst (λ b. IsCutShort w b input e.rest old new)
-      (ends_all w.files w.keeps_going e.source_failed (stops w.keeps_going (λ on. not on refl))) h.1,
+      (ends_all w.files w.on_fault e.source_failed (stops w.on_fault (λ on. not on refl))) h.1,
 )
 left_so w some e Write not input old new h = h
 left_so w some e Limit not input old new h = (
@@ -183,7 +186,7 @@ left_alone w none e = ap (λ (fs : List Text). record {
   rest = e.rest;
   reads = reads_before fs e.reads;
   reads_new = e.reads_new;
-  source_failed = ends_run fs w.keeps_going e.source_failed;
+  source_failed = ends_run fs w.on_fault e.source_failed;
   sink_failed = e.sink_failed;
 }) (sym none)
 
@@ -191,13 +194,13 @@ left_alone w none e = ap (λ (fs : List Text). record {
 module _ (words : List Text) (w : Wanted) (wants : WantsRun words w) (holds : Text → Held) (first : Held)
     (c : Course) (e : Left) (Undone : Type 0) where
   so_by : (f : RunFault)
-      → (w.keeps_going ≡ true → (line : ℕ) (fault : DocFault) → f ≡ Document line fault → ⊥)
+      → (w.on_fault ≡ KeepGoing → (line : ℕ) (fault : DocFault) → f ≡ Document line fault → ⊥)
       → EndsIn (IsWholeOrCut w) (RunEnded w (left_of w e) f) w.files holds first c
       → HasEnded words holds first c e Undone f
   so_by (fault_.Query f) going h = tt
   so_by (fault_.Filter f) going h = tt
   so_by (Document line fault) going h =
-      (w, wants, stops w.keeps_going (λ on. going on line fault refl), h)
+      (w, wants, stops w.on_fault (λ on. going on line fault refl), h)
   so_by Read going h = (
     w,
     wants,
@@ -220,7 +223,7 @@ module _ (words : List Text) (w : Wanted) (wants : WantsRun words w) (holds : Te
   so_by Settings going h = tt
 
   pub run_so : w.files ≡ [] → (r : Result Totals RunFault)
-      → (w.keeps_going ≡ true → (line : ℕ) (fault : DocFault) → IsErrOf r (Document line fault) → ⊥)
+      → (w.on_fault ≡ KeepGoing → (line : ℕ) (fault : DocFault) → IsErrOf r (Document line fault) → ⊥)
       → IfErr r (λ f. RunEnded w e f (standard first) c.contents c.contents_new)
       → IfErr r (HasEnded words holds first c e Undone)
   run_so none (Ok totals) going h = tt
@@ -229,7 +232,7 @@ module _ (words : List Text) (w : Wanted) (wants : WantsRun words w) (holds : Te
       (subst (λ l. RunEnded w l f (standard first) c.contents c.contents_new) (left_alone w none e) h))
 
   pub files_so : 0 < length w.files → (r : Result Totals RunFault)
-      → (w.keeps_going ≡ true → (line : ℕ) (fault : DocFault) → IsErrOf r (Document line fault) → ⊥)
+      → (w.on_fault ≡ KeepGoing → (line : ℕ) (fault : DocFault) → IsErrOf r (Document line fault) → ⊥)
       → IfErr r (FilesEnded w (file_left e) (map (named holds) w.files) c)
       → IfErr r (HasEnded words holds first c e Undone)
   files_so some (Ok totals) going h = tt
@@ -287,10 +290,10 @@ module _ (words : List Text) (w : Wanted) (wants : WantsRun words w) (Each Opene
   finished_so Shown Checked (Err fault) taken each opened end passed working = tt
 
   pub past_so : (r : Result Totals RunFault)
-      → IfOk r (λ totals. 0 < totals.faulty → (w.keeps_going ≡ true) × Each w) → OnOk r (Opened w)
+      → IfOk r (λ totals. 0 < totals.faulty → (w.on_fault ≡ KeepGoing) × Each w) → OnOk r (Opened w)
       → OnOk r (IsAtEnd rest) → OnOk r (flushed ≡ true)
       → OnOk r ((source_failed ≡ false) × (sink_failed ≡ false))
-      → IfOk r (λ totals. 0 < totals.faulty → (x : Wanted) × WantsRun words x × (x.keeps_going ≡ true)
+      → IfOk r (λ totals. 0 < totals.faulty → (x : Wanted) × WantsRun words x × (x.on_fault ≡ KeepGoing)
       × Each x × Opened x × IsAtEnd rest × (flushed ≡ true)
       × (source_failed ≡ false) × (sink_failed ≡ false))
   past_so (Ok totals) each opened end passed working = λ some.
@@ -298,20 +301,20 @@ module _ (words : List Text) (w : Wanted) (wants : WantsRun words w) (Each Opene
   past_so (Err fault) each opened end passed working = tt
 
 -- faulty lines are passed only where the answer keeps going
-pub goes : (going : Bool) (n : ℕ) → (going ≡ false → n ≡ 0) → 0 < n → going ≡ true
-goes true n none some = refl
-goes false n none some = absurd (let is = none refl in omega (arith, is, some))
+pub goes : (going : OnFault) (n : ℕ) → (going ≡ Stop → n ≡ 0) → 0 < n → going ≡ KeepGoing
+goes KeepGoing n none some = refl
+goes Stop n none some = absurd (let is = none refl in omega (arith, is, some))
 
 -- one input alone
 module _ (w : Wanted) (holds : Text → Held) (first old new : Option (List ℕ)) (none : w.files ≡ []) where
   pub past_alone : (r : Result Totals RunFault)
-      → (w.keeps_going ≡ true
+      → (w.on_fault ≡ KeepGoing
       → IfOk r (λ totals. (n : ℕ) → Passes w (standard first) (old, n) (new, counted n totals.faulty)))
-      → (w.keeps_going ≡ false → IfOk r (λ totals. totals.faulty ≡ 0))
-      → IfOk r (λ totals. 0 < totals.faulty → (w.keeps_going ≡ true)
+      → (w.on_fault ≡ Stop → IfOk r (λ totals. totals.faulty ≡ 0))
+      → IfOk r (λ totals. 0 < totals.faulty → (w.on_fault ≡ KeepGoing)
       × ArePassed w (inputs_of w.files holds first) old new)
   past_alone (Ok totals) each no_fault = λ some.
-      let going = goes w.keeps_going totals.faulty no_fault some in (
+      let going = goes w.on_fault totals.faulty no_fault some in (
         going,
         (
           counted 0 totals.faulty,
@@ -339,11 +342,11 @@ module _ (w : Wanted) (some : 0 < length w.files) (holds : Text → Held) (first
       → EachInTurn (IsAnswered w None) xs old new)) (sym (all_named w.files holds first some)) h
 
   pub past_files : (r : Result Totals RunFault) (old new : Option (List ℕ))
-      → IfOk r (λ totals. 0 < totals.faulty → (w.keeps_going ≡ true)
+      → IfOk r (λ totals. 0 < totals.faulty → (w.on_fault ≡ KeepGoing)
       × ArePassed w (map (named holds) w.files) old new)
-      → IfOk r (λ totals. 0 < totals.faulty → (w.keeps_going ≡ true)
+      → IfOk r (λ totals. 0 < totals.faulty → (w.on_fault ≡ KeepGoing)
       × ArePassed w (inputs_of w.files holds first) old new)
-  past_files r old new h = subst (λ xs. IfOk r (λ totals. 0 < totals.faulty → (w.keeps_going ≡ true)
+  past_files r old new h = subst (λ xs. IfOk r (λ totals. 0 < totals.faulty → (w.on_fault ≡ KeepGoing)
       × ArePassed w xs old new)) (sym (all_named w.files holds first some)) h
 
   pub nothing_files : (r : Result Totals RunFault)
@@ -407,7 +410,7 @@ one_answer going asked input a b h k =
 module _ (w : Wanted) where
   abbrev pub Tells : Input → Bool → Type 0
   Tells input wrote = IfSome input.1 (λ bytes. (a : Answer)
-      × IsAnswerBy (manner_for w input.0 w.keeps_going) (asked_in w) bytes a
+      × IsAnswerBy (manner_for w input.0 w.on_fault) (asked_in w) bytes a
       × (wrote ≡ nat_lt 0 (length a.bytes)))
 
   nothing_known : (input : Input) (wrote : Bool) → Tells input wrote → wrote ≡ false → IsEmptyAnswer w input
@@ -418,7 +421,7 @@ module _ (w : Wanted) where
       → IsKnownEmptyAnswer w input → ⊥
   something_known (name, None) wrote h e k = k
   something_known (name, Some bytes) wrote h e k =
-      let same : h.0 ≡ k.0 = one_answer (manner_for w name w.keeps_going) (asked_in w) bytes h.0 k.0 h.1 k.1
+      let same : h.0 ≡ k.0 = one_answer (manner_for w name w.on_fault) (asked_in w) bytes h.0 k.0 h.1 k.1
       in
       let none : nat_lt 0 (length h.0.bytes) ≡ false =
       ap (λ (a : Answer). nat_lt 0 (length a.bytes)) same ∙ ap (λ bs. nat_lt 0 (length bs)) k.2 in

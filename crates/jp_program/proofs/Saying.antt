@@ -8,9 +8,8 @@ use Rattle.std.specs.Str.Parse.{ParsesUnsigned, ParsesBool}
 use Rattle.clap.specs.Matches.{ReadsOne}
 use Rattle.std.specs.Str.{chars}
 use Rattle.clap.specs.Walk.{Text, Row, texts, all_of, first_of, one_of}
-use Rattle.jp_run.specs.declared.cutting.Cutting.{Cutting}
 use Rattle.jp_run.specs.declared.output.Output.{Output}
-use Rattle.jp_program.specs.Wanted.{SaysCutting, SaysNumber, SaysFlag, cuts_documents, flag_text, SaysOutput}
+use Rattle.jp_program.specs.Wanted.{SaysNumber, SaysFlag, flag_text, SaysOutput}
 use Rattle.jp_program.specs.Wanted.{AreSaid, SaysFilter, output_text}
 
 -- a text that is read as an option's value, by the type's own reading
@@ -85,9 +84,9 @@ module _ (rows : List Row) (o : Option Text) (is : o ≡ first_of (codes "output
       h none x (let same : word ≡ output_text x = cc in same)
 
 -- the way of cutting is what the flag says
-pub cutting_said : (rows : List Row) (there : Bool) (c : Cutting) → SaysFlag (codes "documents") rows there
-    → there ≡ cuts_documents c → SaysCutting rows c
-cutting_said rows there c s e = subst (SaysFlag (codes "documents") rows) e s
+pub flag_said : (name : Text) (rows : List Row) (there shown : Bool) → SaysFlag name rows there
+    → there ≡ shown → SaysFlag name rows shown
+flag_said name rows there shown s e = subst (SaysFlag name rows) e s
 
 -- the query's text is what is said of it
 module _ (name : Text) (rows : List Row) (o : Option Text) (is : o ≡ first_of name rows) where

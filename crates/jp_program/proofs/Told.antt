@@ -1,28 +1,32 @@
 -- What a run has told still holds once its sink is flushed, and says what its status says.
-use Rattle.std.proofs.Common.{◌≡◌, ◌∙◌, ℕ, ◌⊎◌, inl, inr, Bool, true, false, List, [], ◌∷◌, ◌++◌, length}
+use Rattle.std.proofs.Common.{◌≡◌, ◌∙◌, ℕ, ◌⊎◌, inl, inr, Bool, true, List, [], ◌∷◌, length}
 use Rattle.std.proofs.Common.{cond, Option, Some, None, IfSome, Result, Ok, Err, refl, ap, sym}
 use Rattle.std.proofs.Common.{arith, subst}
 use Rattle.std.proofs.KnownBytes.{Appends-nil}
 use Rattle.std.specs.Prelude.{is_err}
 use Rattle.std.specs.List.{filter}
 use Rattle.std.specs.Io.KnownBytes.{Appends, Keeps}
+use Rattle.jp_number.specs.declared.numbers.Numbers.{Numbers}
 use Rattle.jp_doc.specs.Json.{Json}
 use Rattle.jp_doc.specs.Lines.{Line}
-use Rattle.jp_doc.specs.ReadingIn.{Numbers, reading_in}
+use Rattle.jp_doc.specs.ReadingIn.{reading_in}
 use Rattle.jp_doc.specs.declared.fault.DocFault.{DocFault}
 use Rattle.jp_regexp.specs.Tests.{Tests}
+use Rattle.jp_regexp.proofs.RightTests.{right_tests}
 use Rattle.jp_answer.specs.FilteredQuery.{FilteredQuery}
-use Rattle.jp_answer.specs.Answer.{Answer, answer_as, after, line_answer, document_bytes}
+use Rattle.jp_answer.specs.Answer.{Answer, document_bytes, joined}
+use Rattle.jp_answer.specs.Faults.{is_faulty, faulty_lines}
 use Rattle.jp_output.specs.OutputForm.{OutputForm}
-use Rattle.jp_answer.specs.OnFault.{passed_in}
-use Rattle.jp_answer.specs.Policy.{numbers_in}
-use Rattle.jp_run.specs.Answered.{IsAnswerBy, numbers_of, policy_of}
+use Rattle.jp_answer.specs.Policy.{passed_in, policy}
+use Rattle.jp_answer.specs.declared.on_fault.OnFault.{OnFault}
+use Rattle.jp_answer.specs.declared.on_fault.OnFault.TheVariants.{Stop, KeepGoing}
+use Rattle.jp_answer.proofs.Joining.{answer_on, cons_on, line_answer, none_on, so_far}
+use Rattle.jp_run.specs.Answered.{IsAnswerBy}
 use Rattle.jp_run.specs.Cutting.{documents}
 use Rattle.jp_run.specs.Status.{status_of}
 use Rattle.jp_run.specs.declared.fault.RunFault.{RunFault}
 use Rattle.jp_run.specs.declared.fault.RunFault.TheVariants.{Query, Filter, Document, Read, Write, Limit}
 use Rattle.jp_run.specs.declared.fault.RunFault.TheVariants.{Memory, Settings}
-use Rattle.jp_answer.specs.Whole.{whole_as, document_or_fault, is_faulty, faulty_lines}
 use Rattle.jp_run.specs.Counts.{counted}
 use Rattle.jp_program.specs.Inputs.{Input}
 use Rattle.jp_program.specs.Outcome.{HasFailed, IsAnswered, Passes, IsFront, IsCutShort, IsWhole}
@@ -116,47 +120,46 @@ failed_kept w rest reads reads_new source_failed sink_failed still input old new
 module _ (n : Numbers) (form : OutputForm) (t : Tests) (q : FilteredQuery) where
   agree_by : (l : Line) (ls : List Line) (r : Result Json DocFault)
       → length (cond (is_err r) (l ∷ filter (is_faulty n) ls) (filter (is_faulty n) ls)) ≡ 0
-      → (faulty_lines n ls ≡ 0
-      → answer_as n form t q ls ≡ record { bytes = (whole_as n form t q ls).bytes; stopped = None })
-      → line_answer form t q l r (answer_as n form t q ls)
-      ≡ record { bytes = document_or_fault form t q l r ++ (whole_as n form t q ls).bytes; stopped = None }
-  agree_by l ls (Ok root) e h = ap (after (document_bytes form t q l root)) (h e)
+      → (faulty_lines n ls ≡ 0 → answer_on n form t q Stop ls ≡ answer_on n form t q KeepGoing ls)
+      → joined (line_answer form t q Stop l r) (answer_on n form t q Stop ls)
+      ≡ joined (line_answer form t q KeepGoing l r) (answer_on n form t q KeepGoing ls)
+  agree_by l ls (Ok root) e h = ap (joined (so_far (document_bytes form t q l root) 0)) (h e)
   agree_by l ls (Err f) e h = absurd (omega (arith, e))
 
   agree : (ls : List Line) → faulty_lines n ls ≡ 0
-      → answer_as n form t q ls ≡ record { bytes = (whole_as n form t q ls).bytes; stopped = None }
-  agree [] e = refl
-  agree (l ∷ ls) e = agree_by l ls (reading_in n l.1) e (agree ls)
+      → answer_on n form t q Stop ls ≡ answer_on n form t q KeepGoing ls
+  agree [] e = none_on n form t q Stop ∙ sym (none_on n form t q KeepGoing)
+  agree (l ∷ ls) e =
+      cons_on n form t q Stop l ls ∙ agree_by l ls (reading_in n l.1) e (agree ls)
+      ∙ sym (cons_on n form t q KeepGoing l ls)
 
 -- the wanted answer, of an answer that keeps going or not, which stopped there, was appended
-abbrev pub IsToldIn : Bool → Wanted → Option (ℕ × DocFault) → Input → Option (List ℕ)
+abbrev pub IsToldIn : OnFault → Wanted → Option (ℕ × DocFault) → Input → Option (List ℕ)
     → Option (List ℕ) → Type 0
 IsToldIn going w stopped input old new = IfSome input.1 (λ bytes. (a : Answer)
     × IsAnswerBy (manner_for w input.0 going) (asked_in w) bytes a × (a.stopped ≡ stopped)
     × Appends old new a.bytes)
 
 module _ (w : Wanted) where
-  abbrev numbers : Numbers
-  numbers = numbers_in (numbers_of w.decimals)
+  pub told_stop : (going : OnFault) (stopped : Option (ℕ × DocFault)) (input : Input)
+      (old new : Option (List ℕ)) → IsToldIn going w stopped input old new → (going ≡ KeepGoing → ⊥)
+      → IsAnswered w stopped input old new
+  told_stop Stop stopped (name, None) old new h off = tt
+  told_stop Stop stopped (name, Some bytes) old new h off = h
+  told_stop KeepGoing stopped input old new h off = absurd (off refl)
 
-  pub told_stop : (going : Bool) (stopped : Option (ℕ × DocFault)) (input : Input) (old new : Option (List ℕ))
-      → IsToldIn going w stopped input old new → (going ≡ true → ⊥) → IsAnswered w stopped input old new
-  told_stop false stopped (name, None) old new h off = tt
-  told_stop false stopped (name, Some bytes) old new h off = h
-  told_stop true stopped input old new h off = absurd (off refl)
-
-  pub fine : (going : Bool) (input : Input) (old new : Option (List ℕ)) (n : ℕ)
+  pub fine : (going : OnFault) (input : Input) (old new : Option (List ℕ)) (n : ℕ)
       → IsToldIn going w None input old new
-      → IfSome input.1 (λ bytes. n ≡ passed_in (policy_of w.decimals going) (documents w.cutting bytes))
+      → IfSome input.1 (λ bytes. n ≡ passed_in (policy w.numbers going) (documents w.cutting bytes))
       → n ≡ 0 → IsAnswered w None input old new
   fine going (name, None) old new n h c e = tt
-  fine false (name, Some bytes) old new n h c e = h
-  fine true (name, Some bytes) old new n h c e = (
+  fine Stop (name, Some bytes) old new n h c e = h
+  fine KeepGoing (name, Some bytes) old new n h c e = (
     h.0,
     (
       h.1.0,
       h.1.1,
-      λ t right. agree numbers (form_for w name) t h.1.0 (documents w.cutting bytes) (sym c ∙ e)
+      λ t right. agree w.numbers (form_for w name) t h.1.0 (documents w.cutting bytes) (sym c ∙ e)
           ∙ h.1.2 t right,
     ),
     h.2,
@@ -164,26 +167,22 @@ module _ (w : Wanted) where
   )
 
   pub passes : (input : Input) (old new : Option (List ℕ)) (n before : ℕ)
-      → IsToldIn true w None input old new
-      → IfSome input.1 (λ bytes. n ≡ faulty_lines numbers (documents w.cutting bytes))
+      → IsToldIn KeepGoing w None input old new
+      → IfSome input.1 (λ bytes. n ≡ passed_in (policy w.numbers KeepGoing) (documents w.cutting bytes))
       → Passes w input (old, before) (new, counted before n)
   passes (name, None) old new n before h c = tt
   passes (name, Some bytes) old new n before h c = (
     h.1.0,
     h.1.1,
-    record { bytes = h.0.bytes; faulty = n },
-    λ t right. ap (λ (r : Answer). record {
-      bytes = r.bytes;
-      faulty = faulty_lines numbers (documents w.cutting bytes);
-    })
-        (h.1.2 t right) ∙ ap (λ k. record { bytes = h.0.bytes; faulty = k }) (sym c),
-    refl,
+    h.0,
+    h.1.2,
+    ap (counted before) (c ∙ ap (λ (a : Answer). a.faulty) (h.1.2 right_tests.0 right_tests.1)),
     h.3,
   )
 
-pub stops : (going : Bool) → (going ≡ true → ⊥) → going ≡ false
-stops false off = refl
-stops true off = absurd (off refl)
+pub stops : (going : OnFault) → (going ≡ KeepGoing → ⊥) → going ≡ Stop
+stops Stop off = refl
+stops KeepGoing off = absurd (off refl)
 
 -- which faults have a status
 

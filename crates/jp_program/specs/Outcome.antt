@@ -6,12 +6,13 @@ use Rattle.std.specs.Io.KnownBytes.{Appends, Consumes}
 use Rattle.clap.specs.Walk.{Text}
 use Rattle.jp_doc.specs.declared.fault.DocFault.{DocFault}
 use Rattle.jp_regexp.specs.Tests.{Tests, AreRight}
-use Rattle.jp_answer.specs.Answer.{Answer}
+use Rattle.jp_answer.specs.Answer.{Answer, answer_by}
 use Rattle.jp_answer.specs.FilteredQuery.{FilteredQuery}
-use Rattle.jp_answer.specs.Policy.{numbers_in}
-use Rattle.jp_answer.specs.Whole.{Whole, whole_as}
+use Rattle.jp_answer.specs.Policy.{policy}
+use Rattle.jp_answer.specs.declared.on_fault.OnFault.{OnFault}
+use Rattle.jp_answer.specs.declared.on_fault.OnFault.TheVariants.{Stop, KeepGoing}
 use Rattle.jp_output.specs.OutputForm.{OutputForm}
-use Rattle.jp_run.specs.Answered.{IsAnswerBy, numbers_of, manner_by}
+use Rattle.jp_run.specs.Answered.{IsAnswerBy}
 use Rattle.jp_run.specs.AskedTexts.{AskedTexts, AreAcceptedIn, AreRefusedIn}
 use Rattle.jp_run.specs.Begun.{Begun, AllSince}
 use Rattle.jp_run.specs.Cutting.{documents, documents_in, part_count}
@@ -19,7 +20,7 @@ use Rattle.jp_run.specs.Counts.{counted}
 use Rattle.jp_run.specs.Forms.{form_of}
 use Rattle.jp_run.specs.Handed.{IsHandedBy}
 use Rattle.jp_run.specs.Limits.{max_reads, max_lines, window}
-use Rattle.jp_run.specs.Manner.{Manner}
+use Rattle.jp_run.specs.Manner.{Manner, manner}
 use Rattle.jp_run.specs.Prompt.{IsPrompt, IsNear}
 use Rattle.jp_run.specs.Written.{AppendsFront}
 use Rattle.jp_run.specs.declared.fault.RunFault.{RunFault}
@@ -37,11 +38,11 @@ asked_in w = record { query = w.query; filter = w.filter }
 
 -- they are accepted, by the wanted numbers
 abbrev pub IsTaken : Wanted → Type 0
-IsTaken w = (q : FilteredQuery) × AreAcceptedIn (numbers_of w.decimals) (asked_in w) q
+IsTaken w = (q : FilteredQuery) × AreAcceptedIn w.numbers (asked_in w) q
 
 -- they are refused with this fault, by the wanted numbers
 abbrev pub IsRefusedWish : Wanted → RunFault → Type 0
-IsRefusedWish w fault = AreRefusedIn (numbers_of w.decimals) (asked_in w) fault
+IsRefusedWish w fault = AreRefusedIn w.numbers (asked_in w) fault
 
 -- what each line of an input stands behind: its name and a tab, where lines are to name theirs
 abbrev pub head_of : Wanted → Text → List ℕ
@@ -51,23 +52,23 @@ head_of w name = if w.names then name ++ 9 ∷ [] else []
 abbrev pub form_for : Wanted → Text → OutputForm
 form_for w name = form_of w.output (head_of w name)
 
--- the wanted manner of the same, which keeps going or not
-abbrev pub manner_for : Wanted → Text → Bool → Manner
-manner_for w name keeps_going = manner_by w.cutting w.output (head_of w name) w.decimals keeps_going
+-- the wanted manner of the same, which ends at a faulty line or keeps going
+abbrev pub manner_for : Wanted → Text → OnFault → Manner
+manner_for w name on_fault = manner w.cutting (form_for w name) (policy w.numbers on_fault)
 
 -- what was written is the wanted query's answer, in the wanted form and by the wanted numbers, to the whole
 -- input, which stopped there
 abbrev pub IsAnswered : Wanted → Option (ℕ × DocFault) → Input → Option (List ℕ) → Option (List ℕ) → Type 0
 IsAnswered w stopped input old new = IfSome input.1 (λ bytes. (a : Answer)
-    × IsAnswerBy (manner_for w input.0 false) (asked_in w) bytes a × (a.stopped ≡ stopped)
+    × IsAnswerBy (manner_for w input.0 Stop) (asked_in w) bytes a × (a.stopped ≡ stopped)
     × Appends old new a.bytes)
 
 -- what was written is the wanted query's answer that keeps going, in the wanted form and by the wanted
 -- numbers, to the whole input, and its faulty lines are counted on
 abbrev pub Passes : Wanted → Input → Option (List ℕ) × ℕ → Option (List ℕ) × ℕ → Type 0
 Passes w input old new = IfSome input.1 (λ bytes. (q : FilteredQuery)
-    × AreAcceptedIn (numbers_of w.decimals) (asked_in w) q × (x : Whole)
-    × ((t : Tests) → AreRight t → whole_as (numbers_in (numbers_of w.decimals)) (form_for w input.0) t q
+    × AreAcceptedIn w.numbers (asked_in w) q × (x : Answer)
+    × ((t : Tests) → AreRight t → answer_by (form_for w input.0) (policy w.numbers KeepGoing) t q
     (documents w.cutting bytes) ≡ x) × (new.1 ≡ counted old.1 x.faulty)
     × Appends old.0 new.0 x.bytes)
 
@@ -79,13 +80,13 @@ ArePassed w inputs old new = (faulty : ℕ) × (0 < faulty) × EachInTurn (Passe
 -- has not stopped
 abbrev pub IsWhole : Wanted → Input → Option (List ℕ) → Option (List ℕ) → Type 0
 IsWhole w input old new = IfSome input.1 (λ bytes. (a : Answer)
-    × IsAnswerBy (manner_for w input.0 w.keeps_going) (asked_in w) bytes a × (a.stopped ≡ None)
+    × IsAnswerBy (manner_for w input.0 w.on_fault) (asked_in w) bytes a × (a.stopped ≡ None)
     × Appends old new a.bytes)
 
 -- the wanted answer to these bytes of an input of this name is empty: nothing is selected in them
 abbrev pub HasEmptyAnswer : Wanted → Text → List ℕ → Type 0
 HasEmptyAnswer w name bytes = (a : Answer)
-    × IsAnswerBy (manner_for w name w.keeps_going) (asked_in w) bytes a × (a.bytes ≡ [])
+    × IsAnswerBy (manner_for w name w.on_fault) (asked_in w) bytes a × (a.bytes ≡ [])
 
 -- nothing is selected in an input, as far as its bytes are known
 abbrev pub IsEmptyAnswer : Wanted → Input → Type 0
@@ -105,12 +106,12 @@ AreKnownEmptyAnswers w inputs = All (IsKnownEmptyAnswer w) inputs
 -- what was written is a front of the wanted query's answer, in the wanted form, to the whole input
 abbrev pub IsFront : Wanted → Input → Option (List ℕ) → Option (List ℕ) → Type 0
 IsFront w input old new = IfSome input.1 (λ bytes. (a : Answer)
-    → IsAnswerBy (manner_for w input.0 w.keeps_going) (asked_in w) bytes a → AppendsFront old new a.bytes)
+    → IsAnswerBy (manner_for w input.0 w.on_fault) (asked_in w) bytes a → AppendsFront old new a.bytes)
 
 -- the source has failed, and what was written is the answer to all documents whose line's end was read
 abbrev pub IsCutShort : Wanted → Bool → Input → Option (List ℕ) → Option (List ℕ) → Option (List ℕ) → Type 0
 IsCutShort w failed input rest old new = (failed ≡ true) × (bytes : List ℕ) × Consumes input.1 rest bytes
-    × IsHandedBy (manner_for w input.0 w.keeps_going) (asked_in w) (documents_in w.cutting bytes) None old new
+    × IsHandedBy (manner_for w input.0 w.on_fault) (asked_in w) (documents_in w.cutting bytes) None old new
 
 -- the input was cut short by a failure of its own: what was written is the answer to all documents whose
 -- line's end was read
@@ -120,7 +121,7 @@ IsCut w input old new = (rest : Held) × IsCutShort w true input rest old new
 -- the input was answered, or the answer keeps going, the input was cut short, and that is one failure more
 abbrev pub IsWholeOrCut : Wanted → Input → Standing → Standing → Type 0
 IsWholeOrCut w input old new = (IsWhole w input old.0 new.0 × (new.1 ≡ old.1))
-    ⊎ ((w.keeps_going ≡ true) × IsCut w input old.0 new.0 × (new.1 ≡ suc old.1))
+    ⊎ ((w.on_fault ≡ KeepGoing) × IsCut w input old.0 new.0 × (new.1 ≡ suc old.1))
 
 -- the most calls of `read` were made
 abbrev pub AreAllReads : ℕ → ℕ → Type 0
@@ -153,10 +154,10 @@ HasFailed w e input old new = IsFront w input old new
     ⊎ AreAllReads e.reads e.reads_new ⊎ AreTooManyLines w input.1 e.rest)
 
 -- whether a source that has failed ends the run: a file does not where the answer keeps going
-abbrev pub ends_run : List Text → Bool → Bool → Bool
-ends_run [] keeps_going failed = failed
-ends_run (name ∷ names) false failed = failed
-ends_run (name ∷ names) true failed = false
+abbrev pub ends_run : List Text → OnFault → Bool → Bool
+ends_run [] on_fault failed = failed
+ends_run (name ∷ names) Stop failed = failed
+ends_run (name ∷ names) KeepGoing failed = false
 
 -- the same of what is left, of an input that may be a file
 abbrev pub left_of : Wanted → Left → Left
@@ -164,7 +165,7 @@ left_of w e = record {
   rest = e.rest;
   reads = reads_before w.files e.reads;
   reads_new = e.reads_new;
-  source_failed = ends_run w.files w.keeps_going e.source_failed;
+  source_failed = ends_run w.files w.on_fault e.source_failed;
   sink_failed = e.sink_failed;
 }
 
@@ -192,10 +193,10 @@ AreOpened w opens opens_new broken broken_new = (opens_new ≡ counted opens (le
 abbrev pub ArePrompt : Wanted → Option (List Begun) → Option (List Begun) → Option (List ℕ)
     → Option (List ℕ) → Type 0
 ArePrompt w before after input old = AllSince before after
-    (IsPrompt (manner_for w (codes "-") w.keeps_going) (asked_in w) input old)
+    (IsPrompt (manner_for w (codes "-") w.on_fault) (asked_in w) input old)
 
 -- each read of it has begun when the wanted answer to all but the last 4 MB that had come was written
 abbrev pub AreNear : Wanted → Option (List Begun) → Option (List Begun) → Option (List ℕ)
     → Option (List ℕ) → Type 0
 AreNear w before after input old = AllSince before after
-    (IsNear window (manner_for w (codes "-") w.keeps_going) (asked_in w) input old)
+    (IsNear window (manner_for w (codes "-") w.on_fault) (asked_in w) input old)

@@ -7,6 +7,10 @@ use Rattle.std.specs.List.{All}
 use Rattle.std.specs.Str.{chars}
 use Rattle.std.specs.Str.Parse.{IsNumeral, digits_value, without_leading_plus}
 use Rattle.clap.specs.Walk.{Text, Row, all_of, first_of, one_of}
+use Rattle.jp_answer.specs.declared.on_fault.OnFault.{OnFault}
+use Rattle.jp_answer.specs.declared.on_fault.OnFault.TheVariants.{Stop, KeepGoing}
+use Rattle.jp_number.specs.declared.numbers.Numbers.{Numbers}
+use Rattle.jp_number.specs.declared.numbers.Numbers.TheVariants.{Whole, Decimals}
 use Rattle.jp_run.specs.Settings.{AreSettings}
 use Rattle.jp_run.specs.declared.cutting.Cutting.{Cutting}
 use Rattle.jp_run.specs.declared.cutting.Cutting.TheVariants as cutting
@@ -16,8 +20,8 @@ use Rattle.jp_program.specs.CommandLine.{said, refusals, IsRefused}
 
 -- the query's text in scalar values, and that of a filter of documents, if there is one, the files by their
 -- names in bytes, whether lines are to name theirs, how each is cut into documents, whether what is asked is
--- only checked, what is written, whether documents, the query and the filter may have all numbers of JSON,
--- whether the answer keeps going, whether faulty lines are to be explained, whether the status tells that
+-- only checked, what is written, which numbers documents, the query and the filter may have, what is done
+-- where a line is faulty, whether faulty lines are to be explained, whether the status tells that
 -- nothing was selected, and the settings
 pub record Wanted : Type 0 where
   pub query : List ℕ
@@ -27,8 +31,8 @@ pub record Wanted : Type 0 where
   pub cutting : Cutting
   pub check : Bool
   pub output : Output
-  pub decimals : Bool
-  pub keeps_going : Bool
+  pub numbers : Numbers
+  pub on_fault : OnFault
   pub explain : Bool
   pub exit_status : Bool
   pub workers : ℕ
@@ -59,6 +63,22 @@ cuts_documents cutting.Documents = true
 
 abbrev pub SaysCutting : List Row → Cutting → Type 0
 SaysCutting rows cutting = SaysFlag (codes "documents") rows (cuts_documents cutting)
+
+-- every number of JSON, or whole ones, by whether that option is there
+abbrev pub has_decimals : Numbers → Bool
+has_decimals Whole = false
+has_decimals Decimals = true
+
+abbrev pub SaysNumbers : List Row → Numbers → Type 0
+SaysNumbers rows numbers = SaysFlag (codes "decimals") rows (has_decimals numbers)
+
+-- a faulty line ends the answer, or that keeps going, by whether that option is there
+abbrev pub keeps_going : OnFault → Bool
+keeps_going Stop = false
+keeps_going KeepGoing = true
+
+abbrev pub SaysOnFault : List Row → OnFault → Type 0
+SaysOnFault rows on_fault = SaysFlag (codes "keep-going") rows (keeps_going on_fault)
 
 -- the word for a form of the answer
 abbrev pub output_text : Output → Text
@@ -100,8 +120,8 @@ pub record Says (rows : List Row) (w : Wanted) : Type 0 where
   pub cutting : SaysCutting rows w.cutting
   pub check : SaysFlag (codes "check") rows w.check
   pub output : SaysOutput rows w.output
-  pub decimals : SaysFlag (codes "decimals") rows w.decimals
-  pub keeps_going : SaysFlag (codes "keep-going") rows w.keeps_going
+  pub numbers : SaysNumbers rows w.numbers
+  pub on_fault : SaysOnFault rows w.on_fault
   pub explain : SaysFlag (codes "explain") rows w.explain
   pub exit_status : SaysFlag (codes "exit-status") rows w.exit_status
   pub settings : AreSaid rows w.workers w.piece w.batch

@@ -8,7 +8,6 @@ ghost use Rattle.jp_tree.specs.View.{text_of};
 ghost use Rattle.jp_check.specs.Verdict.{IsVerdictIn};
 ghost use Rattle.jp_explain.specs.Mark.{IsQuery};
 ghost use Rattle.jp_explain.specs.Picture.{is_shown, IsPicture};
-ghost use Rattle.jp_run.specs.Answered.{numbers_of};
 ghost use Rattle.jp_program.specs.Outcome.{IsRefusedWish};
 ghost use Rattle.jp_program.specs.Told.{IsExplained, IsTold, query_line};
 ghost use Rattle.jp_program.specs.Wanted.{Wanted as Wish, Wants};
@@ -61,7 +60,7 @@ pub(crate) fn tell_of_words<N: Sink>(
 fn tell_refusal<N: Sink>(alloc: Global, notes: &mut N, words: &[&str], refusal: QueryFault)
     ensures untouched { N.failed notes.old ≡ true → notes.new ≡ notes.old }
     ensures told { (w : Wish) → Wants (texts words.now) w
-        → IsVerdictIn (numbers_of w.decimals) w.query (Err refusal)
+        → IsVerdictIn w.numbers w.query (Err refusal)
         → IsTold w (RunFault.Query refusal) (N.failed notes.new) (N.contents notes.old)
         (N.contents notes.new) }
 {
@@ -91,12 +90,12 @@ fn query_line(refusal: QueryFault) -> &'static str
 /// seems to have split it; none where it is accepted, or none is wanted.
 fn explanation(alloc: Global, words: &[&str]) -> Result<Option<String>, RunFault>
     ensures { (f : Refusal) (w : Wish) → Wants (texts words.now) w
-        → IsVerdictIn (numbers_of w.decimals) w.query (Err f)
+        → IsVerdictIn w.numbers w.query (Err f)
         → IfOk result (λ o. IsSomeAnd o (λ s. IsExplained w (string_bytes s))) }
 {
     match read_words(alloc, words)? {
         Asked::Query(wanted) => {
-            let lines = lines_of(alloc, wanted.query, wanted.settings.numbers())?;
+            let lines = lines_of(alloc, wanted.query, wanted.settings.numbers)?;
             let Some(lines) = lines else {
                 return Ok(None);
             };

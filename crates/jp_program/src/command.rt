@@ -5,6 +5,7 @@ ghost use Rattle.std.specs.Prelude.{IfErr, IsErrOf, OnOk, []};
 ghost use Rattle.std.specs.Io.KnownBytes.{Appends, IsAtEnd, Keeps};
 ghost use Rattle.clap.specs.Walk.{texts};
 ghost use Rattle.jp_doc.specs.declared.fault.DocFault.{DocFault as Fault};
+ghost use Rattle.jp_answer.specs.declared.on_fault.OnFault.TheVariants.{Stop, KeepGoing};
 ghost use Rattle.jp_run.specs.declared.fault.RunFault.{RunFault as End};
 ghost use Rattle.jp_run.specs.Status.{status_of};
 ghost use Rattle.jp_run.specs.Written.{IsPassedOn};
@@ -26,6 +27,7 @@ use crate::inputs::Inputs;
 use crate::pattern_notes::tell_patterns;
 use crate::turn::{Search, run_named};
 use crate::witness::Witness;
+use jp_answer::OnFault;
 use jp_run::{Prepared, RunFault, Sink, Source, Totals, write_all};
 use std::alloc::{AllocError, AllocGlobal, Global};
 use std::thread::Threads;
@@ -98,7 +100,7 @@ pub fn program<R: Threads + AllocGlobal + Sync, S: Source<K>, I: Inputs<S>, K: S
     // faulty line; or to keep going was asked for, and the answer that does was written and passed on, it has
     // passed faulty lines, and no end has failed.
     ensures document { result ≡ 3 → ((line : ℕ) × (fault : Fault) × (w : Wish)
-        × WantsRun (texts words.now) w × (w.keeps_going ≡ false)
+        × WantsRun (texts words.now) w × (w.on_fault ≡ Stop)
         × EndsIn (IsWholeOrCut w) (IsAnswered w (Some (line, fault))) w.files (I.holds inputs.old)
         (S.remaining source.old) (record {
           opens = I.opens inputs.old;
@@ -108,7 +110,7 @@ pub fn program<R: Threads + AllocGlobal + Sync, S: Source<K>, I: Inputs<S>, K: S
           contents = K.contents sink.old;
           contents_new = K.contents sink.new;
         }))
-        ⊎ ((w : Wish) × WantsRun (texts words.now) w × (w.keeps_going ≡ true)
+        ⊎ ((w : Wish) × WantsRun (texts words.now) w × (w.on_fault ≡ KeepGoing)
         × ArePassed w (inputs_of w.files (I.holds inputs.old) (S.remaining source.old))
         (K.contents sink.old) (K.contents sink.new)
         × AreOpened w (I.opens inputs.old) (I.opens inputs.new) (I.broken inputs.old) (I.broken inputs.new)
@@ -162,7 +164,7 @@ pub fn program<R: Threads + AllocGlobal + Sync, S: Source<K>, I: Inputs<S>, K: S
         → (inputs.new ≡ inputs.old) × (source.new ≡ source.old)
         × Keeps (K.contents sink.old) (K.contents sink.new) }
     // However a run ends that does not keep going: no input that had failed was left for another one.
-    ensures unbroken { (w : Wish) → WantsRun (texts words.now) w → w.keeps_going ≡ false
+    ensures unbroken { (w : Wish) → WantsRun (texts words.now) w → w.on_fault ≡ Stop
         → I.broken inputs.new ≡ I.broken inputs.old }
     // After a fault the sink holds nothing back: it was flushed, or one of its calls has failed.
     ensures passed_on { (result ≡ 3) ⊎ (result ≡ 4) ⊎ (result ≡ 5)
@@ -234,7 +236,7 @@ fn done<R: Threads + AllocGlobal + Sync, S: Source<K>, I: Inputs<S>, K: Sink, N:
         × IsAtEnd (S.remaining source.new) × (K.flushed sink.new ≡ true)
         × (S.failed source.new ≡ false) × (K.failed sink.new ≡ false))) }
     ensures past { IfOk result (λ totals. 0 < totals.faulty → (w : Wish)
-        × WantsRun (texts words.now) w × (w.keeps_going ≡ true)
+        × WantsRun (texts words.now) w × (w.on_fault ≡ KeepGoing)
         × ArePassed w (inputs_of w.files (I.holds inputs.old) (S.remaining source.old))
         (K.contents sink.old) (K.contents sink.new)
         × AreOpened w (I.opens inputs.old) (I.opens inputs.new) (I.broken inputs.old) (I.broken inputs.new)
@@ -249,7 +251,7 @@ fn done<R: Threads + AllocGlobal + Sync, S: Source<K>, I: Inputs<S>, K: Sink, N:
         → AreEmptyAnswers w (inputs_of w.files (I.holds inputs.old) (S.remaining source.old))) }
     ensures something { (w : Wish) → WantsRun (texts words.now) w → IfOk result (λ totals. totals.wrote ≡ true
         → AreKnownEmptyAnswers w (inputs_of w.files (I.holds inputs.old) (S.remaining source.old)) → ⊥) }
-    ensures unbroken { (w : Wish) → WantsRun (texts words.now) w → w.keeps_going ≡ false
+    ensures unbroken { (w : Wish) → WantsRun (texts words.now) w → w.on_fault ≡ Stop
         → I.broken inputs.new ≡ I.broken inputs.old }
     ensures passed_on { IfOk result (λ totals. 0 < totals.faulty → K.flushed sink.new ≡ true) }
     ensures refused { (f : End) (w : Wish) → Wants (texts words.now) w → IsRefusedWish w f
@@ -291,7 +293,7 @@ fn done<R: Threads + AllocGlobal + Sync, S: Source<K>, I: Inputs<S>, K: Sink, N:
         }
         Asked::Query(wanted) => {
             // Before anything is told, and any file is opened.
-            let numbers = wanted.settings.numbers();
+            let numbers = wanted.settings.numbers;
             let filter = wanted.settings.filter;
             let prepared = Prepared::new(rt.alloc(), wanted.query, filter, numbers)?;
             tell_patterns(rt.alloc(), notes, wanted.query, numbers);
@@ -299,13 +301,13 @@ fn done<R: Threads + AllocGlobal + Sync, S: Source<K>, I: Inputs<S>, K: Sink, N:
                 return Ok(NOTHING_SEEN);
             }
             witness.is_asked = wanted.explain;
-            witness.keeps_going = wanted.settings.keeps_going;
-            witness.has_decimals = wanted.settings.decimals;
+            witness.on_fault = wanted.settings.on_fault;
+            witness.numbers = wanted.settings.numbers;
             witness.cutting = wanted.settings.cutting;
             witness.tells_nothing = wanted.exit_status;
             let names = wanted.files.as_slice();
             let is_alone = names.is_empty();
-            witness.passes_files = wanted.settings.keeps_going && !is_alone;
+            witness.passes_files = wanted.settings.on_fault == OnFault::KeepGoing && !is_alone;
             let search = Search {
                 rt,
                 witness: &*witness,

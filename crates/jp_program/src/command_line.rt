@@ -13,12 +13,15 @@ ghost use Rattle.jp_program.specs.CommandLine.{with_filter as filter_option_of};
 ghost use Rattle.jp_program.specs.CommandLine.{with_flags as flags_of, with_query as query_of};
 ghost use Rattle.jp_program.specs.inner.Asked.{IsAsked, IsNotAsked, wanted_of};
 ghost use Rattle.jp_program.specs.Wanted.{Wanted as Wish, Says, SaysNumber, SaysFlag, SaysOutput, AreSaid};
-ghost use Rattle.jp_program.specs.Wanted.{IsName, SaysFiles, SaysNames, cuts_documents};
+ghost use Rattle.jp_program.specs.Wanted.{IsName, SaysFiles, SaysNames, cuts_documents, has_decimals};
+ghost use Rattle.jp_program.specs.Wanted.{keeps_going};
 
 use crate::output::output_of;
 use crate::version::VERSION;
 use clap::error::ErrorKind;
 use clap::{Arg, ArgAction, ArgMatches, Command, Error, value_parser};
+use jp_answer::OnFault;
+use jp_number::Numbers;
 use jp_run::{Cutting, Output, RunFault, Settings};
 use std::alloc::{AllocError, Global};
 
@@ -305,7 +308,13 @@ fn wanted_of_files<'a>(matches: &ArgMatches<'a>, files: Vec<&'a str>) -> Option<
     let explain = flag_by(matches, "explain")?;
     let exit_status = flag_by(matches, "exit-status")?;
     let documents = flag_by(matches, "documents")?;
-    let settings = settings_by(matches, cutting_of(documents), output, decimals, keep_going)?;
+    let settings = settings_by(
+        matches,
+        cutting_of(documents),
+        output,
+        numbers_for(decimals),
+        on_fault_for(keep_going),
+    )?;
     Some(Wanted {
         query,
         files,
@@ -392,30 +401,52 @@ fn cutting_of(documents: bool) -> Cutting
     }
 }
 
+/// Which numbers there may be, by whether decimals are said.
+fn numbers_for(decimals: bool) -> Numbers
+    ensures { decimals ≡ has_decimals result }
+{
+    if decimals {
+        Numbers::Decimals
+    } else {
+        Numbers::Whole
+    }
+}
+
+/// What is done where a line is faulty, by whether it is said to keep going.
+fn on_fault_for(keep_going: bool) -> OnFault
+    ensures { keep_going ≡ keeps_going result }
+{
+    if keep_going {
+        OnFault::KeepGoing
+    } else {
+        OnFault::Stop
+    }
+}
+
 /// The settings; none where a number is out of its range.
 fn settings_by(
     matches: &ArgMatches<'_>,
     cutting: Cutting,
     output: Output,
-    decimals: bool,
-    keep_going: bool,
+    numbers: Numbers,
+    on_fault: OnFault,
 ) -> Option<Settings<'static>>
     ensures some { IfSome result (λ s. AreSaid (rows_of (found_of matches.now)) s.workers s.piece s.batch) }
     ensures cutting { IfSome result (λ s. s.cutting ≡ cutting) }
     ensures form { IfSome result (λ s. s.output ≡ output) }
-    ensures decimals { IfSome result (λ s. s.decimals ≡ decimals) }
-    ensures going { IfSome result (λ s. s.keeps_going ≡ keep_going) }
+    ensures numbers { IfSome result (λ s. s.numbers ≡ numbers) }
+    ensures on_fault { IfSome result (λ s. s.on_fault ≡ on_fault) }
     ensures none { IsNone result → (w p b : ℕ) → AreSaid (rows_of (found_of matches.now)) w p b → ⊥ }
 {
     let settings = sizes_by(matches)?;
-    Some(settings_with(settings, cutting, output, decimals, keep_going))
+    Some(settings_with(settings, cutting, output, numbers, on_fault))
 }
 
 /// The settings of these numbers, all else as by default; none where a number is out of its range.
 fn sizes_by(matches: &ArgMatches<'_>) -> Option<Settings<'static>>
     ensures some { IfSome result (λ s. AreSaid (rows_of (found_of matches.now)) s.workers s.piece s.batch) }
-    ensures whole { IfSome result (λ s. s.decimals ≡ false) }
-    ensures ends { IfSome result (λ s. s.keeps_going ≡ false) }
+    ensures whole { IfSome result (λ s. s.numbers ≡ Numbers.Whole) }
+    ensures ends { IfSome result (λ s. s.on_fault ≡ OnFault.Stop) }
     ensures none { IsNone result → (w p b : ℕ) → AreSaid (rows_of (found_of matches.now)) w p b → ⊥ }
 {
     let workers = number_by(matches, "workers")?;
@@ -429,28 +460,26 @@ fn settings_with(
     settings: Settings<'static>,
     cutting: Cutting,
     output: Output,
-    decimals: bool,
-    keep_going: bool,
+    numbers: Numbers,
+    on_fault: OnFault,
 ) -> Settings<'static>
-    requires whole { settings.decimals ≡ false }
-    requires ends { settings.keeps_going ≡ false }
+    requires whole { settings.numbers ≡ Numbers.Whole }
+    requires ends { settings.on_fault ≡ OnFault.Stop }
     ensures same { (result.workers ≡ settings.entry.workers) × (result.piece ≡ settings.entry.piece)
         × (result.batch ≡ settings.entry.batch) }
     ensures cutting { result.cutting ≡ cutting }
     ensures form { result.output ≡ output }
-    ensures decimals { result.decimals ≡ decimals }
-    ensures going { result.keeps_going ≡ keep_going }
+    ensures numbers { result.numbers ≡ numbers }
+    ensures on_fault { result.on_fault ≡ on_fault }
 {
     let settings = settings.with_cutting(cutting).with_output(output);
-    let settings = if decimals {
-        settings.with_decimals()
-    } else {
-        settings
+    let settings = match numbers {
+        Numbers::Decimals => settings.with_decimals(),
+        Numbers::Whole => settings,
     };
-    if keep_going {
-        settings.keep_going()
-    } else {
-        settings
+    match on_fault {
+        OnFault::KeepGoing => settings.keep_going(),
+        OnFault::Stop => settings,
     }
 }
 

@@ -5,6 +5,7 @@ ghost use Rattle.std.specs.Prelude.{OnOk, IsErrOf, ◌||◌};
 ghost use Rattle.std.specs.Io.KnownBytes.{IsAtEnd};
 ghost use Rattle.clap.specs.Walk.{texts};
 ghost use Rattle.jp_doc.specs.declared.fault.DocFault.{DocFault as Fault};
+ghost use Rattle.jp_answer.specs.declared.on_fault.OnFault.TheVariants.{Stop, KeepGoing};
 ghost use Rattle.jp_run.specs.Counts.{counted};
 ghost use Rattle.jp_program.specs.inner.Asked.{IsPrepared, wanted_of};
 ghost use Rattle.jp_program.specs.inner.Ended.{FilesEnded, RunEnded};
@@ -17,6 +18,7 @@ use crate::command::{NOTHING_SEEN, tell_faulty};
 use crate::file_notes::tell_failed_file;
 use crate::inputs::Inputs;
 use crate::turn::{Search, run_named};
+use jp_answer::OnFault;
 use jp_run::{RunFault, Sink, Source, Totals};
 use std::alloc::{AllocGlobal, Global};
 use std::thread::Threads;
@@ -55,7 +57,7 @@ pub(crate) fn answer_files<
         (map (named (I.holds inputs.old)) (texts names.now)) (K.contents sink.old)
         (K.contents sink.new)) }
     ensures past { IfOk result (λ totals. 0 < totals.faulty
-        → ((wanted_of search.now.wanted.now).keeps_going ≡ true)
+        → ((wanted_of search.now.wanted.now).on_fault ≡ KeepGoing)
         × ArePassed (wanted_of search.now.wanted.now)
         (map (named (I.holds inputs.old)) (texts names.now)) (K.contents sink.old)
         (K.contents sink.new)) }
@@ -71,9 +73,9 @@ pub(crate) fn answer_files<
     ensures opens { OnOk result (I.opens inputs.new
         ≡ counted (I.opens inputs.old) (length names.now)) }
     ensures broken { OnOk result (I.broken inputs.new ≡ I.broken inputs.old) }
-    ensures unbroken { (wanted_of search.now.wanted.now).keeps_going ≡ false
+    ensures unbroken { (wanted_of search.now.wanted.now).on_fault ≡ Stop
         → I.broken inputs.new ≡ I.broken inputs.old }
-    ensures goes_on { (wanted_of search.now.wanted.now).keeps_going ≡ true → (line : ℕ) (fault : Fault)
+    ensures goes_on { (wanted_of search.now.wanted.now).on_fault ≡ KeepGoing → (line : ℕ) (fault : Fault)
         → IsErrOf result (RunFault.Document line fault) → ⊥ }
     ensures fault { IfErr result (FilesEnded (wanted_of search.now.wanted.now) (record {
       rest = S.remaining source.new;
@@ -130,12 +132,12 @@ fn tell_passed<N: Sink>(alloc: Global, notes: &mut N, faulty: u64) {
 }
 
 /// Whether a file that ends in this fault is passed.
-fn is_passed(fault: &RunFault, keeps_going: bool) -> bool
-    ensures passed { result ≡ true → (fault.now ≡ RunFault.Read) × (keeps_going ≡ true) }
-    ensures left { result ≡ false → keeps_going ≡ true → fault.now ≡ RunFault.Read → ⊥ }
+fn is_passed(fault: &RunFault, on_fault: OnFault) -> bool
+    ensures passed { result ≡ true → (fault.now ≡ RunFault.Read) × (on_fault ≡ KeepGoing) }
+    ensures left { result ≡ false → on_fault ≡ KeepGoing → fault.now ≡ RunFault.Read → ⊥ }
 {
-    match fault {
-        RunFault::Read => keeps_going,
+    match (fault, on_fault) {
+        (RunFault::Read, OnFault::KeepGoing) => true,
         _ => false,
     }
 }
@@ -156,17 +158,17 @@ fn answer_next<R: Threads + AllocGlobal + Sync, S: Source<K>, I: Inputs<S>, K: S
     ensures whole { IfOk result (λ seen. seen.has_failed ≡ false → IsWhole (wanted_of search.now.wanted.now)
         (named (I.holds inputs.old) name.now) (K.contents sink.old) (K.contents sink.new)) }
     ensures cut { IfOk result (λ seen. seen.has_failed ≡ true
-        → ((wanted_of search.now.wanted.now).keeps_going ≡ true) × IsCut (wanted_of search.now.wanted.now)
+        → ((wanted_of search.now.wanted.now).on_fault ≡ KeepGoing) × IsCut (wanted_of search.now.wanted.now)
         (named (I.holds inputs.old) name.now) (K.contents sink.old) (K.contents sink.new)) }
     ensures failed { IfOk result (λ seen. S.failed source.new ≡ seen.has_failed) }
     ensures finished { IfOk result (λ seen. seen.has_failed ≡ false → seen.totals.faulty ≡ 0
         → IsAnswered (wanted_of search.now.wanted.now) None
         (named (I.holds inputs.old) name.now) (K.contents sink.old) (K.contents sink.new)) }
-    ensures passes { (wanted_of search.now.wanted.now).keeps_going ≡ true → IfOk result (λ seen.
+    ensures passes { (wanted_of search.now.wanted.now).on_fault ≡ KeepGoing → IfOk result (λ seen.
         seen.has_failed ≡ false → (n : ℕ)
         → Passes (wanted_of search.now.wanted.now) (named (I.holds inputs.old) name.now)
         (K.contents sink.old, n) (K.contents sink.new, counted n seen.totals.faulty)) }
-    ensures none_passed { (wanted_of search.now.wanted.now).keeps_going ≡ false
+    ensures none_passed { (wanted_of search.now.wanted.now).on_fault ≡ Stop
         → IfOk result (λ seen. seen.totals.faulty ≡ 0) }
     ensures nothing { IfOk result (λ seen. seen.has_failed ≡ false → seen.totals.wrote ≡ false
         → IsEmptyAnswer (wanted_of search.now.wanted.now) (named (I.holds inputs.old) name.now)) }
@@ -178,9 +180,9 @@ fn answer_next<R: Threads + AllocGlobal + Sync, S: Source<K>, I: Inputs<S>, K: S
     ensures opens { I.opens inputs.new ≡ counted (I.opens inputs.old) 1 }
     ensures broken { I.broken inputs.new ≡ counted_if (S.failed source.old) (I.broken inputs.old) }
     ensures same { I.holds inputs.new ≡ I.holds inputs.old }
-    ensures goes_on { (wanted_of search.now.wanted.now).keeps_going ≡ true → (line : ℕ) (fault : Fault)
+    ensures goes_on { (wanted_of search.now.wanted.now).on_fault ≡ KeepGoing → (line : ℕ) (fault : Fault)
         → IsErrOf result (RunFault.Document line fault) → ⊥ }
-    ensures goes_past { IfErr result (λ fault. (wanted_of search.now.wanted.now).keeps_going ≡ true
+    ensures goes_past { IfErr result (λ fault. (wanted_of search.now.wanted.now).on_fault ≡ KeepGoing
         → fault ≡ RunFault.Read → ⊥) }
     ensures fault { IfErr result (λ fault. RunEnded (wanted_of search.now.wanted.now) (record {
       rest = S.remaining source.new;
@@ -196,7 +198,7 @@ fn answer_next<R: Threads + AllocGlobal + Sync, S: Source<K>, I: Inputs<S>, K: S
             has_failed: false,
         }),
         Err(fault) => {
-            if !is_passed(&fault, search.wanted.settings.keeps_going) {
+            if !is_passed(&fault, search.wanted.settings.on_fault) {
                 return Err(fault);
             }
             if sink.failed() {
@@ -228,10 +230,10 @@ fn answer_file<R: Threads + AllocGlobal + Sync, S: Source<K>, I: Inputs<S>, K: S
     ensures finished { IfOk result (λ totals. totals.faulty ≡ 0
         → IsAnswered (wanted_of search.now.wanted.now) None
         (named (I.holds inputs.old) name.now) (K.contents sink.old) (K.contents sink.new)) }
-    ensures passes { (wanted_of search.now.wanted.now).keeps_going ≡ true → IfOk result (λ totals. (n : ℕ)
+    ensures passes { (wanted_of search.now.wanted.now).on_fault ≡ KeepGoing → IfOk result (λ totals. (n : ℕ)
         → Passes (wanted_of search.now.wanted.now) (named (I.holds inputs.old) name.now)
         (K.contents sink.old, n) (K.contents sink.new, counted n totals.faulty)) }
-    ensures none_passed { (wanted_of search.now.wanted.now).keeps_going ≡ false
+    ensures none_passed { (wanted_of search.now.wanted.now).on_fault ≡ Stop
         → IfOk result (λ totals. totals.faulty ≡ 0) }
     ensures nothing { IfOk result (λ totals. totals.wrote ≡ false
         → IsEmptyAnswer (wanted_of search.now.wanted.now) (named (I.holds inputs.old) name.now)) }
@@ -243,7 +245,7 @@ fn answer_file<R: Threads + AllocGlobal + Sync, S: Source<K>, I: Inputs<S>, K: S
     ensures opens { I.opens inputs.new ≡ counted (I.opens inputs.old) 1 }
     ensures broken { I.broken inputs.new ≡ counted_if (S.failed source.old) (I.broken inputs.old) }
     ensures same { I.holds inputs.new ≡ I.holds inputs.old }
-    ensures goes_on { (wanted_of search.now.wanted.now).keeps_going ≡ true → (line : ℕ) (fault : Fault)
+    ensures goes_on { (wanted_of search.now.wanted.now).on_fault ≡ KeepGoing → (line : ℕ) (fault : Fault)
         → IsErrOf result (RunFault.Document line fault) → ⊥ }
     ensures fault { IfErr result (λ fault. RunEnded (wanted_of search.now.wanted.now) (record {
       rest = S.remaining source.new;

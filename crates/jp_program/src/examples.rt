@@ -1,6 +1,8 @@
 //! Worked examples of what command lines want, and of queries that the shell has split.
 
 ghost use Rattle.std.specs.Prelude.{◌≡◌, [], ◌∷◌, true, false, codes};
+ghost use Rattle.jp_answer.specs.declared.on_fault.OnFault.TheVariants.{Stop, KeepGoing};
+ghost use Rattle.jp_number.specs.declared.numbers.Numbers.TheVariants.{Whole, Decimals};
 ghost use Rattle.jp_run.specs.declared.cutting.Cutting.TheVariants as Cutting;
 ghost use Rattle.jp_run.specs.declared.output.Output.TheVariants.{Nodes, Texts, Lines};
 ghost use Rattle.jp_program.specs.CommandLine.{AsksToShow, IsRefused};
@@ -20,8 +22,8 @@ fn all_options()
           cutting = Cutting.Documents;
           check = true;
           output = Texts;
-          decimals = true;
-          keeps_going = true;
+          numbers = Decimals;
+          on_fault = KeepGoing;
           explain = true;
           exit_status = true;
           workers = 8;
@@ -40,8 +42,8 @@ fn letters()
       cutting = Cutting.Lines;
       check = false;
       output = Texts;
-      decimals = true;
-      keeps_going = true;
+      numbers = Decimals;
+      on_fault = KeepGoing;
       explain = false;
       exit_status = true;
       workers = 4;
@@ -60,8 +62,8 @@ fn one_file()
       cutting = Cutting.Lines;
       check = false;
       output = Nodes;
-      decimals = false;
-      keeps_going = false;
+      numbers = Whole;
+      on_fault = Stop;
       explain = false;
       exit_status = false;
       workers = 4;
@@ -76,8 +78,8 @@ fn one_file()
       cutting = Cutting.Lines;
       check = false;
       output = Nodes;
-      decimals = false;
-      keeps_going = false;
+      numbers = Whole;
+      on_fault = Stop;
       explain = false;
       exit_status = false;
       workers = 4;
@@ -96,8 +98,8 @@ fn two_files()
       cutting = Cutting.Lines;
       check = false;
       output = Nodes;
-      decimals = false;
-      keeps_going = false;
+      numbers = Whole;
+      on_fault = Stop;
       explain = false;
       exit_status = false;
       workers = 4;
@@ -116,8 +118,8 @@ fn files()
       cutting = Cutting.Lines;
       check = false;
       output = Nodes;
-      decimals = false;
-      keeps_going = false;
+      numbers = Whole;
+      on_fault = Stop;
       explain = false;
       exit_status = false;
       workers = 4;
@@ -137,8 +139,8 @@ fn options_between_files()
           cutting = Cutting.Lines;
           check = false;
           output = Lines;
-          decimals = false;
-          keeps_going = true;
+          numbers = Whole;
+          on_fault = KeepGoing;
           explain = false;
           exit_status = true;
           workers = 4;

@@ -8,7 +8,6 @@ ghost use Rattle.jp_tree.specs.View.{text_of};
 ghost use Rattle.jp_check.specs.Filter.{filter_text};
 ghost use Rattle.jp_explain.specs.Picture.{IsPicture};
 ghost use Rattle.jp_run.specs.AskedTexts.{IsFilterRefused};
-ghost use Rattle.jp_run.specs.Answered.{numbers_of};
 ghost use Rattle.jp_program.specs.Told.{IsFilterExplained, IsTold, filter_line, one_filter_line};
 ghost use Rattle.jp_program.specs.Wanted.{Wanted as Wish, Wants};
 
@@ -34,7 +33,7 @@ pub(crate) fn tell_filter_refusal<N: Sink>(
 )
     ensures untouched { N.failed notes.old ≡ true → notes.new ≡ notes.old }
     ensures told { (w : Wish) → Wants (texts words.now) w
-        → IsFilterRefused (numbers_of w.decimals) w.filter refusal
+        → IsFilterRefused w.numbers w.filter refusal
         → IsTold w (RunFault.Filter refusal) (N.failed notes.new) (N.contents notes.old)
         (N.contents notes.new) }
 {
@@ -63,12 +62,12 @@ fn filter_line(refusal: QueryFault) -> &'static str
 /// The lines that show where the query with the wanted filter went wrong; none where none is wanted.
 fn explanation(alloc: Global, words: &[&str]) -> Result<Option<String>, RunFault>
     ensures { (f : Refusal) (w : Wish) → Wants (texts words.now) w
-        → IsFilterRefused (numbers_of w.decimals) w.filter f
+        → IsFilterRefused w.numbers w.filter f
         → IfOk result (λ o. IsSomeAnd o (λ s. IsFilterExplained w (string_bytes s))) }
 {
     match read_words(alloc, words)? {
         Asked::Query(wanted) => match wanted.settings.filter {
-            Some(filter) => Ok(Some(filter_lines(alloc, filter, wanted.settings.numbers())?)),
+            Some(filter) => Ok(Some(filter_lines(alloc, filter, wanted.settings.numbers)?)),
             None => Ok(None),
         },
         Asked::Show(_text) => Ok(None),

@@ -7,10 +7,11 @@ ghost use Rattle.std.specs.Str.{chars, IsUtf8};
 ghost use Rattle.jp_doc.specs.declared.fault.DocFault.{DocFault};
 ghost use Rattle.jp_regexp.specs.Tests.{Tests, AreRight};
 ghost use Rattle.jp_answer.specs.FilteredQuery.{FilteredQuery};
-ghost use Rattle.jp_answer.specs.Policy.{numbers_in};
-ghost use Rattle.jp_answer.specs.Whole.{Whole, whole_as};
+ghost use Rattle.jp_answer.specs.Answer.{Answer, answer_by};
+ghost use Rattle.jp_answer.specs.Policy.{policy};
+ghost use Rattle.jp_answer.specs.declared.on_fault.OnFault.TheVariants.{Stop, KeepGoing};
+ghost use Rattle.jp_number.specs.declared.numbers.Numbers.TheVariants.{Whole};
 ghost use Rattle.jp_output.specs.Fields.{IsFieldName};
-ghost use Rattle.jp_run.specs.Answered.{numbers_of};
 ghost use Rattle.jp_run.specs.AskedTexts.{AreAcceptedIn};
 ghost use Rattle.jp_run.specs.Cutting.{documents};
 ghost use Rattle.jp_run.specs.declared.cutting.Cutting.TheVariants as Cutting;
@@ -32,8 +33,8 @@ pub fn query_alone()
       cutting = Cutting.Lines;
       check = false;
       output = Nodes;
-      decimals = false;
-      keeps_going = false;
+      numbers = Whole;
+      on_fault = Stop;
       explain = false;
       exit_status = false;
       workers = 4;
@@ -72,17 +73,17 @@ pub fn no_file()
         → IsFront w (standard first) c.contents c.contents_new }
     ensures passed { (w : Wanted) (holds : List ℕ → Held) (first : Held) (old new : Option (List ℕ))
         → ArePassed w (inputs_of [] holds first) old new → IfSome first (λ bytes. (q : FilteredQuery)
-        × AreAcceptedIn (numbers_of w.decimals) (asked_in w) q × (x : Whole)
-        × ((t : Tests) → AreRight t → whole_as (numbers_in (numbers_of w.decimals)) (form_for w (codes "-")) t
+        × AreAcceptedIn w.numbers (asked_in w) q × (x : Answer)
+        × ((t : Tests) → AreRight t → answer_by (form_for w (codes "-")) (policy w.numbers KeepGoing) t
         q (documents w.cutting bytes) ≡ x) × (0 < x.faulty) × Appends old new x.bytes) }
-    ensures whole { (w : Wanted) (input : Input) (old new : Option (List ℕ)) → w.keeps_going ≡ false
+    ensures whole { (w : Wanted) (input : Input) (old new : Option (List ℕ)) → w.on_fault ≡ Stop
         → IsWhole w input old new → IsAnswered w None input old new }
 {}
 
 /// Where the answer does not keep going no input is passed: each before the one at which a run ends was
 /// answered, and none has failed.
 pub fn none_is_passed()
-    ensures { (w : Wanted) (inputs : List Input) (old new : Standing) → w.keeps_going ≡ false
+    ensures { (w : Wanted) (inputs : List Input) (old new : Standing) → w.on_fault ≡ Stop
         → EachInTurn (IsWholeOrCut w) inputs old new
         → EachInTurn (IsWhole w) inputs old.0 new.0 × (new.1 ≡ old.1) }
 {}

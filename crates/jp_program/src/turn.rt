@@ -4,6 +4,7 @@ ghost use Rattle.std.specs.Prelude.{◌≡◌, ◌<◌, ◌≤◌, ◌^◌, ℕ,
 ghost use Rattle.std.specs.Prelude.{IsErrOf, IsNone, IsSomeAnd, length};
 ghost use Rattle.std.specs.Io.KnownBytes.{IsAtEnd};
 ghost use Rattle.jp_doc.specs.declared.fault.DocFault.{DocFault as Fault};
+ghost use Rattle.jp_answer.specs.declared.on_fault.OnFault.TheVariants.{Stop, KeepGoing};
 ghost use Rattle.jp_run.specs.Answered.{manner_of};
 ghost use Rattle.jp_run.specs.Begun.{AllSince};
 ghost use Rattle.jp_run.specs.Counts.{counted};
@@ -36,9 +37,9 @@ pub(crate) struct Search<'r, 'g, 'w, 'q, R> {
 /// The settings of a run over the input of this name, which stands before its lines where that is wanted.
 fn settings_for<'n>(wanted: &Wanted<'n>, name: &'n str) -> Settings<'n>
     ensures manner { manner_of result ≡ manner_for (wanted_of wanted.now) name.entry.now
-        (wanted_of wanted.now).keeps_going }
-    ensures going { result.keeps_going ≡ wanted.now.settings.keeps_going }
-    ensures decimals { result.decimals ≡ wanted.now.settings.decimals }
+        (wanted_of wanted.now).on_fault }
+    ensures on_fault { result.on_fault ≡ wanted.now.settings.on_fault }
+    ensures numbers { result.numbers ≡ wanted.now.settings.numbers }
 {
     if wanted.names {
         wanted.settings.with_name(Some(name))
@@ -76,10 +77,10 @@ pub(crate) fn run_named<R: Threads + AllocGlobal + Sync, S: Source<K>, K: Sink>(
     ensures finished { IfOk result (λ totals. totals.faulty ≡ 0
         → IsAnswered (wanted_of search.now.wanted.now) None
         (name.now, S.remaining source.old) (K.contents sink.old) (K.contents sink.new)) }
-    ensures passes { (wanted_of search.now.wanted.now).keeps_going ≡ true → IfOk result (λ totals. (n : ℕ)
+    ensures passes { (wanted_of search.now.wanted.now).on_fault ≡ KeepGoing → IfOk result (λ totals. (n : ℕ)
         → Passes (wanted_of search.now.wanted.now) (name.now, S.remaining source.old)
         (K.contents sink.old, n) (K.contents sink.new, counted n totals.faulty)) }
-    ensures none_passed { (wanted_of search.now.wanted.now).keeps_going ≡ false
+    ensures none_passed { (wanted_of search.now.wanted.now).on_fault ≡ Stop
         → IfOk result (λ totals. totals.faulty ≡ 0) }
     ensures nothing { IfOk result (λ totals. totals.wrote ≡ false
         → IsEmptyAnswer (wanted_of search.now.wanted.now) (name.now, S.remaining source.old)) }
@@ -88,14 +89,14 @@ pub(crate) fn run_named<R: Threads + AllocGlobal + Sync, S: Source<K>, K: Sink>(
     ensures end { OnOk result (IsAtEnd (S.remaining source.new)) }
     ensures flushed { OnOk result (K.flushed sink.new ≡ true) }
     ensures still_working { OnOk result ((S.failed source.new ≡ false) × (K.failed sink.new ≡ false)) }
-    ensures goes_on { (wanted_of search.now.wanted.now).keeps_going ≡ true → (line : ℕ) (fault : Fault)
+    ensures goes_on { (wanted_of search.now.wanted.now).on_fault ≡ KeepGoing → (line : ℕ) (fault : Fault)
         → IsErrOf result (RunFault.Document line fault) → ⊥ }
     ensures query { (f : End) → IsErrOf result f → status_of f ≡ 2 → ⊥ }
     ensures prompt { AllSince (S.begun source.old) (S.begun source.new) (IsPrompt (manner_for
-        (wanted_of search.now.wanted.now) name.now (wanted_of search.now.wanted.now).keeps_going)
+        (wanted_of search.now.wanted.now) name.now (wanted_of search.now.wanted.now).on_fault)
         (asked_in (wanted_of search.now.wanted.now)) (S.remaining source.old) (K.contents sink.old)) }
     ensures window { AllSince (S.begun source.old) (S.begun source.new) (IsNear window (manner_for
-        (wanted_of search.now.wanted.now) name.now (wanted_of search.now.wanted.now).keeps_going)
+        (wanted_of search.now.wanted.now) name.now (wanted_of search.now.wanted.now).on_fault)
         (asked_in (wanted_of search.now.wanted.now)) (S.remaining source.old) (K.contents sink.old)) }
     ensures settings { IsErrOf result RunFault.Settings → ⊥ }
     ensures fault { IfErr result (λ fault. RunEnded (wanted_of search.now.wanted.now) (record {

@@ -4,11 +4,13 @@ ghost use Rattle.std.specs.Prelude.{◌≡◌, true, false};
 ghost use Rattle.jp_run.specs.Status.{status_of};
 
 use crate::command::note_text;
+use jp_answer::OnFault;
 use jp_doc::DocFault;
 use jp_explain::{
     LineExplanation, document_help, escaped, explain_line, line_help, write_document_mark,
     write_line_mark,
 };
+use jp_number::Numbers;
 use jp_run::{Cutting, Gate, RunFault, Sink};
 use once_cell::race::OnceBox;
 use std::alloc::{AllocError, Global};
@@ -18,10 +20,10 @@ use std::alloc::{AllocError, Global};
 #[derive(Drop)]
 pub(crate) struct Witness {
     pub(crate) is_asked: bool,
-    /// Whether the run goes on past faulty lines.
-    pub(crate) keeps_going: bool,
-    /// Whether lines are read with decimals.
-    pub(crate) has_decimals: bool,
+    /// What the run does where a line is faulty.
+    pub(crate) on_fault: OnFault,
+    /// Which numbers lines may have.
+    pub(crate) numbers: Numbers,
     /// How the input is cut: documents over lines are told by their own numbers.
     pub(crate) cutting: Cutting,
     /// Whether the status is to tell that nothing is selected.
@@ -68,8 +70,8 @@ impl Witness {
     {
         Witness {
             is_asked: false,
-            keeps_going: false,
-            has_decimals: false,
+            on_fault: OnFault::Stop,
+            numbers: Numbers::Whole,
             cutting: Cutting::Lines,
             tells_nothing: false,
             passes_files: false,
@@ -99,7 +101,7 @@ impl Witness {
         if self.is_asked {
             self.place().is_some()
         } else {
-            !self.keeps_going && self.help.get().is_none()
+            self.on_fault == OnFault::Stop && self.help.get().is_none()
         }
     }
 
@@ -129,7 +131,7 @@ impl Witness {
         line: &[u8],
         fault: &DocFault,
     ) -> Result<(), AllocError> {
-        let explanation = explain_line(alloc, line, fault, self.has_decimals)?;
+        let explanation = explain_line(alloc, line, fault, self.numbers)?;
         let _ = self.help.set(Box::new(alloc, help_of(alloc, &explanation, self.cutting)?)?);
         if !self.is_asked {
             return Ok(());

@@ -5,9 +5,9 @@ use Rattle.jp_number.specs.declared.numbers.Numbers.TheVariants.{Whole}
 use Rattle.jp_tree.specs.Tree.{Query}
 use Rattle.jp_regexp.specs.Tests.{Tests}
 use Rattle.jp_output.specs.OutputForm.{node_lines_behind}
+use Rattle.jp_answer.specs.Answer.{answer_by}
 use Rattle.jp_answer.specs.Asking.{asked_query}
 use Rattle.jp_answer.specs.FilteredQuery.{FilteredQuery, unfiltered}
-use Rattle.jp_answer.specs.OnFault.{answer_by}
 use Rattle.jp_answer.specs.Policy.{policy}
 use Rattle.jp_answer.specs.declared.asked.Asked.{Asked}
 use Rattle.jp_answer.specs.declared.on_fault.OnFault.{OnFault}

@@ -11,12 +11,12 @@ use Rattle.jp_doc.specs.declared.fault.DocFault.{DocFault}
 use Rattle.jp_answer.specs.FilteredQuery.{FilteredQuery}
 use Rattle.jp_regexp.proofs.RightTests.{right_tests}
 use Rattle.jp_answer.specs.Answer.{Answer}
-use Rattle.jp_doc.specs.ReadingIn.{Numbers}
-use Rattle.jp_answer.specs.OnFault.{stop_on, passed_in, passed_on}
-use Rattle.jp_answer.specs.Policy.{numbers_in}
+use Rattle.jp_number.specs.declared.numbers.Numbers.{Numbers}
+use Rattle.jp_answer.specs.Policy.{passed_in, stop_on}
 use Rattle.jp_answer.specs.declared.on_fault.OnFault.{OnFault}
 use Rattle.jp_answer.specs.declared.on_fault.OnFault.TheVariants.{Stop, KeepGoing}
-use Rattle.jp_answer.proofs.OnFaults.{stop_so, passed_joined}
+use Rattle.jp_answer.proofs.Joining.{none_before}
+use Rattle.jp_answer.proofs.OnFaults.{passed_joined, passed_on}
 use Rattle.jp_run.specs.Manner.{Manner}
 use Rattle.jp_run.specs.declared.fault.RunFault.{RunFault}
 use Rattle.jp_run.specs.declared.fault.RunFault.TheVariants.{Query, Filter, Document, Read, Write, Limit}
@@ -58,9 +58,8 @@ no_stop KeepGoing n ls s e = absurd (cc)
 module _ (going : Manner) (q : FilteredQuery) where
   never_going : (ls : List Line) (s : ℕ × DocFault) (a b : Option (List ℕ))
       → Handed going q ls (Some s) a b → going.policy.on_fault ≡ Stop
-  never_going ls s a b h = no_stop going.policy.on_fault (numbers_in going.policy.numbers) ls s
-      (sym (stop_so going.form right_tests.0 q going.policy ls)
-      ∙ ap (λ (r : Answer). r.stopped) (h.is right_tests.0 right_tests.1) ∙ h.stopped)
+  never_going ls s a b h = no_stop going.policy.on_fault going.policy.numbers ls s
+      (ap (λ (r : Answer). r.stopped) (h.is right_tests.0 right_tests.1) ∙ h.stopped)
 
   -- what was handed out of the first lines is a front of the whole
   input_front : (a c s u : Option (List ℕ)) (bytes : List ℕ) → Consumes a c bytes
@@ -344,6 +343,7 @@ pub none_ok : (k : OnFault) (numbers : Numbers) (before after : List Line) (n : 
     (r : Result Totals RunFault) → n ≡ passed_on numbers k before
     → IfOk r (λ totals. totals.faulty ≡ n + passed_on numbers k after) → k ≡ Stop
     → IfOk r (λ totals. totals.faulty ≡ 0)
-none_ok Stop numbers before after n (Ok totals) e h off = omega (arith, e, h)
+none_ok Stop numbers before after n (Ok totals) e h off =
+    omega (arith, e, h, none_before numbers before, none_before numbers after)
 none_ok Stop numbers before after n (Err fault) e h off = tt
 none_ok KeepGoing numbers before after n r e h off = absurd (cc)

@@ -11,9 +11,8 @@ use Rattle.jp_doc.specs.Lines.{Line}
 use Rattle.jp_doc.specs.declared.fault.DocFault.{DocFault}
 use Rattle.jp_answer.specs.FilteredQuery.{FilteredQuery}
 use Rattle.jp_regexp.specs.Tests.{Tests, AreRight}
-use Rattle.jp_answer.specs.Answer.{Answer, after, joined, unless_stopped}
+use Rattle.jp_answer.specs.Answer.{Answer, answer_by, joined, nothing, unless_stopped}
 use Rattle.jp_answer.specs.Blocks.{IsAnswerTo}
-use Rattle.jp_answer.specs.OnFault.{manner, answer_by}
 use Rattle.jp_answer.specs.declared.outcome.Outcome.{Outcome}
 use Rattle.jp_answer.specs.declared.policy.LinePolicy.{LinePolicy}
 use Rattle.jp_output.specs.OutputForm.{OutputForm}
@@ -94,7 +93,7 @@ bytes_by (Some s) a b = ([], sym (append-nil a.bytes))
 module _ (going : Manner) (q : FilteredQuery) where
   pub handed_none : (a : Option (List ℕ)) → Handed going q [] None a a
   handed_none a = record {
-    whole = record { bytes = []; stopped = None };
+    whole = nothing;
     is = λ t right. nothing_in going.form t q going.policy;
     stopped = refl;
     appended = Appends-nil a;
@@ -103,7 +102,7 @@ module _ (going : Manner) (q : FilteredQuery) where
   pub handed_both : (xs ys : List Line) (stop : Option (ℕ × DocFault)) (a b c : Option (List ℕ))
       → Handed going q xs None a b → Handed going q ys stop b c → Handed going q (xs ++ ys) stop a c
   handed_both xs ys stop a b c f g = record {
-    whole = after f.whole.bytes g.whole;
+    whole = unless_stopped None f.whole g.whole;
     is = λ t right. formed_joined going.form t q going.policy xs ys ∙ ap (λ h. joined h (answer_by
         going.form going.policy t q ys)) (f.is t right)
         ∙ ap (joined f.whole) (g.is t right) ∙ ap (λ s. unless_stopped s f.whole g.whole) f.stopped;
@@ -209,8 +208,8 @@ module _ (going : Manner) (q : FilteredQuery) where
 -- the answer behind a head, by a policy, and to a query, that are the same
 pub in_manner : (form : List ℕ → OutputForm) (before behind : List ℕ) (done meant : LinePolicy)
     (q r : FilteredQuery) (ls : List Line) (a : Outcome) → before ≡ behind → done ≡ meant → q ≡ r
-    → IsAnswerTo (manner (form before) done) q ls a → IsAnswerTo (manner (form behind) meant) r ls a
+    → IsAnswerTo (form before) done q ls a → IsAnswerTo (form behind) meant r ls a
 in_manner form before behind done meant q r ls a d e f h =
-    subst (λ (b : List ℕ). IsAnswerTo (manner (form b) meant) r ls a) d
-    (subst (λ (k : LinePolicy). IsAnswerTo (manner (form before) k) r ls a) e
-    (subst (λ (x : FilteredQuery). IsAnswerTo (manner (form before) done) x ls a) f h))
+    subst (λ (b : List ℕ). IsAnswerTo (form b) meant r ls a) d
+    (subst (λ (k : LinePolicy). IsAnswerTo (form before) k r ls a) e
+    (subst (λ (x : FilteredQuery). IsAnswerTo (form before) done x ls a) f h))

@@ -1,5 +1,5 @@
 -- What a run has done, in terms of its query's text.
-use Rattle.std.proofs.Common.{◌≡◌, ℕ, ◌+◌, ◌≤◌, List, Option, Some, None, Bool, true, false, IfSome, inl}
+use Rattle.std.proofs.Common.{◌≡◌, ℕ, ◌+◌, ◌≤◌, List, Option, Some, None, IfSome, inl}
 use Rattle.std.proofs.Common.{Result, Ok}
 use Rattle.std.proofs.Common.{Err, IfErr, IfOk, OnOk, OnErr, IsErrAnd, ◌∙◌, ap, subst, sym, nat_lt, arith}
 use Rattle.std.proofs.Common.{length, refl}
@@ -9,14 +9,16 @@ use Rattle.std.proofs.KnownBytes.{Appends-nil}
 use Rattle.jp_doc.specs.declared.fault.DocFault.{DocFault}
 use Rattle.jp_regexp.proofs.RightTests.{right_tests}
 use Rattle.jp_number.specs.declared.numbers.Numbers.{Numbers}
-use Rattle.jp_answer.specs.Answer.{Answer}
+use Rattle.jp_answer.specs.Answer.{Answer, answer_by}
 use Rattle.jp_answer.specs.FilteredQuery.{FilteredQuery}
 use Rattle.jp_run.specs.AskedTexts.{AskedTexts, AreAcceptedIn}
-use Rattle.jp_run.specs.Manner.{Manner}
-use Rattle.jp_run.specs.Answered.{IsAnswerBy, head_of, manner_by, manner_of, numbers_of, on_fault_of}
+use Rattle.jp_run.specs.Forms.{form_of}
+use Rattle.jp_run.specs.Manner.{Manner, manner}
+use Rattle.jp_run.specs.Answered.{IsAnswerBy, head_of, manner_of}
 use Rattle.jp_run.specs.Cutting.{documents}
-use Rattle.jp_answer.specs.OnFault.{answer_by}
-use Rattle.jp_answer.specs.declared.on_fault.OnFault.TheVariants.{Stop}
+use Rattle.jp_answer.specs.Policy.{policy}
+use Rattle.jp_answer.specs.declared.on_fault.OnFault.{OnFault}
+use Rattle.jp_answer.specs.declared.on_fault.OnFault.TheVariants.{Stop, KeepGoing}
 use Rattle.jp_run.specs.declared.ends.Sink as sink
 use Rattle.jp_run.specs.declared.ends.Supply as supply
 use Rattle.jp_run.specs.declared.job.Job.{Job}
@@ -43,9 +45,8 @@ use Rattle.jp_run.specs.inner.Jobs.{job_query}
 use Rattle.jp_run.proofs.Readings.{none_yet, since_so}
 
 -- an answer that keeps going does not stop
-pub not_going : (keeps_going : Bool) → keeps_going ≡ true → on_fault_of keeps_going ≡ Stop → ⊥
-not_going true on off = cc
-not_going false on off = cc
+pub not_going : (k : OnFault) → k ≡ KeepGoing → k ≡ Stop → ⊥
+not_going k on off = cc
 
 -- what stands after the fault that was told
 pub at_fault : {T : Type 0} (r : Result T RunFault) (f : RunFault) (P : RunFault → Type 0) → r ≡ Err f
@@ -145,12 +146,12 @@ module _ (going : Manner) (asked : AskedTexts) (q : FilteredQuery)
 -- what is done in a form is done by the settings that name it
 pub ran_in : {R G S K : Type 0} {source : supply.Ghosts S} {k : sink.Ghosts K} {job : Job R G} {a b : S}
     {u w : K} {r : Result Totals RunFault} (named : Output) → job.settings.output ≡ named
-    → HasRun (manner_by job.settings.cutting named (head_of job.settings) job.settings.decimals
-    job.settings.keeps_going) source k job a b u w r
+    → HasRun (manner job.settings.cutting (form_of named (head_of job.settings))
+    (policy job.settings.numbers job.settings.on_fault)) source k job a b u w r
     → HasRun (manner_of job.settings) source k job a b u w r
 ran_in {source = source} {k = k} {job = job} {a = a} {b = b} {u = u} {w = w} {r = r} named is =
-    subst (λ (o : Output). HasRun (manner_by job.settings.cutting o (head_of job.settings)
-    job.settings.decimals job.settings.keeps_going) source k job a b u w r) (sym is)
+    subst (λ (o : Output). HasRun (manner job.settings.cutting (form_of o (head_of job.settings))
+    (policy job.settings.numbers job.settings.on_fault)) source k job a b u w r) (sym is)
 
 -- a run that a fault has ended
 module _ {R G S K : Type 0} {going : Manner} {source : supply.Ghosts S} {k : sink.Ghosts K} {job : Job R G}
@@ -205,7 +206,7 @@ never_refused going q e r h Settings is two = absurd (omega arith)
 -- what was run of a job is a run of texts that are accepted and spell what it asks
 pub run_of : {R G S K : Type 0} {source : supply.Ghosts S} {k : sink.Ghosts K} {job : Job R G} {a b : S}
     {u w : K} {r : Result Totals RunFault} (asked : AskedTexts)
-    → AreAcceptedIn (numbers_of job.settings.decimals) asked (job_query job)
+    → AreAcceptedIn job.settings.numbers asked (job_query job)
     → HasRun (manner_of job.settings) source k job a b u w r
     → IsRunOf asked job.settings source k a b u w r
 run_of {source = source} {k = k} {job = job} {a = a} {b = b} {u = u} {w = w} {r = r} asked accepted ran =

@@ -2,22 +2,22 @@
 use Rattle.std.proofs.Common.{◌≡◌, ℕ, List, [], ◌∷◌, ◌++◌, Option, None, Result, Ok, Err, IfOk}
 use Rattle.std.proofs.Common.{refl, sym, ◌∙◌, ap, subst, flat_map, decimal}
 use Rattle.std.proofs.lemmas.List.Elements.{All-nil, All-cons, All-head, All-tail}
+use Rattle.jp_number.specs.declared.numbers.Numbers.{Numbers}
 use Rattle.jp_doc.specs.Json.{Json}
 use Rattle.jp_doc.specs.Lines.{Line}
 use Rattle.jp_doc.specs.Location.{Node}
-use Rattle.jp_doc.specs.ReadingIn.{Numbers, reading_in}
+use Rattle.jp_doc.specs.ReadingIn.{reading_in}
 use Rattle.jp_doc.specs.declared.fault.DocFault.{DocFault}
 use Rattle.jp_answer.specs.FilteredQuery.{FilteredQuery, selected_nodes}
 use Rattle.jp_regexp.specs.Tests.{Tests}
 use Rattle.jp_output.specs.OutputLine.{line_of, node_line, value_text}
 use Rattle.jp_output.specs.RawText.{raw_text}
 use Rattle.jp_output.specs.UnquotedText.{unquoted_text}
-use Rattle.jp_answer.specs.Answer.{answer_as, document_bytes, line_answer}
+use Rattle.jp_answer.specs.Answer.{Answer, document_bytes, joined}
 use Rattle.jp_answer.specs.Faults.{fault_or, first_fault}
-use Rattle.jp_answer.specs.OnFault.{answer_on}
-use Rattle.jp_answer.specs.Whole.{document_or_fault, line_bytes}
 use Rattle.jp_answer.specs.declared.on_fault.OnFault.{OnFault}
 use Rattle.jp_answer.specs.declared.on_fault.OnFault.TheVariants.{Stop, KeepGoing}
+use Rattle.jp_answer.proofs.Joining.{answer_on, cons_on, line_answer, none_on}
 use Rattle.jp_run.specs.Forms.{form_of}
 use Rattle.jp_run.specs.Selecting.{SelectsNothing}
 use Rattle.jp_run.specs.declared.output.Output.{Output}
@@ -72,24 +72,29 @@ read_here number (Ok root) o h = (root, refl)
 read_here number (Err f) o h = absurd (cc)
 
 module _ (o : Output) (head : List ℕ) (n : Numbers) (t : Tests) (q : FilteredQuery) where
-  no_lines : (k : OnFault) → (answer_on n k (form_of o head) t q []).bytes ≡ []
-  no_lines Stop = refl
-  no_lines KeepGoing = refl
+  no_lines : (k : OnFault) → (answer_on n (form_of o head) t q k []).bytes ≡ []
+  no_lines k = ap (λ (a : Answer). a.bytes) (none_on n (form_of o head) t q k)
+
+  said_first : (k : OnFault) (l : Line) (root : Json) (a : Answer)
+      → (joined (line_answer (form_of o head) t q k l (Ok root)) a).bytes
+      ≡ document_bytes (form_of o head) t q l root ++ a.bytes
+  said_first Stop l root a = refl
+  said_first KeepGoing l root a = refl
 
   bytes_first : (k : OnFault) (l : Line) (ls : List Line) (root : Json) → reading_in n l.1 ≡ Ok root
-      → (answer_on n k (form_of o head) t q (l ∷ ls)).bytes
-      ≡ document_bytes (form_of o head) t q l root ++ (answer_on n k (form_of o head) t q ls).bytes
-  bytes_first Stop l ls root is =
-      ap (λ r. (line_answer (form_of o head) t q l r (answer_as n (form_of o head) t q ls)).bytes) is
-  bytes_first KeepGoing l ls root is =
-      ap (λ r. document_or_fault (form_of o head) t q l r ++ flat_map (line_bytes n (form_of o head) t q) ls)
-      is
+      → (answer_on n (form_of o head) t q k (l ∷ ls)).bytes
+      ≡ document_bytes (form_of o head) t q l root ++ (answer_on n (form_of o head) t q k ls).bytes
+  bytes_first k l ls root is =
+      let later : Answer = answer_on n (form_of o head) t q k ls in
+      ap (λ (a : Answer). a.bytes) (cons_on n (form_of o head) t q k l ls)
+      ∙ ap (λ r. (joined (line_answer (form_of o head) t q k l r) later).bytes) is
+      ∙ said_first k l root later
 
   abbrev Nothing : Line → Type 0
   Nothing l = IfOk (reading_in n l.1) (λ root. selected_nodes t root q ≡ [])
 
   pub nothing_so : (k : OnFault) (ls : List Line) → first_fault n ls ≡ None
-      → (answer_on n k (form_of o head) t q ls).bytes ≡ [] → SelectsNothing n t q ls
+      → (answer_on n (form_of o head) t q k ls).bytes ≡ [] → SelectsNothing n t q ls
   nothing_so k [] h e = All-nil Nothing
   nothing_so k (l ∷ ls) h e =
       let (root, is) = read_here l.0 (reading_in n l.1) (first_fault n ls) h in
@@ -98,13 +103,13 @@ module _ (o : Output) (head : List ℕ) (n : Numbers) (t : Tests) (q : FilteredQ
       (subst (λ (r : Result Json DocFault). IfOk r (λ root. selected_nodes t root q ≡ [])) (sym is)
       (nothing_said o head l (selected_nodes t root q)
       (front_none (document_bytes (form_of o head) t q l root)
-      (answer_on n k (form_of o head) t q ls).bytes both)))
+      (answer_on n (form_of o head) t q k ls).bytes both)))
       (nothing_so k ls (rest_none l.0 (reading_in n l.1) (first_fault n ls) h)
       (back_none (document_bytes (form_of o head) t q l root)
-      (answer_on n k (form_of o head) t q ls).bytes both))
+      (answer_on n (form_of o head) t q k ls).bytes both))
 
   pub nothing_written : (k : OnFault) (ls : List Line) → first_fault n ls ≡ None → SelectsNothing n t q ls
-      → (answer_on n k (form_of o head) t q ls).bytes ≡ []
+      → (answer_on n (form_of o head) t q k ls).bytes ≡ []
   nothing_written k [] h all = no_lines k
   nothing_written k (l ∷ ls) h all =
       let (root, is) = read_here l.0 (reading_in n l.1) (first_fault n ls) h in
@@ -112,7 +117,7 @@ module _ (o : Output) (head : List ℕ) (n : Numbers) (t : Tests) (q : FilteredQ
       subst (λ (r : Result Json DocFault). IfOk r (λ root. selected_nodes t root q ≡ [])) is
       (All-head Nothing l ls all) in
       bytes_first k l ls root is
-      ∙ ap (λ ns. (form_of o head).of_document l ns ++ (answer_on n k (form_of o head) t q ls).bytes) none
-      ∙ ap (λ bs. bs ++ (answer_on n k (form_of o head) t q ls).bytes) (says_nothing o head l)
+      ∙ ap (λ ns. (form_of o head).of_document l ns ++ (answer_on n (form_of o head) t q k ls).bytes) none
+      ∙ ap (λ bs. bs ++ (answer_on n (form_of o head) t q k ls).bytes) (says_nothing o head l)
       ∙ nothing_written k ls (rest_none l.0 (reading_in n l.1) (first_fault n ls) h)
       (All-tail Nothing l ls all)

@@ -8,7 +8,8 @@ use Rattle.std.proofs.KnownBytes.{Consumes-nil, Consumes-trans, Appends-nil, App
 use Rattle.jp_doc.specs.Lines.{Line}
 use Rattle.jp_doc.specs.Feeding.{Progress, nothing_fed}
 use Rattle.jp_answer.specs.FilteredQuery.{FilteredQuery}
-use Rattle.jp_answer.specs.OnFault.{passed_in}
+use Rattle.jp_answer.specs.Answer.{nothing}
+use Rattle.jp_answer.specs.Policy.{passed_in}
 use Rattle.jp_answer.proofs.OnFaults.{nothing_in, passed_joined, passed_few, passed_none}
 use Rattle.jp_run.specs.Manner.{Manner}
 use Rattle.jp_run.specs.Cutting.{documents_in, fed, fed_lines}
@@ -49,7 +50,7 @@ module _ (going : Manner) (q : FilteredQuery) where
         (λ t right. ap (λ (n : Answered). n.wrote) h ∙ wrote_none going q t right);
     handed = subst (λ (l : List Line). Handed going q l None s u) (sym (documents_nothing going.cutting))
         (record {
-          whole = record { bytes = []; stopped = None };
+          whole = nothing;
           is = λ t right. nothing_in going.form t q going.policy;
           stopped = refl;
           appended = Appends-kept s s u [] (Appends-nil s) same;

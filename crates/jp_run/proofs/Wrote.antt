@@ -5,8 +5,7 @@ use Rattle.std.proofs.lemmas.Bool.Decides.{nat_tests}
 use Rattle.jp_doc.specs.Lines.{Line}
 use Rattle.jp_answer.specs.FilteredQuery.{FilteredQuery}
 use Rattle.jp_regexp.specs.Tests.{Tests, AreRight}
-use Rattle.jp_answer.specs.Answer.{Answer, unless_stopped}
-use Rattle.jp_answer.specs.OnFault.{answer_by}
+use Rattle.jp_answer.specs.Answer.{Answer, answer_by, unless_stopped}
 use Rattle.jp_answer.proofs.OnFaults.{formed_joined, nothing_in}
 use Rattle.jp_run.specs.Manner.{Manner}
 use Rattle.jp_run.specs.Handed.{Handed}

@@ -4,9 +4,8 @@ use Rattle.std.specs.Io.KnownBytes.{Appends}
 use Rattle.jp_doc.specs.Lines.{Line}
 use Rattle.jp_doc.specs.declared.fault.DocFault.{DocFault}
 use Rattle.jp_regexp.specs.Tests.{Tests, AreRight}
-use Rattle.jp_answer.specs.Answer.{Answer}
+use Rattle.jp_answer.specs.Answer.{Answer, answer_by}
 use Rattle.jp_answer.specs.FilteredQuery.{FilteredQuery}
-use Rattle.jp_answer.specs.OnFault.{answer_by}
 use Rattle.jp_run.specs.AskedTexts.{AskedTexts, AreAcceptedIn}
 use Rattle.jp_run.specs.Manner.{Manner}
 use Rattle.jp_run.specs.Written.{AppendsFront}

@@ -1,6 +1,5 @@
 -- How an answer to input is written.
 use Rattle.jp_output.specs.OutputForm.{OutputForm}
-use Rattle.jp_answer.specs.OnFault as answer
 use Rattle.jp_answer.specs.declared.policy.LinePolicy.{LinePolicy}
 use Rattle.jp_run.specs.declared.cutting.Cutting.{Cutting}
 
@@ -13,7 +12,3 @@ pub record Manner : Type 0 where
 
 abbrev pub manner : Cutting → OutputForm → LinePolicy → Manner
 manner cutting form p = record { cutting = cutting; form = form; policy = p }
-
--- what of it concerns documents that are cut already
-abbrev pub of_documents : Manner → answer.Manner
-of_documents going = answer.manner going.form going.policy

@@ -4,6 +4,7 @@ use Rattle.std.specs.Prelude.{IfOk, OnOk, OnErr, IfSome, IsErrOf, nat_lt}
 use Rattle.std.specs.Io.KnownBytes.{Appends, Consumes, IsAtEnd}
 use Rattle.jp_doc.specs.declared.fault.DocFault.{DocFault}
 use Rattle.jp_answer.specs.Answer.{Answer}
+use Rattle.jp_answer.specs.declared.on_fault.OnFault.TheVariants.{Stop, KeepGoing}
 use Rattle.jp_run.specs.Answered.{IsAnswerBy, manner_of, passed_in}
 use Rattle.jp_run.specs.AskedTexts.{AskedTexts}
 use Rattle.jp_run.specs.Begun.{AllSince}
@@ -33,7 +34,7 @@ pub record IsRunOf {S K : Type 0} (asked : AskedTexts) (settings : Settings) (so
       × (totals.documents ≡ length (documents settings.cutting input))))
   pub faulty : IfOk result (λ totals. IfSome (source.remaining a)
       (λ input. totals.faulty ≡ passed_in settings (documents settings.cutting input)))
-  pub none_passed : settings.keeps_going ≡ false → IfOk result (λ totals. totals.faulty ≡ 0)
+  pub none_passed : settings.on_fault ≡ Stop → IfOk result (λ totals. totals.faulty ≡ 0)
   pub wrote : IfOk result (λ totals. IfSome (source.remaining a) (λ input. (x : Answer)
       × IsAnswerBy (manner_of settings) asked input x × (totals.wrote ≡ nat_lt 0 (length x.bytes))))
   pub few_lines : IfOk result (λ totals. totals.lines ≤ max_lines)
@@ -45,7 +46,7 @@ pub record IsRunOf {S K : Type 0} (asked : AskedTexts) (settings : Settings) (so
       → IfSome (source.remaining a) (λ input. (x : Answer)
       × IsAnswerBy (manner_of settings) asked input x × (x.stopped ≡ Some (line, f))
       × Appends (k.contents u) (k.contents w) x.bytes)
-  pub goes_on : settings.keeps_going ≡ true → (line : ℕ) (f : DocFault)
+  pub goes_on : settings.on_fault ≡ KeepGoing → (line : ℕ) (f : DocFault)
       → IsErrOf result (Document line f) → ⊥
   pub prompt : AllSince (source.begun a) (source.begun b) (IsPrompt (manner_of settings) asked
       (source.remaining a) (k.contents u))

@@ -8,7 +8,6 @@ ghost use Rattle.jp_run.specs.inner.Answering.{HasHandedOut};
 ghost use Rattle.jp_run.specs.inner.Ready.{IsReady};
 ghost use Rattle.jp_run.specs.Limits.{max_lines};
 ghost use Rattle.jp_run.specs.inner.Jobs.{job_query};
-ghost use Rattle.jp_run.specs.Manner.{of_documents};
 
 use crate::ends::Sink;
 use crate::fault::RunFault;
@@ -85,8 +84,8 @@ fn answer_to<R: Threads + Sync, G: Gate + Sync, F: Form + Drop + Send>(
     lines: &[LineRef<'_>],
 ) -> Result<Outcome, AllocError>
     requires { length lines.now ≤ max_lines + 1 }
-    ensures { IfOk result (IsAnswerTo (of_documents (manner_in F.says job.now.settings)) (job_query
-        job.now) (map line_at lines.now)) }
+    ensures { IfOk result (IsAnswerTo (manner_in F.says job.now.settings).form
+        (manner_in F.says job.now.settings).policy (job_query job.now) (map line_at lines.now)) }
 {
     let asked = job.asked();
     // One for these lines alone: what it keeps of a long line is let go with it.

@@ -6,12 +6,11 @@ ghost use Rattle.jp_check.specs.Plan.{planned_query};
 ghost use Rattle.jp_regexp.specs.Tests.{Tests, AreRight};
 ghost use Rattle.jp_number.specs.declared.numbers.Numbers.TheVariants.{Whole as Integers};
 ghost use Rattle.jp_compiled.specs.Compiled.{compiled_query};
-ghost use Rattle.jp_answer.specs.Answer.{answer as answer_to};
+ghost use Rattle.jp_answer.specs.Answer.{answer as answer_to, whole};
 ghost use Rattle.jp_answer.specs.Asking.{asked_query};
 ghost use Rattle.jp_answer.specs.FilteredQuery.{unfiltered};
 ghost use Rattle.jp_answer.specs.Policy.{policy};
 ghost use Rattle.jp_answer.specs.Ranges.{AreWorkers, AreDocuments};
-ghost use Rattle.jp_answer.specs.Whole.{whole};
 ghost use Rattle.jp_run.specs.Answered.{answer_of, whole_of};
 ghost use Rattle.jp_run.specs.Limits.{max_lines};
 

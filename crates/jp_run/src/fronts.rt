@@ -165,7 +165,7 @@ fn write_answer<R: Threads + Sync, K: Sink, G: Gate + Sync, F: Form + Drop + Sen
         result }
 {
     let lines = &front.block.task.lines;
-    tell_waiting(&job.crew, job.settings.numbers(), lines, faulty_in(answer));
+    tell_waiting(&job.crew, job.settings.numbers, lines, faulty_in(answer));
     hand_out(sink, answer)?;
     stream.answered.lines += lines.len() as u64;
     stream.answered.faulty += answer.faulty;

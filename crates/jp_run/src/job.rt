@@ -24,7 +24,7 @@ pub(crate) struct Job<'a, R, G> {
 
 impl<'a, R, G> Job<'a, R, G> {
     ghost use Rattle.jp_answer.specs.Asking.{asked_query};
-    ghost use Rattle.jp_run.specs.Answered.{policy_of};
+    ghost use Rattle.jp_answer.specs.Policy.{policy};
     ghost use Rattle.jp_run.specs.inner.Jobs.{job_query};
 
     /// What is asked of all lines of the run.
@@ -32,7 +32,7 @@ impl<'a, R, G> Job<'a, R, G> {
         ensures query { asked_query result ≡ job_query self.now }
         ensures head { result.head.now ≡ head_of self.now.settings }
         ensures policy { result.policy
-            ≡ policy_of self.now.settings.decimals self.now.settings.keeps_going }
+            ≡ policy self.now.settings.numbers self.now.settings.on_fault }
     {
         Asked {
             query: self.query,

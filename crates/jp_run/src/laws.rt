@@ -1,19 +1,23 @@
 //! Laws of the definitions, each the contract of a function that does nothing.
 
-ghost use Rattle.std.specs.Prelude.{◌≡◌, ◌↔◌, ℕ, Bool, false, true, List, [], None};
+ghost use Rattle.std.specs.Prelude.{◌≡◌, ◌↔◌, ℕ, List, [], None};
+ghost use Rattle.jp_number.specs.declared.numbers.Numbers.{Numbers};
+ghost use Rattle.jp_number.specs.declared.numbers.Numbers.TheVariants.{Whole, Decimals};
 ghost use Rattle.jp_doc.specs.Lines.{Line, lines};
-ghost use Rattle.jp_doc.specs.ReadingIn.{whole_numbers};
 ghost use Rattle.jp_tree.specs.Tree.{Text};
 ghost use Rattle.jp_regexp.specs.Tests.{Tests, AreRight};
-ghost use Rattle.jp_answer.specs.Answer.{Answer};
+ghost use Rattle.jp_output.specs.OutputForm.{node_lines};
+ghost use Rattle.jp_answer.specs.Answer.{Answer, answer_by};
 ghost use Rattle.jp_answer.specs.Faults.{first_fault};
 ghost use Rattle.jp_answer.specs.FilteredQuery.{FilteredQuery};
-ghost use Rattle.jp_answer.specs.OnFault.{answer_by, answer_in};
-ghost use Rattle.jp_answer.specs.Policy.{numbers_in};
-ghost use Rattle.jp_run.specs.Answered.{IsAnswerBy, IsAnswerTo, manner_by, numbers_of, policy_of};
+ghost use Rattle.jp_answer.specs.Policy.{policy};
+ghost use Rattle.jp_answer.specs.declared.on_fault.OnFault.{OnFault};
+ghost use Rattle.jp_answer.specs.declared.on_fault.OnFault.TheVariants.{Stop};
+ghost use Rattle.jp_run.specs.Answered.{IsAnswerBy, IsAnswerTo};
 ghost use Rattle.jp_run.specs.AskedTexts.{AskedTexts, AreAcceptedIn, query_alone};
 ghost use Rattle.jp_run.specs.Cutting.{documents};
 ghost use Rattle.jp_run.specs.Forms.{form_of};
+ghost use Rattle.jp_run.specs.Manner.{manner};
 ghost use Rattle.jp_run.specs.Selecting.{SelectsNothing};
 ghost use Rattle.jp_run.specs.declared.cutting.Cutting.{Cutting};
 ghost use Rattle.jp_run.specs.declared.cutting.Cutting.TheVariants.{Lines};
@@ -25,29 +29,28 @@ ghost use Rattle.jp_run.specs.declared.output.Output.TheVariants.{Nodes};
 /// it does not keep going, the answer that ends at the first faulty line.
 pub fn forms()
     ensures stops { (text : Text) (input : List ℕ) (a : Answer)
-        → IsAnswerBy (manner_by Lines Nodes [] false false) (query_alone text) input a
+        → IsAnswerBy (manner Lines (form_of Nodes []) (policy Whole Stop)) (query_alone text) input a
         → IsAnswerTo text input a }
-    ensures nodes { (d k : Bool) (asked : AskedTexts) (input : List ℕ) (a : Answer)
-        → IsAnswerBy (manner_by Lines Nodes [] d k) asked input a
-        → (q : FilteredQuery) × AreAcceptedIn (numbers_of d) asked q
-        × ((t : Tests) → AreRight t → answer_in (policy_of d k) t q (lines input) ≡ a) }
+    ensures nodes { (n : Numbers) (k : OnFault) (asked : AskedTexts) (input : List ℕ) (a : Answer)
+        → IsAnswerBy (manner Lines (form_of Nodes []) (policy n k)) asked input a
+        → (q : FilteredQuery) × AreAcceptedIn n asked q
+        × ((t : Tests) → AreRight t → answer_by node_lines (policy n k) t q (lines input) ≡ a) }
 {}
 
 /// Where no document of the input is faulty by whole numbers alone, the answer with decimals is the same, in
 /// every form, behind any name or none, whether or not it keeps going, however the input is cut. So a run
 /// that meets no faulty document writes the same with them.
 pub fn same_with_decimals()
-    ensures { (c : Cutting) (output : Output) (head : List ℕ) (k : Bool) (asked : AskedTexts)
-        (input : List ℕ) (a : Answer) → first_fault whole_numbers (documents c input) ≡ None
-        → IsAnswerBy (manner_by c output head false k) asked input a
-        → IsAnswerBy (manner_by c output head true k) asked input a }
+    ensures { (c : Cutting) (output : Output) (head : List ℕ) (k : OnFault) (asked : AskedTexts)
+        (input : List ℕ) (a : Answer) → first_fault Whole (documents c input) ≡ None
+        → IsAnswerBy (manner c (form_of output head) (policy Whole k)) asked input a
+        → IsAnswerBy (manner c (form_of output head) (policy Decimals k)) asked input a }
 {}
 
 /// Where no line is faulty an answer has no byte exactly where no node of any document is selected: in every
 /// form, behind any name or none, whichever numbers it has, whether or not it keeps going.
 pub fn nothing_selected()
-    ensures { (output : Output) (head : List ℕ) (d k : Bool) (t : Tests) (q : FilteredQuery) (ls : List Line)
-        → first_fault (numbers_in (numbers_of d)) ls ≡ None
-        → ((answer_by (form_of output head) (policy_of d k) t q ls).bytes ≡ [])
-        ↔ SelectsNothing (numbers_in (numbers_of d)) t q ls }
+    ensures { (output : Output) (head : List ℕ) (n : Numbers) (k : OnFault) (t : Tests) (q : FilteredQuery)
+        (ls : List Line) → first_fault n ls ≡ None
+        → ((answer_by (form_of output head) (policy n k) t q ls).bytes ≡ []) ↔ SelectsNothing n t q ls }
 {}

@@ -33,7 +33,6 @@ pub struct Prepared {
 }
 
 impl Prepared {
-    ghost use Rattle.jp_run.specs.Answered.{numbers_of};
     ghost use Rattle.jp_run.specs.AskedTexts.{AskedTexts};
     ghost use Rattle.jp_run.specs.Prepared.{prepared_query};
     ghost use Rattle.jp_run.specs.Ran.{IsRunOf};
@@ -79,7 +78,7 @@ impl Prepared {
         requires working { (S.failed source.old ≡ false) × (K.failed sink.old ≡ false) }
         requires few { (S.reads source.old ≤ 2 ^ 62) × (S.given source.old ≤ 2 ^ 62) }
         ensures ran { (asked : AskedTexts)
-            → AreAcceptedIn (numbers_of settings.now.decimals) asked (prepared_query self.now)
+            → AreAcceptedIn settings.now.numbers asked (prepared_query self.now)
             → IsRunOf asked settings.now S.Supply K.Sink source.old source.new sink.old sink.new result }
     {
         let head = settings.head(crew.alloc)?;

@@ -10,7 +10,8 @@ ghost use Rattle.jp_tokens.specs.Depth.{bracket_depth, max_depth};
 ghost use Rattle.jp_check.specs.Verdict.{IsVerdictIn};
 ghost use Rattle.jp_answer.specs.Answer.{Answer};
 ghost use Rattle.jp_answer.specs.FilteredQuery.{FilteredQuery};
-ghost use Rattle.jp_run.specs.Answered.{IsAnswerBy, manner_in, manner_of, numbers_of, passed_in};
+ghost use Rattle.jp_answer.specs.declared.on_fault.OnFault.TheVariants.{Stop, KeepGoing};
+ghost use Rattle.jp_run.specs.Answered.{IsAnswerBy, manner_in, manner_of, passed_in};
 ghost use Rattle.jp_run.specs.AskedTexts.{AreAcceptedIn, AreRefusedIn, IsFilterRefused, asked_by};
 ghost use Rattle.jp_run.specs.Begun.{AllSince};
 ghost use Rattle.jp_run.specs.Cutting.{documents, documents_in, part_count};
@@ -111,7 +112,7 @@ pub fn run<R: Threads + Sync, S: Source<K>, K: Sink, G: Gate + Sync>(
     requires few { (S.reads source.old ≤ 2 ^ 62) × (S.given source.old ≤ 2 ^ 62) }
     // A finished run has read the whole input and written the answer to it, which has no faulty line; neither
     // end has failed.
-    ensures accepted { OnOk result ((q : FilteredQuery) × AreAcceptedIn (numbers_of settings.now.decimals)
+    ensures accepted { OnOk result ((q : FilteredQuery) × AreAcceptedIn settings.now.numbers
         (asked_by query.now settings.now) q) }
     ensures answer { OnOk result (IfSome (S.remaining source.old) (λ input. (a : Answer)
         × IsAnswerBy (manner_of settings.now) (asked_by query.now settings.now) input a
@@ -123,7 +124,7 @@ pub fn run<R: Threads + Sync, S: Source<K>, K: Sink, G: Gate + Sync>(
     ensures faulty { IfOk result (λ totals. IfSome (S.remaining source.old)
         (λ input. totals.faulty ≡ passed_in settings.now (documents settings.now.cutting input))) }
     // None, whatever the source tells of its bytes.
-    ensures none_passed { settings.now.keeps_going ≡ false → IfOk result (λ totals. totals.faulty ≡ 0) }
+    ensures none_passed { settings.now.on_fault ≡ Stop → IfOk result (λ totals. totals.faulty ≡ 0) }
     // Whether the answer has a byte.
     ensures wrote { IfOk result (λ totals. IfSome (S.remaining source.old) (λ input. (a : Answer)
         × IsAnswerBy (manner_of settings.now) (asked_by query.now settings.now) input a
@@ -137,22 +138,22 @@ pub fn run<R: Threads + Sync, S: Source<K>, K: Sink, G: Gate + Sync>(
     ensures passed_on { K.flushed sink.old ≡ true → IsPassedOn (K.flushed sink.new) (K.failed sink.new) }
     // The query's fault is the text's verdict, and nothing was read or written.
     ensures query { (f : Refusal) → IsErrOf result (RunFault.Query f)
-        → IsVerdictIn (numbers_of settings.now.decimals) (chars query.now) (Err f)
+        → IsVerdictIn settings.now.numbers (chars query.now) (Err f)
         × (source.new ≡ source.old) × (sink.new ≡ sink.old) }
     // A text is too deep exactly where its bracket depth is over 64: want of memory is not told in its place.
     ensures too_deep { IsErrOf result (RunFault.Query QueryFault.TooDeep)
         ↔ (max_depth < bracket_depth (chars query.now)) }
     // A text that is refused ends in its fault, or in want of memory, and nothing was read or written.
-    ensures refused { (f : Refusal) → IsVerdictIn (numbers_of settings.now.decimals) (chars query.now) (Err f)
+    ensures refused { (f : Refusal) → IsVerdictIn settings.now.numbers (chars query.now) (Err f)
         → (IsErrOf result (RunFault.Query f) ⊎ IsErrOf result RunFault.Memory)
         × (source.new ≡ source.old) × (sink.new ≡ sink.old) }
     // The filter's fault is its text's verdict, and nothing was read or written.
     ensures filter { (f : Refusal) → IsErrOf result (RunFault.Filter f)
-        → AreRefusedIn (numbers_of settings.now.decimals) (asked_by query.now settings.now)
+        → AreRefusedIn settings.now.numbers (asked_by query.now settings.now)
         (RunFault.Filter f) × (source.new ≡ source.old) × (sink.new ≡ sink.old) }
     // A filter that is refused ends in its fault, or in that of the query, or in want of memory, and nothing
     // was read or written.
-    ensures filter_refused { (f : Refusal) → IsFilterRefused (numbers_of settings.now.decimals)
+    ensures filter_refused { (f : Refusal) → IsFilterRefused settings.now.numbers
         (asked_by query.now settings.now).filter f
         → (IsErrOf result (RunFault.Filter f) ⊎ IsErrOf result RunFault.Memory
         ⊎ ((g : Refusal) × IsErrOf result (RunFault.Query g)))
@@ -163,7 +164,7 @@ pub fn run<R: Threads + Sync, S: Source<K>, K: Sink, G: Gate + Sync>(
         × IsAnswerBy (manner_of settings.now) (asked_by query.now settings.now) input a
         × (a.stopped ≡ Some (line, fault)) × Appends (K.contents sink.old) (K.contents sink.new) a.bytes) }
     // An answer that keeps going tells no faulty line so.
-    ensures goes_on { settings.now.keeps_going ≡ true → (line : ℕ) (fault : Fault)
+    ensures goes_on { settings.now.on_fault ≡ KeepGoing → (line : ℕ) (fault : Fault)
         → IsErrOf result (RunFault.Document line fault) → ⊥ }
     // However the run ends: each read that may wait began when the answer to all lines whose end had come
     // stood in the sink, and was passed on.
@@ -189,7 +190,7 @@ pub fn run<R: Threads + Sync, S: Source<K>, K: Sink, G: Gate + Sync>(
         → AppendsFront (K.contents sink.old) (K.contents sink.new) a.bytes)) }
     ensures few { S.reads source.new ≤ S.reads source.old + max_reads }
 {
-    let prepared = Prepared::new(alloc, query, settings.filter, settings.numbers())?;
+    let prepared = Prepared::new(alloc, query, settings.filter, settings.numbers)?;
     let crew = Crew { rt, alloc, gate };
     prepared.run(&crew, settings, source, sink)
 }

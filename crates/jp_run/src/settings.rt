@@ -1,6 +1,6 @@
 //! How a run is cut up.
 
-ghost use Rattle.std.specs.Prelude.{◌≡◌, ◌↔◌, false, true, None, Some, IsOk, IfOk, OnErr, IsErrOf};
+ghost use Rattle.std.specs.Prelude.{◌≡◌, ◌↔◌, None, Some, IsOk, IfOk, OnErr, IsErrOf};
 ghost use Rattle.jp_run.specs.Settings.{AreSettings};
 
 use crate::cutting::Cutting;
@@ -19,8 +19,8 @@ const MAX_WORKERS: u64 = 64;
 const MAX_DOCUMENTS: u64 = 1_000_000;
 
 /// How many workers answer, how many documents are a piece, how many a batch, how the input is cut into
-/// documents, which numbers there may be, whether the answer keeps going, which form it has, what name stands
-/// before its lines, and which filter chooses documents.
+/// documents, which numbers there may be, what a faulty line does, which form the answer has, what name
+/// stands before its lines, and which filter chooses documents.
 #[derive(Clone, Copy, Debug, PartialEq, Eq, Drop)]
 pub struct Settings<'n> {
     /// The number of workers, 1 to 64.
@@ -29,11 +29,10 @@ pub struct Settings<'n> {
     pub piece: u64,
     /// The number of documents of a batch, 1 to 1,000,000; the last may have fewer.
     pub batch: u64,
-    /// Whether the answer keeps going after a faulty line.
-    pub keeps_going: bool,
-    /// Whether documents and the literals of the query may have every number of JSON (RFC 8259, 6), and not
-    /// whole ones alone.
-    pub decimals: bool,
+    /// What is done where a line is faulty.
+    pub on_fault: OnFault,
+    /// Which numbers the documents and the literals of the query may have.
+    pub numbers: Numbers,
     /// How the input is cut into documents.
     pub cutting: Cutting,
     /// What is written.
@@ -47,7 +46,8 @@ pub struct Settings<'n> {
 }
 
 impl<'n> Settings<'n> {
-    ghost use Rattle.jp_run.specs.Answered.{head_of, numbers_of, policy_of};
+    ghost use Rattle.jp_answer.specs.Policy.{policy};
+    ghost use Rattle.jp_run.specs.Answered.{head_of};
 
     /// The settings, which take no memory. A document is a line, numbers are whole, and the answer ends at
     /// the first faulty line, and has a line for each node of every document, with no name before it.
@@ -58,8 +58,8 @@ impl<'n> Settings<'n> {
     /// 1,000,000.
     pub fn new(workers: u64, piece: u64, batch: u64) -> Result<Settings<'n>, RunFault>
         ensures settings { IfOk result (λ s. (s.workers ≡ workers) × (s.piece ≡ piece) × (s.batch ≡ batch)) }
-        ensures ends { IfOk result (λ s. s.keeps_going ≡ false) }
-        ensures whole { IfOk result (λ s. s.decimals ≡ false) }
+        ensures ends { IfOk result (λ s. s.on_fault ≡ OnFault.Stop) }
+        ensures whole { IfOk result (λ s. s.numbers ≡ Numbers.Whole) }
         ensures nodes { IfOk result (λ s. s.output ≡ Output.Nodes) }
         ensures lines { IfOk result (λ s. s.cutting ≡ Cutting.Lines) }
         ensures no_name { IfOk result (λ s. s.name ≡ None) }
@@ -77,8 +77,8 @@ impl<'n> Settings<'n> {
             workers,
             piece,
             batch,
-            keeps_going: false,
-            decimals: false,
+            on_fault: OnFault::Stop,
+            numbers: Numbers::Whole,
             cutting: Cutting::Lines,
             output: Output::Nodes,
             name: None,
@@ -86,28 +86,13 @@ impl<'n> Settings<'n> {
         })
     }
 
-    /// Which numbers the documents and the literals of the query may have.
-    pub fn numbers(&self) -> Numbers
-        ensures { result ≡ numbers_of self.now.decimals }
-    {
-        if self.decimals {
-            Numbers::Decimals
-        } else {
-            Numbers::Whole
-        }
-    }
-
     /// How lines are read, and what is done where one is faulty.
     pub(crate) fn policy(&self) -> LinePolicy
-        ensures { result ≡ policy_of self.now.decimals self.now.keeps_going }
+        ensures { result ≡ policy self.now.numbers self.now.on_fault }
     {
         LinePolicy {
-            numbers: self.numbers(),
-            on_fault: if self.keeps_going {
-                OnFault::KeepGoing
-            } else {
-                OnFault::Stop
-            },
+            numbers: self.numbers,
+            on_fault: self.on_fault,
         }
     }
 
@@ -115,16 +100,16 @@ impl<'n> Settings<'n> {
     pub fn keep_going(self) -> Settings<'n>
         ensures same { (result.workers ≡ self.entry.workers) × (result.piece ≡ self.entry.piece)
             × (result.batch ≡ self.entry.batch) × (result.output ≡ self.entry.output)
-            × (result.decimals ≡ self.entry.decimals) × (result.name ≡ self.entry.name)
+            × (result.numbers ≡ self.entry.numbers) × (result.name ≡ self.entry.name)
             × (result.cutting ≡ self.entry.cutting) × (result.filter ≡ self.entry.filter) }
-        ensures going { result.keeps_going ≡ true }
+        ensures going { result.on_fault ≡ OnFault.KeepGoing }
     {
         Settings {
             workers: self.workers,
             piece: self.piece,
             batch: self.batch,
-            keeps_going: true,
-            decimals: self.decimals,
+            on_fault: OnFault::KeepGoing,
+            numbers: self.numbers,
             cutting: self.cutting,
             output: self.output,
             name: self.name,
@@ -137,16 +122,16 @@ impl<'n> Settings<'n> {
     pub fn with_decimals(self) -> Settings<'n>
         ensures same { (result.workers ≡ self.entry.workers) × (result.piece ≡ self.entry.piece)
             × (result.batch ≡ self.entry.batch) × (result.output ≡ self.entry.output)
-            × (result.keeps_going ≡ self.entry.keeps_going) × (result.name ≡ self.entry.name)
+            × (result.on_fault ≡ self.entry.on_fault) × (result.name ≡ self.entry.name)
             × (result.cutting ≡ self.entry.cutting) × (result.filter ≡ self.entry.filter) }
-        ensures decimals { result.decimals ≡ true }
+        ensures decimals { result.numbers ≡ Numbers.Decimals }
     {
         Settings {
             workers: self.workers,
             piece: self.piece,
             batch: self.batch,
-            keeps_going: self.keeps_going,
-            decimals: true,
+            on_fault: self.on_fault,
+            numbers: Numbers::Decimals,
             cutting: self.cutting,
             output: self.output,
             name: self.name,
@@ -157,8 +142,8 @@ impl<'n> Settings<'n> {
     /// The same settings, but for an answer in this form. It takes no memory.
     pub fn with_output(self, output: Output) -> Settings<'n>
         ensures same { (result.workers ≡ self.entry.workers) × (result.piece ≡ self.entry.piece)
-            × (result.batch ≡ self.entry.batch) × (result.keeps_going ≡ self.entry.keeps_going)
-            × (result.decimals ≡ self.entry.decimals) × (result.name ≡ self.entry.name)
+            × (result.batch ≡ self.entry.batch) × (result.on_fault ≡ self.entry.on_fault)
+            × (result.numbers ≡ self.entry.numbers) × (result.name ≡ self.entry.name)
             × (result.cutting ≡ self.entry.cutting) × (result.filter ≡ self.entry.filter) }
         ensures output { result.output ≡ output }
     {
@@ -166,8 +151,8 @@ impl<'n> Settings<'n> {
             workers: self.workers,
             piece: self.piece,
             batch: self.batch,
-            keeps_going: self.keeps_going,
-            decimals: self.decimals,
+            on_fault: self.on_fault,
+            numbers: self.numbers,
             cutting: self.cutting,
             output,
             name: self.name,
@@ -179,8 +164,8 @@ impl<'n> Settings<'n> {
     /// tab, or behind none. It takes no memory.
     pub fn with_name(self, name: Option<&'n str>) -> Settings<'n>
         ensures same { (result.workers ≡ self.entry.workers) × (result.piece ≡ self.entry.piece)
-            × (result.batch ≡ self.entry.batch) × (result.keeps_going ≡ self.entry.keeps_going)
-            × (result.decimals ≡ self.entry.decimals) × (result.output ≡ self.entry.output)
+            × (result.batch ≡ self.entry.batch) × (result.on_fault ≡ self.entry.on_fault)
+            × (result.numbers ≡ self.entry.numbers) × (result.output ≡ self.entry.output)
             × (result.cutting ≡ self.entry.cutting) × (result.filter ≡ self.entry.filter) }
         ensures name { result.name ≡ name.entry }
     {
@@ -188,8 +173,8 @@ impl<'n> Settings<'n> {
             workers: self.workers,
             piece: self.piece,
             batch: self.batch,
-            keeps_going: self.keeps_going,
-            decimals: self.decimals,
+            on_fault: self.on_fault,
+            numbers: self.numbers,
             cutting: self.cutting,
             output: self.output,
             name,
@@ -200,8 +185,8 @@ impl<'n> Settings<'n> {
     /// The same settings, but for an input that is cut so. It takes no memory.
     pub fn with_cutting(self, cutting: Cutting) -> Settings<'n>
         ensures same { (result.workers ≡ self.entry.workers) × (result.piece ≡ self.entry.piece)
-            × (result.batch ≡ self.entry.batch) × (result.keeps_going ≡ self.entry.keeps_going)
-            × (result.decimals ≡ self.entry.decimals) × (result.output ≡ self.entry.output)
+            × (result.batch ≡ self.entry.batch) × (result.on_fault ≡ self.entry.on_fault)
+            × (result.numbers ≡ self.entry.numbers) × (result.output ≡ self.entry.output)
             × (result.name ≡ self.entry.name) × (result.filter ≡ self.entry.filter) }
         ensures cutting { result.cutting ≡ cutting }
     {
@@ -209,8 +194,8 @@ impl<'n> Settings<'n> {
             workers: self.workers,
             piece: self.piece,
             batch: self.batch,
-            keeps_going: self.keeps_going,
-            decimals: self.decimals,
+            on_fault: self.on_fault,
+            numbers: self.numbers,
             cutting,
             output: self.output,
             name: self.name,
@@ -222,8 +207,8 @@ impl<'n> Settings<'n> {
     /// or of all. It takes no memory.
     pub fn with_filter(self, filter: Option<&'n str>) -> Settings<'n>
         ensures same { (result.workers ≡ self.entry.workers) × (result.piece ≡ self.entry.piece)
-            × (result.batch ≡ self.entry.batch) × (result.keeps_going ≡ self.entry.keeps_going)
-            × (result.decimals ≡ self.entry.decimals) × (result.output ≡ self.entry.output)
+            × (result.batch ≡ self.entry.batch) × (result.on_fault ≡ self.entry.on_fault)
+            × (result.numbers ≡ self.entry.numbers) × (result.output ≡ self.entry.output)
             × (result.name ≡ self.entry.name) × (result.cutting ≡ self.entry.cutting) }
         ensures filter { result.filter ≡ filter.entry }
     {
@@ -231,8 +216,8 @@ impl<'n> Settings<'n> {
             workers: self.workers,
             piece: self.piece,
             batch: self.batch,
-            keeps_going: self.keeps_going,
-            decimals: self.decimals,
+            on_fault: self.on_fault,
+            numbers: self.numbers,
             cutting: self.cutting,
             output: self.output,
             name: self.name,

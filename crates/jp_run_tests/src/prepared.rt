@@ -57,7 +57,7 @@ const INPUTS: [(&[u8], &str, bool); 5] = [
 fn prepared_once_for_several_inputs(rt: HostRuntime) -> Result<(), Fail> {
     let settings = Settings::new(2, 1, 10)?.with_output(Output::Values);
     let filter = "match(@.level, \"err.*\")";
-    let prepared = Prepared::new(rt.alloc(), "$.msg", Some(filter), settings.numbers())?;
+    let prepared = Prepared::new(rt.alloc(), "$.msg", Some(filter), settings.numbers)?;
     for (input, wanted, finishes) in &INPUTS {
         let (end, bytes) = ran_prepared(&rt, rt.alloc(), &prepared, *input, &settings);
         assert_eq!(rt; end.is_ok(), *finishes);

@@ -1,5 +1,6 @@
 //! The ranges of settings, and that each keeps what it was told before.
 
+use jp_answer::OnFault;
 use jp_number::Numbers;
 use jp_run::{Cutting, Output, RunFault, Settings};
 use std::test::Fail;
@@ -69,8 +70,8 @@ fn keeps_all(settings: Settings<'static>) -> bool {
     let all = told(settings);
     all == told_backwards(settings)
         && (all.workers, all.piece, all.batch) == (3, 5, 7)
-        && all.keeps_going
-        && all.numbers() == Numbers::Decimals
+        && all.on_fault == OnFault::KeepGoing
+        && all.numbers == Numbers::Decimals
         && all.output == Output::Raw
         && all.name == Some("a")
         && all.cutting == Cutting::Documents
@@ -80,7 +81,7 @@ fn keeps_all(settings: Settings<'static>) -> bool {
 #[test]
 fn settings_keep_what_they_are_told(rt: HostRuntime) -> Result<(), Fail> {
     let settings = Settings::new(3, 5, 7)?;
-    assert!(rt; !settings.keeps_going && settings.numbers() == Numbers::Whole);
+    assert!(rt; settings.on_fault == OnFault::Stop && settings.numbers == Numbers::Whole);
     assert!(rt; settings.output == Output::Nodes && settings.cutting == Cutting::Lines);
     assert!(rt; settings.name == None && settings.filter == None);
     assert!(rt; keeps_all(settings));

@@ -1,5 +1,5 @@
 -- Deep equality is an equivalence, and equality where all numbers are whole.
-use Rattle.std.proofs.Common.{◌≡◌, Bool, true, false, ◌&&◌, refl, ap, ap₂, subst}
+use Rattle.std.proofs.Common.{◌≡◌, ◌∙◌, Bool, true, false, ◌&&◌, refl, sym, ap, ap₂, subst}
 use Rattle.std.specs.Prelude.{IsTrue, ◌↔◌, Option, Some, None}
 use Rattle.std.specs.Cmp.{IsEquivalence}
 use Rattle.std.proofs.lemmas.Bool.Decides.{Decides-int_eq}
@@ -8,9 +8,8 @@ use Rattle.std.proofs.lemmas.Slice.Eq.{bytes_eq-Decides}
 use Rattle.jp_doc.specs.Json.{text_eq, Json, null, truth, number, text, array, object, Items, no_items}
 use Rattle.jp_doc.specs.Json.{add_item, Members, no_members, add_member}
 use Rattle.jp_doc.specs.NumbersWithin.{IsWhole, AllNumbersOfItems, AllNumbersOfMembers, HasWholeNumbers}
-use Rattle.jp_number.specs.Number.{Number, whole, written}
-use Rattle.jp_number.specs.Profile.{is_equal}
-use Rattle.jp_number.proofs.Order.{profile_equality}
+use Rattle.jp_number.specs.Number.{Number, whole, written, is_equal}
+use Rattle.jp_number.proofs.Order.{equality, whole_equal}
 use Rattle.jp_value.specs.Comparison.{truth_eq, same, same_items, same_members, eq}
 
 pub both : (a b : Bool) → (a && b) ≡ true → (a ≡ true) × (b ≡ true)
@@ -24,7 +23,7 @@ joint false b g h = g
 -- an equivalence
 
 numbers : IsEquivalence is_equal
-numbers = profile_equality
+numbers = equality
 
 texts : IsEquivalence text_eq
 texts = nat_list_eq_equiv
@@ -233,7 +232,7 @@ truths false true h = absurd cc
 truths false false h = refl
 
 whole_numbers : (x y : Number) → IsWhole x → IsWhole y → is_equal x y ≡ true → x ≡ y
-whole_numbers (whole y) (whole z) p q h = ap whole ((Decides-int_eq y z).0 h)
+whole_numbers (whole y) (whole z) p q h = ap whole ((Decides-int_eq y z).0 (sym (whole_equal y z) ∙ h))
 whole_numbers (whole y) (written t) p q h = absurd q
 whole_numbers (written s) y p q h = absurd p
 

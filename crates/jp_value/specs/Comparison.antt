@@ -3,7 +3,7 @@ use Rattle.std.specs.Prelude.{Bool, true, false, not, ◌&&◌, ◌||◌, Option
 use Rattle.std.specs.Ordering.{is_lt}
 use Rattle.jp_doc.specs.Json.{text_eq, text_cmp, Json, null, truth, number, text, array, object, Items}
 use Rattle.jp_doc.specs.Json.{no_items, add_item, Members, no_members, add_member}
-use Rattle.jp_number.specs.Profile.{is_equal, is_below}
+use Rattle.jp_number.specs.Number.{is_equal, is_below}
 use Rattle.jp_tree.specs.declared.tree.Operator.{Operator}
 use Rattle.jp_tree.specs.declared.tree.Operator.TheVariants.{Eq, Ne, Le, Ge, Lt, Gt}
 

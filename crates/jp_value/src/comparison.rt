@@ -126,6 +126,7 @@ fn plain(operand: Operand<'_>) -> Operand<'_>
     }
 }
 
+#[tactic(auto, using(jp_number::proofs::Order::whole_equal))]
 fn same_plain(left: Operand<'_>, right: Operand<'_>) -> bool
     requires left { HasWholeNumbers left }
     requires left_plain { IsPlain left }
@@ -144,6 +145,7 @@ fn same_plain(left: Operand<'_>, right: Operand<'_>) -> bool
     }
 }
 
+#[tactic(auto, using(jp_number::proofs::Order::whole_below))]
 fn less_plain(left: Operand<'_>, right: Operand<'_>) -> bool
     requires left { IsPlain left }
     requires right { IsPlain right }

@@ -89,6 +89,7 @@ fn one_after_another()
 {}
 
 /// The six operators of a nothing and a value, and of values of two kinds.
+#[tactic(auto, unfolding(crate::proofs::OnLiterals::numbers_on_literals))]
 fn operators()
     ensures nothing_and_null { compared Eq None (Some null) ≡ false }
     ensures nothings { compared Ge None None ≡ true }
@@ -106,6 +107,7 @@ fn operators()
 {}
 
 /// What is given by its kind: nothing, or a value. `null` is a value, and `false` and 0 are values too.
+#[tactic(auto, unfolding(crate::proofs::OnLiterals::numbers_on_literals))]
 fn given_by_kinds()
     ensures nothing { given_value None ≡ None }
     ensures null { given_value (Some Null) ≡ Some null }
@@ -120,6 +122,7 @@ fn given_by_kinds()
 {}
 
 /// Values that are equal, and values that are not, of each kind.
+#[tactic(auto, unfolding(crate::proofs::OnLiterals::numbers_on_literals))]
 fn equality()
     ensures nulls { compared Eq (Some null) (Some null) ≡ true }
     ensures null_and_false { compared Eq (Some null) (Some (truth false)) ≡ false }
@@ -142,6 +145,7 @@ fn equality()
 {}
 
 /// `<` of numbers by value and of texts by their scalar values, and of nothing else.
+#[tactic(auto, unfolding(crate::proofs::OnLiterals::numbers_on_literals))]
 fn order()
     ensures numbers { compared Lt (Some (number (whole (negsuc 0)))) (Some (num 0)) ≡ true }
     ensures not_below_itself { compared Lt (Some (num 2)) (Some (num 2)) ≡ false }

@@ -14,6 +14,7 @@ use jp_tree::Operator;
 use std::alloc::{AllocError, Global};
 
 /// Whether two values are deeply equal.
+#[tactic(auto, using(jp_number::proofs::Order::whole_equal))]
 #[cycle(same_kind)]
 fn same_kind(alloc: Global, left: Kind<'_>, right: Kind<'_>) -> Result<bool, AllocError>
     ensures { IfOk result (λ b. b ≡ spec.same (kind_value left.entry) (kind_value right.entry)) }
@@ -160,6 +161,7 @@ fn is_equal(
     }
 }
 
+#[tactic(auto, using(jp_number::proofs::Order::whole_below))]
 fn is_less(left: Option<Kind<'_>>, right: Option<Kind<'_>>) -> bool
     ensures { result ≡ spec.lt (given_value left.entry) (given_value right.entry) }
 {

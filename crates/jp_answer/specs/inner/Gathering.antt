@@ -7,9 +7,9 @@ use Rattle.jp_regexp.specs.Tests.{Tests, AreRight}
 use Rattle.jp_nodes.specs.declared.visit.Visit as visit
 use Rattle.jp_output.specs.OutputForm.{OutputForm}
 use Rattle.jp_output.specs.declared.form.Form as form
-use Rattle.jp_answer.specs.Answer.{Answer, joined}
+use Rattle.jp_answer.specs.Answer.{Answer, answer_by, joined}
 use Rattle.jp_answer.specs.Asking.{asked_query}
-use Rattle.jp_answer.specs.OnFault.{answer_by, stop_in, passed_in}
+use Rattle.jp_answer.specs.Policy.{stop_in, passed_in}
 use Rattle.jp_answer.specs.Queued.{sent_lines, sent_task}
 use Rattle.jp_answer.specs.declared.asked.Asked.{Asked}
 use Rattle.jp_answer.specs.declared.gathered.Gathered.{Gathered}
@@ -18,11 +18,12 @@ use Rattle.jp_answer.specs.declared.queue.Queue.{Queue}
 use Rattle.jp_answer.specs.declared.queue.Sent.{Sent}
 use Rattle.jp_answer.specs.declared.task.Task.{Task}
 
--- what was gathered, but for its count
+-- what was gathered
 abbrev pub gathered_of : Gathered → Answer
 gathered_of a = record {
   bytes = a.bytes.items;
   stopped = option_map (λ s. (s.line, s.fault)) a.stopped;
+  faulty = a.faulty;
 }
 
 -- the answer to lines, of which this is asked

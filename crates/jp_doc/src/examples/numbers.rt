@@ -4,7 +4,8 @@ ghost use Rattle.std.specs.Prelude.{◌≡◌, [], ◌∷◌, ◌++◌, codes, r
 ghost use Rattle.std.specs.Prelude.{None, Some, Ok, Err};
 ghost use Rattle.json.specs.Json as grammar;
 ghost use Rattle.jp_doc.specs.Json.{null, number, array, object, no_items, add_item, no_members, add_member};
-ghost use Rattle.jp_doc.specs.ReadingIn.{whole_numbers, decimals, has_long_number, document_of};
+ghost use Rattle.jp_number.specs.declared.numbers.Numbers.TheVariants.{Whole, Decimals};
+ghost use Rattle.jp_doc.specs.ReadingIn.{has_long_number, document_of};
 ghost use Rattle.jp_doc.specs.ReadingIn.{tree_reading, or_else, reading_in};
 ghost use Rattle.jp_doc.specs.declared.fault.DocFault.TheVariants.{LongLine, Unreadable, NotWhole};
 ghost use Rattle.jp_doc.specs.declared.fault.DocFault.TheVariants.{LongNumber, LongArray};
@@ -12,24 +13,24 @@ ghost use Rattle.jp_number.specs.Number.{whole, written};
 
 #[tactic(auto, unfolding(crate::proofs::OnLiterals::documents_on_literals))]
 fn lines_with_decimals()
-    ensures whole_numbers { reading_in decimals (codes "[1,-2]")
+    ensures whole_numbers { reading_in Decimals (codes "[1,-2]")
         ≡ Ok (array (add_item (number (whole (pos 1))) (add_item (number (whole (negsuc 1))) no_items))) }
-    ensures fraction_covered { reading_in decimals (codes "{\"a\":1.5,\"a\":1}")
+    ensures fraction_covered { reading_in Decimals (codes "{\"a\":1.5,\"a\":1}")
         ≡ Ok (object (add_member (codes "a") (number (whole (pos 1))) no_members)) }
-    ensures fraction { reading_in decimals (codes "[9.90]")
+    ensures fraction { reading_in Decimals (codes "[9.90]")
         ≡ Ok (array (add_item (number (written (codes "9.90"))) no_items)) }
-    ensures no_value { reading_in decimals (codes "[1") ≡ Err Unreadable }
-    ensures no_utf8 { reading_in decimals (34 ∷ 255 ∷ 34 ∷ []) ≡ Err Unreadable }
-    ensures too_deep { reading_in decimals (replicate 128 91 ++ replicate 128 93) ≡ Err Unreadable }
-    ensures with_whole_numbers { reading_in whole_numbers (codes "1.5") ≡ Err NotWhole }
+    ensures no_value { reading_in Decimals (codes "[1") ≡ Err Unreadable }
+    ensures no_utf8 { reading_in Decimals (34 ∷ 255 ∷ 34 ∷ []) ≡ Err Unreadable }
+    ensures too_deep { reading_in Decimals (replicate 128 91 ++ replicate 128 93) ≡ Err Unreadable }
+    ensures with_whole_numbers { reading_in Whole (codes "1.5") ≡ Err NotWhole }
 {}
 
 // A number that no float comes near to is a number of the line by the grammar alone.
 #[tactic(auto, unfolding(crate::proofs::OnLiterals::documents_on_literals))]
 fn numbers_above_all_floats()
-    ensures with_whole_numbers { reading_in whole_numbers (codes "1e999") ≡ Err Unreadable }
-    ensures with_decimals { reading_in decimals (codes "1e999") ≡ Ok (number (written (codes "1e999"))) }
-    ensures long_exponent { reading_in decimals (codes "1e0000000001") ≡ Err LongNumber }
+    ensures with_whole_numbers { reading_in Whole (codes "1e999") ≡ Err Unreadable }
+    ensures with_decimals { reading_in Decimals (codes "1e999") ≡ Ok (number (written (codes "1e999"))) }
+    ensures long_exponent { reading_in Decimals (codes "1e0000000001") ≡ Err LongNumber }
     ensures behind_a_text { tree_reading (codes "[\"1\",1e0000000001]") ≡ Err LongNumber }
 {}
 

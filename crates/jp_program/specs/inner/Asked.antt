@@ -2,7 +2,6 @@
 use Rattle.std.specs.Prelude.{◌≡◌, ◌⊎◌, List, option_map}
 use Rattle.std.specs.Str.{chars}
 use Rattle.clap.specs.Walk.{Text, texts}
-use Rattle.jp_run.specs.Answered.{numbers_of}
 use Rattle.jp_run.specs.AskedTexts.{AreAcceptedIn}
 use Rattle.jp_run.specs.Prepared.{prepared_query}
 use Rattle.jp_run.specs.declared.fault.RunFault.{RunFault}
@@ -25,8 +24,8 @@ wanted_of w = record {
   cutting = w.settings.cutting;
   check = w.check;
   output = w.settings.output;
-  decimals = w.settings.decimals;
-  keeps_going = w.settings.keeps_going;
+  numbers = w.settings.numbers;
+  on_fault = w.settings.on_fault;
   explain = w.explain;
   exit_status = w.exit_status;
   workers = w.settings.workers;
@@ -36,7 +35,7 @@ wanted_of w = record {
 
 -- this is what was prepared of the wanted texts, by the wanted numbers
 abbrev pub IsPrepared : code.Wanted → Prepared → Type 0
-IsPrepared w p = AreAcceptedIn (numbers_of w.settings.decimals) (asked_in (wanted_of w)) (prepared_query p)
+IsPrepared w p = AreAcceptedIn w.settings.numbers (asked_in (wanted_of w)) (prepared_query p)
 
 -- what is asked for is what the words ask for
 abbrev pub IsAsked : List Text → Asked → Type 0

@@ -1,6 +1,7 @@
 -- A working file, which nobody has to believe: how a run ended, for private clauses alone.
-use Rattle.std.specs.Prelude.{◌≡◌, ℕ, ◌⊎◌, true, false, List, Option, Some}
+use Rattle.std.specs.Prelude.{◌≡◌, ℕ, ◌⊎◌, true, List, Option, Some}
 use Rattle.clap.specs.Walk.{Text}
+use Rattle.jp_answer.specs.declared.on_fault.OnFault.TheVariants.{Stop, KeepGoing}
 use Rattle.jp_run.specs.declared.fault.RunFault.{RunFault}
 use Rattle.jp_run.specs.declared.fault.RunFault.TheVariants.{Query, Filter, Document, Read, Write, Limit}
 use Rattle.jp_run.specs.declared.fault.RunFault.TheVariants.{Memory, Settings}
@@ -24,7 +25,7 @@ RunEnded w e Settings input old new = ⊥
 
 -- the run over files ended so at one of them, which is none that the answer goes on past, or behind them all
 abbrev pub FilesEnded : Wanted → Left → List Input → Course → RunFault → Type 0
-FilesEnded w e inputs c fault = ((w.keeps_going ≡ true → fault ≡ Read → ⊥)
+FilesEnded w e inputs c fault = ((w.on_fault ≡ KeepGoing → fault ≡ Read → ⊥)
     × EndsAt (IsWholeOrCut w) (RunEnded w e fault) inputs c)
     ⊎ ((fault ≡ Read) × HasGoneOn w e.source_failed inputs c)
 
@@ -35,7 +36,7 @@ EndsSo words Ended = (w : Wanted) × WantsRun words w × Ended w
 -- all ended so, or in want of memory before anything was done; another clause speaks of what is refused
 abbrev pub HasEnded : List Text → (Text → Held) → Held → Course → Left → Type 0 → RunFault → Type 0
 HasEnded words holds first c e Undone (Document line fault) = (w : Wanted) × WantsRun words w
-    × (w.keeps_going ≡ false)
+    × (w.on_fault ≡ Stop)
     × EndsIn (IsWholeOrCut w) (IsAnswered w (Some (line, fault))) w.files holds first c
 HasEnded words holds first c e Undone Read = EndsSo words (λ w. AreFailed w e holds first c)
 HasEnded words holds first c e Undone Write = EndsSo words (λ w. AreFailed w e holds first c)

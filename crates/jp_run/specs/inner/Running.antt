@@ -2,6 +2,7 @@
 -- clauses alone.
 use Rattle.std.specs.Prelude.{◌≡◌, ◌+◌, ◌≤◌, false, true, length, None, Result, IfOk, OnOk, IfErr, IfSome}
 use Rattle.std.specs.Io.KnownBytes.{IsAtEnd}
+use Rattle.jp_answer.specs.declared.on_fault.OnFault.TheVariants.{Stop}
 use Rattle.jp_run.specs.Answered.{passed_in}
 use Rattle.jp_run.specs.Begun.{AllSince}
 use Rattle.jp_run.specs.Cutting.{documents, part_count}
@@ -30,7 +31,7 @@ pub record HasRun {R G S K : Type 0} (going : Manner) (source : supply.Ghosts S)
       × (totals.documents ≡ length (documents job.settings.cutting input))))
   pub passed : IfOk result (λ totals. IfSome (source.remaining a)
       (λ input. totals.faulty ≡ passed_in job.settings (documents job.settings.cutting input)))
-  pub none_passed : job.settings.keeps_going ≡ false → IfOk result (λ totals. totals.faulty ≡ 0)
+  pub none_passed : job.settings.on_fault ≡ Stop → IfOk result (λ totals. totals.faulty ≡ 0)
   pub wrote : IfOk result (λ totals. IfSome (source.remaining a) (λ input. HasBytes going
       (job_query job) (documents job.settings.cutting input) totals.wrote))
   pub few_lines : IfOk result (λ totals. totals.lines ≤ max_lines)

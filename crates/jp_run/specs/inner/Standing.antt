@@ -4,7 +4,7 @@ use Rattle.std.specs.Prelude.{◌≡◌, ℕ, ◌+◌, ◌<◌, ◌≤◌, ◌�
 use Rattle.std.specs.Io.KnownBytes.{Consumes}
 use Rattle.jp_doc.specs.Feeding.{nothing_fed}
 use Rattle.jp_answer.specs.FilteredQuery.{FilteredQuery}
-use Rattle.jp_answer.specs.OnFault.{passed_in}
+use Rattle.jp_answer.specs.Policy.{passed_in}
 use Rattle.jp_run.specs.Manner.{Manner}
 use Rattle.jp_run.specs.Begun.{Begun}
 use Rattle.jp_run.specs.Cutting.{documents_in, fed, fed_lines}

@@ -3,7 +3,7 @@ use Rattle.std.specs.Prelude.{◌≡◌, Bool, ◌||◌, nat_lt, length, List}
 use Rattle.jp_doc.specs.Lines.{Line}
 use Rattle.jp_answer.specs.FilteredQuery.{FilteredQuery}
 use Rattle.jp_regexp.specs.Tests.{Tests, AreRight}
-use Rattle.jp_answer.specs.OnFault.{answer_by}
+use Rattle.jp_answer.specs.Answer.{answer_by}
 use Rattle.jp_run.specs.Manner.{Manner}
 
 -- so it is of the answer to these lines

@@ -1,11 +1,11 @@
-use Rattle.std.proofs.Common.{◌∙◌, sym, ap, inl, inr, arith, drop, map, drop_of_length-le}
+use Rattle.std.proofs.Common.{◌∙◌, ◌+◌, sym, ap, inl, inr, arith, drop, map, drop_of_length-le}
 use Rattle.jp_buffer.specs.Buffered.{line_at}
 use Rattle.std.proofs.lemmas.Grind.{common_steps}
 use Rattle.jp_answer.specs.Asking.{asked_query}
 use Rattle.jp_answer.specs.inner.Filtered.{filtered_query}
 use Rattle.jp_output.specs.Chunks.{bytes_in}
 use Rattle.jp_answer.proofs.OnFaults.{answer_more, answer_last, stop_more, stop_last, passed_more, passed_one}
-use Rattle.jp_answer.proofs.OnFaults.{passed_fits, answer_end}
+use Rattle.jp_answer.proofs.OnFaults.{passed_fits, answer_end, passes_none, passes_one}
 use Rattle.jp_answer.proofs.answering.answer_lines.Goals as goal
 
 pub loop-line-preserved-in_default : goal.loop-line-preserved-in_default
@@ -16,14 +16,15 @@ loop-line-preserved-in_default g c =
     let lines = c.args.lines.now in
     let kept = c.loop-line.invariant in
     let none = sym c.in_ok-more.ensures.fault ∙ c.in_default.is in
+    let passes_now = passes_none _ none in
     record {
       query = c.in_ok-more.ensures.query ∙ kept.query;
       form = λ t right. c.in_ok-more.ensures.form t right ∙ kept.form t right;
       answer = λ t right. answer_more k lines c.loop-line.line-index c.loop-line-test.true form
           (g.F.Form.form c.loop-line.written) t (asked_query c.args.asked.now)
           (filtered_query c.loop-line.tools.evaluator) (bytes c.loop-line.written)
-          (bytes c.in_ok-more.more) (kept.form t right) kept.query (kept.answer t right)
-          (c.in_ok-more.ensures.lines t right) (inr none);
+          (bytes c.in_ok-more.more) c.loop-line.faulty c.loop-line.faulty (kept.form t right) kept.query
+          (kept.answer t right) (c.in_ok-more.ensures.lines t right) (omega (arith, passes_now)) (inr none);
       stopped = stop_more k lines c.loop-line.line-index c.loop-line-test.true kept.stopped (inr none);
       passed = passed_more k lines c.loop-line.line-index c.loop-line-test.true c.loop-line.faulty kept.passed
           none;
@@ -35,7 +36,7 @@ returns-in-Stop-clause-answer g c = λ t right. answer_last
     (g.F.Form.says c.args.asked.now.head.now) (g.F.Form.form c.loop-line.written) t
     (asked_query c.args.asked.now) (filtered_query c.loop-line.tools.evaluator)
     (g.F.Form.written c.loop-line.written)
-    (bytes_in c.in_ok-into_chunks-in-Stop.field-0.items) c.in-Some.fault
+    (bytes_in c.in_ok-into_chunks-in-Stop.field-0.items) c.loop-line.faulty c.in-Some.fault
     (c.loop-line.invariant.form t right) c.loop-line.invariant.query (c.loop-line.invariant.answer t right)
     (c.in_ok-into_chunks-in-Stop.ensures ∙ c.in_ok-more.ensures.lines t right) c.in-Stop.is
     (sym c.in_ok-more.ensures.fault ∙ c.in-Some.is)
@@ -64,14 +65,16 @@ loop-line-preserved g c =
     let lines = c.args.lines.now in
     let kept = c.loop-line.invariant in
     let found = sym c.in_ok-more.ensures.fault ∙ c.in-Some.is in
+    let passes_now = passes_one _ c.in-Some.fault found in
     record {
       query = c.in_ok-more.ensures.query ∙ kept.query;
       form = λ t right. c.in_ok-more.ensures.form t right ∙ kept.form t right;
       answer = λ t right. answer_more k lines c.loop-line.line-index c.loop-line-test.true form
           (g.F.Form.form c.loop-line.written) t (asked_query c.args.asked.now)
           (filtered_query c.loop-line.tools.evaluator) (bytes c.loop-line.written)
-          (bytes c.in_ok-more.more) (kept.form t right) kept.query (kept.answer t right)
-          (c.in_ok-more.ensures.lines t right) (inl c.in-KeepGoing.is);
+          (bytes c.in_ok-more.more) c.loop-line.faulty (c.loop-line.faulty + 1) (kept.form t right) kept.query
+          (kept.answer t right) (c.in_ok-more.ensures.lines t right) (omega (arith, passes_now))
+          (inl c.in-KeepGoing.is);
       stopped = stop_more k lines c.loop-line.line-index c.loop-line-test.true kept.stopped
           (inl c.in-KeepGoing.is);
       passed = passed_one k lines c.loop-line.line-index c.loop-line-test.true c.loop-line.faulty
@@ -84,7 +87,7 @@ returns-clause-answer g c = λ t right. answer_end (g.F.Form.says c.args.asked.n
     (asked_query c.args.asked.now) (map line_at c.args.lines.now)
     (map line_at (drop c.loop-line.line-index c.args.lines.now))
     (g.F.Form.written c.loop-line.written)
-    (bytes_in c.in_ok-chunks.chunks.items)
+    (bytes_in c.in_ok-chunks.chunks.items) c.loop-line.faulty
     (ap (map line_at) (drop_of_length-le c.args.lines.now c.loop-line-test.false))
     (c.loop-line.invariant.answer t right) c.in_ok-chunks.ensures
 

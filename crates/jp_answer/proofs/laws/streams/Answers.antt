@@ -1,29 +1,13 @@
 use Rattle.std.proofs.Common.{◌++◌, ap, ◌∙◌}
-use Rattle.jp_answer.specs.Answer.{answer}
-use Rattle.jp_answer.specs.OnFault.{answer_by}
-use Rattle.jp_answer.specs.Whole.{whole}
+use Rattle.jp_answer.specs.Answer.{answer_by}
 use Rattle.jp_doc.specs.Lines.{lines, line_count}
-use Rattle.jp_doc.specs.ReadingIn.{whole_numbers}
-use Rattle.jp_output.specs.OutputForm.{node_lines}
 use Rattle.jp_answer.specs.Streams.{line_feeds}
-use Rattle.jp_answer.proofs.OnFaults.{formed_joined, whole_joined, nothing_in}
-use Rattle.jp_answer.proofs.Joining.{pieces_joined}
+use Rattle.jp_answer.proofs.OnFaults.{formed_joined, nothing_in}
 use Rattle.jp_answer.proofs.Streams.{lines_both, count_both, blocks_answered}
-use Rattle.jp_answer.specs.FilteredQuery.{unfiltered}
 use Rattle.jp_answer.proofs.laws.streams.Goals as goal
 
 pub returns-clause-answer : goal.returns-clause-answer
-returns-clause-answer c = λ t q a b h. ap (answer t q) (lines_both a b h)
-    ∙ pieces_joined node_lines t (unfiltered q) whole_numbers (lines a)
-    (lines (line_feeds (line_count a) ++ b))
-
-pub returns-clause-whole : goal.returns-clause-whole
-returns-clause-whole c = λ t q a b h. ap (whole t q) (lines_both a b h)
-    ∙ whole_joined whole_numbers node_lines t (unfiltered q) (lines a)
-    (lines (line_feeds (line_count a) ++ b))
-
-pub returns-clause-either : goal.returns-clause-either
-returns-clause-either c = λ f k t q a b h. ap (answer_by f k t q) (lines_both a b h)
+returns-clause-answer c = λ f k t q a b h. ap (answer_by f k t q) (lines_both a b h)
     ∙ formed_joined f t q k (lines a) (lines (line_feeds (line_count a) ++ b))
 
 pub returns-clause-blocks : goal.returns-clause-blocks

@@ -1,4 +1,4 @@
-use Rattle.std.proofs.Common.{◌∙◌, ◌++◌, ap, subst, sym}
+use Rattle.std.proofs.Common.{◌∙◌, ◌++◌, ap, refl, subst, sym}
 use Rattle.std.specs.Prelude.{string_bytes}
 use Rattle.std.specs.Str.{chars}
 use Rattle.clap.specs.Walk.{texts}
@@ -21,7 +21,7 @@ returns-in_ok-with_question-in-Query c = λ f w wants v.
 pub returns-in_default : goal.returns-in_default
 returns-in_default c = λ f w wants v.
     let told = verdict_so _ _ _ w f c.in-Query.is c.in_ok-wanted.ensures.asked wants v in
-    refused_in _ _ _ f c.numbers.ensures told
+    refused_in _ _ _ f refl told
     (rw c.in_default.is at c.in_ok-lines-in-Query.ensures.accepted)
 
 pub returns-in-Show : goal.returns-in-Show

@@ -2,6 +2,7 @@ use Rattle.std.proofs.Common.{◌≡◌, ◌∙◌, ◌<◌, [], true, false, No
 use Rattle.std.proofs.Common.{inl, inr, refl, ap, subst, sym}
 use Rattle.std.proofs.Common.{map}
 use Rattle.clap.specs.Walk.{texts}
+use Rattle.jp_answer.specs.declared.on_fault.OnFault.TheVariants.{KeepGoing}
 use Rattle.jp_run.proofs.Accepted.{none_refused, refusal_told, refused_so}
 use Rattle.jp_run.proofs.Handing.{at_ok}
 use Rattle.jp_run.proofs.Readings.{none_yet}
@@ -69,7 +70,7 @@ returns-in-Show-clause-window g c = λ w wants none. none_yet _ _ _ refl
 pub returns-in_err-prepared-in-Query-clause-refused :
     goal.returns-in_err-prepared-in-Query-clause-refused
 returns-in_err-prepared-in-Query-clause-refused g c = λ f w wants v. (
-  refused_so _ _ _ c.numbers-numbers.ensures f _ _ c.from_residual-in_err-prepared-in-Query.ensures.1
+  refused_so _ _ _ refl f _ _ c.from_residual-in_err-prepared-in-Query.ensures.1
       c.in_err-prepared-in-Query.ensures.fault
       (refused_wish _ _ _ w f c.in-Query.is c.in_ok-text.ensures.asked wants v),
   refl,
@@ -81,7 +82,7 @@ pub returns-in_err-prepared-in-Query-clause-query : goal.returns-in_err-prepared
 returns-in_err-prepared-in-Query-clause-query g c = λ f e two. (
   wanted_of c.in-Query.wanted,
   subst (IsAsked _) c.in-Query.is c.in_ok-text.ensures.asked,
-  refusal_told _ _ _ c.numbers-numbers.ensures f _ _ c.from_residual-in_err-prepared-in-Query.ensures.1
+  refusal_told _ _ _ refl f _ _ c.from_residual-in_err-prepared-in-Query.ensures.1
       c.in_err-prepared-in-Query.ensures.fault (no_memory f two) e,
   refl,
   refl,
@@ -100,7 +101,7 @@ pub returns-then-wanted-clause-finished : goal.returns-then-wanted-clause-finish
 returns-then-wanted-clause-finished g c = λ none. inr (inl (
   wanted_of c.in-Query.wanted,
   (subst (IsAsked _) c.in-Query.is c.in_ok-text.ensures.asked, c.if-wanted.true),
-  taken_by _ (wanted_of c.in-Query.wanted) c.numbers-numbers.ensures
+  taken_by _ (wanted_of c.in-Query.wanted) refl
       (_, c.in_ok-prepared-in-Query.ensures.ok),
   refl,
   refl,
@@ -122,13 +123,13 @@ returns-then-wanted-clause-nothing g c = λ w wants.
 pub returns-then-wanted-clause-refused : goal.returns-then-wanted-clause-refused
 returns-then-wanted-clause-refused g c = λ f w wants v.
     let taken = c.in_ok-prepared-in-Query.ensures.ok in
-    none_refused _ _ _ c.numbers-numbers.ensures _ f taken
+    none_refused _ _ _ refl _ f taken
     (refused_wish _ _ _ w f c.in-Query.is c.in_ok-text.ensures.asked wants v)
 
 pub returns-then-wanted-clause-unnoted : goal.returns-then-wanted-clause-unnoted
 returns-then-wanted-clause-unnoted g c = λ f w wants v.
     let taken = c.in_ok-prepared-in-Query.ensures.ok in
-    none_refused _ _ _ c.numbers-numbers.ensures _ f taken
+    none_refused _ _ _ refl _ f taken
     (refused_wish _ _ _ w f c.in-Query.is c.in_ok-text.ensures.asked wants v)
 
 pub returns-then-wanted-clause-prompt : goal.returns-then-wanted-clause-prompt
@@ -141,7 +142,7 @@ returns-then-wanted-clause-window g c = λ w wants none. none_yet _ _ _ refl
 
 pub run_named-requires-clause-taken : goal.run_named-requires-clause-taken
 run_named-requires-clause-taken g c κs outlives =
-    prepared_by _ (wanted_of c.in-Query.wanted) _ c.numbers-numbers.ensures
+    prepared_by _ (wanted_of c.in-Query.wanted) _ refl
     c.in_ok-prepared-in-Query.ensures.ok
 
 pub returns-then-is_alone-clause-finished : goal.returns-then-is_alone-clause-finished
@@ -216,7 +217,7 @@ returns-then-is_alone-clause-something g c = λ w wants.
 pub returns-then-is_alone-clause-refused : goal.returns-then-is_alone-clause-refused
 returns-then-is_alone-clause-refused g c = λ f w wants v.
     let taken = c.in_ok-prepared-in-Query.ensures.ok in
-    none_refused _ _ _ c.numbers-numbers.ensures _ f taken
+    none_refused _ _ _ refl _ f taken
     (refused_wish _ _ _ w f c.in-Query.is c.in_ok-text.ensures.asked wants v)
 
 pub returns-then-is_alone-clause-check : goal.returns-then-is_alone-clause-check
@@ -271,14 +272,14 @@ returns-then-is_alone-clause-window g c = λ w wants none.
 pub returns-then-is_alone-clause-unnoted : goal.returns-then-is_alone-clause-unnoted
 returns-then-is_alone-clause-unnoted g c = λ f w wants v.
     let taken = c.in_ok-prepared-in-Query.ensures.ok in
-    none_refused _ _ _ c.numbers-numbers.ensures _ f taken
+    none_refused _ _ _ refl _ f taken
     (refused_wish _ _ _ w f c.in-Query.is c.in_ok-text.ensures.asked wants v)
 
 -- a run over files
 
 pub answer_files-requires-clause-taken : goal.answer_files-requires-clause-taken
 answer_files-requires-clause-taken g c κs outlives =
-    prepared_by _ (wanted_of c.in-Query.wanted) _ c.numbers-numbers.ensures
+    prepared_by _ (wanted_of c.in-Query.wanted) _ refl
     c.in_ok-prepared-in-Query.ensures.ok
 
 pub returns-else-is_alone-clause-finished : goal.returns-else-is_alone-clause-finished
@@ -298,7 +299,7 @@ returns-else-is_alone-clause-finished g c =
     (λ x. EachInTurn (IsAnswered x None) (inputs_of x.files holds first) old new)
     (λ x. AreOpened x opens (g.I.Inputs.opens c.answer_files.new.inputs) broken
     (g.I.Inputs.broken c.answer_files.new.inputs)) _ _ _ _ _ _ r
-    (at_ok r (taken_by _ w c.numbers-numbers.ensures (_, c.in_ok-prepared-in-Query.ensures.ok)))
+    (at_ok r (taken_by _ w refl (_, c.in_ok-prepared-in-Query.ensures.ok)))
     (finished_files w some holds first r old new (subst (λ ns. IfOk r (λ totals. totals.faulty ≡ 0
     → EachInTurn (IsAnswered w None) (map (named holds) (texts ns)) old new))
     c.as_slice-names.ensures.value said.finished))
@@ -324,7 +325,7 @@ returns-else-is_alone-clause-past g c =
     (λ x. AreOpened x opens (g.I.Inputs.opens c.answer_files.new.inputs) broken
     (g.I.Inputs.broken c.answer_files.new.inputs)) _ _ _ _ r
     (past_files w some holds first r old new (subst (λ ns. IfOk r (λ totals. 0 < totals.faulty
-    → (w.keeps_going ≡ true) × ArePassed w (map (named holds) (texts ns)) old new))
+    → (w.on_fault ≡ KeepGoing) × ArePassed w (map (named holds) (texts ns)) old new))
     c.as_slice-names.ensures.value said.past))
     (opened_files r w c.as_slice-names.result.now opens _ broken _
     (ap texts (sym c.as_slice-names.ensures.value)) said.opens said.broken)
@@ -375,13 +376,13 @@ returns-else-is_alone-clause-something g c = λ w wants.
 pub returns-else-is_alone-clause-refused : goal.returns-else-is_alone-clause-refused
 returns-else-is_alone-clause-refused g c = λ f w wants v.
     let taken = c.in_ok-prepared-in-Query.ensures.ok in
-    none_refused _ _ _ c.numbers-numbers.ensures _ f taken
+    none_refused _ _ _ refl _ f taken
     (refused_wish _ _ _ w f c.in-Query.is c.in_ok-text.ensures.asked wants v)
 
 pub returns-else-is_alone-clause-unnoted : goal.returns-else-is_alone-clause-unnoted
 returns-else-is_alone-clause-unnoted g c = λ f w wants v.
     let taken = c.in_ok-prepared-in-Query.ensures.ok in
-    none_refused _ _ _ c.numbers-numbers.ensures _ f taken
+    none_refused _ _ _ refl _ f taken
     (refused_wish _ _ _ w f c.in-Query.is c.in_ok-text.ensures.asked wants v)
 
 pub returns-else-is_alone-clause-check : goal.returns-else-is_alone-clause-check
@@ -408,12 +409,12 @@ returns-else-is_alone-clause-query g c = λ f e two.
     } in
     let given = map (named (g.I.Inputs.holds c.args.inputs.now)) (texts c.as_slice-names.result.now) in
     let taken = c.in_ok-prepared-in-Query.ensures.ok in
-    none_refused _ _ _ c.numbers-numbers.ensures _ f taken (query_ended w left given course f two
+    none_refused _ _ _ refl _ f taken (query_ended w left given course f two
     (at_fault c.answer_files.result f (FilesEnded w left given course) e c.answer_files.ensures.fault))
 
 pub returns-else-is_alone-clause-unbroken : goal.returns-else-is_alone-clause-unbroken
 returns-else-is_alone-clause-unbroken g c = λ w wants off. c.answer_files.ensures.unbroken
-    (sym (ap (λ (x : Wanted). x.keeps_going)
+    (sym (ap (λ (x : Wanted). x.on_fault)
     (asked_is _ _ _ w c.in-Query.is c.in_ok-text.ensures.asked wants.0)) ∙ off)
 
 pub returns-else-is_alone-clause-fault : goal.returns-else-is_alone-clause-fault

@@ -2,8 +2,8 @@ use Rattle.std.proofs.Common.{◌∙◌, codes, option_map, ap, sym, refl, subst
 use Rattle.std.specs.Str.{chars}
 use Rattle.clap.specs.Words.{found_of, rows_of, first_value}
 use Rattle.clap.proofs.WalkLemmas.{first_value-rows}
-use Rattle.jp_program.specs.Wanted.{SaysCutting, SaysFilter, SaysFlag, SaysNames, SaysOutput}
-use Rattle.jp_program.proofs.Saying.{cutting_said, filter_said, query_some, query_none, sizes_kept}
+use Rattle.jp_program.specs.Wanted.{SaysCutting, SaysFilter, SaysNames, SaysNumbers, SaysOnFault, SaysOutput}
+use Rattle.jp_program.proofs.Saying.{filter_said, flag_said, query_some, query_none, sizes_kept}
 use Rattle.jp_program.proofs.command_line.wanted_of_files.Goals as goal
 
 pub returns-in_err-query-clause-none : goal.returns-in_err-query-clause-none
@@ -36,16 +36,17 @@ returns-clause-some c =
       files = c.requires.said;
       names = c.in_ok-names.ensures.some;
       cutting = subst (SaysCutting (rows_of found)) (sym (kept.7 ∙ c.in_ok-settings.ensures.cutting))
-          (cutting_said (rows_of found) _ _ c.in_ok-documents.ensures.some c.cutting_of.ensures);
+          (flag_said (codes "documents") (rows_of found) _ _ c.in_ok-documents.ensures.some
+          c.cutting_of.ensures);
       check = c.in_ok-check.ensures.some;
       output = subst (SaysOutput (rows_of found)) (sym (kept.5 ∙ c.in_ok-settings.ensures.form))
           c.in_ok-output.ensures.some;
-      decimals = subst (SaysFlag (codes "decimals") (rows_of found))
-          (sym (kept.4 ∙ c.in_ok-settings.ensures.decimals))
-          c.in_ok-decimals.ensures.some;
-      keeps_going = subst (SaysFlag (codes "keep-going") (rows_of found))
-          (sym (kept.3 ∙ c.in_ok-settings.ensures.going))
-          c.in_ok-keep_going.ensures.some;
+      numbers = subst (SaysNumbers (rows_of found)) (sym (kept.4 ∙ c.in_ok-settings.ensures.numbers))
+          (flag_said (codes "decimals") (rows_of found) _ _ c.in_ok-decimals.ensures.some
+          c.numbers_for.ensures);
+      on_fault = subst (SaysOnFault (rows_of found)) (sym (kept.3 ∙ c.in_ok-settings.ensures.on_fault))
+          (flag_said (codes "keep-going") (rows_of found) _ _ c.in_ok-keep_going.ensures.some
+          c.on_fault_for.ensures);
       explain = c.in_ok-explain.ensures.some;
       exit_status = c.in_ok-exit_status.ensures.some;
       settings = sizes_kept (rows_of found) _ _ _ _ _ _ kept.0 kept.1 kept.2 c.in_ok-settings.ensures.some;

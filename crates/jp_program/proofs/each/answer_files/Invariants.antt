@@ -1,6 +1,7 @@
 use Rattle.std.proofs.Common.{◌≡◌, ◌<◌, ℕ, List, Option, true, false, None, take, map}
 use Rattle.std.specs.Io.KnownBytes.{IsAtEnd}
 use Rattle.clap.specs.Walk.{texts}
+use Rattle.jp_answer.specs.declared.on_fault.OnFault.TheVariants.{Stop, KeepGoing}
 use Rattle.jp_run.specs.Counts.{counted}
 use Rattle.jp_program.specs.inner.Asked.{wanted_of}
 use Rattle.jp_program.specs.Inputs.{EachInTurn, Input, counted_if, named}
@@ -24,12 +25,12 @@ invariant-loop-name g l =
           (counted_if (g.S.Supply.failed l.source) (g.I.Inputs.broken l.inputs)) l.seen.has_failed;
       source : l.seen.has_failed ≡ false → g.S.Supply.failed l.source ≡ false;
       working : g.K.Sink.failed l.sink ≡ false;
-      none_failed : w.keeps_going ≡ false → l.seen.has_failed ≡ false;
-      passes : l.seen.has_failed ≡ false → w.keeps_going ≡ true
+      none_failed : w.on_fault ≡ Stop → l.seen.has_failed ≡ false;
+      passes : l.seen.has_failed ≡ false → w.on_fault ≡ KeepGoing
           → EachInTurn (Passes w) done (old, 0) (now, l.seen.totals.faulty);
       finished : l.seen.has_failed ≡ false → l.seen.totals.faulty ≡ 0
           → EachInTurn (IsAnswered w None) done old now;
-      none_passed : w.keeps_going ≡ false → l.seen.totals.faulty ≡ 0;
+      none_passed : w.on_fault ≡ Stop → l.seen.totals.faulty ≡ 0;
       nothing : l.seen.has_failed ≡ false → l.seen.totals.wrote ≡ false → AreEmptyAnswers w done;
       something : l.seen.has_failed ≡ false → l.seen.totals.wrote ≡ true → AreKnownEmptyAnswers w done → ⊥;
       end : l.seen.has_failed ≡ false → 0 < l.name-index → IsAtEnd (g.S.Supply.remaining l.source);

@@ -3,9 +3,10 @@ use Rattle.std.proofs.Common.{arith, ap, subst, sym, codes}
 use Rattle.std.specs.Io.KnownBytes.{Appends}
 use Rattle.jp_regexp.specs.Tests.{Tests, AreRight}
 use Rattle.jp_answer.specs.FilteredQuery.{FilteredQuery}
-use Rattle.jp_answer.specs.Policy.{numbers_in}
-use Rattle.jp_answer.specs.Whole.{Whole, whole_as}
-use Rattle.jp_run.specs.Answered.{numbers_of}
+use Rattle.jp_answer.specs.Answer.{Answer, answer_by}
+use Rattle.jp_answer.specs.Policy.{policy}
+use Rattle.jp_answer.specs.declared.on_fault.OnFault.{OnFault}
+use Rattle.jp_answer.specs.declared.on_fault.OnFault.TheVariants.{KeepGoing}
 use Rattle.jp_run.specs.AskedTexts.{AreAcceptedIn}
 use Rattle.jp_run.specs.Cutting.{documents}
 use Rattle.jp_program.specs.Inputs.{Course, EndsIn, Held, Input, Standing, named, standard}
@@ -47,9 +48,9 @@ returns-clause-front c = λ w holds first course h. h
 
 passed_by : (w : Wanted) (first old new : Option (List ℕ)) (n : ℕ) → 0 < n
     → Passes w (standard first) (old, 0) (new, n)
-    → IfSome first (λ bytes. (q : FilteredQuery) × AreAcceptedIn (numbers_of w.decimals) (asked_in w) q
-    × (x : Whole)
-    × ((t : Tests) → AreRight t → whole_as (numbers_in (numbers_of w.decimals)) (form_for w (codes "-")) t q
+    → IfSome first (λ bytes. (q : FilteredQuery) × AreAcceptedIn w.numbers (asked_in w) q
+    × (x : Answer)
+    × ((t : Tests) → AreRight t → answer_by (form_for w (codes "-")) (policy w.numbers KeepGoing) t q
     (documents w.cutting bytes) ≡ x) × (0 < x.faulty) × Appends old new x.bytes)
 passed_by w None old new n some h = tt
 passed_by w (Some bytes) old new n some h = (h.0, h.1, h.2, h.3, omega (arith, h.4, some), h.5)
@@ -59,4 +60,4 @@ returns-clause-passed c = λ w holds first old new h. passed_by w first old new 
 
 pub returns-clause-whole : goal.returns-clause-whole
 returns-clause-whole c = λ w input old new off h.
-    subst (λ g. IsToldIn g w None input old new) off h
+    subst (λ (g : OnFault). IsToldIn g w None input old new) off h

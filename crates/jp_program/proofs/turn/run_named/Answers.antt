@@ -1,5 +1,5 @@
 use Rattle.std.proofs.Common.{◌≡◌, ◌∙◌, Some, None, IfOk, OnOk, OnErr, IfSome, subst}
-use Rattle.jp_answer.specs.OnFault.{passed_in}
+use Rattle.jp_answer.specs.Policy.{passed_in}
 use Rattle.jp_run.specs.Begun.{AllSince}
 use Rattle.jp_run.specs.Cutting.{documents}
 use Rattle.jp_run.specs.Limits.{window}
@@ -24,7 +24,7 @@ returns-clause-whole g c =
     let old = g.K.Sink.contents c.args.sink.now in
     let new = g.K.Sink.contents c.run.new.sink in
     let settings = c.settings_for-settings.ensures in
-    let ran = c.run.ensures.ran asked (accepted_so settings.decimals c.requires.taken) in
+    let ran = c.run.ensures.ran asked (accepted_so settings.numbers c.requires.taken) in
     subst (λ (m : Manner). OnOk c.run.result (ToldBy m asked None rest old new)) settings.manner ran.answer
 
 pub returns-clause-finished : goal.returns-clause-finished
@@ -36,7 +36,7 @@ returns-clause-finished g c =
     let old = g.K.Sink.contents c.args.sink.now in
     let new = g.K.Sink.contents c.run.new.sink in
     let settings = c.settings_for-settings.ensures in
-    let ran = c.run.ensures.ran asked (accepted_so settings.decimals c.requires.taken) in
+    let ran = c.run.ensures.ran asked (accepted_so settings.numbers c.requires.taken) in
     finished_ok w input old new c.run.result
     (subst (λ (m : Manner). OnOk c.run.result (ToldBy m asked None rest old new)) settings.manner ran.answer)
     (subst (λ (m : Manner). IfOk c.run.result (λ totals. IfSome rest (λ bytes. totals.faulty
@@ -51,7 +51,7 @@ returns-clause-passes g c =
     let old = g.K.Sink.contents c.args.sink.now in
     let new = g.K.Sink.contents c.run.new.sink in
     let settings = c.settings_for-settings.ensures in
-    let ran = c.run.ensures.ran asked (accepted_so settings.decimals c.requires.taken) in
+    let ran = c.run.ensures.ran asked (accepted_so settings.numbers c.requires.taken) in
     λ on. passes_ok w input old new on c.run.result
     (subst (λ (m : Manner). OnOk c.run.result (ToldBy m asked None rest old new)) settings.manner ran.answer)
     (subst (λ (m : Manner). IfOk c.run.result (λ totals. IfSome rest (λ bytes. totals.faulty
@@ -63,7 +63,7 @@ returns-clause-nothing g c =
     let asked = asked_in w in
     let rest = g.S.Supply.remaining c.args.source.now in
     let settings = c.settings_for-settings.ensures in
-    let ran = c.run.ensures.ran asked (accepted_so settings.decimals c.requires.taken) in
+    let ran = c.run.ensures.ran asked (accepted_so settings.numbers c.requires.taken) in
     nothing_ok w (c.args.name.now, rest) c.run.result
     (subst (λ (m : Manner). IfOk c.run.result (λ totals. WroteBy m asked rest totals.wrote)) settings.manner
     ran.wrote)
@@ -74,7 +74,7 @@ returns-clause-something g c =
     let asked = asked_in w in
     let rest = g.S.Supply.remaining c.args.source.now in
     let settings = c.settings_for-settings.ensures in
-    let ran = c.run.ensures.ran asked (accepted_so settings.decimals c.requires.taken) in
+    let ran = c.run.ensures.ran asked (accepted_so settings.numbers c.requires.taken) in
     something_ok w (c.args.name.now, rest) c.run.result
     (subst (λ (m : Manner). IfOk c.run.result (λ totals. WroteBy m asked rest totals.wrote)) settings.manner
     ran.wrote)
@@ -83,7 +83,7 @@ pub returns-clause-query : goal.returns-clause-query
 returns-clause-query g c =
     let asked = asked_in (wanted_of c.args.search.now.wanted.now) in
     let settings = c.settings_for-settings.ensures in
-    (c.run.ensures.ran asked (accepted_so settings.decimals c.requires.taken)).taken
+    (c.run.ensures.ran asked (accepted_so settings.numbers c.requires.taken)).taken
 
 pub returns-clause-prompt : goal.returns-clause-prompt
 returns-clause-prompt g c =
@@ -91,7 +91,7 @@ returns-clause-prompt g c =
     let rest = g.S.Supply.remaining c.args.source.now in
     let old = g.K.Sink.contents c.args.sink.now in
     let settings = c.settings_for-settings.ensures in
-    let ran = c.run.ensures.ran asked (accepted_so settings.decimals c.requires.taken) in
+    let ran = c.run.ensures.ran asked (accepted_so settings.numbers c.requires.taken) in
     subst (λ (m : Manner). AllSince (g.S.Supply.begun c.args.source.now)
     (g.S.Supply.begun c.run.new.source) (IsPrompt m asked rest old)) settings.manner ran.prompt
 
@@ -101,7 +101,7 @@ returns-clause-window g c =
     let rest = g.S.Supply.remaining c.args.source.now in
     let old = g.K.Sink.contents c.args.sink.now in
     let settings = c.settings_for-settings.ensures in
-    let ran = c.run.ensures.ran asked (accepted_so settings.decimals c.requires.taken) in
+    let ran = c.run.ensures.ran asked (accepted_so settings.numbers c.requires.taken) in
     subst (λ (m : Manner). AllSince (g.S.Supply.begun c.args.source.now)
     (g.S.Supply.begun c.run.new.source) (IsNear window m asked rest old)) settings.manner ran.window
 
@@ -115,7 +115,7 @@ returns-clause-fault g c =
     let new = g.K.Sink.contents c.run.new.sink in
     let settings = c.settings_for-settings.ensures in
     let is = settings.manner in
-    let ran = c.run.ensures.ran asked (accepted_so settings.decimals c.requires.taken) in
+    let ran = c.run.ensures.ran asked (accepted_so settings.numbers c.requires.taken) in
     let e : Left = record {
       rest = g.S.Supply.remaining c.run.new.source;
       reads = g.S.Supply.reads c.args.source.now;
@@ -125,7 +125,7 @@ returns-clause-fault g c =
     } in
     run_ended w e input old new c.run.result
     (λ f told two. absurd (ran.taken f told two))
-    (λ on. ran.goes_on (settings.going ∙ on))
+    (λ on. ran.goes_on (settings.on_fault ∙ on))
     (λ line fault told. subst (λ (m : Manner). ToldBy m asked (Some (line, fault)) rest old new) is
     (ran.document line fault told))
     (λ told. subst (λ (m : Manner). CutBy m asked e.source_failed rest e.rest old new) is (ran.read told))
@@ -138,36 +138,36 @@ pub returns-clause-none_passed : goal.returns-clause-none_passed
 returns-clause-none_passed g c = λ off.
     let asked = asked_in (wanted_of c.args.search.now.wanted.now) in
     let settings = c.settings_for-settings.ensures in
-    (c.run.ensures.ran asked (accepted_so settings.decimals c.requires.taken)).none_passed
-    (settings.going ∙ off)
+    (c.run.ensures.ran asked (accepted_so settings.numbers c.requires.taken)).none_passed
+    (settings.on_fault ∙ off)
 
 pub returns-clause-goes_on : goal.returns-clause-goes_on
 returns-clause-goes_on g c = λ on.
     let asked = asked_in (wanted_of c.args.search.now.wanted.now) in
     let settings = c.settings_for-settings.ensures in
-    (c.run.ensures.ran asked (accepted_so settings.decimals c.requires.taken)).goes_on
-    (settings.going ∙ on)
+    (c.run.ensures.ran asked (accepted_so settings.numbers c.requires.taken)).goes_on
+    (settings.on_fault ∙ on)
 
 pub returns-clause-end : goal.returns-clause-end
 returns-clause-end g c =
     let asked = asked_in (wanted_of c.args.search.now.wanted.now) in
     let settings = c.settings_for-settings.ensures in
-    (c.run.ensures.ran asked (accepted_so settings.decimals c.requires.taken)).end
+    (c.run.ensures.ran asked (accepted_so settings.numbers c.requires.taken)).end
 
 pub returns-clause-flushed : goal.returns-clause-flushed
 returns-clause-flushed g c =
     let asked = asked_in (wanted_of c.args.search.now.wanted.now) in
     let settings = c.settings_for-settings.ensures in
-    (c.run.ensures.ran asked (accepted_so settings.decimals c.requires.taken)).flushed
+    (c.run.ensures.ran asked (accepted_so settings.numbers c.requires.taken)).flushed
 
 pub returns-clause-still_working : goal.returns-clause-still_working
 returns-clause-still_working g c =
     let asked = asked_in (wanted_of c.args.search.now.wanted.now) in
     let settings = c.settings_for-settings.ensures in
-    (c.run.ensures.ran asked (accepted_so settings.decimals c.requires.taken)).still_working
+    (c.run.ensures.ran asked (accepted_so settings.numbers c.requires.taken)).still_working
 
 pub returns-clause-settings : goal.returns-clause-settings
 returns-clause-settings g c =
     let asked = asked_in (wanted_of c.args.search.now.wanted.now) in
     let settings = c.settings_for-settings.ensures in
-    (c.run.ensures.ran asked (accepted_so settings.decimals c.requires.taken)).settings_fine
+    (c.run.ensures.ran asked (accepted_so settings.numbers c.requires.taken)).settings_fine

@@ -5,7 +5,7 @@ use Rattle.std.proofs.lemmas.List.{take-map, drop-map, length-map}
 use Rattle.jp_buffer.specs.Buffered.{line_at}
 use Rattle.jp_buffer.specs.declared.line_ref.LineRef as code
 use Rattle.jp_doc.specs.Lines.{Line}
-use Rattle.jp_answer.specs.OnFault.{passed_in}
+use Rattle.jp_answer.specs.Policy.{passed_in}
 use Rattle.jp_answer.proofs.OnFaults.{passed_joined, passed_few, passed_none}
 use Rattle.jp_run.specs.Answered.{manner_in}
 use Rattle.jp_run.specs.Handed.{Handed}

@@ -1,4 +1,5 @@
-use Rattle.std.proofs.Common.{ℕ, List, map, ap, sym, ◌∙◌}
+use Rattle.std.proofs.Common.{ℕ, List, map, ap, ap₂, sym, ◌∙◌}
+use Rattle.jp_number.specs.declared.numbers.Numbers.TheVariants.{Whole}
 use Rattle.jp_doc.specs.Lines.{Line}
 use Rattle.jp_buffer.specs.Buffered.{line_at}
 use Rattle.jp_tree.specs.Tree.{Query}
@@ -6,7 +7,10 @@ use Rattle.jp_check.specs.Plan.{planned_query}
 use Rattle.jp_compiled.specs.Compiled.{compiled_query}
 use Rattle.jp_answer.specs.Answer.{answer as answer_to}
 use Rattle.jp_answer.specs.Answered.{outcome_of}
+use Rattle.jp_answer.specs.Policy.{passed_in}
 use Rattle.jp_answer.specs.declared.on_fault.OnFault.TheVariants.{Stop}
+use Rattle.jp_answer.specs.declared.policy.LinePolicy.{LinePolicy}
+use Rattle.jp_answer.proofs.Joining.{none_before}
 use Rattle.jp_run.proofs.AskedOf.{asked_so}
 use Rattle.jp_run.proofs.answers.answer.Goals as goal
 
@@ -21,4 +25,7 @@ returns-clause-answer g c = λ t right.
     c.asked_of-asked.ensures.query c.asked_of-asked.ensures.head c.asked_of-asked.ensures.policy
     c.none-head.ensures
     ∙ c.in_ok-answer.ensures.answer t right
-    ∙ ap (λ (bs : List ℕ). record { bytes = bs; stopped = stopped }) (sym c.in_ok-join_chunks.ensures)
+    ∙ ap₂ (λ (bs : List ℕ) (n : ℕ). record { bytes = bs; stopped = stopped; faulty = n })
+    (sym c.in_ok-join_chunks.ensures)
+    (sym c.in_ok-answer.ensures.passed
+    ∙ ap (λ (p : LinePolicy). passed_in p lines) c.asked_of-asked.ensures.policy ∙ none_before Whole lines)

@@ -1,7 +1,6 @@
 use Rattle.std.proofs.Common.{◌∙◌}
 use Rattle.jp_run.specs.Cutting.{documents}
 use Rattle.jp_answer.proofs.Decimals.{same_answer}
-use Rattle.jp_run.specs.Answered.{on_fault_of}
 use Rattle.jp_run.specs.Forms.{form_of}
 use Rattle.jp_run.proofs.Accepted.{with_decimals}
 use Rattle.jp_run.proofs.laws.same_with_decimals.Goals as goal
@@ -10,6 +9,5 @@ pub returns : goal.returns
 returns c = λ cutting output head k asked input a none h. (
   h.0,
   with_decimals asked h.0 h.1,
-  λ t right. same_answer (form_of output head) t h.0 (on_fault_of k) (documents cutting input) none
-      ∙ h.2 t right,
+  λ t right. same_answer (form_of output head) t h.0 k (documents cutting input) none ∙ h.2 t right,
 )

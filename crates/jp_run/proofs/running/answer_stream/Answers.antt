@@ -1,10 +1,11 @@
 use Rattle.std.proofs.KnownBytes.{Keeps-refl}
 use Rattle.std.proofs.Common.{◌+◌, ap, arith, inl, refl, rules, subst}
+use Rattle.jp_run.specs.Cutting.{documents_in}
 use Rattle.jp_run.specs.Limits.{max_lines}
 use Rattle.jp_run.specs.inner.Input.{Input}
 use Rattle.jp_run.specs.inner.Turning.{CameSo}
 use Rattle.jp_run.proofs.Ending.{stands_front, failure_ended, rest_ok, totals_ok, faulty_ok, wrote_ok}
-use Rattle.jp_run.proofs.Ending.{rest_ended}
+use Rattle.jp_run.proofs.Ending.{none_ok, rest_ended}
 use Rattle.jp_run.proofs.Handing.{told_so}
 use Rattle.jp_run.proofs.Readings.{none_yet}
 use Rattle.jp_run.proofs.Runs.{not_run}
@@ -66,6 +67,7 @@ returns-in-End g c =
     let done = c.in_ok-turn.ensures.turned.stands _ _ inv.stands in
     let end = subst (CameSo _ _) c.in-End.is c.in_ok-turn.ensures.turned.came in
     let rest = c.answer_rest.ensures in
+    let settings = c.args.job.now.settings in
     record {
       ran = record {
         handed = rest_ok _ _ _ _ _ _ _ _ done end.1 c.answer_rest.result rest.handed;
@@ -73,7 +75,8 @@ returns-in-End g c =
             c.answer_rest.result rest.lines rest.documents;
         passed = faulty_ok _ _ _ _ _ _ (g.K.Sink.contents c.answer_rest.new.sink) _ done end.1
             c.answer_rest.result rest.passed;
-        none_passed = search rules;
+        none_passed = none_ok settings.on_fault settings.numbers (documents_in settings.cutting done.front) _ _
+            c.answer_rest.result done.faulty rest.passed;
         wrote = wrote_ok _ _ _ _ _ _ (g.K.Sink.contents c.answer_rest.new.sink) _ done end.1
             c.answer_rest.result rest.wrote;
         few_lines = search rules;

@@ -1,5 +1,8 @@
-use Rattle.std.proofs.Common.{rules}
+use Rattle.std.proofs.Common.{rules, ap, ap₂, ◌∙◌}
+use Rattle.jp_answer.specs.Asking.{asked_query}
+use Rattle.jp_answer.specs.declared.asked.Asked.{Asked}
 use Rattle.jp_run.specs.Answered.{manner_in}
+use Rattle.jp_run.specs.Manner.{manner}
 use Rattle.jp_run.proofs.Ending.{stands_front}
 use Rattle.jp_run.proofs.Handing.{told}
 use Rattle.jp_run.specs.inner.Jobs.{job_query}
@@ -20,4 +23,19 @@ returns-in_err-ring-clause-turned g c =
       fault = told _ _ _ c.from_residual.ensures.1 (λ old sink reads_old reads_new failed h.
           stands_front going q old (g.S.Supply.remaining c.args.source.now) sink
           (g.K.Sink.contents c.args.sink.now) c.args.stream.now h);
+    }
+
+-- what is asked of the blocks is what the run is to answer
+pub answer_beside-requires-clause-unused : goal.answer_beside-requires-clause-unused
+answer_beside-requires-clause-unused g c κs within =
+    let cutting = c.args.job.now.settings.cutting in
+    record {
+      none = c.new-out.ensures.none;
+      bytes = c.new-out.ensures.bytes;
+      asks = (
+        ap asked_query c.new-out.ensures.asked ∙ c.asked.ensures.query,
+        ap (λ (a : Asked). manner cutting (g.F.Form.says a.head.now) a.policy) c.new-out.ensures.asked
+            ∙ ap₂ (λ head policy. manner cutting (g.F.Form.says head) policy) c.asked.ensures.head
+            c.asked.ensures.policy,
+      );
     }

@@ -3,7 +3,7 @@ use Rattle.jp_flat.specs.Flat.{value_at}
 use Rattle.jp_flat.specs.Value.{tokens_of, number_in}
 use Rattle.jp_flat.proofs.Fit.{own_text}
 use Rattle.jp_flat.proofs.Shapes.{Tells, node_tells, no_number, number_is_fit}
-use Rattle.jp_number.specs.Profile.{number_text}
+use Rattle.jp_number.specs.Number.{number_text}
 use Rattle.jp_flat.proofs.value.FlatValue.digits.Goals as goal
 
 pub returns-in-Number : goal.returns-in-Number
