@@ -9,6 +9,7 @@ pub mod Filtering
 pub mod Idle
 pub mod WalkSteps
 pub mod OneNode
+pub mod RouteSteps
 pub mod CompiledParts
 pub mod Uniformity
 pub mod Answered

@@ -33,7 +33,7 @@ pub one_item : (n : Node) (o : Option ℕ) (p : ℕ) (r : Option Json) → o ≡
 one_item n o p None is e = none_at n o p is e
 one_item n o p (Some v) is e = (n.location ++ index p ∷ [], one_at n o p v is e)
 
-one_is : (xs : List Selector) (x : Selector) → 1 ≤ length xs → length xs < 2 → x ≡ get_or xs 0 x
+pub one_is : (xs : List Selector) (x : Selector) → 1 ≤ length xs → length xs < 2 → x ≡ get_or xs 0 x
     → xs ≡ x ∷ []
 one_is [] x low high is = absurd (omega arith)
 one_is (y ∷ []) x low high is = ap (λ z. z ∷ []) (sym is)

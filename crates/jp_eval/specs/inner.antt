@@ -6,3 +6,4 @@ pub mod Rooted
 pub mod Walk
 pub mod Finding
 pub mod OneNode
+pub mod Routes

@@ -1,16 +1,19 @@
 //! The nodes that a query selects, document after document.
 
-ghost use Rattle.std.specs.Prelude.{◌≡◌, [], IfOk};
+ghost use Rattle.std.specs.Prelude.{◌≡◌, [], true, false, IfOk};
 ghost use Rattle.std.specs.List.{fold};
 ghost use Rattle.jp_compiled.specs.Compiled.{compiled_query};
 ghost use Rattle.jp_doc.specs.Document.{document_value};
+ghost use Rattle.jp_compiled.specs.Parts.{roots_of, segments_in};
 ghost use Rattle.jp_eval.specs.Nodelist.{document_nodes};
+ghost use Rattle.jp_eval.specs.inner.Routes.{is_routed};
 ghost use Rattle.jp_part.specs.Part.{part_value};
 ghost use Rattle.jp_regexp.specs.Tests.{Tests, AreRight};
 
 use crate::fault::EvalFault;
 use crate::fork::{Cuts, Fork};
 use crate::roots::answer_roots;
+use crate::route::{Route, route_of, visit_along};
 use crate::split::{Splitting, go_split};
 use crate::walk::{Task, run};
 use jp_compiled::Query;
@@ -19,20 +22,24 @@ use jp_found::{Asked, Found, asked_by, visitor_of};
 use jp_nodes::Visit;
 use jp_part::Part;
 use jp_path_stack::{PathStack, Scratch};
-use std::alloc::Global;
+use std::alloc::{AllocError, Global};
 use std::mem;
 use std::thread::Threads;
 
 /// Evaluates a compiled query on one document after another.
 ///
-/// The memory that the text of a path took is kept for the next document.
+/// The memory that the text of a path took is kept for the next document, and so is the query's route.
 #[derive(Drop)]
 pub struct Evaluator<'p> {
     alloc: Global,
     query: &'p Query,
     asked: Asked,
-    // All that is kept from document to document (README, Why so).
+    // The memory of a path's text and the route are all that is kept from document to document (README, Why
+    // so).
     scratch: Scratch,
+    route: Route<'p>,
+    ghost right_route: { is_routed
+        (segments_in (roots_of query.now.roots.items) query.now.segments.items) route ≡ true },
 }
 
 impl<'p> Evaluator<'p> {
@@ -47,6 +54,7 @@ impl<'p> Evaluator<'p> {
             query,
             asked: asked_by(query),
             scratch: Scratch::new(alloc),
+            route: Route::Unknown,
         }
     }
 
@@ -78,13 +86,16 @@ impl<'p> Evaluator<'p> {
     pub fn visit_part<V: Visit + Drop>(
         &mut self,
         root: Part<'_>,
-        visitor: V,
+        mut visitor: V,
     ) -> Result<V, EvalFault>
         ensures nodes { IfOk result (λ t. (tests : Tests) → AreRight tests →
             V.kept t ≡ fold V.put (V.kept visitor)
             (document_nodes tests (evaluated_query self.old) (part_value root.entry))) }
         ensures query { evaluated_query self.new ≡ evaluated_query self.old }
     {
+        if self.visit_directly(root, &mut visitor)? {
+            return Ok(visitor);
+        }
         let query = self.query;
         let context = answer_roots::<V>(self.alloc, root, query.roots.as_slice(), self.asked)?;
         let segments = query.segments.as_slice();
@@ -132,13 +143,16 @@ impl<'p> Evaluator<'p> {
         root: Part<'_>,
         cuts: Cuts,
         fork: &F,
-        visitor: V,
+        mut visitor: V,
     ) -> Result<V, EvalFault>
         ensures nodes { IfOk result (λ t. (tests : Tests) → AreRight tests →
             V.kept t ≡ fold V.put (V.kept visitor)
             (document_nodes tests (evaluated_query self.old) (part_value root.entry))) }
         ensures query { evaluated_query self.new ≡ evaluated_query self.old }
     {
+        if self.visit_directly(root, &mut visitor)? {
+            return Ok(visitor);
+        }
         let query = self.query;
         let context = answer_roots::<V>(self.alloc, root, query.roots.as_slice(), self.asked)?;
         let segments = query.segments.as_slice();
@@ -153,6 +167,40 @@ impl<'p> Evaluator<'p> {
         go_split(&splitting, Task::Run(segments), root, &mut path, &mut found)?;
         self.scratch = path.into_scratch();
         Ok(visitor_of(found))
+    }
+
+    /// Tells the visitor of the node at the end of the query's route, where the query has one, and says
+    /// whether it has.
+    fn visit_directly<V: Visit + Drop>(
+        &mut self,
+        root: Part<'_>,
+        visitor: &mut V,
+    ) -> Result<bool, AllocError>
+        ensures direct { IfOk result (λ is_direct. is_direct ≡ true → (tests : Tests)
+            → V.kept visitor.new ≡ fold V.put (V.kept visitor.old)
+            (document_nodes tests (evaluated_query self.old) (part_value root.entry))) }
+        ensures other { IfOk result (λ is_direct. is_direct ≡ false
+            → V.kept visitor.new ≡ V.kept visitor.old) }
+        ensures query { evaluated_query self.new ≡ evaluated_query self.old }
+    {
+        self.find_route()?;
+        match &mut self.route {
+            Route::Links(path_stack) => {
+                visit_along(self.alloc, path_stack, root, visitor)?;
+                Ok(true)
+            }
+            Route::Missing | Route::Unknown => Ok(false),
+        }
+    }
+
+    /// Looks for the query's route, where it has not been looked for.
+    fn find_route(&mut self) -> Result<(), AllocError>
+        ensures query { evaluated_query self.new ≡ evaluated_query self.old }
+    {
+        if let Route::Unknown = self.route {
+            self.route = route_of(self.alloc, self.query.segments.as_slice())?;
+        }
+        Ok(())
     }
 }
 

@@ -10,6 +10,7 @@ mod fault;
 mod fork;
 pub mod laws;
 mod roots;
+mod route;
 mod singular;
 mod split;
 mod walk;
