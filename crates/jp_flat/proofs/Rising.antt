@@ -15,15 +15,18 @@ use Rattle.jp_flat.specs.Gathered.{AreAbove, NamesRise}
 use Rattle.jp_flat.specs.Members.{put_all, last_of}
 use Rattle.jp_flat.proofs.Entries.{by_order, same_text, last_found}
 
-below_trans : (j k l : Text) → IsTextBelow j k → IsTextBelow k l → IsTextBelow j l
+pub below_trans : (j k l : Text) → IsTextBelow j k → IsTextBelow k l → IsTextBelow j l
 below_trans j k l p q =
     nat_list_cmp_total.trans (encode_utf8_all j) (encode_utf8_all k) (encode_utf8_all l) p q
 
-turned : (k l : Text) → text_cmp k l ≡ Greater → IsTextBelow l k
+pub turned : (k l : Text) → text_cmp k l ≡ Greater → IsTextBelow l k
 turned k l e = nat_list_cmp_total.antisymm (encode_utf8_all l) (encode_utf8_all k) ∙ ap ordering_reverse e
 
-same : (k l : Text) → text_cmp k l ≡ Equal → k ≡ l
+pub same : (k l : Text) → text_cmp k l ≡ Equal → k ≡ l
 same k l e = (bytes_eq-Decides k l).0 (sym (by_order k l) ∙ ap is_eq e)
+
+pub above : (k l : Text) → IsTextBelow k l → text_cmp l k ≡ Greater
+above k l p = nat_list_cmp_total.antisymm (encode_utf8_all l) (encode_utf8_all k) ∙ ap ordering_reverse p
 
 apart : (k l : Text) → IsTextBelow k l → text_eq k l ≡ false
 apart k l p = sym (by_order k l) ∙ ap is_eq p

@@ -4,3 +4,4 @@ pub mod Plain
 pub mod Nesting
 pub mod Rows
 pub mod Held
+pub mod Placed

@@ -9,12 +9,13 @@ ghost use Rattle.jp_flat.specs.Gathered.{entry, gathered, NamesRise};
 ghost use Rattle.jp_flat.specs.Members.{last_of};
 ghost use Rattle.jp_flat.specs.Value.{entries};
 
+use crate::insertion::insert_few;
 use crate::value::{FlatMember, FlatMembers};
 use std::alloc::AllocError;
 use std::cmp::Ordering;
 
 /// The order of two names, by their bytes and so by their scalar values.
-fn order(left: &str, right: &str) -> Ordering
+pub(crate) fn order(left: &str, right: &str) -> Ordering
     ensures { result ≡ text_cmp (chars left.now) (chars right.now) }
 {
     left.cmp(right)
@@ -85,14 +86,17 @@ impl<'d> FlatMembers<'d> {
     ghost use Rattle.jp_doc.specs.Json.{object};
     ghost use Rattle.jp_flat.specs.Value.{members_value};
 
-    /// Fills `out` with the object's members: each name once, with its last value, in rising order. Names
-    /// that rise already are not sorted.
+    /// Fills `out` with the object's members: each name once, with its last value, in rising order. A few are
+    /// inserted where they belong, and more are sorted, unless their names rise already.
     ///
     /// `AllocError` if a growth was refused.
     pub fn gather(self, out: &mut Vec<FlatMember<'d>>) -> Result<(), AllocError>
         ensures members { OnOk result (members_value self.entry ≡ object (gathered out.new.items)) }
         ensures rising { OnOk result (NamesRise (gathered out.new.items)) }
     {
+        if insert_few(self, out)? {
+            return Ok(());
+        }
         if !list(self, out)? {
             sort(out)?;
         }

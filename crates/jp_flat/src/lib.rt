@@ -5,6 +5,7 @@ mod digits;
 mod document;
 mod examples;
 mod gather;
+mod insertion;
 pub mod laws;
 mod lines;
 mod nodes;
