@@ -1,10 +1,14 @@
 -- What ranges of children stand for.
-use Rattle.std.specs.Prelude.{ℕ, ◌-◌, List, length, take}
+use Rattle.std.specs.Prelude.{ℕ, ◌-◌, List, length, map, take}
 use Rattle.jp_doc.specs.Height.{height}
 use Rattle.jp_doc.specs.Json.{array, object, items}
 use Rattle.jp_doc.specs.Location.{Location, Node}
+use Rattle.jp_flat.specs.Gathered.{entry}
+use Rattle.jp_flat.specs.declared.value.FlatItems.{FlatItems}
+use Rattle.jp_flat.specs.declared.value.FlatMember.{FlatMember}
 use Rattle.jp_part.specs.Inside.{item_values}
 use Rattle.jp_part.specs.Members.{members, range_entries}
+use Rattle.jp_part.specs.declared.items.Items.TheVariants as form
 use Rattle.jp_nodes.specs.ChildNodes.{listed_nodes, children_height}
 use Rattle.jp_nodes.specs.Nodes.{item_nodes, member_nodes}
 use Rattle.jp_children.specs.declared.child_range.ChildRange.{ChildRange}
@@ -25,3 +29,14 @@ abbrev pub range_length : ChildRange → ℕ
 range_length (range.Listed cs) = length cs.now
 range_length (range.Items i first past) = past - first
 range_length (range.Members r) = length (range_entries r)
+
+-- the nodes of members of a flat document, and how high the object is at least
+abbrev pub flat_member_nodes : Location → List FlatMember → List Node
+flat_member_nodes at ms = member_nodes at (members (map entry ms))
+
+abbrev pub flat_members_height : List FlatMember → ℕ
+flat_members_height ms = height (object (members (map entry ms)))
+
+-- the range of items of a flat document
+abbrev pub of_flat_items : FlatItems → ℕ → ℕ → ChildRange
+of_flat_items i first past = range.Items (form.Flat i) first past

@@ -3,9 +3,11 @@
 #![tactic(auto)]
 
 mod child_range;
+mod flat_children;
 mod index;
 mod slices;
 
 pub use child_range::ChildRange;
+pub use flat_children::{first_item, member_at};
 pub use index::place_in;
 pub use slices::sliced;

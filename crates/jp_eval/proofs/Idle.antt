@@ -3,7 +3,7 @@ use Rattle.std.proofs.Common.{◌≡◌, ℕ, ℤ, option_map, List, [], ◌∷�
 use Rattle.std.specs.List.{filter, flat_map}
 use Rattle.jp_doc.specs.Json.{Json, null, truth, number, text, array, object}
 use Rattle.jp_doc.specs.Location as at
-use Rattle.jp_doc.specs.Location.{Location, Node, node}
+use Rattle.jp_doc.specs.Location.{Location, node}
 use Rattle.jp_compiled.specs.Parts.{position_text}
 use Rattle.jp_compiled.specs.declared.query.Segment.{Segment}
 use Rattle.jp_compiled.specs.declared.query.Selector.{Selector}

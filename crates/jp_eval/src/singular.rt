@@ -19,7 +19,8 @@ use jp_part::Part;
 /// The child that a name or an index selects, if there is one; and nothing where the selector is no such one.
 fn child_by<'v>(selector: &'v Selector, value: Part<'v>) -> Option<Option<Part<'v>>>
     ensures { IfSome result (λ child. (base : Base) (at : Location)
-        → AreOne (picked base selector.now (node at (part_value value.entry))) (option_map part_value child)) }
+        → AreOne (picked base selector.now (node at (part_value value.entry)))
+        (option_map part_value child)) }
 {
     match selector {
         Selector::Name(name) => Some(value.member(name.as_str())),

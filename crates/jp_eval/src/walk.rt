@@ -8,9 +8,10 @@ ghost use Rattle.jp_part.specs.Part.{part_value};
 ghost use Rattle.jp_value.specs.Kinds.{given_value};
 ghost use Rattle.jp_found.specs.Aggregates.{tells};
 ghost use Rattle.jp_eval.specs.inner.Finding.{Finds};
-ghost use Rattle.jp_children.specs.ChildRanges.{range_nodes};
+ghost use Rattle.jp_children.specs.ChildRanges.{range_nodes, of_flat_items, flat_member_nodes};
 ghost use Rattle.jp_eval.specs.inner.Opened.{AreChildren};
 ghost use Rattle.jp_found.specs.Links.{here};
+ghost use Rattle.jp_nodes.specs.ChildNodes.{child_node};
 ghost use Rattle.jp_nodes.specs.Nodes.{children, descendants, items_at};
 ghost use Rattle.jp_eval.specs.inner.Base.{Base, base_of};
 ghost use Rattle.jp_eval.specs.inner.Walk.{picked, picked_by, reached, is_true, value_given, nodes_given};
@@ -18,19 +19,21 @@ ghost use Rattle.jp_eval.specs.inner.Walk.{done};
 
 use crate::context::Context;
 use crate::singular::answer_of;
-use jp_children::{ChildRange, place_in, sliced};
+use jp_children::{ChildRange, first_item, member_at, place_in, sliced};
 use jp_compiled::{Logical, Nodes, Segment, Selector, Value as Giver, Want};
+use jp_flat::{FlatItems, FlatMember};
 use jp_found::{
     Aggregate, Found, add, has_first, into_aggregate, is_full, none_found, of_distinct, operand,
 };
-use jp_nodes::{Visit, children_of};
-use jp_part::{Kind, Part};
+use jp_nodes::{Child, Visit, children_of};
+use jp_part::{Items, Kind, MemberRange, Part};
 use jp_path_stack::{Link, PathStack};
 use jp_value::{
     bounds_of, compare_kinds, exactly_one, length, literal, matches, matches_known, matches_read,
     searches, searches_known, searches_read,
 };
 use std::alloc::AllocError;
+use std::ops::Range;
 
 /// What is done at a value.
 #[derive(Clone, Copy)]
@@ -257,20 +260,120 @@ fn each_of<'v, V: Visit + Drop>(
         (done (base_of context.now) task.entry) (range_nodes (link_steps path.old) children.entry))) }
     ensures path { OnOk result (path.new ≡ path.old) }
 {
+    // Those of a flat document, which most are, have loops of their own: a range is many words to hand on.
+    match children {
+        ChildRange::Members(MemberRange::Flat(members)) => {
+            each_member(context, task, members, path, found)
+        }
+        ChildRange::Items(Items::Flat(items), first, past) => {
+            each_item(context, task, items, first..past, path, found)
+        }
+        _ => each_in(context, task, children, path, found),
+    }
+}
+
+/// The task at each of these members.
+#[cycle(walk)]
+fn each_member<'v, V: Visit + Drop>(
+    context: &Context<'v>,
+    task: Task<'v>,
+    members: &[FlatMember<'v>],
+    path: &mut PathStack<'v>,
+    found: &mut Found<'v, V>,
+) -> Result<(), AllocError>
+    ensures found { OnOk result (Finds V.kept V.put found.old found.new (flat_map
+        (done (base_of context.now) task.entry)
+        (flat_member_nodes (link_steps path.old) members.now))) }
+    ensures path { OnOk result (path.new ≡ path.old) }
+{
+    let mut index = 0;
+    while let Some(child) = member_at(members, index) {
+        if is_full(found) {
+            return Ok(());
+        }
+        index += 1;
+        at_child(context, task, child, path, found)?;
+    }
+    Ok(())
+}
+
+/// The task at each of these items that has one of these places, where the first item has the first of them.
+#[cycle(walk)]
+fn each_item<'v, V: Visit + Drop>(
+    context: &Context<'v>,
+    task: Task<'v>,
+    items: FlatItems<'v>,
+    places: Range<u32>,
+    path: &mut PathStack<'v>,
+    found: &mut Found<'v, V>,
+) -> Result<(), AllocError>
+    ensures found { OnOk result (Finds V.kept V.put found.old found.new (flat_map
+        (done (base_of context.now) task.entry) (range_nodes (link_steps path.old)
+        (of_flat_items items.entry places.start places.end)))) }
+    ensures path { OnOk result (path.new ≡ path.old) }
+{
+    let Range {
+        start: mut place,
+        end: past,
+    } = places;
+    let mut rest = items;
+    while let Some((child, others)) = first_item(rest, place, past) {
+        if is_full(found) {
+            return Ok(());
+        }
+        rest = others;
+        place += 1;
+        at_child(context, task, child, path, found)?;
+    }
+    Ok(())
+}
+
+/// The task at each child of this range.
+#[cycle(walk)]
+fn each_in<'v, V: Visit + Drop>(
+    context: &Context<'v>,
+    task: Task<'v>,
+    children: ChildRange<'_, 'v>,
+    path: &mut PathStack<'v>,
+    found: &mut Found<'v, V>,
+) -> Result<(), AllocError>
+    ensures found { OnOk result (Finds V.kept V.put found.old found.new (flat_map
+        (done (base_of context.now) task.entry) (range_nodes (link_steps path.old) children.entry))) }
+    ensures path { OnOk result (path.new ≡ path.old) }
+{
     let mut rest = children;
     while let Some((child, others)) = rest.split_first() {
         if is_full(found) {
             return Ok(());
         }
         rest = others;
-        // Most nodes that a descent comes to are scalars: they cost no link and no list of children.
-        if is_idle(task, child.part) {
-            continue;
-        }
-        path.push(child.link)?;
-        go(context, task, child.part, path, found)?;
-        path.pop();
+        at_child(context, task, child, path, found)?;
     }
+    Ok(())
+}
+
+/// The task at a child of the value at the path.
+// Each turn of a loop over children passes through it.
+#[inline(always)]
+#[cycle(walk)]
+fn at_child<'v, V: Visit + Drop>(
+    context: &Context<'v>,
+    task: Task<'v>,
+    child: Child<'v>,
+    path: &mut PathStack<'v>,
+    found: &mut Found<'v, V>,
+) -> Result<(), AllocError>
+    ensures found { OnOk result (Finds V.kept V.put found.old found.new
+        (done (base_of context.now) task.entry (child_node (link_steps path.old) child.entry))) }
+    ensures path { OnOk result (path.new ≡ path.old) }
+{
+    // Most nodes that a descent comes to are scalars: they cost no link and no list of children.
+    if is_idle(task, child.part) {
+        return Ok(());
+    }
+    path.push(child.link)?;
+    go(context, task, child.part, path, found)?;
+    path.pop();
     Ok(())
 }
 

@@ -1,10 +1,9 @@
-use Rattle.std.proofs.Common.{◌≡◌, option_map, option_to_list, rules, sym, ap, ◌∙◌}
+use Rattle.std.proofs.Common.{rules, sym, ap, ◌∙◌}
 use mir.Val.{SFits}
 use Rattle.std.proofs.Common.{w64}
 use Rattle.std.proofs.lemmas.Int.{to_z-of_z}
 use Rattle.std.specs.Str.{chars}
 use Rattle.jp_doc.specs.Location.{node, member_of}
-use Rattle.jp_tree.specs.View.{text_of}
 use Rattle.jp_part.specs.Part.{part_value}
 use Rattle.jp_nodes.specs.Nodes.{items_at}
 use Rattle.jp_children.specs.Selected.{index_places}

@@ -1,4 +1,4 @@
-use Rattle.std.proofs.Common.{◌≡◌, ◌<◌, length, ap, ◌∙◌, refl, arith}
+use Rattle.std.proofs.Common.{◌<◌, length, ap, ◌∙◌, refl, arith}
 use Rattle.jp_doc.specs.Location.{node}
 use Rattle.jp_part.specs.Part.{part_value}
 use Rattle.jp_value.specs.Functions.{first_value}

@@ -88,44 +88,84 @@ at_place-returns-in_ok-run-clause-found g t c =
     ∙ sym (one_at (here c.args.path.now c.args.value) c.args.place c.in-Some.place _ c.in-Some.is
     c.in-Some-item.ensures.value))
 
-pub each_of-loop-child-preserved : goal.each_of-loop-child-preserved
-each_of-loop-child-preserved g t c =
-    let p : c.pop.new.self ≡ c.loop-child.path = back_up _ _ _ _ _ c.in_ok-push.ensures.ok
-    c.in_ok-go.ensures.path c.pop.ensures in
-    rw p (
-      c.loop-child.invariant.0,
-      omega (arith, c.in-Some.ensures.height, c.loop-child.invariant.1),
-      child_node_done (put_found g.V.Visit.put) (done (base_of c.args.context.now) c.args.task) _ _ _ _ _ _ _
-          (c.in-Some.ensures.nodes (link_steps c.loop-child.path))
-          (c.in_ok-go.ensures.found
-          ∙ ap (λ s. plus (put_found g.V.Visit.put) (kept g.V.Visit.kept c.loop-child.found)
-          (done (base_of c.args.context.now) c.args.task (node s (part_value c.in-Some.child.part))))
-          (link_further c.loop-child.path c.push.new.self _ c.in_ok-push.ensures.ok))
-          c.loop-child.invariant.2,
-    )
-
-pub each_of-loop-child-preserved-then-is_idle : goal.each_of-loop-child-preserved-then-is_idle
-each_of-loop-child-preserved-then-is_idle g t c = (
+pub each_member-loop-child-preserved : goal.each_member-loop-child-preserved
+each_member-loop-child-preserved g t c = rw c.in_ok-at_child.ensures.path (
   c.loop-child.invariant.0,
   omega (arith, c.in-Some.ensures.height, c.loop-child.invariant.1),
   child_node_done (put_found g.V.Visit.put) (done (base_of c.args.context.now) c.args.task) _ _ _ _ _ _ _
-      (c.in-Some.ensures.nodes (link_steps c.loop-child.path))
-      (nothing_found (put_found g.V.Visit.put) _ _
-      (c.is_idle.ensures c.if-is_idle.true (base_of c.args.context.now) _))
+      (c.in-Some.ensures.nodes (link_steps c.loop-child.path)) c.in_ok-at_child.ensures.found
       c.loop-child.invariant.2,
 )
 
-pub each_of-returns-then-is_full-clause-found : goal.each_of-returns-then-is_full-clause-found
-each_of-returns-then-is_full-clause-found g t c =
+pub each_member-returns-then-is_full-clause-found : goal.each_member-returns-then-is_full-clause-found
+each_member-returns-then-is_full-clause-found g t c =
     full_enough (put_found g.V.Visit.put) _ _ _ _ (c.is_full.ensures c.if-is_full.true)
     c.loop-child.invariant.2
 
-pub each_of-returns-clause-found : goal.each_of-returns-clause-found
-each_of-returns-clause-found g t c =
+pub each_member-returns-clause-found : goal.each_member-returns-clause-found
+each_member-returns-clause-found g t c =
     ended (put_found g.V.Visit.put) _ _ _
     (ap (λ ns. plus (put_found g.V.Visit.put) (kept g.V.Visit.kept c.loop-child.found)
     (flat_map (done (base_of c.args.context.now) c.args.task) ns))
     (sym (c.in_default.ensures.nodes (link_steps c.loop-child.path))) ∙ c.loop-child.invariant.2)
+
+pub each_item-loop-child-preserved : goal.each_item-loop-child-preserved
+each_item-loop-child-preserved g t c = rw c.in_ok-at_child.ensures.path (
+  c.loop-child.invariant.0,
+  omega (arith, c.in-Some.ensures.height, c.loop-child.invariant.1),
+  child_node_done (put_found g.V.Visit.put) (done (base_of c.args.context.now) c.args.task) _ _ _ _ _ _ _
+      (c.in-Some.ensures.nodes (link_steps c.loop-child.path)) c.in_ok-at_child.ensures.found
+      c.loop-child.invariant.2,
+)
+
+pub each_item-returns-then-is_full-clause-found : goal.each_item-returns-then-is_full-clause-found
+each_item-returns-then-is_full-clause-found g t c =
+    full_enough (put_found g.V.Visit.put) _ _ _ _ (c.is_full.ensures c.if-is_full.true)
+    c.loop-child.invariant.2
+
+pub each_item-returns-clause-found : goal.each_item-returns-clause-found
+each_item-returns-clause-found g t c =
+    ended (put_found g.V.Visit.put) _ _ _
+    (ap (λ ns. plus (put_found g.V.Visit.put) (kept g.V.Visit.kept c.loop-child.found)
+    (flat_map (done (base_of c.args.context.now) c.args.task) ns))
+    (sym (c.in_default.ensures.nodes (link_steps c.loop-child.path))) ∙ c.loop-child.invariant.2)
+
+pub each_in-loop-child-preserved : goal.each_in-loop-child-preserved
+each_in-loop-child-preserved g t c = rw c.in_ok-at_child.ensures.path (
+  c.loop-child.invariant.0,
+  omega (arith, c.in-Some.ensures.height, c.loop-child.invariant.1),
+  child_node_done (put_found g.V.Visit.put) (done (base_of c.args.context.now) c.args.task) _ _ _ _ _ _ _
+      (c.in-Some.ensures.nodes (link_steps c.loop-child.path)) c.in_ok-at_child.ensures.found
+      c.loop-child.invariant.2,
+)
+
+pub each_in-returns-then-is_full-clause-found : goal.each_in-returns-then-is_full-clause-found
+each_in-returns-then-is_full-clause-found g t c =
+    full_enough (put_found g.V.Visit.put) _ _ _ _ (c.is_full.ensures c.if-is_full.true)
+    c.loop-child.invariant.2
+
+pub each_in-returns-clause-found : goal.each_in-returns-clause-found
+each_in-returns-clause-found g t c =
+    ended (put_found g.V.Visit.put) _ _ _
+    (ap (λ ns. plus (put_found g.V.Visit.put) (kept g.V.Visit.kept c.loop-child.found)
+    (flat_map (done (base_of c.args.context.now) c.args.task) ns))
+    (sym (c.in_default.ensures.nodes (link_steps c.loop-child.path))) ∙ c.loop-child.invariant.2)
+
+pub at_child-returns-then-is_idle-clause-found : goal.at_child-returns-then-is_idle-clause-found
+at_child-returns-then-is_idle-clause-found g t c =
+    nothing_found (put_found g.V.Visit.put) _ _
+    (c.is_idle.ensures c.if-is_idle.true (base_of c.args.context.now) _)
+
+pub at_child-returns-clause-found : goal.at_child-returns-clause-found
+at_child-returns-clause-found g t c =
+    c.in_ok-go.ensures.found
+    ∙ ap (λ s. plus (put_found g.V.Visit.put) (kept g.V.Visit.kept c.args.found.now)
+    (done (base_of c.args.context.now) c.args.task (node s (part_value c.args.child.part))))
+    (link_further c.args.path.now c.push.new.self _ c.in_ok-push.ensures.ok)
+
+pub at_child-returns-clause-path : goal.at_child-returns-clause-path
+at_child-returns-clause-path g t c =
+    back_up _ _ _ _ _ c.in_ok-push.ensures.ok c.in_ok-go.ensures.path c.pop.ensures
 
 pub go-returns-in-Run-clause-found : goal.go-returns-in-Run-clause-found
 go-returns-in-Run-clause-found g t c = rw c.in-Run.is c.run.ensures.found
@@ -515,8 +555,8 @@ ask-returns-in-Some-clause-answer g t c =
     let base = base_of c.args.context.now in
     let n = here c.args.path.now c.args.value in
     let want = c.args.want in
-    let nodes = nodes_here base n c.in-Here.segments c.as_slice-segments.result.now want c.as_slice-segments.ensures.value
-    ∙ sym (ap (λ q. nodes_given base q want n) c.in-Here.is) in
+    let nodes = nodes_here base n c.in-Here.segments c.as_slice-segments.result.now want
+    c.as_slice-segments.ensures.value ∙ sym (ap (λ q. nodes_given base q want n) c.in-Here.is) in
     ap (λ ns. tells want ns c.in-Some.answer) (sym nodes)
     ∙ c.in-Some.ensures base (link_steps c.args.path.now)
 
@@ -526,8 +566,8 @@ ask-returns-in-Some-into_aggregate-clause-answer g t c =
     let base = base_of c.args.context.now in
     let n = here c.args.path.now c.args.value in
     let want = c.args.want in
-    let nodes = nodes_here base n c.in-Here.segments c.as_slice-segments.result.now want c.as_slice-segments.ensures.value
-    ∙ sym (ap (λ q. nodes_given base q want n) c.in-Here.is) in
+    let nodes = nodes_here base n c.in-Here.segments c.as_slice-segments.result.now want
+    c.as_slice-segments.ensures.value ∙ sym (ap (λ q. nodes_given base q want n) c.in-Here.is) in
     let held = c.in_ok-run-in-Here.ensures.found
     ∙ ap₂ (plus (put_found g.V.Visit.put)) c.none_found-found.ensures nodes in
     c.in-Some-into_aggregate.ensures.answer want (nodes_given base c.args.nodes.now want n) held

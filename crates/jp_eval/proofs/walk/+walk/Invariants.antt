@@ -1,7 +1,8 @@
-use Rattle.std.proofs.Common.{◌≡◌, ◌+◌, ◌*◌, ◌≤◌, ℕ, max, drop}
+use Rattle.std.proofs.Common.{◌≡◌, ◌+◌, ◌-◌, ◌*◌, ◌≤◌, ℕ, List, length, max, drop}
 use Rattle.std.specs.List.{flat_map, list_any, list_all}
 use denote.Param.Weighed.{most}
 use Rattle.jp_doc.specs.Height.{height}
+use Rattle.jp_doc.specs.Location.{Node}
 use Rattle.jp_compiled.specs.declared.query.Segment.{size-Segment}
 use Rattle.jp_compiled.specs.declared.query.Selector.{size-Selector}
 use Rattle.jp_compiled.specs.declared.query.Logical.{size-Logical}
@@ -11,7 +12,8 @@ use Rattle.jp_eval.specs.inner.Base.{base_of}
 use Rattle.jp_found.specs.Kept.{kept, put_found, plus}
 use Rattle.jp_found.specs.Links.{here}
 use Rattle.jp_path_stack.specs.Links.{link_steps}
-use Rattle.jp_children.specs.ChildRanges.{range_nodes, range_height, range_length}
+use Rattle.jp_children.specs.ChildRanges.{range_nodes, range_height, range_length, of_flat_items}
+use Rattle.jp_children.specs.ChildRanges.{flat_member_nodes, flat_members_height}
 use Rattle.jp_part.specs.Part.{part_value}
 use Rattle.jp_eval.specs.inner.Walk.{picked_by, reached, is_true, done}
 use Rattle.jp_part.specs.declared.part.Part.{Part}
@@ -57,6 +59,19 @@ decreases-each_child g l = weight (task_size l.task) l.opened.value 3
 abbrev pub decreases-each_of : goal.decreases-each_of
 decreases-each_of g l = 2000 * task_size l.task + 16 * range_height l.children + 1
 
+abbrev pub decreases-each_member : goal.decreases-each_member
+decreases-each_member g l = 2000 * task_size l.task + 16 * flat_members_height l.members.now
+
+abbrev pub decreases-each_item : goal.decreases-each_item
+decreases-each_item g l =
+    2000 * task_size l.task + 16 * range_height (of_flat_items l.items l.places.start l.places.end)
+
+abbrev pub decreases-each_in : goal.decreases-each_in
+decreases-each_in g l = 2000 * task_size l.task + 16 * range_height l.children
+
+abbrev pub decreases-at_child : goal.decreases-at_child
+decreases-at_child g l = weight (task_size l.task) (l.child.part) 10
+
 abbrev pub decreases-ask : goal.decreases-ask
 decreases-ask g l = weight (size-Nodes l.nodes.now) l.value 7
 
@@ -84,17 +99,43 @@ invariant-apply-loop-selector g l =
     ≡ plus (put_found g.V.Visit.put) (kept g.V.Visit.kept l.initial.found)
     (reached root l.rest (picked_by root l.selectors (here l.initial.path l.opened.value))))
 
-abbrev pub invariant-each_of-loop-child : goal.invariant-each_of-loop-child
-invariant-each_of-loop-child g l =
-    (l.path ≡ l.initial.path)
-    × (range_height l.rest ≤ range_height l.children)
-    × (plus (put_found g.V.Visit.put) (kept g.V.Visit.kept l.found)
-    (flat_map (done (base_of l.context) l.task) (range_nodes (link_steps l.path) l.rest))
-    ≡ plus (put_found g.V.Visit.put) (kept g.V.Visit.kept l.initial.found)
-    (flat_map (done (base_of l.context) l.task) (range_nodes (link_steps l.initial.path) l.children)))
+-- what is left of the children gives what all of them do
+abbrev pub IsDone : {K : Type 0} → (K → Node → K) → K → K → (Node → List Node) → List Node → List Node
+    → Type 0
+IsDone put now then f left all = plus put now (flat_map f left) ≡ plus put then (flat_map f all)
 
-abbrev pub decreases-each_of-loop-child : goal.decreases-each_of-loop-child
-decreases-each_of-loop-child g l = range_length l.rest
+abbrev pub invariant-each_member-loop-child : goal.invariant-each_member-loop-child
+invariant-each_member-loop-child g l =
+    (l.path ≡ l.initial.path)
+    × (flat_members_height (drop l.index l.members) ≤ flat_members_height l.members)
+    × IsDone (put_found g.V.Visit.put) (kept g.V.Visit.kept l.found) (kept g.V.Visit.kept l.initial.found)
+    (done (base_of l.context) l.task) (flat_member_nodes (link_steps l.path) (drop l.index l.members))
+    (flat_member_nodes (link_steps l.initial.path) l.members)
+
+abbrev pub decreases-each_member-loop-child : goal.decreases-each_member-loop-child
+decreases-each_member-loop-child g l = length l.members - l.index
+
+abbrev pub invariant-each_item-loop-child : goal.invariant-each_item-loop-child
+invariant-each_item-loop-child g l =
+    let rest = of_flat_items l.rest l.place l.past in
+    let all = of_flat_items l.items l.fn.places.start l.fn.places.end in
+    (l.path ≡ l.initial.path) × (range_height rest ≤ range_height all)
+    × IsDone (put_found g.V.Visit.put) (kept g.V.Visit.kept l.found) (kept g.V.Visit.kept l.initial.found)
+    (done (base_of l.context) l.task) (range_nodes (link_steps l.path) rest)
+    (range_nodes (link_steps l.initial.path) all)
+
+abbrev pub decreases-each_item-loop-child : goal.decreases-each_item-loop-child
+decreases-each_item-loop-child g l = l.past - l.place
+
+abbrev pub invariant-each_in-loop-child : goal.invariant-each_in-loop-child
+invariant-each_in-loop-child g l =
+    (l.path ≡ l.initial.path) × (range_height l.rest ≤ range_height l.children)
+    × IsDone (put_found g.V.Visit.put) (kept g.V.Visit.kept l.found) (kept g.V.Visit.kept l.initial.found)
+    (done (base_of l.context) l.task) (range_nodes (link_steps l.path) l.rest)
+    (range_nodes (link_steps l.initial.path) l.children)
+
+abbrev pub decreases-each_in-loop-child : goal.decreases-each_in-loop-child
+decreases-each_in-loop-child g l = range_length l.rest
 
 abbrev pub invariant-any-loop-part : goal.invariant-any-loop-part
 invariant-any-loop-part g l =
