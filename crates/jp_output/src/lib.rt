@@ -9,6 +9,7 @@ mod form;
 mod head;
 mod input_lines;
 pub mod laws;
+mod line_front;
 mod node_lines;
 mod output_buffer;
 mod output_line;

@@ -12,8 +12,8 @@ use crate::chunks::join_chunks;
 use crate::fault_line::write_fault_behind;
 use crate::form::Form;
 use crate::head::Head;
+use crate::line_front::LineFront;
 use crate::output_buffer::OutputBuffer;
-use crate::output_line::append_number;
 use crate::value_text::append_value;
 use jp_doc::DocFault;
 use jp_nodes::Visit;
@@ -31,8 +31,7 @@ use std::marker::Model;
 /// they are.
 #[derive(Drop)]
 pub struct NodeLines {
-    head: Head,
-    number: u64,
+    front: LineFront,
     scratch: Vec<u8>,
     lines: OutputBuffer,
 }
@@ -43,7 +42,7 @@ impl Model for NodeLines {
 
     ghost Value = { List ℕ × ℕ × List ℕ };
 
-    ghost view = { λ t. (t.head, t.number, buffered t.lines) };
+    ghost view = { λ t. (t.front.0, t.front.1, buffered t.lines) };
 }
 
 impl NodeLines {
@@ -63,8 +62,7 @@ impl NodeLines {
         ensures { result ≡ (head.now, 0, []) }
     {
         NodeLines {
-            head: head.again(),
-            number: 0,
+            front: LineFront::new(alloc, head, 0),
             scratch: Vec::new(alloc),
             lines: OutputBuffer::new(alloc),
         }
@@ -74,7 +72,7 @@ impl NodeLines {
     pub fn begin(&mut self, number: u64)
         ensures { self.new ≡ (self.old.0, number, self.old.2) }
     {
-        self.number = number;
+        self.front.begin(number);
     }
 
     /// Appends the fault line of the line with this number. Condition: the fault is not `Memory`.
@@ -94,7 +92,12 @@ impl NodeLines {
         )) }
         ensures err { OnErr result (self.new ≡ self.old) }
     {
-        write_fault_behind(&self.head, self.number, fault, &mut self.lines.out)
+        write_fault_behind(
+            self.front.head(),
+            self.front.number(),
+            fault,
+            &mut self.lines.out,
+        )
     }
 
     /// The bytes of all lines, in chunks as they were written. `AllocError` if a growth was refused.
@@ -134,8 +137,7 @@ impl Visit for NodeLines {
     ) -> Result<(), AllocError> {
         write_node(
             alloc,
-            &self.head,
-            self.number,
+            &mut self.front,
             path_stack,
             value,
             &mut self.scratch,
@@ -149,8 +151,7 @@ impl Visit for NodeLines {
 
     fn fresh(&self, alloc: Global) -> Self {
         NodeLines {
-            head: self.head.again(),
-            number: self.number,
+            front: LineFront::new(alloc, self.front.head(), self.front.number()),
             scratch: Vec::new(alloc),
             lines: OutputBuffer::new(alloc),
         }
@@ -212,21 +213,21 @@ impl Form for NodeLines {
 /// After an `AllocError`, which says that a growth was refused, `out` is as before.
 fn write_node(
     alloc: Global,
-    head: &Head,
-    number: u64,
+    front: &mut LineFront,
     path_stack: &mut PathStack<'_>,
     value: Part<'_>,
     scratch: &mut Vec<u8>,
     out: &mut Vec<u8>,
 ) -> Result<(), AllocError>
     ensures same { path_stack.new ≡ path_stack.old }
-    ensures ok { OnOk result (out.new.items ≡ out.old.items ++ (head.now ++ line_text number
+    ensures front { front.new ≡ front.old }
+    ensures ok { OnOk result (out.new.items ≡ out.old.items ++ (front.old.0 ++ line_text front.old.1
         (link_steps path_stack.old) (part_value value.entry))) }
     ensures err { OnErr result (out.new.items ≡ out.old.items) }
 {
     // Written straight to the output, and cut off again where memory is refused (README, Why so).
     let before = out.len();
-    match append_parts(alloc, head, number, path_stack, value, scratch, out) {
+    match append_parts(alloc, front, path_stack, value, scratch, out) {
         Ok(()) => Ok(()),
         Err(error) => {
             out.truncate(before);
@@ -238,20 +239,19 @@ fn write_node(
 /// Appends the parts of a line, and on an error some of them.
 fn append_parts(
     alloc: Global,
-    head: &Head,
-    number: u64,
+    front: &mut LineFront,
     path_stack: &mut PathStack<'_>,
     value: Part<'_>,
     scratch: &mut Vec<u8>,
     out: &mut Vec<u8>,
 ) -> Result<(), AllocError>
     ensures same { path_stack.new ≡ path_stack.old }
-    ensures ok { OnOk result (out.new.items ≡ out.old.items ++ (head.now ++ line_text number
+    ensures front { front.new ≡ front.old }
+    ensures ok { OnOk result (out.new.items ≡ out.old.items ++ (front.old.0 ++ line_text front.old.1
         (link_steps path_stack.old) (part_value value.entry))) }
     ensures kept { Extends out.old.items out.new.items }
 {
-    head.append_to(out)?;
-    append_number(number, out)?;
+    front.append_to(out)?;
     path_stack.append_path(out)?;
     out.push(b'\t')?;
     append_value(alloc, value, scratch, out)?;
