@@ -1,6 +1,6 @@
 //! The answer to numbered lines, on one thread.
 
-ghost use Rattle.std.specs.Prelude.{◌≡◌, ◌≢◌, ◌≤◌, ◌++◌, ℕ, List, Err, IfOk, length, map};
+ghost use Rattle.std.specs.Prelude.{◌≡◌, ◌≢◌, ◌≤◌, ◌++◌, ℕ, List, Err, IfOk, OnOk, length, map};
 ghost use Rattle.std.specs.List.{fold};
 ghost use Rattle.jp_number.specs.declared.numbers.Numbers.TheVariants.{Decimals};
 ghost use Rattle.jp_buffer.specs.Buffered.{line_at};
@@ -64,9 +64,7 @@ pub(crate) fn answer_lines<R: Threads + Sync, G, F: Form + Drop + Send>(
     let mut written = F::new(crew.alloc, asked.head);
     let mut faulty = 0;
     for line in lines {
-        let (more, fault) = add_line(crew, asked, tools, line, written)?;
-        written = more;
-        let Some(fault) = fault else {
+        let Some(fault) = add_line(crew, asked, tools, line, &mut written)? else {
             continue;
         };
         match asked.policy.on_fault {
@@ -92,21 +90,21 @@ pub(crate) fn answer_lines<R: Threads + Sync, G, F: Form + Drop + Send>(
     })
 }
 
-/// What was written so far and what a line gives, and what is wrong with it, if anything. The line is read
-/// by the numbers that it may have.
+/// Adds what a line gives to what was written so far, and tells what is wrong with it, if anything. The line
+/// is read by the numbers that it may have.
 fn add_line<R: Threads + Sync, G, F: Form + Drop + Send>(
     crew: &Crew<R, G>,
     asked: &Asked<'_>,
     tools: &mut Tools<'_, '_>,
     line: &LineRef<'_>,
-    written: F,
-) -> Result<(F, Option<DocFault>), AllocError>
-    ensures lines { IfOk result (λ r. (t : Tests) → AreRight t → F.written r.0
-        ≡ F.written written ++ given (F.form written) asked.now.policy.on_fault t
+    written: &mut F,
+) -> Result<Option<DocFault>, AllocError>
+    ensures lines { OnOk result ((t : Tests) → AreRight t → F.written written.new
+        ≡ F.written written.old ++ given (F.form written.old) asked.now.policy.on_fault t
         (filtered_query tools.old.evaluator) (line_at line.now)
         (reading_by asked.now.policy line.now.bytes.now)) }
-    ensures fault { IfOk result (λ r. r.1 ≡ fault_in (reading_by asked.now.policy line.now.bytes.now)) }
-    ensures form { IfOk result (λ r. (t : Tests) → AreRight t → F.form r.0 ≡ F.form written) }
+    ensures fault { IfOk result (λ fault. fault ≡ fault_in (reading_by asked.now.policy line.now.bytes.now)) }
+    ensures form { OnOk result ((t : Tests) → AreRight t → F.form written.new ≡ F.form written.old) }
     ensures query { filtered_query tools.new.evaluator ≡ filtered_query tools.old.evaluator }
 {
     match asked.policy.numbers {
@@ -122,13 +120,13 @@ fn add_whole<R: Threads + Sync, G, F: Form + Drop + Send>(
     asked: &Asked<'_>,
     tools: &mut Tools<'_, '_>,
     line: &LineRef<'_>,
-    written: F,
-) -> Result<(F, Option<DocFault>), AllocError>
-    ensures lines { IfOk result (λ r. (t : Tests) → AreRight t → F.written r.0
-        ≡ F.written written ++ given (F.form written) asked.now.policy.on_fault t
+    written: &mut F,
+) -> Result<Option<DocFault>, AllocError>
+    ensures lines { OnOk result ((t : Tests) → AreRight t → F.written written.new
+        ≡ F.written written.old ++ given (F.form written.old) asked.now.policy.on_fault t
         (filtered_query tools.old.evaluator) (line_at line.now) (reading line.now.bytes.now)) }
-    ensures fault { IfOk result (λ r. r.1 ≡ fault_in (reading line.now.bytes.now)) }
-    ensures form { IfOk result (λ r. (t : Tests) → AreRight t → F.form r.0 ≡ F.form written) }
+    ensures fault { IfOk result (λ fault. fault ≡ fault_in (reading line.now.bytes.now)) }
+    ensures form { OnOk result ((t : Tests) → AreRight t → F.form written.new ≡ F.form written.old) }
     ensures query { filtered_query tools.new.evaluator ≡ filtered_query tools.old.evaluator }
 {
     let Some(document) = tools.reader.read(line.bytes)? else {
@@ -138,8 +136,8 @@ fn add_whole<R: Threads + Sync, G, F: Form + Drop + Send>(
     };
     let root = Part::root_of_flat(&document);
     let walk = walk_of(asked, line);
-    let more = with_nodes(crew, &mut tools.evaluator, line, (root, walk), written)?;
-    Ok((more, None))
+    add_nodes(crew, &mut tools.evaluator, line, (root, walk), written)?;
+    Ok(None)
 }
 
 /// The same, where the line is read as a tree.
@@ -148,32 +146,32 @@ fn add_tree<R: Threads + Sync, G, F: Form + Drop + Send>(
     asked: &Asked<'_>,
     evaluator: &mut FilteredEvaluator<'_>,
     line: &LineRef<'_>,
-    written: F,
-) -> Result<(F, Option<DocFault>), AllocError>
-    ensures lines { IfOk result (λ r. (t : Tests) → AreRight t → F.written r.0
-        ≡ F.written written ++ given (F.form written) asked.now.policy.on_fault t
+    written: &mut F,
+) -> Result<Option<DocFault>, AllocError>
+    ensures lines { OnOk result ((t : Tests) → AreRight t → F.written written.new
+        ≡ F.written written.old ++ given (F.form written.old) asked.now.policy.on_fault t
         (filtered_query evaluator.old) (line_at line.now) (reading line.now.bytes.now)) }
-    ensures fault { IfOk result (λ r. r.1 ≡ fault_in (reading line.now.bytes.now)) }
-    ensures form { IfOk result (λ r. (t : Tests) → AreRight t → F.form r.0 ≡ F.form written) }
+    ensures fault { IfOk result (λ fault. fault ≡ fault_in (reading line.now.bytes.now)) }
+    ensures form { OnOk result ((t : Tests) → AreRight t → F.form written.new ≡ F.form written.old) }
     ensures query { filtered_query evaluator.new ≡ filtered_query evaluator.old }
 {
     match Document::read(crew.alloc, line.bytes) {
         Ok(document) => {
             let root = Part::root_of(&document);
             let walk = walk_of(asked, line);
-            let more = with_nodes(crew, evaluator, line, (root, walk), written)?;
-            Ok((more, None))
+            add_nodes(crew, evaluator, line, (root, walk), written)?;
+            Ok(None)
         }
         Err(DocFault::Memory) => Err(AllocError),
         Err(fault) => {
-            let more = with_fault(
+            add_fault(
                 crew.alloc,
                 asked.policy.on_fault,
                 line.number,
                 &fault,
                 written,
             )?;
-            Ok((more, Some(fault)))
+            Ok(Some(fault))
         }
     }
 }
@@ -185,34 +183,34 @@ fn add_decimal<R: Threads + Sync, G, F: Form + Drop + Send>(
     asked: &Asked<'_>,
     tools: &mut Tools<'_, '_>,
     line: &LineRef<'_>,
-    written: F,
-) -> Result<(F, Option<DocFault>), AllocError>
-    ensures lines { IfOk result (λ r. (t : Tests) → AreRight t → F.written r.0
-        ≡ F.written written ++ given (F.form written) asked.now.policy.on_fault t
+    written: &mut F,
+) -> Result<Option<DocFault>, AllocError>
+    ensures lines { OnOk result ((t : Tests) → AreRight t → F.written written.new
+        ≡ F.written written.old ++ given (F.form written.old) asked.now.policy.on_fault t
         (filtered_query tools.old.evaluator) (line_at line.now) (reading_in Decimals line.now.bytes.now)) }
-    ensures fault { IfOk result (λ r. r.1 ≡ fault_in (reading_in Decimals line.now.bytes.now)) }
-    ensures form { IfOk result (λ r. (t : Tests) → AreRight t → F.form r.0 ≡ F.form written) }
+    ensures fault { IfOk result (λ fault. fault ≡ fault_in (reading_in Decimals line.now.bytes.now)) }
+    ensures form { OnOk result ((t : Tests) → AreRight t → F.form written.new ≡ F.form written.old) }
     ensures query { filtered_query tools.new.evaluator ≡ filtered_query tools.old.evaluator }
 {
     let fault = match tools.reader.read_decimal(line.bytes)? {
         Ok(document) => {
             let root = Part::root_of_flat(&document);
             let walk = walk_of(asked, line);
-            let more = with_nodes(crew, &mut tools.evaluator, line, (root, walk), written)?;
-            return Ok((more, None));
+            add_nodes(crew, &mut tools.evaluator, line, (root, walk), written)?;
+            return Ok(None);
         }
         Err(fault) => fault,
     };
     match fault {
         DocFault::LongLine | DocFault::Unreadable => {
-            let more = with_fault(
+            add_fault(
                 crew.alloc,
                 asked.policy.on_fault,
                 line.number,
                 &fault,
                 written,
             )?;
-            Ok((more, Some(fault)))
+            Ok(Some(fault))
         }
         _ => {
             // So the tree does not stand beside what was read of the line.
@@ -230,93 +228,88 @@ fn add_over<R: Threads + Sync, G, F: Form + Drop + Send>(
     evaluator: &mut FilteredEvaluator<'_>,
     line: &LineRef<'_>,
     fault: DocFault,
-    written: F,
-) -> Result<(F, Option<DocFault>), AllocError>
+    written: &mut F,
+) -> Result<Option<DocFault>, AllocError>
     requires fault { (f : DocFault) → reading line.now.bytes.now ≡ Err f
         → reading_in Decimals line.now.bytes.now ≡ Err fault }
     requires memory { fault ≢ DocFault.Memory }
-    ensures lines { IfOk result (λ r. (t : Tests) → AreRight t → F.written r.0
-        ≡ F.written written ++ given (F.form written) asked.now.policy.on_fault t
+    ensures lines { OnOk result ((t : Tests) → AreRight t → F.written written.new
+        ≡ F.written written.old ++ given (F.form written.old) asked.now.policy.on_fault t
         (filtered_query evaluator.old) (line_at line.now) (reading_in Decimals line.now.bytes.now)) }
-    ensures fault { IfOk result (λ r. r.1 ≡ fault_in (reading_in Decimals line.now.bytes.now)) }
-    ensures form { IfOk result (λ r. (t : Tests) → AreRight t → F.form r.0 ≡ F.form written) }
+    ensures fault { IfOk result (λ fault. fault ≡ fault_in (reading_in Decimals line.now.bytes.now)) }
+    ensures form { OnOk result ((t : Tests) → AreRight t → F.form written.new ≡ F.form written.old) }
     ensures query { filtered_query evaluator.new ≡ filtered_query evaluator.old }
 {
     match Document::read(crew.alloc, line.bytes) {
         Ok(document) => {
             let root = Part::root_of(&document);
             let walk = walk_of(asked, line);
-            let more = with_nodes(crew, evaluator, line, (root, walk), written)?;
-            Ok((more, None))
+            add_nodes(crew, evaluator, line, (root, walk), written)?;
+            Ok(None)
         }
         Err(DocFault::Memory) => Err(AllocError),
         Err(_) => {
-            let more = with_fault(
+            add_fault(
                 crew.alloc,
                 asked.policy.on_fault,
                 line.number,
                 &fault,
                 written,
             )?;
-            Ok((more, Some(fault)))
+            Ok(Some(fault))
         }
     }
 }
 
-/// What was written so far, and what is said of a faulty line.
-fn with_fault<F: Form + Drop>(
+/// Adds what is said of a faulty line.
+fn add_fault<F: Form + Drop>(
     alloc: Global,
     on_fault: OnFault,
     number: u64,
     fault: &DocFault,
-    written: F,
-) -> Result<F, AllocError>
+    written: &mut F,
+) -> Result<(), AllocError>
     requires { fault.now ≢ DocFault.Memory }
-    ensures going { on_fault ≡ KeepGoing → IfOk result (λ w. F.written w
-        ≡ F.written written ++ (F.form written).of_fault number fault.now) }
-    ensures stopping { on_fault ≡ Stop → IfOk result (λ w. F.written w
-        ≡ F.written written) }
-    ensures form { IfOk result (λ w. F.form w ≡ F.form written) }
+    ensures going { on_fault ≡ KeepGoing → OnOk result (F.written written.new
+        ≡ F.written written.old ++ (F.form written.old).of_fault number fault.now) }
+    ensures stopping { on_fault ≡ Stop → F.written written.new ≡ F.written written.old }
+    ensures form { F.form written.new ≡ F.form written.old }
 {
-    let mut more = written;
     match on_fault {
-        OnFault::Stop => {}
-        OnFault::KeepGoing => more.push_fault(alloc, number, fault)?,
+        OnFault::Stop => Ok(()),
+        OnFault::KeepGoing => written.push_fault(alloc, number, fault),
     }
-    Ok(more)
 }
 
-/// What was written so far, and what is said of the document of a line, of which the query selects nodes.
-fn with_nodes<R: Threads + Sync, G, F: Form + Drop + Send>(
+/// Adds what is said of the document of a line, of which the query selects nodes.
+fn add_nodes<R: Threads + Sync, G, F: Form + Drop + Send>(
     crew: &Crew<R, G>,
     evaluator: &mut FilteredEvaluator<'_>,
     line: &LineRef<'_>,
     walked: (Part<'_>, Walk),
-    written: F,
-) -> Result<F, AllocError>
-    ensures lines { IfOk result (λ w. (t : Tests) → AreRight t → F.written w
-        ≡ F.written written ++ document_bytes (F.form written) t (filtered_query evaluator.old)
+    written: &mut F,
+) -> Result<(), AllocError>
+    ensures lines { OnOk result ((t : Tests) → AreRight t → F.written written.new
+        ≡ F.written written.old ++ document_bytes (F.form written.old) t (filtered_query evaluator.old)
         (line_at line.now) (part_value walked.entry.0)) }
-    ensures form { IfOk result (λ w. (t : Tests) → AreRight t → F.form w ≡ F.form written) }
+    ensures form { OnOk result ((t : Tests) → AreRight t → F.form written.new ≡ F.form written.old) }
     ensures query { filtered_query evaluator.new ≡ filtered_query evaluator.old }
 {
-    let mut visitor = written;
-    visitor.begin(line.number);
-    let Ok(more) = evaluator.visit(crew, walked, visitor) else {
+    written.begin(line.number);
+    let Ok(()) = evaluator.visit(crew, walked, written) else {
         return Err(AllocError);
     };
-    end_line(line, more)
+    end_line(line, written)
 }
 
-/// What was written once a line has ended that had begun, and whose document was visited.
-fn end_line<F: Form + Drop>(line: &LineRef<'_>, visited: F) -> Result<F, AllocError>
-    ensures written { IfOk result (λ w. (begun : F) (before : List ℕ) (ns : List Node)
-        → F.HasBegun begun line.now.number before → F.kept visited ≡ fold F.put (F.kept begun) ns
-        → F.written w ≡ before ++ (F.form begun).of_document (line_at line.now) ns) }
-    ensures form { IfOk result (λ w. (begun : F) (ns : List Node)
-        → F.kept visited ≡ fold F.put (F.kept begun) ns → F.form w ≡ F.form begun) }
+/// Ends a line that had begun, and whose document was visited.
+fn end_line<F: Form + Drop>(line: &LineRef<'_>, written: &mut F) -> Result<(), AllocError>
+    ensures written { OnOk result ((begun : F) (before : List ℕ) (ns : List Node)
+        → F.HasBegun begun line.now.number before
+        → F.kept written.old ≡ fold F.put (F.kept begun) ns
+        → F.written written.new ≡ before ++ (F.form begun).of_document (line_at line.now) ns) }
+    ensures form { (begun : F) (ns : List Node) → F.kept written.old ≡ fold F.put (F.kept begun) ns
+        → F.form written.new ≡ F.form begun }
 {
-    let mut more = visited;
-    more.end(line.bytes)?;
-    Ok(more)
+    written.end(line.bytes)
 }

@@ -1,6 +1,6 @@
 //! The evaluation of a query on the documents that a filter chooses.
 
-ghost use Rattle.std.specs.Prelude.{◌≡◌, IfOk};
+ghost use Rattle.std.specs.Prelude.{◌≡◌, IfOk, OnOk};
 ghost use Rattle.std.specs.List.{fold};
 ghost use Rattle.jp_part.specs.Part.{part_value};
 ghost use Rattle.jp_regexp.specs.Tests.{Tests, AreRight};
@@ -48,21 +48,21 @@ impl<'q> FilteredEvaluator<'q> {
         }
     }
 
-    /// The visitor once it has taken the nodes of a document: none where it is not chosen, which is not
-    /// walked then.
+    /// Hands the nodes of a document to the visitor: none where it is not chosen, which is not walked then.
     pub(crate) fn visit<R: Threads + Sync, G, V: Visit + Drop + Send>(
         &mut self,
         crew: &Crew<R, G>,
         walked: (Part<'_>, Walk),
-        visitor: V,
-    ) -> Result<V, EvalFault>
-        ensures nodes { IfOk result (λ w. (t : Tests) → AreRight t → V.kept w ≡ fold V.put (V.kept visitor)
+        visitor: &mut V,
+    ) -> Result<(), EvalFault>
+        ensures nodes { OnOk result ((t : Tests) → AreRight t
+            → V.kept visitor.new ≡ fold V.put (V.kept visitor.old)
             (selected_nodes t (part_value walked.entry.0) (filtered_query self.old))) }
         ensures query { filtered_query self.new ≡ filtered_query self.old }
     {
         let (root, walk) = walked;
         if !self.chooses(root)? {
-            return Ok(visitor);
+            return Ok(());
         }
         match walk {
             Walk::ByHalves(cuts) => self

@@ -28,6 +28,11 @@ pub same_nodes : (t : Tests) (q : Query) (root : Json) → AreRight t → docume
 same_nodes t q root right = ap (λ u. document_nodes u q root) (same_tests t right)
 
 -- a walk from the root that began with a visitor
+-- where a walk began with what the visitor had taken
+pub from_taken : {K : Type 0} (put : K → Node → K) (start : K) (held last : Kept K) (ns : List Node)
+    → held ≡ taken start → last ≡ plus (put_found put) held ns → last ≡ plus (put_found put) (taken start) ns
+from_taken put start held last ns began found = found ∙ ap (λ k. plus (put_found put) k ns) began
+
 pub visited : {K : Type 0} (put : K → Node → K) (q : compiled.Query) (base : Base) (ss : List Segment)
     (root : Part) (path : List Link) (start last : K) (held : Kept K)
     → ss ≡ q.segments.items → path ≡ [] → part_value root ≡ base.root → base.roots ≡ roots_of q.roots.items

@@ -1,12 +1,13 @@
 //! The nodes that a query selects, document after document.
 
-ghost use Rattle.std.specs.Prelude.{◌≡◌, [], true, false, IfOk};
+ghost use Rattle.std.specs.Prelude.{◌≡◌, [], true, false, IfOk, OnOk};
 ghost use Rattle.std.specs.List.{fold};
 ghost use Rattle.jp_compiled.specs.Compiled.{compiled_query};
 ghost use Rattle.jp_doc.specs.Document.{document_value};
 ghost use Rattle.jp_compiled.specs.Parts.{roots_of, segments_in};
 ghost use Rattle.jp_eval.specs.Nodelist.{document_nodes};
 ghost use Rattle.jp_eval.specs.inner.Routes.{is_routed};
+ghost use Rattle.jp_found.specs.Kept.{kept, taken};
 ghost use Rattle.jp_part.specs.Part.{part_value};
 ghost use Rattle.jp_regexp.specs.Tests.{Tests, AreRight};
 
@@ -75,35 +76,40 @@ impl<'p> Evaluator<'p> {
             (document_nodes tests (evaluated_query self.old) (document_value document.now))) }
         ensures query { evaluated_query self.new ≡ evaluated_query self.old }
     {
-        self.visit_part(Part::root_of(document), visitor)
+        let mut visitor = visitor;
+        self.visit_part(Part::root_of(document), &mut visitor)?;
+        Ok(visitor)
     }
 
-    /// The same as `visit`, of a document by its whole value, in whatever form it is read.
+    /// The same as `visit`, of a document by its whole value, in whatever form it is read, by a visitor that
+    /// is lent.
     ///
     /// # Errors
     ///
-    /// [`EvalFault::Memory`] where a growth of memory was refused. Further documents may be visited then.
+    /// [`EvalFault::Memory`] where a growth of memory was refused. Further documents may be visited then, and
+    /// what the visitor has is left open.
     pub fn visit_part<V: Visit + Drop>(
         &mut self,
         root: Part<'_>,
-        mut visitor: V,
-    ) -> Result<V, EvalFault>
-        ensures nodes { IfOk result (λ t. (tests : Tests) → AreRight tests →
-            V.kept t ≡ fold V.put (V.kept visitor)
+        visitor: &mut V,
+    ) -> Result<(), EvalFault>
+        ensures nodes { OnOk result ((tests : Tests) → AreRight tests →
+            V.kept visitor.new ≡ fold V.put (V.kept visitor.old)
             (document_nodes tests (evaluated_query self.old) (part_value root.entry))) }
         ensures query { evaluated_query self.new ≡ evaluated_query self.old }
     {
-        if self.visit_directly(root, &mut visitor)? {
-            return Ok(visitor);
+        if self.visit_directly(root, visitor)? {
+            return Ok(());
         }
         let query = self.query;
         let context = answer_roots::<V>(self.alloc, root, query.roots.as_slice(), self.asked)?;
         let segments = query.segments.as_slice();
         let mut path = empty_path(self.alloc, &mut self.scratch);
-        let mut found = Found::Visitor(visitor);
+        let mut found = take_visitor(self.alloc, visitor);
         run(&context, segments, root, &mut path, &mut found)?;
         self.scratch = path.into_scratch();
-        Ok(visitor_of(found))
+        *visitor = visitor_of(found);
+        Ok(())
     }
 
     /// The same as `visit`, where a list of children that the query's own segments walk, and that is long
@@ -129,35 +135,39 @@ impl<'p> Evaluator<'p> {
             (document_nodes tests (evaluated_query self.old) (document_value document.now))) }
         ensures query { evaluated_query self.new ≡ evaluated_query self.old }
     {
-        self.visit_part_split(rt, Part::root_of(document), cuts, fork, visitor)
+        let mut visitor = visitor;
+        self.visit_part_split(rt, Part::root_of(document), cuts, fork, &mut visitor)?;
+        Ok(visitor)
     }
 
-    /// The same as `visit_split`, of a document by its whole value, in whatever form it is read.
+    /// The same as `visit_split`, of a document by its whole value, in whatever form it is read, by a visitor
+    /// that is lent.
     ///
     /// # Errors
     ///
-    /// [`EvalFault::Memory`] where a growth of memory was refused. Further documents may be visited then.
+    /// [`EvalFault::Memory`] where a growth of memory was refused. Further documents may be visited then, and
+    /// what the visitor has is left open.
     pub fn visit_part_split<R: Threads + Sync, F: Fork + Sync, V: Visit + Drop + Send>(
         &mut self,
         rt: &R,
         root: Part<'_>,
         cuts: Cuts,
         fork: &F,
-        mut visitor: V,
-    ) -> Result<V, EvalFault>
-        ensures nodes { IfOk result (λ t. (tests : Tests) → AreRight tests →
-            V.kept t ≡ fold V.put (V.kept visitor)
+        visitor: &mut V,
+    ) -> Result<(), EvalFault>
+        ensures nodes { OnOk result ((tests : Tests) → AreRight tests →
+            V.kept visitor.new ≡ fold V.put (V.kept visitor.old)
             (document_nodes tests (evaluated_query self.old) (part_value root.entry))) }
         ensures query { evaluated_query self.new ≡ evaluated_query self.old }
     {
-        if self.visit_directly(root, &mut visitor)? {
-            return Ok(visitor);
+        if self.visit_directly(root, visitor)? {
+            return Ok(());
         }
         let query = self.query;
         let context = answer_roots::<V>(self.alloc, root, query.roots.as_slice(), self.asked)?;
         let segments = query.segments.as_slice();
         let mut path = empty_path(self.alloc, &mut self.scratch);
-        let mut found = Found::Visitor(visitor);
+        let mut found = take_visitor(self.alloc, visitor);
         let splitting = Splitting {
             rt,
             fork,
@@ -166,7 +176,8 @@ impl<'p> Evaluator<'p> {
         };
         go_split(&splitting, Task::Run(segments), root, &mut path, &mut found)?;
         self.scratch = path.into_scratch();
-        Ok(visitor_of(found))
+        *visitor = visitor_of(found);
+        Ok(())
     }
 
     /// Tells the visitor of the node at the end of the query's route, where the query has one, and says
@@ -210,4 +221,12 @@ fn empty_path<'v>(alloc: Global, scratch: &mut Scratch) -> PathStack<'v>
     ensures { result ≡ [] }
 {
     PathStack::with_scratch(alloc, mem::replace(scratch, Scratch::new(alloc)))
+}
+
+/// The visitor, as what a walk finds nodes for. An empty one stands in its place meanwhile.
+fn take_visitor<'v, V: Visit + Drop>(alloc: Global, visitor: &mut V) -> Found<'v, V>
+    ensures { kept V.kept result ≡ taken (V.kept visitor.old) }
+{
+    let empty = visitor.fresh(alloc);
+    Found::Visitor(mem::replace(visitor, empty))
 }

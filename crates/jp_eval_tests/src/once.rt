@@ -55,11 +55,11 @@ pub(crate) fn counted(alloc: Global, query: &str, line: &str) -> Result<(usize, 
     let mut reader = FlatReader::new(alloc);
     let flat = match reader.read(line.as_bytes())? {
         Some(document) => {
-            let none = Locations {
+            let mut found = Locations {
                 locations: Vec::new(alloc),
             };
             let mut evaluator = Evaluator::new(alloc, plan.compiled());
-            let found = evaluator.visit_part(Part::root_of_flat(&document), none)?;
+            evaluator.visit_part(Part::root_of_flat(&document), &mut found)?;
             found.locations.len()
         }
         None => usize::MAX,

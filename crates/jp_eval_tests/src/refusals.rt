@@ -82,12 +82,12 @@ fn selected_flat(alloc: Global, query: &str, line: &[u8], wanted: usize) -> Opti
     let Some(document) = reader.read(line).ok()? else {
         return Some(false);
     };
-    let none = Locations {
+    let mut found = Locations {
         locations: Vec::new(alloc),
     };
     let mut evaluator = Evaluator::new(alloc, plan.compiled());
-    let found = evaluator
-        .visit_part(Part::root_of_flat(&document), none)
+    evaluator
+        .visit_part(Part::root_of_flat(&document), &mut found)
         .ok()?;
     Some(found.locations.len() == wanted)
 }

@@ -113,13 +113,11 @@ fn selected_flat(alloc: Global, query: &str, document: &str) -> Result<String, F
     let Some(document) = reader.read(document.as_bytes())? else {
         return Ok(String::from_str(alloc, "not flat")?);
     };
-    let none = Locations {
+    let mut found = Locations {
         locations: Vec::new(alloc),
     };
-    let found = Evaluator::new(alloc, plan.compiled()).visit_part(
-        Part::root_of_flat(&document),
-        none,
-    )?;
+    let mut evaluator = Evaluator::new(alloc, plan.compiled());
+    evaluator.visit_part(Part::root_of_flat(&document), &mut found)?;
     paths(alloc, found.locations.as_slice())
 }
 

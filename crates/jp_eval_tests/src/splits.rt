@@ -157,11 +157,11 @@ fn found_flat<R: Threads + Sync>(
     let mut reader = FlatReader::new(alloc);
     let document = reader.read(line.as_bytes())?.ok_or("not flat")?;
     let root = Part::root_of_flat(&document);
-    let none = Locations {
+    let mut found = Locations {
         locations: Vec::new(alloc),
     };
     let mut evaluator = Evaluator::new(alloc, plan.compiled());
-    let found = evaluator.visit_part_split(rt, root, Cuts::new(floor, 64), fork, none)?;
+    evaluator.visit_part_split(rt, root, Cuts::new(floor, 64), fork, &mut found)?;
     Ok(found.locations)
 }
 

@@ -85,16 +85,17 @@ fn selected<R: Threads + Sync>(
     root: Part<'_>,
     floor: Option<u64>,
 ) -> Result<String, Fail> {
-    let none = Locations {
+    let mut found = Locations {
         locations: Vec::new(alloc),
     };
     let mut evaluator = Evaluator::new(alloc, plan.compiled());
-    let found = match floor {
+    match floor {
         Some(floor) => {
-            evaluator.visit_part_split(rt, root, Cuts::new(floor, 64), &OpenFork, none)?
+            let cuts = Cuts::new(floor, 64);
+            evaluator.visit_part_split(rt, root, cuts, &OpenFork, &mut found)?;
         }
-        None => evaluator.visit_part(root, none)?,
-    };
+        None => evaluator.visit_part(root, &mut found)?,
+    }
     paths(alloc, found.locations.as_slice())
 }
 

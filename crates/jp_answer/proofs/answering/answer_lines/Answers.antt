@@ -15,16 +15,16 @@ loop-line-preserved-in_default g c =
     let k = c.args.asked.now.policy in
     let lines = c.args.lines.now in
     let kept = c.loop-line.invariant in
-    let none = sym c.in_ok-more.ensures.fault ∙ c.in_default.is in
+    let none = sym c.in_ok-fault.ensures.fault ∙ c.in_default.is in
     let passes_now = passes_none _ none in
     record {
-      query = c.in_ok-more.ensures.query ∙ kept.query;
-      form = λ t right. c.in_ok-more.ensures.form t right ∙ kept.form t right;
+      query = c.in_ok-fault.ensures.query ∙ kept.query;
+      form = λ t right. c.in_ok-fault.ensures.form t right ∙ kept.form t right;
       answer = λ t right. answer_more k lines c.loop-line.line-index c.loop-line-test.true form
           (g.F.Form.form c.loop-line.written) t (asked_query c.args.asked.now)
           (filtered_query c.loop-line.tools.evaluator) (bytes c.loop-line.written)
-          (bytes c.in_ok-more.more) c.loop-line.faulty c.loop-line.faulty (kept.form t right) kept.query
-          (kept.answer t right) (c.in_ok-more.ensures.lines t right) (omega (arith, passes_now)) (inr none);
+          (bytes c.add_line.new.written) c.loop-line.faulty c.loop-line.faulty (kept.form t right) kept.query
+          (kept.answer t right) (c.in_ok-fault.ensures.lines t right) (omega (arith, passes_now)) (inr none);
       stopped = stop_more k lines c.loop-line.line-index c.loop-line-test.true kept.stopped (inr none);
       passed = passed_more k lines c.loop-line.line-index c.loop-line-test.true c.loop-line.faulty kept.passed
           none;
@@ -38,13 +38,13 @@ returns-in-Stop-clause-answer g c = λ t right. answer_last
     (g.F.Form.written c.loop-line.written)
     (bytes_in c.in_ok-into_chunks-in-Stop.field-0.items) c.loop-line.faulty c.in-Some.fault
     (c.loop-line.invariant.form t right) c.loop-line.invariant.query (c.loop-line.invariant.answer t right)
-    (c.in_ok-into_chunks-in-Stop.ensures ∙ c.in_ok-more.ensures.lines t right) c.in-Stop.is
-    (sym c.in_ok-more.ensures.fault ∙ c.in-Some.is)
+    (c.in_ok-into_chunks-in-Stop.ensures ∙ c.in_ok-fault.ensures.lines t right) c.in-Stop.is
+    (sym c.in_ok-fault.ensures.fault ∙ c.in-Some.is)
 
 pub returns-in-Stop-clause-stopped : goal.returns-in-Stop-clause-stopped
 returns-in-Stop-clause-stopped g c = stop_last c.args.asked.now.policy c.args.lines.now
     c.loop-line.line-index c.loop-line-test.true c.in-Some.fault
-    c.loop-line.invariant.stopped c.in-Stop.is (sym c.in_ok-more.ensures.fault ∙ c.in-Some.is)
+    c.loop-line.invariant.stopped c.in-Stop.is (sym c.in_ok-fault.ensures.fault ∙ c.in-Some.is)
 
 pub overflow_add-faulty : goal.overflow_add-faulty
 overflow_add-faulty g c = omega (
@@ -53,7 +53,7 @@ overflow_add-faulty g c = omega (
       c.loop-line-test.true c.loop-line.faulty
       (passed_one c.args.asked.now.policy c.args.lines.now c.loop-line.line-index
       c.loop-line-test.true c.loop-line.faulty c.in-Some.fault c.loop-line.invariant.passed
-      c.in-KeepGoing.is (sym c.in_ok-more.ensures.fault ∙ c.in-Some.is)),
+      c.in-KeepGoing.is (sym c.in_ok-fault.ensures.fault ∙ c.in-Some.is)),
   c.requires.few,
 )
 
@@ -64,16 +64,17 @@ loop-line-preserved g c =
     let k = c.args.asked.now.policy in
     let lines = c.args.lines.now in
     let kept = c.loop-line.invariant in
-    let found = sym c.in_ok-more.ensures.fault ∙ c.in-Some.is in
+    let found = sym c.in_ok-fault.ensures.fault ∙ c.in-Some.is in
     let passes_now = passes_one _ c.in-Some.fault found in
     record {
-      query = c.in_ok-more.ensures.query ∙ kept.query;
-      form = λ t right. c.in_ok-more.ensures.form t right ∙ kept.form t right;
+      query = c.in_ok-fault.ensures.query ∙ kept.query;
+      form = λ t right. c.in_ok-fault.ensures.form t right ∙ kept.form t right;
       answer = λ t right. answer_more k lines c.loop-line.line-index c.loop-line-test.true form
           (g.F.Form.form c.loop-line.written) t (asked_query c.args.asked.now)
           (filtered_query c.loop-line.tools.evaluator) (bytes c.loop-line.written)
-          (bytes c.in_ok-more.more) c.loop-line.faulty (c.loop-line.faulty + 1) (kept.form t right) kept.query
-          (kept.answer t right) (c.in_ok-more.ensures.lines t right) (omega (arith, passes_now))
+          (bytes c.add_line.new.written) c.loop-line.faulty (c.loop-line.faulty + 1) (kept.form t right)
+          kept.query
+          (kept.answer t right) (c.in_ok-fault.ensures.lines t right) (omega (arith, passes_now))
           (inl c.in-KeepGoing.is);
       stopped = stop_more k lines c.loop-line.line-index c.loop-line-test.true kept.stopped
           (inl c.in-KeepGoing.is);
