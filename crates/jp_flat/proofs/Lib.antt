@@ -9,6 +9,7 @@ pub mod Entries
 pub mod InsideObject
 pub mod Rising
 pub mod Sorted
+pub mod FirstBytes
 pub mod Placed
 pub mod OnLiterals
 pub mod Kept

@@ -15,9 +15,19 @@ use std::alloc::AllocError;
 use std::cmp::Ordering;
 
 /// The order of two names, by their bytes and so by their scalar values.
+// Most names differ in their first byte, which is told without a look at their lengths.
+#[inline(always)]
 pub(crate) fn order(left: &str, right: &str) -> Ordering
     ensures { result ≡ text_cmp (chars left.now) (chars right.now) }
 {
+    if let (Some(first), Some(second)) = (left.as_bytes().first(), right.as_bytes().first()) {
+        if *first < *second {
+            return Ordering::Less;
+        }
+        if *second < *first {
+            return Ordering::Greater;
+        }
+    }
     left.cmp(right)
 }
 
