@@ -8,6 +8,7 @@ ghost use Rattle.jp_answer.specs.Ranges.{AreWorkers};
 use crate::answerer::Answerer;
 use crate::crew::Crew;
 use crate::gate::Gate;
+use crate::limits::{BLOCKS, LOOKS, QUICK_LOOKS};
 use crate::ring::{Claimed, Ring};
 use jp_board::{Board, Seat};
 use jp_output::Form;
@@ -15,15 +16,6 @@ use std::alloc::AllocError;
 use std::hint::spin_loop;
 use std::thread::{Threads, join_mut, yield_now};
 use std::{mem, thread};
-
-/// How many blocks a board has: as many as it takes.
-const BLOCKS: u64 = 4_294_967_296;
-
-/// How often a worker looks for a block that it has claimed.
-const LOOKS: u32 = 20_000;
-
-/// After how many of these looks it lets other threads go on between two.
-const QUICK_LOOKS: u32 = 200;
 
 /// What a run gives, which goes on the calling thread while workers answer the blocks that it hands out into
 /// a fresh ring. There are so many workers, 1 to 64, of which the calling thread is one; the threads of the

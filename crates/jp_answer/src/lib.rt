@@ -13,6 +13,7 @@ mod filtered;
 mod gate;
 mod gathered;
 pub mod laws;
+mod limits;
 mod lists;
 mod on_fault;
 mod outcome;

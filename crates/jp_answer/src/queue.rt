@@ -9,6 +9,7 @@ use crate::asked::Asked;
 use crate::block::Block;
 use crate::crew::Crew;
 use crate::gate::Gate;
+use crate::limits::{LOOKS, MOST_OUT, SPARE_BYTES};
 use crate::ring::Ring;
 use crate::task::Task;
 use jp_buffer::WaitingLines;
@@ -17,15 +18,6 @@ use std::alloc::{AllocError, Global};
 use std::collections::VecDeque;
 use std::sync::Arc;
 use std::thread::{Threads, yield_now};
-
-/// How many blocks may be out at once: as many as a ring has cells.
-const MOST_OUT: usize = 16;
-
-/// How often the answer to the front block is looked for before it is given up.
-const LOOKS: u32 = 20_000;
-
-/// How many bytes of lines a block has at most whose buffer is used again.
-const SPARE_BYTES: usize = 131_072;
 
 /// A block that is out.
 #[derive(Drop)]

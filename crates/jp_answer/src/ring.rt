@@ -3,18 +3,13 @@
 ghost use Rattle.std.specs.Prelude.{◌≡◌, ◌<◌, IfOk, vec_len};
 
 use crate::block::Block;
+use crate::limits::{MOST_OUT, TRIES};
 use jp_output::Form;
 use std::alloc::{AllocError, Global};
 use std::hint::spin_loop;
 use std::sync::atomic::Ordering::Relaxed;
 use std::sync::atomic::{AtomicBool, AtomicU64};
 use std::sync::{Arc, Mutex};
-
-/// How many cells there are, and so how many blocks may be out at once.
-const CELLS: usize = 16;
-
-/// How often a thread tries to have a cell for itself, which another has for a moment.
-const TRIES: u32 = 1_000;
 
 /// What was handed out in a cell last: its number, and the block, unless some thread has taken it.
 #[derive(Drop)]
@@ -138,8 +133,8 @@ impl<'q, F: Form + Drop> Ring<'q, F> {
 fn new_cells<'q, F: Form + Drop>(alloc: Global) -> Result<Vec<Cell<'q, F>>, AllocError>
     ensures { IfOk result (λ cells. vec_len cells ≡ 16) }
 {
-    let mut cells = Vec::with_capacity(alloc, CELLS)?;
-    for _cell in 0..CELLS {
+    let mut cells = Vec::with_capacity(alloc, MOST_OUT)?;
+    for _cell in 0..MOST_OUT {
         cells.push(Mutex::new(None))?;
     }
     Ok(cells)

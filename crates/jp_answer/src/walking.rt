@@ -1,15 +1,9 @@
 //! How the document of a line is walked.
 
 use crate::asked::Asked;
+use crate::limits::{SPLIT_BYTES, SPLIT_FLOOR};
 use jp_buffer::LineRef;
 use jp_eval::Cuts;
-
-/// How many members a list has at least whose halves are walked at once. A half starts a thread of its own,
-/// for which fewer are too few.
-const SPLIT_FLOOR: u64 = 4096;
-
-/// How long a line is at least that may hold such a list: each member takes two bytes or more.
-const SPLIT_BYTES: usize = 8192;
 
 /// How a document is walked.
 #[derive(Clone, Copy, Drop)]

@@ -3,11 +3,9 @@
 ghost use Rattle.std.specs.Prelude.{◌≡◌, false};
 ghost use Rattle.jp_explain.specs.Picture.{is_control, is_separator, is_escaped};
 
+use crate::sizes::ESCAPE_COLUMNS;
 use unicode::properties::is_default_ignorable_code_point;
 use unicode_width::UnicodeWidthChar;
-
-/// How many columns the escape of a unit of UTF-16 takes.
-const ESCAPE: usize = 6;
 
 fn is_control(c: char) -> bool
     ensures { result ≡ is_control c }
@@ -31,7 +29,7 @@ pub(crate) fn is_escaped(c: char) -> bool
 /// How many columns the character takes as it is shown.
 pub(crate) fn columns(c: char) -> usize {
     if is_escaped(c) {
-        ESCAPE.saturating_mul(c.len_utf16())
+        ESCAPE_COLUMNS.saturating_mul(c.len_utf16())
     } else {
         c.width().unwrap_or(0)
     }

@@ -11,6 +11,7 @@ use crate::cure_table::{
 };
 use crate::explanation::Explanation;
 use crate::meant::{Cure, a_test_of_items, in_parentheses, name_in_quotes, name_of_selector};
+use crate::sizes::NEAR_CHARACTERS;
 use crate::words::{cut_literal, dotted_number, name_behind_sign, word_alone};
 use jp_query_scan::{Expected, Reason, Rule};
 use jp_tokens::first_character;
@@ -49,9 +50,6 @@ fn place_in_brackets(expected: Expected) -> Option<At> {
     }
 }
 
-/// How many characters on each side of a mark are looked at.
-const NEAR: usize = 100;
-
 /// The first characters of the text, so many at most, and the rest.
 fn split_behind(text: &str, characters: usize) -> (&str, &str) {
     match text.char_indices().nth(characters) {
@@ -62,10 +60,10 @@ fn split_behind(text: &str, characters: usize) -> (&str, &str) {
 
 /// What stands near the mark, before it and behind it.
 fn around(query: &str, mark: usize) -> (&str, &str) {
-    let far = mark.saturating_sub(NEAR);
+    let far = mark.saturating_sub(NEAR_CHARACTERS);
     let (_, near) = split_behind(query, far);
     let (before, behind) = split_behind(near, mark.saturating_sub(far));
-    let (behind, _) = split_behind(behind, NEAR);
+    let (behind, _) = split_behind(behind, NEAR_CHARACTERS);
     (before, behind)
 }
 

@@ -18,6 +18,7 @@ mod meant;
 mod pattern_note;
 mod picture;
 mod plain_pattern;
+mod sizes;
 mod words;
 
 pub use document_picture::write_document_mark;

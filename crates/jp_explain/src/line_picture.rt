@@ -9,21 +9,10 @@ ghost use Rattle.jp_explain.specs.Picture.{IsLinePicture, IsLinePictureWith, IsP
 use crate::line::Line;
 use crate::line_explanation::LineExplanation;
 use crate::line_helping::{line_help, line_of_help};
+use crate::sizes::{
+    LINE_BYTES, LINE_BYTES_BEFORE, LINE_BYTES_BEHIND, NUMBER_BYTES, PATH_CHARACTERS,
+};
 use std::alloc::{AllocError, Global};
-
-/// How many bytes of a line are shown.
-const BYTES: usize = 60;
-
-/// How many of them before the mark, and behind it but for the rest of a character, where the line is cut.
-const BYTES_BEFORE: usize = 30;
-
-const BYTES_BEHIND: usize = 27;
-
-/// How many characters of a path are shown.
-const PATH_CHARACTERS: usize = 120;
-
-/// How many bytes of a number are shown.
-const NUMBER_BYTES: usize = 40;
 
 /// The first place from there on, three bytes farther at most, at which a character may begin in UTF-8.
 fn boundary(line: &[u8], from: usize) -> usize {
@@ -38,11 +27,11 @@ fn boundary(line: &[u8], from: usize) -> usize {
 
 /// Behind how many bytes that is shown begins, and ends.
 fn shown_range(line: &[u8], mark: usize) -> (usize, usize) {
-    if line.len() <= BYTES {
+    if line.len() <= LINE_BYTES {
         return (0, line.len());
     }
-    let start = boundary(line, mark.saturating_sub(BYTES_BEFORE));
-    let end = boundary(line, mark.saturating_add(BYTES_BEHIND));
+    let start = boundary(line, mark.saturating_sub(LINE_BYTES_BEFORE));
+    let end = boundary(line, mark.saturating_add(LINE_BYTES_BEHIND));
     (start, end.min(line.len()))
 }
 

@@ -13,6 +13,7 @@ ghost use Rattle.jp_explain.specs.PatternNotes.{first_or, last_or};
 
 use crate::line::Line;
 use crate::plain_pattern::plain_pattern;
+use crate::sizes::PATTERN_CHARACTERS;
 use jp_check::Plan;
 use jp_compiled::KnownPattern;
 use jp_regexp::Pattern;
@@ -138,9 +139,6 @@ pub fn pattern_notes(alloc: Global, plan: &Plan) -> Result<Vec<PatternNote>, All
     }
     Ok(notes)
 }
-
-/// How many characters of a pattern are shown.
-const PATTERN_CHARACTERS: usize = 100;
 
 /// Shows the text as a literal of a query in double quotes (RFC 9535, 2.3.1.1).
 fn push_literal(line: &mut Line, text: &str) -> Result<(), AllocError> {

@@ -10,18 +10,8 @@ use crate::characters::{columns, is_escaped};
 use crate::cure::cure;
 use crate::explanation::Explanation;
 use crate::line::Line;
+use crate::sizes::{HELP_CHARACTERS, QUERY_COLUMNS, QUERY_COLUMNS_BEFORE, QUERY_COLUMNS_BEHIND};
 use std::alloc::{AllocError, Global};
-
-/// How many columns of a query are shown.
-const COLUMNS: usize = 70;
-
-/// How many of them before the mark, and behind it, where the query is cut, each without its `..`.
-const COLUMNS_BEFORE: usize = 35;
-
-const COLUMNS_BEHIND: usize = 31;
-
-/// How many characters are shown of what helps.
-const HELP_CHARACTERS: usize = 100;
 
 /// The columns that are set aside for it, so that none takes no room at all.
 fn room(c: char) -> usize
@@ -39,7 +29,7 @@ fn has_room(text: &str) -> bool
     for c in text.chars() {
         taken = taken.saturating_add(room(c));
     }
-    taken <= COLUMNS
+    taken <= QUERY_COLUMNS
 }
 
 /// Behind how many characters that is shown begins which stands before the mark.
@@ -50,7 +40,7 @@ fn first_shown(text: &str, mark: usize) -> usize {
     }
     let mut first = 0;
     for (at, c) in text.chars().take(mark).enumerate() {
-        if taken <= COLUMNS_BEFORE {
+        if taken <= QUERY_COLUMNS_BEFORE {
             break;
         }
         taken = taken.saturating_sub(room(c));
@@ -117,7 +107,7 @@ fn cut_query(alloc: Global, query: &str, mark: usize) -> Result<Shown, AllocErro
     let mut line = Line::new(alloc);
     push_before(&mut line, query, first_shown(query, mark), mark)?;
     let column = line.columns();
-    push_behind(&mut line, query, mark, COLUMNS_BEHIND)?;
+    push_behind(&mut line, query, mark, QUERY_COLUMNS_BEHIND)?;
     Ok(Shown { line, column })
 }
 

@@ -10,12 +10,10 @@ ghost use Rattle.jp_flat.specs.Value.{entries, flat_value};
 ghost use Rattle.jp_flat.specs.inner.Placed.{IsPlace};
 
 use crate::gather::order;
+use crate::limits::MOST_INSERTED;
 use crate::value::{FlatMember, FlatMembers};
 use std::alloc::AllocError;
 use std::cmp::Ordering;
-
-/// The most members that are inserted: more are sorted, since each that is inserted may move all before it.
-const MOST_INSERTED: usize = 20;
 
 /// Where a name belongs among names that rise.
 enum Place {

@@ -7,6 +7,7 @@ mod examples;
 mod gather;
 mod insertion;
 pub mod laws;
+mod limits;
 mod lines;
 mod nodes;
 mod reader;

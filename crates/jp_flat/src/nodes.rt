@@ -8,12 +8,10 @@ ghost use Rattle.jp_flat.specs.inner.Plain.{is_plain_from};
 ghost use Rattle.jp_flat.specs.inner.Rows.{are_within, pass_fault};
 
 use crate::digits::{is_whole_text, is_within};
+use crate::limits::MAX_LEVEL;
 use jp_doc::DocFault;
 use jp_flat_nodes::MAX_NODES;
 use json::Node;
-
-/// The most brackets that are open at once: as many as `Document::read` takes, and one fewer than the tape.
-const MAX_LEVEL: u32 = 127;
 
 /// A text, which is in UTF-8 by its type.
 // The same text, with a clause: a call for it would be one more at each text of a line.

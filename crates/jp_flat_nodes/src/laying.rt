@@ -6,12 +6,10 @@ ghost use Rattle.json.specs.Tape.{Linked, node_token};
 ghost use Rattle.jp_flat_nodes.specs.Nodes.{AreLinked, AreWithin, tokens_at};
 ghost use Rattle.jp_flat_nodes.specs.inner.Laid.{EndsWithin, IsKept, IsLaid};
 
+use crate::limits::MAX_TEXT;
 use crate::node::Node;
 use json::Node as Taped;
 use std::alloc::AllocError;
-
-/// The most bytes of a text, and of all texts before it.
-const MAX_TEXT: usize = 0x7fff_ffff;
 
 /// Where a text stands, and how many bytes it has.
 #[derive(Clone, Copy, Drop)]

@@ -4,10 +4,12 @@
 mod bytes;
 mod laying;
 mod leaves;
+mod limits;
 mod node;
 mod numbers;
 mod reading;
 
 pub use laying::lay;
-pub use node::{MAX_NODES, Node};
+pub use limits::MAX_NODES;
+pub use node::Node;
 pub use reading::{read_decimal_line, read_line};

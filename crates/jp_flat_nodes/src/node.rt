@@ -3,6 +3,8 @@
 ghost use Rattle.std.specs.Prelude.{◌≡◌, ◌++◌, ◌∷◌, [], ◌+◌, ◌<◌, ◌^◌, ◌-◌, IsTrue, length, slice_set};
 ghost use Rattle.jp_flat_nodes.specs.declared.node.Node.TheVariants.{EndArray, Array, EndObject, Object};
 
+use crate::limits::MAX_NODES;
+
 /// A node: one for each token of a document. A text or a number is told by its place in the document's text
 /// and how many bytes it has.
 // 12 bytes: what is written for each token of each line, and read again, is as small as it can be.
@@ -27,9 +29,6 @@ pub enum Node {
     /// `null`.
     Null,
 }
-
-/// The greatest number of nodes: those of an array of 16,777,216 items, and its brackets.
-pub const MAX_NODES: usize = 16_777_218;
 
 /// No place: the line is not read so.
 pub(crate) const REFUSED: usize = usize::MAX;

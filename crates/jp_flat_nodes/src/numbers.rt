@@ -5,16 +5,8 @@ ghost use Rattle.jp_flat_nodes.specs.inner.Reads.{IsDigits, IsExponent, IsFracti
 ghost use Rattle.jp_flat_nodes.specs.inner.Reads.{behind_sign};
 
 use crate::bytes::{byte_at, digits_end};
+use crate::limits::{MAX_BYTES, MAX_DIGITS, MAX_EXPONENT};
 use crate::node::{Node, REFUSED, put};
-
-/// How many digits are read before the point: whatever they are, a whole number of them has 64 bits.
-const MAX_DIGITS: usize = 18;
-
-/// How many bytes a number with a fraction or an exponent has at most, and how many of them are its exponent:
-/// so it is within the limits of numbers.
-const MAX_BYTES: usize = 290;
-
-const MAX_EXPONENT: usize = 10;
 
 /// Where the digits end that begin here, or `REFUSED` where there are none or too many, or a zero stands
 /// before others.

@@ -6,11 +6,9 @@ ghost use Rattle.jp_flat_nodes.specs.inner.Reads.{Reads};
 
 use crate::bytes::{blanks_end, byte_at};
 use crate::leaves::{key, literal, text};
-use crate::node::{MAX_NODES, Node, REFUSED, close_array, close_object, push};
+use crate::limits::{MAX_DEPTH, MAX_NODES};
+use crate::node::{Node, REFUSED, close_array, close_object, push};
 use crate::numbers::number;
-
-/// The most brackets that are open at once.
-const MAX_DEPTH: u32 = 127;
 
 /// Reads a value, which begins here: the place behind it, or `REFUSED`. Then the nodes may be any. So many
 /// brackets may be open inside of it at most.

@@ -12,14 +12,8 @@ ghost use Rattle.jp_run.specs.Limits.{max_lines, window};
 use crate::ends::{Sink, Source};
 use crate::fault::RunFault;
 use crate::input::InputBuffer;
+use crate::limits::{LEAST_READ, MAX_LINES};
 use crate::stream::Stream;
-
-/// The greatest number of lines: with the one that the end may complete there are as many as a board takes
-/// pieces.
-const MAX_LINES: u64 = 4_294_967_295;
-
-/// The number of bytes that a read is asked for at least: enough for 4,096 lines of two bytes.
-const LEAST_READ: usize = 8_192;
 
 /// What a read came to.
 #[derive(Clone, Copy, Drop)]

@@ -14,6 +14,7 @@ mod gathering;
 mod input;
 mod job;
 pub mod laws;
+mod limits;
 mod outcome;
 mod output;
 mod prepared;

@@ -25,6 +25,7 @@ use crate::ends::{Sink, Source};
 use crate::fault::RunFault;
 use crate::gathering::Came;
 use crate::job::Job;
+use crate::limits::MAX_READS;
 use crate::output::Output;
 use crate::prepared::Prepared;
 use crate::settings::Settings;
@@ -37,10 +38,6 @@ use jp_output::{Form, InputLines, NodeLines, RawLines, TextLines, ValueLines};
 use jp_syntax::QueryFault;
 use std::alloc::Global;
 use std::thread::Threads;
-
-/// The greatest number of calls of `read`: of 65,536 bytes each they are 2^56 bytes, so that no count of 64
-/// bits stops.
-const MAX_READS: u64 = 1 << 40;
 
 /// What a finished run has seen.
 #[derive(Clone, Copy, Debug, PartialEq, Eq)]

@@ -9,15 +9,13 @@ use crate::ends::Sink;
 use crate::fault::RunFault;
 use crate::fronts::{answer_behind, write_all};
 use crate::job::Job;
+use crate::limits::BLOCK_BYTES;
 use crate::settings::Settings;
 use crate::stream::Stream;
 use jp_answer::{Gate, Queue};
 use jp_output::Form;
 use std::alloc::{AllocError, Global};
 use std::thread::Threads;
-
-/// How many bytes of lines make a block, though they are fewer lines than a piece.
-const BLOCK_BYTES: usize = 32_768;
 
 /// Hands the lines that wait out as a block, where they are enough for one. Where they are more than a batch
 /// they are answered here, behind the blocks that are out.

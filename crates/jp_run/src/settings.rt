@@ -5,18 +5,12 @@ ghost use Rattle.jp_run.specs.Settings.{AreSettings};
 
 use crate::cutting::Cutting;
 use crate::fault::RunFault;
+use crate::limits::{MAX_DOCUMENTS, MAX_WORKERS};
 use crate::output::Output;
 use jp_answer::{LinePolicy, OnFault};
 use jp_number::Numbers;
 use jp_output::Head;
 use std::alloc::{AllocError, Global};
-
-/// The greatest number of workers: a board has so many seats.
-const MAX_WORKERS: u64 = 64;
-
-/// The greatest number of documents of a piece and of a batch: a batch's lines and its answer are held in
-/// memory.
-const MAX_DOCUMENTS: u64 = 1_000_000;
 
 /// How many workers answer, how many documents are a piece, how many a batch, how the input is cut into
 /// documents, which numbers there may be, what a faulty line does, which form the answer has, what name

@@ -20,19 +20,13 @@ use crate::fault::RunFault;
 use crate::gathering::take_last;
 use crate::input::InputBuffer;
 use crate::job::Job;
+use crate::limits::{CACHE_BYTES, WINDOW_BYTES};
 use crate::running::Totals;
 use crate::settings::Settings;
 use crate::stream::{Passed, Stream};
 use jp_answer::Gate;
 use jp_output::Form;
 use std::thread::Threads;
-
-/// How many bytes may come before they are answered, although the source goes on at once: so many are held
-/// at most, and what one read brings.
-pub(crate) const WINDOW_BYTES: usize = 4_194_304;
-
-/// The same for one worker: few enough to be answered while they lie in the processor's cache.
-const CACHE_BYTES: usize = 131_072;
 
 /// Answers all lines that have come, unless the source says that the next read does not wait and little has
 /// come.

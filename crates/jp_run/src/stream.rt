@@ -5,10 +5,8 @@ ghost use Rattle.jp_run.specs.inner.Input.{nothing_come};
 
 use crate::cutting::Cutting;
 use crate::input::InputBuffer;
+use crate::limits::READ_SIZE;
 use std::alloc::{AllocError, Global};
-
-/// The number of bytes that one call of `read` is asked for: as many as a pipe of Linux holds.
-const READ_SIZE: usize = 65_536;
 
 /// The lines of a run between the source and the sink, and how far the answer has come.
 #[derive(Drop)]

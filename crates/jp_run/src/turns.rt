@@ -8,18 +8,13 @@ use crate::ends::{Sink, Source};
 use crate::fault::RunFault;
 use crate::gathering::{Came, read_on};
 use crate::job::Job;
+use crate::limits::{MANY_BYTES, MANY_LINES};
 use crate::settings::Settings;
 use crate::settling::settle;
 use crate::stream::Stream;
 use jp_answer::{Gate, Queue, Ring};
 use jp_output::Form;
 use std::thread::Threads;
-
-/// How many bytes wait at least where workers are started: fewer are answered while threads would start.
-const MANY_BYTES: usize = 65_536;
-
-/// How many lines at least, where they are fewer bytes: and half a batch, which a narrower read brings.
-const MANY_LINES: u64 = 512;
 
 /// Answers what has come, or leaves it waiting, and reads: once, or where many bytes wait, reads do not wait
 /// and there are several workers, as long as that is so. Gives what the last read came to.
