@@ -1,9 +1,10 @@
-use jp_check::Plan;
-use jp_doc::{Document, Location};
-use jp_eval::EvalFault;
-use jp_select::evaluate;
+use jp_select::{Document, evaluate, plan, write_path};
 use std::alloc::Global;
 
-fn selected(alloc: Global, plan: &Plan, document: &Document) -> Result<Vec<Location>, EvalFault> {
-    evaluate(alloc, plan, document)
+/// The normalized path of the first node that a query selects in a document.
+fn first_path(alloc: Global, query: &str, text: &[u8]) -> Option<String> {
+    let plan = plan(alloc, query).ok()?;
+    let document = Document::read(alloc, text).ok()?;
+    let found = evaluate(alloc, &plan, &document).ok()?;
+    write_path(alloc, found.first()?).ok()
 }

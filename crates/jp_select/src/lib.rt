@@ -1,7 +1,23 @@
-//! What a planned query selects in one document (RFC 9535, 2.1.2): the calls for whoever has a plan and a
-//! document, over the evaluator of compiled queries.
+//! The library: JSONPath (RFC 9535) with I-Regexp (RFC 9485) over JSON documents and JSON Lines, in one crate
+//! for whoever calls. Each name has its page, with what is proved of it, in the crate that owns it.
 #![tactic(auto)]
 
 mod evaluation;
 
 pub use evaluation::{evaluate, evaluate_split, visit_nodes};
+pub use jp_answer::{DocStop, Gate, OpenGate};
+pub use jp_check::{Plan, check, plan, plan_in};
+pub use jp_doc::{DocFault, Document, Line, Lines, Location, Step};
+pub use jp_eval::{Cuts, EvalFault, Fork, OpenFork};
+pub use jp_nodes::{Locations, Visit};
+pub use jp_number::Numbers;
+pub use jp_output::{write_line, write_path};
+pub use jp_path::{path_plan, query_of};
+pub use jp_regexp::Pattern;
+pub use jp_run::{
+    Answer, Broken, Cutting, FromReader, FromWriter, Output, Prepared, RunFault, Settings, Sink,
+    Source, Supply, Totals, Whole, answer, answer_all, run,
+};
+pub use jp_syntax::read_query;
+pub use jp_tree::{Query, QueryFault};
+pub use jp_value::{Operand, equal, less};
