@@ -1,7 +1,8 @@
 -- Patterns that are read answer as right tests do.
-use Rattle.std.proofs.Common.{◌≡◌, Bool, true, false, refl, sym, ap, ◌∙◌, subst}
+use Rattle.std.proofs.Common.{◌≡◌, Bool, false, sym, ap, ◌∙◌, subst}
 use mathlib.Core.Path.{fun_ext}
 use Rattle.std.specs.Prelude.{IsTrue, ◌↔◌}
+use Rattle.std.proofs.lemmas.Bool.{false_from_ne_true}
 use Rattle.std.proofs.lemmas.Bool.Decides.{same_from_decides}
 use Rattle.jp_regexp.proofs.PatternsRead.{one_tree}
 use Rattle.jp_regexp.specs.Pattern.{Text, Pattern}
@@ -40,21 +41,17 @@ finding text pattern_text p b is h =
           (are_right.finding text pattern_text).1 (m.0, m.1, m.2, m.3, (p, is, m.4)),
     )
 
-not_true : (b : Bool) → (b ≡ true → ⊥) → false ≡ b
-not_true true h = absurd (h refl)
-not_true false h = refl
-
 pub matching_none : (text pattern_text : Text) → ((p : Pattern) → IsPatternOf pattern_text p → ⊥)
     → false ≡ tests.is_match text pattern_text
 matching_none text pattern_text none =
-    not_true (tests.is_match text pattern_text) (λ t. let m = (are_right.matching text pattern_text).0 t
-    in none m.0 m.1)
+    sym (false_from_ne_true (tests.is_match text pattern_text)
+    (λ t. let m = (are_right.matching text pattern_text).0 t in none m.0 m.1))
 
 pub finding_none : (text pattern_text : Text) → ((p : Pattern) → IsPatternOf pattern_text p → ⊥)
     → false ≡ tests.is_found text pattern_text
 finding_none text pattern_text none =
-    not_true (tests.is_found text pattern_text) (λ t. let m =
-    ((are_right.finding text pattern_text).0 t).4 in none m.0 m.1)
+    sym (false_from_ne_true (tests.is_found text pattern_text)
+    (λ t. let m = ((are_right.finding text pattern_text).0 t).4 in none m.0 m.1))
 
 -- any right tests answer as these do
 same_matching : (t : Tests) → AreRight t → (s p : Text) → t.is_match s p ≡ tests.is_match s p

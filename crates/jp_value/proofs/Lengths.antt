@@ -4,8 +4,8 @@ use Rattle.std.proofs.Common.{refl, sym, ap, ◌∙◌}
 use Rattle.std.specs.Prelude.{pos}
 use Rattle.jp_number.specs.Number.{whole}
 use Rattle.jp_doc.specs.Json.{Text, text_eq, Json, number, array, items}
-use Rattle.jp_part.specs.Members.{members}
-use Rattle.jp_part.proofs.Lists.{list_back}
+use Rattle.jp_node.specs.Members.{members}
+use Rattle.jp_node.proofs.Lists.{list_back}
 use Rattle.jp_value.specs.Comparison.{same, same_members}
 use Rattle.jp_value.specs.Functions.{length_value, number_value, member_count}
 

@@ -1,12 +1,7 @@
 pub mod Sameness
 pub mod MembersByName
-pub mod Order
-pub mod BoundsLaws
-pub mod Positions
-pub mod SlicePlaces
 pub mod Lengths
 pub mod Answering
-pub mod Within
 pub mod OnLiterals
 pub mod FirstOnes
 pub mod SamePlaces

@@ -3,6 +3,7 @@
 use Rattle.std.proofs.Common.{◌≡◌, ◌⊎◌, inl, inr, Bool, true, false, ◌&&◌, cond, Option, Some, None, refl}
 use Rattle.std.proofs.Common.{sym}
 use Rattle.std.proofs.Common.{subst, Less, ◌∙◌, ap}
+use Rattle.std.proofs.lemmas.Bool.{and_parts, and_from}
 use Rattle.std.proofs.lemmas.Cmp.{nat_list_cmp_total}
 use Rattle.std.proofs.lemmas.Slice.Eq.{bytes_eq-Decides}
 use Rattle.std.specs.Ordering.{ordering_reverse}
@@ -11,7 +12,6 @@ use Rattle.jp_doc.specs.Json.{Text, text_eq, text_cmp, Json, object, Members, no
 use Rattle.jp_doc.specs.Location.{member_at}
 use Rattle.jp_doc.specs.Rising.{IsTextBelow, IsBelow, MembersRise}
 use Rattle.jp_value.specs.Comparison.{same, same_members, eq}
-use Rattle.jp_value.proofs.Sameness.{both, joint}
 
 below_trans : (j k l : Text) → IsTextBelow j k → IsTextBelow k l → IsTextBelow j l
 below_trans j k l p q = nat_list_cmp_total.trans (encode_utf8_all j) (encode_utf8_all k)
@@ -137,8 +137,8 @@ same_by_name (add_member k v ms) (add_member l w ns) r s f =
     =
     subst (λ x. (j : Text)
     → IsTrue (eq (member_at j (add_member k v ms)) (member_at j (add_member x w ns)))) (sym e) f in
-    joint (text_eq k l && same v w) (same_members ms ns)
-    (joint (text_eq k l) (same v w) ((bytes_eq-Decides k l).1 e) (same_value k v w ms ns r s' f'))
+    and_from (text_eq k l && same v w) (same_members ms ns)
+    (and_from (text_eq k l) (same v w) ((bytes_eq-Decides k l).1 e) (same_value k v w ms ns r s' f'))
     (same_by_name ms ns r.2 s'.2 (others_by_name k v w ms ns r s' f'))
 
 either_same : (b : Bool) (v w : Json) (o p : Option Json) → same v w ≡ true → IsTrue (eq o p)
@@ -153,8 +153,8 @@ same_at k no_members no_members h = refl
 same_at k no_members (add_member l w ns) h = absurd cc
 same_at k (add_member j v ms) no_members h = absurd cc
 same_at k (add_member j v ms) (add_member l w ns) h =
-    let p = both (text_eq j l && same v w) (same_members ms ns) h in
-    let q = both (text_eq j l) (same v w) p.0 in
+    let p = and_parts (text_eq j l && same v w) (same_members ms ns) h in
+    let q = and_parts (text_eq j l) (same v w) p.0 in
     let e : j ≡ l = (bytes_eq-Decides j l).0 q.0 in
     subst (λ i. IsTrue (eq (cond (text_eq k i) (Some v) (member_at k ms)) (member_at k (add_member l w ns))))
     (sym e)

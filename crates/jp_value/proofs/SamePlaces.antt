@@ -3,12 +3,12 @@ use Rattle.std.proofs.Common.{◌≡◌, true, false, List, [], ◌∷◌, AllPa
 use Rattle.std.specs.Prelude.{IsTrue, ◌↔◌}
 use Rattle.std.specs.Cmp.{IsEquivalence}
 use Rattle.std.specs.List.{list_any}
+use Rattle.std.proofs.lemmas.Bool.{and_parts, and_from}
 use Rattle.std.proofs.lemmas.Bool.Decides.{Decides-eqb}
 use Rattle.std.proofs.lemmas.Slice.Eq.{bytes_eq-Decides}
 use Rattle.jp_doc.specs.Location.{Step, name, index, Location, Node}
 use Rattle.jp_value.specs.Functions.{same_step, same_location, same_place, distinct}
 use Rattle.jp_value.proofs.FirstOnes.{same_truth, apart_ones, member_ones}
-use Rattle.jp_value.proofs.Sameness.{both, joint}
 
 equal_steps : (s t : Step) → same_step s t ≡ true → s ≡ t
 equal_steps (name k) (name l) h = ap name ((bytes_eq-Decides k l).0 h)
@@ -21,7 +21,7 @@ equal_locations [] [] h = refl
 equal_locations [] (t ∷ ts) h = absurd cc
 equal_locations (s ∷ ss) [] h = absurd cc
 equal_locations (s ∷ ss) (t ∷ ts) h =
-    let p = both (same_step s t) (same_location ss ts) h in
+    let p = and_parts (same_step s t) (same_location ss ts) h in
     ap₂ (λ a b. a ∷ b) (equal_steps s t p.0) (equal_locations ss ts p.1)
 
 self_step : (s : Step) → same_step s s ≡ true
@@ -30,7 +30,7 @@ self_step (index i) = (Decides-eqb i i).1 refl
 
 self_location : (l : Location) → same_location l l ≡ true
 self_location [] = refl
-self_location (s ∷ ss) = joint (same_step s s) (same_location ss ss) (self_step s) (self_location ss)
+self_location (s ∷ ss) = and_from (same_step s s) (same_location ss ss) (self_step s) (self_location ss)
 
 pub same_is_equal : (l m : Location) → IsTrue (same_location l m) ↔ (l ≡ m)
 same_is_equal l m =

@@ -2,6 +2,7 @@
 use Rattle.std.proofs.Common.{◌≡◌, ◌∙◌, Bool, true, false, ◌&&◌, refl, sym, ap, ap₂, subst}
 use Rattle.std.specs.Prelude.{IsTrue, ◌↔◌, Option, Some, None}
 use Rattle.std.specs.Cmp.{IsEquivalence}
+use Rattle.std.proofs.lemmas.Bool.{and_parts, and_from}
 use Rattle.std.proofs.lemmas.Bool.Decides.{Decides-int_eq}
 use Rattle.std.proofs.lemmas.Cmp.{nat_list_eq_equiv}
 use Rattle.std.proofs.lemmas.Slice.Eq.{bytes_eq-Decides}
@@ -11,14 +12,6 @@ use Rattle.jp_doc.specs.NumbersWithin.{IsWhole, AllNumbersOfItems, AllNumbersOfM
 use Rattle.jp_number.specs.Number.{Number, whole, written, is_equal}
 use Rattle.jp_number.proofs.Order.{equality, whole_equal}
 use Rattle.jp_value.specs.Comparison.{truth_eq, same, same_items, same_members, eq}
-
-pub both : (a b : Bool) → (a && b) ≡ true → (a ≡ true) × (b ≡ true)
-both true b h = (refl, h)
-both false b h = absurd cc
-
-pub joint : (a b : Bool) → a ≡ true → b ≡ true → (a && b) ≡ true
-joint true b g h = h
-joint false b g h = g
 
 -- an equivalence
 
@@ -52,13 +45,13 @@ mutual
 
   items_self_same : (vs : Items) → same_items vs vs ≡ true
   items_self_same no_items = refl
-  items_self_same (add_item v vs) = joint (same v v) (same_items vs vs) (self_same v) (items_self_same vs)
+  items_self_same (add_item v vs) = and_from (same v v) (same_items vs vs) (self_same v) (items_self_same vs)
 
   pub members_self_same : (ms : Members) → same_members ms ms ≡ true
   members_self_same no_members = refl
   members_self_same (add_member k v ms) =
-      joint (text_eq k k && same v v) (same_members ms ms)
-      (joint (text_eq k k) (same v v) (texts.refl k) (self_same v))
+      and_from (text_eq k k && same v v) (same_members ms ms)
+      (and_from (text_eq k k) (same v v) (texts.refl k) (self_same v))
       (members_self_same ms)
 
 mutual
@@ -188,7 +181,7 @@ mutual
   items_alike (add_item v vs) no_items us h = absurd cc
   items_alike (add_item v vs) (add_item w ws) no_items h = refl
   items_alike (add_item v vs) (add_item w ws) (add_item u us) h =
-      let p = both (same v w) (same_items vs ws) h in
+      let p = and_parts (same v w) (same_items vs ws) h in
       ap₂ (λ a b. a && b) (alike v w u p.0) (items_alike vs ws us p.1)
 
   members_alike : (ms ns ls : Members) → same_members ms ns ≡ true
@@ -198,8 +191,8 @@ mutual
   members_alike (add_member k v ms) no_members ls h = absurd cc
   members_alike (add_member k v ms) (add_member l w ns) no_members h = refl
   members_alike (add_member k v ms) (add_member l w ns) (add_member j u ls) h =
-      let p = both (text_eq k l && same v w) (same_members ms ns) h in
-      let q = both (text_eq k l) (same v w) p.0 in
+      let p = and_parts (text_eq k l && same v w) (same_members ms ns) h in
+      let q = and_parts (text_eq k l) (same v w) p.0 in
       ap₂ (λ a b. a && b) (ap₂ (λ a b. a && b) (texts.congr k l j q.0) (alike v w u q.1))
       (members_alike ms ns ls p.1)
 
@@ -225,7 +218,7 @@ equivalence = record { refl = eq_self; symm = eq_turn; congr = eq_alike }
 
 -- equality where numbers are whole
 
-truths : (a b : Bool) → truth_eq a b ≡ true → a ≡ b
+pub truths : (a b : Bool) → truth_eq a b ≡ true → a ≡ b
 truths true true h = refl
 truths true false h = absurd cc
 truths false true h = absurd cc
@@ -281,7 +274,7 @@ mutual
   equal_items no_items (add_item w ws) p q h = absurd cc
   equal_items (add_item v vs) no_items p q h = absurd cc
   equal_items (add_item v vs) (add_item w ws) p q h =
-      let g = both (same v w) (same_items vs ws) h in
+      let g = and_parts (same v w) (same_items vs ws) h in
       let e : v ≡ w = equal v w p.0 q.0 g.0 in
       let f : vs ≡ ws = equal_items vs ws p.1 q.1 g.1 in
       cc
@@ -292,8 +285,8 @@ mutual
   equal_members no_members (add_member l w ns) p q h = absurd cc
   equal_members (add_member k v ms) no_members p q h = absurd cc
   equal_members (add_member k v ms) (add_member l w ns) p q h =
-      let g = both (text_eq k l && same v w) (same_members ms ns) h in
-      let i = both (text_eq k l) (same v w) g.0 in
+      let g = and_parts (text_eq k l && same v w) (same_members ms ns) h in
+      let i = and_parts (text_eq k l) (same v w) g.0 in
       let d : k ≡ l = (bytes_eq-Decides k l).0 i.0 in
       let e : v ≡ w = equal v w p.0 q.0 i.1 in
       let f : ms ≡ ns = equal_members ms ns p.1 q.1 g.1 in

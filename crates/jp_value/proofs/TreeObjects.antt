@@ -6,7 +6,7 @@ use Rattle.serde_json.specs.View.{members_view}
 use Rattle.serde_json.specs.Written.{members_have_float}
 use Rattle.jp_doc.specs.DocumentValue.{IsDocumentValue}
 use Rattle.jp_doc.specs.Json.{members_of}
-use Rattle.jp_part.proofs.Trees.{first_member, other_members}
+use Rattle.jp_node.proofs.Trees.{first_member, other_members}
 use Rattle.jp_value.specs.Functions.{member_count}
 
 pub whole_members : (es : List Entry) → ∥ All (λ (m : Entry). IsDocumentValue m.1) es ∥₁

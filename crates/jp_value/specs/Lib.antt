@@ -1,12 +1,7 @@
-pub mod Slice
-pub mod Index
 pub mod Literals
 pub mod Comparison
 pub mod Functions
-pub mod Samples
 pub mod Operands
 pub mod Kinds
-pub mod BoundsView
-pub mod Places
 pub mod RightTests
 pub mod inner

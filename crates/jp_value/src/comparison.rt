@@ -10,7 +10,7 @@ ghost use Rattle.jp_value.specs.Comparison as spec;
 ghost use Rattle.jp_value.specs.Operands.{operand_value, HasWholeNumbers, IsPlain};
 
 use jp_doc::whole_of;
-use jp_part::TreeMembers;
+use jp_node::TreeMembers;
 use serde_json::{Map, Value};
 
 /// A comparable value, or nothing.

@@ -4,7 +4,7 @@
 ghost use Rattle.std.specs.Prelude.{◌≡◌, Some, length, option_map, IfOk};
 ghost use Rattle.std.specs.Str.{chars};
 ghost use Rattle.jp_doc.specs.Json as json;
-ghost use Rattle.jp_part.specs.Inside.{kind_value, members_in};
+ghost use Rattle.jp_node.specs.Inside.{kind_value, members_in};
 ghost use Rattle.jp_tree.specs.View.{text_of as characters};
 ghost use Rattle.jp_compiled.specs.Parts.{constant_of};
 ghost use Rattle.jp_value.specs.Functions as spec;
@@ -15,7 +15,7 @@ ghost use Rattle.jp_value.specs.RightTests.{tests};
 
 use crate::read_pattern::ReadPattern;
 use jp_compiled::{Constant, KnownPattern};
-use jp_part::{Kind, Members};
+use jp_node::{Kind, Members};
 use std::alloc::{AllocError, Global};
 
 /// The value of a literal.

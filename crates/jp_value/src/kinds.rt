@@ -2,14 +2,14 @@
 
 ghost use Rattle.std.specs.Prelude.{◌≡◌, IfOk};
 ghost use Rattle.jp_doc.specs.Json.{items};
-ghost use Rattle.jp_part.specs.Inside.{item_values, kind_value, members_in};
-ghost use Rattle.jp_part.specs.Members.{members, range_entries};
+ghost use Rattle.jp_node.specs.Inside.{item_values, kind_value, members_in};
+ghost use Rattle.jp_node.specs.Members.{members, range_entries};
 ghost use Rattle.jp_value.specs.Comparison as spec;
 ghost use Rattle.jp_value.specs.Kinds.{given_value};
 
 use crate::comparison::{is_text_below, same_entries, same_text};
+use jp_node::{Items, Kind, MemberRange, Members};
 use jp_number::Number;
-use jp_part::{Items, Kind, MemberRange, Members};
 use jp_tree::Operator;
 use std::alloc::{AllocError, Global};
 

@@ -1,36 +1,16 @@
 //! Laws of the definitions, each the contract of a function that does nothing.
 
-ghost use Rattle.std.specs.Prelude.{◌≡◌, ◌↔◌, ◌||◌, ◌<◌, ℕ, ℤ, pos, negsuc, int_lt, ◌≤ℤ◌, ◌<ℤ◌, IsTrue};
-ghost use Rattle.std.specs.Prelude.{List, Option, Some, None, true, false};
+ghost use Rattle.std.specs.Prelude.{◌≡◌, ◌↔◌, ◌||◌, IsTrue, List, Option, Some, None, false};
 ghost use Rattle.std.specs.Cmp.{IsEquivalence};
-ghost use Rattle.std.specs.List.{AllByRecursion, AllPairs, list_any};
+ghost use Rattle.std.specs.List.{AllPairs, list_any};
 ghost use Rattle.jp_regexp.specs.Tests.{AreRight};
 ghost use Rattle.jp_doc.specs.Json.{Text, Json, Members, object};
 ghost use Rattle.jp_doc.specs.Location.{Location, Node, member_at};
 ghost use Rattle.jp_doc.specs.NumbersWithin.{HasWholeNumbers};
 ghost use Rattle.jp_doc.specs.Rising.{MembersRise};
-ghost use Rattle.jp_value.specs.Slice.{slice_bounds, slice_indexes, RisesFrom, FallsBelow};
 ghost use Rattle.jp_value.specs.Comparison.{eq, lt, le};
 ghost use Rattle.jp_value.specs.Functions.{same_location, same_place, distinct};
 ghost use Rattle.jp_value.specs.RightTests.{tests};
-
-/// The indexes of a slice lie within the array; they rise strictly for a positive step, and fall strictly for
-/// a negative one.
-/// Its bounds lie within the array too, so no index beyond the array meets them.
-pub fn slice()
-    ensures within { (first past step : Option ℤ) (len : ℕ)
-        → AllByRecursion (λ i. i < len) (slice_indexes (slice_bounds first past step len) len) }
-    ensures rising { (first past : Option ℤ) (step : ℤ) (len : ℕ) → IsTrue (int_lt (pos 0) step)
-        → RisesFrom 0 (slice_indexes (slice_bounds first past (Some step) len) len) }
-    ensures falling { (first past : Option ℤ) (step : ℤ) (len : ℕ) → IsTrue (int_lt step (pos 0))
-        → FallsBelow len (slice_indexes (slice_bounds first past (Some step) len) len) }
-    ensures bounds_of_rising { (first past : Option ℤ) (step : ℤ) (len : ℕ) → int_lt step (pos 0) ≡ false
-        → (pos 0 ≤ℤ (slice_bounds first past (Some step) len).lower)
-        × ((slice_bounds first past (Some step) len).upper ≤ℤ pos len) }
-    ensures bounds_of_falling { (first past : Option ℤ) (step : ℤ) (len : ℕ) → int_lt step (pos 0) ≡ true
-        → (negsuc 0 ≤ℤ (slice_bounds first past (Some step) len).lower)
-        × ((slice_bounds first past (Some step) len).upper <ℤ pos len) }
-{}
 
 /// `==` is an equivalence; of values in which all numbers are whole it is equality, where two texts may write
 /// one number; it holds of two nothings; `a <= b` is `a < b` or `a == b`.

@@ -9,7 +9,7 @@ ghost use Rattle.jp_value.specs.Kinds.{given_value};
 ghost use Rattle.jp_value.specs.RightTests.{tests};
 
 use crate::functions::text_of;
-use jp_part::Kind;
+use jp_node::Kind;
 use jp_regexp::Pattern;
 use std::alloc::{AllocError, Global};
 

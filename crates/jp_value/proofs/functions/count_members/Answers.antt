@@ -1,6 +1,6 @@
 use Rattle.std.proofs.Common.{length, sym, ap, ◌∙◌}
-use Rattle.jp_part.specs.Inside.{members_in}
-use Rattle.jp_part.specs.Members.{list_entries}
+use Rattle.jp_node.specs.Inside.{members_in}
+use Rattle.jp_node.specs.Members.{list_entries}
 use Rattle.jp_value.specs.Functions.{member_count}
 use Rattle.jp_value.proofs.Lengths.{members_counted}
 use Rattle.jp_value.proofs.TreeObjects.{entries_counted}

@@ -1,7 +1,7 @@
 use Rattle.std.proofs.Common.{◌≡◌, Some, sym, ap, ◌∙◌, arith, pos, to_z}
 use Rattle.std.specs.Int.{w128}
 use Rattle.std.proofs.lemmas.Int.{ints}
-use Rattle.jp_part.specs.Inside.{item_values, kind_value}
+use Rattle.jp_node.specs.Inside.{item_values, kind_value}
 use Rattle.jp_value.specs.Functions.{length_value}
 use Rattle.jp_value.proofs.Lengths.{array_length}
 use Rattle.jp_value.proofs.functions.length_of.Goals as goal

@@ -1,6 +1,6 @@
 use Rattle.std.proofs.Common.{arith}
-use Rattle.jp_part.specs.Inside.{members_in}
-use Rattle.jp_part.specs.Members.{range_entries}
+use Rattle.jp_node.specs.Inside.{members_in}
+use Rattle.jp_node.specs.Members.{range_entries}
 use Rattle.jp_value.proofs.Apart.{apart, apart_too, some_beside_none}
 use Rattle.jp_value.proofs.Lengths.{unequally_many}
 use Rattle.jp_value.proofs.kinds.+same_kind.Goals as goal

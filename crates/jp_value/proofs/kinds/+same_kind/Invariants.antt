@@ -1,8 +1,8 @@
 use Rattle.std.proofs.Common.{◌≡◌, ◌+◌, ◌*◌, ◌≤◌, length}
 use Rattle.jp_doc.specs.Height.{height, items_height, members_height}
 use Rattle.jp_doc.specs.Json.{items}
-use Rattle.jp_part.specs.Inside.{item_values, kind_value, members_in}
-use Rattle.jp_part.specs.Members.{members, range_entries}
+use Rattle.jp_node.specs.Inside.{item_values, kind_value, members_in}
+use Rattle.jp_node.specs.Members.{members, range_entries}
 use Rattle.jp_value.specs.Comparison.{same_items, same_members}
 use Rattle.jp_value.proofs.kinds.+same_kind.Given as goal
 

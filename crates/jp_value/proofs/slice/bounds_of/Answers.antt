@@ -1,9 +1,9 @@
 use Rattle.std.proofs.Common.{ap, ap₂, sym, subst, option_map, ◌∙◌}
 use Rattle.jp_compiled.specs.Parts.{position_text}
 use Rattle.jp_value.specs.Literals.{written_value}
-use Rattle.jp_value.specs.Places.{AreWithin}
-use Rattle.jp_value.specs.Slice.{slice_bounds}
-use Rattle.jp_value.proofs.Within.{are_within}
+use Rattle.jp_node.specs.Places.{AreWithin}
+use Rattle.jp_node.specs.Slice.{slice_bounds}
+use Rattle.jp_node.proofs.BoundsWithin.{are_within}
 use Rattle.jp_value.proofs.slice.bounds_of.Goals as goal
 
 pub returns-clause-within : goal.returns-clause-within

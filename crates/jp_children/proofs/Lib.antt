@@ -1,5 +1,0 @@
-pub mod Gathered
-pub mod ChildRanges
-pub mod BoundsWithin
-pub mod Slicing
-pub mod Places

@@ -1,2 +1,0 @@
-pub mod Selected
-pub mod ChildRanges

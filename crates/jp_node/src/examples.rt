@@ -1,0 +1,6 @@
+//! Worked examples of the definitions.
+
+mod nodes;
+mod parts;
+mod paths;
+mod places;

@@ -1,0 +1,152 @@
+//! Members of an object, in either form.
+
+ghost use Rattle.std.specs.Prelude.{◌≡◌, ◌↔◌, ◌++◌, [], ◌∷◌, length, IfOk, IsTrue, MatchOption};
+ghost use Rattle.std.specs.Str.{chars};
+ghost use Rattle.jp_doc.specs.Json.{no_members};
+ghost use Rattle.jp_node.specs.Inside.{members_in};
+ghost use Rattle.jp_node.specs.Members.{members, list_entries, range_entries};
+ghost use Rattle.jp_node.specs.Part.{part_value};
+
+use crate::part::Part;
+use crate::tree::{TreeMember, TreeMembers};
+use jp_flat::{FlatMember, FlatMembers};
+use std::alloc::{AllocError, Global};
+
+/// How many members there is room for at first where they are gathered: the list of an object of no more than
+/// these grows no further.
+const INITIAL_CAPACITY: usize = 16;
+
+/// The members of an object.
+#[derive(Clone, Copy)]
+pub enum Members<'v> {
+    /// Of a tree.
+    Tree(TreeMembers<'v>),
+    /// Of a flat document.
+    Flat(FlatMembers<'v>),
+}
+
+/// Members of an object in rising order of their names, in a list.
+#[derive(Drop)]
+pub enum MemberList<'v> {
+    /// Of a tree.
+    Tree(Vec<TreeMember<'v>>),
+    /// Of a flat document.
+    Flat(Vec<FlatMember<'v>>),
+}
+
+/// Members that stand one behind another in a list.
+#[derive(Clone, Copy)]
+pub enum MemberRange<'c, 'v> {
+    /// Of a tree.
+    Tree(&'c [TreeMember<'v>]),
+    /// Of a flat document.
+    Flat(&'c [FlatMember<'v>]),
+}
+
+/// A member of an object.
+#[derive(Clone, Copy)]
+pub struct Member<'v> {
+    /// Its name.
+    pub name: &'v str,
+    /// Its value.
+    pub value: Part<'v>,
+}
+
+impl<'v> Members<'v> {
+    /// Whether there is none.
+    pub fn is_empty(self) -> bool
+        ensures { IsTrue result ↔ (members_in self.entry ≡ no_members) }
+    {
+        match self {
+            Members::Tree(members) => members.len() == 0,
+            Members::Flat(members) => match members.split_first() {
+                None => true,
+                Some(_) => false,
+            },
+        }
+    }
+
+    /// The members in rising order of their names, each name once.
+    ///
+    /// `AllocError` if a growth was refused.
+    pub fn gather(self, alloc: Global) -> Result<MemberList<'v>, AllocError>
+        ensures { IfOk result (λ l. members_in self.entry ≡ members (list_entries l)) }
+    {
+        match self {
+            Members::Tree(members) => Ok(MemberList::Tree(members.gather(alloc)?)),
+            Members::Flat(members) => {
+                let mut list = Vec::with_capacity(alloc, INITIAL_CAPACITY)?;
+                members.gather(&mut list)?;
+                Ok(MemberList::Flat(list))
+            }
+        }
+    }
+}
+
+impl<'v> MemberList<'v> {
+    /// All of them.
+    pub fn range(&self) -> MemberRange<'_, 'v>
+        ensures { range_entries result ≡ list_entries self.now }
+    {
+        match self {
+            MemberList::Tree(list) => MemberRange::Tree(list.as_slice()),
+            MemberList::Flat(list) => MemberRange::Flat(list.as_slice()),
+        }
+    }
+}
+
+impl<'c, 'v> MemberRange<'c, 'v> {
+    /// How many there are.
+    pub fn len(self) -> usize
+        ensures { result ≡ length (range_entries self.entry) }
+    {
+        match self {
+            MemberRange::Tree(range) => range.len(),
+            MemberRange::Flat(range) => range.len(),
+        }
+    }
+
+    /// The first half, and the second. No clause says that they are equally long.
+    pub fn halves(self) -> (MemberRange<'c, 'v>, MemberRange<'c, 'v>)
+        ensures { range_entries result.0 ++ range_entries result.1 ≡ range_entries self.entry }
+    {
+        match self {
+            MemberRange::Tree(range) => {
+                let (left, right) = range.split_at(range.len() / 2);
+                (MemberRange::Tree(left), MemberRange::Tree(right))
+            }
+            MemberRange::Flat(range) => {
+                let (left, right) = range.split_at(range.len() / 2);
+                (MemberRange::Flat(left), MemberRange::Flat(right))
+            }
+        }
+    }
+
+    /// The first, and those behind it.
+    // Each turn of a loop over members takes one so: handed out by a call, it would go by memory.
+    #[inline(always)]
+    pub fn split_first(self) -> Option<(Member<'v>, MemberRange<'c, 'v>)>
+        ensures { MatchOption result (range_entries self.entry ≡ [])
+            (λ p. range_entries self.entry
+            ≡ (chars p.0.name.now, part_value p.0.value) ∷ range_entries p.1) }
+    {
+        match self {
+            MemberRange::Tree(range) => match range.split_first() {
+                None => None,
+                Some((first, others)) => {
+                    let TreeMember { name, value } = *first;
+                    let value = Part::Tree(value);
+                    Some((Member { name, value }, MemberRange::Tree(others)))
+                }
+            },
+            MemberRange::Flat(range) => match range.split_first() {
+                None => None,
+                Some((first, others)) => {
+                    let FlatMember { name, value } = *first;
+                    let value = Part::Flat(value);
+                    Some((Member { name, value }, MemberRange::Flat(others)))
+                }
+            },
+        }
+    }
+}

@@ -1,2 +1,0 @@
-pub mod Descent
-pub mod Taking

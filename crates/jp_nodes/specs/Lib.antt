@@ -1,4 +1,0 @@
-pub mod Nodes
-pub mod Samples
-pub mod Taken
-pub mod ChildNodes

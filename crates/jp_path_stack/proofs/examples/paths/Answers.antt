@@ -1,5 +1,0 @@
-use Rattle.std.proofs.Common.{rules}
-use Rattle.jp_path_stack.proofs.examples.paths.Goals as goal
-
-pub returns-clause-vertical_tab : goal.returns-clause-vertical_tab
-returns-clause-vertical_tab c = search rules
