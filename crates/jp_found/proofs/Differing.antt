@@ -1,6 +1,7 @@
 -- Nodes, each location once.
-use Rattle.std.proofs.Common.{◌≡◌, suc, List, [], ◌∷◌, length, map}
+use Rattle.std.proofs.Common.{◌≡◌, List, length, map}
 use Rattle.std.proofs.Common.{refl, sym, ap, ◌∙◌}
+use Rattle.std.proofs.lemmas.List.{length-map}
 use Rattle.jp_doc.specs.Location.{Node}
 use Rattle.jp_found.specs.Different.{IsDifferent}
 use Rattle.jp_value.specs.Functions.{only_value, distinct, first_ones, same_location, same_place}
@@ -17,13 +18,9 @@ differs_again d ns ms h e = (
   h.1 ∙ ap only_value (sym (distinct_again ns) ∙ ap distinct e),
 )
 
-length_mapped : {X Y : Type 0} (f : X → Y) (xs : List X) → length (map f xs) ≡ length xs
-length_mapped f [] = refl
-length_mapped f (x ∷ xs) = ap suc (length_mapped f xs)
-
 -- as many locations as nodes are left
 pub count_located : (ns : List Node) → length (first_ones same_location (map (λ n. n.location) ns))
     ≡ length (distinct ns)
 count_located ns =
     ap length (sym (ones_mapped same_place same_location (λ n. n.location) (λ m n. refl) ns))
-    ∙ length_mapped (λ n. n.location) (distinct ns)
+    ∙ length-map (distinct ns) (λ n. n.location)

@@ -1,19 +1,13 @@
 -- Values that the test of identity takes for one are one.
-use Rattle.std.proofs.Common.{◌≡◌, Bool, true, false, ◌&&◌, Option, Some, None, refl, sym, ap, ◌∙◌}
+use Rattle.std.proofs.Common.{◌≡◌, true, false, ◌&&◌, Option, Some, None, refl, sym, ap, ◌∙◌}
 use Rattle.std.proofs.lemmas.Bool.Decides.{Decides-int_eq}
 use Rattle.std.proofs.lemmas.Slice.Eq.{bytes_eq-Decides}
 use Rattle.jp_doc.specs.Json.{text_eq, Json, null, truth, number, text, array, object, Items, no_items}
 use Rattle.jp_doc.specs.Json.{add_item, Members, no_members, add_member}
 use Rattle.jp_number.specs.Number.{Number, whole, written}
-use Rattle.jp_value.specs.Comparison.{truth_eq}
-use Rattle.jp_value.proofs.Sameness.{both, joint}
+use Rattle.jp_value.proofs.Sameness.{truths}
+use Rattle.std.proofs.lemmas.Bool.{and_parts, and_from}
 use Rattle.jp_found.specs.Identical.{is_one_number, is_one, are_one_items, are_one_members, identical}
-
-truths : (a b : Bool) → truth_eq a b ≡ true → a ≡ b
-truths true true h = refl
-truths true false h = absurd cc
-truths false true h = absurd cc
-truths false false h = refl
 
 numbers : (x y : Number) → is_one_number x y ≡ true → x ≡ y
 numbers (whole y) (whole z) h = ap whole ((Decides-int_eq y z).0 h)
@@ -65,7 +59,7 @@ mutual
   items_one no_items (add_item w ws) h = absurd cc
   items_one (add_item v vs) no_items h = absurd cc
   items_one (add_item v vs) (add_item w ws) h =
-      let p = both (is_one v w) (are_one_items vs ws) h in
+      let p = and_parts (is_one v w) (are_one_items vs ws) h in
       let e : v ≡ w = one v w p.0 in
       let f : vs ≡ ws = items_one vs ws p.1 in
       cc
@@ -75,8 +69,8 @@ mutual
   members_one no_members (add_member l w ns) h = absurd cc
   members_one (add_member k v ms) no_members h = absurd cc
   members_one (add_member k v ms) (add_member l w ns) h =
-      let p = both (text_eq k l && is_one v w) (are_one_members ms ns) h in
-      let q = both (text_eq k l) (is_one v w) p.0 in
+      let p = and_parts (text_eq k l && is_one v w) (are_one_members ms ns) h in
+      let q = and_parts (text_eq k l) (is_one v w) p.0 in
       let d : k ≡ l = (bytes_eq-Decides k l).0 q.0 in
       let e : v ≡ w = one v w q.1 in
       let f : ms ≡ ns = members_one ms ns p.1 in
@@ -99,13 +93,13 @@ mutual
   items_themselves : (vs : Items) → are_one_items vs vs ≡ true
   items_themselves no_items = refl
   items_themselves (add_item v vs) =
-      joint (is_one v v) (are_one_items vs vs) (itself v) (items_themselves vs)
+      and_from (is_one v v) (are_one_items vs vs) (itself v) (items_themselves vs)
 
   members_themselves : (ms : Members) → are_one_members ms ms ≡ true
   members_themselves no_members = refl
   members_themselves (add_member k v ms) =
-      joint (text_eq k k && is_one v v) (are_one_members ms ms)
-      (joint (text_eq k k) (is_one v v) ((bytes_eq-Decides k k).1 refl) (itself v))
+      and_from (text_eq k k && is_one v v) (are_one_members ms ms)
+      (and_from (text_eq k k) (is_one v v) ((bytes_eq-Decides k k).1 refl) (itself v))
       (members_themselves ms)
 
 pub identical_are : (a b : Option Json) → identical a b ≡ true → a ≡ b

@@ -1,12 +1,12 @@
 -- Ways are equal exactly where the locations to which they lead are the same.
-use Rattle.std.proofs.Common.{◌≡◌, ℕ, ◌&&◌, List, [], ◌∷◌, ◌++◌, length, map, suc, reverse}
+use Rattle.std.proofs.Common.{◌≡◌, ℕ, ◌&&◌, List, [], ◌∷◌, ◌++◌, length, map, reverse}
 use Rattle.std.proofs.Common.{refl, sym, ap, ap₂, ◌∙◌}
 use Rattle.std.proofs.Math.Logic.{∥∥₁_elim}
 use Rattle.std.proofs.Props.{props}
 use Rattle.std.specs.Str.{chars, IsUtf8, bytes_eq}
 use lib.Pointwise.{pointwise}
 use Rattle.std.proofs.lemmas.Bool.Decides.{same_from_decides}
-use Rattle.std.proofs.lemmas.List.{reverse-append, reverse-reverse, map-append}
+use Rattle.std.proofs.lemmas.List.{length-map, reverse-append, reverse-reverse, map-append}
 use Rattle.jp_doc.proofs.TextLaws.{text_eq-bytes}
 use Rattle.jp_doc.specs.Json.{text_eq}
 use Rattle.jp_doc.specs.Location.{Location}
@@ -58,12 +58,8 @@ way_same w v =
     ∙ same_reversed (map stop_step w.stops.items) (map stop_step v.stops.items)
     ∙ sym (ap₂ same_location (reversed stop_step w.stops.items) (reversed stop_step v.stops.items))
 
-length_mapped : {X Y : Type 0} (f : X → Y) (xs : List X) → length (map f xs) ≡ length xs
-length_mapped f [] = refl
-length_mapped f (x ∷ xs) = ap suc (length_mapped f xs)
-
 pub count_same : (ws : List Way) → length (first_ones way_eq.eq-value.it ws)
     ≡ length (first_ones same_location (map way_location ws))
 count_same ws =
-    sym (length_mapped way_location (first_ones way_eq.eq-value.it ws))
+    sym (length-map (first_ones way_eq.eq-value.it ws) way_location)
     ∙ ap length (ones_mapped way_eq.eq-value.it same_location way_location way_same ws)

@@ -1,8 +1,9 @@
 -- What answers tell of nodes.
-use Rattle.std.proofs.Common.{◌≡◌, ℕ, ◌==◌, Bool, true, false, ◌&&◌, List, [], ◌∷◌, map}
+use Rattle.std.proofs.Common.{◌≡◌, ℕ, ◌==◌, true, ◌&&◌, List, [], ◌∷◌, map}
 use Rattle.std.proofs.Common.{length, Option, Some, None, option_map, refl, ap, ap₂, ◌∙◌}
 use Rattle.std.proofs.Common.{arith}
 use borrow.Author.Tests.{eqb-true}
+use Rattle.std.proofs.lemmas.Bool.{and_parts}
 use Rattle.std.proofs.lemmas.Bool.Decides.{nat_tests}
 use Rattle.jp_doc.specs.Json.{Json}
 use Rattle.jp_doc.specs.Location.{Location, Node, node}
@@ -28,11 +29,6 @@ use Rattle.jp_found.proofs.Identity.{itself, identical_are, are_identical}
 is_count : (n m : ℕ) → n ≡ m → (n == m) ≡ true
 is_count n m e = grind (arith, nat_tests)
 
-pub both : (a b : Bool) → (a && b) ≡ true → (a ≡ true) × (b ≡ true)
-both true true h = (refl, refl)
-both true false h = absurd cc
-both false b h = absurd cc
-
 pub is_differing : (d : Different) (ns : List Node) → IsDifferent d ns → is_different d ns ≡ true
 is_differing d ns h =
     ap₂ (λ a b. a && b) (is_count d.count (length (distinct ns)) h.0)
@@ -41,8 +37,8 @@ is_differing d ns h =
 differs : (d : Different) (ns : List Node) → is_different d ns ≡ true → IsDifferent d ns
 differs d ns h =
     let ones = distinct ns in
-    let parts = both (d.count == length ones) (identical (alone_value (alone_of d.alone)) (only_value ones)) h
-    in
+    let parts = and_parts (d.count == length ones)
+    (identical (alone_value (alone_of d.alone)) (only_value ones)) h in
     (eqb-true d.count (length ones) parts.0, identical_are _ _ parts.1)
 
 -- what the answers tell
