@@ -23,7 +23,7 @@ STAGES = [(name, re.compile(pattern)) for name, pattern in (
     ("lines are cut", r"\bjp_buffer\b|\bjp_doc::(lines|cutting)\b|\bjp_run::gathering\b"),
     ("members in rising order", r"\bjp_flat::gather\b|\bFlatMembers::gather\b"),
     ("the text of lines", r"\bjp_output\b|\bserde_json::ser\b|\bjson::write|\bitoa\b"),
-    ("patterns", r"\bjp_regexp\b"),
+    ("patterns", r"\bjp_(automaton|pattern)\b"),
     ("the walk", r"\bjp_(eval|nodes|path_stack|value|part|flat)\b"),
     # Inlined into its caller: UTF-8, the places of tokens, and whether the line is plain.
     ("reading that is inlined", r"\badd_line\b"),

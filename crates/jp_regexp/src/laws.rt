@@ -3,15 +3,15 @@
 ghost use Rattle.std.specs.Prelude.{◌≡◌, ◌↔◌, ◌⊎◌, ℕ, IsTrue, true, false, not, List, []};
 ghost use Rattle.std.specs.List.{AllByRecursion};
 ghost use Rattle.unicode.specs.declared.properties.GeneralCategory.{GeneralCategory};
-ghost use Rattle.jp_regexp.specs.Pattern.{Text, Element, Pattern, category, class, group, either};
-ghost use Rattle.jp_regexp.specs.CharSets.{is_scalar, in_set};
-ghost use Rattle.jp_regexp.specs.Shape.{Shapes};
-ghost use Rattle.jp_regexp.specs.Profile.{InProfile, size};
-ghost use Rattle.jp_regexp.specs.Language.{Member, Matches, Found};
-ghost use Rattle.jp_regexp.specs.Held.{pattern_of};
-ghost use Rattle.jp_regexp.specs.Tests.{Tests, AreRight};
+ghost use Rattle.jp_pattern.specs.Pattern.{Text, Element, Pattern, category, class, group, either};
+ghost use Rattle.jp_pattern.specs.CharSets.{is_scalar, in_set};
+ghost use Rattle.jp_pattern.specs.Shape.{Shapes};
+ghost use Rattle.jp_pattern.specs.Profile.{InProfile, size};
+ghost use Rattle.jp_pattern.specs.Language.{Member, Matches, Found};
+ghost use Rattle.jp_automaton.specs.Held.{pattern_of};
+ghost use Rattle.jp_pattern.specs.Tests.{Tests, AreRight};
 
-use crate::pattern::Pattern as Held;
+use jp_automaton::Pattern as Held;
 
 /// A text has at most one tree, and it is decided whether it has one.
 pub fn one_tree()

@@ -1,5 +1,5 @@
-use Rattle.jp_regexp.specs.Held.{pattern_of}
-use Rattle.jp_regexp.proofs.ProfileLemmas.{kept_profile}
+use Rattle.jp_automaton.specs.Held.{pattern_of}
+use Rattle.jp_automaton.proofs.ProfileLemmas.{kept_profile}
 use Rattle.jp_regexp.proofs.laws.held_in_profile.Goals as goal
 
 pub returns : goal.returns

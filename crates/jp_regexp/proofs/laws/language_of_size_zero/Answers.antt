@@ -1,6 +1,6 @@
 use Rattle.std.proofs.Common.{subst, sym}
-use Rattle.jp_regexp.specs.Language.{Member}
-use Rattle.jp_regexp.proofs.EmptyLemmas.{only_empty, has_empty}
+use Rattle.jp_pattern.specs.Language.{Member}
+use Rattle.jp_pattern.proofs.EmptyLemmas.{only_empty, has_empty}
 use Rattle.jp_regexp.proofs.laws.language_of_size_zero.Goals as goal
 
 pub returns : goal.returns

@@ -1,4 +1,4 @@
-use Rattle.jp_regexp.proofs.CharacterLemmas.{member_characters}
+use Rattle.jp_pattern.proofs.CharacterLemmas.{member_characters}
 use Rattle.jp_regexp.proofs.laws.members_are_characters.Goals as goal
 
 pub returns : goal.returns

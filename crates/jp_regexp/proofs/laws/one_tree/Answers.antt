@@ -1,5 +1,5 @@
-use Rattle.jp_regexp.proofs.PatternsRead as reading
-use Rattle.jp_regexp.proofs.PatternsSound.{decided}
+use Rattle.jp_pattern.proofs.PatternsRead as reading
+use Rattle.jp_pattern.proofs.PatternsSound.{decided}
 use Rattle.jp_regexp.proofs.laws.one_tree.Goals as goal
 
 pub returns : goal.returns

@@ -1,4 +1,4 @@
-use Rattle.jp_regexp.proofs.RightTests.{right_tests}
+use Rattle.jp_pattern.proofs.RightTests.{right_tests}
 use Rattle.jp_regexp.proofs.laws.right_tests_exist.Goals as goal
 
 pub returns : goal.returns

@@ -1,0 +1,21 @@
+use Rattle.std.proofs.Common.{◌≡◌, ◌+◌, ◌-◌, ◌≤◌, ◌++◌}
+use Rattle.jp_automaton.specs.declared.cursor.Cursor.{Cursor}
+use Rattle.jp_pattern.specs.Tree.{set_of}
+use Rattle.jp_pattern.specs.Unrolled.{counted, letters, letter}
+use Rattle.jp_automaton.specs.inner.Simulation.{step, is_elem, IsAt, IsWalk, or_entered}
+use Rattle.jp_automaton.proofs.step_sets.step_set_copies.Given as goal
+
+abbrev pub invariant-loop-i : goal.invariant-loop-i
+invariant-loop-i l =
+    let a = letter (set_of l.set) in
+    let rest = counted (l.least - l.i) (l.most - l.i) a in
+    ((r : Cursor) → IsWalk l.active rest l.here r
+    → IsWalk l.active (counted l.least l.most a) l.fn.at (or_entered l.left r))
+    × (l.here.past + letters rest ≡ l.fn.at.past + letters (counted l.least l.most a))
+    × IsAt l.active l.here.past l.here.index × (l.i ≤ l.most)
+    × (l.out.items ++ step (is_elem l.active) l.fn.c rest l.here.past l.here.entered
+    ≡ l.fn.out.items ++ step (is_elem l.active) l.fn.c (counted l.least l.most a) l.fn.at.past
+    l.fn.at.entered)
+
+abbrev pub decreases-loop-i : goal.decreases-loop-i
+decreases-loop-i l = l.most - l.i

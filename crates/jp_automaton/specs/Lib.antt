@@ -1,0 +1,4 @@
+pub mod Expressions
+pub mod Held
+pub mod Terms
+pub mod inner

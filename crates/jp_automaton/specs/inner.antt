@@ -1,0 +1,6 @@
+-- Working files of `jp_automaton`, which private clauses alone cite: nobody has to believe them.
+pub mod ByteSets
+pub mod Dfa
+pub mod Equivalence
+pub mod Prefilter
+pub mod Simulation

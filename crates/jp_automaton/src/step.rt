@@ -1,0 +1,241 @@
+//! A step of the simulation: which positions a character leads to, from the start of an expression where that
+//! is reached, and from its active positions. A step goes over the tree once.
+
+ghost use Rattle.std.specs.Prelude.{◌≡◌, ◌+◌, ◌<◌, ◌≤◌, ◌||◌, false, map, IfOk, IsTrue};
+ghost use Rattle.jp_automaton.specs.Expressions.{all_sized, meaning, branches_before, unrolled_in};
+ghost use Rattle.jp_automaton.specs.Expressions.{unrolled_in_turn};
+ghost use Rattle.jp_automaton.specs.Expressions.{unrolled_repeat};
+ghost use Rattle.jp_pattern.specs.Profile.{max_size};
+ghost use Rattle.jp_pattern.specs.Unrolled.{counted, counted_on, letters, nothing, plus};
+ghost use Rattle.jp_automaton.specs.inner.Simulation.{is_elem, exits, IsAt, IsStep, IsStepBefore};
+
+use crate::cursor::{Cursor, behind_set, idle_copies, passed};
+use crate::exit::{either, exit, may_stop};
+use crate::expressions::Expression;
+use crate::step_sets::{step_set, step_set_copies};
+use std::alloc::AllocError;
+
+/// The cursor behind the expression; the positions of the expression that are read next are put behind the
+/// others.
+///
+/// # Errors
+///
+/// Memory ran out.
+#[cycle(step)]
+pub(crate) fn step(
+    expression: &Expression,
+    active: &[u32],
+    c: char,
+    at: Cursor,
+    out: &mut Vec<u32>,
+) -> Result<Cursor, AllocError>
+    requires sized { IsTrue (meaning expression.now).is_sized }
+    requires fits { at.past + letters (unrolled_in expression.now) ≤ max_size }
+    requires stands { IsAt active.now at.past at.index }
+    ensures { IfOk result (λ end. IsStep active.now c (unrolled_in expression.now) at end out.old.items
+        out.new.items) }
+{
+    if let Some(behind) = passed(active, at, expression.size()) {
+        return Ok(behind);
+    }
+    match expression {
+        Expression::Set(set) => Ok(step_set(set, active, c, at, out)?),
+        Expression::Group { sub, .. } => Ok(step(sub, active, c, at, out)?),
+        Expression::Pieces { size, pieces } => {
+            let end = at.past + *size;
+            Ok(step_in_turn(pieces, active, c, at, end, out)?)
+        }
+        Expression::Branches { before, last, .. } => {
+            let others = step_before(before, active, c, at, out)?;
+            let behind = step(last, active, c, others.with_entered(at.entered), out)?;
+            Ok(behind.with_entered(either(others.entered, behind.entered)))
+        }
+        Expression::Repeat {
+            least,
+            most,
+            atom,
+            ..
+        } => Ok(step_repeated(atom, active, c, at, *least, *most, out)?),
+        Expression::Plus { atom, .. } => Ok(step_plus(atom, active, c, at, out)?),
+    }
+}
+
+/// Behind the pieces, which end at this number of positions.
+#[cycle(step)]
+fn step_in_turn(
+    pieces: &[Expression],
+    active: &[u32],
+    c: char,
+    at: Cursor,
+    end: u32,
+    out: &mut Vec<u32>,
+) -> Result<Cursor, AllocError>
+    requires sized { IsTrue (all_sized (map meaning pieces.now)) }
+    requires ends { end ≡ at.past + letters (unrolled_in_turn pieces.now) }
+    requires fits { end ≤ max_size }
+    requires stands { IsAt active.now at.past at.index }
+    ensures { IfOk result (λ end. IsStep active.now c (unrolled_in_turn pieces.now) at end out.old.items
+        out.new.items) }
+{
+    let mut here = at;
+    for piece in pieces {
+        if let Some(behind) = passed(active, here, end - here.past) {
+            return Ok(behind);
+        }
+        here = step(piece, active, c, here, out)?;
+    }
+    Ok(here)
+}
+
+/// Behind branches that others follow; whether the end of one of them is reached.
+#[cycle(step)]
+fn step_before(
+    branches: &[Expression],
+    active: &[u32],
+    c: char,
+    at: Cursor,
+    out: &mut Vec<u32>,
+) -> Result<Cursor, AllocError>
+    requires sized { IsTrue (all_sized (map meaning branches.now)) }
+    requires fits { at.past + letters (branches_before branches.now nothing) ≤ max_size }
+    requires stands { IsAt active.now at.past at.index }
+    ensures { IfOk result (λ end. IsStepBefore active.now c branches.now at end out.old.items out.new.items) }
+{
+    let mut others = at.with_entered(false);
+    for branch in branches {
+        let behind = step(branch, active, c, others.with_entered(at.entered), out)?;
+        others = behind.with_entered(either(others.entered, behind.entered));
+    }
+    Ok(others)
+}
+
+/// Behind the copies of a repetition.
+#[cycle(step)]
+fn step_repeated(
+    atom: &Expression,
+    active: &[u32],
+    c: char,
+    at: Cursor,
+    least: u32,
+    most: Option<u32>,
+    out: &mut Vec<u32>,
+) -> Result<Cursor, AllocError>
+    requires sized { IsTrue (meaning atom.now).is_sized }
+    requires some { 0 < letters (unrolled_in atom.now) }
+    requires fits { at.past + letters (unrolled_repeat least most atom.now) ≤ max_size }
+    requires stands { IsAt active.now at.past at.index }
+    ensures { IfOk result (λ end. IsStep active.now c (unrolled_repeat least most atom.now) at end
+        out.old.items out.new.items) }
+{
+    let Some(most) = most else {
+        return Ok(step_counted_on(atom, active, c, at, least, out)?);
+    };
+    match atom {
+        Expression::Set(set) => Ok(step_set_copies(set, active, c, at, least, most, out)?),
+        _ => Ok(step_counted(atom, active, c, at, least, most, out)?),
+    }
+}
+
+/// Behind the copies of `{least,most}`.
+#[cycle(step)]
+fn step_counted(
+    atom: &Expression,
+    active: &[u32],
+    c: char,
+    at: Cursor,
+    least: u32,
+    most: u32,
+    out: &mut Vec<u32>,
+) -> Result<Cursor, AllocError>
+    requires sized { IsTrue (meaning atom.now).is_sized }
+    requires some { 0 < letters (unrolled_in atom.now) }
+    requires fits { at.past + letters (counted least most (unrolled_in atom.now)) ≤ max_size }
+    requires stands { IsAt active.now at.past at.index }
+    ensures { IfOk result (λ end. IsStep active.now c (counted least most (unrolled_in atom.now)) at end
+        out.old.items out.new.items) }
+{
+    let size = atom.size();
+    let mut here = at;
+    let mut left = false;
+    let mut i = 0;
+    while i < most {
+        let idle = idle_copies(active, here, size, most - i);
+        if idle > 0 {
+            here.past += idle * size;
+            i += idle;
+            continue;
+        }
+        let stop = may_stop(i, least, here.entered);
+        left = either(left, stop);
+        here = step(atom, active, c, here, out)?;
+        i += 1;
+    }
+    Ok(here.with_entered(either(left, here.entered)))
+}
+
+/// Behind the copies of `{least,}`.
+#[cycle(step)]
+fn step_counted_on(
+    atom: &Expression,
+    active: &[u32],
+    c: char,
+    at: Cursor,
+    least: u32,
+    out: &mut Vec<u32>,
+) -> Result<Cursor, AllocError>
+    requires sized { IsTrue (meaning atom.now).is_sized }
+    requires some { 0 < letters (unrolled_in atom.now) }
+    requires fits { at.past + letters (counted_on least (unrolled_in atom.now)) ≤ max_size }
+    requires stands { IsAt active.now at.past at.index }
+    ensures { IfOk result (λ end. IsStep active.now c (counted_on least (unrolled_in atom.now)) at end
+        out.old.items
+        out.new.items) }
+{
+    let size = atom.size();
+    let mut here = at;
+    let mut i = 0;
+    while i < least {
+        let idle = idle_copies(active, here, size, least - i);
+        if idle > 0 {
+            here.past += idle * size;
+            i += idle;
+            continue;
+        }
+        here = step(atom, active, c, here, out)?;
+        i += 1;
+    }
+    let behind = step_plus(atom, active, c, here, out)?;
+    Ok(behind.with_entered(either(here.entered, behind.entered)))
+}
+
+/// Behind a copy that may be repeated: its start is reached again where its end is.
+#[cycle(step)]
+fn step_plus(
+    atom: &Expression,
+    active: &[u32],
+    c: char,
+    at: Cursor,
+    out: &mut Vec<u32>,
+) -> Result<Cursor, AllocError>
+    requires sized { IsTrue (meaning atom.now).is_sized }
+    requires fits { at.past + letters (unrolled_in atom.now) ≤ max_size }
+    requires stands { IsAt active.now at.past at.index }
+    ensures { IfOk result (λ end. IsStep active.now c (plus (unrolled_in atom.now)) at end out.old.items
+        out.new.items) }
+{
+    let from = at.with_entered(is_entered_again(atom, active, at));
+    Ok(step(atom, active, c, from, out)?)
+}
+
+/// Whether the start of a copy that may be repeated is reached.
+fn is_entered_again(atom: &Expression, active: &[u32], at: Cursor) -> bool
+    requires sized { IsTrue (meaning atom.now).is_sized }
+    requires fits { at.past + letters (unrolled_in atom.now) ≤ max_size }
+    requires stands { IsAt active.now at.past at.index }
+    ensures { result ≡ (at.entered || exits (is_elem active.now) (unrolled_in atom.now) at.past false) }
+{
+    if at.entered {
+        return true;
+    }
+    exit(atom, active, at).entered
+}

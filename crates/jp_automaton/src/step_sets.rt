@@ -1,0 +1,102 @@
+//! A step over one set of characters, and over the copies of one.
+
+ghost use Rattle.std.specs.Prelude.{◌≡◌, ◌+◌, ◌<◌, ◌≤◌, ◌++◌, IfOk, OnOk};
+ghost use Rattle.jp_pattern.specs.Profile.{max_size};
+ghost use Rattle.jp_pattern.specs.Tree.{set_of};
+ghost use Rattle.jp_pattern.specs.Unrolled.{counted, letter};
+ghost use Rattle.jp_automaton.specs.inner.Simulation.{read_if, reads_set, IsAt, IsStep};
+
+use crate::cursor::{Cursor, behind_set, idle_copies};
+use crate::exit::{either, may_stop};
+use jp_pattern::{CharSet, in_set};
+use std::alloc::AllocError;
+
+/// Behind a set of characters; its position is put behind the others where it is read next.
+///
+/// # Errors
+///
+/// Memory ran out.
+pub(crate) fn step_set(
+    set: &CharSet,
+    active: &[u32],
+    c: char,
+    at: Cursor,
+    out: &mut Vec<u32>,
+) -> Result<Cursor, AllocError>
+    requires fits { at.past < max_size }
+    requires stands { IsAt active.now at.past at.index }
+    ensures { IfOk result (λ end. IsStep active.now c (letter (set_of set.now)) at end out.old.items
+        out.new.items) }
+{
+    read_set(set, c, at, out)?;
+    Ok(behind_set(active, at))
+}
+
+/// Puts down the position of the set, where it is entered and holds the character.
+fn read_set(set: &CharSet, c: char, at: Cursor, out: &mut Vec<u32>) -> Result<(), AllocError>
+    requires fits { at.past < max_size }
+    ensures { OnOk result (out.new.items ≡ out.old.items ++ reads_set (set_of set.now) c at) }
+{
+    if !at.entered {
+        return Ok(());
+    }
+    if !in_set(set, c) {
+        return Ok(());
+    }
+    out.push(at.past + 1)?;
+    Ok(())
+}
+
+/// Behind the copies of `{least,most}` of a set; the character is looked up in it once.
+///
+/// # Errors
+///
+/// Memory ran out.
+pub(crate) fn step_set_copies(
+    set: &CharSet,
+    active: &[u32],
+    c: char,
+    at: Cursor,
+    least: u32,
+    most: u32,
+    out: &mut Vec<u32>,
+) -> Result<Cursor, AllocError>
+    requires fits { at.past + most ≤ max_size }
+    requires stands { IsAt active.now at.past at.index }
+    ensures { IfOk result (λ end. IsStep active.now c (counted least most (letter (set_of set.now))) at end
+        out.old.items out.new.items) }
+{
+    let has = in_set(set, c);
+    let mut here = at;
+    let mut left = false;
+    let mut i = 0;
+    while i < most {
+        let idle = idle_copies(active, here, 1, most - i);
+        if idle > 0 {
+            here.past += idle;
+            i += idle;
+            continue;
+        }
+        let stop = may_stop(i, least, here.entered);
+        left = either(left, stop);
+        read_known(has, here, out)?;
+        here = behind_set(active, here);
+        i += 1;
+    }
+    Ok(here.with_entered(either(left, here.entered)))
+}
+
+/// The same, where it is known whether the set holds the character.
+fn read_known(has: bool, at: Cursor, out: &mut Vec<u32>) -> Result<(), AllocError>
+    requires fits { at.past < max_size }
+    ensures { OnOk result (out.new.items ≡ out.old.items ++ read_if has at) }
+{
+    if !has {
+        return Ok(());
+    }
+    if !at.entered {
+        return Ok(());
+    }
+    out.push(at.past + 1)?;
+    Ok(())
+}

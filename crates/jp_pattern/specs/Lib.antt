@@ -1,0 +1,14 @@
+pub mod CategoryNames
+pub mod CharSetShape
+pub mod CharSets
+pub mod Language
+pub mod Pattern
+pub mod Profile
+pub mod Quantity
+pub mod Samples
+pub mod Shape
+pub mod Tests
+pub mod Tree
+pub mod TreeRead
+pub mod Unrolled
+pub mod inner

@@ -1,5 +1,0 @@
-use Rattle.jp_regexp.specs.inner.ByteSets.{AreInSets}
-use Rattle.jp_regexp.proofs.beginnings.Beginnings.flagged.Given as goal
-
-abbrev pub invariant-loop-byte : goal.invariant-loop-byte
-invariant-loop-byte l = AreInSets l.sets l.flags l.byte

@@ -1,9 +1,0 @@
-use Rattle.jp_regexp.proofs.pattern.reading.dfas_of.Goals as goal
-
-pub invariant_of-input : goal.invariant_of-input
-invariant_of-input c = record {
-  sized = c.requires.sized;
-  fits = c.requires.fits;
-  equivalent = ∣ c.in_ok-classes.ensures ∣₁;
-  room = c.most_states-most.ensures;
-}

@@ -1,5 +1,0 @@
-use Rattle.jp_regexp.specs.inner.Prefilter.{AreTwos}
-use Rattle.jp_regexp.proofs.prefilter.pairs_behind_two.Given as goal
-
-abbrev pub invariant-loop-pair : goal.invariant-loop-pair
-invariant-loop-pair l = AreTwos l.dfa.cells.items l.ones l.pairs.items l.pair-index

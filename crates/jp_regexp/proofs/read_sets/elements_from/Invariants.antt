@@ -1,8 +1,0 @@
-use Rattle.std.proofs.Common.{◌≡◌, ◌-◌, map}
-use Rattle.jp_regexp.specs.inner.Reading.{elements_behind}
-use Rattle.jp_regexp.specs.Tree.{element_of}
-use Rattle.jp_regexp.proofs.read_sets.elements_from.Given as goal
-
-abbrev pub invariant-loop-turn : goal.invariant-loop-turn
-invariant-loop-turn l = elements_behind (map element_of l.fn.found.items) l.turns l.fn.text
-    ≡ elements_behind (map element_of l.found.items) (l.turns - l._turn) l.rest

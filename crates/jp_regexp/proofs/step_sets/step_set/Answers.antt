@@ -1,9 +1,0 @@
-use Rattle.jp_regexp.specs.Tree.{set_of}
-use Rattle.jp_regexp.proofs.step_sets.step_set.Goals as goal
-
-pub returns : goal.returns
-returns c = record {
-  walk = c.behind_set.ensures (set_of c.args.set.now);
-  reads =
-      c.in_ok-read_set.ensures;
-}

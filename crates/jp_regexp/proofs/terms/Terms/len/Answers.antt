@@ -1,6 +1,0 @@
-use Rattle.jp_regexp.proofs.TermLemmas.{increasing}
-use Rattle.jp_regexp.proofs.terms.Terms.len.Goals as goal
-
-pub returns-clause-distinct : goal.returns-clause-distinct
-returns-clause-distinct c = increasing c.args.self.now.at_start c.args.self.now.active.items
-    c.args.self.now.rising
