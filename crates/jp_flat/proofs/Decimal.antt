@@ -1,7 +1,7 @@
 -- What the pass over the nodes of a line tells, where numbers need not be whole.
 use Rattle.std.proofs.Common.{◌≡◌, ℕ, ◌<◌, ◌≤◌, Bool, true, false, not, ◌&&◌, List, [], ◌∷◌, length, Option}
 use Rattle.std.proofs.Common.{Some}
-use Rattle.std.proofs.Common.{None, Result, Ok, Err, IfOk, IsSome, refl, sym, ap, ◌∙◌, subst, arith}
+use Rattle.std.proofs.Common.{None, Result, Ok, Err, IsSome, refl, sym, ap, ◌∙◌, subst, arith}
 use Rattle.std.proofs.Common.{if◌then◌else◌}
 use Rattle.std.proofs.Common.{append-nil}
 use Rattle.std.proofs.lemmas.Bool.{ltb-false, le-ltb}
@@ -25,8 +25,7 @@ use Rattle.jp_doc.specs.declared.fault.DocFault.{DocFault}
 use Rattle.jp_doc.specs.declared.fault.DocFault.TheVariants.{LongLine, Unreadable, LongNumber, LongArray}
 use Rattle.jp_doc.proofs.TreeNesting.{shallow_tree, spelled_tree, tree_has_numbers}
 use Rattle.jp_doc.proofs.ReadingInLaws.{value_by_tree}
-use Rattle.jp_flat.specs.Document.{document_value, answer_of, grammar_reading}
-use Rattle.jp_flat.specs.declared.document.FlatDocument.{FlatDocument}
+use Rattle.jp_flat.specs.Document.{grammar_reading}
 use Rattle.jp_flat.specs.Flat.{value_at}
 use Rattle.jp_flat.specs.inner.Nesting.{nests_from}
 use Rattle.jp_flat.specs.inner.Plain.{is_flat, is_whole_text}
@@ -234,9 +233,5 @@ value_if : (b : Bool) (line : List ℕ) (v : Json) → nat_lt max_line (length l
 value_if true line v e h = absurd (cc)
 value_if false line v e h = value_by_tree line v (ltb-false max_line (length line) e) h
 
-pub value_told : {E : Type 0} (line : List ℕ) (r : Result (Result FlatDocument DocFault) E)
-    → IfOk r (λ a. answer_of a ≡ grammar_reading line)
-    → IfOk r (λ a. IfOk a (λ d. reading_in Decimals line ≡ Ok (document_value d)))
-value_told line (Ok (Ok d)) h = value_if (nat_lt max_line (length line)) line (document_value d) refl (sym h)
-value_told line (Ok (Err f)) h = tt
-value_told line (Err e) h = tt
+pub value_told : (line : List ℕ) (v : Json) → grammar_reading line ≡ Ok v → reading_in Decimals line ≡ Ok v
+value_told line v h = value_if (nat_lt max_line (length line)) line v refl h

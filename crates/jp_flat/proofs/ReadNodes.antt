@@ -16,6 +16,7 @@ use Rattle.json.specs.Tree.{json_tokens, items_tokens, members_tokens}
 use Rattle.json.proofs.Numbered.{ArePrintableOrBad-tokens}
 use Rattle.json.proofs.Unique.Spelling.{tokens-document}
 use Rattle.jp_doc.specs.Reading.{max_line, reading}
+use Rattle.jp_doc.specs.ReadingIn.{reading_in}
 use Rattle.jp_doc.proofs.LineTexts.{AreTexts, tokens_are_texts}
 use Rattle.jp_flat.specs.Document.{grammar_reading}
 use Rattle.jp_flat.specs.Flat.{value_at}
@@ -24,7 +25,7 @@ use Rattle.jp_flat.specs.inner.Plain.{is_flat, is_plain, items_are_plain, member
 use Rattle.jp_flat.specs.inner.Plain.{is_whole_text, is_unsigned_text, is_minus_text, max_tokens}
 use Rattle.jp_flat.specs.inner.Rows.{pass_fault}
 use Rattle.jp_flat.proofs.Close.{none_is_long}
-use Rattle.jp_flat.proofs.Decimal.{value_of_pass, short_passes}
+use Rattle.jp_flat.proofs.Decimal.{value_of_pass, short_passes, value_told}
 use Rattle.jp_flat.proofs.Numbers.{below, both, both_back}
 use Rattle.jp_flat.proofs.Pieces.{pieces_are}
 use Rattle.jp_flat.proofs.Reading.{of_tree, flat_is, read_flat}
@@ -32,6 +33,7 @@ use Rattle.jp_flat_nodes.specs.Digits.{are_digits, are_few_digits, is_short_whol
 use Rattle.jp_flat_nodes.specs.Nodes.{tokens_at, token_at, AreLinked, AreWithin, IsRead, are_taken}
 use Rattle.jp_flat_nodes.specs.Nodes.{items_are_taken, members_are_taken}
 use Rattle.jp_flat_nodes.specs.declared.node.Node.{Node}
+use Rattle.jp_number.specs.declared.numbers.Numbers.TheVariants.{Decimals}
 
 -- ---- short whole numbers have 64 bits
 
@@ -172,3 +174,12 @@ laid_grammar line bytes nodes tape is some same linked within u short few none =
       held = held line bytes nodes are u (subst (λ ts. AreLinked ts nodes) is linked) within value.0;
       value = value.1 ∙ ap (λ ts. Ok (value_at ts)) (sym are);
     }
+
+-- what the grammar alone reads is read with decimals
+pub told : (line bytes : List ℕ) (nodes : List Node) → IsReadAs (grammar_reading line) bytes nodes
+    → IsReadAs (reading_in Decimals line) bytes nodes
+told line bytes nodes r = record {
+  few = r.few;
+  held = r.held;
+  value = value_told line _ r.value;
+}

@@ -1,6 +1,7 @@
 pub mod Digits
 pub mod Flat
 pub mod Document
+pub mod LineDocument
 pub mod Value
 pub mod Members
 pub mod Gathered

@@ -8,11 +8,13 @@ mod gather;
 mod insertion;
 pub mod laws;
 mod limits;
+mod line_reader;
 mod lines;
 mod nodes;
 mod reader;
 mod value;
 
 pub use document::FlatDocument;
+pub use line_reader::{LineDocument, LineReader};
 pub use reader::FlatReader;
 pub use value::{FlatItems, FlatMember, FlatMembers, FlatValue, Kind};

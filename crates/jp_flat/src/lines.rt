@@ -1,21 +1,25 @@
 //! The flat reading of a line.
 
-ghost use Rattle.std.specs.Prelude.{◌≡◌, ◌≤◌, Ok, Err, IfOk, IfSome, IsTrue, MatchOption, length};
+ghost use Rattle.std.specs.Prelude.{◌≡◌, ◌≤◌, Err, IfOk, IfSome, IsTrue, MatchOption, MatchResult, length};
 ghost use Rattle.jp_doc.specs.Reading.{max_line, reading};
-ghost use Rattle.jp_flat.specs.Document.{document_value, answer_of, grammar_reading};
-ghost use Rattle.jp_flat.specs.inner.Held.{IsReadAs};
+ghost use Rattle.jp_flat.specs.Document.{document_value, grammar_reading};
+ghost use Rattle.jp_flat.specs.inner.Filled.{texts_at, filled_value, IsFilled};
+ghost use Rattle.jp_flat.specs.inner.Held.{IsHeld, IsReadAs};
 
 use crate::document::FlatDocument;
 use crate::nodes::{are_plain, fault_in};
 use bumpalo::Bump;
-use jp_doc::{DocFault, MAX_LINE};
+use jp_doc::{DocFault, LONG_LINE, MAX_LINE};
 use jp_flat_nodes::{MAX_NODES, Node, lay, read_decimal_line, read_line};
 use json::{Error, Scratch, Tape};
 use std::alloc::{AllocError, Global};
 
-/// The buffers of a reader.
+/// The buffers of a reader, which are kept from line to line.
 #[derive(Drop)]
 pub(crate) struct Room {
+    alloc: Global,
+    /// Whether the last line had over 1,000,000 bytes.
+    was_long: bool,
     /// The nodes of a line.
     nodes: Vec<Node>,
     /// Their texts, where those that the line writes are not plain.
@@ -30,6 +34,8 @@ impl Room {
     /// Buffers that hold no memory yet.
     pub(crate) fn new(alloc: Global) -> Room {
         Room {
+            alloc,
+            was_long: false,
             nodes: Vec::new(alloc),
             texts: Vec::new(alloc),
             scratch: Scratch::new(alloc),
@@ -37,11 +43,30 @@ impl Room {
         }
     }
 
-    /// Lets go of what the kit's reader has kept of the last line.
+    /// Lets go of the nodes of the last line, and of all memory after a long one.
     pub(crate) fn release(&mut self) {
-        // An error says that nodes of an earlier line are still kept, which stays so.
-        let _ = self.arena.reset();
+        if self.was_long {
+            *self = Room::new(self.alloc);
+        } else {
+            // An error says that nodes of an earlier line are still kept, which stays so.
+            let _ = self.arena.reset();
+        }
     }
+
+    /// Lets go of the last line, for one of so many bytes.
+    fn begin(&mut self, bytes: usize) {
+        self.release();
+        self.was_long = bytes > LONG_LINE;
+    }
+}
+
+/// Where the texts of a line's nodes stand.
+#[derive(Clone, Copy, Drop)]
+pub(crate) enum Texts {
+    /// In the line.
+    InLine,
+    /// In the room.
+    InRoom,
 }
 
 /// Reads a line by the kit's reader, and lays its nodes. `false` where the line is not plain.
@@ -93,15 +118,14 @@ fn lay_decimal(text: &str, room: &mut Room) -> Result<Option<DocFault>, AllocErr
     }
 }
 
-/// The document that a line holds, or `None` where the line is not plain. The nodes lie in the room.
+/// Fills the room with the nodes of a line and tells where their texts stand, or `None` where the line is not
+/// plain.
 ///
 /// `AllocError` if a growth was refused.
-pub(crate) fn read<'a>(
-    line: &'a [u8],
-    room: &'a mut Room,
-) -> Result<Option<FlatDocument<'a>>, AllocError>
-    ensures { IfOk result (λ o. IfSome o (λ d. reading line.now ≡ Ok (document_value d))) }
+pub(crate) fn fill(line: &[u8], room: &mut Room) -> Result<Option<Texts>, AllocError>
+    ensures { IfOk result (λ o. IfSome o (λ t. IsFilled (reading line.now) t line.now room.new)) }
 {
+    room.begin(line.len());
     if line.len() > MAX_LINE {
         return Ok(None);
     }
@@ -110,24 +134,27 @@ pub(crate) fn read<'a>(
         return Ok(None);
     };
     if read_line(line, &mut room.nodes) {
-        return Ok(Some(FlatDocument::new(line, &room.nodes)));
+        return Ok(Some(Texts::InLine));
     }
     if lay_plain(text, room)? {
-        Ok(Some(FlatDocument::new(&room.texts, &room.nodes)))
+        Ok(Some(Texts::InRoom))
     } else {
         Ok(None)
     }
 }
 
-/// The document that a line holds, where numbers need not be whole, or its fault. The nodes lie in the room.
+/// The same, where numbers need not be whole, or the fault of the line.
 ///
 /// `AllocError` if a growth was refused.
-pub(crate) fn read_decimal<'a>(
-    line: &'a [u8],
-    room: &'a mut Room,
-) -> Result<Result<FlatDocument<'a>, DocFault>, AllocError>
-    ensures { IfOk result (λ r. answer_of r ≡ grammar_reading line.now) }
+pub(crate) fn fill_decimal(
+    line: &[u8],
+    room: &mut Room,
+) -> Result<Result<Texts, DocFault>, AllocError>
+    ensures { IfOk result (λ r. MatchResult r
+        (λ t. IsFilled (grammar_reading line.now) t line.now room.new)
+        (λ f. grammar_reading line.now ≡ Err f)) }
 {
+    room.begin(line.len());
     if line.len() > MAX_LINE {
         return Ok(Err(DocFault::LongLine));
     }
@@ -135,10 +162,24 @@ pub(crate) fn read_decimal<'a>(
         return Ok(Err(DocFault::Unreadable));
     };
     if read_decimal_line(line, &mut room.nodes) {
-        return Ok(Ok(FlatDocument::new(line, &room.nodes)));
+        return Ok(Ok(Texts::InLine));
     }
     match lay_decimal(text, room)? {
         Some(fault) => Ok(Err(fault)),
-        None => Ok(Ok(FlatDocument::new(&room.texts, &room.nodes))),
+        None => Ok(Ok(Texts::InRoom)),
+    }
+}
+
+/// The document that fills the room, of a line and where the texts of its nodes stand.
+// Each line is handed out so.
+#[inline(always)]
+pub(crate) fn lend<'a>(line: &'a [u8], room: &'a Room, texts: Texts) -> FlatDocument<'a>
+    requires few { length room.now.nodes.items ≤ 16777218 }
+    requires held { IsHeld (texts_at texts line.now room.now) room.now.nodes.items }
+    ensures { document_value result ≡ filled_value texts line.now room.now }
+{
+    match texts {
+        Texts::InLine => FlatDocument::new(line, &room.nodes),
+        Texts::InRoom => FlatDocument::new(&room.texts, &room.nodes),
     }
 }

@@ -7,8 +7,8 @@ ghost use Rattle.jp_doc.specs.ReadingIn.{reading_in};
 ghost use Rattle.jp_flat.specs.Document.{document_value, answer_of, grammar_reading};
 
 use crate::document::FlatDocument;
-use crate::lines::{Room, read, read_decimal};
-use jp_doc::{DocFault, LONG_LINE};
+use crate::lines::{Room, fill, fill_decimal, lend};
+use jp_doc::DocFault;
 use std::alloc::{AllocError, Global};
 
 /// Reads lines, in buffers that are kept from line to line: where no line before was as long, they grow, and
@@ -16,18 +16,14 @@ use std::alloc::{AllocError, Global};
 /// the next line is read.
 #[derive(Drop)]
 pub struct FlatReader {
-    alloc: Global,
     room: Room,
-    was_long: bool,
 }
 
 impl FlatReader {
     /// A reader that holds no memory yet.
     pub fn new(alloc: Global) -> FlatReader {
         FlatReader {
-            alloc,
             room: Room::new(alloc),
-            was_long: false,
         }
     }
 
@@ -38,9 +34,10 @@ impl FlatReader {
     pub fn read<'a>(&'a mut self, line: &'a [u8]) -> Result<Option<FlatDocument<'a>>, AllocError>
         ensures { IfOk result (λ o. IfSome o (λ d. reading line.now ≡ Ok (document_value d))) }
     {
-        self.release();
-        self.was_long = line.len() > LONG_LINE;
-        read(line, &mut self.room)
+        match fill(line, &mut self.room)? {
+            Some(texts) => Ok(Some(lend(line, &self.room, texts))),
+            None => Ok(None),
+        }
     }
 
     /// The document that a line holds by the grammar of JSON alone, where numbers need not be whole, or its
@@ -52,6 +49,7 @@ impl FlatReader {
     /// gives no value of it: of `LongArray` and of `LongNumber` it may give one still.
     ///
     /// `AllocError` if a growth was refused. Then the next line may be read as if there had been none.
+    #[tactic(auto, using(crate::proofs::Decimal::value_told))]
     pub fn read_decimal<'a>(
         &'a mut self,
         line: &'a [u8],
@@ -62,19 +60,15 @@ impl FlatReader {
         ensures fault { IfOk result (λ r. IfErr r (λ f. (g : DocFault) → reading line.now ≡ Err g
             → reading_in Decimals line.now ≡ Err f)) }
     {
-        self.release();
-        self.was_long = line.len() > LONG_LINE;
-        read_decimal(line, &mut self.room)
+        match fill_decimal(line, &mut self.room)? {
+            Ok(texts) => Ok(Ok(lend(line, &self.room, texts))),
+            Err(fault) => Ok(Err(fault)),
+        }
     }
 
     /// Lets go of the nodes of the last line, and of all memory after a long one. A reading begins with it.
     /// Who reads a line as a tree calls it before, so that the memory of both is not held at once.
     pub fn release(&mut self) {
-        if self.was_long {
-            self.room = Room::new(self.alloc);
-            self.was_long = false;
-        } else {
-            self.room.release();
-        }
+        self.room.release();
     }
 }

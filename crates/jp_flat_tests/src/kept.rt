@@ -6,7 +6,7 @@ use jp_flat::FlatReader;
 use std::alloc::{AllocError, Global};
 
 /// An array of so many numbers.
-fn numbers(alloc: Global, count: u32) -> Result<Vec<u8>, AllocError> {
+pub(crate) fn numbers(alloc: Global, count: u32) -> Result<Vec<u8>, AllocError> {
     let mut line = Vec::new(alloc);
     line.push(b'[')?;
     for number in 0..count {

@@ -12,6 +12,8 @@ mod calls;
 #[cfg(test)]
 mod kept;
 #[cfg(test)]
+mod line_reader;
+#[cfg(test)]
 mod lines;
 #[cfg(test)]
 mod one_pass;

@@ -3,7 +3,8 @@
 //! A turn says whether the answer was right, or nothing where it was want of memory. Each is made twice, with
 //! one reader and one buffer: one growth is refused at most, so one of the two answers.
 
-use jp_flat::{FlatMember, FlatReader};
+use jp_flat::{FlatMember, FlatReader, LineDocument, LineReader};
+use jp_number::Numbers;
 use std::alloc::{AllocError, Global};
 
 /// An object of so many names, which fall, and of numbers, each with this behind it.
@@ -81,6 +82,24 @@ fn a_decimal_document(rt: HostRuntime) {
         decimal_turn(&mut reader, rt.alloc()),
         decimal_turn(&mut reader, rt.alloc()),
     );
+    assert!(rt; matches!(turns, (Some(true), Some(true) | None) | (None, Some(true))));
+}
+
+/// Whether a line over a limit is read as a tree once it was read flat.
+fn tree_turn(reader: &mut LineReader) -> Option<bool> {
+    match reader.read(
+        Numbers::Decimals,
+        b"{\"a\":1e0000000001,\"b\":\"\\n\",\"a\":2}",
+    ) {
+        Ok(read) => Some(matches!(read, Ok(LineDocument::Tree(_)))),
+        Err(_) => None,
+    }
+}
+
+#[test]
+fn a_document_over_a_limit(rt: HostRuntime) {
+    let mut reader = LineReader::new(rt.alloc());
+    let turns = (tree_turn(&mut reader), tree_turn(&mut reader));
     assert!(rt; matches!(turns, (Some(true), Some(true) | None) | (None, Some(true))));
 }
 

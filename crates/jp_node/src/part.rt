@@ -9,6 +9,7 @@ ghost use Rattle.jp_doc.specs.Json.{value_of};
 ghost use Rattle.jp_doc.specs.Location.{member_of, item_of};
 ghost use Rattle.jp_doc.specs.Reading.{max_items};
 ghost use Rattle.jp_flat.specs.Document as flat;
+ghost use Rattle.jp_flat.specs.LineDocument.{line_value};
 ghost use Rattle.jp_flat.specs.Value.{flat_value, item_count};
 ghost use Rattle.jp_node.specs.Inside.{kind_value, IsInside, IsScalar};
 ghost use Rattle.jp_number.specs.Number as numbers;
@@ -18,7 +19,7 @@ use crate::items::Items;
 use crate::members::Members;
 use crate::tree::{TreeItems, TreeMembers, TreeValue};
 use jp_doc::{Document, whole_of};
-use jp_flat::{FlatDocument, FlatValue};
+use jp_flat::{FlatDocument, FlatValue, LineDocument};
 use jp_number::{Number, NumberText};
 use serde_json::Value;
 
@@ -76,6 +77,16 @@ impl<'v> Part<'v> {
         ensures { part_value result ≡ flat.document_value document.now }
     {
         Part::Flat(document.root())
+    }
+
+    /// The whole value of the document of a line.
+    pub fn root_of_line(document: &'v LineDocument<'_>) -> Part<'v>
+        ensures { part_value result ≡ line_value document.now }
+    {
+        match document {
+            LineDocument::Flat(flat) => Part::root_of_flat(flat),
+            LineDocument::Tree(tree) => Part::root_of(tree),
+        }
     }
 
     /// The member of this name. Of a flat document it goes over all members.
