@@ -7,7 +7,7 @@ use Rattle.jp_doc.specs.NumbersWithin.{HasJsonNumbers}
 use Rattle.jp_doc.specs.ReadingIn.{reading_in}
 use Rattle.jp_doc.proofs.ReadingInLaws.{read_numbers}
 use Rattle.jp_doc.specs.declared.fault.DocFault.{DocFault}
-use Rattle.jp_regexp.specs.Tests.{Tests}
+use Rattle.jp_pattern.specs.Tests.{Tests}
 use Rattle.jp_output.specs.FaultLine.{fault_line}
 use Rattle.jp_output.specs.Fields.{AreLinesOfThree}
 use Rattle.jp_output.specs.OutputForm.{node_lines}

@@ -8,7 +8,7 @@ use Rattle.jp_doc.specs.Lines.{Line}
 use Rattle.jp_doc.specs.NumbersWithin.{IsJsonNumber, HasJsonNumbers}
 use Rattle.jp_doc.specs.ReadingIn.{reading_in}
 use Rattle.jp_doc.specs.declared.fault.DocFault.{DocFault}
-use Rattle.jp_regexp.specs.Tests.{Tests}
+use Rattle.jp_pattern.specs.Tests.{Tests}
 use Rattle.jp_eval.specs.Nodelist.{document_nodes}
 use Rattle.jp_eval.proofs.NumbersKept.{numbers_kept}
 use Rattle.jp_output.specs.Fields.{NodesHaveJsonNumbers}

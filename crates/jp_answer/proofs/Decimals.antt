@@ -7,7 +7,7 @@ use Rattle.jp_doc.specs.Reading.{reading}
 use Rattle.jp_doc.specs.ReadingIn.{reading_in}
 use Rattle.jp_doc.specs.declared.fault.DocFault.{DocFault}
 use Rattle.jp_doc.proofs.ReadingInLaws.{same_reading}
-use Rattle.jp_regexp.specs.Tests.{Tests}
+use Rattle.jp_pattern.specs.Tests.{Tests}
 use Rattle.jp_output.specs.OutputForm.{OutputForm}
 use Rattle.jp_answer.specs.Answer.{joined}
 use Rattle.jp_answer.specs.Faults.{fault_in, fault_or, faulty_lines, first_fault}

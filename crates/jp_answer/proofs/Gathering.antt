@@ -12,7 +12,7 @@ use Rattle.jp_buffer.specs.Buffered.{line_at}
 use Rattle.jp_buffer.specs.declared.line_ref.LineRef.{LineRef}
 use Rattle.jp_doc.specs.Lines.{Line}
 use Rattle.jp_doc.specs.declared.fault.DocFault.{DocFault}
-use Rattle.jp_nodes.specs.declared.visit.Visit as visit
+use Rattle.jp_node.specs.declared.visit.Visit as visit
 use Rattle.jp_output.specs.OutputForm.{OutputForm}
 use Rattle.jp_output.specs.declared.form.Form as form
 use Rattle.jp_answer.specs.Answer.{Answer, joined, nothing, unless_stopped}

@@ -10,7 +10,7 @@ use Rattle.jp_doc.specs.Json.{Json}
 use Rattle.jp_doc.specs.Lines.{Line}
 use Rattle.jp_doc.specs.ReadingIn.{reading_in}
 use Rattle.jp_doc.specs.declared.fault.DocFault.{DocFault}
-use Rattle.jp_regexp.specs.Tests.{Tests}
+use Rattle.jp_pattern.specs.Tests.{Tests}
 use Rattle.jp_output.specs.OutputForm.{OutputForm}
 use Rattle.jp_answer.specs.Answer.{Answer, answer_by, document_bytes, line_bytes, nothing, joined}
 use Rattle.jp_answer.specs.Answer.{unless_stopped}

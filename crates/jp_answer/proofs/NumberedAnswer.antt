@@ -10,7 +10,7 @@ use Rattle.jp_doc.specs.NumbersWithin.{HasJsonNumbers}
 use Rattle.jp_doc.specs.ReadingIn.{reading_in}
 use Rattle.jp_doc.proofs.ReadingInLaws.{read_numbers}
 use Rattle.jp_doc.specs.declared.fault.DocFault.{DocFault}
-use Rattle.jp_regexp.specs.Tests.{Tests}
+use Rattle.jp_pattern.specs.Tests.{Tests}
 use Rattle.jp_output.specs.Fields.{NodesHaveJsonNumbers}
 use Rattle.jp_output.specs.NumberedLines.{AreNumberedAbove, of_documents, lines_of_documents, first_fields}
 use Rattle.jp_output.specs.NumberedLines.{lines_numbered}

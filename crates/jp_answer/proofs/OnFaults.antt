@@ -16,7 +16,7 @@ use Rattle.jp_doc.specs.Lines.{Line}
 use Rattle.jp_doc.specs.ReadingIn.{reading_in}
 use Rattle.jp_doc.specs.declared.fault.DocFault.{DocFault}
 use Rattle.jp_buffer.specs.declared.line_ref.LineRef as code
-use Rattle.jp_regexp.specs.Tests.{Tests}
+use Rattle.jp_pattern.specs.Tests.{Tests}
 use Rattle.jp_output.specs.OutputForm.{OutputForm}
 use Rattle.jp_answer.specs.Answer.{Answer, answer_by, nothing, joined}
 use Rattle.jp_answer.specs.Faults.{fault_in, fault_or, first_fault, is_faulty, faulty_lines}

@@ -5,7 +5,7 @@ use denote.RattleType.{RattleType}
 use denote.Ref.{NamedLft}
 use Rattle.std.proofs.Crossing.{crosses}
 use Rattle.boxcar.proofs.Sent.{slot_send, slot_sync, written_send, written_sync}
-use Rattle.jp_nodes.specs.declared.visit.Visit.{Ghosts as Visited}
+use Rattle.jp_node.specs.declared.visit.Visit.{Ghosts as Visited}
 use Rattle.jp_output.specs.declared.form.Form.{Ghosts}
 use Rattle.jp_answer.specs.contracts.asked.Asked as Asked
 use Rattle.jp_answer.specs.contracts.block.Block as Block

@@ -1,7 +1,7 @@
 -- What a task is answered with.
 use Rattle.std.specs.Prelude.{◌≡◌, ℕ, List}
 use Rattle.jp_doc.specs.Lines.{Line}
-use Rattle.jp_regexp.specs.Tests.{Tests, AreRight}
+use Rattle.jp_pattern.specs.Tests.{Tests, AreRight}
 use Rattle.jp_output.specs.OutputForm.{OutputForm}
 use Rattle.jp_answer.specs.Answer.{answer_by}
 use Rattle.jp_answer.specs.Answered.{outcome_of}

@@ -8,7 +8,7 @@ use Rattle.jp_doc.specs.Location.{Node}
 use Rattle.jp_doc.specs.ReadingIn.{reading_in}
 use Rattle.jp_doc.specs.declared.fault.DocFault.{DocFault}
 use Rattle.jp_tree.specs.Tree.{Query, Logical}
-use Rattle.jp_regexp.specs.Tests.{Tests}
+use Rattle.jp_pattern.specs.Tests.{Tests}
 use Rattle.jp_eval.specs.Filter.{document_holds}
 use Rattle.jp_eval.specs.Nodelist.{document_nodes}
 

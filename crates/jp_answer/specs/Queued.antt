@@ -3,7 +3,7 @@ use Rattle.std.specs.Prelude.{◌≡◌, ℕ, List, [], ◌∷◌, ◌++◌}
 use Rattle.std.specs.Arc.{arc_value}
 use Rattle.jp_doc.specs.Lines.{Line}
 use Rattle.jp_output.specs.declared.form.Form as form
-use Rattle.jp_nodes.specs.declared.visit.Visit as visit
+use Rattle.jp_node.specs.declared.visit.Visit as visit
 use Rattle.jp_answer.specs.declared.queue.Queue.{Queue}
 use Rattle.jp_answer.specs.declared.queue.Sent.{Sent}
 use Rattle.jp_answer.specs.declared.task.Task.{Task}

@@ -5,7 +5,7 @@ ghost use Rattle.jp_number.specs.declared.numbers.Numbers.TheVariants.{Whole};
 ghost use Rattle.jp_doc.specs.declared.fault.DocFault.TheVariants.{Unreadable, NotWhole};
 ghost use Rattle.jp_tree.specs.Tree as tree;
 ghost use Rattle.jp_tree.specs.declared.tree.Start.TheVariants.{Root};
-ghost use Rattle.jp_regexp.specs.Tests.{Tests};
+ghost use Rattle.jp_pattern.specs.Tests.{Tests};
 ghost use Rattle.jp_answer.specs.Answer.{stream_answer, stream_whole};
 ghost use Rattle.jp_answer.specs.Faults.{first_fault};
 ghost use Rattle.jp_answer.specs.Streams.{placed_blocks, AreBlocks};

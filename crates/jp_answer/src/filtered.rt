@@ -2,8 +2,8 @@
 
 ghost use Rattle.std.specs.Prelude.{◌≡◌, IfOk, OnOk};
 ghost use Rattle.std.specs.List.{fold};
-ghost use Rattle.jp_part.specs.Part.{part_value};
-ghost use Rattle.jp_regexp.specs.Tests.{Tests, AreRight};
+ghost use Rattle.jp_node.specs.Part.{part_value};
+ghost use Rattle.jp_pattern.specs.Tests.{Tests, AreRight};
 ghost use Rattle.jp_answer.specs.Asking.{asked_query};
 ghost use Rattle.jp_answer.specs.FilteredQuery.{is_chosen, selected_nodes};
 
@@ -11,7 +11,7 @@ use crate::asked::Asked;
 use crate::crew::Crew;
 use crate::walking::Walk;
 use jp_eval::{DocumentFilter, EvalFault, Evaluator, OpenFork, Visit};
-use jp_part::Part;
+use jp_node::Part;
 use std::alloc::Global;
 use std::thread::Threads;
 

@@ -8,7 +8,7 @@ ghost use Rattle.jp_doc.specs.Json.{Json};
 ghost use Rattle.jp_doc.specs.Lines.{Line, lines, line_count};
 ghost use Rattle.jp_doc.specs.NumbersWithin.{HasJsonNumbers};
 ghost use Rattle.jp_tree.specs.Tree.{Query};
-ghost use Rattle.jp_regexp.specs.Tests.{Tests};
+ghost use Rattle.jp_pattern.specs.Tests.{Tests};
 ghost use Rattle.jp_output.specs.Fields.{times, AreLinesOfThree};
 ghost use Rattle.jp_output.specs.NumberedLines.{AreNumberedAbove, first_fields, lines_numbered};
 ghost use Rattle.jp_output.specs.OutputForm.{OutputForm, node_lines, input_lines};

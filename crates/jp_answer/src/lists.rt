@@ -3,7 +3,7 @@
 ghost use Rattle.std.specs.Prelude.{◌≡◌, ◌+◌, ◌<◌, ◌≤◌, ◌⊎◌, None, [], length, map, take, drop, IfOk, OnOk};
 ghost use Rattle.std.specs.Prelude.{IsSome};
 ghost use Rattle.jp_buffer.specs.Buffered.{line_at};
-ghost use Rattle.jp_regexp.specs.Tests.{Tests, AreRight};
+ghost use Rattle.jp_pattern.specs.Tests.{Tests, AreRight};
 ghost use Rattle.jp_board.specs.Limits.{max_pieces};
 ghost use Rattle.jp_answer.specs.Answer.{answer_by};
 ghost use Rattle.jp_answer.specs.Answered.{outcome_of};

@@ -9,7 +9,7 @@ use Rattle.std.proofs.lemmas.Slice.Eq.{bytes_eq-Decides}
 use Rattle.std.proofs.lemmas.Str.{encodes-chars, IsUtf8-string_bytes}
 use lib.Utf8.{encodes}
 use Rattle.jp_tree.specs.View.{text_of}
-use Rattle.jp_regexp.specs.Held.{IsRead}
+use Rattle.jp_automaton.specs.Held.{IsRead}
 use Rattle.jp_check.specs.Known.{known_texts}
 use Rattle.jp_compiled.specs.declared.known.KnownPattern.{KnownPattern}
 use Rattle.jp_compiled.proofs.PatternSets.{read_had}

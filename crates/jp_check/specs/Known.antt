@@ -2,9 +2,9 @@
 use Rattle.std.specs.Prelude.{List, map, Contains}
 use Rattle.jp_tree.specs.Tree.{Text}
 use Rattle.jp_tree.specs.View.{text_of}
-use Rattle.jp_regexp.specs.Pattern.{Pattern}
-use Rattle.jp_regexp.specs.Profile.{IsPatternOf}
-use Rattle.jp_regexp.specs.Held.{pattern_of}
+use Rattle.jp_pattern.specs.Pattern.{Pattern}
+use Rattle.jp_pattern.specs.Profile.{IsPatternOf}
+use Rattle.jp_automaton.specs.Held.{pattern_of}
 use Rattle.jp_compiled.specs.declared.known.KnownPattern.{KnownPattern}
 use Rattle.jp_check.specs.declared.known.Known.{Known}
 use Rattle.jp_check.specs.declared.known.Known.TheVariants.{Read, NoPattern, Unknown}

@@ -4,14 +4,14 @@ use ghost.Sets.{retract_set}
 use Rattle.std.proofs.Math.Logic.{∥∥₁_elim}
 use Rattle.std.proofs.Props.{props}
 use Rattle.std.proofs.Common.{◌≡◌, ℕ, Option, Some, None, refl, ap, ◌∙◌, subst, inl, inr}
-use Rattle.jp_regexp.specs.Shape.{Shapes}
-use Rattle.jp_regexp.specs.Pattern.{Text, Element, CharSet, Pattern, empty, letter, group, seq, either}
-use Rattle.jp_regexp.specs.Pattern.{repeat, plus}
-use Rattle.jp_regexp.specs.Profile.{IsPatternOf, InProfile, HasCounts}
-use Rattle.jp_regexp.specs.Held.{IsRead, pattern_of}
-use Rattle.jp_regexp.specs.declared.pattern.Pattern.{Pattern as HeldPattern}
-use Rattle.jp_regexp.proofs.PatternsRead.{one_tree}
-use Rattle.jp_regexp.proofs.PatternsSound.{decided}
+use Rattle.jp_pattern.specs.Shape.{Shapes}
+use Rattle.jp_pattern.specs.Pattern.{Text, Element, CharSet, Pattern, empty, letter, group, seq, either}
+use Rattle.jp_pattern.specs.Pattern.{repeat, plus}
+use Rattle.jp_pattern.specs.Profile.{IsPatternOf, InProfile, HasCounts}
+use Rattle.jp_automaton.specs.Held.{IsRead, pattern_of}
+use Rattle.jp_automaton.specs.declared.pattern.Pattern.{Pattern as HeldPattern}
+use Rattle.jp_pattern.proofs.PatternsRead.{one_tree}
+use Rattle.jp_pattern.proofs.PatternsSound.{decided}
 
 element_set : IsSet Element
 element_set = hlevel props

@@ -3,7 +3,7 @@
 ghost use Rattle.std.specs.Prelude.{◌≡◌, IfOk, option_map};
 ghost use Rattle.std.specs.Arc.{arc_value};
 ghost use Rattle.jp_tree.specs.View.{text_of};
-ghost use Rattle.jp_regexp.specs.Held.{IsRead};
+ghost use Rattle.jp_automaton.specs.Held.{IsRead};
 
 use jp_regexp::Pattern;
 use std::alloc::{AllocError, Global};

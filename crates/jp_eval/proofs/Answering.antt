@@ -8,10 +8,10 @@ use Rattle.jp_compiled.specs.Compiled.{compiled_query}
 use Rattle.jp_compiled.specs.Parts.{roots_of, segments_in}
 use Rattle.jp_compiled.specs.declared.compiled.Query as compiled
 use Rattle.jp_compiled.specs.declared.query.Segment.{Segment}
-use Rattle.jp_part.specs.Part.{part_value}
-use Rattle.jp_part.specs.declared.part.Part.{Part}
-use Rattle.jp_path_stack.specs.declared.link.Link.{Link}
-use Rattle.jp_regexp.specs.Tests.{Tests, AreRight}
+use Rattle.jp_node.specs.Part.{part_value}
+use Rattle.jp_node.specs.declared.part.Part.{Part}
+use Rattle.jp_node.specs.declared.link.Link.{Link}
+use Rattle.jp_pattern.specs.Tests.{Tests, AreRight}
 use Rattle.jp_value.specs.RightTests.{tests}
 use Rattle.jp_value.proofs.Answering.{same_tests}
 use Rattle.jp_eval.specs.Nodelist.{document_nodes}

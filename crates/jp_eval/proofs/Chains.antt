@@ -9,11 +9,11 @@ use Rattle.jp_compiled.specs.Parts.{segment_in, segments_in, selector_in}
 use Rattle.jp_compiled.specs.declared.query.Segment.{Segment, out-Segment}
 use Rattle.jp_compiled.specs.declared.query.Selector.{Selector}
 use Rattle.jp_eval.specs.inner.Base.{Base}
-use Rattle.jp_nodes.specs.Nodes.{children, descendants}
+use Rattle.jp_node.specs.Nodes.{children, descendants}
 use Rattle.jp_eval.specs.Nodelist as spec
 use Rattle.jp_value.specs.RightTests.{tests}
 use Rattle.jp_eval.specs.inner.Walk.{picked, picked_by, reached}
-use Rattle.jp_nodes.proofs.Descent.{descend}
+use Rattle.jp_node.proofs.Descent.{descend}
 use Rattle.jp_eval.proofs.CompiledParts.{segment_is}
 
 flat_map-flat_map : {X Y Z : Type 0} (f : Y → List Z) (g : X → List Y) (xs : List X)

@@ -40,20 +40,20 @@ use Rattle.jp_compiled.specs.declared.query.Value.{Value}
 use Rattle.jp_compiled.specs.declared.query.Value.TheVariants as val
 use Rattle.jp_compiled.specs.declared.query.Nodes.{Nodes}
 use Rattle.jp_compiled.specs.declared.query.Nodes.TheVariants as nod
-use Rattle.jp_path_stack.specs.Links.{link_steps}
-use Rattle.jp_path_stack.specs.declared.link.Link.{Link}
+use Rattle.jp_node.specs.Links.{link_steps}
+use Rattle.jp_node.specs.declared.link.Link.{Link}
 use Rattle.jp_value.specs.Literals.{literal_value, written_value}
 use Rattle.jp_eval.specs.inner.Rooted.{root_nodes}
 use Rattle.jp_eval.specs.inner.Base.{Base}
 use Rattle.jp_found.specs.Links.{here}
-use Rattle.jp_part.specs.Part.{part_value}
-use Rattle.jp_part.specs.declared.part.Part.{Part}
+use Rattle.jp_node.specs.Part.{part_value}
+use Rattle.jp_node.specs.declared.part.Part.{Part}
 use Rattle.jp_value.specs.Comparison.{compared}
 use Rattle.jp_value.specs.Functions.{first_value, only_value, is_empty, as_value, tested, length_value}
 use Rattle.jp_value.specs.Functions.{number_value, as_truth, as_nodes, exactly_one, distinct}
-use Rattle.jp_children.specs.Selected.{index_places, slice_places}
+use Rattle.jp_node.specs.Selected.{index_places, slice_places}
 use Rattle.jp_eval.specs.Nodelist as spec
-use Rattle.jp_nodes.specs.Nodes.{child, children, items_at}
+use Rattle.jp_node.specs.Nodes.{child, children, items_at}
 use Rattle.jp_value.specs.RightTests.{tests}
 use Rattle.jp_eval.specs.inner.Walk.{picked, reached, is_true, value_given, nodes_given}
 

@@ -4,10 +4,10 @@ use Rattle.jp_doc.specs.Location.{node}
 use Rattle.jp_compiled.specs.Parts.{Wanted, logical_in}
 use Rattle.jp_compiled.specs.declared.query.Logical.{Logical}
 use Rattle.jp_found.specs.Links.{here}
-use Rattle.jp_part.specs.Part.{part_value}
-use Rattle.jp_part.specs.declared.part.Part.{Part}
-use Rattle.jp_path_stack.specs.declared.link.Link.{Link}
-use Rattle.jp_regexp.specs.Tests.{Tests, AreRight}
+use Rattle.jp_node.specs.Part.{part_value}
+use Rattle.jp_node.specs.declared.part.Part.{Part}
+use Rattle.jp_node.specs.declared.link.Link.{Link}
+use Rattle.jp_pattern.specs.Tests.{Tests, AreRight}
 use Rattle.jp_value.specs.RightTests.{tests}
 use Rattle.jp_value.proofs.Answering.{same_tests}
 use Rattle.jp_eval.specs.Filter.{document_holds}

@@ -11,9 +11,9 @@ use Rattle.jp_compiled.specs.declared.query.Selector.TheVariants as sel
 use Rattle.jp_compiled.specs.declared.query.Slice.{Slice}
 use Rattle.jp_value.specs.Literals.{written_value}
 use Rattle.jp_eval.specs.inner.Base.{Base}
-use Rattle.jp_part.specs.Inside.{IsScalar}
-use Rattle.jp_children.specs.Selected.{index_places, slice_places}
-use Rattle.jp_nodes.specs.Nodes.{child, children, items_at, descendants}
+use Rattle.jp_node.specs.Inside.{IsScalar}
+use Rattle.jp_node.specs.Selected.{index_places, slice_places}
+use Rattle.jp_node.specs.Nodes.{child, children, items_at, descendants}
 use Rattle.jp_eval.specs.inner.Walk.{picked, picked_by, reached, is_true}
 use Rattle.jp_eval.proofs.Chains.{reached-none}
 use Rattle.jp_eval.proofs.CompiledParts.{picked_name, picked_wild, picked_index, picked_slice, picked_filter}

@@ -15,8 +15,8 @@ use Rattle.jp_doc.specs.Location.{Step, name, index, Location, Node, node, value
 use Rattle.jp_doc.specs.Location.{item_at}
 use Rattle.jp_doc.specs.Rising.{IsRising, ItemsRise, MembersRise, IsBelow}
 use Rattle.jp_doc.proofs.LocationLaws.{value_at_both}
-use Rattle.jp_nodes.specs.Nodes.{item_nodes, member_nodes, children_at, children, descendants_at}
-use Rattle.jp_nodes.specs.Nodes.{items_descendants, members_descendants, descendants}
+use Rattle.jp_node.specs.Nodes.{item_nodes, member_nodes, children_at, children, descendants_at}
+use Rattle.jp_node.specs.Nodes.{items_descendants, members_descendants, descendants}
 
 -- the node stands where its location leads, and the names in its value rise
 pub record Leads (root : Json) (n : Node) : Type 0 where

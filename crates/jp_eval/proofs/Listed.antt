@@ -13,8 +13,8 @@ use Rattle.jp_tree.specs.Tree as tree
 use Rattle.jp_tree.specs.Tree.{Query, query, Segment, segment, Segments, no_segments, add_segment}
 use Rattle.jp_tree.specs.Tree.{Selector, Selectors, no_selectors, add_selector}
 use Rattle.jp_tree.specs.declared.tree.Start.TheVariants.{Root, Current}
-use Rattle.jp_regexp.specs.Tests.{Tests}
-use Rattle.jp_nodes.specs.Nodes.{child, children, descendants, items_at, node_if_some}
+use Rattle.jp_pattern.specs.Tests.{Tests}
+use Rattle.jp_node.specs.Nodes.{child, children, descendants, items_at, node_if_some}
 use Rattle.jp_eval.specs.Nodelist.{nodelist, through, segment_nodes, selected, select, holds}
 use Rattle.jp_eval.proofs.Leading.{Leads, all_of_both, all_filtered, all_mapped, by_name, leads_to}
 use Rattle.jp_eval.proofs.Leading.{children_lead, descendants_lead}

@@ -13,10 +13,10 @@ use Rattle.jp_tree.specs.Tree as tree
 use Rattle.jp_tree.specs.Tree.{Query, query, Segment, segment, Segments, no_segments, add_segment}
 use Rattle.jp_tree.specs.Tree.{Selector, Selectors, no_selectors, add_selector}
 use Rattle.jp_tree.specs.declared.tree.Start.TheVariants.{Root, Current}
-use Rattle.jp_regexp.specs.Tests.{Tests}
-use Rattle.jp_nodes.specs.Nodes.{child, children, children_at, item_nodes, member_nodes, descendants}
-use Rattle.jp_nodes.specs.Nodes.{descendants_at, items_descendants, members_descendants, items_at}
-use Rattle.jp_nodes.specs.Nodes.{node_if_some}
+use Rattle.jp_pattern.specs.Tests.{Tests}
+use Rattle.jp_node.specs.Nodes.{child, children, children_at, item_nodes, member_nodes, descendants}
+use Rattle.jp_node.specs.Nodes.{descendants_at, items_descendants, members_descendants, items_at}
+use Rattle.jp_node.specs.Nodes.{node_if_some}
 use Rattle.jp_eval.specs.Nodelist.{nodelist, through, segment_nodes, selected, select, holds, document_nodes}
 use Rattle.jp_eval.proofs.Leading.{all_of_both, all_filtered, all_mapped, by_name}
 use Rattle.jp_eval.proofs.Listed.{each_mapped}

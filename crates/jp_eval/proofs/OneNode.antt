@@ -6,7 +6,7 @@ use Rattle.jp_doc.specs.Json.{Json}
 use Rattle.jp_doc.specs.Location.{Location, Node, node, index, item_of}
 use Rattle.jp_compiled.specs.declared.query.Segment.{Segment, out-Segment}
 use Rattle.jp_compiled.specs.declared.query.Selector.{Selector}
-use Rattle.jp_nodes.specs.Nodes.{node_if_some, items_at}
+use Rattle.jp_node.specs.Nodes.{node_if_some, items_at}
 use Rattle.jp_value.specs.Functions.{first_value}
 use Rattle.jp_eval.specs.inner.Base.{Base}
 use Rattle.jp_eval.specs.inner.OneNode.{AreOne}

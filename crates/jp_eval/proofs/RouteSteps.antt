@@ -6,18 +6,18 @@ use Rattle.std.specs.Prelude.{option_and_then}
 use Rattle.std.proofs.lemmas.Bool.{and_parts, and_from, eqb-true}
 use Rattle.std.proofs.lemmas.List.{at_drop_more, at_drop_all, map-append}
 use Rattle.std.proofs.lemmas.Slice.Eq.{bytes_eq-Decides}
-use Rattle.jp_children.proofs.Places.{free_place}
-use Rattle.jp_children.specs.Selected.{index_places}
+use Rattle.jp_node.proofs.Places.{free_place}
+use Rattle.jp_node.specs.Selected.{index_places}
 use Rattle.jp_compiled.specs.Parts.{Wanted, segment_in, segments_in, selector_in}
 use Rattle.jp_compiled.specs.declared.query.Segment.{Segment, out-Segment}
 use Rattle.jp_compiled.specs.declared.query.Selector.{Selector}
 use Rattle.jp_doc.specs.Json.{Json}
 use Rattle.jp_doc.specs.Location as at
 use Rattle.jp_doc.specs.Location.{Step, Location, node, child_at, value_at}
-use Rattle.jp_nodes.specs.Nodes.{node_if_some, child, items_at}
-use Rattle.jp_path_stack.specs.Links.{link_step, link_steps}
-use Rattle.jp_path_stack.specs.declared.link.Link.{Link}
-use Rattle.jp_regexp.specs.Tests.{Tests}
+use Rattle.jp_node.specs.Nodes.{node_if_some, child, items_at}
+use Rattle.jp_node.specs.Links.{link_step, link_steps}
+use Rattle.jp_node.specs.declared.link.Link.{Link}
+use Rattle.jp_pattern.specs.Tests.{Tests}
 use Rattle.jp_tree.specs.Tree as tree
 use Rattle.jp_tree.specs.declared.tree.Start.{Start}
 use Rattle.jp_tree.specs.declared.tree.Start.TheVariants as start

@@ -6,7 +6,7 @@ use Rattle.jp_doc.specs.Location.{Node}
 use Rattle.jp_tree.specs.Tree.{Segment, segments, query_from}
 use Rattle.jp_tree.specs.declared.tree.Start.{Start}
 use Rattle.jp_tree.specs.declared.tree.Start.TheVariants.{Root, Current}
-use Rattle.jp_regexp.specs.Tests.{Tests}
+use Rattle.jp_pattern.specs.Tests.{Tests}
 use Rattle.jp_eval.specs.Nodelist.{nodelist, through, segment_nodes}
 
 module _ (t : Tests) (root : Json) where

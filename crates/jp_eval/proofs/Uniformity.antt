@@ -20,8 +20,8 @@ use Rattle.jp_compiled.specs.declared.query.Selector.TheVariants as sel
 use Rattle.jp_value.specs.Comparison.{compared}
 use Rattle.jp_value.specs.Functions.{is_empty, first_value, as_truth, as_value, called_if_known}
 use Rattle.jp_value.specs.Functions.{handed_nodes, handed_truth}
-use Rattle.jp_regexp.specs.Tests.{Tests}
-use Rattle.jp_nodes.specs.Nodes.{children}
+use Rattle.jp_pattern.specs.Tests.{Tests}
+use Rattle.jp_node.specs.Nodes.{children}
 use Rattle.jp_eval.specs.Nodelist as spec
 use Rattle.jp_eval.specs.inner.Base.{Base}
 use Rattle.jp_eval.specs.inner.Walk.{picked, reached, is_true}

@@ -7,15 +7,15 @@ use Rattle.std.proofs.lemmas.List.{at_drop_more, at_drop_all, map-append}
 use Rattle.std.specs.List.{flat_map, list_any, list_all}
 use Rattle.jp_doc.specs.Json.{Json}
 use Rattle.jp_doc.specs.Location.{Node, node, index, item_of}
-use Rattle.jp_path_stack.specs.Links.{link_step, link_steps}
+use Rattle.jp_node.specs.Links.{link_step, link_steps}
 use Rattle.jp_found.specs.Kept.{plus}
 use Rattle.jp_found.specs.Links.{here}
-use Rattle.jp_nodes.specs.Nodes.{items_at}
-use Rattle.jp_nodes.specs.Nodes.{children, descendants, node_if_some}
-use Rattle.jp_part.specs.Part.{part_value}
+use Rattle.jp_node.specs.Nodes.{items_at}
+use Rattle.jp_node.specs.Nodes.{children, descendants, node_if_some}
+use Rattle.jp_node.specs.Part.{part_value}
 use Rattle.jp_eval.specs.inner.Walk.{picked, picked_by, reached}
-use Rattle.jp_part.specs.declared.part.Part.{Part}
-use Rattle.jp_path_stack.specs.declared.link.Link.{Link}
+use Rattle.jp_node.specs.declared.part.Part.{Part}
+use Rattle.jp_node.specs.declared.link.Link.{Link}
 use Rattle.jp_compiled.specs.declared.query.Segment.{Segment}
 use Rattle.jp_compiled.specs.declared.query.Selector.{Selector}
 use Rattle.jp_eval.specs.inner.Base.{Base}

@@ -5,7 +5,7 @@ use Rattle.jp_doc.specs.Location.{Node}
 use Rattle.jp_compiled.specs.declared.query.Segment.{Segment}
 use Rattle.jp_compiled.specs.declared.query.Selector.{Selector}
 use Rattle.jp_eval.specs.inner.Base.{Base}
-use Rattle.jp_nodes.specs.Nodes.{children, descendants}
+use Rattle.jp_node.specs.Nodes.{children, descendants}
 use Rattle.jp_found.specs.Kept.{plus}
 use Rattle.jp_eval.specs.inner.Walk.{picked, picked_by, reached}
 use Rattle.jp_eval.proofs.Chains.{reached-append, reached-descend, reached-each, reached-filter, reached-none}

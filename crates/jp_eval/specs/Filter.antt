@@ -4,7 +4,7 @@ use Rattle.std.specs.Prelude.{Bool, []}
 use Rattle.jp_doc.specs.Json.{Json}
 use Rattle.jp_doc.specs.Location.{node}
 use Rattle.jp_tree.specs.Tree.{Logical}
-use Rattle.jp_regexp.specs.Tests.{Tests}
+use Rattle.jp_pattern.specs.Tests.{Tests}
 use Rattle.jp_compiled.specs.Parts.{logical_in, roots_of}
 use Rattle.jp_eval.specs.Nodelist.{holds}
 use Rattle.jp_eval.specs.declared.document_filter.DocumentFilter.{DocumentFilter}

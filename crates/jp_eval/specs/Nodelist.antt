@@ -13,11 +13,11 @@ use Rattle.jp_tree.specs.Tree.{literal_argument, query_argument, logical_argumen
 use Rattle.jp_tree.specs.Tree.{no_segments, add_segment, Selectors, no_selectors, add_selector, Logicals}
 use Rattle.jp_tree.specs.Tree.{no_logicals, add_logical, Arguments, no_arguments, add_argument}
 use Rattle.jp_tree.specs.declared.tree.Start.TheVariants.{Root, Current}
-use Rattle.jp_regexp.specs.Tests.{Tests}
+use Rattle.jp_pattern.specs.Tests.{Tests}
 use Rattle.jp_types.specs.Numbers.{whole_number}
 use Rattle.jp_types.specs.Functions.{function_named}
-use Rattle.jp_nodes.specs.Nodes.{children, child, items_at, descendants}
-use Rattle.jp_children.specs.Selected.{index_places, slice_places}
+use Rattle.jp_node.specs.Nodes.{children, child, items_at, descendants}
+use Rattle.jp_node.specs.Selected.{index_places, slice_places}
 use Rattle.jp_value.specs.Literals.{literal_value, written_value}
 use Rattle.jp_value.specs.Comparison.{compared}
 use Rattle.jp_value.specs.Functions.{Handed, handed_value, handed_truth, handed_nodes, as_truth, as_value}

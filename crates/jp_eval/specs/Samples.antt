@@ -5,10 +5,10 @@ use Rattle.jp_doc.specs.Location.{Location}
 use Rattle.jp_tree.specs.Tree as tree
 use Rattle.jp_tree.specs.Tree.{Query, Segment, Selector, name, slice, filter, Logical, comparing}
 use Rattle.jp_tree.specs.Tree.{comparison, Comparable, literal, single, child, query_from}
-use Rattle.jp_regexp.specs.Tests.{Tests}
+use Rattle.jp_pattern.specs.Tests.{Tests}
 use Rattle.jp_tree.specs.declared.tree.Operator.{Operator}
 use Rattle.jp_tree.specs.declared.tree.Start.TheVariants.{Root, Current}
-use Rattle.jp_value.specs.Samples.{num, arr, obj, obj2}
+use Rattle.jp_node.specs.Samples.{num, arr, obj, obj2}
 use Rattle.jp_eval.specs.Nodelist.{document_nodes}
 
 -- `$` and segments; `$[..]` with these selectors

@@ -3,11 +3,11 @@
 ghost use Rattle.std.specs.Prelude.{◌≡◌, true};
 ghost use Rattle.jp_compiled.specs.Parts.{roots_of};
 ghost use Rattle.jp_eval.specs.inner.Rooted.{are_answers};
-ghost use Rattle.jp_part.specs.Part.{part_value};
+ghost use Rattle.jp_node.specs.Part.{part_value};
 
 use jp_compiled::{Logical, Nodes, RootPart, Value as Giver, Want};
 use jp_found::{Aggregate, Length, RootAnswer, is_result_of, of_one};
-use jp_part::{Kind, Part};
+use jp_node::{Kind, Part};
 use jp_value::ReadPattern;
 use std::alloc::{AllocError, Global};
 

@@ -3,8 +3,8 @@
 ghost use Rattle.std.specs.Prelude.{◌≡◌, IfOk, MatchOption};
 ghost use Rattle.jp_compiled.specs.Compiled.{compiled_query};
 ghost use Rattle.jp_compiled.specs.Filter.{filter_query};
-ghost use Rattle.jp_part.specs.Part.{part_value};
-ghost use Rattle.jp_regexp.specs.Tests.{Tests, AreRight};
+ghost use Rattle.jp_node.specs.Part.{part_value};
+ghost use Rattle.jp_pattern.specs.Tests.{Tests, AreRight};
 ghost use Rattle.jp_tree.specs.Tree as tree;
 
 use crate::fault::EvalFault;
@@ -12,9 +12,7 @@ use crate::roots::answer_roots;
 use crate::walk::holds;
 use jp_compiled::{Logical, Query};
 use jp_found::{Asked, asked_by};
-use jp_nodes::Locations;
-use jp_part::Part;
-use jp_path_stack::PathStack;
+use jp_node::{Locations, Part, PathStack};
 use std::alloc::Global;
 
 /// Asks a compiled filter of one document after another: there the document is both the current node `@` and

@@ -9,7 +9,7 @@ ghost use Rattle.jp_doc.specs.Rising.{IsRising};
 ghost use Rattle.jp_tree.specs.Tree.{Query, Segment, segments, query_from};
 ghost use Rattle.jp_tree.specs.declared.tree.Start.{Start};
 ghost use Rattle.jp_tree.specs.declared.tree.Start.TheVariants.{Root};
-ghost use Rattle.jp_regexp.specs.Tests.{Tests};
+ghost use Rattle.jp_pattern.specs.Tests.{Tests};
 ghost use Rattle.jp_eval.specs.Nodelist.{nodelist, through, document_nodes};
 
 /// The nodelist of a query with more segments behind it is what these make of its nodelist.

@@ -21,5 +21,5 @@ pub use document_filter::DocumentFilter;
 pub use evaluator::Evaluator;
 pub use fault::EvalFault;
 pub use fork::{Cuts, Fork, OpenFork};
-pub use jp_nodes::Visit;
-pub use jp_value::{Bounds, Operand, equal, less, slice_bounds};
+pub use jp_node::{Bounds, Visit, slice_bounds};
+pub use jp_value::{Operand, equal, less};

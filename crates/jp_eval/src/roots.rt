@@ -5,15 +5,13 @@ ghost use Rattle.jp_compiled.specs.Parts.{roots_of, wanted_in, segments_in};
 ghost use Rattle.jp_compiled.specs.Uniform.{are_uniform, wanted_uniform};
 ghost use Rattle.jp_eval.specs.inner.Rooted.{is_answer, root_nodes};
 ghost use Rattle.jp_found.specs.Aggregates.{tells};
-ghost use Rattle.jp_part.specs.Part.{part_value};
+ghost use Rattle.jp_node.specs.Part.{part_value};
 
 use crate::context::Context;
 use crate::walk::{holds, run};
 use jp_compiled::{RootPart, RootQuery, Want};
 use jp_found::{Aggregate, Asked, RootAnswer, into_aggregate, none_found, of_one};
-use jp_nodes::Visit;
-use jp_part::Part;
-use jp_path_stack::PathStack;
+use jp_node::{Part, PathStack, Visit};
 use std::alloc::{AllocError, Global};
 
 /// The answers to these parts of filters, each found with the answers to those before it.

@@ -6,14 +6,12 @@ ghost use Rattle.std.specs.Prelude.{◌≡◌, List, option_map, true, IfOk, IfS
 ghost use Rattle.std.specs.List.{fold};
 ghost use Rattle.jp_compiled.specs.Parts.{Wanted, selector_in, segment_in, segments_in};
 ghost use Rattle.jp_doc.specs.Location.{child_at, value_at};
-ghost use Rattle.jp_part.specs.Part.{part_value};
-ghost use Rattle.jp_path_stack.specs.Links.{link_step, link_steps};
+ghost use Rattle.jp_node.specs.Part.{part_value};
+ghost use Rattle.jp_node.specs.Links.{link_step, link_steps};
 ghost use Rattle.jp_eval.specs.inner.Routes.{is_step, is_single_step, is_routed, nodes_along};
 
 use jp_compiled::{Segment, Selector};
-use jp_nodes::Visit;
-use jp_part::Part;
-use jp_path_stack::{Link, PathStack};
+use jp_node::{Link, Part, PathStack, Visit};
 use std::alloc::{AllocError, Global};
 
 /// The one way of a query in every document.

@@ -3,18 +3,17 @@
 
 ghost use Rattle.std.specs.Prelude.{◌≡◌, ◌∷◌, [], IfSome, option_map, option_to_list, true};
 ghost use Rattle.jp_doc.specs.Location.{Location, node};
-ghost use Rattle.jp_part.specs.Part.{part_value};
+ghost use Rattle.jp_node.specs.Part.{part_value};
 ghost use Rattle.jp_found.specs.Aggregates.{tells};
 ghost use Rattle.jp_value.specs.Functions.{first_value};
-ghost use Rattle.jp_nodes.specs.Nodes.{items_at};
+ghost use Rattle.jp_node.specs.Nodes.{items_at};
 ghost use Rattle.jp_eval.specs.inner.Base.{Base};
 ghost use Rattle.jp_eval.specs.inner.OneNode.{AreOne};
 ghost use Rattle.jp_eval.specs.inner.Walk.{picked, reached};
 
-use jp_children::place_in;
 use jp_compiled::{Segment, Selector, Want};
 use jp_found::Aggregate;
-use jp_part::Part;
+use jp_node::{Part, place_in};
 
 /// The child that a name or an index selects, if there is one; and nothing where the selector is no such one.
 fn child_by<'v>(selector: &'v Selector, value: Part<'v>) -> Option<Option<Part<'v>>>

@@ -7,22 +7,19 @@ ghost use Rattle.jp_doc.specs.Location.{Node};
 ghost use Rattle.jp_eval.specs.inner.Base.{base_of};
 ghost use Rattle.jp_eval.specs.inner.Finding.{Finds};
 ghost use Rattle.jp_found.specs.Kept.{kept, put_found, plus, taken, is_taken};
-ghost use Rattle.jp_children.specs.ChildRanges.{range_nodes};
+ghost use Rattle.jp_node.specs.ChildRanges.{range_nodes};
 ghost use Rattle.jp_eval.specs.inner.Along.{done_along, done_by};
 ghost use Rattle.jp_found.specs.Links.{here};
 ghost use Rattle.jp_eval.specs.inner.Walk.{done};
-ghost use Rattle.jp_path_stack.specs.Links.{link_steps};
+ghost use Rattle.jp_node.specs.Links.{link_steps};
 
 use crate::context::Context;
 use crate::fork::{Cuts, Fork};
 use crate::walk::{Task, go, holds};
 use crate::wide::is_wide;
 use crate::work_items::{WorkItem, WorkItems, work_items};
-use jp_children::ChildRange;
 use jp_found::{Found, append, fresh, is_full, visitor_of};
-use jp_nodes::Visit;
-use jp_part::Part;
-use jp_path_stack::{Link, PathStack};
+use jp_node::{ChildRange, Link, Part, PathStack, Visit};
 use std::alloc::{AllocError, Global};
 use std::thread::{Threads, join};
 

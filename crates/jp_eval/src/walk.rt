@@ -3,31 +3,31 @@
 ghost use Rattle.std.specs.Prelude.{◌≡◌, [], ◌∷◌, option_to_list, IfOk, IfSome, OnOk, IsTrue, true};
 ghost use Rattle.std.specs.List.{flat_map, list_any, list_all};
 ghost use Rattle.jp_doc.specs.Location.{Location, Node, node};
-ghost use Rattle.jp_path_stack.specs.Links.{link_steps};
-ghost use Rattle.jp_part.specs.Part.{part_value};
+ghost use Rattle.jp_node.specs.Links.{link_steps};
+ghost use Rattle.jp_node.specs.Part.{part_value};
 ghost use Rattle.jp_value.specs.Kinds.{given_value};
 ghost use Rattle.jp_found.specs.Aggregates.{tells};
 ghost use Rattle.jp_eval.specs.inner.Finding.{Finds};
-ghost use Rattle.jp_children.specs.ChildRanges.{range_nodes, of_flat_items, flat_member_nodes};
+ghost use Rattle.jp_node.specs.ChildRanges.{range_nodes, of_flat_items, flat_member_nodes};
 ghost use Rattle.jp_eval.specs.inner.Opened.{AreChildren};
 ghost use Rattle.jp_found.specs.Links.{here};
-ghost use Rattle.jp_nodes.specs.ChildNodes.{child_node};
-ghost use Rattle.jp_nodes.specs.Nodes.{children, descendants, items_at};
+ghost use Rattle.jp_node.specs.ChildNodes.{child_node};
+ghost use Rattle.jp_node.specs.Nodes.{children, descendants, items_at};
 ghost use Rattle.jp_eval.specs.inner.Base.{Base, base_of};
 ghost use Rattle.jp_eval.specs.inner.Walk.{picked, picked_by, reached, is_true, value_given, nodes_given};
 ghost use Rattle.jp_eval.specs.inner.Walk.{done};
 
 use crate::context::Context;
 use crate::singular::answer_of;
-use jp_children::{ChildRange, first_item, member_at, place_in, sliced};
 use jp_compiled::{Logical, Nodes, Segment, Selector, Value as Giver, Want};
 use jp_flat::{FlatItems, FlatMember};
 use jp_found::{
     Aggregate, Found, add, has_first, into_aggregate, is_full, none_found, of_distinct, operand,
 };
-use jp_nodes::{Child, Visit, children_of};
-use jp_part::{Items, Kind, MemberRange, Part};
-use jp_path_stack::{Link, PathStack};
+use jp_node::{
+    Child, ChildRange, Items, Kind, Link, MemberRange, Part, PathStack, Visit, children_of,
+    first_item, member_at, place_in, sliced,
+};
 use jp_value::{
     bounds_of, compare_kinds, exactly_one, length, literal, matches, matches_known, matches_read,
     searches, searches_known, searches_read,

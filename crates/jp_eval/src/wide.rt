@@ -1,6 +1,6 @@
 //! Values with a long list inside.
 
-use jp_part::Part;
+use jp_node::Part;
 use serde_json::{Map, Value};
 
 /// Whether the value, or one inside of it, may have at least so many children. Of a flat value this is told

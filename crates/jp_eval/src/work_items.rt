@@ -4,16 +4,14 @@ ghost use Rattle.std.specs.Prelude.{◌≡◌, ◌≤◌, ◌<◌, ◌++◌, ◌
 ghost use Rattle.jp_doc.specs.Height.{height};
 ghost use Rattle.jp_doc.specs.Location.{Location, node};
 ghost use Rattle.jp_eval.specs.inner.Base.{Base};
-ghost use Rattle.jp_nodes.specs.ChildNodes.{all_height};
+ghost use Rattle.jp_node.specs.ChildNodes.{all_height};
 ghost use Rattle.jp_eval.specs.inner.Along.{done_along, done_by, items_left};
-ghost use Rattle.jp_part.specs.Part.{part_value};
+ghost use Rattle.jp_node.specs.Part.{part_value};
 ghost use Rattle.jp_eval.specs.inner.Walk.{picked, reached, done};
 
 use crate::walk::Task;
-use jp_children::{place_in, sliced};
 use jp_compiled::{Segment, Selector};
-use jp_nodes::{Children, children_of, named, placed};
-use jp_part::Part;
+use jp_node::{Children, Part, children_of, named, place_in, placed, sliced};
 use jp_value::bounds_of;
 use std::alloc::{AllocError, Global};
 

@@ -7,8 +7,8 @@ use jp_check::{filter_in, plan};
 use jp_doc::Document;
 use jp_eval::DocumentFilter;
 use jp_flat::FlatReader;
+use jp_node::Part;
 use jp_number::Numbers;
-use jp_part::Part;
 use std::alloc::Global;
 use std::test::Fail;
 

@@ -2,8 +2,8 @@
 //! filters make them. The orders were written by hand, and all are those of the module `decimal` of Python 3,
 //! whose numbers are exact.
 
+use jp_node::Kind;
 use jp_number::NumberText;
-use jp_part::Kind;
 use jp_tree::Operator;
 use jp_value::{compare_kinds, length};
 use std::alloc::Global;

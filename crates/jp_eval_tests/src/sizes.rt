@@ -1,7 +1,7 @@
 //! Sizes of what is copied at each node.
 
 use crate::once::counted;
-use jp_part::{Items, Kind, Members};
+use jp_node::{Items, Kind, Members};
 use std::mem::size_of;
 use std::test::Fail;
 

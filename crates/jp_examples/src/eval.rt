@@ -1,7 +1,7 @@
 use jp_compiled::Query;
 use jp_doc::{Document, Location};
 use jp_eval::{EvalFault, Evaluator};
-use jp_nodes::Locations;
+use jp_node::Locations;
 use std::alloc::Global;
 
 fn selected(alloc: Global, query: &Query, document: &Document) -> Result<Vec<Location>, EvalFault> {

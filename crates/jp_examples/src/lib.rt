@@ -2,10 +2,10 @@
 #![tactic(auto)]
 
 mod answer;
+mod automaton;
 mod board;
 mod buffer;
 mod check;
-mod children;
 mod compiled;
 mod doc;
 mod documents;
@@ -16,12 +16,11 @@ mod flat;
 mod flat_nodes;
 mod found;
 mod line_scan;
-mod nodes;
+mod node;
 mod number;
 mod output;
-mod part;
 mod path;
-mod path_stack;
+mod pattern;
 mod program;
 mod query_scan;
 mod regexp;

@@ -1,10 +1,9 @@
 ghost use Rattle.jp_value.specs.Operands.{HasWholeNumbers};
 
-use jp_value::{Operand, less, slice_bounds};
+use jp_value::{Operand, less};
 
-fn first_two_are_below(len: u32, limit: Operand<'_>) -> bool
-    requires { HasWholeNumbers limit }
+fn is_above_one(value: Operand<'_>) -> bool
+    requires { HasWholeNumbers value }
 {
-    let bounds = slice_bounds(None, Some(2), None, len);
-    bounds.upper == 2 && less(Operand::Whole(1), limit)
+    less(Operand::Whole(1), value)
 }

@@ -6,8 +6,8 @@ use Rattle.std.specs.Prelude.{option_map, is_some}
 use Rattle.std.specs.Arc.{arc_value}
 use Rattle.jp_tree.specs.Tree.{Text}
 use Rattle.jp_tree.specs.View.{text_of}
-use Rattle.jp_regexp.specs.Held.{IsRead, pattern_of}
-use Rattle.jp_regexp.specs.declared.pattern.Pattern.{Pattern as Held}
+use Rattle.jp_automaton.specs.Held.{IsRead, pattern_of}
+use Rattle.jp_automaton.specs.declared.pattern.Pattern.{Pattern as Held}
 use Rattle.jp_compiled.specs.declared.known.KnownPattern.{KnownPattern}
 use Rattle.jp_compiled.proofs.PatternSets.{read_had}
 use Rattle.jp_check.specs.Known.{known_texts}

@@ -2,8 +2,8 @@
 use Rattle.std.specs.Prelude.{ℕ, ◌≡◌, ◌⊎◌, List, [], ◌∷◌, ◌++◌, IfSome}
 use Rattle.jp_tree.specs.Tree.{Text}
 use Rattle.jp_tree.specs.View.{text_of}
-use Rattle.jp_regexp.specs.Pattern.{Pattern}
-use Rattle.jp_regexp.specs.Profile.{IsPatternOf}
+use Rattle.jp_pattern.specs.Pattern.{Pattern}
+use Rattle.jp_pattern.specs.Profile.{IsPatternOf}
 use Rattle.jp_explain.specs.declared.pattern_note.PatternNote.{PatternNote}
 use Rattle.jp_explain.specs.declared.pattern_note.Trap.{Trap}
 use Rattle.jp_explain.specs.declared.pattern_note.Trap.TheVariants.{NoPattern, Anchors}

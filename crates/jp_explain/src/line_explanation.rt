@@ -15,8 +15,8 @@ use jp_line_scan::{
     LineReason, LongNumber, NotWhole, first_fault, first_fault_of_decimals, first_long_number,
     has_number_not_whole, lead, long_length, number_length, place_of,
 };
+use jp_node::PathStack;
 use jp_number::Numbers;
-use jp_path_stack::PathStack;
 use serde_json::Value;
 use std::alloc::{AllocError, Global};
 

@@ -15,13 +15,13 @@ use Rattle.jp_found.specs.Different.{IsDifferent, is_different}
 use Rattle.jp_value.specs.Functions.{first_value, only_value, distinct}
 use Rattle.jp_found.specs.Kept.{Kept, alone_of, alone_value, put_found, plus, none_kept}
 use Rattle.jp_found.specs.Kept.{taken, first, count, only, located}
-use Rattle.jp_part.specs.Part.{part_value}
+use Rattle.jp_node.specs.Part.{part_value}
 use Rattle.jp_found.specs.declared.aggregates.Aggregate.{Aggregate}
 use Rattle.jp_found.specs.declared.aggregates.Aggregate.TheVariants as answer
 use Rattle.jp_found.specs.declared.different.Different.{Different}
 use Rattle.jp_found.specs.declared.found.Alone as code
 use Rattle.jp_found.specs.declared.found.Alone.TheVariants.{One as one}
-use Rattle.jp_part.specs.declared.part.Part.{Part}
+use Rattle.jp_node.specs.declared.part.Part.{Part}
 use Rattle.jp_found.proofs.Differing.{differs_again}
 use Rattle.jp_found.proofs.Parts.{alone_in, kept_all}
 use Rattle.jp_found.proofs.Identity.{itself, identical_are, are_identical}

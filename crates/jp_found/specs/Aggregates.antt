@@ -8,7 +8,7 @@ use Rattle.jp_found.specs.Identical.{identical}
 use Rattle.jp_value.specs.Functions.{first_value, only_value, number_value}
 use Rattle.jp_found.specs.Different.{is_different}
 use Rattle.jp_found.specs.Kept.{alone_of, alone_value}
-use Rattle.jp_part.specs.Part.{part_value}
+use Rattle.jp_node.specs.Part.{part_value}
 use Rattle.jp_found.specs.declared.aggregates.Aggregate.{Aggregate}
 use Rattle.jp_found.specs.declared.aggregates.Aggregate.TheVariants.{First, Count, Only, Distinct}
 

@@ -6,7 +6,7 @@ use Rattle.jp_doc.specs.Json.{Json}
 use Rattle.jp_doc.specs.Location.{Node, Location}
 use Rattle.jp_compiled.specs.declared.query.Want.{Want}
 use Rattle.jp_compiled.specs.declared.query.Want.TheVariants as want
-use Rattle.jp_part.specs.Part.{part_value}
+use Rattle.jp_node.specs.Part.{part_value}
 use Rattle.jp_found.specs.Ways.{way_location}
 use Rattle.jp_found.specs.declared.found.Found.{Found}
 use Rattle.jp_found.specs.declared.found.Found.TheVariants.{Visitor, First, Count, Only, Distinct}

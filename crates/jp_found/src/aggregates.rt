@@ -8,14 +8,14 @@ ghost use Rattle.jp_found.specs.Aggregates.{tells, is_of, told};
 ghost use Rattle.jp_value.specs.Kinds.{given_value};
 ghost use Rattle.jp_value.specs.Functions.{number_value, first_value, only_value, distinct};
 ghost use Rattle.jp_found.specs.Kept.{alone_of, alone_value};
-ghost use Rattle.jp_part.specs.Inside.{kind_value};
-ghost use Rattle.jp_part.specs.Part.{part_value};
+ghost use Rattle.jp_node.specs.Inside.{kind_value};
+ghost use Rattle.jp_node.specs.Part.{part_value};
 ghost use Rattle.jp_found.specs.declared.aggregates.Aggregate.TheVariants.{Distinct};
 
 use crate::different::Different;
 use crate::found::Alone;
 use jp_compiled::Want;
-use jp_part::{Kind, Part};
+use jp_node::{Kind, Part};
 
 /// What a filter is told of the nodes of a query.
 #[derive(Clone, Copy)]

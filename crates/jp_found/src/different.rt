@@ -6,13 +6,12 @@ ghost use Rattle.jp_found.specs.Different.{IsDifferent};
 ghost use Rattle.jp_value.specs.Functions.{first_value, only_value, distinct, first_ones, same_location};
 ghost use Rattle.jp_found.specs.Kept.{put_first, alone_of, alone_value};
 ghost use Rattle.jp_found.specs.Ways.{way_location};
-ghost use Rattle.jp_part.specs.Part.{part_value};
-ghost use Rattle.jp_path_stack.specs.Links.{link_steps};
+ghost use Rattle.jp_node.specs.Part.{part_value};
+ghost use Rattle.jp_node.specs.Links.{link_steps};
 
 use crate::found::Alone;
 use crate::way::{Way, way_of};
-use jp_part::Part;
-use jp_path_stack::PathStack;
+use jp_node::{Part, PathStack};
 use std::alloc::{AllocError, Global};
 
 /// Where nodes are, and the value of the first.

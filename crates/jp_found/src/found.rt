@@ -8,14 +8,12 @@ ghost use Rattle.jp_found.specs.Aggregates.{tells};
 ghost use Rattle.jp_found.specs.Kept.{kept, put_found, none_kept, taken, alone_of, put_alone, plus};
 ghost use Rattle.jp_found.specs.Kept.{emptied_found, is_taken};
 ghost use Rattle.jp_found.specs.Links.{here};
-ghost use Rattle.jp_part.specs.Part.{part_value};
+ghost use Rattle.jp_node.specs.Part.{part_value};
 
 use crate::aggregates::Aggregate;
 use crate::different::{Located, each_once, locate, none_located};
 use jp_compiled::Want;
-use jp_nodes::Visit;
-use jp_part::Part;
-use jp_path_stack::PathStack;
+use jp_node::{Part, PathStack, Visit};
 use std::alloc::{AllocError, Global};
 
 /// What is kept of the nodes that a walk finds.

@@ -9,7 +9,7 @@ ghost use Rattle.jp_value.specs.Kinds.{given_value};
 
 use crate::aggregates::{Aggregate, operand};
 use crate::asked::Asked;
-use jp_part::Kind;
+use jp_node::Kind;
 use jp_value::{ReadPattern, length};
 use std::alloc::{AllocError, Global};
 

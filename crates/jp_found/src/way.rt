@@ -2,10 +2,10 @@
 
 ghost use Rattle.std.specs.Prelude.{◌≡◌, IfOk};
 ghost use Rattle.jp_found.specs.Ways.{stop_step, way_location};
-ghost use Rattle.jp_path_stack.specs.Links.{link_step, link_steps};
+ghost use Rattle.jp_node.specs.Links.{link_step, link_steps};
 
 use crate::name::Name;
-use jp_path_stack::Link;
+use jp_node::Link;
 use std::alloc::{AllocError, Global};
 
 /// A step, whose name is borrowed.

@@ -7,8 +7,8 @@ ghost use Rattle.jp_line_scan.specs.NumberBytes.{is_of_number};
 
 use crate::line_scanner::{Event, LineHalt, LineScanner};
 use crate::not_whole::number_length;
+use jp_node::{Link, append_link};
 use jp_number::NumberText;
-use jp_path_stack::{Link, append_link};
 use serde_json::Value;
 use std::alloc::{AllocError, Global};
 

@@ -9,7 +9,7 @@ ghost use Rattle.jp_line_scan.specs.NumberBytes.{is_of_number};
 use crate::line_scanner::{Event, LineHalt, LineScanner, MAX_DEPTH};
 use crate::written_name::is_written_for;
 use jp_doc::{DocFault, fault_within};
-use jp_path_stack::{Link, PathStack};
+use jp_node::{Link, PathStack};
 use serde_json::{Map, Value};
 use std::alloc::{AllocError, Global};
 

@@ -12,7 +12,7 @@ use Rattle.std.specs.Fmt.{digits, digits_onto, digit_glyph}
 use lib.Utf8.{encode}
 use Rattle.json.specs.Print.{escape_letter, escape_byte, escape}
 use Rattle.jp_doc.specs.Location.{Step, name, index, Location}
-use Rattle.jp_path_stack.specs.Path.{escaped, hex_digit, step_text, path_text}
+use Rattle.jp_node.specs.Path.{escaped, hex_digit, step_text, path_text}
 use Rattle.jp_doc.specs.Json as json
 use Rattle.jp_doc.specs.Json.{Json, null, truth, text, array, object, Items, no_items, add_item}
 use Rattle.jp_doc.specs.Json.{Text, Members, no_members, add_member}

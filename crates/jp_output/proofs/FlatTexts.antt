@@ -13,8 +13,8 @@ use Rattle.jp_doc.specs.Json.{Json, Items, no_items, array, object}
 use Rattle.jp_flat.specs.Gathered.{gathered}
 use Rattle.jp_flat.specs.Value.{flat_value}
 use Rattle.jp_flat.specs.declared.value.FlatMember.{FlatMember}
-use Rattle.jp_part.specs.Inside.{items_inside}
-use Rattle.jp_path_stack.specs.Bare.{stands_bare}
+use Rattle.jp_node.specs.Inside.{items_inside}
+use Rattle.jp_node.specs.Bare.{stands_bare}
 use Rattle.jp_output.specs.OutputLine.{value_text}
 use Rattle.jp_output.proofs.Texts.{items_left, members_left, array_left, object_left}
 

@@ -3,7 +3,7 @@ use Rattle.std.proofs.Common.{◌≡◌, ◌≢◌, ℕ, List, [], ◌∷◌, �
 use Rattle.std.proofs.Common.{sym, ◌∙◌, append_assoc, decimal, encode_utf8_all, flat_map}
 use Rattle.jp_doc.specs.Lines.{Line}
 use Rattle.jp_doc.specs.Location.{Node}
-use Rattle.jp_path_stack.specs.Path.{path_text}
+use Rattle.jp_node.specs.Path.{path_text}
 use Rattle.jp_output.specs.OutputForm.{node_lines, input_lines}
 use Rattle.jp_output.specs.OutputLine.{node_line, value_text}
 

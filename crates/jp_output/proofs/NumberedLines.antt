@@ -8,7 +8,7 @@ use Rattle.std.specs.List.{AllByRecursion, filter}
 use Rattle.std.specs.Str.{bytes_eq}
 use Rattle.jp_doc.specs.Lines.{Line}
 use Rattle.jp_doc.specs.Location.{Node}
-use Rattle.jp_path_stack.specs.Path.{path_text}
+use Rattle.jp_node.specs.Path.{path_text}
 use Rattle.jp_output.specs.Fields.{NodesHaveJsonNumbers}
 use Rattle.jp_output.specs.NumberedLines.{of_documents, lines_of_documents, AreNumberedAbove, first_fields}
 use Rattle.jp_output.specs.NumberedLines.{is_numbered, lines_numbered}

@@ -9,7 +9,7 @@ use Rattle.jp_doc.specs.Json.{Json}
 use Rattle.jp_doc.specs.Location.{Location, step_of}
 use Rattle.jp_doc.specs.declared.location.Step as code
 use Rattle.jp_output.specs.OutputLine.{line_text, value_text}
-use Rattle.jp_path_stack.specs.Path.{step_text, path_text}
+use Rattle.jp_node.specs.Path.{step_text, path_text}
 
 -- the bytes of steps of `src/`, one after another
 abbrev pub steps_bytes : List code.Step → List ℕ

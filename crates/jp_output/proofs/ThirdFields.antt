@@ -8,7 +8,7 @@ use Rattle.std.proofs.lemmas.List.{take_all}
 use Rattle.std.specs.List.{AllByRecursion, after_first, before_first, position_or_len}
 use Rattle.jp_doc.specs.Lines.{all_lines, onto_first}
 use Rattle.jp_doc.specs.Location.{Node}
-use Rattle.jp_path_stack.specs.Path.{path_text}
+use Rattle.jp_node.specs.Path.{path_text}
 use Rattle.jp_output.specs.Fields.{NodesHaveJsonNumbers, is_tab, third_field, third_fields}
 use Rattle.jp_output.specs.NumberedLines.{first_field, first_fields}
 use Rattle.jp_output.specs.OutputLine.{node_line, value_line, value_text}

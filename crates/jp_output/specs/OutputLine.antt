@@ -6,7 +6,7 @@ use Rattle.jp_doc.specs.Json.{Text, Json, null, truth, text, array, object, Item
 use Rattle.jp_doc.specs.Json.{Members, no_members, add_member}
 use Rattle.jp_doc.specs.Location.{Location, Node}
 use Rattle.jp_number.specs.Number.{number_text}
-use Rattle.jp_path_stack.specs.Path.{path_text}
+use Rattle.jp_node.specs.Path.{path_text}
 
 -- the name of a truth value (RFC 8259, 3)
 abbrev pub truth_text : Bool → List ℕ

@@ -2,7 +2,7 @@
 
 ghost use Rattle.std.specs.Prelude.{◌≡◌, ◌≢◌, ◌++◌, ◌∷◌, [], decimal, OnOk, OnErr};
 ghost use Rattle.jp_doc.specs.declared.fault.DocFault.TheVariants.{Memory};
-ghost use Rattle.jp_path_stack.specs.Appended.{Extends};
+ghost use Rattle.jp_node.specs.Appended.{Extends};
 ghost use Rattle.jp_doc.specs.FaultWords.{fault_words};
 ghost use Rattle.jp_output.specs.FaultLine.{fault_line};
 

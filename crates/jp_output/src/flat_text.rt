@@ -7,7 +7,7 @@ ghost use Rattle.jp_flat.specs.Gathered.{gathered};
 ghost use Rattle.jp_flat.specs.Value.{flat_value, items_value, members_value};
 ghost use Rattle.jp_number.specs.Number.{Number};
 ghost use Rattle.jp_output.specs.OutputLine.{value_text};
-ghost use Rattle.jp_path_stack.specs.Appended.{Extends};
+ghost use Rattle.jp_node.specs.Appended.{Extends};
 ghost use Rattle.serde_json.specs.Written.{comma_if};
 
 use crate::scalar_text::{append_null, append_quoted, append_truth};

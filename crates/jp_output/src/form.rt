@@ -9,7 +9,7 @@ ghost use Rattle.jp_output.specs.OutputForm.{OutputForm};
 
 use crate::head::Head;
 use jp_doc::DocFault;
-use jp_nodes::Visit;
+use jp_node::Visit;
 use std::alloc::{AllocError, Global};
 
 /// Writes an answer in some form, line after line: a visitor of the nodes of each document.

@@ -80,7 +80,7 @@ impl Model for Head {
 
 impl Head {
     ghost use Rattle.std.specs.Prelude.{[], ◌∷◌, ◌++◌, OnOk};
-    ghost use Rattle.jp_path_stack.specs.Appended.{Extends};
+    ghost use Rattle.jp_node.specs.Appended.{Extends};
 
     /// Nothing. It takes no memory.
     pub fn none() -> Head

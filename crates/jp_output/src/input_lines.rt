@@ -6,9 +6,7 @@ use crate::form::Form;
 use crate::head::Head;
 use crate::output_buffer::OutputBuffer;
 use jp_doc::DocFault;
-use jp_nodes::Visit;
-use jp_part::Part;
-use jp_path_stack::PathStack;
+use jp_node::{Part, PathStack, Visit};
 use std::alloc::{AllocError, Global};
 use std::marker::Model;
 

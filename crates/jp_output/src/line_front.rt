@@ -1,7 +1,7 @@
 //! What each line of a document's nodes begins with.
 
 ghost use Rattle.std.specs.Prelude.{◌≡◌, ◌++◌, ◌∷◌, [], decimal, OnOk};
-ghost use Rattle.jp_path_stack.specs.Appended.{Extends};
+ghost use Rattle.jp_node.specs.Appended.{Extends};
 
 use crate::head::Head;
 use crate::output_line::append_number;

@@ -2,9 +2,9 @@
 
 ghost use Rattle.std.specs.Prelude.{◌≡◌, ◌++◌, []};
 ghost use Rattle.std.specs.Prelude.{IfOk, OnOk, OnErr};
-ghost use Rattle.jp_part.specs.Part.{part_value};
-ghost use Rattle.jp_path_stack.specs.Appended.{Extends};
-ghost use Rattle.jp_path_stack.specs.Links.{link_steps};
+ghost use Rattle.jp_node.specs.Part.{part_value};
+ghost use Rattle.jp_node.specs.Appended.{Extends};
+ghost use Rattle.jp_node.specs.Links.{link_steps};
 ghost use Rattle.jp_output.specs.Chunks.{bytes_in};
 ghost use Rattle.jp_output.specs.OutputLine.{line_text};
 
@@ -16,9 +16,7 @@ use crate::line_front::LineFront;
 use crate::output_buffer::OutputBuffer;
 use crate::value_text::append_value;
 use jp_doc::DocFault;
-use jp_nodes::Visit;
-use jp_part::Part;
-use jp_path_stack::PathStack;
+use jp_node::{Part, PathStack, Visit};
 use std::alloc::{AllocError, Global};
 use std::marker::Model;
 

@@ -5,9 +5,9 @@ ghost use Rattle.serde_json.specs.View.{view};
 ghost use Rattle.serde_json.specs.Written.{has_float};
 ghost use Rattle.jp_doc.specs.Json.{value_of};
 ghost use Rattle.jp_doc.specs.Location.{location_of};
-ghost use Rattle.jp_path_stack.specs.Appended.{Extends};
+ghost use Rattle.jp_node.specs.Appended.{Extends};
 ghost use Rattle.jp_output.specs.OutputLine.{line_text};
-ghost use Rattle.jp_path_stack.specs.Path.{path_text};
+ghost use Rattle.jp_node.specs.Path.{path_text};
 
 use crate::path::append_path;
 use itoa::Buffer;

@@ -5,11 +5,11 @@ ghost use Rattle.std.specs.Prelude.{encode_utf8_all};
 ghost use Rattle.std.specs.List.{flat_map};
 ghost use Rattle.std.specs.Str.{chars, IsUtf8};
 ghost use Rattle.jp_doc.specs.Location.{step_of, location_of};
-ghost use Rattle.jp_path_stack.specs.Appended.{Extends};
-ghost use Rattle.jp_path_stack.specs.Path.{path_text, step_text};
+ghost use Rattle.jp_node.specs.Appended.{Extends};
+ghost use Rattle.jp_node.specs.Path.{path_text, step_text};
 
 use jp_doc::{Location, Step};
-use jp_path_stack::{Link, append_link};
+use jp_node::{Link, append_link};
 use std::alloc::{AllocError, Global};
 
 /// The normalized path of a location (RFC 9535, 2.7): `$`, and `['name']` or `[index]` for each step.

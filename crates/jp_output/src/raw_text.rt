@@ -2,12 +2,12 @@
 
 ghost use Rattle.std.specs.Prelude.{◌≡◌, ◌++◌, OnOk, encode_utf8_all};
 ghost use Rattle.std.specs.Str.{chars};
-ghost use Rattle.jp_part.specs.Part.{part_value};
+ghost use Rattle.jp_node.specs.Part.{part_value};
 ghost use Rattle.jp_output.specs.RawText.{raw_text};
 
 use crate::unquoted_text::text_of;
 use crate::value_text::append_value;
-use jp_part::Part;
+use jp_node::Part;
 use std::alloc::{AllocError, Global};
 
 /// Appends a text as it is, and of any other value its compact text (RFC 8259), with a scratch buffer for

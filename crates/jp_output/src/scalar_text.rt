@@ -4,9 +4,9 @@ ghost use Rattle.std.specs.Prelude.{◌≡◌, ◌++◌, OnOk, codes};
 ghost use Rattle.std.specs.Str.{chars};
 ghost use Rattle.json.specs.Print.{escape, quoted};
 ghost use Rattle.jp_output.specs.OutputLine.{truth_text, quoted_text};
-ghost use Rattle.jp_path_stack.specs.Appended.{Extends};
+ghost use Rattle.jp_node.specs.Appended.{Extends};
 
-use jp_path_stack::is_bare;
+use jp_node::is_bare;
 use json::Writer;
 use std::alloc::{AllocError, Global};
 use std::mem;

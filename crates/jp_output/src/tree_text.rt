@@ -5,7 +5,7 @@ ghost use Rattle.json.specs.Token.{number};
 ghost use Rattle.json.specs.Tree.{json_tokens, items_tokens, members_tokens};
 ghost use Rattle.jp_doc.specs.Json.{value_of};
 ghost use Rattle.jp_output.specs.OutputLine.{value_text};
-ghost use Rattle.jp_path_stack.specs.Appended.{Extends};
+ghost use Rattle.jp_node.specs.Appended.{Extends};
 ghost use Rattle.serde_json.specs.Find.{is_float};
 ghost use Rattle.serde_json.specs.View.{view, number_view, items_view, members_view};
 ghost use Rattle.serde_json.specs.Written.{has_float, items_have_float, members_have_float};

@@ -6,11 +6,11 @@ ghost use Rattle.std.specs.Char.{digit_char};
 ghost use Rattle.std.specs.List.{flat_map};
 ghost use Rattle.std.specs.Str.{chars};
 ghost use Rattle.jp_flat.specs.Value.{text_in};
-ghost use Rattle.jp_part.specs.Part.{part_value};
+ghost use Rattle.jp_node.specs.Part.{part_value};
 ghost use Rattle.jp_output.specs.UnquotedText.{unquoted_byte, unquoted_text};
 
 use crate::value_text::append_value;
-use jp_part::Part;
+use jp_node::Part;
 use serde_json::Value;
 use std::alloc::{AllocError, Global};
 

@@ -1,12 +1,12 @@
 //! What a form writes of a value.
 
 ghost use Rattle.std.specs.Prelude.{◌≡◌, ◌++◌, OnOk};
-ghost use Rattle.jp_part.specs.Part.{part_value};
+ghost use Rattle.jp_node.specs.Part.{part_value};
 
 use crate::raw_text::append_raw;
 use crate::unquoted_text::append_unquoted;
 use crate::value_text::append_value;
-use jp_part::Part;
+use jp_node::Part;
 use std::alloc::{AllocError, Global};
 
 /// What is written of a value.

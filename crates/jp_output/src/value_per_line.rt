@@ -1,16 +1,14 @@
 //! The forms of values: the text of each, on a line of its own.
 
 ghost use Rattle.std.specs.Prelude.{◌≡◌, ◌∷◌, [], ◌++◌, OnOk};
-ghost use Rattle.jp_part.specs.Part.{part_value};
+ghost use Rattle.jp_node.specs.Part.{part_value};
 
 use crate::form::Form;
 use crate::head::Head;
 use crate::output_buffer::OutputBuffer;
 use crate::value_form::{Compact, Raw, Unquoted, ValueForm};
 use jp_doc::DocFault;
-use jp_nodes::Visit;
-use jp_part::Part;
-use jp_path_stack::PathStack;
+use jp_node::{Part, PathStack, Visit};
 use std::alloc::{AllocError, Global};
 use std::marker::{Model, PhantomData};
 

@@ -1,13 +1,13 @@
 //! The compact text of a value in either form, appended.
 
 ghost use Rattle.std.specs.Prelude.{◌≡◌, ◌++◌, OnOk};
-ghost use Rattle.jp_part.specs.Part.{part_value};
+ghost use Rattle.jp_node.specs.Part.{part_value};
 ghost use Rattle.jp_output.specs.OutputLine.{value_text};
-ghost use Rattle.jp_path_stack.specs.Appended.{Extends};
+ghost use Rattle.jp_node.specs.Appended.{Extends};
 
 use crate::flat_text::append_flat;
 use crate::tree_text::append_tree;
-use jp_part::Part;
+use jp_node::Part;
 use std::alloc::{AllocError, Global};
 
 /// Appends the compact text of a value (RFC 8259), with a scratch buffer for pieces of it.

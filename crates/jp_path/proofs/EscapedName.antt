@@ -11,7 +11,7 @@ use Rattle.jp_tree.specs.Characters.{escaped as escaped_by}
 use Rattle.jp_tree.specs.Parts.{Each, Star, none, more}
 use Rattle.jp_tree.specs.Strings.{Piece, bare, escape, unicode, HexIs, four}
 use Rattle.jp_tokens.specs.Depth.{Place, inside, step}
-use Rattle.jp_path_stack.specs.Path.{escaped, hex_digit}
+use Rattle.jp_node.specs.Path.{escaped, hex_digit}
 use Rattle.jp_path.proofs.Passing.{Passes, passes_none, passes_one, passes_on}
 
 -- the hexadecimal digits of a control character

@@ -6,13 +6,13 @@ use Rattle.jp_doc.specs.Location.{Location, value_at, node}
 use Rattle.jp_tree.specs.Tree.{Text, Query}
 use Rattle.jp_tree.specs.Spelling.{Spells}
 use Rattle.jp_tokens.specs.Depth.{bracket_depth, max_depth}
-use Rattle.jp_regexp.specs.Tests.{Tests}
+use Rattle.jp_pattern.specs.Tests.{Tests}
 use Rattle.jp_tree.specs.declared.fault.QueryFault.{QueryFault}
 use Rattle.jp_check.specs.declared.accepted.Plan.{Plan}
 use Rattle.jp_check.specs.Plan.{planned_query}
 use Rattle.jp_check.specs.Verdict.{IsAccepted}
 use Rattle.jp_eval.specs.Nodelist.{document_nodes}
-use Rattle.jp_path_stack.specs.Path.{path_text}
+use Rattle.jp_node.specs.Path.{path_text}
 use Rattle.jp_path.specs.PathQuery.{path_query, AreSteps}
 use Rattle.jp_path.proofs.PathSpelled.{path_spelled}
 use Rattle.jp_path.proofs.PathAccepted.{path_accepted, path_accepted_only, query_selects}

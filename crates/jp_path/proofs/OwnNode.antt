@@ -11,9 +11,9 @@ use Rattle.jp_doc.specs.Json.{item_list}
 use Rattle.jp_doc.specs.Location.{Step, name, index, Location, Node, node, value_at, child_at, item_of}
 use Rattle.jp_doc.specs.Location.{item_at}
 use Rattle.jp_tree.specs.Tree.{segments}
-use Rattle.jp_regexp.specs.Tests.{Tests}
-use Rattle.jp_nodes.specs.Nodes.{node_if_some, items_at}
-use Rattle.jp_children.specs.Selected.{index_places}
+use Rattle.jp_pattern.specs.Tests.{Tests}
+use Rattle.jp_node.specs.Nodes.{node_if_some, items_at}
+use Rattle.jp_node.specs.Selected.{index_places}
 use Rattle.jp_eval.specs.Nodelist.{through, segment_nodes, select, document_nodes}
 use Rattle.jp_path.proofs.IndexText.{decimal_is_whole}
 use Rattle.jp_path.specs.PathQuery.{step_selector, step_segment, path_query, IsIndex, AreIndexes}

@@ -6,7 +6,7 @@ use Rattle.std.proofs.lemmas.Bool.{and_from, le-leb}
 use Rattle.jp_doc.specs.Location as at
 use Rattle.jp_doc.specs.Json.{Json}
 use Rattle.jp_doc.specs.Location.{Location, value_at, node}
-use Rattle.jp_regexp.specs.Tests.{Tests}
+use Rattle.jp_pattern.specs.Tests.{Tests}
 use Rattle.jp_eval.specs.Nodelist.{document_nodes}
 use Rattle.jp_tree.specs.Tree.{Query, segments}
 use Rattle.jp_tokens.specs.Depth.{bracket_depth, max_depth}
@@ -15,7 +15,7 @@ use Rattle.jp_types.specs.Numbers.{segments_numbers, is_fraction, is_in_range, m
 use Rattle.jp_types.specs.Typing.{segments_typed}
 use Rattle.jp_check.specs.Verdict.{IsAccepted}
 use Rattle.jp_check.proofs.Verdicts.{accepts, accepts_only}
-use Rattle.jp_path_stack.specs.Path.{path_text}
+use Rattle.jp_node.specs.Path.{path_text}
 use Rattle.jp_path.specs.PathQuery.{step_segment, path_query, AreIndexes, AreSteps}
 use Rattle.jp_path.proofs.OwnNode.{own_node}
 use Rattle.jp_path.proofs.IndexText.{decimal_magnitude}

@@ -14,7 +14,7 @@ use Rattle.jp_tree.specs.Spelling as sp
 use Rattle.jp_tree.specs.Spelling.{Spells, spells, SegmentIs, SelectorIs, LogicalIs}
 use Rattle.jp_tokens.specs.Depth.{outside, bracket_depth}
 use Rattle.jp_syntax.proofs.OneTree.{one_tree}
-use Rattle.jp_path_stack.specs.Path.{escaped, step_text, path_text}
+use Rattle.jp_node.specs.Path.{escaped, step_text, path_text}
 use Rattle.jp_path.specs.PathQuery.{step_segment, path_query, IsStep, AreSteps}
 use Rattle.jp_path.proofs.EscapedName.{name_pieces, name_stays, quoted_place}
 use Rattle.jp_path.proofs.IndexText.{decimal_is_int, decimal_stays}

@@ -6,11 +6,11 @@ use Rattle.jp_doc.specs.Json.{Json}
 use Rattle.jp_doc.specs.Location.{Location, Node, node, value_at}
 use Rattle.jp_doc.specs.Rising.{IsRising}
 use Rattle.jp_tree.specs.Tree.{Query}
-use Rattle.jp_regexp.specs.Tests.{Tests}
+use Rattle.jp_pattern.specs.Tests.{Tests}
 use Rattle.jp_check.specs.Verdict.{IsAccepted}
 use Rattle.jp_eval.specs.Nodelist.{document_nodes}
 use Rattle.jp_eval.proofs.Listed.{listed_where_it_stands}
-use Rattle.jp_path_stack.specs.Path.{path_text}
+use Rattle.jp_node.specs.Path.{path_text}
 use Rattle.jp_path.specs.PathQuery.{AreSteps}
 use Rattle.jp_path.proofs.PathAccepted.{text_selects}
 

@@ -9,13 +9,13 @@ ghost use Rattle.jp_number.specs.declared.numbers.Numbers.{Numbers};
 ghost use Rattle.jp_doc.specs.ReadingIn.{reading_in};
 ghost use Rattle.jp_doc.specs.Rising.{IsRising};
 ghost use Rattle.jp_doc.specs.Location.{Location, Node, node, value_at};
-ghost use Rattle.jp_regexp.specs.Tests.{Tests};
+ghost use Rattle.jp_pattern.specs.Tests.{Tests};
 ghost use Rattle.jp_eval.specs.Nodelist.{document_nodes};
 ghost use Rattle.jp_tree.specs.Tree.{Query};
 ghost use Rattle.jp_tree.specs.Spelling.{Spells};
 ghost use Rattle.jp_tokens.specs.Depth.{bracket_depth};
 ghost use Rattle.jp_check.specs.Verdict.{IsAccepted};
-ghost use Rattle.jp_path_stack.specs.Path.{path_text};
+ghost use Rattle.jp_node.specs.Path.{path_text};
 ghost use Rattle.jp_path.specs.PathQuery.{path_query, AreIndexes, AreSteps};
 
 /// The query of a path selects just the node at its location, in every document that has one there.

@@ -10,11 +10,11 @@ ghost use Rattle.jp_tree.specs.PartViews.{selector_of, selectors_of, segment_of,
 ghost use Rattle.jp_tree.specs.Spelling.{Spells};
 ghost use Rattle.jp_tokens.specs.Depth.{bracket_depth, max_depth};
 ghost use Rattle.jp_tree.specs.declared.tree.Start.TheVariants.{Root};
-ghost use Rattle.jp_regexp.specs.Tests.{Tests};
+ghost use Rattle.jp_pattern.specs.Tests.{Tests};
 ghost use Rattle.jp_check.specs.Verdict.{IsAccepted};
 ghost use Rattle.jp_check.specs.Plan.{planned_query};
 ghost use Rattle.jp_eval.specs.Nodelist.{document_nodes};
-ghost use Rattle.jp_path_stack.specs.Path.{path_text};
+ghost use Rattle.jp_node.specs.Path.{path_text};
 ghost use Rattle.jp_path.specs.PathQuery.{path_query, step_selector, step_segment, IsStep, AreSteps};
 
 use itoa::Buffer;

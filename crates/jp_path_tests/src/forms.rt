@@ -2,10 +2,8 @@
 
 use jp_doc::Document;
 use jp_flat::FlatReader;
-use jp_nodes::Visit;
+use jp_node::{Part, PathStack, Visit};
 use jp_output::NodeLines;
-use jp_part::Part;
-use jp_path_stack::PathStack;
 use std::alloc::{AllocError, Global};
 use std::test::Fail;
 

@@ -2,10 +2,8 @@
 //! no line of another form.
 
 use jp_doc::{DocFault, Document};
-use jp_nodes::Visit;
+use jp_node::{Part, PathStack, Visit};
 use jp_output::{Form, Head, InputLines, NodeLines, RawLines, TextLines, ValueLines, join_chunks};
-use jp_part::Part;
-use jp_path_stack::PathStack;
 use std::alloc::{AllocError, Global};
 use std::test::Fail;
 

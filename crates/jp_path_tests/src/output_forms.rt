@@ -4,10 +4,8 @@
 use jp_check::{Plan, plan};
 use jp_doc::{DocFault, Document};
 use jp_flat::FlatReader;
-use jp_nodes::Visit;
+use jp_node::{Part, PathStack, Visit};
 use jp_output::{Form, Head, InputLines, RawLines, TextLines, ValueLines, join_chunks};
-use jp_part::Part;
-use jp_path_stack::PathStack;
 use jp_select::visit_nodes;
 use std::alloc::{AllocError, Global};
 use std::test::Fail;

@@ -8,8 +8,8 @@ use crate::heads::line_behind;
 use crate::output_forms::written;
 use jp_doc::{Document, Location, Step};
 use jp_flat::FlatReader;
+use jp_node::Part;
 use jp_output::{InputLines, TextLines, ValueLines, append_chunks, join_chunks, push_chunk};
-use jp_part::Part;
 use jp_path::{path_plan, query_of, write_line, write_path};
 use std::alloc::{AllocError, Global};
 

@@ -13,7 +13,7 @@ use Rattle.std.specs.Borrow.{Bor}
 use Rattle.clap.specs.Walk.{Text, texts}
 use Rattle.jp_doc.specs.declared.fault.DocFault.{DocFault}
 use Rattle.jp_number.specs.declared.numbers.Numbers.{Numbers}
-use Rattle.jp_regexp.proofs.RightTests.{right_tests}
+use Rattle.jp_pattern.proofs.RightTests.{right_tests}
 use Rattle.jp_answer.specs.Answer.{Answer, answer_by}
 use Rattle.jp_answer.specs.FilteredQuery.{FilteredQuery}
 use Rattle.jp_answer.specs.Policy.{passed_in, policy}

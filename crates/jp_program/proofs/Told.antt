@@ -11,8 +11,8 @@ use Rattle.jp_doc.specs.Json.{Json}
 use Rattle.jp_doc.specs.Lines.{Line}
 use Rattle.jp_doc.specs.ReadingIn.{reading_in}
 use Rattle.jp_doc.specs.declared.fault.DocFault.{DocFault}
-use Rattle.jp_regexp.specs.Tests.{Tests}
-use Rattle.jp_regexp.proofs.RightTests.{right_tests}
+use Rattle.jp_pattern.specs.Tests.{Tests}
+use Rattle.jp_pattern.proofs.RightTests.{right_tests}
 use Rattle.jp_answer.specs.FilteredQuery.{FilteredQuery}
 use Rattle.jp_answer.specs.Answer.{Answer, document_bytes, joined}
 use Rattle.jp_answer.specs.Faults.{is_faulty, faulty_lines}

@@ -5,7 +5,7 @@ ghost use Rattle.std.specs.Prelude.{IfSome, codes};
 ghost use Rattle.std.specs.Io.KnownBytes.{Appends};
 ghost use Rattle.std.specs.Str.{chars, IsUtf8};
 ghost use Rattle.jp_doc.specs.declared.fault.DocFault.{DocFault};
-ghost use Rattle.jp_regexp.specs.Tests.{Tests, AreRight};
+ghost use Rattle.jp_pattern.specs.Tests.{Tests, AreRight};
 ghost use Rattle.jp_answer.specs.FilteredQuery.{FilteredQuery};
 ghost use Rattle.jp_answer.specs.Answer.{Answer, answer_by};
 ghost use Rattle.jp_answer.specs.Policy.{policy};

@@ -3,7 +3,7 @@ use Rattle.std.proofs.Common.{◌≡◌, ◌∙◌, ℕ, List, [], ap, sym}
 use Rattle.jp_doc.specs.Lines.{Line}
 use Rattle.jp_number.specs.declared.numbers.Numbers.TheVariants.{Whole}
 use Rattle.jp_tree.specs.Tree.{Query}
-use Rattle.jp_regexp.specs.Tests.{Tests}
+use Rattle.jp_pattern.specs.Tests.{Tests}
 use Rattle.jp_output.specs.OutputForm.{node_lines_behind}
 use Rattle.jp_answer.specs.Answer.{answer_by}
 use Rattle.jp_answer.specs.Asking.{asked_query}

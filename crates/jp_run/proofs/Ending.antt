@@ -9,7 +9,7 @@ use Rattle.jp_doc.specs.Lines.{Line}
 use Rattle.jp_doc.specs.Feeding.{Progress, nothing_fed, finished, finished_lines}
 use Rattle.jp_doc.specs.declared.fault.DocFault.{DocFault}
 use Rattle.jp_answer.specs.FilteredQuery.{FilteredQuery}
-use Rattle.jp_regexp.proofs.RightTests.{right_tests}
+use Rattle.jp_pattern.proofs.RightTests.{right_tests}
 use Rattle.jp_answer.specs.Answer.{Answer}
 use Rattle.jp_number.specs.declared.numbers.Numbers.{Numbers}
 use Rattle.jp_answer.specs.Policy.{passed_in, stop_on}

@@ -10,7 +10,7 @@ use Rattle.std.proofs.KnownBytes.{Appends-nil, Appends-trans}
 use Rattle.jp_doc.specs.Lines.{Line}
 use Rattle.jp_doc.specs.declared.fault.DocFault.{DocFault}
 use Rattle.jp_answer.specs.FilteredQuery.{FilteredQuery}
-use Rattle.jp_regexp.specs.Tests.{Tests, AreRight}
+use Rattle.jp_pattern.specs.Tests.{Tests, AreRight}
 use Rattle.jp_answer.specs.Answer.{Answer, answer_by, joined, nothing, unless_stopped}
 use Rattle.jp_answer.specs.Blocks.{IsAnswerTo}
 use Rattle.jp_answer.specs.declared.outcome.Outcome.{Outcome}

@@ -9,7 +9,7 @@ use Rattle.jp_doc.specs.Location.{Node}
 use Rattle.jp_doc.specs.ReadingIn.{reading_in}
 use Rattle.jp_doc.specs.declared.fault.DocFault.{DocFault}
 use Rattle.jp_answer.specs.FilteredQuery.{FilteredQuery, selected_nodes}
-use Rattle.jp_regexp.specs.Tests.{Tests}
+use Rattle.jp_pattern.specs.Tests.{Tests}
 use Rattle.jp_output.specs.OutputLine.{line_of, node_line, value_text}
 use Rattle.jp_output.specs.RawText.{raw_text}
 use Rattle.jp_output.specs.UnquotedText.{unquoted_text}

@@ -2,7 +2,7 @@
 use Rattle.std.proofs.Common.{◌≡◌, ◌∙◌, ◌≤◌, Result, Ok, Err, IsErrAnd, inl, refl, subst, sym}
 use Rattle.jp_doc.specs.Feeding.{Progress}
 use Rattle.jp_output.specs.declared.form.Form as form
-use Rattle.jp_answer.below.jp_nodes.specs.declared.visit.Visit as visit
+use Rattle.jp_answer.below.jp_node.specs.declared.visit.Visit as visit
 use Rattle.jp_answer.specs.declared.queue.Queue.{Queue}
 use Rattle.jp_run.specs.Answered.{manner_in}
 use Rattle.jp_run.specs.Limits.{max_lines}

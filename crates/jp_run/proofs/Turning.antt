@@ -3,7 +3,7 @@ use Rattle.std.proofs.Common.{◌++◌, Bool, List, ℕ, Option, ap, ◌∙◌}
 use Rattle.std.proofs.KnownBytes.{Consumes-kept}
 use Rattle.jp_answer.specs.FilteredQuery.{FilteredQuery}
 use Rattle.jp_output.specs.declared.form.Form as form
-use Rattle.jp_answer.below.jp_nodes.specs.declared.visit.Visit as visit
+use Rattle.jp_answer.below.jp_node.specs.declared.visit.Visit as visit
 use Rattle.jp_run.specs.Manner.{Manner}
 use Rattle.jp_run.specs.inner.Going.{all_bytes, Goes}
 use Rattle.jp_run.specs.inner.Input.{Input}

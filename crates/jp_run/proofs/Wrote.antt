@@ -4,7 +4,7 @@ use Rattle.std.proofs.Common.{true, refl, sym, ◌∙◌, ap, arith}
 use Rattle.std.proofs.lemmas.Bool.Decides.{nat_tests}
 use Rattle.jp_doc.specs.Lines.{Line}
 use Rattle.jp_answer.specs.FilteredQuery.{FilteredQuery}
-use Rattle.jp_regexp.specs.Tests.{Tests, AreRight}
+use Rattle.jp_pattern.specs.Tests.{Tests, AreRight}
 use Rattle.jp_answer.specs.Answer.{Answer, answer_by, unless_stopped}
 use Rattle.jp_answer.proofs.OnFaults.{formed_joined, nothing_in}
 use Rattle.jp_run.specs.Manner.{Manner}

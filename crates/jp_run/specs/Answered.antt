@@ -3,7 +3,7 @@ use Rattle.std.specs.Prelude.{◌≡◌, ℕ, List, [], ◌∷◌, ◌++◌, Opt
 use Rattle.std.specs.Prelude.{option_map}
 use Rattle.jp_doc.specs.Lines.{Line}
 use Rattle.jp_tree.specs.Tree.{Text, Query}
-use Rattle.jp_regexp.specs.Tests.{Tests, AreRight}
+use Rattle.jp_pattern.specs.Tests.{Tests, AreRight}
 use Rattle.jp_check.specs.Verdict.{IsAccepted}
 use Rattle.jp_answer.specs.Answer.{Answer, answer_by, stream_answer}
 use Rattle.jp_answer.specs.FilteredQuery.{FilteredQuery}

@@ -4,7 +4,7 @@ use Rattle.std.specs.List.{All}
 use Rattle.jp_doc.specs.Lines.{Line}
 use Rattle.jp_doc.specs.ReadingIn.{reading_in}
 use Rattle.jp_number.specs.declared.numbers.Numbers.{Numbers}
-use Rattle.jp_regexp.specs.Tests.{Tests}
+use Rattle.jp_pattern.specs.Tests.{Tests}
 use Rattle.jp_answer.specs.FilteredQuery.{FilteredQuery, selected_nodes}
 
 -- no node of any of them

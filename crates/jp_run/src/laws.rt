@@ -5,7 +5,7 @@ ghost use Rattle.jp_number.specs.declared.numbers.Numbers.{Numbers};
 ghost use Rattle.jp_number.specs.declared.numbers.Numbers.TheVariants.{Whole, Decimals};
 ghost use Rattle.jp_doc.specs.Lines.{Line, lines};
 ghost use Rattle.jp_tree.specs.Tree.{Text};
-ghost use Rattle.jp_regexp.specs.Tests.{Tests, AreRight};
+ghost use Rattle.jp_pattern.specs.Tests.{Tests, AreRight};
 ghost use Rattle.jp_output.specs.OutputForm.{node_lines};
 ghost use Rattle.jp_answer.specs.Answer.{Answer, answer_by};
 ghost use Rattle.jp_answer.specs.Faults.{first_fault};

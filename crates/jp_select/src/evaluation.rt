@@ -4,14 +4,14 @@ ghost use Rattle.std.specs.Prelude.{◌≡◌, map, IfOk};
 ghost use Rattle.std.specs.List.{fold};
 ghost use Rattle.jp_doc.specs.Document.{document_value};
 ghost use Rattle.jp_doc.specs.Location.{location_of};
-ghost use Rattle.jp_regexp.specs.Tests.{Tests, AreRight};
+ghost use Rattle.jp_pattern.specs.Tests.{Tests, AreRight};
 ghost use Rattle.jp_check.specs.Plan.{planned_query};
 ghost use Rattle.jp_eval.specs.Nodelist.{document_nodes};
 
 use jp_check::Plan;
 use jp_doc::{Document, Location};
 use jp_eval::{Cuts, EvalFault, Evaluator, Fork};
-use jp_nodes::{Locations, Visit};
+use jp_node::{Locations, Visit};
 use std::alloc::Global;
 use std::thread::Threads;
 

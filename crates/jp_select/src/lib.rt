@@ -9,7 +9,7 @@ pub use jp_answer::{DocStop, Gate, OpenGate};
 pub use jp_check::{Plan, check, plan, plan_in};
 pub use jp_doc::{DocFault, Document, Line, Lines, Location, Step};
 pub use jp_eval::{Cuts, EvalFault, Fork, OpenFork};
-pub use jp_nodes::{Locations, Visit};
+pub use jp_node::{Locations, Visit};
 pub use jp_number::Numbers;
 pub use jp_output::{write_line, write_path};
 pub use jp_path::{path_plan, query_of};

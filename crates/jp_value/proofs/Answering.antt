@@ -4,12 +4,11 @@ use mathlib.Core.Path.{fun_ext}
 use Rattle.std.specs.Prelude.{IsTrue, ◌↔◌}
 use Rattle.std.proofs.lemmas.Bool.{false_from_ne_true}
 use Rattle.std.proofs.lemmas.Bool.Decides.{same_from_decides}
-use Rattle.jp_regexp.proofs.PatternsRead.{one_tree}
-use Rattle.jp_regexp.specs.Pattern.{Text, Pattern}
-use Rattle.jp_regexp.specs.Held.{HasPart}
-use Rattle.jp_regexp.specs.Language.{Member, Matches, Found}
-use Rattle.jp_regexp.specs.Profile.{IsPatternOf}
-use Rattle.jp_regexp.specs.Tests.{Tests, AreRight}
+use Rattle.jp_pattern.proofs.PatternsRead.{one_tree}
+use Rattle.jp_pattern.specs.Pattern.{Text, Pattern}
+use Rattle.jp_pattern.specs.Language.{Found, HasPart, Matches, Member}
+use Rattle.jp_pattern.specs.Profile.{IsPatternOf}
+use Rattle.jp_pattern.specs.Tests.{Tests, AreRight}
 use Rattle.jp_value.specs.RightTests.{tests, are_right}
 
 -- the pattern that was read is the one that the text is

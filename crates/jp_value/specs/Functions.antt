@@ -9,7 +9,7 @@ use Rattle.jp_doc.specs.Location.{Step, name, index, Location, Node}
 use Rattle.jp_number.specs.Number.{whole}
 use Rattle.jp_types.specs.Functions.{Function, length_function, count_function, match_function}
 use Rattle.jp_types.specs.Functions.{search_function, value_function, xor_function, distinct_function}
-use Rattle.jp_regexp.specs.Tests.{Tests}
+use Rattle.jp_pattern.specs.Tests.{Tests}
 
 -- what an argument hands over and a call gives: a value or nothing, true or false, or a list of nodes
 pub data Handed : Type 0 where

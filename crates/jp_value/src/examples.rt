@@ -7,7 +7,7 @@ ghost use Rattle.jp_doc.specs.Json.{null, truth, number, text, object, no_member
 ghost use Rattle.jp_doc.specs.Location.{node};
 ghost use Rattle.jp_tree.specs.Tree as tree;
 ghost use Rattle.jp_tree.specs.declared.tree.Operator.TheVariants.{Eq, Ne, Le, Ge, Lt, Gt};
-ghost use Rattle.jp_regexp.specs.Tests.{Tests};
+ghost use Rattle.jp_pattern.specs.Tests.{Tests};
 ghost use Rattle.jp_types.specs.Functions.{length_function, count_function, match_function, search_function};
 ghost use Rattle.jp_types.specs.Functions.{value_function, xor_function, distinct_function};
 ghost use Rattle.jp_number.specs.Number.{whole, written};

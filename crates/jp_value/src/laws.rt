@@ -3,7 +3,7 @@
 ghost use Rattle.std.specs.Prelude.{◌≡◌, ◌↔◌, ◌||◌, IsTrue, List, Option, Some, None, false};
 ghost use Rattle.std.specs.Cmp.{IsEquivalence};
 ghost use Rattle.std.specs.List.{AllPairs, list_any};
-ghost use Rattle.jp_regexp.specs.Tests.{AreRight};
+ghost use Rattle.jp_pattern.specs.Tests.{AreRight};
 ghost use Rattle.jp_doc.specs.Json.{Text, Json, Members, object};
 ghost use Rattle.jp_doc.specs.Location.{Location, Node, member_at};
 ghost use Rattle.jp_doc.specs.NumbersWithin.{HasWholeNumbers};

@@ -3,8 +3,8 @@
 use Rattle.std.specs.Prelude.{◌≡◌, ℕ, ◌+◌, ◌≤◌, ◌⊎◌, ◌++◌, List, length, None, All, option_map}
 use Rattle.jp_board.specs.Limits.{max_pieces}
 use Rattle.jp_doc.specs.Lines.{Line}
-use Rattle.jp_regexp.specs.Tests.{Tests, AreRight}
-use Rattle.jp_nodes.specs.declared.visit.Visit as visit
+use Rattle.jp_pattern.specs.Tests.{Tests, AreRight}
+use Rattle.jp_node.specs.declared.visit.Visit as visit
 use Rattle.jp_output.specs.OutputForm.{OutputForm}
 use Rattle.jp_output.specs.declared.form.Form as form
 use Rattle.jp_answer.specs.Answer.{Answer, answer_by, joined}

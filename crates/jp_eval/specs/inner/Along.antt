@@ -5,9 +5,9 @@ use Rattle.std.specs.List.{flat_map}
 use Rattle.jp_doc.specs.Location.{Location, Node, node}
 use Rattle.jp_compiled.specs.declared.query.Segment.{Segment}
 use Rattle.jp_compiled.specs.declared.query.Selector.{Selector}
-use Rattle.jp_nodes.specs.ChildNodes.{child_nodes}
-use Rattle.jp_nodes.specs.Nodes.{children}
-use Rattle.jp_part.specs.Part.{part_value}
+use Rattle.jp_node.specs.ChildNodes.{child_nodes}
+use Rattle.jp_node.specs.Nodes.{children}
+use Rattle.jp_node.specs.Part.{part_value}
 use Rattle.jp_eval.specs.inner.Base.{Base}
 use Rattle.jp_eval.specs.inner.Walk.{done, picked_by, reached}
 use Rattle.jp_eval.specs.declared.walk.Task.TheVariants.{Descend}

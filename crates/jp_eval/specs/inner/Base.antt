@@ -2,7 +2,7 @@
 use Rattle.std.specs.Prelude.{List}
 use Rattle.jp_doc.specs.Json.{Json}
 use Rattle.jp_compiled.specs.Parts.{Wanted, roots_of}
-use Rattle.jp_part.specs.Part.{part_value}
+use Rattle.jp_node.specs.Part.{part_value}
 use Rattle.jp_eval.specs.declared.context.Context.{Context}
 
 -- the document, and the `$` queries inside filters

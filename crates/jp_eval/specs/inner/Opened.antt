@@ -2,11 +2,11 @@
 use Rattle.std.specs.Prelude.{◌≡◌, ◌≤◌, IfSome}
 use Rattle.jp_doc.specs.Height.{height}
 use Rattle.jp_doc.specs.Location.{Location}
-use Rattle.jp_nodes.specs.Nodes.{children_at}
-use Rattle.jp_part.specs.Part.{part_value}
-use Rattle.jp_part.specs.declared.part.Part.{Part}
-use Rattle.jp_children.specs.ChildRanges.{range_nodes, range_height}
-use Rattle.jp_children.specs.declared.child_range.ChildRange.{ChildRange}
+use Rattle.jp_node.specs.Nodes.{children_at}
+use Rattle.jp_node.specs.Part.{part_value}
+use Rattle.jp_node.specs.declared.part.Part.{Part}
+use Rattle.jp_node.specs.ChildRanges.{range_nodes, range_height}
+use Rattle.jp_node.specs.declared.child_range.ChildRange.{ChildRange}
 use Rattle.jp_eval.specs.declared.walk.Opened.{Opened}
 
 -- a range has all children of a value, and no more

@@ -5,8 +5,8 @@ use Rattle.jp_doc.specs.Location as at
 use Rattle.jp_doc.specs.Location.{Step, Location, Node, value_at}
 use Rattle.jp_tree.specs.Tree as tree
 use Rattle.jp_types.specs.Numbers.{whole_number}
-use Rattle.jp_nodes.specs.Nodes.{node_if_some}
-use Rattle.jp_path_stack.specs.Links.{link_steps}
+use Rattle.jp_node.specs.Nodes.{node_if_some}
+use Rattle.jp_node.specs.Links.{link_steps}
 use Rattle.jp_eval.specs.declared.route.Route.{Route}
 use Rattle.jp_eval.specs.declared.route.Route.TheVariants.{Unknown, Missing, Links}
 

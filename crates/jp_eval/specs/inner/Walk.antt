@@ -13,7 +13,7 @@ use Rattle.jp_compiled.specs.declared.query.Value.{Value}
 use Rattle.jp_compiled.specs.declared.query.Nodes.{Nodes}
 use Rattle.jp_eval.specs.inner.Base.{Base}
 use Rattle.jp_value.specs.Functions.{as_nodes}
-use Rattle.jp_nodes.specs.Nodes.{descendants}
+use Rattle.jp_node.specs.Nodes.{descendants}
 use Rattle.jp_eval.specs.Nodelist as spec
 use Rattle.jp_value.specs.RightTests.{tests}
 use Rattle.jp_eval.specs.declared.walk.Task.{Task}

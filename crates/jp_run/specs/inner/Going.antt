@@ -7,7 +7,7 @@ use Rattle.jp_doc.specs.Feeding.{nothing_fed}
 use Rattle.jp_answer.specs.Asking.{asked_query}
 use Rattle.jp_answer.specs.FilteredQuery.{FilteredQuery}
 use Rattle.jp_output.specs.declared.form.Form as form
-use Rattle.jp_answer.below.jp_nodes.specs.declared.visit.Visit as visit
+use Rattle.jp_answer.below.jp_node.specs.declared.visit.Visit as visit
 use Rattle.jp_answer.specs.Policy.{passed_in}
 use Rattle.jp_answer.specs.Queued.{sent_task}
 use Rattle.jp_answer.specs.declared.asked.Asked.{Asked}

@@ -2,7 +2,7 @@
 -- alone.
 use Rattle.std.specs.Prelude.{◌≡◌, ◌+◌, ◌≤◌, [], length, None, Result, OnOk, IfErr}
 use Rattle.jp_output.specs.declared.form.Form as form
-use Rattle.jp_answer.below.jp_nodes.specs.declared.visit.Visit as visit
+use Rattle.jp_answer.below.jp_node.specs.declared.visit.Visit as visit
 use Rattle.jp_answer.specs.Queued.{sent_task}
 use Rattle.jp_answer.specs.declared.queue.Queue.{Queue}
 use Rattle.jp_answer.specs.declared.queue.Sent.{Sent}

@@ -2,7 +2,7 @@ use Rattle.std.proofs.Common.{◌≡◌, ◌+◌, drop, map}
 use Rattle.jp_buffer.specs.Buffered.{line_at}
 use Rattle.jp_answer.specs.Asking.{asked_query}
 use Rattle.jp_answer.specs.inner.Filtered.{filtered_query}
-use Rattle.jp_regexp.specs.Tests.{Tests, AreRight}
+use Rattle.jp_pattern.specs.Tests.{Tests, AreRight}
 use Rattle.jp_answer.specs.Answer.{answer_by, joined}
 use Rattle.jp_answer.specs.Policy.{stop_in, passed_in}
 use Rattle.jp_answer.proofs.Joining.{so_far}

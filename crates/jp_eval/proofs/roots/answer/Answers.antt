@@ -5,7 +5,7 @@ use Rattle.jp_compiled.specs.declared.query.Want.TheVariants as want
 use Rattle.jp_tree.specs.Tree.{no_segments}
 use Rattle.jp_found.specs.Aggregates.{tells}
 use Rattle.jp_found.specs.Links.{here}
-use Rattle.jp_part.specs.Part.{part_value}
+use Rattle.jp_node.specs.Part.{part_value}
 use Rattle.jp_eval.specs.inner.Base.{base_of}
 use Rattle.jp_eval.specs.inner.Rooted.{root_nodes, is_answer}
 use Rattle.jp_eval.specs.inner.Walk.{is_true}

@@ -1,5 +1,5 @@
 use Rattle.std.proofs.Common.{◌≡◌, take}
-use Rattle.jp_part.specs.Part.{part_value}
+use Rattle.jp_node.specs.Part.{part_value}
 use Rattle.jp_eval.proofs.roots.answer_roots.Given as goal
 
 abbrev pub invariant-loop-slot : goal.invariant-loop-slot

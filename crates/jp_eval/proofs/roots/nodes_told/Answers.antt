@@ -3,7 +3,7 @@ use Rattle.jp_compiled.specs.Parts.{roots_of, segments_in}
 use Rattle.jp_eval.specs.inner.Rooted.{root_nodes}
 use Rattle.jp_eval.specs.inner.Base.{base_of}
 use Rattle.jp_found.specs.Kept.{put_found, plus}
-use Rattle.jp_part.specs.Part.{part_value}
+use Rattle.jp_node.specs.Part.{part_value}
 use Rattle.jp_found.proofs.Keeping.{not_taken}
 use Rattle.jp_eval.proofs.CompiledParts.{from_root}
 use Rattle.jp_eval.proofs.roots.nodes_told.Goals as goal

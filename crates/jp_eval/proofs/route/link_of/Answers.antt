@@ -1,5 +1,5 @@
 use Rattle.std.proofs.lemmas.Option.{IfSome_then}
-use Rattle.jp_path_stack.specs.Links.{link_step}
+use Rattle.jp_node.specs.Links.{link_step}
 use Rattle.jp_eval.proofs.RouteSteps.{single_step}
 use Rattle.jp_eval.proofs.route.link_of.Goals as goal
 

@@ -1,7 +1,7 @@
 use Rattle.std.proofs.Common.{◌≡◌, drop}
 use Rattle.jp_doc.specs.Location.{value_at}
-use Rattle.jp_part.specs.Part.{part_value}
-use Rattle.jp_path_stack.specs.Links.{link_steps}
+use Rattle.jp_node.specs.Part.{part_value}
+use Rattle.jp_node.specs.Links.{link_steps}
 use Rattle.jp_eval.proofs.route.value_along.Given as goal
 
 -- what is left of the links leads from the last value to where all of them lead from the first

@@ -4,9 +4,9 @@ use Rattle.std.proofs.Common.{w64}
 use Rattle.std.proofs.lemmas.Int.{to_z-of_z}
 use Rattle.std.specs.Str.{chars}
 use Rattle.jp_doc.specs.Location.{node, member_of}
-use Rattle.jp_part.specs.Part.{part_value}
-use Rattle.jp_nodes.specs.Nodes.{items_at}
-use Rattle.jp_children.specs.Selected.{index_places}
+use Rattle.jp_node.specs.Part.{part_value}
+use Rattle.jp_node.specs.Nodes.{items_at}
+use Rattle.jp_node.specs.Selected.{index_places}
 use Rattle.jp_eval.specs.inner.Walk.{picked}
 use Rattle.jp_eval.proofs.CompiledParts.{picked_name, picked_index}
 use Rattle.jp_eval.proofs.OneNode.{one_child, same_one}

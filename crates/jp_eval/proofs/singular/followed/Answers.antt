@@ -1,6 +1,6 @@
 use Rattle.std.proofs.Common.{◌<◌, length, ap, ◌∙◌, refl, arith}
 use Rattle.jp_doc.specs.Location.{node}
-use Rattle.jp_part.specs.Part.{part_value}
+use Rattle.jp_node.specs.Part.{part_value}
 use Rattle.jp_value.specs.Functions.{first_value}
 use Rattle.jp_eval.proofs.OneNode.{led_on, led_off, led_to_end}
 use Rattle.jp_eval.proofs.singular.followed.Goals as goal

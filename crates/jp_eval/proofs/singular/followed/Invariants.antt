@@ -1,6 +1,6 @@
 use Rattle.std.proofs.Common.{◌≡◌, [], ◌∷◌, drop}
 use Rattle.jp_doc.specs.Location.{Location, node}
-use Rattle.jp_part.specs.Part.{part_value}
+use Rattle.jp_node.specs.Part.{part_value}
 use Rattle.jp_eval.specs.inner.Base.{Base}
 use Rattle.jp_eval.specs.inner.Walk.{reached}
 use Rattle.jp_eval.proofs.singular.followed.Given as goal

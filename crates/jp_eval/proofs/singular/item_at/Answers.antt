@@ -1,5 +1,5 @@
 use Rattle.jp_doc.specs.Location.{node}
-use Rattle.jp_part.specs.Part.{part_value}
+use Rattle.jp_node.specs.Part.{part_value}
 use Rattle.jp_eval.proofs.OneNode.{one_item}
 use Rattle.jp_eval.proofs.singular.item_at.Goals as goal
 

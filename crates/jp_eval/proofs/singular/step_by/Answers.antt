@@ -1,6 +1,6 @@
 use Rattle.std.proofs.lemmas.Option.{IfSome_then}
 use Rattle.jp_doc.specs.Location.{node}
-use Rattle.jp_part.specs.Part.{part_value}
+use Rattle.jp_node.specs.Part.{part_value}
 use Rattle.jp_eval.proofs.OneNode.{one_step}
 use Rattle.jp_eval.proofs.singular.step_by.Goals as goal
 

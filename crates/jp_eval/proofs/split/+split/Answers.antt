@@ -2,13 +2,13 @@ use Rattle.std.proofs.Common.{◌≡◌, ◌≤◌, List, sym, ap, ◌∙◌, ar
 use Rattle.std.proofs.lemmas.Result.{on_ok_weaker}
 use Rattle.std.specs.List.{flat_map}
 use Rattle.jp_doc.specs.Location.{Location, Node, node}
-use Rattle.jp_nodes.specs.ChildNodes.{child_nodes}
-use Rattle.jp_path_stack.specs.Links.{link_steps}
+use Rattle.jp_node.specs.ChildNodes.{child_nodes}
+use Rattle.jp_node.specs.Links.{link_steps}
 use Rattle.jp_eval.specs.inner.Base.{base_of}
 use Rattle.jp_found.specs.Kept.{kept, put_found, plus, taken, emptied_found}
-use Rattle.jp_children.specs.ChildRanges.{range_nodes, range_height}
+use Rattle.jp_node.specs.ChildRanges.{range_nodes, range_height}
 use Rattle.jp_eval.specs.inner.Along.{done_by}
-use Rattle.jp_part.specs.Part.{part_value}
+use Rattle.jp_node.specs.Part.{part_value}
 use Rattle.jp_eval.specs.inner.Walk.{done}
 use denote.Param.{param}
 use denote.Param.Send.{IsSend, IsSync, param_send}

@@ -1,14 +1,14 @@
 use Rattle.std.proofs.Common.{◌≡◌, ◌+◌, ◌*◌, ◌≤◌, ℕ}
 use Rattle.std.specs.List.{flat_map}
 use Rattle.jp_doc.specs.Height.{height}
-use Rattle.jp_nodes.specs.ChildNodes.{all_height}
-use Rattle.jp_part.specs.Part.{part_value}
+use Rattle.jp_node.specs.ChildNodes.{all_height}
+use Rattle.jp_node.specs.Part.{part_value}
 use Rattle.jp_eval.specs.inner.Base.{base_of}
 use Rattle.jp_found.specs.Kept.{kept, put_found, plus}
-use Rattle.jp_children.specs.ChildRanges.{range_nodes, range_height, range_length}
+use Rattle.jp_node.specs.ChildRanges.{range_nodes, range_height, range_length}
 use Rattle.jp_eval.specs.inner.Along.{done_by, items_left}
 use Rattle.jp_eval.specs.inner.Walk.{done}
-use Rattle.jp_path_stack.specs.Links.{link_steps}
+use Rattle.jp_node.specs.Links.{link_steps}
 use Rattle.jp_eval.proofs.split.+split.Given as goal
 
 -- how high the value is, then how many cuts are left, then the rank of the function

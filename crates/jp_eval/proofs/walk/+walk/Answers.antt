@@ -16,18 +16,18 @@ use Rattle.jp_compiled.specs.Parts.{position_text, wanted_inside}
 use Rattle.jp_compiled.specs.declared.query.Want.TheVariants as want
 use Rattle.jp_found.specs.Aggregates.{tells}
 use Rattle.jp_eval.specs.inner.Base.{base_of}
-use Rattle.jp_value.specs.BoundsView.{bounds_value}
+use Rattle.jp_node.specs.BoundsView.{bounds_value}
 use Rattle.jp_value.specs.Comparison.{compared}
 use Rattle.jp_value.specs.Functions.{tested, length_value}
 use Rattle.jp_value.specs.Functions.{exactly_one}
-use Rattle.jp_nodes.specs.ChildNodes.{listed_nodes}
-use Rattle.jp_children.specs.ChildRanges.{range_nodes}
-use Rattle.jp_nodes.specs.Nodes.{children, descendants, items_at, node_if_some}
+use Rattle.jp_node.specs.ChildNodes.{listed_nodes}
+use Rattle.jp_node.specs.ChildRanges.{range_nodes}
+use Rattle.jp_node.specs.Nodes.{children, descendants, items_at, node_if_some}
 use Rattle.jp_value.specs.Literals.{written_value}
 use Rattle.jp_found.specs.Kept.{kept, put_found, plus}
 use Rattle.jp_found.specs.Links.{here}
-use Rattle.jp_path_stack.specs.Links.{link_steps}
-use Rattle.jp_part.specs.Part.{part_value}
+use Rattle.jp_node.specs.Links.{link_steps}
+use Rattle.jp_node.specs.Part.{part_value}
 use Rattle.jp_value.specs.RightTests.{tests}
 use Rattle.jp_eval.specs.inner.Walk.{picked, picked_by, reached, is_true, value_given, nodes_given, done}
 use Rattle.jp_eval.proofs.Chains.{reached-none, reached-end, reached-each, reached-plain}
@@ -39,9 +39,9 @@ use Rattle.jp_eval.proofs.CompiledParts.{true_any, true_all, true_not, true_comp
 use Rattle.jp_eval.proofs.CompiledParts.{true_search, true_match_known, true_search_known, given_constant}
 use Rattle.jp_eval.proofs.CompiledParts.{given_single, given_length, given_count, given_only, nodes_here}
 use Rattle.jp_eval.proofs.CompiledParts.{nodes_root, nodes_distinct, true_xor, true_once}
-use Rattle.jp_children.proofs.Places.{slice_found}
+use Rattle.jp_node.proofs.Places.{slice_found}
 use Rattle.jp_eval.proofs.Uniformity.{true_along, false_along, kept_each}
-use Rattle.jp_children.specs.Selected.{index_places}
+use Rattle.jp_node.specs.Selected.{index_places}
 use Rattle.jp_eval.proofs.WalkSteps.{back_up, here_further, link_further, over, applied, descended}
 use Rattle.jp_eval.proofs.WalkSteps.{any_further, any_found, all_further, all_found, none_at, one_at}
 use Rattle.jp_eval.proofs.walk.+walk.Goals as goal

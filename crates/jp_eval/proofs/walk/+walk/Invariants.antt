@@ -11,12 +11,12 @@ use Rattle.jp_compiled.specs.declared.query.Nodes.{size-Nodes}
 use Rattle.jp_eval.specs.inner.Base.{base_of}
 use Rattle.jp_found.specs.Kept.{kept, put_found, plus}
 use Rattle.jp_found.specs.Links.{here}
-use Rattle.jp_path_stack.specs.Links.{link_steps}
-use Rattle.jp_children.specs.ChildRanges.{range_nodes, range_height, range_length, of_flat_items}
-use Rattle.jp_children.specs.ChildRanges.{flat_member_nodes, flat_members_height}
-use Rattle.jp_part.specs.Part.{part_value}
+use Rattle.jp_node.specs.Links.{link_steps}
+use Rattle.jp_node.specs.ChildRanges.{range_nodes, range_height, range_length, of_flat_items}
+use Rattle.jp_node.specs.ChildRanges.{flat_member_nodes, flat_members_height}
+use Rattle.jp_node.specs.Part.{part_value}
 use Rattle.jp_eval.specs.inner.Walk.{picked_by, reached, is_true, done}
-use Rattle.jp_part.specs.declared.part.Part.{Part}
+use Rattle.jp_node.specs.declared.part.Part.{Part}
 use Rattle.jp_eval.specs.declared.walk.Task.{Task}
 use Rattle.jp_eval.specs.declared.walk.Task.TheVariants.{Run, Descend, Test}
 use Rattle.jp_eval.proofs.walk.+walk.Given as goal

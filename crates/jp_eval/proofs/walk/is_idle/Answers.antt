@@ -1,7 +1,7 @@
 use Rattle.std.proofs.Common.{rules}
 use Rattle.std.proofs.Common.{ap, ◌∙◌}
 use Rattle.jp_doc.specs.Location.{node}
-use Rattle.jp_part.specs.Part.{part_value}
+use Rattle.jp_node.specs.Part.{part_value}
 use Rattle.jp_eval.specs.inner.Walk.{done}
 use Rattle.jp_eval.proofs.Idle.{nothing_below}
 use Rattle.jp_eval.proofs.walk.is_idle.Goals as goal

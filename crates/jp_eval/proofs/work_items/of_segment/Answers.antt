@@ -1,8 +1,8 @@
 use Rattle.std.proofs.Common.{append-nil, sym, ap, ◌∙◌}
 use Rattle.std.specs.List.{flat_map}
 use Rattle.jp_doc.specs.Location.{node}
-use Rattle.jp_nodes.specs.Nodes.{descendants}
-use Rattle.jp_part.specs.Part.{part_value}
+use Rattle.jp_node.specs.Nodes.{descendants}
+use Rattle.jp_node.specs.Part.{part_value}
 use Rattle.jp_eval.specs.inner.Walk.{picked_by, reached}
 use Rattle.jp_eval.proofs.Chains.{reached-plain, reached-deep}
 use Rattle.jp_eval.proofs.WorkItems.{at_and_below}

@@ -4,13 +4,13 @@ use Rattle.std.proofs.lemmas.Int.{to_z-of_z}
 use Rattle.std.specs.Str.{chars}
 use Rattle.jp_doc.specs.Location.{node, name}
 use Rattle.jp_compiled.specs.Parts.{position_text}
-use Rattle.jp_value.specs.BoundsView.{bounds_value}
-use Rattle.jp_nodes.specs.Nodes.{child, items_at}
+use Rattle.jp_node.specs.BoundsView.{bounds_value}
+use Rattle.jp_node.specs.Nodes.{child, items_at}
 use Rattle.jp_value.specs.Literals.{written_value}
-use Rattle.jp_part.specs.Part.{part_value}
+use Rattle.jp_node.specs.Part.{part_value}
 use Rattle.jp_eval.specs.inner.Walk.{picked, is_true}
-use Rattle.jp_children.proofs.Places.{slice_found}
-use Rattle.jp_children.specs.Selected.{index_places}
+use Rattle.jp_node.proofs.Places.{slice_found}
+use Rattle.jp_node.specs.Selected.{index_places}
 use Rattle.jp_eval.proofs.CompiledParts.{picked_name, picked_wild, picked_index, picked_slice, picked_filter}
 use Rattle.jp_eval.proofs.WorkItems.{run_along, test_along}
 use Rattle.jp_eval.proofs.work_items.work_item_of.Goals as goal

@@ -1,6 +1,6 @@
 use Rattle.std.proofs.Common.{sym, ap, ◌∙◌}
 use Rattle.jp_doc.specs.Location.{node}
-use Rattle.jp_part.specs.Part.{part_value}
+use Rattle.jp_node.specs.Part.{part_value}
 use Rattle.jp_eval.specs.inner.Walk.{done}
 use Rattle.jp_eval.proofs.WorkItems.{at_and_below}
 use Rattle.jp_eval.proofs.work_items.work_items.Goals as goal

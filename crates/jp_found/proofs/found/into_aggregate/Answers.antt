@@ -1,7 +1,7 @@
 use Rattle.std.proofs.Common.{sym, ap, ◌∙◌, map, option_map}
 use Rattle.jp_found.specs.Kept.{kept}
 use Rattle.jp_found.specs.Ways.{way_location}
-use Rattle.jp_part.specs.Part.{part_value}
+use Rattle.jp_node.specs.Part.{part_value}
 use Rattle.jp_found.proofs.Telling.{first_tells, count_tells, only_tells, located_tells}
 use Rattle.jp_found.proofs.found.into_aggregate.Goals as goal
 

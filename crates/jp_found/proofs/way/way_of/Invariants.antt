@@ -1,5 +1,5 @@
 use Rattle.std.proofs.Common.{◌≡◌, take, map}
-use Rattle.jp_path_stack.specs.Links.{link_steps}
+use Rattle.jp_node.specs.Links.{link_steps}
 use Rattle.jp_found.specs.Ways.{stop_step}
 use Rattle.jp_found.proofs.way.way_of.Given as goal
 

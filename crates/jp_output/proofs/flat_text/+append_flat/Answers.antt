@@ -1,6 +1,6 @@
 use Rattle.std.proofs.Common.{◌≡◌, [], ◌∷◌, ◌+◌, drop, arith}
 use Rattle.std.proofs.lemmas.Grind.{common_steps}
-use Rattle.jp_path_stack.proofs.Extending.{extends_on}
+use Rattle.jp_node.proofs.Extending.{extends_on}
 use Rattle.jp_output.proofs.FlatTexts.{next_listed, left_height, array_written, object_written}
 use Rattle.jp_flat.specs.Value.{items_value}
 use Rattle.jp_output.proofs.flat_text.+append_flat.Goals as goal

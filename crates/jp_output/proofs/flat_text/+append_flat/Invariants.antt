@@ -3,7 +3,7 @@ use Rattle.jp_doc.specs.Height.{height}
 use Rattle.jp_doc.specs.Json.{object}
 use Rattle.jp_flat.specs.Gathered.{gathered}
 use Rattle.jp_flat.specs.Value.{flat_value, items_value, items_left, members_value}
-use Rattle.jp_path_stack.specs.Appended.{Extends}
+use Rattle.jp_node.specs.Appended.{Extends}
 use Rattle.jp_output.proofs.FlatTexts.{items_rest, members_rest}
 use Rattle.jp_output.proofs.flat_text.+append_flat.Given as goal
 

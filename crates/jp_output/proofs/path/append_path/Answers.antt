@@ -1,8 +1,8 @@
 use Rattle.std.proofs.Common.{arith}
 use Rattle.std.proofs.lemmas.Grind.{common_steps}
-use Rattle.jp_path_stack.proofs.Extending.{extends_on}
+use Rattle.jp_node.proofs.Extending.{extends_on}
 use Rattle.jp_output.proofs.PathBytes.{next_step}
-use Rattle.jp_path_stack.proofs.PathBytes.{dollar_text}
+use Rattle.jp_node.proofs.PathBytes.{dollar_text}
 use Rattle.jp_output.proofs.path.append_path.Goals as goal
 
 pub loop-step-preserved : goal.loop-step-preserved

@@ -1,6 +1,6 @@
 use Rattle.std.proofs.Common.{◌≡◌, ◌++◌, drop}
 use Rattle.std.specs.Str.{IsUtf8}
-use Rattle.jp_path_stack.specs.Appended.{Extends}
+use Rattle.jp_node.specs.Appended.{Extends}
 use Rattle.jp_output.proofs.PathBytes.{steps_bytes}
 use Rattle.jp_output.proofs.path.append_path.Given as goal
 

@@ -1,7 +1,7 @@
 use Rattle.std.proofs.Common.{◌∙◌, sym, subst, ap}
 use Rattle.std.specs.Str.{IsUtf8}
 use Rattle.std.proofs.lemmas.Str.{IsUtf8-nil, IsUtf8-string_bytes}
-use Rattle.jp_path_stack.proofs.PathBytes.{path_chars}
+use Rattle.jp_node.proofs.PathBytes.{path_chars}
 use Rattle.jp_output.proofs.path.write_path.Goals as goal
 
 pub unreachable-requires : goal.unreachable-requires

@@ -3,7 +3,7 @@ use Rattle.std.proofs.lemmas.Result.{on_ok_weaker}
 use Rattle.jp_output.specs.OutputLine.{value_text}
 use Rattle.jp_output.proofs.Texts.{number_written}
 use Rattle.jp_output.proofs.tree_text.append_tree.Goals as goal
-use Rattle.jp_part.proofs.Trees.{null_value, bool_value}
+use Rattle.jp_node.proofs.Trees.{null_value, bool_value}
 
 pub returns-in-Null-clause-ok : goal.returns-in-Null-clause-ok
 returns-in-Null-clause-ok c =

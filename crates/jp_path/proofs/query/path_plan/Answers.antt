@@ -1,5 +1,5 @@
 use Rattle.jp_doc.specs.Location.{location_of}
-use Rattle.jp_path_stack.specs.Path.{path_text}
+use Rattle.jp_node.specs.Path.{path_text}
 use Rattle.jp_path.proofs.OfPath.{planned_only}
 use Rattle.jp_path.proofs.query.path_plan.Goals as goal
 

@@ -4,8 +4,8 @@ use Rattle.jp_doc.specs.Document.{document_value}
 use Rattle.jp_doc.specs.Location.{location_of}
 use Rattle.jp_check.specs.Plan.{planned_query}
 use Rattle.jp_eval.specs.Nodelist.{document_nodes}
-use Rattle.jp_nodes.specs.Taken.{put_location}
-use Rattle.jp_nodes.proofs.Taking.{locations_fold}
+use Rattle.jp_node.specs.Taken.{put_location}
+use Rattle.jp_node.proofs.Taking.{locations_fold}
 use Rattle.jp_select.proofs.evaluation.evaluate.Goals as goal
 
 pub returns : goal.returns

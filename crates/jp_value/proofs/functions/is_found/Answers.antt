@@ -4,8 +4,8 @@ use Rattle.std.specs.Arc.{arc_value}
 use Rattle.std.specs.Str.{chars}
 use Rattle.std.proofs.lemmas.Result.{IfOk-weaker}
 use Rattle.jp_tree.specs.View.{text_of}
-use Rattle.jp_regexp.specs.Held.{IsRead, pattern_of}
-use Rattle.jp_regexp.specs.Profile.{IsPatternOf}
+use Rattle.jp_automaton.specs.Held.{IsRead, pattern_of}
+use Rattle.jp_pattern.specs.Profile.{IsPatternOf}
 use Rattle.jp_compiled.proofs.PatternSets.{read_had}
 use Rattle.jp_value.proofs.Answering.{finding, finding_none}
 use Rattle.jp_value.proofs.functions.is_found.Goals as goal

@@ -4,8 +4,8 @@ use Rattle.std.specs.Arc.{arc_value}
 use Rattle.std.specs.Str.{chars, bytes_eq}
 use Rattle.std.proofs.lemmas.List.{length-map}
 use borrow.Author.Count.{below_more}
-use Rattle.jp_regexp.specs.Held.{IsRead, pattern_of}
-use Rattle.jp_regexp.specs.Profile.{IsPatternOf}
+use Rattle.jp_automaton.specs.Held.{IsRead, pattern_of}
+use Rattle.jp_pattern.specs.Profile.{IsPatternOf}
 use Rattle.jp_tree.specs.View.{text_of}
 use Rattle.jp_compiled.specs.declared.known.KnownPattern.{KnownPattern}
 use Rattle.jp_check.proofs.KnownLemmas.{known_contains, known_is_other, known_read}

@@ -2,7 +2,7 @@ use Rattle.std.proofs.Common.{◌≡◌, ◌<◌, ◌≤◌, length, get_or, tru
 use Rattle.jp_tree.specs.Tree.{query, no_segments}
 use Rattle.jp_tree.specs.declared.tree.Start.TheVariants as start
 use Rattle.jp_compiled.specs.Parts.{roots_of, wanted, where_wanted}
-use Rattle.jp_part.specs.Part.{part_value}
+use Rattle.jp_node.specs.Part.{part_value}
 use Rattle.jp_eval.proofs.Answered.{answer_at, none_at, result_where, none_where, where_none}
 use Rattle.jp_eval.proofs.context.Context.answered.Goals as goal
 

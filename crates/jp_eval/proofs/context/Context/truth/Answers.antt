@@ -1,7 +1,7 @@
 use Rattle.std.proofs.Common.{◌≡◌, ◌<◌, ◌≤◌, length, get_or, rules, sym, ap, arith}
 use Rattle.jp_tree.specs.Tree as tree
 use Rattle.jp_compiled.specs.Parts.{roots_of, truth_of, tested_in}
-use Rattle.jp_part.specs.Part.{part_value}
+use Rattle.jp_node.specs.Part.{part_value}
 use Rattle.jp_value.specs.RightTests.{tests}
 use Rattle.jp_eval.specs.Nodelist.{holds}
 use Rattle.jp_eval.proofs.Answered.{as_many, none_at, truth_at}

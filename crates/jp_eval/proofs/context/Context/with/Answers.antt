@@ -2,7 +2,7 @@ use Rattle.std.proofs.Common.{[], ap, ap₂, ◌∙◌}
 use Rattle.jp_compiled.specs.Parts.{roots_of, wanted_in}
 use Rattle.jp_compiled.proofs.RootsListed.{listed_more}
 use Rattle.jp_eval.specs.inner.Rooted.{are_answers}
-use Rattle.jp_part.specs.Part.{part_value}
+use Rattle.jp_node.specs.Part.{part_value}
 use Rattle.jp_eval.proofs.Answered.{one_more}
 use Rattle.jp_eval.proofs.context.Context.with.Goals as goal
 

@@ -1,8 +1,8 @@
 use Rattle.std.proofs.Common.{◌≡◌, true, sym, ap, ◌∙◌}
 use Rattle.std.specs.List.{fold}
 use Rattle.jp_compiled.specs.Parts.{roots_of, segments_in}
-use Rattle.jp_part.specs.Part.{part_value}
-use Rattle.jp_path_stack.specs.Links.{link_steps}
+use Rattle.jp_node.specs.Part.{part_value}
+use Rattle.jp_node.specs.Links.{link_steps}
 use Rattle.jp_eval.specs.Nodelist.{document_nodes}
 use Rattle.jp_eval.specs.inner.Routes.{is_route, is_routed}
 use Rattle.jp_eval.proofs.RouteSteps.{along_route}

@@ -1,7 +1,7 @@
 use Rattle.std.proofs.Common.{sym, ap, ap₂, ◌∙◌}
 use Rattle.std.specs.List.{fold}
 use Rattle.jp_compiled.specs.Parts.{roots_of}
-use Rattle.jp_part.specs.Part.{part_value}
+use Rattle.jp_node.specs.Part.{part_value}
 use Rattle.jp_eval.specs.Nodelist.{document_nodes}
 use Rattle.jp_eval.specs.inner.Base.{base_of}
 use Rattle.jp_eval.proofs.Answering.{from_taken, visited}

@@ -2,8 +2,8 @@ use Rattle.std.proofs.Common.{◌++◌, [], append_assoc, append-nil, sym, ap, �
 use Rattle.std.proofs.lemmas.List.{nil_from_length}
 use Rattle.std.specs.List.{flat_map}
 use Rattle.jp_doc.specs.Location.{node}
-use Rattle.jp_nodes.specs.ChildNodes.{child_nodes}
-use Rattle.jp_part.specs.Part.{part_value}
+use Rattle.jp_node.specs.ChildNodes.{child_nodes}
+use Rattle.jp_node.specs.Part.{part_value}
 use Rattle.jp_eval.specs.inner.Along.{done_below}
 use Rattle.jp_eval.specs.inner.Walk.{done, picked_by, reached}
 use Rattle.jp_eval.specs.declared.walk.Task.TheVariants.{Descend}

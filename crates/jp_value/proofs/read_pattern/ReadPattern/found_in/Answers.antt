@@ -1,7 +1,7 @@
 use Rattle.std.proofs.Common.{subst}
 use Rattle.std.specs.Str.{chars}
 use Rattle.std.proofs.lemmas.Result.{IfOk-weaker}
-use Rattle.jp_regexp.specs.Held.{IsRead, pattern_of}
+use Rattle.jp_automaton.specs.Held.{IsRead, pattern_of}
 use Rattle.jp_compiled.proofs.PatternSets.{read_had}
 use Rattle.jp_value.proofs.Answering.{finding, finding_none}
 use Rattle.jp_value.proofs.read_pattern.ReadPattern.found_in.Goals as goal
