@@ -10,7 +10,7 @@ use std::sync::Wait;
 
 /// What is open.
 #[derive(Drop)]
-enum Opened<'r, W, I, F> {
+enum OpenInput<'r, W, I, F> {
     /// Nothing: it could not be opened, and why.
     Nothing(io::Error),
     /// Standard input, read by whoever asks.
@@ -20,13 +20,13 @@ enum Opened<'r, W, I, F> {
     File(F),
 }
 
-impl<W: Wait, I: Read, F: Read> Read for Opened<'_, W, I, F> {
+impl<W: Wait, I: Read, F: Read> Read for OpenInput<'_, W, I, F> {
     fn read(&mut self, buf: &mut [u8]) -> io::Result<usize> {
         match self {
-            Opened::Nothing(error) => Err(*error),
-            Opened::Input(reader) => reader.read(buf),
-            Opened::Beside(reader) => reader.read(buf),
-            Opened::File(file) => file.read(buf),
+            OpenInput::Nothing(error) => Err(*error),
+            OpenInput::Input(reader) => reader.read(buf),
+            OpenInput::Beside(reader) => reader.read(buf),
+            OpenInput::File(file) => file.read(buf),
         }
     }
 }
@@ -34,7 +34,7 @@ impl<W: Wait, I: Read, F: Read> Read for Opened<'_, W, I, F> {
 /// A source over an input of the system. Nothing is known of its bytes.
 #[derive(Drop)]
 pub struct SystemSource<'r, R: Files + Input> {
-    opened: Opened<'r, R, R::Reader, R::File>,
+    opened: OpenInput<'r, R, R::Reader, R::File>,
     /// Whether no read waits.
     never_waits: bool,
     /// Why it could not be opened, or why the last read that failed did.
@@ -52,7 +52,7 @@ impl<'r, R: Files + Input + Wait> SystemSource<'r, R> {
         ensures ungiven { ⟦<SystemSource<'r, R> as Supply>⟧.given result ≡ 0 }
         ensures working { ⟦<SystemSource<'r, R> as Supply>⟧.failed result ≡ false }
     {
-        SystemSource::over(Opened::Input(reader), never_waits)
+        SystemSource::over(OpenInput::Input(reader), never_waits)
     }
 
     /// Standard input that is read by a thread beside, from which nothing was read.
@@ -61,7 +61,7 @@ impl<'r, R: Files + Input + Wait> SystemSource<'r, R> {
         ensures ungiven { ⟦<SystemSource<'r, R> as Supply>⟧.given result ≡ 0 }
         ensures working { ⟦<SystemSource<'r, R> as Supply>⟧.failed result ≡ false }
     {
-        SystemSource::over(Opened::Beside(reader), false)
+        SystemSource::over(OpenInput::Beside(reader), false)
     }
 
     /// A file, from which nothing was read.
@@ -70,7 +70,7 @@ impl<'r, R: Files + Input + Wait> SystemSource<'r, R> {
         ensures ungiven { ⟦<SystemSource<'r, R> as Supply>⟧.given result ≡ 0 }
         ensures working { ⟦<SystemSource<'r, R> as Supply>⟧.failed result ≡ false }
     {
-        SystemSource::over(Opened::File(file), never_waits)
+        SystemSource::over(OpenInput::File(file), never_waits)
     }
 
     /// What could not be opened, and why. It has failed before its first read.
@@ -79,14 +79,14 @@ impl<'r, R: Files + Input + Wait> SystemSource<'r, R> {
         ensures ungiven { ⟦<SystemSource<'r, R> as Supply>⟧.given result ≡ 0 }
         ensures failed { ⟦<SystemSource<'r, R> as Supply>⟧.failed result ≡ true }
     {
-        let mut source = SystemSource::over(Opened::Nothing(reason), false);
+        let mut source = SystemSource::over(OpenInput::Nothing(reason), false);
         source.reason = Some(reason);
         source.failed = true;
         source
     }
 
     /// What is open, from which nothing was read.
-    fn over(opened: Opened<'r, R, R::Reader, R::File>, never_waits: bool) -> SystemSource<'r, R>
+    fn over(opened: OpenInput<'r, R, R::Reader, R::File>, never_waits: bool) -> SystemSource<'r, R>
         ensures unread { ⟦<SystemSource<'r, R> as Supply>⟧.reads result ≡ 0 }
         ensures ungiven { ⟦<SystemSource<'r, R> as Supply>⟧.given result ≡ 0 }
         ensures working { ⟦<SystemSource<'r, R> as Supply>⟧.failed result ≡ false }
@@ -123,7 +123,7 @@ impl<R: Files + Input + Wait> Supply for SystemSource<'_, R> {
 
     fn is_ready(&mut self) -> bool {
         self.told_ready = match &mut self.opened {
-            Opened::Beside(reader) => reader.is_ready(),
+            OpenInput::Beside(reader) => reader.is_ready(),
             _ => self.never_waits,
         };
         self.told_ready

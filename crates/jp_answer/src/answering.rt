@@ -24,7 +24,7 @@ use crate::crew::Crew;
 use crate::filtered::FilteredEvaluator;
 use crate::on_fault::OnFault;
 use crate::outcome::{DocStop, Outcome};
-use crate::walking::{Walk, walk_of};
+use crate::walking::{Walking, walk_of};
 use jp_buffer::LineRef;
 use jp_doc::{DocFault, Document};
 use jp_flat::FlatReader;
@@ -286,7 +286,7 @@ fn add_nodes<R: Threads + Sync, G, F: Form + Drop + Send>(
     crew: &Crew<R, G>,
     evaluator: &mut FilteredEvaluator<'_>,
     line: &LineRef<'_>,
-    walked: (Part<'_>, Walk),
+    walked: (Part<'_>, Walking),
     written: &mut F,
 ) -> Result<(), AllocError>
     ensures lines { OnOk result ((t : Tests) → AreRight t → F.written written.new

@@ -9,9 +9,9 @@ ghost use Rattle.jp_answer.specs.FilteredQuery.{is_chosen, selected_nodes};
 
 use crate::asked::Asked;
 use crate::crew::Crew;
-use crate::walking::Walk;
-use jp_eval::{DocumentFilter, EvalFault, Evaluator, OpenFork, Visit};
-use jp_node::Part;
+use crate::walking::Walking;
+use jp_eval::{DocumentFilter, EvalFault, Evaluator, OpenFork};
+use jp_node::{Part, Visit};
 use std::alloc::Global;
 use std::thread::Threads;
 
@@ -52,7 +52,7 @@ impl<'q> FilteredEvaluator<'q> {
     pub(crate) fn visit<R: Threads + Sync, G, V: Visit + Drop + Send>(
         &mut self,
         crew: &Crew<R, G>,
-        walked: (Part<'_>, Walk),
+        walked: (Part<'_>, Walking),
         visitor: &mut V,
     ) -> Result<(), EvalFault>
         ensures nodes { OnOk result ((t : Tests) → AreRight t
@@ -65,10 +65,10 @@ impl<'q> FilteredEvaluator<'q> {
             return Ok(());
         }
         match walk {
-            Walk::ByHalves(cuts) => self
+            Walking::ByHalves(cuts) => self
                 .evaluator
                 .visit_part_split(crew.rt, root, cuts, &OpenFork, visitor),
-            Walk::Straight => self.evaluator.visit_part(root, visitor),
+            Walking::Straight => self.evaluator.visit_part(root, visitor),
         }
     }
 }

@@ -7,7 +7,7 @@ use jp_eval::Cuts;
 
 /// How a document is walked.
 #[derive(Clone, Copy, Drop)]
-pub(crate) enum Walk {
+pub(crate) enum Walking {
     /// By one thread.
     Straight,
     /// A long list in it is cut so into halves that are walked at once.
@@ -16,11 +16,11 @@ pub(crate) enum Walk {
 
 /// How the document of a line is walked: by no more threads than there are workers, or the next power of two.
 /// A short line holds no list that is worth two.
-pub(crate) fn walk_of(asked: &Asked<'_>, line: &LineRef<'_>) -> Walk {
+pub(crate) fn walk_of(asked: &Asked<'_>, line: &LineRef<'_>) -> Walking {
     // One worker starts no thread, so it walks straight (README, Why so).
     if asked.workers > 1 && line.bytes.len() >= SPLIT_BYTES {
-        Walk::ByHalves(Cuts::new(SPLIT_FLOOR, asked.workers))
+        Walking::ByHalves(Cuts::new(SPLIT_FLOOR, asked.workers))
     } else {
-        Walk::Straight
+        Walking::Straight
     }
 }

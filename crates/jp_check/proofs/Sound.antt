@@ -5,7 +5,7 @@ use Rattle.std.proofs.Common.{subst, arith}
 use Rattle.std.specs.List.{list_all}
 use Rattle.std.proofs.lemmas.List.Folds.{list_all-append}
 use Rattle.jp_types.specs.Numbers.{Written, arguments_numbers}
-use Rattle.jp_types.specs.Functions.{Kind, value_type, nodes_type, Function, result_type}
+use Rattle.jp_types.specs.Functions.{FunctionType, value_type, nodes_type, Function, result_type}
 use Rattle.jp_types.specs.Functions.{length_function, count_function, match_function, search_function}
 use Rattle.jp_types.specs.Functions.{value_function, xor_function, distinct_function, parameters}
 use Rattle.jp_types.specs.Typing.{serves_as, fits, all_fit, fits_parameters, arguments_typed}
@@ -62,7 +62,7 @@ argument_sound xs i a within is h =
     (λ y. argument_typed (argument_of y)) (λ y ys. refl) (λ y ys. refl) xs i a within is h
 
 -- as many arguments as parameters, and each fits
-pub one_fits : (k : Kind) (xs : List Argument) → all_fit (k ∷ []) (arguments (arguments_of xs)) ≡ true
+pub one_fits : (k : FunctionType) (xs : List Argument) → all_fit (k ∷ []) (arguments (arguments_of xs)) ≡ true
     → length xs ≡ 1
 one_fits k [] h = absurd cc
 one_fits k (x ∷ []) h = refl
@@ -71,19 +71,22 @@ one_fits k (x ∷ y ∷ xs) h = absurd (false_true (both (fits k (argument_of x)
     false_true : false ≡ true → ⊥
     false_true e = cc
 
-pub two_fit : (j k : Kind) (xs : List Argument) → all_fit (j ∷ k ∷ []) (arguments (arguments_of xs)) ≡ true
+pub two_fit : (j k : FunctionType) (xs : List Argument)
+    → all_fit (j ∷ k ∷ []) (arguments (arguments_of xs)) ≡ true
     → length xs ≡ 2
 two_fit j k [] h = absurd cc
 two_fit j k (x ∷ xs) h = ap suc (one_fits k xs (both (fits j (argument_of x)) _ h).1)
 
-pub first_fits : (k : Kind) (ks : List Kind) (xs : List Argument) (a : Argument) → 0 < length xs
+pub first_fits : (k : FunctionType) (ks : List FunctionType) (xs : List Argument) (a : Argument)
+    → 0 < length xs
     → a ≡ get_or xs 0 a → all_fit (k ∷ ks) (arguments (arguments_of xs)) ≡ true
     → fits k (argument_of a) ≡ true
 first_fits k ks [] a within is h = absurd (omega arith)
 first_fits k ks (x ∷ xs) a within is h =
     ap (λ y. fits k (argument_of y)) is ∙ (both (fits k (argument_of x)) _ h).0
 
-pub second_fits : (j k : Kind) (ks : List Kind) (xs : List Argument) (a : Argument) → 1 < length xs
+pub second_fits : (j k : FunctionType) (ks : List FunctionType) (xs : List Argument) (a : Argument)
+    → 1 < length xs
     → a ≡ get_or xs 1 a → all_fit (j ∷ k ∷ ks) (arguments (arguments_of xs)) ≡ true
     → fits k (argument_of a) ≡ true
 second_fits j k ks [] a within is h = absurd (omega arith)

@@ -14,8 +14,8 @@ use Rattle.jp_compiled.specs.Uniform.{is_uniform, all_uniform, side_uniform, arg
 use Rattle.jp_compiled.specs.Uniform.{wanted_uniform, are_uniform}
 use Rattle.jp_compiled.specs.declared.known.KnownPattern.{KnownPattern}
 use Rattle.jp_compiled.specs.declared.query.Constant.{Constant}
-use Rattle.jp_compiled.specs.declared.query.Form.{Form}
-use Rattle.jp_compiled.specs.declared.query.Form.TheVariants.{Bare, Expression}
+use Rattle.jp_compiled.specs.declared.query.ArgumentForm.{ArgumentForm}
+use Rattle.jp_compiled.specs.declared.query.ArgumentForm.TheVariants.{Bare, Expression}
 use Rattle.jp_compiled.specs.declared.query.Logical.{Logical}
 use Rattle.jp_compiled.specs.declared.query.Logical.TheVariants as log
 use Rattle.jp_compiled.specs.declared.query.Nodes.{Nodes}
@@ -44,7 +44,7 @@ as_side (tree.literal x) h = h
 as_side (tree.single q) h = h
 as_side (tree.value_call c) h = h
 
-as_truth : (f : Form) (l : tree.Logical) → is_uniform l ≡ true
+as_truth : (f : ArgumentForm) (l : tree.Logical) → is_uniform l ≡ true
     → argument_uniform (truth_argument f l) ≡ true
 as_truth Bare (tree.any ls) h = h
 as_truth Bare (tree.all ls) h = h
@@ -131,7 +131,7 @@ search_known_uniform v k left = record {
   asks = λ all on. ap is_uniform (search_known all v k) ∙ of_two _ _ (left.asks all) refl;
 }
 
-pub xor_uniform : (f : Form) (l : Box Logical Global) (g : Form) (m : Box Logical Global)
+pub xor_uniform : (f : ArgumentForm) (l : Box Logical Global) (g : ArgumentForm) (m : Box Logical Global)
     → IsUniform l.value → IsUniform m.value → IsUniform (log.Xor f l g m)
 xor_uniform f l g m left right = record {
   asks = λ all on. ap is_uniform (xor_read all f l g m)

@@ -12,7 +12,7 @@ ghost use Rattle.jp_check.specs.Verdict.{IsAcceptedIn};
 use crate::known::Known;
 use jp_compiled::{KnownPattern, Query as CompiledQuery};
 use jp_number::Numbers;
-use jp_syntax::Query;
+use jp_tree::Query;
 
 /// A query that is well-formed, valid and well-typed (RFC 9535, 2.1).
 #[derive(Drop)]

@@ -14,7 +14,8 @@ ghost use Rattle.jp_check.specs.Plan.{planned_query, planned_numbers};
 use crate::accepted::Plan;
 use crate::making::make_query;
 use jp_number::Numbers;
-use jp_syntax::{Query, QueryFault, read_query};
+use jp_syntax::read_query;
+use jp_tree::{Query, QueryFault};
 use jp_types::{Faults, query_faults};
 use std::alloc::Global;
 

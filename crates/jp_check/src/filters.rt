@@ -9,7 +9,7 @@ ghost use Rattle.jp_check.specs.PlannedFilter.{planned_filter, filter_numbers};
 use crate::checking::plan_in;
 use crate::filter_plan::FilterPlan;
 use jp_number::Numbers;
-use jp_syntax::QueryFault;
+use jp_tree::QueryFault;
 use std::alloc::{AllocError, Global};
 
 /// The query text with this filter: `$[?FILTER]`.

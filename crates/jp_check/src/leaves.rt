@@ -10,7 +10,7 @@ ghost use Rattle.jp_check.specs.inner.Making.{is_readable};
 ghost use Rattle.jp_compiled.specs.Parts as compiled;
 
 use jp_compiled::{Constant, Position, Slice, WholeNumber, WrittenNumber};
-use jp_syntax::Literal;
+use jp_tree::Literal;
 use jp_types::{is_whole, position, whole_number};
 use std::alloc::{AllocError, Global};
 
@@ -39,7 +39,7 @@ fn make_part(alloc: Global, part: &Option<String>) -> Result<Option<Position>, A
 }
 
 /// The numbers of a slice.
-pub(crate) fn make_slice(alloc: Global, slice: &jp_syntax::Slice) -> Result<Slice, AllocError>
+pub(crate) fn make_slice(alloc: Global, slice: &jp_tree::Slice) -> Result<Slice, AllocError>
     requires { list_all is_readable (numbers.selector_numbers (slice_of slice.now)) ≡ true }
     ensures { IfOk result (λ s. compiled.slice_of s ≡ slice_of slice.now) }
 {

@@ -18,5 +18,4 @@ pub use accepted::Plan;
 pub use checking::{check, plan, plan_in};
 pub use filter_plan::FilterPlan;
 pub use filters::{filter_in, filter_query_text};
-pub use jp_types::{Function, function_named};
 pub use known::Known;

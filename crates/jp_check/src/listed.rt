@@ -7,7 +7,7 @@ ghost use Rattle.jp_tree.specs.View.{text_of};
 ghost use Rattle.jp_tree.specs.declared.tree.Start.TheVariants as start;
 ghost use Rattle.jp_compiled.specs.Parts.{Wanted, roots_of, root_at, segments_in, logical_in};
 ghost use Rattle.jp_compiled.specs.Parts.{truth_argument};
-ghost use Rattle.jp_compiled.specs.declared.query.Form.{Form};
+ghost use Rattle.jp_compiled.specs.declared.query.ArgumentForm.{ArgumentForm};
 ghost use Rattle.jp_compiled.specs.Uniform.{are_uniform as all_ask_nothing};
 
 use crate::patterns::read_pattern;
@@ -119,7 +119,7 @@ impl Listed {
         test: Box<Logical>,
         other: &Logical,
     ) -> Result<Box<Logical>, AllocError>
-        ensures made { IfOk result (λ l. (f : Form) → ReadsOn self.old self.new
+        ensures made { IfOk result (λ l. (f : ArgumentForm) → ReadsOn self.old self.new
             (λ all. truth_argument f (logical_in all test.value))
             (λ all. truth_argument f (logical_in all l.value))) }
         ensures roots { OnOk result (KeepsRoots self.old self.new) }

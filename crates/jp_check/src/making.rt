@@ -21,15 +21,17 @@ ghost use Rattle.jp_check.specs.inner.Making.{KeepsRoots, ReadsWith, AddsPattern
 use crate::leaves::{make_constant, make_position, make_slice};
 use crate::listed::Listed;
 use crate::patterns::literal_text;
-use jp_compiled::{Form, KnownPattern, Logical, Nodes, Query, Segment, Selector, Value, Want};
-use jp_syntax::{Argument, Call, Comparable, Comparison, Start};
+use jp_compiled::{
+    ArgumentForm, KnownPattern, Logical, Nodes, Query, Segment, Selector, Value, Want,
+};
+use jp_tree::{Argument, Call, Comparable, Comparison, Start};
 use jp_types::{Function, function_named};
 use std::alloc::{AllocError, Global};
 
 /// A compiled query, and its literal patterns.
 pub(crate) fn make_query(
     alloc: Global,
-    query: &jp_syntax::Query,
+    query: &jp_tree::Query,
 ) -> Result<(Query, Vec<KnownPattern>), AllocError>
     requires { IsSound (numbers.query_numbers (query_of query.now))
         (typing.query_typed (query_of query.now)) }
@@ -55,7 +57,7 @@ pub(crate) fn make_query(
 #[cycle(making)]
 fn make_segments(
     alloc: Global,
-    segments: &[jp_syntax::Segment],
+    segments: &[jp_tree::Segment],
     listed: &mut Listed,
 ) -> Result<Vec<Segment>, AllocError>
     requires sound { IsSound (numbers.segments_numbers (tree.segments (view.segments_of segments.now)))
@@ -79,7 +81,7 @@ fn make_segments(
 #[cycle(making)]
 fn make_selectors(
     alloc: Global,
-    selectors: &[jp_syntax::Selector],
+    selectors: &[jp_tree::Selector],
     listed: &mut Listed,
 ) -> Result<Vec<Selector>, AllocError>
     requires sound { IsSound (numbers.selectors_numbers (tree.selectors (view.selectors_of selectors.now)))
@@ -101,7 +103,7 @@ fn make_selectors(
 #[cycle(making)]
 fn make_selector(
     alloc: Global,
-    selector: &jp_syntax::Selector,
+    selector: &jp_tree::Selector,
     listed: &mut Listed,
 ) -> Result<Selector, AllocError>
     requires sound { IsSound (numbers.selector_numbers (view.selector_of selector.now))
@@ -113,15 +115,15 @@ fn make_selector(
         (literal.selector_patterns (view.selector_of selector.now))) }
 {
     match selector {
-        jp_syntax::Selector::Name(name) => {
+        jp_tree::Selector::Name(name) => {
             Ok(Selector::Name(String::from_str(alloc, name.as_str())?))
         }
-        jp_syntax::Selector::Wild => Ok(Selector::Wild),
-        jp_syntax::Selector::Index(text) => {
+        jp_tree::Selector::Wild => Ok(Selector::Wild),
+        jp_tree::Selector::Index(text) => {
             Ok(Selector::Index(make_position(alloc, text.as_str())?))
         }
-        jp_syntax::Selector::Slice(slice) => Ok(Selector::Slice(make_slice(alloc, slice)?)),
-        jp_syntax::Selector::Filter(logical) => {
+        jp_tree::Selector::Slice(slice) => Ok(Selector::Slice(make_slice(alloc, slice)?)),
+        jp_tree::Selector::Filter(logical) => {
             let test = make_logical(alloc, logical, listed)?;
             // What asks nothing of `@` is answered once a document, and not at each child.
             Ok(Selector::Filter(listed.once(test)?))
@@ -132,7 +134,7 @@ fn make_selector(
 #[cycle(making)]
 fn make_logical(
     alloc: Global,
-    logical: &jp_syntax::Logical,
+    logical: &jp_tree::Logical,
     listed: &mut Listed,
 ) -> Result<Logical, AllocError>
     requires sound { IsSound (numbers.logical_numbers (view.logical_of logical.now))
@@ -144,20 +146,20 @@ fn make_logical(
         (literal.logical_patterns (view.logical_of logical.now))) }
 {
     match logical {
-        jp_syntax::Logical::Any(parts) => {
+        jp_tree::Logical::Any(parts) => {
             let made = make_parts(alloc, parts, listed)?;
             Ok(Logical::Any(listed.apart(alloc, made)?))
         }
-        jp_syntax::Logical::All(parts) => {
+        jp_tree::Logical::All(parts) => {
             let made = make_parts(alloc, parts, listed)?;
             Ok(Logical::All(listed.apart(alloc, made)?))
         }
-        jp_syntax::Logical::Not(part) => make_negation(alloc, part, listed),
-        jp_syntax::Logical::Compare(comparison) => make_comparison(alloc, comparison, listed),
-        jp_syntax::Logical::Test(query) => {
+        jp_tree::Logical::Not(part) => make_negation(alloc, part, listed),
+        jp_tree::Logical::Compare(comparison) => make_comparison(alloc, comparison, listed),
+        jp_tree::Logical::Test(query) => {
             Ok(Logical::Test(make_nodes(alloc, Want::First, query, listed)?))
         }
-        jp_syntax::Logical::Call(call) => make_test_call(alloc, call, listed),
+        jp_tree::Logical::Call(call) => make_test_call(alloc, call, listed),
     }
 }
 
@@ -166,7 +168,7 @@ fn make_logical(
 #[inline(never)]
 fn make_negation(
     alloc: Global,
-    part: &jp_syntax::Logical,
+    part: &jp_tree::Logical,
     listed: &mut Listed,
 ) -> Result<Logical, AllocError>
     requires sound { IsSound (numbers.logical_numbers (view.logical_of part.now))
@@ -206,7 +208,7 @@ fn make_comparison(
 #[cycle(making)]
 fn make_parts(
     alloc: Global,
-    parts: &[jp_syntax::Logical],
+    parts: &[jp_tree::Logical],
     listed: &mut Listed,
 ) -> Result<Vec<Logical>, AllocError>
     requires sound { IsSound (numbers.logicals_numbers (tree.logicals (view.logicals_of parts.now)))
@@ -230,7 +232,7 @@ fn make_parts(
 fn make_nodes(
     alloc: Global,
     want: Want,
-    query: &jp_syntax::Query,
+    query: &jp_tree::Query,
     listed: &mut Listed,
 ) -> Result<Nodes, AllocError>
     requires sound { IsSound (numbers.query_numbers (query_of query.now))
@@ -439,12 +441,12 @@ fn make_xor(
 }
 
 /// How an argument that is true or false is written.
-fn form_of(argument: &Argument) -> Form
+fn form_of(argument: &Argument) -> ArgumentForm
     ensures { result ≡ compiled.form_of (view.argument_of argument.now) }
 {
     match argument {
-        Argument::Logical(_) => Form::Expression,
-        Argument::Query(_) | Argument::Call(_) | Argument::Literal(_) => Form::Bare,
+        Argument::Logical(_) => ArgumentForm::Expression,
+        Argument::Query(_) | Argument::Call(_) | Argument::Literal(_) => ArgumentForm::Bare,
     }
 }
 

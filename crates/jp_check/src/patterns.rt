@@ -8,7 +8,7 @@ ghost use Rattle.jp_check.specs.LiteralPatterns as literal;
 
 use jp_compiled::KnownPattern;
 use jp_regexp::Pattern;
-use jp_syntax::{Argument, Literal};
+use jp_tree::{Argument, Literal};
 use std::alloc::{AllocError, Global};
 use std::sync::Arc;
 

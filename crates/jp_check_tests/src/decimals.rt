@@ -4,7 +4,8 @@
 use crate::plans::{around, told_otherwise};
 use jp_check::{check, plan, plan_in};
 use jp_number::Numbers;
-use jp_syntax::{QueryFault, read_query};
+use jp_syntax::read_query;
+use jp_tree::QueryFault;
 use std::alloc::{AllocError, Global};
 use std::test::Fail;
 

@@ -3,7 +3,7 @@
 use crate::plans::around;
 use jp_check::{filter_in, filter_query_text};
 use jp_number::Numbers;
-use jp_syntax::QueryFault;
+use jp_tree::QueryFault;
 use std::alloc::{AllocError, Global};
 use std::test::Fail;
 

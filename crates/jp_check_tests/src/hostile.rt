@@ -1,7 +1,7 @@
 //! Texts that end too soon, and brackets inside a string.
 
 use crate::plans::fault_of;
-use jp_syntax::QueryFault;
+use jp_tree::QueryFault;
 use std::test::Fail;
 
 #[test]

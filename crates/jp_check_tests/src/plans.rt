@@ -3,7 +3,8 @@
 use jp_check::{Known, check, plan, plan_in};
 use jp_compiled::{RootPart, Selector, Want};
 use jp_number::Numbers;
-use jp_syntax::{QueryFault, read_query};
+use jp_syntax::read_query;
+use jp_tree::QueryFault;
 use std::alloc::{AllocError, Global};
 use std::test::Fail;
 

@@ -5,7 +5,7 @@
 
 use jp_check::{filter_in, plan, plan_in};
 use jp_number::Numbers;
-use jp_syntax::QueryFault;
+use jp_tree::QueryFault;
 use std::alloc::Global;
 
 /// A query with literal patterns, with a `$` query in a filter, and with a number of either form.

@@ -15,7 +15,7 @@ use Rattle.jp_compiled.specs.Parts.{source_test, source_side, wanted_inside}
 use Rattle.jp_compiled.specs.Parts.{selector_level, value_level, segment_level, segment_in, selector_in}
 use Rattle.jp_compiled.specs.Parts.{logical_in, value_in, nodes_in, segments_in}
 use Rattle.jp_compiled.specs.declared.known.KnownPattern.{KnownPattern}
-use Rattle.jp_compiled.specs.declared.query.Form.{Form}
+use Rattle.jp_compiled.specs.declared.query.ArgumentForm.{ArgumentForm}
 use Rattle.jp_compiled.specs.declared.query.Want.{Want}
 use Rattle.jp_compiled.specs.declared.query.Want.TheVariants as want
 use Rattle.jp_compiled.specs.declared.query.Position.{Position}
@@ -114,7 +114,7 @@ module _ (roots : List Wanted) where
       ∙ fold-roll-Logical tree.Logical (Want → Source) tree.Selector tree.Comparable tree.Segment
       (logical_level roots) (nodes_level roots) selector_level value_level segment_level _
 
-  pub xor_read : (f : Form) (l : Box Logical Global) (g : Form) (m : Box Logical Global)
+  pub xor_read : (f : ArgumentForm) (l : Box Logical Global) (g : ArgumentForm) (m : Box Logical Global)
       → logical_in roots (log.Xor f l g m)
       ≡ tree.test_call (call_of_two (codes "xor") (truth_argument f (logical_in roots l.value))
       (truth_argument g (logical_in roots m.value)))

@@ -5,8 +5,8 @@ use Rattle.jp_tree.specs.View.{text_of}
 use Rattle.jp_tree.specs.declared.tree.Start.TheVariants as start
 use Rattle.jp_compiled.specs.declared.query.Want.{Want}
 use Rattle.jp_compiled.specs.declared.query.Want.TheVariants.{First, Count, Only, Distinct}
-use Rattle.jp_compiled.specs.declared.query.Form.{Form}
-use Rattle.jp_compiled.specs.declared.query.Form.TheVariants.{Bare, Expression}
+use Rattle.jp_compiled.specs.declared.query.ArgumentForm.{ArgumentForm}
+use Rattle.jp_compiled.specs.declared.query.ArgumentForm.TheVariants.{Bare, Expression}
 use Rattle.jp_compiled.specs.declared.query.Position.{Position}
 use Rattle.jp_compiled.specs.declared.query.Slice.{Slice}
 use Rattle.jp_compiled.specs.declared.query.Constant.{Constant}
@@ -79,11 +79,11 @@ as_argument (tree.single q) = tree.query_argument q
 as_argument (tree.value_call c) = tree.call_argument c
 
 -- how an argument that is true or false is written, and what it is as it is written so
-abbrev pub form_of : tree.Argument → Form
+abbrev pub form_of : tree.Argument → ArgumentForm
 form_of (tree.logical_argument l) = Expression
 form_of _ = Bare
 
-abbrev pub truth_argument : Form → tree.Logical → tree.Argument
+abbrev pub truth_argument : ArgumentForm → tree.Logical → tree.Argument
 truth_argument Bare (tree.test q) = tree.query_argument q
 truth_argument Bare (tree.test_call c) = tree.call_argument c
 truth_argument _ l = tree.logical_argument l

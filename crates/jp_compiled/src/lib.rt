@@ -9,6 +9,6 @@ mod query;
 pub use compiled::Query;
 pub use known::KnownPattern;
 pub use query::{
-    Constant, Form, Logical, Nodes, Position, RootPart, RootQuery, Segment, Selector, Slice, Value,
-    Want, WholeNumber, WrittenNumber,
+    ArgumentForm, Constant, Logical, Nodes, Position, RootPart, RootQuery, Segment, Selector,
+    Slice, Value, Want, WholeNumber, WrittenNumber,
 };

@@ -128,7 +128,7 @@ pub enum Logical {
     /// `search` of a text and a literal pattern.
     SearchRead(Value, KnownPattern),
     /// `xor` of two arguments, each with how it is written.
-    Xor(Form, Box<Logical>, Form, Box<Logical>),
+    Xor(ArgumentForm, Box<Logical>, ArgumentForm, Box<Logical>),
     /// The expression at this place of the list, which is answered once a document.
     Once(usize),
 }
@@ -136,7 +136,7 @@ pub enum Logical {
 // `@.a` and `(@.a)` are two spellings with two trees (README, Why so).
 /// How an argument that is true or false is written.
 #[derive(Clone, Copy, Debug, PartialEq, Eq)]
-pub enum Form {
+pub enum ArgumentForm {
     /// As a query or a call by itself.
     Bare,
     /// As a logical expression, which may be a query or a call in parentheses.

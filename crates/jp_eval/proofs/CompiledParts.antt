@@ -25,8 +25,8 @@ use Rattle.jp_compiled.proofs.CompiledViews.{single_read}
 use Rattle.jp_compiled.proofs.CompiledViews.{length_read, count_read, only_read, here_read, root_read}
 use Rattle.jp_compiled.proofs.CompiledViews.{xor_read, distinct_read, once_read}
 use Rattle.jp_compiled.specs.declared.known.KnownPattern.{KnownPattern}
-use Rattle.jp_compiled.specs.declared.query.Form.{Form}
-use Rattle.jp_compiled.specs.declared.query.Form.TheVariants.{Bare, Expression}
+use Rattle.jp_compiled.specs.declared.query.ArgumentForm.{ArgumentForm}
+use Rattle.jp_compiled.specs.declared.query.ArgumentForm.TheVariants.{Bare, Expression}
 use Rattle.jp_compiled.specs.declared.query.Want.{Want}
 use Rattle.jp_compiled.specs.declared.query.Want.TheVariants.{First, Count, Only}
 use Rattle.jp_compiled.specs.declared.query.Position.{Position}
@@ -191,7 +191,7 @@ module _ (base : Base) (n : Node) where
       (handed_value_of (value_in base.roots v))
 
   -- what an argument hands over as true or false
-  handed_truth_of : (f : Form) (l : tree.Logical)
+  handed_truth_of : (f : ArgumentForm) (l : tree.Logical)
       → as_truth (spec.handed tests base.root (truth_argument f l) n) ≡ spec.holds tests base.root l n
   handed_truth_of Expression l = refl
   handed_truth_of Bare (tree.any ls) = refl
@@ -201,7 +201,7 @@ module _ (base : Base) (n : Node) where
   handed_truth_of Bare (tree.test q) = refl
   handed_truth_of Bare (tree.test_call c) = refl
 
-  pub true_xor : (f : Form) (l : Box Logical Global) (g : Form) (m : Box Logical Global)
+  pub true_xor : (f : ArgumentForm) (l : Box Logical Global) (g : ArgumentForm) (m : Box Logical Global)
       → is_true base (log.Xor f l g m) n ≡ exactly_one (is_true base l.value n) (is_true base m.value n)
   unfolding is_true
   true_xor f l g m =

@@ -1,4 +1,4 @@
--- What may be shared among threads: what a walk is given, and a task at some children.
+-- What may be shared among threads: what a walk is given, and an action at some children.
 use denote.Param.Send.{IsSend, IsSync, recorded_send, struct_send, shr_send, shr_slice_send, sendable}
 use denote.RattleType.{RattleType}
 use denote.Ref.{NamedLft, ShrRef}
@@ -37,7 +37,7 @@ use Rattle.jp_node.specs.contracts.tree.TreeMember as TreeMember
 use Rattle.jp_flat.specs.contracts.value.FlatMember as FlatMember
 use Rattle.jp_node.specs.contracts.children.Child as Child
 use Rattle.jp_node.specs.contracts.child_range.ChildRange as ChildRange
-use Rattle.jp_eval.specs.contracts.walk.Task as Task
+use Rattle.jp_eval.specs.contracts.walk.Action as Action
 use Rattle.jp_eval.specs.contracts.context.Context as Context
 use Rattle.jp_eval.specs.contracts.split.Splitting as Splitting
 use Rattle.jp_found.specs.contracts.root_answer.RootAnswer as RootAnswer
@@ -144,7 +144,7 @@ member_range_field a b = search (tree_member, flat_member, crosses, sendable) de
 pub range_sync : (a b : NamedLft) → IsSync (ChildRange.the_row a b)
 range_sync a b = search (items_field, member_range_field, child_sync, crosses, sendable) depth 60 fits 20000
 
-pub task_sync : (a : NamedLft) → IsSync (Task.the_row a)
+pub task_sync : (a : NamedLft) → IsSync (Action.the_row a)
 task_sync a = search (segment_sync, selector_sync, logical_sync, crosses, sendable) depth 60 fits 20000
 
 alone_field : (a : NamedLft) → IsSync (Alone.the_field a).row
@@ -176,10 +176,10 @@ pub splitting_sync : (a v : NamedLft) (R F : RattleType) → IsSync R → IsSync
     → IsSync (Splitting.the_row a v R F)
 splitting_sync a v R F r f = search (ground_sync, cuts.the_field_sync, crosses, sendable) depth 60 fits 20000
 
--- what a half is given: what the walk is given throughout, the task, the range, the links, a visitor
+-- what a half is given: what the walk is given throughout, the action, the range, the links, a visitor
 abbrev pub captured : (R F V : RattleType) (g ga gv t tv s sc sv l lv : NamedLft) → List RattleType
 captured R F V g ga gv t tv s sc sv l lv =
-    ShrRef g.mir g.lft (Splitting.the_row ga gv R F) ∷ ShrRef t.mir t.lft (Task.the_row tv)
+    ShrRef g.mir g.lft (Splitting.the_row ga gv R F) ∷ ShrRef t.mir t.lft (Action.the_row tv)
     ∷ ShrRef s.mir s.lft (ChildRange.the_row sc sv) ∷ ShrSlice l.mir l.lft (Link.the_row lv) ∷ V ∷ []
 
 pub captured_send : (name : Sym) (R F V : RattleType) (g ga gv t tv s sc sv l lv : NamedLft) → IsSync R

@@ -1,4 +1,4 @@
--- Tasks along the children of a value.
+-- Actions along the children of a value.
 use Rattle.std.proofs.Common.{◌≡◌, List, [], ◌∷◌, ◌++◌, Bool, sym, ap, ◌∙◌}
 use Rattle.std.specs.List.{filter, flat_map}
 use Rattle.jp_doc.specs.Location.{Node}

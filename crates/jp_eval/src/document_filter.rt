@@ -11,7 +11,7 @@ use crate::fault::EvalFault;
 use crate::roots::answer_roots;
 use crate::walk::holds;
 use jp_compiled::{Logical, Query};
-use jp_found::{Asked, asked_by};
+use jp_found::{RootUse, asked_by};
 use jp_node::{Locations, Part, PathStack};
 use std::alloc::Global;
 
@@ -22,7 +22,7 @@ pub struct DocumentFilter<'p> {
     alloc: Global,
     query: &'p Query,
     test: &'p Logical,
-    asked: Asked,
+    asked: RootUse,
 }
 
 impl<'p> DocumentFilter<'p> {

@@ -16,10 +16,10 @@ use crate::fork::{Cuts, Fork};
 use crate::roots::answer_roots;
 use crate::route::{Route, route_of, visit_along};
 use crate::split::{Splitting, go_split};
-use crate::walk::{Task, run};
+use crate::walk::{Action, run};
 use jp_compiled::Query;
 use jp_doc::Document;
-use jp_found::{Asked, Found, asked_by, visitor_of};
+use jp_found::{Found, RootUse, asked_by, visitor_of};
 use jp_node::{Part, PathStack, Scratch, Visit};
 use std::alloc::{AllocError, Global};
 use std::mem;
@@ -32,7 +32,7 @@ use std::thread::Threads;
 pub struct Evaluator<'p> {
     alloc: Global,
     query: &'p Query,
-    asked: Asked,
+    asked: RootUse,
     // The memory of a path's text and the route are all that is kept from document to document (README, Why
     // so).
     scratch: Scratch,
@@ -172,7 +172,13 @@ impl<'p> Evaluator<'p> {
             context: &context,
             cuts,
         };
-        go_split(&splitting, Task::Run(segments), root, &mut path, &mut found)?;
+        go_split(
+            &splitting,
+            Action::Run(segments),
+            root,
+            &mut path,
+            &mut found,
+        )?;
         self.scratch = path.into_scratch();
         *visitor = visitor_of(found);
         Ok(())

@@ -21,5 +21,3 @@ pub use document_filter::DocumentFilter;
 pub use evaluator::Evaluator;
 pub use fault::EvalFault;
 pub use fork::{Cuts, Fork, OpenFork};
-pub use jp_node::{Bounds, Visit, slice_bounds};
-pub use jp_value::{Operand, equal, less};

@@ -10,7 +10,7 @@ ghost use Rattle.jp_node.specs.Part.{part_value};
 use crate::context::Context;
 use crate::walk::{holds, run};
 use jp_compiled::{RootPart, RootQuery, Want};
-use jp_found::{Aggregate, Asked, RootAnswer, into_aggregate, none_found, of_one};
+use jp_found::{Aggregate, RootAnswer, RootUse, into_aggregate, none_found, of_one};
 use jp_node::{Part, PathStack, Visit};
 use std::alloc::{AllocError, Global};
 
@@ -19,7 +19,7 @@ pub(crate) fn answer_roots<'v, V: Visit + Drop>(
     alloc: Global,
     root: Part<'v>,
     roots: &'v [RootPart],
-    asked: Asked,
+    asked: RootUse,
 ) -> Result<Context<'v>, AllocError>
     requires { are_uniform (roots_of roots.now) ≡ true }
     ensures root { IfOk result (λ g. part_value g.root ≡ part_value root.entry) }
@@ -39,7 +39,7 @@ pub(crate) fn answer_roots<'v, V: Visit + Drop>(
 fn answer<'v, V: Visit + Drop>(
     context: &Context<'v>,
     part: &'v RootPart,
-    asked: Asked,
+    asked: RootUse,
 ) -> Result<(RootAnswer<'v>, bool), AllocError>
     requires { wanted_uniform (wanted_in (roots_of context.now.roots.now) part.now) ≡ true }
     ensures { IfOk result (λ a. is_answer (part_value context.now.root)
@@ -55,7 +55,7 @@ fn answer<'v, V: Visit + Drop>(
             let mut path = PathStack::new(context.alloc);
             let truth = holds::<V>(context, test, context.root, &mut path)?;
             let told = of_one(Want::First, context.root);
-            let known = RootAnswer::new(context.alloc, told, Asked::NOTHING)?;
+            let known = RootAnswer::new(context.alloc, told, RootUse::NOTHING)?;
             Ok((known, truth))
         }
     }

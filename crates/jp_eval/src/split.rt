@@ -15,7 +15,7 @@ ghost use Rattle.jp_node.specs.Links.{link_steps};
 
 use crate::context::Context;
 use crate::fork::{Cuts, Fork};
-use crate::walk::{Task, go, holds};
+use crate::walk::{Action, go, holds};
 use crate::wide::is_wide;
 use crate::work_items::{WorkItem, WorkItems, work_items};
 use jp_found::{Found, append, fresh, is_full, visitor_of};
@@ -34,27 +34,27 @@ pub(crate) struct Splitting<'a, 'v, R, F> {
     pub(crate) cuts: Cuts,
 }
 
-/// The task at the value, where a list inside of it may be cut.
+/// The action at the value, where a list inside of it may be cut.
 #[cycle(split)]
 pub(crate) fn go_split<'v, R: Threads + Sync, F: Fork + Sync, V: Visit + Drop + Send>(
     splitting: &Splitting<'_, 'v, R, F>,
-    task: Task<'v>,
+    action: Action<'v>,
     value: Part<'v>,
     path: &mut PathStack<'v>,
     found: &mut Found<'v, V>,
 ) -> Result<(), AllocError>
     requires taken { is_taken (kept V.kept found.old) ≡ true }
     ensures found { OnOk result (Finds V.kept V.put found.old found.new
-        (done (base_of splitting.now.context.now) task.entry (here path.old value.entry))) }
+        (done (base_of splitting.now.context.now) action.entry (here path.old value.entry))) }
     ensures path { OnOk result (path.new ≡ path.old) }
 {
     let context = splitting.context;
     let cuts = splitting.cuts;
     // Without a long list inside it is the other walk's, which has no threads to start (README, Why so).
     if cuts.left == 0 || !is_wide(value, cuts.floor) {
-        return go(context, task, value, path, found);
+        return go(context, action, value, path, found);
     }
-    let Some(further) = settled::<V>(context, task, value, path)? else {
+    let Some(further) = settled::<V>(context, action, value, path)? else {
         return Ok(());
     };
     match work_items(further, value) {
@@ -63,7 +63,7 @@ pub(crate) fn go_split<'v, R: Threads + Sync, F: Fork + Sync, V: Visit + Drop + 
     }
 }
 
-/// Each of these tasks along its children.
+/// Each of these actions along its children.
 #[cycle(split)]
 fn each_work_item<'v, R: Threads + Sync, F: Fork + Sync, V: Visit + Drop + Send>(
     splitting: &Splitting<'_, 'v, R, F>,
@@ -84,7 +84,7 @@ fn each_work_item<'v, R: Threads + Sync, F: Fork + Sync, V: Visit + Drop + Send>
     Ok(())
 }
 
-/// The task of a work item at each of its children, where its test is not false of all of them.
+/// The action of a work item at each of its children, where its test is not false of all of them.
 #[cycle(split)]
 fn along<'v, R: Threads + Sync, F: Fork + Sync, V: Visit + Drop + Send>(
     splitting: &Splitting<'_, 'v, R, F>,
@@ -97,32 +97,32 @@ fn along<'v, R: Threads + Sync, F: Fork + Sync, V: Visit + Drop + Send>(
         (done_along (base_of splitting.now.context.now) (link_steps path.old) work_item.entry)) }
     ensures path { OnOk result (path.new ≡ path.old) }
 {
-    let Some(task) = settled_along(splitting.context, work_item.task) else {
+    let Some(action) = settled_along(splitting.context, work_item.action) else {
         return Ok(());
     };
     let children = ChildRange::counted(&work_item.children);
-    each_of(splitting, task, children, path, found)
+    each_of(splitting, action, children, path, found)
 }
 
-/// The task at each of these children, of which halves are walked at once where they are many.
+/// The action at each of these children, of which halves are walked at once where they are many.
 #[cycle(split)]
 fn each_of<'v, R: Threads + Sync, F: Fork + Sync, V: Visit + Drop + Send>(
     splitting: &Splitting<'_, 'v, R, F>,
-    task: Task<'v>,
+    action: Action<'v>,
     children: ChildRange<'_, 'v>,
     path: &mut PathStack<'v>,
     found: &mut Found<'v, V>,
 ) -> Result<(), AllocError>
     requires taken { is_taken (kept V.kept found.old) ≡ true }
     ensures found { OnOk result (Finds V.kept V.put found.old found.new (flat_map
-        (done (base_of splitting.now.context.now) task.entry)
+        (done (base_of splitting.now.context.now) action.entry)
         (range_nodes (link_steps path.old) children.entry))) }
     ensures path { OnOk result (path.new ≡ path.old) }
 {
     let cuts = splitting.cuts;
     // `Cuts` has a floor of 2 or more, but no field says so: one child has no two smaller halves.
     if cuts.left == 0 || !children.has(cuts.floor.max(2)) {
-        return one_by_one(splitting, task, children, path, found);
+        return one_by_one(splitting, action, children, path, found);
     }
     let further = Splitting {
         cuts: Cuts {
@@ -142,58 +142,58 @@ fn each_of<'v, R: Threads + Sync, F: Fork + Sync, V: Visit + Drop + Send>(
             requires { IsSync R.row × IsSync F.row }
             ensures { IfOk result (λ t. taken (V.kept t)
                 ≡ plus (put_found V.put) (taken (V.kept mine))
-                (flat_map (done (base_of further.entry.context.now) task.entry)
+                (flat_map (done (base_of further.entry.context.now) action.entry)
                 (range_nodes (link_steps at.entry.now) left.entry))) }
         {
             further.fork.half(0);
-            half(&further, task, left, at, mine)
+            half(&further, action, left, at, mine)
         },
         || -> Result<V, AllocError>
             requires { IsSync R.row × IsSync F.row }
             ensures { IfOk result (λ t. taken (V.kept t)
                 ≡ plus (put_found V.put) (taken (V.kept other))
-                (flat_map (done (base_of further.entry.context.now) task.entry)
+                (flat_map (done (base_of further.entry.context.now) action.entry)
                 (range_nodes (link_steps at.entry.now) right.entry))) }
         {
             further.fork.half(1);
-            half(&further, task, right, at, other)
+            half(&further, action, right, at, other)
         },
     );
     append(found, first?)?;
     append(found, second?)
 }
 
-/// The task at each of the children of a half, for a visitor of its own.
+/// The action at each of the children of a half, for a visitor of its own.
 #[cycle(split)]
 fn half<'v, R: Threads + Sync, F: Fork + Sync, V: Visit + Drop + Send>(
     splitting: &Splitting<'_, 'v, R, F>,
-    task: Task<'v>,
+    action: Action<'v>,
     children: ChildRange<'_, 'v>,
     at: &[Link<'v>],
     visitor: V,
 ) -> Result<V, AllocError>
     ensures { IfOk result (λ t. taken (V.kept t) ≡ plus (put_found V.put) (taken (V.kept visitor))
-        (flat_map (done (base_of splitting.now.context.now) task.entry)
+        (flat_map (done (base_of splitting.now.context.now) action.entry)
         (range_nodes (link_steps at.now) children.entry))) }
 {
     let mut path = path_stack_of(splitting.context.alloc, at)?;
     let mut found = Found::Visitor(visitor);
-    each_of(splitting, task, children, &mut path, &mut found)?;
+    each_of(splitting, action, children, &mut path, &mut found)?;
     Ok(visitor_of(found))
 }
 
-/// The task at each of these children, one after another.
+/// The action at each of these children, one after another.
 #[cycle(split)]
 fn one_by_one<'v, R: Threads + Sync, F: Fork + Sync, V: Visit + Drop + Send>(
     splitting: &Splitting<'_, 'v, R, F>,
-    task: Task<'v>,
+    action: Action<'v>,
     children: ChildRange<'_, 'v>,
     path: &mut PathStack<'v>,
     found: &mut Found<'v, V>,
 ) -> Result<(), AllocError>
     requires taken { is_taken (kept V.kept found.old) ≡ true }
     ensures found { OnOk result (Finds V.kept V.put found.old found.new (flat_map
-        (done (base_of splitting.now.context.now) task.entry)
+        (done (base_of splitting.now.context.now) action.entry)
         (range_nodes (link_steps path.old) children.entry))) }
     ensures path { OnOk result (path.new ≡ path.old) }
 {
@@ -203,55 +203,55 @@ fn one_by_one<'v, R: Threads + Sync, F: Fork + Sync, V: Visit + Drop + Send>(
             return Ok(());
         }
         path.push(child.link)?;
-        go_split(splitting, task, child.part, path, found)?;
+        go_split(splitting, action, child.part, path, found)?;
         path.pop();
         rest = others;
     }
     Ok(())
 }
 
-/// The task where its test is decided, or nothing where it is false of the value.
+/// The action where its test is decided, or nothing where it is false of the value.
 fn settled<'v, V: Visit + Drop>(
     context: &Context<'v>,
-    task: Task<'v>,
+    action: Action<'v>,
     value: Part<'v>,
     path: &mut PathStack<'v>,
-) -> Result<Option<Task<'v>>, AllocError>
-    ensures task { IfOk result (λ o. MatchOption o
-        (done (base_of context.now) task.entry (here path.old value.entry) ≡ [])
+) -> Result<Option<Action<'v>>, AllocError>
+    ensures action { IfOk result (λ o. MatchOption o
+        (done (base_of context.now) action.entry (here path.old value.entry) ≡ [])
         (λ t. done (base_of context.now) t (here path.old value.entry)
-        ≡ done (base_of context.now) task.entry (here path.old value.entry))) }
+        ≡ done (base_of context.now) action.entry (here path.old value.entry))) }
     ensures path { OnOk result (path.new ≡ path.old) }
 {
-    match task {
-        Task::Test(test, rest) => {
+    match action {
+        Action::Test(test, rest) => {
             let holds = holds::<V>(context, test, value, path)?;
             if holds {
-                Ok(Some(Task::Run(rest)))
+                Ok(Some(Action::Run(rest)))
             } else {
                 Ok(None)
             }
         }
-        Task::Run(_) => Ok(Some(task)),
-        Task::Descend(_, _) => Ok(Some(task)),
+        Action::Run(_) => Ok(Some(action)),
+        Action::Descend(_, _) => Ok(Some(action)),
     }
 }
 
-/// The task along the children of a value, or nothing where its test is false of all of them.
-fn settled_along<'v>(context: &Context<'v>, task: Task<'v>) -> Option<Task<'v>>
+/// The action along the children of a value, or nothing where its test is false of all of them.
+fn settled_along<'v>(context: &Context<'v>, action: Action<'v>) -> Option<Action<'v>>
     ensures { (ns : List Node) → MatchOption result
-        (flat_map (done (base_of context.now) task.entry) ns ≡ [])
+        (flat_map (done (base_of context.now) action.entry) ns ≡ [])
         (λ t. flat_map (done (base_of context.now) t) ns
-        ≡ flat_map (done (base_of context.now) task.entry) ns) }
+        ≡ flat_map (done (base_of context.now) action.entry) ns) }
 {
-    match task {
-        Task::Test(test, rest) => match context.known_truth(test) {
-            Some(true) => Some(Task::Run(rest)),
+    match action {
+        Action::Test(test, rest) => match context.known_truth(test) {
+            Some(true) => Some(Action::Run(rest)),
             Some(false) => None,
-            None => Some(task),
+            None => Some(action),
         },
-        Task::Run(_) => Some(task),
-        Task::Descend(_, _) => Some(task),
+        Action::Run(_) => Some(action),
+        Action::Descend(_, _) => Some(action),
     }
 }
 

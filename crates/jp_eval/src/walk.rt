@@ -37,7 +37,7 @@ use std::ops::Range;
 
 /// What is done at a value.
 #[derive(Clone, Copy)]
-pub(crate) enum Task<'v> {
+pub(crate) enum Action<'v> {
     /// The segments.
     Run(&'v [Segment]),
     /// The selectors at the value and at each descendant, and then the segments.
@@ -53,34 +53,34 @@ pub(crate) struct Opened<'c, 'v> {
     range: Option<ChildRange<'c, 'v>>,
 }
 
-/// Whether the task finds nothing at the value, since it goes down, and nothing is inside.
+/// Whether the action finds nothing at the value, since it goes down, and nothing is inside.
 #[inline(always)]
-fn is_idle(task: Task<'_>, value: Part<'_>) -> bool
+fn is_idle(action: Action<'_>, value: Part<'_>) -> bool
     ensures { IsTrue result → (base : Base) (at : Location)
-        → done base task.entry (node at (part_value value.entry)) ≡ [] }
+        → done base action.entry (node at (part_value value.entry)) ≡ [] }
 {
-    match task {
-        Task::Descend(_, _) => value.is_scalar(),
-        Task::Run(_) => false,
-        Task::Test(_, _) => false,
+    match action {
+        Action::Descend(_, _) => value.is_scalar(),
+        Action::Run(_) => false,
+        Action::Test(_, _) => false,
     }
 }
 
 #[cycle(walk)]
 pub(crate) fn go<'v, V: Visit + Drop>(
     context: &Context<'v>,
-    task: Task<'v>,
+    action: Action<'v>,
     value: Part<'v>,
     path: &mut PathStack<'v>,
     found: &mut Found<'v, V>,
 ) -> Result<(), AllocError>
     ensures found { OnOk result (Finds V.kept V.put found.old found.new
-        (done (base_of context.now) task.entry (here path.old value.entry))) }
+        (done (base_of context.now) action.entry (here path.old value.entry))) }
     ensures path { OnOk result (path.new ≡ path.old) }
 {
-    match task {
-        Task::Run(rest) => run(context, rest, value, path, found),
-        Task::Descend(selectors, rest) => {
+    match action {
+        Action::Run(rest) => run(context, rest, value, path, found),
+        Action::Descend(selectors, rest) => {
             let children = children_of(context.alloc, value)?;
             let range = ChildRange::all(&children);
             // They are listed once, for the selectors and to go down.
@@ -89,9 +89,9 @@ pub(crate) fn go<'v, V: Visit + Drop>(
                 range: Some(range),
             };
             apply(context, selectors, rest, opened, path, found)?;
-            each_of(context, task, range, path, found)
+            each_of(context, action, range, path, found)
         }
-        Task::Test(test, rest) => {
+        Action::Test(test, rest) => {
             if holds::<V>(context, test, value, path)? {
                 run(context, rest, value, path, found)?;
             }
@@ -120,7 +120,13 @@ pub(crate) fn run<'v, V: Visit + Drop>(
         Some((segment, rest)) => {
             let selectors = segment.selectors.as_slice();
             if segment.deep {
-                go(context, Task::Descend(selectors, rest), value, path, found)
+                go(
+                    context,
+                    Action::Descend(selectors, rest),
+                    value,
+                    path,
+                    found,
+                )
             } else {
                 let opened = Opened { value, range: None };
                 apply(context, selectors, rest, opened, path, found)
@@ -180,7 +186,7 @@ fn select<'v, V: Visit + Drop>(
             }
             Ok(())
         }
-        Selector::Wild => each_child(context, Task::Run(rest), opened, path, found),
+        Selector::Wild => each_child(context, Action::Run(rest), opened, path, found),
         Selector::Index(index) => {
             let place = place_in(index.value, value);
             at_place(context, place, rest, value, path, found)
@@ -189,13 +195,13 @@ fn select<'v, V: Visit + Drop>(
             let bounds = bounds_of(slice, value.item_count());
             let children = sliced(context.alloc, value, bounds)?;
             let children = ChildRange::Listed(children.as_slice());
-            each_of(context, Task::Run(rest), children, path, found)
+            each_of(context, Action::Run(rest), children, path, found)
         }
         // What asks nothing of the current node is as true of each child: it was answered once a document.
         Selector::Filter(test) => match context.known_truth(test) {
-            Some(true) => each_child(context, Task::Run(rest), opened, path, found),
+            Some(true) => each_child(context, Action::Run(rest), opened, path, found),
             Some(false) => Ok(()),
-            None => each_child(context, Task::Test(test, rest), opened, path, found),
+            None => each_child(context, Action::Test(test, rest), opened, path, found),
         },
     }
 }
@@ -226,63 +232,63 @@ fn at_place<'v, V: Visit + Drop>(
     Ok(())
 }
 
-/// The task at each child of the value.
+/// The action at each child of the value.
 #[cycle(walk)]
 fn each_child<'v, V: Visit + Drop>(
     context: &Context<'v>,
-    task: Task<'v>,
+    action: Action<'v>,
     opened: Opened<'_, 'v>,
     path: &mut PathStack<'v>,
     found: &mut Found<'v, V>,
 ) -> Result<(), AllocError>
     requires opened { AreChildren opened }
     ensures found { OnOk result (Finds V.kept V.put found.old found.new (flat_map
-        (done (base_of context.now) task.entry) (children (here path.old opened.entry.value)))) }
+        (done (base_of context.now) action.entry) (children (here path.old opened.entry.value)))) }
     ensures path { OnOk result (path.new ≡ path.old) }
 {
     if let Some(children) = opened.range {
-        return each_of(context, task, children, path, found);
+        return each_of(context, action, children, path, found);
     }
     let children = children_of(context.alloc, opened.value)?;
-    each_of(context, task, ChildRange::all(&children), path, found)
+    each_of(context, action, ChildRange::all(&children), path, found)
 }
 
-/// The task at each of these children, one after another.
+/// The action at each of these children, one after another.
 #[cycle(walk)]
 fn each_of<'v, V: Visit + Drop>(
     context: &Context<'v>,
-    task: Task<'v>,
+    action: Action<'v>,
     children: ChildRange<'_, 'v>,
     path: &mut PathStack<'v>,
     found: &mut Found<'v, V>,
 ) -> Result<(), AllocError>
     ensures found { OnOk result (Finds V.kept V.put found.old found.new (flat_map
-        (done (base_of context.now) task.entry) (range_nodes (link_steps path.old) children.entry))) }
+        (done (base_of context.now) action.entry) (range_nodes (link_steps path.old) children.entry))) }
     ensures path { OnOk result (path.new ≡ path.old) }
 {
     // Those of a flat document, which most are, have loops of their own: a range is many words to hand on.
     match children {
         ChildRange::Members(MemberRange::Flat(members)) => {
-            each_member(context, task, members, path, found)
+            each_member(context, action, members, path, found)
         }
         ChildRange::Items(Items::Flat(items), first, past) => {
-            each_item(context, task, items, first..past, path, found)
+            each_item(context, action, items, first..past, path, found)
         }
-        _ => each_in(context, task, children, path, found),
+        _ => each_in(context, action, children, path, found),
     }
 }
 
-/// The task at each of these members.
+/// The action at each of these members.
 #[cycle(walk)]
 fn each_member<'v, V: Visit + Drop>(
     context: &Context<'v>,
-    task: Task<'v>,
+    action: Action<'v>,
     members: &[FlatMember<'v>],
     path: &mut PathStack<'v>,
     found: &mut Found<'v, V>,
 ) -> Result<(), AllocError>
     ensures found { OnOk result (Finds V.kept V.put found.old found.new (flat_map
-        (done (base_of context.now) task.entry)
+        (done (base_of context.now) action.entry)
         (flat_member_nodes (link_steps path.old) members.now))) }
     ensures path { OnOk result (path.new ≡ path.old) }
 {
@@ -292,23 +298,24 @@ fn each_member<'v, V: Visit + Drop>(
             return Ok(());
         }
         index += 1;
-        at_child(context, task, child, path, found)?;
+        at_child(context, action, child, path, found)?;
     }
     Ok(())
 }
 
-/// The task at each of these items that has one of these places, where the first item has the first of them.
+/// The action at each of these items that has one of these places, where the first item has the first of
+/// them.
 #[cycle(walk)]
 fn each_item<'v, V: Visit + Drop>(
     context: &Context<'v>,
-    task: Task<'v>,
+    action: Action<'v>,
     items: FlatItems<'v>,
     places: Range<u32>,
     path: &mut PathStack<'v>,
     found: &mut Found<'v, V>,
 ) -> Result<(), AllocError>
     ensures found { OnOk result (Finds V.kept V.put found.old found.new (flat_map
-        (done (base_of context.now) task.entry) (range_nodes (link_steps path.old)
+        (done (base_of context.now) action.entry) (range_nodes (link_steps path.old)
         (of_flat_items items.entry places.start places.end)))) }
     ensures path { OnOk result (path.new ≡ path.old) }
 {
@@ -323,22 +330,22 @@ fn each_item<'v, V: Visit + Drop>(
         }
         rest = others;
         place += 1;
-        at_child(context, task, child, path, found)?;
+        at_child(context, action, child, path, found)?;
     }
     Ok(())
 }
 
-/// The task at each child of this range.
+/// The action at each child of this range.
 #[cycle(walk)]
 fn each_in<'v, V: Visit + Drop>(
     context: &Context<'v>,
-    task: Task<'v>,
+    action: Action<'v>,
     children: ChildRange<'_, 'v>,
     path: &mut PathStack<'v>,
     found: &mut Found<'v, V>,
 ) -> Result<(), AllocError>
     ensures found { OnOk result (Finds V.kept V.put found.old found.new (flat_map
-        (done (base_of context.now) task.entry) (range_nodes (link_steps path.old) children.entry))) }
+        (done (base_of context.now) action.entry) (range_nodes (link_steps path.old) children.entry))) }
     ensures path { OnOk result (path.new ≡ path.old) }
 {
     let mut rest = children;
@@ -347,32 +354,32 @@ fn each_in<'v, V: Visit + Drop>(
             return Ok(());
         }
         rest = others;
-        at_child(context, task, child, path, found)?;
+        at_child(context, action, child, path, found)?;
     }
     Ok(())
 }
 
-/// The task at a child of the value at the path.
+/// The action at a child of the value at the path.
 // Each turn of a loop over children passes through it.
 #[inline(always)]
 #[cycle(walk)]
 fn at_child<'v, V: Visit + Drop>(
     context: &Context<'v>,
-    task: Task<'v>,
+    action: Action<'v>,
     child: Child<'v>,
     path: &mut PathStack<'v>,
     found: &mut Found<'v, V>,
 ) -> Result<(), AllocError>
     ensures found { OnOk result (Finds V.kept V.put found.old found.new
-        (done (base_of context.now) task.entry (child_node (link_steps path.old) child.entry))) }
+        (done (base_of context.now) action.entry (child_node (link_steps path.old) child.entry))) }
     ensures path { OnOk result (path.new ≡ path.old) }
 {
     // Most nodes that a descent comes to are scalars: they cost no link and no list of children.
-    if is_idle(task, child.part) {
+    if is_idle(action, child.part) {
         return Ok(());
     }
     path.push(child.link)?;
-    go(context, task, child.part, path, found)?;
+    go(context, action, child.part, path, found)?;
     path.pop();
     Ok(())
 }

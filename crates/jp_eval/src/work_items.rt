@@ -1,4 +1,4 @@
-//! What a task at a value leads to: further tasks, each along a list of its children.
+//! What an action at a value leads to: further actions, each along a list of its children.
 
 ghost use Rattle.std.specs.Prelude.{◌≡◌, ◌≤◌, ◌<◌, ◌++◌, ◌∷◌, [], IfOk, IfSome, MatchOption};
 ghost use Rattle.jp_doc.specs.Height.{height};
@@ -9,21 +9,21 @@ ghost use Rattle.jp_eval.specs.inner.Along.{done_along, done_by, items_left};
 ghost use Rattle.jp_node.specs.Part.{part_value};
 ghost use Rattle.jp_eval.specs.inner.Walk.{picked, reached, done};
 
-use crate::walk::Task;
+use crate::walk::Action;
 use jp_compiled::{Segment, Selector};
 use jp_node::{Children, Part, children_of, named, place_in, placed, sliced};
 use jp_value::bounds_of;
 use std::alloc::{AllocError, Global};
 
-/// A task at each of some children of a value.
+/// An action at each of some children of a value.
 #[derive(Drop)]
 pub(crate) struct WorkItem<'v> {
-    pub(crate) task: Task<'v>,
+    pub(crate) action: Action<'v>,
     pub(crate) children: Children<'v>,
 }
 
-/// What is left of a task at a value. Its work items come one after another, so that no more than one list of
-/// children is held at a time.
+/// What is left of an action at a value. Its work items come one after another, so that no more than one list
+/// of children is held at a time.
 #[derive(Clone, Copy)]
 pub(crate) struct WorkItems<'v> {
     pub(crate) value: Part<'v>,
@@ -34,24 +34,24 @@ pub(crate) struct WorkItems<'v> {
     rest: &'v [Segment],
 }
 
-/// What a task comes to at the value, or nothing where it goes no further down, or where a test decides.
-pub(crate) fn work_items<'v>(task: Task<'v>, value: Part<'v>) -> Option<WorkItems<'v>>
+/// What an action comes to at the value, or nothing where it goes no further down, or where a test decides.
+pub(crate) fn work_items<'v>(action: Action<'v>, value: Part<'v>) -> Option<WorkItems<'v>>
     ensures nodes { IfSome result (λ w. (base : Base) (at : Location) →
-        done_by base at w ≡ done base task.entry (node at (part_value value.entry))) }
+        done_by base at w ≡ done base action.entry (node at (part_value value.entry))) }
     ensures height { IfSome result (λ w. height (part_value w.value) ≡ height (part_value value.entry)) }
 {
-    match task {
-        Task::Run(segments) => match segments.split_first() {
+    match action {
+        Action::Run(segments) => match segments.split_first() {
             None => None,
             Some((segment, rest)) => Some(of_segment(segment, rest, value)),
         },
-        Task::Descend(selectors, rest) => Some(WorkItems {
+        Action::Descend(selectors, rest) => Some(WorkItems {
             value,
             selectors,
             below: Some(selectors),
             rest,
         }),
-        Task::Test(_, _) => None,
+        Action::Test(_, _) => None,
     }
 }
 
@@ -104,7 +104,7 @@ impl<'v> WorkItems<'v> {
             return Ok(None);
         };
         let work_item = WorkItem {
-            task: Task::Descend(selectors, self.rest),
+            action: Action::Descend(selectors, self.rest),
             children: children_of(alloc, self.value)?,
         };
         Ok(Some((
@@ -132,14 +132,14 @@ fn work_item_of<'v>(
         Selector::Name(name) => {
             let children = Children::Listed(named(alloc, value, name.as_str())?);
             Ok(WorkItem {
-                task: Task::Run(rest),
+                action: Action::Run(rest),
                 children,
             })
         }
         Selector::Wild => {
             let children = children_of(alloc, value)?;
             Ok(WorkItem {
-                task: Task::Run(rest),
+                action: Action::Run(rest),
                 children,
             })
         }
@@ -147,7 +147,7 @@ fn work_item_of<'v>(
             let place = place_in(index.value, value);
             let children = Children::Listed(placed(alloc, value, place)?);
             Ok(WorkItem {
-                task: Task::Run(rest),
+                action: Action::Run(rest),
                 children,
             })
         }
@@ -158,14 +158,14 @@ fn work_item_of<'v>(
                 bounds_of(slice, value.item_count()),
             )?);
             Ok(WorkItem {
-                task: Task::Run(rest),
+                action: Action::Run(rest),
                 children,
             })
         }
         Selector::Filter(test) => {
             let children = children_of(alloc, value)?;
             Ok(WorkItem {
-                task: Task::Test(test, rest),
+                action: Action::Test(test, rest),
                 children,
             })
         }

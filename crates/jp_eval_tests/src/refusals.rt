@@ -10,7 +10,7 @@ use jp_flat::FlatReader;
 use jp_node::{Locations, Part};
 use jp_number::Numbers;
 use jp_select::{evaluate, evaluate_split};
-use jp_syntax::QueryFault;
+use jp_tree::QueryFault;
 use std::alloc::Global;
 use std::thread::Threads;
 

@@ -3,11 +3,12 @@
 
 use jp_check::plan;
 use jp_doc::{Document, Location, Step};
-use jp_eval::{Bounds, Evaluator, Operand, equal, less, slice_bounds};
+use jp_eval::Evaluator;
 use jp_flat::FlatReader;
-use jp_node::{Locations, Part};
-use jp_path::write_path;
+use jp_node::{Bounds, Locations, Part, slice_bounds};
+use jp_output::write_path;
 use jp_select::evaluate;
+use jp_value::{Operand, equal, less};
 use std::alloc::Global;
 use std::test::Fail;
 

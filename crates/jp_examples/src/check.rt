@@ -1,5 +1,5 @@
 use jp_check::plan;
-use jp_syntax::QueryFault;
+use jp_tree::QueryFault;
 use std::alloc::Global;
 
 fn is_accepted(alloc: Global, text: &str) -> Result<bool, QueryFault> {

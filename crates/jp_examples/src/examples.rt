@@ -3,7 +3,7 @@ ghost use Rattle.jp_board.specs.Seats.{IsSeatOf, pieces_of};
 
 use jp_board::{Board, Seat};
 use jp_doc::Location;
-use jp_path::write_path;
+use jp_output::write_path;
 use jp_regexp::Pattern;
 use std::alloc::{AllocError, Global};
 

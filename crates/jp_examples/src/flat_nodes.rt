@@ -1,4 +1,4 @@
-use jp_flat_nodes::{Node, read_line};
+use jp_flat_nodes::{FlatNode, read_line};
 use std::alloc::Global;
 
 /// How many texts stand in a line, names apart, where it is read in one pass.
@@ -7,6 +7,8 @@ fn texts_of(alloc: Global, line: &[u8]) -> Option<usize> {
     if line.len() > 1_000_000 || !read_line(line, &mut nodes) {
         return None;
     }
-    let texts = nodes.iter().filter(|node| matches!(node, Node::Text(..)));
+    let texts = nodes
+        .iter()
+        .filter(|node| matches!(node, FlatNode::Text(..)));
     Some(texts.count())
 }

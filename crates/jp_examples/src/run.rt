@@ -1,4 +1,5 @@
-use jp_run::{FromReader, FromWriter, OpenGate, RunFault, Settings, Totals, run};
+use jp_answer::OpenGate;
+use jp_run::{FromReader, FromWriter, RunFault, Settings, Totals, run};
 use std::alloc::Global;
 use std::io::{Read, Write};
 use std::thread::Threads;

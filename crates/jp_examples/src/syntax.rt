@@ -1,4 +1,5 @@
-use jp_syntax::{QueryFault, is_singular, read_query};
+use jp_syntax::read_query;
+use jp_tree::{QueryFault, is_singular};
 use std::alloc::Global;
 
 fn selects_one_node(alloc: Global, text: &str) -> Result<bool, QueryFault> {

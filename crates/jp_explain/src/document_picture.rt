@@ -4,7 +4,7 @@ ghost use Rattle.std.specs.Prelude.{IfOk};
 ghost use Rattle.jp_tree.specs.View.{text_of};
 ghost use Rattle.jp_explain.specs.Picture.{IsLinePicture};
 
-use crate::line::Line;
+use crate::line::PlainLine;
 use crate::line_explanation::LineExplanation;
 use crate::line_helping::{document_help, line_of_help};
 use crate::line_picture::{bytes_between, marked, push_reason};
@@ -13,7 +13,7 @@ use std::alloc::{AllocError, Global};
 
 /// A place in a text of several lines.
 #[derive(Clone, Copy, Drop)]
-struct Place {
+struct LineStart {
     /// The number of its line, from 1.
     line: usize,
     /// Where its line begins.
@@ -21,8 +21,8 @@ struct Place {
 }
 
 /// The place behind these bytes.
-fn place_behind(bytes: &[u8]) -> Place {
-    let mut place = Place { line: 1, start: 0 };
+fn place_behind(bytes: &[u8]) -> LineStart {
+    let mut place = LineStart { line: 1, start: 0 };
     for (at, byte) in bytes.iter().enumerate() {
         if *byte == b'\n' {
             place.line = place.line.saturating_add(1);
@@ -50,8 +50,8 @@ fn head(
     document: &[u8],
     explanation: &LineExplanation,
     (line, byte): (usize, usize),
-) -> Result<Line, AllocError> {
-    let mut head = Line::new(alloc);
+) -> Result<PlainLine, AllocError> {
+    let mut head = PlainLine::new(alloc);
     let front = format!(in alloc; "document {number}, line {line}, ")?;
     head.push_text(front.as_str())?;
     match &explanation.reason {

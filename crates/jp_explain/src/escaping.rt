@@ -5,7 +5,7 @@ ghost use Rattle.std.specs.Str.{chars};
 ghost use Rattle.jp_tree.specs.View.{text_of};
 ghost use Rattle.jp_explain.specs.Picture.{is_shown};
 
-use crate::line::Line;
+use crate::line::PlainLine;
 use std::alloc::{AllocError, Global};
 
 /// The text for a terminal, in one line: an escape stands in the place of each control character, line feeds
@@ -20,7 +20,7 @@ pub fn escaped(alloc: Global, text: &str) -> Result<String, AllocError>
     // A text without them stays as it is.
     ensures same { is_shown (chars text.now) ≡ true → IfOk result (λ s. text_of s ≡ chars text.now) }
 {
-    let mut line = Line::new(alloc);
+    let mut line = PlainLine::new(alloc);
     line.push_text(text)?;
     Ok(line.into_text())
 }

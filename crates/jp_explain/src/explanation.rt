@@ -9,9 +9,9 @@ ghost use Rattle.jp_explain.specs.Mark.{MayGoOn, IsQuery};
 use crate::growth::{push_character, push_text};
 use jp_check::plan_in;
 use jp_number::Numbers;
-use jp_query_scan::{Expected, Found, Reason, scan};
-use jp_syntax::QueryFault;
+use jp_query_scan::{Expected, Reason, Scanned, scan};
 use jp_tokens::first_character;
+use jp_tree::QueryFault;
 use std::alloc::{AllocError, Global};
 
 /// Where a refused query went wrong, and what is to be said of that place.
@@ -58,7 +58,12 @@ fn front(alloc: Global, text: &str, count: usize) -> Result<Option<String>, Allo
 }
 
 /// Whether the front of the text up to the mark becomes a query by the completion.
-fn may_go_on(alloc: Global, text: &str, numbers: Numbers, found: &Found) -> Result<bool, AllocError>
+fn may_go_on(
+    alloc: Global,
+    text: &str,
+    numbers: Numbers,
+    found: &Scanned,
+) -> Result<bool, AllocError>
     ensures { IfOk result (λ b. IsTrue b → MayGoOn numbers (chars text.now) found.now.mark) }
 {
     match front(alloc, text, found.mark)? {

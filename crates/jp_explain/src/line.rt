@@ -11,18 +11,18 @@ use std::alloc::{AllocError, Global};
 
 /// A line in which no character has to be escaped.
 #[derive(Drop)]
-pub(crate) struct Line {
+pub(crate) struct PlainLine {
     text: String,
     /// How many columns it takes.
     columns: usize,
     ghost shown: { is_shown (text_of text) ≡ true },
 }
 
-impl Line {
-    pub(crate) fn new(alloc: Global) -> Line
+impl PlainLine {
+    pub(crate) fn new(alloc: Global) -> PlainLine
         ensures { text_of result.text ≡ [] }
     {
-        Line {
+        PlainLine {
             text: String::new(alloc),
             columns: 0,
         }

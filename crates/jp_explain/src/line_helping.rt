@@ -5,7 +5,7 @@ ghost use Rattle.jp_tree.specs.View.{text_of};
 ghost use Rattle.jp_explain.specs.LineMark.{has_help, may_go_on};
 ghost use Rattle.jp_explain.specs.Picture.{IsHelp};
 
-use crate::line::Line;
+use crate::line::PlainLine;
 use jp_line_scan::{LineExpected, LineReason};
 use std::alloc::{AllocError, Global};
 
@@ -51,7 +51,7 @@ pub(crate) fn line_of_help(alloc: Global, help: Option<&'static str>) -> Result<
 {
     match help {
         Some(words) => {
-            let mut line = Line::new(alloc);
+            let mut line = PlainLine::new(alloc);
             line.push_text(words)?;
             line.above(alloc, "")
         }

@@ -6,7 +6,7 @@ ghost use Rattle.jp_tree.specs.View.{text_of};
 ghost use Rattle.jp_explain.specs.LineMark.{has_help};
 ghost use Rattle.jp_explain.specs.Picture.{IsLinePicture, IsLinePictureWith, IsPictureWith};
 
-use crate::line::Line;
+use crate::line::PlainLine;
 use crate::line_explanation::LineExplanation;
 use crate::line_helping::{line_help, line_of_help};
 use crate::sizes::{
@@ -50,7 +50,7 @@ pub(crate) fn marked(
     ensures { IfOk result (λ s. IsPictureWith (chars words.now) (text_of s)) }
 {
     let (start, end) = shown_range(line, mark);
-    let mut shown = Line::new(alloc);
+    let mut shown = PlainLine::new(alloc);
     if start > 0 {
         shown.push_gap()?;
     }
@@ -64,7 +64,7 @@ pub(crate) fn marked(
 }
 
 /// The path of a number, and its text.
-fn push_number(head: &mut Line, path: &str, number: &[u8]) -> Result<(), AllocError> {
+fn push_number(head: &mut PlainLine, path: &str, number: &[u8]) -> Result<(), AllocError> {
     head.push_front(path, PATH_CHARACTERS)?;
     head.push_text(": ")?;
     let shown = number.len().min(NUMBER_BYTES);
@@ -79,7 +79,7 @@ fn push_number(head: &mut Line, path: &str, number: &[u8]) -> Result<(), AllocEr
 /// there and what is wrong with it, or the words.
 pub(crate) fn push_reason(
     alloc: Global,
-    head: &mut Line,
+    head: &mut PlainLine,
     text: &[u8],
     explanation: &LineExplanation,
     byte: usize,
@@ -101,8 +101,8 @@ fn head(
     number: u64,
     line: &[u8],
     explanation: &LineExplanation,
-) -> Result<Line, AllocError> {
-    let mut head = Line::new(alloc);
+) -> Result<PlainLine, AllocError> {
+    let mut head = PlainLine::new(alloc);
     let front = format!(in alloc; "line {number}, ")?;
     head.push_text(front.as_str())?;
     push_reason(alloc, &mut head, line, explanation, explanation.mark)?;

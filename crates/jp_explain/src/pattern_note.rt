@@ -11,7 +11,7 @@ ghost use Rattle.jp_explain.specs.Picture.{is_shown};
 ghost use Rattle.jp_explain.specs.PatternNotes.{AreNotes, HasAnchor, IsPattern, IsRightTrap, IsTrap};
 ghost use Rattle.jp_explain.specs.PatternNotes.{first_or, last_or};
 
-use crate::line::Line;
+use crate::line::PlainLine;
 use crate::plain_pattern::plain_pattern;
 use crate::sizes::PATTERN_CHARACTERS;
 use jp_check::Plan;
@@ -141,7 +141,7 @@ pub fn pattern_notes(alloc: Global, plan: &Plan) -> Result<Vec<PatternNote>, All
 }
 
 /// Shows the text as a literal of a query in double quotes (RFC 9535, 2.3.1.1).
-fn push_literal(line: &mut Line, text: &str) -> Result<(), AllocError> {
+fn push_literal(line: &mut PlainLine, text: &str) -> Result<(), AllocError> {
     line.push_text("\"")?;
     for (at, c) in text.chars().enumerate() {
         if at >= PATTERN_CHARACTERS {
@@ -167,7 +167,7 @@ pub fn write_pattern_note(alloc: Global, note: &PatternNote) -> Result<String, A
     // No character that has to be escaped is among those that it gives.
     ensures { IfOk result (λ s. is_shown (text_of s) ≡ true) }
 {
-    let mut line = Line::new(alloc);
+    let mut line = PlainLine::new(alloc);
     if matches!(&note.trap, Trap::Anchors) {
         line.push_text("^ and $ stand for themselves in ")?;
     }

@@ -9,7 +9,7 @@ ghost use Rattle.jp_explain.specs.Picture.{AreWordsAlone, IsPictureAlone};
 use crate::characters::{columns, is_escaped};
 use crate::cure::cure;
 use crate::explanation::Explanation;
-use crate::line::Line;
+use crate::line::PlainLine;
 use crate::sizes::{HELP_CHARACTERS, QUERY_COLUMNS, QUERY_COLUMNS_BEFORE, QUERY_COLUMNS_BEHIND};
 use std::alloc::{AllocError, Global};
 
@@ -50,7 +50,12 @@ fn first_shown(text: &str, mark: usize) -> usize {
 }
 
 /// Shows what stands before the mark.
-fn push_before(line: &mut Line, text: &str, first: usize, mark: usize) -> Result<(), AllocError> {
+fn push_before(
+    line: &mut PlainLine,
+    text: &str,
+    first: usize,
+    mark: usize,
+) -> Result<(), AllocError> {
     if first > 0 {
         line.push_gap()?;
     }
@@ -61,7 +66,12 @@ fn push_before(line: &mut Line, text: &str, first: usize, mark: usize) -> Result
 }
 
 /// Shows what stands behind the mark, as far as it has room.
-fn push_behind(line: &mut Line, text: &str, mark: usize, limit: usize) -> Result<(), AllocError> {
+fn push_behind(
+    line: &mut PlainLine,
+    text: &str,
+    mark: usize,
+    limit: usize,
+) -> Result<(), AllocError> {
     let mut taken = 0usize;
     for c in text.chars().skip(mark) {
         taken = taken.saturating_add(room(c));
@@ -85,7 +95,7 @@ fn columns_before(text: &str, count: usize) -> usize {
 /// A line that shows a query, and the column of its mark.
 #[derive(Drop)]
 struct Shown {
-    line: Line,
+    line: PlainLine,
     column: usize,
 }
 
@@ -94,7 +104,7 @@ fn whole_query(alloc: Global, query: &str, mark: usize) -> Result<Shown, AllocEr
     ensures { is_shown (chars query.now) ≡ true
         → IfOk result (λ x. text_of x.line.text ≡ chars query.now) }
 {
-    let mut line = Line::new(alloc);
+    let mut line = PlainLine::new(alloc);
     line.push_text(query)?;
     Ok(Shown {
         line,
@@ -104,7 +114,7 @@ fn whole_query(alloc: Global, query: &str, mark: usize) -> Result<Shown, AllocEr
 
 /// What of it has room around the mark.
 fn cut_query(alloc: Global, query: &str, mark: usize) -> Result<Shown, AllocError> {
-    let mut line = Line::new(alloc);
+    let mut line = PlainLine::new(alloc);
     push_before(&mut line, query, first_shown(query, mark), mark)?;
     let column = line.columns();
     push_behind(&mut line, query, mark, QUERY_COLUMNS_BEHIND)?;
@@ -130,7 +140,7 @@ fn help(alloc: Global, query: &str, explanation: &Explanation) -> Result<String,
     match cure(query, explanation) {
         Some(cure) => {
             let text = format!(in alloc; "{cure}")?;
-            let mut line = Line::new(alloc);
+            let mut line = PlainLine::new(alloc);
             line.push_front(text.as_str(), HELP_CHARACTERS)?;
             line.above(alloc, "")
         }
@@ -146,7 +156,7 @@ fn words(alloc: Global, query: &str, explanation: &Explanation) -> Result<String
 {
     let help = help(alloc, query, explanation)?;
     let text = format!(in alloc; "{}", explanation.reason)?;
-    let mut line = Line::new(alloc);
+    let mut line = PlainLine::new(alloc);
     line.push_text(text.as_str())?;
     line.above(alloc, help.as_str())
 }

@@ -1,6 +1,7 @@
 //! What is printed of documents over several lines by a mark behind their end.
 
-use jp_explain::{LineExplanation, LineReason, LineRule, write_document_mark};
+use jp_explain::{LineExplanation, write_document_mark};
+use jp_line_scan::{LineReason, LineRule};
 use std::test::*;
 
 #[test]

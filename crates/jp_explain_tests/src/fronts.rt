@@ -1,8 +1,9 @@
 //! Fronts of accepted queries: each may go on where it ends, and nowhere behind a character that stands in no
 //! query. So the mark is known with no second program.
 
-use jp_explain::{Explanation, Reason, explain};
+use jp_explain::{Explanation, explain};
 use jp_number::Numbers;
+use jp_query_scan::Reason;
 use std::alloc::{AllocError, Global};
 use std::test::*;
 

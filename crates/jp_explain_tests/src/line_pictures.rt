@@ -1,7 +1,8 @@
 //! Lines of bytes that are no UTF-8, with what is printed of them.
 
 use crate::line_table::is_printed;
-use jp_explain::{LineExplanation, LineReason, LineRule, NotWhole, write_line_mark};
+use jp_explain::{LineExplanation, write_line_mark};
+use jp_line_scan::{LineReason, LineRule, NotWhole};
 use std::test::*;
 
 #[test]

@@ -1,6 +1,7 @@
 //! The lines for a terminal, by a mark that no query has. Those of queries are in rows of `scripts/commands`.
 
-use jp_explain::{Expected, Explanation, Reason, write_mark};
+use jp_explain::{Explanation, write_mark};
+use jp_query_scan::{Expected, Reason};
 use std::test::*;
 
 #[test]

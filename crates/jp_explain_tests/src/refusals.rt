@@ -5,10 +5,11 @@
 
 use jp_doc::DocFault;
 use jp_explain::{
-    Explanation, LineExplanation, LineReason, LineRule, Reason, Rule, explain, explain_line,
-    write_line_mark, write_mark,
+    Explanation, LineExplanation, explain, explain_line, write_line_mark, write_mark,
 };
+use jp_line_scan::{LineReason, LineRule};
 use jp_number::Numbers;
+use jp_query_scan::{Reason, Rule};
 use std::alloc::Global;
 
 const QUERY: &str = "$..a[?xor(@.b,(match(@.c,'d')))&&nil]";

@@ -15,9 +15,10 @@ use Rattle.jp_doc.specs.Json as json
 use Rattle.jp_doc.specs.Tree.{tree_items}
 use Rattle.jp_flat.specs.Flat.{value_at}
 use Rattle.jp_flat_nodes.specs.Nodes.{token_at, tokens_at}
-use Rattle.jp_flat_nodes.specs.declared.node.Node.{Node}
-use Rattle.jp_flat_nodes.specs.declared.node.Node.TheVariants.{Object, EndObject, Array, EndArray, Key, Text}
-use Rattle.jp_flat_nodes.specs.declared.node.Node.TheVariants.{Number, Truth, Null}
+use Rattle.jp_flat_nodes.specs.declared.node.FlatNode.{FlatNode}
+use Rattle.jp_flat_nodes.specs.declared.node.FlatNode.TheVariants.{Object, EndObject, Array, EndArray, Key}
+use Rattle.jp_flat_nodes.specs.declared.node.FlatNode.TheVariants.{Text}
+use Rattle.jp_flat_nodes.specs.declared.node.FlatNode.TheVariants.{Number, Truth, Null}
 use Rattle.jp_flat.specs.inner.Plain.{is_flat, max_tokens, is_fit, items_are_fit}
 use Rattle.jp_doc.specs.Reading.{max_items}
 use Rattle.jp_flat.specs.Value.{item_count}
@@ -168,7 +169,7 @@ abbrev first_ends : List Token → common.Bool
 first_ends [] = false
 first_ends (t ∷ ts) = is_end_array t
 
-ends_node : (bytes : List ℕ) (n : Node) → (n ≡ EndArray → ⊥) → is_end_array (token_at bytes n) ≡ true → ⊥
+ends_node : (bytes : List ℕ) (n : FlatNode) → (n ≡ EndArray → ⊥) → is_end_array (token_at bytes n) ≡ true → ⊥
 ends_node bytes (Object a) p e = absurd (cc)
 ends_node bytes EndObject p e = absurd (cc)
 ends_node bytes (Array a) p e = absurd (cc)
@@ -179,7 +180,7 @@ ends_node bytes (Number from count) p e = absurd (cc)
 ends_node bytes (Truth b) p e = absurd (cc)
 ends_node bytes Null p e = absurd (cc)
 
-pub one_more_item : (bytes : List ℕ) (ts us : List Token) (i : InItems ts) (n : Node)
+pub one_more_item : (bytes : List ℕ) (ts us : List Token) (i : InItems ts) (n : FlatNode)
     → ts ≡ token_at bytes n ∷ us
     → (n ≡ EndArray → ⊥) → (j : text.Json) × (js : text.Items) × (i.source ≡ text.item j js)
 one_more_item bytes ts us i n e p = go i.source refl
@@ -216,7 +217,7 @@ pub record Split (ts after : List Token) : Type 0 where
       × (value_at (Token.begin_array ∷ ts) ≡ json.array (json.add_item (value_at ts) vs))
       × (value_at (Token.begin_array ∷ after) ≡ json.array vs)
 
-pub split_items : (bytes : List ℕ) (ts us after : List Token) (n : Node)
+pub split_items : (bytes : List ℕ) (ts us after : List Token) (n : FlatNode)
     → is_flat (Token.begin_array ∷ ts) ≡ true
     → ts ≡ token_at bytes n ∷ us → (n ≡ EndArray → ⊥)
     → ((depth : ℕ) (j : text.Json) (rest : List Token) → text.value depth ts ≡ Some (j, rest) → rest ≡ after)
@@ -255,7 +256,7 @@ some_items (text.item j js) rest =
       some_token j,
     )
 
-pub items_within : (bytes : List ℕ) (ns : List Node) (at : ℕ)
+pub items_within : (bytes : List ℕ) (ns : List FlatNode) (at : ℕ)
     → is_flat (Token.begin_array ∷ drop at (tokens_at bytes ns)) ≡ true
     → at < length ns
 items_within bytes ns at h =

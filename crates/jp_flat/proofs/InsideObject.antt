@@ -18,10 +18,10 @@ use Rattle.jp_doc.specs.Json.{Text, Json}
 use Rattle.jp_flat.specs.Document.{document_tokens}
 use Rattle.jp_flat.specs.Flat.{value_at}
 use Rattle.jp_flat_nodes.specs.Nodes.{token_at, tokens_at}
-use Rattle.jp_flat_nodes.specs.declared.node.Node.{Node}
-use Rattle.jp_flat_nodes.specs.declared.node.Node.TheVariants as node
-use Rattle.jp_flat_nodes.specs.declared.node.Node.TheVariants.{Object, EndObject, Array, EndArray, Key}
-use Rattle.jp_flat_nodes.specs.declared.node.Node.TheVariants.{Number, Truth, Null}
+use Rattle.jp_flat_nodes.specs.declared.node.FlatNode.{FlatNode}
+use Rattle.jp_flat_nodes.specs.declared.node.FlatNode.TheVariants as node
+use Rattle.jp_flat_nodes.specs.declared.node.FlatNode.TheVariants.{Object, EndObject, Array, EndArray, Key}
+use Rattle.jp_flat_nodes.specs.declared.node.FlatNode.TheVariants.{Number, Truth, Null}
 use Rattle.jp_flat.specs.inner.Plain.{is_flat, max_tokens, is_fit, members_are_fit}
 use Rattle.jp_flat.specs.Members.{entries_of, entries_read, entries_at, put_all}
 use Rattle.jp_flat.specs.Value.{members_value, entries}
@@ -218,7 +218,7 @@ some_members : (ms : text.Members) (rest : List Token) → 0 < length (members_t
 some_members text.no_members rest = omega arith
 some_members (text.member k j ms) rest = omega arith
 
-pub members_within : (bytes : List ℕ) (ns : List Node) (at : ℕ)
+pub members_within : (bytes : List ℕ) (ns : List FlatNode) (at : ℕ)
     → is_flat (Token.begin_object ∷ drop at (tokens_at bytes ns)) ≡ true
     → at < length ns
 members_within bytes ns at h =
@@ -231,7 +231,7 @@ members_within bytes ns at h =
     omega (arith, ap length none, some_members i.source i.rest))
 
 -- the value of the first member begins behind its key
-pub value_within : (bytes : List ℕ) (ns : List Node) (at : ℕ) (k : List ℕ)
+pub value_within : (bytes : List ℕ) (ns : List FlatNode) (at : ℕ) (k : List ℕ)
     → is_flat (Token.begin_object ∷ drop at (tokens_at bytes ns)) ≡ true
     → drop at (tokens_at bytes ns) ≡ Token.key k ∷ drop (at + 1) (tokens_at bytes ns) → at + 1 < length ns
 value_within bytes ns at k h e =
@@ -268,7 +268,7 @@ first_is_key (t ∷ ts) = is_key t
 not_key : (ts : List Token) → first_is_key ts ≡ false → NoKey ts
 not_key ts h k us e = true≢false (sym (ap first_is_key e) ∙ h)
 
-pub no_key : (bytes : List ℕ) (n : Node) (us : List Token) → ((from count : ℕ) → n ≡ Key from count → ⊥)
+pub no_key : (bytes : List ℕ) (n : FlatNode) (us : List Token) → ((from count : ℕ) → n ≡ Key from count → ⊥)
     → NoKey (token_at bytes n ∷ us)
 no_key bytes (Object a) us p = not_key _ refl
 no_key bytes EndObject us p = not_key _ refl

@@ -17,11 +17,12 @@ use Rattle.json.proofs.Printed.Utf8.{are_ascii, IsUtf8-are_ascii}
 use Rattle.jp_doc.proofs.LineTexts.{IsText, AreTexts}
 use Rattle.jp_flat.specs.inner.Held.{HasPiece}
 use Rattle.jp_flat_nodes.specs.Nodes.{piece, token_at, tokens_at, IsWithin, AreWithin}
-use Rattle.jp_flat_nodes.specs.declared.node.Node.{Node}
-use Rattle.jp_flat_nodes.specs.declared.node.Node.TheVariants.{Object, EndObject, Array, EndArray, Key, Text}
-use Rattle.jp_flat_nodes.specs.declared.node.Node.TheVariants.{Number, Truth, Null}
+use Rattle.jp_flat_nodes.specs.declared.node.FlatNode.{FlatNode}
+use Rattle.jp_flat_nodes.specs.declared.node.FlatNode.TheVariants.{Object, EndObject, Array, EndArray, Key}
+use Rattle.jp_flat_nodes.specs.declared.node.FlatNode.TheVariants.{Text}
+use Rattle.jp_flat_nodes.specs.declared.node.FlatNode.TheVariants.{Number, Truth, Null}
 
-pub HasPiece-IsProp : (text : List ℕ) (n : Node) → IsProp (HasPiece text n)
+pub HasPiece-IsProp : (text : List ℕ) (n : FlatNode) → IsProp (HasPiece text n)
 HasPiece-IsProp text (Object end) = hlevel props
 HasPiece-IsProp text EndObject = hlevel props
 HasPiece-IsProp text (Array end) = hlevel props
@@ -142,7 +143,7 @@ number_is_ascii s e = go (after_whole (after_minus s)) refl e
 
 -- ---- of each node
 
-one_piece : (text : List ℕ) (n : Node) → IsText (token_at text n) → IsPrintableOrBad (token_at text n)
+one_piece : (text : List ℕ) (n : FlatNode) → IsText (token_at text n) → IsPrintableOrBad (token_at text n)
     → IsWithin (length text) n → HasPiece text n
 one_piece text (Object end) h p w = tt
 one_piece text EndObject h p w = tt
@@ -155,7 +156,7 @@ one_piece text (Number from count) h p w =
 one_piece text (Truth b) h p w = tt
 one_piece text Null h p w = tt
 
-pub pieces_are : (text : List ℕ) (ns : List Node) → AreTexts (tokens_at text ns)
+pub pieces_are : (text : List ℕ) (ns : List FlatNode) → AreTexts (tokens_at text ns)
     → ArePrintableOrBad (tokens_at text ns) → AreWithin (length text) ns
     → (i : ℕ) → HasPiece text (get_or ns i Null)
 pieces_are text [] h p w i = tt

@@ -32,7 +32,7 @@ use Rattle.jp_flat.proofs.Reading.{of_tree, flat_is, read_flat}
 use Rattle.jp_flat_nodes.specs.Digits.{are_digits, are_few_digits, is_short_whole}
 use Rattle.jp_flat_nodes.specs.Nodes.{tokens_at, token_at, AreLinked, AreWithin, IsRead, are_taken}
 use Rattle.jp_flat_nodes.specs.Nodes.{items_are_taken, members_are_taken}
-use Rattle.jp_flat_nodes.specs.declared.node.Node.{Node}
+use Rattle.jp_flat_nodes.specs.declared.node.FlatNode.{FlatNode}
 use Rattle.jp_number.specs.declared.numbers.Numbers.TheVariants.{Decimals}
 
 -- ---- short whole numbers have 64 bits
@@ -99,7 +99,7 @@ mutual
       let others = plain_members ms r one.1 b.1 in
       (both_back _ _ (is_utf8-from_IsUtf8 k h.0) (both_back _ _ one.0 others.0), others.1)
 
-plain_line : (line : List ℕ) (nodes : List Node) (r : IsRead false line nodes) → IsUtf8 line
+plain_line : (line : List ℕ) (nodes : List FlatNode) (r : IsRead false line nodes) → IsUtf8 line
     → is_plain r.value ≡ true
 plain_line line nodes r u =
     let spelled = tokens-document line r.value r.is ∙ sym (append-nil (json_tokens r.value)) in
@@ -107,11 +107,11 @@ plain_line line nodes r u =
 
 -- ---- nodes that are the tokens of a line
 
-few_tokens : (line bytes : List ℕ) (nodes : List Node) → tokens_at bytes nodes ≡ tokens line
+few_tokens : (line bytes : List ℕ) (nodes : List FlatNode) → tokens_at bytes nodes ≡ tokens line
     → length nodes ≤ 16777218 → length (tokens line) ≤ max_tokens
 few_tokens line bytes nodes are few = omega (arith, ap length are, length-map nodes (token_at bytes), few)
 
-held : (line bytes : List ℕ) (nodes : List Node) → tokens_at bytes nodes ≡ tokens line → IsUtf8 line
+held : (line bytes : List ℕ) (nodes : List FlatNode) → tokens_at bytes nodes ≡ tokens line → IsUtf8 line
     → AreLinked (tokens line) nodes → AreWithin (length bytes) nodes → is_flat (tokens line) ≡ true
     → IsHeld bytes nodes
 held line bytes nodes are u linked within flat = record {
@@ -122,7 +122,7 @@ held line bytes nodes are u linked within flat = record {
 }
 
 -- a line that was read in one pass
-pub read_whole : (line : List ℕ) (nodes : List Node) → IsRead false line nodes → IsUtf8 line
+pub read_whole : (line : List ℕ) (nodes : List FlatNode) → IsRead false line nodes → IsUtf8 line
     → length line ≤ max_line
     → IsReadAs (reading line) line nodes
 read_whole line nodes r u short =
@@ -134,7 +134,7 @@ read_whole line nodes r u short =
       value = flat.reads ∙ ap (λ ts. Ok (value_at ts)) (sym r.are);
     }
 
-pub read_grammar : (line : List ℕ) (nodes : List Node) → IsRead true line nodes → IsUtf8 line
+pub read_grammar : (line : List ℕ) (nodes : List FlatNode) → IsRead true line nodes → IsUtf8 line
     → length line ≤ max_line → IsReadAs (grammar_reading line) line nodes
 read_grammar line nodes r u short =
     let few = few_tokens line line nodes r.are r.few in
@@ -147,7 +147,7 @@ read_grammar line nodes r u short =
     }
 
 -- a line that the kit has read, and whose nodes were laid
-pub laid_whole : (line bytes : List ℕ) (nodes : List Node) (tape : List Token) → tape ≡ tokens line
+pub laid_whole : (line bytes : List ℕ) (nodes : List FlatNode) (tape : List Token) → tape ≡ tokens line
     → IsSome (text.document line) → tokens_at bytes nodes ≡ tape → AreLinked tape nodes
     → AreWithin (length bytes) nodes → IsUtf8 line → length line ≤ max_line → length tape ≤ max_tokens
     → is_plain_from 0 tape ≡ true → IsReadAs (reading line) bytes nodes
@@ -162,7 +162,7 @@ laid_whole line bytes nodes tape is some same linked within u short few plain =
       value = flat.reads ∙ ap (λ ts. Ok (value_at ts)) (sym are);
     }
 
-pub laid_grammar : (line bytes : List ℕ) (nodes : List Node) (tape : List Token) → tape ≡ tokens line
+pub laid_grammar : (line bytes : List ℕ) (nodes : List FlatNode) (tape : List Token) → tape ≡ tokens line
     → IsSome (text.document line) → tokens_at bytes nodes ≡ tape → AreLinked tape nodes
     → AreWithin (length bytes) nodes → IsUtf8 line → length line ≤ max_line → length tape ≤ max_tokens
     → pass_fault tape ≡ None → IsReadAs (grammar_reading line) bytes nodes
@@ -176,7 +176,7 @@ laid_grammar line bytes nodes tape is some same linked within u short few none =
     }
 
 -- what the grammar alone reads is read with decimals
-pub told : (line bytes : List ℕ) (nodes : List Node) → IsReadAs (grammar_reading line) bytes nodes
+pub told : (line bytes : List ℕ) (nodes : List FlatNode) → IsReadAs (grammar_reading line) bytes nodes
     → IsReadAs (reading_in Decimals line) bytes nodes
 told line bytes nodes r = record {
   few = r.few;

@@ -20,9 +20,10 @@ use Rattle.jp_doc.specs.Tree.{text_number, tree_json, tree_items, tree_members}
 use Rattle.jp_flat.specs.Flat.{value_at}
 use Rattle.jp_flat.specs.inner.Plain.{is_flat, is_fit, is_fit_number}
 use Rattle.jp_flat_nodes.specs.Nodes.{piece, token_at, tokens_at}
-use Rattle.jp_flat_nodes.specs.declared.node.Node.{Node}
-use Rattle.jp_flat_nodes.specs.declared.node.Node.TheVariants.{Object, EndObject, Array, EndArray, Key, Text}
-use Rattle.jp_flat_nodes.specs.declared.node.Node.TheVariants.{Number, Truth, Null}
+use Rattle.jp_flat_nodes.specs.declared.node.FlatNode.{FlatNode}
+use Rattle.jp_flat_nodes.specs.declared.node.FlatNode.TheVariants.{Object, EndObject, Array, EndArray, Key}
+use Rattle.jp_flat_nodes.specs.declared.node.FlatNode.TheVariants.{Text}
+use Rattle.jp_flat_nodes.specs.declared.node.FlatNode.TheVariants.{Number, Truth, Null}
 use Rattle.jp_flat.specs.Value.{text_in, number_in, IsNoArray, IsNoObject}
 use Rattle.jp_flat.proofs.PlainTokens.{some_token}
 use Rattle.jp_flat.proofs.Reading.{Flat, flat_of, read_of_flat, value_is}
@@ -50,19 +51,19 @@ by_link all i end d j rest link e =
 
 -- the nodes of a document with these texts
 module _ (bytes : List ℕ) where
-  pub here : (ns : List Node) (i : ℕ) (d : Node) → i < length ns
+  pub here : (ns : List FlatNode) (i : ℕ) (d : FlatNode) → i < length ns
       → drop i (tokens_at bytes ns) ≡ token_at bytes (get_or ns i d) ∷ drop (i + 1) (tokens_at bytes ns)
   here ns i d h =
       drop_more (tokens_at bytes ns) i (token_at bytes d) (omega (arith, length-map ns (token_at bytes)))
       ∙ ap (λ t. t ∷ drop (i + 1) (tokens_at bytes ns)) (get_or-map (token_at bytes) ns i d
       (token_at bytes d) h)
 
-  pub within : (ns : List Node) (i : ℕ) → is_flat (drop i (tokens_at bytes ns)) ≡ true → i < length ns
+  pub within : (ns : List FlatNode) (i : ℕ) → is_flat (drop i (tokens_at bytes ns)) ≡ true → i < length ns
   within ns i h = lt_of_not-le (λ k. not_flat (subst (λ ts. is_flat ts ≡ true) (drop_all i
       (tokens_at bytes ns)
       (omega (arith, length-map ns (token_at bytes)))) h))
 
-  abbrev pub Shape : Node → List Token → text.Json → List Token → Type 0
+  abbrev pub Shape : FlatNode → List Token → text.Json → List Token → Type 0
   Shape (Object a) ts j rest = (ms : text.Members) × (j ≡ text.object ms)
   Shape EndObject ts j rest = ⊥
   Shape (Array a) ts j rest = (js : text.Items) × (j ≡ text.array js)
@@ -73,7 +74,7 @@ module _ (bytes : List ℕ) where
   Shape (Truth b) ts j rest = (j ≡ text.boolean b) × (rest ≡ ts)
   Shape Null ts j rest = (j ≡ text.null) × (rest ≡ ts)
 
-  pub shape : (n : Node) (ts : List Token) (j : text.Json) (d : ℕ) (rest : List Token)
+  pub shape : (n : FlatNode) (ts : List Token) (j : text.Json) (d : ℕ) (rest : List Token)
       → text.value d (token_at bytes n ∷ ts) ≡ Some (j, rest) → Shape n ts j rest
   shape (Object a) ts j d rest e = made text.object _ j rest (sym (grammar.value_is d _) ∙ e)
   shape EndObject ts j d rest e = not_found (j, rest) (sym (grammar.value_is d _) ∙ e)
@@ -88,7 +89,7 @@ module _ (bytes : List ℕ) where
   shape Null ts j d rest e = alone text.null j ts rest (sym (grammar.value_is d _) ∙ e)
 
   -- what a node tells of the value
-  abbrev pub Tells : Node → Json → Type 0
+  abbrev pub Tells : FlatNode → Json → Type 0
   Tells (Object a) v = (ms : json.Members) × (v ≡ json.object ms)
   Tells EndObject v = ⊥
   Tells (Array a) v = (vs : json.Items) × (v ≡ json.array vs)
@@ -99,13 +100,13 @@ module _ (bytes : List ℕ) where
   Tells (Truth b) v = v ≡ json.truth b
   Tells Null v = v ≡ json.null
 
-  pub tells : (n : Node) (ts : List Token) → is_flat (token_at bytes n ∷ ts) ≡ true
+  pub tells : (n : FlatNode) (ts : List Token) → is_flat (token_at bytes n ∷ ts) ≡ true
       → Tells n (value_at (token_at bytes n ∷ ts))
   tells n ts h =
       let f = flat_of (token_at bytes n ∷ ts) h in
       go n f (shape n ts f.source max_depth f.rest (read_of_flat (token_at bytes n ∷ ts) f))
     where
-      go : (n : Node) (f : Flat (token_at bytes n ∷ ts)) → Shape n ts f.source f.rest
+      go : (n : FlatNode) (f : Flat (token_at bytes n ∷ ts)) → Shape n ts f.source f.rest
           → Tells n (value_at (token_at bytes n ∷ ts))
       go (Object a) f sh = (tree_members sh.0 json.no_members, value_is _ f ∙ ap tree_json sh.1)
       go EndObject f sh = sh
@@ -117,12 +118,12 @@ module _ (bytes : List ℕ) where
       go (Truth b) f sh = value_is _ f ∙ ap tree_json sh.0
       go Null f sh = value_is _ f ∙ ap tree_json sh.0
 
-  pub node_tells : (ts : List Token) (n : Node) → is_flat ts ≡ true → ts ≡ token_at bytes n ∷ drop 1 ts
+  pub node_tells : (ts : List Token) (n : FlatNode) → is_flat ts ≡ true → ts ≡ token_at bytes n ∷ drop 1 ts
       → Tells n (value_at ts)
   node_tells ts n h e = subst (λ l. Tells n (value_at l)) (sym e) (tells n (drop 1 ts) (subst
       (λ l. is_flat l ≡ true) e h))
 
-  pub other_node : (n : Node) (v : Json) → ((a : ℕ) → n ≡ Object a → ⊥) → ((a : ℕ) → n ≡ Array a → ⊥)
+  pub other_node : (n : FlatNode) (v : Json) → ((a : ℕ) → n ≡ Object a → ⊥) → ((a : ℕ) → n ≡ Array a → ⊥)
       → ((from count : ℕ) → n ≡ Text from count → ⊥) → ((from count : ℕ) → n ≡ Number from count → ⊥)
       → ((b : common.Bool) → n ≡ Truth b → ⊥) → Tells n v → v ≡ json.null
   other_node (Object a) v p q r s u t = absurd (p a refl)
@@ -135,7 +136,7 @@ module _ (bytes : List ℕ) where
   other_node (Truth b) v p q r s u t = absurd (u b refl)
   other_node Null v p q r s u t = t
 
-  pub no_array : (n : Node) (v : Json) → ((a : ℕ) → n ≡ Array a → ⊥) → Tells n v → IsNoArray v
+  pub no_array : (n : FlatNode) (v : Json) → ((a : ℕ) → n ≡ Array a → ⊥) → Tells n v → IsNoArray v
   no_array (Object a) v p t = subst IsNoArray (sym t.1) tt
   no_array EndObject v p t = absurd t
   no_array (Array a) v p t = absurd (p a refl)
@@ -146,7 +147,7 @@ module _ (bytes : List ℕ) where
   no_array (Truth b) v p t = subst IsNoArray (sym t) tt
   no_array Null v p t = subst IsNoArray (sym t) tt
 
-  pub one_token : (n : Node) (ts : List Token) (j : text.Json) (d : ℕ) (rest : List Token)
+  pub one_token : (n : FlatNode) (ts : List Token) (j : text.Json) (d : ℕ) (rest : List Token)
       → ((a : ℕ) → n ≡ Object a → ⊥) → ((a : ℕ) → n ≡ Array a → ⊥)
       → text.value d (token_at bytes n ∷ ts) ≡ Some (j, rest) → rest ≡ ts
   one_token (Object a) ts j d rest p q e = absurd (p a refl)
@@ -159,7 +160,7 @@ module _ (bytes : List ℕ) where
   one_token (Truth b) ts j d rest p q e = (shape (Truth b) ts j d rest e).1
   one_token Null ts j d rest p q e = (shape Null ts j d rest e).1
 
-  pub no_object : (n : Node) (v : Json) → ((a : ℕ) → n ≡ Object a → ⊥) → Tells n v → IsNoObject v
+  pub no_object : (n : FlatNode) (v : Json) → ((a : ℕ) → n ≡ Object a → ⊥) → Tells n v → IsNoObject v
   no_object (Object a) v p t = absurd (p a refl)
   no_object EndObject v p t = absurd t
   no_object (Array a) v p t = subst IsNoObject (sym t.1) tt
@@ -170,7 +171,7 @@ module _ (bytes : List ℕ) where
   no_object (Truth b) v p t = subst IsNoObject (sym t) tt
   no_object Null v p t = subst IsNoObject (sym t) tt
 
-  pub no_number : (n : Node) (v : Json) → ((from count : ℕ) → n ≡ Number from count → ⊥) → Tells n v
+  pub no_number : (n : FlatNode) (v : Json) → ((from count : ℕ) → n ≡ Number from count → ⊥) → Tells n v
       → None ≡ number_in v
   no_number (Object a) v p t = sym (ap number_in t.1)
   no_number EndObject v p t = absurd t
@@ -182,7 +183,7 @@ module _ (bytes : List ℕ) where
   no_number (Truth b) v p t = sym (ap number_in t)
   no_number Null v p t = sym (ap number_in t)
 
-  pub no_text : (n : Node) (v : Json) → ((from count : ℕ) → n ≡ Text from count → ⊥) → Tells n v
+  pub no_text : (n : FlatNode) (v : Json) → ((from count : ℕ) → n ≡ Text from count → ⊥) → Tells n v
       → None ≡ text_in v
   no_text (Object a) v p t = sym (ap text_in t.1)
   no_text EndObject v p t = absurd t
@@ -195,7 +196,7 @@ module _ (bytes : List ℕ) where
   no_text Null v p t = sym (ap text_in t)
 
   -- the text of a number is fit
-  pub number_is_fit : (ts : List Token) (n : Node) (from count : ℕ) → is_flat ts ≡ true
+  pub number_is_fit : (ts : List Token) (n : FlatNode) (from count : ℕ) → is_flat ts ≡ true
       → ts ≡ token_at bytes n ∷ drop 1 ts → n ≡ Number from count
       → is_fit_number (piece bytes from count) ≡ true
   number_is_fit ts n from count h e is =

@@ -11,8 +11,8 @@ use Rattle.jp_flat.specs.Members.{entries_at}
 use Rattle.jp_flat.specs.declared.value.FlatItems.{FlatItems}
 use Rattle.jp_flat.specs.declared.value.FlatMembers.{FlatMembers}
 use Rattle.jp_flat.specs.declared.value.FlatValue.{FlatValue}
-use Rattle.jp_flat.specs.declared.value.Kind.{Kind}
-use Rattle.jp_flat.specs.declared.value.Kind.TheVariants.{Null, Truth, Number, Text, Array, Object}
+use Rattle.jp_flat.specs.declared.value.FlatKind.{FlatKind}
+use Rattle.jp_flat.specs.declared.value.FlatKind.TheVariants.{Null, Truth, Number, Text, Array, Object}
 use Rattle.jp_number.specs.Number as numbers
 
 -- the tokens from the value's first on
@@ -24,7 +24,7 @@ abbrev pub flat_value : FlatValue → Json
 flat_value v = value_at (tokens_of v)
 
 -- what a kind tells of the value
-abbrev pub IsKind : Kind → Json → Type 0
+abbrev pub IsKind : FlatKind → Json → Type 0
 IsKind Null v = v ≡ null
 IsKind (Truth b) v = v ≡ truth b
 IsKind (Number s) v = v ≡ number (text_number s.now)

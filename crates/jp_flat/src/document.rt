@@ -7,7 +7,7 @@ ghost use Rattle.jp_flat.specs.inner.Held.{HasPiece, IsHeld, IsPiece};
 ghost use Rattle.jp_flat_nodes.specs.Nodes.{piece, token_at, tokens_at};
 
 use crate::value::FlatValue;
-use jp_flat_nodes::Node;
+use jp_flat_nodes::FlatNode;
 use std::str;
 
 /// A document as a flat list of nodes, which lie in the buffers of a reader. Their texts stand in the line,
@@ -16,7 +16,7 @@ use std::str;
 #[derive(Drop)]
 pub struct FlatDocument<'a> {
     text: &'a [u8],
-    nodes: &'a [Node],
+    nodes: &'a [FlatNode],
     ghost few: { length nodes.now ≤ 16777218 },
     ghost held: { ∥ IsHeld text.now nodes.now ∥₁ },
 }
@@ -26,7 +26,7 @@ impl<'a> FlatDocument<'a> {
     ghost use Rattle.jp_flat.specs.Value.{flat_value};
 
     /// The document of these nodes.
-    pub(crate) fn new(text: &'a [u8], nodes: &'a [Node]) -> FlatDocument<'a>
+    pub(crate) fn new(text: &'a [u8], nodes: &'a [FlatNode]) -> FlatDocument<'a>
         requires few { length nodes.now ≤ 16777218 }
         requires held { IsHeld text.now nodes.now }
         ensures text { result.text.now ≡ text.now }
@@ -38,7 +38,7 @@ impl<'a> FlatDocument<'a> {
     /// The node at this place.
     // Each step of a cursor looks at a node so.
     #[inline(always)]
-    pub(crate) fn node(&self, at: u32) -> Node
+    pub(crate) fn node(&self, at: u32) -> FlatNode
         requires { at < length self.now.nodes.now }
         ensures token { drop at (tokens_at self.now.text.now self.now.nodes.now)
             ≡ token_at self.now.text.now result
@@ -60,7 +60,7 @@ impl<'a> FlatDocument<'a> {
     {
         let node = self.nodes[at as usize];
         match node {
-            Node::Object(end) | Node::Array(end) => end,
+            FlatNode::Object(end) | FlatNode::Array(end) => end,
             _ => at + 1,
         }
     }

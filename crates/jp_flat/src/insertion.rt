@@ -16,7 +16,7 @@ use std::alloc::AllocError;
 use std::cmp::Ordering;
 
 /// Where a name belongs among names that rise.
-enum Place {
+enum NamePlace {
     /// In front of the one with this index, or behind all.
     Before(usize),
     /// At this index, where it stands already.
@@ -24,7 +24,7 @@ enum Place {
 }
 
 /// Where the name belongs. Names that come in order belong behind all, so it is looked for from there.
-fn place_of(list: &[FlatMember<'_>], name: &str) -> Place
+fn place_of(list: &[FlatMember<'_>], name: &str) -> NamePlace
     requires { NamesRise (gathered list.now) }
     ensures { IsPlace result (chars name.now) list.now }
 {
@@ -32,11 +32,11 @@ fn place_of(list: &[FlatMember<'_>], name: &str) -> Place
     while place > 0 {
         match order(name, list[place - 1].name) {
             Ordering::Less => place -= 1,
-            Ordering::Equal => return Place::Same(place - 1),
-            Ordering::Greater => return Place::Before(place),
+            Ordering::Equal => return NamePlace::Same(place - 1),
+            Ordering::Greater => return NamePlace::Before(place),
         }
     }
-    Place::Before(0)
+    NamePlace::Before(0)
 }
 
 /// Puts a member where its name belongs, and in the place of one that has it.
@@ -48,8 +48,8 @@ fn put<'d>(member: FlatMember<'d>, list: &mut Vec<FlatMember<'d>>) -> Result<(),
         (flat_value member.entry.value) (gathered list.old.items)) }
 {
     match place_of(list.as_slice(), member.name) {
-        Place::Before(place) => list.insert(place, member)?,
-        Place::Same(place) => list[place] = member,
+        NamePlace::Before(place) => list.insert(place, member)?,
+        NamePlace::Same(place) => list[place] = member,
     }
     Ok(())
 }

@@ -17,4 +17,4 @@ mod value;
 pub use document::FlatDocument;
 pub use line_reader::{LineDocument, LineReader};
 pub use reader::FlatReader;
-pub use value::{FlatItems, FlatMember, FlatMembers, FlatValue, Kind};
+pub use value::{FlatItems, FlatKind, FlatMember, FlatMembers, FlatValue};

@@ -10,7 +10,7 @@ use crate::document::FlatDocument;
 use crate::nodes::{are_plain, fault_in};
 use bumpalo::Bump;
 use jp_doc::{DocFault, LONG_LINE, MAX_LINE};
-use jp_flat_nodes::{MAX_NODES, Node, lay, read_decimal_line, read_line};
+use jp_flat_nodes::{FlatNode, MAX_NODES, lay, read_decimal_line, read_line};
 use json::{Error, Scratch, Tape};
 use std::alloc::{AllocError, Global};
 
@@ -21,7 +21,7 @@ pub(crate) struct Room {
     /// Whether the last line had over 1,000,000 bytes.
     was_long: bool,
     /// The nodes of a line.
-    nodes: Vec<Node>,
+    nodes: Vec<FlatNode>,
     /// Their texts, where those that the line writes are not plain.
     texts: Vec<u8>,
     /// What the kit's reader takes for such a line.

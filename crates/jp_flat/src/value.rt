@@ -10,7 +10,7 @@ ghost use Rattle.jp_flat_nodes.specs.Nodes.{token_at};
 
 use crate::digits::read_number;
 use crate::document::FlatDocument;
-use jp_flat_nodes::Node;
+use jp_flat_nodes::FlatNode;
 use jp_number::Number;
 
 /// A value of a flat document.
@@ -48,7 +48,7 @@ pub struct FlatMember<'d> {
 
 /// What a value is, with no look inside of it.
 #[derive(Clone, Copy)]
-pub enum Kind<'d> {
+pub enum FlatKind<'d> {
     /// `null`.
     Null,
     /// `true` or `false`.
@@ -82,7 +82,7 @@ impl<'d> FlatValue<'d> {
 
     /// The node that the value begins with.
     #[inline(always)]
-    fn node(self) -> Node
+    fn node(self) -> FlatNode
         ensures token { tokens_of self.entry
             ≡ token_at self.entry.document.now.text.now result ∷ drop 1 (tokens_of self.entry) }
         ensures piece { HasPiece self.entry.document.now.text.now result }
@@ -91,16 +91,16 @@ impl<'d> FlatValue<'d> {
     }
 
     /// What the value is.
-    pub fn kind(self) -> Kind<'d>
+    pub fn kind(self) -> FlatKind<'d>
         ensures { IsKind result (flat_value self.entry) }
     {
         match self.node() {
-            Node::Object(_) => Kind::Object,
-            Node::Array(_) => Kind::Array,
-            Node::Text(from, count) => Kind::Text(self.document.piece(from, count)),
-            Node::Number(from, count) => Kind::Number(self.document.piece(from, count)),
-            Node::Truth(truth) => Kind::Truth(truth),
-            _ => Kind::Null,
+            FlatNode::Object(_) => FlatKind::Object,
+            FlatNode::Array(_) => FlatKind::Array,
+            FlatNode::Text(from, count) => FlatKind::Text(self.document.piece(from, count)),
+            FlatNode::Number(from, count) => FlatKind::Number(self.document.piece(from, count)),
+            FlatNode::Truth(truth) => FlatKind::Truth(truth),
+            _ => FlatKind::Null,
         }
     }
 
@@ -109,7 +109,7 @@ impl<'d> FlatValue<'d> {
         ensures { option_map (λ s. chars s.now) result ≡ text_in (flat_value self.entry) }
     {
         match self.node() {
-            Node::Text(from, count) => Some(self.document.piece(from, count)),
+            FlatNode::Text(from, count) => Some(self.document.piece(from, count)),
             _ => None,
         }
     }
@@ -119,7 +119,7 @@ impl<'d> FlatValue<'d> {
         ensures { option_map number_of result ≡ number_in (flat_value self.entry) }
     {
         match self.node() {
-            Node::Number(from, count) => Some(read_number(self.document.piece(from, count))),
+            FlatNode::Number(from, count) => Some(read_number(self.document.piece(from, count))),
             _ => None,
         }
     }
@@ -141,7 +141,7 @@ impl<'d> FlatValue<'d> {
             ≡ option_map number_text (number_in (flat_value self.entry)) }
     {
         match self.node() {
-            Node::Number(from, count) => Some(self.document.piece(from, count)),
+            FlatNode::Number(from, count) => Some(self.document.piece(from, count)),
             _ => None,
         }
     }
@@ -159,7 +159,7 @@ impl<'d> FlatValue<'d> {
             (λ i. items_value i ≡ flat_value self.entry) }
     {
         match self.node() {
-            Node::Array(_) => Some(FlatItems {
+            FlatNode::Array(_) => Some(FlatItems {
                 document: self.document,
                 at: self.at + 1,
             }),
@@ -174,7 +174,7 @@ impl<'d> FlatValue<'d> {
             (λ m. members_value m ≡ flat_value self.entry) }
     {
         match self.node() {
-            Node::Object(_) => Some(FlatMembers {
+            FlatNode::Object(_) => Some(FlatMembers {
                 document: self.document,
                 at: self.at + 1,
             }),
@@ -231,7 +231,7 @@ impl<'d> FlatItems<'d> {
     {
         let (document, at) = (self.document, self.at);
         match document.node(at) {
-            Node::EndArray => None,
+            FlatNode::EndArray => None,
             _ => {
                 let end = document.after(at);
                 let others = FlatItems { document, at: end };
@@ -289,7 +289,7 @@ impl<'d> FlatMembers<'d> {
     {
         let (document, at) = (self.document, self.at);
         match document.node(at) {
-            Node::Key(from, count) => {
+            FlatNode::Key(from, count) => {
                 let name = document.piece(from, count);
                 let end = document.after(at + 1);
                 let value = FlatValue {

@@ -13,16 +13,17 @@ use Rattle.json.specs.Tree.{json_tokens}
 use Rattle.json.proofs.Found.{Some_inj}
 use Rattle.jp_flat_nodes.specs.Nodes.{tokens_at, token_at, link_of, IsWithin, AreWithin}
 use Rattle.jp_flat_nodes.specs.inner.Reads.{Spans, LinkedFrom, AreKept, Grows}
-use Rattle.jp_flat_nodes.specs.declared.node.Node.{Node}
-use Rattle.jp_flat_nodes.specs.declared.node.Node.TheVariants.{Null}
+use Rattle.jp_flat_nodes.specs.declared.node.FlatNode.{FlatNode}
+use Rattle.jp_flat_nodes.specs.declared.node.FlatNode.TheVariants.{Null}
 
 no_link : (end : ℕ) (P : Type 0) → None ≡ Some end → P
 no_link end P e = absurd (cc)
 
-pub one_longer : (old new : List Node) (n : Node) → new ≡ old ++ (n ∷ []) → length new ≡ length old + 1
+pub one_longer : (old new : List FlatNode) (n : FlatNode) → new ≡ old ++ (n ∷ [])
+    → length new ≡ length old + 1
 one_longer old new n e = ap length e ∙ length-append old (n ∷ [])
 
-pub grown_by : (line : List ℕ) (old new : List Node) (ts : List Token) → Grows line old new ts
+pub grown_by : (line : List ℕ) (old new : List FlatNode) (ts : List Token) → Grows line old new ts
     → length new ≡ length old + length ts
 grown_by line old new ts g =
     sym (length-map new (token_at line)) ∙ ap length g.tokens ∙ length-append (tokens_at line old) ts
@@ -30,7 +31,7 @@ grown_by line old new ts g =
 
 -- ---- nothing, and one node more
 
-pub nothing_more : (line : List ℕ) (old : List Node) → Grows line old old []
+pub nothing_more : (line : List ℕ) (old : List FlatNode) → Grows line old old []
 nothing_more line old = record {
   tokens = sym (append-nil (tokens_at line old));
   kept = λ i lt. refl;
@@ -38,15 +39,15 @@ nothing_more line old = record {
   within = λ h. h;
 }
 
-pub within_more : (size : ℕ) (ns : List Node) (n : Node) → AreWithin size ns → IsWithin size n
+pub within_more : (size : ℕ) (ns : List FlatNode) (n : FlatNode) → AreWithin size ns → IsWithin size n
     → AreWithin size (ns ++ (n ∷ []))
 within_more size [] n h k = (k, tt)
 within_more size (m ∷ ns) n h k = (h.0, within_more size ns n h.1 k)
 
-push_kept : (old new : List Node) (n : Node) → new ≡ old ++ (n ∷ []) → AreKept old new
+push_kept : (old new : List FlatNode) (n : FlatNode) → new ≡ old ++ (n ∷ []) → AreKept old new
 push_kept old new n e i lt = ap (λ l. get_or l i Null) e ∙ get_or-append old (n ∷ []) Null i lt
 
-at_end : (old : List Node) (n : Node) (i : ℕ) → length old ≤ i → link_of n ≡ None
+at_end : (old : List FlatNode) (n : FlatNode) (i : ℕ) → length old ≤ i → link_of n ≡ None
     → link_of (get_or (old ++ (n ∷ [])) i Null) ≡ None
 at_end old n i le none = go (cases_eq i (length old))
   where
@@ -60,7 +61,7 @@ at_end old n i le none = go (cases_eq i (length old))
     go (inr ne) =
         ap link_of (get_or_past (old ++ (n ∷ [])) i Null (omega (arith, length-append old (n ∷ []))))
 
-pub one_more : (line : List ℕ) (old new : List Node) (n : Node) → link_of n ≡ None
+pub one_more : (line : List ℕ) (old new : List FlatNode) (n : FlatNode) → link_of n ≡ None
     → IsWithin (length line) n → new ≡ old ++ (n ∷ []) → Grows line old new (token_at line n ∷ [])
 one_more line old new n none within made = record {
   tokens = ap (tokens_at line) made ∙ map-append (token_at line) old (n ∷ []);
@@ -83,7 +84,7 @@ spans_more all more from end s = record {
   ends = s.ends;
 }
 
-links_more : (line : List ℕ) (k : ℕ) (now new : List Node) (more : List Token) → LinkedFrom line k now
+links_more : (line : List ℕ) (k : ℕ) (now new : List FlatNode) (more : List Token) → LinkedFrom line k now
     → Grows line now new more → LinkedFrom line k new
 links_more line k now new more h g i end le e = go (cases_lt i (length now))
   where
@@ -93,7 +94,7 @@ links_more line k now new more h g i end le e = go (cases_lt i (length now))
         (spans_more (tokens_at line now) more i end (h i end le (ap link_of (sym (g.kept i lt)) ∙ e)))
     go (inr ge) = g.linked i end ge e
 
-pub then_more : (line : List ℕ) (old now new : List Node) (ts us : List Token) → Grows line old now ts
+pub then_more : (line : List ℕ) (old now new : List FlatNode) (ts us : List Token) → Grows line old now ts
     → Grows line now new us → Grows line old new (ts ++ us)
 then_more line old now new ts us g h = record {
   tokens = h.tokens ∙ ap (λ l. l ++ us) g.tokens ∙ append_assoc (tokens_at line old) ts us;
@@ -104,18 +105,18 @@ then_more line old now new ts us g h = record {
 
 -- ---- an array or object is closed
 
-within_set : (size : ℕ) (ns : List Node) (i : ℕ) (n : Node) → AreWithin size ns → IsWithin size n
+within_set : (size : ℕ) (ns : List FlatNode) (i : ℕ) (n : FlatNode) → AreWithin size ns → IsWithin size n
     → AreWithin size (set ns i n)
 within_set size [] i n h k = h
 within_set size (m ∷ ns) zero n h k = (k, h.1)
 within_set size (m ∷ ns) (suc i) n h k = (h.0, within_set size ns i n h.1 k)
 
 -- what is known where one is closed: `first` began it, and has become `linked`
-pub record Closing (line : List ℕ) (old opened mid final : List Node) (place : ℕ)
+pub record Closing (line : List ℕ) (old opened mid final : List FlatNode) (place : ℕ)
     (value : Json) : Type 0 where
-  pub first : Node
-  pub linked : Node
-  pub last : Node
+  pub first : FlatNode
+  pub linked : FlatNode
+  pub last : FlatNode
   pub inner : List Token
   pub begun : opened ≡ old ++ (first ∷ [])
   pub at : place ≡ length old
@@ -127,7 +128,7 @@ pub record Closing (line : List ℕ) (old opened mid final : List Node) (place :
   pub none : link_of last ≡ None
   pub within : IsWithin (length line) first × IsWithin (length line) linked × IsWithin (length line) last
 
-module _ (line : List ℕ) (old opened mid final : List Node) (place : ℕ) (value : Json)
+module _ (line : List ℕ) (old opened mid final : List FlatNode) (place : ℕ) (value : Json)
     (c : Closing line old opened mid final place value) where
   opened_longer : length opened ≡ length old + 1
   opened_longer = one_longer old opened c.first c.begun

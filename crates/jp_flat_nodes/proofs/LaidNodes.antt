@@ -12,9 +12,10 @@ use Rattle.json.specs.declared.tape.Node as tape
 use Rattle.json.specs.declared.tape.Node.TheVariants as taped
 use Rattle.json.proofs.Found.{Some_inj}
 use Rattle.jp_flat_nodes.specs.Nodes.{piece, token_at, tokens_at, link_of, AreLinked, IsWithin, AreWithin}
-use Rattle.jp_flat_nodes.specs.declared.node.Node.{Node}
-use Rattle.jp_flat_nodes.specs.declared.node.Node.TheVariants.{Object, EndObject, Array, EndArray, Key, Text}
-use Rattle.jp_flat_nodes.specs.declared.node.Node.TheVariants.{Number, Truth, Null}
+use Rattle.jp_flat_nodes.specs.declared.node.FlatNode.{FlatNode}
+use Rattle.jp_flat_nodes.specs.declared.node.FlatNode.TheVariants.{Object, EndObject, Array, EndArray, Key}
+use Rattle.jp_flat_nodes.specs.declared.node.FlatNode.TheVariants.{Text}
+use Rattle.jp_flat_nodes.specs.declared.node.FlatNode.TheVariants.{Number, Truth, Null}
 use Rattle.jp_flat_nodes.specs.inner.Laid.{link_in, EndsWithin, IsLaid}
 use Rattle.jp_flat_nodes.proofs.Growing.{within_more}
 
@@ -24,7 +25,7 @@ piece_stays text more from count h =
     ap (take count) (drop-append-le from text more (omega arith))
     ∙ take-append-le count (drop from text) more (omega (arith, length-drop from text))
 
-token_stays : (text more : List ℕ) (n : Node) → IsWithin (length text) n
+token_stays : (text more : List ℕ) (n : FlatNode) → IsWithin (length text) n
     → token_at (text ++ more) n ≡ token_at text n
 token_stays text more (Object end) h = refl
 token_stays text more EndObject h = refl
@@ -36,13 +37,13 @@ token_stays text more (Number from count) h = ap token.number (piece_stays text 
 token_stays text more (Truth b) h = refl
 token_stays text more Null h = refl
 
-tokens_stay : (text more : List ℕ) (ns : List Node) → AreWithin (length text) ns
+tokens_stay : (text more : List ℕ) (ns : List FlatNode) → AreWithin (length text) ns
     → tokens_at (text ++ more) ns ≡ tokens_at text ns
 tokens_stay text more [] h = refl
 tokens_stay text more (n ∷ ns) h =
     ap₂ (λ t ts. t ∷ ts) (token_stays text more n h.0) (tokens_stay text more ns h.1)
 
-wider : (n m : ℕ) (x : Node) → n ≤ m → IsWithin n x → IsWithin m x
+wider : (n m : ℕ) (x : FlatNode) → n ≤ m → IsWithin n x → IsWithin m x
 wider n m (Object end) le h = tt
 wider n m EndObject le h = tt
 wider n m (Array end) le h = tt
@@ -53,17 +54,17 @@ wider n m (Number from count) le h = omega (arith, h)
 wider n m (Truth b) le h = tt
 wider n m Null le h = tt
 
-all_wider : (n m : ℕ) (xs : List Node) → n ≤ m → AreWithin n xs → AreWithin m xs
+all_wider : (n m : ℕ) (xs : List FlatNode) → n ≤ m → AreWithin n xs → AreWithin m xs
 all_wider n m [] le h = tt
 all_wider n m (x ∷ xs) le h = (wider n m x le h.0, all_wider n m xs le h.1)
 
 -- so many of the kit's nodes are laid
-pub record LaidSoFar (texts : List ℕ) (done : List tape.Node) (nodes : List Node) : Type 0 where
+pub record LaidSoFar (texts : List ℕ) (done : List tape.Node) (nodes : List FlatNode) : Type 0 where
   pub tokens : tokens_at texts nodes ≡ map node_token done
   pub links : map link_of nodes ≡ map link_in done
   pub within : AreWithin (length texts) nodes
 
-pub none_laid : (texts : List ℕ) (nodes : List Node) → nodes ≡ [] → LaidSoFar texts [] nodes
+pub none_laid : (texts : List ℕ) (nodes : List FlatNode) → nodes ≡ [] → LaidSoFar texts [] nodes
 none_laid texts nodes e = record {
   tokens = ap (tokens_at texts) e;
   links = ap (map link_of) e;
@@ -71,8 +72,8 @@ none_laid texts nodes e = record {
 }
 
 -- one more
-pub one_laid : (old new : List ℕ) (done all : List tape.Node) (nodes more : List Node) (n : tape.Node)
-    (own : Node)
+pub one_laid : (old new : List ℕ) (done all : List tape.Node) (nodes more : List FlatNode) (n : tape.Node)
+    (own : FlatNode)
     → LaidSoFar old done nodes → IsLaid old new n own → more ≡ nodes ++ (own ∷ []) → all ≡ done ++ (n ∷ [])
     → LaidSoFar new all more
 one_laid old new done all nodes more n own s is made next =
@@ -107,7 +108,7 @@ passes all i (taped.Number s) end h e = no_link end _ e
 passes all i (taped.Bool b) end h e = no_link end _ e
 passes all i taped.Null end h e = no_link end _ e
 
-pub all_linked : (all : List Token) (nodes : List Node) (kit : List tape.Node) → Linked all 0 kit
+pub all_linked : (all : List Token) (nodes : List FlatNode) (kit : List tape.Node) → Linked all 0 kit
     → map link_of nodes ≡ map link_in kit → AreLinked all nodes
 all_linked all nodes kit linked same i end e = go (cases_lt i (length nodes))
   where

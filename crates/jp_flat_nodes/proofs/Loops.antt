@@ -8,8 +8,8 @@ use Rattle.json.specs.Tree.{json_tokens, items_tokens, members_tokens, HasNumber
 use Rattle.json.specs.Tree.{MembersHaveNumbers}
 use Rattle.jp_flat_nodes.specs.Nodes.{are_taken, items_are_taken, members_are_taken}
 use Rattle.jp_flat_nodes.specs.inner.Reads.{Grows, Prints, Reads, ReadsKey, ended, begin}
-use Rattle.jp_flat_nodes.specs.declared.node.Node.{Node}
-use Rattle.jp_flat_nodes.specs.declared.node.Node.TheVariants.{Object, EndObject, Array, EndArray}
+use Rattle.jp_flat_nodes.specs.declared.node.FlatNode.{FlatNode}
+use Rattle.jp_flat_nodes.specs.declared.node.FlatNode.TheVariants.{Object, EndObject, Array, EndArray}
 use Rattle.jp_flat_nodes.proofs.Cuts.{Blanks, byte_then}
 use Rattle.jp_flat_nodes.proofs.Digits.{both_true}
 use Rattle.jp_flat_nodes.proofs.Growing.{nothing_more, then_more, closes}
@@ -17,7 +17,7 @@ use Rattle.jp_flat_nodes.proofs.Printing.{both, one, here, behind, after_comma, 
 
 -- The line from `start` on is an opening bracket and these tokens, up to a value or a member that comes next,
 -- which begins at `cursor`; the nodes behind the bracket's are theirs.
-pub record SoFar (line : List ℕ) (start cursor : ℕ) (bracket : Token) (opened now : List Node)
+pub record SoFar (line : List ℕ) (start cursor : ℕ) (bracket : Token) (opened now : List FlatNode)
     (made : List Token) : Type 0 where
   pub later : start < cursor
   pub grows : Grows line opened now made
@@ -25,7 +25,7 @@ pub record SoFar (line : List ℕ) (start cursor : ℕ) (bracket : Token) (opene
       → Prints line false start end (bracket ∷ (made ++ ts))
 
 -- none yet, behind the bracket
-nothing_yet : (line : List ℕ) (start cursor : ℕ) (bracket : Token) (opened : List Node)
+nothing_yet : (line : List ℕ) (start cursor : ℕ) (bracket : Token) (opened : List FlatNode)
     → Prints line false start (start + 1) (bracket ∷ []) → ended false (bracket ∷ []) ≡ false
     → Blanks line (start + 1) cursor → SoFar line start cursor bracket opened opened []
 nothing_yet line start cursor bracket opened first state blanks = record {
@@ -37,7 +37,7 @@ nothing_yet line start cursor bracket opened first state blanks = record {
 }
 
 -- these and a value more, with a comma behind it
-one_more : (line : List ℕ) (start cursor end next : ℕ) (bracket : Token) (opened now new : List Node)
+one_more : (line : List ℕ) (start cursor end next : ℕ) (bracket : Token) (opened now new : List FlatNode)
     (made ts : List Token) (j : Json) → SoFar line start cursor bracket opened now made
     → begin (ts ++ json_tokens j) ≡ true → cursor < end → Prints line false cursor end (ts ++ json_tokens j)
     → Grows line now new (ts ++ json_tokens j) → drop end line ≡ 44 ∷ drop (end + 1) line
@@ -57,7 +57,7 @@ one_more line start cursor end next bracket opened now new made ts j s some late
     }
 
 -- the whole text, with a value more and the closing bracket
-all_text : (line : List ℕ) (start cursor end stop : ℕ) (bracket last : Token) (opened now : List Node)
+all_text : (line : List ℕ) (start cursor end stop : ℕ) (bracket last : Token) (opened now : List FlatNode)
     (made ts : List Token) (j : Json) → SoFar line start cursor bracket opened now made
     → begin (ts ++ json_tokens j) ≡ true → Prints line false cursor end (ts ++ json_tokens j)
     → Prints line true end stop (last ∷ [])
@@ -72,7 +72,7 @@ all_text line start cursor end stop bracket last opened now made ts j s some tex
 -- ---- items
 
 pub record ItemsSoFar (line : List ℕ) (decimals : Bool) (start cursor depth : ℕ)
-    (opened now : List Node) : Type 0 where
+    (opened now : List FlatNode) : Type 0 where
   pub made : List Token
   pub so_far : SoFar line start cursor begin_array opened now made
   pub whole : Items → Items
@@ -81,7 +81,7 @@ pub record ItemsSoFar (line : List ℕ) (decimals : Bool) (start cursor depth : 
   pub numbers : (js : Items) → ItemsHaveNumbers js → ItemsHaveNumbers (whole js)
   pub short : (js : Items) → items_are_taken decimals js ≡ true → items_are_taken decimals (whole js) ≡ true
 
-pub items_begin : (line : List ℕ) (decimals : Bool) (start cursor depth : ℕ) (opened : List Node)
+pub items_begin : (line : List ℕ) (decimals : Bool) (start cursor depth : ℕ) (opened : List FlatNode)
     → start < length line → get_or line start 0 ≡ 91 → Blanks line (start + 1) cursor
     → ItemsSoFar line decimals start cursor depth opened opened
 items_begin line decimals start cursor depth opened inside byte blanks = record {
@@ -96,7 +96,7 @@ items_begin line decimals start cursor depth opened inside byte blanks = record 
 }
 
 pub items_more : (line : List ℕ) (decimals : Bool) (start cursor end next depth : ℕ)
-    (opened now new : List Node)
+    (opened now new : List FlatNode)
     → ItemsSoFar line decimals start cursor depth opened now → Reads line decimals cursor end depth now new
     → drop end line ≡ 44 ∷ drop (end + 1) line → Blanks line (end + 1) next
     → ItemsSoFar line decimals start next depth opened new
@@ -113,7 +113,7 @@ items_more line decimals start cursor end next depth opened now new s v comma bl
 
 -- the array of no items
 pub no_items_close : (line : List ℕ) (decimals : Bool) (start cursor depth : ℕ)
-    (old opened final : List Node) (place : ℕ)
+    (old opened final : List FlatNode) (place : ℕ)
     → start < length line → get_or line start 0 ≡ 91 → Blanks line (start + 1) cursor
     → cursor < length line → get_or line cursor 0 ≡ 93
     → place ≡ length old → opened ≡ old ++ (Array 0 ∷ [])
@@ -150,7 +150,7 @@ no_items_close line decimals start cursor depth old opened final place inside by
     }
 
 pub items_close : (line : List ℕ) (decimals : Bool) (start cursor end stop depth : ℕ)
-    (old opened now new final : List Node)
+    (old opened now new final : List FlatNode)
     (place : ℕ) → ItemsSoFar line decimals start cursor depth opened now
     → Reads line decimals cursor end depth now new
     → Blanks line end stop → stop < length line → get_or line stop 0 ≡ 93
@@ -194,7 +194,7 @@ items_close line decimals start cursor end stop depth old opened now new final p
 -- ---- members
 
 pub record MembersSoFar (line : List ℕ) (decimals : Bool) (start cursor depth : ℕ)
-    (opened now : List Node) : Type 0 where
+    (opened now : List FlatNode) : Type 0 where
   pub made : List Token
   pub so_far : SoFar line start cursor begin_object opened now made
   pub whole : Members → Members
@@ -204,7 +204,7 @@ pub record MembersSoFar (line : List ℕ) (decimals : Bool) (start cursor depth 
   pub short : (ms : Members) → members_are_taken decimals ms ≡ true
       → members_are_taken decimals (whole ms) ≡ true
 
-pub members_begin : (line : List ℕ) (decimals : Bool) (start cursor depth : ℕ) (opened : List Node)
+pub members_begin : (line : List ℕ) (decimals : Bool) (start cursor depth : ℕ) (opened : List FlatNode)
     → start < length line → get_or line start 0 ≡ 123 → Blanks line (start + 1) cursor
     → MembersSoFar line decimals start cursor depth opened opened
 members_begin line decimals start cursor depth opened inside byte blanks = record {
@@ -221,7 +221,7 @@ members_begin line decimals start cursor depth opened inside byte blanks = recor
 
 -- a name and its value
 pub record ReadsMember (line : List ℕ) (decimals : Bool) (at end depth : ℕ)
-    (old new : List Node) : Type 0 where
+    (old new : List FlatNode) : Type 0 where
   pub name : List ℕ
   pub value : Json
   pub later : at < end
@@ -231,7 +231,8 @@ pub record ReadsMember (line : List ℕ) (decimals : Bool) (at end depth : ℕ)
   pub text : Prints line false at end (key name ∷ json_tokens value)
   pub grows : Grows line old new (key name ∷ json_tokens value)
 
-pub member_read : (line : List ℕ) (decimals : Bool) (at inside from end depth : ℕ) (old mid new : List Node)
+pub member_read : (line : List ℕ) (decimals : Bool) (at inside from end depth : ℕ)
+    (old mid new : List FlatNode)
     → ReadsKey line at inside old mid → Blanks line inside from → Reads line decimals from end depth mid new
     → ReadsMember line decimals at end depth old new
 member_read line decimals at inside from end depth old mid new k blanks v = record {
@@ -247,7 +248,7 @@ member_read line decimals at inside from end depth old mid new k blanks v = reco
 }
 
 pub members_more : (line : List ℕ) (decimals : Bool) (start cursor end next depth : ℕ)
-    (opened now new : List Node)
+    (opened now new : List FlatNode)
     → MembersSoFar line decimals start cursor depth opened now
     → ReadsMember line decimals cursor end depth now new
     → drop end line ≡ 44 ∷ drop (end + 1) line → Blanks line (end + 1) next
@@ -268,7 +269,7 @@ members_more line decimals start cursor end next depth opened now new s m comma 
 
 -- the object of no members
 pub no_members_close : (line : List ℕ) (decimals : Bool) (start cursor depth : ℕ)
-    (old opened final : List Node) (place : ℕ)
+    (old opened final : List FlatNode) (place : ℕ)
     → start < length line → get_or line start 0 ≡ 123 → Blanks line (start + 1) cursor
     → cursor < length line → get_or line cursor 0 ≡ 125
     → place ≡ length old → opened ≡ old ++ (Object 0 ∷ [])
@@ -305,7 +306,7 @@ no_members_close line decimals start cursor depth old opened final place inside 
     }
 
 pub members_close : (line : List ℕ) (decimals : Bool) (start cursor end stop depth : ℕ)
-    (old opened now new final : List Node)
+    (old opened now new final : List FlatNode)
     (place : ℕ) → MembersSoFar line decimals start cursor depth opened now
     → ReadsMember line decimals cursor end depth now new
     → Blanks line end stop → stop < length line → get_or line stop 0 ≡ 125

@@ -11,15 +11,15 @@ use Rattle.json.specs.Tree.{json_tokens, HasNumbers}
 use Rattle.jp_flat_nodes.specs.Digits.{is_taken}
 use Rattle.jp_flat_nodes.specs.Nodes.{piece, token_at, link_of, IsWithin, are_taken}
 use Rattle.jp_flat_nodes.specs.inner.Reads.{Reads, ReadsKey, IsPlainText, Grows, Prints}
-use Rattle.jp_flat_nodes.specs.declared.node.Node.{Node}
-use Rattle.jp_flat_nodes.specs.declared.node.Node.TheVariants.{Key, Text, Number}
+use Rattle.jp_flat_nodes.specs.declared.node.FlatNode.{FlatNode}
+use Rattle.jp_flat_nodes.specs.declared.node.FlatNode.TheVariants.{Key, Text, Number}
 use Rattle.jp_flat_nodes.proofs.Cuts.{byte_then, cut, quoted_text}
 use Rattle.jp_flat_nodes.proofs.Growing.{one_more}
 use Rattle.jp_flat_nodes.proofs.Printing.{here}
 
 -- one node more, whose token is a value
-pub leaf : (line : List ℕ) (decimals : Bool) (at end depth : ℕ) (old new : List Node) (n : Node) (j : Json)
-    (t : Token)
+pub leaf : (line : List ℕ) (decimals : Bool) (at end depth : ℕ) (old new : List FlatNode) (n : FlatNode)
+    (j : Json) (t : Token)
     → at < end → json_tokens j ≡ (t ∷ []) → token_at line n ≡ t → HasNumbers j → are_taken decimals j ≡ true
     → tree.depth j ≡ 0 → separator false t ≡ [] → drop at line ≡ token_text t ++ drop end line
     → link_of n ≡ None → IsWithin (length line) n → new ≡ old ++ (n ∷ [])
@@ -36,7 +36,7 @@ leaf line decimals at end depth old new n j t later is same numbers whole flat n
           (one_more line old new n no_link within made);
     }
 
-pub text_leaf : (line : List ℕ) (decimals : Bool) (at stop end count depth : ℕ) (old new : List Node)
+pub text_leaf : (line : List ℕ) (decimals : Bool) (at stop end count depth : ℕ) (old new : List FlatNode)
     → at < length line
     → get_or line at 0 ≡ 34 → IsPlainText line (at + 1) stop → end ≡ stop + 1 → count ≡ stop - (at + 1)
     → new ≡ old ++ (Text (at + 1) count ∷ []) → Reads line decimals at end depth old new
@@ -47,7 +47,7 @@ text_leaf line decimals at stop end count depth old new inside quote p e c made 
     (quoted_text line at stop inside quote p ∙ ap (λ i. quoted s ++ drop i line) (sym e)) refl
     (omega (arith, p.ordered, p.inside)) made
 
-pub number_leaf : (line : List ℕ) (decimals : Bool) (at end count depth : ℕ) (old new : List Node)
+pub number_leaf : (line : List ℕ) (decimals : Bool) (at end count depth : ℕ) (old new : List FlatNode)
     → at < end → end ≤ length line
     → IsNumber (piece line at (end - at)) × (is_taken decimals (piece line at (end - at)) ≡ true)
     → count ≡ end - at → new ≡ old ++ (Number at count ∷ []) → Reads line decimals at end depth old new
@@ -57,7 +57,7 @@ number_leaf line decimals at end count depth old new later inside is c made =
     (ap (λ k. token.number (piece line at k)) c) is.0 is.1 refl refl (cut line at end (omega arith)) refl
     (omega arith) made
 
-pub key_read : (line : List ℕ) (at stop end count : ℕ) (old new : List Node) → at < length line
+pub key_read : (line : List ℕ) (at stop end count : ℕ) (old new : List FlatNode) → at < length line
     → get_or line at 0 ≡ 34 → IsPlainText line (at + 1) stop → stop + 1 < length line
     → get_or line (stop + 1) 0 ≡ 58 → end ≡ stop + 2 → count ≡ stop - (at + 1)
     → new ≡ old ++ (Key (at + 1) count ∷ []) → ReadsKey line at end old new

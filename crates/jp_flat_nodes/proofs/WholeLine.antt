@@ -15,7 +15,7 @@ use Rattle.json.proofs.Printed.Tokens.{tokens-print_spaced}
 use Rattle.json.proofs.Printed.Trees.{value-json_tokens, ArePrintable-json_tokens}
 use Rattle.jp_flat_nodes.specs.Nodes.{IsRead, tokens_at, AreWithin}
 use Rattle.jp_flat_nodes.specs.inner.Reads.{Reads, Spans}
-use Rattle.jp_flat_nodes.specs.declared.node.Node.{Node}
+use Rattle.jp_flat_nodes.specs.declared.node.FlatNode.{FlatNode}
 use Rattle.jp_flat_nodes.proofs.Cuts.{Blanks}
 use Rattle.jp_flat_nodes.proofs.Printing.{behind, value_begins}
 
@@ -52,7 +52,7 @@ passes all i end s =
     )
 
 -- the line is a value's text, behind blanks
-pub whole_line : (line : List ℕ) (decimals : Bool) (from end : ℕ) (empty nodes : List Node)
+pub whole_line : (line : List ℕ) (decimals : Bool) (from end : ℕ) (empty nodes : List FlatNode)
     → Blanks line 0 from
     → Reads line decimals from end 127 empty nodes → end ≡ length line → empty ≡ [] → length nodes ≤ 16777218
     → IsRead decimals line nodes
@@ -87,5 +87,5 @@ whole_line line decimals from end empty nodes blanks r all none few =
         ∙ ap (option_and_then (λ p. if_last p.0 p.1))
         (value-json_tokens j max_depth [] (omega arith))
 
-    nothing_within : (ns : List Node) → ns ≡ [] → AreWithin (length line) ns
+    nothing_within : (ns : List FlatNode) → ns ≡ [] → AreWithin (length line) ns
     nothing_within ns e = subst (AreWithin (length line)) (sym e) tt

@@ -11,15 +11,16 @@ use Rattle.json.specs.Token.{boolean, null}
 use Rattle.json.specs.Tree as tree
 use Rattle.json.specs.Tree.{HasNumbers}
 use Rattle.jp_flat_nodes.specs.Digits.{is_taken}
-use Rattle.jp_flat_nodes.specs.declared.node.Node.{Node}
-use Rattle.jp_flat_nodes.specs.declared.node.Node.TheVariants.{Object, EndObject, Array, EndArray, Key, Text}
-use Rattle.jp_flat_nodes.specs.declared.node.Node.TheVariants.{Number, Truth, Null}
+use Rattle.jp_flat_nodes.specs.declared.node.FlatNode.{FlatNode}
+use Rattle.jp_flat_nodes.specs.declared.node.FlatNode.TheVariants.{Object, EndObject, Array, EndArray, Key}
+use Rattle.jp_flat_nodes.specs.declared.node.FlatNode.TheVariants.{Text}
+use Rattle.jp_flat_nodes.specs.declared.node.FlatNode.TheVariants.{Number, Truth, Null}
 
 -- so many bytes of the text from a place on
 abbrev pub piece : List ℕ → ℕ → ℕ → List ℕ
 piece text from count = take count (drop from text)
 
-abbrev pub token_at : List ℕ → Node → Token
+abbrev pub token_at : List ℕ → FlatNode → Token
 token_at text (Object end) = begin_object
 token_at text EndObject = end_object
 token_at text (Array end) = begin_array
@@ -30,11 +31,11 @@ token_at text (Number from count) = number (piece text from count)
 token_at text (Truth b) = boolean b
 token_at text Null = null
 
-abbrev pub tokens_at : List ℕ → List Node → List Token
+abbrev pub tokens_at : List ℕ → List FlatNode → List Token
 tokens_at text nodes = map (token_at text) nodes
 
 -- where the value ends that the node begins, as it tells
-abbrev pub link_of : Node → Option ℕ
+abbrev pub link_of : FlatNode → Option ℕ
 link_of (Object end) = Some end
 link_of EndObject = None
 link_of (Array end) = Some end
@@ -46,11 +47,11 @@ link_of (Truth b) = None
 link_of Null = None
 
 -- each node that tells so tells where one whole value ends
-abbrev pub AreLinked : List Token → List Node → Type 0
+abbrev pub AreLinked : List Token → List FlatNode → Type 0
 AreLinked all nodes = (i end : ℕ) → link_of (get_or nodes i Null) ≡ Some end → Passes all i end
 
 -- a node's text lies in a text of so many bytes
-abbrev pub IsWithin : ℕ → Node → Type 0
+abbrev pub IsWithin : ℕ → FlatNode → Type 0
 IsWithin size (Object end) = Unit {0}
 IsWithin size EndObject = Unit {0}
 IsWithin size (Array end) = Unit {0}
@@ -61,7 +62,7 @@ IsWithin size (Number from count) = from + count ≤ size
 IsWithin size (Truth b) = Unit {0}
 IsWithin size Null = Unit {0}
 
-abbrev pub AreWithin : ℕ → List Node → Type 0
+abbrev pub AreWithin : ℕ → List FlatNode → Type 0
 AreWithin size [] = Unit {0}
 AreWithin size (n ∷ ns) = IsWithin size n × AreWithin size ns
 
@@ -85,7 +86,7 @@ abbrev mutual
 
 -- The line is the text of a value with such numbers, which nests no deeper than 127, and the nodes are its
 -- tokens.
-pub record IsRead (decimals : Bool) (line : List ℕ) (nodes : List Node) : Type 0 where
+pub record IsRead (decimals : Bool) (line : List ℕ) (nodes : List FlatNode) : Type 0 where
   pub value : Json
   pub is : document line ≡ Some value
   pub spelled : HasNumbers value

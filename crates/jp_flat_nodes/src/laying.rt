@@ -7,7 +7,7 @@ ghost use Rattle.jp_flat_nodes.specs.Nodes.{AreLinked, AreWithin, tokens_at};
 ghost use Rattle.jp_flat_nodes.specs.inner.Laid.{EndsWithin, IsKept, IsLaid};
 
 use crate::limits::MAX_TEXT;
-use crate::node::Node;
+use crate::node::FlatNode;
 use json::Node as Taped;
 use std::alloc::AllocError;
 
@@ -38,36 +38,40 @@ fn keep(text: &str, texts: &mut Vec<u8>) -> Result<Kept, AllocError>
 /// The node that stands for one of the kit's, with its text put behind the others.
 ///
 /// `AllocError` as of `keep`.
-fn laid(node: &Taped<'_>, texts: &mut Vec<u8>) -> Result<Node, AllocError>
+fn laid(node: &Taped<'_>, texts: &mut Vec<u8>) -> Result<FlatNode, AllocError>
     requires { EndsWithin 16777218 node.now }
     ensures { IfOk result (λ own. IsLaid texts.old.items texts.new.items node.now own) }
 {
     match node {
-        Taped::Object(end) => Ok(Node::Object(*end as u32)),
-        Taped::EndObject => Ok(Node::EndObject),
-        Taped::Array(end) => Ok(Node::Array(*end as u32)),
-        Taped::EndArray => Ok(Node::EndArray),
+        Taped::Object(end) => Ok(FlatNode::Object(*end as u32)),
+        Taped::EndObject => Ok(FlatNode::EndObject),
+        Taped::Array(end) => Ok(FlatNode::Array(*end as u32)),
+        Taped::EndArray => Ok(FlatNode::EndArray),
         Taped::Key(text) => {
             let kept = keep(text, texts)?;
-            Ok(Node::Key(kept.from, kept.count))
+            Ok(FlatNode::Key(kept.from, kept.count))
         }
         Taped::String(text) => {
             let kept = keep(text, texts)?;
-            Ok(Node::Text(kept.from, kept.count))
+            Ok(FlatNode::Text(kept.from, kept.count))
         }
         Taped::Number(text) => {
             let kept = keep(text, texts)?;
-            Ok(Node::Number(kept.from, kept.count))
+            Ok(FlatNode::Number(kept.from, kept.count))
         }
-        Taped::Bool(truth) => Ok(Node::Truth(*truth)),
-        Taped::Null => Ok(Node::Null),
+        Taped::Bool(truth) => Ok(FlatNode::Truth(*truth)),
+        Taped::Null => Ok(FlatNode::Null),
     }
 }
 
 /// Lays the nodes of a tape: with their texts in `texts`, they are its tokens.
 ///
 /// `AllocError` if a growth was refused, or where there is more text than any line has.
-pub fn lay(tape: &[Taped<'_>], texts: &mut Vec<u8>, nodes: &mut Vec<Node>) -> Result<(), AllocError>
+pub fn lay(
+    tape: &[Taped<'_>],
+    texts: &mut Vec<u8>,
+    nodes: &mut Vec<FlatNode>,
+) -> Result<(), AllocError>
     requires few { length tape.now ≤ 16777218 }
     requires linked { Linked (map node_token tape.now) 0 tape.now }
     ensures tokens { OnOk result (tokens_at texts.new.items nodes.new.items ≡ map node_token tape.now) }

@@ -4,7 +4,7 @@ ghost use Rattle.std.specs.Prelude.{◌≡◌, ◌≤◌, ◌<◌, ◌+◌, ◌^
 ghost use Rattle.jp_flat_nodes.specs.inner.Reads.{IsPlainText, Reads, ReadsKey};
 
 use crate::bytes::{byte_at, plain_end};
-use crate::node::{Node, REFUSED, put};
+use crate::node::{FlatNode, REFUSED, put};
 
 /// The place of the quote that ends the text which begins here, where none of it is an escape.
 #[inline(always)]
@@ -25,7 +25,7 @@ fn closing(line: &[u8], from: usize) -> usize
 pub(crate) fn text(
     line: &[u8],
     at: usize,
-    nodes: &mut Vec<Node>,
+    nodes: &mut Vec<FlatNode>,
     depth: u32,
     decimals: bool,
 ) -> usize
@@ -42,14 +42,14 @@ pub(crate) fn text(
     }
     put(
         nodes,
-        Node::Text(at as u32 + 1, (stop - at - 1) as u32),
+        FlatNode::Text(at as u32 + 1, (stop - at - 1) as u32),
         stop + 1,
     )
 }
 
 /// Reads a name and its colon: the place behind it, or `REFUSED`.
 #[inline(always)]
-pub(crate) fn key(line: &[u8], at: usize, nodes: &mut Vec<Node>) -> usize
+pub(crate) fn key(line: &[u8], at: usize, nodes: &mut Vec<FlatNode>) -> usize
     requires { length line.now < 2 ^ 32 }
     ensures { result ≤ length line.now → ReadsKey line.now at result nodes.old.items nodes.new.items }
 {
@@ -62,7 +62,7 @@ pub(crate) fn key(line: &[u8], at: usize, nodes: &mut Vec<Node>) -> usize
     }
     put(
         nodes,
-        Node::Key(at as u32 + 1, (stop - at - 1) as u32),
+        FlatNode::Key(at as u32 + 1, (stop - at - 1) as u32),
         stop + 2,
     )
 }
@@ -82,7 +82,7 @@ fn goes_on(line: &[u8], at: usize, a: u8, b: u8, c: u8) -> bool
 pub(crate) fn literal(
     line: &[u8],
     at: usize,
-    nodes: &mut Vec<Node>,
+    nodes: &mut Vec<FlatNode>,
     depth: u32,
     decimals: bool,
 ) -> usize
@@ -95,13 +95,13 @@ pub(crate) fn literal(
     }
     let first = line[at];
     if first == b't' && goes_on(line, at, b'r', b'u', b'e') {
-        return put(nodes, Node::Truth(true), at + 4);
+        return put(nodes, FlatNode::Truth(true), at + 4);
     }
     if first == b'n' && goes_on(line, at, b'u', b'l', b'l') {
-        return put(nodes, Node::Null, at + 4);
+        return put(nodes, FlatNode::Null, at + 4);
     }
     if first == b'f' && goes_on(line, at, b'a', b'l', b's') && byte_at(line, at + 4) == b'e' {
-        return put(nodes, Node::Truth(false), at + 5);
+        return put(nodes, FlatNode::Truth(false), at + 5);
     }
     REFUSED
 }

@@ -11,5 +11,5 @@ mod reading;
 
 pub use laying::lay;
 pub use limits::MAX_NODES;
-pub use node::Node;
+pub use node::FlatNode;
 pub use reading::{read_decimal_line, read_line};

@@ -1,7 +1,7 @@
 //! Nodes.
 
 ghost use Rattle.std.specs.Prelude.{◌≡◌, ◌++◌, ◌∷◌, [], ◌+◌, ◌<◌, ◌^◌, ◌-◌, IsTrue, length, slice_set};
-ghost use Rattle.jp_flat_nodes.specs.declared.node.Node.TheVariants.{EndArray, Array, EndObject, Object};
+ghost use Rattle.jp_flat_nodes.specs.declared.node.FlatNode.TheVariants.{EndArray, Array, EndObject, Object};
 
 use crate::limits::MAX_NODES;
 
@@ -9,7 +9,7 @@ use crate::limits::MAX_NODES;
 /// and how many bytes it has.
 // 12 bytes: what is written for each token of each line, and read again, is as small as it can be.
 #[derive(Clone, Copy, PartialEq, Eq, Debug, Drop)]
-pub enum Node {
+pub enum FlatNode {
     /// An object begins, with the place of the node behind it.
     Object(u32),
     /// It ends.
@@ -35,7 +35,7 @@ pub(crate) const REFUSED: usize = usize::MAX;
 
 /// Puts a node behind the others. `false` if there is no memory for it.
 #[inline(always)]
-pub(crate) fn push(nodes: &mut Vec<Node>, node: Node) -> bool
+pub(crate) fn push(nodes: &mut Vec<FlatNode>, node: FlatNode) -> bool
     ensures { IsTrue result → nodes.new.items ≡ nodes.old.items ++ node ∷ [] }
 {
     nodes.push(node).is_ok()
@@ -43,7 +43,7 @@ pub(crate) fn push(nodes: &mut Vec<Node>, node: Node) -> bool
 
 /// Puts a node behind the others, and gives the end, or `REFUSED` if there is no memory for it.
 #[inline(always)]
-pub(crate) fn put(nodes: &mut Vec<Node>, node: Node, end: usize) -> usize
+pub(crate) fn put(nodes: &mut Vec<FlatNode>, node: FlatNode, end: usize) -> usize
     ensures { result < 2 ^ 64 - 1 → (result ≡ end) × (nodes.new.items ≡ nodes.old.items ++ node ∷ []) }
 {
     if push(nodes, node) { end } else { REFUSED }
@@ -51,7 +51,13 @@ pub(crate) fn put(nodes: &mut Vec<Node>, node: Node, end: usize) -> usize
 
 /// Puts a node behind the others, and another in the place of the one that stands at `place`.
 #[inline(always)]
-fn close(nodes: &mut Vec<Node>, place: usize, first: Node, last: Node, end: usize) -> usize
+fn close(
+    nodes: &mut Vec<FlatNode>,
+    place: usize,
+    first: FlatNode,
+    last: FlatNode,
+    end: usize,
+) -> usize
     requires { place < length nodes.old.items }
     ensures { result < 2 ^ 64 - 1 → (result ≡ end)
         × (nodes.new.items ≡ slice_set (nodes.old.items ++ last ∷ []) place first) }
@@ -65,7 +71,7 @@ fn close(nodes: &mut Vec<Node>, place: usize, first: Node, last: Node, end: usiz
 
 /// Closes the array that begins at `place`, and gives the end. `REFUSED` where there are too many nodes.
 #[inline(always)]
-pub(crate) fn close_array(nodes: &mut Vec<Node>, place: usize, end: usize) -> usize
+pub(crate) fn close_array(nodes: &mut Vec<FlatNode>, place: usize, end: usize) -> usize
     requires { place < length nodes.old.items }
     ensures { result < 2 ^ 64 - 1 → (result ≡ end) × (nodes.new.items
         ≡ slice_set (nodes.old.items ++ EndArray ∷ []) place (Array (length nodes.old.items + 1))) }
@@ -74,12 +80,18 @@ pub(crate) fn close_array(nodes: &mut Vec<Node>, place: usize, end: usize) -> us
     if after > MAX_NODES {
         return REFUSED;
     }
-    close(nodes, place, Node::Array(after as u32), Node::EndArray, end)
+    close(
+        nodes,
+        place,
+        FlatNode::Array(after as u32),
+        FlatNode::EndArray,
+        end,
+    )
 }
 
 /// Closes the object that begins at `place`, and gives the end. `REFUSED` where there are too many nodes.
 #[inline(always)]
-pub(crate) fn close_object(nodes: &mut Vec<Node>, place: usize, end: usize) -> usize
+pub(crate) fn close_object(nodes: &mut Vec<FlatNode>, place: usize, end: usize) -> usize
     requires { place < length nodes.old.items }
     ensures { result < 2 ^ 64 - 1 → (result ≡ end) × (nodes.new.items
         ≡ slice_set (nodes.old.items ++ EndObject ∷ []) place (Object (length nodes.old.items + 1))) }
@@ -91,8 +103,8 @@ pub(crate) fn close_object(nodes: &mut Vec<Node>, place: usize, end: usize) -> u
     close(
         nodes,
         place,
-        Node::Object(after as u32),
-        Node::EndObject,
+        FlatNode::Object(after as u32),
+        FlatNode::EndObject,
         end,
     )
 }

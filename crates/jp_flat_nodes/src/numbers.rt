@@ -6,7 +6,7 @@ ghost use Rattle.jp_flat_nodes.specs.inner.Reads.{behind_sign};
 
 use crate::bytes::{byte_at, digits_end};
 use crate::limits::{MAX_BYTES, MAX_DIGITS, MAX_EXPONENT};
-use crate::node::{Node, REFUSED, put};
+use crate::node::{FlatNode, REFUSED, put};
 
 /// Where the digits end that begin here, or `REFUSED` where there are none or too many, or a zero stands
 /// before others.
@@ -101,7 +101,7 @@ fn unsigned_end(line: &[u8], from: usize, decimals: bool) -> usize
 
 /// Reads a number that begins with a digit.
 #[inline(always)]
-fn unsigned(line: &[u8], at: usize, nodes: &mut Vec<Node>, depth: u32, decimals: bool) -> usize
+fn unsigned(line: &[u8], at: usize, nodes: &mut Vec<FlatNode>, depth: u32, decimals: bool) -> usize
     requires { (length line.now < 2 ^ 32) × (at ≤ length line.now) }
     ensures { result ≤ length line.now
         → Reads line.now decimals at result depth nodes.old.items nodes.new.items }
@@ -110,12 +110,12 @@ fn unsigned(line: &[u8], at: usize, nodes: &mut Vec<Node>, depth: u32, decimals:
     if end > line.len() {
         return REFUSED;
     }
-    put(nodes, Node::Number(at as u32, (end - at) as u32), end)
+    put(nodes, FlatNode::Number(at as u32, (end - at) as u32), end)
 }
 
 /// Reads a number behind a minus. It begins with no 0 where numbers are whole: `-0` is no whole number.
 #[inline(always)]
-fn negative(line: &[u8], at: usize, nodes: &mut Vec<Node>, depth: u32, decimals: bool) -> usize
+fn negative(line: &[u8], at: usize, nodes: &mut Vec<FlatNode>, depth: u32, decimals: bool) -> usize
     requires { (length line.now < 2 ^ 32) × (at < length line.now) × (get_or line.now at 0 ≡ 45) }
     ensures { result ≤ length line.now
         → Reads line.now decimals at result depth nodes.old.items nodes.new.items }
@@ -124,7 +124,7 @@ fn negative(line: &[u8], at: usize, nodes: &mut Vec<Node>, depth: u32, decimals:
     if end > line.len() || !decimals && byte_at(line, at + 1) == b'0' {
         return REFUSED;
     }
-    put(nodes, Node::Number(at as u32, (end - at) as u32), end)
+    put(nodes, FlatNode::Number(at as u32, (end - at) as u32), end)
 }
 
 /// Reads a number: the place behind it, or `REFUSED`.
@@ -132,7 +132,7 @@ fn negative(line: &[u8], at: usize, nodes: &mut Vec<Node>, depth: u32, decimals:
 pub(crate) fn number(
     line: &[u8],
     at: usize,
-    nodes: &mut Vec<Node>,
+    nodes: &mut Vec<FlatNode>,
     depth: u32,
     decimals: bool,
 ) -> usize

@@ -7,14 +7,14 @@ ghost use Rattle.jp_flat_nodes.specs.inner.Reads.{Reads};
 use crate::bytes::{blanks_end, byte_at};
 use crate::leaves::{key, literal, text};
 use crate::limits::{MAX_DEPTH, MAX_NODES};
-use crate::node::{Node, REFUSED, close_array, close_object, push};
+use crate::node::{FlatNode, REFUSED, close_array, close_object, push};
 use crate::numbers::number;
 
 /// Reads a value, which begins here: the place behind it, or `REFUSED`. Then the nodes may be any. So many
 /// brackets may be open inside of it at most.
 #[cycle(reading)]
 #[inline(always)]
-fn value(line: &[u8], at: usize, nodes: &mut Vec<Node>, depth: u32, decimals: bool) -> usize
+fn value(line: &[u8], at: usize, nodes: &mut Vec<FlatNode>, depth: u32, decimals: bool) -> usize
     requires { length line.now < 2 ^ 32 }
     ensures { result ≤ length line.now
         → Reads line.now decimals at result depth nodes.old.items nodes.new.items }
@@ -32,13 +32,13 @@ fn value(line: &[u8], at: usize, nodes: &mut Vec<Node>, depth: u32, decimals: bo
 /// Reads an array, likewise.
 #[cycle(reading)]
 #[inline(never)]
-fn array(line: &[u8], at: usize, nodes: &mut Vec<Node>, depth: u32, decimals: bool) -> usize
+fn array(line: &[u8], at: usize, nodes: &mut Vec<FlatNode>, depth: u32, decimals: bool) -> usize
     requires { (length line.now < 2 ^ 32) × (get_or line.now at 0 ≡ 91) }
     ensures { result ≤ length line.now
         → Reads line.now decimals at result (depth + 1) nodes.old.items nodes.new.items }
 {
     let place = nodes.len();
-    if at >= line.len() || !push(nodes, Node::Array(0)) {
+    if at >= line.len() || !push(nodes, FlatNode::Array(0)) {
         return REFUSED;
     }
     let mut cursor = blanks_end(line, at + 1);
@@ -59,13 +59,13 @@ fn array(line: &[u8], at: usize, nodes: &mut Vec<Node>, depth: u32, decimals: bo
 /// Reads an object, likewise.
 #[cycle(reading)]
 #[inline(never)]
-fn object(line: &[u8], at: usize, nodes: &mut Vec<Node>, depth: u32, decimals: bool) -> usize
+fn object(line: &[u8], at: usize, nodes: &mut Vec<FlatNode>, depth: u32, decimals: bool) -> usize
     requires { (length line.now < 2 ^ 32) × (get_or line.now at 0 ≡ 123) }
     ensures { result ≤ length line.now
         → Reads line.now decimals at result (depth + 1) nodes.old.items nodes.new.items }
 {
     let place = nodes.len();
-    if at >= line.len() || !push(nodes, Node::Object(0)) {
+    if at >= line.len() || !push(nodes, FlatNode::Object(0)) {
         return REFUSED;
     }
     let mut cursor = blanks_end(line, at + 1);
@@ -85,7 +85,7 @@ fn object(line: &[u8], at: usize, nodes: &mut Vec<Node>, depth: u32, decimals: b
 }
 
 /// Reads a line, with numbers of every kind or with whole ones alone.
-fn read_with(line: &[u8], nodes: &mut Vec<Node>, decimals: bool) -> bool
+fn read_with(line: &[u8], nodes: &mut Vec<FlatNode>, decimals: bool) -> bool
     requires { length line.now < 2 ^ 32 }
     ensures { IsTrue result → IsRead decimals line.now nodes.new.items }
 {
@@ -103,7 +103,7 @@ fn read_with(line: &[u8], nodes: &mut Vec<Node>, decimals: bool) -> bool
 /// or some number a fraction, an exponent or more than 18 digits, or in which some blank stands before a
 /// colon or a comma, is a tab or a carriage return, or stands behind the value; where there is no memory for
 /// a node, or there would be more than `MAX_NODES`.
-pub fn read_line(line: &[u8], nodes: &mut Vec<Node>) -> bool
+pub fn read_line(line: &[u8], nodes: &mut Vec<FlatNode>) -> bool
     requires { length line.now < 2 ^ 32 }
     ensures { IsTrue result → IsRead false line.now nodes.new.items }
 {
@@ -112,7 +112,7 @@ pub fn read_line(line: &[u8], nodes: &mut Vec<Node>) -> bool
 
 /// The same where numbers may have a fraction and an exponent: `false` where one has more than 18 digits
 /// before its point, more than 300 bytes, or an exponent of more than 10.
-pub fn read_decimal_line(line: &[u8], nodes: &mut Vec<Node>) -> bool
+pub fn read_decimal_line(line: &[u8], nodes: &mut Vec<FlatNode>) -> bool
     requires { length line.now < 2 ^ 32 }
     ensures { IsTrue result → IsRead true line.now nodes.new.items }
 {

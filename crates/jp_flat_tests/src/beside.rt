@@ -1,7 +1,7 @@
 //! Flat values and the JSON crate's values of the same lines, side by side.
 
 use jp_doc::{Document, whole_number};
-use jp_flat::{FlatItems, FlatMembers, FlatReader, FlatValue, Kind};
+use jp_flat::{FlatItems, FlatKind, FlatMembers, FlatReader, FlatValue};
 use serde_json::{Map, Value};
 use std::alloc::{AllocError, Global};
 
@@ -72,19 +72,19 @@ fn same(alloc: Global, flat: FlatValue<'_>, tree: &Value, levels: u32) -> Result
         return Ok(false);
     }
     match (flat.kind(), tree) {
-        (Kind::Null, Value::Null) => Ok(true),
-        (Kind::Truth(truth), Value::Bool(expected)) => Ok(truth == *expected),
-        (Kind::Number(text), Value::Number(_)) => {
+        (FlatKind::Null, Value::Null) => Ok(true),
+        (FlatKind::Truth(truth), Value::Bool(expected)) => Ok(truth == *expected),
+        (FlatKind::Number(text), Value::Number(_)) => {
             Ok(flat.digits() == Some(text) && tree.to_string(alloc)?.as_str() == text)
         }
-        (Kind::Text(text), Value::String(expected)) => {
+        (FlatKind::Text(text), Value::String(expected)) => {
             Ok(flat.digits().is_none() && text == expected.as_str())
         }
-        (Kind::Array, Value::Array(expected)) => match flat.items() {
+        (FlatKind::Array, Value::Array(expected)) => match flat.items() {
             Some(items) => same_items(alloc, flat, items, expected, levels - 1),
             None => Ok(false),
         },
-        (Kind::Object, Value::Object(expected)) => match flat.members() {
+        (FlatKind::Object, Value::Object(expected)) => match flat.members() {
             Some(members) => same_members(alloc, flat, members, expected, levels - 1),
             None => Ok(false),
         },

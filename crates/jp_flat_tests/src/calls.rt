@@ -1,6 +1,6 @@
 //! Each public call once, with ample memory.
 
-use jp_flat::{FlatMember, FlatMembers, FlatReader, FlatValue, Kind};
+use jp_flat::{FlatKind, FlatMember, FlatMembers, FlatReader, FlatValue};
 use std::alloc::Global;
 
 const LINE: &[u8] = b"{\"b\":[-12,\"x\\ny\",true,null],\"a\":{\"c\":7},\"b2\":{}}";
@@ -8,12 +8,12 @@ const LINE: &[u8] = b"{\"b\":[-12,\"x\\ny\",true,null],\"a\":{\"c\":7},\"b2\":{}
 /// The kind of an item, as a letter.
 fn letter(item: Option<FlatValue<'_>>) -> char {
     match item.map(|item| item.kind()) {
-        Some(Kind::Null) => '0',
-        Some(Kind::Truth(_)) => 'b',
-        Some(Kind::Number(_)) => 'n',
-        Some(Kind::Text(_)) => 't',
-        Some(Kind::Array) => 'a',
-        Some(Kind::Object) => 'o',
+        Some(FlatKind::Null) => '0',
+        Some(FlatKind::Truth(_)) => 'b',
+        Some(FlatKind::Number(_)) => 'n',
+        Some(FlatKind::Text(_)) => 't',
+        Some(FlatKind::Array) => 'a',
+        Some(FlatKind::Object) => 'o',
         None => '-',
     }
 }
@@ -170,7 +170,7 @@ fn have_their_texts(root: FlatValue<'_>) -> Option<bool> {
     let texts = [first.digits(), second.digits(), third.digits()];
     let wholes = (first.whole(), third.whole());
     Some(
-        matches!(first.kind(), Kind::Number("9.90"))
+        matches!(first.kind(), FlatKind::Number("9.90"))
             && texts == [Some("9.90"), Some("1e+2"), Some("12")]
             && wholes == (None, Some(12)),
     )

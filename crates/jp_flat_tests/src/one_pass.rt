@@ -5,7 +5,7 @@ use crate::beside::is_read_alike;
 use bumpalo::Bump;
 use jp_doc::Document;
 use jp_flat::FlatReader;
-use jp_flat_nodes::{MAX_NODES, Node, lay, read_decimal_line, read_line};
+use jp_flat_nodes::{FlatNode, MAX_NODES, lay, read_decimal_line, read_line};
 use json::{Scratch, Tape};
 use std::alloc::{AllocError, Global};
 
@@ -16,11 +16,11 @@ fn piece(text: &[u8], from: u32, count: u32) -> Option<&[u8]> {
 }
 
 /// Whether two nodes are the same, of which each has a text of its own.
-fn are_alike(left: Node, left_text: &[u8], right: Node, right_text: &[u8]) -> bool {
+fn are_alike(left: FlatNode, left_text: &[u8], right: FlatNode, right_text: &[u8]) -> bool {
     match (left, right) {
-        (Node::Key(from, count), Node::Key(other, others))
-        | (Node::Text(from, count), Node::Text(other, others))
-        | (Node::Number(from, count), Node::Number(other, others)) => {
+        (FlatNode::Key(from, count), FlatNode::Key(other, others))
+        | (FlatNode::Text(from, count), FlatNode::Text(other, others))
+        | (FlatNode::Number(from, count), FlatNode::Number(other, others)) => {
             let here = piece(left_text, from, count);
             here.is_some() && here == piece(right_text, other, others)
         }
@@ -47,7 +47,7 @@ fn is_as_laid_decimal(alloc: Global, line: &str) -> Result<Option<bool>, AllocEr
 }
 
 /// Whether these are the nodes that are laid of the kit's.
-fn are_laid(alloc: Global, line: &str, nodes: &[Node]) -> Result<Option<bool>, AllocError> {
+fn are_laid(alloc: Global, line: &str, nodes: &[FlatNode]) -> Result<Option<bool>, AllocError> {
     let (mut scratch, arena) = (Scratch::new(alloc), Bump::new(alloc));
     let Ok(tape) = Tape::parse(line, &mut scratch, Vec::new(&arena)) else {
         return Ok(Some(false));

@@ -5,24 +5,24 @@ use jp_compiled::{Logical, Nodes, Query, RootPart, Segment, Selector, Value};
 
 /// What is asked of the values of `$` queries.
 #[derive(Clone, Copy)]
-pub struct Asked {
+pub struct RootUse {
     /// The length of one.
     pub length: bool,
     /// Whether texts match one, taken as a pattern.
     pub pattern: bool,
 }
 
-impl Asked {
+impl RootUse {
     /// Nothing.
-    pub const NOTHING: Asked = Asked {
+    pub const NOTHING: RootUse = RootUse {
         length: false,
         pattern: false,
     };
 }
 
 /// What a query asks.
-pub fn asked_by(query: &Query) -> Asked {
-    let mut asked = Asked::NOTHING;
+pub fn asked_by(query: &Query) -> RootUse {
+    let mut asked = RootUse::NOTHING;
     in_segments(query.segments.as_slice(), &mut asked);
     for part in &query.roots {
         match part {
@@ -34,14 +34,14 @@ pub fn asked_by(query: &Query) -> Asked {
 }
 
 #[cycle(asked)]
-fn in_segments(segments: &[Segment], asked: &mut Asked) {
+fn in_segments(segments: &[Segment], asked: &mut RootUse) {
     for segment in segments {
         in_selectors(segment.selectors.as_slice(), asked);
     }
 }
 
 #[cycle(asked)]
-fn in_selectors(selectors: &[Selector], asked: &mut Asked) {
+fn in_selectors(selectors: &[Selector], asked: &mut RootUse) {
     for selector in selectors {
         if let Selector::Filter(test) = selector {
             in_logical(test, asked);
@@ -50,7 +50,7 @@ fn in_selectors(selectors: &[Selector], asked: &mut Asked) {
 }
 
 #[cycle(asked)]
-fn in_logical(test: &Logical, asked: &mut Asked) {
+fn in_logical(test: &Logical, asked: &mut RootUse) {
     match test {
         Logical::Any(parts) => in_parts(parts.as_slice(), asked),
         Logical::All(parts) => in_parts(parts.as_slice(), asked),
@@ -82,14 +82,14 @@ fn in_logical(test: &Logical, asked: &mut Asked) {
 }
 
 #[cycle(asked)]
-fn in_parts(parts: &[Logical], asked: &mut Asked) {
+fn in_parts(parts: &[Logical], asked: &mut RootUse) {
     for part in parts {
         in_logical(part, asked);
     }
 }
 
 #[cycle(asked)]
-fn in_value(value: &Value, asked: &mut Asked) {
+fn in_value(value: &Value, asked: &mut RootUse) {
     match value {
         Value::Constant(_) => {}
         Value::Length(of) => {
@@ -103,7 +103,7 @@ fn in_value(value: &Value, asked: &mut Asked) {
 }
 
 #[cycle(asked)]
-fn in_nodes(nodes: &Nodes, asked: &mut Asked) {
+fn in_nodes(nodes: &Nodes, asked: &mut RootUse) {
     match nodes {
         Nodes::Here(segments) => in_segments(segments.as_slice(), asked),
         Nodes::Root(_) => {}

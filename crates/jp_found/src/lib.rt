@@ -10,7 +10,7 @@ mod root_answer;
 mod way;
 
 pub use aggregates::{Aggregate, has_first, is_result_of, of_distinct, of_one, operand};
-pub use asked::{Asked, asked_by};
+pub use asked::{RootUse, asked_by};
 pub use different::{Different, Located};
 pub use found::{
     Alone, Found, add, append, fresh, into_aggregate, is_full, none_found, visitor_of,

@@ -8,7 +8,7 @@ ghost use Rattle.jp_found.specs.RootAnswers.{is_length, is_pattern};
 ghost use Rattle.jp_value.specs.Kinds.{given_value};
 
 use crate::aggregates::{Aggregate, operand};
-use crate::asked::Asked;
+use crate::asked::RootUse;
 use jp_node::Kind;
 use jp_value::{ReadPattern, length};
 use std::alloc::{AllocError, Global};
@@ -44,7 +44,7 @@ impl<'v> RootAnswer<'v> {
     pub fn new(
         alloc: Global,
         answer: Aggregate<'v>,
-        asked: Asked,
+        asked: RootUse,
     ) -> Result<RootAnswer<'v>, AllocError>
         ensures { IfOk result (λ r. r.answer ≡ answer.entry) }
     {
@@ -75,7 +75,7 @@ impl<'v> RootAnswer<'v> {
 }
 
 /// The length of an answer's value, where such are asked for.
-fn length_of(alloc: Global, answer: Aggregate<'_>, asked: Asked) -> Result<Length, AllocError>
+fn length_of(alloc: Global, answer: Aggregate<'_>, asked: RootUse) -> Result<Length, AllocError>
     ensures { IfOk result (λ n. is_length n answer.entry ≡ true) }
 {
     if !asked.length {
@@ -92,7 +92,7 @@ fn length_of(alloc: Global, answer: Aggregate<'_>, asked: Asked) -> Result<Lengt
 fn pattern_of<'v>(
     alloc: Global,
     answer: Aggregate<'v>,
-    asked: Asked,
+    asked: RootUse,
 ) -> Result<Option<ReadPattern<'v>>, AllocError>
     ensures { IfOk result (λ p. is_pattern p answer.entry ≡ true) }
 {

@@ -1,6 +1,6 @@
 //! Where a scan of a line stands.
 
-use crate::line_reason::Literal;
+use crate::line_reason::ValueWord;
 
 /// An array or an object that is open.
 #[derive(Clone, Copy)]
@@ -61,7 +61,7 @@ pub(crate) struct LineText {
 /// A word that has begun.
 #[derive(Clone, Copy)]
 pub(crate) struct LineWord {
-    pub(crate) literal: Literal,
+    pub(crate) literal: ValueWord,
     /// How many of its letters are behind.
     pub(crate) read: usize,
 }

@@ -38,7 +38,7 @@ pub struct LongNumber {
 
 /// A value that is a word (RFC 8259, 3).
 #[derive(Clone, Copy, Debug, PartialEq, Eq)]
-pub enum Literal {
+pub enum ValueWord {
     /// `true`.
     True,
     /// `false`.
@@ -67,7 +67,7 @@ pub enum LineExpected {
     /// The end of the line, behind its document.
     End,
     /// The rest of this word.
-    Rest(Literal),
+    Rest(ValueWord),
     /// A digit.
     Digit,
     /// What follows the `e` of a number.
@@ -99,13 +99,13 @@ pub enum LineRule {
     TextEnd,
 }
 
-impl Literal {
+impl ValueWord {
     /// The word.
     pub fn text(self) -> &'static str {
         match self {
-            Literal::True => "true",
-            Literal::False => "false",
-            Literal::Null => "null",
+            ValueWord::True => "true",
+            ValueWord::False => "false",
+            ValueWord::Null => "null",
         }
     }
 }
@@ -121,9 +121,9 @@ impl LineExpected {
             LineExpected::Colon => ":",
             LineExpected::MemberEnd => ", or }",
             LineExpected::End => "the end: one document stands on a line",
-            LineExpected::Rest(Literal::True) => "the rest of true",
-            LineExpected::Rest(Literal::False) => "the rest of false",
-            LineExpected::Rest(Literal::Null) => "the rest of null",
+            LineExpected::Rest(ValueWord::True) => "the rest of true",
+            LineExpected::Rest(ValueWord::False) => "the rest of false",
+            LineExpected::Rest(ValueWord::Null) => "the rest of null",
             LineExpected::Digit => "a digit",
             LineExpected::Exponent => "a digit, + or -",
             LineExpected::Escape => "\", \\, /, b, f, n, r, t or u: there is no such escape",

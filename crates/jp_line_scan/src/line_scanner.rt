@@ -3,7 +3,7 @@
 //! It knows the grammar, and what the JSON crate refuses beside. No contract says so.
 
 use crate::line_place::{Container, Digits, LineNumber, LinePlace, LineText, LineWord, Within};
-use crate::line_reason::{LineExpected, LineReason, LineRule, Literal};
+use crate::line_reason::{LineExpected, LineReason, LineRule, ValueWord};
 use crate::line_steps::is_number;
 use std::alloc::{AllocError, Global};
 
@@ -150,9 +150,9 @@ impl<'l> LineScanner<'l> {
             b'[' => return self.opens(at, Container::Array, LinePlace::FirstItem),
             b'{' => return self.opens(at, Container::Object, LinePlace::FirstName),
             b'"' => return self.begins(LinePlace::Text(LineText::new(false, at))),
-            b't' => return self.begins(first_letter(Literal::True)),
-            b'f' => return self.begins(first_letter(Literal::False)),
-            b'n' => return self.begins(first_letter(Literal::Null)),
+            b't' => return self.begins(first_letter(ValueWord::True)),
+            b'f' => return self.begins(first_letter(ValueWord::False)),
+            b'n' => return self.begins(first_letter(ValueWord::Null)),
             b'-' => Digits::Minus,
             b'0' => Digits::Zero,
             b'1'..=b'9' => Digits::Whole,
@@ -240,7 +240,7 @@ pub(crate) fn against(start: usize, rule: LineRule) -> LineHalt {
 }
 
 /// The place behind the first letter of the word.
-fn first_letter(literal: Literal) -> LinePlace {
+fn first_letter(literal: ValueWord) -> LinePlace {
     LinePlace::Word(LineWord { literal, read: 1 })
 }
 

@@ -34,7 +34,7 @@ pub fn long_length(bytes: &[u8]) -> Option<usize>
 
 /// Which child of an open array or object was begun last.
 #[derive(Clone, Copy)]
-enum Step {
+enum LastChild {
     /// The last of so many items; none yet of 0.
     Item(u32),
     /// The member whose name stands between the quotes at these places.
@@ -44,12 +44,12 @@ enum Step {
 /// Where a scan of a line is in its document: a step for each array and object that is open.
 #[derive(Drop)]
 struct Trail {
-    steps: Vec<Step>,
+    steps: Vec<LastChild>,
 }
 
 impl Trail {
     /// The innermost step is this one.
-    fn turn(&mut self, step: Step) {
+    fn turn(&mut self, step: LastChild) {
         let count = self.steps.len();
         if count > 0 {
             self.steps[count - 1] = step;
@@ -58,8 +58,8 @@ impl Trail {
 
     /// A value begins.
     fn begins(&mut self) {
-        if let Some(Step::Item(count)) = self.steps.as_slice().last().copied() {
-            self.turn(Step::Item(count.saturating_add(1)));
+        if let Some(LastChild::Item(count)) = self.steps.as_slice().last().copied() {
+            self.turn(LastChild::Item(count.saturating_add(1)));
         }
     }
 
@@ -67,8 +67,8 @@ impl Trail {
     fn opens(&mut self, bracket: u8) -> Result<(), AllocError> {
         self.begins();
         let step = match bracket {
-            b'[' => Step::Item(0),
-            _ => Step::Member(0, 0),
+            b'[' => LastChild::Item(0),
+            _ => LastChild::Member(0, 0),
         };
         self.steps.push(step)?;
         Ok(())
@@ -78,7 +78,7 @@ impl Trail {
     fn see(&mut self, event: Event, at: usize, byte: u8) -> Result<(), AllocError> {
         match event {
             Event::None => {}
-            Event::Name(start) => self.turn(Step::Member(start, at)),
+            Event::Name(start) => self.turn(LastChild::Member(start, at)),
             Event::Begins => self.begins(),
             Event::Opens => self.opens(byte)?,
             Event::Closes => {
@@ -104,11 +104,11 @@ fn append_step(
     alloc: Global,
     path: &mut Vec<u8>,
     line: &[u8],
-    step: Step,
+    step: LastChild,
 ) -> Result<(), AllocError> {
     match step {
-        Step::Item(count) => append_link(Link::Index(count.saturating_sub(1)), path),
-        Step::Member(start, end) => {
+        LastChild::Item(count) => append_link(Link::Index(count.saturating_sub(1)), path),
+        LastChild::Member(start, end) => {
             let name = name_of(alloc, line.get(start..=end).unwrap_or(&[]))?;
             append_link(Link::Name(name.as_str()), path)
         }

@@ -188,12 +188,12 @@ fn flat_inside(flat: FlatValue<'_>) -> Inside<'_>
     ensures { IsInside result (flat_value flat.entry) }
 {
     match flat.kind() {
-        jp_flat::Kind::Array => inside_array(flat),
-        jp_flat::Kind::Object => inside_object(flat),
-        jp_flat::Kind::Null => Inside::Nothing,
-        jp_flat::Kind::Truth(_) => Inside::Nothing,
-        jp_flat::Kind::Number(_) => Inside::Nothing,
-        jp_flat::Kind::Text(_) => Inside::Nothing,
+        jp_flat::FlatKind::Array => inside_array(flat),
+        jp_flat::FlatKind::Object => inside_object(flat),
+        jp_flat::FlatKind::Null => Inside::Nothing,
+        jp_flat::FlatKind::Truth(_) => Inside::Nothing,
+        jp_flat::FlatKind::Number(_) => Inside::Nothing,
+        jp_flat::FlatKind::Text(_) => Inside::Nothing,
     }
 }
 
@@ -240,12 +240,12 @@ fn flat_kind(flat: FlatValue<'_>) -> Kind<'_>
     ensures { kind_value result ≡ flat_value flat.entry }
 {
     match flat.kind() {
-        jp_flat::Kind::Null => Kind::Null,
-        jp_flat::Kind::Truth(truth) => Kind::Truth(truth),
-        jp_flat::Kind::Number(_) => flat_number(flat),
-        jp_flat::Kind::Text(text) => Kind::Text(text),
-        jp_flat::Kind::Array => flat_array(flat),
-        jp_flat::Kind::Object => flat_object(flat),
+        jp_flat::FlatKind::Null => Kind::Null,
+        jp_flat::FlatKind::Truth(truth) => Kind::Truth(truth),
+        jp_flat::FlatKind::Number(_) => flat_number(flat),
+        jp_flat::FlatKind::Text(text) => Kind::Text(text),
+        jp_flat::FlatKind::Array => flat_array(flat),
+        jp_flat::FlatKind::Object => flat_object(flat),
     }
 }
 

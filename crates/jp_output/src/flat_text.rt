@@ -11,7 +11,7 @@ ghost use Rattle.jp_node.specs.Appended.{Extends};
 ghost use Rattle.serde_json.specs.Written.{comma_if};
 
 use crate::scalar_text::{append_null, append_quoted, append_truth};
-use jp_flat::{FlatItems, FlatMember, FlatMembers, FlatValue, Kind};
+use jp_flat::{FlatItems, FlatKind, FlatMember, FlatMembers, FlatValue};
 use std::alloc::{AllocError, Global};
 
 /// How many members there is room for at first where they are gathered: the list of an object of no more than
@@ -33,15 +33,15 @@ pub(crate) fn append_flat(
     ensures kept { Extends out.old.items out.new.items }
 {
     match value.kind() {
-        Kind::Null => append_null(out),
-        Kind::Truth(truth) => append_truth(truth, out),
-        Kind::Number(_) => append_digits(value, out),
-        Kind::Text(text) => append_quoted(alloc, text, scratch, out),
-        Kind::Array => match value.items() {
+        FlatKind::Null => append_null(out),
+        FlatKind::Truth(truth) => append_truth(truth, out),
+        FlatKind::Number(_) => append_digits(value, out),
+        FlatKind::Text(text) => append_quoted(alloc, text, scratch, out),
+        FlatKind::Array => match value.items() {
             Some(items) => append_items(alloc, items, scratch, out),
             None => unreachable!(),
         },
-        Kind::Object => match value.members() {
+        FlatKind::Object => match value.members() {
             Some(members) => append_members(alloc, members, scratch, out),
             None => unreachable!(),
         },

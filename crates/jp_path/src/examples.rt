@@ -12,7 +12,7 @@ use crate::query::query_of;
 use jp_check::{Plan, plan};
 use jp_doc::Location;
 use jp_output::write_path;
-use jp_syntax::{Query, QueryFault};
+use jp_tree::{Query, QueryFault};
 use std::alloc::Global;
 
 /// The query of a path: one segment of one selector for each step.

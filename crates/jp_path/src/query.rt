@@ -21,7 +21,7 @@ use itoa::Buffer;
 use jp_check::{Plan, check};
 use jp_doc::{Location, Step};
 use jp_number::Numbers;
-use jp_syntax::{Query, QueryFault, Segment, Selector, Start};
+use jp_tree::{Query, QueryFault, Segment, Selector, Start};
 use std::alloc::{AllocError, Global};
 
 /// The query of a location's normalized path (RFC 9535, 2.7): from the root, one segment of one selector for

@@ -3,10 +3,11 @@
 use jp_check::{Plan, plan};
 use jp_doc::{Document, Location, Step};
 use jp_eval::Evaluator;
-use jp_output::{NodeLines, join_chunks};
-use jp_path::{path_plan, query_of, write_path};
+use jp_output::{NodeLines, join_chunks, write_path};
+use jp_path::{path_plan, query_of};
 use jp_select::{evaluate, visit_nodes};
-use jp_syntax::{bracket_depth, read_query};
+use jp_syntax::read_query;
+use jp_tokens::bracket_depth;
 use std::alloc::{AllocError, Global};
 use std::test::Fail;
 

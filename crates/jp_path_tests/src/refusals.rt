@@ -9,8 +9,11 @@ use crate::output_forms::written;
 use jp_doc::{Document, Location, Step};
 use jp_flat::FlatReader;
 use jp_node::Part;
-use jp_output::{InputLines, TextLines, ValueLines, append_chunks, join_chunks, push_chunk};
-use jp_path::{path_plan, query_of, write_line, write_path};
+use jp_output::{
+    InputLines, TextLines, ValueLines, append_chunks, join_chunks, push_chunk, write_line,
+    write_path,
+};
+use jp_path::{path_plan, query_of};
 use std::alloc::{AllocError, Global};
 
 /// The location `$['it\\'s'][10]`.

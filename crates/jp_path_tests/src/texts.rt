@@ -3,7 +3,7 @@
 ghost use Rattle.std.specs.Prelude.{◌≢◌};
 
 use jp_doc::{DocFault, Document, Location, Step};
-use jp_path::{write_fault, write_line, write_path};
+use jp_output::{write_fault, write_line, write_path};
 use serde_json::Value;
 use std::alloc::{AllocError, Global};
 use std::test::Fail;

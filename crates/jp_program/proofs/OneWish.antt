@@ -26,9 +26,9 @@ use Rattle.jp_program.specs.CommandLine.{said, refusals, AsksToShow}
 use Rattle.jp_program.specs.Outcome.{IsRefusedWish}
 use Rattle.jp_program.specs.Wanted.{Wanted, SaysNames, SaysNumber, cuts_documents, flag_text, has_decimals}
 use Rattle.jp_program.specs.Wanted.{Wants, WantsCheck, IsWrong, keeps_going, output_text}
-use Rattle.jp_program.specs.inner.Asked.{IsAsked, IsNotAsked, wanted_of}
-use Rattle.jp_program.specs.declared.command_line.Asked.{Asked}
-use Rattle.jp_program.specs.declared.command_line.Asked.TheVariants.{Query}
+use Rattle.jp_program.specs.inner.Invocation.{IsAsked, IsNotAsked, wanted_of}
+use Rattle.jp_program.specs.declared.command_line.Invocation.{Invocation}
+use Rattle.jp_program.specs.declared.command_line.Invocation.TheVariants.{Query}
 use Rattle.jp_program.specs.declared.command_line.Wanted as code
 
 same_some : {A : Type 0} (x y : A) → ◌≡◌ (Some x) (Some y) → x ≡ y
@@ -219,7 +219,7 @@ not_text {T} words fault f r h none e two =
 
 -- what was asked for is what is wanted
 
-module _ (words : List Text) (a : Asked) (v : code.Wanted) (w : Wanted) where
+module _ (words : List Text) (a : Invocation) (v : code.Wanted) (w : Wanted) where
   pub asked_is : a ≡ Query v → IsAsked words a → Wants words w → w ≡ wanted_of v
   asked_is e asked wants = one_wish words w (wanted_of v) wants (subst (IsAsked words) e asked)
 
@@ -228,7 +228,7 @@ module _ (words : List Text) (a : Asked) (v : code.Wanted) (w : Wanted) where
       let same : w ≡ wanted_of v = asked_is e asked wants.0 in
       let on : true ≡ false = sym wants.1 ∙ ap (λ (x : Wanted). x.check) same ∙ off in absurd (cc)
 
-module _ (words : List Text) (a : Asked) (v : code.Wanted) (w : Wanted) where
+module _ (words : List Text) (a : Invocation) (v : code.Wanted) (w : Wanted) where
   -- what is refused of it is refused of what was wanted
   pub refused_wish : (f : RunFault) → a ≡ Query v → IsAsked words a → Wants words w → IsRefusedWish w f
       → IsRefusedWish (wanted_of v) f

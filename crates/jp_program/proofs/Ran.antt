@@ -35,7 +35,7 @@ use Rattle.jp_run.specs.declared.running.Totals.{Totals}
 use Rattle.jp_run.proofs.Accepted.{one_asked}
 use Rattle.jp_run.proofs.Handing.{handed_none}
 use Rattle.jp_run.proofs.Runs.{at_fault}
-use Rattle.jp_program.specs.inner.Asked.{IsAsked, wanted_of}
+use Rattle.jp_program.specs.inner.Invocation.{IsAsked, wanted_of}
 use Rattle.jp_program.specs.inner.Ended.{EndsSo, FilesEnded, HasEnded, RunEnded}
 use Rattle.jp_program.specs.Inputs.{Course, EachInTurn, EndsIn, Held, Input, inputs_of, named, standard}
 use Rattle.jp_program.specs.Outcome.{IsTaken, IsAnswered, ArePassed, Passes, IsFront, IsCutShort, HasFailed}
@@ -44,13 +44,13 @@ use Rattle.jp_program.specs.Outcome.{IsRefusedWish, asked_in, ends_run, left_of,
 use Rattle.jp_program.specs.Outcome.{IsEmptyAnswer, IsKnownEmptyAnswer, AreEmptyAnswers}
 use Rattle.jp_program.specs.Outcome.{AreKnownEmptyAnswers}
 use Rattle.jp_program.specs.Wanted.{Wanted, WantsRun}
-use Rattle.jp_program.specs.declared.command_line.Asked.{Asked}
-use Rattle.jp_program.specs.declared.command_line.Asked.TheVariants.{Query}
+use Rattle.jp_program.specs.declared.command_line.Invocation.{Invocation}
+use Rattle.jp_program.specs.declared.command_line.Invocation.TheVariants.{Query}
 use Rattle.jp_program.specs.declared.command_line.Wanted as code
 use Rattle.jp_program.proofs.Told.{IsToldIn, fine, passes, told_stop, stops, front_none}
 use Rattle.jp_program.proofs.Turns.{all_named, alone, ended_alone, ended_named, ends_weaker, in_weaker}
 
-pub wants_of : (words : List Text) (a : Asked) (w : code.Wanted) → a ≡ Query w → IsAsked words a
+pub wants_of : (words : List Text) (a : Invocation) (w : code.Wanted) → a ≡ Query w → IsAsked words a
     → w.check ≡ false → WantsRun words (wanted_of w)
 wants_of words a w e asked off = (subst (IsAsked words) e asked, off)
 

@@ -1,3 +1,3 @@
 -- Working files of `jp_program`, which private clauses alone cite: nobody has to believe them.
-pub mod Asked
+pub mod Invocation
 pub mod Ended

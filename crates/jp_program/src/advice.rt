@@ -13,7 +13,7 @@ ghost use Rattle.jp_program.specs.Told.{IsExplained, IsTold, query_line};
 ghost use Rattle.jp_program.specs.Wanted.{Wanted as Wish, Wants};
 
 use crate::command::{note, note_text, tell};
-use crate::command_line::{Asked, files_by, matches, output_by, read_words};
+use crate::command_line::{Invocation, files_by, matches, output_by, read_words};
 use crate::file_notes::{RunEnd, tell_of_run};
 use crate::filter_advice::tell_filter_refusal;
 use crate::split::with_question;
@@ -94,7 +94,7 @@ fn explanation(alloc: Global, words: &[&str]) -> Result<Option<String>, RunFault
         → IfOk result (λ o. IsSomeAnd o (λ s. IsExplained w (string_bytes s))) }
 {
     match read_words(alloc, words)? {
-        Asked::Query(wanted) => {
+        Invocation::Query(wanted) => {
             let lines = lines_of(alloc, wanted.query, wanted.settings.numbers)?;
             let Some(lines) = lines else {
                 return Ok(None);
@@ -102,7 +102,7 @@ fn explanation(alloc: Global, words: &[&str]) -> Result<Option<String>, RunFault
             let files = wanted.files.as_slice();
             Ok(Some(with_question(lines, wanted.query, files)?))
         }
-        Asked::Show(_text) => Ok(None),
+        Invocation::Show(_text) => Ok(None),
     }
 }
 

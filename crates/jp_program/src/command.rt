@@ -20,7 +20,7 @@ ghost use Rattle.jp_program.specs.Told.{IsTold};
 ghost use Rattle.jp_program.specs.Wanted.{Wanted as Wish, Wants, WantsCheck, WantsRun, IsWrong};
 
 use crate::advice::tell_of_words;
-use crate::command_line::{Asked, read_words};
+use crate::command_line::{Invocation, read_words};
 use crate::each::answer_files;
 use crate::file_notes::RunEnd;
 use crate::inputs::Inputs;
@@ -287,11 +287,11 @@ fn done<R: Threads + AllocGlobal + Sync, S: Source<K>, I: Inputs<S>, K: Sink, N:
         → notes.new ≡ notes.old }
 {
     match read_words(rt.alloc(), words)? {
-        Asked::Show(text) => {
+        Invocation::Show(text) => {
             show(sink, text.as_str());
             Ok(NOTHING_SEEN)
         }
-        Asked::Query(wanted) => {
+        Invocation::Query(wanted) => {
             // Before anything is told, and any file is opened.
             let numbers = wanted.settings.numbers;
             let filter = wanted.settings.filter;

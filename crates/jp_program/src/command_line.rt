@@ -11,7 +11,7 @@ ghost use Rattle.jp_program.specs.CommandLine.{filter_rule, output_rule, said, r
 ghost use Rattle.jp_program.specs.CommandLine.{with_output as output_option_of, with_numbers as numbers_of};
 ghost use Rattle.jp_program.specs.CommandLine.{with_filter as filter_option_of};
 ghost use Rattle.jp_program.specs.CommandLine.{with_flags as flags_of, with_query as query_of};
-ghost use Rattle.jp_program.specs.inner.Asked.{IsAsked, IsNotAsked, wanted_of};
+ghost use Rattle.jp_program.specs.inner.Invocation.{IsAsked, IsNotAsked, wanted_of};
 ghost use Rattle.jp_program.specs.Wanted.{Wanted as Wish, Says, SaysNumber, SaysFlag, SaysOutput, AreSaid};
 ghost use Rattle.jp_program.specs.Wanted.{IsName, SaysFiles, SaysNames, cuts_documents, has_decimals};
 ghost use Rattle.jp_program.specs.Wanted.{keeps_going};
@@ -71,7 +71,7 @@ Examples:
 
 /// What the command line asks for.
 #[derive(Drop)]
-pub(crate) enum Asked<'a> {
+pub(crate) enum Invocation<'a> {
     /// To show this text: the help, or the version.
     Show(String),
     /// A run of a query, or its check.
@@ -101,18 +101,21 @@ pub(crate) struct Wanted<'a> {
 ///
 /// [`RunFault::Settings`] where they ask for nothing that there is, [`RunFault::Memory`] where a growth of
 /// memory was refused.
-pub(crate) fn read_words<'a>(alloc: Global, words: &'a [&'a str]) -> Result<Asked<'a>, RunFault>
+pub(crate) fn read_words<'a>(
+    alloc: Global,
+    words: &'a [&'a str],
+) -> Result<Invocation<'a>, RunFault>
     ensures asked { IfOk result (IsAsked (texts words.entry.now)) }
     ensures fault { IfErr result (IsNotAsked (texts words.entry.now)) }
 {
     match matches(alloc, words) {
         Ok(matches) => match wanted_by(alloc, &matches)? {
-            Some(wanted) => Ok(Asked::Query(wanted)),
+            Some(wanted) => Ok(Invocation::Query(wanted)),
             None => Err(RunFault::Settings),
         },
         Err(error) => match error.kind() {
             ErrorKind::DisplayHelp | ErrorKind::DisplayVersion => {
-                Ok(Asked::Show(format!(in alloc; "{error}")?))
+                Ok(Invocation::Show(format!(in alloc; "{error}")?))
             }
             ErrorKind::OutOfMemory => Err(RunFault::Memory),
             _ => Err(RunFault::Settings),

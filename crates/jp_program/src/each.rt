@@ -7,7 +7,7 @@ ghost use Rattle.clap.specs.Walk.{texts};
 ghost use Rattle.jp_doc.specs.declared.fault.DocFault.{DocFault as Fault};
 ghost use Rattle.jp_answer.specs.declared.on_fault.OnFault.TheVariants.{Stop, KeepGoing};
 ghost use Rattle.jp_run.specs.Counts.{counted};
-ghost use Rattle.jp_program.specs.inner.Asked.{IsPrepared, wanted_of};
+ghost use Rattle.jp_program.specs.inner.Invocation.{IsPrepared, wanted_of};
 ghost use Rattle.jp_program.specs.inner.Ended.{FilesEnded, RunEnded};
 ghost use Rattle.jp_program.specs.Inputs.{EachInTurn, counted_if, named};
 ghost use Rattle.jp_program.specs.Outcome.{ArePassed, IsAnswered, IsCut, IsWhole, Passes};

@@ -3,7 +3,7 @@
 ghost use Rattle.std.specs.Prelude.{◌≡◌, true};
 
 use crate::command::{note, note_text, tell};
-use crate::command_line::{Asked, read_words};
+use crate::command_line::{Invocation, read_words};
 use crate::split::{QUESTION, looks_like_query};
 use jp_explain::escaped;
 use jp_run::{Cutting, RunFault, Sink};
@@ -128,7 +128,7 @@ fn tell_reason<N: Sink>(alloc: Global, notes: &mut N, file: &NamedFile, reason: 
 
 /// The wanted file that was opened last, of so many; none where none was.
 fn file_at(alloc: Global, words: &[&str], opened: u64) -> Result<Option<NamedFile>, RunFault> {
-    let Asked::Query(wanted) = read_words(alloc, words)? else {
+    let Invocation::Query(wanted) = read_words(alloc, words)? else {
         return Ok(None);
     };
     let Some(last) = opened.checked_sub(1) else {

@@ -13,7 +13,7 @@ ghost use Rattle.jp_program.specs.Wanted.{Wanted as Wish, Wants};
 
 use crate::advice::lines_of;
 use crate::command::note_text;
-use crate::command_line::{Asked, read_words};
+use crate::command_line::{Invocation, read_words};
 use jp_check::filter_query_text;
 use jp_number::Numbers;
 use jp_run::{RunFault, Sink};
@@ -66,11 +66,11 @@ fn explanation(alloc: Global, words: &[&str]) -> Result<Option<String>, RunFault
         → IfOk result (λ o. IsSomeAnd o (λ s. IsFilterExplained w (string_bytes s))) }
 {
     match read_words(alloc, words)? {
-        Asked::Query(wanted) => match wanted.settings.filter {
+        Invocation::Query(wanted) => match wanted.settings.filter {
             Some(filter) => Ok(Some(filter_lines(alloc, filter, wanted.settings.numbers)?)),
             None => Ok(None),
         },
-        Asked::Show(_text) => Ok(None),
+        Invocation::Show(_text) => Ok(None),
     }
 }
 

@@ -12,14 +12,15 @@ ghost use Rattle.jp_run.specs.Limits.{window};
 ghost use Rattle.jp_run.specs.Prompt.{IsPrompt, IsNear};
 ghost use Rattle.jp_run.specs.Status.{status_of};
 ghost use Rattle.jp_run.specs.declared.fault.RunFault.{RunFault as End};
-ghost use Rattle.jp_program.specs.inner.Asked.{IsPrepared, wanted_of};
+ghost use Rattle.jp_program.specs.inner.Invocation.{IsPrepared, wanted_of};
 ghost use Rattle.jp_program.specs.inner.Ended.{RunEnded};
 ghost use Rattle.jp_program.specs.Outcome.{IsAnswered, IsTaken, IsWhole, Passes, manner_for};
 ghost use Rattle.jp_program.specs.Outcome.{IsEmptyAnswer, IsKnownEmptyAnswer, asked_in};
 
 use crate::command_line::Wanted;
 use crate::witness::{NamedWitness, Witness};
-use jp_run::{Crew, Prepared, RunFault, Settings, Sink, Source, Totals};
+use jp_answer::Crew;
+use jp_run::{Prepared, RunFault, Settings, Sink, Source, Totals};
 use std::alloc::AllocGlobal;
 use std::thread::Threads;
 

@@ -4,14 +4,14 @@ ghost use Rattle.std.specs.Prelude.{◌≡◌, true, false};
 ghost use Rattle.jp_run.specs.Status.{status_of};
 
 use crate::command::note_text;
-use jp_answer::OnFault;
+use jp_answer::{Gate, OnFault};
 use jp_doc::DocFault;
 use jp_explain::{
     LineExplanation, document_help, escaped, explain_line, line_help, write_document_mark,
     write_line_mark,
 };
 use jp_number::Numbers;
-use jp_run::{Cutting, Gate, RunFault, Sink};
+use jp_run::{Cutting, RunFault, Sink};
 use once_cell::race::OnceBox;
 use std::alloc::{AllocError, Global};
 

@@ -1,7 +1,9 @@
 //! What makes the front of a query text a query, at the place where a scan stands.
 
 use crate::functions::{WORDS, gives_value, is_literal, may_begin, takes_two};
-use crate::place::{Begun, Number, NumberOf, Open, Part, Place, Quoted, Side, Unit, Word};
+use crate::place::{
+    Begun, BegunNumber, NumberOf, Open, QuoteStage, Quoted, ScanPlace, Side, Unit, Word,
+};
 use crate::scanner::Scanner;
 use jp_types::{Function, function_named};
 use std::alloc::{AllocError, Global};
@@ -19,19 +21,19 @@ pub(crate) fn completion(alloc: Global, scanner: &Scanner) -> Result<String, All
 /// What ends the part that has begun.
 fn push_place(text: &mut String, scanner: &Scanner) -> Result<(), AllocError> {
     match scanner.place {
-        Place::Start => text.push('$'),
-        Place::Blanks(begun) => push_segment(text, begun),
-        Place::Dot(_) | Place::Dots(_) => text.push('a'),
-        Place::Selector => text.push('0'),
-        Place::Number(number) => push_number(text, number),
-        Place::Quoted(quoted) => push_quoted(text, quoted),
-        Place::Word(word) => push_word(text, scanner, word),
-        Place::Operand(_) | Place::Argument(_) => text.push('@'),
-        Place::Operator(_) => text.push_str("==1"),
-        Place::Doubled => text.push_str("=1"),
-        Place::OrEqual => text.push('1'),
-        Place::And => text.push_str("&@"),
-        Place::Or => text.push_str("|@"),
+        ScanPlace::Start => text.push('$'),
+        ScanPlace::Blanks(begun) => push_segment(text, begun),
+        ScanPlace::Dot(_) | ScanPlace::Dots(_) => text.push('a'),
+        ScanPlace::Selector => text.push('0'),
+        ScanPlace::BegunNumber(number) => push_number(text, number),
+        ScanPlace::Quoted(quoted) => push_quoted(text, quoted),
+        ScanPlace::Word(word) => push_word(text, scanner, word),
+        ScanPlace::Operand(_) | ScanPlace::Argument(_) => text.push('@'),
+        ScanPlace::Operator(_) => text.push_str("==1"),
+        ScanPlace::Doubled => text.push_str("=1"),
+        ScanPlace::OrEqual => text.push('1'),
+        ScanPlace::And => text.push_str("&@"),
+        ScanPlace::Or => text.push_str("|@"),
         _ => Ok(()),
     }
 }
@@ -44,7 +46,7 @@ fn push_segment(text: &mut String, begun: Begun) -> Result<(), AllocError> {
     }
 }
 
-fn push_number(text: &mut String, number: Number) -> Result<(), AllocError> {
+fn push_number(text: &mut String, number: BegunNumber) -> Result<(), AllocError> {
     if number.form.wants_digit() {
         text.push('1')?;
     }
@@ -56,11 +58,11 @@ fn push_number(text: &mut String, number: Number) -> Result<(), AllocError> {
 
 fn push_quoted(text: &mut String, quoted: Quoted) -> Result<(), AllocError> {
     text.push_str(match quoted.part {
-        Part::Bare => "",
-        Part::Escape => "n",
-        Part::Digits(unit, count) => last_digits(unit, count),
-        Part::Half => "\\udc00",
-        Part::HalfEscape => "udc00",
+        QuoteStage::Bare => "",
+        QuoteStage::Escape => "n",
+        QuoteStage::Digits(unit, count) => last_digits(unit, count),
+        QuoteStage::Half => "\\udc00",
+        QuoteStage::HalfEscape => "udc00",
     })?;
     text.push(quoted.quote)?;
     match quoted.literal {

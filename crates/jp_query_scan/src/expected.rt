@@ -1,45 +1,47 @@
 //! What may stand at a place.
 
 use crate::functions::takes_two;
-use crate::place::{Begun, Form, Number, NumberOf, Open, Part, Place, Quoted, Side, Unit};
+use crate::place::{
+    Begun, BegunNumber, NumberOf, NumberStage, Open, QuoteStage, Quoted, ScanPlace, Side, Unit,
+};
 use crate::reason::{Closer, Expected};
 
 /// What may stand at the place inside the innermost of the open brackets.
-pub(crate) fn expected(place: Place, inside: Option<Open>) -> Expected {
+pub(crate) fn expected(place: ScanPlace, inside: Option<Open>) -> Expected {
     match place {
-        Place::Start => Expected::Root,
-        Place::Segments(begun) | Place::Name(begun) => behind_query(begun, inside),
-        Place::Blanks(begun) => behind_blanks(begun, inside),
-        Place::Dot(begun) => match begun.side {
+        ScanPlace::Start => Expected::Root,
+        ScanPlace::Segments(begun) | ScanPlace::Name(begun) => behind_query(begun, inside),
+        ScanPlace::Blanks(begun) => behind_blanks(begun, inside),
+        ScanPlace::Dot(begun) => match begun.side {
             Side::Right => Expected::Name,
             _ => Expected::Dotted,
         },
-        Place::Dots(_) => Expected::Descendant,
-        Place::Number(number) => in_number(number, inside),
-        Place::Quoted(quoted) => in_quotes(quoted),
-        Place::Operand(side) | Place::Argument(side) => operand(side),
-        Place::Word(_) => Expected::Word,
-        Place::Operator(_) => Expected::Operator,
-        Place::Doubled => Expected::Equal,
-        Place::OrEqual => Expected::Comparable,
-        Place::And => Expected::And,
-        Place::Or => Expected::Or,
-        Place::Joint(_) => Expected::TestEnd(closer(inside)),
-        Place::ArgumentEnd => Expected::ArgumentEnd(closer(inside)),
+        ScanPlace::Dots(_) => Expected::Descendant,
+        ScanPlace::BegunNumber(number) => in_number(number, inside),
+        ScanPlace::Quoted(quoted) => in_quotes(quoted),
+        ScanPlace::Operand(side) | ScanPlace::Argument(side) => operand(side),
+        ScanPlace::Word(_) => Expected::Word,
+        ScanPlace::Operator(_) => Expected::Operator,
+        ScanPlace::Doubled => Expected::Equal,
+        ScanPlace::OrEqual => Expected::Comparable,
+        ScanPlace::And => Expected::And,
+        ScanPlace::Or => Expected::Or,
+        ScanPlace::Joint(_) => Expected::TestEnd(closer(inside)),
+        ScanPlace::ArgumentEnd => Expected::ArgumentEnd(closer(inside)),
         _ => in_brackets(place, inside),
     }
 }
 
 /// The same of a place in the brackets of a segment.
-fn in_brackets(place: Place, inside: Option<Open>) -> Expected {
+fn in_brackets(place: ScanPlace, inside: Option<Open>) -> Expected {
     let compared = is_compared(inside);
     match place {
-        Place::Selector if compared => Expected::SingularSelector,
-        Place::Selector => Expected::Selector,
-        Place::Past => Expected::SlicePart,
-        Place::Step => Expected::SliceStep,
+        ScanPlace::Selector if compared => Expected::SingularSelector,
+        ScanPlace::Selector => Expected::Selector,
+        ScanPlace::Past => Expected::SlicePart,
+        ScanPlace::Step => Expected::SliceStep,
         _ if compared => Expected::SingularEnd,
-        Place::IndexEnd | Place::PastEnd => Expected::IndexEnd,
+        ScanPlace::IndexEnd | ScanPlace::PastEnd => Expected::IndexEnd,
         _ => Expected::SelectorEnd,
     }
 }
@@ -99,54 +101,54 @@ fn operand(side: Side) -> Expected {
     }
 }
 
-fn in_number(number: Number, inside: Option<Open>) -> Expected {
+fn in_number(number: BegunNumber, inside: Option<Open>) -> Expected {
     match number.form {
-        Form::Minus => match number.what {
+        NumberStage::Minus => match number.what {
             NumberOf::Literal(_) => Expected::Digit,
             _ => Expected::DigitFromOne,
         },
-        Form::Point | Form::Sign => Expected::Digit,
-        Form::Letter => Expected::Exponent,
+        NumberStage::Point | NumberStage::Sign => Expected::Digit,
+        NumberStage::Letter => Expected::Exponent,
         _ => expected_behind(behind_number(number.what), inside),
     }
 }
 
 /// The place behind a number.
-pub(crate) fn behind_number(what: NumberOf) -> Place {
+pub(crate) fn behind_number(what: NumberOf) -> ScanPlace {
     match what {
         NumberOf::Literal(side) => behind_literal(side),
-        NumberOf::Index => Place::IndexEnd,
-        NumberOf::Past => Place::PastEnd,
-        NumberOf::Step => Place::SelectorEnd,
+        NumberOf::Index => ScanPlace::IndexEnd,
+        NumberOf::Past => ScanPlace::PastEnd,
+        NumberOf::Step => ScanPlace::SelectorEnd,
     }
 }
 
 /// The place behind a literal.
-pub(crate) fn behind_literal(side: Side) -> Place {
+pub(crate) fn behind_literal(side: Side) -> ScanPlace {
     match side {
-        Side::Value | Side::Nodes => Place::ArgumentEnd,
-        Side::Test => Place::Operator(None),
-        Side::Whole | Side::Negated | Side::Right => Place::Joint(None),
+        Side::Value | Side::Nodes => ScanPlace::ArgumentEnd,
+        Side::Test => ScanPlace::Operator(None),
+        Side::Whole | Side::Negated | Side::Right => ScanPlace::Joint(None),
     }
 }
 
 /// What may stand behind a number, where its digits have ended.
-fn expected_behind(place: Place, inside: Option<Open>) -> Expected {
+fn expected_behind(place: ScanPlace, inside: Option<Open>) -> Expected {
     match place {
-        Place::Operator(_) => Expected::Operator,
-        Place::Joint(_) => Expected::TestEnd(closer(inside)),
-        Place::ArgumentEnd => Expected::ArgumentEnd(closer(inside)),
+        ScanPlace::Operator(_) => Expected::Operator,
+        ScanPlace::Joint(_) => Expected::TestEnd(closer(inside)),
+        ScanPlace::ArgumentEnd => Expected::ArgumentEnd(closer(inside)),
         _ => in_brackets(place, inside),
     }
 }
 
 fn in_quotes(quoted: Quoted) -> Expected {
     match quoted.part {
-        Part::Bare => Expected::Quote(quoted.quote),
-        Part::Escape => Expected::Escape(quoted.quote),
-        Part::Digits(Unit::Lead, _) => Expected::FirstHalf,
-        Part::Digits(Unit::Low, _) => Expected::SecondHalf,
-        Part::Digits(_, _) => Expected::HexDigit,
-        Part::Half | Part::HalfEscape => Expected::SecondHalf,
+        QuoteStage::Bare => Expected::Quote(quoted.quote),
+        QuoteStage::Escape => Expected::Escape(quoted.quote),
+        QuoteStage::Digits(Unit::Lead, _) => Expected::FirstHalf,
+        QuoteStage::Digits(Unit::Low, _) => Expected::SecondHalf,
+        QuoteStage::Digits(_, _) => Expected::HexDigit,
+        QuoteStage::Half | QuoteStage::HalfEscape => Expected::SecondHalf,
     }
 }

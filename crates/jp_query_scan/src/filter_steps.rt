@@ -1,7 +1,7 @@
 //! The steps of a scan through tests, comparisons and calls (RFC 9535, 2.3.5 and 2.4).
 
 use crate::functions::{gives_value, parameter, takes_literal, takes_two};
-use crate::place::{Begun, Called, NumberOf, Open, Part, Place, Quoted, Side};
+use crate::place::{Begun, Called, NumberOf, Open, QuoteStage, Quoted, ScanPlace, Side};
 use crate::query_steps::{is_blank, is_operator};
 use crate::reason::Rule;
 use crate::scanner::{Halt, Scanner};
@@ -17,7 +17,7 @@ impl Scanner {
         while let Some(open) = self.open.pop() {
             if let Open::Call { call, .. } = open {
                 let rule = Rule::Takes(call.function);
-                return self.against(call.start, Place::Operand(call.side), rule);
+                return self.against(call.start, ScanPlace::Operand(call.side), rule);
             }
         }
         self.unexpected(at)
@@ -25,7 +25,7 @@ impl Scanner {
 
     pub(crate) fn operand(&mut self, side: Side, at: usize, c: char) -> Result<(), Halt> {
         match c {
-            '$' | '@' => self.go(Place::Segments(Begun {
+            '$' | '@' => self.go(ScanPlace::Segments(Begun {
                 side,
                 singular: true,
             })),
@@ -33,7 +33,7 @@ impl Scanner {
             _ if c.is_ascii_digit() => self.literal(side, at, c),
             _ if c.is_ascii_lowercase() => self.word_start(side, at, c),
             '(' | '!' => self.test_start(side, at, c),
-            _ if is_blank(c) => self.go(Place::Operand(side)),
+            _ if is_blank(c) => self.go(ScanPlace::Operand(side)),
             _ => Err(self.unexpected(at)),
         }
     }
@@ -45,10 +45,10 @@ impl Scanner {
                 Side::Nodes => Err(self.wrong_argument(at)),
                 _ => Err(self.unexpected(at)),
             },
-            _ if matches!(c, '"' | '\'') => self.go(Place::Quoted(Quoted {
+            _ if matches!(c, '"' | '\'') => self.go(ScanPlace::Quoted(Quoted {
                 quote: c,
                 literal: Some(side),
-                part: Part::Bare,
+                part: QuoteStage::Bare,
             })),
             _ => self.number_start(NumberOf::Literal(side), at, c),
         }
@@ -58,9 +58,9 @@ impl Scanner {
     fn test_start(&mut self, side: Side, at: usize, c: char) -> Result<(), Halt> {
         match (side, c) {
             (Side::Test | Side::Negated, '(') => {
-                self.opens(at, Open::Parenthesis, Place::Operand(Side::Test))
+                self.opens(at, Open::Parenthesis, ScanPlace::Operand(Side::Test))
             }
-            (Side::Test, _) => self.go(Place::Operand(Side::Negated)),
+            (Side::Test, _) => self.go(ScanPlace::Operand(Side::Negated)),
             (Side::Value | Side::Nodes, _) => Err(self.wrong_argument(at)),
             _ => Err(self.unexpected(at)),
         }
@@ -101,7 +101,7 @@ impl Scanner {
             ',' if more => self.replace(
                 at,
                 Open::Call { call, second: true },
-                Place::Argument(parameter(call.function)),
+                ScanPlace::Argument(parameter(call.function)),
             ),
             ')' if !more => {
                 let _closed = self.open.pop();
@@ -120,8 +120,8 @@ impl Scanner {
         c: char,
     ) -> Result<(), Halt> {
         match c {
-            '=' | '!' => self.go(Place::Doubled),
-            '<' | '>' => self.go(Place::OrEqual),
+            '=' | '!' => self.go(ScanPlace::Doubled),
+            '<' | '>' => self.go(ScanPlace::OrEqual),
             _ if is_blank(c) => Ok(()),
             _ if ends_test(c) => Err(self.not_compared(call, at, c)),
             _ => Err(self.unexpected(at)),
@@ -132,7 +132,7 @@ impl Scanner {
     fn not_compared(&mut self, call: Option<Called>, at: usize, c: char) -> Halt {
         if let Some(call) = call {
             let rule = Rule::Compared(call.function);
-            return self.against(call.start, Place::Operand(call.side), rule);
+            return self.against(call.start, ScanPlace::Operand(call.side), rule);
         }
         match self.inside() {
             Some(Open::Call { .. }) if matches!(c, ',' | ')') => self.wrong_argument(at),
@@ -142,14 +142,14 @@ impl Scanner {
 
     pub(crate) fn doubled(&mut self, at: usize, c: char) -> Result<(), Halt> {
         match c {
-            '=' => self.go(Place::Operand(Side::Right)),
+            '=' => self.go(ScanPlace::Operand(Side::Right)),
             _ => Err(self.unexpected(at)),
         }
     }
 
     pub(crate) fn or_equal(&mut self, at: usize, c: char) -> Result<(), Halt> {
         match c {
-            '=' => self.go(Place::Operand(Side::Right)),
+            '=' => self.go(ScanPlace::Operand(Side::Right)),
             _ => self.operand(Side::Right, at, c),
         }
     }
@@ -157,7 +157,7 @@ impl Scanner {
     /// Behind the first character of `&&` or `||`.
     pub(crate) fn connective(&mut self, mark: char, at: usize, c: char) -> Result<(), Halt> {
         if c == mark {
-            self.go(Place::Operand(Side::Test))
+            self.go(ScanPlace::Operand(Side::Test))
         } else {
             Err(self.unexpected(at))
         }
@@ -168,7 +168,7 @@ impl Scanner {
         match call {
             Some(call) if is_operator(c) => {
                 let rule = Rule::Alone(call.function);
-                Err(self.against(call.start, Place::Operand(call.side), rule))
+                Err(self.against(call.start, ScanPlace::Operand(call.side), rule))
             }
             _ if is_blank(c) => Ok(()),
             _ => self.test_end(at, c),
@@ -178,12 +178,12 @@ impl Scanner {
     /// The same at a character that is no blank.
     pub(crate) fn test_end(&mut self, at: usize, c: char) -> Result<(), Halt> {
         match (c, self.inside()) {
-            ('&', _) => self.go(Place::And),
-            ('|', _) => self.go(Place::Or),
+            ('&', _) => self.go(ScanPlace::And),
+            ('|', _) => self.go(ScanPlace::Or),
             (_, Some(Open::Brackets(_))) => self.selector_end(at, c),
             (')', Some(Open::Parenthesis)) => {
                 let _closed = self.open.pop();
-                self.go(Place::Joint(None))
+                self.go(ScanPlace::Joint(None))
             }
             (_, Some(Open::Call { .. })) => self.arguments(at, c),
             _ => Err(self.unexpected(at)),
@@ -192,11 +192,11 @@ impl Scanner {
 }
 
 /// The place behind a call.
-fn behind_call(call: Called) -> Place {
+fn behind_call(call: Called) -> ScanPlace {
     match call.side {
-        Side::Test if gives_value(call.function) => Place::Operator(Some(call)),
-        Side::Test | Side::Negated => Place::Joint(Some(call)),
-        Side::Whole | Side::Right => Place::Joint(None),
-        Side::Value | Side::Nodes => Place::ArgumentEnd,
+        Side::Test if gives_value(call.function) => ScanPlace::Operator(Some(call)),
+        Side::Test | Side::Negated => ScanPlace::Joint(Some(call)),
+        Side::Whole | Side::Right => ScanPlace::Joint(None),
+        Side::Value | Side::Nodes => ScanPlace::ArgumentEnd,
     }
 }

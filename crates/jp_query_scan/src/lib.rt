@@ -13,4 +13,4 @@ mod reason;
 mod scanner;
 
 pub use reason::{Closer, Expected, Reason, Rule};
-pub use scanner::{Found, scan};
+pub use scanner::{Scanned, scan};

@@ -2,7 +2,10 @@
 
 use crate::expected::{behind_literal, behind_number};
 use crate::functions::{WORDS, is_literal, may_begin, may_call, parameter, takes_literal};
-use crate::place::{Called, Form, Number, NumberOf, Open, Part, Place, Quoted, Side, Unit, Word};
+use crate::place::{
+    BegunNumber, Called, NumberOf, NumberStage, Open, QuoteStage, Quoted, ScanPlace, Side, Unit,
+    Word,
+};
 use crate::reason::{Expected, Reason, Rule};
 use crate::scanner::{Halt, Scanner};
 use jp_number::{MAX_DIGITS, MAX_EXPONENT_DIGITS, Numbers};
@@ -19,7 +22,7 @@ fn grown(what: NumberOf, size: u64, c: char) -> u64 {
 }
 
 /// Whether some number in its range begins with these characters.
-fn is_in_range(number: Number, numbers: Numbers) -> bool {
+fn is_in_range(number: BegunNumber, numbers: Numbers) -> bool {
     match (number.what, numbers) {
         (NumberOf::Literal(_), Numbers::Whole) => number.size <= MAX_WHOLE_DIGITS as u64,
         (NumberOf::Literal(_), Numbers::Decimals) => {
@@ -35,34 +38,41 @@ fn is_in_range(number: Number, numbers: Numbers) -> bool {
 }
 
 /// The place where such a number begins, and the rule for its size.
-fn number_place(what: NumberOf, numbers: Numbers) -> (Place, Rule) {
+fn number_place(what: NumberOf, numbers: Numbers) -> (ScanPlace, Rule) {
     match (what, numbers) {
-        (NumberOf::Literal(side), Numbers::Whole) => (Place::Operand(side), Rule::LiteralRange),
-        (NumberOf::Literal(side), Numbers::Decimals) => (Place::Operand(side), Rule::DecimalRange),
-        (NumberOf::Index, _) => (Place::Selector, Rule::IndexRange),
-        (NumberOf::Past, _) => (Place::Past, Rule::IndexRange),
-        (NumberOf::Step, _) => (Place::Step, Rule::IndexRange),
+        (NumberOf::Literal(side), Numbers::Whole) => (ScanPlace::Operand(side), Rule::LiteralRange),
+        (NumberOf::Literal(side), Numbers::Decimals) => (
+            ScanPlace::Operand(side),
+            Rule::DecimalRange,
+        ),
+        (NumberOf::Index, _) => (ScanPlace::Selector, Rule::IndexRange),
+        (NumberOf::Past, _) => (ScanPlace::Past, Rule::IndexRange),
+        (NumberOf::Step, _) => (ScanPlace::Step, Rule::IndexRange),
     }
 }
 
 /// The form behind one digit more, or nothing where none may follow.
-fn form_after_digit(number: Number, c: char) -> Option<Form> {
+fn form_after_digit(number: BegunNumber, c: char) -> Option<NumberStage> {
     match (number.form, number.what, c) {
-        (Form::Minus, NumberOf::Literal(_), '0') => Some(Form::Zero),
-        (Form::Minus, _, '0') | (Form::Zero, _, _) => None,
-        (Form::Minus | Form::Digits, _, _) => Some(Form::Digits),
-        (Form::Point | Form::Fraction, _, _) => Some(Form::Fraction),
-        (Form::Letter | Form::Sign | Form::Exponent, _, _) => Some(Form::Exponent),
+        (NumberStage::Minus, NumberOf::Literal(_), '0') => Some(NumberStage::Zero),
+        (NumberStage::Minus, _, '0') | (NumberStage::Zero, _, _) => None,
+        (NumberStage::Minus | NumberStage::Digits, _, _) => Some(NumberStage::Digits),
+        (NumberStage::Point | NumberStage::Fraction, _, _) => Some(NumberStage::Fraction),
+        (NumberStage::Letter | NumberStage::Sign | NumberStage::Exponent, _, _) => Some(
+            NumberStage::Exponent,
+        ),
     }
 }
 
 /// The form of a literal behind this mark of a fraction or an exponent, or nothing where it is none or may
 /// not follow.
-fn form_after_mark(form: Form, c: char) -> Option<Form> {
+fn form_after_mark(form: NumberStage, c: char) -> Option<NumberStage> {
     match (form, c) {
-        (Form::Zero | Form::Digits, '.') => Some(Form::Point),
-        (Form::Zero | Form::Digits | Form::Fraction, 'e' | 'E') => Some(Form::Letter),
-        (Form::Letter, '+' | '-') => Some(Form::Sign),
+        (NumberStage::Zero | NumberStage::Digits, '.') => Some(NumberStage::Point),
+        (NumberStage::Zero | NumberStage::Digits | NumberStage::Fraction, 'e' | 'E') => Some(
+            NumberStage::Letter,
+        ),
+        (NumberStage::Letter, '+' | '-') => Some(NumberStage::Sign),
         _ => None,
     }
 }
@@ -90,33 +100,32 @@ fn digits_after(unit: Unit, count: u8, c: char) -> Option<(Unit, u8)> {
 }
 
 /// Where the scan stands behind so many digits of the unit.
-fn behind_digits(unit: Unit, count: u8) -> Part {
+fn behind_digits(unit: Unit, count: u8) -> QuoteStage {
     match (unit, count) {
-        (_, 0..=3) => Part::Digits(unit, count),
-        (Unit::High, _) => Part::Half,
-        _ => Part::Bare,
+        (_, 0..=3) => QuoteStage::Digits(unit, count),
+        (Unit::High, _) => QuoteStage::Half,
+        _ => QuoteStage::Bare,
     }
 }
 
 /// Where the scan stands in quotes behind one character more, which does not end them; or nothing where it
 /// may not stand there.
-fn part_after(part: Part, quote: char, c: char) -> Option<Part> {
+fn part_after(part: QuoteStage, quote: char, c: char) -> Option<QuoteStage> {
     match part {
-        Part::Bare if c == '\\' => Some(Part::Escape),
-        Part::Bare if c >= ' ' => Some(Part::Bare),
-        Part::Bare => None,
-        Part::Escape if c == 'u' => Some(Part::Digits(Unit::Scalar, 0)),
-        Part::Escape if c == quote || matches!(c, 'b' | 'f' | 'n' | 'r' | 't' | '/' | '\\') => {
-            Some(Part::Bare)
-        }
-        Part::Escape => None,
-        Part::Digits(unit, count) => {
+        QuoteStage::Bare if c == '\\' => Some(QuoteStage::Escape),
+        QuoteStage::Bare if c >= ' ' => Some(QuoteStage::Bare),
+        QuoteStage::Bare => None,
+        QuoteStage::Escape if c == 'u' => Some(QuoteStage::Digits(Unit::Scalar, 0)),
+        QuoteStage::Escape if c == quote || matches!(c, 'b' | 'f' | 'n' | 'r' | 't' | '/' | '\\') =>
+            { Some(QuoteStage::Bare) }
+        QuoteStage::Escape => None,
+        QuoteStage::Digits(unit, count) => {
             let (unit, count) = digits_after(unit, count, c)?;
             Some(behind_digits(unit, count))
         }
-        Part::Half if c == '\\' => Some(Part::HalfEscape),
-        Part::HalfEscape if c == 'u' => Some(Part::Digits(Unit::Low, 0)),
-        Part::Half | Part::HalfEscape => None,
+        QuoteStage::Half if c == '\\' => Some(QuoteStage::HalfEscape),
+        QuoteStage::HalfEscape if c == 'u' => Some(QuoteStage::Digits(Unit::Low, 0)),
+        QuoteStage::Half | QuoteStage::HalfEscape => None,
     }
 }
 
@@ -124,11 +133,11 @@ impl Scanner {
     /// At the first character of a number.
     pub(crate) fn number_start(&mut self, what: NumberOf, at: usize, c: char) -> Result<(), Halt> {
         let (form, size) = match c {
-            '-' => (Form::Minus, 0),
-            '0' => (Form::Zero, 1),
-            _ => (Form::Digits, grown(what, 0, c)),
+            '-' => (NumberStage::Minus, 0),
+            '0' => (NumberStage::Zero, 1),
+            _ => (NumberStage::Digits, grown(what, 0, c)),
         };
-        self.go(Place::Number(Number {
+        self.go(ScanPlace::BegunNumber(BegunNumber {
             what,
             form,
             start: at,
@@ -137,7 +146,7 @@ impl Scanner {
         }))
     }
 
-    pub(crate) fn number(&mut self, number: Number, at: usize, c: char) -> Result<(), Halt> {
+    pub(crate) fn number(&mut self, number: BegunNumber, at: usize, c: char) -> Result<(), Halt> {
         if c.is_ascii_digit() {
             return self.digit(number, at, c);
         }
@@ -145,10 +154,10 @@ impl Scanner {
             (NumberOf::Literal(side), Some(form)) => match self.numbers {
                 Numbers::Whole => Err(self.against(
                     number.start,
-                    Place::Operand(side),
+                    ScanPlace::Operand(side),
                     Rule::Whole,
                 )),
-                Numbers::Decimals => self.go_on_number(Number { form, ..number }),
+                Numbers::Decimals => self.go_on_number(BegunNumber { form, ..number }),
             },
             _ if number.form.wants_digit() => Err(self.unexpected(at)),
             _ => {
@@ -158,12 +167,12 @@ impl Scanner {
         }
     }
 
-    fn digit(&mut self, number: Number, at: usize, c: char) -> Result<(), Halt> {
+    fn digit(&mut self, number: BegunNumber, at: usize, c: char) -> Result<(), Halt> {
         let Some(form) = form_after_digit(number, c) else {
             return Err(self.unexpected(at));
         };
-        let in_exponent = matches!(form, Form::Exponent);
-        self.go_on_number(Number {
+        let in_exponent = matches!(form, NumberStage::Exponent);
+        self.go_on_number(BegunNumber {
             form,
             size: grown(number.what, number.size, c),
             exponent: number.exponent.saturating_add(in_exponent as u64),
@@ -172,9 +181,9 @@ impl Scanner {
     }
 
     /// Goes on in the number, unless it is out of its range.
-    fn go_on_number(&mut self, number: Number) -> Result<(), Halt> {
+    fn go_on_number(&mut self, number: BegunNumber) -> Result<(), Halt> {
         if is_in_range(number, self.numbers) {
-            return self.go(Place::Number(number));
+            return self.go(ScanPlace::BegunNumber(number));
         }
         let (place, rule) = number_place(number.what, self.numbers);
         Err(self.against(number.start, place, rule))
@@ -182,9 +191,9 @@ impl Scanner {
 
     pub(crate) fn quoted(&mut self, quoted: Quoted, at: usize, c: char) -> Result<(), Halt> {
         match quoted.part {
-            Part::Bare if c == quoted.quote => self.go(behind_quotes(quoted.literal)),
+            QuoteStage::Bare if c == quoted.quote => self.go(behind_quotes(quoted.literal)),
             _ => match part_after(quoted.part, quoted.quote, c) {
-                Some(part) => self.go(Place::Quoted(Quoted { part, ..quoted })),
+                Some(part) => self.go(ScanPlace::Quoted(Quoted { part, ..quoted })),
                 None => Err(self.unexpected(at)),
             },
         }
@@ -241,7 +250,7 @@ impl Scanner {
             None => Some(at),
             lost => lost,
         };
-        self.go(Place::Word(Word { lost, ..word }))
+        self.go(ScanPlace::Word(Word { lost, ..word }))
     }
 
     /// A word that has ended and is none, at the last place where one could still stand.
@@ -250,7 +259,7 @@ impl Scanner {
             return self.wrong_argument(at);
         }
         if self.front.is_empty() {
-            self.place = Place::Operand(word.side);
+            self.place = ScanPlace::Operand(word.side);
         }
         if is_literal(self.front.as_str()) {
             self.place = behind_literal(word.side);
@@ -264,7 +273,7 @@ impl Scanner {
 
     /// At the parenthesis behind a word.
     fn call(&mut self, word: Word, at: usize) -> Result<(), Halt> {
-        let place = Place::Operand(word.side);
+        let place = ScanPlace::Operand(word.side);
         let Some(function) = function_named(self.word.as_str()) else {
             return Err(self.against(word.start, place, Rule::NoFunction));
         };
@@ -289,15 +298,15 @@ impl Scanner {
                 call,
                 second: false,
             },
-            Place::Argument(parameter(function)),
+            ScanPlace::Argument(parameter(function)),
         )
     }
 }
 
 /// The place behind a text in quotes.
-fn behind_quotes(literal: Option<Side>) -> Place {
+fn behind_quotes(literal: Option<Side>) -> ScanPlace {
     match literal {
         Some(side) => behind_literal(side),
-        None => Place::SelectorEnd,
+        None => ScanPlace::SelectorEnd,
     }
 }

@@ -64,7 +64,7 @@ pub(crate) enum NumberOf {
 
 /// The characters of a number so far.
 #[derive(Clone, Copy)]
-pub(crate) enum Form {
+pub(crate) enum NumberStage {
     Minus,
     Zero,
     Digits,
@@ -80,18 +80,21 @@ pub(crate) enum Form {
     Exponent,
 }
 
-impl Form {
+impl NumberStage {
     /// Whether a digit has to follow.
     pub(crate) fn wants_digit(self) -> bool {
-        matches!(self, Form::Minus | Form::Point | Form::Letter | Form::Sign)
+        matches!(
+            self,
+            NumberStage::Minus | NumberStage::Point | NumberStage::Letter | NumberStage::Sign
+        )
     }
 }
 
 /// A number that has begun.
 #[derive(Clone, Copy)]
-pub(crate) struct Number {
+pub(crate) struct BegunNumber {
     pub(crate) what: NumberOf,
-    pub(crate) form: Form,
+    pub(crate) form: NumberStage,
     pub(crate) start: usize,
     /// How many digits a literal has; of another number how far it is from zero.
     pub(crate) size: u64,
@@ -114,7 +117,7 @@ pub(crate) enum Unit {
 
 /// Where a scan stands in quotes.
 #[derive(Clone, Copy)]
-pub(crate) enum Part {
+pub(crate) enum QuoteStage {
     Bare,
     /// Behind a backslash.
     Escape,
@@ -131,7 +134,7 @@ pub(crate) enum Part {
 pub(crate) struct Quoted {
     pub(crate) quote: char,
     pub(crate) literal: Option<Side>,
-    pub(crate) part: Part,
+    pub(crate) part: QuoteStage,
 }
 
 /// A word that has begun; behind `lost` characters no word that may stand here goes on as it does.
@@ -144,7 +147,7 @@ pub(crate) struct Word {
 
 /// Where the scan stands.
 #[derive(Clone, Copy)]
-pub(crate) enum Place {
+pub(crate) enum ScanPlace {
     /// Before the query.
     Start,
     /// Behind `$`, `@` or a segment.
@@ -169,7 +172,7 @@ pub(crate) enum Place {
     PastEnd,
     /// Behind the second colon of a slice.
     Step,
-    Number(Number),
+    BegunNumber(BegunNumber),
     Quoted(Quoted),
     Word(Word),
     /// Where an expression begins.

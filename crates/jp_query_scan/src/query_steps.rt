@@ -1,7 +1,7 @@
 //! The steps of a scan through segments and selectors (RFC 9535, 2.3 and 2.5).
 
 use crate::expected::behind_several;
-use crate::place::{Begun, NumberOf, Open, Part, Place, Quoted, Side};
+use crate::place::{Begun, NumberOf, Open, QuoteStage, Quoted, ScanPlace, Side};
 use crate::reason::Reason;
 use crate::scanner::{Halt, Scanner};
 
@@ -21,7 +21,7 @@ pub(crate) fn is_operator(c: char) -> bool {
 impl Scanner {
     pub(crate) fn start(&mut self, at: usize, c: char) -> Result<(), Halt> {
         if c == '$' {
-            self.go(Place::Segments(Begun {
+            self.go(ScanPlace::Segments(Begun {
                 side: Side::Whole,
                 singular: true,
             }))
@@ -44,9 +44,9 @@ impl Scanner {
 
     pub(crate) fn segments(&mut self, begun: Begun, at: usize, c: char) -> Result<(), Halt> {
         match c {
-            '.' => self.go(Place::Dot(begun)),
-            '[' => self.opens(at, Open::Brackets(begun), Place::Selector),
-            _ if is_blank(c) => self.go(Place::Blanks(begun)),
+            '.' => self.go(ScanPlace::Dot(begun)),
+            '[' => self.opens(at, Open::Brackets(begun), ScanPlace::Selector),
+            _ if is_blank(c) => self.go(ScanPlace::Blanks(begun)),
             _ => self.query_end(begun, at, c),
         }
     }
@@ -73,22 +73,22 @@ impl Scanner {
         match c {
             '.' => {
                 let begun = self.several(begun, at)?;
-                self.go(Place::Dots(begun))
+                self.go(ScanPlace::Dots(begun))
             }
             '*' => {
                 let begun = self.several(begun, at)?;
-                self.go(Place::Segments(begun))
+                self.go(ScanPlace::Segments(begun))
             }
-            _ if is_first(c) => self.go(Place::Name(begun)),
+            _ if is_first(c) => self.go(ScanPlace::Name(begun)),
             _ => Err(self.unexpected(at)),
         }
     }
 
     pub(crate) fn dots(&mut self, begun: Begun, at: usize, c: char) -> Result<(), Halt> {
         match c {
-            '*' => self.go(Place::Segments(begun)),
-            '[' => self.opens(at, Open::Brackets(begun), Place::Selector),
-            _ if is_first(c) => self.go(Place::Name(begun)),
+            '*' => self.go(ScanPlace::Segments(begun)),
+            '[' => self.opens(at, Open::Brackets(begun), ScanPlace::Selector),
+            _ if is_first(c) => self.go(ScanPlace::Name(begun)),
             _ => Err(self.unexpected(at)),
         }
     }
@@ -97,12 +97,12 @@ impl Scanner {
         if is_first(c) || c.is_ascii_digit() {
             return Ok(());
         }
-        self.place = Place::Segments(begun);
+        self.place = ScanPlace::Segments(begun);
         self.segments(begun, at, c)
     }
 
     /// Goes on to the place in brackets whose query may select several nodes, where one may stand.
-    fn several_by(&mut self, at: usize, place: Place) -> Result<(), Halt> {
+    fn several_by(&mut self, at: usize, place: ScanPlace) -> Result<(), Halt> {
         let Some(Open::Brackets(begun)) = self.inside() else {
             return Err(self.unexpected(at));
         };
@@ -111,21 +111,21 @@ impl Scanner {
     }
 
     /// The same with this in the place of the innermost of the open brackets.
-    pub(crate) fn replace(&mut self, at: usize, open: Open, place: Place) -> Result<(), Halt> {
+    pub(crate) fn replace(&mut self, at: usize, open: Open, place: ScanPlace) -> Result<(), Halt> {
         let _replaced = self.open.pop();
         self.opens(at, open, place)
     }
 
     pub(crate) fn selector(&mut self, at: usize, c: char) -> Result<(), Halt> {
         match c {
-            '"' | '\'' => self.go(Place::Quoted(Quoted {
+            '"' | '\'' => self.go(ScanPlace::Quoted(Quoted {
                 quote: c,
                 literal: None,
-                part: Part::Bare,
+                part: QuoteStage::Bare,
             })),
-            '*' => self.several_by(at, Place::SelectorEnd),
-            '?' => self.several_by(at, Place::Operand(Side::Test)),
-            ':' => self.several_by(at, Place::Past),
+            '*' => self.several_by(at, ScanPlace::SelectorEnd),
+            '?' => self.several_by(at, ScanPlace::Operand(Side::Test)),
+            ':' => self.several_by(at, ScanPlace::Past),
             _ if is_blank(c) => Ok(()),
             _ if c == '-' || c.is_ascii_digit() => self.number_start(NumberOf::Index, at, c),
             _ => Err(self.unexpected(at)),
@@ -134,10 +134,10 @@ impl Scanner {
 
     pub(crate) fn selector_end(&mut self, at: usize, c: char) -> Result<(), Halt> {
         match (c, self.inside()) {
-            (',', _) => self.several_by(at, Place::Selector),
+            (',', _) => self.several_by(at, ScanPlace::Selector),
             (']', Some(Open::Brackets(begun))) => {
                 let _closed = self.open.pop();
-                self.go(Place::Segments(begun))
+                self.go(ScanPlace::Segments(begun))
             }
             _ if is_blank(c) => Ok(()),
             _ => Err(self.unexpected(at)),
@@ -146,14 +146,14 @@ impl Scanner {
 
     pub(crate) fn index_end(&mut self, at: usize, c: char) -> Result<(), Halt> {
         match c {
-            ':' => self.several_by(at, Place::Past),
+            ':' => self.several_by(at, ScanPlace::Past),
             _ => self.selector_end(at, c),
         }
     }
 
     pub(crate) fn past(&mut self, at: usize, c: char) -> Result<(), Halt> {
         match c {
-            ':' => self.go(Place::Step),
+            ':' => self.go(ScanPlace::Step),
             _ if c == '-' || c.is_ascii_digit() => self.number_start(NumberOf::Past, at, c),
             _ => self.selector_end(at, c),
         }
@@ -161,7 +161,7 @@ impl Scanner {
 
     pub(crate) fn past_end(&mut self, at: usize, c: char) -> Result<(), Halt> {
         match c {
-            ':' => self.go(Place::Step),
+            ':' => self.go(ScanPlace::Step),
             _ => self.selector_end(at, c),
         }
     }

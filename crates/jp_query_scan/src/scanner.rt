@@ -5,7 +5,7 @@
 
 use crate::completion::completion;
 use crate::expected::expected;
-use crate::place::{Open, Place};
+use crate::place::{Open, ScanPlace};
 use crate::reason::{Reason, Rule};
 use jp_number::Numbers;
 use std::alloc::{AllocError, Global};
@@ -15,7 +15,7 @@ const MAX_DEPTH: usize = 64;
 
 /// Where a query text goes wrong, and how a query may go on there.
 #[derive(Drop)]
-pub struct Found {
+pub struct Scanned {
     /// How many characters stand before the mark.
     pub mark: usize,
     /// What might have stood there, or which rule is broken there.
@@ -44,7 +44,7 @@ impl From<AllocError> for Halt {
 pub(crate) struct Scanner {
     /// Which numbers the literals may be.
     pub(crate) numbers: Numbers,
-    pub(crate) place: Place,
+    pub(crate) place: ScanPlace,
     pub(crate) open: Vec<Open>,
     /// The letters of the word that is being read.
     pub(crate) word: String,
@@ -56,7 +56,7 @@ impl Scanner {
     fn new(alloc: Global, numbers: Numbers) -> Scanner {
         Scanner {
             numbers,
-            place: Place::Start,
+            place: ScanPlace::Start,
             open: Vec::new(alloc),
             word: String::new(alloc),
             front: String::new(alloc),
@@ -74,7 +74,7 @@ impl Scanner {
     }
 
     /// Goes on to the place.
-    pub(crate) fn go(&mut self, place: Place) -> Result<(), Halt> {
+    pub(crate) fn go(&mut self, place: ScanPlace) -> Result<(), Halt> {
         self.place = place;
         Ok(())
     }
@@ -85,13 +85,13 @@ impl Scanner {
     }
 
     /// What began there, at that place, breaks the rule.
-    pub(crate) fn against(&mut self, start: usize, place: Place, rule: Rule) -> Halt {
+    pub(crate) fn against(&mut self, start: usize, place: ScanPlace, rule: Rule) -> Halt {
         self.place = place;
         Halt::At(start, Reason::Rule(rule))
     }
 
     /// Opens a bracket or a parenthesis, and goes on to the place.
-    pub(crate) fn opens(&mut self, at: usize, open: Open, place: Place) -> Result<(), Halt> {
+    pub(crate) fn opens(&mut self, at: usize, open: Open, place: ScanPlace) -> Result<(), Halt> {
         if !self.may_open() {
             return Err(Halt::At(at, Reason::Rule(Rule::TooDeep)));
         }
@@ -102,23 +102,23 @@ impl Scanner {
     /// Reads one more character, behind `at` others.
     fn step(&mut self, at: usize, c: char) -> Result<(), Halt> {
         match self.place {
-            Place::Start => self.start(at, c),
-            Place::Segments(begun) | Place::Blanks(begun) => self.segments(begun, at, c),
-            Place::Dot(begun) => self.dot(begun, at, c),
-            Place::Dots(begun) => self.dots(begun, at, c),
-            Place::Name(begun) => self.name(begun, at, c),
-            Place::Selector => self.selector(at, c),
-            Place::Past => self.past(at, c),
-            Place::Step => self.slice_step(at, c),
-            Place::Number(number) => self.number(number, at, c),
-            Place::Quoted(quoted) => self.quoted(quoted, at, c),
-            Place::Word(word) => self.word(word, at, c),
-            Place::Operand(side) => self.operand(side, at, c),
-            Place::Argument(side) => self.argument(side, at, c),
-            Place::Doubled => self.doubled(at, c),
-            Place::OrEqual => self.or_equal(at, c),
-            Place::And => self.connective('&', at, c),
-            Place::Or => self.connective('|', at, c),
+            ScanPlace::Start => self.start(at, c),
+            ScanPlace::Segments(begun) | ScanPlace::Blanks(begun) => self.segments(begun, at, c),
+            ScanPlace::Dot(begun) => self.dot(begun, at, c),
+            ScanPlace::Dots(begun) => self.dots(begun, at, c),
+            ScanPlace::Name(begun) => self.name(begun, at, c),
+            ScanPlace::Selector => self.selector(at, c),
+            ScanPlace::Past => self.past(at, c),
+            ScanPlace::Step => self.slice_step(at, c),
+            ScanPlace::BegunNumber(number) => self.number(number, at, c),
+            ScanPlace::Quoted(quoted) => self.quoted(quoted, at, c),
+            ScanPlace::Word(word) => self.word(word, at, c),
+            ScanPlace::Operand(side) => self.operand(side, at, c),
+            ScanPlace::Argument(side) => self.argument(side, at, c),
+            ScanPlace::Doubled => self.doubled(at, c),
+            ScanPlace::OrEqual => self.or_equal(at, c),
+            ScanPlace::And => self.connective('&', at, c),
+            ScanPlace::Or => self.connective('|', at, c),
             _ => self.behind(at, c),
         }
     }
@@ -126,12 +126,12 @@ impl Scanner {
     /// The same behind a part that has ended.
     pub(crate) fn behind(&mut self, at: usize, c: char) -> Result<(), Halt> {
         match self.place {
-            Place::SelectorEnd => self.selector_end(at, c),
-            Place::IndexEnd => self.index_end(at, c),
-            Place::PastEnd => self.past_end(at, c),
-            Place::ArgumentEnd => self.argument_end(at, c),
-            Place::Operator(call) => self.operator(call, at, c),
-            Place::Joint(call) => self.joint(call, at, c),
+            ScanPlace::SelectorEnd => self.selector_end(at, c),
+            ScanPlace::IndexEnd => self.index_end(at, c),
+            ScanPlace::PastEnd => self.past_end(at, c),
+            ScanPlace::ArgumentEnd => self.argument_end(at, c),
+            ScanPlace::Operator(call) => self.operator(call, at, c),
+            ScanPlace::Joint(call) => self.joint(call, at, c),
             _ => Err(self.unexpected(at)),
         }
     }
@@ -139,7 +139,7 @@ impl Scanner {
     /// The text ends behind so many characters.
     fn end(&mut self, at: usize) -> Halt {
         match self.place {
-            Place::Word(word) => self.word_halt(word, at),
+            ScanPlace::Word(word) => self.word_halt(word, at),
             _ => self.unexpected(at),
         }
     }
@@ -166,11 +166,11 @@ fn push_open(opened: &mut Vec<Open>, open: Open) -> Result<(), AllocError> {
 /// # Errors
 ///
 /// `AllocError` where a growth of memory was refused.
-pub fn scan(alloc: Global, text: &str, numbers: Numbers) -> Result<Found, AllocError> {
+pub fn scan(alloc: Global, text: &str, numbers: Numbers) -> Result<Scanned, AllocError> {
     let mut scanner = Scanner::new(alloc, numbers);
     match scanner.read(text) {
         Halt::Memory => Err(AllocError),
-        Halt::At(mark, reason) => Ok(Found {
+        Halt::At(mark, reason) => Ok(Scanned {
             mark,
             reason,
             completion: completion(alloc, &scanner)?,

@@ -5,7 +5,7 @@ ghost use Rattle.jp_run.specs.declared.fault.RunFault.TheVariants.{Memory};
 ghost use Rattle.jp_run.specs.Status.{status_of};
 
 use jp_doc::DocFault;
-use jp_syntax::QueryFault;
+use jp_tree::QueryFault;
 use std::alloc::AllocError;
 use thiserror::Error;
 

@@ -20,7 +20,7 @@ use jp_answer::{Crew, Gate};
 use jp_check::{FilterPlan, Plan, filter_in, plan_in};
 use jp_eval::DocumentFilter;
 use jp_number::Numbers;
-use jp_syntax::QueryFault;
+use jp_tree::QueryFault;
 use std::alloc::Global;
 use std::thread::Threads;
 

@@ -35,7 +35,7 @@ use crate::turns::turn;
 use crate::writing::pass_on;
 use jp_answer::{Crew, Gate};
 use jp_output::{Form, InputLines, NodeLines, RawLines, TextLines, ValueLines};
-use jp_syntax::QueryFault;
+use jp_tree::QueryFault;
 use std::alloc::Global;
 use std::thread::Threads;
 

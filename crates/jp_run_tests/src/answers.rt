@@ -2,9 +2,10 @@
 
 use crate::gates::{Entered, FirstWaits, Pair, Recorder};
 use crate::thousand::{items_of_thousand, thousand};
+use jp_answer::{DocStop, Gate, OpenGate};
 use jp_check::plan;
 use jp_doc::{DocFault, Line, Lines};
-use jp_run::{Answer, DocStop, Gate, OpenGate, Settings, answer};
+use jp_run::{Answer, Settings, answer};
 use std::alloc::{AllocError, Global};
 use std::sync::atomic::{AtomicU64, Ordering};
 use std::test::Fail;

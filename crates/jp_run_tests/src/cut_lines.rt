@@ -4,7 +4,8 @@ ghost use Rattle.std.specs.Prelude.{◌≡◌, ◌^◌, ◌≤◌, false};
 
 use crate::fakes::{Holds, OneByte};
 use crate::ran::run;
-use jp_run::{FromReader, OpenGate, RunFault, Settings, Source, Totals};
+use jp_answer::OpenGate;
+use jp_run::{FromReader, RunFault, Settings, Source, Totals};
 use std::alloc::{AllocError, Global};
 use std::thread::Threads;
 

@@ -2,11 +2,12 @@
 
 ghost use Rattle.std.specs.Prelude.{◌<◌};
 
+use jp_answer::OpenGate;
 use jp_check::{Plan, plan};
 use jp_doc::{DocFault, Document, Line};
 use jp_eval::Evaluator;
 use jp_output::NodeLines;
-use jp_run::{OpenGate, answer_all};
+use jp_run::answer_all;
 use std::alloc::{AllocError, Global};
 use std::test::Fail;
 use std::thread::Threads;

@@ -1,6 +1,6 @@
 //! Gates that tell which pieces were worked on, and whether two of them were at once.
 
-use jp_run::Gate;
+use jp_answer::Gate;
 use std::sync::atomic::{AtomicBool, AtomicU64, Ordering};
 use std::thread;
 

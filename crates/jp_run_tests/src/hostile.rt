@@ -3,7 +3,7 @@
 use crate::ran::ran;
 use jp_doc::DocFault;
 use jp_run::{RunFault, Settings, Totals};
-use jp_syntax::QueryFault;
+use jp_tree::QueryFault;
 use std::alloc::{AllocError, Global};
 use std::test::Fail;
 use std::thread::Threads;

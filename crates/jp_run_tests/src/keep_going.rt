@@ -2,9 +2,10 @@
 
 use crate::gates::{Entered, Pair};
 use crate::ran::{ROOM, ran_cut_short};
+use jp_answer::{Gate, OpenGate};
 use jp_check::plan;
 use jp_doc::{Line, Lines};
-use jp_run::{Gate, OpenGate, RunFault, Settings, Totals, Whole, answer_all};
+use jp_run::{RunFault, Settings, Totals, Whole, answer_all};
 use std::alloc::{AllocError, Global};
 use std::test::Fail;
 use std::thread::Threads;

@@ -4,7 +4,8 @@
 use crate::fakes::Holds;
 use crate::long_lines::lines_of;
 use crate::ran::{ROOM, ran_cut_short, run};
-use jp_run::{FromReader, OpenGate, Output, RunFault, Settings, Totals};
+use jp_answer::OpenGate;
+use jp_run::{FromReader, Output, RunFault, Settings, Totals};
 use std::alloc::{AllocError, Global};
 use std::test::Fail;
 use std::thread::Threads;

@@ -3,7 +3,7 @@
 use crate::ran::ran_prepared;
 use jp_number::Numbers;
 use jp_run::{Output, Prepared, RunFault, Settings};
-use jp_syntax::QueryFault;
+use jp_tree::QueryFault;
 use std::alloc::Global;
 use std::test::Fail;
 use std::thread::Threads;

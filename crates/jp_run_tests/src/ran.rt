@@ -3,9 +3,8 @@
 ghost use Rattle.std.specs.Prelude.{◌≡◌, ◌^◌, ◌≤◌, false};
 
 use crate::fakes::{Holds, OneByte};
-use jp_run::{
-    Crew, FromReader, Gate, OpenGate, Prepared, RunFault, Settings, Sink, Source, Supply, Totals,
-};
+use jp_answer::{Crew, Gate, OpenGate};
+use jp_run::{FromReader, Prepared, RunFault, Settings, Sink, Source, Supply, Totals};
 use std::alloc::Global;
 use std::thread::Threads;
 

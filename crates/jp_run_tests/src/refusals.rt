@@ -6,8 +6,9 @@
 use crate::fakes::Holds;
 use crate::long_lines::{BLANKS, lines_of};
 use crate::ran::run;
+use jp_answer::OpenGate;
 use jp_doc::DocFault;
-use jp_run::{FromReader, OpenGate, RunFault, Settings};
+use jp_run::{FromReader, RunFault, Settings};
 use std::alloc::Global;
 use std::thread::Threads;
 

@@ -4,9 +4,10 @@ ghost use Rattle.std.specs.Prelude.{◌≡◌, ◌^◌, ◌≤◌, false};
 
 use crate::fakes::{FullDisk, Holds, OneByte};
 use crate::ran::{ROOM, ran};
+use jp_answer::OpenGate;
 use jp_doc::DocFault;
-use jp_run::{FromReader, FromWriter, OpenGate, RunFault, Settings, Sink, Source, Supply, Totals};
-use jp_syntax::QueryFault;
+use jp_run::{FromReader, FromWriter, RunFault, Settings, Sink, Source, Supply, Totals};
+use jp_tree::QueryFault;
 use std::alloc::{AllocError, Global};
 use std::test::Fail;
 use std::thread::Threads;

@@ -2,8 +2,9 @@
 
 use crate::fakes::{Holds, OneByte};
 use crate::ran::run;
+use jp_answer::Gate;
 use jp_doc::DocFault;
-use jp_run::{Gate, RunFault, Settings};
+use jp_run::{RunFault, Settings};
 use std::alloc::Global;
 use std::sync::atomic::{AtomicU64, Ordering};
 use std::test::Fail;

@@ -3,8 +3,9 @@
 use crate::fakes::{FailsAfter, Holds};
 use crate::long_lines::{BLANKS, answer_of, lines_of};
 use crate::ran::run;
+use jp_answer::{Gate, OpenGate};
 use jp_doc::DocFault;
-use jp_run::{FromReader, Gate, OpenGate, RunFault, Settings, Supply, Totals};
+use jp_run::{FromReader, RunFault, Settings, Supply, Totals};
 use std::alloc::{AllocError, Global};
 use std::sync::atomic::{AtomicU64, Ordering};
 use std::test::Fail;

@@ -4,7 +4,8 @@ ghost use Rattle.std.specs.Prelude.{◌≡◌, ◌<◌, false};
 
 use crate::fakes::{Holds, OneByte};
 use crate::ran::run;
-use jp_run::{FromReader, OpenGate, RunFault, Settings, Supply};
+use jp_answer::OpenGate;
+use jp_run::{FromReader, RunFault, Settings, Supply};
 use std::alloc::Global;
 use std::test::Fail;
 use std::thread::Threads;

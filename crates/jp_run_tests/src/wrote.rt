@@ -3,7 +3,8 @@
 use crate::fakes::Holds;
 use crate::long_lines::lines_of;
 use crate::ran::{ROOM, ran, ran_by_bytes, run};
-use jp_run::{FromReader, OpenGate, Output, RunFault, Settings, Totals};
+use jp_answer::OpenGate;
+use jp_run::{FromReader, Output, RunFault, Settings, Totals};
 use std::alloc::Global;
 use std::test::Fail;
 use std::thread::Threads;

@@ -8,9 +8,4 @@ pub mod laws;
 mod reader;
 mod sides;
 
-pub use jp_tokens::bracket_depth;
-pub use jp_tree::{
-    Argument, Call, Comparable, Comparison, Literal, Logical, Operator, Query, QueryFault, Segment,
-    Selector, Slice, Start, is_singular,
-};
 pub use reader::read_query;

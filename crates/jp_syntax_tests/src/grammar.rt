@@ -1,6 +1,7 @@
 //! Texts of each case of the grammar (RFC 9535, 2.1 to 2.5), and texts beside them that spell nothing.
 
-use jp_syntax::{QueryFault, read_query};
+use jp_syntax::read_query;
+use jp_tree::QueryFault;
 use std::alloc::Global;
 
 /// A text that spells a query in each line.

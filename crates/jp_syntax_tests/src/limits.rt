@@ -1,8 +1,8 @@
 //! Texts at the limits: nesting, many segments, long numbers; and the texts of the faults.
 
-use jp_syntax::{
-    Comparable, Literal, Logical, Query, QueryFault, Selector, bracket_depth, read_query,
-};
+use jp_syntax::read_query;
+use jp_tokens::bracket_depth;
+use jp_tree::{Comparable, Literal, Logical, Query, QueryFault, Selector};
 use std::alloc::{AllocError, Global};
 use std::test::*;
 

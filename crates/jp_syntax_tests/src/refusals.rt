@@ -3,7 +3,8 @@
 //! A turn says whether the answer was right, or nothing where it was want of memory. Each is made twice: one
 //! growth is refused at most, so one of the two answers.
 
-use jp_syntax::{QueryFault, read_query};
+use jp_syntax::read_query;
+use jp_tree::QueryFault;
 use std::alloc::Global;
 
 /// Three segments, with each kind of selector and of expression.

@@ -1,7 +1,8 @@
 //! The trees that texts spell: which are the same, which differ, and which queries are singular.
 
 use crate::limits::same;
-use jp_syntax::{Logical, Query, Segment, Selector, Start, is_singular, read_query};
+use jp_syntax::read_query;
+use jp_tree::{Logical, Query, Segment, Selector, Start, is_singular};
 use std::alloc::{AllocError, Global};
 
 /// Two texts, and whether they spell the same query.

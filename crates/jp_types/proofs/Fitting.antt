@@ -5,14 +5,14 @@ use Rattle.std.specs.List.{list_all, zip}
 use Rattle.jp_tree.specs.Tree.{arguments}
 use Rattle.jp_tree.specs.PartViews.{argument_of, arguments_of}
 use Rattle.jp_tree.specs.declared.tree.Argument.{Argument}
-use Rattle.jp_types.specs.declared.functions.Kind.{Kind}
+use Rattle.jp_types.specs.declared.functions.FunctionType.{FunctionType}
 use Rattle.jp_types.specs.Kinds.{kind_of}
 use Rattle.jp_types.specs.Typing.{fits, all_fit}
 
-abbrev pub fits_beside : Kind × Argument → Bool
+abbrev pub fits_beside : FunctionType × Argument → Bool
 fits_beside p = fits (kind_of p.0) (argument_of p.1)
 
-pub all_fit-paired : (ks : List Kind) (xs : List Argument) → length ks ≡ length xs
+pub all_fit-paired : (ks : List FunctionType) (xs : List Argument) → length ks ≡ length xs
     → list_all fits_beside (zip ks xs) ≡ all_fit (map kind_of ks) (arguments (arguments_of xs))
 all_fit-paired [] [] e = refl
 all_fit-paired [] (x ∷ xs) e = absurd (omega arith)
@@ -20,7 +20,7 @@ all_fit-paired (k ∷ ks) [] e = absurd (omega arith)
 all_fit-paired (k ∷ ks) (x ∷ xs) e =
     ap (λ b. fits_beside (k, x) && b) (all_fit-paired ks xs (omega arith))
 
-pub all_fit-unpaired : (ks : List Kind) (xs : List Argument) → (length ks ≡ length xs → ⊥)
+pub all_fit-unpaired : (ks : List FunctionType) (xs : List Argument) → (length ks ≡ length xs → ⊥)
     → false ≡ all_fit (map kind_of ks) (arguments (arguments_of xs))
 all_fit-unpaired [] [] other = absurd (other refl)
 all_fit-unpaired [] (x ∷ xs) other = refl

@@ -5,10 +5,10 @@ use Rattle.std.specs.Str.{bytes_eq}
 use Rattle.jp_tree.specs.Tree.{Text}
 
 -- the three types: a value or nothing, true or false, a list of nodes
-pub data Kind : Type 0 where
-  value_type : Kind
-  logical_type : Kind
-  nodes_type : Kind
+pub data FunctionType : Type 0 where
+  value_type : FunctionType
+  logical_type : FunctionType
+  nodes_type : FunctionType
 
 pub data Function : Type 0 where
   length_function : Function
@@ -32,7 +32,7 @@ function_named t =
     else None
 
 -- the types of a function's parameters, in order
-abbrev pub parameters : Function → List Kind
+abbrev pub parameters : Function → List FunctionType
 parameters length_function = value_type ∷ []
 parameters count_function = nodes_type ∷ []
 parameters match_function = value_type ∷ value_type ∷ []
@@ -42,7 +42,7 @@ parameters xor_function = logical_type ∷ logical_type ∷ []
 parameters distinct_function = nodes_type ∷ []
 
 -- the type of its result
-abbrev pub result_type : Function → Kind
+abbrev pub result_type : Function → FunctionType
 result_type length_function = value_type
 result_type count_function = value_type
 result_type match_function = logical_type

@@ -1,11 +1,11 @@
 -- The functions and types of `src/` as those of the definitions.
 use Rattle.jp_types.specs.Functions as functions
-use Rattle.jp_types.specs.declared.functions.Kind.{Kind}
-use Rattle.jp_types.specs.declared.functions.Kind.TheVariants as kind
+use Rattle.jp_types.specs.declared.functions.FunctionType.{FunctionType}
+use Rattle.jp_types.specs.declared.functions.FunctionType.TheVariants as kind
 use Rattle.jp_types.specs.declared.functions.Function.{Function}
 use Rattle.jp_types.specs.declared.functions.Function.TheVariants as function
 
-abbrev pub kind_of : Kind → functions.Kind
+abbrev pub kind_of : FunctionType → functions.FunctionType
 kind_of kind.Value = functions.value_type
 kind_of kind.Logical = functions.logical_type
 kind_of kind.Nodes = functions.nodes_type

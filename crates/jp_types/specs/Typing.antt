@@ -7,15 +7,16 @@ use Rattle.jp_tree.specs.Tree.{query_argument, logical_argument, call_argument, 
 use Rattle.jp_tree.specs.Tree.{add_segment, Selectors, no_selectors, add_selector, Logicals, no_logicals}
 use Rattle.jp_tree.specs.Tree.{add_logical, Arguments, no_arguments, add_argument}
 use Rattle.jp_tree.specs.Singular.{is_singular}
-use Rattle.jp_types.specs.Functions.{Kind, value_type, logical_type, nodes_type, Function, function_named}
+use Rattle.jp_types.specs.Functions.{FunctionType, value_type, logical_type, nodes_type, Function}
+use Rattle.jp_types.specs.Functions.{function_named}
 use Rattle.jp_types.specs.Functions.{parameters, result_type}
 
 -- the type of what a call gives, where its function is known
-abbrev pub type_of_call : Call → Option Kind
+abbrev pub type_of_call : Call → Option FunctionType
 type_of_call (call function given) = option_map result_type (function_named function)
 
 -- what gives this type may stand where the other is asked for: a list of nodes also where true or false is
-abbrev pub serves_as : Kind → Option Kind → Bool
+abbrev pub serves_as : FunctionType → Option FunctionType → Bool
 serves_as value_type (Some value_type) = true
 serves_as nodes_type (Some nodes_type) = true
 serves_as logical_type (Some logical_type) = true
@@ -27,7 +28,7 @@ serves_as _ _ = false
 -- For nodes: a query, or a call that gives nodes. For true or false: a logical expression, a query, or a call
 -- that
 -- gives either of the last two.
-abbrev pub fits : Kind → Argument → Bool
+abbrev pub fits : FunctionType → Argument → Bool
 fits value_type (literal_argument x) = true
 fits value_type (query_argument q) = is_singular q
 fits nodes_type (query_argument q) = true
@@ -37,7 +38,7 @@ fits kind (call_argument c) = serves_as kind (type_of_call c)
 fits _ _ = false
 
 -- as many arguments as parameters, each of which fits
-abbrev pub all_fit : List Kind → Arguments → Bool
+abbrev pub all_fit : List FunctionType → Arguments → Bool
 all_fit [] no_arguments = true
 all_fit (kind ∷ kinds) (add_argument a others) = fits kind a && all_fit kinds others
 all_fit _ _ = false

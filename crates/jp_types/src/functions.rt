@@ -8,7 +8,7 @@ ghost use Rattle.jp_types.specs.Kinds.{kind_of, function_of};
 
 /// The types of the function type system (RFC 9535, 2.4.1).
 #[derive(Clone, Copy)]
-pub(crate) enum Kind {
+pub(crate) enum FunctionType {
     /// A value, or nothing.
     Value,
     /// True or false.
@@ -53,24 +53,24 @@ pub fn function_named(name: &str) -> Option<Function>
 }
 
 /// The types of a function's parameters.
-pub(crate) fn parameters(function: Function) -> &'static [Kind]
+pub(crate) fn parameters(function: Function) -> &'static [FunctionType]
     ensures { map kind_of result.now ≡ functions.parameters (function_of function) }
 {
     match function {
-        Function::Length => &[Kind::Value],
-        Function::Count | Function::Value | Function::Distinct => &[Kind::Nodes],
-        Function::Match | Function::Search => &[Kind::Value, Kind::Value],
-        Function::Xor => &[Kind::Logical, Kind::Logical],
+        Function::Length => &[FunctionType::Value],
+        Function::Count | Function::Value | Function::Distinct => &[FunctionType::Nodes],
+        Function::Match | Function::Search => &[FunctionType::Value, FunctionType::Value],
+        Function::Xor => &[FunctionType::Logical, FunctionType::Logical],
     }
 }
 
 /// The type of what a function gives.
-pub(crate) fn result_type(function: Function) -> Kind
+pub(crate) fn result_type(function: Function) -> FunctionType
     ensures { kind_of result ≡ functions.result_type (function_of function) }
 {
     match function {
-        Function::Length | Function::Count | Function::Value => Kind::Value,
-        Function::Match | Function::Search | Function::Xor => Kind::Logical,
-        Function::Distinct => Kind::Nodes,
+        Function::Length | Function::Count | Function::Value => FunctionType::Value,
+        Function::Match | Function::Search | Function::Xor => FunctionType::Logical,
+        Function::Distinct => FunctionType::Nodes,
     }
 }

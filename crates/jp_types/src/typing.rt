@@ -6,42 +6,45 @@ ghost use Rattle.jp_tree.specs.PartViews.{argument_of, arguments_of, call_of};
 ghost use Rattle.jp_types.specs.Kinds.{kind_of, function_of};
 ghost use Rattle.jp_types.specs.Typing as typing;
 
-use crate::functions::{Function, Kind, function_named, parameters, result_type};
+use crate::functions::{Function, FunctionType, function_named, parameters, result_type};
 use jp_tree::{Argument, Call, is_singular};
 
 /// The type of what a call gives, where its function is known.
-fn type_of_call(call: &Call) -> Option<Kind>
+fn type_of_call(call: &Call) -> Option<FunctionType>
     ensures { option_map kind_of result ≡ typing.type_of_call (call_of call.now) }
 {
     function_named(call.name.as_str()).map(result_type)
 }
 
 /// Whether what a call gives may stand where this type is asked for.
-pub(crate) fn serves_as(kind: Kind, call: &Call) -> bool
+pub(crate) fn serves_as(kind: FunctionType, call: &Call) -> bool
     ensures { result ≡ typing.serves_as (kind_of kind) (typing.type_of_call (call_of call.now)) }
 {
     matches!(
         (kind, type_of_call(call)),
-        (Kind::Value, Some(Kind::Value))
-            | (Kind::Nodes, Some(Kind::Nodes))
-            | (Kind::Logical, Some(Kind::Logical | Kind::Nodes))
+        (FunctionType::Value, Some(FunctionType::Value))
+            | (FunctionType::Nodes, Some(FunctionType::Nodes))
+            | (
+                FunctionType::Logical,
+                Some(FunctionType::Logical | FunctionType::Nodes)
+            )
     )
 }
 
 /// Whether the argument may be given for a parameter of this type.
-fn fits(kind: Kind, argument: &Argument) -> bool
+fn fits(kind: FunctionType, argument: &Argument) -> bool
     ensures { result ≡ typing.fits (kind_of kind) (argument_of argument.now) }
 {
     match argument {
-        Argument::Literal(_) => matches!(kind, Kind::Value),
-        Argument::Query(query) => !matches!(kind, Kind::Value) || is_singular(query),
-        Argument::Logical(_) => matches!(kind, Kind::Logical),
+        Argument::Literal(_) => matches!(kind, FunctionType::Value),
+        Argument::Query(query) => !matches!(kind, FunctionType::Value) || is_singular(query),
+        Argument::Logical(_) => matches!(kind, FunctionType::Logical),
         Argument::Call(call) => serves_as(kind, call),
     }
 }
 
 /// Whether there are as many arguments as parameters, and each fits its own.
-fn all_fit(kinds: &[Kind], arguments: &[Argument]) -> bool
+fn all_fit(kinds: &[FunctionType], arguments: &[Argument]) -> bool
     ensures { result ≡ typing.all_fit (map kind_of kinds.now) (tree.arguments (arguments_of arguments.now)) }
 {
     kinds.len() == arguments.len()

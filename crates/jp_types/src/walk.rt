@@ -9,7 +9,7 @@ ghost use Rattle.jp_types.specs.Numbers as numbers;
 ghost use Rattle.jp_types.specs.Typing as typing;
 
 use crate::faults::Faults;
-use crate::functions::{Kind, function_named};
+use crate::functions::{FunctionType, function_named};
 use crate::numbers::{literal_faults, position_faults, slice_faults};
 use crate::typing::{fits_parameters, serves_as};
 use jp_tree::{Argument, Call, Comparable, Comparison, Logical, Query, Segment, Selector};
@@ -63,7 +63,7 @@ fn logical_faults(logical: &Logical) -> Faults
         Logical::Compare(comparison) => comparison_faults(comparison),
         Logical::Test(query) => query_faults(query),
         Logical::Call(call) => {
-            call_faults(call).with(Faults::of_use(serves_as(Kind::Logical, call)))
+            call_faults(call).with(Faults::of_use(serves_as(FunctionType::Logical, call)))
         }
     }
 }
@@ -98,7 +98,7 @@ fn comparable_faults(side: &Comparable) -> Faults
         Comparable::Literal(literal) => literal_faults(literal),
         Comparable::Single(query) => query_faults(query),
         Comparable::Call(call) => {
-            call_faults(call).with(Faults::of_use(serves_as(Kind::Value, call)))
+            call_faults(call).with(Faults::of_use(serves_as(FunctionType::Value, call)))
         }
     }
 }

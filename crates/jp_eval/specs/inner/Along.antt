@@ -1,4 +1,4 @@
--- A step of a proof, which nobody has to believe: tasks along children.
+-- A step of a proof, which nobody has to believe: actions along children.
 use Rattle.std.specs.Prelude.{ℕ, ◌+◌, List, [], ◌++◌, length, Option, Some, None}
 use Rattle.std.specs.Borrow.{Bor}
 use Rattle.std.specs.List.{flat_map}
@@ -10,13 +10,13 @@ use Rattle.jp_node.specs.Nodes.{children}
 use Rattle.jp_node.specs.Part.{part_value}
 use Rattle.jp_eval.specs.inner.Base.{Base}
 use Rattle.jp_eval.specs.inner.Walk.{done, picked_by, reached}
-use Rattle.jp_eval.specs.declared.walk.Task.TheVariants.{Descend}
+use Rattle.jp_eval.specs.declared.walk.Action.TheVariants.{Descend}
 use Rattle.jp_eval.specs.declared.work_items.WorkItem.{WorkItem}
 use Rattle.jp_eval.specs.declared.work_items.WorkItems.{WorkItems}
 
--- what the task finds at the children
+-- what the action finds at the children
 abbrev pub done_along : Base → Location → WorkItem → List Node
-done_along base at s = flat_map (done base s.task) (child_nodes at s.children)
+done_along base at s = flat_map (done base s.action) (child_nodes at s.children)
 
 -- what selectors that are applied at each descendant find below a node, with the segments behind them
 abbrev pub done_below : Base → Bor (List Segment) → Option (Bor (List Selector)) → Node → List Node

@@ -16,8 +16,8 @@ use Rattle.jp_value.specs.Functions.{as_nodes}
 use Rattle.jp_node.specs.Nodes.{descendants}
 use Rattle.jp_eval.specs.Nodelist as spec
 use Rattle.jp_value.specs.RightTests.{tests}
-use Rattle.jp_eval.specs.declared.walk.Task.{Task}
-use Rattle.jp_eval.specs.declared.walk.Task.TheVariants.{Run, Descend, Test}
+use Rattle.jp_eval.specs.declared.walk.Action.{Action}
+use Rattle.jp_eval.specs.declared.walk.Action.TheVariants.{Run, Descend, Test}
 
 -- what a selector selects at a node, and what several select
 unfoldable pub picked : Base → Selector → Node → List Node
@@ -43,8 +43,8 @@ unfoldable pub nodes_given : Base → Nodes → Want → Node → List Node
 nodes_given base q want n = as_nodes (spec.handed tests base.root
     (source_argument (nodes_in base.roots q want)) n)
 
--- what a task finds at a node
-abbrev pub done : Base → Task → Node → List Node
+-- what an action finds at a node
+abbrev pub done : Base → Action → Node → List Node
 done base (Run rest) n = reached base rest.now (n ∷ [])
 done base (Descend xs rest) n = reached base rest.now (flat_map (picked_by base xs.now) (descendants n))
 done base (Test l rest) n = reached base rest.now (filter (is_true base l.now) (n ∷ []))

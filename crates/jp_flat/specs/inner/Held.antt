@@ -6,15 +6,16 @@ use Rattle.jp_doc.specs.declared.fault.DocFault.{DocFault}
 use Rattle.jp_flat.specs.Flat.{value_at}
 use Rattle.jp_flat.specs.inner.Plain.{is_flat}
 use Rattle.jp_flat_nodes.specs.Nodes.{piece, tokens_at, AreLinked}
-use Rattle.jp_flat_nodes.specs.declared.node.Node.{Node}
-use Rattle.jp_flat_nodes.specs.declared.node.Node.TheVariants.{Object, EndObject, Array, EndArray, Key, Text}
-use Rattle.jp_flat_nodes.specs.declared.node.Node.TheVariants.{Number, Truth, Null}
+use Rattle.jp_flat_nodes.specs.declared.node.FlatNode.{FlatNode}
+use Rattle.jp_flat_nodes.specs.declared.node.FlatNode.TheVariants.{Object, EndObject, Array, EndArray, Key}
+use Rattle.jp_flat_nodes.specs.declared.node.FlatNode.TheVariants.{Text}
+use Rattle.jp_flat_nodes.specs.declared.node.FlatNode.TheVariants.{Number, Truth, Null}
 
 -- so many bytes stand there, in UTF-8
 abbrev pub IsPiece : List ℕ → ℕ → ℕ → Type 0
 IsPiece text from count = (from + count ≤ length text) × (is_utf8 (piece text from count) ≡ true)
 
-abbrev pub HasPiece : List ℕ → Node → Type 0
+abbrev pub HasPiece : List ℕ → FlatNode → Type 0
 HasPiece text (Object end) = Unit {0}
 HasPiece text EndObject = Unit {0}
 HasPiece text (Array end) = Unit {0}
@@ -25,13 +26,13 @@ HasPiece text (Number from count) = IsPiece text from count
 HasPiece text (Truth b) = Unit {0}
 HasPiece text Null = Unit {0}
 
-pub record IsHeld (text : List ℕ) (nodes : List Node) : Type 0 where
+pub record IsHeld (text : List ℕ) (nodes : List FlatNode) : Type 0 where
   pub flat : is_flat (tokens_at text nodes) ≡ true
   pub linked : AreLinked (tokens_at text nodes) nodes
   pub pieces : (i : ℕ) → HasPiece text (get_or nodes i Null)
 
 -- the nodes are those of a document whose value is the answer
-pub record IsReadAs (answer : Result Json DocFault) (text : List ℕ) (nodes : List Node) : Type 0 where
+pub record IsReadAs (answer : Result Json DocFault) (text : List ℕ) (nodes : List FlatNode) : Type 0 where
   pub few : length nodes ≤ 16777218
   pub held : IsHeld text nodes
   pub value : answer ≡ Ok (value_at (tokens_at text nodes))

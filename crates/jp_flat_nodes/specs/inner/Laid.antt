@@ -4,7 +4,7 @@ use Rattle.json.specs.Tape.{node_token}
 use Rattle.json.specs.declared.tape.Node as tape
 use Rattle.json.specs.declared.tape.Node.TheVariants as taped
 use Rattle.jp_flat_nodes.specs.Nodes.{piece, token_at, link_of, IsWithin}
-use Rattle.jp_flat_nodes.specs.declared.node.Node.{Node}
+use Rattle.jp_flat_nodes.specs.declared.node.FlatNode.{FlatNode}
 
 -- the text stands behind the others
 pub record IsKept (old new text : List ℕ) (from count : ℕ) : Type 0 where
@@ -32,7 +32,7 @@ abbrev pub EndsWithin : ℕ → tape.Node → Type 0
 EndsWithin most n = IsAtMost most (link_in n)
 
 -- the own node has the same token and tells the same
-pub record IsLaid (old new : List ℕ) (n : tape.Node) (own : Node) : Type 0 where
+pub record IsLaid (old new : List ℕ) (n : tape.Node) (own : FlatNode) : Type 0 where
   pub more : List ℕ
   pub behind : new ≡ old ++ more
   pub token : token_at new own ≡ node_token n

@@ -12,8 +12,8 @@ use Rattle.json.specs.Tree.{json_tokens, HasNumbers}
 use Rattle.json.specs.Word.{head, after_whole, after_fraction, after_exponent}
 use Rattle.jp_flat_nodes.specs.Digits.{are_few_digits, is_no_e}
 use Rattle.jp_flat_nodes.specs.Nodes.{piece, tokens_at, link_of, AreWithin, are_taken}
-use Rattle.jp_flat_nodes.specs.declared.node.Node.{Node}
-use Rattle.jp_flat_nodes.specs.declared.node.Node.TheVariants.{Null}
+use Rattle.jp_flat_nodes.specs.declared.node.FlatNode.{FlatNode}
+use Rattle.jp_flat_nodes.specs.declared.node.FlatNode.TheVariants.{Null}
 
 -- a space or a line feed
 abbrev pub is_blank : ℕ → Bool
@@ -29,16 +29,16 @@ pub record Spans (all : List Token) (from end : ℕ) : Type 0 where
   pub ends : end ≡ from + length (json_tokens value)
 
 -- the nodes from a place on tell so
-abbrev pub LinkedFrom : List ℕ → ℕ → List Node → Type 0
+abbrev pub LinkedFrom : List ℕ → ℕ → List FlatNode → Type 0
 LinkedFrom line k nodes =
     (i end : ℕ) → k ≤ i → link_of (get_or nodes i Null) ≡ Some end → Spans (tokens_at line nodes) i end
 
 -- the nodes that stood before stand there still
-abbrev pub AreKept : List Node → List Node → Type 0
+abbrev pub AreKept : List FlatNode → List FlatNode → Type 0
 AreKept old new = (i : ℕ) → i < length old → get_or new i Null ≡ get_or old i Null
 
 -- the nodes have these tokens more, in a line of which they are
-pub record Grows (line : List ℕ) (old new : List Node) (ts : List Token) : Type 0 where
+pub record Grows (line : List ℕ) (old new : List FlatNode) (ts : List Token) : Type 0 where
   pub tokens : tokens_at line new ≡ tokens_at line old ++ ts
   pub kept : AreKept old new
   pub linked : LinkedFrom line (length old) new
@@ -62,7 +62,7 @@ begin [] = false
 begin (t ∷ ts) = begins t
 
 -- the line from `at` on is a value's text, and goes on at `end`; the nodes have its tokens more
-pub record Reads (line : List ℕ) (decimals : Bool) (at end depth : ℕ) (old new : List Node) : Type 0 where
+pub record Reads (line : List ℕ) (decimals : Bool) (at end depth : ℕ) (old new : List FlatNode) : Type 0 where
   pub value : Json
   pub later : at < end
   pub numbers : HasNumbers value
@@ -72,7 +72,7 @@ pub record Reads (line : List ℕ) (decimals : Bool) (at end depth : ℕ) (old n
   pub grows : Grows line old new (json_tokens value)
 
 -- the same of a name and its colon
-pub record ReadsKey (line : List ℕ) (at end : ℕ) (old new : List Node) : Type 0 where
+pub record ReadsKey (line : List ℕ) (at end : ℕ) (old new : List FlatNode) : Type 0 where
   pub name : List ℕ
   pub later : at < end
   pub text : Prints line false at end (key name ∷ [])

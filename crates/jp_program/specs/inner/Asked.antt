@@ -10,8 +10,8 @@ use Rattle.jp_run.specs.declared.prepared.Prepared.{Prepared}
 use Rattle.jp_program.specs.CommandLine.{AsksToShow}
 use Rattle.jp_program.specs.Outcome.{asked_in}
 use Rattle.jp_program.specs.Wanted.{Wanted, Wants, IsWrong}
-use Rattle.jp_program.specs.declared.command_line.Asked.{Asked}
-use Rattle.jp_program.specs.declared.command_line.Asked.TheVariants.{Show, Query}
+use Rattle.jp_program.specs.declared.command_line.Invocation.{Invocation}
+use Rattle.jp_program.specs.declared.command_line.Invocation.TheVariants.{Show, Query}
 use Rattle.jp_program.specs.declared.command_line.Wanted as code
 
 -- what a `Wanted` of `src/` stands for
@@ -38,7 +38,7 @@ abbrev pub IsPrepared : code.Wanted → Prepared → Type 0
 IsPrepared w p = AreAcceptedIn w.settings.numbers (asked_in (wanted_of w)) (prepared_query p)
 
 -- what is asked for is what the words ask for
-abbrev pub IsAsked : List Text → Asked → Type 0
+abbrev pub IsAsked : List Text → Invocation → Type 0
 IsAsked words (Show text) = AsksToShow words
 IsAsked words (Query w) = Wants words (wanted_of w)
 

@@ -46,7 +46,7 @@ along-returns-clause-found g t c =
     let settled = rw c.in-Some.is at (c.settled_along.ensures (child_nodes at c.args.work_item.children)) in
     on_ok_weaker c.each_of.result (λ e. e
     ∙ ap (plus (put_found g.V.Visit.put) (kept g.V.Visit.kept c.args.found.now))
-    (ap (flat_map (done base c.in-Some.task)) (c.counted-children.ensures.nodes at) ∙ settled))
+    (ap (flat_map (done base c.in-Some.action)) (c.counted-children.ensures.nodes at) ∙ settled))
     c.each_of.ensures.found
 
 pub along-returns-in_default-clause-found : goal.along-returns-in_default-clause-found
@@ -75,11 +75,11 @@ one_by_one-loop-child-preserved g t c =
     rw p (
       c.loop-child.invariant.0,
       omega (arith, c.in-Some.ensures.height, c.loop-child.invariant.1),
-      child_node_done (put_found g.V.Visit.put) (done base c.args.task) _ _ _ _ _ _ _
+      child_node_done (put_found g.V.Visit.put) (done base c.args.action) _ _ _ _ _ _ _
           (c.in-Some.ensures.nodes (link_steps c.loop-child.path))
           (c.in_ok-go_split.ensures.found
           ∙ ap (λ s. plus (put_found g.V.Visit.put) (kept g.V.Visit.kept c.loop-child.found)
-          (done base c.args.task (node s (part_value c.in-Some.child.part))))
+          (done base c.args.action (node s (part_value c.in-Some.child.part))))
           (link_further c.loop-child.path c.push.new.self _ c.in_ok-push.ensures.ok))
           c.loop-child.invariant.2,
     )
@@ -94,7 +94,7 @@ one_by_one-returns-clause-found g t c =
     let base = base_of c.args.splitting.now.context.now in
     ended (put_found g.V.Visit.put) _ _ _
     (ap (λ ns. plus (put_found g.V.Visit.put) (kept g.V.Visit.kept c.loop-child.found)
-    (flat_map (done base c.args.task) ns))
+    (flat_map (done base c.args.action) ns))
     (sym (c.in_default.ensures.nodes (link_steps c.loop-child.path))) ∙ c.loop-child.invariant.2)
 
 pub half-returns : goal.half-returns
@@ -102,7 +102,7 @@ half-returns g t c =
     let base = base_of c.args.splitting.now.context.now in
     c.visitor_of.ensures ∙ c.in_ok-each_of.ensures.found
     ∙ ap (λ ls. plus (put_found g.V.Visit.put) (taken (g.V.Visit.kept c.args.visitor))
-    (flat_map (done base c.args.task) (range_nodes (link_steps ls) c.args.children)))
+    (flat_map (done base c.args.action) (range_nodes (link_steps ls) c.args.children)))
     c.in_ok-path.ensures
 
 pub half-visitor_of-requires : goal.half-visitor_of-requires
@@ -110,7 +110,7 @@ half-visitor_of-requires g t c = still_taken g.V.Visit.put _ _ _ c.in_ok-each_of
 
 pub go_split-returns-in_default-clause-found : goal.go_split-returns-in_default-clause-found
 go_split-returns-in_default-clause-found g t c =
-    nothing_found (put_found g.V.Visit.put) _ _ (rw c.in_default.is at c.in_ok-further.ensures.task)
+    nothing_found (put_found g.V.Visit.put) _ _ (rw c.in_default.is at c.in_ok-further.ensures.action)
 
 pub each_of-join-first-requires-after_bounds : goal.each_of-join-first-requires-after_bounds
 each_of-join-first-requires-after_bounds g t c κs within =
@@ -121,7 +121,7 @@ each_of-join-first-requires-after_bounds g t c κs within =
 pub each_of-returns-clause-found : goal.each_of-returns-clause-found
 each_of-returns-clause-found g t c =
     let put = put_found g.V.Visit.put in
-    let f = done (base_of c.args.splitting.now.context.now) c.args.task in
+    let f = done (base_of c.args.splitting.now.context.now) c.args.action in
     let left : Location → List Node = λ at. range_nodes at c.halves.result.0 in
     let right : Location → List Node = λ at. range_nodes at c.halves.result.1 in
     let at = link_steps c.args.path.now in

@@ -56,9 +56,9 @@ invariant-one_by_one-loop-child g l =
     (l.path ≡ l.initial.path)
     × (range_height l.rest ≤ range_height l.children)
     × (plus (put_found g.V.Visit.put) (kept g.V.Visit.kept l.found)
-    (flat_map (done (base_of l.splitting.context.now) l.task) (range_nodes (link_steps l.path) l.rest))
+    (flat_map (done (base_of l.splitting.context.now) l.action) (range_nodes (link_steps l.path) l.rest))
     ≡ plus (put_found g.V.Visit.put) (kept g.V.Visit.kept l.initial.found)
-    (flat_map (done (base_of l.splitting.context.now) l.task)
+    (flat_map (done (base_of l.splitting.context.now) l.action)
     (range_nodes (link_steps l.initial.path) l.children)))
 
 abbrev pub decreases-one_by_one-loop-child : goal.decreases-one_by_one-loop-child

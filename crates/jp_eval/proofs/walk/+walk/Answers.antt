@@ -92,7 +92,7 @@ pub each_member-loop-child-preserved : goal.each_member-loop-child-preserved
 each_member-loop-child-preserved g t c = rw c.in_ok-at_child.ensures.path (
   c.loop-child.invariant.0,
   omega (arith, c.in-Some.ensures.height, c.loop-child.invariant.1),
-  child_node_done (put_found g.V.Visit.put) (done (base_of c.args.context.now) c.args.task) _ _ _ _ _ _ _
+  child_node_done (put_found g.V.Visit.put) (done (base_of c.args.context.now) c.args.action) _ _ _ _ _ _ _
       (c.in-Some.ensures.nodes (link_steps c.loop-child.path)) c.in_ok-at_child.ensures.found
       c.loop-child.invariant.2,
 )
@@ -106,14 +106,14 @@ pub each_member-returns-clause-found : goal.each_member-returns-clause-found
 each_member-returns-clause-found g t c =
     ended (put_found g.V.Visit.put) _ _ _
     (ap (λ ns. plus (put_found g.V.Visit.put) (kept g.V.Visit.kept c.loop-child.found)
-    (flat_map (done (base_of c.args.context.now) c.args.task) ns))
+    (flat_map (done (base_of c.args.context.now) c.args.action) ns))
     (sym (c.in_default.ensures.nodes (link_steps c.loop-child.path))) ∙ c.loop-child.invariant.2)
 
 pub each_item-loop-child-preserved : goal.each_item-loop-child-preserved
 each_item-loop-child-preserved g t c = rw c.in_ok-at_child.ensures.path (
   c.loop-child.invariant.0,
   omega (arith, c.in-Some.ensures.height, c.loop-child.invariant.1),
-  child_node_done (put_found g.V.Visit.put) (done (base_of c.args.context.now) c.args.task) _ _ _ _ _ _ _
+  child_node_done (put_found g.V.Visit.put) (done (base_of c.args.context.now) c.args.action) _ _ _ _ _ _ _
       (c.in-Some.ensures.nodes (link_steps c.loop-child.path)) c.in_ok-at_child.ensures.found
       c.loop-child.invariant.2,
 )
@@ -127,14 +127,14 @@ pub each_item-returns-clause-found : goal.each_item-returns-clause-found
 each_item-returns-clause-found g t c =
     ended (put_found g.V.Visit.put) _ _ _
     (ap (λ ns. plus (put_found g.V.Visit.put) (kept g.V.Visit.kept c.loop-child.found)
-    (flat_map (done (base_of c.args.context.now) c.args.task) ns))
+    (flat_map (done (base_of c.args.context.now) c.args.action) ns))
     (sym (c.in_default.ensures.nodes (link_steps c.loop-child.path))) ∙ c.loop-child.invariant.2)
 
 pub each_in-loop-child-preserved : goal.each_in-loop-child-preserved
 each_in-loop-child-preserved g t c = rw c.in_ok-at_child.ensures.path (
   c.loop-child.invariant.0,
   omega (arith, c.in-Some.ensures.height, c.loop-child.invariant.1),
-  child_node_done (put_found g.V.Visit.put) (done (base_of c.args.context.now) c.args.task) _ _ _ _ _ _ _
+  child_node_done (put_found g.V.Visit.put) (done (base_of c.args.context.now) c.args.action) _ _ _ _ _ _ _
       (c.in-Some.ensures.nodes (link_steps c.loop-child.path)) c.in_ok-at_child.ensures.found
       c.loop-child.invariant.2,
 )
@@ -148,7 +148,7 @@ pub each_in-returns-clause-found : goal.each_in-returns-clause-found
 each_in-returns-clause-found g t c =
     ended (put_found g.V.Visit.put) _ _ _
     (ap (λ ns. plus (put_found g.V.Visit.put) (kept g.V.Visit.kept c.loop-child.found)
-    (flat_map (done (base_of c.args.context.now) c.args.task) ns))
+    (flat_map (done (base_of c.args.context.now) c.args.action) ns))
     (sym (c.in_default.ensures.nodes (link_steps c.loop-child.path))) ∙ c.loop-child.invariant.2)
 
 pub at_child-returns-then-is_idle-clause-found : goal.at_child-returns-then-is_idle-clause-found
@@ -160,7 +160,7 @@ pub at_child-returns-clause-found : goal.at_child-returns-clause-found
 at_child-returns-clause-found g t c =
     c.in_ok-go.ensures.found
     ∙ ap (λ s. plus (put_found g.V.Visit.put) (kept g.V.Visit.kept c.args.found.now)
-    (done (base_of c.args.context.now) c.args.task (node s (part_value c.args.child.part))))
+    (done (base_of c.args.context.now) c.args.action (node s (part_value c.args.child.part))))
     (link_further c.args.path.now c.push.new.self _ c.in_ok-push.ensures.ok)
 
 pub at_child-returns-clause-path : goal.at_child-returns-clause-path

@@ -17,11 +17,11 @@ use Rattle.jp_node.specs.ChildRanges.{flat_member_nodes, flat_members_height}
 use Rattle.jp_node.specs.Part.{part_value}
 use Rattle.jp_eval.specs.inner.Walk.{picked_by, reached, is_true, done}
 use Rattle.jp_node.specs.declared.part.Part.{Part}
-use Rattle.jp_eval.specs.declared.walk.Task.{Task}
-use Rattle.jp_eval.specs.declared.walk.Task.TheVariants.{Run, Descend, Test}
+use Rattle.jp_eval.specs.declared.walk.Action.{Action}
+use Rattle.jp_eval.specs.declared.walk.Action.TheVariants.{Run, Descend, Test}
 use Rattle.jp_eval.proofs.walk.+walk.Given as goal
 
-abbrev pub task_size : Task → ℕ
+abbrev pub task_size : Action → ℕ
 task_size (Run rest) = most size-Segment rest.now
 task_size (Descend xs rest) = max (most size-Selector xs.now) (most size-Segment rest.now)
 task_size (Test l rest) = max (size-Logical l.now) (most size-Segment rest.now)
@@ -31,13 +31,13 @@ abbrev pub weight : ℕ → Part → ℕ → ℕ
 weight size p rank = 2000 * size + 16 * height (part_value p) + rank
 
 -- a descent at a value does not come back to it
-abbrev pub task_rank : Task → ℕ
+abbrev pub task_rank : Action → ℕ
 task_rank (Run rest) = 9
 task_rank (Descend xs rest) = 7
 task_rank (Test l rest) = 9
 
 abbrev pub decreases-go : goal.decreases-go
-decreases-go g l = weight (task_size l.task) l.value (task_rank l.task)
+decreases-go g l = weight (task_size l.action) l.value (task_rank l.action)
 
 abbrev pub decreases-run : goal.decreases-run
 decreases-run g l = weight (most size-Segment l.segments.now) l.value 8
@@ -54,23 +54,23 @@ abbrev pub decreases-at_place : goal.decreases-at_place
 decreases-at_place g l = weight (most size-Segment l.rest.now) l.value 2
 
 abbrev pub decreases-each_child : goal.decreases-each_child
-decreases-each_child g l = weight (task_size l.task) l.opened.value 3
+decreases-each_child g l = weight (task_size l.action) l.opened.value 3
 
 abbrev pub decreases-each_of : goal.decreases-each_of
-decreases-each_of g l = 2000 * task_size l.task + 16 * range_height l.children + 1
+decreases-each_of g l = 2000 * task_size l.action + 16 * range_height l.children + 1
 
 abbrev pub decreases-each_member : goal.decreases-each_member
-decreases-each_member g l = 2000 * task_size l.task + 16 * flat_members_height l.members.now
+decreases-each_member g l = 2000 * task_size l.action + 16 * flat_members_height l.members.now
 
 abbrev pub decreases-each_item : goal.decreases-each_item
 decreases-each_item g l =
-    2000 * task_size l.task + 16 * range_height (of_flat_items l.items l.places.start l.places.end)
+    2000 * task_size l.action + 16 * range_height (of_flat_items l.items l.places.start l.places.end)
 
 abbrev pub decreases-each_in : goal.decreases-each_in
-decreases-each_in g l = 2000 * task_size l.task + 16 * range_height l.children
+decreases-each_in g l = 2000 * task_size l.action + 16 * range_height l.children
 
 abbrev pub decreases-at_child : goal.decreases-at_child
-decreases-at_child g l = weight (task_size l.task) (l.child.part) 10
+decreases-at_child g l = weight (task_size l.action) (l.child.part) 10
 
 abbrev pub decreases-ask : goal.decreases-ask
 decreases-ask g l = weight (size-Nodes l.nodes.now) l.value 7
@@ -109,7 +109,7 @@ invariant-each_member-loop-child g l =
     (l.path ≡ l.initial.path)
     × (flat_members_height (drop l.index l.members) ≤ flat_members_height l.members)
     × IsDone (put_found g.V.Visit.put) (kept g.V.Visit.kept l.found) (kept g.V.Visit.kept l.initial.found)
-    (done (base_of l.context) l.task) (flat_member_nodes (link_steps l.path) (drop l.index l.members))
+    (done (base_of l.context) l.action) (flat_member_nodes (link_steps l.path) (drop l.index l.members))
     (flat_member_nodes (link_steps l.initial.path) l.members)
 
 abbrev pub decreases-each_member-loop-child : goal.decreases-each_member-loop-child
@@ -121,7 +121,7 @@ invariant-each_item-loop-child g l =
     let all = of_flat_items l.items l.fn.places.start l.fn.places.end in
     (l.path ≡ l.initial.path) × (range_height rest ≤ range_height all)
     × IsDone (put_found g.V.Visit.put) (kept g.V.Visit.kept l.found) (kept g.V.Visit.kept l.initial.found)
-    (done (base_of l.context) l.task) (range_nodes (link_steps l.path) rest)
+    (done (base_of l.context) l.action) (range_nodes (link_steps l.path) rest)
     (range_nodes (link_steps l.initial.path) all)
 
 abbrev pub decreases-each_item-loop-child : goal.decreases-each_item-loop-child
@@ -131,7 +131,7 @@ abbrev pub invariant-each_in-loop-child : goal.invariant-each_in-loop-child
 invariant-each_in-loop-child g l =
     (l.path ≡ l.initial.path) × (range_height l.rest ≤ range_height l.children)
     × IsDone (put_found g.V.Visit.put) (kept g.V.Visit.kept l.found) (kept g.V.Visit.kept l.initial.found)
-    (done (base_of l.context) l.task) (range_nodes (link_steps l.path) l.rest)
+    (done (base_of l.context) l.action) (range_nodes (link_steps l.path) l.rest)
     (range_nodes (link_steps l.initial.path) l.children)
 
 abbrev pub decreases-each_in-loop-child : goal.decreases-each_in-loop-child

@@ -2,7 +2,7 @@ use Rattle.std.proofs.Common.{◌≡◌, ◌∷◌, ◌∙◌, ◌+◌, true, fa
 use Rattle.json.specs.Json.{boolean, null}
 use Rattle.json.specs.Token as token
 use Rattle.jp_flat_nodes.specs.inner.Reads.{Reads}
-use Rattle.jp_flat_nodes.specs.declared.node.Node.TheVariants.{Truth, Null}
+use Rattle.jp_flat_nodes.specs.declared.node.FlatNode.TheVariants.{Truth, Null}
 use Rattle.jp_flat_nodes.proofs.Cuts.{byte_then}
 use Rattle.jp_flat_nodes.proofs.OneNode.{leaf}
 use Rattle.jp_flat_nodes.proofs.leaves.literal.Goals as goal

@@ -1,6 +1,6 @@
 use Rattle.std.proofs.Common.{◌≡◌, ◌+◌, ◌∙◌, get_or, length, sym, ap, subst, arith, rules}
 use Rattle.jp_flat_nodes.specs.inner.Reads.{Reads}
-use Rattle.jp_flat_nodes.specs.declared.node.Node.TheVariants.{Object, Array}
+use Rattle.jp_flat_nodes.specs.declared.node.FlatNode.TheVariants.{Object, Array}
 use Rattle.jp_flat_nodes.proofs.Cuts.{Blanks, blanks, byte_then}
 use Rattle.jp_flat_nodes.proofs.Growing.{one_longer, grown_by}
 use Rattle.jp_flat_nodes.proofs.Loops.{items_begin, items_more, items_close, no_items_close}

@@ -3,7 +3,7 @@ use Rattle.std.specs.Prelude.{string_bytes}
 use Rattle.std.specs.Str.{chars}
 use Rattle.clap.specs.Walk.{texts}
 use Rattle.jp_program.specs.Split.{question}
-use Rattle.jp_program.specs.inner.Asked.{IsAsked}
+use Rattle.jp_program.specs.inner.Invocation.{IsAsked}
 use Rattle.jp_program.proofs.Noted.{refused_in}
 use Rattle.jp_program.proofs.OneWish.{asked_is, not_shown, verdict_so}
 use Rattle.jp_program.proofs.Splits.{explained}

@@ -7,7 +7,7 @@ use Rattle.jp_run.proofs.Accepted.{none_refused, refusal_told, refused_so}
 use Rattle.jp_run.proofs.Handing.{at_ok}
 use Rattle.jp_run.proofs.Readings.{none_yet}
 use Rattle.jp_run.proofs.Runs.{at_fault}
-use Rattle.jp_program.specs.inner.Asked.{wanted_of, IsAsked}
+use Rattle.jp_program.specs.inner.Invocation.{wanted_of, IsAsked}
 use Rattle.jp_program.specs.inner.Ended.{FilesEnded}
 use Rattle.jp_program.specs.Inputs.{Course, EachInTurn, inputs_of, named}
 use Rattle.jp_program.specs.Outcome.{AreNear, AreOpened, ArePassed, ArePrompt, IsAnswered, Left}

@@ -2,7 +2,7 @@ use Rattle.std.proofs.Common.{◌≡◌, ◌∙◌, ℕ, true, false, List, Opti
 use Rattle.std.proofs.Common.{IfOk, IfErr, OnOk}
 use Rattle.clap.specs.Walk.{Text}
 use Rattle.jp_run.specs.Counts.{counted}
-use Rattle.jp_program.specs.inner.Asked.{wanted_of}
+use Rattle.jp_program.specs.inner.Invocation.{wanted_of}
 use Rattle.jp_program.specs.inner.Ended.{RunEnded}
 use Rattle.jp_program.specs.Inputs.{named}
 use Rattle.jp_program.specs.Outcome.{IsAnswered, IsEmptyAnswer, IsKnownEmptyAnswer, IsWhole, Left, Passes}

@@ -4,7 +4,7 @@ use Rattle.std.proofs.Common.{refl, sym, ap, subst, arith}
 use Rattle.std.proofs.lemmas.List.Elements.{All-nil}
 use Rattle.clap.specs.Walk.{texts}
 use Rattle.jp_run.specs.Counts.{counted}
-use Rattle.jp_program.specs.inner.Asked.{wanted_of}
+use Rattle.jp_program.specs.inner.Invocation.{wanted_of}
 use Rattle.jp_program.specs.inner.Ended.{FilesEnded, RunEnded}
 use Rattle.jp_run.proofs.Handing.{told}
 use Rattle.jp_program.specs.Inputs.{Course, EachInTurn, Input, counted_if, counted_times, named}

@@ -3,7 +3,7 @@ use Rattle.std.specs.Io.KnownBytes.{IsAtEnd}
 use Rattle.clap.specs.Walk.{texts}
 use Rattle.jp_answer.specs.declared.on_fault.OnFault.TheVariants.{Stop, KeepGoing}
 use Rattle.jp_run.specs.Counts.{counted}
-use Rattle.jp_program.specs.inner.Asked.{wanted_of}
+use Rattle.jp_program.specs.inner.Invocation.{wanted_of}
 use Rattle.jp_program.specs.Inputs.{EachInTurn, Input, counted_if, named}
 use Rattle.jp_program.specs.Outcome.{IsAnswered, Passes}
 use Rattle.jp_program.specs.Outcome.{AreEmptyAnswers, AreKnownEmptyAnswers}

@@ -6,7 +6,7 @@ use Rattle.jp_run.specs.Limits.{window}
 use Rattle.jp_run.specs.Manner.{Manner}
 use Rattle.jp_run.specs.Prompt.{IsPrompt, IsNear}
 use Rattle.jp_run.proofs.Handing.{at_ok}
-use Rattle.jp_program.specs.inner.Asked.{wanted_of}
+use Rattle.jp_program.specs.inner.Invocation.{wanted_of}
 use Rattle.jp_program.specs.Inputs.{Input}
 use Rattle.jp_program.specs.Outcome.{Left, asked_in}
 use Rattle.jp_program.specs.Wanted.{Wanted}

@@ -6,7 +6,7 @@ use Rattle.jp_node.specs.ChildNodes.{child_nodes}
 use Rattle.jp_node.specs.Part.{part_value}
 use Rattle.jp_eval.specs.inner.Along.{done_below}
 use Rattle.jp_eval.specs.inner.Walk.{done, picked_by, reached}
-use Rattle.jp_eval.specs.declared.walk.Task.TheVariants.{Descend}
+use Rattle.jp_eval.specs.declared.walk.Action.TheVariants.{Descend}
 use Rattle.jp_eval.proofs.WorkItems.{one_selector, no_selector}
 use Rattle.jp_eval.proofs.work_items.WorkItems.next.Goals as goal
 
@@ -30,10 +30,10 @@ pub returns-clause-nodes : goal.returns-clause-nodes
 returns-clause-nodes c = λ base at.
     let n = node at (part_value c.args.self.value) in
     let none = nil_from_length c.args.self.selectors.now c.in_default.ensures.cases in
-    let task = Descend c.in-Some-below.selectors c.args.self.rest in
+    let action = Descend c.in-Some-below.selectors c.args.self.rest in
     no_selector base c.args.self.rest.now c.args.self.selectors.now n _ none
     ∙ ap (λ o. done_below base c.args.self.rest o n) c.in-Some-below.is
-    ∙ ap (flat_map (done base task)) (sym (c.in_ok-children_of.ensures.nodes at))
+    ∙ ap (flat_map (done base action)) (sym (c.in_ok-children_of.ensures.nodes at))
     ∙ sym (append-nil _)
-    ∙ ap (λ l. flat_map (done base task) (child_nodes at c.in_ok-children_of.field-0) ++ l)
+    ∙ ap (λ l. flat_map (done base action) (child_nodes at c.in_ok-children_of.field-0) ++ l)
     (sym (no_selector base c.args.self.rest.now c.args.self.selectors.now n [] none))

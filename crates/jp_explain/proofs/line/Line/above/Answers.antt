@@ -3,7 +3,7 @@ use Rattle.std.specs.Str.{chars}
 use Rattle.std.proofs.lemmas.Str.{chars-nil}
 use Rattle.jp_tree.specs.View.{text_of}
 use Rattle.jp_explain.proofs.Pictures.{with_line_feed}
-use Rattle.jp_explain.proofs.line.Line.above.Goals as goal
+use Rattle.jp_explain.proofs.line.PlainLine.above.Goals as goal
 
 pub returns-clause-value : goal.returns-clause-value
 returns-clause-value c =

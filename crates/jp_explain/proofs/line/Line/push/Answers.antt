@@ -2,7 +2,7 @@ use Rattle.std.proofs.Common.{refl}
 use Rattle.std.proofs.lemmas.Str.{IsUtf8-string_bytes}
 use Rattle.jp_tokens.proofs.Cuts.{pushed}
 use Rattle.jp_explain.proofs.Pictures.{shown_pushed}
-use Rattle.jp_explain.proofs.line.Line.push.Goals as goal
+use Rattle.jp_explain.proofs.line.PlainLine.push.Goals as goal
 
 pub invariant_of-self : goal.invariant_of-self
 invariant_of-self c = record {

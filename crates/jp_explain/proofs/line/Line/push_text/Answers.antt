@@ -6,7 +6,7 @@ use Rattle.std.specs.Str.{chars}
 use Rattle.jp_tree.specs.View.{text_of}
 use Rattle.jp_explain.specs.Picture.{is_escaped}
 use Rattle.jp_explain.proofs.Pictures.{shown_at}
-use Rattle.jp_explain.proofs.line.Line.push_text.Goals as goal
+use Rattle.jp_explain.proofs.line.PlainLine.push_text.Goals as goal
 
 pub loop-c-init : goal.loop-c-init
 loop-c-init c = λ h. sym (append-nil (text_of c.args.self.now.text))

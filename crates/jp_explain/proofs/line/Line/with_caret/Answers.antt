@@ -2,7 +2,7 @@ use Rattle.std.proofs.Common.{◌≡◌, ℕ, List, [], ◌∷◌, ◌++◌, ap,
 use Rattle.std.specs.Str.{chars}
 use Rattle.std.proofs.lemmas.Str.{chars-nil}
 use Rattle.jp_tree.specs.View.{text_of}
-use Rattle.jp_explain.proofs.line.Line.with_caret.Goals as goal
+use Rattle.jp_explain.proofs.line.PlainLine.with_caret.Goals as goal
 
 pub loop-at-init : goal.loop-at-init
 loop-at-init c =

@@ -10,7 +10,7 @@ use Rattle.jp_flat.specs.Document.{document_tokens}
 use Rattle.jp_flat.specs.inner.Held.{IsHeld}
 use Rattle.jp_flat.specs.declared.document.FlatDocument.{FlatDocument}
 use Rattle.jp_flat_nodes.specs.Nodes.{link_of}
-use Rattle.jp_flat_nodes.specs.declared.node.Node.TheVariants.{Object, Null}
+use Rattle.jp_flat_nodes.specs.declared.node.FlatNode.TheVariants.{Object, Null}
 use Rattle.jp_flat.proofs.Shapes.{here, one_token, by_link}
 use Rattle.jp_flat.proofs.document.FlatDocument.after.Goals as goal
 

@@ -2,7 +2,7 @@ use mathlib.Core.Logic.{∥∥₁_elim}
 use Rattle.std.proofs.Common.{get_or, subst}
 use Rattle.std.proofs.lemmas.List.{get_or_default}
 use Rattle.jp_flat.specs.inner.Held.{HasPiece}
-use Rattle.jp_flat_nodes.specs.declared.node.Node.TheVariants.{Object, Null}
+use Rattle.jp_flat_nodes.specs.declared.node.FlatNode.TheVariants.{Object, Null}
 use Rattle.jp_flat.proofs.Pieces.{HasPiece-IsProp}
 use Rattle.jp_flat.proofs.Shapes.{here}
 use Rattle.jp_flat.proofs.document.FlatDocument.node.Goals as goal

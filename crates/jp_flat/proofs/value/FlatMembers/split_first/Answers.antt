@@ -7,13 +7,13 @@ use Rattle.jp_flat.specs.Flat.{value_at}
 use Rattle.jp_flat.specs.Members.{entries_at}
 use Rattle.jp_flat.specs.declared.value.FlatMembers.{FlatMembers}
 use Rattle.jp_flat_nodes.specs.Nodes.{piece, token_at}
-use Rattle.jp_flat_nodes.specs.declared.node.Node.{Node}
-use Rattle.jp_flat_nodes.specs.declared.node.Node.TheVariants.{Key}
+use Rattle.jp_flat_nodes.specs.declared.node.FlatNode.{FlatNode}
+use Rattle.jp_flat_nodes.specs.declared.node.FlatNode.TheVariants.{Key}
 use Rattle.jp_flat.proofs.InsideObject.{members_within, value_within, split_members, no_more, no_key, NoKey}
 use Rattle.jp_flat.proofs.value.FlatMembers.split_first.Goals as goal
 
 -- the tokens from a key on
-behind : (m : FlatMembers) (n : Node) (from count : ℕ)
+behind : (m : FlatMembers) (n : FlatNode) (from count : ℕ)
     → drop m.at (document_tokens m.document.now)
     ≡ token_at m.document.now.text.now n ∷ drop (m.at + 1) (document_tokens m.document.now)
     → n ≡ Key from count

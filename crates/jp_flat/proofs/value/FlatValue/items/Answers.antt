@@ -5,12 +5,12 @@ use Rattle.jp_flat.specs.Flat.{value_at}
 use Rattle.jp_flat.specs.Value.{tokens_of}
 use Rattle.jp_flat.specs.inner.Plain.{is_flat}
 use Rattle.jp_flat_nodes.specs.Nodes.{token_at, tokens_at}
-use Rattle.jp_flat_nodes.specs.declared.node.Node.{Node}
-use Rattle.jp_flat_nodes.specs.declared.node.Node.TheVariants.{Array}
+use Rattle.jp_flat_nodes.specs.declared.node.FlatNode.{FlatNode}
+use Rattle.jp_flat_nodes.specs.declared.node.FlatNode.TheVariants.{Array}
 use Rattle.jp_flat.proofs.Shapes.{node_tells, no_array}
 use Rattle.jp_flat.proofs.value.FlatValue.items.Goals as goal
 
-opens : (bytes : List ℕ) (ns : List Node) (at a : ℕ) (n : Node) → n ≡ Array a
+opens : (bytes : List ℕ) (ns : List FlatNode) (at a : ℕ) (n : FlatNode) → n ≡ Array a
     → drop at (tokens_at bytes ns) ≡ token_at bytes n ∷ drop 1 (drop at (tokens_at bytes ns))
     → drop at (tokens_at bytes ns) ≡ begin_array ∷ drop (at + 1) (tokens_at bytes ns)
 opens bytes ns at a n is here =
