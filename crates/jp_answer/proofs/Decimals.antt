@@ -1,5 +1,5 @@
--- The answer with decimals where no line is faulty without, and what is wrong with a line with them.
-use Rattle.std.proofs.Common.{◌≡◌, ℕ, List, [], ◌∷◌, Option, Some, None, Result, Ok, Err, refl, sym, ap, ◌∙◌}
+-- The answer with decimals where no line is faulty without.
+use Rattle.std.proofs.Common.{◌≡◌, ℕ, List, [], ◌∷◌, Option, None, Result, Ok, Err, refl, sym, ap, ◌∙◌}
 use Rattle.jp_number.specs.declared.numbers.Numbers.TheVariants.{Whole, Decimals}
 use Rattle.jp_doc.specs.Json.{Json}
 use Rattle.jp_doc.specs.Lines.{Line}
@@ -67,13 +67,3 @@ pub none_passed : (k : OnFault) (ls : List Line) → first_fault Whole ls ≡ No
     → passed_on Decimals k ls ≡ 0
 none_passed Stop ls h = none_before Decimals ls
 none_passed KeepGoing ls h = none_faulty ls h
-
-is_fault : (r : Result Json DocFault) (f : DocFault) → Some f ≡ fault_in r → r ≡ Err f
-is_fault (Ok v) f e = absurd (cc)
-is_fault (Err g) f e = let same : f ≡ g = cc in ap (λ (h : DocFault). Err h) (sym same)
-
--- what is wrong with a line with decimals where it has no value of whole numbers
-pub wrong_so : (line : List ℕ) (f g : DocFault)
-    → ((h : DocFault) → reading line ≡ Err h → reading_in Decimals line ≡ Err f)
-    → Some g ≡ fault_in (reading line) → Some f ≡ fault_in (reading_in Decimals line)
-wrong_so line f g told e = sym (ap fault_in (told g (is_fault (reading line) g e)))

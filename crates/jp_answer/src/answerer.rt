@@ -13,7 +13,7 @@ use crate::crew::Crew;
 use crate::filtered::FilteredEvaluator;
 use crate::outcome::Outcome;
 use jp_buffer::LineRef;
-use jp_flat::FlatReader;
+use jp_flat::LineReader;
 use jp_output::Form;
 use std::alloc::{AllocError, Global};
 use std::thread::Threads;
@@ -22,14 +22,14 @@ use std::thread::Threads;
 /// not cross from thread to thread.
 #[derive(Drop)]
 pub struct Answerer {
-    reader: FlatReader,
+    reader: LineReader,
 }
 
 impl Answerer {
     /// It takes no memory.
     pub fn new(alloc: Global) -> Answerer {
         Answerer {
-            reader: FlatReader::new(alloc),
+            reader: LineReader::new(alloc),
         }
     }
 

@@ -1,12 +1,9 @@
 //! The answer to numbered lines, on one thread.
 
-ghost use Rattle.std.specs.Prelude.{◌≡◌, ◌≢◌, ◌≤◌, ◌++◌, ℕ, List, Err, IfOk, OnOk, length, map};
+ghost use Rattle.std.specs.Prelude.{◌≡◌, ◌≢◌, ◌≤◌, ◌++◌, ℕ, List, IfOk, OnOk, length, map};
 ghost use Rattle.std.specs.List.{fold};
-ghost use Rattle.jp_number.specs.declared.numbers.Numbers.TheVariants.{Decimals};
 ghost use Rattle.jp_buffer.specs.Buffered.{line_at};
 ghost use Rattle.jp_doc.specs.Location.{Node};
-ghost use Rattle.jp_doc.specs.Reading.{reading};
-ghost use Rattle.jp_doc.specs.ReadingIn.{reading_in};
 ghost use Rattle.jp_node.specs.Part.{part_value};
 ghost use Rattle.jp_pattern.specs.Tests.{Tests, AreRight};
 ghost use Rattle.jp_board.specs.Limits.{max_pieces};
@@ -26,10 +23,9 @@ use crate::on_fault::OnFault;
 use crate::outcome::{DocStop, Outcome};
 use crate::walking::{Walking, walk_of};
 use jp_buffer::LineRef;
-use jp_doc::{DocFault, Document};
-use jp_flat::FlatReader;
+use jp_doc::DocFault;
+use jp_flat::LineReader;
 use jp_node::Part;
-use jp_number::Numbers;
 use jp_output::Form;
 use std::alloc::{AllocError, Global};
 use std::thread::Threads;
@@ -37,7 +33,7 @@ use std::thread::Threads;
 /// What a thread answers lines with, one after another.
 #[derive(Drop)]
 pub(crate) struct Tools<'r, 'q> {
-    pub(crate) reader: &'r mut FlatReader,
+    pub(crate) reader: &'r mut LineReader,
     pub(crate) evaluator: FilteredEvaluator<'q>,
 }
 
@@ -90,8 +86,7 @@ pub(crate) fn answer_lines<R: Threads + Sync, G, F: Form + Drop + Send>(
     })
 }
 
-/// Adds what a line gives to what was written so far, and tells what is wrong with it, if anything. The line
-/// is read by the numbers that it may have.
+/// Adds what a line gives to what was written so far, and tells what is wrong with it, if anything.
 fn add_line<R: Threads + Sync, G, F: Form + Drop + Send>(
     crew: &Crew<R, G>,
     asked: &Asked<'_>,
@@ -107,148 +102,14 @@ fn add_line<R: Threads + Sync, G, F: Form + Drop + Send>(
     ensures form { OnOk result ((t : Tests) → AreRight t → F.form written.new ≡ F.form written.old) }
     ensures query { filtered_query tools.new.evaluator ≡ filtered_query tools.old.evaluator }
 {
-    match asked.policy.numbers {
-        Numbers::Whole => add_whole(crew, asked, tools, line, written),
-        Numbers::Decimals => add_decimal(crew, asked, tools, line, written),
-    }
-}
-
-/// The same, where numbers are whole. The line is read flat where it is plain, and as a tree where it is not:
-/// the tree's reading alone tells faults.
-fn add_whole<R: Threads + Sync, G, F: Form + Drop + Send>(
-    crew: &Crew<R, G>,
-    asked: &Asked<'_>,
-    tools: &mut Tools<'_, '_>,
-    line: &LineRef<'_>,
-    written: &mut F,
-) -> Result<Option<DocFault>, AllocError>
-    ensures lines { OnOk result ((t : Tests) → AreRight t → F.written written.new
-        ≡ F.written written.old ++ given (F.form written.old) asked.now.policy.on_fault t
-        (filtered_query tools.old.evaluator) (line_at line.now) (reading line.now.bytes.now)) }
-    ensures fault { IfOk result (λ fault. fault ≡ fault_in (reading line.now.bytes.now)) }
-    ensures form { OnOk result ((t : Tests) → AreRight t → F.form written.new ≡ F.form written.old) }
-    ensures query { filtered_query tools.new.evaluator ≡ filtered_query tools.old.evaluator }
-{
-    let Some(document) = tools.reader.read(line.bytes)? else {
-        // So the tree does not stand beside what was read of the line.
-        tools.reader.release();
-        return add_tree(crew, asked, &mut tools.evaluator, line, written);
-    };
-    let root = Part::root_of_flat(&document);
-    let walk = walk_of(asked, line);
-    add_nodes(crew, &mut tools.evaluator, line, (root, walk), written)?;
-    Ok(None)
-}
-
-/// The same, where the line is read as a tree.
-fn add_tree<R: Threads + Sync, G, F: Form + Drop + Send>(
-    crew: &Crew<R, G>,
-    asked: &Asked<'_>,
-    evaluator: &mut FilteredEvaluator<'_>,
-    line: &LineRef<'_>,
-    written: &mut F,
-) -> Result<Option<DocFault>, AllocError>
-    ensures lines { OnOk result ((t : Tests) → AreRight t → F.written written.new
-        ≡ F.written written.old ++ given (F.form written.old) asked.now.policy.on_fault t
-        (filtered_query evaluator.old) (line_at line.now) (reading line.now.bytes.now)) }
-    ensures fault { IfOk result (λ fault. fault ≡ fault_in (reading line.now.bytes.now)) }
-    ensures form { OnOk result ((t : Tests) → AreRight t → F.form written.new ≡ F.form written.old) }
-    ensures query { filtered_query evaluator.new ≡ filtered_query evaluator.old }
-{
-    match Document::read(crew.alloc, line.bytes) {
+    match tools.reader.read(asked.policy.numbers, line.bytes)? {
         Ok(document) => {
-            let root = Part::root_of(&document);
-            let walk = walk_of(asked, line);
-            add_nodes(crew, evaluator, line, (root, walk), written)?;
-            Ok(None)
-        }
-        Err(DocFault::Memory) => Err(AllocError),
-        Err(fault) => {
-            add_fault(
-                crew.alloc,
-                asked.policy.on_fault,
-                line.number,
-                &fault,
-                written,
-            )?;
-            Ok(Some(fault))
-        }
-    }
-}
-
-/// The same, where numbers need not be whole. The line is read flat, by the grammar alone, and as a tree too
-/// only where that finds it over a limit.
-fn add_decimal<R: Threads + Sync, G, F: Form + Drop + Send>(
-    crew: &Crew<R, G>,
-    asked: &Asked<'_>,
-    tools: &mut Tools<'_, '_>,
-    line: &LineRef<'_>,
-    written: &mut F,
-) -> Result<Option<DocFault>, AllocError>
-    ensures lines { OnOk result ((t : Tests) → AreRight t → F.written written.new
-        ≡ F.written written.old ++ given (F.form written.old) asked.now.policy.on_fault t
-        (filtered_query tools.old.evaluator) (line_at line.now) (reading_in Decimals line.now.bytes.now)) }
-    ensures fault { IfOk result (λ fault. fault ≡ fault_in (reading_in Decimals line.now.bytes.now)) }
-    ensures form { OnOk result ((t : Tests) → AreRight t → F.form written.new ≡ F.form written.old) }
-    ensures query { filtered_query tools.new.evaluator ≡ filtered_query tools.old.evaluator }
-{
-    let fault = match tools.reader.read_decimal(line.bytes)? {
-        Ok(document) => {
-            let root = Part::root_of_flat(&document);
+            let root = Part::root_of_line(&document);
             let walk = walk_of(asked, line);
             add_nodes(crew, &mut tools.evaluator, line, (root, walk), written)?;
-            return Ok(None);
-        }
-        Err(fault) => fault,
-    };
-    match fault {
-        DocFault::LongLine | DocFault::Unreadable => {
-            add_fault(
-                crew.alloc,
-                asked.policy.on_fault,
-                line.number,
-                &fault,
-                written,
-            )?;
-            Ok(Some(fault))
-        }
-        _ => {
-            // So the tree does not stand beside what was read of the line.
-            tools.reader.release();
-            add_over(crew, asked, &mut tools.evaluator, line, fault, written)
-        }
-    }
-}
-
-/// The same, where the grammar alone finds that the line is over a limit, with this fault: as a tree of whole
-/// numbers it may have a value still.
-fn add_over<R: Threads + Sync, G, F: Form + Drop + Send>(
-    crew: &Crew<R, G>,
-    asked: &Asked<'_>,
-    evaluator: &mut FilteredEvaluator<'_>,
-    line: &LineRef<'_>,
-    fault: DocFault,
-    written: &mut F,
-) -> Result<Option<DocFault>, AllocError>
-    requires fault { (f : DocFault) → reading line.now.bytes.now ≡ Err f
-        → reading_in Decimals line.now.bytes.now ≡ Err fault }
-    requires memory { fault ≢ DocFault.Memory }
-    ensures lines { OnOk result ((t : Tests) → AreRight t → F.written written.new
-        ≡ F.written written.old ++ given (F.form written.old) asked.now.policy.on_fault t
-        (filtered_query evaluator.old) (line_at line.now) (reading_in Decimals line.now.bytes.now)) }
-    ensures fault { IfOk result (λ fault. fault ≡ fault_in (reading_in Decimals line.now.bytes.now)) }
-    ensures form { OnOk result ((t : Tests) → AreRight t → F.form written.new ≡ F.form written.old) }
-    ensures query { filtered_query evaluator.new ≡ filtered_query evaluator.old }
-{
-    match Document::read(crew.alloc, line.bytes) {
-        Ok(document) => {
-            let root = Part::root_of(&document);
-            let walk = walk_of(asked, line);
-            add_nodes(crew, evaluator, line, (root, walk), written)?;
             Ok(None)
         }
-        Err(DocFault::Memory) => Err(AllocError),
-        Err(_) => {
+        Err(fault) => {
             add_fault(
                 crew.alloc,
                 asked.policy.on_fault,

@@ -10,7 +10,7 @@ ghost use Rattle.jp_doc.specs.ReadingIn.{reading_in};
 ghost use Rattle.jp_explain.specs.LineMark.{IsNumber, IsLongNumber, IsSilent};
 
 use jp_doc::DocFault;
-use jp_flat::FlatReader;
+use jp_flat::LineReader;
 use jp_line_scan::{
     LineReason, LongNumber, NotWhole, first_fault, first_fault_of_decimals, first_long_number,
     has_number_not_whole, lead, long_length, number_length, place_of,
@@ -121,13 +121,12 @@ fn marked_number(line: &[u8], path: String, place: usize) -> Option<LineExplanat
     })
 }
 
-/// Whether the line has a number over the limits, by the grammar of JSON alone.
+/// Whether the fault of the line is a number over the limits.
 fn has_long_number(alloc: Global, line: &[u8]) -> Result<bool, AllocError>
-    ensures { IfOk result (λ b. IsTrue b → (g : DocFault) → reading line.now ≡ Err g
-        → reading_in Decimals line.now ≡ Err DocFault.LongNumber) }
+    ensures { IfOk result (λ b. IsTrue b → reading_in Decimals line.now ≡ Err DocFault.LongNumber) }
 {
-    let mut reader = FlatReader::new(alloc);
-    match reader.read_decimal(line)? {
+    let mut reader = LineReader::new(alloc);
+    match reader.read(Numbers::Decimals, line)? {
         Ok(_) => Ok(false),
         Err(fault) => Ok(fault == DocFault::LongNumber),
     }
