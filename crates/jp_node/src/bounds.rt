@@ -104,7 +104,7 @@ fn first_falling(bounds: Bounds) -> Option<u32>
 }
 
 /// The first index of a slice.
-pub fn first_place(bounds: Bounds) -> Option<u32>
+pub(crate) fn first_place(bounds: Bounds) -> Option<u32>
     requires { AreWithin (bounds_value bounds) max_place }
     ensures indexes { (len : ℕ) → AreWithin (bounds_value bounds) len
         → from_place (bounds_value bounds) len result ≡ spec.slice_indexes (bounds_value bounds) len }
@@ -154,7 +154,7 @@ fn after_falling(bounds: Bounds, place: u32) -> Option<u32>
 }
 
 /// The index behind this one.
-pub fn place_after(bounds: Bounds, place: u32) -> Option<u32>
+pub(crate) fn place_after(bounds: Bounds, place: u32) -> Option<u32>
     requires bounds { AreWithin (bounds_value bounds) max_place }
     requires place { IsPlace (bounds_value bounds) place }
     ensures indexes { (len : ℕ) → AreWithin (bounds_value bounds) len

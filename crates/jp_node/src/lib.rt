@@ -23,14 +23,14 @@ mod tree;
 mod visit;
 
 pub use bare_text::is_bare;
-pub use bounds::{Bounds, first_place, place_after, slice_bounds};
+pub use bounds::{Bounds, slice_bounds};
 pub use child_range::ChildRange;
 pub use children::{Child, Children, children_of, named, placed};
 pub use flat_children::{first_item, member_at};
 pub use index::{place, place_in};
 pub use items::Items;
 pub use link::Link;
-pub use locations::{Locations, location};
+pub use locations::Locations;
 pub use members::{Member, MemberList, MemberRange, Members};
 pub use part::{Inside, Kind, Part};
 pub use path_stack::{PathStack, Scratch};

@@ -71,7 +71,7 @@ fn step(alloc: Global, link: Link<'_>) -> Result<Step, AllocError>
 /// The location that the links lead to.
 ///
 /// `AllocError` if a growth was refused.
-pub fn location(alloc: Global, links: &[Link<'_>]) -> Result<Location, AllocError>
+pub(crate) fn location(alloc: Global, links: &[Link<'_>]) -> Result<Location, AllocError>
     ensures { IfOk result (λ l. location_of l ≡ link_steps links.now) }
 {
     // Their number is known, so the list takes one allocation.
