@@ -19,6 +19,7 @@ pub mod WholeTexts
 pub mod Faults
 pub mod Decimal
 pub mod ReadNumbers
+pub mod Opening
 pub mod Pieces
 pub mod Close
 pub mod ReadNodes

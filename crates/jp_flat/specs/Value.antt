@@ -10,6 +10,7 @@ use Rattle.jp_flat.specs.Flat.{value_at}
 use Rattle.jp_flat.specs.Members.{entries_at}
 use Rattle.jp_flat.specs.declared.value.FlatItems.{FlatItems}
 use Rattle.jp_flat.specs.declared.value.FlatMembers.{FlatMembers}
+use Rattle.jp_flat.specs.declared.value.FlatNumber.{FlatNumber}
 use Rattle.jp_flat.specs.declared.value.FlatValue.{FlatValue}
 use Rattle.jp_flat.specs.declared.value.FlatKind.{FlatKind}
 use Rattle.jp_flat.specs.declared.value.FlatKind.TheVariants.{Null, Truth, Number, Text, Array, Object}
@@ -22,15 +23,6 @@ tokens_of v = drop v.at (document_tokens v.document.now)
 -- the value
 abbrev pub flat_value : FlatValue → Json
 flat_value v = value_at (tokens_of v)
-
--- what a kind tells of the value
-abbrev pub IsKind : FlatKind → Json → Type 0
-IsKind Null v = v ≡ null
-IsKind (Truth b) v = v ≡ truth b
-IsKind (Number s) v = v ≡ number (text_number s.now)
-IsKind (Text s) v = v ≡ text (chars s.now)
-IsKind Array v = (vs : Items) × (v ≡ array vs)
-IsKind Object v = (ms : Members) × (v ≡ object ms)
 
 -- the text that a value is, if it is one
 abbrev pub text_in : Json → Option json.Text
@@ -49,6 +41,10 @@ number_in (truth b) = None
 number_in (text s) = None
 number_in (array vs) = None
 number_in (object ms) = None
+
+-- the number that a text of the line is
+abbrev pub flat_number : FlatNumber → numbers.Number
+flat_number n = text_number n.digits.now
 
 -- how many items an array has, and 0 of any other value
 abbrev pub item_count : Json → ℕ
@@ -84,3 +80,12 @@ entries m = entries_at (drop m.at (document_tokens m.document.now))
 
 abbrev pub members_left : FlatMembers → ℕ
 members_left m = length (document_tokens m.document.now) - m.at
+
+-- what a kind tells of the value
+abbrev pub IsKind : FlatKind → Json → Type 0
+IsKind Null v = v ≡ null
+IsKind (Truth b) v = v ≡ truth b
+IsKind (Number n) v = v ≡ number (flat_number n)
+IsKind (Text s) v = v ≡ text (chars s.now)
+IsKind (Array i) v = (vs : Items) × (v ≡ array vs) × (items_value i ≡ v)
+IsKind (Object m) v = (ms : Members) × (v ≡ object ms) × (members_value m ≡ v)

@@ -15,6 +15,7 @@ mod reader;
 mod value;
 
 pub use document::FlatDocument;
+pub use limits::MEMBERS_AT_FIRST;
 pub use line_reader::{LineDocument, LineReader};
 pub use reader::FlatReader;
-pub use value::{FlatItems, FlatKind, FlatMember, FlatMembers, FlatValue};
+pub use value::{FlatItems, FlatKind, FlatMember, FlatMembers, FlatNumber, FlatValue};

@@ -5,7 +5,7 @@ ghost use Rattle.json.specs.Token.{begin_array, begin_object};
 ghost use Rattle.jp_doc.specs.Reading.{max_items};
 ghost use Rattle.jp_flat.specs.Document.{document_tokens};
 ghost use Rattle.jp_flat.specs.inner.Held.{HasPiece};
-ghost use Rattle.jp_flat.specs.inner.Plain.{is_flat};
+ghost use Rattle.jp_flat.specs.inner.Plain.{is_fit_number, is_flat};
 ghost use Rattle.jp_flat_nodes.specs.Nodes.{token_at};
 
 use crate::digits::read_number;
@@ -46,21 +46,48 @@ pub struct FlatMember<'d> {
     pub value: FlatValue<'d>,
 }
 
-/// What a value is, with no look inside of it.
+/// A number as it stands in the line.
+#[derive(Clone, Copy)]
+pub struct FlatNumber<'d> {
+    digits: &'d str,
+    ghost fit: { is_fit_number digits.now ≡ true },
+}
+
+/// What a value is, with what is inside of it.
 #[derive(Clone, Copy)]
 pub enum FlatKind<'d> {
     /// `null`.
     Null,
     /// `true` or `false`.
     Truth(bool),
-    /// A number, as it stands in the line: `FlatValue::number` tells which.
-    Number(&'d str),
+    /// A number.
+    Number(FlatNumber<'d>),
     /// A text, without its escapes.
     Text(&'d str),
-    /// An array.
-    Array,
-    /// An object.
-    Object,
+    /// An array, of these items.
+    Array(FlatItems<'d>),
+    /// An object, of these members, in the order of the line.
+    Object(FlatMembers<'d>),
+}
+
+impl<'d> FlatNumber<'d> {
+    ghost use Rattle.jp_flat.specs.Value.{flat_number};
+    ghost use Rattle.jp_number.specs.Number.{number_text};
+    ghost use Rattle.jp_number.specs.View.{number_of};
+
+    /// The number: whole where it is written so and has 64 bits, else by its text.
+    pub fn value(self) -> Number<'d>
+        ensures { number_of result ≡ flat_number self.entry }
+    {
+        read_number(self.digits)
+    }
+
+    /// Its text, as it stands in the line.
+    pub fn digits(self) -> &'d str
+        ensures { result.now ≡ number_text (flat_number self.entry) }
+    {
+        self.digits
+    }
 }
 
 impl<'d> FlatValue<'d> {
@@ -70,7 +97,6 @@ impl<'d> FlatValue<'d> {
     ghost use Rattle.jp_doc.specs.Location.{member_of, item_of};
     ghost use Rattle.jp_flat.specs.Value.{flat_value, tokens_of, items_value, members_value, text_in};
     ghost use Rattle.jp_flat.specs.Value.{number_in, item_count, IsKind, IsNoArray, IsNoObject};
-    ghost use Rattle.jp_number.specs.Number.{number_text};
     ghost use Rattle.jp_number.specs.View.{number_of};
 
     /// The whole value of a document.
@@ -95,10 +121,18 @@ impl<'d> FlatValue<'d> {
         ensures { IsKind result (flat_value self.entry) }
     {
         match self.node() {
-            FlatNode::Object(_) => FlatKind::Object,
-            FlatNode::Array(_) => FlatKind::Array,
+            FlatNode::Object(_) => FlatKind::Object(FlatMembers {
+                document: self.document,
+                at: self.at + 1,
+            }),
+            FlatNode::Array(_) => FlatKind::Array(FlatItems {
+                document: self.document,
+                at: self.at + 1,
+            }),
             FlatNode::Text(from, count) => FlatKind::Text(self.document.piece(from, count)),
-            FlatNode::Number(from, count) => FlatKind::Number(self.document.piece(from, count)),
+            FlatNode::Number(from, count) => FlatKind::Number(FlatNumber {
+                digits: self.document.piece(from, count),
+            }),
             FlatNode::Truth(truth) => FlatKind::Truth(truth),
             _ => FlatKind::Null,
         }
@@ -132,17 +166,6 @@ impl<'d> FlatValue<'d> {
             Some(Number::Whole(whole)) => Some(whole),
             Some(Number::Written(_)) => None,
             None => None,
-        }
-    }
-
-    /// The number as it stands in the line, which is its text, where the value is one.
-    pub fn digits(self) -> Option<&'d str>
-        ensures { option_map (λ s. s.now) result
-            ≡ option_map number_text (number_in (flat_value self.entry)) }
-    {
-        match self.node() {
-            FlatNode::Number(from, count) => Some(self.document.piece(from, count)),
-            _ => None,
         }
     }
 

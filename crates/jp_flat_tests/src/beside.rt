@@ -74,20 +74,24 @@ fn same(alloc: Global, flat: FlatValue<'_>, tree: &Value, levels: u32) -> Result
     match (flat.kind(), tree) {
         (FlatKind::Null, Value::Null) => Ok(true),
         (FlatKind::Truth(truth), Value::Bool(expected)) => Ok(truth == *expected),
-        (FlatKind::Number(text), Value::Number(_)) => {
-            Ok(flat.digits() == Some(text) && tree.to_string(alloc)?.as_str() == text)
+        (FlatKind::Number(number), Value::Number(_)) => {
+            let Some(same) = flat.number() else {
+                return Ok(false);
+            };
+            let text = tree.to_string(alloc)?;
+            Ok(same.is_equal(number.value()) && text.as_str() == number.digits())
         }
         (FlatKind::Text(text), Value::String(expected)) => {
-            Ok(flat.digits().is_none() && text == expected.as_str())
+            Ok(flat.number().is_none() && text == expected.as_str())
         }
-        (FlatKind::Array, Value::Array(expected)) => match flat.items() {
-            Some(items) => same_items(alloc, flat, items, expected, levels - 1),
-            None => Ok(false),
-        },
-        (FlatKind::Object, Value::Object(expected)) => match flat.members() {
-            Some(members) => same_members(alloc, flat, members, expected, levels - 1),
-            None => Ok(false),
-        },
+        (FlatKind::Array(items), Value::Array(expected)) => {
+            let alike = same_items(alloc, flat, items, expected, levels - 1)?;
+            Ok(alike && flat.items().is_some() && flat.members().is_none())
+        }
+        (FlatKind::Object(members), Value::Object(expected)) => {
+            let alike = same_members(alloc, flat, members, expected, levels - 1)?;
+            Ok(alike && flat.members().is_some() && flat.items().is_none())
+        }
         _ => Ok(false),
     }
 }

@@ -6,6 +6,7 @@
 
 ghost use Rattle.std.specs.Prelude.{◌<◌};
 
+use crate::calls::digits_of;
 use crate::orders::ORDERS;
 use jp_flat::{FlatReader, FlatValue};
 use std::alloc::{AllocError, Global};
@@ -196,8 +197,8 @@ fn are(pair: &Pair, left: FlatValue<'_>, right: FlatValue<'_>, wanted: Ordering)
         && other.compare(one) == wanted.reverse()
         && one.is_equal(other) == wanted.is_eq()
         && one.is_below(other) == wanted.is_lt()
-        && left.digits() == Some(pair.left.as_str())
-        && right.digits() == Some(pair.right.as_str())
+        && digits_of(left) == Some(pair.left.as_str())
+        && digits_of(right) == Some(pair.right.as_str())
 }
 
 fn is_read(reader: &mut FlatReader, pair: &Pair, wanted: Ordering) -> Result<bool, Fail> {

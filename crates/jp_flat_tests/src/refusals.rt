@@ -3,6 +3,7 @@
 //! A turn says whether the answer was right, or nothing where it was want of memory. Each is made twice, with
 //! one reader and one buffer: one growth is refused at most, so one of the two answers.
 
+use crate::calls::digits_of;
 use jp_flat::{FlatMember, FlatReader, LineDocument, LineReader};
 use jp_number::Numbers;
 use std::alloc::{AllocError, Global};
@@ -63,7 +64,7 @@ fn gathered_decimals(
     let mut out: Vec<FlatMember<'_>> = Vec::new(alloc);
     members.gather(&mut out)?;
     let first = out.first().map(|member| member.name);
-    let last = out.last().map(|member| member.value.digits());
+    let last = out.last().map(|member| digits_of(member.value));
     Ok(out.len() == 101 && first == Some("000") && last == Some(Some("0.5e0")))
 }
 

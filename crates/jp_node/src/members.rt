@@ -9,12 +9,8 @@ ghost use Rattle.jp_node.specs.Part.{part_value};
 
 use crate::part::Part;
 use crate::tree::{TreeMember, TreeMembers};
-use jp_flat::{FlatMember, FlatMembers};
+use jp_flat::{FlatMember, FlatMembers, MEMBERS_AT_FIRST};
 use std::alloc::{AllocError, Global};
-
-/// How many members there is room for at first where they are gathered: the list of an object of no more than
-/// these grows no further.
-const INITIAL_CAPACITY: usize = 16;
 
 /// The members of an object.
 #[derive(Clone, Copy)]
@@ -75,7 +71,7 @@ impl<'v> Members<'v> {
         match self {
             Members::Tree(members) => Ok(MemberList::Tree(members.gather(alloc)?)),
             Members::Flat(members) => {
-                let mut list = Vec::with_capacity(alloc, INITIAL_CAPACITY)?;
+                let mut list = Vec::with_capacity(alloc, MEMBERS_AT_FIRST)?;
                 members.gather(&mut list)?;
                 Ok(MemberList::Flat(list))
             }

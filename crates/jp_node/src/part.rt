@@ -10,16 +10,15 @@ ghost use Rattle.jp_doc.specs.Location.{member_of, item_of};
 ghost use Rattle.jp_doc.specs.Reading.{max_items};
 ghost use Rattle.jp_flat.specs.Document as flat;
 ghost use Rattle.jp_flat.specs.LineDocument.{line_value};
-ghost use Rattle.jp_flat.specs.Value.{flat_value, item_count};
+ghost use Rattle.jp_flat.specs.Value.{flat_number, flat_value, item_count};
 ghost use Rattle.jp_node.specs.Inside.{kind_value, IsInside, IsScalar};
-ghost use Rattle.jp_number.specs.Number as numbers;
 ghost use Rattle.jp_node.specs.Part.{part_value};
 
 use crate::items::Items;
 use crate::members::Members;
 use crate::tree::{TreeItems, TreeMembers, TreeValue};
 use jp_doc::{Document, whole_of};
-use jp_flat::{FlatDocument, FlatValue, LineDocument};
+use jp_flat::{FlatDocument, FlatKind, FlatNumber, FlatValue, LineDocument};
 use jp_number::{Number, NumberText};
 use serde_json::Value;
 
@@ -188,34 +187,12 @@ fn flat_inside(flat: FlatValue<'_>) -> Inside<'_>
     ensures { IsInside result (flat_value flat.entry) }
 {
     match flat.kind() {
-        jp_flat::FlatKind::Array => inside_array(flat),
-        jp_flat::FlatKind::Object => inside_object(flat),
-        jp_flat::FlatKind::Null => Inside::Nothing,
-        jp_flat::FlatKind::Truth(_) => Inside::Nothing,
-        jp_flat::FlatKind::Number(_) => Inside::Nothing,
-        jp_flat::FlatKind::Text(_) => Inside::Nothing,
-    }
-}
-
-/// What is inside of a flat array.
-fn inside_array(array: FlatValue<'_>) -> Inside<'_>
-    requires { (vs : json.Items) × (flat_value array ≡ json.array vs) }
-    ensures { IsInside result (flat_value array.entry) }
-{
-    match array.items() {
-        Some(items) => Inside::Items(Items::Flat(items)),
-        None => unreachable!(),
-    }
-}
-
-/// What is inside of a flat object.
-fn inside_object(object: FlatValue<'_>) -> Inside<'_>
-    requires { (ms : json.Members) × (flat_value object ≡ json.object ms) }
-    ensures { IsInside result (flat_value object.entry) }
-{
-    match object.members() {
-        Some(members) => Inside::Members(Members::Flat(members)),
-        None => unreachable!(),
+        FlatKind::Array(items) => Inside::Items(Items::Flat(items)),
+        FlatKind::Object(members) => Inside::Members(Members::Flat(members)),
+        FlatKind::Null => Inside::Nothing,
+        FlatKind::Truth(_) => Inside::Nothing,
+        FlatKind::Number(_) => Inside::Nothing,
+        FlatKind::Text(_) => Inside::Nothing,
     }
 }
 
@@ -240,42 +217,21 @@ fn flat_kind(flat: FlatValue<'_>) -> Kind<'_>
     ensures { kind_value result ≡ flat_value flat.entry }
 {
     match flat.kind() {
-        jp_flat::FlatKind::Null => Kind::Null,
-        jp_flat::FlatKind::Truth(truth) => Kind::Truth(truth),
-        jp_flat::FlatKind::Number(_) => flat_number(flat),
-        jp_flat::FlatKind::Text(text) => Kind::Text(text),
-        jp_flat::FlatKind::Array => flat_array(flat),
-        jp_flat::FlatKind::Object => flat_object(flat),
+        FlatKind::Null => Kind::Null,
+        FlatKind::Truth(truth) => Kind::Truth(truth),
+        FlatKind::Number(number) => number_kind(number),
+        FlatKind::Text(text) => Kind::Text(text),
+        FlatKind::Array(items) => Kind::Array(Items::Flat(items)),
+        FlatKind::Object(members) => Kind::Object(Members::Flat(members)),
     }
 }
 
-fn flat_number(number: FlatValue<'_>) -> Kind<'_>
-    requires { (x : numbers.Number) × (flat_value number ≡ json.number x) }
-    ensures { kind_value result ≡ flat_value number.entry }
+/// What a number of a line is.
+fn number_kind(number: FlatNumber<'_>) -> Kind<'_>
+    ensures { kind_value result ≡ json.number (flat_number number.entry) }
 {
-    match number.number() {
-        Some(Number::Whole(whole)) => Kind::Whole(whole),
-        Some(Number::Written(text)) => Kind::Written(text),
-        None => unreachable!(),
-    }
-}
-
-fn flat_array(array: FlatValue<'_>) -> Kind<'_>
-    requires { (vs : json.Items) × (flat_value array ≡ json.array vs) }
-    ensures { kind_value result ≡ flat_value array.entry }
-{
-    match array.items() {
-        Some(items) => Kind::Array(Items::Flat(items)),
-        None => unreachable!(),
-    }
-}
-
-fn flat_object(object: FlatValue<'_>) -> Kind<'_>
-    requires { (ms : json.Members) × (flat_value object ≡ json.object ms) }
-    ensures { kind_value result ≡ flat_value object.entry }
-{
-    match object.members() {
-        Some(members) => Kind::Object(Members::Flat(members)),
-        None => unreachable!(),
+    match number.value() {
+        Number::Whole(whole) => Kind::Whole(whole),
+        Number::Written(text) => Kind::Written(text),
     }
 }

@@ -1,22 +1,16 @@
 //! The compact text of a value of a flat document (RFC 8259), appended piece by piece.
 
 ghost use Rattle.std.specs.Prelude.{◌≡◌, ◌++◌, OnOk};
-ghost use Rattle.jp_doc.specs.Json as json;
 ghost use Rattle.jp_doc.specs.Json.{Items, array, object};
 ghost use Rattle.jp_flat.specs.Gathered.{gathered};
 ghost use Rattle.jp_flat.specs.Value.{flat_value, items_value, members_value};
-ghost use Rattle.jp_number.specs.Number.{Number};
 ghost use Rattle.jp_output.specs.OutputLine.{value_text};
 ghost use Rattle.jp_node.specs.Appended.{Extends};
 ghost use Rattle.serde_json.specs.Written.{comma_if};
 
 use crate::scalar_text::{append_null, append_quoted, append_truth};
-use jp_flat::{FlatItems, FlatKind, FlatMember, FlatMembers, FlatValue};
+use jp_flat::{FlatItems, FlatKind, FlatMember, FlatMembers, FlatValue, MEMBERS_AT_FIRST};
 use std::alloc::{AllocError, Global};
-
-/// How many members there is room for at first where they are gathered: the list of an object of no more than
-/// these grows no further.
-const INITIAL_CAPACITY: usize = 16;
 
 /// Appends the compact text of a value.
 ///
@@ -35,28 +29,10 @@ pub(crate) fn append_flat(
     match value.kind() {
         FlatKind::Null => append_null(out),
         FlatKind::Truth(truth) => append_truth(truth, out),
-        FlatKind::Number(_) => append_digits(value, out),
+        FlatKind::Number(number) => out.extend_from_slice(number.digits().as_bytes()),
         FlatKind::Text(text) => append_quoted(alloc, text, scratch, out),
-        FlatKind::Array => match value.items() {
-            Some(items) => append_items(alloc, items, scratch, out),
-            None => unreachable!(),
-        },
-        FlatKind::Object => match value.members() {
-            Some(members) => append_members(alloc, members, scratch, out),
-            None => unreachable!(),
-        },
-    }
-}
-
-/// Appends a number as it stands in the line.
-fn append_digits(number: FlatValue<'_>, out: &mut Vec<u8>) -> Result<(), AllocError>
-    requires { (x : Number) × (flat_value number ≡ json.number x) }
-    ensures ok { OnOk result (out.new.items ≡ out.old.items ++ value_text (flat_value number.entry)) }
-    ensures kept { Extends out.old.items out.new.items }
-{
-    match number.digits() {
-        Some(digits) => out.extend_from_slice(digits.as_bytes()),
-        None => unreachable!(),
+        FlatKind::Array(items) => append_items(alloc, items, scratch, out),
+        FlatKind::Object(members) => append_members(alloc, members, scratch, out),
     }
 }
 
@@ -107,7 +83,7 @@ fn append_members(
     ensures ok { OnOk result (out.new.items ≡ out.old.items ++ value_text (members_value members.entry)) }
     ensures kept { Extends out.old.items out.new.items }
 {
-    let mut list = Vec::with_capacity(alloc, INITIAL_CAPACITY)?;
+    let mut list = Vec::with_capacity(alloc, MEMBERS_AT_FIRST)?;
     members.gather(&mut list)?;
     append_list(alloc, list.as_slice(), scratch, out)
 }
