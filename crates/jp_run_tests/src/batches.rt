@@ -2,7 +2,7 @@
 
 use crate::fakes::{Holds, OneByte};
 use crate::gates::{Entered, Pair};
-use crate::ran::run;
+use crate::outcomes::run;
 use crate::thousand::{items_of_thousand, thousand};
 use jp_answer::{Gate, OpenGate};
 use jp_doc::DocFault;

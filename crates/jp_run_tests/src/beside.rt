@@ -3,7 +3,7 @@
 use crate::fakes::{FailsAfter, Holds};
 use crate::gates::{Entered, Pair};
 use crate::long_lines::{answer_of, lines_of};
-use crate::ran::run;
+use crate::outcomes::run;
 use jp_answer::{Gate, OpenGate};
 use jp_doc::DocFault;
 use jp_run::{FromReader, RunFault, Settings, Totals};

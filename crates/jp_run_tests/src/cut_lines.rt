@@ -3,7 +3,7 @@
 ghost use Rattle.std.specs.Prelude.{◌≡◌, ◌^◌, ◌≤◌, false};
 
 use crate::fakes::{Holds, OneByte};
-use crate::ran::run;
+use crate::outcomes::run;
 use jp_answer::OpenGate;
 use jp_run::{FromReader, RunFault, Settings, Source, Totals};
 use std::alloc::{AllocError, Global};

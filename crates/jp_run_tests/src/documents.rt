@@ -2,7 +2,7 @@
 
 ghost use Rattle.std.specs.Prelude.{◌≡◌, false};
 
-use crate::ran::{ran, ran_by_bytes, ran_cut_short};
+use crate::outcomes::{ran, ran_by_bytes, ran_cut_short};
 use jp_run::{Cutting, Output, RunFault, Settings, Totals};
 use std::alloc::{AllocError, Global};
 use std::thread::Threads;

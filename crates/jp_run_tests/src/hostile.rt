@@ -1,6 +1,6 @@
 //! Queries and documents as an adversary would choose them, by two workers.
 
-use crate::ran::ran;
+use crate::outcomes::ran;
 use jp_doc::DocFault;
 use jp_run::{RunFault, Settings, Totals};
 use jp_tree::QueryFault;

@@ -1,7 +1,7 @@
 //! Runs and answers that keep going after a faulty line.
 
 use crate::gates::{Entered, Pair};
-use crate::ran::{ROOM, ran_cut_short};
+use crate::outcomes::{ROOM, ran_cut_short};
 use jp_answer::{Gate, OpenGate};
 use jp_check::plan;
 use jp_doc::{Line, Lines};

@@ -14,8 +14,6 @@ mod documents;
 #[cfg(test)]
 mod fakes;
 #[cfg(test)]
-mod forms;
-#[cfg(test)]
 mod gates;
 #[cfg(test)]
 mod hostile;
@@ -24,13 +22,15 @@ mod keep_going;
 #[cfg(test)]
 mod long_lines;
 #[cfg(test)]
+mod many_lines;
+#[cfg(test)]
 mod names;
+#[cfg(test)]
+mod outcomes;
 #[cfg(test)]
 mod output_forms;
 #[cfg(test)]
 mod prepared;
-#[cfg(test)]
-mod ran;
 #[cfg(test)]
 mod ready;
 #[cfg(test)]

@@ -3,7 +3,7 @@
 
 use crate::fakes::Holds;
 use crate::long_lines::lines_of;
-use crate::ran::{ROOM, ran_cut_short, run};
+use crate::outcomes::{ROOM, ran_cut_short, run};
 use jp_answer::OpenGate;
 use jp_run::{FromReader, Output, RunFault, Settings, Totals};
 use std::alloc::{AllocError, Global};

@@ -1,6 +1,6 @@
 //! Runs in the forms of values, texts and lines, however they are cut up.
 
-use crate::ran::{ROOM, ran_cut_short};
+use crate::outcomes::{ROOM, ran_cut_short};
 use jp_run::{Output, RunFault, Settings, Totals};
 use std::alloc::Global;
 use std::test::Fail;

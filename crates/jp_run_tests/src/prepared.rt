@@ -1,6 +1,6 @@
 //! Queries that are prepared: by which numbers they are accepted, and once for several inputs.
 
-use crate::ran::ran_prepared;
+use crate::outcomes::ran_prepared;
 use jp_number::Numbers;
 use jp_run::{Output, Prepared, RunFault, Settings};
 use jp_tree::QueryFault;

@@ -4,7 +4,7 @@ ghost use Rattle.std.specs.Prelude.{◌≡◌, Some, None, false};
 
 use crate::fakes::Holds;
 use crate::long_lines::{BLANKS, lines_of};
-use crate::ran::run;
+use crate::outcomes::run;
 use jp_answer::OpenGate;
 use jp_run::{Broken, RunFault, Settings, Source, Supply, Totals};
 use std::alloc::Global;

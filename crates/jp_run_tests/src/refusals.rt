@@ -5,7 +5,7 @@
 
 use crate::fakes::Holds;
 use crate::long_lines::{BLANKS, lines_of};
-use crate::ran::run;
+use crate::outcomes::run;
 use jp_answer::OpenGate;
 use jp_doc::DocFault;
 use jp_run::{FromReader, RunFault, Settings};

@@ -3,7 +3,7 @@
 ghost use Rattle.std.specs.Prelude.{◌≡◌, ◌^◌, ◌≤◌, false};
 
 use crate::fakes::{FullDisk, Holds, OneByte};
-use crate::ran::{ROOM, ran};
+use crate::outcomes::{ROOM, ran};
 use jp_answer::OpenGate;
 use jp_doc::DocFault;
 use jp_run::{FromReader, FromWriter, RunFault, Settings, Sink, Source, Supply, Totals};
@@ -24,7 +24,7 @@ fn run<R: Threads + Sync, S: Source<K>, K: Sink>(
     requires few { (S.reads source.old ≤ 2 ^ 62) × (S.given source.old ≤ 2 ^ 62) }
 {
     let settings = Settings::new(4, 2, 8)?;
-    crate::ran::run(rt, alloc, source, sink, query, &settings, &OpenGate)
+    crate::outcomes::run(rt, alloc, source, sink, query, &settings, &OpenGate)
 }
 
 /// What a run over these bytes ends with, and what it writes.

@@ -1,7 +1,7 @@
 //! Gates that want to be told of faulty lines.
 
 use crate::fakes::{Holds, OneByte};
-use crate::ran::run;
+use crate::outcomes::run;
 use jp_answer::Gate;
 use jp_doc::DocFault;
 use jp_run::{RunFault, Settings};

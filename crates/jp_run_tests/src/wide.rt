@@ -1,6 +1,6 @@
 //! A line with a long list, which several workers walk by halves.
 
-use crate::ran::ran;
+use crate::outcomes::ran;
 use jp_run::Settings;
 use std::alloc::{AllocError, Global};
 use std::test::Fail;

@@ -2,7 +2,7 @@
 
 use crate::fakes::{FailsAfter, Holds};
 use crate::long_lines::{BLANKS, answer_of, lines_of};
-use crate::ran::run;
+use crate::outcomes::run;
 use jp_answer::{Gate, OpenGate};
 use jp_doc::DocFault;
 use jp_run::{FromReader, RunFault, Settings, Supply, Totals};

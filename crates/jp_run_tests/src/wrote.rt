@@ -2,7 +2,7 @@
 
 use crate::fakes::Holds;
 use crate::long_lines::lines_of;
-use crate::ran::{ROOM, ran, ran_by_bytes, run};
+use crate::outcomes::{ROOM, ran, ran_by_bytes, run};
 use jp_answer::OpenGate;
 use jp_run::{FromReader, Output, RunFault, Settings, Totals};
 use std::alloc::Global;
