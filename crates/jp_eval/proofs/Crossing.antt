@@ -19,7 +19,7 @@ use Rattle.jp_automaton.proofs.dfa.Dfa.TheSendSync as dfas
 use Rattle.jp_compiled.proofs.query.Constant.TheSendSync as constants
 use Rattle.jp_compiled.proofs.query.Position.TheSendSync as positions
 use Rattle.jp_compiled.proofs.query.Slice.TheSendSync as slices
-use Rattle.jp_compiled.proofs.query.Form.TheSendSync as forms
+use Rattle.jp_compiled.proofs.query.ArgumentForm.TheSendSync as forms
 use Rattle.jp_compiled.proofs.query.Logical.TheLaws.TheKnot.{crosses as ready_crosses}
 use Rattle.jp_automaton.proofs.expressions.Expression.TheLaws.TheKnot.{crosses as pattern_crosses}
 use Rattle.jp_node.proofs.link.Link.TheSendSync as links

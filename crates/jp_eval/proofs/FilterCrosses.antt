@@ -5,7 +5,7 @@ use Rattle.std.proofs.Crossing.{crosses}
 use Rattle.jp_compiled.specs.contracts.compiled.Query as Query
 use Rattle.jp_eval.proofs.Crossing.{segment_sync, logical_sync, root_sync}
 use Rattle.jp_eval.specs.contracts.document_filter.DocumentFilter as DocumentFilter
-use Rattle.jp_found.proofs.asked.Asked.TheSendSync as found_asked
+use Rattle.jp_found.proofs.asked.RootUse.TheSendSync as found_asked
 
 query_field : IsSync (Query.the_field).row
 query_field = search (segment_sync, root_sync, crosses, sendable) depth 60 fits 20000
