@@ -47,7 +47,8 @@ impl Answerer {
         ensures { IfOk result (IsAnswerTo (F.says asked.now.head.now) asked.now.policy
             (asked_query asked.now) (map line_at lines.now)) }
     {
-        // The evaluator is of these lines' own query: no clause says that all ask the same (README, Why so).
+        // The evaluator is of these lines' own query: no clause says that all ask the same (README, Each
+        // block has its own evaluator).
         let mut tools = Tools {
             reader: &mut self.reader,
             evaluator: FilteredEvaluator::new(crew.alloc, asked),

@@ -114,7 +114,8 @@ fn answer_blocks<R: Threads + Sync, G: Gate, F: Form + Drop + Send>(
     ensures { IsSeatOf board.now result }
 {
     let mut own = seat;
-    // For all blocks of this worker's: a reader's arena can't cross to another thread (README, Why so).
+    // For all blocks of this worker's: a reader's arena can't cross to another thread (README, Each worker
+    // makes its own reader).
     let mut answerer = Answerer::new(crew.alloc);
     for _claim in 0..BLOCKS {
         let Some(number) = board.claim(&mut own) else {

@@ -17,7 +17,7 @@ pub(crate) enum Walking {
 /// How the document of a line is walked: by no more threads than there are workers, or the next power of two.
 /// A short line holds no list that is worth two.
 pub(crate) fn walk_of(asked: &Asked<'_>, line: &LineRef<'_>) -> Walking {
-    // One worker starts no thread, so it walks straight (README, Why so).
+    // One worker starts no thread, so it walks straight (README, Only several workers walk by halves).
     if asked.workers > 1 && line.bytes.len() >= SPLIT_BYTES {
         Walking::ByHalves(Cuts::new(SPLIT_FLOOR, asked.workers))
     } else {

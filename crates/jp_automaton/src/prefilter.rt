@@ -81,7 +81,8 @@ impl Prefilter {
         ensures same { (cells : List ℕ) → IsPrefilter cells self.now.flags.items →
             state_behind cells 0 bytes.now ≡ state_behind cells 0 (drop result bytes.now) }
     {
-        // Three bytes in a row: one alone would be that of a match too often (README, Why so).
+        // Three bytes in a row: one alone would be that of a match too often
+        // (README, The first byte is not enough).
         let mut one = 0u8;
         let mut two = 0u8;
         for (i, byte) in bytes.iter().enumerate() {

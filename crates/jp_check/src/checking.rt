@@ -79,7 +79,8 @@ pub fn check(alloc: Global, query: Query, numbers: Numbers) -> Result<Plan, Quer
     ensures ok { IfOk result (λ p. verdict_in numbers (query_of query) ≡ Ok (query_of query)) }
     ensures fault { IfErr result (λ f. f ≢ QueryFault.Memory → verdict_in numbers (query_of query) ≡ Err f) }
 {
-    // First, since what compiles it has no answer for other shapes (README, Why so).
+    // First, since what compiles it has no answer for other shapes
+    // (README, Only what is well-typed compiles).
     verdict(&query, numbers)?;
     let (compiled, patterns) = make_query(alloc, &query)?;
     Ok(Plan {

@@ -146,7 +146,8 @@ impl Listed {
             Some(known) => known,
             None => self.read_first(alloc, text)?,
         };
-        // Read once, and shared by its places in the tree and in the list (README, Why so).
+        // Read once, and shared by its places in the tree and in the list
+        // (README, Equal patterns share one reading).
         self.patterns.push(known.share(alloc)?)?;
         Ok(known)
     }

@@ -133,7 +133,7 @@ pub enum Logical {
     Once(usize),
 }
 
-// `@.a` and `(@.a)` are two spellings with two trees (README, Why so).
+// `@.a` and `(@.a)` are two spellings with two trees (README, Each spelling has its tree).
 /// How an argument that is true or false is written.
 #[derive(Clone, Copy, Debug, PartialEq, Eq)]
 pub enum ArgumentForm {

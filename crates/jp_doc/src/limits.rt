@@ -46,7 +46,7 @@ fn long_within(value: &Value, limit: usize) -> Result<bool, DocFault>
         Value::Number(number) if number.is_f64() => Err(DocFault::NotWhole),
         Value::Number(_) => Ok(false),
         // The items first: a number that is not whole is told before a long array, wherever it stands
-        // (README, Why so).
+        // (README, One walk tests arrays and numbers).
         Value::Array(items) => Ok(long_within_items(items, limit)? || items.len() > limit),
         Value::Object(members) => long_within_members(members, limit),
     }

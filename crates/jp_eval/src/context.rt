@@ -20,7 +20,8 @@ pub(crate) struct Context<'v> {
     /// The parts of filters that are answered.
     pub(crate) roots: &'v [RootPart],
     /// What is told of the nodes of each. Of what is no `$` query it is told of `$`.
-    // Lent from the document, so that the compiler lets none outlive it (README, Why so).
+    // Lent from the document, so that the compiler lets none outlive it
+    // (README, No answer outlives its document).
     pub(crate) answers: Vec<RootAnswer<'v>>,
     /// Whether the expressions are true. Of what is no expression it is true.
     pub(crate) truths: Vec<bool>,

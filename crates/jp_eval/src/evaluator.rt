@@ -33,8 +33,8 @@ pub struct Evaluator<'p> {
     alloc: Global,
     query: &'p Query,
     asked: RootUse,
-    // The memory of a path's text and the route are all that is kept from document to document (README, Why
-    // so).
+    // The memory of a path's text and the route are all that is kept from document to document
+    // (README, No answer outlives its document).
     scratch: Scratch,
     route: Route<'p>,
     ghost right_route: { is_routed

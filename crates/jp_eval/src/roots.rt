@@ -26,7 +26,8 @@ pub(crate) fn answer_roots<'v, V: Visit + Drop>(
     ensures roots { IfOk result (λ g. g.roots.now ≡ roots.now) }
 {
     let mut context = Context::new(alloc, root);
-    // What one asks stands before it, so that no walk of one stands inside another walk (README, Why so).
+    // What one asks stands before it, so that no walk of one stands inside another walk
+    // (README, No walk inside a walk).
     for (slot, part) in roots.iter().enumerate() {
         let (answer, truth) = answer::<V>(&context, part, asked)?;
         context = context.with(&roots[..slot + 1], part, answer, truth)?;

@@ -50,7 +50,8 @@ pub(crate) fn go_split<'v, R: Threads + Sync, F: Fork + Sync, V: Visit + Drop + 
 {
     let context = splitting.context;
     let cuts = splitting.cuts;
-    // Without a long list inside it is the other walk's, which has no threads to start (README, Why so).
+    // Without a long list inside it is the other walk's, which has no threads to start
+    // (README, Threads have their own recursion).
     if cuts.left == 0 || !is_wide(value, cuts.floor) {
         return go(context, action, value, path, found);
     }
@@ -132,7 +133,8 @@ fn each_of<'v, R: Threads + Sync, F: Fork + Sync, V: Visit + Drop + Send>(
         ..*splitting
     };
     let (left, right) = children.halves();
-    // A path stack and a visitor for each half, and the visitors are joined in order (README, Why so).
+    // A path stack and a visitor for each half, and the visitors are joined in order
+    // (README, Each half walks by itself).
     let mine = fresh(found, splitting.context.alloc);
     let other = fresh(found, splitting.context.alloc);
     let at = path.links();

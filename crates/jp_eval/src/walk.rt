@@ -396,7 +396,8 @@ pub(crate) fn holds<'v, V: Visit + Drop>(
         (here path.old value.entry)) }
     ensures path { OnOk result (path.new ≡ path.old) }
 {
-    // No visitor is at hand here: `V` is for the cycle, which takes no call at another type (README, Why so).
+    // No visitor is at hand here: `V` is for the cycle, which takes no call at another type
+    // (README, Filters share the walk).
     match test {
         Logical::Any(parts) => any::<V>(context, parts.as_slice(), value, path),
         Logical::All(parts) => all::<V>(context, parts.as_slice(), value, path),
@@ -434,7 +435,7 @@ pub(crate) fn holds<'v, V: Visit + Drop>(
             searches_known(context.alloc, text, known)
         }
         Logical::Xor(_, left, _, right) => {
-            // Both are always asked (README, Why so).
+            // Both are always asked (README, Exclusive or needs both).
             let left = holds::<V>(context, left, value, path)?;
             let right = holds::<V>(context, right, value, path)?;
             Ok(exactly_one(left, right))
@@ -538,7 +539,7 @@ fn ask<'v, V: Visit + Drop>(
         (nodes_given (base_of context.now) nodes.now want (here path.old value.entry)) a ≡ true) }
     ensures path { OnOk result (path.new ≡ path.old) }
 {
-    // One function asks for each want, here and of `$` queries alike (README, Why so).
+    // One function asks for each want, here and of `$` queries alike (README, Filters share the walk).
     match nodes {
         Nodes::Here(segments) => {
             let segments = segments.as_slice();

@@ -8,7 +8,8 @@ use serde_json::{Map, Value};
 pub(crate) fn is_wide(value: Part<'_>, floor: u64) -> bool {
     match value {
         Part::Tree(tree) => is_wide_tree(tree.value, floor),
-        // It has as many nodes as children at least, and to count those would take a walk (README, Why so).
+        // It has as many nodes as children at least, and to count those would take a walk
+        // (README, Many nodes count as wide).
         Part::Flat(flat) => flat.node_count() as u64 >= floor,
     }
 }

@@ -20,7 +20,7 @@ use std::alloc::{AllocError, Global};
 #[derive(Drop)]
 pub enum Found<'v, V: Drop> {
     // One enum for the caller's visitor and for all that filters want: two visitors in one recursion can't be
-    // had (README, Why so).
+    // had (README, One enum for all wants).
     /// What the caller keeps.
     Visitor(V),
     /// The value of the first.
@@ -159,7 +159,7 @@ fn into_visitor<'v, V: Visit + Drop>(found: Found<'v, V>) -> Option<V>
     }
 }
 
-/// What the caller keeps, where a walk began with it, and so ends with it (README, Why so).
+/// What the caller keeps, where a walk began with it, and so ends with it (README, No false want of memory).
 pub fn visitor_of<'v, V: Visit + Drop>(found: Found<'v, V>) -> V
     requires { is_taken (kept V.kept found) ≡ true }
     ensures { taken (V.kept result) ≡ kept V.kept found.entry }

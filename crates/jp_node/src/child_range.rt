@@ -75,7 +75,7 @@ impl<'c, 'v> ChildRange<'c, 'v> {
             }
             ChildRange::Items(items, first, past) => {
                 // Two places cut the items: none is listed, and each is looked up as the walk comes to it
-                // (README, Why so).
+                // (README, No list for a cut).
                 let half = past.saturating_sub(first) / 2;
                 let middle = first + half;
                 (

@@ -25,7 +25,8 @@ use serde_json::Value;
 /// A value of a document.
 #[derive(Clone, Copy)]
 pub enum Part<'v> {
-    // An enum, and no trait, which would put a parameter into each type above (README, Why so).
+    // An enum, and no trait, which would put a parameter into each type above
+    // (README, One enum for both forms).
     /// Of a tree.
     Tree(TreeValue<'v>),
     /// Of a flat document.

@@ -62,7 +62,8 @@ fn rising<'v>(alloc: Global, items: Items<'v>, bounds: Bounds) -> Result<Vec<Chi
         children_height v.items ≤ height (array (items_of (item_values items.entry)))) }
 {
     let mut children = Vec::new(alloc);
-    // One pass forwards, and no list: a flat array can't be looked into at a place (README, Why so).
+    // One pass forwards, and no list: a flat array can't be looked into at a place
+    // (README, Only backward slices need a list).
     let mut left = items;
     let mut passed = 0;
     let mut next = first_place(bounds);
@@ -122,7 +123,8 @@ fn falling<'v>(
         return Ok(children);
     };
     let lowest = above(bounds.lower, highest);
-    // It goes backwards, which a flat array can't be walked: so these are listed (README, Why so).
+    // It goes backwards, which a flat array can't be walked: so these are listed
+    // (README, Only backward slices need a list).
     let between = list_of(alloc, items.skip(lowest), highest - lowest + 1)?;
     let mut next = Some(highest);
     while let Some(place) = next {

@@ -6,7 +6,7 @@ ghost use Rattle.jp_output.specs.Chunks.{bytes_in};
 use std::alloc::{AllocError, Global};
 
 /// How many bytes at most are copied, where they could stand in a chunk of their own: so that there are few
-/// calls of `write` (README, Why so).
+/// calls of `write` (README, Only short chunks are copied).
 pub(crate) const COPIED: usize = 4096;
 
 /// Appends a chunk, unless it is empty. The bytes of a short one go to the last chunk, if there is one.

@@ -17,7 +17,7 @@ use std::alloc::{AllocError, Global};
 /// The fault is not `Memory`, which is no fault of the line. After an `AllocError`, which says that a growth
 /// was refused, `out` is as before. No other memory is taken.
 pub fn write_fault(
-    // Not used: no memory is taken but the growth of `out` (README, Why so).
+    // Not used: no memory is taken but the growth of `out` (README, A fault line only grows its output).
     _alloc: Global,
     number: u64,
     fault: &DocFault,

@@ -78,7 +78,8 @@ impl NodeLines {
     /// After an `AllocError`, which says that a growth was refused, the lines are as before.
     pub fn push_fault(
         &mut self,
-        // Not used: no memory is taken but the growth of the lines (README, Why so).
+        // Not used: no memory is taken but the growth of the lines (README, A fault line only grows its
+        // output).
         _alloc: Global,
         fault: &DocFault,
     ) -> Result<(), AllocError>
@@ -223,7 +224,8 @@ fn write_node(
         (link_steps path_stack.old) (part_value value.entry))) }
     ensures err { OnErr result (out.new.items ≡ out.old.items) }
 {
-    // Written straight to the output, and cut off again where memory is refused (README, Why so).
+    // Written straight to the output, and cut off again where memory is refused (README, Lines are written
+    // straight out).
     let before = out.len();
     match append_parts(alloc, front, path_stack, value, scratch, out) {
         Ok(()) => Ok(()),

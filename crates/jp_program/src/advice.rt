@@ -44,7 +44,7 @@ pub(crate) fn tell_of_words<N: Sink>(
         RunFault::Filter(refusal) => tell_filter_refusal(alloc, notes, words, *refusal),
         RunFault::Settings => {
             tell(alloc, notes, fault);
-            // Where memory for it is refused there is none (README, Why so).
+            // Where memory for it is refused there is none (README, A second reading finds what helps).
             if let Ok(line) = advice_line(alloc, words) {
                 note(notes, Ok(line));
             }
@@ -139,7 +139,7 @@ fn advice(alloc: Global, words: &[&str]) -> Result<String, AllocError>
 /// The same, with each word as it was given.
 fn plain_advice(alloc: Global, words: &[&str]) -> Result<String, AllocError> {
     // A second reading of the words, so that the contracts of the first need not speak of texts
-    // (README, Why so).
+    // (README, A second reading finds what helps).
     match matches(alloc, words) {
         Ok(matches) => String::from_str(alloc, wrong_value(alloc, &matches)?),
         Err(error) => {

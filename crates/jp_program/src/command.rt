@@ -343,7 +343,8 @@ fn pass_on_after<K: Sink>(sink: &mut K, fault: &RunFault)
     match fault {
         RunFault::Query(_) | RunFault::Filter(_) | RunFault::Settings => {}
         _ => {
-            // A failure of this is passed over: it is the run's fault that is told (README, Why so).
+            // A failure of this is passed over: it is the run's fault that is told (README, One more flush
+            // after a fault).
             let _ = sink.flush();
         }
     }

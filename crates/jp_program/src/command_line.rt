@@ -509,6 +509,7 @@ fn flag_by(matches: &ArgMatches<'_>, name: &str) -> Option<bool>
     ensures some { IfSome result (SaysFlag name.now (rows_of (found_of matches.now))) }
     ensures none { IsNone result → (b : Bool) → SaysFlag name.now (rows_of (found_of matches.now)) b → ⊥ }
 {
-    // Not `get_flag`, of which no clause says what a text that is neither gives (README, Why so).
+    // Not `get_flag`, of which no clause says what a text that is neither gives (README, What clauses say of
+    // status and words).
     matches.get_one::<bool>(name)
 }

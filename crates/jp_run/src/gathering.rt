@@ -62,7 +62,7 @@ pub(crate) fn read_on<K: Sink, S: Source<K>>(
     let (piece, _) = stream.scratch.split_at(n);
     let before = stream.buffer.len();
     stream.buffer.feed(piece)?;
-    // Tested before the lines of this read are answered (README, Why so).
+    // Tested before the lines of this read are answered (README, The limit is tested before answering).
     within_limit(&stream.buffer)?;
     stream.come += n;
     let lines = stream.buffer.len().saturating_sub(before) as u64;

@@ -7,8 +7,8 @@ use jp_number::Numbers;
 /// Tells the gate the faulty lines of those that were answered, so many, in their order, as long as it wants
 /// them.
 ///
-/// The lines are read again, so that workers keep nothing of a faulty line (README, Why so). Where memory for
-/// that is refused a line is passed over.
+/// The lines are read again, so that workers keep nothing of a faulty line (README, The calling thread tells
+/// faulty lines). Where memory for that is refused a line is passed over.
 pub(crate) fn tell_gate<R, G: Gate>(
     crew: &Crew<R, G>,
     numbers: Numbers,

@@ -83,7 +83,7 @@ pub(crate) fn hand_out<K: Sink>(sink: &mut K, answer: &Outcome) -> Result<(), Ru
         return Err(RunFault::Write);
     }
     // Before the faulty line is told, so that no sink holds its batch back; one function, so that its own
-    // clauses refuse each wrong order (README, Why so).
+    // clauses refuse each wrong order (README, One function hands over an answer).
     pass_on(sink)?;
     if let Some(stop) = answer.stopped {
         return Err(RunFault::Document {

@@ -9,8 +9,8 @@ pub enum Start {
     Current,
 }
 
-// The types that hold each other have no `Debug`, which a check keeps much of, and no `Clone`
-// (README, Why so).
+// The types that hold each other have no `Debug`, which a check keeps much of
+// (README, Nothing prints a tree), and no `Clone` (README, Nothing copies a tree).
 /// A query: where it starts, and its segments in order.
 #[cycle(tree)]
 #[derive(PartialEq, Eq, Drop)]

@@ -181,7 +181,7 @@ fn is_match(alloc: Global, text: &str, known: &KnownPattern) -> Result<bool, All
 fn is_match_read(alloc: Global, text: &str, pattern_text: &str) -> Result<bool, AllocError>
     ensures { IfOk result (λ b. b ≡ tests.is_match (chars text.now) (chars pattern_text.now)) }
 {
-    // Read anew at each node, also where it is the text of a literal (README, Why so).
+    // Read anew at each node, also where it is the text of a literal (README, No search for known patterns).
     let read = ReadPattern::read(alloc, pattern_text)?;
     read.matches(alloc, text)
 }

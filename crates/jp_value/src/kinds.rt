@@ -72,7 +72,7 @@ fn same_members(alloc: Global, left: Members<'_>, right: Members<'_>) -> Result<
     if right.is_empty() {
         return Ok(false);
     }
-    // So an object beside a much larger one costs no more than itself (README, Why so).
+    // So an object beside a much larger one costs no more than itself (README, The lighter object is listed).
     if left.is_shorter(right) {
         let left = left.gather(alloc)?;
         same_as_object(alloc, left.range(), right)

@@ -24,7 +24,7 @@ use std::alloc::{AllocError, Global};
 const MAX_SIZE: u32 = 10_000;
 
 /// How many states a DFA has at most, times the pattern's size: they are all made ahead of time, so this
-/// bounds the time that it takes to compile a pattern (README, Why so).
+/// bounds the time that it takes to compile a pattern (README, No DFA grows during a run).
 const STATES_BY_SIZE: u32 = 8_000;
 
 impl Pattern {
