@@ -7,14 +7,8 @@ ghost use Rattle.jp_automaton.specs.inner.ByteSets.{AreInSets, HasFlagged, MayPa
 
 use crate::byte_flags::ByteFlags;
 use crate::byte_sets::ByteSet;
-use crate::dfa::STRIDE;
+use crate::limits::{LANES, STRIDE, WINDOW};
 use std::simd::prelude::*;
-
-/// How many bytes are looked at together.
-pub(crate) const LANES: usize = 16;
-
-/// How many bytes that takes: behind the last of those stand the second and the third of a match.
-pub(crate) const WINDOW: usize = LANES + 2;
 
 /// The bytes that may be the first, the second and the third of a match, and perhaps more.
 #[derive(Clone, Copy)]

@@ -9,11 +9,11 @@ ghost use Rattle.jp_automaton.specs.inner.Dfa.{AreStates, Grows, HasPositions, I
 ghost use Rattle.jp_automaton.specs.inner.Dfa.{IsDfaOf};
 
 use crate::dfa::{
-    CONTINUATION, Dfa, MATCH_OR_DEAD, MAX_STATES, PAST_ASCII, QUIT, STRIDE, State,
-    positions_behind, state_of,
+    CONTINUATION, Dfa, MATCH_OR_DEAD, PAST_ASCII, QUIT, State, positions_behind, state_of,
 };
 use crate::dfa_input::DfaInput;
-use std::alloc::{AllocError, Global};
+use crate::limits::{MAX_STATES, STRIDE};
+use std::alloc::AllocError;
 
 /// Whether the state has these positions and no others.
 fn has_positions(state: &State, active: &[u32], at_start: bool) -> bool
@@ -39,7 +39,6 @@ fn find_state(states: &[State], active: &[u32], at_start: bool) -> Option<usize>
 
 /// What the cell of a state and a character holds; the next state is added where there is room for it.
 fn cell_of(
-    alloc: Global,
     input: DfaInput<'_>,
     states: &mut Vec<State>,
     from: usize,
@@ -54,7 +53,7 @@ fn cell_of(
         states.new.items from c cell) }
     ensures few { IfOk result (λ cell. length states.new.items ≤ MAX_STATES) }
 {
-    let next = positions_behind(alloc, input.root, &states[from], c)?;
+    let next = positions_behind(input.alloc, input.root, &states[from], c)?;
     if let Some(n) = find_state(states, &next, input.unanchored) {
         return Ok(n as u8);
     }
@@ -73,7 +72,6 @@ fn cell_of(
 
 /// What the cell of a state and a column holds: that of its class, if it is known.
 fn column_cell(
-    alloc: Global,
     input: DfaInput<'_>,
     states: &mut Vec<State>,
     cells: &[u8],
@@ -95,7 +93,7 @@ fn column_cell(
         return Ok(cells[from * STRIDE + PAST_ASCII]);
     }
     if column == PAST_ASCII {
-        return Ok(cell_past_ascii(alloc, input, states, from)?);
+        return Ok(cell_past_ascii(input, states, from)?);
     }
     if column >= CONTINUATION {
         return Ok(from as u8);
@@ -105,12 +103,11 @@ fn column_cell(
     if known < column {
         return Ok(cells[from * STRIDE + known]);
     }
-    Ok(cell_of(alloc, input, states, from, char::from(first))?)
+    Ok(cell_of(input, states, from, char::from(first))?)
 }
 
 /// What the cell of a state and of each character that is not of ASCII holds.
 fn cell_past_ascii(
-    alloc: Global,
     input: DfaInput<'_>,
     states: &mut Vec<State>,
     from: usize,
@@ -125,7 +122,7 @@ fn cell_past_ascii(
     ensures few { IfOk result (λ cell. length states.new.items ≤ MAX_STATES) }
 {
     if input.classes.past_ascii {
-        Ok(cell_of(alloc, input, states, from, '\u{80}')?)
+        Ok(cell_of(input, states, from, '\u{80}')?)
     } else {
         Ok(QUIT)
     }
@@ -136,24 +133,23 @@ fn cell_past_ascii(
 /// # Errors
 ///
 /// Memory ran out.
-pub(crate) fn make_dfa(alloc: Global, input: DfaInput<'_>) -> Result<Dfa, AllocError>
+pub(crate) fn make_dfa(input: DfaInput<'_>) -> Result<Dfa, AllocError>
     ensures { IfOk result (λ dfa. IsDfa (unrolled_in input.entry.root.now) input.entry.unanchored dfa) }
 {
-    let mut states = Vec::new(alloc);
-    let mut cells = Vec::new(alloc);
-    states.push(state_of(input.root, Vec::new(alloc), true))?;
+    let mut states = Vec::new(input.alloc);
+    let mut cells = Vec::new(input.alloc);
+    states.push(state_of(input.root, Vec::new(input.alloc), true))?;
     for i in 0..MAX_STATES {
         if i >= states.len() {
             break;
         }
-        add_row(alloc, input, &mut states, &mut cells, i)?;
+        add_row(input, &mut states, &mut cells, i)?;
     }
     Ok(Dfa { states, cells })
 }
 
 /// The cells of one state more.
 fn add_row(
-    alloc: Global,
     input: DfaInput<'_>,
     states: &mut Vec<State>,
     cells: &mut Vec<u8>,
@@ -168,7 +164,7 @@ fn add_row(
         states.new.items cells.new.items) }
 {
     for column in 0..STRIDE {
-        let cell = column_cell(alloc, input, states, cells, from, column)?;
+        let cell = column_cell(input, states, cells, from, column)?;
         cells.push(cell)?;
     }
     Ok(())

@@ -10,16 +10,11 @@ ghost use Rattle.jp_automaton.specs.inner.Simulation.{step, is_elem, exits, Rise
 use crate::cursor::Cursor;
 use crate::exit::exit;
 use crate::expressions::Expression;
+use crate::limits::STRIDE;
 use crate::prefilter::Prefilter;
 use crate::step::step;
+use crate::step_input::StepInput;
 use std::alloc::{AllocError, Global};
-
-/// How many cells of the transition table a state has: one for each byte of a text.
-pub(crate) const STRIDE: usize = 256;
-
-/// How many states a DFA has at most. A cell of the table is one byte, so that all of them have 65,024 bytes:
-/// the number of a state is a byte, and the two greatest bytes are the cells that lead to no state.
-pub(crate) const MAX_STATES: usize = 254;
 
 /// The cell of a step that is not in the table: the DFA quits there, and the text is matched by positions.
 pub(crate) const QUIT: u8 = 255;
@@ -222,12 +217,10 @@ pub(crate) fn positions_behind(
     ensures rises { IfOk result (λ next. Rises 0 next.items) }
 {
     let mut next = Vec::new(alloc);
-    step(
-        root,
-        &state.active,
+    let input = StepInput {
+        active: &state.active,
         c,
-        Cursor::start(state.at_start),
-        &mut next,
-    )?;
+    };
+    step(root, input, Cursor::start(state.at_start), &mut next)?;
     Ok(next)
 }

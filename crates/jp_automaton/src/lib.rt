@@ -15,9 +15,11 @@ mod equivalence;
 mod examples;
 mod exit;
 mod expressions;
+mod limits;
 mod pattern;
 mod prefilter;
 mod step;
+mod step_input;
 mod step_sets;
 mod terms;
 

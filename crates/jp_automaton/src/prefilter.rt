@@ -6,17 +6,11 @@ ghost use Rattle.jp_automaton.specs.inner.Prefilter.{AreFlagsOf, AreOnes, IsPref
 ghost use Rattle.jp_automaton.specs.inner.Prefilter.{HaveBehind};
 ghost use Rattle.jp_automaton.specs.inner.Prefilter.{KeepsPairs, LeadsTogether};
 
-use crate::beginnings::{Beginnings, LANES, WINDOW};
+use crate::beginnings::Beginnings;
 use crate::byte_flags::ByteFlags;
-use crate::dfa::{Dfa, STRIDE};
+use crate::dfa::Dfa;
+use crate::limits::{LANES, MAX_FLAGGED, MAX_PAIRS, STRIDE, WINDOW};
 use std::alloc::{AllocError, Global};
-
-/// How many pairs of states are compared at most, each at every byte, while the pattern is compiled.
-const MAX_PAIRS: usize = 256;
-
-/// How many characters of ASCII may be flagged at that of the three bytes where the fewest are: with more,
-/// too few bytes are passed for the flags to be worth their look.
-const MAX_FLAGGED: usize = 16;
 
 /// The flags of each byte, or none where they would tell too little.
 #[derive(Drop)]

@@ -12,6 +12,7 @@ ghost use Rattle.jp_automaton.specs.inner.Simulation.{is_elem, exits, IsAt, IsSt
 use crate::cursor::{Cursor, behind_set, idle_copies, passed};
 use crate::exit::{either, exit, may_stop};
 use crate::expressions::Expression;
+use crate::step_input::{Copies, StepInput};
 use crate::step_sets::{step_set, step_set_copies};
 use std::alloc::AllocError;
 
@@ -24,30 +25,29 @@ use std::alloc::AllocError;
 #[cycle(step)]
 pub(crate) fn step(
     expression: &Expression,
-    active: &[u32],
-    c: char,
+    input: StepInput<'_>,
     at: Cursor,
     out: &mut Vec<u32>,
 ) -> Result<Cursor, AllocError>
     requires sized { IsTrue (meaning expression.now).is_sized }
     requires fits { at.past + letters (unrolled_in expression.now) ≤ max_size }
-    requires stands { IsAt active.now at.past at.index }
-    ensures { IfOk result (λ end. IsStep active.now c (unrolled_in expression.now) at end out.old.items
-        out.new.items) }
+    requires stands { IsAt input.active.now at.past at.index }
+    ensures { IfOk result (λ end. IsStep input.entry.active.now input.entry.c (unrolled_in expression.now) at
+        end out.old.items out.new.items) }
 {
-    if let Some(behind) = passed(active, at, expression.size()) {
+    if let Some(behind) = passed(input.active, at, expression.size()) {
         return Ok(behind);
     }
     match expression {
-        Expression::Set(set) => Ok(step_set(set, active, c, at, out)?),
-        Expression::Group { sub, .. } => Ok(step(sub, active, c, at, out)?),
+        Expression::Set(set) => Ok(step_set(set, input, at, out)?),
+        Expression::Group { sub, .. } => Ok(step(sub, input, at, out)?),
         Expression::Pieces { size, pieces } => {
             let end = at.past + *size;
-            Ok(step_in_turn(pieces, active, c, at, end, out)?)
+            Ok(step_in_turn(pieces, input, at, end, out)?)
         }
         Expression::Branches { before, last, .. } => {
-            let others = step_before(before, active, c, at, out)?;
-            let behind = step(last, active, c, others.with_entered(at.entered), out)?;
+            let others = step_before(before, input, at, out)?;
+            let behind = step(last, input, others.with_entered(at.entered), out)?;
             Ok(behind.with_entered(either(others.entered, behind.entered)))
         }
         Expression::Repeat {
@@ -55,8 +55,8 @@ pub(crate) fn step(
             most,
             atom,
             ..
-        } => Ok(step_repeated(atom, active, c, at, *least, *most, out)?),
-        Expression::Plus { atom, .. } => Ok(step_plus(atom, active, c, at, out)?),
+        } => Ok(step_repeated(atom, input, at, *least, *most, out)?),
+        Expression::Plus { atom, .. } => Ok(step_plus(atom, input, at, out)?),
     }
 }
 
@@ -64,8 +64,7 @@ pub(crate) fn step(
 #[cycle(step)]
 fn step_in_turn(
     pieces: &[Expression],
-    active: &[u32],
-    c: char,
+    input: StepInput<'_>,
     at: Cursor,
     end: u32,
     out: &mut Vec<u32>,
@@ -73,16 +72,16 @@ fn step_in_turn(
     requires sized { IsTrue (all_sized (map meaning pieces.now)) }
     requires ends { end ≡ at.past + letters (unrolled_in_turn pieces.now) }
     requires fits { end ≤ max_size }
-    requires stands { IsAt active.now at.past at.index }
-    ensures { IfOk result (λ end. IsStep active.now c (unrolled_in_turn pieces.now) at end out.old.items
-        out.new.items) }
+    requires stands { IsAt input.active.now at.past at.index }
+    ensures { IfOk result (λ end. IsStep input.entry.active.now input.entry.c (unrolled_in_turn pieces.now)
+        at end out.old.items out.new.items) }
 {
     let mut here = at;
     for piece in pieces {
-        if let Some(behind) = passed(active, here, end - here.past) {
+        if let Some(behind) = passed(input.active, here, end - here.past) {
             return Ok(behind);
         }
-        here = step(piece, active, c, here, out)?;
+        here = step(piece, input, here, out)?;
     }
     Ok(here)
 }
@@ -91,19 +90,19 @@ fn step_in_turn(
 #[cycle(step)]
 fn step_before(
     branches: &[Expression],
-    active: &[u32],
-    c: char,
+    input: StepInput<'_>,
     at: Cursor,
     out: &mut Vec<u32>,
 ) -> Result<Cursor, AllocError>
     requires sized { IsTrue (all_sized (map meaning branches.now)) }
     requires fits { at.past + letters (branches_before branches.now nothing) ≤ max_size }
-    requires stands { IsAt active.now at.past at.index }
-    ensures { IfOk result (λ end. IsStepBefore active.now c branches.now at end out.old.items out.new.items) }
+    requires stands { IsAt input.active.now at.past at.index }
+    ensures { IfOk result (λ end. IsStepBefore input.entry.active.now input.entry.c branches.now at end
+        out.old.items out.new.items) }
 {
     let mut others = at.with_entered(false);
     for branch in branches {
-        let behind = step(branch, active, c, others.with_entered(at.entered), out)?;
+        let behind = step(branch, input, others.with_entered(at.entered), out)?;
         others = behind.with_entered(either(others.entered, behind.entered));
     }
     Ok(others)
@@ -113,8 +112,7 @@ fn step_before(
 #[cycle(step)]
 fn step_repeated(
     atom: &Expression,
-    active: &[u32],
-    c: char,
+    input: StepInput<'_>,
     at: Cursor,
     least: u32,
     most: Option<u32>,
@@ -123,16 +121,16 @@ fn step_repeated(
     requires sized { IsTrue (meaning atom.now).is_sized }
     requires some { 0 < letters (unrolled_in atom.now) }
     requires fits { at.past + letters (unrolled_repeat least most atom.now) ≤ max_size }
-    requires stands { IsAt active.now at.past at.index }
-    ensures { IfOk result (λ end. IsStep active.now c (unrolled_repeat least most atom.now) at end
-        out.old.items out.new.items) }
+    requires stands { IsAt input.active.now at.past at.index }
+    ensures { IfOk result (λ end. IsStep input.entry.active.now input.entry.c (unrolled_repeat least most
+        atom.now) at end out.old.items out.new.items) }
 {
     let Some(most) = most else {
-        return Ok(step_counted_on(atom, active, c, at, least, out)?);
+        return Ok(step_counted_on(atom, input, at, least, out)?);
     };
     match atom {
-        Expression::Set(set) => Ok(step_set_copies(set, active, c, at, least, most, out)?),
-        _ => Ok(step_counted(atom, active, c, at, least, most, out)?),
+        Expression::Set(set) => Ok(step_set_copies(set, input, at, Copies { least, most }, out)?),
+        _ => Ok(step_counted(atom, input, at, Copies { least, most }, out)?),
     }
 }
 
@@ -140,34 +138,32 @@ fn step_repeated(
 #[cycle(step)]
 fn step_counted(
     atom: &Expression,
-    active: &[u32],
-    c: char,
+    input: StepInput<'_>,
     at: Cursor,
-    least: u32,
-    most: u32,
+    copies: Copies,
     out: &mut Vec<u32>,
 ) -> Result<Cursor, AllocError>
     requires sized { IsTrue (meaning atom.now).is_sized }
     requires some { 0 < letters (unrolled_in atom.now) }
-    requires fits { at.past + letters (counted least most (unrolled_in atom.now)) ≤ max_size }
-    requires stands { IsAt active.now at.past at.index }
-    ensures { IfOk result (λ end. IsStep active.now c (counted least most (unrolled_in atom.now)) at end
-        out.old.items out.new.items) }
+    requires fits { at.past + letters (counted copies.least copies.most (unrolled_in atom.now)) ≤ max_size }
+    requires stands { IsAt input.active.now at.past at.index }
+    ensures { IfOk result (λ end. IsStep input.entry.active.now input.entry.c (counted copies.least
+        copies.most (unrolled_in atom.now)) at end out.old.items out.new.items) }
 {
     let size = atom.size();
     let mut here = at;
     let mut left = false;
     let mut i = 0;
-    while i < most {
-        let idle = idle_copies(active, here, size, most - i);
+    while i < copies.most {
+        let idle = idle_copies(input.active, here, size, copies.most - i);
         if idle > 0 {
             here.past += idle * size;
             i += idle;
             continue;
         }
-        let stop = may_stop(i, least, here.entered);
+        let stop = may_stop(i, copies.least, here.entered);
         left = either(left, stop);
-        here = step(atom, active, c, here, out)?;
+        here = step(atom, input, here, out)?;
         i += 1;
     }
     Ok(here.with_entered(either(left, here.entered)))
@@ -177,8 +173,7 @@ fn step_counted(
 #[cycle(step)]
 fn step_counted_on(
     atom: &Expression,
-    active: &[u32],
-    c: char,
+    input: StepInput<'_>,
     at: Cursor,
     least: u32,
     out: &mut Vec<u32>,
@@ -186,25 +181,24 @@ fn step_counted_on(
     requires sized { IsTrue (meaning atom.now).is_sized }
     requires some { 0 < letters (unrolled_in atom.now) }
     requires fits { at.past + letters (counted_on least (unrolled_in atom.now)) ≤ max_size }
-    requires stands { IsAt active.now at.past at.index }
-    ensures { IfOk result (λ end. IsStep active.now c (counted_on least (unrolled_in atom.now)) at end
-        out.old.items
-        out.new.items) }
+    requires stands { IsAt input.active.now at.past at.index }
+    ensures { IfOk result (λ end. IsStep input.entry.active.now input.entry.c (counted_on least (unrolled_in
+        atom.now)) at end out.old.items out.new.items) }
 {
     let size = atom.size();
     let mut here = at;
     let mut i = 0;
     while i < least {
-        let idle = idle_copies(active, here, size, least - i);
+        let idle = idle_copies(input.active, here, size, least - i);
         if idle > 0 {
             here.past += idle * size;
             i += idle;
             continue;
         }
-        here = step(atom, active, c, here, out)?;
+        here = step(atom, input, here, out)?;
         i += 1;
     }
-    let behind = step_plus(atom, active, c, here, out)?;
+    let behind = step_plus(atom, input, here, out)?;
     Ok(behind.with_entered(either(here.entered, behind.entered)))
 }
 
@@ -212,19 +206,18 @@ fn step_counted_on(
 #[cycle(step)]
 fn step_plus(
     atom: &Expression,
-    active: &[u32],
-    c: char,
+    input: StepInput<'_>,
     at: Cursor,
     out: &mut Vec<u32>,
 ) -> Result<Cursor, AllocError>
     requires sized { IsTrue (meaning atom.now).is_sized }
     requires fits { at.past + letters (unrolled_in atom.now) ≤ max_size }
-    requires stands { IsAt active.now at.past at.index }
-    ensures { IfOk result (λ end. IsStep active.now c (plus (unrolled_in atom.now)) at end out.old.items
-        out.new.items) }
+    requires stands { IsAt input.active.now at.past at.index }
+    ensures { IfOk result (λ end. IsStep input.entry.active.now input.entry.c (plus (unrolled_in atom.now))
+        at end out.old.items out.new.items) }
 {
-    let from = at.with_entered(is_entered_again(atom, active, at));
-    Ok(step(atom, active, c, from, out)?)
+    let from = at.with_entered(is_entered_again(atom, input.active, at));
+    Ok(step(atom, input, from, out)?)
 }
 
 /// Whether the start of a copy that may be repeated is reached.

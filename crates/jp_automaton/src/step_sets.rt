@@ -8,6 +8,7 @@ ghost use Rattle.jp_automaton.specs.inner.Simulation.{read_if, reads_set, IsAt, 
 
 use crate::cursor::{Cursor, behind_set, idle_copies};
 use crate::exit::{either, may_stop};
+use crate::step_input::{Copies, StepInput};
 use jp_pattern::{CharSet, in_set};
 use std::alloc::AllocError;
 
@@ -18,18 +19,17 @@ use std::alloc::AllocError;
 /// Memory ran out.
 pub(crate) fn step_set(
     set: &CharSet,
-    active: &[u32],
-    c: char,
+    input: StepInput<'_>,
     at: Cursor,
     out: &mut Vec<u32>,
 ) -> Result<Cursor, AllocError>
     requires fits { at.past < max_size }
-    requires stands { IsAt active.now at.past at.index }
-    ensures { IfOk result (λ end. IsStep active.now c (letter (set_of set.now)) at end out.old.items
-        out.new.items) }
+    requires stands { IsAt input.active.now at.past at.index }
+    ensures { IfOk result (λ end. IsStep input.entry.active.now input.entry.c (letter (set_of set.now)) at
+        end out.old.items out.new.items) }
 {
-    read_set(set, c, at, out)?;
-    Ok(behind_set(active, at))
+    read_set(set, input.c, at, out)?;
+    Ok(behind_set(input.active, at))
 }
 
 /// Puts down the position of the set, where it is entered and holds the character.
@@ -54,33 +54,31 @@ fn read_set(set: &CharSet, c: char, at: Cursor, out: &mut Vec<u32>) -> Result<()
 /// Memory ran out.
 pub(crate) fn step_set_copies(
     set: &CharSet,
-    active: &[u32],
-    c: char,
+    input: StepInput<'_>,
     at: Cursor,
-    least: u32,
-    most: u32,
+    copies: Copies,
     out: &mut Vec<u32>,
 ) -> Result<Cursor, AllocError>
-    requires fits { at.past + most ≤ max_size }
-    requires stands { IsAt active.now at.past at.index }
-    ensures { IfOk result (λ end. IsStep active.now c (counted least most (letter (set_of set.now))) at end
-        out.old.items out.new.items) }
+    requires fits { at.past + copies.most ≤ max_size }
+    requires stands { IsAt input.active.now at.past at.index }
+    ensures { IfOk result (λ end. IsStep input.entry.active.now input.entry.c (counted copies.least
+        copies.most (letter (set_of set.now))) at end out.old.items out.new.items) }
 {
-    let has = in_set(set, c);
+    let has = in_set(set, input.c);
     let mut here = at;
     let mut left = false;
     let mut i = 0;
-    while i < most {
-        let idle = idle_copies(active, here, 1, most - i);
+    while i < copies.most {
+        let idle = idle_copies(input.active, here, 1, copies.most - i);
         if idle > 0 {
             here.past += idle;
             i += idle;
             continue;
         }
-        let stop = may_stop(i, least, here.entered);
+        let stop = may_stop(i, copies.least, here.entered);
         left = either(left, stop);
         read_known(has, here, out)?;
-        here = behind_set(active, here);
+        here = behind_set(input.active, here);
         i += 1;
     }
     Ok(here.with_entered(either(left, here.entered)))

@@ -11,6 +11,7 @@ use crate::cursor::Cursor;
 use crate::exit::exit;
 use crate::pattern::Pattern;
 use crate::step::step;
+use crate::step_input::StepInput;
 use std::alloc::{AllocError, Global};
 use std::mem;
 
@@ -132,6 +133,6 @@ fn read_into(
         0 at_start) }
 {
     let at = Cursor::start(at_start);
-    let end = step(&pattern.root, active, c, at, next)?;
+    let end = step(&pattern.root, StepInput { active, c }, at, next)?;
     Ok(end.entered)
 }

@@ -11,8 +11,8 @@ use Rattle.jp_pattern.specs.declared.fault.PatternFault.{PatternFault}
 use Rattle.jp_pattern.specs.declared.fault.PatternFault.TheVariants as faults
 use Rattle.jp_pattern.specs.inner.Reading.{Parse, close_at, element_at, with_element, elements_at}
 use Rattle.jp_pattern.specs.inner.Reading.{elements_behind}
-use Rattle.jp_pattern.specs.inner.Reading.{next_element_at, prepend, Turn, end, bar, piece, next_turn}
-use Rattle.jp_pattern.specs.inner.Reading.{after_turn}
+use Rattle.jp_pattern.specs.inner.Reading.{next_element_at, prepend, NextPart, end, bar, piece, next_part}
+use Rattle.jp_pattern.specs.inner.Reading.{after_part}
 use Rattle.jp_pattern.specs.inner.Reading.{pattern_within, behind_pieces, pattern_behind}
 
 pub fails_map : {A B : Type 0} (f : A → B) (e : PatternFault) (o : Option A) → Fails e o
@@ -125,10 +125,10 @@ module _ (whole : Option (Pattern × Text)) (bs ps : List Pattern) (left turns i
   following : ℕ
   following = turns - (i + 1)
 
-  turn : Parse Turn
-  turn = next_turn (λ l. pattern_within l following) left
+  turn : Parse NextPart
+  turn = next_part (λ l. pattern_within l following) left
 
-  pattern_next : whole ≡ pattern_behind bs ps (option_and_then (after_turn (pattern_within left following))
+  pattern_next : whole ≡ pattern_behind bs ps (option_and_then (after_part (pattern_within left following))
       (turn t))
   unfolding following turn pattern_within
   pattern_next =
@@ -138,24 +138,24 @@ module _ (whole : Option (Pattern × Text)) (bs ps : List Pattern) (left turns i
   same_turns : turns - i - 1 ≡ turns - (i + 1)
   same_turns = omega arith
 
-  next_is : (o : Option (Turn × Text)) → next_turn (λ l. pattern_within l (turns - i - 1)) left t ≡ o
+  next_is : (o : Option (NextPart × Text)) → next_part (λ l. pattern_within l (turns - i - 1)) left t ≡ o
       → turn t ≡ o
   unfolding following turn
-  next_is o h = let P : ℕ → Type 0 = λ n. next_turn (λ l. pattern_within l n) left t ≡ o in subst P same_turns
+  next_is o h = let P : ℕ → Type 0 = λ n. next_part (λ l. pattern_within l n) left t ≡ o in subst P same_turns
       h
 
-  pub pattern_fails : (e : PatternFault) → Fails e (next_turn (λ l. pattern_within l (turns - i - 1)) left t)
+  pub pattern_fails : (e : PatternFault) → Fails e (next_part (λ l. pattern_within l (turns - i - 1)) left t)
       → Fails e whole
   pattern_fails faults.Memory h = tt
   pattern_fails faults.NoPattern h = pattern_next
-      ∙ ap (λ o. pattern_behind bs ps (option_and_then (after_turn (pattern_within left following)) o))
+      ∙ ap (λ o. pattern_behind bs ps (option_and_then (after_part (pattern_within left following)) o))
       (next_is None h)
 
-  pub pattern_ends : (u : Text) → next_turn (λ l. pattern_within l (turns - i - 1)) left t ≡ Some (end, u)
+  pub pattern_ends : (u : Text) → next_part (λ l. pattern_within l (turns - i - 1)) left t ≡ Some (end, u)
       → whole ≡ Some (before_last bs (in_turn ps), u)
   pattern_ends u h =
       pattern_next ∙ ap (λ o. pattern_behind bs ps
-      (option_and_then (after_turn (pattern_within left following)) o)) (next_is (Some (end, u)) h)
+      (option_and_then (after_part (pattern_within left following)) o)) (next_is (Some (end, u)) h)
       ∙ ap (λ p. Some (before_last bs p, u)) (pieces_end ps)
 
   barred : (o : Option (Pattern × Text)) → pattern_behind bs ps (option_map (λ r. (either empty r.0, r.1)) o)
@@ -164,12 +164,12 @@ module _ (whole : Option (Pattern × Text)) (bs ps : List Pattern) (left turns i
   barred (Some r) = ap (λ p. Some (before_last bs p, r.1)) (pieces_bar ps r.0)
       ∙ ap (λ p. Some (p, r.1)) (sym (branches_more bs (in_turn ps) r.0))
 
-  pub pattern_bar : (u : Text) → next_turn (λ l. pattern_within l (turns - i - 1)) left t ≡ Some (bar, u) →
+  pub pattern_bar : (u : Text) → next_part (λ l. pattern_within l (turns - i - 1)) left t ≡ Some (bar, u) →
       whole ≡ pattern_behind (bs ++ (in_turn ps ∷ [])) [] (pattern_within left (turns - (i + 1)) u)
   unfolding following
   pattern_bar u h =
       pattern_next ∙ ap (λ o. pattern_behind bs ps
-      (option_and_then (after_turn (pattern_within left following)) o)) (next_is (Some (bar, u)) h)
+      (option_and_then (after_part (pattern_within left following)) o)) (next_is (Some (bar, u)) h)
       ∙ barred (pattern_within left (turns - (i + 1)) u)
 
   pieced : (p : Pattern) (o : Option (Pattern × Text))
@@ -177,13 +177,13 @@ module _ (whole : Option (Pattern × Text)) (bs ps : List Pattern) (left turns i
   pieced p None = refl
   pieced p (Some r) = ap (λ q. Some (before_last bs q, r.1)) (sym (pieces_more ps p r.0))
 
-  pub pattern_piece : (p : Pattern) (u : Text) → next_turn (λ l. pattern_within l (turns - i - 1)) left t
+  pub pattern_piece : (p : Pattern) (u : Text) → next_part (λ l. pattern_within l (turns - i - 1)) left t
       ≡ Some (piece p, u) →
       whole ≡ pattern_behind bs (ps ++ (p ∷ [])) (pattern_within left (turns - (i + 1)) u)
   unfolding following
   pattern_piece p u h =
       pattern_next ∙ ap (λ o. pattern_behind bs ps
-      (option_and_then (after_turn (pattern_within left following)) o)) (next_is (Some (piece p, u)) h)
+      (option_and_then (after_part (pattern_within left following)) o)) (next_is (Some (piece p, u)) h)
       ∙ pieced p (pattern_within left (turns - (i + 1)) u)
 
 pub pattern_over : (whole : Option (Pattern × Text)) (bs ps : List Pattern) (left turns i : ℕ) (t : Text)

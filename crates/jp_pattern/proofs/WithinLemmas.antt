@@ -17,8 +17,8 @@ use Rattle.jp_pattern.specs.inner.Reading.{read}
 use Rattle.jp_pattern.specs.inner.Reading.{with_quantity_of, digits_within, count_within, close_count_within}
 use Rattle.jp_pattern.specs.inner.Reading.{after_comma_within, after_least_within, quantity_within}
 use Rattle.jp_pattern.specs.inner.Reading.{group_within}
-use Rattle.jp_pattern.specs.inner.Reading.{atom_within, quantified_within, piece_within, piece, next_turn}
-use Rattle.jp_pattern.specs.inner.Reading.{after_turn, pattern_within, read_within}
+use Rattle.jp_pattern.specs.inner.Reading.{atom_within, quantified_within, piece_within, piece, next_part}
+use Rattle.jp_pattern.specs.inner.Reading.{after_part, pattern_within, read_within}
 use Rattle.jp_pattern.proofs.RightTests.{are_counts, has_counts}
 
 -- ---- a test on what was read
@@ -500,7 +500,7 @@ module _ (n : ℕ) (inside : (left : ℕ) (t : Text) → pattern_within left n t
   not_behind left p None h = refl
   not_behind left p (Some r) h = rw (prepend_fits left p r.0, h) refl
 
-  pieces : (left : ℕ) (o : Option (Pattern × Text)) → option_and_then (after_turn (pattern_within left n))
+  pieces : (left : ℕ) (o : Option (Pattern × Text)) → option_and_then (after_part (pattern_within left n))
       (option_map (λ r. (piece r.0, r.1)) (kept (fits left) o))
       ≡ kept (fits left) (option_and_then (with_piece (pattern_at n)) o)
   unfolding kept
@@ -524,7 +524,7 @@ module _ (n : ℕ) (inside : (left : ℕ) (t : Text) → pattern_within left n t
       ]
 
   one_more : (left : ℕ) (t : Text) → pattern_within left (suc n) t ≡ kept (fits left) (pattern_at (suc n) t)
-  unfolding pattern_within next_turn kept fits
+  unfolding pattern_within next_part kept fits
   one_more left [] = rw (zero_fits left) refl
   one_more left (c ∷ t) =
       elim (cases_Bool (c == 41)) [

@@ -5,6 +5,7 @@
 mod categories;
 mod examples;
 mod fault;
+mod limits;
 mod read_counts;
 mod read_patterns;
 mod read_sets;

@@ -7,11 +7,8 @@ ghost use Rattle.jp_pattern.specs.Quantity.{is_digit};
 ghost use Rattle.jp_pattern.specs.inner.Reading as reading;
 
 use crate::fault::PatternFault;
+use crate::limits::MAX_COUNT;
 use crate::tree::Quantity;
-
-/// The greatest count, a limit of this implementation (RFC 9485, 8): counts within counts multiply, up to the
-/// greatest unrolled size.
-const MAX_COUNT: u32 = 1_000;
 
 /// A digit of a count.
 fn is_digit(c: char) -> bool

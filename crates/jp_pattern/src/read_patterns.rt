@@ -8,14 +8,11 @@ ghost use Rattle.jp_pattern.specs.Tree.{before_last, in_turn, node_of};
 ghost use Rattle.jp_pattern.specs.TreeRead.{IsTreeOf};
 
 use crate::fault::PatternFault;
+use crate::limits::MAX_DEPTH;
 use crate::read_counts::quantity_at;
 use crate::read_sets::set_at;
-use crate::tree::{Node, Quantity, Turn};
+use crate::tree::{NextPart, Node, Quantity};
 use std::alloc::{AllocError, Global};
-
-/// How many parentheses may stand inside each other, a limit of this implementation (RFC 9485, 8): it bounds
-/// the frames of all that goes over a pattern.
-const MAX_DEPTH: u32 = 64;
 
 /// The atom with its quantity.
 fn quantified(alloc: Global, atom: Node, quantity: Quantity) -> Result<Node, AllocError>
@@ -109,24 +106,24 @@ fn piece_at(
 
 /// The next piece, or a bar, or the end.
 #[cycle(read_patterns)]
-#[tactic(auto, unfolding(crate::specs::inner::Reading::next_turn))]
-fn next_turn(
+#[tactic(auto, unfolding(crate::specs::inner::Reading::next_part))]
+fn next_part(
     alloc: Global,
     left: u32,
     turns: usize,
     text: &[char],
-) -> Result<(Turn, &[char]), PatternFault>
-    ensures { Gives (λ x. (reading.turn_of x.0, x.1.now)) result (reading.next_turn (λ l.
+) -> Result<(NextPart, &[char]), PatternFault>
+    ensures { Gives (λ x. (reading.next_part_of x.0, x.1.now)) result (reading.next_part (λ l.
         reading.pattern_within l
         turns) left text.now) }
 {
     match text {
-        [] => Ok((Turn::End, text)),
-        [')', ..] => Ok((Turn::End, text)),
-        ['|', rest @ ..] => Ok((Turn::Bar, rest)),
+        [] => Ok((NextPart::End, text)),
+        [')', ..] => Ok((NextPart::End, text)),
+        ['|', rest @ ..] => Ok((NextPart::Bar, rest)),
         [_, ..] => {
             let (piece, rest) = piece_at(alloc, left, turns, text)?;
-            Ok((Turn::Piece(piece), rest))
+            Ok((NextPart::Piece(piece), rest))
         }
     }
 }
@@ -145,15 +142,15 @@ fn pattern_at(
     let mut pieces: Vec<Node> = Vec::new(alloc);
     let mut rest = text;
     for turn in 0..turns {
-        let (next, after) = next_turn(alloc, left, turns - turn - 1, rest)?;
+        let (next, after) = next_part(alloc, left, turns - turn - 1, rest)?;
         rest = after;
         match next {
-            Turn::End => return Ok((branches(alloc, before, pieces)?, rest)),
-            Turn::Bar => {
+            NextPart::End => return Ok((branches(alloc, before, pieces)?, rest)),
+            NextPart::Bar => {
                 before.push(Node::Pieces(pieces))?;
                 pieces = Vec::new(alloc);
             }
-            Turn::Piece(piece) => pieces.push(piece)?,
+            NextPart::Piece(piece) => pieces.push(piece)?,
         }
     }
     Err(PatternFault::NoPattern)

@@ -69,7 +69,7 @@ pub enum Quantity {
 
 /// What comes next in a pattern.
 #[derive(Drop)]
-pub enum Turn {
+pub enum NextPart {
     End,
     Bar,
     Piece(Node),

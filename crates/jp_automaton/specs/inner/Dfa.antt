@@ -3,9 +3,8 @@ use Rattle.std.specs.Prelude.{◌≡◌, ℕ, ◌+◌, ◌*◌, ◌<◌, ◌≤�
 use Rattle.std.specs.Prelude.{length, IsTrue, slice_index_or, if◌then◌else◌}
 use Rattle.jp_automaton.specs.declared.dfa.State.{State}
 use Rattle.jp_automaton.specs.declared.dfa.Dfa.{Dfa}
-use Rattle.jp_automaton.specs.declared.dfa.TheConstants.{STRIDE, MAX_STATES, QUIT, MATCH_OR_DEAD}
-use Rattle.jp_automaton.specs.declared.dfa.TheConstants.{CONTINUATION}
-use Rattle.jp_automaton.specs.declared.dfa.TheConstants.{PAST_ASCII}
+use Rattle.jp_automaton.specs.declared.limits.TheConstants.{STRIDE, MAX_STATES}
+use Rattle.jp_automaton.specs.declared.dfa.TheConstants.{QUIT, MATCH_OR_DEAD, CONTINUATION, PAST_ASCII}
 use Rattle.jp_pattern.specs.CharSets.{is_scalar}
 use Rattle.jp_pattern.specs.Unrolled.{Unrolled}
 use Rattle.jp_automaton.specs.inner.Simulation.{step, is_elem, exits, Rises}

@@ -10,22 +10,15 @@ ghost use Rattle.jp_pattern.specs.Unrolled.{letters};
 
 use crate::byte_classes::make_byte_classes;
 use crate::determinize::make_dfa;
-use crate::dfa::{Dfa, MAX_STATES};
+use crate::dfa::Dfa;
 use crate::dfa_input::DfaInput;
 use crate::expressions::{Expression, expression_of};
+use crate::limits::{MAX_SIZE, MAX_STATES, STATES_BY_SIZE};
 use crate::pattern::Pattern;
 use crate::pattern::matching::characters;
 use crate::prefilter::{Prefilter, make_prefilter};
 use jp_pattern::{PatternFault, read_tree};
 use std::alloc::{AllocError, Global};
-
-/// The greatest unrolled size, a limit of this implementation (RFC 9485, 8): a match keeps so many positions
-/// at most, and one more.
-const MAX_SIZE: u32 = 10_000;
-
-/// How many states a DFA has at most, times the pattern's size: they are all made ahead of time, so this
-/// bounds the time that it takes to compile a pattern (README, No DFA grows during a run).
-const STATES_BY_SIZE: u32 = 8_000;
 
 impl Pattern {
     /// The pattern that the text is, or None where it is no I-Regexp within the limits of this
@@ -106,19 +99,21 @@ fn dfas_of(alloc: Global, root: &Expression) -> Result<(Dfa, Dfa), AllocError>
     let most = most_states(root.size());
     let classes = make_byte_classes(alloc, root)?;
     let input = DfaInput {
+        alloc,
         root,
         classes: &classes,
         unanchored: false,
         most,
     };
-    let whole = make_dfa(alloc, input)?;
+    let whole = make_dfa(input)?;
     let input = DfaInput {
+        alloc,
         root,
         classes: &classes,
         unanchored: true,
         most,
     };
-    Ok((whole, make_dfa(alloc, input)?))
+    Ok((whole, make_dfa(input)?))
 }
 
 /// How many states a DFA of a pattern of this size has at most.

@@ -10,8 +10,8 @@ use Rattle.jp_pattern.specs.Pattern.{Text, Element, CharSet, Pattern}
 use Rattle.jp_pattern.specs.Profile.{max_count, max_depth}
 use Rattle.jp_pattern.specs.Quantity.{is_digit}
 use Rattle.jp_pattern.specs.Tree.{before_last, node_of}
-use Rattle.jp_pattern.specs.declared.tree.Turn.{Turn as HeldTurn}
-use Rattle.jp_pattern.specs.declared.tree.Turn.TheVariants as turns
+use Rattle.jp_pattern.specs.declared.tree.NextPart.{NextPart as HeldNextPart}
+use Rattle.jp_pattern.specs.declared.tree.NextPart.TheVariants as turns
 use Rattle.jp_pattern.specs.declared.tree.Quantity.{Quantity}
 use Rattle.jp_pattern.specs.declared.tree.Quantity.TheVariants as quantities
 use Rattle.jp_pattern.specs.CharSetShape.{is_normal, is_class_normal, is_escaped}
@@ -380,28 +380,28 @@ unfoldable pub piece_within : (ℕ → Parse Pattern) → ℕ → Parse Pattern
 piece_within inner left t = option_and_then quantified_within (atom_within inner left t)
 
 -- what comes next in a pattern
-pub data Turn : Type 0 where
-  end : Turn
-  bar : Turn
-  piece : Pattern → Turn
+pub data NextPart : Type 0 where
+  end : NextPart
+  bar : NextPart
+  piece : Pattern → NextPart
 
-unfoldable pub next_turn : (ℕ → Parse Pattern) → ℕ → Parse Turn
-next_turn inner left [] = Some (end, [])
-next_turn inner left (c ∷ t) =
+unfoldable pub next_part : (ℕ → Parse Pattern) → ℕ → Parse NextPart
+next_part inner left [] = Some (end, [])
+next_part inner left (c ∷ t) =
     if c == 41 then Some (end, c ∷ t)
     else if c == 124 then Some (bar, t)
     else option_map (λ r. (piece r.0, r.1)) (piece_within inner left (c ∷ t))
 
-abbrev pub after_turn : Parse Pattern → Turn × Text → Option (Pattern × Text)
-after_turn rest (end, t) = Some (Pattern.empty, t)
-after_turn rest (bar, t) = option_map (λ r. (Pattern.either Pattern.empty r.0, r.1)) (rest t)
-after_turn rest (piece p, t) = with_piece rest (p, t)
+abbrev pub after_part : Parse Pattern → NextPart × Text → Option (Pattern × Text)
+after_part rest (end, t) = Some (Pattern.empty, t)
+after_part rest (bar, t) = option_map (λ r. (Pattern.either Pattern.empty r.0, r.1)) (rest t)
+after_part rest (piece p, t) = with_piece rest (p, t)
 
 -- up to the end or a closing parenthesis, with so many parentheses left; the second number bounds the turns
 unfoldable pub pattern_within : ℕ → ℕ → Parse Pattern
 pattern_within left zero t = None
 pattern_within left (suc n) t =
-    option_and_then (after_turn (pattern_within left n)) (next_turn (λ l. pattern_within l n) left t)
+    option_and_then (after_part (pattern_within left n)) (next_part (λ l. pattern_within l n) left t)
 
 unfoldable pub read_within : Text → Option Pattern
 read_within t = option_and_then if_whole (pattern_within max_depth (length t + 1) t)
@@ -418,7 +418,7 @@ behind_all branches pieces q = before_last branches (behind_pieces pieces q)
 abbrev pub pattern_behind : List Pattern → List Pattern → Option (Pattern × Text) → Option (Pattern × Text)
 pattern_behind branches pieces = option_map (λ r. (behind_all branches pieces r.0, r.1))
 
-abbrev pub turn_of : HeldTurn → Turn
-turn_of turns.End = end
-turn_of turns.Bar = bar
-turn_of (turns.Piece n) = piece (node_of n)
+abbrev pub next_part_of : HeldNextPart → NextPart
+next_part_of turns.End = end
+next_part_of turns.Bar = bar
+next_part_of (turns.Piece n) = piece (node_of n)

@@ -37,12 +37,12 @@ step-returns-in-Some t c =
       walk = c.in-Some.ensures.passed.walk (unrolled_in c.args.expression.now) (sym e);
       reads = sym (append-nil c.args.out.now.items)
           ∙ ap (λ xs. c.args.out.now.items ++ xs)
-          (sym (c.in-Some.ensures.passed.reads (unrolled_in c.args.expression.now) c.args.c (sym e)));
+          (sym (c.in-Some.ensures.passed.reads (unrolled_in c.args.expression.now) c.args.input.c (sym e)));
     }
 
 pub step-returns-in_ok-step_set-in-Set : goal.step-returns-in_ok-step_set-in-Set
 step-returns-in_ok-step_set-in-Set t c =
-    subst (λ p. IsStep c.args.active.now c.args.c p c.args.at c.in_ok-step_set-in-Set.field-0
+    subst (λ p. IsStep c.args.input.active.now c.args.input.c p c.args.at c.in_ok-step_set-in-Set.field-0
     c.args.out.now.items c.step_set.new.out.items)
     (set_same c.args.expression.now c.in-Set.set c.in-Set.is) c.in_ok-step_set-in-Set.ensures
 
@@ -84,7 +84,7 @@ step-step-requires-in-Branches t c = (
         k.sized,
         (
           omega (arith, k.size, c.requires.fits, c.in_ok-others-in-Branches.ensures.walk.past, e),
-          subst (λ r. IsAt c.args.active.now r.past r.index) (sym c.with_entered.ensures)
+          subst (λ r. IsAt c.args.input.active.now r.past r.index) (sym c.with_entered.ensures)
               c.in_ok-others-in-Branches.ensures.walk.stands,
         ),
       ),
@@ -92,7 +92,7 @@ step-step-requires-in-Branches t c = (
 
 pub step-returns-in_ok-behind-in-Branches : goal.step-returns-in_ok-behind-in-Branches
 step-returns-in_ok-behind-in-Branches t c =
-    let active = c.args.active.now in
+    let active = c.args.input.active.now in
     let k = known_branches c.args.expression.now c.in-Branches.size c.in-Branches.before c.in-Branches.last
     c.deref-in-Branches.result.now c.deref-in-Branches-2.result.now c.in-Branches.is
     c.deref-in-Branches.ensures.value c.deref-in-Branches-2.ensures c.requires.sized in
@@ -101,13 +101,14 @@ step-returns-in_ok-behind-in-Branches t c =
     let y = c.in_ok-behind-in-Branches.behind in
     let mid = c.step_before.new.out.items in
     let fin = c.step-in-Branches.new.out.items in
-    let s : IsStep active c.args.c last (entered_as c.args.at.entered others.others) y mid fin =
-    subst (λ r. IsStep active c.args.c last r y mid fin) c.with_entered.ensures
+    let s : IsStep active c.args.input.c last (entered_as c.args.at.entered others.others) y mid fin =
+    subst (λ r. IsStep active c.args.input.c last r y mid fin) c.with_entered.ensures
     c.in_ok-behind-in-Branches.ensures in
     let is : c.with_entered-in-Branches.result ≡ or_entered others.others.entered y =
     c.with_entered-in-Branches.ensures ∙ ap (λ b. entered_as b y) c.either.ensures in
     let all = branches_before c.deref-in-Branches.result.now last in
-    subst (λ p. IsStep active c.args.c p c.args.at c.with_entered-in-Branches.result c.args.out.now.items fin)
+    subst (λ p. IsStep active c.args.input.c p c.args.at c.with_entered-in-Branches.result
+    c.args.out.now.items fin)
     k.same (record {
       walk = subst (λ r. IsWalk active all c.args.at r) (sym is) (others.ensures.walk.leads last y s.walk);
       reads = s.reads ∙ others.ensures.reads last;
@@ -139,7 +140,7 @@ step_in_turn-step-requires t c = (
 
 pub step_in_turn-loop-piece-preserved : goal.step_in_turn-loop-piece-preserved
 step_in_turn-loop-piece-preserved t c =
-    let active = c.args.active.now in
+    let active = c.args.input.active.now in
     let kept = c.loop-piece.invariant in
     let next = piece_next c.args.pieces.now c.loop-piece.piece-index c.piece-item.result
     c.loop-piece-test.true c.piece-item.is in
@@ -153,13 +154,13 @@ step_in_turn-loop-piece-preserved t c =
           (seq_walk active a rest x y r stepped.walk w)),
       omega (arith, ap letters next, kept.1, stepped.walk.past),
       stepped.walk.stands,
-      seq_reads active c.args.c _ a x y o c.step.new.out.items stepped rest
-          (ap (λ p. o ++ step (is_elem active) c.args.c p x.past x.entered) (sym next) ∙ kept.3),
+      seq_reads active c.args.input.c _ a x y o c.step.new.out.items stepped rest
+          (ap (λ p. o ++ step (is_elem active) c.args.input.c p x.past x.entered) (sym next) ∙ kept.3),
     )
 
 pub step_in_turn-returns : goal.step_in_turn-returns
 step_in_turn-returns t c =
-    let active = c.args.active.now in
+    let active = c.args.input.active.now in
     let kept = c.loop-piece.invariant in
     let here = c.loop-piece.here in
     let none = drop_none c.args.pieces.now c.loop-piece.piece-index c.loop-piece-test.false in
@@ -167,8 +168,9 @@ step_in_turn-returns t c =
     (nothing_walk active here kept.2) in
     record {
       walk = kept.0 here w;
-      reads = end_reads active c.args.c _ c.loop-piece.out.items
-          (ap (λ xs. c.loop-piece.out.items ++ step (is_elem active) c.args.c (unrolled_in_turn xs) here.past
+      reads = end_reads active c.args.input.c _ c.loop-piece.out.items
+          (ap (λ xs. c.loop-piece.out.items ++ step (is_elem active) c.args.input.c
+          (unrolled_in_turn xs) here.past
           here.entered) (sym none) ∙ kept.3);
     }
 
@@ -179,8 +181,8 @@ step_in_turn-returns-in-Some t c =
     let size : letters rest ≡ c.args.end - c.loop-piece.here.past = omega (arith, kept.1) in
     record {
       walk = kept.0 c.in-Some.behind (c.in-Some.ensures.passed.walk rest size);
-      reads = passed_reads c.args.active.now c.args.c _ c.loop-piece.out.items _ kept.3
-          (c.in-Some.ensures.passed.reads rest c.args.c size);
+      reads = passed_reads c.args.input.active.now c.args.input.c _ c.loop-piece.out.items _ kept.3
+          (c.in-Some.ensures.passed.reads rest c.args.input.c size);
     }
 
 -- ---- branches
@@ -196,14 +198,14 @@ step_before-step-requires t c = (
             c.loop-branch-test.true c.branch-item.is c.requires.sized,
         (
           omega (arith, next, kept.1, c.requires.fits, e),
-          subst (λ r. IsAt c.args.active.now r.past r.index) (sym c.with_entered.ensures) kept.2,
+          subst (λ r. IsAt c.args.input.active.now r.past r.index) (sym c.with_entered.ensures) kept.2,
         ),
       ),
 )
 
 pub step_before-loop-branch-preserved : goal.step_before-loop-branch-preserved
 step_before-loop-branch-preserved t c =
-    let active = c.args.active.now in
+    let active = c.args.input.active.now in
     let kept = c.loop-branch.invariant in
     let i = c.loop-branch.branch-index in
     let next = λ (q : Unrolled). branch_next c.args.branches.now q i c.branch-item.result
@@ -214,7 +216,8 @@ step_before-loop-branch-preserved t c =
     let o = c.loop-branch.out.items in
     let n = c.step.new.out.items in
     let from = entered_as c.args.at.entered others in
-    let stepped : IsStep active c.args.c a from y o n = subst (λ r. IsStep active c.args.c a r y o n)
+    let stepped : IsStep active c.args.input.c a from y o n = subst
+    (λ r. IsStep active c.args.input.c a r y o n)
     c.with_entered.ensures c.in_ok-behind.ensures in
     let w = stepped.walk in
     let is : c.with_entered-others-in-loop-branch.result ≡ entered_as (others.entered || y.entered) y =
@@ -233,9 +236,9 @@ step_before-loop-branch-preserved t c =
       subst (λ r. IsAt active r.past r.index) (sym is) w.stands,
       λ q.
           let rest = branches_before (drop (i + 1) c.args.branches.now) q in
-          ap (λ r. n ++ step (is_elem active) c.args.c rest r.past c.args.at.entered) is
-          ∙ either_reads active c.args.c _ a from y o n stepped rest
-          (ap (λ p. o ++ step (is_elem active) c.args.c p others.past c.args.at.entered) (sym (next q))
+          ap (λ r. n ++ step (is_elem active) c.args.input.c rest r.past c.args.at.entered) is
+          ∙ either_reads active c.args.input.c _ a from y o n stepped rest
+          (ap (λ p. o ++ step (is_elem active) c.args.input.c p others.past c.args.at.entered) (sym (next q))
           ∙ kept.3 q),
     )
 
@@ -248,10 +251,10 @@ step_before-returns t c =
         past = omega (arith, kept.1, ap (λ xs. letters (branches_before xs nothing)) none);
         stands = kept.2;
         leads = λ q r w. kept.0 q r
-            (subst (λ xs. IsWalk c.args.active.now (branches_before xs q)
+            (subst (λ xs. IsWalk c.args.input.active.now (branches_before xs q)
             (entered_as c.args.at.entered c.loop-branch.others) r) (sym none) w);
       };
-      reads = λ q. ap (λ xs. c.loop-branch.out.items ++ step (is_elem c.args.active.now) c.args.c
+      reads = λ q. ap (λ xs. c.loop-branch.out.items ++ step (is_elem c.args.input.active.now) c.args.input.c
           (branches_before xs q) c.loop-branch.others.past c.args.at.entered) (sym none) ∙ kept.3 q;
     }
 
@@ -262,7 +265,7 @@ pub step_counted-idle_copies-idle-requires-clause-some
 step_counted-idle_copies-idle-requires-clause-some t c =
     let kept = c.loop-i.invariant in
     let a = unrolled_in c.args.atom.now in
-    let fits = copy_fits a c.args.least c.args.most c.loop-i.i c.loop-i.here.past c.args.at.past
+    let fits = copy_fits a c.args.copies.least c.args.copies.most c.loop-i.i c.loop-i.here.past c.args.at.past
     c.loop-i-test.true kept.1 c.requires.fits in
     let e = exact c.size-size.result (pattern_in c.args.atom.now) c.size-size.ensures (omega (arith, fits)) in
     omega (arith, e, c.requires.some)
@@ -272,24 +275,26 @@ pub step_counted-idle_copies-idle-requires-clause-fits
 step_counted-idle_copies-idle-requires-clause-fits t c =
     let kept = c.loop-i.invariant in
     let a = unrolled_in c.args.atom.now in
-    let fits = copy_fits a c.args.least c.args.most c.loop-i.i c.loop-i.here.past c.args.at.past
+    let fits = copy_fits a c.args.copies.least c.args.copies.most c.loop-i.i c.loop-i.here.past c.args.at.past
     c.loop-i-test.true kept.1 c.requires.fits in
     let e = exact c.size-size.result (pattern_in c.args.atom.now) c.size-size.ensures (omega (arith, fits)) in
-    subst (λ s. c.loop-i.here.past + (c.args.most - c.loop-i.i) * s ≤ 10_000) (sym e)
-    (copies_fit a c.args.least c.args.most c.loop-i.i c.loop-i.here.past c.args.at.past c.loop-i-test.true
+    subst (λ s. c.loop-i.here.past + (c.args.copies.most - c.loop-i.i) * s ≤ 10_000) (sym e)
+    (copies_fit a c.args.copies.least c.args.copies.most c.loop-i.i c.loop-i.here.past c.args.at.past
+    c.loop-i-test.true
     kept.1 c.requires.fits)
 
 pub step_counted-overflow_mul-here : goal.step_counted-overflow_mul-here
 step_counted-overflow_mul-here t c =
     let kept = c.loop-i.invariant in
     let a = unrolled_in c.args.atom.now in
-    let fits = copy_fits a c.args.least c.args.most c.loop-i.i c.loop-i.here.past c.args.at.past
+    let fits = copy_fits a c.args.copies.least c.args.copies.most c.loop-i.i c.loop-i.here.past c.args.at.past
     c.loop-i-test.true kept.1 c.requires.fits in
     let e = exact c.size-size.result (pattern_in c.args.atom.now) c.size-size.ensures (omega (arith, fits)) in
-    let all = subst (λ s. c.loop-i.here.past + (c.args.most - c.loop-i.i) * s ≤ 10_000) (sym e)
-    (copies_fit a c.args.least c.args.most c.loop-i.i c.loop-i.here.past c.args.at.past c.loop-i-test.true
+    let all = subst (λ s. c.loop-i.here.past + (c.args.copies.most - c.loop-i.i) * s ≤ 10_000) (sym e)
+    (copies_fit a c.args.copies.least c.args.copies.most c.loop-i.i c.loop-i.here.past c.args.at.past
+    c.loop-i-test.true
     kept.1 c.requires.fits) in
-    let h = some_idle c.loop-i.here.past c.idle_copies-idle.result (c.args.most - c.loop-i.i)
+    let h = some_idle c.loop-i.here.past c.idle_copies-idle.result (c.args.copies.most - c.loop-i.i)
     c.size-size.result c.idle_copies-idle.ensures.few all in
     omega (arith, h)
 
@@ -297,36 +302,38 @@ pub step_counted-overflow_add-here : goal.step_counted-overflow_add-here
 step_counted-overflow_add-here t c =
     let kept = c.loop-i.invariant in
     let a = unrolled_in c.args.atom.now in
-    let fits = copy_fits a c.args.least c.args.most c.loop-i.i c.loop-i.here.past c.args.at.past
+    let fits = copy_fits a c.args.copies.least c.args.copies.most c.loop-i.i c.loop-i.here.past c.args.at.past
     c.loop-i-test.true kept.1 c.requires.fits in
     let e = exact c.size-size.result (pattern_in c.args.atom.now) c.size-size.ensures (omega (arith, fits)) in
-    let all = subst (λ s. c.loop-i.here.past + (c.args.most - c.loop-i.i) * s ≤ 10_000) (sym e)
-    (copies_fit a c.args.least c.args.most c.loop-i.i c.loop-i.here.past c.args.at.past c.loop-i-test.true
+    let all = subst (λ s. c.loop-i.here.past + (c.args.copies.most - c.loop-i.i) * s ≤ 10_000) (sym e)
+    (copies_fit a c.args.copies.least c.args.copies.most c.loop-i.i c.loop-i.here.past c.args.at.past
+    c.loop-i-test.true
     kept.1 c.requires.fits) in
-    let h = some_idle c.loop-i.here.past c.idle_copies-idle.result (c.args.most - c.loop-i.i)
+    let h = some_idle c.loop-i.here.past c.idle_copies-idle.result (c.args.copies.most - c.loop-i.i)
     c.size-size.result c.idle_copies-idle.ensures.few all in
     omega (arith, h)
 
 pub step_counted-loop-i-preserved-then-idle-gt0 : goal.step_counted-loop-i-preserved-then-idle-gt0
 step_counted-loop-i-preserved-then-idle-gt0 t c =
-    let active = c.args.active.now in
+    let active = c.args.input.active.now in
     let kept = c.loop-i.invariant in
     let a = unrolled_in c.args.atom.now in
-    let fits = copy_fits a c.args.least c.args.most c.loop-i.i c.loop-i.here.past c.args.at.past
+    let fits = copy_fits a c.args.copies.least c.args.copies.most c.loop-i.i c.loop-i.here.past c.args.at.past
     c.loop-i-test.true kept.1 c.requires.fits in
     let e = exact c.size-size.result (pattern_in c.args.atom.now) c.size-size.ensures (omega (arith, fits)) in
     let n = c.idle_copies-idle.result in
     let none = not_entered c.loop-i.here.entered n c.idle_copies-idle.ensures.not_entered c.if-idle-gt0.true
     in (
-      λ r w. kept.0 r (skip_copies active a c.loop-i.i n c.size-size.result c.args.least
+      λ r w. kept.0 r (skip_copies active a c.loop-i.i n c.size-size.result c.args.copies.least
           c.loop-i.here r e none
-          c.idle_copies-idle.ensures.inactive c.args.most c.idle_copies-idle.ensures.few w),
-      total_skipped a c.args.least c.args.most c.loop-i.i n c.size-size.result c.loop-i.here.past _ e
+          c.idle_copies-idle.ensures.inactive c.args.copies.most c.idle_copies-idle.ensures.few w),
+      total_skipped a c.args.copies.least c.args.copies.most c.loop-i.i n c.size-size.result
+          c.loop-i.here.past _ e
           c.idle_copies-idle.ensures.few kept.1,
       c.idle_copies-idle.ensures.stands,
       omega (arith, c.idle_copies-idle.ensures.few, c.loop-i-test.true),
-      skip_reads active c.args.c _ a c.loop-i.i n c.size-size.result c.args.least c.loop-i.here
-          c.loop-i.out.items e none c.idle_copies-idle.ensures.inactive c.args.most
+      skip_reads active c.args.input.c _ a c.loop-i.i n c.size-size.result c.args.copies.least c.loop-i.here
+          c.loop-i.out.items e none c.idle_copies-idle.ensures.inactive c.args.copies.most
           c.idle_copies-idle.ensures.few
           kept.4,
     )
@@ -337,7 +344,7 @@ step_counted-step-requires t c = (
   let kept = c.loop-i.invariant in (
     c.requires.sized,
     (
-      copy_fits (unrolled_in c.args.atom.now) c.args.least c.args.most c.loop-i.i
+      copy_fits (unrolled_in c.args.atom.now) c.args.copies.least c.args.copies.most c.loop-i.i
           c.loop-i.here.past c.args.at.past c.loop-i-test.true kept.1 c.requires.fits,
       kept.2,
     ),
@@ -346,46 +353,48 @@ step_counted-step-requires t c = (
 
 pub step_counted-loop-i-preserved : goal.step_counted-loop-i-preserved
 step_counted-loop-i-preserved t c =
-    let active = c.args.active.now in
+    let active = c.args.input.active.now in
     let kept = c.loop-i.invariant in
     let a = unrolled_in c.args.atom.now in
-    let all = counted c.args.least c.args.most a in
+    let all = counted c.args.copies.least c.args.copies.most a in
     let y = c.in_ok-here.here in
     let more = sym (c.either-left.ensures ∙ ap (λ s. c.loop-i.left || s) c.may_stop-stop.ensures) in (
       λ r w. subst (λ b. IsWalk active all c.args.at (or_entered b r)) more
           (or_walk active all c.loop-i.left _ c.args.at r
-          (kept.0 (or_entered _ r) (copy_walk active a c.args.least c.loop-i.i c.loop-i.here y r
-          c.in_ok-here.ensures.walk c.args.most c.loop-i-test.true w))),
+          (kept.0 (or_entered _ r) (copy_walk active a c.args.copies.least c.loop-i.i c.loop-i.here y r
+          c.in_ok-here.ensures.walk c.args.copies.most c.loop-i-test.true w))),
       omega (
         arith,
         kept.1,
-        counted-letters a c.args.least c.loop-i.i c.args.most c.loop-i-test.true,
+        counted-letters a c.args.copies.least c.loop-i.i c.args.copies.most c.loop-i-test.true,
         c.in_ok-here.ensures.walk.past,
       ),
       c.in_ok-here.ensures.walk.stands,
       omega (arith, c.loop-i-test.true),
-      copy_reads active c.args.c _ a c.loop-i.here y c.loop-i.out.items c.step.new.out.items
-          c.in_ok-here.ensures c.args.least c.loop-i.i c.args.most c.loop-i-test.true kept.4,
+      copy_reads active c.args.input.c _ a c.loop-i.here y c.loop-i.out.items c.step.new.out.items
+          c.in_ok-here.ensures c.args.copies.least c.loop-i.i c.args.copies.most c.loop-i-test.true kept.4,
     )
 
 pub step_counted-returns : goal.step_counted-returns
 step_counted-returns t c =
-    let active = c.args.active.now in
+    let active = c.args.input.active.now in
     let kept = c.loop-i.invariant in
     let here = c.loop-i.here in
-    let none : c.args.most - c.loop-i.i ≡ 0 = omega (arith, c.loop-i-test.false) in
-    let w : IsWalk active (counted (c.args.least - c.loop-i.i) (c.args.most - c.loop-i.i)
+    let none : c.args.copies.most - c.loop-i.i ≡ 0 = omega (arith, c.loop-i-test.false) in
+    let w : IsWalk active (counted (c.args.copies.least - c.loop-i.i) (c.args.copies.most - c.loop-i.i)
     (unrolled_in c.args.atom.now)) here here =
-    subst (λ n. IsWalk active (counted (c.args.least - c.loop-i.i) n (unrolled_in c.args.atom.now)) here here)
+    subst (λ n. IsWalk active (counted (c.args.copies.least - c.loop-i.i) n
+    (unrolled_in c.args.atom.now)) here here)
     (sym none) (nothing_walk active here kept.2) in
     let is : c.with_entered.result ≡ or_entered c.loop-i.left here = c.with_entered.ensures
     ∙ ap (λ b. entered_as b here) c.either.ensures in
     record {
-      walk = subst (λ r. IsWalk active (counted c.args.least c.args.most (unrolled_in c.args.atom.now))
+      walk = subst (λ r. IsWalk active (counted c.args.copies.least c.args.copies.most
+          (unrolled_in c.args.atom.now))
           c.args.at r) (sym is) (kept.0 here w);
-      reads = end_reads active c.args.c _ c.loop-i.out.items
-          (ap (λ n. c.loop-i.out.items ++ step (is_elem active) c.args.c
-          (counted (c.args.least - c.loop-i.i) n (unrolled_in c.args.atom.now)) here.past here.entered)
+      reads = end_reads active c.args.input.c _ c.loop-i.out.items
+          (ap (λ n. c.loop-i.out.items ++ step (is_elem active) c.args.input.c
+          (counted (c.args.copies.least - c.loop-i.i) n (unrolled_in c.args.atom.now)) here.past here.entered)
           (sym none) ∙ kept.4);
     }
 
@@ -441,7 +450,7 @@ step_counted_on-overflow_add-here t c =
 
 pub step_counted_on-loop-i-preserved-then-idle-gt0 : goal.step_counted_on-loop-i-preserved-then-idle-gt0
 step_counted_on-loop-i-preserved-then-idle-gt0 t c =
-    let active = c.args.active.now in
+    let active = c.args.input.active.now in
     let kept = c.loop-i.invariant in
     let a = unrolled_in c.args.atom.now in
     let fits = copy_on_fits a c.args.least c.loop-i.i c.loop-i.here.past c.args.at.past c.loop-i-test.true
@@ -456,7 +465,7 @@ step_counted_on-loop-i-preserved-then-idle-gt0 t c =
           c.idle_copies-idle.ensures.few kept.1,
       c.idle_copies-idle.ensures.stands,
       omega (arith, c.idle_copies-idle.ensures.few, c.loop-i-test.true),
-      skip_on_reads active c.args.c _ a c.loop-i.i n c.size-size.result c.args.least c.loop-i.here
+      skip_on_reads active c.args.input.c _ a c.loop-i.i n c.size-size.result c.args.least c.loop-i.here
           c.loop-i.out.items e none c.idle_copies-idle.ensures.inactive c.idle_copies-idle.ensures.few kept.4,
     )
 
@@ -475,7 +484,7 @@ step_counted_on-step-requires t c = (
 
 pub step_counted_on-loop-i-preserved : goal.step_counted_on-loop-i-preserved
 step_counted_on-loop-i-preserved t c =
-    let active = c.args.active.now in
+    let active = c.args.input.active.now in
     let kept = c.loop-i.invariant in
     let a = unrolled_in c.args.atom.now in (
       λ r w. kept.0 r (copy_on_walk active a c.args.least c.loop-i.i c.loop-i.here c.in_ok-here.here r
@@ -488,7 +497,7 @@ step_counted_on-loop-i-preserved t c =
       ),
       c.in_ok-here.ensures.walk.stands,
       omega (arith, c.loop-i-test.true),
-      copy_on_reads active c.args.c _ a c.loop-i.here c.in_ok-here.here c.loop-i.out.items
+      copy_on_reads active c.args.input.c _ a c.loop-i.here c.in_ok-here.here c.loop-i.out.items
           c.step.new.out.items c.in_ok-here.ensures c.args.least c.loop-i.i c.loop-i-test.true kept.4,
     )
 
@@ -507,7 +516,7 @@ step_counted_on-step_plus-requires t c = (
 
 pub step_counted_on-returns : goal.step_counted_on-returns
 step_counted_on-returns t c =
-    let active = c.args.active.now in
+    let active = c.args.input.active.now in
     let kept = c.loop-i.invariant in
     let here = c.loop-i.here in
     let y = c.in_ok-behind.behind in
@@ -521,7 +530,7 @@ step_counted_on-returns t c =
       walk = subst (λ r. IsWalk active (counted_on c.args.least a) c.args.at r) (sym is)
           (kept.0 (or_entered here.entered y) w);
       reads = c.in_ok-behind.ensures.reads
-          ∙ ap (λ n. c.loop-i.out.items ++ step (is_elem active) c.args.c (counted_on n a) here.past
+          ∙ ap (λ n. c.loop-i.out.items ++ step (is_elem active) c.args.input.c (counted_on n a) here.past
           here.entered) (sym none) ∙ kept.4;
     }
 
@@ -532,20 +541,21 @@ step_plus-step-requires t c = (
     c.requires.sized,
     (
       omega (arith, c.requires.fits, ap (λ r. r.past) c.with_entered-from.ensures),
-      subst (λ r. IsAt c.args.active.now r.past r.index) (sym c.with_entered-from.ensures) c.requires.stands,
+      subst (λ r. IsAt c.args.input.active.now r.past r.index)
+          (sym c.with_entered-from.ensures) c.requires.stands,
     ),
   ),
 )
 
 pub step_plus-returns : goal.step_plus-returns
 step_plus-returns t c =
-    let active = c.args.active.now in
+    let active = c.args.input.active.now in
     let a = unrolled_in c.args.atom.now in
     let y = c.in_ok-step.field-0 in
     let is : c.with_entered-from.result
     ≡ entered_as (c.args.at.entered || exits (is_elem active) a c.args.at.past false) c.args.at =
     c.with_entered-from.ensures ∙ ap (λ b. entered_as b c.args.at) c.is_entered_again.ensures in
-    let s = subst (λ r. IsStep active c.args.c a r y c.args.out.now.items c.step.new.out.items) is
+    let s = subst (λ r. IsStep active c.args.input.c a r y c.args.out.now.items c.step.new.out.items) is
     c.in_ok-step.ensures in
     record {
       walk = record {

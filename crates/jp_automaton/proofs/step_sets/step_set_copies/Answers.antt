@@ -15,24 +15,25 @@ pub idle_copies-idle-requires-clause-fits : goal.idle_copies-idle-requires-claus
 idle_copies-idle-requires-clause-fits c =
     let kept = c.loop-i.invariant in
     let a = letter (set_of c.args.set.now) in
-    let whole : c.args.at.past + letters (counted c.args.least c.args.most a) ≤ 10_000 =
-    omega (arith, letters-counted a c.args.least c.args.most, c.requires.fits) in
-    copies_fit a c.args.least c.args.most c.loop-i.i c.loop-i.here.past c.args.at.past c.loop-i-test.true
+    let whole : c.args.at.past + letters (counted c.args.copies.least c.args.copies.most a) ≤ 10_000 =
+    omega (arith, letters-counted a c.args.copies.least c.args.copies.most, c.requires.fits) in
+    copies_fit a c.args.copies.least c.args.copies.most c.loop-i.i c.loop-i.here.past c.args.at.past
+    c.loop-i-test.true
     kept.1 whole
 
 pub overflow_add-here : goal.overflow_add-here
 overflow_add-here c =
     let kept = c.loop-i.invariant in
     let a = letter (set_of c.args.set.now) in
-    let whole : c.args.at.past + letters (counted c.args.least c.args.most a) ≤ 10_000 =
-    omega (arith, letters-counted a c.args.least c.args.most, c.requires.fits) in
-    let all = copies_fit a c.args.least c.args.most c.loop-i.i c.loop-i.here.past c.args.at.past
+    let whole : c.args.at.past + letters (counted c.args.copies.least c.args.copies.most a) ≤ 10_000 =
+    omega (arith, letters-counted a c.args.copies.least c.args.copies.most, c.requires.fits) in
+    let all = copies_fit a c.args.copies.least c.args.copies.most c.loop-i.i c.loop-i.here.past c.args.at.past
     c.loop-i-test.true kept.1 whole in
     omega (arith, all, c.idle_copies-idle.ensures.few)
 
 pub loop-i-preserved-then-idle-gt0 : goal.loop-i-preserved-then-idle-gt0
 loop-i-preserved-then-idle-gt0 c =
-    let active = c.args.active.now in
+    let active = c.args.input.active.now in
     let kept = c.loop-i.invariant in
     let a = letter (set_of c.args.set.now) in
     let here = c.loop-i.here in
@@ -40,32 +41,34 @@ loop-i-preserved-then-idle-gt0 c =
     let none = not_entered here.entered n c.idle_copies-idle.ensures.not_entered c.if-idle-gt0.true in
     let one : n * 1 ≡ n = omega arith in
     let past : here.past + n * 1 ≡ here.past + n = omega arith in (
-      λ r w. kept.0 r (skip_copies active a c.loop-i.i n 1 c.args.least here r refl none
-          c.idle_copies-idle.ensures.inactive c.args.most c.idle_copies-idle.ensures.few
-          (subst (λ k. IsWalk active (counted (c.args.least - (c.loop-i.i + n))
-          (c.args.most - (c.loop-i.i + n))
+      λ r w. kept.0 r (skip_copies active a c.loop-i.i n 1 c.args.copies.least here r refl none
+          c.idle_copies-idle.ensures.inactive c.args.copies.most c.idle_copies-idle.ensures.few
+          (subst (λ k. IsWalk active (counted (c.args.copies.least - (c.loop-i.i + n))
+          (c.args.copies.most - (c.loop-i.i + n))
           a) (record { past = k; index = here.index; entered = here.entered }) r) (sym past) w)),
       omega (
         arith,
-        total_skipped a c.args.least c.args.most c.loop-i.i n 1 here.past _ refl
+        total_skipped a c.args.copies.least c.args.copies.most c.loop-i.i n 1 here.past _ refl
             c.idle_copies-idle.ensures.few kept.1,
       ),
       subst (λ k. IsAt active k here.index) past c.idle_copies-idle.ensures.stands,
       omega (arith, c.idle_copies-idle.ensures.few, c.loop-i-test.true),
-      ap (λ k. c.loop-i.out.items ++ step (is_elem active) c.args.c
-          (counted (c.args.least - (c.loop-i.i + n)) (c.args.most - (c.loop-i.i + n)) a) k here.entered)
+      ap (λ k. c.loop-i.out.items ++ step (is_elem active) c.args.input.c
+          (counted (c.args.copies.least - (c.loop-i.i + n)) (c.args.copies.most -
+          (c.loop-i.i + n)) a) k here.entered)
           (sym past)
-          ∙ skip_reads active c.args.c _ a c.loop-i.i n 1 c.args.least here c.loop-i.out.items refl none
-          c.idle_copies-idle.ensures.inactive c.args.most c.idle_copies-idle.ensures.few kept.4,
+          ∙ skip_reads active c.args.input.c _ a c.loop-i.i n 1 c.args.copies.least here c.loop-i.out.items
+          refl none
+          c.idle_copies-idle.ensures.inactive c.args.copies.most c.idle_copies-idle.ensures.few kept.4,
     )
 
 pub read_known-requires : goal.read_known-requires
 read_known-requires c =
     let kept = c.loop-i.invariant in
     let a = letter (set_of c.args.set.now) in
-    let whole : c.args.at.past + letters (counted c.args.least c.args.most a) ≤ 10_000 =
-    omega (arith, letters-counted a c.args.least c.args.most, c.requires.fits) in
-    let fits = copy_fits a c.args.least c.args.most c.loop-i.i c.loop-i.here.past c.args.at.past
+    let whole : c.args.at.past + letters (counted c.args.copies.least c.args.copies.most a) ≤ 10_000 =
+    omega (arith, letters-counted a c.args.copies.least c.args.copies.most, c.requires.fits) in
+    let fits = copy_fits a c.args.copies.least c.args.copies.most c.loop-i.i c.loop-i.here.past c.args.at.past
     c.loop-i-test.true kept.1 whole in
     omega (arith, fits)
 
@@ -73,22 +76,23 @@ pub behind_set-here-requires : goal.behind_set-here-requires
 behind_set-here-requires c =
     let kept = c.loop-i.invariant in
     let a = letter (set_of c.args.set.now) in
-    let whole : c.args.at.past + letters (counted c.args.least c.args.most a) ≤ 10_000 =
-    omega (arith, letters-counted a c.args.least c.args.most, c.requires.fits) in
-    let fits = copy_fits a c.args.least c.args.most c.loop-i.i c.loop-i.here.past c.args.at.past
+    let whole : c.args.at.past + letters (counted c.args.copies.least c.args.copies.most a) ≤ 10_000 =
+    omega (arith, letters-counted a c.args.copies.least c.args.copies.most, c.requires.fits) in
+    let fits = copy_fits a c.args.copies.least c.args.copies.most c.loop-i.i c.loop-i.here.past c.args.at.past
     c.loop-i-test.true kept.1 whole in
     record { fits = omega (arith, fits); stands = kept.2 }
 
 pub loop-i-preserved : goal.loop-i-preserved
 loop-i-preserved c =
-    let active = c.args.active.now in
+    let active = c.args.input.active.now in
     let kept = c.loop-i.invariant in
     let set = set_of c.args.set.now in
     let a = letter set in
-    let all = counted c.args.least c.args.most a in
+    let all = counted c.args.copies.least c.args.copies.most a in
     let here = c.loop-i.here in
     let y = c.behind_set-here.result in
-    let stepped : IsStep active c.args.c a here y c.loop-i.out.items c.read_known.new.out.items = record {
+    let stepped : IsStep active c.args.input.c a here y c.loop-i.out.items c.read_known.new.out.items =
+    record {
       walk = c.behind_set-here.ensures set;
       reads = c.in_ok-read_known.ensures ∙ ap (λ b. c.loop-i.out.items ++ read_if b here)
           c.in_set-has.ensures;
@@ -96,38 +100,42 @@ loop-i-preserved c =
     let more = sym (c.either-left.ensures ∙ ap (λ s. c.loop-i.left || s) c.may_stop-stop.ensures) in (
       λ r w. subst (λ b. IsWalk active all c.args.at (or_entered b r)) more
           (or_walk active all c.loop-i.left _ c.args.at r
-          (kept.0 (or_entered _ r) (copy_walk active a c.args.least c.loop-i.i here y r
-          stepped.walk c.args.most
+          (kept.0 (or_entered _ r) (copy_walk active a c.args.copies.least c.loop-i.i here y r
+          stepped.walk c.args.copies.most
           c.loop-i-test.true w))),
       omega (
         arith,
         kept.1,
-        counted-letters a c.args.least c.loop-i.i c.args.most c.loop-i-test.true,
+        counted-letters a c.args.copies.least c.loop-i.i c.args.copies.most c.loop-i-test.true,
         stepped.walk.past,
       ),
       stepped.walk.stands,
       omega (arith, c.loop-i-test.true),
-      copy_reads active c.args.c _ a here y c.loop-i.out.items c.read_known.new.out.items stepped c.args.least
-          c.loop-i.i c.args.most c.loop-i-test.true kept.4,
+      copy_reads active c.args.input.c _ a here y c.loop-i.out.items c.read_known.new.out.items stepped
+          c.args.copies.least
+          c.loop-i.i c.args.copies.most c.loop-i-test.true kept.4,
     )
 
 pub returns : goal.returns
 returns c =
-    let active = c.args.active.now in
+    let active = c.args.input.active.now in
     let kept = c.loop-i.invariant in
     let here = c.loop-i.here in
-    let none : c.args.most - c.loop-i.i ≡ 0 = omega (arith, c.loop-i-test.false) in
-    let w : IsWalk active (counted (c.args.least - c.loop-i.i) (c.args.most - c.loop-i.i)
+    let none : c.args.copies.most - c.loop-i.i ≡ 0 = omega (arith, c.loop-i-test.false) in
+    let w : IsWalk active (counted (c.args.copies.least - c.loop-i.i) (c.args.copies.most - c.loop-i.i)
     (letter (set_of c.args.set.now))) here here =
-    subst (λ n. IsWalk active (counted (c.args.least - c.loop-i.i) n (letter (set_of c.args.set.now))) here
+    subst (λ n. IsWalk active (counted (c.args.copies.least - c.loop-i.i) n (letter
+    (set_of c.args.set.now))) here
     here) (sym none) (nothing_walk active here kept.2) in
     let is : c.with_entered.result ≡ or_entered c.loop-i.left here = c.with_entered.ensures
     ∙ ap (λ b. entered_as b here) c.either.ensures in
     record {
-      walk = subst (λ r. IsWalk active (counted c.args.least c.args.most (letter (set_of c.args.set.now)))
+      walk = subst (λ r. IsWalk active (counted c.args.copies.least c.args.copies.most (letter
+          (set_of c.args.set.now)))
           c.args.at r) (sym is) (kept.0 here w);
-      reads = end_reads active c.args.c _ c.loop-i.out.items
-          (ap (λ n. c.loop-i.out.items ++ step (is_elem active) c.args.c
-          (counted (c.args.least - c.loop-i.i) n (letter (set_of c.args.set.now))) here.past here.entered)
+      reads = end_reads active c.args.input.c _ c.loop-i.out.items
+          (ap (λ n. c.loop-i.out.items ++ step (is_elem active) c.args.input.c
+          (counted (c.args.copies.least - c.loop-i.i) n (letter
+          (set_of c.args.set.now))) here.past here.entered)
           (sym none) ∙ kept.4);
     }

@@ -7,15 +7,16 @@ use Rattle.jp_automaton.proofs.step_sets.step_set_copies.Given as goal
 
 abbrev pub invariant-loop-i : goal.invariant-loop-i
 invariant-loop-i l =
+    let active = l.input.active.now in
     let a = letter (set_of l.set) in
-    let rest = counted (l.least - l.i) (l.most - l.i) a in
-    ((r : Cursor) → IsWalk l.active rest l.here r
-    → IsWalk l.active (counted l.least l.most a) l.fn.at (or_entered l.left r))
-    × (l.here.past + letters rest ≡ l.fn.at.past + letters (counted l.least l.most a))
-    × IsAt l.active l.here.past l.here.index × (l.i ≤ l.most)
-    × (l.out.items ++ step (is_elem l.active) l.fn.c rest l.here.past l.here.entered
-    ≡ l.fn.out.items ++ step (is_elem l.active) l.fn.c (counted l.least l.most a) l.fn.at.past
+    let rest = counted (l.copies.least - l.i) (l.copies.most - l.i) a in
+    ((r : Cursor) → IsWalk active rest l.here r
+    → IsWalk active (counted l.copies.least l.copies.most a) l.fn.at (or_entered l.left r))
+    × (l.here.past + letters rest ≡ l.fn.at.past + letters (counted l.copies.least l.copies.most a))
+    × IsAt active l.here.past l.here.index × (l.i ≤ l.copies.most)
+    × (l.out.items ++ step (is_elem active) l.input.c rest l.here.past l.here.entered
+    ≡ l.fn.out.items ++ step (is_elem active) l.input.c (counted l.copies.least l.copies.most a) l.fn.at.past
     l.fn.at.entered)
 
 abbrev pub decreases-loop-i : goal.decreases-loop-i
-decreases-loop-i l = l.most - l.i
+decreases-loop-i l = l.copies.most - l.i

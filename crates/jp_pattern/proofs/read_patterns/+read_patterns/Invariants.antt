@@ -12,8 +12,8 @@ decreases-atom_at l = 5 * l.left + 1
 abbrev pub decreases-piece_at : goal.decreases-piece_at
 decreases-piece_at l = 5 * l.left + 2
 
-abbrev pub decreases-next_turn : goal.decreases-next_turn
-decreases-next_turn l = 5 * l.left + 3
+abbrev pub decreases-next_part : goal.decreases-next_part
+decreases-next_part l = 5 * l.left + 3
 
 abbrev pub decreases-pattern_at : goal.decreases-pattern_at
 decreases-pattern_at l = 5 * l.left + 4
