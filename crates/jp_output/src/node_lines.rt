@@ -29,9 +29,15 @@ use std::marker::Model;
 /// they are.
 #[derive(Drop)]
 pub struct NodeLines {
+    writer: NodeWriter,
+    lines: OutputBuffer,
+}
+
+/// What each line begins with, and a buffer in which the texts of values are made.
+#[derive(Drop)]
+struct NodeWriter {
     front: LineFront,
     scratch: Vec<u8>,
-    lines: OutputBuffer,
 }
 
 impl Model for NodeLines {
@@ -40,7 +46,7 @@ impl Model for NodeLines {
 
     ghost Value = { List ℕ × ℕ × List ℕ };
 
-    ghost view = { λ t. (t.front.0, t.front.1, buffered t.lines) };
+    ghost view = { λ t. (t.writer.front.0, t.writer.front.1, buffered t.lines) };
 }
 
 impl NodeLines {
@@ -60,8 +66,7 @@ impl NodeLines {
         ensures { result ≡ (head.now, 0, []) }
     {
         NodeLines {
-            front: LineFront::new(alloc, head, 0),
-            scratch: Vec::new(alloc),
+            writer: NodeWriter::new(alloc, head, 0),
             lines: OutputBuffer::new(alloc),
         }
     }
@@ -70,7 +75,7 @@ impl NodeLines {
     pub fn begin(&mut self, number: u64)
         ensures { self.new ≡ (self.old.0, number, self.old.2) }
     {
-        self.front.begin(number);
+        self.writer.front.begin(number);
     }
 
     /// Appends the fault line of the line with this number. Condition: the fault is not `Memory`.
@@ -92,8 +97,8 @@ impl NodeLines {
         ensures err { OnErr result (self.new ≡ self.old) }
     {
         write_fault_behind(
-            self.front.head(),
-            self.front.number(),
+            self.writer.front.head(),
+            self.writer.front.number(),
             fault,
             &mut self.lines.out,
         )
@@ -134,14 +139,8 @@ impl Visit for NodeLines {
         path_stack: &mut PathStack<'_>,
         value: Part<'_>,
     ) -> Result<(), AllocError> {
-        write_node(
-            alloc,
-            &mut self.front,
-            path_stack,
-            value,
-            &mut self.scratch,
-            &mut self.lines.out,
-        )
+        self.writer
+            .write_node(alloc, path_stack, value, &mut self.lines.out)
     }
 
     fn is_full(&self) -> bool {
@@ -149,9 +148,9 @@ impl Visit for NodeLines {
     }
 
     fn fresh(&self, alloc: Global) -> Self {
+        let front = &self.writer.front;
         NodeLines {
-            front: LineFront::new(alloc, self.front.head(), self.front.number()),
-            scratch: Vec::new(alloc),
+            writer: NodeWriter::new(alloc, front.head(), front.number()),
             lines: OutputBuffer::new(alloc),
         }
     }
@@ -207,54 +206,64 @@ impl Form for NodeLines {
     ghost form_stays = { head_stays };
 }
 
-/// Appends the output line of the node at the path stack, with a scratch buffer for its value's text.
-///
-/// After an `AllocError`, which says that a growth was refused, `out` is as before.
-fn write_node(
-    alloc: Global,
-    front: &mut LineFront,
-    path_stack: &mut PathStack<'_>,
-    value: Part<'_>,
-    scratch: &mut Vec<u8>,
-    out: &mut Vec<u8>,
-) -> Result<(), AllocError>
-    ensures same { path_stack.new ≡ path_stack.old }
-    ensures front { front.new ≡ front.old }
-    ensures ok { OnOk result (out.new.items ≡ out.old.items ++ (front.old.0 ++ line_text front.old.1
-        (link_steps path_stack.old) (part_value value.entry))) }
-    ensures err { OnErr result (out.new.items ≡ out.old.items) }
-{
-    // Written straight to the output, and cut off again where memory is refused (README, Lines are written
-    // straight out).
-    let before = out.len();
-    match append_parts(alloc, front, path_stack, value, scratch, out) {
-        Ok(()) => Ok(()),
-        Err(error) => {
-            out.truncate(before);
-            Err(error)
+impl NodeWriter {
+    /// Of a document with this number, where lines stand behind this head. It takes no memory.
+    fn new(alloc: Global, head: &Head, number: u64) -> NodeWriter
+        ensures { result.front ≡ (head.now, number) }
+    {
+        NodeWriter {
+            front: LineFront::new(alloc, head, number),
+            scratch: Vec::new(alloc),
         }
     }
-}
 
-/// Appends the parts of a line, and on an error some of them.
-fn append_parts(
-    alloc: Global,
-    front: &mut LineFront,
-    path_stack: &mut PathStack<'_>,
-    value: Part<'_>,
-    scratch: &mut Vec<u8>,
-    out: &mut Vec<u8>,
-) -> Result<(), AllocError>
-    ensures same { path_stack.new ≡ path_stack.old }
-    ensures front { front.new ≡ front.old }
-    ensures ok { OnOk result (out.new.items ≡ out.old.items ++ (front.old.0 ++ line_text front.old.1
-        (link_steps path_stack.old) (part_value value.entry))) }
-    ensures kept { Extends out.old.items out.new.items }
-{
-    front.append_to(out)?;
-    path_stack.append_path(out)?;
-    out.push(b'\t')?;
-    append_value(alloc, value, scratch, out)?;
-    out.push(b'\n')?;
-    Ok(())
+    /// Appends the output line of the node at the path stack.
+    ///
+    /// After an `AllocError`, which says that a growth was refused, `out` is as before.
+    fn write_node(
+        &mut self,
+        alloc: Global,
+        path_stack: &mut PathStack<'_>,
+        value: Part<'_>,
+        out: &mut Vec<u8>,
+    ) -> Result<(), AllocError>
+        ensures same { path_stack.new ≡ path_stack.old }
+        ensures front { self.new.front ≡ self.old.front }
+        ensures ok { OnOk result (out.new.items ≡ out.old.items ++ (self.old.front.0
+            ++ line_text self.old.front.1 (link_steps path_stack.old) (part_value value.entry))) }
+        ensures err { OnErr result (out.new.items ≡ out.old.items) }
+    {
+        // Written straight to the output, and cut off again where memory is refused (README, Lines are
+        // written straight out).
+        let before = out.len();
+        match self.append_parts(alloc, path_stack, value, out) {
+            Ok(()) => Ok(()),
+            Err(error) => {
+                out.truncate(before);
+                Err(error)
+            }
+        }
+    }
+
+    /// Appends the parts of a line, and on an error some of them.
+    fn append_parts(
+        &mut self,
+        alloc: Global,
+        path_stack: &mut PathStack<'_>,
+        value: Part<'_>,
+        out: &mut Vec<u8>,
+    ) -> Result<(), AllocError>
+        ensures same { path_stack.new ≡ path_stack.old }
+        ensures front { self.new.front ≡ self.old.front }
+        ensures ok { OnOk result (out.new.items ≡ out.old.items ++ (self.old.front.0
+            ++ line_text self.old.front.1 (link_steps path_stack.old) (part_value value.entry))) }
+        ensures kept { Extends out.old.items out.new.items }
+    {
+        self.front.append_to(out)?;
+        path_stack.append_path(out)?;
+        out.push(b'\t')?;
+        append_value(alloc, value, &mut self.scratch, out)?;
+        out.push(b'\n')?;
+        Ok(())
+    }
 }

@@ -1,15 +1,7 @@
-//! Tests of `jp_output` and `jp_path` through their public calls.
+//! Tests of `jp_path` through its public calls.
 #![tactic(auto)]
 
-#[cfg(test)]
-mod forms;
-#[cfg(test)]
-mod heads;
-#[cfg(test)]
-mod output_forms;
 #[cfg(test)]
 mod queries;
 #[cfg(test)]
 mod refusals;
-#[cfg(test)]
-mod texts;

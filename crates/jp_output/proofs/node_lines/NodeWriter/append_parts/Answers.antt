@@ -1,6 +1,6 @@
 use Rattle.std.proofs.Common.{arith}
 use Rattle.std.proofs.lemmas.Grind.{common_steps}
-use Rattle.jp_output.proofs.node_lines.append_parts.Goals as goal
+use Rattle.jp_output.proofs.node_lines.NodeWriter.append_parts.Goals as goal
 
 pub returns-in_err-append_value-clause-kept : goal.returns-in_err-append_value-clause-kept
 returns-in_err-append_value-clause-kept c = grind (arith, common_steps)

@@ -1,12 +1,10 @@
 //! The forms of the answer, with ample memory: values, texts, raw texts and lines of the input, over trees
 //! and flat documents.
 
-use jp_check::{Plan, plan};
 use jp_doc::{DocFault, Document};
 use jp_flat::FlatReader;
 use jp_node::{Part, PathStack, Visit};
 use jp_output::{Form, Head, InputLines, RawLines, TextLines, ValueLines, join_chunks};
-use jp_select::visit_nodes;
 use std::alloc::{AllocError, Global};
 use std::test::Fail;
 
@@ -169,54 +167,61 @@ fn lines_as_they_came(rt: HostRuntime) -> Result<(), Fail> {
     Ok(())
 }
 
-/// The form, with what it writes of one more document and of the fault of a line behind it.
-fn with_document<F: Form + Drop>(
+/// Has a form write an array of which it visits the items at these places, and the fault of a line behind it.
+fn add_items<F: Form>(
     alloc: Global,
-    plan: &Plan,
-    mut form: F,
+    form: &mut F,
     number: u64,
-    text: &str,
-) -> Result<F, Fail> {
+    array: &str,
+    places: &[u32],
+) -> Result<(), Fail> {
     form.begin(number);
-    let document = Document::read(alloc, text.as_bytes())?;
-    let mut form = visit_nodes(alloc, plan, &document, form)?;
-    form.end(text.as_bytes())?;
+    let document = Document::read(alloc, array.as_bytes())?;
+    for place in places {
+        let item = Part::root_of(&document).item(*place).ok_or("no item")?;
+        form.node(alloc, &mut PathStack::new(alloc), item)?;
+    }
+    form.end(array.as_bytes())?;
     form.push_fault(alloc, 2, &DocFault::Unreadable)?;
-    Ok(form)
+    Ok(())
 }
 
-/// What a form writes of two documents, each with the fault of another line behind it.
-fn answered<F: Form + Drop>(alloc: Global, query: &str) -> Result<Vec<u8>, Fail> {
-    let plan = plan(alloc, query)?;
-    let none = F::new(alloc, &Head::none());
-    let one = with_document(alloc, &plan, none, 1, "[\"b\",1, \"b\"]")?;
-    let two = with_document(alloc, &plan, one, 3, "[ 2,{}]")?;
-    Ok(all_written(alloc, two)?)
+/// What a form writes of the items at these places of two documents, each with the fault of another line
+/// behind it.
+fn answered<F: Form + Drop>(alloc: Global, one: &[u32], other: &[u32]) -> Result<Vec<u8>, Fail> {
+    let mut form = F::new(alloc, &Head::none());
+    add_items(alloc, &mut form, 1, "[\"b\",1, \"b\"]", one)?;
+    add_items(alloc, &mut form, 3, "[ 2,{}]", other)?;
+    Ok(all_written(alloc, form)?)
 }
 
 /// Whether a form writes this of them.
-fn answers<F: Form + Drop>(alloc: Global, query: &str, wanted: &str) -> Result<bool, Fail> {
-    Ok(answered::<F>(alloc, query)?.as_slice() == wanted.as_bytes())
+fn answers<F: Form + Drop>(
+    alloc: Global,
+    (one, other): (&[u32], &[u32]),
+    wanted: &str,
+) -> Result<bool, Fail> {
+    Ok(answered::<F>(alloc, one, other)?.as_slice() == wanted.as_bytes())
 }
 
 #[test]
 fn two_documents_and_faults(rt: HostRuntime) -> Result<(), Fail> {
     let alloc = rt.alloc();
-    let rows = [
+    let rows: [((&[u32], &[u32]), &str, &str, &str); 4] = [
         (
-            "$[*,0]",
+            (&[0, 1, 2, 0], &[0, 1, 0]),
             "\"b\"\n1\n\"b\"\n\"b\"\n2\n{}\n2\n",
             "b\n1\nb\nb\n2\n{}\n2\n",
             "[\"b\",1, \"b\"]\n[ 2,{}]\n",
         ),
-        ("$[2]", "\"b\"\n", "b\n", "[\"b\",1, \"b\"]\n"),
-        ("$[?@==2]", "2\n", "2\n", "[ 2,{}]\n"),
-        ("$.a", "", "", ""),
+        ((&[2], &[]), "\"b\"\n", "b\n", "[\"b\",1, \"b\"]\n"),
+        ((&[], &[0]), "2\n", "2\n", "[ 2,{}]\n"),
+        ((&[], &[]), "", "", ""),
     ];
-    for (query, values, texts, lines) in &rows {
-        assert!(rt; answers::<ValueLines>(alloc, query, values)?);
-        assert!(rt; answers::<TextLines>(alloc, query, texts)?);
-        assert!(rt; answers::<InputLines>(alloc, query, lines)?);
+    for (places, values, texts, lines) in &rows {
+        assert!(rt; answers::<ValueLines>(alloc, *places, values)?);
+        assert!(rt; answers::<TextLines>(alloc, *places, texts)?);
+        assert!(rt; answers::<InputLines>(alloc, *places, lines)?);
     }
     Ok(())
 }
