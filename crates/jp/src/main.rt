@@ -11,7 +11,7 @@ ghost use Rattle.std.specs.Prelude.{◌≡◌, ◌^◌, ◌≤◌, false};
 use jp_program::{Inputs, program, refuse_words, tell};
 use jp_run::{FromWriter, RunFault, Sink, Source};
 use standard_input::{PIECES, StandardInput, read_beside};
-use std::alloc::{AllocGlobal, Global};
+use std::alloc::{AllocError, Global};
 use std::io::{self, ErrorKind, Input};
 use std::process::ExitCode;
 use std::thread::{self, Threads};
@@ -33,11 +33,15 @@ fn main(rt: HostRuntime) -> ExitCode {
         Ok(None) => return ExitCode::from(refuse_words(rt.alloc(), &mut notes)),
         Err(fault) => return end_with(rt.alloc(), &mut notes, &fault),
     };
+    let Ok(words) = texts_of(rt.alloc(), &given) else {
+        return end_with(rt.alloc(), &mut notes, &RunFault::Memory);
+    };
     let never_waits = is_file(&rt);
     let mut inputs = SystemInputs::new(&rt, never_waits);
     if never_waits {
         let mut source = SystemSource::input(rt.reader(), true);
-        return run_words(&rt, &given, &mut inputs, &mut source, &mut sink, &mut notes);
+        let status = program(&rt, &words, &mut inputs, &mut source, &mut sink, &mut notes);
+        return ExitCode::from(status);
     }
     let (Ok((to, from)), Ok((wanted, asked))) = (
         crossbeam_channel::bounded(rt.alloc(), PIECES),
@@ -50,10 +54,12 @@ fn main(rt: HostRuntime) -> ExitCode {
     });
     if beside.is_err() {
         let mut source = SystemSource::input(rt.reader(), false);
-        return run_words(&rt, &given, &mut inputs, &mut source, &mut sink, &mut notes);
+        let status = program(&rt, &words, &mut inputs, &mut source, &mut sink, &mut notes);
+        return ExitCode::from(status);
     }
     let mut source = SystemSource::beside(StandardInput::new(&rt, wanted, from));
-    run_words(&rt, &given, &mut inputs, &mut source, &mut sink, &mut notes)
+    let status = program(&rt, &words, &mut inputs, &mut source, &mut sink, &mut notes);
+    ExitCode::from(status)
 }
 
 /// The words of the command line; none where one of them is no UTF-8.
@@ -65,34 +71,16 @@ fn given_words(rt: &HostRuntime) -> Result<Option<Vec<String>>, RunFault> {
     }
 }
 
+/// The same words, as the program takes them.
+fn texts_of(alloc: Global, words: &[String]) -> Result<Vec<&str>, AllocError> {
+    words.iter().map(|word| word.as_str()).collect(alloc)
+}
+
 /// Whether standard input is a file. Where the system does not say it is none.
 fn is_file(rt: &HostRuntime) -> bool {
     match fs::metadata(rt, "/dev/stdin") {
         Ok(metadata) => metadata.is_file(),
         Err(_) => false,
-    }
-}
-
-/// Runs the program over these words and ends, and gives what it ends with.
-fn run_words<R: Threads + AllocGlobal + Sync, I: Inputs<S>, S: Source<K>, K: Sink, N: Sink>(
-    rt: &R,
-    given: &[String],
-    inputs: &mut I,
-    source: &mut S,
-    sink: &mut K,
-    notes: &mut N,
-) -> ExitCode
-    requires working { (S.failed source.old ≡ false) × (K.failed sink.old ≡ false) }
-    requires few { (S.reads source.old ≤ 2 ^ 62) × (S.given source.old ≤ 2 ^ 62)
-        × (I.opens inputs.old ≤ 2 ^ 62) }
-{
-    match given
-        .iter()
-        .map(|word| word.as_str())
-        .collect::<Vec<&str>>(rt.alloc())
-    {
-        Ok(words) => ExitCode::from(program(rt, &words, inputs, source, sink, notes)),
-        Err(_) => end_with(rt.alloc(), notes, &RunFault::Memory),
     }
 }
 

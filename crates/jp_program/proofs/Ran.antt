@@ -2,7 +2,7 @@
 use Rattle.std.proofs.Common.{◌≡◌, ◌∙◌, ℕ, ◌<◌, ◌≤◌, ◌^◌, ◌⊎◌, inl, inr, Bool, true, false, List, []}
 use Rattle.std.proofs.Common.{◌∷◌, length, map}
 use Rattle.std.proofs.Common.{Option, Some, None, IfSome, Result, Ok, Err, IfOk, IfErr, OnOk, OnErr}
-use Rattle.std.proofs.Common.{refl, subst, sym, ap, arith}
+use Rattle.std.proofs.Common.{refl, subst, sym, ap, arith, Vec, Global, vec_len}
 use Rattle.std.proofs.KnownBytes.{Consumes-nil}
 use Rattle.std.proofs.lemmas.List.Elements.{All-nil, All-cons, All-head}
 use Rattle.std.proofs.lemmas.Grind.{common_steps}
@@ -365,18 +365,24 @@ module _ (w : Wanted) (some : 0 < length w.files) (holds : Text → Held) (first
 names_long : (names : List (Bor Text)) → length (texts names) ≡ length names
 names_long names = rw length-map refl
 
--- whether files are named
-pub no_files : (b : Bool) (names items : List (Bor Text)) → names ≡ items → b ≡ (length names == 0) → b ≡ true
-    → texts items ≡ []
-no_files b [] items same is e = ap texts (sym same)
-no_files b (name ∷ names) items same is e =
+none_of : (b : Bool) (names : List (Bor Text)) → b ≡ (length names == 0) → b ≡ true → texts names ≡ []
+none_of b [] is e = refl
+none_of b (name ∷ names) is e =
     absurd (let some : 0 < length (name ∷ names) = omega arith in grind (arith, is, e, some, common_steps))
 
-pub some_files : (b : Bool) (names items : List (Bor Text)) → names ≡ items → b ≡ (length names == 0)
-    → b ≡ false → 0 < length (texts items)
-some_files b [] items same is e = absurd (let k : true ≡ false = sym is ∙ e in cc)
-some_files b (name ∷ names) items same is e =
-    subst (λ ns. 0 < length (texts ns)) same (omega arith)
+some_of : (b : Bool) (names : List (Bor Text)) → b ≡ (length names == 0) → b ≡ false
+    → 0 < length (texts names)
+some_of b [] is e = absurd (let k : true ≡ false = sym is ∙ e in cc)
+some_of b (name ∷ names) is e = omega arith
+
+-- whether files are named
+pub no_files : (b : Bool) (files : Vec (Bor Text) Global) → b ≡ (vec_len files == 0) → b ≡ true
+    → texts files.items ≡ []
+no_files b files is e = none_of b files.items (is ∙ ap (λ n. n == 0) files.ok.0) e
+
+pub some_files : (b : Bool) (files : Vec (Bor Text) Global) → b ≡ (vec_len files == 0) → b ≡ false
+    → 0 < length (texts files.items)
+some_files b files is e = some_of b files.items (is ∙ ap (λ n. n == 0) files.ok.0) e
 
 pub both_files : (w : Wanted) → 0 < length w.files → w.files ≡ [] → ⊥
 both_files w some none = let is : length w.files ≡ 0 = ap length none in omega (arith, some, is)

@@ -305,8 +305,7 @@ fn done<R: Threads + AllocGlobal + Sync, S: Source<K>, I: Inputs<S>, K: Sink, N:
             witness.numbers = wanted.settings.numbers;
             witness.cutting = wanted.settings.cutting;
             witness.tells_nothing = wanted.exit_status;
-            let names = wanted.files.as_slice();
-            let is_alone = names.is_empty();
+            let is_alone = wanted.files.is_empty();
             witness.passes_files = wanted.settings.on_fault == OnFault::KeepGoing && !is_alone;
             let search = Search {
                 rt,
@@ -317,7 +316,7 @@ fn done<R: Threads + AllocGlobal + Sync, S: Source<K>, I: Inputs<S>, K: Sink, N:
             if is_alone {
                 return run_named(&search, "-", source, sink);
             }
-            answer_files(&search, names, inputs, source, sink, notes)
+            answer_files(&search, inputs, source, sink, notes)
         }
     }
 }

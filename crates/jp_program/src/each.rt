@@ -3,7 +3,6 @@
 ghost use Rattle.std.specs.Prelude.{◌≡◌, ◌<◌, ◌≤◌, ◌^◌, ◌⊎◌, ℕ, true, false, None, map, length, IfOk, IfErr};
 ghost use Rattle.std.specs.Prelude.{OnOk, IsErrOf, ◌||◌};
 ghost use Rattle.std.specs.Io.KnownBytes.{IsAtEnd};
-ghost use Rattle.clap.specs.Walk.{texts};
 ghost use Rattle.jp_doc.specs.declared.fault.DocFault.{DocFault as Fault};
 ghost use Rattle.jp_answer.specs.declared.on_fault.OnFault.TheVariants.{Stop, KeepGoing};
 ghost use Rattle.jp_run.specs.Counts.{counted};
@@ -31,7 +30,7 @@ struct Seen {
     has_failed: bool,
 }
 
-/// Answers the files of these names in turn, up to the first that ends in a fault. Where the answer keeps
+/// Answers the files that are named in turn, up to the first that ends in a fault. Where the answer keeps
 /// going a file that cannot be opened or read is told and passed, and the fault comes behind the last one.
 /// Gives what was seen of all.
 pub(crate) fn answer_files<
@@ -42,7 +41,6 @@ pub(crate) fn answer_files<
     N: Sink,
 >(
     search: &Search<'_, '_, '_, '_, R>,
-    names: &[&str],
     inputs: &mut I,
     source: &mut S,
     sink: &mut K,
@@ -50,28 +48,28 @@ pub(crate) fn answer_files<
 ) -> Result<Totals, RunFault>
     requires working { (S.failed source.old ≡ false) × (K.failed sink.old ≡ false) }
     requires taken { IsPrepared search.now.wanted.now search.now.prepared.now }
-    requires some { 0 < length names.now }
+    requires some { 0 < length search.now.wanted.now.files.items }
     requires few { I.opens inputs.old ≤ 2 ^ 62 }
     ensures finished { IfOk result (λ totals. totals.faulty ≡ 0
         → EachInTurn (IsAnswered (wanted_of search.now.wanted.now) None)
-        (map (named (I.holds inputs.old)) (texts names.now)) (K.contents sink.old)
+        (map (named (I.holds inputs.old)) (wanted_of search.now.wanted.now).files) (K.contents sink.old)
         (K.contents sink.new)) }
     ensures past { IfOk result (λ totals. 0 < totals.faulty
         → ((wanted_of search.now.wanted.now).on_fault ≡ KeepGoing)
         × ArePassed (wanted_of search.now.wanted.now)
-        (map (named (I.holds inputs.old)) (texts names.now)) (K.contents sink.old)
+        (map (named (I.holds inputs.old)) (wanted_of search.now.wanted.now).files) (K.contents sink.old)
         (K.contents sink.new)) }
     ensures nothing { IfOk result (λ totals. totals.wrote ≡ false
         → AreEmptyAnswers (wanted_of search.now.wanted.now)
-        (map (named (I.holds inputs.old)) (texts names.now))) }
+        (map (named (I.holds inputs.old)) (wanted_of search.now.wanted.now).files)) }
     ensures something { IfOk result (λ totals. totals.wrote ≡ true
         → AreKnownEmptyAnswers (wanted_of search.now.wanted.now)
-        (map (named (I.holds inputs.old)) (texts names.now)) → ⊥) }
+        (map (named (I.holds inputs.old)) (wanted_of search.now.wanted.now).files) → ⊥) }
     ensures end { OnOk result (IsAtEnd (S.remaining source.new)) }
     ensures flushed { OnOk result (K.flushed sink.new ≡ true) }
     ensures still_working { OnOk result ((S.failed source.new ≡ false) × (K.failed sink.new ≡ false)) }
     ensures opens { OnOk result (I.opens inputs.new
-        ≡ counted (I.opens inputs.old) (length names.now)) }
+        ≡ counted (I.opens inputs.old) (length search.now.wanted.now.files.items)) }
     ensures broken { OnOk result (I.broken inputs.new ≡ I.broken inputs.old) }
     ensures unbroken { (wanted_of search.now.wanted.now).on_fault ≡ Stop
         → I.broken inputs.new ≡ I.broken inputs.old }
@@ -83,7 +81,7 @@ pub(crate) fn answer_files<
       reads_new = S.reads source.new;
       source_failed = S.failed source.new;
       sink_failed = K.failed sink.new;
-    }) (map (named (I.holds inputs.old)) (texts names.now)) (record {
+    }) (map (named (I.holds inputs.old)) (wanted_of search.now.wanted.now).files) (record {
       opens = I.opens inputs.old;
       opens_new = I.opens inputs.new;
       broken = I.broken inputs.old;
@@ -96,6 +94,7 @@ pub(crate) fn answer_files<
         totals: NOTHING_SEEN,
         has_failed: false,
     };
+    let names = search.wanted.files.as_slice();
     for name in names {
         let next = answer_next(search, name, seen.has_failed, inputs, source, sink, notes)?;
         seen = both(&seen, &next);

@@ -35,6 +35,14 @@ pub(crate) struct Witness {
     texts: [OnceBox<String>; 10],
 }
 
+/// A line that is faulty.
+#[derive(Clone, Copy)]
+struct FaultyLine<'l> {
+    number: u64,
+    bytes: &'l [u8],
+    fault: &'l DocFault,
+}
+
 /// The line of what helps with a faulty line, if that is known.
 fn help_of(
     alloc: Global,
@@ -109,14 +117,17 @@ impl Witness {
     fn text_of(
         &self,
         alloc: Global,
-        number: u64,
-        line: &[u8],
-        fault: &DocFault,
+        line: &FaultyLine<'_>,
         explanation: &Option<LineExplanation>,
     ) -> Result<String, AllocError> {
+        let FaultyLine {
+            number,
+            bytes,
+            fault,
+        } = line;
         match (self.cutting, explanation) {
-            (Cutting::Lines, Some(told)) => write_line_mark(alloc, number, line, told),
-            (Cutting::Documents, Some(told)) => write_document_mark(alloc, number, line, told),
+            (Cutting::Lines, Some(told)) => write_line_mark(alloc, *number, bytes, told),
+            (Cutting::Documents, Some(told)) => write_document_mark(alloc, *number, bytes, told),
             (Cutting::Lines, None) => format!(in alloc; "line {number}: {fault}\n"),
             (Cutting::Documents, None) => format!(in alloc; "document {number}: {fault}\n"),
         }
@@ -127,16 +138,14 @@ impl Witness {
         &self,
         alloc: Global,
         name: Option<&str>,
-        number: u64,
-        line: &[u8],
-        fault: &DocFault,
+        line: &FaultyLine<'_>,
     ) -> Result<(), AllocError> {
-        let explanation = explain_line(alloc, line, fault, self.numbers)?;
+        let explanation = explain_line(alloc, line.bytes, line.fault, self.numbers)?;
         let _ = self.help.set(Box::new(alloc, help_of(alloc, &explanation, self.cutting)?)?);
         if !self.is_asked {
             return Ok(());
         }
-        let text = self.text_of(alloc, number, line, fault, &explanation)?;
+        let text = self.text_of(alloc, line, &explanation)?;
         if let Some(place) = self.place() {
             let _ = place.set(Box::new(alloc, behind_name(alloc, name, text)?)?);
         }
@@ -201,6 +210,11 @@ impl Gate for NamedWitness<'_, '_> {
 
     fn faulty(&self, alloc: Global, number: u64, line: &[u8], fault: &DocFault) {
         // Where memory for it is refused there is none, as for each note.
-        let _ = self.witness.keep(alloc, self.name, number, line, fault);
+        let line = FaultyLine {
+            number,
+            bytes: line,
+            fault,
+        };
+        let _ = self.witness.keep(alloc, self.name, &line);
     }
 }

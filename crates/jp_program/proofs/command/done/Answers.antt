@@ -1,7 +1,6 @@
 use Rattle.std.proofs.Common.{◌≡◌, ◌∙◌, ◌<◌, [], true, false, None, IfOk, IfErr}
 use Rattle.std.proofs.Common.{inl, inr, refl, ap, subst, sym}
 use Rattle.std.proofs.Common.{map}
-use Rattle.clap.specs.Walk.{texts}
 use Rattle.jp_answer.specs.declared.on_fault.OnFault.TheVariants.{KeepGoing}
 use Rattle.jp_run.proofs.Accepted.{none_refused, refusal_told, refused_so}
 use Rattle.jp_run.proofs.Handing.{at_ok}
@@ -148,7 +147,7 @@ run_named-requires-clause-taken g c κs outlives =
 pub returns-then-is_alone-clause-finished : goal.returns-then-is_alone-clause-finished
 returns-then-is_alone-clause-finished g c =
     let w : Wanted = wanted_of c.in-Query.wanted in
-    let none = no_files _ _ _ c.as_slice-names.ensures.value c.is_empty-is_alone.ensures c.if-is_alone.true in
+    let none = no_files _ c.in-Query.wanted.files c.is_empty-is_alone.ensures c.if-is_alone.true in
     let holds = g.I.Inputs.holds c.args.inputs.now in
     let first = g.S.Supply.remaining c.args.source.now in
     let old = g.K.Sink.contents c.args.sink.now in
@@ -165,7 +164,7 @@ returns-then-is_alone-clause-finished g c =
 pub returns-then-is_alone-clause-past : goal.returns-then-is_alone-clause-past
 returns-then-is_alone-clause-past g c =
     let w : Wanted = wanted_of c.in-Query.wanted in
-    let none = no_files _ _ _ c.as_slice-names.ensures.value c.is_empty-is_alone.ensures c.if-is_alone.true in
+    let none = no_files _ c.in-Query.wanted.files c.is_empty-is_alone.ensures c.if-is_alone.true in
     let holds = g.I.Inputs.holds c.args.inputs.now in
     let first = g.S.Supply.remaining c.args.source.now in
     let old = g.K.Sink.contents c.args.sink.now in
@@ -195,7 +194,7 @@ returns-then-is_alone-clause-asks g c = λ on. at_ok c.run_named.result (
 pub returns-then-is_alone-clause-nothing : goal.returns-then-is_alone-clause-nothing
 returns-then-is_alone-clause-nothing g c = λ w wants.
     let v : Wanted = wanted_of c.in-Query.wanted in
-    let none = no_files _ _ _ c.as_slice-names.ensures.value c.is_empty-is_alone.ensures c.if-is_alone.true in
+    let none = no_files _ c.in-Query.wanted.files c.is_empty-is_alone.ensures c.if-is_alone.true in
     let holds = g.I.Inputs.holds c.args.inputs.now in
     let first = g.S.Supply.remaining c.args.source.now in
     subst (λ (x : Wanted). IfOk c.run_named.result (λ totals. totals.wrote ≡ false
@@ -206,7 +205,7 @@ returns-then-is_alone-clause-nothing g c = λ w wants.
 pub returns-then-is_alone-clause-something : goal.returns-then-is_alone-clause-something
 returns-then-is_alone-clause-something g c = λ w wants.
     let v : Wanted = wanted_of c.in-Query.wanted in
-    let none = no_files _ _ _ c.as_slice-names.ensures.value c.is_empty-is_alone.ensures c.if-is_alone.true in
+    let none = no_files _ c.in-Query.wanted.files c.is_empty-is_alone.ensures c.if-is_alone.true in
     let holds = g.I.Inputs.holds c.args.inputs.now in
     let first = g.S.Supply.remaining c.args.source.now in
     subst (λ (x : Wanted). IfOk c.run_named.result (λ totals. totals.wrote ≡ true
@@ -251,7 +250,7 @@ returns-then-is_alone-clause-fault g c =
     } in
     run_so _ w (wants_of _ _ _ c.in-Query.is c.in_ok-text.ensures.asked c.if-wanted.false)
     (g.I.Inputs.holds c.args.inputs.now) first course left _
-    (no_files _ _ _ c.as_slice-names.ensures.value c.is_empty-is_alone.ensures c.if-is_alone.true)
+    (no_files _ c.in-Query.wanted.files c.is_empty-is_alone.ensures c.if-is_alone.true)
     c.run_named.result c.run_named.ensures.goes_on
     c.run_named.ensures.fault
 
@@ -285,7 +284,7 @@ answer_files-requires-clause-taken g c κs outlives =
 pub returns-else-is_alone-clause-finished : goal.returns-else-is_alone-clause-finished
 returns-else-is_alone-clause-finished g c =
     let w : Wanted = wanted_of c.in-Query.wanted in
-    let some = some_files _ _ _ c.as_slice-names.ensures.value c.is_empty-is_alone.ensures
+    let some = some_files _ c.in-Query.wanted.files c.is_empty-is_alone.ensures
     c.if-is_alone.false in
     let holds = g.I.Inputs.holds c.args.inputs.now in
     let first = g.S.Supply.remaining c.args.source.now in
@@ -300,17 +299,14 @@ returns-else-is_alone-clause-finished g c =
     (λ x. AreOpened x opens (g.I.Inputs.opens c.answer_files.new.inputs) broken
     (g.I.Inputs.broken c.answer_files.new.inputs)) _ _ _ _ _ _ r
     (at_ok r (taken_by _ w refl (_, c.in_ok-prepared-in-Query.ensures.ok)))
-    (finished_files w some holds first r old new (subst (λ ns. IfOk r (λ totals. totals.faulty ≡ 0
-    → EachInTurn (IsAnswered w None) (map (named holds) (texts ns)) old new))
-    c.as_slice-names.ensures.value said.finished))
-    (opened_files r w c.as_slice-names.result.now opens _ broken _
-    (ap texts (sym c.as_slice-names.ensures.value)) said.opens said.broken)
+    (finished_files w some holds first r old new said.finished)
+    (opened_files r w c.in-Query.wanted.files.items opens _ broken _ refl said.opens said.broken)
     said.end said.flushed said.still_working
 
 pub returns-else-is_alone-clause-past : goal.returns-else-is_alone-clause-past
 returns-else-is_alone-clause-past g c =
     let w : Wanted = wanted_of c.in-Query.wanted in
-    let some = some_files _ _ _ c.as_slice-names.ensures.value c.is_empty-is_alone.ensures
+    let some = some_files _ c.in-Query.wanted.files c.is_empty-is_alone.ensures
     c.if-is_alone.false in
     let holds = g.I.Inputs.holds c.args.inputs.now in
     let first = g.S.Supply.remaining c.args.source.now in
@@ -324,11 +320,8 @@ returns-else-is_alone-clause-past g c =
     (λ x. ArePassed x (inputs_of x.files holds first) old new)
     (λ x. AreOpened x opens (g.I.Inputs.opens c.answer_files.new.inputs) broken
     (g.I.Inputs.broken c.answer_files.new.inputs)) _ _ _ _ r
-    (past_files w some holds first r old new (subst (λ ns. IfOk r (λ totals. 0 < totals.faulty
-    → (w.on_fault ≡ KeepGoing) × ArePassed w (map (named holds) (texts ns)) old new))
-    c.as_slice-names.ensures.value said.past))
-    (opened_files r w c.as_slice-names.result.now opens _ broken _
-    (ap texts (sym c.as_slice-names.ensures.value)) said.opens said.broken)
+    (past_files w some holds first r old new said.past)
+    (opened_files r w c.in-Query.wanted.files.items opens _ broken _ refl said.opens said.broken)
     said.end said.flushed said.still_working
 
 pub returns-else-is_alone-clause-asked : goal.returns-else-is_alone-clause-asked
@@ -346,7 +339,7 @@ returns-else-is_alone-clause-asks g c = λ on. at_ok c.answer_files.result (
 pub returns-else-is_alone-clause-nothing : goal.returns-else-is_alone-clause-nothing
 returns-else-is_alone-clause-nothing g c = λ w wants.
     let v : Wanted = wanted_of c.in-Query.wanted in
-    let some = some_files _ _ _ c.as_slice-names.ensures.value c.is_empty-is_alone.ensures
+    let some = some_files _ c.in-Query.wanted.files c.is_empty-is_alone.ensures
     c.if-is_alone.false in
     let holds = g.I.Inputs.holds c.args.inputs.now in
     let first = g.S.Supply.remaining c.args.source.now in
@@ -354,14 +347,12 @@ returns-else-is_alone-clause-nothing g c = λ w wants.
     → AreEmptyAnswers x (inputs_of x.files holds first)))
     (sym (asked_is _ _ _ w c.in-Query.is c.in_ok-text.ensures.asked wants.0))
     (nothing_files v some holds first c.answer_files.result
-    (subst (λ ns. IfOk c.answer_files.result (λ totals. totals.wrote ≡ false
-    → AreEmptyAnswers v (map (named holds) (texts ns)))) c.as_slice-names.ensures.value
-    c.answer_files.ensures.nothing))
+    c.answer_files.ensures.nothing)
 
 pub returns-else-is_alone-clause-something : goal.returns-else-is_alone-clause-something
 returns-else-is_alone-clause-something g c = λ w wants.
     let v : Wanted = wanted_of c.in-Query.wanted in
-    let some = some_files _ _ _ c.as_slice-names.ensures.value c.is_empty-is_alone.ensures
+    let some = some_files _ c.in-Query.wanted.files c.is_empty-is_alone.ensures
     c.if-is_alone.false in
     let holds = g.I.Inputs.holds c.args.inputs.now in
     let first = g.S.Supply.remaining c.args.source.now in
@@ -369,9 +360,7 @@ returns-else-is_alone-clause-something g c = λ w wants.
     → AreKnownEmptyAnswers x (inputs_of x.files holds first) → ⊥))
     (sym (asked_is _ _ _ w c.in-Query.is c.in_ok-text.ensures.asked wants.0))
     (something_files v some holds first c.answer_files.result
-    (subst (λ ns. IfOk c.answer_files.result (λ totals. totals.wrote ≡ true
-    → AreKnownEmptyAnswers v (map (named holds) (texts ns)) → ⊥)) c.as_slice-names.ensures.value
-    c.answer_files.ensures.something))
+    c.answer_files.ensures.something)
 
 pub returns-else-is_alone-clause-refused : goal.returns-else-is_alone-clause-refused
 returns-else-is_alone-clause-refused g c = λ f w wants v.
@@ -407,7 +396,7 @@ returns-else-is_alone-clause-query g c = λ f e two.
       source_failed = g.S.Supply.failed c.answer_files.new.source;
       sink_failed = g.K.Sink.failed c.answer_files.new.sink;
     } in
-    let given = map (named (g.I.Inputs.holds c.args.inputs.now)) (texts c.as_slice-names.result.now) in
+    let given = map (named (g.I.Inputs.holds c.args.inputs.now)) w.files in
     let taken = c.in_ok-prepared-in-Query.ensures.ok in
     none_refused _ _ _ refl _ f taken (query_ended w left given course f two
     (at_fault c.answer_files.result f (FilesEnded w left given course) e c.answer_files.ensures.fault))
@@ -420,7 +409,7 @@ returns-else-is_alone-clause-unbroken g c = λ w wants off. c.answer_files.ensur
 pub returns-else-is_alone-clause-fault : goal.returns-else-is_alone-clause-fault
 returns-else-is_alone-clause-fault g c =
     let w : Wanted = wanted_of c.in-Query.wanted in
-    let some = some_files _ _ _ c.as_slice-names.ensures.value c.is_empty-is_alone.ensures
+    let some = some_files _ c.in-Query.wanted.files c.is_empty-is_alone.ensures
     c.if-is_alone.false in
     let holds = g.I.Inputs.holds c.args.inputs.now in
     let course : Course = record {
@@ -440,13 +429,11 @@ returns-else-is_alone-clause-fault g c =
     } in
     files_so _ w (wants_of _ _ _ c.in-Query.is c.in_ok-text.ensures.asked c.if-wanted.false) holds
     (g.S.Supply.remaining c.args.source.now) course left _ some c.answer_files.result
-    c.answer_files.ensures.goes_on (subst (λ ns. IfErr c.answer_files.result
-    (FilesEnded w (file_left left) (map (named holds) (texts ns)) course))
-    c.as_slice-names.ensures.value c.answer_files.ensures.fault)
+    c.answer_files.ensures.goes_on c.answer_files.ensures.fault
 
 pub returns-else-is_alone-clause-prompt : goal.returns-else-is_alone-clause-prompt
 returns-else-is_alone-clause-prompt g c = λ w wants none.
-    let some = some_files _ _ _ c.as_slice-names.ensures.value c.is_empty-is_alone.ensures
+    let some = some_files _ c.in-Query.wanted.files c.is_empty-is_alone.ensures
     c.if-is_alone.false in
     let same = asked_is _ _ _ w c.in-Query.is c.in_ok-text.ensures.asked wants.0 in
     absurd (both_files (wanted_of c.in-Query.wanted) some
@@ -454,7 +441,7 @@ returns-else-is_alone-clause-prompt g c = λ w wants none.
 
 pub returns-else-is_alone-clause-window : goal.returns-else-is_alone-clause-window
 returns-else-is_alone-clause-window g c = λ w wants none.
-    let some = some_files _ _ _ c.as_slice-names.ensures.value c.is_empty-is_alone.ensures
+    let some = some_files _ c.in-Query.wanted.files c.is_empty-is_alone.ensures
     c.if-is_alone.false in
     let same = asked_is _ _ _ w c.in-Query.is c.in_ok-text.ensures.asked wants.0 in
     absurd (both_files (wanted_of c.in-Query.wanted) some

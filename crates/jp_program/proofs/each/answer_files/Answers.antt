@@ -1,4 +1,4 @@
-use Rattle.std.proofs.Common.{◌∙◌, ◌+◌, List, None, inl}
+use Rattle.std.proofs.Common.{◌∙◌, ◌+◌, List, None, IfErr, inl}
 use Rattle.std.proofs.Common.{take, map}
 use Rattle.std.proofs.Common.{refl, sym, ap, subst, arith}
 use Rattle.std.proofs.lemmas.List.Elements.{All-nil}
@@ -45,7 +45,7 @@ loop-name-preserved g c =
     let w : Wanted = wanted_of c.args.search.now.wanted.now in
     let holds = g.I.Inputs.holds c.args.inputs.now in
     let held = g.I.Inputs.holds c.loop-name.inputs in
-    let names = c.args.names.now in
+    let names = c.as_slice-names.result.now in
     let i = c.loop-name.name-index in
     let xs : List Input = map (named holds) (texts names) in
     let h = c.loop-name-test.true in
@@ -99,7 +99,7 @@ returns-in_err-next-clause-fault g c =
     let w : Wanted = wanted_of c.args.search.now.wanted.now in
     let holds = g.I.Inputs.holds c.args.inputs.now in
     let held = g.I.Inputs.holds c.loop-name.inputs in
-    let names = c.args.names.now in
+    let names = c.as_slice-names.result.now in
     let i = c.loop-name.name-index in
     let xs : List Input = map (named holds) (texts names) in
     let e : Left = record {
@@ -118,9 +118,11 @@ returns-in_err-next-clause-fault g c =
       contents = g.K.Sink.contents c.args.sink.now;
       contents_new = g.K.Sink.contents c.answer_next.new.sink;
     } in
-    told _ _ (FilesEnded w e xs course) c.from_residual.ensures.1 (inl (
+    let ended = told _ _ (FilesEnded w e xs course) c.from_residual.ensures.1 (inl (
       c.in_err-next.ensures.goes_past,
       file_ended holds held inv.same names i _ c.loop-name-test.true (IsWholeOrCut w) (RunEnded w e _) mid
           inv.come.0 course inv.come.1 c.in_err-next.ensures.fault
           (omega (arith, c.answer_next.ensures.opens, inv.opens)) (c.answer_next.ensures.broken ∙ inv.come.2),
-    ))
+    )) in
+    subst (λ ns. IfErr c.from_residual.result (FilesEnded w e (map (named holds) (texts ns)) course))
+    c.as_slice-names.ensures.value ended
