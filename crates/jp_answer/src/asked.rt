@@ -3,7 +3,7 @@
 ghost use Rattle.jp_answer.specs.Ranges.{AreWorkers};
 
 use crate::policy::LinePolicy;
-use jp_compiled::Query;
+use jp_compiled::CompiledQuery;
 use jp_eval::DocumentFilter;
 use jp_output::Head;
 
@@ -11,7 +11,7 @@ use jp_output::Head;
 #[derive(Clone, Copy, Drop)]
 pub struct Asked<'q> {
     /// The query.
-    pub query: &'q Query,
+    pub query: &'q CompiledQuery,
     /// The filter of which the documents are true that are answered, if there is one.
     pub filter: Option<DocumentFilter<'q>>,
     /// What stands before each line, in a form whose lines have a head.

@@ -10,7 +10,7 @@ ghost use Rattle.jp_answer.specs.FilteredQuery.{is_chosen, selected_nodes};
 use crate::asked::Asked;
 use crate::crew::Crew;
 use crate::walking::Walking;
-use jp_eval::{DocumentFilter, EvalFault, Evaluator, OpenFork};
+use jp_eval::{DocumentFilter, EvalFault, Evaluator, Halving, OpenFork};
 use jp_node::{Part, Visit};
 use std::alloc::Global;
 use std::thread::Threads;
@@ -65,9 +65,14 @@ impl<'q> FilteredEvaluator<'q> {
             return Ok(());
         }
         match walk {
-            Walking::ByHalves(cuts) => self
-                .evaluator
-                .visit_part_split(crew.rt, root, cuts, &OpenFork, visitor),
+            Walking::ByHalves(cuts) => {
+                let halving = Halving {
+                    cuts,
+                    fork: &OpenFork,
+                };
+                self.evaluator
+                    .visit_part_split(crew.rt, root, halving, visitor)
+            }
             Walking::Straight => self.evaluator.visit_part(root, visitor),
         }
     }

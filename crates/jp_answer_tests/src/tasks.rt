@@ -2,7 +2,7 @@
 
 use jp_answer::{Answerer, Asked, Crew, LinePolicy, OnFault, Outcome, Task};
 use jp_buffer::WaitingLines;
-use jp_compiled::Query;
+use jp_compiled::CompiledQuery;
 use jp_number::Numbers;
 use jp_output::{Head, NodeLines, join_chunks};
 use std::alloc::Global;
@@ -49,7 +49,11 @@ pub(crate) fn many_lines(alloc: Global, text: &str, count: u64) -> Option<Waitin
 }
 
 /// What is asked by a query behind a head, by a policy, of one worker.
-pub(crate) fn asked_of<'q>(query: &'q Query, head: &'q Head, policy: LinePolicy) -> Asked<'q> {
+pub(crate) fn asked_of<'q>(
+    query: &'q CompiledQuery,
+    head: &'q Head,
+    policy: LinePolicy,
+) -> Asked<'q> {
     Asked {
         query,
         filter: None,

@@ -7,8 +7,8 @@ use Rattle.jp_tree.specs.Tree as tree
 use Rattle.jp_compiled.specs.Parts.{Wanted, wanted, truth_of, wanted_in, tested_in, logical_in}
 use Rattle.jp_compiled.specs.Parts.{roots_of}
 use Rattle.jp_compiled.specs.Uniform.{wanted_uniform, are_uniform}
-use Rattle.jp_compiled.specs.declared.query.Logical.{Logical}
-use Rattle.jp_compiled.specs.declared.query.Logical.TheVariants as log
+use Rattle.jp_compiled.specs.declared.query.CompiledLogical.{CompiledLogical}
+use Rattle.jp_compiled.specs.declared.query.CompiledLogical.TheVariants as log
 use Rattle.jp_compiled.specs.declared.query.RootPart.{RootPart}
 use Rattle.jp_compiled.specs.declared.query.RootPart.TheVariants as part
 use Rattle.jp_compiled.specs.declared.query.Want.{Want}
@@ -40,7 +40,8 @@ query_uniform want.Only ss = refl
 query_uniform want.Distinct ss = refl
 
 -- an expression that is listed is what it was
-pub once_listed : (rs more : List RootPart) (l : Logical) (slot : ℕ) (all : List Wanted) → slot ≡ length rs
+pub once_listed : (rs more : List RootPart) (l : CompiledLogical) (slot : ℕ) (all : List Wanted)
+    → slot ≡ length rs
     → more ≡ rs ++ part.Test l ∷ [] → Begins (roots_of more) all
     → logical_in all (log.Once slot) ≡ logical_in (roots_of rs) l
 once_listed rs more l slot all at e h =
@@ -49,7 +50,7 @@ once_listed rs more l slot all at e h =
     ∙ ap tested_in (slot_found rs more (part.Test l) all (truth_of (tree.all tree.no_logicals)) e h)
 
 -- what holds of a list and one more holds of the list, and of one more
-split : {T : Type 0} (f g : Logical → T) (done : List Logical) (l : Logical)
+split : {T : Type 0} (f g : CompiledLogical → T) (done : List CompiledLogical) (l : CompiledLogical)
     → map f (done ++ l ∷ []) ≡ map g (done ++ l ∷ []) → (map f done ≡ map g done) × (f l ≡ g l)
 split f g [] l e = (refl, ap (λ xs. get_or xs 0 (g l)) e)
 split f g (d ∷ done) l e =
@@ -57,7 +58,8 @@ split f g (d ∷ done) l e =
     (ap₂ (λ x xs. x ∷ xs) (ap (λ xs. get_or xs 0 (g d)) e) rest.0, rest.1)
 
 -- the expressions that were made of those that went before, and of one more
-pub more_made : (first before now : List Wanted) (done made after : List Logical) (l k : Logical)
+pub more_made : (first before now : List Wanted) (done made after : List CompiledLogical)
+    (l k : CompiledLogical)
     → after ≡ made ++ k ∷ [] → Begins first before → Begins before now
     → ((x : List tree.Logical) → Reads first (λ all. map (logical_in all) done) x
     → Reads before (λ all. map (logical_in all) made) x)

@@ -14,7 +14,7 @@ use Rattle.jp_compiled.specs.declared.query.Want.{Want}
 use Rattle.jp_compiled.specs.declared.query.Want.TheVariants as want
 use Rattle.jp_compiled.specs.declared.query.RootPart.{RootPart}
 use Rattle.jp_compiled.specs.declared.query.RootPart.TheVariants as part
-use Rattle.jp_compiled.specs.declared.query.Segment.{Segment}
+use Rattle.jp_compiled.specs.declared.query.CompiledSegment.{CompiledSegment}
 
 pub begins_itself : (a : List Wanted) → Begins a a
 begins_itself a = ([], sym (append-nil a))
@@ -84,7 +84,8 @@ where_found want.Count ss = refl
 where_found want.Only ss = refl
 where_found want.Distinct ss = refl
 
-pub root_found : (rs more : List RootPart) (w : Want) (v : Vec Segment Global) (slot : ℕ) (all : List Wanted)
+pub root_found : (rs more : List RootPart) (w : Want) (v : Vec CompiledSegment Global) (slot : ℕ)
+    (all : List Wanted)
     → slot ≡ length rs → more ≡ rs ++ part.Query (record { want = w; segments = v }) ∷ []
     → Begins (roots_of more) all
     → root_at all slot w ≡ tree.query start.Root (segments_in (roots_of rs) v.items)

@@ -16,12 +16,12 @@ use Rattle.jp_compiled.specs.declared.known.KnownPattern.{KnownPattern}
 use Rattle.jp_compiled.specs.declared.query.Constant.{Constant}
 use Rattle.jp_compiled.specs.declared.query.ArgumentForm.{ArgumentForm}
 use Rattle.jp_compiled.specs.declared.query.ArgumentForm.TheVariants.{Bare, Expression}
-use Rattle.jp_compiled.specs.declared.query.Logical.{Logical}
-use Rattle.jp_compiled.specs.declared.query.Logical.TheVariants as log
+use Rattle.jp_compiled.specs.declared.query.CompiledLogical.{CompiledLogical}
+use Rattle.jp_compiled.specs.declared.query.CompiledLogical.TheVariants as log
 use Rattle.jp_compiled.specs.declared.query.Nodes.{Nodes}
 use Rattle.jp_compiled.specs.declared.query.Nodes.TheVariants as nod
-use Rattle.jp_compiled.specs.declared.query.Value.{Value}
-use Rattle.jp_compiled.specs.declared.query.Value.TheVariants as val
+use Rattle.jp_compiled.specs.declared.query.Giver.{Giver}
+use Rattle.jp_compiled.specs.declared.query.Giver.TheVariants as val
 use Rattle.jp_compiled.specs.declared.query.Want.TheVariants.{First, Count, Only}
 use Rattle.jp_compiled.proofs.CompiledViews.{any_read, all_read, not_read, compare_read, test_read}
 use Rattle.jp_compiled.proofs.CompiledViews.{match_read, match_known, search_read, search_known, xor_read}
@@ -76,7 +76,8 @@ one_behind (k ∷ ls) l h is =
 pub none_uniform : AreUniform []
 none_uniform = record { ask = λ all h. refl }
 
-pub one_more_uniform : (ls : List Logical) (i : ℕ) (l : Logical) → i < length ls → l ≡ get_or ls i l
+pub one_more_uniform : (ls : List CompiledLogical) (i : ℕ) (l : CompiledLogical) → i < length ls
+    → l ≡ get_or ls i l
     → AreUniform (take i ls) → IsUniform l → AreUniform (take (i + 1) ls)
 one_more_uniform ls i l h is before one = record {
   ask = λ all on.
@@ -87,16 +88,16 @@ one_more_uniform ls i l h is before one = record {
 
 -- ---- expressions
 
-pub any_uniform : (v : Vec Logical Global) → AreUniform v.items → IsUniform (log.Any v)
+pub any_uniform : (v : Vec CompiledLogical Global) → AreUniform v.items → IsUniform (log.Any v)
 any_uniform v parts = record { asks = λ all on. ap is_uniform (any_read all v) ∙ parts.ask all on }
 
-pub every_uniform : (v : Vec Logical Global) → AreUniform v.items → IsUniform (log.All v)
+pub every_uniform : (v : Vec CompiledLogical Global) → AreUniform v.items → IsUniform (log.All v)
 every_uniform v parts = record { asks = λ all on. ap is_uniform (all_read all v) ∙ parts.ask all on }
 
-pub not_uniform : (b : Box Logical Global) → IsUniform b.value → IsUniform (log.Not b)
+pub not_uniform : (b : Box CompiledLogical Global) → IsUniform b.value → IsUniform (log.Not b)
 not_uniform b part = record { asks = λ all on. ap is_uniform (not_read all b) ∙ part.asks all on }
 
-pub compare_uniform : (v : Value) (o : Operator) (w : Value) → IsUniformValue v → IsUniformValue w
+pub compare_uniform : (v : Giver) (o : Operator) (w : Giver) → IsUniformValue v → IsUniformValue w
     → IsUniform (log.Compare v o w)
 compare_uniform v o w left right = record {
   asks = λ all on. ap is_uniform (compare_read all v o w)
@@ -110,28 +111,29 @@ test_uniform q nodes = record {
       ∙ as_test (nodes_in all q First) (nodes.asks all First);
 }
 
-pub match_uniform : (v w : Value) → IsUniformValue v → IsUniformValue w → IsUniform (log.Match v w)
+pub match_uniform : (v w : Giver) → IsUniformValue v → IsUniformValue w → IsUniform (log.Match v w)
 match_uniform v w left right = record {
   asks = λ all on. ap is_uniform (match_read all v w) ∙ of_two _ _ (left.asks all) (right.asks all);
 }
 
-pub search_uniform : (v w : Value) → IsUniformValue v → IsUniformValue w → IsUniform (log.Search v w)
+pub search_uniform : (v w : Giver) → IsUniformValue v → IsUniformValue w → IsUniform (log.Search v w)
 search_uniform v w left right = record {
   asks = λ all on. ap is_uniform (search_read all v w) ∙ of_two _ _ (left.asks all) (right.asks all);
 }
 
-pub match_known_uniform : (v : Value) (k : KnownPattern) → IsUniformValue v → IsUniform (log.MatchRead v k)
+pub match_known_uniform : (v : Giver) (k : KnownPattern) → IsUniformValue v → IsUniform (log.MatchRead v k)
 match_known_uniform v k left = record {
   asks = λ all on. ap is_uniform (match_known all v k) ∙ of_two _ _ (left.asks all) refl;
 }
 
-pub search_known_uniform : (v : Value) (k : KnownPattern) → IsUniformValue v
+pub search_known_uniform : (v : Giver) (k : KnownPattern) → IsUniformValue v
     → IsUniform (log.SearchRead v k)
 search_known_uniform v k left = record {
   asks = λ all on. ap is_uniform (search_known all v k) ∙ of_two _ _ (left.asks all) refl;
 }
 
-pub xor_uniform : (f : ArgumentForm) (l : Box Logical Global) (g : ArgumentForm) (m : Box Logical Global)
+pub xor_uniform : (f : ArgumentForm) (l : Box CompiledLogical Global) (g : ArgumentForm)
+    (m : Box CompiledLogical Global)
     → IsUniform l.value → IsUniform m.value → IsUniform (log.Xor f l g m)
 xor_uniform f l g m left right = record {
   asks = λ all on. ap is_uniform (xor_read all f l g m)
@@ -168,7 +170,7 @@ single_uniform q nodes = record {
       ∙ as_single (nodes_in all q First) (nodes.asks all First);
 }
 
-pub length_uniform : (b : Box Value Global) → IsUniformValue b.value → IsUniformValue (val.Length b)
+pub length_uniform : (b : Box Giver Global) → IsUniformValue b.value → IsUniformValue (val.Length b)
 length_uniform b value = record {
   asks = λ all. ap (λ c. argument_uniform (as_argument c)) (length_read all b)
       ∙ of_one _ (value.asks all);

@@ -10,7 +10,7 @@ ghost use Rattle.jp_check.specs.inner.QuerySets.{query_set};
 ghost use Rattle.jp_check.specs.Verdict.{IsAcceptedIn};
 
 use crate::known::Known;
-use jp_compiled::{KnownPattern, Query as CompiledQuery};
+use jp_compiled::{CompiledQuery, KnownPattern};
 use jp_number::Numbers;
 use jp_tree::Query;
 

@@ -7,7 +7,7 @@ ghost use Rattle.jp_check.specs.inner.OneFilter.{one_filter_prop};
 ghost use Rattle.jp_compiled.specs.Filter.{filter_query};
 
 use crate::accepted::Plan;
-use jp_compiled::Query as CompiledQuery;
+use jp_compiled::CompiledQuery;
 use jp_number::Numbers;
 
 /// A filter by itself that is well-formed, valid and well-typed: what may stand behind `?` in `$[?FILTER]`

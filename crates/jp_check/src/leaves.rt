@@ -9,7 +9,7 @@ ghost use Rattle.jp_types.specs.Numbers as numbers;
 ghost use Rattle.jp_check.specs.inner.Making.{is_readable};
 ghost use Rattle.jp_compiled.specs.Parts as compiled;
 
-use jp_compiled::{Constant, Position, Slice, WholeNumber, WrittenNumber};
+use jp_compiled::{CompiledSlice, Constant, Position, WholeNumber, WrittenNumber};
 use jp_tree::Literal;
 use jp_types::{is_whole, position, whole_number};
 use std::alloc::{AllocError, Global};
@@ -39,14 +39,14 @@ fn make_part(alloc: Global, part: &Option<String>) -> Result<Option<Position>, A
 }
 
 /// The numbers of a slice.
-pub(crate) fn make_slice(alloc: Global, slice: &jp_tree::Slice) -> Result<Slice, AllocError>
+pub(crate) fn make_slice(alloc: Global, slice: &jp_tree::Slice) -> Result<CompiledSlice, AllocError>
     requires { list_all is_readable (numbers.selector_numbers (slice_of slice.now)) ≡ true }
     ensures { IfOk result (λ s. compiled.slice_of s ≡ slice_of slice.now) }
 {
     let first = make_part(alloc, &slice.first)?;
     let past = make_part(alloc, &slice.past)?;
     let step = make_part(alloc, &slice.step)?;
-    Ok(Slice { first, past, step })
+    Ok(CompiledSlice { first, past, step })
 }
 
 /// A whole number literal.

@@ -12,7 +12,7 @@ ghost use Rattle.jp_compiled.specs.Uniform.{are_uniform as all_ask_nothing};
 
 use crate::patterns::read_pattern;
 use crate::uniform::{are_uniform, is_uniform};
-use jp_compiled::{KnownPattern, Logical, RootPart, RootQuery, Segment, Want};
+use jp_compiled::{CompiledLogical, CompiledSegment, KnownPattern, RootPart, RootQuery, Want};
 use std::alloc::{AllocError, Global};
 use std::collections::BTreeMap;
 
@@ -48,7 +48,7 @@ impl Listed {
     pub(crate) fn add_query(
         &mut self,
         want: Want,
-        segments: Vec<Segment>,
+        segments: Vec<CompiledSegment>,
     ) -> Result<usize, AllocError>
         ensures root { IfOk result (λ slot. (all : List Wanted) → Begins (roots_of self.new.roots.items) all
             → root_at all slot want ≡ tree.query start.Root
@@ -63,7 +63,7 @@ impl Listed {
     }
 
     /// The expression, at a place of the list where it asks nothing of the current node.
-    pub(crate) fn once(&mut self, test: Logical) -> Result<Logical, AllocError>
+    pub(crate) fn once(&mut self, test: CompiledLogical) -> Result<CompiledLogical, AllocError>
         ensures made { IfOk result (λ l. ReadsOn self.old self.new (λ all. logical_in all test)
             (λ all. logical_in all l)) }
         ensures roots { OnOk result (KeepsRoots self.old self.new) }
@@ -77,7 +77,7 @@ impl Listed {
     }
 
     /// An expression that asks nothing of the current node, at the next place of the list.
-    fn add_test(&mut self, test: Logical) -> Result<Logical, AllocError>
+    fn add_test(&mut self, test: CompiledLogical) -> Result<CompiledLogical, AllocError>
         requires { IsUniform test }
         ensures made { IfOk result (λ l. (all : List Wanted) → Begins (roots_of self.new.roots.items) all
             → logical_in all l ≡ logical_in (roots_of self.old.roots.items) test) }
@@ -86,7 +86,7 @@ impl Listed {
     {
         let slot = self.roots.len();
         self.roots.push(RootPart::Test(test))?;
-        Ok(Logical::Once(slot))
+        Ok(CompiledLogical::Once(slot))
     }
 
     /// The parts, those at places of the list that ask nothing of the current node, unless all of them ask
@@ -94,8 +94,8 @@ impl Listed {
     pub(crate) fn apart(
         &mut self,
         alloc: Global,
-        parts: Vec<Logical>,
-    ) -> Result<Vec<Logical>, AllocError>
+        parts: Vec<CompiledLogical>,
+    ) -> Result<Vec<CompiledLogical>, AllocError>
         ensures made { IfOk result (λ v. ReadsOn self.old self.new (λ all. map (logical_in all) parts.items)
             (λ all. map (logical_in all) v.items)) }
         ensures roots { OnOk result (KeepsRoots self.old self.new) }
@@ -116,9 +116,9 @@ impl Listed {
     pub(crate) fn beside(
         &mut self,
         alloc: Global,
-        test: Box<Logical>,
-        other: &Logical,
-    ) -> Result<Box<Logical>, AllocError>
+        test: Box<CompiledLogical>,
+        other: &CompiledLogical,
+    ) -> Result<Box<CompiledLogical>, AllocError>
         ensures made { IfOk result (λ l. (f : ArgumentForm) → ReadsOn self.old self.new
             (λ all. truth_argument f (logical_in all test.value))
             (λ all. truth_argument f (logical_in all l.value))) }

@@ -22,7 +22,8 @@ use crate::leaves::{make_constant, make_position, make_slice};
 use crate::listed::Listed;
 use crate::patterns::literal_text;
 use jp_compiled::{
-    ArgumentForm, KnownPattern, Logical, Nodes, Query, Segment, Selector, Value, Want,
+    ArgumentForm, CompiledLogical, CompiledQuery, CompiledSegment, CompiledSelector, Giver,
+    KnownPattern, Nodes, Want,
 };
 use jp_tree::{Argument, Call, Comparable, Comparison, Start};
 use jp_types::{Function, function_named};
@@ -32,7 +33,7 @@ use std::alloc::{AllocError, Global};
 pub(crate) fn make_query(
     alloc: Global,
     query: &jp_tree::Query,
-) -> Result<(Query, Vec<KnownPattern>), AllocError>
+) -> Result<(CompiledQuery, Vec<KnownPattern>), AllocError>
     requires { IsSound (numbers.query_numbers (query_of query.now))
         (typing.query_typed (query_of query.now)) }
     ensures made { IfOk result (λ r. compiled_query r.0 ≡ query_of query.now) }
@@ -46,7 +47,7 @@ pub(crate) fn make_query(
         patterns,
         ..
     } = listed;
-    let compiled = Query {
+    let compiled = CompiledQuery {
         start: query.start,
         segments,
         roots,
@@ -59,7 +60,7 @@ fn make_segments(
     alloc: Global,
     segments: &[jp_tree::Segment],
     listed: &mut Listed,
-) -> Result<Vec<Segment>, AllocError>
+) -> Result<Vec<CompiledSegment>, AllocError>
     requires sound { IsSound (numbers.segments_numbers (tree.segments (view.segments_of segments.now)))
         (typing.segments_typed (tree.segments (view.segments_of segments.now))) }
     ensures made { IfOk result (λ v. ReadsWith listed.new
@@ -73,7 +74,7 @@ fn make_segments(
     for segment in segments {
         let selectors = make_selectors(alloc, segment.selectors.as_slice(), listed)?;
         let deep = segment.deep;
-        made.push(Segment { deep, selectors })?;
+        made.push(CompiledSegment { deep, selectors })?;
     }
     Ok(made)
 }
@@ -83,7 +84,7 @@ fn make_selectors(
     alloc: Global,
     selectors: &[jp_tree::Selector],
     listed: &mut Listed,
-) -> Result<Vec<Selector>, AllocError>
+) -> Result<Vec<CompiledSelector>, AllocError>
     requires sound { IsSound (numbers.selectors_numbers (tree.selectors (view.selectors_of selectors.now)))
         (typing.selectors_typed (tree.selectors (view.selectors_of selectors.now))) }
     ensures made { IfOk result (λ v. ReadsWith listed.new
@@ -105,7 +106,7 @@ fn make_selector(
     alloc: Global,
     selector: &jp_tree::Selector,
     listed: &mut Listed,
-) -> Result<Selector, AllocError>
+) -> Result<CompiledSelector, AllocError>
     requires sound { IsSound (numbers.selector_numbers (view.selector_of selector.now))
         (typing.selector_typed (view.selector_of selector.now)) }
     ensures made { IfOk result (λ x. ReadsWith listed.new
@@ -116,17 +117,17 @@ fn make_selector(
 {
     match selector {
         jp_tree::Selector::Name(name) => {
-            Ok(Selector::Name(String::from_str(alloc, name.as_str())?))
+            Ok(CompiledSelector::Name(String::from_str(alloc, name.as_str())?))
         }
-        jp_tree::Selector::Wild => Ok(Selector::Wild),
+        jp_tree::Selector::Wild => Ok(CompiledSelector::Wild),
         jp_tree::Selector::Index(text) => {
-            Ok(Selector::Index(make_position(alloc, text.as_str())?))
+            Ok(CompiledSelector::Index(make_position(alloc, text.as_str())?))
         }
-        jp_tree::Selector::Slice(slice) => Ok(Selector::Slice(make_slice(alloc, slice)?)),
+        jp_tree::Selector::Slice(slice) => Ok(CompiledSelector::Slice(make_slice(alloc, slice)?)),
         jp_tree::Selector::Filter(logical) => {
             let test = make_logical(alloc, logical, listed)?;
             // What asks nothing of `@` is answered once a document, and not at each child.
-            Ok(Selector::Filter(listed.once(test)?))
+            Ok(CompiledSelector::Filter(listed.once(test)?))
         }
     }
 }
@@ -136,7 +137,7 @@ fn make_logical(
     alloc: Global,
     logical: &jp_tree::Logical,
     listed: &mut Listed,
-) -> Result<Logical, AllocError>
+) -> Result<CompiledLogical, AllocError>
     requires sound { IsSound (numbers.logical_numbers (view.logical_of logical.now))
         (typing.logical_typed (view.logical_of logical.now)) }
     ensures made { IfOk result (λ l. ReadsWith listed.new
@@ -148,16 +149,16 @@ fn make_logical(
     match logical {
         jp_tree::Logical::Any(parts) => {
             let made = make_parts(alloc, parts, listed)?;
-            Ok(Logical::Any(listed.apart(alloc, made)?))
+            Ok(CompiledLogical::Any(listed.apart(alloc, made)?))
         }
         jp_tree::Logical::All(parts) => {
             let made = make_parts(alloc, parts, listed)?;
-            Ok(Logical::All(listed.apart(alloc, made)?))
+            Ok(CompiledLogical::All(listed.apart(alloc, made)?))
         }
         jp_tree::Logical::Not(part) => make_negation(alloc, part, listed),
         jp_tree::Logical::Compare(comparison) => make_comparison(alloc, comparison, listed),
         jp_tree::Logical::Test(query) => {
-            Ok(Logical::Test(make_nodes(alloc, Want::First, query, listed)?))
+            Ok(CompiledLogical::Test(make_nodes(alloc, Want::First, query, listed)?))
         }
         jp_tree::Logical::Call(call) => make_test_call(alloc, call, listed),
     }
@@ -170,7 +171,7 @@ fn make_negation(
     alloc: Global,
     part: &jp_tree::Logical,
     listed: &mut Listed,
-) -> Result<Logical, AllocError>
+) -> Result<CompiledLogical, AllocError>
     requires sound { IsSound (numbers.logical_numbers (view.logical_of part.now))
         (typing.logical_typed (view.logical_of part.now)) }
     ensures made { IfOk result (λ l. ReadsWith listed.new
@@ -180,7 +181,7 @@ fn make_negation(
         (literal.logical_patterns (view.logical_of part.now))) }
 {
     let part = make_logical(alloc, part, listed)?;
-    Ok(Logical::Not(Box::new(alloc, part)?))
+    Ok(CompiledLogical::Not(Box::new(alloc, part)?))
 }
 
 /// A comparison. It is no part of `make_logical`, whose frame is needed once a bracket.
@@ -190,7 +191,7 @@ fn make_comparison(
     alloc: Global,
     comparison: &Comparison,
     listed: &mut Listed,
-) -> Result<Logical, AllocError>
+) -> Result<CompiledLogical, AllocError>
     requires sound { IsSound (numbers.comparison_numbers (view.comparison_of comparison.now))
         (typing.comparison_typed (view.comparison_of comparison.now)) }
     ensures made { IfOk result (λ l. ReadsWith listed.new
@@ -201,7 +202,7 @@ fn make_comparison(
 {
     let left = make_side(alloc, &comparison.left, listed)?;
     let right = make_side(alloc, &comparison.right, listed)?;
-    Ok(Logical::Compare(left, comparison.op, right))
+    Ok(CompiledLogical::Compare(left, comparison.op, right))
 }
 
 /// The parts of `||` or `&&`.
@@ -210,7 +211,7 @@ fn make_parts(
     alloc: Global,
     parts: &[jp_tree::Logical],
     listed: &mut Listed,
-) -> Result<Vec<Logical>, AllocError>
+) -> Result<Vec<CompiledLogical>, AllocError>
     requires sound { IsSound (numbers.logicals_numbers (tree.logicals (view.logicals_of parts.now)))
         (typing.logicals_typed (tree.logicals (view.logicals_of parts.now))) }
     ensures made { IfOk result (λ v. ReadsWith listed.new
@@ -255,7 +256,7 @@ fn make_nodes(
 
 /// A side of a comparison.
 #[cycle(making)]
-fn make_side(alloc: Global, side: &Comparable, listed: &mut Listed) -> Result<Value, AllocError>
+fn make_side(alloc: Global, side: &Comparable, listed: &mut Listed) -> Result<Giver, AllocError>
     requires sound { IsSound (numbers.comparable_numbers (view.comparable_of side.now))
         (typing.comparable_typed (view.comparable_of side.now)) }
     ensures made { IfOk result (λ v. ReadsWith listed.new
@@ -265,9 +266,9 @@ fn make_side(alloc: Global, side: &Comparable, listed: &mut Listed) -> Result<Va
         (literal.comparable_patterns (view.comparable_of side.now))) }
 {
     match side {
-        Comparable::Literal(literal) => Ok(Value::Constant(make_constant(alloc, literal)?)),
+        Comparable::Literal(literal) => Ok(Giver::Constant(make_constant(alloc, literal)?)),
         Comparable::Single(query) => {
-            Ok(Value::Single(make_nodes(alloc, Want::First, query, listed)?))
+            Ok(Giver::Single(make_nodes(alloc, Want::First, query, listed)?))
         }
         Comparable::Call(call) => make_value_call(alloc, call, listed),
     }
@@ -275,7 +276,7 @@ fn make_side(alloc: Global, side: &Comparable, listed: &mut Listed) -> Result<Va
 
 /// An argument that gives a value.
 #[cycle(making)]
-fn make_value(alloc: Global, argument: &Argument, listed: &mut Listed) -> Result<Value, AllocError>
+fn make_value(alloc: Global, argument: &Argument, listed: &mut Listed) -> Result<Giver, AllocError>
     requires sound { IsSound (numbers.argument_numbers (view.argument_of argument.now))
         (typing.argument_typed (view.argument_of argument.now)) }
     requires fits { typing.fits value_type (view.argument_of argument.now) ≡ true }
@@ -286,9 +287,9 @@ fn make_value(alloc: Global, argument: &Argument, listed: &mut Listed) -> Result
         (literal.argument_patterns (view.argument_of argument.now))) }
 {
     match argument {
-        Argument::Literal(literal) => Ok(Value::Constant(make_constant(alloc, literal)?)),
+        Argument::Literal(literal) => Ok(Giver::Constant(make_constant(alloc, literal)?)),
         Argument::Query(query) => {
-            Ok(Value::Single(make_nodes(alloc, Want::First, query, listed)?))
+            Ok(Giver::Single(make_nodes(alloc, Want::First, query, listed)?))
         }
         Argument::Logical(_) => unreachable!(),
         Argument::Call(call) => make_value_call(alloc, call, listed),
@@ -353,7 +354,7 @@ fn make_distinct(
 
 /// A call that gives a value.
 #[cycle(making)]
-fn make_value_call(alloc: Global, call: &Call, listed: &mut Listed) -> Result<Value, AllocError>
+fn make_value_call(alloc: Global, call: &Call, listed: &mut Listed) -> Result<Giver, AllocError>
     requires sound { IsSound (numbers.call_numbers (view.call_of call.now))
         (typing.call_typed (view.call_of call.now)) }
     requires serves { typing.serves_as value_type (typing.type_of_call (view.call_of call.now)) ≡ true }
@@ -369,13 +370,13 @@ fn make_value_call(alloc: Global, call: &Call, listed: &mut Listed) -> Result<Va
     match function_named(call.name.as_str()) {
         Some(Function::Length) => {
             let value = make_value(alloc, argument, listed)?;
-            Ok(Value::Length(Box::new(alloc, value)?))
+            Ok(Giver::Length(Box::new(alloc, value)?))
         }
         Some(Function::Count) => {
-            Ok(Value::Count(make_argument_nodes(alloc, Want::Count, argument, listed)?))
+            Ok(Giver::Count(make_argument_nodes(alloc, Want::Count, argument, listed)?))
         }
         Some(Function::Value) => {
-            Ok(Value::Only(make_argument_nodes(alloc, Want::Only, argument, listed)?))
+            Ok(Giver::Only(make_argument_nodes(alloc, Want::Only, argument, listed)?))
         }
         _ => unreachable!(),
     }
@@ -386,7 +387,11 @@ fn make_value_call(alloc: Global, call: &Call, listed: &mut Listed) -> Result<Va
 // Not inlined, since the frame of what calls it is needed once a bracket and would hold this one's values
 // too.
 #[inline(never)]
-fn make_test_call(alloc: Global, call: &Call, listed: &mut Listed) -> Result<Logical, AllocError>
+fn make_test_call(
+    alloc: Global,
+    call: &Call,
+    listed: &mut Listed,
+) -> Result<CompiledLogical, AllocError>
     requires sound { IsSound (numbers.call_numbers (view.call_of call.now))
         (typing.call_typed (view.call_of call.now)) }
     requires serves { typing.serves_as logical_type (typing.type_of_call (view.call_of call.now)) ≡ true }
@@ -401,7 +406,7 @@ fn make_test_call(alloc: Global, call: &Call, listed: &mut Listed) -> Result<Log
     match function {
         Some(Function::Xor) => make_xor(alloc, arguments, listed),
         Some(Function::Distinct) => {
-            Ok(Logical::Test(make_distinct(alloc, Want::First, call, listed)?))
+            Ok(CompiledLogical::Test(make_distinct(alloc, Want::First, call, listed)?))
         }
         Some(Function::Match) => make_text_test(alloc, function, arguments, listed),
         Some(Function::Search) => make_text_test(alloc, function, arguments, listed),
@@ -418,7 +423,7 @@ fn make_xor(
     alloc: Global,
     arguments: &[Argument],
     listed: &mut Listed,
-) -> Result<Logical, AllocError>
+) -> Result<CompiledLogical, AllocError>
     requires sound { IsSound (numbers.arguments_numbers (tree.arguments (view.arguments_of arguments.now)))
         (typing.arguments_typed (tree.arguments (view.arguments_of arguments.now))) }
     requires fit { typing.all_fit (logical_type ∷ logical_type ∷ [])
@@ -437,7 +442,7 @@ fn make_xor(
     let other = make_truth(alloc, right, listed)?;
     let first = listed.beside(alloc, one, &other)?;
     let second = listed.beside(alloc, other, &first)?;
-    Ok(Logical::Xor(form_of(left), first, form_of(right), second))
+    Ok(CompiledLogical::Xor(form_of(left), first, form_of(right), second))
 }
 
 /// How an argument that is true or false is written.
@@ -456,7 +461,7 @@ fn make_truth(
     alloc: Global,
     argument: &Argument,
     listed: &mut Listed,
-) -> Result<Box<Logical>, AllocError>
+) -> Result<Box<CompiledLogical>, AllocError>
     requires sound { IsSound (numbers.argument_numbers (view.argument_of argument.now))
         (typing.argument_typed (view.argument_of argument.now)) }
     requires fits { typing.fits logical_type (view.argument_of argument.now) ≡ true }
@@ -470,7 +475,7 @@ fn make_truth(
     match argument {
         Argument::Query(query) => {
             let nodes = make_nodes(alloc, Want::First, query, listed)?;
-            Ok(Box::new(alloc, Logical::Test(nodes))?)
+            Ok(Box::new(alloc, CompiledLogical::Test(nodes))?)
         }
         Argument::Logical(logical) => {
             let made = make_logical(alloc, logical, listed)?;
@@ -494,7 +499,7 @@ fn make_text_test(
     function: Option<Function>,
     arguments: &[Argument],
     listed: &mut Listed,
-) -> Result<Logical, AllocError>
+) -> Result<CompiledLogical, AllocError>
     requires sound { IsSound (numbers.arguments_numbers (tree.arguments (view.arguments_of arguments.now)))
         (typing.arguments_typed (tree.arguments (view.arguments_of arguments.now))) }
     requires fit { typing.all_fit (value_type ∷ value_type ∷ [])
@@ -524,7 +529,7 @@ fn make_text_test(
 }
 
 /// A call with a literal pattern.
-fn read_test(function: Option<Function>, text: Value, pattern: KnownPattern) -> Logical
+fn read_test(function: Option<Function>, text: Giver, pattern: KnownPattern) -> CompiledLogical
     requires { (option_map function_of function ≡ Some functions.match_function)
         ⊎ (option_map function_of function ≡ Some functions.search_function) }
     ensures { (all : List Wanted) (name : Text)
@@ -533,14 +538,14 @@ fn read_test(function: Option<Function>, text: Value, pattern: KnownPattern) -> 
         (compiled.as_argument (compiled.value_in all text)) (compiled.text_argument (text_of pattern.text))) }
 {
     match function {
-        Some(Function::Match) => Logical::MatchRead(text, pattern),
-        Some(Function::Search) => Logical::SearchRead(text, pattern),
+        Some(Function::Match) => CompiledLogical::MatchRead(text, pattern),
+        Some(Function::Search) => CompiledLogical::SearchRead(text, pattern),
         _ => unreachable!(),
     }
 }
 
 /// A call with a pattern that is known only at a node.
-fn given_test(function: Option<Function>, text: Value, pattern: Value) -> Logical
+fn given_test(function: Option<Function>, text: Giver, pattern: Giver) -> CompiledLogical
     requires { (option_map function_of function ≡ Some functions.match_function)
         ⊎ (option_map function_of function ≡ Some functions.search_function) }
     ensures { (all : List Wanted) (name : Text)
@@ -550,8 +555,8 @@ fn given_test(function: Option<Function>, text: Value, pattern: Value) -> Logica
         (compiled.as_argument (compiled.value_in all pattern))) }
 {
     match function {
-        Some(Function::Match) => Logical::Match(text, pattern),
-        Some(Function::Search) => Logical::Search(text, pattern),
+        Some(Function::Match) => CompiledLogical::Match(text, pattern),
+        Some(Function::Search) => CompiledLogical::Search(text, pattern),
         _ => unreachable!(),
     }
 }

@@ -5,31 +5,31 @@
 ghost use Rattle.std.specs.Prelude.{IsTrue};
 ghost use Rattle.jp_check.specs.inner.Uniform.{IsUniform, AreUniform, IsUniformValue, IsUniformQuery};
 
-use jp_compiled::{Logical, Nodes, Value};
+use jp_compiled::{CompiledLogical, Giver, Nodes};
 
 /// Whether the expression asks nothing of the current node.
 #[cycle(uniform)]
-pub(crate) fn is_uniform(test: &Logical) -> bool
+pub(crate) fn is_uniform(test: &CompiledLogical) -> bool
     ensures { IsTrue result → IsUniform test.now }
 {
     match test {
-        Logical::Any(parts) => are_uniform(parts.as_slice()),
-        Logical::All(parts) => are_uniform(parts.as_slice()),
-        Logical::Not(part) => is_uniform(part),
-        Logical::Compare(left, _, right) => are_uniform_values(left, right),
-        Logical::Test(nodes) => is_uniform_query(nodes),
-        Logical::Match(text, pattern) => are_uniform_values(text, pattern),
-        Logical::MatchRead(text, _) => is_uniform_value(text),
-        Logical::Search(text, pattern) => are_uniform_values(text, pattern),
-        Logical::SearchRead(text, _) => is_uniform_value(text),
-        Logical::Xor(_, left, _, right) => is_uniform(left) && is_uniform(right),
-        Logical::Once(_) => true,
+        CompiledLogical::Any(parts) => are_uniform(parts.as_slice()),
+        CompiledLogical::All(parts) => are_uniform(parts.as_slice()),
+        CompiledLogical::Not(part) => is_uniform(part),
+        CompiledLogical::Compare(left, _, right) => are_uniform_values(left, right),
+        CompiledLogical::Test(nodes) => is_uniform_query(nodes),
+        CompiledLogical::Match(text, pattern) => are_uniform_values(text, pattern),
+        CompiledLogical::MatchRead(text, _) => is_uniform_value(text),
+        CompiledLogical::Search(text, pattern) => are_uniform_values(text, pattern),
+        CompiledLogical::SearchRead(text, _) => is_uniform_value(text),
+        CompiledLogical::Xor(_, left, _, right) => is_uniform(left) && is_uniform(right),
+        CompiledLogical::Once(_) => true,
     }
 }
 
 /// Whether each of the expressions asks nothing of the current node.
 #[cycle(uniform)]
-pub(crate) fn are_uniform(parts: &[Logical]) -> bool
+pub(crate) fn are_uniform(parts: &[CompiledLogical]) -> bool
     ensures { IsTrue result → AreUniform parts.now }
 {
     for part in parts {
@@ -40,22 +40,22 @@ pub(crate) fn are_uniform(parts: &[Logical]) -> bool
     true
 }
 
-fn are_uniform_values(left: &Value, right: &Value) -> bool
+fn are_uniform_values(left: &Giver, right: &Giver) -> bool
     ensures left { IsTrue result → IsUniformValue left.now }
     ensures right { IsTrue result → IsUniformValue right.now }
 {
     is_uniform_value(left) && is_uniform_value(right)
 }
 
-fn is_uniform_value(value: &Value) -> bool
+fn is_uniform_value(value: &Giver) -> bool
     ensures { IsTrue result → IsUniformValue value.now }
 {
     match value {
-        Value::Constant(_) => true,
-        Value::Single(nodes) => is_uniform_query(nodes),
-        Value::Length(of) => is_uniform_value(of),
-        Value::Count(nodes) => is_uniform_query(nodes),
-        Value::Only(nodes) => is_uniform_query(nodes),
+        Giver::Constant(_) => true,
+        Giver::Single(nodes) => is_uniform_query(nodes),
+        Giver::Length(of) => is_uniform_value(of),
+        Giver::Count(nodes) => is_uniform_query(nodes),
+        Giver::Only(nodes) => is_uniform_query(nodes),
     }
 }
 

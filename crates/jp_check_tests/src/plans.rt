@@ -1,7 +1,7 @@
 //! The calls with ample memory. The expected answers come from the rules of RFC 9535.
 
 use jp_check::{Known, check, plan, plan_in};
-use jp_compiled::{RootPart, Selector, Want};
+use jp_compiled::{CompiledSelector, RootPart, Want};
 use jp_number::Numbers;
 use jp_syntax::read_query;
 use jp_tree::QueryFault;
@@ -239,7 +239,8 @@ fn parts_of_compiled(alloc: Global, text: &str) -> Option<(i64, Want, Want, Want
     let [segment] = compiled.segments.as_slice() else {
         return None;
     };
-    let [Selector::Index(index), Selector::Filter(_)] = segment.selectors.as_slice() else {
+    let [CompiledSelector::Index(index), CompiledSelector::Filter(_)] = segment.selectors.as_slice()
+    else {
         return None;
     };
     let [

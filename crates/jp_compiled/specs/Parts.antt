@@ -8,16 +8,17 @@ use Rattle.jp_compiled.specs.declared.query.Want.TheVariants.{First, Count, Only
 use Rattle.jp_compiled.specs.declared.query.ArgumentForm.{ArgumentForm}
 use Rattle.jp_compiled.specs.declared.query.ArgumentForm.TheVariants.{Bare, Expression}
 use Rattle.jp_compiled.specs.declared.query.Position.{Position}
-use Rattle.jp_compiled.specs.declared.query.Slice.{Slice}
+use Rattle.jp_compiled.specs.declared.query.CompiledSlice.{CompiledSlice}
 use Rattle.jp_compiled.specs.declared.query.Constant.{Constant}
 use Rattle.jp_compiled.specs.declared.query.Constant.TheVariants as constant
-use Rattle.jp_compiled.specs.declared.query.Segment.{Segment, fold-Segment}
-use Rattle.jp_compiled.specs.declared.query.Selector.{Selector, fold-Selector}
-use Rattle.jp_compiled.specs.declared.query.Logical.{Logical, fold-Logical}
-use Rattle.jp_compiled.specs.declared.query.Value.{Value, fold-Value}
+use Rattle.jp_compiled.specs.declared.query.CompiledSegment.{CompiledSegment, fold-CompiledSegment}
+use Rattle.jp_compiled.specs.declared.query.CompiledSelector.{CompiledSelector, fold-CompiledSelector}
+use Rattle.jp_compiled.specs.declared.query.CompiledLogical.{CompiledLogical, fold-CompiledLogical}
+use Rattle.jp_compiled.specs.declared.query.Giver.{Giver, fold-Giver}
 use Rattle.jp_compiled.specs.declared.query.Nodes.{Nodes, fold-Nodes}
-use Rattle.jp_compiled.specs.declared.query.Logical.TheOpen.{Logical-F, Nodes-F, Selector-F, Value-F}
-use Rattle.jp_compiled.specs.declared.query.Logical.TheOpen.{Segment-F}
+use Rattle.jp_compiled.specs.declared.query.CompiledLogical.TheOpen.{CompiledLogical-F, Nodes-F}
+use Rattle.jp_compiled.specs.declared.query.CompiledLogical.TheOpen.{CompiledSelector-F, Giver-F}
+use Rattle.jp_compiled.specs.declared.query.CompiledLogical.TheOpen.{CompiledSegment-F}
 use Rattle.jp_compiled.specs.declared.query.RootPart.{RootPart}
 use Rattle.jp_compiled.specs.declared.query.RootPart.TheVariants as part
 
@@ -61,7 +62,7 @@ test_at roots slot = tested_in (get_or roots slot (truth_of (tree.all tree.no_lo
 abbrev pub position_text : Position → tree.Text
 position_text p = text_of p.text
 
-abbrev pub slice_of : Slice → tree.Selector
+abbrev pub slice_of : CompiledSlice → tree.Selector
 slice_of s = tree.slice (option_map position_text s.first) (option_map position_text s.past)
     (option_map position_text s.step)
 
@@ -125,81 +126,81 @@ text_argument t = tree.literal_argument (tree.text t)
 -- One level of the tree, where each part is already seen as what it stands for. What is asked of the document
 -- alone are these.
 module _ (roots : List Wanted) where
-  abbrev pub nodes_level : Nodes-F tree.Logical (Want → Source) tree.Selector tree.Comparable
+  abbrev pub nodes_level : Nodes-F tree.Logical tree.Selector tree.Comparable (Want → Source)
       tree.Segment
       → Want → Source
   nodes_level (Nodes-F.Here ss) want = queried (tree.query start.Current (tree.segments ss.items))
   nodes_level (Nodes-F.Root slot) want = queried (root_at roots slot want)
   nodes_level (Nodes-F.Distinct q) want = different (q.value (wanted_inside want))
 
-  abbrev pub logical_level : Logical-F tree.Logical (Want → Source) tree.Selector tree.Comparable
+  abbrev pub logical_level : CompiledLogical-F tree.Logical tree.Selector tree.Comparable (Want → Source)
       tree.Segment
       → tree.Logical
-  logical_level (Logical-F.Any ls) = tree.any (tree.logicals ls.items)
-  logical_level (Logical-F.All ls) = tree.all (tree.logicals ls.items)
-  logical_level (Logical-F.Not l) = tree.negation l.value
-  logical_level (Logical-F.Compare left o right) = tree.comparing (tree.comparison left o right)
-  logical_level (Logical-F.Test q) = source_test (q First)
-  logical_level (Logical-F.Match s p) =
+  logical_level (CompiledLogical-F.Any ls) = tree.any (tree.logicals ls.items)
+  logical_level (CompiledLogical-F.All ls) = tree.all (tree.logicals ls.items)
+  logical_level (CompiledLogical-F.Not l) = tree.negation l.value
+  logical_level (CompiledLogical-F.Compare left o right) = tree.comparing (tree.comparison left o right)
+  logical_level (CompiledLogical-F.Test q) = source_test (q First)
+  logical_level (CompiledLogical-F.Match s p) =
       tree.test_call (call_of_two (codes "match") (as_argument s) (as_argument p))
-  logical_level (Logical-F.MatchRead s p) = tree.test_call
+  logical_level (CompiledLogical-F.MatchRead s p) = tree.test_call
       (call_of_two (codes "match") (as_argument s) (text_argument (text_of p.text)))
-  logical_level (Logical-F.Search s p) = tree.test_call
+  logical_level (CompiledLogical-F.Search s p) = tree.test_call
       (call_of_two (codes "search") (as_argument s) (as_argument p))
-  logical_level (Logical-F.SearchRead s p) = tree.test_call
+  logical_level (CompiledLogical-F.SearchRead s p) = tree.test_call
       (call_of_two (codes "search") (as_argument s) (text_argument (text_of p.text)))
-  logical_level (Logical-F.Xor f l g m) = tree.test_call
+  logical_level (CompiledLogical-F.Xor f l g m) = tree.test_call
       (call_of_two (codes "xor") (truth_argument f l.value) (truth_argument g m.value))
-  logical_level (Logical-F.Once slot) = test_at roots slot
+  logical_level (CompiledLogical-F.Once slot) = test_at roots slot
 
-abbrev pub selector_level : Selector-F tree.Logical (Want → Source) tree.Selector tree.Comparable
+abbrev pub selector_level : CompiledSelector-F tree.Logical tree.Selector tree.Comparable (Want → Source)
     tree.Segment
     → tree.Selector
-selector_level (Selector-F.Name s) = tree.name (text_of s)
-selector_level Selector-F.Wild = tree.wildcard
-selector_level (Selector-F.Index p) = tree.index (position_text p)
-selector_level (Selector-F.Slice s) = slice_of s
-selector_level (Selector-F.Filter l) = tree.filter l
+selector_level (CompiledSelector-F.Name s) = tree.name (text_of s)
+selector_level CompiledSelector-F.Wild = tree.wildcard
+selector_level (CompiledSelector-F.Index p) = tree.index (position_text p)
+selector_level (CompiledSelector-F.Slice s) = slice_of s
+selector_level (CompiledSelector-F.Filter l) = tree.filter l
 
-abbrev pub value_level : Value-F tree.Logical (Want → Source) tree.Selector tree.Comparable
+abbrev pub value_level : Giver-F tree.Logical tree.Selector tree.Comparable (Want → Source)
     tree.Segment
     → tree.Comparable
-value_level (Value-F.Constant x) = tree.literal (constant_of x)
-value_level (Value-F.Single q) = source_side (q First)
-value_level (Value-F.Length v) = tree.value_call (call_of_one (codes "length") (as_argument v.value))
-value_level (Value-F.Count q) = tree.value_call
+value_level (Giver-F.Constant x) = tree.literal (constant_of x)
+value_level (Giver-F.Single q) = source_side (q First)
+value_level (Giver-F.Length v) = tree.value_call (call_of_one (codes "length") (as_argument v.value))
+value_level (Giver-F.Count q) = tree.value_call
     (call_of_one (codes "count") (source_argument (q Count)))
-value_level (Value-F.Only q) = tree.value_call
+value_level (Giver-F.Only q) = tree.value_call
     (call_of_one (codes "value") (source_argument (q Only)))
 
-abbrev pub segment_level : Segment-F tree.Logical (Want → Source) tree.Selector tree.Comparable
+abbrev pub segment_level : CompiledSegment-F tree.Logical tree.Selector tree.Comparable (Want → Source)
     tree.Segment
     → tree.Segment
 segment_level s = tree.segment s.deep (tree.selectors s.selectors.items)
 
 -- what the parts of a compiled query stand for, where these are asked of the document alone
 module _ (roots : List Wanted) where
-  abbrev pub segment_in : Segment → tree.Segment
-  segment_in = fold-Segment tree.Logical (Want → Source) tree.Selector tree.Comparable tree.Segment
-      (logical_level roots) (nodes_level roots) selector_level value_level segment_level
+  abbrev pub segment_in : CompiledSegment → tree.Segment
+  segment_in = fold-CompiledSegment tree.Logical tree.Selector tree.Comparable (Want → Source) tree.Segment
+      (logical_level roots) selector_level value_level (nodes_level roots) segment_level
 
-  abbrev pub selector_in : Selector → tree.Selector
-  selector_in = fold-Selector tree.Logical (Want → Source) tree.Selector tree.Comparable tree.Segment
-      (logical_level roots) (nodes_level roots) selector_level value_level segment_level
+  abbrev pub selector_in : CompiledSelector → tree.Selector
+  selector_in = fold-CompiledSelector tree.Logical tree.Selector tree.Comparable (Want → Source) tree.Segment
+      (logical_level roots) selector_level value_level (nodes_level roots) segment_level
 
-  abbrev pub logical_in : Logical → tree.Logical
-  logical_in = fold-Logical tree.Logical (Want → Source) tree.Selector tree.Comparable tree.Segment
-      (logical_level roots) (nodes_level roots) selector_level value_level segment_level
+  abbrev pub logical_in : CompiledLogical → tree.Logical
+  logical_in = fold-CompiledLogical tree.Logical tree.Selector tree.Comparable (Want → Source) tree.Segment
+      (logical_level roots) selector_level value_level (nodes_level roots) segment_level
 
-  abbrev pub value_in : Value → tree.Comparable
-  value_in = fold-Value tree.Logical (Want → Source) tree.Selector tree.Comparable tree.Segment
-      (logical_level roots) (nodes_level roots) selector_level value_level segment_level
+  abbrev pub value_in : Giver → tree.Comparable
+  value_in = fold-Giver tree.Logical tree.Selector tree.Comparable (Want → Source) tree.Segment
+      (logical_level roots) selector_level value_level (nodes_level roots) segment_level
 
   abbrev pub nodes_in : Nodes → Want → Source
-  nodes_in = fold-Nodes tree.Logical (Want → Source) tree.Selector tree.Comparable tree.Segment
-      (logical_level roots) (nodes_level roots) selector_level value_level segment_level
+  nodes_in = fold-Nodes tree.Logical tree.Selector tree.Comparable (Want → Source) tree.Segment
+      (logical_level roots) selector_level value_level (nodes_level roots) segment_level
 
-  abbrev pub segments_in : List Segment → tree.Segments
+  abbrev pub segments_in : List CompiledSegment → tree.Segments
   segments_in ss = tree.segments (map segment_in ss)
 
 -- what is asked by a part of the list, where those before it are these

@@ -8,16 +8,16 @@ ghost use Rattle.std.specs.Prelude.{◌≡◌, true};
 ghost use Rattle.jp_compiled.specs.Parts.{roots_of};
 ghost use Rattle.jp_compiled.specs.Uniform.{are_uniform};
 
-use crate::query::{RootPart, Segment};
+use crate::query::{CompiledSegment, RootPart};
 use jp_tree::Start;
 
 /// A compiled query.
 #[derive(Drop)]
-pub struct Query {
+pub struct CompiledQuery {
     /// The identifier that the query begins with.
     pub start: Start,
     /// The segments, in the order of the text.
-    pub segments: Vec<Segment>,
+    pub segments: Vec<CompiledSegment>,
     /// What its filters ask of the document alone, each behind what it asks itself.
     pub roots: Vec<RootPart>,
     pub ghost uniform: { are_uniform (roots_of roots.items) ≡ true },

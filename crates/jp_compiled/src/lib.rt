@@ -6,9 +6,9 @@ mod known;
 mod only_filter;
 mod query;
 
-pub use compiled::Query;
+pub use compiled::CompiledQuery;
 pub use known::KnownPattern;
 pub use query::{
-    ArgumentForm, Constant, Logical, Nodes, Position, RootPart, RootQuery, Segment, Selector,
-    Slice, Value, Want, WholeNumber, WrittenNumber,
+    ArgumentForm, CompiledLogical, CompiledSegment, CompiledSelector, CompiledSlice, Constant,
+    Giver, Nodes, Position, RootPart, RootQuery, Want, WholeNumber, WrittenNumber,
 };

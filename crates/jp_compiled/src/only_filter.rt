@@ -8,14 +8,14 @@ ghost use Rattle.jp_compiled.specs.Parts.{Wanted, logical_in, roots_of, segment_
 ghost use Rattle.jp_compiled.specs.inner.OnlyFilter.{segment_filter, segments_filter, selector_filter};
 ghost use Rattle.jp_compiled.specs.inner.OnlyFilter.{selectors_filter};
 
-use crate::compiled::Query;
-use crate::query::{Logical, Segment, Selector};
+use crate::compiled::CompiledQuery;
+use crate::query::{CompiledLogical, CompiledSegment, CompiledSelector};
 use jp_tree::Start;
 
-impl Query {
+impl CompiledQuery {
     /// The expression of the filter, where the query is `$[?FILTER]` (RFC 9535, 2.3.5): one child segment,
     /// which has this selector alone. It takes no memory.
-    pub fn only_filter(&self) -> Option<&Logical>
+    pub fn only_filter(&self) -> Option<&CompiledLogical>
         ensures { MatchOption result
             ((l : tree.Logical) → compiled_query self.now ≡ filter_query l → ⊥)
             (λ l. compiled_query self.now
@@ -28,7 +28,7 @@ impl Query {
     }
 }
 
-fn of_segments(segments: &[Segment]) -> Option<&Logical>
+fn of_segments(segments: &[CompiledSegment]) -> Option<&CompiledLogical>
     ensures { (roots : List Wanted) → option_map (λ l. logical_in roots l.now) result
         ≡ segments_filter (segments_in roots segments.now) }
 {
@@ -39,7 +39,7 @@ fn of_segments(segments: &[Segment]) -> Option<&Logical>
     }
 }
 
-fn of_segment(segment: &Segment) -> Option<&Logical>
+fn of_segment(segment: &CompiledSegment) -> Option<&CompiledLogical>
     ensures { (roots : List Wanted) → option_map (λ l. logical_in roots l.now) result
         ≡ segment_filter (segment_in roots segment.now) }
 {
@@ -50,7 +50,7 @@ fn of_segment(segment: &Segment) -> Option<&Logical>
     }
 }
 
-fn of_selectors(selectors: &[Selector]) -> Option<&Logical>
+fn of_selectors(selectors: &[CompiledSelector]) -> Option<&CompiledLogical>
     ensures { (roots : List Wanted) → option_map (λ l. logical_in roots l.now) result
         ≡ selectors_filter (tree.selectors (map (selector_in roots) selectors.now)) }
 {
@@ -61,15 +61,15 @@ fn of_selectors(selectors: &[Selector]) -> Option<&Logical>
     }
 }
 
-fn of_selector(selector: &Selector) -> Option<&Logical>
+fn of_selector(selector: &CompiledSelector) -> Option<&CompiledLogical>
     ensures { (roots : List Wanted) → option_map (λ l. logical_in roots l.now) result
         ≡ selector_filter (selector_in roots selector.now) }
 {
     match selector {
-        Selector::Name(_) => None,
-        Selector::Wild => None,
-        Selector::Index(_) => None,
-        Selector::Slice(_) => None,
-        Selector::Filter(logical) => Some(logical),
+        CompiledSelector::Name(_) => None,
+        CompiledSelector::Wild => None,
+        CompiledSelector::Index(_) => None,
+        CompiledSelector::Slice(_) => None,
+        CompiledSelector::Filter(logical) => Some(logical),
     }
 }

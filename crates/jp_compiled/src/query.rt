@@ -17,7 +17,7 @@ pub enum RootPart {
     /// A `$` query.
     Query(RootQuery),
     /// An expression that asks nothing of the current node.
-    Test(Logical),
+    Test(CompiledLogical),
 }
 
 /// A `$` query inside a filter.
@@ -26,7 +26,7 @@ pub struct RootQuery {
     /// What the filter wants of its nodes.
     pub want: Want,
     /// Its segments.
-    pub segments: Vec<Segment>,
+    pub segments: Vec<CompiledSegment>,
 }
 
 /// What a filter wants of the nodes of a query.
@@ -59,17 +59,17 @@ impl Want {
 /// A segment (RFC 9535, 2.5).
 #[cycle(query)]
 #[derive(Drop)]
-pub struct Segment {
+pub struct CompiledSegment {
     /// Whether it is a descendant segment.
     pub deep: bool,
     /// Its selectors.
-    pub selectors: Vec<Selector>,
+    pub selectors: Vec<CompiledSelector>,
 }
 
 /// A selector (RFC 9535, 2.3).
 #[cycle(query)]
 #[derive(Drop)]
-pub enum Selector {
+pub enum CompiledSelector {
     /// The member of this name.
     Name(String),
     /// All children.
@@ -77,9 +77,9 @@ pub enum Selector {
     /// The item at this index.
     Index(Position),
     /// The items of a slice.
-    Slice(Slice),
+    Slice(CompiledSlice),
     /// The children for which the expression is true.
-    Filter(Logical),
+    Filter(CompiledLogical),
 }
 
 /// An index or a number of a slice, at most 9007199254740991 from zero.
@@ -96,7 +96,7 @@ pub struct Position {
 
 /// The numbers of a slice.
 #[derive(Drop)]
-pub struct Slice {
+pub struct CompiledSlice {
     /// Where it starts.
     pub first: Option<Position>,
     /// Where it ends; this index itself is left out.
@@ -108,27 +108,27 @@ pub struct Slice {
 /// A logical expression (RFC 9535, 2.3.5).
 #[cycle(query)]
 #[derive(Drop)]
-pub enum Logical {
+pub enum CompiledLogical {
     /// Parts joined by `||`.
-    Any(Vec<Logical>),
+    Any(Vec<CompiledLogical>),
     /// Parts joined by `&&`.
-    All(Vec<Logical>),
+    All(Vec<CompiledLogical>),
     /// `!` and a part.
-    Not(Box<Logical>),
+    Not(Box<CompiledLogical>),
     /// A comparison.
-    Compare(Value, Operator, Value),
+    Compare(Giver, Operator, Giver),
     /// A query, which is true where it selects some node.
     Test(Nodes),
     /// `match` of a text and a pattern's text.
-    Match(Value, Value),
+    Match(Giver, Giver),
     /// `match` of a text and a literal pattern.
-    MatchRead(Value, KnownPattern),
+    MatchRead(Giver, KnownPattern),
     /// `search` of a text and a pattern's text.
-    Search(Value, Value),
+    Search(Giver, Giver),
     /// `search` of a text and a literal pattern.
-    SearchRead(Value, KnownPattern),
+    SearchRead(Giver, KnownPattern),
     /// `xor` of two arguments, each with how it is written.
-    Xor(ArgumentForm, Box<Logical>, ArgumentForm, Box<Logical>),
+    Xor(ArgumentForm, Box<CompiledLogical>, ArgumentForm, Box<CompiledLogical>),
     /// The expression at this place of the list, which is answered once a document.
     Once(usize),
 }
@@ -146,13 +146,13 @@ pub enum ArgumentForm {
 /// What gives a value, or nothing: a side of a comparison, or an argument.
 #[cycle(query)]
 #[derive(Drop)]
-pub enum Value {
+pub enum Giver {
     /// A literal.
     Constant(Constant),
     /// The value of the only node of a singular query.
     Single(Nodes),
     /// `length` of a value.
-    Length(Box<Value>),
+    Length(Box<Giver>),
     /// `count` of the nodes of a query.
     Count(Nodes),
     /// `value` of the nodes of a query.
@@ -164,7 +164,7 @@ pub enum Value {
 #[derive(Drop)]
 pub enum Nodes {
     /// The segments from the current node on.
-    Here(Vec<Segment>),
+    Here(Vec<CompiledSegment>),
     /// The `$` query at this place of the list.
     Root(usize),
     /// `distinct` of the nodes of a query.

@@ -6,8 +6,8 @@ use Rattle.jp_doc.specs.Location.{Node}
 use Rattle.jp_tree.specs.Tree.{Query}
 use Rattle.jp_compiled.specs.Compiled.{compiled_query}
 use Rattle.jp_compiled.specs.Parts.{roots_of, segments_in}
-use Rattle.jp_compiled.specs.declared.compiled.Query as compiled
-use Rattle.jp_compiled.specs.declared.query.Segment.{Segment}
+use Rattle.jp_compiled.specs.declared.compiled.CompiledQuery.{CompiledQuery}
+use Rattle.jp_compiled.specs.declared.query.CompiledSegment.{CompiledSegment}
 use Rattle.jp_node.specs.Part.{part_value}
 use Rattle.jp_node.specs.declared.part.Part.{Part}
 use Rattle.jp_node.specs.declared.link.Link.{Link}
@@ -33,7 +33,7 @@ pub from_taken : {K : Type 0} (put : K → Node → K) (start : K) (held last : 
     → held ≡ taken start → last ≡ plus (put_found put) held ns → last ≡ plus (put_found put) (taken start) ns
 from_taken put start held last ns began found = found ∙ ap (λ k. plus (put_found put) k ns) began
 
-pub visited : {K : Type 0} (put : K → Node → K) (q : compiled.Query) (base : Base) (ss : List Segment)
+pub visited : {K : Type 0} (put : K → Node → K) (q : CompiledQuery) (base : Base) (ss : List CompiledSegment)
     (root : Part) (path : List Link) (start last : K) (held : Kept K)
     → ss ≡ q.segments.items → path ≡ [] → part_value root ≡ base.root → base.roots ≡ roots_of q.roots.items
     → taken last ≡ held → held ≡ plus (put_found put) (taken start) (reached base ss (here path root ∷ []))

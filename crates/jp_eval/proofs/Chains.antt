@@ -6,8 +6,8 @@ use Rattle.std.specs.List.{filter, flat_map}
 use Rattle.jp_doc.specs.Location.{Node}
 use Rattle.jp_tree.specs.Tree as tree
 use Rattle.jp_compiled.specs.Parts.{segment_in, segments_in, selector_in}
-use Rattle.jp_compiled.specs.declared.query.Segment.{Segment, out-Segment}
-use Rattle.jp_compiled.specs.declared.query.Selector.{Selector}
+use Rattle.jp_compiled.specs.declared.query.CompiledSegment.{CompiledSegment, out-CompiledSegment}
+use Rattle.jp_compiled.specs.declared.query.CompiledSelector.{CompiledSelector}
 use Rattle.jp_eval.specs.inner.Base.{Base}
 use Rattle.jp_node.specs.Nodes.{children, descendants}
 use Rattle.jp_eval.specs.Nodelist as spec
@@ -38,12 +38,12 @@ module _ (base : Base) where
   through-none tree.no_segments = refl
   through-none (tree.add_segment s ss) = through-none ss
 
-  pub reached-append : (ss : List Segment) (xs ys : List Node) → reached base ss (xs ++ ys)
+  pub reached-append : (ss : List CompiledSegment) (xs ys : List Node) → reached base ss (xs ++ ys)
       ≡ reached base ss xs ++ reached base ss ys
   unfolding reached
   reached-append ss xs ys = through-append (segments_in base.roots ss) xs ys
 
-  pub reached-none : (ss : List Segment) → reached base ss [] ≡ []
+  pub reached-none : (ss : List CompiledSegment) → reached base ss [] ≡ []
   unfolding reached
   reached-none ss = through-none (segments_in base.roots ss)
 
@@ -52,24 +52,24 @@ module _ (base : Base) where
   reached-end ns = refl
 
   -- a segment, and then those behind it
-  pub reached-step : (s : Segment) (ss : List Segment) (ns : List Node)
+  pub reached-step : (s : CompiledSegment) (ss : List CompiledSegment) (ns : List Node)
       → reached base (s ∷ ss) ns ≡ reached base ss (reached base (s ∷ []) ns)
   unfolding reached
   reached-step s ss ns = refl
 
-  pub reached-flat_map : {X : Type 0} (ss : List Segment) (f : X → List Node) (xs : List X)
+  pub reached-flat_map : {X : Type 0} (ss : List CompiledSegment) (f : X → List Node) (xs : List X)
       → reached base ss (flat_map f xs) ≡ flat_map (λ x. reached base ss (f x)) xs
   reached-flat_map ss f [] = reached-none ss
   reached-flat_map ss f (x ∷ xs) = reached-append ss (f x) (flat_map f xs)
       ∙ ap (λ r. reached base ss (f x) ++ r) (reached-flat_map ss f xs)
 
-  pub reached-each : (ss : List Segment) (ns : List Node)
+  pub reached-each : (ss : List CompiledSegment) (ns : List Node)
       → reached base ss ns ≡ flat_map (λ n. reached base ss (n ∷ [])) ns
   reached-each ss [] = reached-none ss
   reached-each ss (n ∷ ns) = reached-append ss (n ∷ []) ns
       ∙ ap (λ r. reached base ss (n ∷ []) ++ r) (reached-each ss ns)
 
-  pub reached-filter : (ss : List Segment) (p : Node → Bool) (ns : List Node)
+  pub reached-filter : (ss : List CompiledSegment) (p : Node → Bool) (ns : List Node)
       → reached base ss (filter p ns) ≡ flat_map (λ n. reached base ss (filter p (n ∷ []))) ns
   reached-filter ss p [] = reached-none ss
   reached-filter ss p (n ∷ ns) =
@@ -77,14 +77,14 @@ module _ (base : Base) where
       ∙ reached-append ss (filter p (n ∷ [])) (filter p ns)
       ∙ ap (λ r. reached base ss (filter p (n ∷ [])) ++ r) (reached-filter ss p ns)
 
-  selected_is : (xs : List Selector) (n : Node)
+  selected_is : (xs : List CompiledSelector) (n : Node)
       → spec.selected tests base.root (tree.selectors (map (selector_in base.roots) xs)) n
       ≡ picked_by base xs n
   unfolding picked
   selected_is [] n = refl
   selected_is (x ∷ xs) n = ap (λ r. picked base x n ++ r) (selected_is xs n)
 
-  selected_each : (xs : List Selector) (ns : List Node)
+  selected_each : (xs : List CompiledSelector) (ns : List Node)
       → flat_map (spec.selected tests base.root (tree.selectors (map (selector_in base.roots) xs))) ns
       ≡ flat_map (picked_by base xs) ns
   selected_each xs [] = refl
@@ -94,23 +94,26 @@ module _ (base : Base) where
       (selected_is xs n) ∙ ap (λ r. picked_by base xs n ++ r) (selected_each xs ns)
 
   -- one segment from one node
-  pub reached-plain : (s : Segment) (ss : List Segment) (n : Node) → (out-Segment s).deep ≡ false
-      → reached base (s ∷ ss) (n ∷ []) ≡ reached base ss (picked_by base (out-Segment s).selectors.items n)
+  pub reached-plain : (s : CompiledSegment) (ss : List CompiledSegment) (n : Node)
+      → (out-CompiledSegment s).deep ≡ false
+      → reached base (s ∷ ss) (n ∷ []) ≡ reached base ss (picked_by base (out-CompiledSegment
+      s).selectors.items n)
   unfolding reached
   reached-plain s ss n plain =
-      let xs = (out-Segment s).selectors.items in
+      let xs = (out-CompiledSegment s).selectors.items in
       ap (spec.through tests base.root (segments_in base.roots ss))
       (append-nil (spec.segment_nodes tests base.root (segment_in base.roots s) n)
       ∙ ap (λ t. spec.segment_nodes tests base.root t n) (segment_is base.roots s
       ∙ ap (λ b. tree.segment b (tree.selectors (map (selector_in base.roots) xs))) plain)
       ∙ selected_is xs n)
 
-  pub reached-deep : (s : Segment) (ss : List Segment) (n : Node) → (out-Segment s).deep ≡ true
+  pub reached-deep : (s : CompiledSegment) (ss : List CompiledSegment) (n : Node)
+      → (out-CompiledSegment s).deep ≡ true
       → reached base (s ∷ ss) (n ∷ [])
-      ≡ reached base ss (flat_map (picked_by base (out-Segment s).selectors.items) (descendants n))
+      ≡ reached base ss (flat_map (picked_by base (out-CompiledSegment s).selectors.items) (descendants n))
   unfolding reached
   reached-deep s ss n deep =
-      let xs = (out-Segment s).selectors.items in
+      let xs = (out-CompiledSegment s).selectors.items in
       ap (spec.through tests base.root (segments_in base.roots ss))
       (append-nil (spec.segment_nodes tests base.root (segment_in base.roots s) n)
       ∙ ap (λ t. spec.segment_nodes tests base.root t n) (segment_is base.roots s
@@ -118,7 +121,7 @@ module _ (base : Base) where
       ∙ selected_each xs (descendants n))
 
   -- at the node, and then below each child
-  pub reached-descend : (xs : List Selector) (ss : List Segment) (n : Node)
+  pub reached-descend : (xs : List CompiledSelector) (ss : List CompiledSegment) (n : Node)
       → reached base ss (flat_map (picked_by base xs) (descendants n))
       ≡ reached base ss (picked_by base xs n) ++ flat_map
       (λ c. reached base ss (flat_map (picked_by base xs) (descendants c))) (children n)

@@ -30,14 +30,14 @@ use Rattle.jp_compiled.specs.declared.query.ArgumentForm.TheVariants.{Bare, Expr
 use Rattle.jp_compiled.specs.declared.query.Want.{Want}
 use Rattle.jp_compiled.specs.declared.query.Want.TheVariants.{First, Count, Only}
 use Rattle.jp_compiled.specs.declared.query.Position.{Position}
-use Rattle.jp_compiled.specs.declared.query.Slice.{Slice}
+use Rattle.jp_compiled.specs.declared.query.CompiledSlice.{CompiledSlice}
 use Rattle.jp_compiled.specs.declared.query.Constant.{Constant}
-use Rattle.jp_compiled.specs.declared.query.Segment.{Segment, out-Segment, the_lemmas}
-use Rattle.jp_compiled.specs.declared.query.Selector.TheVariants as sel
-use Rattle.jp_compiled.specs.declared.query.Logical.{Logical}
-use Rattle.jp_compiled.specs.declared.query.Logical.TheVariants as log
-use Rattle.jp_compiled.specs.declared.query.Value.{Value}
-use Rattle.jp_compiled.specs.declared.query.Value.TheVariants as val
+use Rattle.jp_compiled.specs.declared.query.CompiledSegment.{CompiledSegment, out-CompiledSegment, the_lemmas}
+use Rattle.jp_compiled.specs.declared.query.CompiledSelector.TheVariants as sel
+use Rattle.jp_compiled.specs.declared.query.CompiledLogical.{CompiledLogical}
+use Rattle.jp_compiled.specs.declared.query.CompiledLogical.TheVariants as log
+use Rattle.jp_compiled.specs.declared.query.Giver.{Giver}
+use Rattle.jp_compiled.specs.declared.query.Giver.TheVariants as val
 use Rattle.jp_compiled.specs.declared.query.Nodes.{Nodes}
 use Rattle.jp_compiled.specs.declared.query.Nodes.TheVariants as nod
 use Rattle.jp_node.specs.Links.{link_steps}
@@ -57,9 +57,9 @@ use Rattle.jp_node.specs.Nodes.{child, children, items_at}
 use Rattle.jp_value.specs.RightTests.{tests}
 use Rattle.jp_eval.specs.inner.Walk.{picked, reached, is_true, value_given, nodes_given}
 
-pub segment_is : (roots : List Wanted) (s : Segment)
-    → segment_in roots s ≡ tree.segment (out-Segment s).deep
-    (tree.selectors (map (selector_in roots) (out-Segment s).selectors.items))
+pub segment_is : (roots : List Wanted) (s : CompiledSegment)
+    → segment_in roots s ≡ tree.segment (out-CompiledSegment s).deep
+    (tree.selectors (map (selector_in roots) (out-CompiledSegment s).selectors.items))
 segment_is roots s = search (rules, the_lemmas)
 
 module _ (base : Base) (n : Node) where
@@ -76,18 +76,19 @@ module _ (base : Base) (n : Node) where
   unfolding picked
   picked_index p = ap (λ x. spec.select tests base.root x n) (index_read base.roots p)
 
-  pub picked_slice : (s : Slice) → picked base (sel.Slice s) n
+  pub picked_slice : (s : CompiledSlice) → picked base (sel.Slice s) n
       ≡ items_at n (slice_places (written_value (option_map position_text s.first))
       (written_value (option_map position_text s.past))
       (written_value (option_map position_text s.step)) n.value)
   unfolding picked
   picked_slice s = ap (λ x. spec.select tests base.root x n) (slice_read base.roots s)
 
-  pub picked_filter : (l : Logical) → picked base (sel.Filter l) n ≡ filter (is_true base l) (children n)
+  pub picked_filter : (l : CompiledLogical)
+      → picked base (sel.Filter l) n ≡ filter (is_true base l) (children n)
   unfolding picked is_true
   picked_filter l = ap (λ x. spec.select tests base.root x n) (filter_read base.roots l)
 
-  some_holds : (ls : List Logical)
+  some_holds : (ls : List CompiledLogical)
       → spec.any_holds tests base.root (tree.logicals (map (logical_in base.roots) ls)) n
       ≡ list_any (λ l. is_true base l n) ls
   unfolding is_true
@@ -95,7 +96,7 @@ module _ (base : Base) (n : Node) where
   some_holds (l ∷ ls) = ap (λ b. spec.holds tests base.root (logical_in base.roots l) n || b)
       (some_holds ls)
 
-  each_holds : (ls : List Logical)
+  each_holds : (ls : List CompiledLogical)
       → spec.all_hold tests base.root (tree.logicals (map (logical_in base.roots) ls)) n
       ≡ list_all (λ l. is_true base l n) ls
   unfolding is_true
@@ -103,21 +104,23 @@ module _ (base : Base) (n : Node) where
   each_holds (l ∷ ls) = ap (λ b. spec.holds tests base.root (logical_in base.roots l) n && b)
       (each_holds ls)
 
-  pub true_any : (v : Vec Logical Global) → is_true base (log.Any v) n ≡ list_any (λ l. is_true base l n)
+  pub true_any : (v : Vec CompiledLogical Global)
+      → is_true base (log.Any v) n ≡ list_any (λ l. is_true base l n)
       v.items
   unfolding is_true
   true_any v = ap (λ x. spec.holds tests base.root x n) (any_read base.roots v) ∙ some_holds v.items
 
-  pub true_all : (v : Vec Logical Global) → is_true base (log.All v) n ≡ list_all (λ l. is_true base l n)
+  pub true_all : (v : Vec CompiledLogical Global)
+      → is_true base (log.All v) n ≡ list_all (λ l. is_true base l n)
       v.items
   unfolding is_true
   true_all v = ap (λ x. spec.holds tests base.root x n) (all_read base.roots v) ∙ each_holds v.items
 
-  pub true_not : (b : Box Logical Global) → is_true base (log.Not b) n ≡ not (is_true base b.value n)
+  pub true_not : (b : Box CompiledLogical Global) → is_true base (log.Not b) n ≡ not (is_true base b.value n)
   unfolding is_true
   true_not b = ap (λ x. spec.holds tests base.root x n) (not_read base.roots b)
 
-  pub true_compare : (v : Value) (o : Operator) (w : Value) → is_true base (log.Compare v o w) n
+  pub true_compare : (v : Giver) (o : Operator) (w : Giver) → is_true base (log.Compare v o w) n
       ≡ compared o (value_given base v n) (value_given base w n)
   unfolding is_true value_given
   true_compare v o w = ap (λ x. spec.holds tests base.root x n) (compare_read base.roots v o w)
@@ -158,7 +161,7 @@ module _ (base : Base) (n : Node) where
   handed_value_of (tree.single q) = refl
   handed_value_of (tree.value_call x) = refl
 
-  pub true_match : (v w : Value) → is_true base (log.Match v w) n
+  pub true_match : (v w : Giver) → is_true base (log.Match v w) n
       ≡ tested tests.is_match (value_given base v n) (value_given base w n)
   unfolding is_true value_given
   true_match v w =
@@ -166,7 +169,7 @@ module _ (base : Base) (n : Node) where
       ∙ ap₂ (tested tests.is_match) (handed_value_of (value_in base.roots v))
       (handed_value_of (value_in base.roots w))
 
-  pub true_search : (v w : Value) → is_true base (log.Search v w) n
+  pub true_search : (v w : Giver) → is_true base (log.Search v w) n
       ≡ tested tests.is_found (value_given base v n) (value_given base w n)
   unfolding is_true value_given
   true_search v w =
@@ -174,7 +177,7 @@ module _ (base : Base) (n : Node) where
       ∙ ap₂ (tested tests.is_found) (handed_value_of (value_in base.roots v))
       (handed_value_of (value_in base.roots w))
 
-  pub true_match_known : (v : Value) (k : KnownPattern) → is_true base (log.MatchRead v k) n
+  pub true_match_known : (v : Giver) (k : KnownPattern) → is_true base (log.MatchRead v k) n
       ≡ tested tests.is_match (value_given base v n) (Some (json.text (text_of k.text)))
   unfolding is_true value_given
   true_match_known v k =
@@ -182,7 +185,7 @@ module _ (base : Base) (n : Node) where
       ∙ ap (λ o. tested tests.is_match o (Some (json.text (text_of k.text))))
       (handed_value_of (value_in base.roots v))
 
-  pub true_search_known : (v : Value) (k : KnownPattern) → is_true base (log.SearchRead v k) n
+  pub true_search_known : (v : Giver) (k : KnownPattern) → is_true base (log.SearchRead v k) n
       ≡ tested tests.is_found (value_given base v n) (Some (json.text (text_of k.text)))
   unfolding is_true value_given
   true_search_known v k =
@@ -201,7 +204,8 @@ module _ (base : Base) (n : Node) where
   handed_truth_of Bare (tree.test q) = refl
   handed_truth_of Bare (tree.test_call c) = refl
 
-  pub true_xor : (f : ArgumentForm) (l : Box Logical Global) (g : ArgumentForm) (m : Box Logical Global)
+  pub true_xor : (f : ArgumentForm) (l : Box CompiledLogical Global) (g : ArgumentForm)
+      (m : Box CompiledLogical Global)
       → is_true base (log.Xor f l g m) n ≡ exactly_one (is_true base l.value n) (is_true base m.value n)
   unfolding is_true
   true_xor f l g m =
@@ -222,7 +226,7 @@ module _ (base : Base) (n : Node) where
   given_single q = ap (λ y. spec.value_of tests base.root y n) (single_read base.roots q)
       ∙ source_value (nodes_in base.roots q First)
 
-  pub given_length : (b : Box Value Global) → value_given base (val.Length b) n
+  pub given_length : (b : Box Giver Global) → value_given base (val.Length b) n
       ≡ length_value (value_given base b.value n)
   unfolding value_given
   given_length b =
@@ -240,7 +244,7 @@ module _ (base : Base) (n : Node) where
 
   -- ---- queries
 
-  pub nodes_here : (v : Vec Segment Global) (ss : List Segment) (w : Want) → ss ≡ v.items
+  pub nodes_here : (v : Vec CompiledSegment Global) (ss : List CompiledSegment) (w : Want) → ss ≡ v.items
       → reached base ss (n ∷ []) ≡ nodes_given base (nod.Here v) w n
   unfolding reached nodes_given
   nodes_here v ss w same =
@@ -257,7 +261,8 @@ module _ (base : Base) (n : Node) where
   unfolding nodes_given
   nodes_distinct b w = sym (ap source_nodes (distinct_read base.roots b w))
 
-pub from_root : (base : Base) (v : Vec Segment Global) (ss : List Segment) (p : Part) (path : List Link)
+pub from_root : (base : Base) (v : Vec CompiledSegment Global) (ss : List CompiledSegment) (p : Part)
+    (path : List Link)
     → ss ≡ v.items → path ≡ [] → part_value p ≡ base.root
     → reached base ss (here path p ∷ []) ≡ root_nodes base.root (segments_in base.roots v.items)
 unfolding reached

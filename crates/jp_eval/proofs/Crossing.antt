@@ -8,9 +8,9 @@ use denote.Struct.Tuple.{TupleAt, field_at, type_at}
 use mathlib.Core.List.{List, [], ◌∷◌}
 use mir.Syntax.{Sym}
 use Rattle.std.proofs.Crossing.{crosses}
-use Rattle.jp_compiled.specs.contracts.query.Segment as Segment
-use Rattle.jp_compiled.specs.contracts.query.Selector as Selector
-use Rattle.jp_compiled.specs.contracts.query.Logical as Logical
+use Rattle.jp_compiled.specs.contracts.query.CompiledSegment as CompiledSegment
+use Rattle.jp_compiled.specs.contracts.query.CompiledSelector as CompiledSelector
+use Rattle.jp_compiled.specs.contracts.query.CompiledLogical as CompiledLogical
 use Rattle.jp_compiled.specs.contracts.query.RootPart as RootPart
 use Rattle.jp_compiled.specs.contracts.query.RootQuery as RootQuery
 use Rattle.jp_compiled.proofs.query.Want.TheSendSync as wants
@@ -18,9 +18,9 @@ use Rattle.jp_pattern.proofs.tree.CharSet.TheSendSync as sets
 use Rattle.jp_automaton.proofs.dfa.Dfa.TheSendSync as dfas
 use Rattle.jp_compiled.proofs.query.Constant.TheSendSync as constants
 use Rattle.jp_compiled.proofs.query.Position.TheSendSync as positions
-use Rattle.jp_compiled.proofs.query.Slice.TheSendSync as slices
+use Rattle.jp_compiled.proofs.query.CompiledSlice.TheSendSync as slices
 use Rattle.jp_compiled.proofs.query.ArgumentForm.TheSendSync as forms
-use Rattle.jp_compiled.proofs.query.Logical.TheLaws.TheKnot.{crosses as ready_crosses}
+use Rattle.jp_compiled.proofs.query.CompiledLogical.TheLaws.TheKnot.{crosses as ready_crosses}
 use Rattle.jp_automaton.proofs.expressions.Expression.TheLaws.TheKnot.{crosses as pattern_crosses}
 use Rattle.jp_node.proofs.link.Link.TheSendSync as links
 use Rattle.std.proofs.MapsCrossing.{crosses as map_crosses}
@@ -46,7 +46,7 @@ use Rattle.jp_found.specs.contracts.found.Alone as Alone
 use Rattle.jp_found.specs.contracts.aggregates.Aggregate as Aggregate
 use Rattle.jp_value.specs.contracts.read_pattern.ReadPattern as ReadPattern
 
-pub segment_sync : IsSync Segment.the_row
+pub segment_sync : IsSync CompiledSegment.the_row
 segment_sync = search (
   dfas.the_field_sync,
   dfas.the_field_send,
@@ -62,7 +62,7 @@ segment_sync = search (
   sendable,
 ) depth 60 fits 20000
 
-pub selector_sync : IsSync Selector.the_row
+pub selector_sync : IsSync CompiledSelector.the_row
 selector_sync = search (
   dfas.the_field_sync,
   dfas.the_field_send,
@@ -78,7 +78,7 @@ selector_sync = search (
   sendable,
 ) depth 60 fits 20000
 
-pub logical_sync : IsSync Logical.the_row
+pub logical_sync : IsSync CompiledLogical.the_row
 logical_sync = search (
   dfas.the_field_sync,
   dfas.the_field_send,
@@ -97,7 +97,7 @@ logical_sync = search (
 query_field : IsSync (RootQuery.the_field).row
 query_field = search (segment_sync, wants.the_field_sync, crosses, sendable) depth 60 fits 20000
 
-logical_field : IsSync (Logical.the_field).row
+logical_field : IsSync (CompiledLogical.the_field).row
 logical_field = search (
   dfas.the_field_sync,
   dfas.the_field_send,

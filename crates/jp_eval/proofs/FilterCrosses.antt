@@ -2,15 +2,15 @@
 use denote.Param.Send.{IsSend, IsSync, sendable}
 use denote.Ref.{NamedLft}
 use Rattle.std.proofs.Crossing.{crosses}
-use Rattle.jp_compiled.specs.contracts.compiled.Query as Query
+use Rattle.jp_compiled.specs.contracts.compiled.CompiledQuery as CompiledQuery
 use Rattle.jp_eval.proofs.Crossing.{segment_sync, logical_sync, root_sync}
 use Rattle.jp_eval.specs.contracts.document_filter.DocumentFilter as DocumentFilter
 use Rattle.jp_found.proofs.asked.RootUse.TheSendSync as found_asked
 
-query_field : IsSync (Query.the_field).row
+query_field : IsSync (CompiledQuery.the_field).row
 query_field = search (segment_sync, root_sync, crosses, sendable) depth 60 fits 20000
 
-pub query_sync : IsSync Query.the_row
+pub query_sync : IsSync CompiledQuery.the_row
 query_sync = search (query_field, sendable) depth 60 fits 20000
 
 pub filter_send : (a : NamedLft) → IsSend (DocumentFilter.the_field a).row

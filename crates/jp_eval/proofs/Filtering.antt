@@ -2,7 +2,7 @@
 use Rattle.std.proofs.Common.{◌≡◌, Bool, List, [], sym, ap, ap₂, ◌∙◌}
 use Rattle.jp_doc.specs.Location.{node}
 use Rattle.jp_compiled.specs.Parts.{Wanted, logical_in}
-use Rattle.jp_compiled.specs.declared.query.Logical.{Logical}
+use Rattle.jp_compiled.specs.declared.query.CompiledLogical.{CompiledLogical}
 use Rattle.jp_found.specs.Links.{here}
 use Rattle.jp_node.specs.Part.{part_value}
 use Rattle.jp_node.specs.declared.part.Part.{Part}
@@ -16,7 +16,8 @@ use Rattle.jp_eval.specs.inner.Base.{Base}
 use Rattle.jp_eval.specs.inner.Walk.{is_true}
 
 -- what was found at the root, where nothing but the document stands at the path's end
-pub asked_of_root : (roots : List Wanted) (test : Logical) (base : Base) (root : Part) (path : List Link)
+pub asked_of_root : (roots : List Wanted) (test : CompiledLogical) (base : Base) (root : Part)
+    (path : List Link)
     (truth : Bool) → part_value root ≡ base.root → base.roots ≡ roots → path ≡ []
     → truth ≡ is_true base test (here path root) → (t : Tests) → AreRight t
     → truth ≡ document_holds t (logical_in roots test) (part_value root)

@@ -5,10 +5,10 @@ use Rattle.jp_doc.specs.Json.{Json, null, truth, number, text, array, object}
 use Rattle.jp_doc.specs.Location as at
 use Rattle.jp_doc.specs.Location.{Location, node}
 use Rattle.jp_compiled.specs.Parts.{position_text}
-use Rattle.jp_compiled.specs.declared.query.Segment.{Segment}
-use Rattle.jp_compiled.specs.declared.query.Selector.{Selector}
-use Rattle.jp_compiled.specs.declared.query.Selector.TheVariants as sel
-use Rattle.jp_compiled.specs.declared.query.Slice.{Slice}
+use Rattle.jp_compiled.specs.declared.query.CompiledSegment.{CompiledSegment}
+use Rattle.jp_compiled.specs.declared.query.CompiledSelector.{CompiledSelector}
+use Rattle.jp_compiled.specs.declared.query.CompiledSelector.TheVariants as sel
+use Rattle.jp_compiled.specs.declared.query.CompiledSlice.{CompiledSlice}
 use Rattle.jp_value.specs.Literals.{written_value}
 use Rattle.jp_eval.specs.inner.Base.{Base}
 use Rattle.jp_node.specs.Inside.{IsScalar}
@@ -51,12 +51,12 @@ no_index z p (text s) is = refl
 no_index z p (array vs) is = absurd is
 no_index z p (object ms) is = absurd is
 
-abbrev sliced : Slice → Json → List ℕ
+abbrev sliced : CompiledSlice → Json → List ℕ
 sliced s v = slice_places (written_value (option_map position_text s.first))
     (written_value (option_map position_text s.past))
     (written_value (option_map position_text s.step)) v
 
-no_slice : (s : Slice) (p : Location) (v : Json) → IsScalar v → items_at (node p v) (sliced s v) ≡ []
+no_slice : (s : CompiledSlice) (p : Location) (v : Json) → IsScalar v → items_at (node p v) (sliced s v) ≡ []
 no_slice s p null is = refl
 no_slice s p (truth x) is = refl
 no_slice s p (number x) is = refl
@@ -65,7 +65,7 @@ no_slice s p (array vs) is = absurd is
 no_slice s p (object ms) is = absurd is
 
 module _ (base : Base) (p : Location) (v : Json) (is : IsScalar v) where
-  none_picked : (x : Selector) → picked base x (node p v) ≡ []
+  none_picked : (x : CompiledSelector) → picked base x (node p v) ≡ []
   none_picked (sel.Name s) = picked_name base (node p v) s ∙ no_member _ p v is
   none_picked sel.Wild = picked_wild base (node p v) ∙ no_children p v is
   none_picked (sel.Index i) = picked_index base (node p v) i ∙ no_index _ p v is
@@ -73,12 +73,12 @@ module _ (base : Base) (p : Location) (v : Json) (is : IsScalar v) where
   none_picked (sel.Filter l) = picked_filter base (node p v) l
       ∙ ap (filter (is_true base l)) (no_children p v is)
 
-  none_picked_by : (xs : List Selector) → picked_by base xs (node p v) ≡ []
+  none_picked_by : (xs : List CompiledSelector) → picked_by base xs (node p v) ≡ []
   none_picked_by [] = refl
   none_picked_by (x ∷ xs) = ap₂ (λ a b. a ++ b) (none_picked x) (none_picked_by xs)
 
   -- nothing is found at or below it
-  pub nothing_below : (xs : List Selector) (rest : List Segment)
+  pub nothing_below : (xs : List CompiledSelector) (rest : List CompiledSegment)
       → reached base rest (flat_map (picked_by base xs) (descendants (node p v))) ≡ []
   nothing_below xs rest =
       ap (λ ns. reached base rest (flat_map (picked_by base xs) ns)) (itself p v is)

@@ -4,8 +4,8 @@ use Rattle.std.proofs.Common.{Option, Some, None, option_to_list, refl, sym, ap,
 use Rattle.std.proofs.lemmas.List.{at_drop_more, at_drop_all}
 use Rattle.jp_doc.specs.Json.{Json}
 use Rattle.jp_doc.specs.Location.{Location, Node, node, index, item_of}
-use Rattle.jp_compiled.specs.declared.query.Segment.{Segment, out-Segment}
-use Rattle.jp_compiled.specs.declared.query.Selector.{Selector}
+use Rattle.jp_compiled.specs.declared.query.CompiledSegment.{CompiledSegment, out-CompiledSegment}
+use Rattle.jp_compiled.specs.declared.query.CompiledSelector.{CompiledSelector}
 use Rattle.jp_node.specs.Nodes.{node_if_some, items_at}
 use Rattle.jp_value.specs.Functions.{first_value}
 use Rattle.jp_eval.specs.inner.Base.{Base}
@@ -33,7 +33,8 @@ pub one_item : (n : Node) (o : Option ℕ) (p : ℕ) (r : Option Json) → o ≡
 one_item n o p None is e = none_at n o p is e
 one_item n o p (Some v) is e = (n.location ++ index p ∷ [], one_at n o p v is e)
 
-pub one_is : (xs : List Selector) (x : Selector) → 1 ≤ length xs → length xs < 2 → x ≡ get_or xs 0 x
+pub one_is : (xs : List CompiledSelector) (x : CompiledSelector) → 1 ≤ length xs → length xs < 2
+    → x ≡ get_or xs 0 x
     → xs ≡ x ∷ []
 one_is [] x low high is = absurd (omega arith)
 one_is (y ∷ []) x low high is = ap (λ z. z ∷ []) (sym is)
@@ -41,8 +42,9 @@ one_is (y ∷ z ∷ xs) x low high is = absurd (omega arith)
 
 module _ (base : Base) where
   -- a segment of one selector that leads to one node at most
-  pub one_step : (s : Segment) (xs : List Selector) (x : Selector) (n : Node) (o : Option Json)
-      → (out-Segment s).deep ≡ false → xs ≡ (out-Segment s).selectors.items
+  pub one_step : (s : CompiledSegment) (xs : List CompiledSelector) (x : CompiledSelector) (n : Node)
+      (o : Option Json)
+      → (out-CompiledSegment s).deep ≡ false → xs ≡ (out-CompiledSegment s).selectors.items
       → 1 ≤ length xs → length xs < 2 → x ≡ get_or xs 0 x
       → AreOne (picked base x n) o → AreOne (reached base (s ∷ []) (n ∷ [])) o
   one_step s xs x n o plain items low high is = same_one _ _ o
@@ -51,7 +53,7 @@ module _ (base : Base) where
       ∙ ap (λ ys. picked_by base ys n) (sym items ∙ one_is xs x low high is)
       ∙ append-nil (picked base x n))
 
-  module _ (ss : List Segment) (i : ℕ) (s : Segment) (n : Node) (h : i < length ss)
+  module _ (ss : List CompiledSegment) (i : ℕ) (s : CompiledSegment) (n : Node) (h : i < length ss)
       (is : s ≡ get_or ss i s) where
     stepped : reached base (drop i ss) (n ∷ [])
         ≡ reached base (drop (i + 1) ss) (reached base (s ∷ []) (n ∷ []))
@@ -70,7 +72,7 @@ module _ (base : Base) where
     led_off none = stepped ∙ ap (reached base (drop (i + 1) ss)) none ∙ reached-none base (drop (i + 1) ss)
 
   -- the end
-  pub led_to_end : (ss : List Segment) (i : ℕ) (n : Node) → length ss ≤ i
+  pub led_to_end : (ss : List CompiledSegment) (i : ℕ) (n : Node) → length ss ≤ i
       → first_value (reached base (drop i ss) (n ∷ [])) ≡ Some n.value
   led_to_end ss i n h = ap first_value
       (at_drop_all (λ ts. reached base ts (n ∷ [])) ss i h ∙ reached-end base (n ∷ []))

@@ -9,8 +9,8 @@ use Rattle.std.proofs.lemmas.Slice.Eq.{bytes_eq-Decides}
 use Rattle.jp_node.proofs.Places.{free_place}
 use Rattle.jp_node.specs.Selected.{index_places}
 use Rattle.jp_compiled.specs.Parts.{Wanted, segment_in, segments_in, selector_in}
-use Rattle.jp_compiled.specs.declared.query.Segment.{Segment, out-Segment}
-use Rattle.jp_compiled.specs.declared.query.Selector.{Selector}
+use Rattle.jp_compiled.specs.declared.query.CompiledSegment.{CompiledSegment, out-CompiledSegment}
+use Rattle.jp_compiled.specs.declared.query.CompiledSelector.{CompiledSelector}
 use Rattle.jp_doc.specs.Json.{Json}
 use Rattle.jp_doc.specs.Location as at
 use Rattle.jp_doc.specs.Location.{Step, Location, node, child_at, value_at}
@@ -31,8 +31,9 @@ use Rattle.jp_eval.proofs.OneNode.{one_is}
 -- ---- the links are laid
 
 -- a segment of one selector
-pub single_step : (roots : List Wanted) (s : Segment) (xs : List Selector) (x : Selector) (t : Step)
-    → (out-Segment s).deep ≡ false → xs ≡ (out-Segment s).selectors.items
+pub single_step : (roots : List Wanted) (s : CompiledSegment) (xs : List CompiledSelector)
+    (x : CompiledSelector) (t : Step)
+    → (out-CompiledSegment s).deep ≡ false → xs ≡ (out-CompiledSegment s).selectors.items
     → 1 ≤ length xs → length xs < 2 → x ≡ get_or xs 0 x
     → is_step (selector_in roots x) t ≡ true → is_single_step (segment_in roots s) t ≡ true
 single_step roots s xs x t plain items low high is h =
@@ -42,12 +43,12 @@ single_step roots s xs x t plain items low high is h =
     ∙ h
 
 -- what is left of the segments makes the way whole
-abbrev pub Laid : List Segment → ℕ → List Link → Type 0
+abbrev pub Laid : List CompiledSegment → ℕ → List Link → Type 0
 Laid ss i path = (roots : List Wanted) (ts : Location)
     → is_route (segments_in roots (drop i ss)) ts ≡ true
     → is_route (segments_in roots ss) (link_steps path ++ ts) ≡ true
 
-pub laid_more : (ss : List Segment) (i : ℕ) (s : Segment) (path more : List Link) (l : Link)
+pub laid_more : (ss : List CompiledSegment) (i : ℕ) (s : CompiledSegment) (path more : List Link) (l : Link)
     → i < length ss → s ≡ get_or ss i s → more ≡ path ++ l ∷ []
     → ((roots : List Wanted) → is_single_step (segment_in roots s) (link_step l) ≡ true)
     → Laid ss i path → Laid ss (i + 1) more
@@ -62,7 +63,7 @@ laid_more ss i s path more l h is e step inv roots ts rest =
     ∙ and_from (is_single_step (segment_in roots s) (link_step l))
     (is_route (segments_in roots (drop (i + 1) ss)) ts) (step roots) rest)
 
-pub laid_whole : (ss : List Segment) (i : ℕ) (path : List Link) → length ss ≤ i → Laid ss i path
+pub laid_whole : (ss : List CompiledSegment) (i : ℕ) (path : List Link) → length ss ≤ i → Laid ss i path
     → (roots : List Wanted) → is_route (segments_in roots ss) (link_steps path) ≡ true
 laid_whole ss i path h inv roots =
     ap (is_route (segments_in roots ss)) (sym (append-nil (link_steps path)))
@@ -128,6 +129,6 @@ along_route tests start.Root ss ts root h = along_from tests root ss [] ts (Some
 along_route tests start.Current ss ts root h = along_from tests root ss [] ts (Some root) h
 
 -- the route of some segments is that of the same in a query
-pub same_route : (roots : List Wanted) (ss ts : List Segment) (r : Route) → ss ≡ ts
+pub same_route : (roots : List Wanted) (ss ts : List CompiledSegment) (r : Route) → ss ≡ ts
     → is_routed (segments_in roots ss) r ≡ true → is_routed (segments_in roots ts) r ≡ true
 same_route roots ss ts r e h = ap (λ xs. is_routed (segments_in roots xs) r) (sym e) ∙ h

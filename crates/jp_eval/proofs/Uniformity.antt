@@ -13,10 +13,10 @@ use Rattle.jp_tree.specs.declared.tree.Start.TheVariants.{Root, Current}
 use Rattle.jp_types.specs.Functions.{function_named}
 use Rattle.jp_compiled.specs.Uniform.{is_rooted, is_uniform, all_uniform, comparison_uniform, side_uniform}
 use Rattle.jp_compiled.specs.Uniform.{call_uniform, arguments_uniform, argument_uniform}
-use Rattle.jp_compiled.specs.declared.query.Logical.{Logical}
-use Rattle.jp_compiled.specs.declared.query.Segment.{Segment}
-use Rattle.jp_compiled.specs.declared.query.Selector.{Selector}
-use Rattle.jp_compiled.specs.declared.query.Selector.TheVariants as sel
+use Rattle.jp_compiled.specs.declared.query.CompiledLogical.{CompiledLogical}
+use Rattle.jp_compiled.specs.declared.query.CompiledSegment.{CompiledSegment}
+use Rattle.jp_compiled.specs.declared.query.CompiledSelector.{CompiledSelector}
+use Rattle.jp_compiled.specs.declared.query.CompiledSelector.TheVariants as sel
 use Rattle.jp_value.specs.Comparison.{compared}
 use Rattle.jp_value.specs.Functions.{is_empty, first_value, as_truth, as_value, called_if_known}
 use Rattle.jp_value.specs.Functions.{handed_nodes, handed_truth}
@@ -91,7 +91,8 @@ module _ (tests : Tests) (root : Json) (n other : Node) where
 -- ---- along nodes
 
 -- what a filter leaves of the children, each tested
-pub kept_each : (base : Base) (rest : List Segment) (n : Node) (x : Selector) (l : Logical) → x ≡ sel.Filter l
+pub kept_each : (base : Base) (rest : List CompiledSegment) (n : Node) (x : CompiledSelector)
+    (l : CompiledLogical) → x ≡ sel.Filter l
     → reached base rest (picked base x n)
     ≡ flat_map (λ k. reached base rest (filter (is_true base l) (k ∷ []))) (children n)
 kept_each base rest n x l is =
@@ -99,7 +100,8 @@ kept_each base rest n x l is =
     ∙ reached-filter base rest (is_true base l) (children n)
 
 -- where it is true of every node, it leaves them all
-pub true_along : (base : Base) (l : Logical) (rest : List Segment) → ((n : Node) → is_true base l n ≡ true)
+pub true_along : (base : Base) (l : CompiledLogical) (rest : List CompiledSegment) →
+    ((n : Node) → is_true base l n ≡ true)
     → (ns : List Node) → flat_map (λ k. reached base rest (k ∷ [])) ns
     ≡ flat_map (λ k. reached base rest (filter (is_true base l) (k ∷ []))) ns
 true_along base l rest on [] = refl
@@ -108,7 +110,8 @@ true_along base l rest on (k ∷ ns) =
     (true_along base l rest on ns)
 
 -- where it is true of none, it leaves none
-pub false_along : (base : Base) (l : Logical) (rest : List Segment) → ((n : Node) → is_true base l n ≡ false)
+pub false_along : (base : Base) (l : CompiledLogical) (rest : List CompiledSegment) →
+    ((n : Node) → is_true base l n ≡ false)
     → (ns : List Node) → flat_map (λ k. reached base rest (filter (is_true base l) (k ∷ []))) ns ≡ []
 false_along base l rest off [] = refl
 false_along base l rest off (k ∷ ns) =

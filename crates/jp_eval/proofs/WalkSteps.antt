@@ -16,8 +16,8 @@ use Rattle.jp_node.specs.Part.{part_value}
 use Rattle.jp_eval.specs.inner.Walk.{picked, picked_by, reached}
 use Rattle.jp_node.specs.declared.part.Part.{Part}
 use Rattle.jp_node.specs.declared.link.Link.{Link}
-use Rattle.jp_compiled.specs.declared.query.Segment.{Segment}
-use Rattle.jp_compiled.specs.declared.query.Selector.{Selector}
+use Rattle.jp_compiled.specs.declared.query.CompiledSegment.{CompiledSegment}
+use Rattle.jp_compiled.specs.declared.query.CompiledSelector.{CompiledSelector}
 use Rattle.jp_eval.specs.inner.Base.{Base}
 use Rattle.jp_eval.proofs.Chains.{reached-append, reached-descend}
 use Rattle.jp_found.proofs.Keeping.{stepped, ended, plus-append}
@@ -51,8 +51,9 @@ over put f xs i k start all h none inv =
     ended put k start all (sym (ap (plus put k) (at_drop_all f xs i h ∙ none)) ∙ inv)
 
 -- one selector
-pub applied : {K : Type 0} (put : K → Node → K) (base : Base) (xs : List Selector) (i : ℕ) (x : Selector)
-    (rest : List Segment) (n : Node) (k mid start : K) (all : List Node) → i < length xs
+pub applied : {K : Type 0} (put : K → Node → K) (base : Base) (xs : List CompiledSelector) (i : ℕ)
+    (x : CompiledSelector)
+    (rest : List CompiledSegment) (n : Node) (k mid start : K) (all : List Node) → i < length xs
     → x ≡ get_or xs i x
     → mid ≡ plus put k (reached base rest (picked base x n))
     → plus put k (reached base rest (picked_by base (drop i xs) n)) ≡ plus put start all
@@ -67,7 +68,8 @@ applied put base xs i x rest n k mid start all h is e inv =
     (reached base rest (picked_by base (drop (i + 1) xs) n)) all start e (sym (ap (plus put k) first)
     ∙ inv)
 
-pub descended : {K : Type 0} (put : K → Node → K) (base : Base) (xs : List Selector) (rest : List Segment)
+pub descended : {K : Type 0} (put : K → Node → K) (base : Base) (xs : List CompiledSelector)
+    (rest : List CompiledSegment)
     (n : Node) (k mid last : K) → mid ≡ plus put k (reached base rest (picked_by base xs n))
     → last ≡ plus put mid
     (flat_map (λ c. reached base rest (flat_map (picked_by base xs) (descendants c))) (children n))

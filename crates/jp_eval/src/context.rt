@@ -5,7 +5,7 @@ ghost use Rattle.jp_compiled.specs.Parts.{roots_of};
 ghost use Rattle.jp_eval.specs.inner.Rooted.{are_answers};
 ghost use Rattle.jp_node.specs.Part.{part_value};
 
-use jp_compiled::{Logical, Nodes, RootPart, Value as Giver, Want};
+use jp_compiled::{CompiledLogical, Giver, Nodes, RootPart, Want};
 use jp_found::{Aggregate, Length, RootAnswer, is_result_of, of_one};
 use jp_node::{Kind, Part};
 use jp_value::ReadPattern;
@@ -133,11 +133,11 @@ impl<'v> Context<'v> {
     }
 
     /// Whether the expression is true of every node, where it is one that is answered once a document.
-    pub(crate) fn known_truth(&self, test: &Logical) -> Option<bool>
+    pub(crate) fn known_truth(&self, test: &CompiledLogical) -> Option<bool>
         ensures { IfSome result (λ b. (n : Node) → is_true (base_of self.now) test.now n ≡ b) }
     {
         match test {
-            Logical::Once(slot) => Some(self.truth(*slot)),
+            CompiledLogical::Once(slot) => Some(self.truth(*slot)),
             _ => None,
         }
     }

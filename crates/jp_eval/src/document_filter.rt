@@ -10,7 +10,7 @@ ghost use Rattle.jp_tree.specs.Tree as tree;
 use crate::fault::EvalFault;
 use crate::roots::answer_roots;
 use crate::walk::holds;
-use jp_compiled::{Logical, Query};
+use jp_compiled::{CompiledLogical, CompiledQuery};
 use jp_found::{RootUse, asked_by};
 use jp_node::{Locations, Part, PathStack};
 use std::alloc::Global;
@@ -20,8 +20,8 @@ use std::alloc::Global;
 #[derive(Clone, Copy, Drop)]
 pub struct DocumentFilter<'p> {
     alloc: Global,
-    query: &'p Query,
-    test: &'p Logical,
+    query: &'p CompiledQuery,
+    test: &'p CompiledLogical,
     asked: RootUse,
 }
 
@@ -30,7 +30,7 @@ impl<'p> DocumentFilter<'p> {
 
     /// Of the filter of this query, which has to be one filter and nothing else: `$[?FILTER]`. It takes no
     /// memory.
-    pub fn new(alloc: Global, query: &'p Query) -> Option<DocumentFilter<'p>>
+    pub fn new(alloc: Global, query: &'p CompiledQuery) -> Option<DocumentFilter<'p>>
         ensures { MatchOption result
             ((l : tree.Logical) → compiled_query query.now ≡ filter_query l → ⊥)
             (λ f. compiled_query query.now ≡ filter_query (asked_filter f)) }

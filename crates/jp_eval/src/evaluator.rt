@@ -12,12 +12,12 @@ ghost use Rattle.jp_node.specs.Part.{part_value};
 ghost use Rattle.jp_pattern.specs.Tests.{Tests, AreRight};
 
 use crate::fault::EvalFault;
-use crate::fork::{Cuts, Fork};
+use crate::fork::{Fork, Halving};
 use crate::roots::answer_roots;
 use crate::route::{Route, route_of, visit_along};
 use crate::split::{Splitting, go_split};
 use crate::walk::{Action, run};
-use jp_compiled::Query;
+use jp_compiled::CompiledQuery;
 use jp_doc::Document;
 use jp_found::{Found, RootUse, asked_by, visitor_of};
 use jp_node::{Part, PathStack, Scratch, Visit};
@@ -31,7 +31,7 @@ use std::thread::Threads;
 #[derive(Drop)]
 pub struct Evaluator<'p> {
     alloc: Global,
-    query: &'p Query,
+    query: &'p CompiledQuery,
     asked: RootUse,
     // The memory of a path's text and the route are all that is kept from document to document
     // (README, No answer outlives its document).
@@ -45,7 +45,7 @@ impl<'p> Evaluator<'p> {
     ghost use Rattle.jp_eval.specs.Evaluated.{evaluated_query};
 
     /// Of this query. It takes no memory.
-    pub fn new(alloc: Global, query: &'p Query) -> Evaluator<'p>
+    pub fn new(alloc: Global, query: &'p CompiledQuery) -> Evaluator<'p>
         ensures { evaluated_query result ≡ compiled_query query.now }
     {
         Evaluator {
@@ -110,36 +110,12 @@ impl<'p> Evaluator<'p> {
         Ok(())
     }
 
-    /// The same as `visit`, where a list of children that the query's own segments walk, and that is long
-    /// enough for these cuts, is cut into halves that are walked at once, and so is a half. What lies within
-    /// as many cuts as there may be is walked whole.
+    /// The same as `visit_part`, where a list of children that the query's own segments walk, and that is
+    /// long enough for these cuts, is cut into halves that are walked at once, and so is a half. What lies
+    /// within as many cuts as there may be is walked whole.
     ///
     /// The fork is told of each half by the thread that walks it. A half whose thread can't be started is
     /// walked on the other's.
-    ///
-    /// # Errors
-    ///
-    /// [`EvalFault::Memory`] where a growth of memory was refused. Further documents may be visited then.
-    pub fn visit_split<R: Threads + Sync, F: Fork + Sync, V: Visit + Drop + Send>(
-        &mut self,
-        rt: &R,
-        document: &Document,
-        cuts: Cuts,
-        fork: &F,
-        visitor: V,
-    ) -> Result<V, EvalFault>
-        ensures nodes { IfOk result (λ t. (tests : Tests) → AreRight tests →
-            V.kept t ≡ fold V.put (V.kept visitor)
-            (document_nodes tests (evaluated_query self.old) (document_value document.now))) }
-        ensures query { evaluated_query self.new ≡ evaluated_query self.old }
-    {
-        let mut visitor = visitor;
-        self.visit_part_split(rt, Part::root_of(document), cuts, fork, &mut visitor)?;
-        Ok(visitor)
-    }
-
-    /// The same as `visit_split`, of a document by its whole value, in whatever form it is read, by a visitor
-    /// that is lent.
     ///
     /// # Errors
     ///
@@ -149,8 +125,7 @@ impl<'p> Evaluator<'p> {
         &mut self,
         rt: &R,
         root: Part<'_>,
-        cuts: Cuts,
-        fork: &F,
+        halving: Halving<'_, F>,
         visitor: &mut V,
     ) -> Result<(), EvalFault>
         ensures nodes { OnOk result ((tests : Tests) → AreRight tests →
@@ -168,9 +143,9 @@ impl<'p> Evaluator<'p> {
         let mut found = take_visitor(self.alloc, visitor);
         let splitting = Splitting {
             rt,
-            fork,
+            fork: halving.fork,
             context: &context,
-            cuts,
+            cuts: halving.cuts,
         };
         go_split(
             &splitting,

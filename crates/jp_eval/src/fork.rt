@@ -49,3 +49,12 @@ impl Cuts {
         }
     }
 }
+
+/// How a document is walked by halves.
+#[derive(Clone, Copy)]
+pub struct Halving<'f, F> {
+    /// Which lists are cut.
+    pub cuts: Cuts,
+    /// Is told of each half.
+    pub fork: &'f F,
+}

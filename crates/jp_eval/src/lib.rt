@@ -20,4 +20,4 @@ mod work_items;
 pub use document_filter::DocumentFilter;
 pub use evaluator::Evaluator;
 pub use fault::EvalFault;
-pub use fork::{Cuts, Fork, OpenFork};
+pub use fork::{Cuts, Fork, Halving, OpenFork};

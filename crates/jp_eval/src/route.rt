@@ -10,7 +10,7 @@ ghost use Rattle.jp_node.specs.Part.{part_value};
 ghost use Rattle.jp_node.specs.Links.{link_step, link_steps};
 ghost use Rattle.jp_eval.specs.inner.Routes.{is_step, is_single_step, is_routed, nodes_along};
 
-use jp_compiled::{Segment, Selector};
+use jp_compiled::{CompiledSegment, CompiledSelector};
 use jp_node::{Link, Part, PathStack, Visit};
 use std::alloc::{AllocError, Global};
 
@@ -28,7 +28,10 @@ pub(crate) enum Route<'p> {
 /// The route of these segments.
 ///
 /// `AllocError` if a growth was refused.
-pub(crate) fn route_of<'p>(alloc: Global, segments: &'p [Segment]) -> Result<Route<'p>, AllocError>
+pub(crate) fn route_of<'p>(
+    alloc: Global,
+    segments: &'p [CompiledSegment],
+) -> Result<Route<'p>, AllocError>
     ensures { IfOk result (λ route. (roots : List Wanted)
         → is_routed (segments_in roots segments.now) route ≡ true) }
 {
@@ -43,7 +46,7 @@ pub(crate) fn route_of<'p>(alloc: Global, segments: &'p [Segment]) -> Result<Rou
 }
 
 /// The link of a segment that is one name, or one index from the front.
-fn link_of<'p>(segment: &'p Segment) -> Option<Link<'p>>
+fn link_of<'p>(segment: &'p CompiledSegment) -> Option<Link<'p>>
     ensures { IfSome result (λ link. (roots : List Wanted)
         → is_single_step (segment_in roots segment.now) (link_step link) ≡ true) }
 {
@@ -57,20 +60,20 @@ fn link_of<'p>(segment: &'p Segment) -> Option<Link<'p>>
 }
 
 /// The link of a name, or of an index from the front.
-fn selector_link<'p>(selector: &'p Selector) -> Option<Link<'p>>
+fn selector_link<'p>(selector: &'p CompiledSelector) -> Option<Link<'p>>
     ensures { IfSome result (λ link. (roots : List Wanted)
         → is_step (selector_in roots selector.now) (link_step link) ≡ true) }
 {
     match selector {
-        Selector::Name(name) => Some(Link::Name(name.as_str())),
+        CompiledSelector::Name(name) => Some(Link::Name(name.as_str())),
         // An index from the end is another place in each array.
-        Selector::Index(index) => match u32::try_from(index.value) {
+        CompiledSelector::Index(index) => match u32::try_from(index.value) {
             Ok(place) => Some(Link::Index(place)),
             Err(_) => None,
         },
-        Selector::Wild => None,
-        Selector::Slice(_) => None,
-        Selector::Filter(_) => None,
+        CompiledSelector::Wild => None,
+        CompiledSelector::Slice(_) => None,
+        CompiledSelector::Filter(_) => None,
     }
 }
 

@@ -11,22 +11,22 @@ ghost use Rattle.jp_eval.specs.inner.Base.{Base};
 ghost use Rattle.jp_eval.specs.inner.OneNode.{AreOne};
 ghost use Rattle.jp_eval.specs.inner.Walk.{picked, reached};
 
-use jp_compiled::{Segment, Selector, Want};
+use jp_compiled::{CompiledSegment, CompiledSelector, Want};
 use jp_found::Aggregate;
 use jp_node::{Part, place_in};
 
 /// The child that a name or an index selects, if there is one; and nothing where the selector is no such one.
-fn child_by<'v>(selector: &'v Selector, value: Part<'v>) -> Option<Option<Part<'v>>>
+fn child_by<'v>(selector: &'v CompiledSelector, value: Part<'v>) -> Option<Option<Part<'v>>>
     ensures { IfSome result (λ child. (base : Base) (at : Location)
         → AreOne (picked base selector.now (node at (part_value value.entry)))
         (option_map part_value child)) }
 {
     match selector {
-        Selector::Name(name) => Some(value.member(name.as_str())),
-        Selector::Index(index) => Some(item_at(place_in(index.value, value), value)),
-        Selector::Wild => None,
-        Selector::Slice(_) => None,
-        Selector::Filter(_) => None,
+        CompiledSelector::Name(name) => Some(value.member(name.as_str())),
+        CompiledSelector::Index(index) => Some(item_at(place_in(index.value, value), value)),
+        CompiledSelector::Wild => None,
+        CompiledSelector::Slice(_) => None,
+        CompiledSelector::Filter(_) => None,
     }
 }
 
@@ -42,7 +42,7 @@ fn item_at<'v>(place: Option<u32>, value: Part<'v>) -> Option<Part<'v>>
 }
 
 /// What a segment of one name or index leads to.
-fn step_by<'v>(segment: &'v Segment, value: Part<'v>) -> Option<Option<Part<'v>>>
+fn step_by<'v>(segment: &'v CompiledSegment, value: Part<'v>) -> Option<Option<Part<'v>>>
     ensures { IfSome result (λ child. (base : Base) (at : Location)
         → AreOne (reached base (segment.now ∷ []) (node at (part_value value.entry) ∷ []))
         (option_map part_value child)) }
@@ -58,7 +58,7 @@ fn step_by<'v>(segment: &'v Segment, value: Part<'v>) -> Option<Option<Part<'v>>
 
 /// What segments of one name or index each lead to, one after another, if there is a value; and nothing where
 /// one of them is no such segment.
-fn followed<'v>(segments: &'v [Segment], value: Part<'v>) -> Option<Option<Part<'v>>>
+fn followed<'v>(segments: &'v [CompiledSegment], value: Part<'v>) -> Option<Option<Part<'v>>>
     ensures { IfSome result (λ found. (base : Base) (at : Location)
         → first_value (reached base segments.now (node at (part_value value.entry) ∷ []))
         ≡ option_map part_value found) }
@@ -74,18 +74,18 @@ fn followed<'v>(segments: &'v [Segment], value: Part<'v>) -> Option<Option<Part<
 }
 
 /// Whether the segment is of one name or index.
-fn is_step(segment: &Segment) -> bool {
+fn is_step(segment: &CompiledSegment) -> bool {
     !segment.deep
         && matches!(
             segment.selectors.as_slice(),
-            [Selector::Name(_) | Selector::Index(_)]
+            [CompiledSelector::Name(_) | CompiledSelector::Index(_)]
         )
 }
 
 /// The answer to a filter that wants the first node of such segments; and nothing of others.
 pub(crate) fn answer_of<'v>(
     want: Want,
-    segments: &'v [Segment],
+    segments: &'v [CompiledSegment],
     value: Part<'v>,
 ) -> Option<Aggregate<'v>>
     ensures { IfSome result (λ answer. (base : Base) (at : Location)

@@ -1,8 +1,9 @@
 //! The walk of a query through a document, depth first, on one path.
 
-ghost use Rattle.std.specs.Prelude.{◌≡◌, [], ◌∷◌, option_to_list, IfOk, IfSome, OnOk, IsTrue, true};
+ghost use Rattle.std.specs.Prelude.{◌≡◌, ◌<◌, [], ◌∷◌, IfOk, IfSome, IfNone, OnOk, IsTrue, true};
 ghost use Rattle.std.specs.List.{flat_map, list_any, list_all};
-ghost use Rattle.jp_doc.specs.Location.{Location, Node, node};
+ghost use Rattle.jp_doc.specs.Height.{height};
+ghost use Rattle.jp_doc.specs.Location.{Location, node};
 ghost use Rattle.jp_node.specs.Links.{link_steps};
 ghost use Rattle.jp_node.specs.Part.{part_value};
 ghost use Rattle.jp_value.specs.Kinds.{given_value};
@@ -12,14 +13,15 @@ ghost use Rattle.jp_node.specs.ChildRanges.{range_nodes, of_flat_items, flat_mem
 ghost use Rattle.jp_eval.specs.inner.Opened.{AreChildren};
 ghost use Rattle.jp_found.specs.Links.{here};
 ghost use Rattle.jp_node.specs.ChildNodes.{child_node};
-ghost use Rattle.jp_node.specs.Nodes.{children, descendants, items_at};
+ghost use Rattle.jp_node.specs.Nodes.{children, items_at};
+ghost use Rattle.jp_node.specs.Selected.{index_places};
 ghost use Rattle.jp_eval.specs.inner.Base.{Base, base_of};
 ghost use Rattle.jp_eval.specs.inner.Walk.{picked, picked_by, reached, is_true, value_given, nodes_given};
 ghost use Rattle.jp_eval.specs.inner.Walk.{done};
 
 use crate::context::Context;
 use crate::singular::answer_of;
-use jp_compiled::{Logical, Nodes, Segment, Selector, Value as Giver, Want};
+use jp_compiled::{CompiledLogical, CompiledSegment, CompiledSelector, Giver, Nodes, Want};
 use jp_flat::{FlatItems, FlatMember};
 use jp_found::{
     Aggregate, Found, add, has_first, into_aggregate, is_full, none_found, of_distinct, operand,
@@ -33,17 +35,16 @@ use jp_value::{
     searches, searches_known, searches_read,
 };
 use std::alloc::AllocError;
-use std::ops::Range;
 
 /// What is done at a value.
 #[derive(Clone, Copy)]
 pub(crate) enum Action<'v> {
     /// The segments.
-    Run(&'v [Segment]),
+    Run(&'v [CompiledSegment]),
     /// The selectors at the value and at each descendant, and then the segments.
-    Descend(&'v [Selector], &'v [Segment]),
+    Descend(&'v [CompiledSelector], &'v [CompiledSegment]),
     /// The segments, where the expression is true of the value.
-    Test(&'v Logical, &'v [Segment]),
+    Test(&'v CompiledLogical, &'v [CompiledSegment]),
 }
 
 /// A value, with the range of all its children where they are listed already.
@@ -51,6 +52,36 @@ pub(crate) enum Action<'v> {
 pub(crate) struct Opened<'c, 'v> {
     value: Part<'v>,
     range: Option<ChildRange<'c, 'v>>,
+}
+
+/// Items of a flat document that have a place below another, where the first has this one.
+#[derive(Clone, Copy)]
+pub(crate) struct ItemRange<'v> {
+    rest: FlatItems<'v>,
+    place: u32,
+    past: u32,
+}
+
+/// The item that an index selects, if there is one.
+fn item_child<'v>(index: i64, value: Part<'v>) -> Option<Child<'v>>
+    ensures some { IfSome result (λ child. (at : Location)
+        → items_at (node at (part_value value.entry)) (index_places index (part_value value.entry))
+        ≡ child_node at child ∷ []) }
+    ensures none { IfNone result ((at : Location)
+        → items_at (node at (part_value value.entry)) (index_places index (part_value value.entry)) ≡ []) }
+    ensures below { IfSome result (λ child. height (part_value child.part)
+        < height (part_value value.entry)) }
+{
+    let Some(place) = place_in(index, value) else {
+        return None;
+    };
+    let Some(part) = value.item(place) else {
+        return None;
+    };
+    Some(Child {
+        link: Link::Index(place),
+        part,
+    })
 }
 
 /// Whether the action finds nothing at the value, since it goes down, and nothing is inside.
@@ -106,7 +137,7 @@ pub(crate) fn go<'v, V: Visit + Drop>(
 #[cycle(walk)]
 pub(crate) fn run<'v, V: Visit + Drop>(
     context: &Context<'v>,
-    segments: &'v [Segment],
+    segments: &'v [CompiledSegment],
     value: Part<'v>,
     path: &mut PathStack<'v>,
     found: &mut Found<'v, V>,
@@ -139,8 +170,8 @@ pub(crate) fn run<'v, V: Visit + Drop>(
 #[cycle(walk)]
 fn apply<'v, V: Visit + Drop>(
     context: &Context<'v>,
-    selectors: &'v [Selector],
-    rest: &'v [Segment],
+    selectors: &'v [CompiledSelector],
+    rest: &'v [CompiledSegment],
     opened: Opened<'_, 'v>,
     path: &mut PathStack<'v>,
     found: &mut Found<'v, V>,
@@ -164,8 +195,8 @@ fn apply<'v, V: Visit + Drop>(
 #[cycle(walk)]
 fn select<'v, V: Visit + Drop>(
     context: &Context<'v>,
-    selector: &'v Selector,
-    rest: &'v [Segment],
+    selector: &'v CompiledSelector,
+    rest: &'v [CompiledSegment],
     opened: Opened<'_, 'v>,
     path: &mut PathStack<'v>,
     found: &mut Found<'v, V>,
@@ -178,7 +209,7 @@ fn select<'v, V: Visit + Drop>(
 {
     let value = opened.value;
     match selector {
-        Selector::Name(name) => {
+        CompiledSelector::Name(name) => {
             if let Some(child) = value.member(name.as_str()) {
                 path.push(Link::Name(name.as_str()))?;
                 run(context, rest, child, path, found)?;
@@ -186,50 +217,24 @@ fn select<'v, V: Visit + Drop>(
             }
             Ok(())
         }
-        Selector::Wild => each_child(context, Action::Run(rest), opened, path, found),
-        Selector::Index(index) => {
-            let place = place_in(index.value, value);
-            at_place(context, place, rest, value, path, found)
-        }
-        Selector::Slice(slice) => {
+        CompiledSelector::Wild => each_child(context, Action::Run(rest), opened, path, found),
+        CompiledSelector::Index(index) => match item_child(index.value, value) {
+            Some(child) => at_child(context, Action::Run(rest), child, path, found),
+            None => Ok(()),
+        },
+        CompiledSelector::Slice(slice) => {
             let bounds = bounds_of(slice, value.item_count());
             let children = sliced(context.alloc, value, bounds)?;
             let children = ChildRange::Listed(children.as_slice());
             each_of(context, Action::Run(rest), children, path, found)
         }
         // What asks nothing of the current node is as true of each child: it was answered once a document.
-        Selector::Filter(test) => match context.known_truth(test) {
+        CompiledSelector::Filter(test) => match context.known_truth(test) {
             Some(true) => each_child(context, Action::Run(rest), opened, path, found),
             Some(false) => Ok(()),
             None => each_child(context, Action::Test(test, rest), opened, path, found),
         },
     }
-}
-
-/// The segments from the item at this place, if there is one.
-#[cycle(walk)]
-fn at_place<'v, V: Visit + Drop>(
-    context: &Context<'v>,
-    place: Option<u32>,
-    rest: &'v [Segment],
-    value: Part<'v>,
-    path: &mut PathStack<'v>,
-    found: &mut Found<'v, V>,
-) -> Result<(), AllocError>
-    ensures found { OnOk result (Finds V.kept V.put found.old found.new
-        (reached (base_of context.now) rest.now
-        (items_at (here path.old value.entry) (option_to_list place)))) }
-    ensures path { OnOk result (path.new ≡ path.old) }
-{
-    let Some(place) = place else {
-        return Ok(());
-    };
-    if let Some(child) = value.item(place) {
-        path.push(Link::Index(place))?;
-        run(context, rest, child, path, found)?;
-        path.pop();
-    }
-    Ok(())
 }
 
 /// The action at each child of the value.
@@ -271,8 +276,9 @@ fn each_of<'v, V: Visit + Drop>(
         ChildRange::Members(MemberRange::Flat(members)) => {
             each_member(context, action, members, path, found)
         }
-        ChildRange::Items(Items::Flat(items), first, past) => {
-            each_item(context, action, items, first..past, path, found)
+        ChildRange::Items(Items::Flat(rest), place, past) => {
+            let items = ItemRange { rest, place, past };
+            each_item(context, action, items, path, found)
         }
         _ => each_in(context, action, children, path, found),
     }
@@ -303,27 +309,25 @@ fn each_member<'v, V: Visit + Drop>(
     Ok(())
 }
 
-/// The action at each of these items that has one of these places, where the first item has the first of
-/// them.
+/// The action at each of these items.
 #[cycle(walk)]
 fn each_item<'v, V: Visit + Drop>(
     context: &Context<'v>,
     action: Action<'v>,
-    items: FlatItems<'v>,
-    places: Range<u32>,
+    items: ItemRange<'v>,
     path: &mut PathStack<'v>,
     found: &mut Found<'v, V>,
 ) -> Result<(), AllocError>
     ensures found { OnOk result (Finds V.kept V.put found.old found.new (flat_map
         (done (base_of context.now) action.entry) (range_nodes (link_steps path.old)
-        (of_flat_items items.entry places.start places.end)))) }
+        (of_flat_items items.entry.rest items.entry.place items.entry.past)))) }
     ensures path { OnOk result (path.new ≡ path.old) }
 {
-    let Range {
-        start: mut place,
-        end: past,
-    } = places;
-    let mut rest = items;
+    let ItemRange {
+        mut rest,
+        mut place,
+        past,
+    } = items;
     while let Some((child, others)) = first_item(rest, place, past) {
         if is_full(found) {
             return Ok(());
@@ -388,7 +392,7 @@ fn at_child<'v, V: Visit + Drop>(
 #[cycle(walk)]
 pub(crate) fn holds<'v, V: Visit + Drop>(
     context: &Context<'v>,
-    test: &'v Logical,
+    test: &'v CompiledLogical,
     value: Part<'v>,
     path: &mut PathStack<'v>,
 ) -> Result<bool, AllocError>
@@ -399,18 +403,18 @@ pub(crate) fn holds<'v, V: Visit + Drop>(
     // No visitor is at hand here: `V` is for the cycle, which takes no call at another type
     // (README, Filters share the walk).
     match test {
-        Logical::Any(parts) => any::<V>(context, parts.as_slice(), value, path),
-        Logical::All(parts) => all::<V>(context, parts.as_slice(), value, path),
-        Logical::Not(part) => Ok(!holds::<V>(context, part, value, path)?),
-        Logical::Compare(left, operator, right) => {
+        CompiledLogical::Any(parts) => any::<V>(context, parts.as_slice(), value, path),
+        CompiledLogical::All(parts) => all::<V>(context, parts.as_slice(), value, path),
+        CompiledLogical::Not(part) => Ok(!holds::<V>(context, part, value, path)?),
+        CompiledLogical::Compare(left, operator, right) => {
             let (left, right) = give_both::<V>(context, left, right, value, path)?;
             compare_kinds(context.alloc, *operator, left, right)
         }
-        Logical::Test(nodes) => {
+        CompiledLogical::Test(nodes) => {
             let answer = ask::<V>(context, Want::First, nodes, value, path)?;
             Ok(has_first(answer))
         }
-        Logical::Match(text, pattern) => {
+        CompiledLogical::Match(text, pattern) => {
             if let Some(read) = context.pattern(pattern) {
                 let given = give::<V>(context, text, value, path)?;
                 return matches_read(context.alloc, given, read);
@@ -418,11 +422,11 @@ pub(crate) fn holds<'v, V: Visit + Drop>(
             let (text, pattern) = give_both::<V>(context, text, pattern, value, path)?;
             matches(context.alloc, text, pattern)
         }
-        Logical::MatchRead(text, known) => {
+        CompiledLogical::MatchRead(text, known) => {
             let text = give::<V>(context, text, value, path)?;
             matches_known(context.alloc, text, known)
         }
-        Logical::Search(text, pattern) => {
+        CompiledLogical::Search(text, pattern) => {
             if let Some(read) = context.pattern(pattern) {
                 let given = give::<V>(context, text, value, path)?;
                 return searches_read(context.alloc, given, read);
@@ -430,24 +434,24 @@ pub(crate) fn holds<'v, V: Visit + Drop>(
             let (text, pattern) = give_both::<V>(context, text, pattern, value, path)?;
             searches(context.alloc, text, pattern)
         }
-        Logical::SearchRead(text, known) => {
+        CompiledLogical::SearchRead(text, known) => {
             let text = give::<V>(context, text, value, path)?;
             searches_known(context.alloc, text, known)
         }
-        Logical::Xor(_, left, _, right) => {
+        CompiledLogical::Xor(_, left, _, right) => {
             // Both are always asked (README, Exclusive or needs both).
             let left = holds::<V>(context, left, value, path)?;
             let right = holds::<V>(context, right, value, path)?;
             Ok(exactly_one(left, right))
         }
-        Logical::Once(slot) => Ok(context.truth(*slot)),
+        CompiledLogical::Once(slot) => Ok(context.truth(*slot)),
     }
 }
 
 #[cycle(walk)]
 fn any<'v, V: Visit + Drop>(
     context: &Context<'v>,
-    parts: &'v [Logical],
+    parts: &'v [CompiledLogical],
     value: Part<'v>,
     path: &mut PathStack<'v>,
 ) -> Result<bool, AllocError>
@@ -466,7 +470,7 @@ fn any<'v, V: Visit + Drop>(
 #[cycle(walk)]
 fn all<'v, V: Visit + Drop>(
     context: &Context<'v>,
-    parts: &'v [Logical],
+    parts: &'v [CompiledLogical],
     value: Part<'v>,
     path: &mut PathStack<'v>,
 ) -> Result<bool, AllocError>

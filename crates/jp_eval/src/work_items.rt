@@ -10,7 +10,7 @@ ghost use Rattle.jp_node.specs.Part.{part_value};
 ghost use Rattle.jp_eval.specs.inner.Walk.{picked, reached, done};
 
 use crate::walk::Action;
-use jp_compiled::{Segment, Selector};
+use jp_compiled::{CompiledSegment, CompiledSelector};
 use jp_node::{Children, Part, children_of, named, place_in, placed, sliced};
 use jp_value::bounds_of;
 use std::alloc::{AllocError, Global};
@@ -28,10 +28,10 @@ pub(crate) struct WorkItem<'v> {
 pub(crate) struct WorkItems<'v> {
     pub(crate) value: Part<'v>,
     /// The selectors that are left.
-    selectors: &'v [Selector],
+    selectors: &'v [CompiledSelector],
     /// What is applied, behind these, at each descendant.
-    below: Option<&'v [Selector]>,
-    rest: &'v [Segment],
+    below: Option<&'v [CompiledSelector]>,
+    rest: &'v [CompiledSegment],
 }
 
 /// What an action comes to at the value, or nothing where it goes no further down, or where a test decides.
@@ -56,7 +56,11 @@ pub(crate) fn work_items<'v>(action: Action<'v>, value: Part<'v>) -> Option<Work
 }
 
 /// What a segment comes to at the value, with those behind it.
-fn of_segment<'v>(segment: &'v Segment, rest: &'v [Segment], value: Part<'v>) -> WorkItems<'v>
+fn of_segment<'v>(
+    segment: &'v CompiledSegment,
+    rest: &'v [CompiledSegment],
+    value: Part<'v>,
+) -> WorkItems<'v>
     ensures nodes { (base : Base) (at : Location) → done_by base at result
         ≡ reached base (segment.now ∷ rest.now) (node at (part_value value.entry) ∷ []) }
     ensures height { height (part_value result.value) ≡ height (part_value value.entry) }
@@ -120,8 +124,8 @@ impl<'v> WorkItems<'v> {
 /// One selector at the value, and then the segments.
 fn work_item_of<'v>(
     alloc: Global,
-    selector: &'v Selector,
-    rest: &'v [Segment],
+    selector: &'v CompiledSelector,
+    rest: &'v [CompiledSegment],
     value: Part<'v>,
 ) -> Result<WorkItem<'v>, AllocError>
     ensures nodes { IfOk result (λ s. (base : Base) (at : Location) → done_along base at s
@@ -129,21 +133,21 @@ fn work_item_of<'v>(
     ensures height { IfOk result (λ s. all_height s.children ≤ height (part_value value.entry)) }
 {
     match selector {
-        Selector::Name(name) => {
+        CompiledSelector::Name(name) => {
             let children = Children::Listed(named(alloc, value, name.as_str())?);
             Ok(WorkItem {
                 action: Action::Run(rest),
                 children,
             })
         }
-        Selector::Wild => {
+        CompiledSelector::Wild => {
             let children = children_of(alloc, value)?;
             Ok(WorkItem {
                 action: Action::Run(rest),
                 children,
             })
         }
-        Selector::Index(index) => {
+        CompiledSelector::Index(index) => {
             let place = place_in(index.value, value);
             let children = Children::Listed(placed(alloc, value, place)?);
             Ok(WorkItem {
@@ -151,7 +155,7 @@ fn work_item_of<'v>(
                 children,
             })
         }
-        Selector::Slice(slice) => {
+        CompiledSelector::Slice(slice) => {
             let children = Children::Listed(sliced(
                 alloc,
                 value,
@@ -162,7 +166,7 @@ fn work_item_of<'v>(
                 children,
             })
         }
-        Selector::Filter(test) => {
+        CompiledSelector::Filter(test) => {
             let children = children_of(alloc, value)?;
             Ok(WorkItem {
                 action: Action::Test(test, rest),

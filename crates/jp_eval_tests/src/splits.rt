@@ -5,7 +5,7 @@ use crate::selections::{parts_of, paths};
 use crate::uniform::is_right_flat;
 use jp_check::{Plan, plan};
 use jp_doc::{Document, Location, Step};
-use jp_eval::{Cuts, Evaluator, OpenFork};
+use jp_eval::{Cuts, Evaluator, Halving, OpenFork};
 use jp_flat::FlatReader;
 use jp_node::{Locations, Part};
 use jp_select::{evaluate, evaluate_split};
@@ -160,7 +160,11 @@ fn found_flat<R: Threads + Sync>(
         locations: Vec::new(alloc),
     };
     let mut evaluator = Evaluator::new(alloc, plan.compiled());
-    evaluator.visit_part_split(rt, root, Cuts::new(floor, 64), fork, &mut found)?;
+    let halving = Halving {
+        cuts: Cuts::new(floor, 64),
+        fork,
+    };
+    evaluator.visit_part_split(rt, root, halving, &mut found)?;
     Ok(found.locations)
 }
 

@@ -4,7 +4,7 @@
 use crate::selections::{parts_of, paths};
 use jp_check::{Plan, plan};
 use jp_doc::Document;
-use jp_eval::{Cuts, Evaluator, OpenFork};
+use jp_eval::{Cuts, Evaluator, Halving, OpenFork};
 use jp_flat::FlatReader;
 use jp_node::{Locations, Part};
 use std::alloc::Global;
@@ -90,8 +90,11 @@ fn selected<R: Threads + Sync>(
     let mut evaluator = Evaluator::new(alloc, plan.compiled());
     match floor {
         Some(floor) => {
-            let cuts = Cuts::new(floor, 64);
-            evaluator.visit_part_split(rt, root, cuts, &OpenFork, &mut found)?;
+            let halving = Halving {
+                cuts: Cuts::new(floor, 64),
+                fork: &OpenFork,
+            };
+            evaluator.visit_part_split(rt, root, halving, &mut found)?;
         }
         None => evaluator.visit_part(root, &mut found)?,
     }

@@ -1,6 +1,6 @@
 use jp_answer::{Asked, Crew, LinePolicy, OnFault, OpenGate, Outcome, answer_by_workers};
 use jp_buffer::LineRef;
-use jp_compiled::Query;
+use jp_compiled::CompiledQuery;
 use jp_number::Numbers;
 use jp_output::{Head, NodeLines};
 use std::alloc::{AllocError, Global};
@@ -10,7 +10,7 @@ use std::thread::Threads;
 fn by_workers<R: Threads + Sync>(
     rt: &R,
     alloc: Global,
-    query: &Query,
+    query: &CompiledQuery,
     lines: &[LineRef<'_>],
 ) -> Option<Result<Outcome, AllocError>> {
     if lines.len() > 4_294_967_296 {
@@ -28,7 +28,7 @@ fn by_workers<R: Threads + Sync>(
 }
 
 /// What is asked of every document.
-fn asked_of<'q>(query: &'q Query, head: &'q Head) -> Asked<'q> {
+fn asked_of<'q>(query: &'q CompiledQuery, head: &'q Head) -> Asked<'q> {
     Asked {
         query,
         filter: None,

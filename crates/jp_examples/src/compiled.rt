@@ -1,9 +1,9 @@
-use jp_compiled::{Query, Selector};
+use jp_compiled::{CompiledQuery, CompiledSelector};
 
-fn has_filter(query: &Query) -> bool {
+fn has_filter(query: &CompiledQuery) -> bool {
     for segment in &query.segments {
         for selector in &segment.selectors {
-            if let Selector::Filter(_) = selector {
+            if let CompiledSelector::Filter(_) = selector {
                 return true;
             }
         }

@@ -1,7 +1,9 @@
 //! What a query asks of the values of its `$` queries, so that it is found once a document and not at each
 //! node. No clause rests on it: what is not kept is found where it is asked for.
 
-use jp_compiled::{Logical, Nodes, Query, RootPart, Segment, Selector, Value};
+use jp_compiled::{
+    CompiledLogical, CompiledQuery, CompiledSegment, CompiledSelector, Giver, Nodes, RootPart,
+};
 
 /// What is asked of the values of `$` queries.
 #[derive(Clone, Copy)]
@@ -21,7 +23,7 @@ impl RootUse {
 }
 
 /// What a query asks.
-pub fn asked_by(query: &Query) -> RootUse {
+pub fn asked_by(query: &CompiledQuery) -> RootUse {
     let mut asked = RootUse::NOTHING;
     in_segments(query.segments.as_slice(), &mut asked);
     for part in &query.roots {
@@ -34,71 +36,71 @@ pub fn asked_by(query: &Query) -> RootUse {
 }
 
 #[cycle(asked)]
-fn in_segments(segments: &[Segment], asked: &mut RootUse) {
+fn in_segments(segments: &[CompiledSegment], asked: &mut RootUse) {
     for segment in segments {
         in_selectors(segment.selectors.as_slice(), asked);
     }
 }
 
 #[cycle(asked)]
-fn in_selectors(selectors: &[Selector], asked: &mut RootUse) {
+fn in_selectors(selectors: &[CompiledSelector], asked: &mut RootUse) {
     for selector in selectors {
-        if let Selector::Filter(test) = selector {
+        if let CompiledSelector::Filter(test) = selector {
             in_logical(test, asked);
         }
     }
 }
 
 #[cycle(asked)]
-fn in_logical(test: &Logical, asked: &mut RootUse) {
+fn in_logical(test: &CompiledLogical, asked: &mut RootUse) {
     match test {
-        Logical::Any(parts) => in_parts(parts.as_slice(), asked),
-        Logical::All(parts) => in_parts(parts.as_slice(), asked),
-        Logical::Not(part) => in_logical(part, asked),
-        Logical::Compare(left, _, right) => {
+        CompiledLogical::Any(parts) => in_parts(parts.as_slice(), asked),
+        CompiledLogical::All(parts) => in_parts(parts.as_slice(), asked),
+        CompiledLogical::Not(part) => in_logical(part, asked),
+        CompiledLogical::Compare(left, _, right) => {
             in_value(left, asked);
             in_value(right, asked);
         }
-        Logical::Test(nodes) => in_nodes(nodes, asked),
-        Logical::Match(text, pattern) => {
+        CompiledLogical::Test(nodes) => in_nodes(nodes, asked),
+        CompiledLogical::Match(text, pattern) => {
             asked.pattern = asked.pattern || is_root(pattern);
             in_value(text, asked);
             in_value(pattern, asked);
         }
-        Logical::MatchRead(text, _) => in_value(text, asked),
-        Logical::Search(text, pattern) => {
+        CompiledLogical::MatchRead(text, _) => in_value(text, asked),
+        CompiledLogical::Search(text, pattern) => {
             asked.pattern = asked.pattern || is_root(pattern);
             in_value(text, asked);
             in_value(pattern, asked);
         }
-        Logical::SearchRead(text, _) => in_value(text, asked),
-        Logical::Xor(_, left, _, right) => {
+        CompiledLogical::SearchRead(text, _) => in_value(text, asked),
+        CompiledLogical::Xor(_, left, _, right) => {
             in_logical(left, asked);
             in_logical(right, asked);
         }
         // It stands in the list, which is gone over by itself.
-        Logical::Once(_) => {}
+        CompiledLogical::Once(_) => {}
     }
 }
 
 #[cycle(asked)]
-fn in_parts(parts: &[Logical], asked: &mut RootUse) {
+fn in_parts(parts: &[CompiledLogical], asked: &mut RootUse) {
     for part in parts {
         in_logical(part, asked);
     }
 }
 
 #[cycle(asked)]
-fn in_value(value: &Value, asked: &mut RootUse) {
+fn in_value(value: &Giver, asked: &mut RootUse) {
     match value {
-        Value::Constant(_) => {}
-        Value::Length(of) => {
+        Giver::Constant(_) => {}
+        Giver::Length(of) => {
             asked.length = asked.length || is_root(of);
             in_value(of, asked);
         }
-        Value::Single(nodes) => in_nodes(nodes, asked),
-        Value::Count(nodes) => in_nodes(nodes, asked),
-        Value::Only(nodes) => in_nodes(nodes, asked),
+        Giver::Single(nodes) => in_nodes(nodes, asked),
+        Giver::Count(nodes) => in_nodes(nodes, asked),
+        Giver::Only(nodes) => in_nodes(nodes, asked),
     }
 }
 
@@ -112,10 +114,10 @@ fn in_nodes(nodes: &Nodes, asked: &mut RootUse) {
 }
 
 /// Whether the value is that of a `$` query.
-fn is_root(value: &Value) -> bool {
+fn is_root(value: &Giver) -> bool {
     match value {
-        Value::Single(Nodes::Root(_)) => true,
-        Value::Only(Nodes::Root(_)) => true,
+        Giver::Single(Nodes::Root(_)) => true,
+        Giver::Only(Nodes::Root(_)) => true,
         _ => false,
     }
 }

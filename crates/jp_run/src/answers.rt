@@ -19,7 +19,7 @@ use crate::outcome::{Answer, Whole};
 use jp_answer::{Asked, Crew, Gate, LinePolicy, OnFault, answer_by_workers};
 use jp_buffer::refs_of;
 use jp_check::Plan;
-use jp_compiled::Query;
+use jp_compiled::CompiledQuery;
 use jp_doc::Line;
 use jp_number::Numbers;
 use jp_output::{Head, NodeLines, join_chunks};
@@ -101,7 +101,12 @@ pub fn answer_all<R: Threads + Sync, G: Gate + Sync>(
 }
 
 /// What is asked of lines whose numbers are whole: a query of every document.
-fn asked_of<'q>(query: &'q Query, head: &'q Head, on_fault: OnFault, workers: u64) -> Asked<'q>
+fn asked_of<'q>(
+    query: &'q CompiledQuery,
+    head: &'q Head,
+    on_fault: OnFault,
+    workers: u64,
+) -> Asked<'q>
     requires { AreWorkers workers }
     ensures query { asked_query result ≡ unfiltered (compiled_query query.now) }
     ensures head { result.head.now ≡ head.now }

@@ -5,7 +5,7 @@ ghost use Rattle.jp_run.specs.Answered.{head_of};
 
 use crate::settings::Settings;
 use jp_answer::{Asked, Crew};
-use jp_compiled::Query;
+use jp_compiled::CompiledQuery;
 use jp_eval::DocumentFilter;
 use jp_output::Head;
 
@@ -14,7 +14,7 @@ use jp_output::Head;
 #[derive(Drop)]
 pub(crate) struct Job<'a, R, G> {
     pub(crate) crew: Crew<'a, R, G>,
-    pub(crate) query: &'a Query,
+    pub(crate) query: &'a CompiledQuery,
     pub(crate) filter: Option<DocumentFilter<'a>>,
     pub(crate) settings: Settings<'a>,
     /// The name of the settings, and a tab.

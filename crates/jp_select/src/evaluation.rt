@@ -10,8 +10,8 @@ ghost use Rattle.jp_eval.specs.Nodelist.{document_nodes};
 
 use jp_check::Plan;
 use jp_doc::{Document, Location};
-use jp_eval::{Cuts, EvalFault, Evaluator, Fork};
-use jp_node::{Locations, Visit};
+use jp_eval::{Cuts, EvalFault, Evaluator, Fork, Halving};
+use jp_node::{Locations, Part, Visit};
 use std::alloc::Global;
 use std::thread::Threads;
 
@@ -75,11 +75,11 @@ pub fn evaluate_split<R: Threads + Sync, F: Fork + Sync>(
         map location_of found.items ≡ map (λ n. n.location)
         (document_nodes t (planned_query plan.now) (document_value document.now))) }
 {
-    let none = Locations {
+    let mut found = Locations {
         locations: Vec::new(alloc),
     };
-    let visitor = Evaluator::new(alloc, plan.compiled()).visit_split(
-        rt, document, cuts, fork, none,
-    )?;
-    Ok(visitor.locations)
+    let mut evaluator = Evaluator::new(alloc, plan.compiled());
+    let halving = Halving { cuts, fork };
+    evaluator.visit_part_split(rt, Part::root_of(document), halving, &mut found)?;
+    Ok(found.locations)
 }

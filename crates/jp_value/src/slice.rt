@@ -9,7 +9,7 @@ ghost use Rattle.jp_node.specs.Places.{AreWithin};
 ghost use Rattle.jp_node.specs.Slice as spec;
 ghost use Rattle.jp_value.specs.Literals.{written_value};
 
-use jp_compiled::{Position, Slice};
+use jp_compiled::{CompiledSlice, Position};
 use jp_node::{Bounds, slice_bounds};
 
 /// The number of a slice, if there is one.
@@ -24,7 +24,7 @@ fn written(number: &Option<Position>) -> Option<i64>
 }
 
 /// The bounds that a slice selector has in an array with `len` items.
-pub fn bounds_of(slice: &Slice, len: u32) -> Bounds
+pub fn bounds_of(slice: &CompiledSlice, len: u32) -> Bounds
     requires { len ≤ max_items }
     ensures within { AreWithin (bounds_value result) len }
     ensures bounds { bounds_value result

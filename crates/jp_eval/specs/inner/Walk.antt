@@ -6,10 +6,10 @@ use Rattle.jp_doc.specs.Location.{Node}
 use Rattle.jp_compiled.specs.Parts.{logical_in, selector_in, segments_in, value_in, nodes_in}
 use Rattle.jp_compiled.specs.Parts.{source_argument}
 use Rattle.jp_compiled.specs.declared.query.Want.{Want}
-use Rattle.jp_compiled.specs.declared.query.Segment.{Segment}
-use Rattle.jp_compiled.specs.declared.query.Selector.{Selector}
-use Rattle.jp_compiled.specs.declared.query.Logical.{Logical}
-use Rattle.jp_compiled.specs.declared.query.Value.{Value}
+use Rattle.jp_compiled.specs.declared.query.CompiledSegment.{CompiledSegment}
+use Rattle.jp_compiled.specs.declared.query.CompiledSelector.{CompiledSelector}
+use Rattle.jp_compiled.specs.declared.query.CompiledLogical.{CompiledLogical}
+use Rattle.jp_compiled.specs.declared.query.Giver.{Giver}
 use Rattle.jp_compiled.specs.declared.query.Nodes.{Nodes}
 use Rattle.jp_eval.specs.inner.Base.{Base}
 use Rattle.jp_value.specs.Functions.{as_nodes}
@@ -20,22 +20,22 @@ use Rattle.jp_eval.specs.declared.walk.Action.{Action}
 use Rattle.jp_eval.specs.declared.walk.Action.TheVariants.{Run, Descend, Test}
 
 -- what a selector selects at a node, and what several select
-unfoldable pub picked : Base → Selector → Node → List Node
+unfoldable pub picked : Base → CompiledSelector → Node → List Node
 picked base x n = spec.select tests base.root (selector_in base.roots x) n
 
-abbrev pub picked_by : Base → List Selector → Node → List Node
+abbrev pub picked_by : Base → List CompiledSelector → Node → List Node
 picked_by base xs n = flat_map (λ x. picked base x n) xs
 
 -- segment after segment, from these nodes
-unfoldable pub reached : Base → List Segment → List Node → List Node
+unfoldable pub reached : Base → List CompiledSegment → List Node → List Node
 reached base ss ns = spec.through tests base.root (segments_in base.roots ss) ns
 
 -- whether an expression is true of a node
-unfoldable pub is_true : Base → Logical → Node → Bool
+unfoldable pub is_true : Base → CompiledLogical → Node → Bool
 is_true base l n = spec.holds tests base.root (logical_in base.roots l) n
 
 -- the value that stands there at a node, or nothing
-unfoldable pub value_given : Base → Value → Node → Option Json
+unfoldable pub value_given : Base → Giver → Node → Option Json
 value_given base v n = spec.value_of tests base.root (value_in base.roots v) n
 
 -- the nodes of a query inside a filter, of which this is wanted

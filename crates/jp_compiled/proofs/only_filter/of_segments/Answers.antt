@@ -1,10 +1,10 @@
 use Rattle.std.proofs.Common.{◌≡◌, ◌≤◌, length, None, List, [], ◌∷◌, refl, arith}
 use Rattle.jp_compiled.specs.Parts.{Wanted, segments_in}
-use Rattle.jp_compiled.specs.declared.query.Segment.{Segment}
+use Rattle.jp_compiled.specs.declared.query.CompiledSegment.{CompiledSegment}
 use Rattle.jp_compiled.specs.inner.OnlyFilter.{segments_filter}
 use Rattle.jp_compiled.proofs.only_filter.of_segments.Goals as goal
 
-two : (roots : List Wanted) (ss : List Segment) → 2 ≤ length ss
+two : (roots : List Wanted) (ss : List CompiledSegment) → 2 ≤ length ss
     → None ≡ segments_filter (segments_in roots ss)
 two roots [] h = absurd (omega arith)
 two roots (s ∷ []) h = absurd (omega arith)

@@ -48,10 +48,12 @@ use Rattle.jp_eval.proofs.walk.+walk.Goals as goal
 
 pub apply-loop-selector-preserved : goal.apply-loop-selector-preserved
 apply-loop-selector-preserved g t c =
+    let base = base_of c.args.context.now in
+    let put = put_found g.V.Visit.put in
     let h : c.loop-selector.selector-index < length c.args.selectors.now = omega arith in
     rw c.in_ok-select.ensures.path (
       c.loop-selector.invariant.0,
-      applied (put_found g.V.Visit.put) (base_of c.args.context.now)
+      applied put base
           c.args.selectors.now c.loop-selector.selector-index c.selector-item.result c.args.rest.now
           (here c.loop-selector.path c.args.opened.value) _ _ _ _ h c.selector-item.is
           c.in_ok-select.ensures.found
@@ -60,107 +62,101 @@ apply-loop-selector-preserved g t c =
 
 pub apply-returns-clause-found : goal.apply-returns-clause-found
 apply-returns-clause-found g t c =
-    over (put_found g.V.Visit.put) (λ xs. reached (base_of c.args.context.now) c.args.rest.now
-    (picked_by (base_of c.args.context.now) xs (here c.loop-selector.path c.args.opened.value)))
+    let base = base_of c.args.context.now in
+    let put = put_found g.V.Visit.put in
+    over put (λ xs. reached base c.args.rest.now
+    (picked_by base xs (here c.loop-selector.path c.args.opened.value)))
     c.args.selectors.now c.loop-selector.selector-index _ _ _ (omega arith)
-    (reached-none (base_of c.args.context.now) c.args.rest.now) c.loop-selector.invariant.1
-
-pub at_place-returns-in_default-clause-found : goal.at_place-returns-in_default-clause-found
-at_place-returns-in_default-clause-found g t c =
-    nothing_found (put_found g.V.Visit.put) _ _
-    (ap (λ o. reached (base_of c.args.context.now) c.args.rest.now
-    (items_at (here c.args.path.now c.args.value) (option_to_list o))) c.in_default.is
-    ∙ reached-none (base_of c.args.context.now) c.args.rest.now)
-
-pub at_place-returns-in_default-item-clause-found : goal.at_place-returns-in_default-item-clause-found
-at_place-returns-in_default-item-clause-found g t c =
-    nothing_found (put_found g.V.Visit.put) _ _ (ap (reached (base_of c.args.context.now) c.args.rest.now)
-    (none_at (here c.args.path.now c.args.value) c.args.place c.in-Some.place c.in-Some.is
-    c.in_default-item.ensures.value) ∙ reached-none (base_of c.args.context.now) c.args.rest.now)
-
-pub at_place-returns-in_ok-run-clause-found : goal.at_place-returns-in_ok-run-clause-found
-at_place-returns-in_ok-run-clause-found g t c =
-    c.in_ok-run.ensures.found
-    ∙ ap (λ ns. plus (put_found g.V.Visit.put) (kept g.V.Visit.kept c.args.found.now)
-    (reached (base_of c.args.context.now) c.args.rest.now ns))
-    (ap (λ n. n ∷ []) (here_further c.args.path.now c.push.new.self _ c.in-Some-item.child
-    c.in_ok-push.ensures.ok)
-    ∙ sym (one_at (here c.args.path.now c.args.value) c.args.place c.in-Some.place _ c.in-Some.is
-    c.in-Some-item.ensures.value))
+    (reached-none base c.args.rest.now) c.loop-selector.invariant.1
 
 pub each_member-loop-child-preserved : goal.each_member-loop-child-preserved
-each_member-loop-child-preserved g t c = rw c.in_ok-at_child.ensures.path (
-  c.loop-child.invariant.0,
-  omega (arith, c.in-Some.ensures.height, c.loop-child.invariant.1),
-  child_node_done (put_found g.V.Visit.put) (done (base_of c.args.context.now) c.args.action) _ _ _ _ _ _ _
-      (c.in-Some.ensures.nodes (link_steps c.loop-child.path)) c.in_ok-at_child.ensures.found
-      c.loop-child.invariant.2,
-)
+each_member-loop-child-preserved g t c =
+    let base = base_of c.args.context.now in
+    let put = put_found g.V.Visit.put in
+    rw c.in_ok-at_child.ensures.path (
+      c.loop-child.invariant.0,
+      omega (arith, c.in-Some.ensures.height, c.loop-child.invariant.1),
+      child_node_done put (done base c.args.action) _ _ _ _ _ _ _
+          (c.in-Some.ensures.nodes (link_steps c.loop-child.path)) c.in_ok-at_child.ensures.found
+          c.loop-child.invariant.2,
+    )
 
 pub each_member-returns-then-is_full-clause-found : goal.each_member-returns-then-is_full-clause-found
 each_member-returns-then-is_full-clause-found g t c =
-    full_enough (put_found g.V.Visit.put) _ _ _ _ (c.is_full.ensures c.if-is_full.true)
-    c.loop-child.invariant.2
+    let put = put_found g.V.Visit.put in
+    full_enough put _ _ _ _ (c.is_full.ensures c.if-is_full.true) c.loop-child.invariant.2
 
 pub each_member-returns-clause-found : goal.each_member-returns-clause-found
 each_member-returns-clause-found g t c =
-    ended (put_found g.V.Visit.put) _ _ _
-    (ap (λ ns. plus (put_found g.V.Visit.put) (kept g.V.Visit.kept c.loop-child.found)
-    (flat_map (done (base_of c.args.context.now) c.args.action) ns))
+    let base = base_of c.args.context.now in
+    let put = put_found g.V.Visit.put in
+    ended put _ _ _ (ap (λ ns. plus put (kept g.V.Visit.kept c.loop-child.found)
+    (flat_map (done base c.args.action) ns))
     (sym (c.in_default.ensures.nodes (link_steps c.loop-child.path))) ∙ c.loop-child.invariant.2)
 
 pub each_item-loop-child-preserved : goal.each_item-loop-child-preserved
-each_item-loop-child-preserved g t c = rw c.in_ok-at_child.ensures.path (
-  c.loop-child.invariant.0,
-  omega (arith, c.in-Some.ensures.height, c.loop-child.invariant.1),
-  child_node_done (put_found g.V.Visit.put) (done (base_of c.args.context.now) c.args.action) _ _ _ _ _ _ _
-      (c.in-Some.ensures.nodes (link_steps c.loop-child.path)) c.in_ok-at_child.ensures.found
-      c.loop-child.invariant.2,
-)
+each_item-loop-child-preserved g t c =
+    let base = base_of c.args.context.now in
+    let put = put_found g.V.Visit.put in
+    rw c.in_ok-at_child.ensures.path (
+      c.loop-child.invariant.0,
+      omega (arith, c.in-Some.ensures.height, c.loop-child.invariant.1),
+      child_node_done put (done base c.args.action) _ _ _ _ _ _ _
+          (c.in-Some.ensures.nodes (link_steps c.loop-child.path)) c.in_ok-at_child.ensures.found
+          c.loop-child.invariant.2,
+    )
 
 pub each_item-returns-then-is_full-clause-found : goal.each_item-returns-then-is_full-clause-found
 each_item-returns-then-is_full-clause-found g t c =
-    full_enough (put_found g.V.Visit.put) _ _ _ _ (c.is_full.ensures c.if-is_full.true)
-    c.loop-child.invariant.2
+    let put = put_found g.V.Visit.put in
+    full_enough put _ _ _ _ (c.is_full.ensures c.if-is_full.true) c.loop-child.invariant.2
 
 pub each_item-returns-clause-found : goal.each_item-returns-clause-found
 each_item-returns-clause-found g t c =
-    ended (put_found g.V.Visit.put) _ _ _
-    (ap (λ ns. plus (put_found g.V.Visit.put) (kept g.V.Visit.kept c.loop-child.found)
-    (flat_map (done (base_of c.args.context.now) c.args.action) ns))
+    let base = base_of c.args.context.now in
+    let put = put_found g.V.Visit.put in
+    ended put _ _ _ (ap (λ ns. plus put (kept g.V.Visit.kept c.loop-child.found)
+    (flat_map (done base c.args.action) ns))
     (sym (c.in_default.ensures.nodes (link_steps c.loop-child.path))) ∙ c.loop-child.invariant.2)
 
 pub each_in-loop-child-preserved : goal.each_in-loop-child-preserved
-each_in-loop-child-preserved g t c = rw c.in_ok-at_child.ensures.path (
-  c.loop-child.invariant.0,
-  omega (arith, c.in-Some.ensures.height, c.loop-child.invariant.1),
-  child_node_done (put_found g.V.Visit.put) (done (base_of c.args.context.now) c.args.action) _ _ _ _ _ _ _
-      (c.in-Some.ensures.nodes (link_steps c.loop-child.path)) c.in_ok-at_child.ensures.found
-      c.loop-child.invariant.2,
-)
+each_in-loop-child-preserved g t c =
+    let base = base_of c.args.context.now in
+    let put = put_found g.V.Visit.put in
+    rw c.in_ok-at_child.ensures.path (
+      c.loop-child.invariant.0,
+      omega (arith, c.in-Some.ensures.height, c.loop-child.invariant.1),
+      child_node_done put (done base c.args.action) _ _ _ _ _ _ _
+          (c.in-Some.ensures.nodes (link_steps c.loop-child.path)) c.in_ok-at_child.ensures.found
+          c.loop-child.invariant.2,
+    )
 
 pub each_in-returns-then-is_full-clause-found : goal.each_in-returns-then-is_full-clause-found
 each_in-returns-then-is_full-clause-found g t c =
-    full_enough (put_found g.V.Visit.put) _ _ _ _ (c.is_full.ensures c.if-is_full.true)
-    c.loop-child.invariant.2
+    let put = put_found g.V.Visit.put in
+    full_enough put _ _ _ _ (c.is_full.ensures c.if-is_full.true) c.loop-child.invariant.2
 
 pub each_in-returns-clause-found : goal.each_in-returns-clause-found
 each_in-returns-clause-found g t c =
-    ended (put_found g.V.Visit.put) _ _ _
-    (ap (λ ns. plus (put_found g.V.Visit.put) (kept g.V.Visit.kept c.loop-child.found)
-    (flat_map (done (base_of c.args.context.now) c.args.action) ns))
+    let base = base_of c.args.context.now in
+    let put = put_found g.V.Visit.put in
+    ended put _ _ _ (ap (λ ns. plus put (kept g.V.Visit.kept c.loop-child.found)
+    (flat_map (done base c.args.action) ns))
     (sym (c.in_default.ensures.nodes (link_steps c.loop-child.path))) ∙ c.loop-child.invariant.2)
 
 pub at_child-returns-then-is_idle-clause-found : goal.at_child-returns-then-is_idle-clause-found
 at_child-returns-then-is_idle-clause-found g t c =
-    nothing_found (put_found g.V.Visit.put) _ _
-    (c.is_idle.ensures c.if-is_idle.true (base_of c.args.context.now) _)
+    let base = base_of c.args.context.now in
+    let put = put_found g.V.Visit.put in
+    nothing_found put _ _ (c.is_idle.ensures c.if-is_idle.true base _)
 
 pub at_child-returns-clause-found : goal.at_child-returns-clause-found
 at_child-returns-clause-found g t c =
-    c.in_ok-go.ensures.found
-    ∙ ap (λ s. plus (put_found g.V.Visit.put) (kept g.V.Visit.kept c.args.found.now)
-    (done (base_of c.args.context.now) c.args.action (node s (part_value c.args.child.part))))
+    let base = base_of c.args.context.now in
+    let put = put_found g.V.Visit.put in
+    let had = kept g.V.Visit.kept c.args.found.now in
+    c.in_ok-go.ensures.found ∙ ap (λ s. plus put had
+    (done base c.args.action (node s (part_value c.args.child.part))))
     (link_further c.args.path.now c.push.new.self _ c.in_ok-push.ensures.ok)
 
 pub at_child-returns-clause-path : goal.at_child-returns-clause-path
@@ -172,77 +168,77 @@ go-returns-in-Run-clause-found g t c = rw c.in-Run.is c.run.ensures.found
 
 pub go-returns-in_ok-run-in-Test-clause-found : goal.go-returns-in_ok-run-in-Test-clause-found
 go-returns-in_ok-run-in-Test-clause-found g t c =
+    let base = base_of c.args.context.now in
     let n = here c.args.path.now c.args.value in
-    let truth : is_true (base_of c.args.context.now) c.in-Test.test.now n ≡ true =
+    let truth : is_true base c.in-Test.test.now n ≡ true =
     sym c.in_ok-holds-in-Test.ensures.truth ∙ c.if-branch.true in
     rw (c.in-Test.is, truth) (rw c.in_ok-holds-in-Test.ensures.path at c.in_ok-run-in-Test.ensures.found)
 
 pub go-returns-else-branch-clause-found : goal.go-returns-else-branch-clause-found
 go-returns-else-branch-clause-found g t c =
+    let base = base_of c.args.context.now in
     let n = here c.args.path.now c.args.value in
-    let truth : is_true (base_of c.args.context.now) c.in-Test.test.now n ≡ false =
+    let put = put_found g.V.Visit.put in
+    let truth : is_true base c.in-Test.test.now n ≡ false =
     sym c.in_ok-holds-in-Test.ensures.truth ∙ c.if-branch.false in
-    rw (c.in-Test.is, truth) (nothing_found (put_found g.V.Visit.put) _ _
-    (reached-none (base_of c.args.context.now) c.in-Test.rest.now))
+    rw (c.in-Test.is, truth) (nothing_found put _ _ (reached-none base c.in-Test.rest.now))
 
 pub holds-returns-in-Any-clause-truth : goal.holds-returns-in-Any-clause-truth
 holds-returns-in-Any-clause-truth g t c =
-    IfOk-weaker c.any.result _ _ (λ b e. e
-    ∙ ap (list_any (λ l. is_true (base_of c.args.context.now) l (here c.args.path.now c.args.value)))
-    c.as_slice.ensures.value
-    ∙ sym (ap (λ l. is_true (base_of c.args.context.now) l (here c.args.path.now c.args.value))
-    c.in-Any.is ∙ true_any (base_of c.args.context.now) (here c.args.path.now c.args.value)
+    let base = base_of c.args.context.now in
+    let n = here c.args.path.now c.args.value in
+    IfOk-weaker c.any.result _ _ (λ b e. e ∙ ap (list_any (λ l. is_true base l n))
+    c.as_slice.ensures.value ∙ sym (ap (λ l. is_true base l n) c.in-Any.is ∙ true_any base n
     c.in-Any.parts)) c.any.ensures.truth
 
 pub holds-returns-in-All-clause-truth : goal.holds-returns-in-All-clause-truth
 holds-returns-in-All-clause-truth g t c =
-    IfOk-weaker c.all.result _ _ (λ b e. e
-    ∙ ap (list_all (λ l. is_true (base_of c.args.context.now) l (here c.args.path.now c.args.value)))
-    c.as_slice-in-All.ensures.value
-    ∙ sym (ap (λ l. is_true (base_of c.args.context.now) l (here c.args.path.now c.args.value))
-    c.in-All.is ∙ true_all (base_of c.args.context.now) (here c.args.path.now c.args.value)
+    let base = base_of c.args.context.now in
+    let n = here c.args.path.now c.args.value in
+    IfOk-weaker c.all.result _ _ (λ b e. e ∙ ap (list_all (λ l. is_true base l n))
+    c.as_slice-in-All.ensures.value ∙ sym (ap (λ l. is_true base l n) c.in-All.is ∙ true_all base n
     c.in-All.parts)) c.all.ensures.truth
 
 pub holds-returns-in_ok-holds-in-Not-clause-truth : goal.holds-returns-in_ok-holds-in-Not-clause-truth
 holds-returns-in_ok-holds-in-Not-clause-truth g t c =
-    ap not (c.in_ok-holds-in-Not.ensures.truth
-    ∙ ap (λ l. is_true (base_of c.args.context.now) l (here c.args.path.now c.args.value))
-    c.deref.ensures) ∙ sym
-    (ap (λ l. is_true (base_of c.args.context.now) l (here c.args.path.now c.args.value)) c.in-Not.is
-    ∙ true_not (base_of c.args.context.now) (here c.args.path.now c.args.value) c.in-Not.part)
+    let base = base_of c.args.context.now in
+    let n = here c.args.path.now c.args.value in
+    ap not (c.in_ok-holds-in-Not.ensures.truth ∙ ap (λ l. is_true base l n) c.deref.ensures) ∙ sym
+    (ap (λ l. is_true base l n) c.in-Not.is ∙ true_not base n c.in-Not.part)
 
 pub run-returns-in-None-clause-found : goal.run-returns-in-None-clause-found
 run-returns-in-None-clause-found g t c =
-    on_ok_weaker c.add.result (λ e. e
-    ∙ sym (plus-one (put_found g.V.Visit.put) (kept g.V.Visit.kept c.args.found.now)
-    (here c.args.path.now c.args.value))
-    ∙ ap (plus (put_found g.V.Visit.put) (kept g.V.Visit.kept c.args.found.now))
-    (sym (ap (λ ss. reached (base_of c.args.context.now) ss (here c.args.path.now c.args.value ∷ []))
-    (nil_from_length c.args.segments.now c.in-None.ensures.cases)
-    ∙ reached-end (base_of c.args.context.now) (here c.args.path.now c.args.value ∷ []))))
+    let base = base_of c.args.context.now in
+    let n = here c.args.path.now c.args.value in
+    let put = put_found g.V.Visit.put in
+    let had = kept g.V.Visit.kept c.args.found.now in
+    on_ok_weaker c.add.result (λ e. e ∙ sym (plus-one put had n) ∙ ap (plus put had)
+    (sym (ap (λ ss. reached base ss (n ∷ []))
+    (nil_from_length c.args.segments.now c.in-None.ensures.cases) ∙ reached-end base (n ∷ []))))
     c.add.ensures.found
 
 pub run-returns-then-segment-clause-found : goal.run-returns-then-segment-clause-found
 run-returns-then-segment-clause-found g t c =
-    on_ok_weaker c.go.result (λ e. e
-    ∙ ap (plus (put_found g.V.Visit.put) (kept g.V.Visit.kept c.args.found.now))
-    (ap (λ xs. reached (base_of c.args.context.now) c.in-Some.rest.now
-    (flat_map (picked_by (base_of c.args.context.now) xs)
-    (descendants (here c.args.path.now c.args.value)))) c.as_slice-selectors.ensures.value
-    ∙ sym (ap (λ ss. reached (base_of c.args.context.now) ss (here c.args.path.now c.args.value ∷ []))
-    c.in-Some.ensures.cases.0 ∙ reached-deep (base_of c.args.context.now) c.in-Some.segment.now
-    c.in-Some.rest.now (here c.args.path.now c.args.value) c.if-segment.true))) c.go.ensures.found
+    let base = base_of c.args.context.now in
+    let n = here c.args.path.now c.args.value in
+    let put = put_found g.V.Visit.put in
+    let had = kept g.V.Visit.kept c.args.found.now in
+    on_ok_weaker c.go.result (λ e. e ∙ ap (plus put had) (ap (λ xs. reached base c.in-Some.rest.now
+    (flat_map (picked_by base xs) (descendants n))) c.as_slice-selectors.ensures.value
+    ∙ sym (ap (λ ss. reached base ss (n ∷ []))
+    c.in-Some.ensures.cases.0 ∙ reached-deep base c.in-Some.segment.now
+    c.in-Some.rest.now n c.if-segment.true))) c.go.ensures.found
 
 pub run-returns-else-segment-clause-found : goal.run-returns-else-segment-clause-found
 run-returns-else-segment-clause-found g t c =
-    on_ok_weaker c.apply.result (λ e. e
-    ∙ ap (plus (put_found g.V.Visit.put) (kept g.V.Visit.kept c.args.found.now))
-    (ap (λ xs. reached (base_of c.args.context.now) c.in-Some.rest.now
-    (picked_by (base_of c.args.context.now) xs (here c.args.path.now c.args.value)))
-    c.as_slice-selectors.ensures.value
-    ∙ sym (ap (λ ss. reached (base_of c.args.context.now) ss (here c.args.path.now c.args.value ∷ []))
-    c.in-Some.ensures.cases.0 ∙ reached-plain (base_of c.args.context.now) c.in-Some.segment.now
-    c.in-Some.rest.now (here c.args.path.now c.args.value) c.if-segment.false))) c.apply.ensures.found
+    let base = base_of c.args.context.now in
+    let n = here c.args.path.now c.args.value in
+    let put = put_found g.V.Visit.put in
+    let had = kept g.V.Visit.kept c.args.found.now in
+    on_ok_weaker c.apply.result (λ e. e ∙ ap (plus put had) (ap (λ xs. reached base c.in-Some.rest.now
+    (picked_by base xs n)) c.as_slice-selectors.ensures.value ∙ sym (ap (λ ss. reached base ss (n ∷ []))
+    c.in-Some.ensures.cases.0 ∙ reached-plain base c.in-Some.segment.now
+    c.in-Some.rest.now n c.if-segment.false))) c.apply.ensures.found
 
 pub select-run-requires : goal.select-run-requires
 select-run-requires g t c =
@@ -252,66 +248,81 @@ select-run-requires g t c =
 
 pub select-returns-in_default-clause-found : goal.select-returns-in_default-clause-found
 select-returns-in_default-clause-found g t c =
+    let base = base_of c.args.context.now in
+    let n = here c.args.path.now c.args.opened.value in
+    let put = put_found g.V.Visit.put in
     let none : None ≡ member_of (text_of c.in-Name.name) (part_value c.args.opened.value) =
     c.in_default.ensures.value ∙ ap (λ k. member_of (chars k) (part_value c.args.opened.value))
     c.as_str.ensures.value in
-    nothing_found (put_found g.V.Visit.put) _ _ (ap (reached (base_of c.args.context.now) c.args.rest.now)
-    (ap (λ x. picked (base_of c.args.context.now) x (here c.args.path.now c.args.opened.value)) c.in-Name.is
-    ∙ picked_name (base_of c.args.context.now) (here c.args.path.now c.args.opened.value) c.in-Name.name
-    ∙ ap (node_if_some _) (sym none)) ∙ reached-none (base_of c.args.context.now) c.args.rest.now)
+    nothing_found put _ _ (ap (reached base c.args.rest.now) (ap (λ x. picked base x n) c.in-Name.is
+    ∙ picked_name base n c.in-Name.name
+    ∙ ap (node_if_some _) (sym none)) ∙ reached-none base c.args.rest.now)
 
 pub select-returns-in_ok-run-in-Name-clause-found : goal.select-returns-in_ok-run-in-Name-clause-found
 select-returns-in_ok-run-in-Name-clause-found g t c =
+    let base = base_of c.args.context.now in
+    let put = put_found g.V.Visit.put in
+    let had = kept g.V.Visit.kept c.args.found.now in
     let some = c.in-Some.ensures.value ∙ ap (λ k. member_of (chars k) (part_value c.args.opened.value))
     c.as_str.ensures.value in
-    c.in_ok-run-in-Name.ensures.found
-    ∙ ap (λ ns. plus (put_found g.V.Visit.put) (kept g.V.Visit.kept c.args.found.now)
-    (reached (base_of c.args.context.now) c.args.rest.now ns))
+    c.in_ok-run-in-Name.ensures.found ∙ ap (λ ns. plus put had (reached base c.args.rest.now ns))
     (ap (λ n. n ∷ []) (here_further c.args.path.now c.push.new.self _ c.in-Some.child
     c.in_ok-push-in-Name.ensures.ok
     ∙ ap (λ k. node (link_steps c.args.path.now ++ name (chars k) ∷ []) (part_value c.in-Some.child))
     c.as_str-in-Some.ensures.value)
-    ∙ sym (ap (λ x. picked (base_of c.args.context.now) x (here c.args.path.now c.args.opened.value))
-    c.in-Name.is
-    ∙ picked_name (base_of c.args.context.now) (here c.args.path.now c.args.opened.value) c.in-Name.name
+    ∙ sym (ap (λ x. picked base x (here c.args.path.now c.args.opened.value)) c.in-Name.is
+    ∙ picked_name base (here c.args.path.now c.args.opened.value) c.in-Name.name
     ∙ ap (node_if_some _) (sym some)))
 
 pub select-returns-in-Wild-clause-found : goal.select-returns-in-Wild-clause-found
 select-returns-in-Wild-clause-found g t c =
-    on_ok_weaker c.each_child.result (λ e. e
-    ∙ ap (plus (put_found g.V.Visit.put) (kept g.V.Visit.kept c.args.found.now))
-    (sym (ap (reached (base_of c.args.context.now) c.args.rest.now)
-    (ap (λ x. picked (base_of c.args.context.now) x (here c.args.path.now c.args.opened.value)) c.in-Wild.is
-    ∙ picked_wild (base_of c.args.context.now) (here c.args.path.now c.args.opened.value))
-    ∙ reached-each (base_of c.args.context.now) c.args.rest.now
-    (children (here c.args.path.now c.args.opened.value))))) c.each_child.ensures.found
-
-pub select-returns-in-Index-clause-found : goal.select-returns-in-Index-clause-found
-select-returns-in-Index-clause-found g t c =
     let base = base_of c.args.context.now in
     let n = here c.args.path.now c.args.opened.value in
+    let put = put_found g.V.Visit.put in
+    let had = kept g.V.Visit.kept c.args.found.now in
+    on_ok_weaker c.each_child.result (λ e. e ∙ ap (plus put had) (sym (ap (reached base c.args.rest.now)
+    (ap (λ x. picked base x n) c.in-Wild.is ∙ picked_wild base n) ∙ reached-each base c.args.rest.now
+    (children n)))) c.each_child.ensures.found
+
+pub select-returns-in-Some-item_child-clause-found : goal.select-returns-in-Some-item_child-clause-found
+select-returns-in-Some-item_child-clause-found g t c =
+    let base = base_of c.args.context.now in
+    let n = here c.args.path.now c.args.opened.value in
+    let put = put_found g.V.Visit.put in
+    let had = kept g.V.Visit.kept c.args.found.now in
     let f : SFits w64 c.in-Index.index.value = search rules in
-    let placed = simp to_z-of_z at (c.place_in-place.ensures (link_steps c.args.path.now)) in
-    on_ok_weaker c.at_place.result (λ e. e
-    ∙ ap (λ ns. plus (put_found g.V.Visit.put) (kept g.V.Visit.kept c.args.found.now)
-    (reached base c.args.rest.now ns))
-    (placed ∙ ap (λ z. items_at n (index_places z (part_value c.args.opened.value))) c.in-Index.index.read
+    let one = simp to_z-of_z at (c.in-Some-item_child.ensures.some (link_steps c.args.path.now)) in
+    on_ok_weaker c.at_child.result (λ e. e ∙ ap (λ ns. plus put had (reached base c.args.rest.now ns))
+    (sym one ∙ ap (λ z. items_at n (index_places z (part_value c.args.opened.value))) c.in-Index.index.read
     ∙ sym (ap (λ x. picked base x n) c.in-Index.is ∙ picked_index base n c.in-Index.index)))
-    c.at_place.ensures.found
+    c.at_child.ensures.found
+
+pub select-returns-in-None-clause-found : goal.select-returns-in-None-clause-found
+select-returns-in-None-clause-found g t c =
+    let base = base_of c.args.context.now in
+    let n = here c.args.path.now c.args.opened.value in
+    let put = put_found g.V.Visit.put in
+    let f : SFits w64 c.in-Index.index.value = search rules in
+    let none = simp to_z-of_z at (c.in-None.ensures.none (link_steps c.args.path.now)) in
+    nothing_found put _ _ (ap (reached base c.args.rest.now) (ap (λ x. picked base x n) c.in-Index.is
+    ∙ picked_index base n c.in-Index.index
+    ∙ sym (ap (λ z. items_at n (index_places z (part_value c.args.opened.value))) c.in-Index.index.read)
+    ∙ none) ∙ reached-none base c.args.rest.now)
 
 pub select-returns-in_ok-children-in-Slice-clause-found :
     goal.select-returns-in_ok-children-in-Slice-clause-found
 select-returns-in_ok-children-in-Slice-clause-found g t c =
     let base = base_of c.args.context.now in
     let n = here c.args.path.now c.args.opened.value in
+    let put = put_found g.V.Visit.put in
+    let had = kept g.V.Visit.kept c.args.found.now in
     let picks = slice_found (part_value c.args.opened.value)
     (written_value (option_map position_text c.in-Slice.slice.first))
     (written_value (option_map position_text c.in-Slice.slice.past))
     (written_value (option_map position_text c.in-Slice.slice.step)) c.item_count.result
     (bounds_value c.bounds_of-bounds.result) c.item_count.ensures.count
     c.bounds_of-bounds.ensures.bounds in
-    on_ok_weaker c.each_of.result (λ e. e
-    ∙ ap (plus (put_found g.V.Visit.put) (kept g.V.Visit.kept c.args.found.now))
+    on_ok_weaker c.each_of.result (λ e. e ∙ ap (plus put had)
     (ap (flat_map (λ k. reached base c.args.rest.now (k ∷ [])))
     (ap (listed_nodes (link_steps c.args.path.now)) c.as_slice.ensures.value
     ∙ c.in_ok-children-in-Slice.ensures.nodes (link_steps c.args.path.now) ∙ ap (items_at n) picks)
@@ -322,12 +333,13 @@ select-returns-in_ok-children-in-Slice-clause-found g t c =
 pub select-returns-in-Some-true-clause-found : goal.select-returns-in-Some-true-clause-found
 select-returns-in-Some-true-clause-found g t c =
     let base = base_of c.args.context.now in
-    let rest = c.args.rest.now in
     let n = here c.args.path.now c.args.opened.value in
+    let put = put_found g.V.Visit.put in
+    let had = kept g.V.Visit.kept c.args.found.now in
+    let rest = c.args.rest.now in
     let l = c.in-Filter.test in
     let on = rw (c.in-Some-true.is, c.in-Some-true.field-0-test) at c.known_truth.ensures in
-    on_ok_weaker c.each_child-in-Some-true.result (λ e. e
-    ∙ ap (plus (put_found g.V.Visit.put) (kept g.V.Visit.kept c.args.found.now))
+    on_ok_weaker c.each_child-in-Some-true.result (λ e. e ∙ ap (plus put had)
     (true_along base l rest on (children n)
     ∙ sym (kept_each base rest n c.args.selector.now l c.in-Filter.is)))
     c.each_child-in-Some-true.ensures.found
@@ -335,21 +347,23 @@ select-returns-in-Some-true-clause-found g t c =
 pub select-returns-in-Some-false-clause-found : goal.select-returns-in-Some-false-clause-found
 select-returns-in-Some-false-clause-found g t c =
     let base = base_of c.args.context.now in
-    let rest = c.args.rest.now in
     let n = here c.args.path.now c.args.opened.value in
+    let put = put_found g.V.Visit.put in
+    let rest = c.args.rest.now in
     let l = c.in-Filter.test in
     let off = rw (c.in-Some-false.is, c.in-Some-false.field-0-test) at c.known_truth.ensures in
-    nothing_found (put_found g.V.Visit.put) _ _
+    nothing_found put _ _
     (kept_each base rest n c.args.selector.now l c.in-Filter.is ∙ false_along base l rest off (children n))
 
-pub select-returns-in-None-clause-found : goal.select-returns-in-None-clause-found
-select-returns-in-None-clause-found g t c =
+pub select-returns-in-None-known_truth-clause-found : goal.select-returns-in-None-known_truth-clause-found
+select-returns-in-None-known_truth-clause-found g t c =
     let base = base_of c.args.context.now in
     let n = here c.args.path.now c.args.opened.value in
-    on_ok_weaker c.each_child-in-None.result (λ e. e
-    ∙ ap (plus (put_found g.V.Visit.put) (kept g.V.Visit.kept c.args.found.now))
+    let put = put_found g.V.Visit.put in
+    let had = kept g.V.Visit.kept c.args.found.now in
+    on_ok_weaker c.each_child-in-None-known_truth.result (λ e. e ∙ ap (plus put had)
     (sym (kept_each base c.args.rest.now n c.args.selector.now c.in-Filter.test c.in-Filter.is)))
-    c.each_child-in-None.ensures.found
+    c.each_child-in-None-known_truth.ensures.found
 
 pub holds-returns-in-Some-clause-truth : goal.holds-returns-in-Some-clause-truth
 holds-returns-in-Some-clause-truth g t c =
@@ -367,78 +381,84 @@ holds-returns-in-Some-pattern-clause-truth g t c =
     IfOk-weaker c.searches_read.result _ _ (λ b e. e
     ∙ ap₂ (tested tests.is_found) c.in_ok-given-in-Search.ensures.value (sym (c.in-Some-pattern.ensures n))
     ∙ sym (ap (λ l. is_true base l n) c.in-Search.is
-    ∙ true_search base n c.in-Search.text c.in-Search.pattern))
-    c.searches_read.ensures
+    ∙ true_search base n c.in-Search.text c.in-Search.pattern)) c.searches_read.ensures
 
 pub holds-returns-in-Once-clause-truth : goal.holds-returns-in-Once-clause-truth
 holds-returns-in-Once-clause-truth g t c =
     let base = base_of c.args.context.now in
     let n = here c.args.path.now c.args.value in
-    c.truth.ensures n
-    ∙ sym (ap (λ l. is_true base l n) c.in-Once.is ∙ true_once base n c.in-Once.slot)
+    c.truth.ensures n ∙ sym (ap (λ l. is_true base l n) c.in-Once.is ∙ true_once base n c.in-Once.slot)
 
 pub all-loop-part-preserved : goal.all-loop-part-preserved
 all-loop-part-preserved g t c =
+    let base = base_of c.args.context.now in
+    let n = here c.args.path.now c.args.value in
     let h : c.loop-part.part-index < length c.args.parts.now = omega arith in
     let truth = c.in_ok-holds.ensures.truth in
-    let on : is_true (base_of c.args.context.now) c.part-item.result (here c.args.path.now c.args.value)
+    let on : is_true base c.part-item.result n
     ≡ true = sym (rw c.loop-part.invariant.0 at truth) ∙ c.if-not-branch.false in (
       c.in_ok-holds.ensures.path
           ∙ c.loop-part.invariant.0,
-      all_further (λ l. is_true (base_of c.args.context.now) l
-          (here c.args.path.now c.args.value)) c.args.parts.now c.loop-part.part-index c.part-item.result h
+      all_further (λ l. is_true base l n) c.args.parts.now c.loop-part.part-index c.part-item.result h
           c.part-item.is on ∙ c.loop-part.invariant.1,
     )
 
 pub all-returns-clause-truth : goal.all-returns-clause-truth
 all-returns-clause-truth g t c =
-    sym (at_drop_all (list_all (λ l. is_true (base_of c.args.context.now) l
-    (here c.args.path.now c.args.value))) c.args.parts.now c.loop-part.part-index (omega arith))
-    ∙ c.loop-part.invariant.1
+    let base = base_of c.args.context.now in
+    let n = here c.args.path.now c.args.value in
+    sym (at_drop_all (list_all (λ l. is_true base l
+    n)) c.args.parts.now c.loop-part.part-index (omega arith)) ∙ c.loop-part.invariant.1
 
 pub all-returns-then-not-branch-clause-truth : goal.all-returns-then-not-branch-clause-truth
 all-returns-then-not-branch-clause-truth g t c =
+    let base = base_of c.args.context.now in
+    let n = here c.args.path.now c.args.value in
     let h : c.loop-part.part-index < length c.args.parts.now = omega arith in
     let truth = c.in_ok-holds.ensures.truth in
-    let off : is_true (base_of c.args.context.now) c.part-item.result (here c.args.path.now c.args.value)
+    let off : is_true base c.part-item.result n
     ≡ false = sym (rw c.loop-part.invariant.0 at truth) ∙ c.if-not-branch.true in
-    sym (all_found (λ l. is_true (base_of c.args.context.now) l (here c.args.path.now c.args.value))
+    sym (all_found (λ l. is_true base l n)
     c.args.parts.now c.loop-part.part-index c.part-item.result h c.part-item.is off)
     ∙ c.loop-part.invariant.1
 
 pub any-loop-part-preserved : goal.any-loop-part-preserved
 any-loop-part-preserved g t c =
+    let base = base_of c.args.context.now in
+    let n = here c.args.path.now c.args.value in
     let h : c.loop-part.part-index < length c.args.parts.now = omega arith in
     let truth = c.in_ok-holds.ensures.truth in
-    let off : is_true (base_of c.args.context.now) c.part-item.result (here c.args.path.now c.args.value)
+    let off : is_true base c.part-item.result n
     ≡ false = sym (rw c.loop-part.invariant.0 at truth) ∙ c.if-branch.false in (
       c.in_ok-holds.ensures.path
           ∙ c.loop-part.invariant.0,
-      any_further (λ l. is_true (base_of c.args.context.now) l
-          (here c.args.path.now c.args.value)) c.args.parts.now c.loop-part.part-index c.part-item.result h
+      any_further (λ l. is_true base l n) c.args.parts.now c.loop-part.part-index c.part-item.result h
           c.part-item.is off ∙ c.loop-part.invariant.1,
     )
 
 pub any-returns-clause-truth : goal.any-returns-clause-truth
 any-returns-clause-truth g t c =
-    sym (at_drop_all (list_any (λ l. is_true (base_of c.args.context.now) l
-    (here c.args.path.now c.args.value))) c.args.parts.now c.loop-part.part-index (omega arith))
-    ∙ c.loop-part.invariant.1
+    let base = base_of c.args.context.now in
+    let n = here c.args.path.now c.args.value in
+    sym (at_drop_all (list_any (λ l. is_true base l
+    n)) c.args.parts.now c.loop-part.part-index (omega arith)) ∙ c.loop-part.invariant.1
 
 pub any-returns-then-branch-clause-truth : goal.any-returns-then-branch-clause-truth
 any-returns-then-branch-clause-truth g t c =
+    let base = base_of c.args.context.now in
+    let n = here c.args.path.now c.args.value in
     let h : c.loop-part.part-index < length c.args.parts.now = omega arith in
     let truth = c.in_ok-holds.ensures.truth in
-    let on : is_true (base_of c.args.context.now) c.part-item.result (here c.args.path.now c.args.value)
+    let on : is_true base c.part-item.result n
     ≡ true = sym (rw c.loop-part.invariant.0 at truth) ∙ c.if-branch.true in
-    sym (any_found (λ l. is_true (base_of c.args.context.now) l (here c.args.path.now c.args.value))
+    sym (any_found (λ l. is_true base l n)
     c.args.parts.now c.loop-part.part-index c.part-item.result h c.part-item.is on)
     ∙ c.loop-part.invariant.1
 
 pub apply-returns-then-is_full-clause-found : goal.apply-returns-then-is_full-clause-found
 apply-returns-then-is_full-clause-found g t c =
-    full_enough (put_found g.V.Visit.put) _ _ _ _ (c.is_full.ensures c.if-is_full.true)
-    c.loop-selector.invariant.1
+    let put = put_found g.V.Visit.put in
+    full_enough put _ _ _ _ (c.is_full.ensures c.if-is_full.true) c.loop-selector.invariant.1
 
 pub holds-returns-in_ok-text-in-Match-clause-truth : goal.holds-returns-in_ok-text-in-Match-clause-truth
 holds-returns-in_ok-text-in-Match-clause-truth g t c =
@@ -456,8 +476,7 @@ holds-returns-in_ok-text-in-Search-clause-truth g t c =
     IfOk-weaker c.searches.result _ _ (λ b e. e
     ∙ ap₂ (tested tests.is_found) c.in_ok-text-in-Search.ensures.left c.in_ok-text-in-Search.ensures.right
     ∙ sym (ap (λ l. is_true base l n) c.in-Search.is
-    ∙ true_search base n c.in-Search.text c.in-Search.pattern))
-    c.searches.ensures
+    ∙ true_search base n c.in-Search.text c.in-Search.pattern)) c.searches.ensures
 
 pub holds-returns-in_ok-left-in-Compare-clause-truth : goal.holds-returns-in_ok-left-in-Compare-clause-truth
 holds-returns-in_ok-left-in-Compare-clause-truth g t c =
@@ -465,56 +484,55 @@ holds-returns-in_ok-left-in-Compare-clause-truth g t c =
     let n = here c.args.path.now c.args.value in
     IfOk-weaker c.compare_kinds.result _ _ (λ b e. e
     ∙ ap₂ (compared c.in-Compare.operator) c.in_ok-left-in-Compare.ensures.left
-    c.in_ok-left-in-Compare.ensures.right
-    ∙ sym (ap (λ l. is_true base l n) c.in-Compare.is
+    c.in_ok-left-in-Compare.ensures.right ∙ sym (ap (λ l. is_true base l n) c.in-Compare.is
     ∙ true_compare base n c.in-Compare.left c.in-Compare.operator c.in-Compare.right))
     c.compare_kinds.ensures
 
 pub holds-returns-in_ok-text-in-MatchRead-clause-truth
     : goal.holds-returns-in_ok-text-in-MatchRead-clause-truth
 holds-returns-in_ok-text-in-MatchRead-clause-truth g t c =
+    let base = base_of c.args.context.now in
+    let n = here c.args.path.now c.args.value in
     IfOk-weaker c.matches_known.result _ _ (λ b e. e
     ∙ ap (λ o. tested tests.is_match o (Some (text (text_of c.in-MatchRead.known.text))))
-    c.in_ok-text-in-MatchRead.ensures.value
-    ∙ sym (ap (λ l. is_true (base_of c.args.context.now) l (here c.args.path.now c.args.value))
-    c.in-MatchRead.is ∙ true_match_known (base_of c.args.context.now) (here c.args.path.now c.args.value)
+    c.in_ok-text-in-MatchRead.ensures.value ∙ sym (ap (λ l. is_true base l n)
+    c.in-MatchRead.is ∙ true_match_known base n
     c.in-MatchRead.text c.in-MatchRead.known)) c.matches_known.ensures
 
 pub holds-returns-in_ok-text-in-SearchRead-clause-truth
     : goal.holds-returns-in_ok-text-in-SearchRead-clause-truth
 holds-returns-in_ok-text-in-SearchRead-clause-truth g t c =
+    let base = base_of c.args.context.now in
+    let n = here c.args.path.now c.args.value in
     IfOk-weaker c.searches_known.result _ _ (λ b e. e
     ∙ ap (λ o. tested tests.is_found o (Some (text (text_of c.in-SearchRead.known.text))))
-    c.in_ok-text-in-SearchRead.ensures.value
-    ∙ sym (ap (λ l. is_true (base_of c.args.context.now) l (here c.args.path.now c.args.value))
-    c.in-SearchRead.is ∙ true_search_known (base_of c.args.context.now)
-    (here c.args.path.now c.args.value) c.in-SearchRead.text c.in-SearchRead.known))
+    c.in_ok-text-in-SearchRead.ensures.value ∙ sym (ap (λ l. is_true base l n)
+    c.in-SearchRead.is ∙ true_search_known base n c.in-SearchRead.text c.in-SearchRead.known))
     c.searches_known.ensures
 
 pub holds-returns-in_ok-right-in-Xor-clause-truth : goal.holds-returns-in_ok-right-in-Xor-clause-truth
 holds-returns-in_ok-right-in-Xor-clause-truth g t c =
+    let base = base_of c.args.context.now in
     let n = here c.args.path.now c.args.value in
     let second = rw c.in_ok-left-in-Xor.ensures.path at c.in_ok-right-in-Xor.ensures.truth in
-    c.exactly_one.ensures
-    ∙ ap₂ exactly_one (c.in_ok-left-in-Xor.ensures.truth
-    ∙ ap (λ l. is_true (base_of c.args.context.now) l n) c.deref-in-Xor.ensures)
-    (second ∙ ap (λ l. is_true (base_of c.args.context.now) l n) c.deref-in-Xor-2.ensures)
-    ∙ sym (ap (λ l. is_true (base_of c.args.context.now) l n) c.in-Xor.is
-    ∙ true_xor (base_of c.args.context.now) n c.in-Xor.field-0 c.in-Xor.left c.in-Xor.field-2
-    c.in-Xor.right)
+    c.exactly_one.ensures ∙ ap₂ exactly_one (c.in_ok-left-in-Xor.ensures.truth
+    ∙ ap (λ l. is_true base l n) c.deref-in-Xor.ensures)
+    (second ∙ ap (λ l. is_true base l n) c.deref-in-Xor-2.ensures)
+    ∙ sym (ap (λ l. is_true base l n) c.in-Xor.is
+    ∙ true_xor base n c.in-Xor.field-0 c.in-Xor.left c.in-Xor.field-2 c.in-Xor.right)
 
 pub give-returns-in-Constant-clause-value : goal.give-returns-in-Constant-clause-value
-give-returns-in-Constant-clause-value g t c = ap Some c.literal.ensures
-    ∙ sym (ap (λ v. value_given (base_of c.args.context.now) v (here c.args.path.now c.args.value))
-    c.in-Constant.is ∙ given_constant (base_of c.args.context.now) (here c.args.path.now c.args.value)
-    c.in-Constant.constant)
+give-returns-in-Constant-clause-value g t c =
+    let base = base_of c.args.context.now in
+    let n = here c.args.path.now c.args.value in
+    ap Some c.literal.ensures ∙ sym (ap (λ v. value_given base v n)
+    c.in-Constant.is ∙ given_constant base n c.in-Constant.constant)
 
 pub give-returns-in_ok-give-in-Length-clause-value : goal.give-returns-in_ok-give-in-Length-clause-value
 give-returns-in_ok-give-in-Length-clause-value g t c =
     let base = base_of c.args.context.now in
     let n = here c.args.path.now c.args.value in
-    IfOk-weaker c.length.result _ _ (λ k e. e
-    ∙ ap length_value (c.in_ok-give-in-Length.ensures.value
+    IfOk-weaker c.length.result _ _ (λ k e. e ∙ ap length_value (c.in_ok-give-in-Length.ensures.value
     ∙ ap (λ v. value_given base v n) c.deref.ensures)
     ∙ sym (ap (λ v. value_given base v n) c.in-Length.is ∙ given_length base n c.in-Length.of))
     c.length.ensures
@@ -565,11 +583,11 @@ pub ask-returns-in-Some-into_aggregate-clause-answer
 ask-returns-in-Some-into_aggregate-clause-answer g t c =
     let base = base_of c.args.context.now in
     let n = here c.args.path.now c.args.value in
+    let put = put_found g.V.Visit.put in
     let want = c.args.want in
     let nodes = nodes_here base n c.in-Here.segments c.as_slice-segments.result.now want
     c.as_slice-segments.ensures.value ∙ sym (ap (λ q. nodes_given base q want n) c.in-Here.is) in
-    let held = c.in_ok-run-in-Here.ensures.found
-    ∙ ap₂ (plus (put_found g.V.Visit.put)) c.none_found-found.ensures nodes in
+    let held = c.in_ok-run-in-Here.ensures.found ∙ ap₂ (plus put) c.none_found-found.ensures nodes in
     c.in-Some-into_aggregate.ensures.answer want (nodes_given base c.args.nodes.now want n) held
 
 pub ask-unreachable-requires : goal.ask-unreachable-requires
@@ -602,15 +620,19 @@ ask-returns-in_ok-answer-in-Distinct-clause-answer g t c =
 pub go-returns-in_ok-apply-in-Descend-clause-found : goal.go-returns-in_ok-apply-in-Descend-clause-found
 go-returns-in_ok-apply-in-Descend-clause-found g t c =
     let base = base_of c.args.context.now in
+    let n = here c.args.path.now c.args.value in
+    let put = put_found g.V.Visit.put in
     let xs = c.in-Descend.selectors.now in
     let rest = c.in-Descend.rest.now in
     let at = link_steps c.args.path.now in
-    let range : range_nodes at c.all-range.result ≡ children (here c.args.path.now c.args.value) =
+    let range : range_nodes at c.all-range.result ≡ children n =
     c.all-range.ensures.nodes at ∙ c.in_ok-children-in-Descend.ensures.nodes at in
-    on_ok_weaker c.each_of.result (λ e. rw c.in-Descend.is (descended (put_found g.V.Visit.put) base xs
-    rest (here c.args.path.now c.args.value) _ _ _ c.in_ok-apply-in-Descend.ensures.found
+    on_ok_weaker c.each_of.result (λ e. rw c.in-Descend.is (descended put base xs
+    rest n _ _ _ c.in_ok-apply-in-Descend.ensures.found
     (rw range at (rw (c.in_ok-apply-in-Descend.ensures.path, c.in-Descend.is) at e))))
     c.each_of.ensures.found
 
 pub give-returns-in-Some-clause-value : goal.give-returns-in-Some-clause-value
-give-returns-in-Some-clause-value g t c = c.in-Some.ensures (here c.args.path.now c.args.value)
+give-returns-in-Some-clause-value g t c =
+    let n = here c.args.path.now c.args.value in
+    c.in-Some.ensures n

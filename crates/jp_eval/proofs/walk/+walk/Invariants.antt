@@ -3,10 +3,10 @@ use Rattle.std.specs.List.{flat_map, list_any, list_all}
 use denote.Param.Weighed.{most}
 use Rattle.jp_doc.specs.Height.{height}
 use Rattle.jp_doc.specs.Location.{Node}
-use Rattle.jp_compiled.specs.declared.query.Segment.{size-Segment}
-use Rattle.jp_compiled.specs.declared.query.Selector.{size-Selector}
-use Rattle.jp_compiled.specs.declared.query.Logical.{size-Logical}
-use Rattle.jp_compiled.specs.declared.query.Value.{size-Value}
+use Rattle.jp_compiled.specs.declared.query.CompiledSegment.{size-CompiledSegment}
+use Rattle.jp_compiled.specs.declared.query.CompiledSelector.{size-CompiledSelector}
+use Rattle.jp_compiled.specs.declared.query.CompiledLogical.{size-CompiledLogical}
+use Rattle.jp_compiled.specs.declared.query.Giver.{size-Giver}
 use Rattle.jp_compiled.specs.declared.query.Nodes.{size-Nodes}
 use Rattle.jp_eval.specs.inner.Base.{base_of}
 use Rattle.jp_found.specs.Kept.{kept, put_found, plus}
@@ -22,9 +22,9 @@ use Rattle.jp_eval.specs.declared.walk.Action.TheVariants.{Run, Descend, Test}
 use Rattle.jp_eval.proofs.walk.+walk.Given as goal
 
 abbrev pub task_size : Action → ℕ
-task_size (Run rest) = most size-Segment rest.now
-task_size (Descend xs rest) = max (most size-Selector xs.now) (most size-Segment rest.now)
-task_size (Test l rest) = max (size-Logical l.now) (most size-Segment rest.now)
+task_size (Run rest) = most size-CompiledSegment rest.now
+task_size (Descend xs rest) = max (most size-CompiledSelector xs.now) (most size-CompiledSegment rest.now)
+task_size (Test l rest) = max (size-CompiledLogical l.now) (most size-CompiledSegment rest.now)
 
 -- the size of what is left of the query, then the height of the value, then the rank of the function
 abbrev pub weight : ℕ → Part → ℕ → ℕ
@@ -40,18 +40,17 @@ abbrev pub decreases-go : goal.decreases-go
 decreases-go g l = weight (task_size l.action) l.value (task_rank l.action)
 
 abbrev pub decreases-run : goal.decreases-run
-decreases-run g l = weight (most size-Segment l.segments.now) l.value 8
+decreases-run g l = weight (most size-CompiledSegment l.segments.now) l.value 8
 
 abbrev pub decreases-apply : goal.decreases-apply
-decreases-apply g l = weight (max (most size-Selector l.selectors.now) (most size-Segment l.rest.now))
+decreases-apply g l = weight (max (most size-CompiledSelector l.selectors.now) (most size-CompiledSegment
+    l.rest.now))
     l.opened.value 6
 
 abbrev pub decreases-select : goal.decreases-select
-decreases-select g l = weight (max (size-Selector l.selector.now) (most size-Segment l.rest.now))
+decreases-select g l = weight (max (size-CompiledSelector l.selector.now) (most size-CompiledSegment
+    l.rest.now))
     l.opened.value 5
-
-abbrev pub decreases-at_place : goal.decreases-at_place
-decreases-at_place g l = weight (most size-Segment l.rest.now) l.value 2
 
 abbrev pub decreases-each_child : goal.decreases-each_child
 decreases-each_child g l = weight (task_size l.action) l.opened.value 3
@@ -64,7 +63,8 @@ decreases-each_member g l = 2000 * task_size l.action + 16 * flat_members_height
 
 abbrev pub decreases-each_item : goal.decreases-each_item
 decreases-each_item g l =
-    2000 * task_size l.action + 16 * range_height (of_flat_items l.items l.places.start l.places.end)
+    2000 * task_size l.action
+    + 16 * range_height (of_flat_items l.items.rest l.items.place l.items.past)
 
 abbrev pub decreases-each_in : goal.decreases-each_in
 decreases-each_in g l = 2000 * task_size l.action + 16 * range_height l.children
@@ -76,19 +76,19 @@ abbrev pub decreases-ask : goal.decreases-ask
 decreases-ask g l = weight (size-Nodes l.nodes.now) l.value 7
 
 abbrev pub decreases-give_both : goal.decreases-give_both
-decreases-give_both g l = weight (max (size-Value l.left.now) (size-Value l.right.now)) l.value 8
+decreases-give_both g l = weight (max (size-Giver l.left.now) (size-Giver l.right.now)) l.value 8
 
 abbrev pub decreases-give : goal.decreases-give
-decreases-give g l = weight (size-Value l.giver.now) l.value 7
+decreases-give g l = weight (size-Giver l.giver.now) l.value 7
 
 abbrev pub decreases-holds : goal.decreases-holds
-decreases-holds g l = weight (size-Logical l.test.now) l.value 7
+decreases-holds g l = weight (size-CompiledLogical l.test.now) l.value 7
 
 abbrev pub decreases-any : goal.decreases-any
-decreases-any g l = weight (most size-Logical l.parts.now) l.value 8
+decreases-any g l = weight (most size-CompiledLogical l.parts.now) l.value 8
 
 abbrev pub decreases-all : goal.decreases-all
-decreases-all g l = weight (most size-Logical l.parts.now) l.value 8
+decreases-all g l = weight (most size-CompiledLogical l.parts.now) l.value 8
 
 abbrev pub invariant-apply-loop-selector : goal.invariant-apply-loop-selector
 invariant-apply-loop-selector g l =
@@ -118,7 +118,7 @@ decreases-each_member-loop-child g l = length l.members - l.index
 abbrev pub invariant-each_item-loop-child : goal.invariant-each_item-loop-child
 invariant-each_item-loop-child g l =
     let rest = of_flat_items l.rest l.place l.past in
-    let all = of_flat_items l.items l.fn.places.start l.fn.places.end in
+    let all = of_flat_items l.fn.items.rest l.fn.items.place l.fn.items.past in
     (l.path ≡ l.initial.path) × (range_height rest ≤ range_height all)
     × IsDone (put_found g.V.Visit.put) (kept g.V.Visit.kept l.found) (kept g.V.Visit.kept l.initial.found)
     (done (base_of l.context) l.action) (range_nodes (link_steps l.path) rest)

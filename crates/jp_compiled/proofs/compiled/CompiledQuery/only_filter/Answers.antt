@@ -4,7 +4,7 @@ use Rattle.jp_compiled.specs.Compiled.{compiled_query}
 use Rattle.jp_compiled.specs.Parts.{logical_in, roots_of, segments_in}
 use Rattle.jp_compiled.specs.inner.OnlyFilter.{query_filter, segments_filter}
 use Rattle.jp_compiled.proofs.OneFilter.{one_filter}
-use Rattle.jp_compiled.proofs.compiled.Query.only_filter.Goals as goal
+use Rattle.jp_compiled.proofs.compiled.CompiledQuery.only_filter.Goals as goal
 
 pub returns-in-Root : goal.returns-in-Root
 returns-in-Root c =
