@@ -17,16 +17,15 @@ import tools
 STAGES = [(name, re.compile(pattern)) for name, pattern in (
     ("the kernel reads or writes", r"ksys_(read|write)|vfs_(read|write)"),
     ("a line is read flat",
-     r"\bjson::(tape|index|run|word|unescape|scratch)\b|\bsimdutf8\b|jp_flat::(reader|document)"),
+     r"\bjp_flat_nodes\b|\bjson::(tape|index|run|word|unescape|scratch)\b|\bsimdutf8\b"
+     r"|\bjp_flat::(lines|line_reader|reader|nodes)\b"),
     ("a line is read as a tree",
      r"\bserde_json::(de|value|number)\b|\bjson::(reader|lexer)\b|\bjp_doc::limits\b"),
-    ("lines are cut", r"\bjp_buffer\b|\bjp_doc::(lines|cutting)\b|\bjp_run::gathering\b"),
-    ("members in rising order", r"\bjp_flat::gather\b|\bFlatMembers::gather\b"),
+    ("lines are cut", r"\bjp_(buffer|documents)\b|\bjp_doc::cutting\b|\bjp_run::(gathering|input)\b"),
+    ("members in rising order", r"\bjp_flat::(gather|insertion)\b|\bFlatMembers::gather\b"),
     ("the text of lines", r"\bjp_output\b|\bserde_json::ser\b|\bjson::write|\bitoa\b"),
     ("patterns", r"\bjp_(automaton|pattern)\b"),
-    ("the walk", r"\bjp_(eval|nodes|path_stack|value|part|flat)\b"),
-    # Inlined into its caller: UTF-8, the places of tokens, and whether the line is plain.
-    ("reading that is inlined", r"\badd_line\b"),
+    ("the walk", r"\bjp_(eval|found|node|value|flat)\b"),
     ("the workers", r"\bjp_(answer|board)\b|map_vec|start_thread|\bclone3?\b"),
 )]
 OTHERS = "all else"
