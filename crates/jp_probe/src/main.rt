@@ -5,9 +5,25 @@
 //! the rows of one kind and what answers them.
 #![tactic(auto)]
 
+mod bytes;
+mod explained;
+mod lines;
+mod marks;
+mod numbers;
 mod patterns;
+mod plans;
+mod queries;
+mod searches;
+mod texts;
 
+use explained::{EscapedRow, ExplainRow, NotesRow, QueryMarkRow};
+use lines::{LineMarkRow, LineRow};
+use marks::{FrontsRow, LiteralsRow};
+use numbers::{LimitsRow, OrderRow};
 use patterns::PatternRow;
+use plans::{FilterRow, PlanRow};
+use queries::QueryRow;
+use searches::{CountedRow, SearchRow};
 use serde::Deserialize;
 use std::alloc::Global;
 use std::io::{self, BufRead, BufReader, BufWriter, Write};
@@ -17,6 +33,21 @@ use std::io::{self, BufRead, BufReader, BufWriter, Write};
 #[serde(rename_all = "snake_case")]
 enum Row {
     Pattern(PatternRow),
+    Search(SearchRow),
+    Counted(CountedRow),
+    Order(OrderRow),
+    Limits(LimitsRow),
+    Query(QueryRow),
+    Plan(PlanRow),
+    Filter(FilterRow),
+    Explain(ExplainRow),
+    Notes(NotesRow),
+    Escaped(EscapedRow),
+    QueryMark(QueryMarkRow),
+    Fronts(FrontsRow),
+    Literals(LiteralsRow),
+    Line(LineRow),
+    LineMark(LineMarkRow),
 }
 
 /// Answers the rows of standard input.
@@ -37,5 +68,20 @@ fn answer(alloc: Global, line: &str) -> anyhow::Result<String> {
     let row: Row = serde_json::from_str(alloc, line)?;
     match row {
         Row::Pattern(row) => row.answer(alloc),
+        Row::Search(row) => row.answer(alloc),
+        Row::Counted(row) => row.answer(alloc),
+        Row::Order(row) => row.answer(alloc),
+        Row::Limits(row) => row.answer(alloc),
+        Row::Query(row) => row.answer(alloc),
+        Row::Plan(row) => row.answer(alloc),
+        Row::Filter(row) => row.answer(alloc),
+        Row::Explain(row) => row.answer(alloc),
+        Row::Notes(row) => row.answer(alloc),
+        Row::Escaped(row) => row.answer(alloc),
+        Row::QueryMark(row) => row.answer(alloc),
+        Row::Fronts(row) => row.answer(alloc),
+        Row::Literals(row) => row.answer(alloc),
+        Row::Line(row) => row.answer(alloc),
+        Row::LineMark(row) => row.answer(alloc),
     }
 }
