@@ -1,0 +1,87 @@
+//! The driver of the tests that are data: it reads rows of JSON, one on a line of standard input, answers each
+//! by public calls of the crates, and writes the answer on a line of its own. It promises nothing.
+//!
+//! A row is an object with one member, whose name says what is asked: `{"pattern":{..}}`. Each file here has
+//! the rows of one kind and what answers them.
+#![tactic(auto)]
+
+mod bytes;
+mod explained;
+mod lines;
+mod marks;
+mod numbers;
+mod patterns;
+mod plans;
+mod queries;
+mod searches;
+mod texts;
+
+use explained::{EscapedRow, ExplainRow, NotesRow, QueryMarkRow};
+use lines::{LineMarkRow, LineRow};
+use marks::{FrontsRow, LiteralsRow};
+use numbers::{LimitsRow, OrderRow};
+use patterns::PatternRow;
+use plans::{FilterRow, PlanRow};
+use queries::QueryRow;
+use searches::{CountedRow, SearchRow};
+use serde::Deserialize;
+use std::alloc::Global;
+use std::io::{self, BufRead, BufReader, BufWriter, Write};
+
+/// What a row asks.
+#[derive(Drop, Deserialize)]
+#[serde(rename_all = "snake_case")]
+enum Row {
+    Pattern(PatternRow),
+    Search(SearchRow),
+    Counted(CountedRow),
+    Order(OrderRow),
+    Limits(LimitsRow),
+    Query(QueryRow),
+    Plan(PlanRow),
+    Filter(FilterRow),
+    Explain(ExplainRow),
+    Notes(NotesRow),
+    Escaped(EscapedRow),
+    QueryMark(QueryMarkRow),
+    Fronts(FrontsRow),
+    Literals(LiteralsRow),
+    Line(LineRow),
+    LineMark(LineMarkRow),
+}
+
+/// Answers the rows of standard input.
+fn main(rt: HostRuntime) -> anyhow::Result<()> {
+    let alloc = rt.alloc();
+    let mut output = BufWriter::new(alloc, io::writer(&rt))?;
+    for line in BufReader::new(alloc, rt.reader())?.lines(alloc) {
+        let answer = answer(alloc, line?.as_str())?;
+        output.write_all(answer.as_bytes())?;
+        output.write_all(b"\n")?;
+    }
+    output.flush()?;
+    Ok(())
+}
+
+/// The answer to one row.
+fn answer(alloc: Global, line: &str) -> anyhow::Result<String> {
+    let row: Row = serde_json::from_str(alloc, line)?;
+    match row {
+        Row::Pattern(row) => row.answer(alloc),
+        Row::Search(row) => row.answer(alloc),
+        Row::Counted(row) => row.answer(alloc),
+        Row::Order(row) => row.answer(alloc),
+        Row::Limits(row) => row.answer(alloc),
+        Row::Query(row) => row.answer(alloc),
+        Row::Plan(row) => row.answer(alloc),
+        Row::Filter(row) => row.answer(alloc),
+        Row::Explain(row) => row.answer(alloc),
+        Row::Notes(row) => row.answer(alloc),
+        Row::Escaped(row) => row.answer(alloc),
+        Row::QueryMark(row) => row.answer(alloc),
+        Row::Fronts(row) => row.answer(alloc),
+        Row::Literals(row) => row.answer(alloc),
+        Row::Line(row) => row.answer(alloc),
+        Row::LineMark(row) => row.answer(alloc),
+    }
+}
