@@ -7,7 +7,7 @@
 
 mod bytes;
 mod explained;
-mod lines;
+mod told_lines;
 mod marks;
 mod numbers;
 mod patterns;
@@ -17,11 +17,11 @@ mod searches;
 mod texts;
 
 use explained::{EscapedRow, ExplainRow, NotesRow, QueryMarkRow};
-use lines::{LineMarkRow, LineRow};
+use told_lines::{LineMarkRow, LineRow};
 use marks::{FrontsRow, LiteralsRow};
 use numbers::{LimitsRow, OrderRow};
 use patterns::PatternRow;
-use plans::{FilterRow, PlanRow};
+use plans::{FilterPlanRow, PlanRow};
 use queries::QueryRow;
 use searches::{CountedRow, SearchRow};
 use serde::Deserialize;
@@ -39,7 +39,7 @@ enum Row {
     Limits(LimitsRow),
     Query(QueryRow),
     Plan(PlanRow),
-    Filter(FilterRow),
+    FilterPlan(FilterPlanRow),
     Explain(ExplainRow),
     Notes(NotesRow),
     Escaped(EscapedRow),
@@ -74,7 +74,7 @@ fn answer(alloc: Global, line: &str) -> anyhow::Result<String> {
         Row::Limits(row) => row.answer(alloc),
         Row::Query(row) => row.answer(alloc),
         Row::Plan(row) => row.answer(alloc),
-        Row::Filter(row) => row.answer(alloc),
+        Row::FilterPlan(row) => row.answer(alloc),
         Row::Explain(row) => row.answer(alloc),
         Row::Notes(row) => row.answer(alloc),
         Row::Escaped(row) => row.answer(alloc),

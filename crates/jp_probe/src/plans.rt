@@ -1,5 +1,5 @@
 //! Plans: `{"plan":{"text":"$[?match(@,'a')]","by":"check","numbers":"decimals","known":["a"]}}`, and
-//! filters by themselves: `{"filter":{"text":"@.a==1"}}`.
+//! filters by themselves: `{"filter_plan":{"text":"@.a==1"}}`.
 
 use crate::numbers::AskedNumbers;
 use crate::queries::fault_text;
@@ -38,7 +38,7 @@ pub struct PlanRow {
 
 /// A filter by itself.
 #[derive(Drop, Deserialize)]
-pub struct FilterRow {
+pub struct FilterPlanRow {
     text: String,
     #[serde(default)]
     numbers: AskedNumbers,
@@ -178,7 +178,7 @@ fn wanted(want: Want) -> &'static str {
     }
 }
 
-impl FilterRow {
+impl FilterPlanRow {
     /// The answer.
     pub fn answer(&self, alloc: Global) -> anyhow::Result<String> {
         let query = filter_query_text(alloc, self.text.as_str())?;
