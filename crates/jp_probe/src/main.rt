@@ -5,18 +5,70 @@
 //! the rows of one kind and what answers them.
 #![tactic(auto)]
 
+mod beside;
+mod buffers;
+mod bytes;
+mod compared;
+mod documents;
+mod drawn;
+mod fault_names;
+mod feeding;
+mod filters;
+mod flat_values;
+mod lines;
+mod nodes;
+mod one_pass;
+mod output_lines;
+mod outputs;
+mod paths;
 mod patterns;
+mod printed;
+mod steps;
+mod wide;
 
+use compared::ComparedRow;
+use documents::{ItemsRow, PlacesRow};
+use drawn::DrawnRow;
+use feeding::{CutsRow, PiecesRow, WaitingRow};
+use filters::FilterRow;
+use flat_values::{FlatValueRow, OneByteOffRow};
+use lines::LinesRow;
+use nodes::NodesRow;
+use output_lines::{ChunksRow, FaultLineRow, OutputLinesRow};
+use outputs::FormsRow;
+use paths::PathRow;
 use patterns::PatternRow;
+use printed::PrintedRow;
 use serde::Deserialize;
 use std::alloc::Global;
 use std::io::{self, BufRead, BufReader, BufWriter, Write};
+use std::thread::Threads;
+use wide::WideRow;
 
 /// What a row asks.
 #[derive(Drop, Deserialize)]
 #[serde(rename_all = "snake_case")]
 enum Row {
+    Chunks(ChunksRow),
+    Compared(ComparedRow),
+    Cuts(CutsRow),
+    Drawn(DrawnRow),
+    FaultLine(FaultLineRow),
+    Filter(FilterRow),
+    FlatValue(FlatValueRow),
+    Forms(FormsRow),
+    Items(ItemsRow),
+    Lines(LinesRow),
+    Nodes(NodesRow),
+    OneByteOff(OneByteOffRow),
+    OutputLines(OutputLinesRow),
+    Path(PathRow),
     Pattern(PatternRow),
+    Pieces(PiecesRow),
+    Places(PlacesRow),
+    Printed(PrintedRow),
+    Waiting(WaitingRow),
+    Wide(WideRow),
 }
 
 /// Answers the rows of standard input.
@@ -24,7 +76,7 @@ fn main(rt: HostRuntime) -> anyhow::Result<()> {
     let alloc = rt.alloc();
     let mut output = BufWriter::new(alloc, io::writer(&rt))?;
     for line in BufReader::new(alloc, rt.reader())?.lines(alloc) {
-        let answer = answer(alloc, line?.as_str())?;
+        let answer = answer(&rt, alloc, line?.as_str())?;
         output.write_all(answer.as_bytes())?;
         output.write_all(b"\n")?;
     }
@@ -33,9 +85,28 @@ fn main(rt: HostRuntime) -> anyhow::Result<()> {
 }
 
 /// The answer to one row.
-fn answer(alloc: Global, line: &str) -> anyhow::Result<String> {
+fn answer<R: Threads + Sync>(rt: &R, alloc: Global, line: &str) -> anyhow::Result<String> {
     let row: Row = serde_json::from_str(alloc, line)?;
     match row {
+        Row::Chunks(row) => row.answer(alloc),
+        Row::Compared(row) => row.answer(alloc),
+        Row::Cuts(row) => row.answer(alloc),
+        Row::Drawn(row) => row.answer(alloc),
+        Row::FaultLine(row) => row.answer(alloc),
+        Row::Filter(row) => row.answer(alloc),
+        Row::FlatValue(row) => row.answer(alloc),
+        Row::Forms(row) => row.answer(alloc),
+        Row::Items(row) => row.answer(alloc),
+        Row::Lines(row) => row.answer(alloc),
+        Row::Nodes(row) => row.answer(rt, alloc),
+        Row::OneByteOff(row) => row.answer(alloc),
+        Row::OutputLines(row) => row.answer(alloc),
+        Row::Path(row) => row.answer(alloc),
         Row::Pattern(row) => row.answer(alloc),
+        Row::Pieces(row) => row.answer(alloc),
+        Row::Places(row) => row.answer(alloc),
+        Row::Printed(row) => row.answer(alloc),
+        Row::Waiting(row) => row.answer(alloc),
+        Row::Wide(row) => row.answer(alloc),
     }
 }
