@@ -47,7 +47,7 @@ struct Turn {
 #[derive(Drop, PartialEq, Serialize)]
 struct State {
     /// How many lines have ended.
-    count: u64,
+    ended: u64,
     /// How many bytes wait.
     bytes: usize,
     /// The lines that wait, each behind its number and a space.
@@ -199,7 +199,7 @@ fn state_of<P: Pieces>(
     let lines = pieces.lines_in(alloc)?;
     let handed = part.lines(alloc)?;
     Ok(State {
-        count: pieces.ended(),
+        ended: pieces.ended(),
         bytes: pieces.bytes(),
         lines: texts_of(alloc, &lines)?,
         held: pieces.held(),
@@ -234,7 +234,7 @@ pub struct CutsRow {
 struct CutsAnswer {
     /// How many lines had ended before the end, and behind it.
     before: u64,
-    count: u64,
+    ended: u64,
     /// The lines, each behind its number and a space.
     lines: Vec<String>,
     /// How often the text was fed otherwise, and gave something else.
@@ -293,7 +293,7 @@ fn given_by<P: Pieces>(
     let lines = pieces.lines_in(alloc)?;
     Ok(CutsAnswer {
         before,
-        count: pieces.ended(),
+        ended: pieces.ended(),
         lines: texts_of(alloc, &lines)?,
         unlike: 0,
     })

@@ -27,35 +27,40 @@ struct ScalarAnswer {
     digits: Option<String>,
     text: Option<String>,
     whole: Option<i128>,
+    /// How many items it has.
+    item_count: u32,
 }
 
 /// What is said of a value.
 #[derive(Drop, Serialize)]
 struct FlatAnswer {
     value: ScalarAnswer,
-    /// How many items it has.
-    count: u32,
     /// The items by their places, and what is at the place behind them.
     items: Vec<Option<ScalarAnswer>>,
     /// The items one by one.
     one_by_one: Vec<ScalarAnswer>,
-    /// The names of the members as they stand.
-    names: Vec<String>,
+    /// The names of the members as they stand, with spaces between them.
+    names: String,
     /// The names as they rise, of all and of those behind the first.
-    rising: Vec<String>,
-    behind: Vec<String>,
-    /// The whole numbers of the members as they rise.
-    wholes: Vec<Option<i128>>,
+    rising: String,
+    behind: String,
 }
 
 impl FlatValueRow {
-    /// The answer, or `null` where the line is not read flat, or has no such member.
+    /// The answer, or `null` where the line is not read flat, or has no such member. The line is read once
+    /// before: where that is refused, it is read again by the same reader.
     pub fn answer(&self, alloc: Global) -> anyhow::Result<String> {
         let mut reader = FlatReader::new(alloc);
-        let read = if self.decimals {
-            reader.read_decimal(self.line.as_bytes())?.ok()
+        let line = self.line.as_bytes();
+        let _was_refused = if self.decimals {
+            reader.read_decimal(line).is_err()
         } else {
-            reader.read(self.line.as_bytes())?
+            reader.read(line).is_err()
+        };
+        let read = if self.decimals {
+            reader.read_decimal(line)?.ok()
+        } else {
+            reader.read(line)?
         };
         let Some(document) = read else {
             return Ok(serde_json::to_string(alloc, &None::<bool>)?);
@@ -73,16 +78,13 @@ impl FlatValueRow {
 
 /// What is said of a value.
 fn flat_answer(alloc: Global, value: FlatValue<'_>) -> Result<FlatAnswer, AllocError> {
-    let (rising, wholes) = rising_of(alloc, value)?;
     Ok(FlatAnswer {
         value: scalar_of(alloc, value)?,
-        count: value.item_count(),
         items: items_of(alloc, value)?,
         one_by_one: one_by_one(alloc, value)?,
         names: names_of(alloc, value)?,
-        rising,
+        rising: rising_of(alloc, value)?,
         behind: behind_first(alloc, value)?,
-        wholes,
     })
 }
 
@@ -102,6 +104,7 @@ fn scalar_of(alloc: Global, value: FlatValue<'_>) -> Result<ScalarAnswer, AllocE
         digits,
         text,
         whole: value.whole(),
+        item_count: value.item_count(),
     })
 }
 
@@ -148,13 +151,13 @@ fn one_by_one(alloc: Global, value: FlatValue<'_>) -> Result<Vec<ScalarAnswer>, 
 }
 
 /// The names of the members as they stand.
-fn names_of(alloc: Global, value: FlatValue<'_>) -> Result<Vec<String>, AllocError> {
-    let mut names = Vec::new(alloc);
+fn names_of(alloc: Global, value: FlatValue<'_>) -> Result<String, AllocError> {
+    let mut names = String::new(alloc);
     let mut left = value.members();
     for _ in 0..value.node_count() {
         left = match left.and_then(|members| members.split_first()) {
             Some((member, others)) => {
-                names.push(String::from_str(alloc, member.name)?)?;
+                push_name(&mut names, member.name)?;
                 Some(others)
             }
             None => None,
@@ -163,24 +166,17 @@ fn names_of(alloc: Global, value: FlatValue<'_>) -> Result<Vec<String>, AllocErr
     Ok(names)
 }
 
-/// The names of the members as they rise, and their whole numbers.
-fn rising_of(
-    alloc: Global,
-    value: FlatValue<'_>,
-) -> Result<(Vec<String>, Vec<Option<i128>>), AllocError> {
+/// The names of the members as they rise.
+fn rising_of(alloc: Global, value: FlatValue<'_>) -> Result<String, AllocError> {
     let mut gathered = Vec::new(alloc);
     if let Some(members) = value.members() {
         members.gather(&mut gathered)?;
     }
-    let mut wholes = Vec::new(alloc);
-    for member in &gathered {
-        wholes.push(member.value.whole())?;
-    }
-    Ok((names_in(alloc, &gathered)?, wholes))
+    names_in(alloc, &gathered)
 }
 
 /// The names as they rise of the members behind the first.
-fn behind_first(alloc: Global, value: FlatValue<'_>) -> Result<Vec<String>, AllocError> {
+fn behind_first(alloc: Global, value: FlatValue<'_>) -> Result<String, AllocError> {
     let mut gathered = Vec::new(alloc);
     if let Some((_, others)) = value.members().and_then(|members| members.split_first()) {
         others.gather(&mut gathered)?;
@@ -188,12 +184,21 @@ fn behind_first(alloc: Global, value: FlatValue<'_>) -> Result<Vec<String>, Allo
     names_in(alloc, &gathered)
 }
 
-fn names_in(alloc: Global, members: &[FlatMember<'_>]) -> Result<Vec<String>, AllocError> {
-    let mut names = Vec::new(alloc);
+/// The names of these members.
+fn names_in(alloc: Global, members: &[FlatMember<'_>]) -> Result<String, AllocError> {
+    let mut names = String::new(alloc);
     for member in members {
-        names.push(String::from_str(alloc, member.name)?)?;
+        push_name(&mut names, member.name)?;
     }
     Ok(names)
+}
+
+/// Adds a name, behind a space where it is not the first.
+fn push_name(names: &mut String, name: &str) -> Result<(), AllocError> {
+    if !names.is_empty() {
+        names.push(' ')?;
+    }
+    names.push_str(name)
 }
 
 /// A line, and the bytes of which each stands in the place of each of its own.

@@ -24,8 +24,7 @@ pub struct LinesRow {
 }
 
 /// How a line is read in one of two ways, beside the other.
-#[derive(Clone, Copy, PartialEq, Eq, Serialize)]
-#[serde(rename_all = "snake_case")]
+#[derive(Clone, Copy, PartialEq, Eq)]
 pub enum Alike {
     Alike,
     Unlike,
@@ -33,26 +32,25 @@ pub enum Alike {
     Left,
 }
 
-/// How a line is read.
+/// How lines are read, one behind another.
 #[derive(Drop, Serialize)]
-struct LineAnswer {
-    /// The document that is read as a tree, written compactly.
-    tree: Option<String>,
-    /// Why there is none.
-    fault: Option<&'static str>,
-    /// The flat document beside it.
-    flat: Alike,
-    /// How many items the flat document has.
-    items: u32,
-    /// The whole number that is the last of them.
-    last: Option<i128>,
-    /// What is read in one pass, beside what is laid of what the kit reads.
-    one_pass: Alike,
-    one_pass_decimal: Alike,
-    /// How the line is read by the numbers that it may have: `flat` or `tree`, with the whole number at `$.a`
-    /// behind it, or a fault.
-    whole: String,
-    decimals: String,
+struct LinesAnswer {
+    /// The documents that are read as trees, written compactly, and why there is none.
+    trees: Vec<Option<String>>,
+    faults: Vec<Option<&'static str>>,
+    /// The flat documents beside them, by letters: `a` where they are alike, `u` where they are unlike, and `l`
+    /// where the line is left to be read as a tree.
+    flat: String,
+    /// How many items each flat document has, and the whole number that is the last of them.
+    items: Vec<u32>,
+    lasts: Vec<Option<i128>>,
+    /// What is read in one pass, beside what is laid of what the kit reads, by the same letters.
+    one_pass: String,
+    one_pass_decimal: String,
+    /// How each is read by the numbers that it may have: `flat` or `tree`, with the whole number at `$.a` behind
+    /// it, or a fault.
+    whole: Vec<String>,
+    decimals: Vec<String>,
 }
 
 /// The readers of a row.
@@ -63,53 +61,75 @@ struct Readers {
 }
 
 impl LinesRow {
-    /// The answer: that of each line.
+    /// The answer.
     pub fn answer(&self, alloc: Global) -> anyhow::Result<String> {
         let mut readers = Readers {
             flat: FlatReader::new(alloc),
             line: LineReader::new(alloc),
         };
-        let mut answers = Vec::new(alloc);
+        let mut answer = no_lines(alloc);
         for text in &self.lines {
             let line = bytes_of(alloc, text.as_str())?;
-            answers.push(self.line_answer(alloc, &mut readers, &line)?)?;
+            self.add_line(alloc, &mut readers, &line, &mut answer)?;
             if self.release {
                 readers.flat.release();
             }
         }
-        Ok(serde_json::to_string(alloc, &answers)?)
+        Ok(serde_json::to_string(alloc, &answer)?)
     }
 
-    /// How a line is read.
-    fn line_answer(
+    /// Adds how a line is read.
+    fn add_line(
         &self,
         alloc: Global,
         readers: &mut Readers,
         line: &[u8],
-    ) -> anyhow::Result<LineAnswer> {
-        let (tree, fault) = if self.are_long {
-            (None, None)
-        } else {
-            tree_told(alloc, line)?
-        };
+        answer: &mut LinesAnswer,
+    ) -> anyhow::Result<()> {
         let (items, last) = items_of(&mut readers.flat, line)?;
-        let flat = if self.are_long {
-            is_left(&mut readers.flat, line)?
+        answer.items.push(items)?;
+        answer.lasts.push(last)?;
+        if self.are_long {
+            answer.flat.push(letter(is_left(&mut readers.flat, line)?))?;
         } else {
-            is_read_alike(alloc, &mut readers.flat, line)?
-        };
+            let (tree, fault) = tree_told(alloc, line)?;
+            answer.trees.push(tree)?;
+            answer.faults.push(fault)?;
+            let told = is_read_alike(alloc, &mut readers.flat, line)?;
+            answer.flat.push(letter(told))?;
+        }
         let (one_pass, one_pass_decimal) = in_one_pass(alloc, line)?;
-        Ok(LineAnswer {
-            tree,
-            fault,
-            flat,
-            items,
-            last,
-            one_pass,
-            one_pass_decimal,
-            whole: told_by(alloc, &mut readers.line, Numbers::Whole, line)?,
-            decimals: told_by(alloc, &mut readers.line, Numbers::Decimals, line)?,
-        })
+        answer.one_pass.push(letter(one_pass))?;
+        answer.one_pass_decimal.push(letter(one_pass_decimal))?;
+        let whole = told_by(alloc, &mut readers.line, Numbers::Whole, line)?;
+        answer.whole.push(whole)?;
+        let decimals = told_by(alloc, &mut readers.line, Numbers::Decimals, line)?;
+        answer.decimals.push(decimals)?;
+        Ok(())
+    }
+}
+
+/// The answer for no lines.
+fn no_lines(alloc: Global) -> LinesAnswer {
+    LinesAnswer {
+        trees: Vec::new(alloc),
+        faults: Vec::new(alloc),
+        flat: String::new(alloc),
+        items: Vec::new(alloc),
+        lasts: Vec::new(alloc),
+        one_pass: String::new(alloc),
+        one_pass_decimal: String::new(alloc),
+        whole: Vec::new(alloc),
+        decimals: Vec::new(alloc),
+    }
+}
+
+/// The letter that says how a line is read.
+fn letter(told: Alike) -> char {
+    match told {
+        Alike::Alike => 'a',
+        Alike::Unlike => 'u',
+        Alike::Left => 'l',
     }
 }
 
@@ -137,13 +157,13 @@ pub fn is_read_alike(
         Err(_) => None,
     };
     match (reader.read(line)?, tree) {
-        (Some(flat), Some(tree)) => Ok(alike(same(alloc, flat.root(), tree.root(), 128)?)),
+        (Some(flat), Some(tree)) => Ok(said(same(alloc, flat.root(), tree.root(), 128)?)),
         (Some(_), None) => Ok(Alike::Unlike),
         (None, _) => Ok(Alike::Left),
     }
 }
 
-fn alike(is_alike: bool) -> Alike {
+fn said(is_alike: bool) -> Alike {
     if is_alike { Alike::Alike } else { Alike::Unlike }
 }
 
@@ -183,7 +203,7 @@ pub fn in_one_pass(alloc: Global, line: &[u8]) -> Result<(Alike, Alike), AllocEr
 
 fn told(is_alike: Option<bool>) -> Alike {
     match is_alike {
-        Some(is_alike) => alike(is_alike),
+        Some(is_alike) => said(is_alike),
         None => Alike::Left,
     }
 }

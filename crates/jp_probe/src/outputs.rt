@@ -87,8 +87,8 @@ impl FormsRow {
 
     /// What a form writes.
     fn written_by<F: Form + Drop>(&self, alloc: Global) -> anyhow::Result<Written> {
-        let of_trees = self.written::<F>(alloc, false)?;
-        let of_flat = self.written::<F>(alloc, true)?;
+        let of_trees = self.written_over::<F>(alloc, false)?;
+        let of_flat = self.written_over::<F>(alloc, true)?;
         if of_trees == of_flat {
             return Ok(of_trees);
         }
@@ -99,7 +99,7 @@ impl FormsRow {
     }
 
     /// What a form writes over trees, or over flat documents.
-    fn written<F: Form + Drop>(&self, alloc: Global, is_flat: bool) -> anyhow::Result<Written> {
+    fn written_over<F: Form + Drop>(&self, alloc: Global, is_flat: bool) -> anyhow::Result<Written> {
         let head = match &self.name {
             Some(name) => Head::of_name(alloc, name.as_str())?,
             None => Head::none(),

@@ -1,6 +1,7 @@
 //! Output lines of a query's nodes: `{"printed":{"query":"$.*","documents":["[1]"]}}`, of one evaluator for all
 //! documents.
 
+use crate::bytes::text_of;
 use jp_check::{Plan, plan};
 use jp_doc::{Document, Location};
 use jp_eval::Evaluator;
@@ -26,6 +27,7 @@ pub struct PrintedRow {
 /// What is printed.
 #[derive(Drop, Serialize)]
 struct PrintedAnswer {
+    /// The lines, where no path is run as a query.
     lines: String,
     /// Whether each document prints its lines by itself too, in chunks that are joined.
     is_alike: bool,
@@ -61,7 +63,9 @@ impl PrintedRow {
         }
         let bytes = lines.into_bytes(alloc)?;
         answer.is_alike = bytes == joined;
-        answer.lines = String::from_utf8(bytes)?;
+        if !self.back {
+            answer.lines = text_of(alloc, &bytes)?;
+        }
         Ok(serde_json::to_string(alloc, &answer)?)
     }
 }
