@@ -64,7 +64,12 @@ fn same_members(
 
 /// Whether a flat value is the tree's, down to so many levels.
 #[cycle(beside)]
-pub fn same(alloc: Global, flat: FlatValue<'_>, tree: &Value, levels: u32) -> Result<bool, AllocError> {
+pub fn same(
+    alloc: Global,
+    flat: FlatValue<'_>,
+    tree: &Value,
+    levels: u32,
+) -> Result<bool, AllocError> {
     if levels == 0 {
         return Ok(false);
     }

@@ -1,5 +1,5 @@
-//! Values compared: `{"compared":{"pairs":["1.0 1","1e2 null"]}}` is `"=n"`, of each pair one of `<`, `=`, `>` and
-//! `n`, which says that the two are no more than unequal.
+//! Values compared: `{"compared":{"pairs":["1.0 1","1e2 null"]}}` is `"=n"`, of each pair one of `<`, `=`,
+//! `>` and `n`, which says that the two are no more than unequal.
 //!
 //! The two are read from one line, and compared by all calls, each way round: `?` stands where these tell
 //! otherwise than one another, or where a number's text is not the one that is asked of.
@@ -47,7 +47,11 @@ fn sign_of(alloc: Global, reader: &mut FlatReader, pair: &str) -> anyhow::Result
     };
     let sign = sign_by_operators(alloc, first.kind(), second.kind())?;
     let are_alike = is_sign_of_numbers(sign, one, other) && is_written(one, left);
-    Ok(if are_alike && is_written(other, right) { sign } else { '?' })
+    Ok(if are_alike && is_written(other, right) {
+        sign
+    } else {
+        '?'
+    })
 }
 
 /// The operators that are true of two values, as letters in this order: `==`, `!=`, `<=`, `>=`, `<`, `>`.

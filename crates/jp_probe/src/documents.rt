@@ -1,5 +1,6 @@
-//! Documents that are read as trees: `{"places":{"line":"[7]","paths":[[0]]}}`, what stands where the steps of
-//! each path lead, and `{"items":{"text":"[1,2,3]","limit":2}}`, the fault within a limit of an array's items.
+//! Documents that are read as trees: `{"places":{"line":"[7]","paths":[[0]]}}`, what stands where the steps
+//! of each path lead, and `{"items":{"text":"[1,2,3]","limit":2}}`, the fault within a limit of an array's
+//! items.
 
 use crate::steps::{StepRow, location_of};
 use jp_doc::{Document, fault_within, whole_number};

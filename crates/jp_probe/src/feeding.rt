@@ -1,6 +1,6 @@
 //! Pieces that are fed: `{"pieces":{"of":"buffer","turns":[{"feed":"[1]\n["},{"feed":"2]","finish":true}]}}`
-//! answers what waits behind each turn, and `{"cuts":{"of":"documents","text":"[1][2]","sizes":3}}` what a text
-//! gives in one piece, and whether it gives the same in pieces of each size.
+//! answers what waits behind each turn, and `{"cuts":{"of":"documents","text":"[1][2]","sizes":3}}` what a
+//! text gives in one piece, and whether it gives the same in pieces of each size.
 
 use crate::buffers::{OwnLines, Pieces};
 use crate::bytes::{bytes_of, text_of};
@@ -246,21 +246,47 @@ impl CutsRow {
     pub fn answer(&self, alloc: Global) -> anyhow::Result<String> {
         let bytes = bytes_of(alloc, self.text.as_str())?;
         let mut answer = self.given(alloc, &[], &bytes, 0)?;
+        let in_sizes = self.unlike_in_sizes(alloc, &bytes, &answer)?;
+        let in_two = if self.in_two {
+            self.unlike_in_two(alloc, &bytes, &answer)?
+        } else {
+            0
+        };
+        answer.unlike = in_sizes.wrapping_add(in_two);
+        Ok(serde_json::to_string(alloc, &answer)?)
+    }
+
+    /// In how many sizes of pieces the text gives something else.
+    fn unlike_in_sizes(
+        &self,
+        alloc: Global,
+        bytes: &[u8],
+        answer: &CutsAnswer,
+    ) -> Result<u64, AllocError> {
         let mut unlike = 0u64;
         for size in 1..=self.sizes {
-            if self.given(alloc, &[], &bytes, size)? != answer {
+            if self.given(alloc, &[], bytes, size)? != *answer {
                 unlike = unlike.wrapping_add(1);
             }
         }
-        let cuts = if self.in_two { bytes.len() } else { 0 };
-        for at in 0..=cuts {
-            let (first, second) = bytes.split_at(at.min(bytes.len()));
-            if self.given(alloc, first, second, 0)? != answer {
+        Ok(unlike)
+    }
+
+    /// At how many bytes it is cut and gives something else.
+    fn unlike_in_two(
+        &self,
+        alloc: Global,
+        bytes: &[u8],
+        answer: &CutsAnswer,
+    ) -> Result<u64, AllocError> {
+        let mut unlike = 0u64;
+        for at in 0..=bytes.len() {
+            let (first, second) = bytes.split_at(at);
+            if self.given(alloc, first, second, 0)? != *answer {
                 unlike = unlike.wrapping_add(1);
             }
         }
-        answer.unlike = unlike;
-        Ok(serde_json::to_string(alloc, &answer)?)
+        Ok(unlike)
     }
 
     /// What is given for bytes in front, and others behind them in pieces of this size.

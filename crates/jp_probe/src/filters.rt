@@ -1,5 +1,5 @@
-//! Filters of whole documents: `{"filter":{"filter":"@.a","documents":["{\"a\":1}"]}}` is `[true]`, and `null`
-//! where `query` is no filter alone.
+//! Filters of whole documents: `{"filter":{"filter":"@.a","documents":["{\"a\":1}"]}}` is `[true]`, and
+//! `null` where `query` is no filter alone.
 
 use crate::nodes::numbers_of;
 use jp_check::{filter_in, plan};

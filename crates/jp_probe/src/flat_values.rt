@@ -1,10 +1,10 @@
-//! Flat values by their calls: `{"flat_value":{"line":"{\"b\":[1]}","member":"b"}}`; and lines that are one byte
-//! off: `{"one_byte_off":{"line":"[1]","bytes":"hex:00ff"}}`.
+//! Flat values by their calls: `{"flat_value":{"line":"{\"b\":[1]}","member":"b"}}`; and lines that are one
+//! byte off: `{"one_byte_off":{"line":"[1]","bytes":"hex:00ff"}}`.
 
 use crate::bytes::bytes_of;
 use crate::lines::{Alike, in_one_pass, is_read_alike};
 use jp_doc::Document;
-use jp_flat::{FlatKind, FlatMember, FlatReader, FlatValue};
+use jp_flat::{FlatDocument, FlatKind, FlatMember, FlatReader, FlatValue};
 use serde::{Deserialize, Serialize};
 use std::alloc::{AllocError, Global};
 
@@ -57,23 +57,34 @@ impl FlatValueRow {
         } else {
             reader.read(line).is_err()
         };
-        let read = if self.decimals {
-            reader.read_decimal(line)?.ok()
-        } else {
-            reader.read(line)?
-        };
-        let Some(document) = read else {
-            return Ok(serde_json::to_string(alloc, &None::<bool>)?);
-        };
+        if self.decimals {
+            return match reader.read_decimal(line)? {
+                Ok(document) => self.told(alloc, &document),
+                Err(_) => nothing(alloc),
+            };
+        }
+        match reader.read(line)? {
+            Some(document) => self.told(alloc, &document),
+            None => nothing(alloc),
+        }
+    }
+
+    /// What is said of the value in this document.
+    fn told(&self, alloc: Global, document: &FlatDocument<'_>) -> anyhow::Result<String> {
         let value = match &self.member {
             Some(name) => document.root().member(name.as_str()),
             None => Some(document.root()),
         };
         match value {
             Some(value) => Ok(serde_json::to_string(alloc, &flat_answer(alloc, value)?)?),
-            None => Ok(serde_json::to_string(alloc, &None::<bool>)?),
+            None => nothing(alloc),
         }
     }
+}
+
+/// The answer where there is nothing.
+fn nothing(alloc: Global) -> anyhow::Result<String> {
+    Ok(serde_json::to_string(alloc, &None::<bool>)?)
 }
 
 /// What is said of a value.
@@ -120,10 +131,7 @@ fn kind_name(kind: FlatKind<'_>) -> &'static str {
 }
 
 /// The items by their places, and what is at the place behind them.
-fn items_of(
-    alloc: Global,
-    value: FlatValue<'_>,
-) -> Result<Vec<Option<ScalarAnswer>>, AllocError> {
+fn items_of(alloc: Global, value: FlatValue<'_>) -> Result<Vec<Option<ScalarAnswer>>, AllocError> {
     let mut items = Vec::new(alloc);
     for place in 0..=value.item_count() {
         items.push(match value.item(place) {
@@ -224,11 +232,23 @@ impl OneByteOffRow {
             wrong: Vec::new(alloc),
         };
         for at in 0..self.line.len() {
-            for byte in &bytes {
-                self.try_byte(alloc, at, *byte, &mut answer)?;
-            }
+            self.try_place(alloc, at, &bytes, &mut answer)?;
         }
         Ok(serde_json::to_string(alloc, &answer)?)
+    }
+
+    /// Tries the line with each of these bytes there.
+    fn try_place(
+        &self,
+        alloc: Global,
+        at: usize,
+        bytes: &[u8],
+        answer: &mut OneByteOffAnswer,
+    ) -> anyhow::Result<()> {
+        for byte in bytes {
+            self.try_byte(alloc, at, *byte, answer)?;
+        }
+        Ok(())
     }
 
     /// Tries the line with this byte there.

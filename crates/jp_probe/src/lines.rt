@@ -38,8 +38,8 @@ struct LinesAnswer {
     /// The documents that are read as trees, written compactly, and why there is none.
     trees: Vec<Option<String>>,
     faults: Vec<Option<&'static str>>,
-    /// The flat documents beside them, by letters: `a` where they are alike, `u` where they are unlike, and `l`
-    /// where the line is left to be read as a tree.
+    /// The flat documents beside them, by letters: `a` where they are alike, `u` where they are unlike, and
+    /// `l` where the line is left to be read as a tree.
     flat: String,
     /// How many items each flat document has, and the whole number that is the last of them.
     items: Vec<u32>,
@@ -47,8 +47,8 @@ struct LinesAnswer {
     /// What is read in one pass, beside what is laid of what the kit reads, by the same letters.
     one_pass: String,
     one_pass_decimal: String,
-    /// How each is read by the numbers that it may have: `flat` or `tree`, with the whole number at `$.a` behind
-    /// it, or a fault.
+    /// How each is read by the numbers that it may have: `flat` or `tree`, with the whole number at `$.a`
+    /// behind it, or a fault.
     whole: Vec<String>,
     decimals: Vec<String>,
 }
@@ -134,10 +134,7 @@ fn letter(told: Alike) -> char {
 }
 
 /// The text of the document that a line is as a tree, or why there is none.
-fn tree_told(
-    alloc: Global,
-    line: &[u8],
-) -> anyhow::Result<(Option<String>, Option<&'static str>)> {
+fn tree_told(alloc: Global, line: &[u8]) -> anyhow::Result<(Option<String>, Option<&'static str>)> {
     match Document::read(alloc, line) {
         Ok(document) => Ok((Some(document.root().to_string(alloc)?), None)),
         Err(DocFault::Memory) => Err(AllocError.into()),
@@ -146,11 +143,7 @@ fn tree_told(
 }
 
 /// Whether a flat value is that of a document that is read as a tree, or is left where there is none.
-pub fn is_read_alike(
-    alloc: Global,
-    reader: &mut FlatReader,
-    line: &[u8],
-) -> anyhow::Result<Alike> {
+pub fn is_read_alike(alloc: Global, reader: &mut FlatReader, line: &[u8]) -> anyhow::Result<Alike> {
     let tree = match Document::read(alloc, line) {
         Ok(document) => Some(document),
         Err(DocFault::Memory) => return Err(AllocError.into()),
@@ -164,7 +157,11 @@ pub fn is_read_alike(
 }
 
 fn said(is_alike: bool) -> Alike {
-    if is_alike { Alike::Alike } else { Alike::Unlike }
+    if is_alike {
+        Alike::Alike
+    } else {
+        Alike::Unlike
+    }
 }
 
 /// Whether a line is left to be read as a tree, in a reader that has read it before.

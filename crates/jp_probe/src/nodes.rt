@@ -1,5 +1,5 @@
-//! Nodes that a query selects: `{"nodes":{"query":"$[0,0]","document":"[5]"}}` is `"$[0] $[0]"`, the paths of the
-//! nodes, or `"nothing"`.
+//! Nodes that a query selects: `{"nodes":{"query":"$[0,0]","document":"[5]"}}` is `"$[0] $[0]"`, the paths of
+//! the nodes, or `"nothing"`.
 //!
 //! The document is read as a tree and flat, and walked whole and by halves: where not all tell the same, the
 //! answer is a list of what each tells.
@@ -78,11 +78,25 @@ impl NodesRow {
         told: &mut Vec<String>,
     ) -> anyhow::Result<()> {
         for floor in &self.floors {
-            for _ in 0..=self.more {
-                let cuts = Cuts::new(*floor, 64);
-                let found = evaluate_split(rt, alloc, plan, document, cuts, &OpenFork)?;
-                push_other(told, self.told(alloc, &found)?)?;
-            }
+            self.tell_tree(rt, alloc, plan, document, *floor, told)?;
+        }
+        Ok(())
+    }
+
+    /// The same, from one length on.
+    fn tell_tree<R: Threads + Sync>(
+        &self,
+        rt: &R,
+        alloc: Global,
+        plan: &Plan,
+        document: &Document,
+        floor: u64,
+        told: &mut Vec<String>,
+    ) -> anyhow::Result<()> {
+        for _ in 0..=self.more {
+            let cuts = Cuts::new(floor, 64);
+            let found = evaluate_split(rt, alloc, plan, document, cuts, &OpenFork)?;
+            push_other(told, self.told(alloc, &found)?)?;
         }
         Ok(())
     }
@@ -96,22 +110,49 @@ impl NodesRow {
         told: &mut Vec<String>,
     ) -> anyhow::Result<()> {
         let mut reader = FlatReader::new(alloc);
-        let read = if self.decimals {
-            Some(reader.read_decimal(self.document.as_bytes())??)
-        } else {
-            reader.read(self.document.as_bytes())?
-        };
-        let Some(document) = read else {
-            return push_other(told, String::from_str(alloc, "not flat")?);
-        };
-        let root = Part::root_of_flat(&document);
+        let line = self.document.as_bytes();
+        if self.decimals {
+            let document = reader.read_decimal(line)??;
+            return self.tell_part(rt, alloc, plan, Part::root_of_flat(&document), told);
+        }
+        match reader.read(line)? {
+            Some(document) => {
+                self.tell_part(rt, alloc, plan, Part::root_of_flat(&document), told)
+            }
+            None => push_other(told, String::from_str(alloc, "not flat")?),
+        }
+    }
+
+    /// Tells what is found in a document, whole and by halves.
+    fn tell_part<R: Threads + Sync>(
+        &self,
+        rt: &R,
+        alloc: Global,
+        plan: &Plan,
+        root: Part<'_>,
+        told: &mut Vec<String>,
+    ) -> anyhow::Result<()> {
         let found = found_in(alloc, plan, root)?;
         push_other(told, self.told(alloc, &found.locations)?)?;
         for floor in &self.floors {
-            for _ in 0..=self.more {
-                let found = found_by_halves(rt, alloc, plan, root, *floor)?;
-                push_other(told, self.told(alloc, &found.locations)?)?;
-            }
+            self.tell_floor(rt, alloc, plan, root, *floor, told)?;
+        }
+        Ok(())
+    }
+
+    /// Tells what is found by halves, from one length on.
+    fn tell_floor<R: Threads + Sync>(
+        &self,
+        rt: &R,
+        alloc: Global,
+        plan: &Plan,
+        root: Part<'_>,
+        floor: u64,
+        told: &mut Vec<String>,
+    ) -> anyhow::Result<()> {
+        for _ in 0..=self.more {
+            let found = found_by_halves(rt, alloc, plan, root, floor)?;
+            push_other(told, self.told(alloc, &found.locations)?)?;
         }
         Ok(())
     }

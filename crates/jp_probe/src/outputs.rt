@@ -1,5 +1,5 @@
-//! The forms of the answer: `{"forms":{"name":"a","turns":[{"number":1,"line":"[1,2]","places":[0]}]}}` is what
-//! each form writes of the turns, over trees and over flat documents.
+//! The forms of the answer: `{"forms":{"name":"a","turns":[{"number":1,"line":"[1,2]","places":[0]}]}}` is
+//! what each form writes of the turns, over trees and over flat documents.
 
 use crate::bytes::text_of;
 use crate::fault_names::FaultName;
@@ -39,8 +39,8 @@ pub struct FormsRow {
     turns: Vec<Turn>,
 }
 
-/// What each form writes, or `unlike` where it is not the same of trees and of flat documents; and whether it is
-/// full behind the beginning of each line, and behind its nodes: `f`, or else `-`.
+/// What each form writes, or `unlike` where it is not the same of trees and of flat documents; and whether it
+/// is full behind the beginning of each line, and behind its nodes: `f`, or else `-`.
 #[derive(Drop, Serialize)]
 struct FormsAnswer {
     nodes: String,
@@ -99,7 +99,11 @@ impl FormsRow {
     }
 
     /// What a form writes over trees, or over flat documents.
-    fn written_over<F: Form + Drop>(&self, alloc: Global, is_flat: bool) -> anyhow::Result<Written> {
+    fn written_over<F: Form + Drop>(
+        &self,
+        alloc: Global,
+        is_flat: bool,
+    ) -> anyhow::Result<Written> {
         let head = match &self.name {
             Some(name) => Head::of_name(alloc, name.as_str())?,
             None => Head::none(),

@@ -1,5 +1,5 @@
-//! Output lines of a query's nodes: `{"printed":{"query":"$.*","documents":["[1]"]}}`, of one evaluator for all
-//! documents.
+//! Output lines of a query's nodes: `{"printed":{"query":"$.*","documents":["[1]"]}}`, of one evaluator for
+//! all documents.
 
 use crate::bytes::text_of;
 use jp_check::{Plan, plan};

@@ -1,5 +1,5 @@
-//! Objects of few names and of many: `{"wide":{"count":3,"step":2,"twice":true}}` is 3, where all members come in
-//! an order that rises, each with its number.
+//! Objects of few names and of many: `{"wide":{"count":3,"step":2,"twice":true}}` is 3, where all members
+//! come in an order that rises, each with its number.
 
 use jp_doc::DocFault;
 use jp_flat::{FlatMember, FlatReader};
@@ -21,12 +21,8 @@ impl WideRow {
     pub fn answer(&self, alloc: Global) -> anyhow::Result<String> {
         let line = self.line(alloc)?;
         let mut reader = FlatReader::new(alloc);
-        let document = reader.read(&line)?.ok_or(DocFault::Unreadable)?;
-        let mut gathered = Vec::new(alloc);
-        if let Some(members) = document.root().members() {
-            members.gather(&mut gathered)?;
-        }
-        Ok(serde_json::to_string(alloc, &risen(&gathered))?)
+        let count = risen_in(alloc, &mut reader, &line)?;
+        Ok(serde_json::to_string(alloc, &count)?)
     }
 
     /// The line of the object.
@@ -34,7 +30,10 @@ impl WideRow {
         let mut line = Vec::new(alloc);
         let mut name = 0u32;
         for _ in 0..self.count {
-            name = name.wrapping_add(self.step).checked_rem(self.count).unwrap_or(0);
+            name = name
+                .wrapping_add(self.step)
+                .checked_rem(self.count)
+                .unwrap_or(0);
             if self.twice {
                 add_member(alloc, &mut line, name, self.count)?;
             }
@@ -49,6 +48,17 @@ impl WideRow {
 fn add_member(alloc: Global, line: &mut Vec<u8>, name: u32, value: u32) -> Result<(), AllocError> {
     line.push(if line.is_empty() { b'{' } else { b',' })?;
     line.extend_from_slice(format!(in alloc; "\"{name:06}\":{value}")?.as_bytes())
+}
+
+/// How many members of the object of a line rise, each with its number.
+fn risen_in(alloc: Global, reader: &mut FlatReader, line: &[u8]) -> anyhow::Result<Option<u32>> {
+    let document = reader.read(line)?.ok_or(DocFault::Unreadable)?;
+    let Some(members) = document.root().members() else {
+        return Ok(None);
+    };
+    let mut gathered = Vec::new(alloc);
+    members.gather(&mut gathered)?;
+    Ok(risen(&gathered))
 }
 
 /// How many members rise, each with its number.
