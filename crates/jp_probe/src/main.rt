@@ -5,49 +5,100 @@
 //! the rows of one kind and what answers them.
 #![tactic(auto)]
 
+mod beside;
+mod buffers;
 mod bytes;
+mod compared;
+mod documents;
+mod drawn;
 mod explained;
-mod told_lines;
+mod fault_names;
+mod feeding;
+mod filters;
+mod flat_values;
+mod lines;
 mod marks;
+mod nodes;
 mod numbers;
+mod one_pass;
+mod output_lines;
+mod outputs;
+mod paths;
 mod patterns;
 mod plans;
+mod printed;
 mod queries;
 mod searches;
+mod steps;
 mod texts;
+mod told_lines;
+mod wide;
 
+use compared::ComparedRow;
+use documents::{ItemsRow, PlacesRow};
+use drawn::DrawnRow;
 use explained::{EscapedRow, ExplainRow, NotesRow, QueryMarkRow};
-use told_lines::{LineMarkRow, LineRow};
+use feeding::{CutsRow, PiecesRow, WaitingRow};
+use filters::FilterRow;
+use flat_values::{FlatValueRow, OneByteOffRow};
+use lines::LinesRow;
 use marks::{FrontsRow, LiteralsRow};
+use nodes::NodesRow;
 use numbers::{LimitsRow, OrderRow};
+use output_lines::{ChunksRow, FaultLineRow, OutputLinesRow};
+use outputs::FormsRow;
+use paths::PathRow;
 use patterns::PatternRow;
 use plans::{FilterPlanRow, PlanRow};
+use printed::PrintedRow;
 use queries::QueryRow;
 use searches::{CountedRow, SearchRow};
 use serde::Deserialize;
-use std::alloc::Global;
+use std::alloc::{AllocGlobal, Global};
 use std::io::{self, BufRead, BufReader, BufWriter, Write};
+use std::thread::Threads;
+use told_lines::{LineMarkRow, LineRow};
+use wide::WideRow;
 
 /// What a row asks.
 #[derive(Drop, Deserialize)]
 #[serde(rename_all = "snake_case")]
 enum Row {
-    Pattern(PatternRow),
-    Search(SearchRow),
+    Chunks(ChunksRow),
+    Compared(ComparedRow),
     Counted(CountedRow),
-    Order(OrderRow),
-    Limits(LimitsRow),
-    Query(QueryRow),
-    Plan(PlanRow),
-    FilterPlan(FilterPlanRow),
-    Explain(ExplainRow),
-    Notes(NotesRow),
+    Cuts(CutsRow),
+    Drawn(DrawnRow),
     Escaped(EscapedRow),
-    QueryMark(QueryMarkRow),
+    Explain(ExplainRow),
+    FaultLine(FaultLineRow),
+    Filter(FilterRow),
+    FilterPlan(FilterPlanRow),
+    FlatValue(FlatValueRow),
+    Forms(FormsRow),
     Fronts(FrontsRow),
-    Literals(LiteralsRow),
+    Items(ItemsRow),
+    Limits(LimitsRow),
     Line(LineRow),
     LineMark(LineMarkRow),
+    Lines(LinesRow),
+    Literals(LiteralsRow),
+    Nodes(NodesRow),
+    Notes(NotesRow),
+    OneByteOff(OneByteOffRow),
+    Order(OrderRow),
+    OutputLines(OutputLinesRow),
+    Path(PathRow),
+    Pattern(PatternRow),
+    Pieces(PiecesRow),
+    Places(PlacesRow),
+    Plan(PlanRow),
+    Printed(PrintedRow),
+    Query(QueryRow),
+    QueryMark(QueryMarkRow),
+    Search(SearchRow),
+    Waiting(WaitingRow),
+    Wide(WideRow),
 }
 
 /// Answers the rows of standard input.
@@ -55,7 +106,7 @@ fn main(rt: HostRuntime) -> anyhow::Result<()> {
     let alloc = rt.alloc();
     let mut output = BufWriter::new(alloc, io::writer(&rt))?;
     for line in BufReader::new(alloc, rt.reader())?.lines(alloc) {
-        let answer = answer(alloc, line?.as_str())?;
+        let answer = answer(&rt, alloc, line?.as_str())?;
         output.write_all(answer.as_bytes())?;
         output.write_all(b"\n")?;
     }
@@ -64,24 +115,47 @@ fn main(rt: HostRuntime) -> anyhow::Result<()> {
 }
 
 /// The answer to one row.
-fn answer(alloc: Global, line: &str) -> anyhow::Result<String> {
+fn answer<R: Threads + AllocGlobal + Sync>(
+    rt: &R,
+    alloc: Global,
+    line: &str,
+) -> anyhow::Result<String> {
     let row: Row = serde_json::from_str(alloc, line)?;
     match row {
-        Row::Pattern(row) => row.answer(alloc),
-        Row::Search(row) => row.answer(alloc),
+        Row::Chunks(row) => row.answer(alloc),
+        Row::Compared(row) => row.answer(alloc),
         Row::Counted(row) => row.answer(alloc),
-        Row::Order(row) => row.answer(alloc),
-        Row::Limits(row) => row.answer(alloc),
-        Row::Query(row) => row.answer(alloc),
-        Row::Plan(row) => row.answer(alloc),
-        Row::FilterPlan(row) => row.answer(alloc),
-        Row::Explain(row) => row.answer(alloc),
-        Row::Notes(row) => row.answer(alloc),
+        Row::Cuts(row) => row.answer(alloc),
+        Row::Drawn(row) => row.answer(alloc),
         Row::Escaped(row) => row.answer(alloc),
-        Row::QueryMark(row) => row.answer(alloc),
+        Row::Explain(row) => row.answer(alloc),
+        Row::FaultLine(row) => row.answer(alloc),
+        Row::Filter(row) => row.answer(alloc),
+        Row::FilterPlan(row) => row.answer(alloc),
+        Row::FlatValue(row) => row.answer(alloc),
+        Row::Forms(row) => row.answer(alloc),
         Row::Fronts(row) => row.answer(alloc),
-        Row::Literals(row) => row.answer(alloc),
+        Row::Items(row) => row.answer(alloc),
+        Row::Limits(row) => row.answer(alloc),
         Row::Line(row) => row.answer(alloc),
         Row::LineMark(row) => row.answer(alloc),
+        Row::Lines(row) => row.answer(alloc),
+        Row::Literals(row) => row.answer(alloc),
+        Row::Nodes(row) => row.answer(rt, alloc),
+        Row::Notes(row) => row.answer(alloc),
+        Row::OneByteOff(row) => row.answer(alloc),
+        Row::Order(row) => row.answer(alloc),
+        Row::OutputLines(row) => row.answer(alloc),
+        Row::Path(row) => row.answer(alloc),
+        Row::Pattern(row) => row.answer(alloc),
+        Row::Pieces(row) => row.answer(alloc),
+        Row::Places(row) => row.answer(alloc),
+        Row::Plan(row) => row.answer(alloc),
+        Row::Printed(row) => row.answer(alloc),
+        Row::Query(row) => row.answer(alloc),
+        Row::QueryMark(row) => row.answer(alloc),
+        Row::Search(row) => row.answer(alloc),
+        Row::Waiting(row) => row.answer(alloc),
+        Row::Wide(row) => row.answer(alloc),
     }
 }
