@@ -5,18 +5,33 @@
 //! the rows of one kind and what answers them.
 #![tactic(auto)]
 
+mod answers;
+mod ends;
 mod patterns;
+mod programs;
+mod runs;
+mod settings;
 
+use answers::AnswersRow;
 use patterns::PatternRow;
+use programs::ProgramRow;
+use runs::{PreparedRow, RunRow};
 use serde::Deserialize;
-use std::alloc::Global;
+use settings::SettingsRow;
+use std::alloc::{AllocGlobal, Global};
 use std::io::{self, BufRead, BufReader, BufWriter, Write};
+use std::thread::Threads;
 
 /// What a row asks.
 #[derive(Drop, Deserialize)]
 #[serde(rename_all = "snake_case")]
 enum Row {
+    Answers(AnswersRow),
     Pattern(PatternRow),
+    Prepared(PreparedRow),
+    Program(ProgramRow),
+    Run(RunRow),
+    Settings(SettingsRow),
 }
 
 /// Answers the rows of standard input.
@@ -24,7 +39,7 @@ fn main(rt: HostRuntime) -> anyhow::Result<()> {
     let alloc = rt.alloc();
     let mut output = BufWriter::new(alloc, io::writer(&rt))?;
     for line in BufReader::new(alloc, rt.reader())?.lines(alloc) {
-        let answer = answer(alloc, line?.as_str())?;
+        let answer = answer(&rt, alloc, line?.as_str())?;
         output.write_all(answer.as_bytes())?;
         output.write_all(b"\n")?;
     }
@@ -33,9 +48,18 @@ fn main(rt: HostRuntime) -> anyhow::Result<()> {
 }
 
 /// The answer to one row.
-fn answer(alloc: Global, line: &str) -> anyhow::Result<String> {
+fn answer<R: Threads + AllocGlobal + Sync>(
+    rt: &R,
+    alloc: Global,
+    line: &str,
+) -> anyhow::Result<String> {
     let row: Row = serde_json::from_str(alloc, line)?;
     match row {
+        Row::Answers(row) => row.answer(rt, alloc),
         Row::Pattern(row) => row.answer(alloc),
+        Row::Prepared(row) => row.answer(rt, alloc),
+        Row::Program(row) => row.answer(rt, alloc),
+        Row::Run(row) => row.answer(rt, alloc),
+        Row::Settings(row) => row.answer(alloc),
     }
 }

@@ -79,7 +79,12 @@ impl PatternRow {
     }
 }
 
-fn said_by_both(alloc: Global, read: &Pattern, compiled: &Pattern, text: &str) -> Result<Said, AllocError> {
+fn said_by_both(
+    alloc: Global,
+    read: &Pattern,
+    compiled: &Pattern,
+    text: &str,
+) -> Result<Said, AllocError> {
     Ok(Said {
         matches: read.matches(alloc, text)?,
         found: read.found_in(alloc, text)?,
