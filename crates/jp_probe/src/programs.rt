@@ -2,7 +2,7 @@
 
 ghost use Rattle.std.specs.Prelude.{◌≡◌, ◌≤◌, ◌^◌, None, false};
 
-use crate::ends::{Failing, Kept, Memory, Reading, Taking};
+use crate::ends::{Failing, Kept, Memory, Reading, Taking, line_ends};
 use crate::settings::FaultAnswer;
 use jp_program::{Inputs, refuse_words};
 use jp_run::{Broken, FromReader, FromWriter, Sink, Source, Supply};
@@ -60,6 +60,9 @@ pub struct ProgramRow {
     /// Of which texts is asked whether the output has them.
     #[serde(default)]
     texts: Vec<String>,
+    /// How the output begins and ends, if that is asked.
+    begin: Option<String>,
+    end: Option<String>,
     /// How the notes begin, if that is asked, and what begins the lines of them that are counted.
     notes_begin: Option<String>,
     note: Option<String>,
@@ -78,8 +81,11 @@ struct ProgramAnswer<'a> {
     /// How many bytes the output had at the first flush that found some, and at the last.
     first: u64,
     passed_on: u64,
-    /// The texts that the output lacks.
+    /// The texts that the output lacks, whether it begins and ends so, and how many lines it has.
     lacks: Vec<&'a str>,
+    begins: bool,
+    ends: bool,
+    lines: u64,
     /// Whether the notes begin so, and how many lines of them do.
     notes_begin: bool,
     such_notes: u64,
@@ -226,6 +232,9 @@ impl ProgramRow {
             first: left.output.first as u64,
             passed_on: left.output.passed_on as u64,
             lacks: self.lacks(alloc, output)?,
+            begins: is_begin(&self.begin, output.as_bytes()),
+            ends: is_end(&self.end, output),
+            lines: line_ends(output.as_bytes()),
             notes_begin: is_begin(&self.notes_begin, &left.notes.bytes),
             such_notes: self.such_notes(notes),
         };
@@ -337,6 +346,14 @@ fn is_all(text: &Option<String>, bytes: &[u8]) -> bool {
 fn is_begin(text: &Option<String>, bytes: &[u8]) -> bool {
     match text {
         Some(text) => bytes.starts_with(text.as_bytes()),
+        None => true,
+    }
+}
+
+/// Whether a text ends with another, if there is one.
+fn is_end(end: &Option<String>, text: &str) -> bool {
+    match end {
+        Some(end) => text.ends_with(end.as_str()),
         None => true,
     }
 }

@@ -3,7 +3,7 @@
 
 ghost use Rattle.std.specs.Prelude.{◌≡◌, ◌^◌, ◌≤◌, false};
 
-use crate::ends::{Failing, Kept, Memory, Reading, Seen, Taking};
+use crate::ends::{Failing, Kept, Memory, Reading, Seen, Taking, line_ends};
 use crate::settings::{Cut, FaultAnswer, Telling, settings_of};
 use jp_answer::{Crew, Gate, OpenGate};
 use jp_doc::DocFault;
@@ -71,6 +71,8 @@ struct RunAnswer<'a> {
     totals: Option<(u64, u64, u64)>,
     wrote: Option<bool>,
     output: &'a str,
+    /// How many lines that is.
+    lines: u64,
     reads: u64,
     given: u64,
     passed_on: u64,
@@ -308,6 +310,7 @@ impl RunRow {
             totals: totals_of(end),
             wrote: wrote_of(end),
             output: str::from_utf8(&sink.bytes).unwrap_or("no UTF-8"),
+            lines: line_ends(&sink.bytes),
             reads: source.reads,
             given: source.given,
             passed_on: sink.passed_on as u64,
