@@ -1,5 +1,5 @@
-//! Lines that are answered in all ways: by one thread, by workers in pieces, in two blocks that one thread fills,
-//! by `answer` or `answer_all` of `jp_run`, and by a run, if its batch is no 0:
+//! Lines that are answered in all ways: by one thread, by workers in pieces, in two blocks that one thread
+//! fills, by `answer` or `answer_all` of `jp_run`, and by a run, if its batch is no 0:
 //! `{"answers":{"query":"$.a","cut":[4,1,0],"text":"{\"a\":1}\n{\n"}}`.
 
 ghost use Rattle.std.specs.Prelude.{◌≤◌, length};
@@ -65,6 +65,7 @@ struct Found {
 }
 
 impl Found {
+    /// The chunks of an answer in one piece.
     fn of(alloc: Global, answer: &Outcome) -> Result<Found, AllocError> {
         let mut bytes = Vec::new(alloc);
         for chunk in &answer.chunks {
@@ -77,6 +78,7 @@ impl Found {
         })
     }
 
+    /// Whether another is the same.
     fn is(&self, other: &Found) -> bool {
         self.bytes.as_slice() == other.bytes.as_slice()
             && self.faulty == other.faulty
@@ -222,10 +224,10 @@ fn ways_of_form<R: Threads + Sync>(
     lines: &[Line],
     settings: &Settings<'_>,
 ) -> Result<Ways, AllocError> {
-    if lines.len() > MOST_LINES {
+    let refs = refs_of(crew.alloc, lines)?;
+    if refs.len() > MOST_LINES {
         return Err(AllocError);
     }
-    let refs = refs_of(crew.alloc, lines)?;
     let piece = settings.piece;
     match settings.output {
         Output::Nodes => ways_in::<R, NodeLines>(crew, asked, &refs, piece),
@@ -308,39 +310,25 @@ fn listed<R: Threads + Sync>(
         return Err(RunFault::Memory);
     }
     let (rt, alloc, gate) = (crew.rt, crew.alloc, crew.gate);
+    let (workers, piece) = (settings.workers, settings.piece);
     match settings.on_fault {
         OnFault::Stop => {
-            let found = answer(
-                rt,
-                alloc,
-                plan,
-                lines,
-                settings.workers,
-                settings.piece,
-                gate,
-            )?;
-            Ok(Found {
-                bytes: found.bytes,
-                faulty: 0,
-                stopped: found.stopped,
-            })
+            let found = answer(rt, alloc, plan, lines, workers, piece, gate)?;
+            Ok(found_of(found.bytes, 0, found.stopped))
         }
         OnFault::KeepGoing => {
-            let found = answer_all(
-                rt,
-                alloc,
-                plan,
-                lines,
-                settings.workers,
-                settings.piece,
-                gate,
-            )?;
-            Ok(Found {
-                bytes: found.bytes,
-                faulty: found.faulty,
-                stopped: None,
-            })
+            let found = answer_all(rt, alloc, plan, lines, workers, piece, gate)?;
+            Ok(found_of(found.bytes, found.faulty, None))
         }
+    }
+}
+
+/// What lines are answered with.
+fn found_of(bytes: Vec<u8>, faulty: u64, stopped: Option<DocStop>) -> Found {
+    Found {
+        bytes,
+        faulty,
+        stopped,
     }
 }
 
@@ -357,16 +345,11 @@ fn run_found<R: Threads + Sync>(
     let (rt, alloc, gate) = (crew.rt, crew.alloc, crew.gate);
     let end = run_unpromised(rt, alloc, &mut source, &mut sink, query, settings, gate);
     match end {
-        Ok(totals) => Ok(Some(Found {
-            bytes,
-            faulty: totals.faulty,
-            stopped: None,
-        })),
-        Err(RunFault::Document { line, fault }) => Ok(Some(Found {
-            bytes,
-            faulty: 0,
-            stopped: Some(DocStop { line, fault }),
-        })),
+        Ok(totals) => Ok(Some(found_of(bytes, totals.faulty, None))),
+        Err(RunFault::Document { line, fault }) => {
+            let stopped = Some(DocStop { line, fault });
+            Ok(Some(found_of(bytes, 0, stopped)))
+        }
         Err(RunFault::Memory) => Err(AllocError),
         Err(_) => Ok(None),
     }

@@ -28,7 +28,9 @@ pub struct Memory<'a> {
     fails_at: u64,
     /// How many bytes a line has at least, if it is asked how many wait to be answered.
     line: u64,
+    /// Whether it was said since the last read that the next one does not wait.
     told_ready: bool,
+    /// How often it was read, and how many bytes were handed out.
     pub reads: u64,
     pub given: u64,
     failed: bool,
@@ -41,11 +43,15 @@ pub struct Memory<'a> {
 /// How bytes are read.
 #[derive(Clone, Copy)]
 pub struct Reading<'a> {
+    /// The first reads, as `Memory` has them.
     pub plan: &'a [(u64, bool)],
-    /// The most bytes of a read, or 0.
+    /// The most bytes of each read behind those, or 0.
     pub most: u64,
+    /// Whether none of those waits.
     pub never_waits: bool,
+    /// The call that fails, from 1, or 0.
     pub fails_at: u64,
+    /// How many bytes a line has at least, or 0.
     pub line: u64,
 }
 
@@ -163,8 +169,8 @@ impl Read for Memory<'_> {
     }
 }
 
-/// How a sink of std fails, where it has no room or passes nothing on: it takes none, its disk is full, or its
-/// reader has gone.
+/// How a writer of std fails, where it has no room or passes nothing on: it takes none, its disk is full, or
+/// its reader has gone.
 #[derive(Clone, Copy, Deserialize)]
 #[serde(rename_all = "snake_case")]
 pub enum Failing {

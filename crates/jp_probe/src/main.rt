@@ -8,14 +8,16 @@
 mod answers;
 mod ends;
 mod patterns;
+mod prepared;
 mod programs;
 mod runs;
 mod settings;
 
 use answers::AnswersRow;
 use patterns::PatternRow;
+use prepared::PreparedRow;
 use programs::ProgramRow;
-use runs::{PreparedRow, RunRow};
+use runs::RunRow;
 use serde::Deserialize;
 use settings::SettingsRow;
 use std::alloc::{AllocGlobal, Global};

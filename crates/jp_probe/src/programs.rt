@@ -1,4 +1,5 @@
-//! The command over ends in memory: `{"program":{"words":["jp","$.a","b"],"files":[{"name":"b","bytes":"{}\n"}]}}`.
+//! The command over ends in memory:
+//! `{"program":{"words":["jp","$.a","b"],"files":[{"name":"b","bytes":"{}\n"}]}}`.
 
 ghost use Rattle.std.specs.Prelude.{◌≡◌, ◌≤◌, ◌^◌, None, false};
 
@@ -326,6 +327,7 @@ impl ProgramRow {
 }
 
 impl WantOfMemory {
+    /// Whether this is what is left.
     fn is_left(&self, left: &Left) -> bool {
         left.status == self.status
             && is_all(&self.notes, &left.notes.bytes)

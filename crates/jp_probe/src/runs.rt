@@ -1,13 +1,12 @@
-//! Runs: `{"run":{"query":"$.a","cut":[4,2,8],"input":"{\"a\":1}\n"}}`, and what is prepared once for several
-//! inputs: `{"prepared":{"query":"$.a","cut":[4,2,8],"inputs":["{}\n","[]\n"]}}`.
+//! Runs: `{"run":{"query":"$.a","cut":[4,2,8],"input":"{\"a\":1}\n"}}`.
 
 ghost use Rattle.std.specs.Prelude.{◌≡◌, ◌^◌, ◌≤◌, false};
 
 use crate::ends::{Failing, Kept, Memory, Reading, Seen, Taking, line_ends};
 use crate::settings::{Cut, FaultAnswer, Telling, settings_of};
-use jp_answer::{Crew, Gate, OpenGate};
+use jp_answer::Gate;
 use jp_doc::DocFault;
-use jp_run::{FromReader, FromWriter, Prepared, RunFault, Settings, Sink, Source, Supply, Totals};
+use jp_run::{FromReader, FromWriter, RunFault, Settings, Sink, Source, Supply, Totals};
 use once_cell::race::OnceBox;
 use serde::{Deserialize, Serialize};
 use std::alloc::{AllocError, Global};
@@ -146,6 +145,7 @@ pub fn with_blanks(alloc: Global, text: &str, count: u64) -> Result<String, Allo
     Ok(longer)
 }
 
+/// So many blanks.
 fn blanks_of(alloc: Global, count: u64) -> Result<String, AllocError> {
     let mut blanks = String::new(alloc);
     for _blank in 0..count {
@@ -201,6 +201,7 @@ impl RunRow {
         self.said_of(alloc, &ran, &told)
     }
 
+    /// How the input is read.
     fn reading(&self) -> Reading<'_> {
         Reading {
             plan: &self.plan,
@@ -211,6 +212,7 @@ impl RunRow {
         }
     }
 
+    /// How the output is taken.
     fn taking(&self) -> Taking {
         Taking {
             most: self.each_write,
@@ -324,6 +326,7 @@ impl RunRow {
         Ok(serde_json::to_string(alloc, &answer)?)
     }
 
+    /// Whether there are as many reads as there may be.
     fn are_within(&self, reads: u64) -> bool {
         match self.reads_within {
             Some((least, most)) => least <= reads && reads <= most,
@@ -332,13 +335,15 @@ impl RunRow {
     }
 }
 
-fn text_of_end(alloc: Global, end: &Result<Totals, RunFault>) -> Result<String, AllocError> {
+/// `ok`, or the text of the fault.
+pub fn text_of_end(alloc: Global, end: &Result<Totals, RunFault>) -> Result<String, AllocError> {
     match end {
         Ok(_) => String::from_str(alloc, "ok"),
         Err(fault) => format!(in alloc; "{fault}"),
     }
 }
 
+/// The status that a program ends with.
 fn status_of_end(end: &Result<Totals, RunFault>) -> u8 {
     match end {
         Ok(totals) => totals.status(),
@@ -346,6 +351,7 @@ fn status_of_end(end: &Result<Totals, RunFault>) -> u8 {
     }
 }
 
+/// Lines, documents and faulty lines, where a run ended well.
 fn totals_of(end: &Result<Totals, RunFault>) -> Option<(u64, u64, u64)> {
     match end {
         Ok(totals) => Some((totals.lines, totals.documents, totals.faulty)),
@@ -353,80 +359,10 @@ fn totals_of(end: &Result<Totals, RunFault>) -> Option<(u64, u64, u64)> {
     }
 }
 
+/// Whether it wrote, where it ended well.
 fn wrote_of(end: &Result<Totals, RunFault>) -> Option<bool> {
     match end {
         Ok(totals) => Some(totals.wrote),
         Err(_) => None,
     }
-}
-
-/// What is asked of what is prepared.
-#[derive(Drop, Deserialize)]
-#[serde(deny_unknown_fields)]
-pub struct PreparedRow {
-    query: String,
-    cut: Cut,
-    #[serde(default)]
-    settings: Vec<Telling>,
-    #[serde(default)]
-    inputs: Vec<String>,
-}
-
-/// Of each input what its run ends with and what it writes.
-#[derive(Drop, Serialize)]
-struct PreparedAnswer {
-    runs: Vec<(String, String)>,
-}
-
-impl PreparedRow {
-    /// What the runs come to, or the fault of the query or of the filter.
-    pub fn answer<R: Threads + Sync>(&self, rt: &R, alloc: Global) -> anyhow::Result<String> {
-        let settings = settings_of(self.cut, &self.settings)?;
-        let crew = Crew {
-            rt,
-            alloc,
-            gate: &OpenGate,
-        };
-        match Prepared::new(alloc, &self.query, settings.filter, settings.numbers) {
-            Ok(prepared) => {
-                let runs = self.runs(&crew, &prepared, &settings)?;
-                Ok(serde_json::to_string(alloc, &PreparedAnswer { runs })?)
-            }
-            Err(fault) => {
-                let fault = format!(in alloc; "{fault}")?;
-                Ok(serde_json::to_string(alloc, &FaultAnswer { fault })?)
-            }
-        }
-    }
-
-    fn runs<R: Threads + Sync>(
-        &self,
-        crew: &Crew<R, OpenGate>,
-        prepared: &Prepared,
-        settings: &Settings<'_>,
-    ) -> Result<Vec<(String, String)>, AllocError> {
-        let mut runs = Vec::new(crew.alloc);
-        for input in &self.inputs {
-            runs.push(run_of_prepared(crew, prepared, settings, input)?)?;
-        }
-        Ok(runs)
-    }
-}
-
-/// What a run of what is prepared ends with, and what it writes.
-fn run_of_prepared<R: Threads + Sync>(
-    crew: &Crew<R, OpenGate>,
-    prepared: &Prepared,
-    settings: &Settings<'_>,
-    input: &str,
-) -> Result<(String, String), AllocError> {
-    let mut source = FromReader::new(input.as_bytes());
-    let mut kept = Vec::new(crew.alloc);
-    let mut sink = FromWriter::new(&mut kept);
-    let end = prepared.run(crew, settings, &mut source, &mut sink);
-    let output = str::from_utf8(&kept).unwrap_or("no UTF-8");
-    Ok((
-        text_of_end(crew.alloc, &end)?,
-        String::from_str(crew.alloc, output)?,
-    ))
 }

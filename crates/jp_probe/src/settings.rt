@@ -53,6 +53,7 @@ fn told_more<'s>(settings: Settings<'s>, telling: &'s Telling) -> Settings<'s> {
     }
 }
 
+/// The form of this name.
 fn output_of(form: FormName) -> Output {
     match form {
         FormName::Nodes => Output::Nodes,
@@ -63,6 +64,7 @@ fn output_of(form: FormName) -> Output {
     }
 }
 
+/// The name of a form.
 fn name_of(output: Output) -> FormName {
     match output {
         Output::Nodes => FormName::Nodes,
