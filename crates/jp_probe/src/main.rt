@@ -5,12 +5,14 @@
 //! the rows of one kind and what answers them.
 #![tactic(auto)]
 
+mod answers;
 mod beside;
 mod buffers;
 mod bytes;
 mod compared;
 mod documents;
 mod drawn;
+mod ends;
 mod explained;
 mod fault_names;
 mod feeding;
@@ -26,14 +28,19 @@ mod outputs;
 mod paths;
 mod patterns;
 mod plans;
+mod prepared;
 mod printed;
+mod programs;
 mod queries;
+mod runs;
 mod searches;
+mod settings;
 mod steps;
 mod texts;
 mod told_lines;
 mod wide;
 
+use answers::AnswersRow;
 use compared::ComparedRow;
 use documents::{ItemsRow, PlacesRow};
 use drawn::DrawnRow;
@@ -50,10 +57,14 @@ use outputs::FormsRow;
 use paths::PathRow;
 use patterns::PatternRow;
 use plans::{FilterPlanRow, PlanRow};
+use prepared::PreparedRow;
 use printed::PrintedRow;
+use programs::ProgramRow;
 use queries::QueryRow;
+use runs::RunRow;
 use searches::{CountedRow, SearchRow};
 use serde::Deserialize;
+use settings::SettingsRow;
 use std::alloc::{AllocGlobal, Global};
 use std::io::{self, BufRead, BufReader, BufWriter, Write};
 use std::thread::Threads;
@@ -64,6 +75,7 @@ use wide::WideRow;
 #[derive(Drop, Deserialize)]
 #[serde(rename_all = "snake_case")]
 enum Row {
+    Answers(AnswersRow),
     Chunks(ChunksRow),
     Compared(ComparedRow),
     Counted(CountedRow),
@@ -93,10 +105,14 @@ enum Row {
     Pieces(PiecesRow),
     Places(PlacesRow),
     Plan(PlanRow),
+    Prepared(PreparedRow),
     Printed(PrintedRow),
+    Program(ProgramRow),
     Query(QueryRow),
     QueryMark(QueryMarkRow),
+    Run(RunRow),
     Search(SearchRow),
+    Settings(SettingsRow),
     Waiting(WaitingRow),
     Wide(WideRow),
 }
@@ -122,6 +138,7 @@ fn answer<R: Threads + AllocGlobal + Sync>(
 ) -> anyhow::Result<String> {
     let row: Row = serde_json::from_str(alloc, line)?;
     match row {
+        Row::Answers(row) => row.answer(rt, alloc),
         Row::Chunks(row) => row.answer(alloc),
         Row::Compared(row) => row.answer(alloc),
         Row::Counted(row) => row.answer(alloc),
@@ -151,10 +168,14 @@ fn answer<R: Threads + AllocGlobal + Sync>(
         Row::Pieces(row) => row.answer(alloc),
         Row::Places(row) => row.answer(alloc),
         Row::Plan(row) => row.answer(alloc),
+        Row::Prepared(row) => row.answer(rt, alloc),
         Row::Printed(row) => row.answer(alloc),
+        Row::Program(row) => row.answer(rt, alloc),
         Row::Query(row) => row.answer(alloc),
         Row::QueryMark(row) => row.answer(alloc),
+        Row::Run(row) => row.answer(rt, alloc),
         Row::Search(row) => row.answer(alloc),
+        Row::Settings(row) => row.answer(alloc),
         Row::Waiting(row) => row.answer(alloc),
         Row::Wide(row) => row.answer(alloc),
     }
