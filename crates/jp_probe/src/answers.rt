@@ -3,7 +3,6 @@
 //! `{"answers":{"query":"$.a","cut":[4,1,0],"text":"{\"a\":1}\n{\n"}}`.
 
 ghost use Rattle.std.specs.Prelude.{◌≤◌, length};
-ghost use Rattle.jp_board.specs.Limits.{max_pieces};
 ghost use Rattle.jp_answer.specs.Ranges.{AreDocuments};
 
 use crate::runs::{run_unpromised, with_blanks};
@@ -121,12 +120,12 @@ impl AnswersRow {
                 return Ok(serde_json::to_string(alloc, &FaultAnswer { fault })?);
             }
         };
-        let ways = self.ways(rt, alloc, &plan, &settings)?;
+        let Ways { one, unlike } = self.ways(rt, alloc, &plan, &settings)?;
         let answer = AllAnswers {
-            output: str::from_utf8(&ways.one.bytes).unwrap_or("no UTF-8"),
-            faulty: ways.one.faulty,
-            stopped: text_of_stop(alloc, ways.one.stopped)?,
-            unlike: ways.unlike,
+            output: str::from_utf8(&one.bytes).unwrap_or("no UTF-8"),
+            faulty: one.faulty,
+            stopped: text_of_stop(alloc, one.stopped)?,
+            unlike,
         };
         Ok(serde_json::to_string(alloc, &answer)?)
     }
@@ -245,7 +244,7 @@ fn ways_in<R: Threads + Sync, F: Form + Drop + Send>(
     lines: &[LineRef<'_>],
     piece: u64,
 ) -> Result<Ways, AllocError>
-    requires lines { length lines.now ≤ max_pieces }
+    requires lines { length lines.now ≤ 4294967296 }
     requires piece { AreDocuments piece }
 {
     let mut answerer = Answerer::new(crew.alloc);
@@ -270,7 +269,7 @@ fn filled<R: Threads + Sync, F: Form + Drop + Send>(
     asked: Asked<'_>,
     lines: &[LineRef<'_>],
 ) -> Result<Found, AllocError>
-    requires lines { length lines.now ≤ max_pieces }
+    requires lines { length lines.now ≤ 4294967296 }
 {
     let mut waiting = WaitingLines::new(crew.alloc);
     waiting.extend(lines)?;

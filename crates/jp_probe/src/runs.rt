@@ -298,13 +298,13 @@ impl RunRow {
     }
 
     /// The answer of a run that ended so.
-    fn said_of(&self, alloc: Global, ran: &Ran<'_>, told: &Told) -> anyhow::Result<String> {
-        let Ran {
-            end,
-            source,
-            sink,
-            sink_failed,
-        } = ran;
+    fn said_of<'x>(
+        &'x self,
+        alloc: Global,
+        ran: &'x Ran<'x>,
+        told: &'x Told,
+    ) -> anyhow::Result<String> {
+        let (end, source, sink) = (&ran.end, &ran.source, &ran.sink);
         let text = text_of_end(alloc, end)?;
         let answer = RunAnswer {
             end: &text,
@@ -316,7 +316,7 @@ impl RunRow {
             reads: source.reads,
             given: source.given,
             passed_on: sink.passed_on as u64,
-            sink_failed: *sink_failed,
+            sink_failed: ran.sink_failed,
             called_again: sink.called_again,
             told: told.texts(alloc)?,
             seen: &source.seen,
