@@ -223,6 +223,11 @@ impl ProgramRow {
             let fault = String::from_str(alloc, "memory")?;
             return Ok(serde_json::to_string(alloc, &FaultAnswer { fault })?);
         }
+        self.said_of(alloc, &left)
+    }
+
+    /// The answer of what is left.
+    fn said_of<'x>(&'x self, alloc: Global, left: &'x Left) -> anyhow::Result<String> {
         let output = str::from_utf8(&left.output.bytes).unwrap_or("no UTF-8");
         let notes = str::from_utf8(&left.notes.bytes).unwrap_or("no UTF-8");
         let answer = ProgramAnswer {

@@ -64,7 +64,7 @@ pub struct RunRow {
 #[derive(Drop, Serialize)]
 struct RunAnswer<'a> {
     /// `ok`, or the text of the fault.
-    end: &'a str,
+    end: String,
     status: u8,
     /// Lines, documents and faulty lines, and whether it wrote, where it ended well.
     totals: Option<(u64, u64, u64)>,
@@ -305,9 +305,8 @@ impl RunRow {
         told: &'x Told,
     ) -> anyhow::Result<String> {
         let (end, source, sink) = (&ran.end, &ran.source, &ran.sink);
-        let text = text_of_end(alloc, end)?;
         let answer = RunAnswer {
-            end: &text,
+            end: text_of_end(alloc, end)?,
             status: status_of_end(end),
             totals: totals_of(end),
             wrote: wrote_of(end),
