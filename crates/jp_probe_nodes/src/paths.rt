@@ -1,10 +1,10 @@
 //! Paths: `{"path":{"steps":["a",0]}}` is the text of a location, and what is read of it.
 
-use crate::steps::{StepRow, location_of};
 use jp_check::plan;
 use jp_doc::{Location, Step};
 use jp_output::write_path;
 use jp_path::{path_plan, query_of};
+use jp_probe_parts::{StepRow, location_of};
 use jp_syntax::read_query;
 use jp_tokens::bracket_depth;
 use serde::{Deserialize, Serialize};

@@ -2,8 +2,8 @@
 //! of each path lead, and `{"items":{"text":"[1,2,3]","limit":2}}`, the fault within a limit of an array's
 //! items.
 
-use crate::steps::{StepRow, location_of};
 use jp_doc::{Document, fault_within, whole_number};
+use jp_probe_parts::{StepRow, location_of};
 use serde::{Deserialize, Serialize};
 use serde_json::Value;
 use std::alloc::Global;

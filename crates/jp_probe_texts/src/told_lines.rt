@@ -5,11 +5,11 @@
 //! `{"line_mark":{"line":"abc","number":1,"mark":9,"reason":"utf8"}}` asks for the lines by a mark that no line
 //! need have, of a line or, by `"document":true`, of a document over several.
 
-use crate::bytes::bytes_of;
 use crate::numbers::AskedNumbers;
 use jp_doc::{DocFault, Document};
 use jp_explain::{LineExplanation, explain_line, write_document_mark, write_line_mark};
 use jp_line_scan::{LineReason, LineRule, NotWhole};
+use jp_probe_parts::bytes_of;
 use serde::{Deserialize, Serialize};
 use std::alloc::{AllocError, Global};
 

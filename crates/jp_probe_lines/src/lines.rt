@@ -2,11 +2,11 @@
 //! each how it is read as a tree, flat, in one pass, and by the numbers that it may have.
 
 use crate::beside::same;
-use crate::bytes::bytes_of;
 use crate::one_pass::{is_as_laid, is_as_laid_decimal};
 use jp_doc::{DocFault, Document, whole_number};
 use jp_flat::{FlatReader, FlatValue, LineDocument, LineReader};
 use jp_number::Numbers;
+use jp_probe_parts::bytes_of;
 use serde::{Deserialize, Serialize};
 use std::alloc::{AllocError, Global};
 use std::str;

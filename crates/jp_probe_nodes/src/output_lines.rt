@@ -2,11 +2,9 @@
 //! location; `{"fault_line":{"number":2,"fault":"unreadable"}}`; and chunks, which are joined:
 //! `{"chunks":{"pushed":["a"],"appended":["b"]}}`.
 
-use crate::bytes::text_of;
-use crate::fault_names::FaultName;
-use crate::steps::{StepRow, location_of};
 use jp_doc::{DocFault, Document};
 use jp_output::{append_chunks, join_chunks, push_chunk, write_fault, write_line};
+use jp_probe_parts::{FaultName, StepRow, location_of, text_of};
 use serde::{Deserialize, Serialize};
 use std::alloc::{AllocError, Global};
 

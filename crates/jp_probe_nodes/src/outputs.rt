@@ -1,12 +1,11 @@
 //! The forms of the answer: `{"forms":{"name":"a","turns":[{"number":1,"line":"[1,2]","places":[0]}]}}` is
 //! what each form writes of the turns, over trees and over flat documents.
 
-use crate::bytes::text_of;
-use crate::fault_names::FaultName;
 use jp_doc::{DocFault, Document};
 use jp_flat::FlatReader;
 use jp_node::{Part, PathStack};
 use jp_output::{Form, Head, InputLines, NodeLines, RawLines, TextLines, ValueLines, join_chunks};
+use jp_probe_parts::{FaultName, text_of};
 use serde::{Deserialize, Serialize};
 use std::alloc::{AllocError, Global};
 

@@ -1,12 +1,12 @@
 //! Output lines of a query's nodes: `{"printed":{"query":"$.*","documents":["[1]"]}}`, of one evaluator for
 //! all documents.
 
-use crate::bytes::text_of;
 use jp_check::{Plan, plan};
 use jp_doc::{Document, Location};
 use jp_eval::Evaluator;
 use jp_output::{NodeLines, join_chunks, write_path};
 use jp_path::path_plan;
+use jp_probe_parts::text_of;
 use jp_select::{evaluate, visit_nodes};
 use serde::{Deserialize, Serialize};
 use std::alloc::Global;

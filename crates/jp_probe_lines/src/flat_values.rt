@@ -1,10 +1,10 @@
 //! Flat values by their calls: `{"flat_value":{"line":"{\"b\":[1]}","member":"b"}}`; and lines that are one
 //! byte off: `{"one_byte_off":{"line":"[1]","bytes":"hex:00ff"}}`.
 
-use crate::bytes::bytes_of;
 use crate::lines::{Alike, in_one_pass, is_read_alike};
 use jp_doc::Document;
 use jp_flat::{FlatDocument, FlatKind, FlatMember, FlatReader, FlatValue};
+use jp_probe_parts::bytes_of;
 use serde::{Deserialize, Serialize};
 use std::alloc::{AllocError, Global};
 

@@ -3,9 +3,9 @@
 //! text gives in one piece, and whether it gives the same in pieces of each size.
 
 use crate::buffers::{OwnLines, Pieces};
-use crate::bytes::{bytes_of, text_of};
 use jp_buffer::{LineBuffer, LineRef, WaitingLines};
 use jp_documents::DocumentBuffer;
+use jp_probe_parts::{bytes_of, text_of};
 use serde::{Deserialize, Serialize};
 use std::alloc::{AllocError, Global};
 
