@@ -2,20 +2,10 @@
 #![tactic(auto)]
 
 #[cfg(test)]
-mod filters;
+mod calls;
 #[cfg(test)]
 mod forks;
-#[cfg(test)]
-mod numbers;
-#[cfg(test)]
-mod once;
-#[cfg(test)]
-mod refusals;
-#[cfg(test)]
-mod selections;
 #[cfg(test)]
 mod sizes;
 #[cfg(test)]
 mod splits;
-#[cfg(test)]
-mod uniform;

@@ -1,75 +1,16 @@
-//! What queries select where long lists are cut into halves that are walked at once.
+//! Long lists that are cut into halves that are walked at once: how often, and that two of them meet. What is
+//! selected so is in the rows `calls_nodes` of `scripts/commands`.
 
 use crate::forks::{Counting, Meeting};
-use crate::selections::{parts_of, paths};
-use crate::uniform::is_right_flat;
 use jp_check::{Plan, plan};
 use jp_doc::{Document, Location, Step};
-use jp_eval::{Cuts, Evaluator, Halving, OpenFork};
+use jp_eval::{Cuts, Evaluator, Halving};
 use jp_flat::FlatReader;
 use jp_node::{Locations, Part};
 use jp_select::{evaluate, evaluate_split};
 use std::alloc::Global;
 use std::test::Fail;
 use std::thread::Threads;
-
-/// A query, a document and the paths of the nodes that it selects there, in each line.
-const ROWS: &str =
-    r#"$..* on {"b":[1,{"c":2}],"a":null} gives $['a'] $['b'] $['b'][0] $['b'][1] $['b'][1]['c']
-$..[0,0] on [[1],[2]] gives $[0] $[0] $[0][0] $[0][0] $[1][0] $[1][0]
-$[*] on [1,2] gives $[0] $[1]
-$[*] on [1,2,3,4,5] gives $[0] $[1] $[2] $[3] $[4]
-$['b',*] on {"b":2,"a":1} gives $['b'] $['a'] $['b']
-$[3:0:-2,0] on [0,1,2,3,4] gives $[3] $[1] $[0]
-$[?@[?@==$[0][0]]] on [[7],[6,7],[6],[]] gives $[0] $[1]
-$.a[?@==$.b,-1] on {"a":[1,2],"b":2} gives $['a'][1] $['a'][1]
-$.*[?@>1].c on {"b":[{"c":5}],"a":[1,2]} gives nothing
-$.*[?@.c].c on {"b":[{"c":5},{}],"a":[{"c":1}]} gives $['a'][0]['c'] $['b'][0]['c']"#;
-
-const FLOORS: [u64; 5] = [0, 1, 2, 3, 18446744073709551615];
-
-/// Whether a plan selects this each time, 200 times with each floor.
-fn always_selects<R: Threads + Sync>(
-    rt: &R,
-    alloc: Global,
-    plan: &Plan,
-    document: &Document,
-    wanted: &str,
-) -> Result<bool, Fail> {
-    for time in 0..200 * FLOORS.len() {
-        let cuts = Cuts::new(FLOORS[time % FLOORS.len()], 64);
-        let found = evaluate_split(rt, alloc, plan, document, cuts, &OpenFork)?;
-        if paths(alloc, found.as_slice())?.as_str() != wanted {
-            return Ok(false);
-        }
-    }
-    Ok(true)
-}
-
-/// Whether the query of a row selects its nodes each time.
-fn is_always_right<R: Threads + Sync>(rt: &R, alloc: Global, row: &str) -> Result<bool, Fail> {
-    let (query, document, wanted) = parts_of(row).ok_or("no row")?;
-    let plan = plan(alloc, query)?;
-    let document = Document::read(alloc, document.as_bytes())?;
-    always_selects(rt, alloc, &plan, &document, wanted)
-}
-
-#[test]
-fn rows(rt: HostRuntime) -> Result<(), Fail> {
-    for row in ROWS.lines() {
-        assert!(rt; is_always_right(&rt, rt.alloc(), row)?, "{row}");
-    }
-    Ok(())
-}
-
-/// Each row with each floor, where the document is read flat.
-#[test]
-fn flat_rows(rt: HostRuntime) -> Result<(), Fail> {
-    for row in ROWS.lines() {
-        assert!(rt; is_right_flat(&rt, rt.alloc(), row)?, "{row}");
-    }
-    Ok(())
-}
 
 /// An array of that many numbers, from 0 on.
 fn numbers(alloc: Global, count: u32) -> Result<String, Fail> {
@@ -85,6 +26,19 @@ fn numbers(alloc: Global, count: u32) -> Result<String, Fail> {
     Ok(text)
 }
 
+/// Whether the location is that of the root's item at this place.
+fn is_at(location: &Location, place: u32) -> bool {
+    matches!(location.steps.as_slice(), [Step::Index(index)] if *index == place)
+}
+
+/// Whether these are the locations of a list's two items.
+fn are_two(found: &[Location]) -> bool {
+    match found {
+        [first, second] => is_at(first, 0) && is_at(second, 1),
+        _ => false,
+    }
+}
+
 /// Whether both halves of a list of two meet, each of 200 times.
 fn meet<R: Threads + Sync>(rt: &R, alloc: Global) -> Result<bool, Fail> {
     let plan = plan(alloc, "$[*]")?;
@@ -92,7 +46,7 @@ fn meet<R: Threads + Sync>(rt: &R, alloc: Global) -> Result<bool, Fail> {
     for _time in 0..200u8 {
         let fork = Meeting::new();
         let found = evaluate_split(rt, alloc, &plan, &document, Cuts::new(2, 2), &fork)?;
-        if !fork.met() || paths(alloc, found.as_slice())?.as_str() != "$[0] $[1]" {
+        if !fork.met() || !are_two(&found) {
             return Ok(false);
         }
     }
@@ -200,36 +154,6 @@ fn sixty_four_flat_walks(rt: HostRuntime) -> Result<(), Fail> {
 fn sixty_four_walks_of_flat_members(rt: HostRuntime) -> Result<(), Fail> {
     let line = members(rt.alloc(), 256)?;
     assert!(rt; are_sixty_four_flat(&rt, rt.alloc(), "$.*", line.as_str(), 4)?);
-    Ok(())
-}
-
-/// Whether there are 5,000 locations, the first at `$[5000]` and the last at `$[9999]`.
-fn are_upper(found: &[Location]) -> bool {
-    let at = |location: Option<&Location>, index: u32| match location {
-        Some(location) => matches!(location.steps.as_slice(), [Step::Index(i)] if *i == index),
-        None => false,
-    };
-    found.len() == 5000 && at(found.first(), 5000) && at(found.last(), 9999)
-}
-
-/// Whether the upper half of ten thousand numbers is found whole, and by halves each of 400 times.
-fn finds_upper<R: Threads + Sync>(rt: &R, alloc: Global) -> Result<bool, Fail> {
-    let plan = plan(alloc, "$[?@>4999]")?;
-    let document = Document::read(alloc, numbers(alloc, 10000)?.as_bytes())?;
-    for time in 0..400u32 {
-        let floor = if time % 2 == 0 { 2500 } else { 4096 };
-        let cuts = Cuts::new(floor, 64);
-        let found = evaluate_split(rt, alloc, &plan, &document, cuts, &OpenFork)?;
-        if !are_upper(found.as_slice()) {
-            return Ok(false);
-        }
-    }
-    Ok(are_upper(evaluate(alloc, &plan, &document)?.as_slice()))
-}
-
-#[test]
-fn ten_thousand_numbers(rt: HostRuntime) -> Result<(), Fail> {
-    assert!(rt; finds_upper(&rt, rt.alloc())?);
     Ok(())
 }
 

@@ -1,26 +1,14 @@
-//! Answers by several workers, in pieces of several sizes.
+//! Answers by several workers, whose gates tell which pieces were worked on.
 
 use crate::gates::{Entered, FirstWaits, Pair, Recorder};
-use crate::thousand::{items_of_thousand, thousand};
-use jp_answer::{DocStop, Gate, OpenGate};
+use crate::shared::lines_of;
+use jp_answer::{DocStop, Gate};
 use jp_check::plan;
-use jp_doc::{DocFault, Line, Lines};
+use jp_doc::DocFault;
 use jp_run::{Answer, Settings, answer};
-use std::alloc::{AllocError, Global};
+use std::alloc::Global;
 use std::sync::atomic::{AtomicU64, Ordering};
-use std::test::Fail;
 use std::thread::Threads;
-
-/// The lines of a text.
-fn lines_of(alloc: Global, text: &[u8]) -> Result<Vec<Line>, AllocError> {
-    let mut lines = Vec::new(alloc);
-    let mut progress = Lines::new(alloc);
-    progress.feed(text, &mut lines)?;
-    if progress.count() < 1_000_000 {
-        progress.finish(&mut lines)?;
-    }
-    Ok(lines)
-}
 
 /// The answer to the lines of a text, by so many workers, in pieces of that size.
 fn answered<R: Threads + Sync, G: Gate + Sync>(
@@ -64,75 +52,6 @@ fn is_answered<R: Threads + Sync, G: Gate + Sync>(
     match answered(rt, alloc, input.0, input.1, cut, gate) {
         Some(answer) => (answer.bytes.as_slice(), answer.stopped) == wanted,
         None => false,
-    }
-}
-
-#[test]
-fn the_first_faulty_line_stops_the_answer(rt: HostRuntime) {
-    let rows: [(&[u8], &[u8], u64, DocFault); 3] = [
-        (
-            b"{\"a\":1}\n{\n{\"a\":2}\n{\"a\":1.5}\n",
-            b"1\t$['a']\t1\n",
-            2,
-            DocFault::Unreadable,
-        ),
-        (
-            b"{\"a\":1}\n{\"a\":2}\n{\"a\":1.5}\n",
-            b"1\t$['a']\t1\n2\t$['a']\t2\n",
-            3,
-            DocFault::NotWhole,
-        ),
-        // The first of several faulty lines, and the first line.
-        (b"]\n{}\n[\n{\n", b"", 1, DocFault::Unreadable),
-    ];
-    for (text, bytes, line, fault) in &rows {
-        for workers in &[1u64, 4] {
-            let stop = DocStop {
-                line: *line,
-                fault: *fault,
-            };
-            let wanted = (*bytes, Some(stop));
-            let cut = (*workers, 1);
-            assert!(rt;
-                is_answered(&rt, rt.alloc(), ("$.a", *text), cut, &OpenGate, wanted),
-                "{line}"
-            );
-        }
-    }
-}
-
-/// Whether all these workers and pieces give the items of a thousand lines.
-fn all_agree<R: Threads + Sync>(rt: &R, alloc: Global) -> Result<bool, AllocError> {
-    let text = thousand(alloc)?;
-    let lines = items_of_thousand(alloc)?;
-    let wanted = (lines.as_bytes(), None);
-    let ends = lines
-        .as_bytes()
-        .iter()
-        .filter(|byte| **byte == b'\n')
-        .count();
-    let mut agree = ends == 5_005;
-    for cut in &[(1, 1), (1, 7), (2, 1), (2, 7), (64, 1), (64, 7)] {
-        let input = ("$[*]", text.as_bytes());
-        agree = agree && is_answered(rt, alloc, input, *cut, &OpenGate, wanted);
-    }
-    Ok(agree)
-}
-
-#[test]
-fn the_same_for_all_workers_and_pieces(rt: HostRuntime) -> Result<(), Fail> {
-    assert!(rt; all_agree(&rt, rt.alloc())?);
-    Ok(())
-}
-
-#[test]
-fn fewer_lines_than_workers(rt: HostRuntime) {
-    let text = b"[1]\n[2]\n[3]\n".as_slice();
-    let bytes = b"1\t$[0]\t1\n2\t$[0]\t2\n3\t$[0]\t3\n".as_slice();
-    for (text, bytes) in &[(text, bytes), (b"".as_slice(), b"".as_slice())] {
-        let input = ("$[0]", *text);
-        let cut = (64, 1_000_000);
-        assert!(rt; is_answered(&rt, rt.alloc(), input, cut, &OpenGate, (*bytes, None)));
     }
 }
 

@@ -1,0 +1,76 @@
+//! Objects of few names and of many: `{"wide":{"count":3,"step":2,"twice":true}}` is 3, where all members
+//! come in an order that rises, each with its number.
+
+use jp_doc::DocFault;
+use jp_flat::{FlatMember, FlatReader};
+use serde::Deserialize;
+use std::alloc::{AllocError, Global};
+
+/// An object of all names below the count, each the step further than the one before.
+#[derive(Drop, Deserialize)]
+pub struct WideRow {
+    count: u32,
+    step: u32,
+    /// Whether each name stands twice.
+    #[serde(default)]
+    twice: bool,
+}
+
+impl WideRow {
+    /// The answer: how many members came so, or `null` where one did not.
+    pub fn answer(&self, alloc: Global) -> anyhow::Result<String> {
+        let line = self.line(alloc)?;
+        let mut reader = FlatReader::new(alloc);
+        let count = risen_in(alloc, &mut reader, &line)?;
+        Ok(serde_json::to_string(alloc, &count)?)
+    }
+
+    /// The line of the object.
+    fn line(&self, alloc: Global) -> Result<Vec<u8>, AllocError> {
+        let mut line = Vec::new(alloc);
+        let mut name = 0u32;
+        for _ in 0..self.count {
+            name = name
+                .wrapping_add(self.step)
+                .checked_rem(self.count)
+                .unwrap_or(0);
+            if self.twice {
+                add_member(alloc, &mut line, name, self.count)?;
+            }
+            add_member(alloc, &mut line, name, name)?;
+        }
+        line.push(b'}')?;
+        Ok(line)
+    }
+}
+
+/// Adds a member whose name is of six digits.
+fn add_member(alloc: Global, line: &mut Vec<u8>, name: u32, value: u32) -> Result<(), AllocError> {
+    line.push(if line.is_empty() { b'{' } else { b',' })?;
+    line.extend_from_slice(format!(in alloc; "\"{name:06}\":{value}")?.as_bytes())
+}
+
+/// How many members of the object of a line rise, each with its number.
+fn risen_in(alloc: Global, reader: &mut FlatReader, line: &[u8]) -> anyhow::Result<Option<u32>> {
+    let document = reader.read(line)?.ok_or(DocFault::Unreadable)?;
+    let Some(members) = document.root().members() else {
+        return Ok(None);
+    };
+    let mut gathered = Vec::new(alloc);
+    members.gather(&mut gathered)?;
+    Ok(risen(&gathered))
+}
+
+/// How many members rise, each with its number.
+fn risen(members: &[FlatMember<'_>]) -> Option<u32> {
+    let mut expected: u32 = 0;
+    let mut before = "";
+    for member in members {
+        if member.value.whole() != Some(expected as i128) || member.name <= before {
+            return None;
+        }
+        before = member.name;
+        expected = expected.wrapping_add(1);
+    }
+    Some(expected)
+}

@@ -1,0 +1,163 @@
+//! A pattern on many texts.
+//!
+//! `{"search":{"text":"qz","around":"a","word":"qz","before":36,"behind":18}}` asks in which texts a part
+//! matches: those that have the word, with what stands around it up to so many times before and behind.
+//! `{"counted":{"text":"a|b","characters":"abc","longest":5}}` asks how many of all such texts match.
+
+use crate::patterns::{Match, matched};
+use crate::texts::{repeated, texts_of};
+use jp_regexp::Pattern;
+use serde::{Deserialize, Serialize};
+use std::alloc::{AllocError, Global};
+
+/// A search for a word among other text.
+#[derive(Drop, Deserialize)]
+pub struct SearchRow {
+    text: String,
+    around: String,
+    word: String,
+    before: u64,
+    behind: u64,
+}
+
+/// In how many texts a part matches, of how many, and of how many both patterns do not say the same.
+#[derive(Clone, Copy, Serialize)]
+struct SearchAnswer {
+    found: u64,
+    places: u64,
+    unlike: u64,
+}
+
+/// All texts of some characters.
+#[derive(Drop, Deserialize)]
+pub struct CountedRow {
+    text: String,
+    characters: String,
+    longest: u64,
+}
+
+/// How many texts match and in how many a part does, each with a check number.
+#[derive(Drop, Serialize)]
+struct CountedAnswer {
+    whole: Vec<u64>,
+    part: Vec<u64>,
+    unlike: u64,
+}
+
+/// A pattern as it is read, and compiled.
+#[derive(Drop)]
+struct Both {
+    read: Pattern,
+    compiled: Pattern,
+}
+
+/// How many texts, and a check number of which they are.
+#[derive(Clone, Copy)]
+struct Count {
+    texts: u64,
+    check: u64,
+}
+
+/// The pattern of a text, which has to be one.
+fn read_both(alloc: Global, text: &str) -> anyhow::Result<Both> {
+    match (Pattern::read(alloc, text)?, Pattern::compiled(alloc, text)?) {
+        (Some(read), Some(compiled)) => Ok(Both { read, compiled }),
+        _ => Err(anyhow::anyhow!("no pattern")),
+    }
+}
+
+impl SearchAnswer {
+    /// One text more, of which this is said.
+    fn add(&mut self, said: Match) {
+        self.places = self.places.saturating_add(1);
+        match said {
+            Match::Whole | Match::Part => self.found = self.found.saturating_add(1),
+            Match::No => {}
+            Match::Unlike => self.unlike = self.unlike.saturating_add(1),
+        }
+    }
+}
+
+impl SearchRow {
+    /// The answer.
+    pub fn answer(&self, alloc: Global) -> anyhow::Result<String> {
+        let both = read_both(alloc, self.text.as_str())?;
+        let mut answer = SearchAnswer {
+            found: 0,
+            places: 0,
+            unlike: 0,
+        };
+        for before in 0..self.before.saturating_add(1) {
+            self.add_behind(alloc, &both, before, &mut answer)?;
+        }
+        Ok(serde_json::to_string(alloc, &answer)?)
+    }
+
+    /// Adds the texts in which what stands around is so many times before the word.
+    fn add_behind(
+        &self,
+        alloc: Global,
+        both: &Both,
+        before: u64,
+        answer: &mut SearchAnswer,
+    ) -> Result<(), AllocError> {
+        for behind in 0..self.behind.saturating_add(1) {
+            let mut text = repeated(alloc, self.around.as_str(), before)?;
+            text.push_str(self.word.as_str())?;
+            text.push_str(repeated(alloc, self.around.as_str(), behind)?.as_str())?;
+            answer.add(matched(alloc, &both.read, &both.compiled, text.as_str())?);
+        }
+        Ok(())
+    }
+}
+
+impl Count {
+    /// One text more, the i-th.
+    fn add(&mut self, i: u64) {
+        self.texts = self.texts.saturating_add(1);
+        self.check = self.check.wrapping_add(i.wrapping_mul(i.wrapping_add(6))) % 9_973;
+    }
+
+    /// Both numbers.
+    fn numbers(&self, alloc: Global) -> Result<Vec<u64>, AllocError> {
+        Ok(vec![in alloc; self.texts, self.check]?)
+    }
+}
+
+impl CountedRow {
+    /// All texts, the shorter ones first.
+    fn texts(&self, alloc: Global) -> Result<Vec<String>, AllocError> {
+        let mut texts = Vec::new(alloc);
+        for length in 0..self.longest.saturating_add(1) {
+            texts.append(&mut texts_of(alloc, self.characters.as_str(), length)?)?;
+        }
+        Ok(texts)
+    }
+
+    /// The answer.
+    pub fn answer(&self, alloc: Global) -> anyhow::Result<String> {
+        let both = read_both(alloc, self.text.as_str())?;
+        let mut whole = Count { texts: 0, check: 0 };
+        let mut part = Count { texts: 0, check: 0 };
+        let mut unlike = 0u64;
+        let mut i = 0u64;
+        for text in &self.texts(alloc)? {
+            i = i.saturating_add(1);
+            match matched(alloc, &both.read, &both.compiled, text.as_str())? {
+                Match::Whole => {
+                    whole.add(i);
+                    part.add(i);
+                }
+                Match::Part => part.add(i),
+                Match::No => {}
+                Match::Unlike => unlike = unlike.saturating_add(1),
+            }
+        }
+        let answer = CountedAnswer {
+            whole: whole.numbers(alloc)?,
+            part: part.numbers(alloc)?,
+            unlike,
+        };
+        Ok(serde_json::to_string(alloc, &answer)?)
+    }
+}
