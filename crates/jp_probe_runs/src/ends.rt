@@ -1,6 +1,6 @@
 //! Ends in memory: what a run reads from and writes to, of whatever row.
 
-ghost use Rattle.std.specs.Prelude.{◌≡◌, ◌<◌, Some, None, false, IfOk};
+ghost use Rattle.std.specs.Prelude.{◌≡◌, ◌<◌, ◌≤◌, ◌++◌, [], Some, None, false, IfOk, length, take};
 
 use jp_run::{Broken, Sink, Source, Supply};
 use serde::Deserialize;
@@ -87,6 +87,19 @@ pub fn line_ends(bytes: &[u8]) -> u64 {
     bytes.iter().filter(|byte| **byte == b'\n').count() as u64
 }
 
+/// Hands out bytes at the front of the buffer: at most so many, and one at least where there is one. Gives how
+/// many they are, and those that are left.
+fn hand_out<'a>(rest: &'a [u8], buf: &mut [u8], most: usize) -> (usize, &'a [u8])
+    ensures bound { result.0 ≤ length buf.new }
+    ensures bytes { rest.now ≡ take result.0 buf.new ++ result.1.now }
+    ensures end { result.0 ≡ 0 → 0 < length buf.new → result.1.now ≡ [] }
+{
+    let n = most.max(1).min(buf.len()).min(rest.len());
+    let (front, left) = rest.split_at(n);
+    buf[..n].copy_from_slice(front);
+    (n, left)
+}
+
 impl Supply for Memory<'_> {
     ghost remaining = { λ s. Some s.rest.now };
 
@@ -142,13 +155,11 @@ impl Source<Kept> for Memory<'_> {
         let most = match self.plan.split_first() {
             Some(((most, _), plan)) => {
                 self.plan = plan;
-                (*most).max(1) as usize
+                *most as usize
             }
             None => self.most,
         };
-        let n = most.min(buf.len()).min(self.rest.len());
-        let (front, rest) = self.rest.split_at(n);
-        buf[..n].copy_from_slice(front);
+        let (n, rest) = hand_out(self.rest, buf, most);
         self.rest = rest;
         self.given = self.given.saturating_add(n as u64);
         Ok(n)
