@@ -1,45 +1,29 @@
 //! What a scan asks of the functions (RFC 9535, 2.4), and the words of filters.
 
 use crate::place::Side;
-use jp_types::{Function, function_named};
+use jp_types::{Function, FunctionType, function_named, parameters, result_type};
 
 /// The words that may begin an operand.
 pub(crate) const WORDS: [&str; 10] = [
     "true", "false", "null", "length", "count", "match", "search", "value", "xor", "distinct",
 ];
 
-/// A function's name.
-pub(crate) fn name_of(function: Function) -> &'static str {
-    match function {
-        Function::Length => "length",
-        Function::Count => "count",
-        Function::Match => "match",
-        Function::Search => "search",
-        Function::Value => "value",
-        Function::Xor => "xor",
-        Function::Distinct => "distinct",
-    }
-}
-
 /// Whether the function's result is a value, which is compared.
 pub(crate) fn gives_value(function: Function) -> bool {
-    matches!(
-        function,
-        Function::Length | Function::Count | Function::Value
-    )
+    matches!(result_type(function), FunctionType::Value)
 }
 
 /// Whether the function takes two arguments.
 pub(crate) fn takes_two(function: Function) -> bool {
-    matches!(function, Function::Match | Function::Search | Function::Xor)
+    parameters(function).len() == 2
 }
 
 /// What the function takes for each argument.
 pub(crate) fn parameter(function: Function) -> Side {
-    match function {
-        Function::Length | Function::Match | Function::Search => Side::Value,
-        Function::Count | Function::Value | Function::Distinct => Side::Nodes,
-        Function::Xor => Side::Test,
+    match parameters(function).first() {
+        Some(FunctionType::Nodes) => Side::Nodes,
+        Some(FunctionType::Logical) => Side::Test,
+        _ => Side::Value,
     }
 }
 
@@ -50,7 +34,7 @@ pub(crate) fn may_call(side: Side, function: Function) -> bool {
         Side::Test => true,
         Side::Negated => !gives_value(function),
         Side::Right | Side::Value => gives_value(function),
-        Side::Nodes => matches!(function, Function::Distinct),
+        Side::Nodes => matches!(result_type(function), FunctionType::Nodes),
     }
 }
 

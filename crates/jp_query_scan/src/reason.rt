@@ -1,7 +1,6 @@
 //! What might have stood at the mark, or which rule is broken there.
 
-use crate::functions::name_of;
-use jp_types::Function;
+use jp_types::{Function, name_of};
 use std::fmt;
 
 /// What is to be said of a mark.

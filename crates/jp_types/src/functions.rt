@@ -1,14 +1,14 @@
 //! The functions and their types: those of RFC 9535 (2.4.1 to 2.4.8), and this project's own, `xor` and
 //! `distinct`.
 
-ghost use Rattle.std.specs.Prelude.{◌≡◌, map, option_map};
+ghost use Rattle.std.specs.Prelude.{◌≡◌, Some, map, option_map};
 ghost use Rattle.std.specs.Str.{chars};
 ghost use Rattle.jp_types.specs.Functions as functions;
 ghost use Rattle.jp_types.specs.Kinds.{kind_of, function_of};
 
 /// The types of the function type system (RFC 9535, 2.4.1).
 #[derive(Clone, Copy)]
-pub(crate) enum FunctionType {
+pub enum FunctionType {
     /// A value, or nothing.
     Value,
     /// True or false.
@@ -52,8 +52,23 @@ pub fn function_named(name: &str) -> Option<Function>
     }
 }
 
-/// The types of a function's parameters.
-pub(crate) fn parameters(function: Function) -> &'static [FunctionType]
+/// The name of a function.
+pub fn name_of(function: Function) -> &'static str
+    ensures { functions.function_named (chars result.now) ≡ Some (function_of function) }
+{
+    match function {
+        Function::Length => "length",
+        Function::Count => "count",
+        Function::Match => "match",
+        Function::Search => "search",
+        Function::Value => "value",
+        Function::Xor => "xor",
+        Function::Distinct => "distinct",
+    }
+}
+
+/// The types of a function's parameters, in order (RFC 9535, 2.4.4 to 2.4.8). It takes no memory.
+pub fn parameters(function: Function) -> &'static [FunctionType]
     ensures { map kind_of result.now ≡ functions.parameters (function_of function) }
 {
     match function {
@@ -64,8 +79,8 @@ pub(crate) fn parameters(function: Function) -> &'static [FunctionType]
     }
 }
 
-/// The type of what a function gives.
-pub(crate) fn result_type(function: Function) -> FunctionType
+/// The type of what a function gives (RFC 9535, 2.4.4 to 2.4.8).
+pub fn result_type(function: Function) -> FunctionType
     ensures { kind_of result ≡ functions.result_type (function_of function) }
 {
     match function {

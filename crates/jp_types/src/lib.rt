@@ -12,7 +12,7 @@ mod walk;
 mod written;
 
 pub use faults::Faults;
-pub use functions::{Function, function_named};
+pub use functions::{Function, FunctionType, function_named, name_of, parameters, result_type};
 pub use numbers::{MAX_WHOLE_DIGITS, is_whole};
 pub use walk::query_faults;
 pub use written::{MAX_INDEX, position, whole_number};
