@@ -2,29 +2,27 @@
 //! on a line, and prints a line for each node that it selects.
 #![tactic(auto)]
 
-mod standard_input;
+mod beside;
 mod system_inputs;
 mod system_source;
 
 ghost use Rattle.std.specs.Prelude.{◌≡◌, ◌^◌, ◌≤◌, false};
 
+use beside::run_errands;
 use jp_program::{Inputs, program, refuse_words, tell};
 use jp_run::{FromWriter, RunFault, Sink, Source};
-use standard_input::{PIECES, StandardInput, read_beside};
 use std::alloc::{AllocError, Global};
-use std::io::{self, ErrorKind, Input};
+use std::io::{self, ErrorKind};
 use std::process::ExitCode;
-use std::thread::{self, Threads};
-use std::{env, fs};
+use std::{env, fs, thread};
 use system_inputs::SystemInputs;
-use system_source::SystemSource;
 
 /// Runs the program over the words of the command line, the system's files, and standard input and output.
 /// Nothing is held back before standard output: a run writes the lines of a batch in long chunks.
 ///
-/// A file never waits. Any other standard input is read by a thread beside, which reads nothing where files
-/// are named, or where there is none to be had by this one, which then answers all that has come before each
-/// read.
+/// A regular file never waits. What may wait is read by a thread beside, or where there is none to be had by
+/// this one, which then answers all that has come before each read. No thread is started where standard input
+/// is a regular file: then hardly anything may wait.
 fn main(rt: HostRuntime) -> ExitCode {
     let mut notes = FromWriter::new(rt.stderr());
     let mut sink = FromWriter::new(io::writer(&rt));
@@ -36,28 +34,19 @@ fn main(rt: HostRuntime) -> ExitCode {
     let Ok(words) = texts_of(rt.alloc(), &given) else {
         return end_with(rt.alloc(), &mut notes, &RunFault::Memory);
     };
-    let never_waits = is_file(&rt);
-    let mut inputs = SystemInputs::new(&rt, never_waits);
-    if never_waits {
-        let mut source = SystemSource::input(rt.reader(), true);
-        let status = program(&rt, &words, &mut inputs, &mut source, &mut sink, &mut notes);
-        return ExitCode::from(status);
-    }
-    let (Ok((to, from)), Ok((wanted, asked))) = (
-        crossbeam_channel::bounded(rt.alloc(), PIECES),
-        crossbeam_channel::bounded(rt.alloc(), 1),
-    ) else {
+    let Ok((errands, taken)) = crossbeam_channel::bounded(rt.alloc(), 1) else {
         return end_with(rt.alloc(), &mut notes, &RunFault::Memory);
     };
-    let beside = thread::spawn(&rt, move || {
-        read_beside(&rt, rt.alloc(), &asked, rt.reader(), &to)
-    });
-    if beside.is_err() {
-        let mut source = SystemSource::input(rt.reader(), false);
-        let status = program(&rt, &words, &mut inputs, &mut source, &mut sink, &mut notes);
-        return ExitCode::from(status);
-    }
-    let mut source = SystemSource::beside(StandardInput::new(&rt, wanted, from));
+    let errands = if is_file(&rt) {
+        None
+    } else {
+        match thread::spawn(&rt, move || run_errands(&rt, rt.alloc(), &taken)) {
+            Ok(_) => Some(&errands),
+            Err(_) => None,
+        }
+    };
+    let mut inputs = SystemInputs::new(&rt, rt.alloc(), errands);
+    let mut source = inputs.standard_input();
     let status = program(&rt, &words, &mut inputs, &mut source, &mut sink, &mut notes);
     ExitCode::from(status)
 }
@@ -76,7 +65,7 @@ fn texts_of(alloc: Global, words: &[String]) -> Result<Vec<&str>, AllocError> {
     words.iter().map(|word| word.as_str()).collect(alloc)
 }
 
-/// Whether standard input is a file. Where the system does not say it is none.
+/// Whether standard input is a regular file. Where the system does not say it is none.
 fn is_file(rt: &HostRuntime) -> bool {
     match fs::metadata(rt, "/dev/stdin") {
         Ok(metadata) => metadata.is_file(),

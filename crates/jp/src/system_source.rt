@@ -1,95 +1,81 @@
 //! An input of the system: standard input, or a file.
 
-ghost use Rattle.std.specs.Prelude.{◌≡◌, None, true, false};
+ghost use Rattle.std.specs.Prelude.{◌≡◌, ◌≤◌, None, IfOk, length, true, false};
 
-use crate::standard_input::StandardInput;
+use crate::beside::BesideReader;
 use jp_run::{Broken, Sink, Source, Supply};
-use std::fs::Files;
+use std::fmt;
 use std::io::{self, Input, Read};
 use std::sync::Wait;
 
-/// What is open.
-#[derive(Drop)]
-enum OpenInput<'r, W, I, F> {
-    /// Nothing: it could not be opened, and why.
-    Nothing(io::Error),
-    /// Standard input, read by whoever asks.
-    Input(I),
-    /// Standard input, read by a thread beside.
-    Beside(StandardInput<'r, W>),
-    File(F),
+/// Why an input could not be opened, or not be read.
+#[derive(Clone, Copy)]
+pub enum Reason {
+    /// What the system says.
+    System(io::Error),
+    /// It is the file that the answer is written to: what is read would grow with each line that is written.
+    IsOutput,
 }
 
-impl<W: Wait, I: Read, F: Read> Read for OpenInput<'_, W, I, F> {
-    fn read(&mut self, buf: &mut [u8]) -> io::Result<usize> {
+impl fmt::Display for Reason {
+    fn fmt<W: fmt::Write>(&self, f: &mut fmt::Formatter<W>) -> fmt::Result {
         match self {
-            OpenInput::Nothing(error) => Err(*error),
+            Reason::System(error) => write!(f, "{error}"),
+            Reason::IsOutput => write!(f, "input file is also the output"),
+        }
+    }
+}
+
+/// What is open.
+#[derive(Drop)]
+pub enum OpenInput<'r, R, I, F> {
+    /// Nothing, and why.
+    Nothing(Reason),
+    /// Standard input, read by whoever asks.
+    Input(I),
+    File(F),
+    /// One of both, read by a thread beside.
+    Beside(BesideReader<'r, R, F>),
+}
+
+impl<R: Input + Wait, I: Read, F: Read + Drop> OpenInput<'_, R, I, F> {
+    /// Reads some bytes to the front of the buffer, and says how many: none at the end.
+    fn read(&mut self, buf: &mut [u8]) -> Result<usize, Reason>
+        ensures bound { IfOk result (λ n. n ≤ length buf.new) }
+    {
+        let read = match self {
+            OpenInput::Nothing(reason) => return Err(*reason),
             OpenInput::Input(reader) => reader.read(buf),
-            OpenInput::Beside(reader) => reader.read(buf),
             OpenInput::File(file) => file.read(buf),
+            OpenInput::Beside(reader) => reader.read(buf),
+        };
+        match read {
+            Ok(n) => Ok(n),
+            Err(error) => Err(Reason::System(error)),
         }
     }
 }
 
 /// A source over an input of the system. Nothing is known of its bytes.
 #[derive(Drop)]
-pub struct SystemSource<'r, R: Files + Input> {
-    opened: OpenInput<'r, R, R::Reader, R::File>,
-    /// Whether no read waits.
+pub struct SystemSource<'r, R, I, F> {
+    opened: OpenInput<'r, R, I, F>,
+    /// Whether no read waits, where no thread beside says so.
     never_waits: bool,
     /// Why it could not be opened, or why the last read that failed did.
-    reason: Option<io::Error>,
+    reason: Option<Reason>,
     told_ready: bool,
     reads: u64,
     given: u64,
     failed: bool,
 }
 
-impl<'r, R: Files + Input + Wait> SystemSource<'r, R> {
-    /// Standard input, from which nothing was read.
-    pub fn input(reader: R::Reader, never_waits: bool) -> SystemSource<'r, R>
-        ensures unread { ⟦<SystemSource<'r, R> as Supply>⟧.reads result ≡ 0 }
-        ensures ungiven { ⟦<SystemSource<'r, R> as Supply>⟧.given result ≡ 0 }
-        ensures working { ⟦<SystemSource<'r, R> as Supply>⟧.failed result ≡ false }
-    {
-        SystemSource::over(OpenInput::Input(reader), never_waits)
-    }
-
-    /// Standard input that is read by a thread beside, from which nothing was read.
-    pub fn beside(reader: StandardInput<'r, R>) -> SystemSource<'r, R>
-        ensures unread { ⟦<SystemSource<'r, R> as Supply>⟧.reads result ≡ 0 }
-        ensures ungiven { ⟦<SystemSource<'r, R> as Supply>⟧.given result ≡ 0 }
-        ensures working { ⟦<SystemSource<'r, R> as Supply>⟧.failed result ≡ false }
-    {
-        SystemSource::over(OpenInput::Beside(reader), false)
-    }
-
-    /// A file, from which nothing was read.
-    pub fn file(file: R::File, never_waits: bool) -> SystemSource<'r, R>
-        ensures unread { ⟦<SystemSource<'r, R> as Supply>⟧.reads result ≡ 0 }
-        ensures ungiven { ⟦<SystemSource<'r, R> as Supply>⟧.given result ≡ 0 }
-        ensures working { ⟦<SystemSource<'r, R> as Supply>⟧.failed result ≡ false }
-    {
-        SystemSource::over(OpenInput::File(file), never_waits)
-    }
-
-    /// What could not be opened, and why. It has failed before its first read.
-    pub fn broken(reason: io::Error) -> SystemSource<'r, R>
-        ensures unread { ⟦<SystemSource<'r, R> as Supply>⟧.reads result ≡ 0 }
-        ensures ungiven { ⟦<SystemSource<'r, R> as Supply>⟧.given result ≡ 0 }
-        ensures failed { ⟦<SystemSource<'r, R> as Supply>⟧.failed result ≡ true }
-    {
-        let mut source = SystemSource::over(OpenInput::Nothing(reason), false);
-        source.reason = Some(reason);
-        source.failed = true;
-        source
-    }
-
+impl<'r, R: Input + Wait, I: Read, F: Read + Drop> SystemSource<'r, R, I, F> {
     /// What is open, from which nothing was read.
-    fn over(opened: OpenInput<'r, R, R::Reader, R::File>, never_waits: bool) -> SystemSource<'r, R>
-        ensures unread { ⟦<SystemSource<'r, R> as Supply>⟧.reads result ≡ 0 }
-        ensures ungiven { ⟦<SystemSource<'r, R> as Supply>⟧.given result ≡ 0 }
-        ensures working { ⟦<SystemSource<'r, R> as Supply>⟧.failed result ≡ false }
+    pub fn over(opened: OpenInput<'r, R, I, F>, never_waits: bool) -> SystemSource<'r, R, I, F>
+        ensures unread { ⟦<SystemSource<'r, R, I, F> as Supply>⟧.reads result ≡ 0 }
+        ensures ungiven { ⟦<SystemSource<'r, R, I, F> as Supply>⟧.given result ≡ 0 }
+        ensures working { ⟦<SystemSource<'r, R, I, F> as Supply>⟧.failed result ≡ false }
     {
         SystemSource {
             opened,
@@ -102,13 +88,25 @@ impl<'r, R: Files + Input + Wait> SystemSource<'r, R> {
         }
     }
 
+    /// What could not be opened, and why. It has failed before its first read.
+    pub fn broken(reason: Reason) -> SystemSource<'r, R, I, F>
+        ensures unread { ⟦<SystemSource<'r, R, I, F> as Supply>⟧.reads result ≡ 0 }
+        ensures ungiven { ⟦<SystemSource<'r, R, I, F> as Supply>⟧.given result ≡ 0 }
+        ensures failed { ⟦<SystemSource<'r, R, I, F> as Supply>⟧.failed result ≡ true }
+    {
+        let mut source = SystemSource::over(OpenInput::Nothing(reason), true);
+        source.reason = Some(reason);
+        source.failed = true;
+        source
+    }
+
     /// Why it could not be opened, or why the last read that failed did.
-    pub fn reason(&self) -> Option<io::Error> {
+    pub fn reason(&self) -> Option<Reason> {
         self.reason
     }
 }
 
-impl<R: Files + Input + Wait> Supply for SystemSource<'_, R> {
+impl<R: Input + Wait, I: Read, F: Read + Drop> Supply for SystemSource<'_, R, I, F> {
     ghost remaining = { λ _. None };
 
     ghost reads = { λ s. s.reads };
@@ -142,7 +140,7 @@ impl<R: Files + Input + Wait> Supply for SystemSource<'_, R> {
     }
 }
 
-impl<R: Files + Input + Wait, K: Sink> Source<K> for SystemSource<'_, R> {
+impl<R: Input + Wait, I: Read, F: Read + Drop, K: Sink> Source<K> for SystemSource<'_, R, I, F> {
     fn read(&mut self, buf: &mut [u8], _sink: &K) -> Result<usize, Broken> {
         self.told_ready = false;
         self.reads = self.reads.saturating_add(1);
@@ -151,8 +149,8 @@ impl<R: Files + Input + Wait, K: Sink> Source<K> for SystemSource<'_, R> {
                 self.given = self.given.saturating_add(n as u64);
                 Ok(n)
             }
-            Err(error) => {
-                self.reason = Some(error);
+            Err(reason) => {
+                self.reason = Some(reason);
                 self.failed = true;
                 Err(Broken)
             }

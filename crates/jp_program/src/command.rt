@@ -28,7 +28,7 @@ use crate::pattern_notes::tell_patterns;
 use crate::turn::{Search, run_named};
 use crate::witness::Witness;
 use jp_answer::OnFault;
-use jp_run::{Prepared, RunFault, Sink, Source, Totals, write_all};
+use jp_run::{Cutting, Prepared, RunFault, Sink, Source, Totals, write_all};
 use std::alloc::{AllocError, AllocGlobal, Global};
 use std::thread::Threads;
 
@@ -182,7 +182,7 @@ pub fn program<R: Threads + AllocGlobal + Sync, S: Source<K>, I: Inputs<S>, K: S
     match done(rt, words, inputs, source, sink, notes, &mut witness) {
         Ok(totals) => {
             if totals.faulty > 0 {
-                tell_faulty(rt.alloc(), notes, totals.faulty);
+                tell_faulty(rt.alloc(), notes, totals.faulty, witness.cutting);
                 witness.tell(notes);
                 return totals.status();
             }
@@ -367,11 +367,15 @@ pub fn refuse_words<N: Sink>(alloc: Global, notes: &mut N) -> u8
     fault.status()
 }
 
-/// Tells how many faulty lines were passed, in one line, and passes over a failure of that.
-pub(crate) fn tell_faulty<N: Sink>(alloc: Global, notes: &mut N, faulty: u64)
+/// Tells how many faulty lines, or documents, were passed, in one line, and passes over a failure of that.
+pub(crate) fn tell_faulty<N: Sink>(alloc: Global, notes: &mut N, faulty: u64, cutting: Cutting)
     ensures untouched { N.failed notes.old ≡ true → notes.new ≡ notes.old }
 {
-    note(notes, format!(in alloc; "jp: faulty lines: {faulty}\n"));
+    let line = match cutting {
+        Cutting::Lines => format!(in alloc; "jp: faulty lines: {faulty}\n"),
+        Cutting::Documents => format!(in alloc; "jp: faulty documents: {faulty}\n"),
+    };
+    note(notes, line);
 }
 
 /// Tells that nothing is selected in so many documents, in one line, and passes over a failure of that.

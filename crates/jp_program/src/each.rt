@@ -18,7 +18,7 @@ use crate::file_notes::tell_failed_file;
 use crate::inputs::Inputs;
 use crate::turn::{Search, run_named};
 use jp_answer::OnFault;
-use jp_run::{RunFault, Sink, Source, Totals};
+use jp_run::{Cutting, RunFault, Sink, Source, Totals};
 use std::alloc::{AllocGlobal, Global};
 use std::thread::Threads;
 
@@ -102,7 +102,8 @@ pub(crate) fn answer_files<
     if !seen.has_failed {
         return Ok(seen.totals);
     }
-    tell_passed(search.rt.alloc(), notes, seen.totals.faulty);
+    let cutting = search.wanted.settings.cutting;
+    tell_passed(search.rt.alloc(), notes, seen.totals.faulty, cutting);
     Err(RunFault::Read)
 }
 
@@ -123,10 +124,10 @@ fn both(one: &Seen, other: &Seen) -> Seen
     }
 }
 
-/// Tells how many faulty lines were passed, if any were.
-fn tell_passed<N: Sink>(alloc: Global, notes: &mut N, faulty: u64) {
+/// Tells how many faulty lines, or documents, were passed, if any were.
+fn tell_passed<N: Sink>(alloc: Global, notes: &mut N, faulty: u64, cutting: Cutting) {
     if faulty > 0 {
-        tell_faulty(alloc, notes, faulty);
+        tell_faulty(alloc, notes, faulty, cutting);
     }
 }
 

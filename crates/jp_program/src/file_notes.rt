@@ -41,8 +41,8 @@ struct NamedFile {
 }
 
 /// Tells the fault of a run in one line, which names the file at which it ended, if it is one of several. Of
-/// a file that could not be read a further line says why. What was told of files that were passed is not told
-/// again.
+/// a file, or standard input, that could not be read a further line says why. What was told of files that
+/// were passed is not told again.
 pub(crate) fn tell_of_run<N: Sink>(
     alloc: Global,
     notes: &mut N,
@@ -55,9 +55,10 @@ pub(crate) fn tell_of_run<N: Sink>(
     if end.was_told(fault) {
         return;
     }
-    let Ok(Some(file)) = file_at(alloc, words, end.opened) else {
-        note(notes, fault_line(alloc, fault, end.cutting, None));
-        return;
+    let file = match file_at(alloc, words, end.opened) {
+        Ok(Some(file)) => file,
+        Ok(None) => return tell_of_input(alloc, notes, fault, end),
+        Err(_) => return note(notes, fault_line(alloc, fault, end.cutting, None)),
     };
     match fault {
         RunFault::Read => {
@@ -69,6 +70,16 @@ pub(crate) fn tell_of_run<N: Sink>(
             note(notes, fault_line(alloc, fault, end.cutting, name));
         }
         _ => note(notes, fault_line(alloc, fault, end.cutting, None)),
+    }
+}
+
+/// Tells the fault of a run over standard input, and why that could not be read, where this is known.
+fn tell_of_input<N: Sink>(alloc: Global, notes: &mut N, fault: &RunFault, end: &RunEnd)
+    ensures untouched { N.failed notes.old ≡ true → notes.new ≡ notes.old }
+{
+    note(notes, fault_line(alloc, fault, end.cutting, None));
+    if let (RunFault::Read, Some(reason)) = (fault, &end.reason) {
+        note(notes, format!(in alloc; "jp: standard input: {reason}\n"));
     }
 }
 
