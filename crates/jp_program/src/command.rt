@@ -24,7 +24,7 @@ use crate::command_line::{Invocation, read_words};
 use crate::each::answer_files;
 use crate::file_notes::RunEnd;
 use crate::inputs::Inputs;
-use crate::pattern_notes::tell_patterns;
+use crate::pattern_notes::tell_wanted_patterns;
 use crate::turn::{Search, run_named};
 use crate::witness::Witness;
 use jp_answer::OnFault;
@@ -296,7 +296,7 @@ fn done<R: Threads + AllocGlobal + Sync, S: Source<K>, I: Inputs<S>, K: Sink, N:
             let numbers = wanted.settings.numbers;
             let filter = wanted.settings.filter;
             let prepared = Prepared::new(rt.alloc(), wanted.query, filter, numbers)?;
-            tell_patterns(rt.alloc(), notes, wanted.query, numbers);
+            tell_wanted_patterns(rt.alloc(), notes, &wanted);
             if wanted.check {
                 return Ok(NOTHING_SEEN);
             }
