@@ -1,32 +1,19 @@
 //! The faults of lines by their names.
 
-ghost use Rattle.std.specs.Prelude.{◌≢◌};
+ghost use Rattle.std.specs.Prelude.{◌≢◌, IfOk};
 
 use jp_doc::DocFault;
-use serde::Deserialize;
 
-/// A fault that a line may have.
-#[derive(Clone, Copy, Drop, Deserialize)]
-#[serde(rename_all = "snake_case")]
-pub enum FaultName {
-    LongLine,
-    Unreadable,
-    NotWhole,
-    LongNumber,
-    LongArray,
-}
-
-impl FaultName {
-    /// The fault.
-    pub fn fault(self) -> DocFault
-        ensures { result ≢ DocFault.Memory }
-    {
-        match self {
-            FaultName::LongLine => DocFault::LongLine,
-            FaultName::Unreadable => DocFault::Unreadable,
-            FaultName::NotWhole => DocFault::NotWhole,
-            FaultName::LongNumber => DocFault::LongNumber,
-            FaultName::LongArray => DocFault::LongArray,
-        }
-    }
+/// The fault of this name, as `long_line`. Want of memory has none.
+pub fn fault_named(name: &str) -> anyhow::Result<DocFault>
+    ensures { IfOk result (λ fault. fault ≢ DocFault.Memory) }
+{
+    Ok(match name {
+        "long_line" => DocFault::LongLine,
+        "unreadable" => DocFault::Unreadable,
+        "not_whole" => DocFault::NotWhole,
+        "long_number" => DocFault::LongNumber,
+        "long_array" => DocFault::LongArray,
+        _ => return Err(anyhow::anyhow!("no fault has the name that stands in a row")),
+    })
 }
