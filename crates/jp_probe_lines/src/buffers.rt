@@ -9,207 +9,138 @@ use std::alloc::{AllocError, Global};
 const MOST_LINES: u64 = 1_000_000;
 
 /// What pieces are fed to.
-pub trait Pieces {
+#[derive(Drop)]
+pub enum Fed {
+    /// Lines with their own bytes, of which so many were taken away.
+    Lines {
+        lines: Lines,
+        out: Vec<Line>,
+        taken: usize,
+    },
+    /// A buffer of lines.
+    Buffer(LineBuffer),
+    /// A buffer of documents.
+    Documents(DocumentBuffer),
+}
+
+impl Fed {
+    /// What has this name in rows, before it is fed.
+    pub fn named(alloc: Global, name: &str) -> anyhow::Result<Fed> {
+        Ok(match name {
+            "lines" => Fed::Lines {
+                lines: Lines::new(alloc),
+                out: Vec::new(alloc),
+                taken: 0,
+            },
+            "buffer" => Fed::Buffer(LineBuffer::new(alloc)),
+            "documents" => Fed::Documents(DocumentBuffer::new(alloc)),
+            _ => return Err(anyhow::anyhow!(
+                "nothing that is fed has the name that stands in a row"
+            )),
+        })
+    }
+
     /// Feeds a piece, where few lines have ended.
-    fn put(&mut self, piece: &[u8]) -> Result<(), AllocError>;
+    pub fn put(&mut self, piece: &[u8]) -> Result<(), AllocError> {
+        match self {
+            Fed::Lines { lines, out, .. } if lines.count() <= MOST_LINES => lines.feed(piece, out),
+            Fed::Buffer(buffer) if buffer.count() <= MOST_LINES => buffer.feed(piece),
+            Fed::Documents(buffer) if buffer.count() <= MOST_LINES => buffer.feed(piece),
+            _ => Err(AllocError),
+        }
+    }
 
     /// Ends the lines, where few have ended.
-    fn end(&mut self) -> Result<(), AllocError>;
+    pub fn end(&mut self) -> Result<(), AllocError> {
+        match self {
+            Fed::Lines { lines, out, .. } if lines.count() <= MOST_LINES => lines.finish(out),
+            Fed::Buffer(buffer) if buffer.count() <= MOST_LINES => buffer.finish(),
+            Fed::Documents(buffer) if buffer.count() <= MOST_LINES => buffer.finish(),
+            _ => Err(AllocError),
+        }
+    }
 
     /// Takes lines away, as many as wait at most.
-    fn take(&mut self, count: usize);
+    pub fn take(&mut self, count: usize) {
+        match self {
+            Fed::Lines { out, taken, .. } => *taken = taken.saturating_add(count).min(out.len()),
+            Fed::Buffer(buffer) => buffer.take_away(count.min(buffer.len())),
+            Fed::Documents(buffer) => buffer.take_away(count.min(buffer.len())),
+        }
+    }
 
-    /// Hands out the lines that wait, and has these wait in their place.
-    fn hand(&mut self, part: &mut WaitingLines);
+    /// Hands out the lines that wait, and has these wait in their place. Lines with their own bytes stay.
+    pub fn hand(&mut self, part: &mut WaitingLines) {
+        match self {
+            Fed::Lines { .. } => {}
+            Fed::Buffer(buffer) => buffer.exchange(part),
+            Fed::Documents(buffer) => buffer.exchange(part),
+        }
+    }
 
     /// How many lines have ended.
-    fn ended(&self) -> u64;
+    pub fn ended(&self) -> u64 {
+        match self {
+            Fed::Lines { lines, .. } => lines.count(),
+            Fed::Buffer(buffer) => buffer.count(),
+            Fed::Documents(buffer) => buffer.count(),
+        }
+    }
 
     /// How many bytes wait.
-    fn bytes(&self) -> usize;
+    pub fn bytes(&self) -> usize {
+        match self {
+            Fed::Lines { out, taken, .. } => bytes_in(behind(out, *taken)),
+            Fed::Buffer(buffer) => buffer.total_bytes(),
+            Fed::Documents(buffer) => buffer.total_bytes(),
+        }
+    }
 
     /// How many lines wait.
-    fn waiting(&self) -> usize;
+    pub fn waiting(&self) -> usize {
+        match self {
+            Fed::Lines { out, taken, .. } => behind(out, *taken).len(),
+            Fed::Buffer(buffer) => buffer.len(),
+            Fed::Documents(buffer) => buffer.len(),
+        }
+    }
 
     /// How many bytes are held of the line that is open, where that is told.
-    fn held(&self) -> Option<u64>;
+    pub fn held(&self) -> Option<u64> {
+        match self {
+            Fed::Lines { lines, .. } => Some(lines.held()),
+            _ => None,
+        }
+    }
 
     /// The lines that wait.
-    fn lines_in(&self, alloc: Global) -> Result<Vec<LineRef<'_>>, AllocError>;
+    pub fn lines_in(&self, alloc: Global) -> Result<Vec<LineRef<'_>>, AllocError> {
+        match self {
+            Fed::Lines { out, taken, .. } => refs_of(alloc, behind(out, *taken)),
+            Fed::Buffer(buffer) => buffer.lines(alloc),
+            Fed::Documents(buffer) => buffer.lines(alloc),
+        }
+    }
 
     /// Whether copies of the lines are equal to them.
-    fn is_copied(&self) -> Result<bool, AllocError>;
-}
-
-/// Lines with their own bytes, of which so many were taken away.
-#[derive(Drop)]
-pub struct OwnLines {
-    lines: Lines,
-    out: Vec<Line>,
-    taken: usize,
-}
-
-impl OwnLines {
-    /// No lines yet.
-    pub fn new(alloc: Global) -> OwnLines {
-        OwnLines {
-            lines: Lines::new(alloc),
-            out: Vec::new(alloc),
-            taken: 0,
+    pub fn is_copied(&self) -> Result<bool, AllocError> {
+        match self {
+            Fed::Lines { out, .. } => Ok(out.clone()? == *out),
+            _ => Ok(true),
         }
     }
 }
 
-impl Pieces for OwnLines {
-    fn put(&mut self, piece: &[u8]) -> Result<(), AllocError> {
-        if self.lines.count() > MOST_LINES {
-            return Err(AllocError);
-        }
-        self.lines.feed(piece, &mut self.out)
-    }
-
-    fn end(&mut self) -> Result<(), AllocError> {
-        if self.lines.count() > MOST_LINES {
-            return Err(AllocError);
-        }
-        self.lines.finish(&mut self.out)
-    }
-
-    fn take(&mut self, count: usize) {
-        self.taken = self.taken.saturating_add(count).min(self.out.len());
-    }
-
-    fn hand(&mut self, _part: &mut WaitingLines) {}
-
-    fn ended(&self) -> u64 {
-        self.lines.count()
-    }
-
-    fn bytes(&self) -> usize {
-        let mut bytes: usize = 0;
-        for line in self.out.get(self.taken..).unwrap_or(&[]) {
-            bytes = bytes.saturating_add(line.bytes.len());
-        }
-        bytes
-    }
-
-    fn waiting(&self) -> usize {
-        self.out.len().saturating_sub(self.taken)
-    }
-
-    fn held(&self) -> Option<u64> {
-        Some(self.lines.held())
-    }
-
-    fn lines_in(&self, alloc: Global) -> Result<Vec<LineRef<'_>>, AllocError> {
-        refs_of(alloc, self.out.get(self.taken..).unwrap_or(&[]))
-    }
-
-    fn is_copied(&self) -> Result<bool, AllocError> {
-        Ok(self.out.clone()? == self.out)
-    }
+/// The lines behind so many.
+fn behind(lines: &[Line], count: usize) -> &[Line] {
+    lines.get(count..).unwrap_or(&[])
 }
 
-impl Pieces for LineBuffer {
-    fn put(&mut self, piece: &[u8]) -> Result<(), AllocError> {
-        if self.count() > MOST_LINES {
-            return Err(AllocError);
-        }
-        self.feed(piece)
+/// How many bytes these lines have.
+fn bytes_in(lines: &[Line]) -> usize {
+    let mut bytes: usize = 0;
+    for line in lines {
+        bytes = bytes.saturating_add(line.bytes.len());
     }
-
-    fn end(&mut self) -> Result<(), AllocError> {
-        if self.count() > MOST_LINES {
-            return Err(AllocError);
-        }
-        self.finish()
-    }
-
-    fn take(&mut self, count: usize) {
-        if count <= self.len() {
-            self.take_away(count);
-        } else {
-            self.take_away(self.len());
-        }
-    }
-
-    fn hand(&mut self, part: &mut WaitingLines) {
-        self.exchange(part);
-    }
-
-    fn ended(&self) -> u64 {
-        self.count()
-    }
-
-    fn bytes(&self) -> usize {
-        self.total_bytes()
-    }
-
-    fn waiting(&self) -> usize {
-        self.len()
-    }
-
-    fn held(&self) -> Option<u64> {
-        None
-    }
-
-    fn lines_in(&self, alloc: Global) -> Result<Vec<LineRef<'_>>, AllocError> {
-        self.lines(alloc)
-    }
-
-    fn is_copied(&self) -> Result<bool, AllocError> {
-        Ok(true)
-    }
-}
-
-impl Pieces for DocumentBuffer {
-    fn put(&mut self, piece: &[u8]) -> Result<(), AllocError> {
-        if self.count() > MOST_LINES {
-            return Err(AllocError);
-        }
-        self.feed(piece)
-    }
-
-    fn end(&mut self) -> Result<(), AllocError> {
-        if self.count() > MOST_LINES {
-            return Err(AllocError);
-        }
-        self.finish()
-    }
-
-    fn take(&mut self, count: usize) {
-        if count <= self.len() {
-            self.take_away(count);
-        } else {
-            self.take_away(self.len());
-        }
-    }
-
-    fn hand(&mut self, part: &mut WaitingLines) {
-        self.exchange(part);
-    }
-
-    fn ended(&self) -> u64 {
-        self.count()
-    }
-
-    fn bytes(&self) -> usize {
-        self.total_bytes()
-    }
-
-    fn waiting(&self) -> usize {
-        self.len()
-    }
-
-    fn held(&self) -> Option<u64> {
-        None
-    }
-
-    fn lines_in(&self, alloc: Global) -> Result<Vec<LineRef<'_>>, AllocError> {
-        self.lines(alloc)
-    }
-
-    fn is_copied(&self) -> Result<bool, AllocError> {
-        Ok(true)
-    }
+    bytes
 }

@@ -3,17 +3,10 @@
 //! items.
 
 use jp_doc::{Document, fault_within, whole_number};
-use jp_probe_parts::{StepRow, location_of};
-use serde::{Deserialize, Serialize};
+use jp_probe_parts::{Row, items_in, location_of};
+use serde::Serialize;
 use serde_json::Value;
 use std::alloc::Global;
-
-/// What is asked of a document's places.
-#[derive(Drop, Deserialize)]
-pub struct PlacesRow {
-    line: String,
-    paths: Vec<Vec<StepRow>>,
-}
 
 /// What stands at a place.
 #[derive(Drop, Serialize)]
@@ -24,23 +17,22 @@ struct PlaceAnswer {
     whole: Option<i128>,
 }
 
-impl PlacesRow {
-    /// The answer: of each path what stands there, or `null`.
-    pub fn answer(&self, alloc: Global) -> anyhow::Result<String> {
-        let document = Document::read(alloc, self.line.as_bytes())?;
-        let mut places = Vec::new(alloc);
-        for path in &self.paths {
-            places.push(place_answer(alloc, &document, path.as_slice())?)?;
-        }
-        Ok(serde_json::to_string(alloc, &places)?)
+/// The answer to what is asked of a document's places: of each path what stands there, or `null`.
+pub fn answer_places(alloc: Global, row: Row<'_>) -> anyhow::Result<String> {
+    row.has_only(&["line", "paths"])?;
+    let document = Document::read(alloc, row.text("line")?.as_bytes())?;
+    let mut places = Vec::new(alloc);
+    for path in row.items("paths")? {
+        places.push(place_answer(alloc, &document, items_in(path)?)?)?;
     }
+    Ok(serde_json::to_string(alloc, &places)?)
 }
 
 /// What stands where the steps lead.
 fn place_answer(
     alloc: Global,
     document: &Document,
-    path: &[StepRow],
+    path: &[Value],
 ) -> anyhow::Result<Option<PlaceAnswer>> {
     let location = location_of(alloc, path)?;
     match document.at(&location.steps) {
@@ -52,18 +44,11 @@ fn place_answer(
     }
 }
 
-/// A text, and how many items an array may have.
-#[derive(Drop, Deserialize)]
-pub struct ItemsRow {
-    text: String,
-    limit: usize,
-}
-
-impl ItemsRow {
-    /// The answer: the fault, or `null`.
-    pub fn answer(&self, alloc: Global) -> anyhow::Result<String> {
-        let value = Value::from_str(alloc, self.text.as_str())?;
-        let fault = fault_within(&value, self.limit).map(|fault| fault.words());
-        Ok(serde_json::to_string(alloc, &fault)?)
-    }
+/// The answer to a text, and how many items an array may have: the fault, or `null`.
+pub fn answer_items(alloc: Global, row: Row<'_>) -> anyhow::Result<String> {
+    row.has_only(&["text", "limit"])?;
+    let value = Value::from_str(alloc, row.text("text")?)?;
+    let limit = row.number("limit")? as usize;
+    let fault = fault_within(&value, limit).map(|fault| fault.words());
+    Ok(serde_json::to_string(alloc, &fault)?)
 }

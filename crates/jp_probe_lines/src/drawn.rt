@@ -1,32 +1,24 @@
 //! Pieces that are drawn: `{"drawn":{"from":0,"to":199}}` answers for how many starts of these the buffer of
 //! lines and the lines with their own bytes have the same lines behind each piece.
 
-use crate::buffers::{OwnLines, Pieces};
-use jp_buffer::{LineBuffer, LineRef};
-use serde::Deserialize;
+use crate::buffers::Fed;
+use jp_buffer::LineRef;
+use jp_probe_parts::Row;
 use std::alloc::{AllocError, Global};
 
 /// What the bytes of the pieces are drawn from: lines of few bytes, and some blank ones.
 const BYTES: &[u8; 8] = b"\n\n \r\tab7";
 
-/// The starts of the drawing.
-#[derive(Drop, Deserialize)]
-pub struct DrawnRow {
-    from: u64,
-    to: u64,
-}
-
-impl DrawnRow {
-    /// The answer.
-    pub fn answer(&self, alloc: Global) -> anyhow::Result<String> {
-        let mut alike = 0u64;
-        for start in self.from..=self.to {
-            if go_alike(alloc, start)? {
-                alike = alike.wrapping_add(1);
-            }
+/// The answer: of the starts from one to another, both too, for how many the lines are the same.
+pub fn answer_drawn(alloc: Global, row: Row<'_>) -> anyhow::Result<String> {
+    row.has_only(&["from", "to"])?;
+    let mut alike = 0u64;
+    for start in row.number("from")?..=row.number("to")? {
+        if go_alike(alloc, start)? {
+            alike = alike.wrapping_add(1);
         }
-        Ok(serde_json::to_string(alloc, &alike)?)
     }
+    Ok(serde_json::to_string(alloc, &alike)?)
 }
 
 /// The next number drawn.
@@ -55,15 +47,15 @@ fn are_alike(left: &[LineRef<'_>], right: &[LineRef<'_>]) -> bool {
 }
 
 /// Whether the same lines wait in both.
-fn wait_alike(alloc: Global, buffer: &LineBuffer, own: &OwnLines) -> Result<bool, AllocError> {
+fn wait_alike(alloc: Global, buffer: &Fed, own: &Fed) -> Result<bool, AllocError> {
     let alike = are_alike(&buffer.lines_in(alloc)?, &own.lines_in(alloc)?);
     Ok(alike && buffer.ended() == own.ended() && buffer.waiting() == own.waiting())
 }
 
 /// Whether both have the same lines of pieces that are drawn, where some lines are taken away each time.
-fn go_alike(alloc: Global, start: u64) -> Result<bool, AllocError> {
-    let mut buffer = LineBuffer::new(alloc);
-    let mut own = OwnLines::new(alloc);
+fn go_alike(alloc: Global, start: u64) -> anyhow::Result<bool> {
+    let mut buffer = Fed::named(alloc, "buffer")?;
+    let mut own = Fed::named(alloc, "lines")?;
     let mut state = drawn(start);
     for _ in 0..40 {
         let (piece, next) = drawn_piece(alloc, state, state >> 59)?;
@@ -78,5 +70,5 @@ fn go_alike(alloc: Global, start: u64) -> Result<bool, AllocError> {
     }
     buffer.end()?;
     own.end()?;
-    wait_alike(alloc, &buffer, &own)
+    Ok(wait_alike(alloc, &buffer, &own)?)
 }

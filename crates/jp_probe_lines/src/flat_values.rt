@@ -4,20 +4,9 @@
 use crate::lines::{Alike, in_one_pass, is_read_alike};
 use jp_doc::Document;
 use jp_flat::{FlatDocument, FlatKind, FlatMember, FlatReader, FlatValue};
-use jp_probe_parts::bytes_of;
-use serde::{Deserialize, Serialize};
+use jp_probe_parts::{Row, bytes_of};
+use serde::Serialize;
 use std::alloc::{AllocError, Global};
-
-/// What is asked of a value.
-#[derive(Drop, Deserialize)]
-pub struct FlatValueRow {
-    line: String,
-    /// The member of the root that is asked, or else the root.
-    member: Option<String>,
-    /// Whether the line's numbers may be any.
-    #[serde(default)]
-    decimals: bool,
-}
 
 /// What a value is by itself.
 #[derive(Drop, Serialize)]
@@ -46,39 +35,46 @@ struct FlatAnswer {
     behind: String,
 }
 
-impl FlatValueRow {
-    /// The answer, or `null` where the line is not read flat, or has no such member. The line is read once
-    /// before: where that is refused, it is read again by the same reader.
-    pub fn answer(&self, alloc: Global) -> anyhow::Result<String> {
-        let mut reader = FlatReader::new(alloc);
-        let line = self.line.as_bytes();
-        let _was_refused = if self.decimals {
-            reader.read_decimal(line).is_err()
-        } else {
-            reader.read(line).is_err()
+/// The answer to what is asked of a value, or `null` where the line is not read flat, or has no such member.
+/// The line is read once before: where that is refused, it is read again by the same reader.
+pub fn answer_flat_value(alloc: Global, row: Row<'_>) -> anyhow::Result<String> {
+    row.has_only(&["line", "member", "decimals"])?;
+    let line = row.text("line")?.as_bytes();
+    // The member of the root that is asked, or else the root.
+    let member = row.text_if_any("member")?;
+    // Whether the line's numbers may be any.
+    let decimals = row.flag("decimals")?;
+    let mut reader = FlatReader::new(alloc);
+    let _was_refused = if decimals {
+        reader.read_decimal(line).is_err()
+    } else {
+        reader.read(line).is_err()
+    };
+    if decimals {
+        return match reader.read_decimal(line)? {
+            Ok(document) => told(alloc, &document, member),
+            Err(_) => nothing(alloc),
         };
-        if self.decimals {
-            return match reader.read_decimal(line)? {
-                Ok(document) => self.told(alloc, &document),
-                Err(_) => nothing(alloc),
-            };
-        }
-        match reader.read(line)? {
-            Some(document) => self.told(alloc, &document),
-            None => nothing(alloc),
-        }
     }
+    match reader.read(line)? {
+        Some(document) => told(alloc, &document, member),
+        None => nothing(alloc),
+    }
+}
 
-    /// What is said of the value in this document.
-    fn told(&self, alloc: Global, document: &FlatDocument<'_>) -> anyhow::Result<String> {
-        let value = match &self.member {
-            Some(name) => document.root().member(name.as_str()),
-            None => Some(document.root()),
-        };
-        match value {
-            Some(value) => Ok(serde_json::to_string(alloc, &flat_answer(alloc, value)?)?),
-            None => nothing(alloc),
-        }
+/// What is said of the value in this document.
+fn told(
+    alloc: Global,
+    document: &FlatDocument<'_>,
+    member: Option<&str>,
+) -> anyhow::Result<String> {
+    let value = match member {
+        Some(name) => document.root().member(name),
+        None => Some(document.root()),
+    };
+    match value {
+        Some(value) => Ok(serde_json::to_string(alloc, &flat_answer(alloc, value)?)?),
+        None => nothing(alloc),
     }
 }
 
@@ -209,13 +205,6 @@ fn push_name(names: &mut String, name: &str) -> Result<(), AllocError> {
     names.push_str(name)
 }
 
-/// A line, and the bytes of which each stands in the place of each of its own.
-#[derive(Drop, Deserialize)]
-pub struct OneByteOffRow {
-    line: String,
-    bytes: String,
-}
-
 /// How many lines were read, and those that were not read as without the reader of one pass.
 #[derive(Drop, Serialize)]
 struct OneByteOffAnswer {
@@ -223,52 +212,40 @@ struct OneByteOffAnswer {
     wrong: Vec<Vec<u8>>,
 }
 
-impl OneByteOffRow {
-    /// The answer.
-    pub fn answer(&self, alloc: Global) -> anyhow::Result<String> {
-        let bytes = bytes_of(alloc, self.bytes.as_str())?;
-        let mut answer = OneByteOffAnswer {
-            tried: 0,
-            wrong: Vec::new(alloc),
-        };
-        for at in 0..self.line.len() {
-            self.try_place(alloc, at, &bytes, &mut answer)?;
-        }
-        Ok(serde_json::to_string(alloc, &answer)?)
+/// The answer to a line, and the bytes of which each stands in the place of each of its own.
+pub fn answer_one_byte_off(alloc: Global, row: Row<'_>) -> anyhow::Result<String> {
+    row.has_only(&["line", "bytes"])?;
+    let line = row.text("line")?.as_bytes();
+    let bytes = bytes_of(alloc, row.text("bytes")?)?;
+    let mut answer = OneByteOffAnswer {
+        tried: 0,
+        wrong: Vec::new(alloc),
+    };
+    for at in 0..line.len() {
+        try_place(alloc, line, at, &bytes, &mut answer)?;
     }
+    Ok(serde_json::to_string(alloc, &answer)?)
+}
 
-    /// Tries the line with each of these bytes there.
-    fn try_place(
-        &self,
-        alloc: Global,
-        at: usize,
-        bytes: &[u8],
-        answer: &mut OneByteOffAnswer,
-    ) -> anyhow::Result<()> {
-        for byte in bytes {
-            self.try_byte(alloc, at, *byte, answer)?;
-        }
-        Ok(())
-    }
-
-    /// Tries the line with this byte there.
-    fn try_byte(
-        &self,
-        alloc: Global,
-        at: usize,
-        byte: u8,
-        answer: &mut OneByteOffAnswer,
-    ) -> anyhow::Result<()> {
-        let mut line = Vec::from_slice(alloc, self.line.as_bytes())?;
-        if let Some(place) = line.get_mut(at) {
-            *place = byte;
+/// Tries the line with each of these bytes there.
+fn try_place(
+    alloc: Global,
+    line: &[u8],
+    at: usize,
+    bytes: &[u8],
+    answer: &mut OneByteOffAnswer,
+) -> anyhow::Result<()> {
+    for byte in bytes {
+        let mut tried = Vec::from_slice(alloc, line)?;
+        if let Some(place) = tried.get_mut(at) {
+            *place = *byte;
         }
         answer.tried = answer.tried.wrapping_add(1);
-        if !is_read_right(alloc, &line)? {
-            answer.wrong.push(line)?;
+        if !is_read_right(alloc, &tried)? {
+            answer.wrong.push(tried)?;
         }
-        Ok(())
     }
+    Ok(())
 }
 
 /// Whether a line is read flat where it holds a document, and as that.

@@ -6,22 +6,10 @@ use crate::one_pass::{is_as_laid, is_as_laid_decimal};
 use jp_doc::{DocFault, Document, whole_number};
 use jp_flat::{FlatReader, FlatValue, LineDocument, LineReader};
 use jp_number::Numbers;
-use jp_probe_parts::bytes_of;
-use serde::{Deserialize, Serialize};
+use jp_probe_parts::{Row, bytes_of, text_in};
+use serde::Serialize;
 use std::alloc::{AllocError, Global};
 use std::str;
-
-/// What is asked of lines.
-#[derive(Drop, Deserialize)]
-pub struct LinesRow {
-    lines: Vec<String>,
-    /// Whether the lines are long, so that no tree is looked at.
-    #[serde(default)]
-    are_long: bool,
-    /// Whether the reader of flat lines lets its memory go behind each.
-    #[serde(default)]
-    release: bool,
-}
 
 /// How a line is read in one of two ways, beside the other.
 #[derive(Clone, Copy, PartialEq, Eq)]
@@ -60,53 +48,56 @@ struct Readers {
     line: LineReader,
 }
 
-impl LinesRow {
-    /// The answer.
-    pub fn answer(&self, alloc: Global) -> anyhow::Result<String> {
-        let mut readers = Readers {
-            flat: FlatReader::new(alloc),
-            line: LineReader::new(alloc),
-        };
-        let mut answer = no_lines(alloc);
-        for text in &self.lines {
-            let line = bytes_of(alloc, text.as_str())?;
-            self.add_line(alloc, &mut readers, &line, &mut answer)?;
-            if self.release {
-                readers.flat.release();
-            }
+/// The answer to what is asked of lines.
+pub fn answer_lines(alloc: Global, row: Row<'_>) -> anyhow::Result<String> {
+    row.has_only(&["lines", "are_long", "release"])?;
+    // Whether the lines are long, so that no tree is looked at.
+    let are_long = row.flag("are_long")?;
+    // Whether the reader of flat lines lets its memory go behind each.
+    let release = row.flag("release")?;
+    let mut readers = Readers {
+        flat: FlatReader::new(alloc),
+        line: LineReader::new(alloc),
+    };
+    let mut answer = no_lines(alloc);
+    for value in row.items("lines")? {
+        let line = bytes_of(alloc, text_in(value)?)?;
+        add_line(alloc, &mut readers, &line, are_long, &mut answer)?;
+        if release {
+            readers.flat.release();
         }
-        Ok(serde_json::to_string(alloc, &answer)?)
     }
+    Ok(serde_json::to_string(alloc, &answer)?)
+}
 
-    /// Adds how a line is read.
-    fn add_line(
-        &self,
-        alloc: Global,
-        readers: &mut Readers,
-        line: &[u8],
-        answer: &mut LinesAnswer,
-    ) -> anyhow::Result<()> {
-        let (items, last) = items_of(&mut readers.flat, line)?;
-        answer.items.push(items)?;
-        answer.lasts.push(last)?;
-        if self.are_long {
-            answer.flat.push(letter(is_left(&mut readers.flat, line)?))?;
-        } else {
-            let (tree, fault) = tree_told(alloc, line)?;
-            answer.trees.push(tree)?;
-            answer.faults.push(fault)?;
-            let told = is_read_alike(alloc, &mut readers.flat, line)?;
-            answer.flat.push(letter(told))?;
-        }
-        let (one_pass, one_pass_decimal) = in_one_pass(alloc, line)?;
-        answer.one_pass.push(letter(one_pass))?;
-        answer.one_pass_decimal.push(letter(one_pass_decimal))?;
-        let whole = told_by(alloc, &mut readers.line, Numbers::Whole, line)?;
-        answer.whole.push(whole)?;
-        let decimals = told_by(alloc, &mut readers.line, Numbers::Decimals, line)?;
-        answer.decimals.push(decimals)?;
-        Ok(())
+/// Adds how a line is read.
+fn add_line(
+    alloc: Global,
+    readers: &mut Readers,
+    line: &[u8],
+    is_long: bool,
+    answer: &mut LinesAnswer,
+) -> anyhow::Result<()> {
+    let (items, last) = items_of(&mut readers.flat, line)?;
+    answer.items.push(items)?;
+    answer.lasts.push(last)?;
+    if is_long {
+        answer.flat.push(letter(is_left(&mut readers.flat, line)?))?;
+    } else {
+        let (tree, fault) = tree_told(alloc, line)?;
+        answer.trees.push(tree)?;
+        answer.faults.push(fault)?;
+        let told = is_read_alike(alloc, &mut readers.flat, line)?;
+        answer.flat.push(letter(told))?;
     }
+    let (one_pass, one_pass_decimal) = in_one_pass(alloc, line)?;
+    answer.one_pass.push(letter(one_pass))?;
+    answer.one_pass_decimal.push(letter(one_pass_decimal))?;
+    let whole = told_by(alloc, &mut readers.line, Numbers::Whole, line)?;
+    answer.whole.push(whole)?;
+    let decimals = told_by(alloc, &mut readers.line, Numbers::Decimals, line)?;
+    answer.decimals.push(decimals)?;
+    Ok(())
 }
 
 /// The answer for no lines.

@@ -3,45 +3,34 @@
 
 use jp_doc::DocFault;
 use jp_flat::{FlatMember, FlatReader};
-use serde::Deserialize;
+use jp_probe_parts::Row;
 use std::alloc::{AllocError, Global};
 
-/// An object of all names below the count, each the step further than the one before.
-#[derive(Drop, Deserialize)]
-pub struct WideRow {
-    count: u32,
-    step: u32,
-    /// Whether each name stands twice.
-    #[serde(default)]
-    twice: bool,
+/// The answer: how many members came so, or `null` where one did not. The object has all names below the
+/// count, each the step further than the one before, and each twice where that is asked.
+pub fn answer_wide(alloc: Global, row: Row<'_>) -> anyhow::Result<String> {
+    row.has_only(&["count", "step", "twice"])?;
+    let count = u32::try_from(row.number("count")?)?;
+    let step = u32::try_from(row.number("step")?)?;
+    let line = line_of(alloc, count, step, row.flag("twice")?)?;
+    let mut reader = FlatReader::new(alloc);
+    let risen = risen_in(alloc, &mut reader, &line)?;
+    Ok(serde_json::to_string(alloc, &risen)?)
 }
 
-impl WideRow {
-    /// The answer: how many members came so, or `null` where one did not.
-    pub fn answer(&self, alloc: Global) -> anyhow::Result<String> {
-        let line = self.line(alloc)?;
-        let mut reader = FlatReader::new(alloc);
-        let count = risen_in(alloc, &mut reader, &line)?;
-        Ok(serde_json::to_string(alloc, &count)?)
-    }
-
-    /// The line of the object.
-    fn line(&self, alloc: Global) -> Result<Vec<u8>, AllocError> {
-        let mut line = Vec::new(alloc);
-        let mut name = 0u32;
-        for _ in 0..self.count {
-            name = name
-                .wrapping_add(self.step)
-                .checked_rem(self.count)
-                .unwrap_or(0);
-            if self.twice {
-                add_member(alloc, &mut line, name, self.count)?;
-            }
-            add_member(alloc, &mut line, name, name)?;
+/// The line of the object.
+fn line_of(alloc: Global, count: u32, step: u32, is_twice: bool) -> Result<Vec<u8>, AllocError> {
+    let mut line = Vec::new(alloc);
+    let mut name = 0u32;
+    for _ in 0..count {
+        name = name.wrapping_add(step).checked_rem(count).unwrap_or(0);
+        if is_twice {
+            add_member(alloc, &mut line, name, count)?;
         }
-        line.push(b'}')?;
-        Ok(line)
+        add_member(alloc, &mut line, name, name)?;
     }
+    line.push(b'}')?;
+    Ok(line)
 }
 
 /// Adds a member whose name is of six digits.
