@@ -1,59 +1,34 @@
 //! Numbers: `{"order":{"left":"1.0","right":"2"}}` and `{"limits":{"number":"1e999999999"}}`.
 //!
-//! The order of two numbers is `<`, `=` or `>`, as each call says of them both ways round, by their texts and as
-//! whole numbers where they are such; `unlike` where not all say the same.
+//! The order of two numbers is `<`, `=` or `>`, as each call says of them both ways round, by their texts and
+//! as whole numbers where they are such; `unlike` where not all say the same.
 
 use jp_number::{Number, NumberText, Numbers};
-use serde::Deserialize;
+use jp_probe_parts::Row;
 use std::alloc::Global;
 use std::cmp::Ordering;
 
-/// Which numbers a row asks for.
-#[derive(Clone, Copy, Default, Deserialize)]
-#[serde(rename_all = "snake_case")]
-pub enum AskedNumbers {
-    #[default]
-    Whole,
-    Decimals,
-}
-
-/// Two numbers.
-#[derive(Drop, Deserialize)]
-pub struct OrderRow {
-    left: String,
-    right: String,
-}
-
-/// A number of which is asked whether it is within the limits.
-#[derive(Drop, Deserialize)]
-pub struct LimitsRow {
-    number: String,
-}
-
-impl AskedNumbers {
-    /// The numbers themselves.
-    pub fn numbers(self) -> Numbers {
-        match self {
-            AskedNumbers::Whole => Numbers::Whole,
-            AskedNumbers::Decimals => Numbers::Decimals,
-        }
+/// Which numbers a row asks for, as `numbers`: `whole`, as where it names none, or `decimals`.
+pub fn numbers_of(row: Row<'_>) -> anyhow::Result<Numbers> {
+    match row.text_if_any("numbers")? {
+        Some("whole") | None => Ok(Numbers::Whole),
+        Some("decimals") => Ok(Numbers::Decimals),
+        Some(_) => Err(anyhow::anyhow!("no numbers have the name that stands in a row")),
     }
 }
 
-impl OrderRow {
-    /// The answer: `null` where one is over the limits.
-    pub fn answer(&self, alloc: Global) -> anyhow::Result<String> {
-        let said = order_of(self.left.as_str(), self.right.as_str());
-        Ok(serde_json::to_string(alloc, &said)?)
-    }
+/// Answers `order`, of two numbers: `null` where one is over the limits.
+pub fn answer_order(alloc: Global, row: Row<'_>) -> anyhow::Result<String> {
+    row.has_only(&["left", "right"])?;
+    let said = order_of(row.text("left")?, row.text("right")?);
+    Ok(serde_json::to_string(alloc, &said)?)
 }
 
-impl LimitsRow {
-    /// The answer: whether it is within the limits.
-    pub fn answer(&self, alloc: Global) -> anyhow::Result<String> {
-        let fits = NumberText::new(self.number.as_str()).is_some();
-        Ok(serde_json::to_string(alloc, &fits)?)
-    }
+/// Answers `limits`: whether a number is within the limits.
+pub fn answer_limits(alloc: Global, row: Row<'_>) -> anyhow::Result<String> {
+    row.has_only(&["number"])?;
+    let fits = NumberText::new(row.text("number")?).is_some();
+    Ok(serde_json::to_string(alloc, &fits)?)
 }
 
 /// The order of two numbers, as each call says.

@@ -1,29 +1,13 @@
 //! Patterns: `{"pattern":{"text":"a|b","texts":["a","ab"],"before":"","steps":"ab","anew":true}}`.
 //!
-//! Of each text is said whether the `whole` of it matches, a `part` or `no` part, by the pattern as it is read
-//! and by the compiled one; `unlike` where these differ.
+//! Of each text is said whether the `whole` of it matches, a `part` or `no` part, by the pattern as it is
+//! read and by the compiled one; `unlike` where these differ.
 
+use jp_probe_parts::{Row, text_in};
 use jp_regexp::{Pattern, Terms};
-use serde::{Deserialize, Serialize};
+use serde::Serialize;
+use serde_json::Value;
 use std::alloc::{AllocError, Global};
-
-/// What is asked of a pattern.
-#[derive(Drop, Deserialize)]
-pub struct PatternRow {
-    text: String,
-    /// The texts of which is asked what of them matches.
-    #[serde(default)]
-    texts: Vec<String>,
-    /// The characters that are read before the steps.
-    #[serde(default)]
-    before: String,
-    /// The characters of which each is a step.
-    #[serde(default)]
-    steps: String,
-    /// Whether a match may begin behind each character.
-    #[serde(default)]
-    anew: bool,
-}
 
 /// What of a text matches.
 #[derive(Clone, Copy, PartialEq, Serialize)]
@@ -54,63 +38,73 @@ struct PatternAnswer {
     steps: Vec<Stands>,
 }
 
-impl PatternRow {
-    /// The answer: `null` where the text is no pattern.
-    pub fn answer(&self, alloc: Global) -> anyhow::Result<String> {
-        let read = Pattern::read(alloc, self.text.as_str())?;
-        let compiled = Pattern::compiled(alloc, self.text.as_str())?;
-        match (read, compiled) {
-            (Some(read), Some(compiled)) => self.said(alloc, &read, &compiled),
-            (None, None) => Ok(serde_json::to_string(alloc, &None::<bool>)?),
-            _ => Ok(serde_json::to_string(alloc, &Match::Unlike)?),
-        }
+/// Answers `pattern`, of a text: `null` where it is no pattern.
+pub fn answer_pattern(alloc: Global, row: Row<'_>) -> anyhow::Result<String> {
+    row.has_only(&["text", "texts", "before", "steps", "anew"])?;
+    let text = row.text("text")?;
+    match (Pattern::read(alloc, text)?, Pattern::compiled(alloc, text)?) {
+        (Some(read), Some(compiled)) => said(alloc, row, &read, &compiled),
+        (None, None) => Ok(serde_json::to_string(alloc, &None::<bool>)?),
+        _ => Ok(serde_json::to_string(alloc, &Match::Unlike)?),
     }
+}
 
-    /// What is said of a pattern, as it is read and compiled.
-    fn said(&self, alloc: Global, read: &Pattern, compiled: &Pattern) -> anyhow::Result<String> {
-        let mut terms = read.start(alloc)?;
-        let answer = PatternAnswer {
-            size: read.unrolled_size(),
-            texts: self.texts_said(alloc, read, compiled)?,
-            most: self.most_before(&mut terms)?,
-            steps: self.stepped(alloc, &mut terms)?,
-        };
-        Ok(serde_json::to_string(alloc, &answer)?)
-    }
+/// What is said of a pattern, as it is read and compiled.
+///
+/// `texts` are those of which is asked what of them matches, `before` the characters that are read before the
+/// steps, and `steps` those of which each is a step. `anew` says whether a match may begin behind each
+/// character.
+fn said(alloc: Global, row: Row<'_>, read: &Pattern, compiled: &Pattern) -> anyhow::Result<String> {
+    let before = row.text_if_any("before")?.unwrap_or("");
+    let steps = row.text_if_any("steps")?.unwrap_or("");
+    let anew = row.flag("anew")?;
+    let mut terms = read.start(alloc)?;
+    let answer = PatternAnswer {
+        size: read.unrolled_size(),
+        texts: texts_said(alloc, row.items("texts")?, read, compiled)?,
+        most: most_before(before, anew, &mut terms)?,
+        steps: stepped(alloc, steps, anew, &mut terms)?,
+    };
+    Ok(serde_json::to_string(alloc, &answer)?)
+}
 
-    /// What of each text matches.
-    fn texts_said(
-        &self,
-        alloc: Global,
-        read: &Pattern,
-        compiled: &Pattern,
-    ) -> Result<Vec<Match>, AllocError> {
-        let mut said = Vec::new(alloc);
-        for text in &self.texts {
-            said.push(matched(alloc, read, compiled, text.as_str())?)?;
-        }
-        Ok(said)
+/// What of each text matches.
+fn texts_said(
+    alloc: Global,
+    texts: &[Value],
+    read: &Pattern,
+    compiled: &Pattern,
+) -> anyhow::Result<Vec<Match>> {
+    let mut said = Vec::new(alloc);
+    for text in texts {
+        said.push(matched(alloc, read, compiled, text_in(text)?)?)?;
     }
+    Ok(said)
+}
 
-    /// Reads what stands before the steps. Gives the most terms that stood there.
-    fn most_before(&self, terms: &mut Terms<'_>) -> anyhow::Result<u64> {
-        let mut most = terms.len();
-        for c in self.before.chars() {
-            step(terms, c, self.anew)?;
-            most = most.max(terms.len());
-        }
-        Ok(most)
+/// Reads what stands before the steps. Gives the most terms that stood there.
+fn most_before(before: &str, anew: bool, terms: &mut Terms<'_>) -> anyhow::Result<u64> {
+    let mut most = terms.len();
+    for c in before.chars() {
+        step(terms, c, anew)?;
+        most = most.max(terms.len());
     }
+    Ok(most)
+}
 
-    /// What stands before the steps, and behind each.
-    fn stepped(&self, alloc: Global, terms: &mut Terms<'_>) -> anyhow::Result<Vec<Stands>> {
-        let mut steps = vec![in alloc; standing(terms)]?;
-        for c in self.steps.chars() {
-            step(terms, c, self.anew)?;
-            steps.push(standing(terms))?;
-        }
-        Ok(steps)
+/// What stands before the steps, and behind each.
+fn stepped(
+    alloc: Global,
+    steps: &str,
+    anew: bool,
+    terms: &mut Terms<'_>,
+) -> anyhow::Result<Vec<Stands>> {
+    let mut stands = vec![in alloc; standing(terms)]?;
+    for c in steps.chars() {
+        step(terms, c, anew)?;
+        stands.push(standing(terms))?;
     }
+    Ok(stands)
 }
 
 /// What stands now.

@@ -1,48 +1,17 @@
 //! Plans: `{"plan":{"text":"$[?match(@,'a')]","by":"check","numbers":"decimals","known":["a"]}}`, and
 //! filters by themselves: `{"filter_plan":{"text":"@.a==1"}}`.
 
-use crate::numbers::AskedNumbers;
+use crate::numbers::numbers_of;
 use crate::queries::fault_text;
 use jp_check::{Known, Plan, check, filter_in, filter_query_text, plan, plan_in};
 use jp_compiled::{CompiledQuery, CompiledSegment, CompiledSelector, RootPart, Want};
 use jp_number::Numbers;
+use jp_probe_parts::{Row, text_in};
 use jp_syntax::read_query;
 use jp_tree::QueryFault;
-use serde::{Deserialize, Serialize};
+use serde::Serialize;
+use serde_json::Value;
 use std::alloc::{AllocError, Global};
-
-/// The call that makes a plan.
-#[derive(Clone, Copy, Default, Deserialize)]
-#[serde(rename_all = "snake_case")]
-enum Way {
-    /// `plan`, where literals are whole.
-    Plan,
-    #[default]
-    PlanIn,
-    /// `check`, of the tree that is read.
-    Check,
-}
-
-/// What is asked of a plan.
-#[derive(Drop, Deserialize)]
-pub struct PlanRow {
-    text: String,
-    #[serde(default)]
-    by: Way,
-    #[serde(default)]
-    numbers: AskedNumbers,
-    /// The texts of which is asked what the plan knows of them as patterns.
-    #[serde(default)]
-    known: Vec<String>,
-}
-
-/// A filter by itself.
-#[derive(Drop, Deserialize)]
-pub struct FilterPlanRow {
-    text: String,
-    #[serde(default)]
-    numbers: AskedNumbers,
-}
 
 /// What is said of a text that is refused.
 #[derive(Drop, Serialize)]
@@ -83,43 +52,54 @@ fn name_of(numbers: Numbers) -> &'static str {
     }
 }
 
-impl PlanRow {
-    /// The answer.
-    pub fn answer(&self, alloc: Global) -> anyhow::Result<String> {
-        match self.planned(alloc) {
-            Ok(plan) => Ok(serde_json::to_string(alloc, &self.said(alloc, &plan)?)?),
-            Err(fault) => {
-                let fault = fault_text(alloc, fault)?;
-                Ok(serde_json::to_string(alloc, &NoPlan { fault })?)
-            }
+/// Answers `plan`, of the text of a query.
+pub fn answer_plan(alloc: Global, row: Row<'_>) -> anyhow::Result<String> {
+    row.has_only(&["text", "by", "numbers", "known"])?;
+    match planned(alloc, row)? {
+        Ok(plan) => Ok(serde_json::to_string(alloc, &said(alloc, row, &plan)?)?),
+        Err(fault) => {
+            let fault = fault_text(alloc, fault)?;
+            Ok(serde_json::to_string(alloc, &NoPlan { fault })?)
         }
     }
+}
 
-    /// The plan, by the call that is asked for.
-    fn planned(&self, alloc: Global) -> Result<Plan, QueryFault> {
-        let text = self.text.as_str();
-        match self.by {
-            Way::Plan => plan(alloc, text),
-            Way::PlanIn => plan_in(alloc, text, self.numbers.numbers()),
-            Way::Check => check(alloc, read_query(alloc, text)?, self.numbers.numbers()),
-        }
+/// The plan, by the call that is asked for, as `by`: `plan`, where literals are whole, `plan_in`, as where
+/// none is named, or `check`, of the tree that is read.
+fn planned(alloc: Global, row: Row<'_>) -> anyhow::Result<Result<Plan, QueryFault>> {
+    let (text, numbers) = (row.text("text")?, numbers_of(row)?);
+    match row.text_if_any("by")? {
+        Some("plan") => Ok(plan(alloc, text)),
+        Some("plan_in") | None => Ok(plan_in(alloc, text, numbers)),
+        Some("check") => Ok(checked(alloc, text, numbers)),
+        Some(_) => Err(anyhow::anyhow!("no call has the name that stands in a row")),
     }
+}
 
-    /// What is said of the plan.
-    fn said(&self, alloc: Global, plan: &Plan) -> anyhow::Result<PlanAnswer> {
-        let mut known = Vec::new(alloc);
-        for text in &self.known {
-            known.push(known_of(plan, text.as_str()))?;
-        }
-        Ok(PlanAnswer {
-            keeps: *plan.query() == read_query(alloc, self.text.as_str())?,
-            numbers: name_of(plan.numbers()),
-            segments: plan.query().segments.len(),
-            known,
-            compiled: compiled_segments(alloc, plan.compiled())?,
-            roots: roots(alloc, plan.compiled())?,
-        })
+/// The plan of the tree that is read.
+fn checked(alloc: Global, text: &str, numbers: Numbers) -> Result<Plan, QueryFault> {
+    check(alloc, read_query(alloc, text)?, numbers)
+}
+
+/// What is said of the plan. `known` are the texts of which is asked what it knows of them as patterns.
+fn said(alloc: Global, row: Row<'_>, plan: &Plan) -> anyhow::Result<PlanAnswer> {
+    Ok(PlanAnswer {
+        keeps: *plan.query() == read_query(alloc, row.text("text")?)?,
+        numbers: name_of(plan.numbers()),
+        segments: plan.query().segments.len(),
+        known: all_known(alloc, plan, row.items("known")?)?,
+        compiled: compiled_segments(alloc, plan.compiled())?,
+        roots: roots(alloc, plan.compiled())?,
+    })
+}
+
+/// What the plan knows of each text as a pattern.
+fn all_known(alloc: Global, plan: &Plan, texts: &[Value]) -> anyhow::Result<Vec<&'static str>> {
+    let mut known = Vec::new(alloc);
+    for text in texts {
+        known.push(known_of(plan, text_in(text)?))?;
     }
+    Ok(known)
 }
 
 /// What the plan knows of the text as a pattern.
@@ -178,24 +158,24 @@ fn wanted(want: Want) -> &'static str {
     }
 }
 
-impl FilterPlanRow {
-    /// The answer.
-    pub fn answer(&self, alloc: Global) -> anyhow::Result<String> {
-        let query = filter_query_text(alloc, self.text.as_str())?;
-        let answer = match filter_in(alloc, self.text.as_str(), self.numbers.numbers()) {
-            Ok(plan) => FilterAnswer {
-                query,
-                fault: None,
-                numbers: Some(name_of(plan.numbers())),
-                alone: Some(plan.compiled().only_filter().is_some()),
-            },
-            Err(fault) => FilterAnswer {
-                query,
-                fault: Some(fault_text(alloc, fault)?),
-                numbers: None,
-                alone: None,
-            },
-        };
-        Ok(serde_json::to_string(alloc, &answer)?)
-    }
+/// Answers `filter_plan`, of a filter by itself.
+pub fn answer_filter_plan(alloc: Global, row: Row<'_>) -> anyhow::Result<String> {
+    row.has_only(&["text", "numbers"])?;
+    let (text, numbers) = (row.text("text")?, numbers_of(row)?);
+    let query = filter_query_text(alloc, text)?;
+    let answer = match filter_in(alloc, text, numbers) {
+        Ok(plan) => FilterAnswer {
+            query,
+            fault: None,
+            numbers: Some(name_of(plan.numbers())),
+            alone: Some(plan.compiled().only_filter().is_some()),
+        },
+        Err(fault) => FilterAnswer {
+            query,
+            fault: Some(fault_text(alloc, fault)?),
+            numbers: None,
+            alone: None,
+        },
+    };
+    Ok(serde_json::to_string(alloc, &answer)?)
 }

@@ -1,25 +1,14 @@
 //! Queries as they are read:
 //! `{"query":{"text":"$.a.a","like":"$['a']['a']","part":"$.a","sample":"a"}}`.
 
+use jp_probe_parts::Row;
 use jp_syntax::read_query;
 use jp_tokens::bracket_depth;
 use jp_tree::{
     Comparable, Literal, Logical, Query, QueryFault, Segment, Selector, Start, is_singular,
 };
-use serde::{Deserialize, Serialize};
+use serde::Serialize;
 use std::alloc::{AllocError, Global};
-
-/// What is asked of a text.
-#[derive(Drop, Deserialize)]
-pub struct QueryRow {
-    text: String,
-    /// A text of which is asked whether it spells the same query.
-    like: Option<String>,
-    /// A query of one segment, of which is asked how many of the text's are that one.
-    part: Option<String>,
-    /// A name, of which is asked whether the query is the tree of `$['NAME',?@.*]` that is made by hand.
-    sample: Option<String>,
-}
 
 /// What is said of a text that spells no query.
 #[derive(Drop, Serialize)]
@@ -48,63 +37,62 @@ pub fn fault_text(alloc: Global, fault: QueryFault) -> Result<String, AllocError
     format!(in alloc; "{fault}")
 }
 
-impl QueryRow {
-    /// The answer.
-    pub fn answer(&self, alloc: Global) -> anyhow::Result<String> {
-        let text = self.text.as_str();
-        let depth = bracket_depth(text);
-        match read_query(alloc, text) {
-            Ok(query) => {
-                let answer = self.said(alloc, &query, depth)?;
-                Ok(serde_json::to_string(alloc, &answer)?)
-            }
-            Err(fault) => {
-                let fault = fault_text(alloc, fault)?;
-                Ok(serde_json::to_string(alloc, &NoQuery { depth, fault })?)
-            }
+/// Answers `query`, of a text.
+pub fn answer_query(alloc: Global, row: Row<'_>) -> anyhow::Result<String> {
+    row.has_only(&["text", "like", "part", "sample"])?;
+    let text = row.text("text")?;
+    let depth = bracket_depth(text);
+    match read_query(alloc, text) {
+        Ok(query) => {
+            let answer = said(alloc, row, &query, depth)?;
+            Ok(serde_json::to_string(alloc, &answer)?)
+        }
+        Err(fault) => {
+            let fault = fault_text(alloc, fault)?;
+            Ok(serde_json::to_string(alloc, &NoQuery { depth, fault })?)
         }
     }
+}
 
-    /// What is said of the query of the text.
-    fn said(&self, alloc: Global, query: &Query, depth: u64) -> anyhow::Result<QueryAnswer> {
-        let number = match compared_number(query) {
-            Some(number) => Some(String::from_str(alloc, number)?),
-            None => None,
-        };
-        Ok(QueryAnswer {
-            accepted: true,
-            depth,
-            singular: is_singular(query),
-            selectors: selector_counts(alloc, query)?,
-            number,
-            like: self.is_like(alloc, query)?,
-            parts: self.parts(alloc, query)?,
-            sample: self.is_sample(alloc, query)?,
-        })
+/// What is said of the query of the text.
+fn said(alloc: Global, row: Row<'_>, query: &Query, depth: u64) -> anyhow::Result<QueryAnswer> {
+    let number = match compared_number(query) {
+        Some(number) => Some(String::from_str(alloc, number)?),
+        None => None,
+    };
+    Ok(QueryAnswer {
+        accepted: true,
+        depth,
+        singular: is_singular(query),
+        selectors: selector_counts(alloc, query)?,
+        number,
+        like: is_like(alloc, row, query)?,
+        parts: parts(alloc, row, query)?,
+        sample: is_sample(alloc, row, query)?,
+    })
+}
+
+/// Whether another text spells the same query, `like`.
+fn is_like(alloc: Global, row: Row<'_>, query: &Query) -> anyhow::Result<Option<bool>> {
+    match row.text_if_any("like")? {
+        Some(text) => Ok(Some(read_query(alloc, text)? == *query)),
+        None => Ok(None),
     }
+}
 
-    /// Whether the other text spells the same query.
-    fn is_like(&self, alloc: Global, query: &Query) -> anyhow::Result<Option<bool>> {
-        match &self.like {
-            Some(text) => Ok(Some(read_query(alloc, text.as_str())? == *query)),
-            None => Ok(None),
-        }
+/// How many segments are that of a query of one segment, `part`.
+fn parts(alloc: Global, row: Row<'_>, query: &Query) -> anyhow::Result<Option<usize>> {
+    match row.text_if_any("part")? {
+        Some(text) => Ok(Some(equal_segments(query, &read_query(alloc, text)?))),
+        None => Ok(None),
     }
+}
 
-    /// How many segments are that of the part.
-    fn parts(&self, alloc: Global, query: &Query) -> anyhow::Result<Option<usize>> {
-        match &self.part {
-            Some(text) => Ok(Some(equal_segments(query, &read_query(alloc, text.as_str())?))),
-            None => Ok(None),
-        }
-    }
-
-    /// Whether the query is the tree made by hand.
-    fn is_sample(&self, alloc: Global, query: &Query) -> anyhow::Result<Option<bool>> {
-        match &self.sample {
-            Some(name) => Ok(Some(sample(alloc, name.as_str())? == *query)),
-            None => Ok(None),
-        }
+/// Whether the query is the tree of `$['NAME',?@.*]` that is made by hand, with the name `sample`.
+fn is_sample(alloc: Global, row: Row<'_>, query: &Query) -> anyhow::Result<Option<bool>> {
+    match row.text_if_any("sample")? {
+        Some(name) => Ok(Some(sample(alloc, name)? == *query)),
+        None => Ok(None),
     }
 }
 

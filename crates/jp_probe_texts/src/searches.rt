@@ -6,17 +6,16 @@
 
 use crate::patterns::{Match, matched};
 use crate::texts::{repeated, texts_of};
+use jp_probe_parts::Row;
 use jp_regexp::Pattern;
-use serde::{Deserialize, Serialize};
+use serde::Serialize;
 use std::alloc::{AllocError, Global};
 
-/// A search for a word among other text.
-#[derive(Drop, Deserialize)]
-pub struct SearchRow {
-    text: String,
-    around: String,
-    word: String,
-    before: u64,
+/// A search for a word among other text, which stands up to so many times behind it.
+#[derive(Clone, Copy)]
+struct Search<'v> {
+    around: &'v str,
+    word: &'v str,
     behind: u64,
 }
 
@@ -26,14 +25,6 @@ struct SearchAnswer {
     found: u64,
     places: u64,
     unlike: u64,
-}
-
-/// All texts of some characters.
-#[derive(Drop, Deserialize)]
-pub struct CountedRow {
-    text: String,
-    characters: String,
-    longest: u64,
 }
 
 /// How many texts match and in how many a part does, each with a check number.
@@ -78,33 +69,39 @@ impl SearchAnswer {
     }
 }
 
-impl SearchRow {
-    /// The answer.
-    pub fn answer(&self, alloc: Global) -> anyhow::Result<String> {
-        let both = read_both(alloc, self.text.as_str())?;
-        let mut answer = SearchAnswer {
-            found: 0,
-            places: 0,
-            unlike: 0,
-        };
-        for before in 0..self.before.saturating_add(1) {
-            self.add_behind(alloc, &both, before, &mut answer)?;
-        }
-        Ok(serde_json::to_string(alloc, &answer)?)
+/// Answers `search`.
+pub fn answer_search(alloc: Global, row: Row<'_>) -> anyhow::Result<String> {
+    row.has_only(&["text", "around", "word", "before", "behind"])?;
+    let both = read_both(alloc, row.text("text")?)?;
+    let search = Search {
+        around: row.text("around")?,
+        word: row.text("word")?,
+        behind: row.number("behind")?,
+    };
+    let mut answer = SearchAnswer {
+        found: 0,
+        places: 0,
+        unlike: 0,
+    };
+    for before in 0..row.number("before")?.saturating_add(1) {
+        search.add_behind(alloc, &both, before, &mut answer)?;
     }
+    Ok(serde_json::to_string(alloc, &answer)?)
+}
 
+impl Search<'_> {
     /// Adds the texts in which what stands around is so many times before the word.
     fn add_behind(
-        &self,
+        self,
         alloc: Global,
         both: &Both,
         before: u64,
         answer: &mut SearchAnswer,
     ) -> Result<(), AllocError> {
         for behind in 0..self.behind.saturating_add(1) {
-            let mut text = repeated(alloc, self.around.as_str(), before)?;
-            text.push_str(self.word.as_str())?;
-            text.push_str(repeated(alloc, self.around.as_str(), behind)?.as_str())?;
+            let mut text = repeated(alloc, self.around, before)?;
+            text.push_str(self.word)?;
+            text.push_str(repeated(alloc, self.around, behind)?.as_str())?;
             answer.add(matched(alloc, &both.read, &both.compiled, text.as_str())?);
         }
         Ok(())
@@ -124,40 +121,40 @@ impl Count {
     }
 }
 
-impl CountedRow {
-    /// All texts, the shorter ones first.
-    fn texts(&self, alloc: Global) -> Result<Vec<String>, AllocError> {
-        let mut texts = Vec::new(alloc);
-        for length in 0..self.longest.saturating_add(1) {
-            texts.append(&mut texts_of(alloc, self.characters.as_str(), length)?)?;
-        }
-        Ok(texts)
+/// All texts of up to so many of the characters, the shorter ones first.
+fn texts_up_to(alloc: Global, characters: &str, longest: u64) -> Result<Vec<String>, AllocError> {
+    let mut texts = Vec::new(alloc);
+    for length in 0..longest.saturating_add(1) {
+        texts.append(&mut texts_of(alloc, characters, length)?)?;
     }
+    Ok(texts)
+}
 
-    /// The answer.
-    pub fn answer(&self, alloc: Global) -> anyhow::Result<String> {
-        let both = read_both(alloc, self.text.as_str())?;
-        let mut whole = Count { texts: 0, check: 0 };
-        let mut part = Count { texts: 0, check: 0 };
-        let mut unlike = 0u64;
-        let mut i = 0u64;
-        for text in &self.texts(alloc)? {
-            i = i.saturating_add(1);
-            match matched(alloc, &both.read, &both.compiled, text.as_str())? {
-                Match::Whole => {
-                    whole.add(i);
-                    part.add(i);
-                }
-                Match::Part => part.add(i),
-                Match::No => {}
-                Match::Unlike => unlike = unlike.saturating_add(1),
+/// Answers `counted`, of all texts of some characters.
+pub fn answer_counted(alloc: Global, row: Row<'_>) -> anyhow::Result<String> {
+    row.has_only(&["text", "characters", "longest"])?;
+    let both = read_both(alloc, row.text("text")?)?;
+    let texts = texts_up_to(alloc, row.text("characters")?, row.number("longest")?)?;
+    let mut whole = Count { texts: 0, check: 0 };
+    let mut part = Count { texts: 0, check: 0 };
+    let mut unlike = 0u64;
+    let mut i = 0u64;
+    for text in &texts {
+        i = i.saturating_add(1);
+        match matched(alloc, &both.read, &both.compiled, text.as_str())? {
+            Match::Whole => {
+                whole.add(i);
+                part.add(i);
             }
+            Match::Part => part.add(i),
+            Match::No => {}
+            Match::Unlike => unlike = unlike.saturating_add(1),
         }
-        let answer = CountedAnswer {
-            whole: whole.numbers(alloc)?,
-            part: part.numbers(alloc)?,
-            unlike,
-        };
-        Ok(serde_json::to_string(alloc, &answer)?)
     }
+    let answer = CountedAnswer {
+        whole: whole.numbers(alloc)?,
+        part: part.numbers(alloc)?,
+        unlike,
+    };
+    Ok(serde_json::to_string(alloc, &answer)?)
 }
