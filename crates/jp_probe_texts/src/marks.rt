@@ -15,8 +15,7 @@ use jp_query_scan::Reason;
 use serde::Serialize;
 use std::alloc::{AllocError, Global};
 
-/// How many fronts a query has, how long those are that are marked elsewhere, and whether it is accepted
-/// itself.
+/// How many fronts a query has, how long those are that are marked elsewhere, and whether it is accepted.
 #[derive(Drop, Serialize)]
 struct FrontsAnswer {
     fronts: usize,
