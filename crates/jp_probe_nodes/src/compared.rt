@@ -6,28 +6,21 @@
 
 use jp_flat::{FlatKind, FlatReader, FlatValue};
 use jp_node::{Kind, Part};
+use jp_probe_parts::{Row, text_in};
 use jp_tree::Operator;
 use jp_value::compare_kinds;
-use serde::Deserialize;
 use std::alloc::{AllocError, Global};
 use std::cmp::Ordering;
 
-/// The pairs, each with a space between its two values.
-#[derive(Drop, Deserialize)]
-pub struct ComparedRow {
-    pairs: Vec<String>,
-}
-
-impl ComparedRow {
-    /// The answer: a letter for each pair.
-    pub fn answer(&self, alloc: Global) -> anyhow::Result<String> {
-        let mut reader = FlatReader::new(alloc);
-        let mut signs = String::new(alloc);
-        for pair in &self.pairs {
-            signs.push(sign_of(alloc, &mut reader, pair.as_str())?)?;
-        }
-        Ok(serde_json::to_string(alloc, &signs)?)
+/// The answer to the pairs, each with a space between its two values: a letter for each.
+pub fn answer_compared(alloc: Global, row: Row<'_>) -> anyhow::Result<String> {
+    row.has_only(&["pairs"])?;
+    let mut reader = FlatReader::new(alloc);
+    let mut signs = String::new(alloc);
+    for pair in row.items("pairs")? {
+        signs.push(sign_of(alloc, &mut reader, text_in(pair)?)?)?;
     }
+    Ok(serde_json::to_string(alloc, &signs)?)
 }
 
 /// The letter of a pair.

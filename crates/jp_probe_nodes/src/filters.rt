@@ -7,69 +7,60 @@ use jp_doc::Document;
 use jp_eval::DocumentFilter;
 use jp_flat::FlatReader;
 use jp_node::Part;
-use serde::Deserialize;
+use jp_probe_parts::{Row, text_in};
 use std::alloc::Global;
 
-/// What is asked.
-#[derive(Drop, Deserialize)]
-pub struct FilterRow {
-    /// The filter, or else
-    filter: Option<String>,
-    /// the query, which may be one.
-    #[serde(default)]
-    query: String,
-    /// What it is asked of, one behind another.
-    documents: Vec<String>,
-    /// Whether numbers may be any: then documents are read flat alone.
-    #[serde(default)]
-    decimals: bool,
+/// The answer to a filter, or else to a query, which may be one: whether it is true of each document, and
+/// `null` where the tree and the flat document tell otherwise.
+pub fn answer_filter(alloc: Global, row: Row<'_>) -> anyhow::Result<String> {
+    row.has_only(&["filter", "query", "documents", "decimals"])?;
+    if let Some(text) = row.text_if_any("filter")? {
+        let plan = filter_in(alloc, text, numbers_of(row.flag("decimals")?))?;
+        return asked(alloc, row, DocumentFilter::new(alloc, plan.compiled()));
+    }
+    let plan = plan(alloc, row.text("query")?)?;
+    asked(alloc, row, DocumentFilter::new(alloc, plan.compiled()))
 }
 
-impl FilterRow {
-    /// The answer: whether the filter is true of each, and `null` where the tree and the flat document tell
-    /// otherwise.
-    pub fn answer(&self, alloc: Global) -> anyhow::Result<String> {
-        if let Some(text) = &self.filter {
-            let plan = filter_in(alloc, text.as_str(), numbers_of(self.decimals))?;
-            return self.asked(alloc, DocumentFilter::new(alloc, plan.compiled()));
-        }
-        let plan = plan(alloc, self.query.as_str())?;
-        self.asked(alloc, DocumentFilter::new(alloc, plan.compiled()))
+/// What the filter says of the documents that it is asked of, one behind another.
+fn asked(
+    alloc: Global,
+    row: Row<'_>,
+    filter: Option<DocumentFilter<'_>>,
+) -> anyhow::Result<String> {
+    let Some(filter) = filter else {
+        return Ok(serde_json::to_string(alloc, &None::<bool>)?);
+    };
+    // Whether numbers may be any: then documents are read flat alone.
+    let decimals = row.flag("decimals")?;
+    let mut reader = FlatReader::new(alloc);
+    let mut said = Vec::new(alloc);
+    for text in row.items("documents")? {
+        let line = text_in(text)?.as_bytes();
+        said.push(asked_of(alloc, &filter, &mut reader, line, decimals)?)?;
     }
+    Ok(serde_json::to_string(alloc, &said)?)
+}
 
-    /// What the filter says of each document.
-    fn asked(&self, alloc: Global, filter: Option<DocumentFilter<'_>>) -> anyhow::Result<String> {
-        let Some(filter) = filter else {
-            return Ok(serde_json::to_string(alloc, &None::<bool>)?);
-        };
-        let mut reader = FlatReader::new(alloc);
-        let mut said = Vec::new(alloc);
-        for text in &self.documents {
-            said.push(self.asked_of(alloc, &filter, &mut reader, text.as_bytes())?)?;
-        }
-        Ok(serde_json::to_string(alloc, &said)?)
+/// What it says of one.
+fn asked_of(
+    alloc: Global,
+    filter: &DocumentFilter<'_>,
+    reader: &mut FlatReader,
+    line: &[u8],
+    decimals: bool,
+) -> anyhow::Result<Option<bool>> {
+    if decimals {
+        let flat = reader.read_decimal(line)??;
+        return Ok(Some(filter.admits(Part::root_of_flat(&flat))?));
     }
-
-    /// What it says of one.
-    fn asked_of(
-        &self,
-        alloc: Global,
-        filter: &DocumentFilter<'_>,
-        reader: &mut FlatReader,
-        line: &[u8],
-    ) -> anyhow::Result<Option<bool>> {
-        if self.decimals {
-            let flat = reader.read_decimal(line)??;
-            return Ok(Some(filter.admits(Part::root_of_flat(&flat))?));
+    let tree = Document::read(alloc, line)?;
+    let said = filter.admits(Part::root_of(&tree))?;
+    match reader.read(line)? {
+        Some(flat) => {
+            let other = filter.admits(Part::root_of_flat(&flat))?;
+            Ok(if said == other { Some(said) } else { None })
         }
-        let tree = Document::read(alloc, line)?;
-        let said = filter.admits(Part::root_of(&tree))?;
-        match reader.read(line)? {
-            Some(flat) => {
-                let other = filter.admits(Part::root_of_flat(&flat))?;
-                Ok(if said == other { Some(said) } else { None })
-            }
-            None => Ok(None),
-        }
+        None => Ok(None),
     }
 }

@@ -1,8 +1,8 @@
 //! The driver of the rows of nodes: what queries select, paths, and how nodes are written.
 //!
 //! It reads rows of JSON, one on a line of standard input, answers each by public calls of the crates, and
-//! writes the answer on a line of its own. It promises nothing. A row is an object with one member, whose name
-//! says what is asked. Each file here has the rows of one kind, or a few, and what answers them.
+//! writes the answer on a line of its own. It promises nothing. A row is an object with one member, whose
+//! name says what is asked. Each file here has what answers the rows of one kind, or of a few.
 #![tactic(auto)]
 
 mod compared;
@@ -13,58 +13,45 @@ mod outputs;
 mod paths;
 mod printed;
 
-use compared::ComparedRow;
-use filters::FilterRow;
-use nodes::NodesRow;
-use output_lines::{ChunksRow, FaultLineRow, OutputLinesRow};
-use outputs::FormsRow;
-use paths::PathRow;
-use printed::PrintedRow;
-use serde::Deserialize;
+use compared::answer_compared;
+use filters::answer_filter;
+use jp_probe_parts::{Answering, Row, answer_rows};
+use nodes::answer_nodes;
+use output_lines::{answer_chunks, answer_fault_line, answer_output_lines};
+use outputs::answer_forms;
+use paths::answer_path;
+use printed::answer_printed;
 use std::alloc::Global;
-use std::io::{self, BufRead, BufReader, BufWriter, Write};
+use std::io::{self, BufReader, BufWriter};
 use std::thread::Threads;
 
-/// What a row asks.
-#[derive(Drop, Deserialize)]
-#[serde(rename_all = "snake_case")]
-enum Row {
-    Chunks(ChunksRow),
-    Compared(ComparedRow),
-    FaultLine(FaultLineRow),
-    Filter(FilterRow),
-    Forms(FormsRow),
-    Nodes(NodesRow),
-    OutputLines(OutputLinesRow),
-    Path(PathRow),
-    Printed(PrintedRow),
+/// Answers what rows ask, where threads can be started.
+#[derive(Drop)]
+struct Nodes<'r, R> {
+    rt: &'r R,
+}
+
+impl<R: Threads + Sync> Answering for Nodes<'_, R> {
+    fn answer(&self, alloc: Global, name: &str, row: Row<'_>) -> anyhow::Result<String> {
+        match name {
+            "chunks" => answer_chunks(alloc, row),
+            "compared" => answer_compared(alloc, row),
+            "fault_line" => answer_fault_line(alloc, row),
+            "filter" => answer_filter(alloc, row),
+            "forms" => answer_forms(alloc, row),
+            "nodes" => answer_nodes(self.rt, alloc, row),
+            "output_lines" => answer_output_lines(alloc, row),
+            "path" => answer_path(alloc, row),
+            "printed" => answer_printed(alloc, row),
+            _ => Err(anyhow::anyhow!("a row asks nothing that is known")),
+        }
+    }
 }
 
 /// Answers the rows of standard input.
 fn main(rt: HostRuntime) -> anyhow::Result<()> {
     let alloc = rt.alloc();
     let mut output = BufWriter::new(alloc, io::writer(&rt))?;
-    for line in BufReader::new(alloc, rt.reader())?.lines(alloc) {
-        let answer = answer(&rt, alloc, line?.as_str())?;
-        output.write_all(answer.as_bytes())?;
-        output.write_all(b"\n")?;
-    }
-    output.flush()?;
-    Ok(())
-}
-
-/// The answer to one row.
-fn answer<R: Threads + Sync>(rt: &R, alloc: Global, line: &str) -> anyhow::Result<String> {
-    let row: Row = serde_json::from_str(alloc, line)?;
-    match row {
-        Row::Chunks(row) => row.answer(alloc),
-        Row::Compared(row) => row.answer(alloc),
-        Row::FaultLine(row) => row.answer(alloc),
-        Row::Filter(row) => row.answer(alloc),
-        Row::Forms(row) => row.answer(alloc),
-        Row::Nodes(row) => row.answer(rt, alloc),
-        Row::OutputLines(row) => row.answer(alloc),
-        Row::Path(row) => row.answer(alloc),
-        Row::Printed(row) => row.answer(alloc),
-    }
+    let input = BufReader::new(alloc, rt.reader())?;
+    answer_rows(alloc, input, &mut output, &Nodes { rt: &rt })
 }

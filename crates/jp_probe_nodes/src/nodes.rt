@@ -11,43 +11,56 @@ use jp_flat::FlatReader;
 use jp_node::{Locations, Part};
 use jp_number::Numbers;
 use jp_output::write_path;
+use jp_probe_parts::{Row, number_in};
 use jp_select::{evaluate, evaluate_split};
-use serde::Deserialize;
+use serde_json::Value;
 use std::alloc::Global;
 use std::thread::Threads;
 
-/// What is asked.
-#[derive(Drop, Deserialize)]
-pub struct NodesRow {
-    query: String,
-    document: String,
+/// What is asked besides the query.
+#[derive(Clone, Copy)]
+struct AskedNodes<'v> {
+    document: &'v str,
     /// Whether numbers may be any: then the document is read flat alone.
-    #[serde(default)]
     decimals: bool,
     /// The lengths from which on lists are cut into halves.
-    #[serde(default)]
-    floors: Vec<u64>,
+    floors: &'v [Value],
     /// How many more times each of these is tried.
-    #[serde(default)]
-    more: u32,
+    more: u64,
     /// Whether how many nodes there are is told in the place of their paths.
-    #[serde(default)]
     counted: bool,
 }
 
-impl NodesRow {
-    /// The answer.
-    pub fn answer<R: Threads + Sync>(&self, rt: &R, alloc: Global) -> anyhow::Result<String> {
-        let plan = plan_in(alloc, self.query.as_str(), numbers_of(self.decimals))?;
-        let mut told = Vec::new(alloc);
-        if !self.decimals {
-            let document = Document::read(alloc, self.document.as_bytes())?;
-            let found = evaluate(alloc, &plan, &document)?;
-            told.push(self.told(alloc, &found)?)?;
-            self.tell_halves(rt, alloc, &plan, &document, &mut told)?;
-        }
-        self.tell_flat(rt, alloc, &plan, &mut told)?;
-        answer_of(alloc, told)
+/// The answer.
+pub fn answer_nodes<R: Threads + Sync>(
+    rt: &R,
+    alloc: Global,
+    row: Row<'_>,
+) -> anyhow::Result<String> {
+    row.has_only(&["query", "document", "decimals", "floors", "more", "counted"])?;
+    let asked = AskedNodes::of(row)?;
+    let plan = plan_in(alloc, row.text("query")?, numbers_of(asked.decimals))?;
+    let mut told = Vec::new(alloc);
+    if !asked.decimals {
+        let document = Document::read(alloc, asked.document.as_bytes())?;
+        let found = evaluate(alloc, &plan, &document)?;
+        told.push(asked.told(alloc, &found)?)?;
+        asked.tell_halves(rt, alloc, &plan, &document, &mut told)?;
+    }
+    asked.tell_flat(rt, alloc, &plan, &mut told)?;
+    answer_of(alloc, told)
+}
+
+impl<'v> AskedNodes<'v> {
+    /// What a row asks.
+    fn of(row: Row<'v>) -> anyhow::Result<AskedNodes<'v>> {
+        Ok(AskedNodes {
+            document: row.text("document")?,
+            decimals: row.flag("decimals")?,
+            floors: row.items("floors")?,
+            more: row.number("more")?,
+            counted: row.flag("counted")?,
+        })
     }
 
     /// What is said of the nodes that were found.
@@ -77,8 +90,8 @@ impl NodesRow {
         document: &Document,
         told: &mut Vec<String>,
     ) -> anyhow::Result<()> {
-        for floor in &self.floors {
-            self.tell_tree(rt, alloc, plan, document, *floor, told)?;
+        for floor in self.floors {
+            self.tell_tree(rt, alloc, plan, document, number_in(floor)?, told)?;
         }
         Ok(())
     }
@@ -134,8 +147,8 @@ impl NodesRow {
     ) -> anyhow::Result<()> {
         let found = found_in(alloc, plan, root)?;
         push_other(told, self.told(alloc, &found.locations)?)?;
-        for floor in &self.floors {
-            self.tell_floor(rt, alloc, plan, root, *floor, told)?;
+        for floor in self.floors {
+            self.tell_floor(rt, alloc, plan, root, number_in(floor)?, told)?;
         }
         Ok(())
     }

@@ -4,37 +4,32 @@
 
 use jp_doc::{DocFault, Document};
 use jp_output::{append_chunks, join_chunks, push_chunk, write_fault, write_line};
-use jp_probe_parts::{FaultName, StepRow, location_of, text_of};
-use serde::{Deserialize, Serialize};
-use std::alloc::{AllocError, Global};
+use jp_probe_parts::{Row, fault_named, items_in, location_of, number_in, text_in, text_of};
+use serde::Serialize;
+use serde_json::Value;
+use std::alloc::Global;
 
-/// Documents, each with the number of its line, and the location of them all.
-#[derive(Drop, Deserialize)]
-pub struct OutputLinesRow {
-    steps: Vec<StepRow>,
-    lines: Vec<(u64, String)>,
-}
-
-impl OutputLinesRow {
-    /// The answer: `front`, and the lines behind it.
-    pub fn answer(&self, alloc: Global) -> anyhow::Result<String> {
-        let location = location_of(alloc, self.steps.as_slice())?;
-        let mut out = Vec::from_slice(alloc, b"front")?;
-        for (number, line) in &self.lines {
-            let document = Document::read(alloc, line.as_bytes())?;
-            write_line(alloc, *number, &location, document.root(), &mut out)?;
-        }
-        let text = text_of(alloc, &out)?;
-        Ok(serde_json::to_string(alloc, &text)?)
+/// The answer to documents, each with the number of its line, and to the location of them all: `front`, and
+/// the lines behind it.
+pub fn answer_output_lines(alloc: Global, row: Row<'_>) -> anyhow::Result<String> {
+    row.has_only(&["steps", "lines"])?;
+    let location = location_of(alloc, row.items("steps")?)?;
+    let mut out = Vec::from_slice(alloc, b"front")?;
+    for line in row.items("lines")? {
+        let (number, text) = numbered_line(line)?;
+        let document = Document::read(alloc, text.as_bytes())?;
+        write_line(alloc, number, &location, document.root(), &mut out)?;
     }
+    let text = text_of(alloc, &out)?;
+    Ok(serde_json::to_string(alloc, &text)?)
 }
 
-/// A fault, and the number of its line. None stands for want of memory, of which no line is written.
-#[derive(Drop, Deserialize)]
-pub struct FaultLineRow {
-    #[serde(default)]
-    number: u64,
-    fault: Option<FaultName>,
+/// The number of a line, and its text.
+fn numbered_line(value: &Value) -> anyhow::Result<(u64, &str)> {
+    match items_in(value)? {
+        [number, text] => Ok((number_in(number)?, text_in(text)?)),
+        _ => Err(anyhow::anyhow!("a line in a row is not its number and its text")),
+    }
 }
 
 /// What is written of a fault.
@@ -47,38 +42,32 @@ struct FaultLineAnswer {
     line: Option<String>,
 }
 
-impl FaultLineRow {
-    /// The answer.
-    pub fn answer(&self, alloc: Global) -> anyhow::Result<String> {
-        let fault = match self.fault {
-            Some(name) => name.fault(),
-            None => DocFault::Memory,
-        };
-        let answer = FaultLineAnswer {
-            shown: format!(in alloc; "{fault}")?,
-            words: fault.words(),
-            line: self.line(alloc)?,
-        };
-        Ok(serde_json::to_string(alloc, &answer)?)
-    }
-
-    /// The line of the fault.
-    fn line(&self, alloc: Global) -> Result<Option<String>, AllocError> {
-        let Some(name) = self.fault else {
-            return Ok(None);
-        };
-        let mut out = Vec::from_slice(alloc, b"front")?;
-        write_fault(alloc, self.number, &name.fault(), &mut out)?;
-        Ok(Some(text_of(alloc, &out)?))
-    }
+/// The answer to a fault, and to the number of its line. None stands for want of memory, of which no line is
+/// written.
+pub fn answer_fault_line(alloc: Global, row: Row<'_>) -> anyhow::Result<String> {
+    row.has_only(&["number", "fault"])?;
+    let name = row.text_if_any("fault")?;
+    let fault = match name {
+        Some(name) => fault_named(name)?,
+        None => DocFault::Memory,
+    };
+    let line = match name {
+        Some(name) => Some(fault_line(alloc, row.number("number")?, name)?),
+        None => None,
+    };
+    let answer = FaultLineAnswer {
+        shown: format!(in alloc; "{fault}")?,
+        words: fault.words(),
+        line,
+    };
+    Ok(serde_json::to_string(alloc, &answer)?)
 }
 
-/// Chunks that are pushed one by one, and others that are appended behind them.
-#[derive(Drop, Deserialize)]
-pub struct ChunksRow {
-    pushed: Vec<String>,
-    #[serde(default)]
-    appended: Vec<String>,
+/// The line of the fault of this name.
+fn fault_line(alloc: Global, number: u64, name: &str) -> anyhow::Result<String> {
+    let mut out = Vec::from_slice(alloc, b"front")?;
+    write_fault(alloc, number, &fault_named(name)?, &mut out)?;
+    Ok(text_of(alloc, &out)?)
 }
 
 /// How many chunks there are, and what they are joined.
@@ -88,22 +77,21 @@ struct ChunksAnswer {
     joined: String,
 }
 
-impl ChunksRow {
-    /// The answer.
-    pub fn answer(&self, alloc: Global) -> anyhow::Result<String> {
-        let mut chunks = Vec::new(alloc);
-        for text in &self.pushed {
-            push_chunk(&mut chunks, text.as_bytes().to_vec(alloc)?)?;
-        }
-        let mut more = Vec::new(alloc);
-        for text in &self.appended {
-            more.push(text.as_bytes().to_vec(alloc)?)?;
-        }
-        append_chunks(&mut chunks, more)?;
-        let answer = ChunksAnswer {
-            chunks: chunks.len(),
-            joined: text_of(alloc, &join_chunks(alloc, chunks)?)?,
-        };
-        Ok(serde_json::to_string(alloc, &answer)?)
+/// The answer to chunks that are pushed one by one, and others that are appended behind them.
+pub fn answer_chunks(alloc: Global, row: Row<'_>) -> anyhow::Result<String> {
+    row.has_only(&["pushed", "appended"])?;
+    let mut chunks = Vec::new(alloc);
+    for text in row.items("pushed")? {
+        push_chunk(&mut chunks, text_in(text)?.as_bytes().to_vec(alloc)?)?;
     }
+    let mut more = Vec::new(alloc);
+    for text in row.items("appended")? {
+        more.push(text_in(text)?.as_bytes().to_vec(alloc)?)?;
+    }
+    append_chunks(&mut chunks, more)?;
+    let answer = ChunksAnswer {
+        chunks: chunks.len(),
+        joined: text_of(alloc, &join_chunks(alloc, chunks)?)?,
+    };
+    Ok(serde_json::to_string(alloc, &answer)?)
 }

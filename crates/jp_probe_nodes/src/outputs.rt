@@ -5,38 +5,9 @@ use jp_doc::{DocFault, Document};
 use jp_flat::FlatReader;
 use jp_node::{Part, PathStack};
 use jp_output::{Form, Head, InputLines, NodeLines, RawLines, TextLines, ValueLines, join_chunks};
-use jp_probe_parts::{FaultName, text_of};
-use serde::{Deserialize, Serialize};
+use jp_probe_parts::{Row, fault_named, number_in, text_of};
+use serde::Serialize;
 use std::alloc::{AllocError, Global};
-
-/// A line, and which of its nodes are visited; or a line with a fault.
-#[derive(Drop, Deserialize)]
-struct Turn {
-    /// The number of the line.
-    #[serde(default)]
-    number: u64,
-    #[serde(default)]
-    line: String,
-    /// How often its root is visited.
-    #[serde(default)]
-    roots: u32,
-    /// The places of the items that are visited behind these.
-    #[serde(default)]
-    places: Vec<u32>,
-    /// How often the root is visited by a fresh visitor, and by a fresh one of that, which are appended.
-    #[serde(default)]
-    halves: Vec<u32>,
-    /// The fault of a line that has no document.
-    fault: Option<FaultName>,
-}
-
-/// What is asked.
-#[derive(Drop, Deserialize)]
-pub struct FormsRow {
-    /// The name that stands before each line of nodes, if one does.
-    name: Option<String>,
-    turns: Vec<Turn>,
-}
 
 /// What each form writes, or `unlike` where it is not the same of trees and of flat documents; and whether it
 /// is full behind the beginning of each line, and behind its nodes: `f`, or else `-`.
@@ -61,66 +32,87 @@ struct Written {
     full: String,
 }
 
-impl FormsRow {
-    /// The answer.
-    pub fn answer(&self, alloc: Global) -> anyhow::Result<String> {
-        let nodes = self.written_by::<NodeLines>(alloc)?;
-        let values = self.written_by::<ValueLines>(alloc)?;
-        let texts = self.written_by::<TextLines>(alloc)?;
-        let raw = self.written_by::<RawLines>(alloc)?;
-        let lines = self.written_by::<InputLines>(alloc)?;
-        let answer = FormsAnswer {
-            nodes: nodes.text,
-            values: values.text,
-            texts: texts.text,
-            raw: raw.text,
-            lines: lines.text,
-            full_nodes: nodes.full,
-            full_values: values.full,
-            full_texts: texts.full,
-            full_raw: raw.full,
-            full_lines: lines.full,
-        };
-        Ok(serde_json::to_string(alloc, &answer)?)
-    }
+/// The answer to turns, which each form writes.
+pub fn answer_forms(alloc: Global, row: Row<'_>) -> anyhow::Result<String> {
+    row.has_only(&["name", "turns"])?;
+    let nodes = written_by::<NodeLines>(alloc, row)?;
+    let values = written_by::<ValueLines>(alloc, row)?;
+    let texts = written_by::<TextLines>(alloc, row)?;
+    let raw = written_by::<RawLines>(alloc, row)?;
+    let lines = written_by::<InputLines>(alloc, row)?;
+    let answer = FormsAnswer {
+        nodes: nodes.text,
+        values: values.text,
+        texts: texts.text,
+        raw: raw.text,
+        lines: lines.text,
+        full_nodes: nodes.full,
+        full_values: values.full,
+        full_texts: texts.full,
+        full_raw: raw.full,
+        full_lines: lines.full,
+    };
+    Ok(serde_json::to_string(alloc, &answer)?)
+}
 
-    /// What a form writes.
-    fn written_by<F: Form + Drop>(&self, alloc: Global) -> anyhow::Result<Written> {
-        let of_trees = self.written_over::<F>(alloc, false)?;
-        let of_flat = self.written_over::<F>(alloc, true)?;
-        if of_trees == of_flat {
-            return Ok(of_trees);
-        }
-        Ok(Written {
-            text: String::from_str(alloc, "unlike")?,
-            full: of_trees.full,
-        })
+/// What a form writes.
+fn written_by<F: Form + Drop>(alloc: Global, row: Row<'_>) -> anyhow::Result<Written> {
+    let of_trees = written_over::<F>(alloc, row, false)?;
+    let of_flat = written_over::<F>(alloc, row, true)?;
+    if of_trees == of_flat {
+        return Ok(of_trees);
     }
+    Ok(Written {
+        text: String::from_str(alloc, "unlike")?,
+        full: of_trees.full,
+    })
+}
 
-    /// What a form writes over trees, or over flat documents.
-    fn written_over<F: Form + Drop>(
-        &self,
-        alloc: Global,
-        is_flat: bool,
-    ) -> anyhow::Result<Written> {
-        let head = match &self.name {
-            Some(name) => Head::of_name(alloc, name.as_str())?,
-            None => Head::none(),
-        };
-        // Nothing but the form has what stands before its lines any more.
-        let mut form = F::new(alloc, &head.again());
-        let mut reader = FlatReader::new(alloc);
-        let mut full = String::new(alloc);
-        for turn in &self.turns {
-            match turn.fault {
-                Some(name) => form.push_fault(alloc, turn.number, &name.fault())?,
-                None => add_line(alloc, &mut form, &mut reader, turn, is_flat, &mut full)?,
-            }
-        }
-        let bytes = join_chunks(alloc, form.into_chunks()?)?;
-        let text = text_of(alloc, &bytes)?;
-        Ok(Written { text, full })
+/// What a form writes over trees, or over flat documents.
+fn written_over<F: Form + Drop>(
+    alloc: Global,
+    row: Row<'_>,
+    is_flat: bool,
+) -> anyhow::Result<Written> {
+    // The name that stands before each line of nodes, if one does.
+    let head = match row.text_if_any("name")? {
+        Some(name) => Head::of_name(alloc, name)?,
+        None => Head::none(),
+    };
+    // Nothing but the form has what stands before its lines any more.
+    let mut form = F::new(alloc, &head.again());
+    let mut reader = FlatReader::new(alloc);
+    let mut full = String::new(alloc);
+    for turn in row.items("turns")? {
+        add_turn(
+            alloc,
+            &mut form,
+            &mut reader,
+            Row::of(turn),
+            is_flat,
+            &mut full,
+        )?;
     }
+    let bytes = join_chunks(alloc, form.into_chunks()?)?;
+    let text = text_of(alloc, &bytes)?;
+    Ok(Written { text, full })
+}
+
+/// Has a form write a line of which nodes are visited, or one with a fault, which has no document.
+fn add_turn<F: Form + Drop>(
+    alloc: Global,
+    form: &mut F,
+    reader: &mut FlatReader,
+    turn: Row<'_>,
+    is_flat: bool,
+    full: &mut String,
+) -> anyhow::Result<()> {
+    turn.has_only(&["number", "line", "roots", "places", "halves", "fault"])?;
+    if let Some(name) = turn.text_if_any("fault")? {
+        form.push_fault(alloc, turn.number("number")?, &fault_named(name)?)?;
+        return Ok(());
+    }
+    add_line(alloc, form, reader, turn, is_flat, full)
 }
 
 /// Has a form write a line.
@@ -128,12 +120,12 @@ fn add_line<F: Form + Drop>(
     alloc: Global,
     form: &mut F,
     reader: &mut FlatReader,
-    turn: &Turn,
+    turn: Row<'_>,
     is_flat: bool,
     full: &mut String,
 ) -> anyhow::Result<()> {
-    let line = turn.line.as_bytes();
-    form.begin(turn.number);
+    let line = turn.text_if_any("line")?.unwrap_or("").as_bytes();
+    form.begin(turn.number("number")?);
     push_full(form, full)?;
     if is_flat {
         let document = reader.read(line)?.ok_or(DocFault::Unreadable)?;
@@ -152,30 +144,41 @@ fn push_full<F: Form>(form: &F, full: &mut String) -> Result<(), AllocError> {
     full.push(if form.is_full() { 'f' } else { '-' })
 }
 
-/// Visits the nodes of a line.
+/// Visits the nodes of a line: its root so many times, the items at these places behind that, and the root
+/// again by a fresh visitor, and by a fresh one of that, which are appended, so many times each.
 fn add_nodes<F: Form + Drop>(
     alloc: Global,
     form: &mut F,
-    turn: &Turn,
+    turn: Row<'_>,
     root: Part<'_>,
-) -> Result<(), AllocError> {
-    add_again(alloc, form, root, turn.roots)?;
-    for place in &turn.places {
-        if let Some(item) = root.item(*place) {
+) -> anyhow::Result<()> {
+    add_again(alloc, form, root, turn.number("roots")?)?;
+    for place in turn.items("places")? {
+        if let Some(item) = item_at(root, number_in(place)?) {
             form.node(alloc, &mut PathStack::new(alloc), item)?;
         }
     }
-    let Some(half) = turn.halves.first() else {
+    let halves = turn.items("halves")?;
+    let Some(half) = halves.first() else {
         return Ok(());
     };
     let mut first = form.fresh(alloc);
-    add_again(alloc, &mut first, root, *half)?;
-    if let Some(quarter) = turn.halves.get(1) {
+    add_again(alloc, &mut first, root, number_in(half)?)?;
+    if let Some(quarter) = halves.get(1) {
         let mut second = first.fresh(alloc);
-        add_again(alloc, &mut second, root, *quarter)?;
+        add_again(alloc, &mut second, root, number_in(quarter)?)?;
         first.append(second)?;
     }
-    form.append(first)
+    form.append(first)?;
+    Ok(())
+}
+
+/// The item at a place, if there is one.
+fn item_at(root: Part<'_>, place: u64) -> Option<Part<'_>> {
+    match u32::try_from(place) {
+        Ok(place) => root.item(place),
+        Err(_) => None,
+    }
 }
 
 /// Visits a value so many times.
@@ -183,7 +186,7 @@ fn add_again<F: Form>(
     alloc: Global,
     form: &mut F,
     value: Part<'_>,
-    times: u32,
+    times: u64,
 ) -> Result<(), AllocError> {
     for _ in 0..times {
         form.node(alloc, &mut PathStack::new(alloc), value)?;

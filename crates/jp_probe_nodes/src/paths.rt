@@ -4,20 +4,11 @@ use jp_check::plan;
 use jp_doc::{Location, Step};
 use jp_output::write_path;
 use jp_path::{path_plan, query_of};
-use jp_probe_parts::{StepRow, location_of};
+use jp_probe_parts::{Row, location_of};
 use jp_syntax::read_query;
 use jp_tokens::bracket_depth;
-use serde::{Deserialize, Serialize};
+use serde::Serialize;
 use std::alloc::{AllocError, Global};
-
-/// What is asked of a location.
-#[derive(Drop, Deserialize)]
-pub struct PathRow {
-    steps: Vec<StepRow>,
-    /// How many more times the last step is there.
-    #[serde(default)]
-    more: u32,
-}
 
 /// What is said of a location.
 #[derive(Drop, Serialize)]
@@ -37,31 +28,30 @@ struct PathAnswer {
     is_root: bool,
 }
 
-impl PathRow {
-    /// The answer.
-    pub fn answer(&self, alloc: Global) -> anyhow::Result<String> {
-        let mut location = location_of(alloc, self.steps.as_slice())?;
-        add_again(&mut location, self.more)?;
-        let path = write_path(alloc, &location)?;
-        let query = query_of(alloc, &location)?;
-        let root = Location {
-            steps: Vec::new(alloc),
-        };
-        let answer = PathAnswer {
-            depth: bracket_depth(path.as_str()),
-            reads_back: read_query(alloc, path.as_str())? == query,
-            is_planned: plan(alloc, path.as_str()).is_ok(),
-            is_by_location: *path_plan(alloc, &location)?.query() == query,
-            copy_is_equal: location.clone()? == location,
-            is_root: location == root,
-            path,
-        };
-        Ok(serde_json::to_string(alloc, &answer)?)
-    }
+/// The answer to a location's steps, of which the last is there so many `more` times.
+pub fn answer_path(alloc: Global, row: Row<'_>) -> anyhow::Result<String> {
+    row.has_only(&["steps", "more"])?;
+    let mut location = location_of(alloc, row.items("steps")?)?;
+    add_again(&mut location, row.number("more")?)?;
+    let path = write_path(alloc, &location)?;
+    let query = query_of(alloc, &location)?;
+    let root = Location {
+        steps: Vec::new(alloc),
+    };
+    let answer = PathAnswer {
+        depth: bracket_depth(path.as_str()),
+        reads_back: read_query(alloc, path.as_str())? == query,
+        is_planned: plan(alloc, path.as_str()).is_ok(),
+        is_by_location: *path_plan(alloc, &location)?.query() == query,
+        copy_is_equal: location.clone()? == location,
+        is_root: location == root,
+        path,
+    };
+    Ok(serde_json::to_string(alloc, &answer)?)
 }
 
 /// Adds the last step so many times.
-fn add_again(location: &mut Location, more: u32) -> Result<(), AllocError> {
+fn add_again(location: &mut Location, more: u64) -> Result<(), AllocError> {
     for _ in 0..more {
         if let Some(Step::Index(index)) = location.steps.last() {
             let step = Step::Index(*index);

@@ -6,23 +6,10 @@ use jp_doc::{Document, Location};
 use jp_eval::Evaluator;
 use jp_output::{NodeLines, join_chunks, write_path};
 use jp_path::path_plan;
-use jp_probe_parts::text_of;
+use jp_probe_parts::{Row, text_in, text_of};
 use jp_select::{evaluate, visit_nodes};
-use serde::{Deserialize, Serialize};
+use serde::Serialize;
 use std::alloc::Global;
-
-/// What is asked.
-#[derive(Drop, Deserialize)]
-pub struct PrintedRow {
-    query: String,
-    documents: Vec<String>,
-    /// The number of the line before the first document.
-    #[serde(default)]
-    before: u64,
-    /// Whether each path that is printed is run as a query.
-    #[serde(default)]
-    back: bool,
-}
 
 /// What is printed.
 #[derive(Drop, Serialize)]
@@ -37,37 +24,39 @@ struct PrintedAnswer {
     wrong: u64,
 }
 
-impl PrintedRow {
-    /// The answer.
-    pub fn answer(&self, alloc: Global) -> anyhow::Result<String> {
-        let plan = plan(alloc, self.query.as_str())?;
-        let mut evaluator = Evaluator::new(alloc, plan.compiled());
-        let mut lines = NodeLines::new(alloc);
-        let mut joined = Vec::new(alloc);
-        let mut answer = PrintedAnswer {
-            lines: String::new(alloc),
-            is_alike: true,
-            back: 0,
-            wrong: 0,
-        };
-        let mut number = self.before;
-        for text in &self.documents {
-            number = number.wrapping_add(1);
-            let document = Document::read(alloc, text.as_bytes())?;
-            lines.begin(number);
-            lines = evaluator.visit(&document, lines)?;
-            joined.extend_from_slice(&lines_of(alloc, &plan, &document, number)?)?;
-            if self.back {
-                run_back(alloc, &plan, &document, number, &mut answer)?;
-            }
+/// The answer to a query and its documents.
+pub fn answer_printed(alloc: Global, row: Row<'_>) -> anyhow::Result<String> {
+    row.has_only(&["query", "documents", "before", "back"])?;
+    let plan = plan(alloc, row.text("query")?)?;
+    let mut evaluator = Evaluator::new(alloc, plan.compiled());
+    let mut lines = NodeLines::new(alloc);
+    let mut joined = Vec::new(alloc);
+    let mut answer = PrintedAnswer {
+        lines: String::new(alloc),
+        is_alike: true,
+        back: 0,
+        wrong: 0,
+    };
+    // The number of the line before the first document.
+    let mut number = row.number("before")?;
+    // Whether each path that is printed is run as a query.
+    let is_back = row.flag("back")?;
+    for text in row.items("documents")? {
+        number = number.wrapping_add(1);
+        let document = Document::read(alloc, text_in(text)?.as_bytes())?;
+        lines.begin(number);
+        lines = evaluator.visit(&document, lines)?;
+        joined.extend_from_slice(&lines_of(alloc, &plan, &document, number)?)?;
+        if is_back {
+            run_back(alloc, &plan, &document, number, &mut answer)?;
         }
-        let bytes = lines.into_bytes(alloc)?;
-        answer.is_alike = bytes == joined;
-        if !self.back {
-            answer.lines = text_of(alloc, &bytes)?;
-        }
-        Ok(serde_json::to_string(alloc, &answer)?)
     }
+    let bytes = lines.into_bytes(alloc)?;
+    answer.is_alike = bytes == joined;
+    if !is_back {
+        answer.lines = text_of(alloc, &bytes)?;
+    }
+    Ok(serde_json::to_string(alloc, &answer)?)
 }
 
 /// The lines of a plan's nodes in a document, in chunks that are joined.
