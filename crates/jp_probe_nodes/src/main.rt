@@ -27,11 +27,11 @@ use std::thread::Threads;
 
 /// Answers what rows ask, where threads can be started.
 #[derive(Drop)]
-struct Nodes<'r, R> {
+struct Questions<'r, R> {
     rt: &'r R,
 }
 
-impl<R: Threads + Sync> Answering for Nodes<'_, R> {
+impl<R: Threads + Sync> Answering for Questions<'_, R> {
     fn answer(&self, alloc: Global, name: &str, row: Row<'_>) -> anyhow::Result<String> {
         match name {
             "chunks" => answer_chunks(alloc, row),
@@ -53,5 +53,5 @@ fn main(rt: HostRuntime) -> anyhow::Result<()> {
     let alloc = rt.alloc();
     let mut output = BufWriter::new(alloc, io::writer(&rt))?;
     let input = BufReader::new(alloc, rt.reader())?;
-    answer_rows(alloc, input, &mut output, &Nodes { rt: &rt })
+    answer_rows(alloc, input, &mut output, &Questions { rt: &rt })
 }

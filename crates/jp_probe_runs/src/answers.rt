@@ -6,7 +6,7 @@ ghost use Rattle.std.specs.Prelude.{◌≤◌, length};
 ghost use Rattle.jp_answer.specs.Ranges.{AreDocuments};
 
 use crate::runs::{run_unpromised, with_blanks};
-use crate::settings::{Cut, FaultAnswer, Telling, settings_of};
+use crate::settings::{FaultAnswer, cut_of, settings_of};
 use jp_answer::{
     Answerer, Asked, Block, Crew, DocStop, LinePolicy, OnFault, OpenGate, Outcome, Task,
     answer_by_workers,
@@ -16,34 +16,16 @@ use jp_check::{Plan, plan_in};
 use jp_doc::{Line, Lines};
 use jp_number::Numbers;
 use jp_output::{Form, Head, InputLines, NodeLines, RawLines, TextLines, ValueLines};
+use jp_probe_parts::{Row, items_in, number_in, text_in};
 use jp_run::{FromReader, FromWriter, Output, RunFault, Settings, answer, answer_all};
-use serde::{Deserialize, Serialize};
+use serde::Serialize;
+use serde_json::Value;
 use std::alloc::{AllocError, Global};
 use std::str;
 use std::thread::Threads;
 
 /// The most lines that are answered at once.
 const MOST_LINES: usize = 4_294_967_296;
-
-/// What is asked of lines.
-#[derive(Drop, Deserialize)]
-#[serde(deny_unknown_fields)]
-pub struct AnswersRow {
-    query: String,
-    /// Workers, lines of a piece, and lines of a batch of the run, or 0 where there is none.
-    cut: Cut,
-    #[serde(default)]
-    settings: Vec<Telling>,
-    /// A text whose lines they are, but for its blank ones.
-    #[serde(default)]
-    text: String,
-    /// How many blanks stand before each line feed of the text besides.
-    #[serde(default)]
-    blanks: u64,
-    /// Lines by their numbers, if there is no text.
-    #[serde(default)]
-    numbered: Vec<(u64, String)>,
-}
 
 /// What one thread answers lines with, and the ways that answer otherwise.
 #[derive(Drop, Serialize)]
@@ -108,71 +90,65 @@ impl Ways {
     }
 }
 
-impl AnswersRow {
-    /// What the lines are answered with, or the fault of the query.
-    pub fn answer<R: Threads + Sync>(&self, rt: &R, alloc: Global) -> anyhow::Result<String> {
-        let (workers, piece, batch) = self.cut;
-        let settings = settings_of((workers, piece, batch.max(1)), &self.settings)?;
-        let plan = match plan_in(alloc, &self.query, settings.numbers) {
-            Ok(plan) => plan,
-            Err(fault) => {
-                let fault = format!(in alloc; "{fault}")?;
-                return Ok(serde_json::to_string(alloc, &FaultAnswer { fault })?);
-            }
-        };
-        let Ways { one, unlike } = self.ways(rt, alloc, &plan, &settings)?;
-        let answer = AllAnswers {
-            output: str::from_utf8(&one.bytes).unwrap_or("no UTF-8"),
-            faulty: one.faulty,
-            stopped: text_of_stop(alloc, one.stopped)?,
-            unlike,
-        };
-        Ok(serde_json::to_string(alloc, &answer)?)
-    }
+/// The answer to lines: what they are answered with, or the fault of the query.
+pub fn answer_answers<R: Threads + Sync>(
+    rt: &R,
+    alloc: Global,
+    row: Row<'_>,
+) -> anyhow::Result<String> {
+    row.has_only(&["query", "cut", "settings", "text", "blanks", "numbered"])?;
+    // Workers, lines of a piece, and lines of a batch of the run, or 0 where there is none.
+    let (workers, piece, batch) = cut_of(row)?;
+    let settings = settings_of((workers, piece, batch.max(1)), row.items("settings")?)??;
+    let plan = match plan_in(alloc, row.text("query")?, settings.numbers) {
+        Ok(plan) => plan,
+        Err(fault) => {
+            let fault = format!(in alloc; "{fault}")?;
+            return Ok(serde_json::to_string(alloc, &FaultAnswer { fault })?);
+        }
+    };
+    let Ways { one, unlike } = all_ways(rt, alloc, row, &plan, &settings)?;
+    let answer = AllAnswers {
+        output: str::from_utf8(&one.bytes).unwrap_or("no UTF-8"),
+        faulty: one.faulty,
+        stopped: text_of_stop(alloc, one.stopped)?,
+        unlike,
+    };
+    Ok(serde_json::to_string(alloc, &answer)?)
+}
 
-    /// The lines are answered in all ways.
-    fn ways<R: Threads + Sync>(
-        &self,
-        rt: &R,
-        alloc: Global,
-        plan: &Plan,
-        settings: &Settings<'_>,
-    ) -> Result<Ways, RunFault> {
-        let text = with_blanks(alloc, &self.text, self.blanks)?;
-        let lines = self.lines(alloc, &text)?;
-        let head = head_of(alloc, settings.name)?;
-        let crew = Crew {
-            rt,
-            alloc,
-            gate: &OpenGate,
-        };
-        let asked = asked_of(plan, &head, settings);
-        let mut ways = ways_of_form(&crew, asked, &lines, settings)?;
-        if is_listed(settings) {
-            let found = listed(&crew, plan, &lines, settings)?;
-            ways.hold("lists", &found)?;
-        }
-        if self.cut.2 > 0 {
-            match run_found(&crew, &self.query, &text, settings)? {
-                Some(found) => ways.hold("run", &found)?,
-                None => ways.say("run ends")?,
-            }
-        }
-        Ok(ways)
+/// The lines are answered in all ways. They are those of a text, but for its blank ones, before each of whose
+/// line feeds so many blanks stand besides, and those that are numbered, if there is no text.
+fn all_ways<R: Threads + Sync>(
+    rt: &R,
+    alloc: Global,
+    row: Row<'_>,
+    plan: &Plan,
+    settings: &Settings<'_>,
+) -> anyhow::Result<Ways> {
+    let text = row.text_if_any("text")?.unwrap_or("");
+    let text = with_blanks(alloc, text, row.number("blanks")?)?;
+    let mut lines = lines_of(alloc, text.as_bytes())?;
+    add_numbered(alloc, row.items("numbered")?, &mut lines)?;
+    let head = head_of(alloc, settings.name)?;
+    let crew = Crew {
+        rt,
+        alloc,
+        gate: &OpenGate,
+    };
+    let asked = asked_of(plan, &head, settings);
+    let mut ways = ways_of_form(&crew, asked, &lines, settings)?;
+    if is_listed(settings) {
+        let found = listed(&crew, plan, &lines, settings)?;
+        ways.hold("lists", &found)?;
     }
-
-    /// The lines, of the text or by their numbers.
-    fn lines(&self, alloc: Global, text: &str) -> Result<Vec<Line>, AllocError> {
-        let mut lines = lines_of(alloc, text.as_bytes())?;
-        for (number, line) in &self.numbered {
-            let bytes = Vec::from_slice(alloc, line.as_bytes())?;
-            lines.push(Line {
-                number: *number,
-                bytes,
-            })?;
+    if cut_of(row)?.2 > 0 {
+        match run_found(&crew, row.text("query")?, &text, settings)? {
+            Some(found) => ways.hold("run", &found)?,
+            None => ways.say("run ends")?,
         }
-        Ok(lines)
     }
+    Ok(ways)
 }
 
 /// The lines of a text.
@@ -184,6 +160,19 @@ fn lines_of(alloc: Global, text: &[u8]) -> Result<Vec<Line>, AllocError> {
         progress.finish(&mut lines)?;
     }
     Ok(lines)
+}
+
+/// Adds lines by their numbers.
+fn add_numbered(alloc: Global, values: &[Value], lines: &mut Vec<Line>) -> anyhow::Result<()> {
+    for value in values {
+        let [number, text] = items_in(value)? else {
+            return Err(anyhow::anyhow!("a line in a row is not its number and its text"));
+        };
+        let number = number_in(number)?;
+        let bytes = Vec::from_slice(alloc, text_in(text)?.as_bytes())?;
+        lines.push(Line { number, bytes })?;
+    }
+    Ok(())
 }
 
 /// What stands before each line behind a name, if there is one.

@@ -2,8 +2,9 @@
 
 ghost use Rattle.std.specs.Prelude.{◌≡◌, ◌<◌, ◌≤◌, ◌++◌, [], Some, None, false, IfOk, length, take};
 
+use jp_probe_parts::{Row, flag_in, items_in, number_in};
 use jp_run::{Broken, Sink, Source, Supply};
-use serde::Deserialize;
+use serde_json::Value;
 use std::alloc::{AllocError, Global};
 use std::io::{self, ErrorKind, Read, Write};
 
@@ -34,8 +35,9 @@ pub struct Memory<'a> {
     pub reads: u64,
     pub given: u64,
     failed: bool,
-    /// What stood as the first eight reads began.
-    pub seen: Vec<Seen>,
+    /// What stood as the first eight reads began, and how many of these places are taken.
+    places: [Seen; 8],
+    taken: usize,
     /// The most bytes that were not answered as a read began.
     pub waiting: u64,
 }
@@ -55,9 +57,36 @@ pub struct Reading<'a> {
     pub line: u64,
 }
 
+impl<'a> Reading<'a> {
+    /// How they are read as a row says, of whose first reads this is the plan.
+    pub fn of(row: Row<'_>, plan: &'a [(u64, bool)]) -> anyhow::Result<Reading<'a>> {
+        Ok(Reading {
+            plan,
+            most: row.number("each_read")?,
+            never_waits: row.flag("never_waits")?,
+            fails_at: row.number("failing_read")?,
+            line: row.number("line")?,
+        })
+    }
+}
+
+/// The first reads, as `Memory` has them.
+pub fn plan_of(alloc: Global, values: &[Value]) -> anyhow::Result<Vec<(u64, bool)>> {
+    let mut plan = Vec::new(alloc);
+    for value in values {
+        match items_in(value)? {
+            [most, ready] => plan.push((number_in(most)?, flag_in(ready)?))?,
+            _ => return Err(anyhow::anyhow!(
+                "a read in a row is not how many and whether it is ready"
+            )),
+        }
+    }
+    Ok(plan)
+}
+
 impl<'a> Memory<'a> {
     /// These bytes, of which none was read.
-    pub fn new(alloc: Global, bytes: &'a [u8], reading: &Reading<'a>) -> Memory<'a>
+    pub fn new(bytes: &'a [u8], reading: &Reading<'a>) -> Memory<'a>
         ensures unread { (result.reads ≡ 0) × (result.given ≡ 0) }
         ensures working { result.failed ≡ false }
     {
@@ -76,9 +105,16 @@ impl<'a> Memory<'a> {
             reads: 0,
             given: 0,
             failed: false,
-            seen: Vec::new(alloc),
+            places: [(false, 0, 0, 0); 8],
+            taken: 0,
             waiting: 0,
         }
+    }
+
+    /// What stood as the first eight reads began.
+    pub fn seen(&self) -> &[Seen] {
+        let (seen, _) = self.places.split_at(self.taken.min(8));
+        seen
     }
 }
 
@@ -87,8 +123,8 @@ pub fn line_ends(bytes: &[u8]) -> u64 {
     bytes.iter().filter(|byte| **byte == b'\n').count() as u64
 }
 
-/// Hands out bytes at the front of the buffer: at most so many, and one at least where there is one. Gives how
-/// many they are, and those that are left.
+/// Hands out bytes at the front of the buffer: at most so many, and one at least where there is one. Gives
+/// how many they are, and those that are left.
 fn hand_out<'a>(rest: &'a [u8], buf: &mut [u8], most: usize) -> (usize, &'a [u8])
     ensures bound { result.0 ≤ length buf.new }
     ensures bytes { rest.now ≡ take result.0 buf.new ++ result.1.now }
@@ -148,9 +184,13 @@ impl Source<Kept> for Memory<'_> {
         );
         self.reads = self.reads.saturating_add(1);
         self.told_ready = false;
-        if self.reads == self.fails_at || self.reads <= 8 && self.seen.push(seen).is_err() {
+        if self.reads == self.fails_at {
             self.failed = true;
             return Err(Broken);
+        }
+        if let Some(place) = self.places.get_mut(self.taken) {
+            *place = seen;
+            self.taken += 1;
         }
         let most = match self.plan.split_first() {
             Some(((most, _), plan)) => {
@@ -182,12 +222,21 @@ impl Read for Memory<'_> {
 
 /// How a writer of std fails, where it has no room or passes nothing on: it takes none, its disk is full, or
 /// its reader has gone.
-#[derive(Clone, Copy, Deserialize)]
-#[serde(rename_all = "snake_case")]
+#[derive(Clone, Copy)]
 pub enum Failing {
     TakesNone,
     Full,
     Gone,
+}
+
+/// The way to fail of this name, as `takes_none`.
+fn failing_named(name: &str) -> anyhow::Result<Failing> {
+    Ok(match name {
+        "takes_none" => Failing::TakesNone,
+        "full" => Failing::Full,
+        "gone" => Failing::Gone,
+        _ => return Err(anyhow::anyhow!("no way to fail has the name that stands in a row")),
+    })
 }
 
 /// How bytes are taken.
@@ -199,7 +248,19 @@ pub struct Taking {
     pub room: Option<u64>,
     /// How many flushes pass.
     pub flushes: Option<u64>,
-    pub fails: Option<Failing>,
+    pub fails: Failing,
+}
+
+impl Taking {
+    /// How they are taken as a row says.
+    pub fn of(row: Row<'_>) -> anyhow::Result<Taking> {
+        Ok(Taking {
+            most: row.number("each_write")?,
+            room: row.number_if_any("room")?,
+            flushes: row.number_if_any("flushes")?,
+            fails: failing_named(row.text_if_any("fails")?.unwrap_or("takes_none"))?,
+        })
+    }
 }
 
 /// Takes at most so many bytes a call, so many in all, and then fails. So many flushes pass, and then they
@@ -237,7 +298,7 @@ impl Kept {
             },
             room: taking.room.unwrap_or(u64::MAX) as usize,
             flushes: taking.flushes.unwrap_or(u64::MAX),
-            fails: taking.fails.unwrap_or(Failing::TakesNone),
+            fails: taking.fails,
             flushed: true,
             failed: false,
             first: 0,

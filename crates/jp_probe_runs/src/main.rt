@@ -1,8 +1,8 @@
 //! The driver of the rows of answers to lines, runs and the command, over ends in memory.
 //!
 //! It reads rows of JSON, one on a line of standard input, answers each by public calls of the crates, and
-//! writes the answer on a line of its own. It promises nothing. A row is an object with one member, whose name
-//! says what is asked. Each file here has the rows of one kind, or a few, and what answers them.
+//! writes the answer on a line of its own. It promises nothing. A row is an object with one member, whose
+//! name says what is asked. Each file here has what answers the rows of one kind, or of a few.
 #![tactic(auto)]
 
 mod answers;
@@ -12,52 +12,39 @@ mod programs;
 mod runs;
 mod settings;
 
-use answers::AnswersRow;
-use prepared::PreparedRow;
-use programs::ProgramRow;
-use runs::RunRow;
-use serde::Deserialize;
-use settings::SettingsRow;
+use answers::answer_answers;
+use jp_probe_parts::{Answering, Row, answer_rows};
+use prepared::answer_prepared;
+use programs::answer_program;
+use runs::answer_run;
+use settings::answer_settings;
 use std::alloc::{AllocGlobal, Global};
-use std::io::{self, BufRead, BufReader, BufWriter, Write};
+use std::io::{self, BufReader, BufWriter};
 use std::thread::Threads;
 
-/// What a row asks.
-#[derive(Drop, Deserialize)]
-#[serde(rename_all = "snake_case")]
-enum Row {
-    Answers(AnswersRow),
-    Prepared(PreparedRow),
-    Program(ProgramRow),
-    Run(RunRow),
-    Settings(SettingsRow),
+/// Answers what rows ask, where threads can be started.
+#[derive(Drop)]
+struct Questions<'r, R> {
+    rt: &'r R,
+}
+
+impl<R: Threads + AllocGlobal + Sync> Answering for Questions<'_, R> {
+    fn answer(&self, alloc: Global, name: &str, row: Row<'_>) -> anyhow::Result<String> {
+        match name {
+            "answers" => answer_answers(self.rt, alloc, row),
+            "prepared" => answer_prepared(self.rt, alloc, row),
+            "program" => answer_program(self.rt, alloc, row),
+            "run" => answer_run(self.rt, alloc, row),
+            "settings" => answer_settings(alloc, row),
+            _ => Err(anyhow::anyhow!("a row asks nothing that is known")),
+        }
+    }
 }
 
 /// Answers the rows of standard input.
 fn main(rt: HostRuntime) -> anyhow::Result<()> {
     let alloc = rt.alloc();
     let mut output = BufWriter::new(alloc, io::writer(&rt))?;
-    for line in BufReader::new(alloc, rt.reader())?.lines(alloc) {
-        let answer = answer(&rt, alloc, line?.as_str())?;
-        output.write_all(answer.as_bytes())?;
-        output.write_all(b"\n")?;
-    }
-    output.flush()?;
-    Ok(())
-}
-
-/// The answer to one row.
-fn answer<R: Threads + AllocGlobal + Sync>(
-    rt: &R,
-    alloc: Global,
-    line: &str,
-) -> anyhow::Result<String> {
-    let row: Row = serde_json::from_str(alloc, line)?;
-    match row {
-        Row::Answers(row) => row.answer(rt, alloc),
-        Row::Prepared(row) => row.answer(rt, alloc),
-        Row::Program(row) => row.answer(rt, alloc),
-        Row::Run(row) => row.answer(rt, alloc),
-        Row::Settings(row) => row.answer(alloc),
-    }
+    let input = BufReader::new(alloc, rt.reader())?;
+    answer_rows(alloc, input, &mut output, &Questions { rt: &rt })
 }

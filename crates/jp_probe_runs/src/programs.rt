@@ -5,70 +5,65 @@ ghost use Rattle.std.specs.Prelude.{◌≡◌, ◌≤◌, ◌^◌, None, false};
 
 use crate::ends::{Failing, Kept, Memory, Reading, Taking, line_ends};
 use crate::settings::FaultAnswer;
+use jp_probe_parts::{Row, items_in, text_in};
 use jp_program::{Inputs, refuse_words};
 use jp_run::{Broken, FromReader, FromWriter, Sink, Source, Supply};
-use serde::{Deserialize, Serialize};
+use serde::Serialize;
+use serde_json::Value;
 use std::alloc::{AllocError, AllocGlobal, Global};
 use std::str;
 use std::thread::Threads;
 
+/// What a row of the command may have.
+const MEMBERS: [&str; 15] = [
+    "words",
+    "files",
+    "input",
+    "failing_read",
+    "before",
+    "room",
+    "flushes",
+    "fails",
+    "notes_room",
+    "texts",
+    "begin",
+    "end",
+    "notes_begin",
+    "note",
+    "want_of_memory",
+];
+
 /// A file in memory.
-#[derive(Drop, Deserialize)]
-#[serde(deny_unknown_fields)]
-struct FileRow {
-    name: String,
-    bytes: String,
+#[derive(Clone, Copy)]
+struct File<'v> {
+    name: &'v str,
+    bytes: &'v str,
     /// Whether it cannot be opened.
-    #[serde(default)]
-    shut: bool,
+    is_shut: bool,
     /// The read that fails, from 1, or 0.
-    #[serde(default)]
     failing_read: u64,
 }
 
-/// What is left where memory is wanted: the status, the notes or how they begin, and the output if it is one.
-#[derive(Drop, Deserialize)]
-#[serde(deny_unknown_fields)]
-struct WantOfMemory {
-    status: u8,
-    notes: Option<String>,
-    notes_begin: Option<String>,
-    output: Option<String>,
+impl<'v> File<'v> {
+    /// The file that a row says.
+    fn of(row: Row<'v>) -> anyhow::Result<File<'v>> {
+        row.has_only(&["name", "bytes", "shut", "failing_read"])?;
+        Ok(File {
+            name: row.text("name")?,
+            bytes: row.text("bytes")?,
+            is_shut: row.flag("shut")?,
+            failing_read: row.number("failing_read")?,
+        })
+    }
 }
 
-/// What is asked of the command.
-#[derive(Drop, Deserialize)]
-#[serde(deny_unknown_fields)]
-pub struct ProgramRow {
-    /// The words, or none where one of them is no UTF-8.
-    words: Option<Vec<String>>,
-    #[serde(default)]
-    files: Vec<FileRow>,
-    /// What standard input has, and its read that fails, from 1, or 0.
-    #[serde(default)]
-    input: String,
-    #[serde(default)]
-    failing_read: u64,
-    /// What the output has taken before, how many bytes have room in all, how many flushes pass, and how it
-    /// fails.
-    #[serde(default)]
-    before: String,
-    room: Option<u64>,
-    flushes: Option<u64>,
-    fails: Option<Failing>,
-    /// How many bytes of notes have room.
-    notes_room: Option<u64>,
-    /// Of which texts is asked whether the output has them.
-    #[serde(default)]
-    texts: Vec<String>,
-    /// How the output begins and ends, if that is asked.
-    begin: Option<String>,
-    end: Option<String>,
-    /// How the notes begin, if that is asked, and what begins the lines of them that are counted.
-    notes_begin: Option<String>,
-    note: Option<String>,
-    #[serde(default)]
-    want_of_memory: Vec<WantOfMemory>,
+/// The files that rows say.
+fn files_of<'v>(alloc: Global, values: &'v [Value]) -> anyhow::Result<Vec<File<'v>>> {
+    let mut files = Vec::new(alloc);
+    for value in values {
+        files.push(File::of(Row::of(value))?)?;
+    }
+    Ok(files)
 }
 
 /// What the command leaves.
@@ -95,8 +90,7 @@ struct ProgramAnswer<'a> {
 /// Files in memory. One whose name is not among them cannot be opened.
 #[derive(Drop)]
 struct Shelf<'a> {
-    alloc: Global,
-    files: &'a [FileRow],
+    files: &'a [File<'a>],
     opens: u64,
     broken: u64,
 }
@@ -114,11 +108,10 @@ fn reading_of<'a>(fails_at: u64) -> Reading<'a> {
 
 impl<'a> Shelf<'a> {
     /// These files, none of which was opened.
-    fn new(alloc: Global, files: &'a [FileRow]) -> Shelf<'a>
+    fn new(files: &'a [File<'a>]) -> Shelf<'a>
         ensures unopened { ⟦<Shelf<'a> as Inputs<FromReader<Memory<'a>>>>⟧.opens result ≡ 0 }
     {
         Shelf {
-            alloc,
             files,
             opens: 0,
             broken: 0,
@@ -130,12 +123,8 @@ impl<'a> Shelf<'a> {
         let file = self
             .files
             .iter()
-            .find(|file| file.name.as_str() == name && !file.shut)?;
-        Some(Memory::new(
-            self.alloc,
-            file.bytes.as_bytes(),
-            &reading_of(file.failing_read),
-        ))
+            .find(|file| file.name == name && !file.is_shut)?;
+        Some(Memory::new(file.bytes.as_bytes(), &reading_of(file.failing_read)))
     }
 }
 
@@ -157,7 +146,7 @@ impl<'a> Inputs<FromReader<Memory<'a>>> for Shelf<'a> {
                 Ok(())
             }
             None => {
-                *source = FromReader::broken(Memory::new(self.alloc, &[], &reading_of(0)));
+                *source = FromReader::broken(Memory::new(&[], &reading_of(0)));
                 Err(Broken)
             }
         }
@@ -208,141 +197,154 @@ struct Left {
     opens: u64,
 }
 
-impl ProgramRow {
-    /// What the command leaves, or its want of memory.
-    pub fn answer<R: Threads + AllocGlobal + Sync>(
-        &self,
-        rt: &R,
-        alloc: Global,
-    ) -> anyhow::Result<String> {
-        let left = match &self.words {
-            Some(words) => self.left(rt, alloc, words)?,
-            None => self.refused(alloc)?,
-        };
-        if self.is_want_of_memory(&left) {
-            let fault = String::from_str(alloc, "memory")?;
-            return Ok(serde_json::to_string(alloc, &FaultAnswer { fault })?);
-        }
-        self.said_of(alloc, &left)
+/// The answer to what is asked of the command: what it leaves, or its want of memory.
+pub fn answer_program<R: Threads + AllocGlobal + Sync>(
+    rt: &R,
+    alloc: Global,
+    row: Row<'_>,
+) -> anyhow::Result<String> {
+    row.has_only(&MEMBERS)?;
+    // The words, or none where one of them is no UTF-8.
+    let left = match row.member("words") {
+        Some(words) => left_for(rt, alloc, row, items_in(words)?)?,
+        None => refused(alloc, row)?,
+    };
+    if is_want_of_memory(row, &left)? {
+        let fault = String::from_str(alloc, "memory")?;
+        return Ok(serde_json::to_string(alloc, &FaultAnswer { fault })?);
     }
-
-    /// The answer of what is left.
-    fn said_of<'x>(&'x self, alloc: Global, left: &'x Left) -> anyhow::Result<String> {
-        let output = str::from_utf8(&left.output.bytes).unwrap_or("no UTF-8");
-        let notes = str::from_utf8(&left.notes.bytes).unwrap_or("no UTF-8");
-        let answer = ProgramAnswer {
-            status: left.status,
-            output,
-            notes,
-            opens: left.opens,
-            first: left.output.first as u64,
-            passed_on: left.output.passed_on as u64,
-            lacks: self.lacks(alloc, output)?,
-            begins: is_begin(&self.begin, output.as_bytes()),
-            ends: is_end(&self.end, output),
-            lines: line_ends(output.as_bytes()),
-            notes_begin: is_begin(&self.notes_begin, &left.notes.bytes),
-            such_notes: self.such_notes(notes),
-        };
-        Ok(serde_json::to_string(alloc, &answer)?)
-    }
-
-    /// A sink for the output, and one for the notes.
-    fn sinks(&self, alloc: Global) -> Result<(Kept, Kept), AllocError> {
-        let taking = Taking {
-            most: 0,
-            room: self.room,
-            flushes: self.flushes,
-            fails: self.fails,
-        };
-        let noting = Taking {
-            most: 0,
-            room: self.notes_room,
-            flushes: None,
-            fails: None,
-        };
-        Ok((
-            Kept::new(alloc, self.before.as_bytes(), taking)?,
-            Kept::new(alloc, b"", noting)?,
-        ))
-    }
-
-    /// What is left for these words.
-    fn left<R: Threads + AllocGlobal + Sync>(
-        &self,
-        rt: &R,
-        alloc: Global,
-        words: &[String],
-    ) -> Result<Left, AllocError> {
-        let words: Vec<&str> = words.iter().map(|word| word.as_str()).collect(alloc)?;
-        let (mut output, mut notes) = self.sinks(alloc)?;
-        let held = Memory::new(alloc, self.input.as_bytes(), &reading_of(self.failing_read));
-        let mut source = FromReader::new(held);
-        let mut sink = FromWriter::new(&mut output);
-        let mut told = FromWriter::new(&mut notes);
-        let mut shelf = Shelf::new(alloc, &self.files);
-        let status = program_unpromised(rt, &words, &mut shelf, &mut source, &mut sink, &mut told);
-        let opens = shelf.opens();
-        Ok(Left {
-            status,
-            output,
-            notes,
-            opens,
-        })
-    }
-
-    /// What is left for words of which one is no UTF-8.
-    fn refused(&self, alloc: Global) -> Result<Left, AllocError> {
-        let (output, mut notes) = self.sinks(alloc)?;
-        let status = refuse_words(alloc, &mut FromWriter::new(&mut notes));
-        Ok(Left {
-            status,
-            output,
-            notes,
-            opens: 0,
-        })
-    }
-
-    /// The texts that the output lacks.
-    fn lacks(&self, alloc: Global, output: &str) -> Result<Vec<&str>, AllocError> {
-        let mut lacks = Vec::new(alloc);
-        for text in &self.texts {
-            if !output.contains(text.as_str()) {
-                lacks.push(text.as_str())?;
-            }
-        }
-        Ok(lacks)
-    }
-
-    /// How many lines of the notes begin as the row says.
-    fn such_notes(&self, notes: &str) -> u64 {
-        let Some(note) = &self.note else {
-            return 0;
-        };
-        notes
-            .lines()
-            .filter(|line| line.starts_with(note.as_str()))
-            .count() as u64
-    }
-
-    /// Whether what is left tells want of memory, as the row says.
-    fn is_want_of_memory(&self, left: &Left) -> bool {
-        self.want_of_memory.iter().any(|want| want.is_left(left))
-    }
+    said_of(alloc, row, &left)
 }
 
-impl WantOfMemory {
-    /// Whether this is what is left.
-    fn is_left(&self, left: &Left) -> bool {
-        left.status == self.status
-            && is_all(&self.notes, &left.notes.bytes)
-            && is_all(&self.output, &left.output.bytes)
-            && is_begin(&self.notes_begin, &left.notes.bytes)
+/// The answer of what is left. The row may ask how the output begins and ends, how the notes begin, and how
+/// many of their lines begin as its note does.
+fn said_of(alloc: Global, row: Row<'_>, left: &Left) -> anyhow::Result<String> {
+    let output = str::from_utf8(&left.output.bytes).unwrap_or("no UTF-8");
+    let notes = str::from_utf8(&left.notes.bytes).unwrap_or("no UTF-8");
+    let answer = ProgramAnswer {
+        status: left.status,
+        output,
+        notes,
+        opens: left.opens,
+        first: left.output.first as u64,
+        passed_on: left.output.passed_on as u64,
+        lacks: lacks(alloc, row.items("texts")?, output)?,
+        begins: is_begin(row.text_if_any("begin")?, output.as_bytes()),
+        ends: is_end(row.text_if_any("end")?, output),
+        lines: line_ends(output.as_bytes()),
+        notes_begin: is_begin(row.text_if_any("notes_begin")?, &left.notes.bytes),
+        such_notes: such_notes(row.text_if_any("note")?, notes),
+    };
+    Ok(serde_json::to_string(alloc, &answer)?)
+}
+
+/// A sink for the output, which may have taken bytes before, and one for the notes, of which so many bytes may
+/// have room.
+fn sinks(alloc: Global, row: Row<'_>) -> anyhow::Result<(Kept, Kept)> {
+    let noting = Taking {
+        most: 0,
+        room: row.number_if_any("notes_room")?,
+        flushes: None,
+        fails: Failing::TakesNone,
+    };
+    let before = row.text_if_any("before")?.unwrap_or("");
+    let output = Kept::new(alloc, before.as_bytes(), Taking::of(row)?)?;
+    Ok((output, Kept::new(alloc, b"", noting)?))
+}
+
+/// What is left for these words, where standard input has this and its read of this number fails.
+fn left_for<R: Threads + AllocGlobal + Sync>(
+    rt: &R,
+    alloc: Global,
+    row: Row<'_>,
+    words: &[Value],
+) -> anyhow::Result<Left> {
+    let words = words_of(alloc, words)?;
+    let files = files_of(alloc, row.items("files")?)?;
+    let input = row.text_if_any("input")?.unwrap_or("");
+    let held = Memory::new(input.as_bytes(), &reading_of(row.number("failing_read")?));
+    let (mut output, mut notes) = sinks(alloc, row)?;
+    let mut source = FromReader::new(held);
+    let mut sink = FromWriter::new(&mut output);
+    let mut told = FromWriter::new(&mut notes);
+    let mut shelf = Shelf::new(&files);
+    let status = program_unpromised(rt, &words, &mut shelf, &mut source, &mut sink, &mut told);
+    let opens = shelf.opens();
+    Ok(Left {
+        status,
+        output,
+        notes,
+        opens,
+    })
+}
+
+/// These words.
+fn words_of<'v>(alloc: Global, values: &'v [Value]) -> anyhow::Result<Vec<&'v str>> {
+    let mut words = Vec::new(alloc);
+    for value in values {
+        words.push(text_in(value)?)?;
     }
+    Ok(words)
+}
+
+/// What is left for words of which one is no UTF-8.
+fn refused(alloc: Global, row: Row<'_>) -> anyhow::Result<Left> {
+    let (output, mut notes) = sinks(alloc, row)?;
+    let status = refuse_words(alloc, &mut FromWriter::new(&mut notes));
+    Ok(Left {
+        status,
+        output,
+        notes,
+        opens: 0,
+    })
+}
+
+/// Of these texts those that the output lacks.
+fn lacks<'v>(alloc: Global, texts: &'v [Value], output: &str) -> anyhow::Result<Vec<&'v str>> {
+    let mut lacks = Vec::new(alloc);
+    for value in texts {
+        let text = text_in(value)?;
+        if !output.contains(text) {
+            lacks.push(text)?;
+        }
+    }
+    Ok(lacks)
+}
+
+/// How many lines of the notes begin so.
+fn such_notes(note: Option<&str>, notes: &str) -> u64 {
+    let Some(note) = note else {
+        return 0;
+    };
+    notes.lines().filter(|line| line.starts_with(note)).count() as u64
+}
+
+/// Whether what is left tells want of memory, as the row says.
+fn is_want_of_memory(row: Row<'_>, left: &Left) -> anyhow::Result<bool> {
+    for want in row.items("want_of_memory")? {
+        if is_left(Row::of(want), left)? {
+            return Ok(true);
+        }
+    }
+    Ok(false)
+}
+
+/// Whether this is what is left: the status, the notes or how they begin, and the output if it is one.
+fn is_left(want: Row<'_>, left: &Left) -> anyhow::Result<bool> {
+    want.has_only(&["status", "notes", "notes_begin", "output"])?;
+    let (notes, output) = (want.text_if_any("notes")?, want.text_if_any("output")?);
+    let begin = want.text_if_any("notes_begin")?;
+    let status = want.number_if_any("status")?;
+    Ok(
+        status == Some(u64::from(left.status))
+            && is_all(notes, &left.notes.bytes)
+            && is_all(output, &left.output.bytes)
+            && is_begin(begin, &left.notes.bytes),
+    )
 }
 
 /// Whether a text is these bytes, if there is one.
-fn is_all(text: &Option<String>, bytes: &[u8]) -> bool {
+fn is_all(text: Option<&str>, bytes: &[u8]) -> bool {
     match text {
         Some(text) => text.as_bytes() == bytes,
         None => true,
@@ -350,7 +352,7 @@ fn is_all(text: &Option<String>, bytes: &[u8]) -> bool {
 }
 
 /// Whether bytes begin with a text, if there is one.
-fn is_begin(text: &Option<String>, bytes: &[u8]) -> bool {
+fn is_begin(text: Option<&str>, bytes: &[u8]) -> bool {
     match text {
         Some(text) => bytes.starts_with(text.as_bytes()),
         None => true,
@@ -358,9 +360,9 @@ fn is_begin(text: &Option<String>, bytes: &[u8]) -> bool {
 }
 
 /// Whether a text ends with another, if there is one.
-fn is_end(end: &Option<String>, text: &str) -> bool {
+fn is_end(end: Option<&str>, text: &str) -> bool {
     match end {
-        Some(end) => text.ends_with(end.as_str()),
+        Some(end) => text.ends_with(end),
         None => true,
     }
 }

@@ -2,63 +2,40 @@
 
 ghost use Rattle.std.specs.Prelude.{◌≡◌, ◌^◌, ◌≤◌, false};
 
-use crate::ends::{Failing, Kept, Memory, Reading, Seen, Taking, line_ends};
-use crate::settings::{Cut, FaultAnswer, Telling, settings_of};
+use crate::ends::{Kept, Memory, Reading, Seen, Taking, line_ends, plan_of};
+use crate::settings::{FaultAnswer, cut_of, settings_of};
 use jp_answer::Gate;
 use jp_doc::DocFault;
+use jp_probe_parts::{Row, number_in};
 use jp_run::{FromReader, FromWriter, RunFault, Settings, Sink, Source, Supply, Totals};
 use once_cell::race::OnceBox;
-use serde::{Deserialize, Serialize};
+use serde::Serialize;
 use std::alloc::{AllocError, Global};
 use std::str;
 use std::thread::Threads;
 
-/// What is asked of a run.
-#[derive(Drop, Deserialize)]
-#[serde(deny_unknown_fields)]
-pub struct RunRow {
-    query: String,
-    cut: Cut,
-    #[serde(default)]
-    settings: Vec<Telling>,
-    input: String,
-    /// How many blanks stand before each line feed of the input besides.
-    #[serde(default)]
-    blanks: u64,
-    /// Whether the ends are std's readers and writers, as `FromReader` and `FromWriter` have them.
-    #[serde(default)]
-    by_std: bool,
-    /// The first reads, as `Memory` has them.
-    #[serde(default)]
-    plan: Vec<(u64, bool)>,
-    /// The most bytes of each read behind those, or 0, and whether none of them waits.
-    #[serde(default)]
-    each_read: u64,
-    #[serde(default)]
-    never_waits: bool,
-    /// The read that fails, from 1, or 0.
-    #[serde(default)]
-    failing_read: u64,
-    /// The most bytes of a write, or 0; how many bytes have room in all, and how many flushes pass.
-    #[serde(default)]
-    each_write: u64,
-    room: Option<u64>,
-    flushes: Option<u64>,
-    fails: Option<Failing>,
-    /// How many faulty lines the gate wants to be told.
-    #[serde(default)]
-    wants_told: u64,
-    /// How many bytes a line has at least, and below how many bytes what waits to be answered stays.
-    #[serde(default)]
-    line: u64,
-    #[serde(default)]
-    window: u64,
-    /// The least and the most reads that there may be.
-    reads_within: Option<(u64, u64)>,
-    /// The whole output: where memory is wanted a front of it is written.
-    #[serde(default)]
-    whole: String,
-}
+/// What a row of a run may have.
+const MEMBERS: [&str; 19] = [
+    "query",
+    "cut",
+    "settings",
+    "input",
+    "blanks",
+    "by_std",
+    "plan",
+    "each_read",
+    "never_waits",
+    "failing_read",
+    "each_write",
+    "room",
+    "flushes",
+    "fails",
+    "wants_told",
+    "line",
+    "window",
+    "reads_within",
+    "whole",
+];
 
 /// What a run came to.
 #[derive(Drop, Serialize)]
@@ -180,157 +157,123 @@ struct Ran<'a> {
     sink_failed: bool,
 }
 
-impl RunRow {
-    /// What the run came to, or its want of memory.
-    pub fn answer<R: Threads + Sync>(&self, rt: &R, alloc: Global) -> anyhow::Result<String> {
-        let input = with_blanks(alloc, &self.input, self.blanks)?;
-        let told = Told::new(alloc, self.wants_told)?;
-        let ran = match settings_of(self.cut, &self.settings) {
-            Ok(settings) if self.by_std => self.ran_by_std(rt, alloc, &input, &settings, &told)?,
-            Ok(settings) => self.ran(rt, alloc, &input, &settings, &told)?,
-            Err(fault) => Ran {
-                end: Err(fault),
-                source: Memory::new(alloc, input.as_bytes(), &self.reading()),
-                sink: Kept::new(alloc, b"", self.taking())?,
-                sink_failed: false,
-            },
-        };
-        if let Err(RunFault::Memory) = ran.end {
-            return self.want_of_memory(alloc, &ran.sink.bytes);
-        }
-        self.said_of(alloc, &ran, &told)
+/// The answer to what is asked of a run: what it came to, or its want of memory.
+pub fn answer_run<R: Threads + Sync>(
+    rt: &R,
+    alloc: Global,
+    row: Row<'_>,
+) -> anyhow::Result<String> {
+    row.has_only(&MEMBERS)?;
+    // How many blanks stand before each line feed of the input besides.
+    let input = with_blanks(alloc, row.text("input")?, row.number("blanks")?)?;
+    // How many faulty lines the gate wants to be told.
+    let told = Told::new(alloc, row.number("wants_told")?)?;
+    let plan = plan_of(alloc, row.items("plan")?)?;
+    let mut source = Memory::new(input.as_bytes(), &Reading::of(row, &plan)?);
+    let mut sink = Kept::new(alloc, b"", Taking::of(row)?)?;
+    let (end, sink_failed) = match settings_of(cut_of(row)?, row.items("settings")?)? {
+        Ok(settings) => end_of(rt, alloc, row, &settings, &mut source, &mut sink, &told)?,
+        Err(fault) => (Err(fault), false),
+    };
+    if let Err(RunFault::Memory) = end {
+        return want_of_memory(alloc, row, &sink.bytes);
     }
+    let ran = Ran {
+        end,
+        source,
+        sink,
+        sink_failed,
+    };
+    said_of(alloc, row, &ran, &told)
+}
 
-    /// How the input is read.
-    fn reading(&self) -> Reading<'_> {
-        Reading {
-            plan: &self.plan,
-            most: self.each_read,
-            never_waits: self.never_waits,
-            fails_at: self.failing_read,
-            line: self.line,
-        }
+/// What a run over these ends ends with, and whether its sink says that a call has failed. They stand under
+/// std's readers and writers, as `FromReader` and `FromWriter` have them, if the row says so.
+fn end_of<R: Threads + Sync>(
+    rt: &R,
+    alloc: Global,
+    row: Row<'_>,
+    settings: &Settings<'_>,
+    memory: &mut Memory<'_>,
+    kept: &mut Kept,
+    told: &Told,
+) -> anyhow::Result<(Result<Totals, RunFault>, bool)>
+    requires working { (memory.old.failed ≡ false) × (kept.old.failed ≡ false) }
+    requires few { (memory.old.reads ≤ 2 ^ 62) × (memory.old.given ≤ 2 ^ 62) }
+{
+    let query = row.text("query")?;
+    if !row.flag("by_std")? {
+        return Ok(ended(rt, alloc, memory, kept, query, settings, told));
     }
+    let mut source = if row.flag("never_waits")? {
+        FromReader::never_waits(memory)
+    } else {
+        FromReader::new(memory)
+    };
+    let mut sink = FromWriter::new(kept);
+    Ok(ended(rt, alloc, &mut source, &mut sink, query, settings, told))
+}
 
-    /// How the output is taken.
-    fn taking(&self) -> Taking {
-        Taking {
-            most: self.each_write,
-            room: self.room,
-            flushes: self.flushes,
-            fails: self.fails,
-        }
-    }
+/// What a run ends with, and whether its sink says that a call has failed.
+fn ended<R: Threads + Sync, S: Source<K>, K: Sink>(
+    rt: &R,
+    alloc: Global,
+    source: &mut S,
+    sink: &mut K,
+    query: &str,
+    settings: &Settings<'_>,
+    told: &Told,
+) -> (Result<Totals, RunFault>, bool)
+    requires working { (S.failed source.old ≡ false) × (K.failed sink.old ≡ false) }
+    requires few { (S.reads source.old ≤ 2 ^ 62) × (S.given source.old ≤ 2 ^ 62) }
+{
+    let end = run_unpromised(rt, alloc, source, sink, query, settings, told);
+    (end, sink.failed())
+}
 
-    /// The run over ends of its own.
-    fn ran<'a, R: Threads + Sync>(
-        &'a self,
-        rt: &R,
-        alloc: Global,
-        input: &'a str,
-        settings: &Settings<'_>,
-        told: &Told,
-    ) -> Result<Ran<'a>, AllocError> {
-        let mut source = Memory::new(alloc, input.as_bytes(), &self.reading());
-        let mut sink = Kept::new(alloc, b"", self.taking())?;
-        let end = run_unpromised(
-            rt,
-            alloc,
-            &mut source,
-            &mut sink,
-            &self.query,
-            settings,
-            told,
-        );
-        let sink_failed = sink.failed();
-        Ok(Ran {
-            end,
-            source,
-            sink,
-            sink_failed,
-        })
-    }
+/// The answer where memory is wanted, of which a front of the whole output is written.
+fn want_of_memory(alloc: Global, row: Row<'_>, bytes: &[u8]) -> anyhow::Result<String> {
+    let whole = row.text_if_any("whole")?.unwrap_or("");
+    let words = if whole.as_bytes().starts_with(bytes) {
+        "memory"
+    } else {
+        "no front of the output"
+    };
+    let fault = String::from_str(alloc, words)?;
+    Ok(serde_json::to_string(alloc, &FaultAnswer { fault })?)
+}
 
-    /// The run over a reader and a writer of std.
-    fn ran_by_std<'a, R: Threads + Sync>(
-        &'a self,
-        rt: &R,
-        alloc: Global,
-        input: &'a str,
-        settings: &Settings<'_>,
-        told: &Told,
-    ) -> Result<Ran<'a>, AllocError> {
-        let mut memory = Memory::new(alloc, input.as_bytes(), &self.reading());
-        let mut kept = Kept::new(alloc, b"", self.taking())?;
-        let mut source = if self.never_waits {
-            FromReader::never_waits(&mut memory)
-        } else {
-            FromReader::new(&mut memory)
-        };
-        let mut sink = FromWriter::new(&mut kept);
-        let end = run_unpromised(
-            rt,
-            alloc,
-            &mut source,
-            &mut sink,
-            &self.query,
-            settings,
-            told,
-        );
-        let sink_failed = sink.failed();
-        Ok(Ran {
-            end,
-            source: memory,
-            sink: kept,
-            sink_failed,
-        })
-    }
+/// The answer of a run that ended so.
+fn said_of(alloc: Global, row: Row<'_>, ran: &Ran<'_>, told: &Told) -> anyhow::Result<String> {
+    let (end, source, sink) = (&ran.end, &ran.source, &ran.sink);
+    // Below how many bytes what waits to be answered stays.
+    let window = row.number("window")?;
+    let answer = RunAnswer {
+        end: text_of_end(alloc, end)?,
+        status: status_of_end(end),
+        totals: totals_of(end),
+        wrote: wrote_of(end),
+        output: str::from_utf8(&sink.bytes).unwrap_or("no UTF-8"),
+        lines: line_ends(&sink.bytes),
+        reads: source.reads,
+        given: source.given,
+        passed_on: sink.passed_on as u64,
+        sink_failed: ran.sink_failed,
+        called_again: sink.called_again,
+        told: told.texts(alloc)?,
+        seen: source.seen(),
+        waits_below: source.waiting < window && source.waiting > 0,
+        reads_within: are_within(row, source.reads)?,
+    };
+    Ok(serde_json::to_string(alloc, &answer)?)
+}
 
-    /// The answer where memory is wanted, of which a front of the output is written.
-    fn want_of_memory(&self, alloc: Global, bytes: &[u8]) -> anyhow::Result<String> {
-        let words = if self.whole.as_bytes().starts_with(bytes) {
-            "memory"
-        } else {
-            "no front of the output"
-        };
-        let fault = String::from_str(alloc, words)?;
-        Ok(serde_json::to_string(alloc, &FaultAnswer { fault })?)
-    }
-
-    /// The answer of a run that ended so.
-    fn said_of<'x>(
-        &'x self,
-        alloc: Global,
-        ran: &'x Ran<'x>,
-        told: &'x Told,
-    ) -> anyhow::Result<String> {
-        let (end, source, sink) = (&ran.end, &ran.source, &ran.sink);
-        let answer = RunAnswer {
-            end: text_of_end(alloc, end)?,
-            status: status_of_end(end),
-            totals: totals_of(end),
-            wrote: wrote_of(end),
-            output: str::from_utf8(&sink.bytes).unwrap_or("no UTF-8"),
-            lines: line_ends(&sink.bytes),
-            reads: source.reads,
-            given: source.given,
-            passed_on: sink.passed_on as u64,
-            sink_failed: ran.sink_failed,
-            called_again: sink.called_again,
-            told: told.texts(alloc)?,
-            seen: &source.seen,
-            waits_below: source.waiting < self.window && source.waiting > 0,
-            reads_within: self.are_within(source.reads),
-        };
-        Ok(serde_json::to_string(alloc, &answer)?)
-    }
-
-    /// Whether there are as many reads as there may be.
-    fn are_within(&self, reads: u64) -> bool {
-        match self.reads_within {
-            Some((least, most)) => least <= reads && reads <= most,
-            None => true,
-        }
+/// Whether there are as many reads as there may be: the row may say the least and the most.
+fn are_within(row: Row<'_>, reads: u64) -> anyhow::Result<bool> {
+    match row.items("reads_within")? {
+        [] => Ok(true),
+        [least, most] => Ok(number_in(least)? <= reads && reads <= number_in(most)?),
+        _ => Err(anyhow::anyhow!("a row says of reads no least and most")),
     }
 }
 

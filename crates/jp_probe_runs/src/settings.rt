@@ -2,86 +2,86 @@
 
 use jp_answer::OnFault;
 use jp_number::Numbers;
+use jp_probe_parts::{Row, number_in, text_in};
 use jp_run::{Cutting, Output, RunFault, Settings};
-use serde::{Deserialize, Serialize};
+use serde::Serialize;
+use serde_json::Value;
 use std::alloc::Global;
-
-/// The form of an answer.
-#[derive(Clone, Copy, Deserialize, Serialize)]
-#[serde(rename_all = "snake_case")]
-pub enum FormName {
-    Nodes,
-    Values,
-    Texts,
-    Raw,
-    Lines,
-}
-
-/// What settings are told beside their sizes.
-#[derive(Drop, Deserialize)]
-#[serde(rename_all = "snake_case")]
-pub enum Telling {
-    KeepGoing,
-    Decimals,
-    Documents,
-    Form(FormName),
-    Name(String),
-    Filter(String),
-}
 
 /// How many workers there are, and documents of a piece and of a batch.
 pub type Cut = (u64, u64, u64);
 
-/// The settings of these sizes, which are told this in turn.
-pub fn settings_of<'s>(cut: Cut, tellings: &'s [Telling]) -> Result<Settings<'s>, RunFault> {
-    let mut settings = Settings::new(cut.0, cut.1, cut.2)?;
-    for telling in tellings {
-        settings = told_more(settings, telling);
+/// The sizes that a row has.
+pub fn cut_of(row: Row<'_>) -> anyhow::Result<Cut> {
+    match row.items("cut")? {
+        [workers, piece, batch] => Ok((number_in(workers)?, number_in(piece)?, number_in(batch)?)),
+        _ => Err(anyhow::anyhow!("a row has no cut of three numbers")),
     }
-    Ok(settings)
 }
 
-/// The settings once they are told this too.
-fn told_more<'s>(settings: Settings<'s>, telling: &'s Telling) -> Settings<'s> {
-    match telling {
-        Telling::KeepGoing => settings.keep_going(),
-        Telling::Decimals => settings.with_decimals(),
-        Telling::Documents => settings.with_cutting(Cutting::Documents),
-        Telling::Form(form) => settings.with_output(output_of(*form)),
-        Telling::Name(name) => settings.with_name(Some(name.as_str())),
-        Telling::Filter(filter) => settings.with_filter(Some(filter.as_str())),
+/// The settings of these sizes, which are told this in turn, or their fault.
+pub fn settings_of<'v>(
+    cut: Cut,
+    tellings: &'v [Value],
+) -> anyhow::Result<Result<Settings<'v>, RunFault>> {
+    let mut settings = match Settings::new(cut.0, cut.1, cut.2) {
+        Ok(settings) => settings,
+        Err(fault) => return Ok(Err(fault)),
+    };
+    for telling in tellings {
+        settings = told_more(settings, telling)?;
     }
+    Ok(Ok(settings))
+}
+
+/// The settings once they are told this too, beside their sizes: a word, or an object that has a form, a name
+/// or a filter.
+fn told_more<'v>(settings: Settings<'v>, telling: &'v Value) -> anyhow::Result<Settings<'v>> {
+    if telling.is_string() {
+        return told_word(settings, text_in(telling)?);
+    }
+    let row = Row::of(telling);
+    let (name, _) = row.only_member()?;
+    let text = row.text(name)?;
+    Ok(match name {
+        "form" => settings.with_output(output_of(text)?),
+        "name" => settings.with_name(Some(text)),
+        "filter" => settings.with_filter(Some(text)),
+        _ => return Err(anyhow::anyhow!("settings in a row are told what they do not know")),
+    })
+}
+
+/// The settings once they are told a word.
+fn told_word<'v>(settings: Settings<'v>, word: &str) -> anyhow::Result<Settings<'v>> {
+    Ok(match word {
+        "keep_going" => settings.keep_going(),
+        "decimals" => settings.with_decimals(),
+        "documents" => settings.with_cutting(Cutting::Documents),
+        _ => return Err(anyhow::anyhow!("settings in a row are told a word that they do not know")),
+    })
 }
 
 /// The form of this name.
-fn output_of(form: FormName) -> Output {
-    match form {
-        FormName::Nodes => Output::Nodes,
-        FormName::Values => Output::Values,
-        FormName::Texts => Output::Texts,
-        FormName::Raw => Output::Raw,
-        FormName::Lines => Output::Lines,
-    }
+fn output_of(name: &str) -> anyhow::Result<Output> {
+    Ok(match name {
+        "nodes" => Output::Nodes,
+        "values" => Output::Values,
+        "texts" => Output::Texts,
+        "raw" => Output::Raw,
+        "lines" => Output::Lines,
+        _ => return Err(anyhow::anyhow!("no form has the name that stands in a row")),
+    })
 }
 
 /// The name of a form.
-fn name_of(output: Output) -> FormName {
+fn name_of(output: Output) -> &'static str {
     match output {
-        Output::Nodes => FormName::Nodes,
-        Output::Values => FormName::Values,
-        Output::Texts => FormName::Texts,
-        Output::Raw => FormName::Raw,
-        Output::Lines => FormName::Lines,
+        Output::Nodes => "nodes",
+        Output::Values => "values",
+        Output::Texts => "texts",
+        Output::Raw => "raw",
+        Output::Lines => "lines",
     }
-}
-
-/// What is asked of settings.
-#[derive(Drop, Deserialize)]
-#[serde(deny_unknown_fields)]
-pub struct SettingsRow {
-    cut: Cut,
-    #[serde(default)]
-    settings: Vec<Telling>,
 }
 
 /// What settings have.
@@ -91,7 +91,8 @@ struct SettingsAnswer<'s> {
     keep_going: bool,
     decimals: bool,
     documents: bool,
-    form: FormName,
+    /// The name of the form of an answer.
+    form: &'static str,
     name: Option<&'s str>,
     filter: Option<&'s str>,
 }
@@ -102,25 +103,24 @@ pub struct FaultAnswer {
     pub fault: String,
 }
 
-impl SettingsRow {
-    /// What the settings have, or their fault.
-    pub fn answer(&self, alloc: Global) -> anyhow::Result<String> {
-        let settings = match settings_of(self.cut, &self.settings) {
-            Ok(settings) => settings,
-            Err(fault) => {
-                let fault = format!(in alloc; "{fault}")?;
-                return Ok(serde_json::to_string(alloc, &FaultAnswer { fault })?);
-            }
-        };
-        let answer = SettingsAnswer {
-            cut: (settings.workers, settings.piece, settings.batch),
-            keep_going: settings.on_fault == OnFault::KeepGoing,
-            decimals: settings.numbers == Numbers::Decimals,
-            documents: settings.cutting == Cutting::Documents,
-            form: name_of(settings.output),
-            name: settings.name,
-            filter: settings.filter,
-        };
-        Ok(serde_json::to_string(alloc, &answer)?)
-    }
+/// The answer to settings: what they have, or their fault.
+pub fn answer_settings(alloc: Global, row: Row<'_>) -> anyhow::Result<String> {
+    row.has_only(&["cut", "settings"])?;
+    let settings = match settings_of(cut_of(row)?, row.items("settings")?)? {
+        Ok(settings) => settings,
+        Err(fault) => {
+            let fault = format!(in alloc; "{fault}")?;
+            return Ok(serde_json::to_string(alloc, &FaultAnswer { fault })?);
+        }
+    };
+    let answer = SettingsAnswer {
+        cut: (settings.workers, settings.piece, settings.batch),
+        keep_going: settings.on_fault == OnFault::KeepGoing,
+        decimals: settings.numbers == Numbers::Decimals,
+        documents: settings.cutting == Cutting::Documents,
+        form: name_of(settings.output),
+        name: settings.name,
+        filter: settings.filter,
+    };
+    Ok(serde_json::to_string(alloc, &answer)?)
 }
