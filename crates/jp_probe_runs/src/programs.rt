@@ -238,8 +238,8 @@ fn said_of(alloc: Global, row: Row<'_>, left: &Left) -> anyhow::Result<String> {
     Ok(serde_json::to_string(alloc, &answer)?)
 }
 
-/// A sink for the output, which may have taken bytes before, and one for the notes, of which so many bytes may
-/// have room.
+/// A sink for the output, which may have taken bytes before, and one for the notes, of which so many bytes
+/// may have room.
 fn sinks(alloc: Global, row: Row<'_>) -> anyhow::Result<(Kept, Kept)> {
     let noting = Taking {
         most: 0,
