@@ -1,6 +1,6 @@
 //! The system's files and standard input, opened by their names.
 
-ghost use Rattle.std.specs.Prelude.{◌≡◌, None, false};
+ghost use Rattle.std.specs.Prelude.{◌≡◌, None, IfOk, false};
 
 use crate::beside::{BesideReader, Errand, Waiting};
 use crate::system_source::{OpenInput, Reason, SystemSource};
@@ -87,9 +87,10 @@ impl<'r, R: Files + Input + Wait> SystemInputs<'r, R> {
     fn over_file(&self, file: R::File) -> SourceOf<'r, R>
         ensures unread { ⟦<SourceOf<'r, R> as Supply>⟧.reads result ≡ 0 }
         ensures ungiven { ⟦<SourceOf<'r, R> as Supply>⟧.given result ≡ 0 }
+        ensures working { ⟦<SourceOf<'r, R> as Supply>⟧.failed result ≡ false }
     {
         match (self.kind_of(file.metadata()), self.errands) {
-            (Kind::Output, _) => SystemSource::broken(Reason::IsOutput),
+            (Kind::Output, _) => SystemSource::over(OpenInput::Nothing(Reason::IsOutput), true),
             (Kind::Other, Some(errands)) => self.beside(errands, Waiting::File(file)),
             (Kind::Other, None) => SystemSource::over(OpenInput::File(file), false),
             (Kind::Regular, _) => SystemSource::over(OpenInput::File(file), true),
@@ -115,17 +116,18 @@ impl<'r, R: Files + Input + Wait> SystemInputs<'r, R> {
         }
     }
 
-    /// What this name opens.
-    fn opened(&self, name: &str) -> SourceOf<'r, R>
-        ensures unread { ⟦<SourceOf<'r, R> as Supply>⟧.reads result ≡ 0 }
-        ensures ungiven { ⟦<SourceOf<'r, R> as Supply>⟧.given result ≡ 0 }
+    /// What this name opens, from which nothing was read, or why it cannot be opened.
+    fn opened(&self, name: &str) -> Result<SourceOf<'r, R>, Reason>
+        ensures unread { IfOk result (λ source. ⟦<SourceOf<'r, R> as Supply>⟧.reads source ≡ 0) }
+        ensures ungiven { IfOk result (λ source. ⟦<SourceOf<'r, R> as Supply>⟧.given source ≡ 0) }
+        ensures working { IfOk result (λ source. ⟦<SourceOf<'r, R> as Supply>⟧.failed source ≡ false) }
     {
         if name == "-" {
-            return self.standard_input();
+            return Ok(self.standard_input());
         }
         match File::open(self.rt, name) {
-            Ok(file) => self.over_file(file),
-            Err(error) => SystemSource::broken(Reason::System(error)),
+            Ok(file) => Ok(self.over_file(file)),
+            Err(error) => Err(Reason::System(error)),
         }
     }
 }
@@ -142,8 +144,16 @@ impl<'r, R: Files + Input + Wait> Inputs<SourceOf<'r, R>> for SystemInputs<'r, R
         if source.failed() {
             self.broken = self.broken.saturating_add(1);
         }
-        *source = self.opened(name);
-        if source.failed() { Err(Broken) } else { Ok(()) }
+        match self.opened(name) {
+            Ok(opened) => {
+                *source = opened;
+                Ok(())
+            }
+            Err(reason) => {
+                *source = SystemSource::broken(reason);
+                Err(Broken)
+            }
+        }
     }
 
     fn opens(&self) -> u64 {

@@ -68,17 +68,17 @@ fn files_of<'v>(alloc: Global, values: &'v [Value]) -> anyhow::Result<Vec<File<'
 
 /// What the command leaves.
 #[derive(Drop, Serialize)]
-struct ProgramAnswer<'a> {
+struct ProgramAnswer<'l, 'r> {
     status: u8,
-    output: &'a str,
-    notes: &'a str,
+    output: &'l str,
+    notes: &'l str,
     /// How often a file was opened.
     opens: u64,
     /// How many bytes the output had at the first flush that found some, and at the last.
     first: u64,
     passed_on: u64,
     /// The texts that the output lacks, whether it begins and ends so, and how many lines it has.
-    lacks: Vec<&'a str>,
+    lacks: Vec<&'r str>,
     begins: bool,
     ends: bool,
     lines: u64,
