@@ -13,38 +13,44 @@ mod runs;
 mod settings;
 
 use answers::answer_answers;
-use jp_probe_parts::{Answering, Row, answer_rows};
+use jp_probe_parts::Row;
 use prepared::answer_prepared;
 use programs::answer_program;
 use runs::answer_run;
+use serde_json::Value;
 use settings::answer_settings;
 use std::alloc::{AllocGlobal, Global};
-use std::io::{self, BufReader, BufWriter};
+use std::io::{self, BufRead, BufReader, BufWriter, Write};
 use std::thread::Threads;
-
-/// Answers what rows ask, where threads can be started.
-#[derive(Drop)]
-struct Questions<'r, R> {
-    rt: &'r R,
-}
-
-impl<R: Threads + AllocGlobal + Sync> Answering for Questions<'_, R> {
-    fn answer(&self, alloc: Global, name: &str, row: Row<'_>) -> anyhow::Result<String> {
-        match name {
-            "answers" => answer_answers(self.rt, alloc, row),
-            "prepared" => answer_prepared(self.rt, alloc, row),
-            "program" => answer_program(self.rt, alloc, row),
-            "run" => answer_run(self.rt, alloc, row),
-            "settings" => answer_settings(alloc, row),
-            _ => Err(anyhow::anyhow!("a row asks nothing that is known")),
-        }
-    }
-}
 
 /// Answers the rows of standard input.
 fn main(rt: HostRuntime) -> anyhow::Result<()> {
     let alloc = rt.alloc();
     let mut output = BufWriter::new(alloc, io::writer(&rt))?;
-    let input = BufReader::new(alloc, rt.reader())?;
-    answer_rows(alloc, input, &mut output, &Questions { rt: &rt })
+    for line in BufReader::new(alloc, rt.reader())?.lines(alloc) {
+        let answer = answer(&rt, alloc, line?.as_str())?;
+        output.write_all(answer.as_bytes())?;
+        output.write_all(b"\n")?;
+    }
+    output.flush()?;
+    Ok(())
+}
+
+/// The answer to one row. That threads can be started is known of no method of a trait, so this driver has a
+/// loop of its own.
+fn answer<R: Threads + AllocGlobal + Sync>(
+    rt: &R,
+    alloc: Global,
+    line: &str,
+) -> anyhow::Result<String> {
+    let value = Value::from_str(alloc, line)?;
+    let (name, row) = Row::of(&value).only_member()?;
+    match name {
+        "answers" => answer_answers(rt, alloc, row),
+        "prepared" => answer_prepared(rt, alloc, row),
+        "program" => answer_program(rt, alloc, row),
+        "run" => answer_run(rt, alloc, row),
+        "settings" => answer_settings(alloc, row),
+        _ => Err(anyhow::anyhow!("a row asks nothing that is known")),
+    }
 }
