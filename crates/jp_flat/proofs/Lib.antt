@@ -16,6 +16,9 @@ pub mod Kept
 pub mod Nesting
 pub mod ScannedTexts
 pub mod WholeTexts
+pub mod Searching
+pub mod Covered
+pub mod WholeFaults
 pub mod Faults
 pub mod Decimal
 pub mod ReadNumbers

@@ -1,5 +1,6 @@
 -- Working files of `jp_flat`, which private clauses alone cite: nobody has to believe them.
 pub mod Above
+pub mod Decimals
 pub mod Filled
 pub mod FlatAnswers
 pub mod Plain

@@ -6,12 +6,14 @@ ghost use Rattle.std.specs.List.{list_all};
 ghost use Rattle.std.specs.Str.Parse.{digits_value};
 ghost use Rattle.jp_flat.specs.Digits.{whole_value};
 ghost use Rattle.jp_doc.specs.Tree.{text_number};
+ghost use Rattle.jp_flat.specs.inner.Decimals.{is_finite_text, is_readable};
 ghost use Rattle.jp_flat.specs.inner.Plain.{is_unsigned_text, is_minus_text, is_whole_text};
 ghost use Rattle.jp_flat_nodes.specs.Digits.{are_digits};
 ghost use Rattle.jp_flat.specs.inner.Plain.{is_fit_number, IsLed};
 ghost use Rattle.jp_number.specs.Number.{written, IsShort, is_short};
 ghost use Rattle.jp_number.specs.View.{number_of};
 
+use fast_float::Numeral;
 use jp_number::{Number, NumberText};
 
 fn all_digits(bytes: &[u8]) -> bool
@@ -75,6 +77,24 @@ pub(crate) fn is_whole_text(text: &str) -> bool
         return is_unsigned_text(bytes);
     }
     is_minus_text(&bytes[1..])
+}
+
+/// Whether the float nearest to the number of a text is finite.
+fn is_finite_text(text: &str) -> bool
+    ensures { result ≡ is_finite_text text.now }
+{
+    let bytes = text.as_bytes();
+    if bytes.is_empty() || bytes[0] != b'-' {
+        return Numeral::scan(bytes).to_float::<f64>(false).is_finite();
+    }
+    Numeral::scan(&bytes[1..]).to_float::<f64>(true).is_finite()
+}
+
+/// Whether the JSON crate reads the number of a text: it refuses one that is too large for a float.
+pub(crate) fn is_readable(text: &str) -> bool
+    ensures { result ≡ is_readable text.now }
+{
+    is_whole_text(text) || is_finite_text(text)
 }
 
 /// The same number.

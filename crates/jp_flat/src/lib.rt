@@ -1,6 +1,7 @@
 //! Documents read flat: a line as one list of nodes, in buffers that are kept from line to line.
 #![tactic(auto)]
 
+mod decimals;
 mod digits;
 mod document;
 mod examples;

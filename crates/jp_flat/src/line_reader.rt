@@ -6,7 +6,7 @@ ghost use Rattle.jp_flat.specs.LineDocument.{line_answer};
 ghost use Rattle.jp_flat.specs.inner.FlatAnswers.{IsFlatAnswer};
 
 use crate::document::FlatDocument;
-use crate::lines::{Room, Texts, fill, fill_decimal, lend};
+use crate::lines::{FlatAnswer, Room, fill, fill_decimal, lend};
 use jp_doc::{DocFault, Document};
 use jp_number::Numbers;
 use std::alloc::{AllocError, Global};
@@ -18,17 +18,6 @@ pub enum LineDocument<'d> {
     Flat(FlatDocument<'d>),
     /// As a tree.
     Tree(Document),
-}
-
-/// What the flat reading of a line says of it.
-#[derive(Clone, Copy, Drop)]
-pub(crate) enum FlatAnswer {
-    /// It holds a document, whose nodes fill the room, with their texts there.
-    Filled(Texts),
-    /// It has this fault.
-    Faulty(DocFault),
-    /// It has the value that the tree has. Where that has none its fault is this, or else the tree's.
-    Open(Option<DocFault>),
 }
 
 /// Reads lines by the numbers that they may have, each flat or as a tree, in buffers that are kept from line
@@ -51,9 +40,10 @@ impl LineReader {
     /// The document that a line holds (RFC 8259), where documents may have these numbers, or its fault: the
     /// first of `DocFault` that applies, and never `Memory`.
     ///
-    /// With whole numbers it is read flat where it is plain, and as a tree where it is not: the tree alone
-    /// tells faults. With decimals it is read flat by the grammar of JSON alone, and as a tree too only where
-    /// that finds it over a limit: the tree of whole numbers may have a value still, which counts.
+    /// It is read flat, which tells its fault too. It is read as a tree only where that leaves it open: with
+    /// whole numbers where it has more nodes than are read flat, or a number that is not whole and that a later
+    /// member covers, and with decimals where the grammar of JSON finds it over a limit, since the tree of
+    /// whole numbers may have a value still, which counts.
     ///
     /// `AllocError` if a growth was refused. Then the next line may be read as if there had been none.
     pub fn read<'d>(
@@ -92,10 +82,7 @@ fn flat_answer(numbers: Numbers, line: &[u8], room: &mut Room) -> Result<FlatAns
     ensures { IfOk result (λ a. IsFlatAnswer a numbers line.now room.new) }
 {
     match numbers {
-        Numbers::Whole => match fill(line, room)? {
-            Some(texts) => Ok(FlatAnswer::Filled(texts)),
-            None => Ok(FlatAnswer::Open(None)),
-        },
+        Numbers::Whole => fill(line, room),
         Numbers::Decimals => match fill_decimal(line, room)? {
             Ok(texts) => Ok(FlatAnswer::Filled(texts)),
             Err(fault) => match fault {

@@ -1,17 +1,22 @@
 //! The flat reading of a line.
 
-ghost use Rattle.std.specs.Prelude.{◌≡◌, ◌≤◌, Err, IfOk, IfSome, IsTrue, MatchOption, MatchResult, length};
-ghost use Rattle.jp_doc.specs.Reading.{max_line, reading};
+ghost use Rattle.std.specs.Prelude.{◌≡◌, ◌≤◌, Err, IfOk, MatchOption, MatchResult, length, map};
+ghost use Rattle.json.specs.Tape.{node_token};
+ghost use Rattle.jp_doc.specs.Reading.{max_line};
 ghost use Rattle.jp_flat.specs.Document.{document_value, grammar_reading};
+ghost use Rattle.jp_flat.specs.inner.Decimals.{whole_fault};
 ghost use Rattle.jp_flat.specs.inner.Filled.{texts_at, filled_value, IsFilled};
+ghost use Rattle.jp_flat.specs.inner.FlatAnswers.{IsFlatAnswer, told};
 ghost use Rattle.jp_flat.specs.inner.Held.{IsHeld, IsReadAs};
+ghost use Rattle.jp_number.specs.declared.numbers.Numbers.TheVariants.{Whole};
 
+use crate::decimals::has_decimal;
 use crate::document::FlatDocument;
-use crate::nodes::{are_plain, fault_in};
+use crate::nodes::{are_plain, are_readable, fault_in};
 use bumpalo::Bump;
 use jp_doc::{DocFault, LONG_LINE, MAX_LINE};
 use jp_flat_nodes::{FlatNode, MAX_NODES, lay, read_decimal_line, read_line};
-use json::{Error, Scratch, Tape};
+use json::{Error, Node, Scratch, Tape};
 use std::alloc::{AllocError, Global};
 
 /// The buffers of a reader, which are kept from line to line.
@@ -69,27 +74,57 @@ pub(crate) enum Texts {
     InRoom,
 }
 
-/// Reads a line by the kit's reader, and lays its nodes. `false` where the line is not plain.
+/// What the flat reading of a line says of it.
+#[derive(Clone, Copy, Drop)]
+pub(crate) enum FlatAnswer {
+    /// It holds a document, whose nodes fill the room, with their texts there.
+    Filled(Texts),
+    /// It has this fault.
+    Faulty(DocFault),
+    /// It has the value that the tree has. Where that has none its fault is this, or else the tree's.
+    Open(Option<DocFault>),
+}
+
+/// What the nodes of a line that are not plain say of it, where numbers have to be whole: `Unreadable` if the
+/// JSON crate does not read them, then `NotWhole` if it reads a number that is not whole, and else nothing.
 ///
 /// `AllocError` if a growth was refused.
-fn lay_plain(text: &str, room: &mut Room) -> Result<bool, AllocError>
+fn whole_answer(alloc: Global, nodes: &[Node<'_>]) -> Result<FlatAnswer, AllocError>
+    ensures { IfOk result (λ a. a ≡ told (whole_fault (map node_token nodes.now))) }
+{
+    if !are_readable(nodes) {
+        return Ok(FlatAnswer::Faulty(DocFault::Unreadable));
+    }
+    if has_decimal(alloc, nodes)? {
+        return Ok(FlatAnswer::Faulty(DocFault::NotWhole));
+    }
+    Ok(FlatAnswer::Open(None))
+}
+
+/// Reads a line by the kit's reader, and lays its nodes where they are plain, or else tells what they say.
+///
+/// `AllocError` if a growth was refused.
+fn lay_plain(text: &str, room: &mut Room) -> Result<FlatAnswer, AllocError>
     requires { length text.now ≤ max_line }
-    ensures { IfOk result (λ laid. IsTrue laid → IsReadAs (reading text.now)
-        room.new.texts.items room.new.nodes.items) }
+    ensures { IfOk result (λ a. IsFlatAnswer a Whole text.now room.new) }
 {
     match Tape::parse(text, &mut room.scratch, Vec::new(&room.arena)) {
         Ok(tape) => {
-            if tape.len() > MAX_NODES || !are_plain(tape.nodes()) {
-                return Ok(false);
+            if !are_plain(tape.nodes()) {
+                return whole_answer(room.alloc, tape.nodes());
+            }
+            if tape.len() > MAX_NODES {
+                return Ok(FlatAnswer::Open(None));
             }
             // Without their escapes, texts take no more than the line.
             room.texts.clear();
             room.texts.reserve(text.len())?;
             lay(tape.nodes(), &mut room.texts, &mut room.nodes)?;
-            Ok(true)
+            Ok(FlatAnswer::Filled(Texts::InRoom))
         }
         Err(Error::OutOfMemory) => Err(AllocError),
-        Err(_) => Ok(false),
+        // A line of that length is not too long for the tape.
+        Err(_) => Ok(FlatAnswer::Faulty(DocFault::Unreadable)),
     }
 }
 
@@ -118,32 +153,29 @@ fn lay_decimal(text: &str, room: &mut Room) -> Result<Option<DocFault>, AllocErr
     }
 }
 
-/// Fills the room with the nodes of a line and tells where their texts stand, or `None` where the line is not
-/// plain.
+/// What the flat reading of a line says of it, where numbers have to be whole. The nodes of one that is read so
+/// fill the room.
 ///
 /// `AllocError` if a growth was refused.
-pub(crate) fn fill(line: &[u8], room: &mut Room) -> Result<Option<Texts>, AllocError>
-    ensures { IfOk result (λ o. IfSome o (λ t. IsFilled (reading line.now) t line.now room.new)) }
+pub(crate) fn fill(line: &[u8], room: &mut Room) -> Result<FlatAnswer, AllocError>
+    ensures { IfOk result (λ a. IsFlatAnswer a Whole line.now room.new) }
 {
     room.begin(line.len());
     if line.len() > MAX_LINE {
-        return Ok(None);
+        return Ok(FlatAnswer::Faulty(DocFault::LongLine));
     }
-    // `basic` tells no place of a fault, for which nobody asks: `Document::read` tells faults.
+    // `basic` tells no place of a fault, for which nobody asks.
     let Ok(text) = simdutf8::basic::from_utf8(line) else {
-        return Ok(None);
+        return Ok(FlatAnswer::Faulty(DocFault::Unreadable));
     };
     if read_line(line, &mut room.nodes) {
-        return Ok(Some(Texts::InLine));
+        return Ok(FlatAnswer::Filled(Texts::InLine));
     }
-    if lay_plain(text, room)? {
-        Ok(Some(Texts::InRoom))
-    } else {
-        Ok(None)
-    }
+    lay_plain(text, room)
 }
 
-/// The same, where numbers need not be whole, or the fault of the line.
+/// Fills the room with the nodes of a line and tells where their texts stand, where numbers need not be whole,
+/// or tells the fault of the line.
 ///
 /// `AllocError` if a growth was refused.
 pub(crate) fn fill_decimal(

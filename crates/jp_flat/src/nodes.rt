@@ -3,11 +3,12 @@
 ghost use Rattle.std.specs.Prelude.{◌≡◌, ◌≤◌, ◌&&◌, List, ◌∷◌, map, false, MatchOption, IfSome};
 ghost use Rattle.json.specs.Tape.{node_token};
 ghost use Rattle.json.specs.Token.{Token};
+ghost use Rattle.jp_flat.specs.inner.Decimals.{are_readable};
 ghost use Rattle.jp_flat.specs.inner.Nesting.{nests_from};
 ghost use Rattle.jp_flat.specs.inner.Plain.{is_plain_from};
 ghost use Rattle.jp_flat.specs.inner.Rows.{are_within, pass_fault};
 
-use crate::digits::{is_whole_text, is_within};
+use crate::digits::{is_readable, is_whole_text, is_within};
 use crate::limits::MAX_LEVEL;
 use jp_doc::DocFault;
 use jp_flat_nodes::MAX_NODES;
@@ -124,4 +125,32 @@ pub(crate) fn fault_in(nodes: &[Node<'_>]) -> Option<DocFault>
     } else {
         None
     }
+}
+
+/// Whether the node is no number that the JSON crate refuses.
+fn is_node_readable(node: &Node<'_>) -> bool
+    ensures { (ts : List Token) → are_readable (node_token node.now ∷ ts) ≡ (result && are_readable ts) }
+{
+    match node {
+        Node::Number(text) => is_readable(text),
+        _ => true,
+    }
+}
+
+/// Whether the JSON crate reads what the nodes write: it refuses numbers that are too large, and more than 127
+/// brackets that are open at once.
+pub(crate) fn are_readable(nodes: &[Node<'_>]) -> bool
+    ensures { result ≡ (nests_from 0 (map node_token nodes.now) && are_readable (map node_token nodes.now)) }
+{
+    let mut level = 0;
+    for node in nodes {
+        if !is_node_readable(node) {
+            return false;
+        }
+        match nested_after(node, level) {
+            Some(next) => level = next,
+            None => return false,
+        }
+    }
+    true
 }

@@ -7,7 +7,7 @@ ghost use Rattle.jp_doc.specs.ReadingIn.{reading_in};
 ghost use Rattle.jp_flat.specs.Document.{document_value, answer_of, grammar_reading};
 
 use crate::document::FlatDocument;
-use crate::lines::{Room, fill, fill_decimal, lend};
+use crate::lines::{FlatAnswer, Room, fill, fill_decimal, lend};
 use jp_doc::DocFault;
 use std::alloc::{AllocError, Global};
 
@@ -35,8 +35,8 @@ impl FlatReader {
         ensures { IfOk result (λ o. IfSome o (λ d. reading line.now ≡ Ok (document_value d))) }
     {
         match fill(line, &mut self.room)? {
-            Some(texts) => Ok(Some(lend(line, &self.room, texts))),
-            None => Ok(None),
+            FlatAnswer::Filled(texts) => Ok(Some(lend(line, &self.room, texts))),
+            _ => Ok(None),
         }
     }
 

@@ -1,12 +1,23 @@
-use Rattle.std.proofs.Common.{◌≡◌, true, map, sym, ap, ◌∙◌, subst, arith}
+use Rattle.std.proofs.Common.{◌≡◌, true, map, refl, sym, ap, ◌∙◌, subst, arith}
+use Rattle.std.proofs.lemmas.Result.{IfOk-weaker}
 use Rattle.json.specs.Tape.{node_token}
+use Rattle.jp_flat.specs.inner.Decimals.{whole_fault}
+use Rattle.jp_flat.specs.inner.FlatAnswers.{told}
 use Rattle.jp_flat.specs.inner.Plain.{is_plain_from}
 use Rattle.jp_flat_nodes.specs.Nodes.{AreLinked}
 use Rattle.jp_flat.proofs.ReadNodes.{laid_whole}
+use Rattle.jp_flat.proofs.WholeFaults.{answer_of_nodes, refused_line}
 use Rattle.jp_flat.proofs.lines.lay_plain.Goals as goal
 
+pub returns-then-not-are_plain : goal.returns-then-not-are_plain
+returns-then-not-are_plain c =
+    let line = c.args.text.now in
+    let read = c.in-Ok.ensures.ok in
+    IfOk-weaker c.whole_answer.result _ _ (λ a e. answer_of_nodes line _ a c.utf8.text read.1 c.requires (e
+    ∙ ap (λ ts. told (whole_fault ts)) (c.nodes-then-not-are_plain.ensures.tokens ∙ read.0))) c.whole_answer.ensures
+
 pub returns-in_ok-lay-in-Ok : goal.returns-in_ok-lay-in-Ok
-returns-in_ok-lay-in-Ok c h =
+returns-in_ok-lay-in-Ok c =
     let tape = c.in-Ok.tape in
     let read = c.in-Ok.ensures.ok in
     let laid = c.in_ok-lay-in-Ok.ensures in
@@ -16,3 +27,10 @@ returns-in_ok-lay-in-Ok c h =
     laid_whole c.args.text.now c.lay.new.texts.items c.lay.new.nodes.items tape read.0 read.1
     (laid.tokens ∙ same) (subst (λ ts. AreLinked ts c.lay.new.nodes.items) same laid.linked) laid.within
     c.utf8.text c.requires (omega (arith, c.len.ensures)) plain
+
+pub returns-in-Err : goal.returns-in-Err
+returns-in-Err c =
+    let text = c.args.text.now in
+    refused_line text text c.parse.result c.in-Err.field-0 c.in-Err.is (λ e. grind arith)
+    c.parse.ensures.invalid c.parse.ensures.too_long c.parse.ensures.never_duplicate (refl, c.utf8.text)
+    c.requires
