@@ -1,13 +1,12 @@
 -- Which characters a pattern does not tell apart.
-use Rattle.std.proofs.Common.{◌≡◌, ℕ, zero, suc, ◌+◌, ◌<◌, ◌≤◌, ◌&&◌, ◌||◌, ◌++◌, Bool, false, not, nat_le}
+use Rattle.std.proofs.Common.{◌≡◌, ℕ, zero, suc, ◌+◌, ◌<◌, ◌≤◌, ◌&&◌, ◌||◌, ◌++◌, Bool, true, false, not}
+use Rattle.std.proofs.Common.{nat_eq, nat_le}
 use Rattle.std.proofs.Common.{List, [], ◌∷◌, Some, None, Option, Vec, Box, Global, length, map}
 use Rattle.std.proofs.Common.{slice_index_or, if◌then◌else◌, refl, sym, ap, ap₂, ◌∙◌, subst, arith}
-use Rattle.std.proofs.lemmas.Bool.{and_right, lt-leb, ne_eqb}
+use Rattle.std.proofs.lemmas.Bool.{and_right, eqb-true, lt-leb, ne_eqb}
 use Rattle.std.specs.List.{list_any}
-use Rattle.jp_pattern.specs.declared.tree.CharSet.{CharSet as HeldSet}
-use Rattle.jp_pattern.specs.declared.tree.CharSet.TheVariants as held
-use Rattle.jp_pattern.specs.declared.tree.Element.{Element as HeldElement}
-use Rattle.jp_pattern.specs.Tree.{element_of, set_of}
+use Rattle.jp_automaton.specs.declared.ranges.Span.{Span}
+use Rattle.jp_automaton.specs.Letters.{span_element}
 use Rattle.jp_automaton.specs.declared.expressions.Expression.{Expression}
 use Rattle.jp_automaton.specs.declared.candidate.Candidate.{Candidate}
 use Rattle.jp_automaton.specs.declared.candidate.Candidate.TheVariants as candidate
@@ -158,34 +157,27 @@ not_past c high (Element.range low top) h = and_right (nat_le low c) (nat_le c t
     (lt-leb c top (omega arith))
 not_past c high (Element.of_category negated categories) h = absurd h
 
--- a class whose elements are of ASCII holds nothing else before it is negated
-none_past : (xs : List HeldElement) → ((k : ℕ) (x : HeldElement) → k < length xs → IsAscii
-    (element_of (slice_index_or xs k x))) →
-    (c : ℕ) → 128 ≤ c → list_any (in_element c) (map element_of xs) ≡ false
+-- ranges of ASCII hold nothing else
+none_past : (ss : List Span) → ((k : ℕ) (x : Span) → k < length ss → IsAscii
+    (span_element (slice_index_or ss k x))) →
+    (c : ℕ) → 128 ≤ c → list_any (in_element c) (map span_element ss ++ []) ≡ false
 none_past [] of c high = refl
-none_past (x ∷ xs) of c high =
-    ap₂ (λ a b. a || b) (not_past c high (element_of x) (of 0 x (omega arith)))
-    (none_past xs (λ k y lt. of (suc k) y (omega arith)) c high)
+none_past (s ∷ ss) of c high =
+    ap₂ (λ a b. a || b) (not_past c high (span_element s) (of 0 s (omega arith)))
+    (none_past ss (λ k y lt. of (suc k) y (omega arith)) c high)
 
-class_equivalent : (negated : Bool) (xs : List HeldElement) →
-    ((k : ℕ) (x : HeldElement) → k < length xs → IsAscii (element_of (slice_index_or xs k x))) →
-    EquivalentInSet (CharSet.class negated (map element_of xs)) candidate.PastAscii
-class_equivalent negated xs of = record {
+pub class_equivalent : (negated : Bool) (ss : List Span) →
+    ((k : ℕ) (x : Span) → k < length ss → IsAscii (span_element (slice_index_or ss k x))) →
+    EquivalentInSet (CharSet.class negated (map span_element ss ++ [])) candidate.PastAscii
+class_equivalent negated ss of = record {
   holds = λ c d h.
       let low : 128 ≤ c = omega (arith, h.0) in
       let scalar : is_scalar c ≡ is_scalar d = ap is_scalar h.0 ∙ sym h.2 in
       ap₂ (λ a b. a && (if negated then not b else b)) scalar
-      (none_past xs of c low ∙ sym (none_past xs of d h.1));
+      (none_past ss of c low ∙ sym (none_past ss of d h.1));
 }
 
-pub held_equivalent : (set : HeldSet) (negated : Bool) (elements : Vec HeldElement Global)
-    (xs : List HeldElement)
-    →
-    set ≡ held.Class negated elements → xs ≡ elements.items →
-    ((k : ℕ) (x : HeldElement) → k < length xs → IsAscii (element_of (slice_index_or xs k x))) →
-    EquivalentInSet
-    (set_of set) candidate.PastAscii
-held_equivalent set negated elements xs is items of =
-    subst (λ s. EquivalentInSet s candidate.PastAscii) (sym (ap set_of is))
-    (subst (λ ys. EquivalentInSet (CharSet.class negated (map element_of ys)) candidate.PastAscii) items
-    (class_equivalent negated xs of))
+pub none_of : {A : Type 0} (xs : List A) (n : ℕ) (b : Bool) → b ≡ nat_eq n 0 → b ≡ true → n ≡ length xs
+    → xs ≡ []
+none_of [] n b e f same = refl
+none_of (x ∷ xs) n b e f same = let none = eqb-true n 0 (sym e ∙ f) in absurd (omega arith)

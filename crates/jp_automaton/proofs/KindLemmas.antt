@@ -4,12 +4,12 @@ use Rattle.std.proofs.Common.{Option, Vec, Box, Global, refl, sym, ap, ap₂, �
 use Rattle.std.proofs.lemmas.Bool.{and_parts}
 use Rattle.jp_pattern.specs.Pattern.{Pattern}
 use Rattle.jp_pattern.specs.Profile.{copies, size}
-use Rattle.jp_pattern.specs.Tree.{set_of}
+use Rattle.jp_automaton.specs.Letters.{letters_of}
 use Rattle.jp_automaton.specs.Expressions.{Meaning, meaning, pattern_in, in_turn_of, before_last_of}
 use Rattle.jp_automaton.specs.Expressions.{all_sized}
 use Rattle.jp_automaton.specs.Expressions.{sized_as, unrolled_in, unrolled_in_turn, branches_before}
 use Rattle.jp_pattern.specs.Unrolled.{Unrolled, unrolled, nothing, either, letter, letters}
-use Rattle.jp_pattern.specs.declared.tree.CharSet.{CharSet}
+use Rattle.jp_automaton.specs.declared.letters.Letters.{Letters}
 use Rattle.jp_automaton.specs.declared.expressions.Expression.{Expression}
 use Rattle.jp_automaton.specs.declared.expressions.Expression.TheVariants.{Set, Pieces, Branches, Repeat}
 use Rattle.jp_automaton.proofs.MeaningLemmas.{expression_set, expression_pieces, expression_branches}
@@ -26,7 +26,7 @@ sized_at : (expression : Expression) (m : Meaning) → meaning expression ≡ m 
     IsTrue (meaning expression).is_sized → IsTrue m.is_sized
 sized_at expression m e h = subst (λ x. IsTrue x.is_sized) e h
 
-pub set_same : (expression : Expression) (set : CharSet) → expression ≡ Set set → letter (set_of set)
+pub set_same : (expression : Expression) (set : Letters) → expression ≡ Set set → letter (letters_of set)
     ≡ unrolled_in expression
 set_same expression set is = sym (ap unrolled_in is ∙ ap (λ m. unrolled m.pattern) (expression_set set))
 

@@ -1,11 +1,11 @@
 -- What each kind of expression stands for.
 use Rattle.std.proofs.Common.{◌≡◌, ℕ, ◌&&◌, true, map, Option, Vec, Box, Global, sym, ap, ◌∙◌}
 use Rattle.jp_pattern.specs.Pattern.{Pattern}
-use Rattle.jp_pattern.specs.Tree.{set_of}
+use Rattle.jp_automaton.specs.Letters.{letters_of}
 use Rattle.jp_automaton.specs.Expressions.{Meaning, meaning, meaning_of_layer, pattern_in, sized_as}
 use Rattle.jp_automaton.specs.Expressions.{in_turn_of}
 use Rattle.jp_automaton.specs.Expressions.{before_last_of, all_sized}
-use Rattle.jp_pattern.specs.declared.tree.CharSet.{CharSet}
+use Rattle.jp_automaton.specs.declared.letters.Letters.{Letters}
 use Rattle.jp_automaton.specs.declared.expressions.Expression.{Expression}
 use Rattle.jp_automaton.specs.declared.expressions.Expression.TheFolds.{fold-roll-Expression}
 use Rattle.jp_automaton.specs.declared.expressions.Expression.TheVariants.{Set, Pieces, Branches, Repeat}
@@ -15,10 +15,10 @@ use Rattle.jp_automaton.specs.declared.expressions.Expression.TheVariants.{rolls
 use Rattle.jp_automaton.specs.declared.expressions.Expression.TheVariants.{rolls-Repeat}
 use Rattle.jp_automaton.specs.declared.expressions.Expression.TheVariants.{rolls-Plus}
 
-abbrev pub set_meaning : CharSet → Meaning
-set_meaning set = record { pattern = Pattern.letter (set_of set); is_sized = true }
+abbrev pub set_meaning : Letters → Meaning
+set_meaning set = record { pattern = Pattern.letter (letters_of set); is_sized = true }
 
-pub expression_set : (set : CharSet) → meaning (Set set) ≡ set_meaning set
+pub expression_set : (set : Letters) → meaning (Set set) ≡ set_meaning set
 expression_set set = ap meaning (sym (rolls-Set set)) ∙ fold-roll-Expression Meaning meaning_of_layer _
 
 pub expression_pieces : (n : ℕ) (pieces : Vec Expression Global) →

@@ -1,11 +1,11 @@
 -- What the tree of the code with its sizes stands for.
 use Rattle.std.specs.Prelude.{ℕ, ◌+◌, Bool, true, ◌&&◌, nat_eq, min, List, [], ◌∷◌, map, Option}
+use Rattle.jp_automaton.specs.Letters.{letters_of}
 use Rattle.jp_automaton.specs.declared.expressions.Expression.{Expression}
 use Rattle.jp_automaton.specs.declared.expressions.Expression.TheOpen.{Expression-F}
 use Rattle.jp_automaton.specs.declared.expressions.Expression.TheFolds.{fold-Expression}
 use Rattle.jp_pattern.specs.Pattern.{Pattern}
 use Rattle.jp_pattern.specs.Profile.{size}
-use Rattle.jp_pattern.specs.Tree.{set_of}
 use Rattle.jp_pattern.specs.Unrolled.{Unrolled, either, unrolled}
 
 -- the pattern that an expression stands for, and whether each size that is kept in it is right
@@ -46,7 +46,7 @@ sized_as n p inside = record { pattern = p; is_sized = is_size n p && inside }
 
 -- one layer of the tree (RFC 9485, 3)
 abbrev pub meaning_of_layer : Expression-F Meaning → Meaning
-meaning_of_layer (Expression-F.Set x) = record { pattern = Pattern.letter (set_of x); is_sized = true }
+meaning_of_layer (Expression-F.Set x) = record { pattern = Pattern.letter (letters_of x); is_sized = true }
 meaning_of_layer (Expression-F.Group n sub) = sized_as n (Pattern.group sub.value.pattern) sub.value.is_sized
 meaning_of_layer (Expression-F.Pieces n pieces) =
     sized_as n (in_turn_of pieces.items) (all_sized pieces.items)

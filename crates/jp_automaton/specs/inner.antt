@@ -3,4 +3,7 @@ pub mod ByteSets
 pub mod Dfa
 pub mod Equivalence
 pub mod Prefilter
+pub mod Simpler
 pub mod Simulation
+pub mod SpanOrder
+pub mod Spans

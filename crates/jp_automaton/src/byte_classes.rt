@@ -1,6 +1,6 @@
 //! Classes of equivalent characters: a pattern does not tell those of one class apart.
 
-ghost use Rattle.std.specs.Prelude.{◌≤◌, IfOk};
+ghost use Rattle.std.specs.Prelude.{◌<◌, ◌≤◌, IfOk};
 ghost use Rattle.jp_automaton.specs.inner.Equivalence.{Equivalent, AreByteClasses};
 ghost use Rattle.jp_automaton.specs.Expressions.{unrolled_in};
 ghost use Rattle.jp_automaton.specs.declared.candidate.Candidate.TheVariants as candidate;
@@ -8,6 +8,7 @@ ghost use Rattle.jp_automaton.specs.declared.candidate.Candidate.TheVariants as 
 use crate::candidate::Candidate;
 use crate::equivalence::are_equivalent;
 use crate::expressions::Expression;
+use crate::signatures::signatures_of;
 use std::alloc::{AllocError, Global};
 
 /// Which characters are equivalent to a pattern, as columns of a DFA see them.
@@ -19,6 +20,19 @@ pub struct ByteClasses {
     pub past_ascii: bool,
 }
 
+impl ByteClasses {
+    /// How many classes there are.
+    pub(crate) fn count(&self) -> u64 {
+        let mut count = 1;
+        for (code, first) in self.first.iter().enumerate() {
+            if code == usize::from(*first) {
+                count = u64::saturating_add(count, 1);
+            }
+        }
+        count
+    }
+}
+
 /// The classes of the characters of ASCII, and whether the others are one.
 ///
 /// # Errors
@@ -27,26 +41,37 @@ pub struct ByteClasses {
 pub(crate) fn make_byte_classes(alloc: Global, root: &Expression) -> Result<ByteClasses, AllocError>
     ensures { IfOk result (λ classes. AreByteClasses (unrolled_in root.now) classes) }
 {
+    let signatures = signatures_of(root);
     let mut first = Vec::new(alloc);
     for code in 0u8..128 {
-        first.push(first_equivalent(root, &first, code))?;
+        first.push(first_equivalent(root, &signatures, code))?;
     }
     let past_ascii = are_equivalent(root, Candidate::PastAscii);
     Ok(ByteClasses { first, past_ascii })
 }
 
-/// The representative of the class of the one before, or of the class of 0, where this one is equivalent.
-fn first_equivalent(root: &Expression, first: &[u8], code: u8) -> u8
+/// The first character that has the signature of this one, where they are equivalent, or else this one.
+fn first_equivalent(root: &Expression, signatures: &[u64; 128], code: u8) -> u8
+    requires { code < 128 }
     ensures first { result ≤ code }
     ensures equivalent { Equivalent (unrolled_in root.now) (candidate.Both result code) }
 {
-    let before = first.last().copied().unwrap_or(0);
-    // These two and no others are tried: most characters are equivalent to the one before, or, as 0, in no
-    // set.
-    for other in [before, 0] {
-        if other < code
-            && are_equivalent(root, Candidate::Both(char::from(other), char::from(code)))
-        {
+    let first = first_alike(signatures, code);
+    // Signatures may be the same by chance, so the sets are asked; one question for each character.
+    if are_equivalent(root, Candidate::Both(char::from(first), char::from(code))) {
+        first
+    } else {
+        code
+    }
+}
+
+/// The first character that has the signature of this one.
+fn first_alike(signatures: &[u64; 128], code: u8) -> u8
+    requires { code < 128 }
+    ensures { result ≤ code }
+{
+    for other in 0..code {
+        if signatures[usize::from(other)] == signatures[usize::from(code)] {
             return other;
         }
     }

@@ -9,7 +9,7 @@ ghost use Rattle.jp_automaton.specs.inner.Dfa.{AreStates, Grows, HasPositions, I
 ghost use Rattle.jp_automaton.specs.inner.Dfa.{IsDfaOf};
 
 use crate::dfa::{
-    CONTINUATION, Dfa, MATCH_OR_DEAD, PAST_ASCII, QUIT, State, positions_behind, state_of,
+    CONTINUATION, Dfa, MATCH_OR_DEAD, PAST_ASCII, QUIT, State, hash_of, positions_behind, state_of,
 };
 use crate::dfa_input::DfaInput;
 use crate::limits::{MAX_STATES, STRIDE};
@@ -28,9 +28,10 @@ fn find_state(states: &[State], active: &[u32], at_start: bool) -> Option<usize>
     ensures found { IfSome result (λ n. (d : State) → HasPositions (slice_index_or states.now n d) active.now
         at_start) }
 {
-    // One after another, for there are 254 at most.
+    // One after another, for there are 254 at most, and most are passed by their hash.
+    let hash = hash_of(active);
     for (i, state) in states.iter().enumerate() {
-        if has_positions(state, active, at_start) {
+        if state.hash == hash && has_positions(state, active, at_start) {
             return Some(i);
         }
     }

@@ -12,6 +12,7 @@ use crate::exit::exit;
 use crate::expressions::Expression;
 use crate::limits::STRIDE;
 use crate::prefilter::Prefilter;
+use crate::signatures::mix;
 use crate::step::step;
 use crate::step_input::StepInput;
 use std::alloc::{AllocError, Global};
@@ -38,6 +39,8 @@ pub struct State {
     pub active: Vec<u32>,
     /// Whether it is a match state: the empty text is left there.
     pub accepts: bool,
+    /// A hash of the other positions, by which most states are told from each other at once.
+    pub hash: u64,
 }
 
 /// The states that are met from the start of a pattern, and the transitions between them.
@@ -195,11 +198,22 @@ pub(crate) fn state_of(root: &Expression, active: Vec<u32>, at_start: bool) -> S
     ensures accepts { result.accepts ≡ exits (is_elem active.items) (unrolled_in root.now) 0 at_start }
 {
     let accepts = exit(root, &active, Cursor::start(at_start)).entered;
+    let hash = hash_of(&active);
     State {
         at_start,
         active,
         accepts,
+        hash,
     }
+}
+
+/// A hash of positions.
+pub(crate) fn hash_of(active: &[u32]) -> u64 {
+    let mut hash = 0;
+    for position in active {
+        hash = mix(hash, u64::from(*position));
+    }
+    hash
 }
 
 /// The positions behind a character.

@@ -3,11 +3,14 @@
 ghost use Rattle.std.specs.Prelude.{◌≡◌, ℕ, ◌<◌, IsTrue, length, slice_index_or};
 ghost use Rattle.jp_automaton.specs.inner.Equivalence.{EquivalentInAll, Equivalent, IsAscii, EquivalentInSet};
 ghost use Rattle.jp_automaton.specs.Expressions.{unrolled_in};
-ghost use Rattle.jp_pattern.specs.Tree.{element_of, set_of};
+ghost use Rattle.jp_pattern.specs.Pattern.{class};
+ghost use Rattle.jp_automaton.specs.Letters.{elements_of, letters_of, span_element};
 
 use crate::candidate::Candidate;
 use crate::expressions::Expression;
-use jp_pattern::{CharSet, Element, in_set};
+use crate::letters::{Letters, has_letter};
+use crate::ranges::{Class, Span};
+use jp_pattern::CharSet;
 
 /// Whether each set of characters of the expression holds all characters of the candidate or none of them.
 #[cycle(are_equivalent)]
@@ -40,47 +43,44 @@ fn are_equivalent_in_all(expressions: &[Expression], candidate: Candidate) -> bo
 }
 
 /// Whether the set holds all characters of the candidate or none, as far as its text tells.
-fn are_equivalent_in_set(set: &CharSet, candidate: Candidate) -> bool
-    ensures { IsTrue result → EquivalentInSet (set_of set.now) candidate }
+fn are_equivalent_in_set(set: &Letters, candidate: Candidate) -> bool
+    ensures { IsTrue result → EquivalentInSet (letters_of set.now) candidate }
 {
     match candidate {
-        Candidate::Both(c, d) => in_set(set, c) == in_set(set, d),
+        Candidate::Both(c, d) => has_letter(set, c) == has_letter(set, d),
         Candidate::PastAscii => tells_none_past_ascii(set),
     }
 }
 
 /// Whether the set holds all characters that are not of ASCII, or none of them, as far as its text tells.
-fn tells_none_past_ascii(set: &CharSet) -> bool
-    ensures { IsTrue result → EquivalentInSet (set_of set.now) Candidate.PastAscii }
+fn tells_none_past_ascii(set: &Letters) -> bool
+    ensures { IsTrue result → EquivalentInSet (letters_of set.now) Candidate.PastAscii }
 {
     match set {
-        CharSet::Only(x) => *x < '\u{80}',
-        CharSet::Dot => true,
-        CharSet::Category { .. } => false,
-        CharSet::Class { elements, .. } => are_all_ascii(elements),
+        Letters::Plain(CharSet::Only(x)) => *x < '\u{80}',
+        Letters::Plain(CharSet::Dot) => true,
+        Letters::Plain(_) => false,
+        Letters::Ranges(class) => holds_ascii_alone(class),
     }
 }
 
-/// Whether each element holds characters of ASCII alone.
-fn are_all_ascii(elements: &[Element]) -> bool
-    ensures { IsTrue result → (k : ℕ) (x : Element) → k < length elements.now
-        → IsAscii (element_of (slice_index_or elements.now k x)) }
+/// Whether the class holds characters of ASCII alone before it is negated, as far as its text tells.
+fn holds_ascii_alone(of: &Class) -> bool
+    ensures { IsTrue result → EquivalentInSet (class of.now.negated (elements_of of.now))
+        Candidate.PastAscii }
 {
-    for element in elements {
-        if !is_ascii(element) {
+    of.categories.is_empty() && are_all_ascii(&of.spans)
+}
+
+/// Whether each range holds characters of ASCII alone.
+fn are_all_ascii(spans: &[Span]) -> bool
+    ensures { IsTrue result → (k : ℕ) (x : Span) → k < length spans.now
+        → IsAscii (span_element (slice_index_or spans.now k x)) }
+{
+    for span in spans {
+        if span.high >= '\u{80}' {
             return false;
         }
     }
     true
-}
-
-/// Whether the element holds characters of ASCII alone, as far as its text tells.
-fn is_ascii(element: &Element) -> bool
-    ensures { IsTrue result → IsAscii (element_of element.now) }
-{
-    match element {
-        Element::One(x) => *x < '\u{80}',
-        Element::Range(_, high) => *high < '\u{80}',
-        Element::Category { .. } => false,
-    }
 }

@@ -1,20 +1,24 @@
 //! The tree of a pattern with the unrolled size of each expression, by which a walk over it passes the
 //! expressions that it need not enter.
 
-ghost use Rattle.std.specs.Prelude.{◌≡◌, map, min, IfOk, IsTrue};
-ghost use Rattle.jp_automaton.specs.Expressions.{all_sized, in_turn_of, is_size, meaning, patterns_in};
+ghost use Rattle.std.specs.Prelude.{◌≡◌, ◌&&◌, ◌∷◌, [], ◌++◌, if◌then◌else◌, map, min, IfOk, IsTrue, OnOk};
+ghost use Rattle.jp_automaton.specs.Expressions.{all_sized, meaning, patterns_in};
 ghost use Rattle.jp_automaton.specs.Expressions.{pattern_in};
 ghost use Rattle.jp_automaton.specs.Expressions.{sizes};
+ghost use Rattle.jp_automaton.specs.inner.Simpler.{StandBefore, StandInTurn, StandsFor};
 ghost use Rattle.jp_pattern.specs.Profile.{copies, size};
 ghost use Rattle.jp_pattern.specs.Tree.{node_of};
 
-use jp_pattern::{CharSet, Node};
+use crate::classes::letters;
+use crate::exit::either;
+use crate::letters::Letters;
+use jp_pattern::Node;
 use std::alloc::{AllocError, Global};
 
 /// A pattern or an expression of one. A size is the greatest number where it is more.
 #[derive(Drop)]
 pub enum Expression {
-    Set(CharSet),
+    Set(Letters),
     Group {
         size: u32,
         sub: Box<Expression>,
@@ -82,14 +86,39 @@ fn copies(least: u32, most: Option<u32>) -> u32
     }
 }
 
-/// The tree with its sizes.
+/// `&&` that looks at both.
+fn both(a: bool, b: bool) -> bool
+    ensures { result ≡ (a && b) }
+{
+    a && b
+}
+
+/// Puts the expression behind the others, unless it is left out.
+fn push_unless(
+    is_left_out: bool,
+    expressions: &mut Vec<Expression>,
+    expression: Expression,
+) -> Result<(), AllocError>
+    ensures { OnOk result (expressions.new.items ≡ (if is_left_out then expressions.old.items else
+        expressions.old.items ++ (expression ∷ []))) }
+{
+    if is_left_out {
+        return Ok(());
+    }
+    expressions.push(expression)?;
+    Ok(())
+}
+
+/// The tree with its sizes, without the parts that no text tells from nothing: pieces of size 0, and, of the
+/// branches of size 0, all but one. So it has no more parts than its size, where each pair of parentheses
+/// inside another counts once more.
 #[cycle(expression_of)]
 pub(crate) fn expression_of(alloc: Global, node: Node) -> Result<Expression, AllocError>
-    ensures same { IfOk result (λ expression. pattern_in expression ≡ node_of node) }
+    ensures same { IfOk result (λ expression. StandsFor (node_of node) (pattern_in expression)) }
     ensures sized { IfOk result (λ expression. IsTrue (meaning expression).is_sized) }
 {
     match node {
-        Node::Set(set) => Ok(Expression::Set(set)),
+        Node::Set(set) => Ok(Expression::Set(letters(alloc, set)?)),
         Node::Group(sub) => {
             let sub = expression_of(alloc, Box::into_inner(sub))?;
             let size = sub.size();
@@ -99,13 +128,13 @@ pub(crate) fn expression_of(alloc: Global, node: Node) -> Result<Expression, All
             })
         }
         Node::Pieces(pieces) => {
-            let pieces = expressions_of(alloc, pieces)?;
+            let pieces = pieces_of(alloc, pieces)?;
             let size = size_of_all(&pieces);
             Ok(Expression::Pieces { size, pieces })
         }
         Node::Branches { before, last } => {
-            let before = expressions_of(alloc, before)?;
             let last = expression_of(alloc, Box::into_inner(last))?;
+            let before = branches_of(alloc, before, last.size() == 0)?;
             let size = size_of_all(&before).saturating_add(last.size());
             Ok(Expression::Branches {
                 size,
@@ -134,16 +163,39 @@ pub(crate) fn expression_of(alloc: Global, node: Node) -> Result<Expression, All
     }
 }
 
-/// The same of several trees.
+/// The pieces of a branch, without those of size 0.
 #[cycle(expression_of)]
-fn expressions_of(alloc: Global, nodes: Vec<Node>) -> Result<Vec<Expression>, AllocError>
-    ensures same { IfOk result (λ expressions. patterns_in expressions.items ≡ map node_of nodes.items) }
-    ensures sized { IfOk result (λ expressions. IsTrue (all_sized (map meaning expressions.items))) }
+fn pieces_of(alloc: Global, nodes: Vec<Node>) -> Result<Vec<Expression>, AllocError>
+    ensures same { IfOk result (λ pieces. StandInTurn (map node_of nodes.items) (patterns_in pieces.items)) }
+    ensures sized { IfOk result (λ pieces. IsTrue (all_sized (map meaning pieces.items))) }
 {
-    let mut expressions = Vec::new(alloc);
+    let mut pieces = Vec::new(alloc);
     for node in nodes {
-        let expression = expression_of(alloc, node)?;
-        expressions.push(expression)?;
+        let piece = expression_of(alloc, node)?;
+        let is_empty = piece.size() == 0;
+        push_unless(is_empty, &mut pieces, piece)?;
     }
-    Ok(expressions)
+    Ok(pieces)
+}
+
+/// The branches before the last one; of those of size 0 the first, or none where the last is one.
+#[cycle(expression_of)]
+fn branches_of(
+    alloc: Global,
+    nodes: Vec<Node>,
+    is_last_empty: bool,
+) -> Result<Vec<Expression>, AllocError>
+    ensures same { IfOk result (λ branches. StandBefore is_last_empty (map node_of nodes.items)
+        (patterns_in branches.items)) }
+    ensures sized { IfOk result (λ branches. IsTrue (all_sized (map meaning branches.items))) }
+{
+    let mut branches = Vec::new(alloc);
+    let mut has_empty = is_last_empty;
+    for node in nodes {
+        let branch = expression_of(alloc, node)?;
+        let is_empty = branch.size() == 0;
+        push_unless(both(has_empty, is_empty), &mut branches, branch)?;
+        has_empty = either(has_empty, is_empty);
+    }
+    Ok(branches)
 }

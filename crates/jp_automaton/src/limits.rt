@@ -4,9 +4,13 @@
 /// at most, and one more.
 pub(crate) const MAX_SIZE: u32 = 10_000;
 
-/// How many states a DFA has at most, times the pattern's size: they are all made ahead of time, so this
-/// bounds the time that it takes to compile a pattern (README, No DFA grows during a run).
-pub(crate) const STATES_BY_SIZE: u32 = 8_000;
+/// How much work the DFAs of a query take at most, in bytes of their tables and looks at parts of patterns:
+/// they are all made ahead of time, so this bounds the time and the memory that a query takes before a line
+/// is read (README, No DFA grows during a run).
+pub(crate) const MAX_WORK: u64 = 64_000_000;
+
+/// How much of that one pattern takes at most.
+pub(crate) const MAX_WORK_OF_ONE: u64 = 2_000_000;
 
 /// How many states a DFA has at most. A cell of the table is one byte, so that all of them have 65,024 bytes:
 /// the number of a state is a byte, and the two greatest bytes are the cells that lead to no state.

@@ -105,6 +105,9 @@ impl Prefilter {
 pub(crate) fn make_prefilter(alloc: Global, dfa: &Dfa) -> Result<Prefilter, AllocError>
     ensures { IfOk result (λ prefilter. IsPrefilter dfa.now.cells.items prefilter.flags.items) }
 {
+    if dfa.states.is_empty() {
+        return Ok(Prefilter::new(alloc));
+    }
     let ones = pairs_behind_one(alloc, dfa)?;
     let Some(twos) = pairs_behind_two(alloc, dfa, &ones)? else {
         return Ok(Prefilter::new(alloc));

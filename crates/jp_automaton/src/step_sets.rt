@@ -2,14 +2,14 @@
 
 ghost use Rattle.std.specs.Prelude.{◌≡◌, ◌+◌, ◌<◌, ◌≤◌, ◌++◌, IfOk, OnOk};
 ghost use Rattle.jp_pattern.specs.Profile.{max_size};
-ghost use Rattle.jp_pattern.specs.Tree.{set_of};
+ghost use Rattle.jp_automaton.specs.Letters.{letters_of};
 ghost use Rattle.jp_pattern.specs.Unrolled.{counted, letter};
 ghost use Rattle.jp_automaton.specs.inner.Simulation.{read_if, reads_set, IsAt, IsStep};
 
 use crate::cursor::{Cursor, behind_set, idle_copies};
 use crate::exit::{either, may_stop};
+use crate::letters::{Letters, has_letter};
 use crate::step_input::{Copies, StepInput};
-use jp_pattern::{CharSet, in_set};
 use std::alloc::AllocError;
 
 /// Behind a set of characters; its position is put behind the others where it is read next.
@@ -18,14 +18,14 @@ use std::alloc::AllocError;
 ///
 /// Memory ran out.
 pub(crate) fn step_set(
-    set: &CharSet,
+    set: &Letters,
     input: StepInput<'_>,
     at: Cursor,
     out: &mut Vec<u32>,
 ) -> Result<Cursor, AllocError>
     requires fits { at.past < max_size }
     requires stands { IsAt input.active.now at.past at.index }
-    ensures { IfOk result (λ end. IsStep input.entry.active.now input.entry.c (letter (set_of set.now)) at
+    ensures { IfOk result (λ end. IsStep input.entry.active.now input.entry.c (letter (letters_of set.now)) at
         end out.old.items out.new.items) }
 {
     read_set(set, input.c, at, out)?;
@@ -33,14 +33,14 @@ pub(crate) fn step_set(
 }
 
 /// Puts down the position of the set, where it is entered and holds the character.
-fn read_set(set: &CharSet, c: char, at: Cursor, out: &mut Vec<u32>) -> Result<(), AllocError>
+fn read_set(set: &Letters, c: char, at: Cursor, out: &mut Vec<u32>) -> Result<(), AllocError>
     requires fits { at.past < max_size }
-    ensures { OnOk result (out.new.items ≡ out.old.items ++ reads_set (set_of set.now) c at) }
+    ensures { OnOk result (out.new.items ≡ out.old.items ++ reads_set (letters_of set.now) c at) }
 {
     if !at.entered {
         return Ok(());
     }
-    if !in_set(set, c) {
+    if !has_letter(set, c) {
         return Ok(());
     }
     out.push(at.past + 1)?;
@@ -53,7 +53,7 @@ fn read_set(set: &CharSet, c: char, at: Cursor, out: &mut Vec<u32>) -> Result<()
 ///
 /// Memory ran out.
 pub(crate) fn step_set_copies(
-    set: &CharSet,
+    set: &Letters,
     input: StepInput<'_>,
     at: Cursor,
     copies: Copies,
@@ -62,9 +62,9 @@ pub(crate) fn step_set_copies(
     requires fits { at.past + copies.most ≤ max_size }
     requires stands { IsAt input.active.now at.past at.index }
     ensures { IfOk result (λ end. IsStep input.entry.active.now input.entry.c (counted copies.least
-        copies.most (letter (set_of set.now))) at end out.old.items out.new.items) }
+        copies.most (letter (letters_of set.now))) at end out.old.items out.new.items) }
 {
-    let has = in_set(set, input.c);
+    let has = has_letter(set, input.c);
     let mut here = at;
     let mut left = false;
     let mut i = 0;

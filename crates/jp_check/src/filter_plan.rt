@@ -21,6 +21,7 @@ pub struct FilterPlan {
 
 impl FilterPlan {
     ghost use Rattle.jp_check.specs.PlannedFilter.{planned_filter, filter_numbers};
+    ghost use Rattle.jp_check.specs.Plan.{planned_numbers};
     ghost use Rattle.jp_compiled.specs.Compiled.{compiled_query};
 
     /// The numbers that its literals may be.
@@ -28,6 +29,14 @@ impl FilterPlan {
         ensures { result ≡ filter_numbers self.now }
     {
         self.plan.numbers()
+    }
+
+    /// The plan of the query that has this filter alone. It takes no memory.
+    pub fn plan(&self) -> &Plan
+        ensures query { planned_query result.now ≡ filter_query (planned_filter self.now) }
+        ensures numbers { planned_numbers result.now ≡ filter_numbers self.now }
+    {
+        &self.plan
     }
 
     /// The query that has this filter alone, compiled. It takes no memory.

@@ -13,6 +13,7 @@ ghost use Rattle.jp_compiled.specs.Uniform.{are_uniform as all_ask_nothing};
 use crate::patterns::read_pattern;
 use crate::uniform::{are_uniform, is_uniform};
 use jp_compiled::{CompiledLogical, CompiledSegment, KnownPattern, RootPart, RootQuery, Want};
+use jp_regexp::{CompileBudget, Question};
 use std::alloc::{AllocError, Global};
 use std::collections::BTreeMap;
 
@@ -23,8 +24,12 @@ pub(crate) struct Listed {
     pub(crate) roots: Vec<RootPart>,
     /// The literal patterns, in the order of the text.
     pub(crate) patterns: Vec<KnownPattern>,
-    /// Where the first pattern of each text is listed.
-    places: BTreeMap<String, usize>,
+    /// Where the first pattern of each text is listed that a whole text is matched with.
+    whole_places: BTreeMap<String, usize>,
+    /// Where that is listed which parts of texts are matched with.
+    part_places: BTreeMap<String, usize>,
+    /// What work may still be done to compile patterns.
+    budget: CompileBudget,
     ghost uniform: { all_ask_nothing (roots_of roots.items) ≡ true },
 }
 
@@ -40,7 +45,9 @@ impl Listed {
         Listed {
             roots: Vec::new(alloc),
             patterns: Vec::new(alloc),
-            places: BTreeMap::new(alloc),
+            whole_places: BTreeMap::new(alloc),
+            part_places: BTreeMap::new(alloc),
+            budget: CompileBudget::new(),
         }
     }
 
@@ -132,19 +139,21 @@ impl Listed {
         Ok(Box::new(alloc, test)?)
     }
 
-    /// Reads the text as a pattern, and lists it. An equal one that was listed before is shared.
+    /// Reads the text as a pattern, and lists it. An equal one that was listed before, and is asked the same,
+    /// is shared.
     pub(crate) fn add_pattern(
         &mut self,
         alloc: Global,
         text: &str,
+        question: Question,
     ) -> Result<KnownPattern, AllocError>
         ensures read { IfOk result (λ k. text_of k.text ≡ chars text.now) }
         ensures listed { OnOk result (AddsPatterns self.old self.new (chars text.now ∷ [])) }
         ensures roots { OnOk result (self.new.roots.items ≡ self.old.roots.items) }
     {
-        let known = match self.listed_before(alloc, text)? {
+        let known = match self.listed_before(alloc, text, question)? {
             Some(known) => known,
-            None => self.read_first(alloc, text)?,
+            None => self.read_first(alloc, text, question)?,
         };
         // Read once, and shared by its places in the tree and in the list
         // (README, Equal patterns share one reading).
@@ -152,11 +161,20 @@ impl Listed {
         Ok(known)
     }
 
-    /// The pattern of this text that is listed, if there is one.
-    fn listed_before(&self, alloc: Global, text: &str) -> Result<Option<KnownPattern>, AllocError>
+    /// The pattern of this text that is listed and is asked the same, if there is one.
+    fn listed_before(
+        &self,
+        alloc: Global,
+        text: &str,
+        question: Question,
+    ) -> Result<Option<KnownPattern>, AllocError>
         ensures { IfOk result (λ o. IfSome o (λ k. text_of k.text ≡ chars text.now)) }
     {
-        let Some(place) = self.places.get(text) else {
+        let places = match question {
+            Question::Whole => &self.whole_places,
+            Question::Part => &self.part_places,
+        };
+        let Some(place) = places.get(text) else {
             return Ok(None);
         };
         match self.patterns.get(*place) {
@@ -166,14 +184,23 @@ impl Listed {
     }
 
     /// Reads a text that is not listed yet, whose place is the next.
-    fn read_first(&mut self, alloc: Global, text: &str) -> Result<KnownPattern, AllocError>
+    fn read_first(
+        &mut self,
+        alloc: Global,
+        text: &str,
+        question: Question,
+    ) -> Result<KnownPattern, AllocError>
         ensures read { IfOk result (λ k. text_of k.text ≡ chars text.now) }
         ensures roots { self.new.roots.items ≡ self.old.roots.items }
         ensures patterns { self.new.patterns.items ≡ self.old.patterns.items }
     {
-        let known = read_pattern(alloc, text)?;
+        let known = read_pattern(alloc, text, question, &mut self.budget)?;
         let place = self.patterns.len();
-        let entry = self.places.insert(String::from_str(alloc, text)?, place);
+        let text = String::from_str(alloc, text)?;
+        let entry = match question {
+            Question::Whole => self.whole_places.insert(text, place),
+            Question::Part => self.part_places.insert(text, place),
+        };
         match entry {
             Ok(_) => Ok(known),
             Err(_) => Err(AllocError),

@@ -25,6 +25,7 @@ use jp_compiled::{
     ArgumentForm, CompiledLogical, CompiledQuery, CompiledSegment, CompiledSelector, Giver,
     KnownPattern, Nodes, Want,
 };
+use jp_regexp::Question;
 use jp_tree::{Argument, Call, Comparable, Comparison, Start};
 use jp_types::{Function, function_named};
 use std::alloc::{AllocError, Global};
@@ -519,13 +520,21 @@ fn make_text_test(
         unreachable!()
     };
     if let Some(pattern) = literal_text(pattern) {
-        let pattern = listed.add_pattern(alloc, pattern)?;
+        let pattern = listed.add_pattern(alloc, pattern, question_of(function))?;
         let text = make_value(alloc, text, listed)?;
         return Ok(read_test(function, text, pattern));
     }
     let text = make_value(alloc, text, listed)?;
     let pattern = make_value(alloc, pattern, listed)?;
     Ok(given_test(function, text, pattern))
+}
+
+/// What a call asks of its pattern.
+fn question_of(function: Option<Function>) -> Question {
+    match function {
+        Some(Function::Match) => Question::Whole,
+        _ => Question::Part,
+    }
 }
 
 /// A call with a literal pattern.

@@ -7,7 +7,7 @@ ghost use Rattle.jp_tree.specs.PartViews as view;
 ghost use Rattle.jp_check.specs.LiteralPatterns as literal;
 
 use jp_compiled::KnownPattern;
-use jp_regexp::Pattern;
+use jp_regexp::{CompileBudget, Pattern, Question};
 use jp_tree::{Argument, Literal};
 use std::alloc::{AllocError, Global};
 use std::sync::Arc;
@@ -26,11 +26,16 @@ pub(crate) fn literal_text(argument: &Argument) -> Option<&str>
     }
 }
 
-/// The text, and the pattern that it is, if it is one, compiled for many texts.
-pub(crate) fn read_pattern(alloc: Global, text: &str) -> Result<KnownPattern, AllocError>
+/// The text, and the pattern that it is, if it is one, compiled for many texts as far as the budget allows.
+pub(crate) fn read_pattern(
+    alloc: Global,
+    text: &str,
+    question: Question,
+    budget: &mut CompileBudget,
+) -> Result<KnownPattern, AllocError>
     ensures { IfOk result (λ k. text_of k.text ≡ chars text.now) }
 {
-    let pattern = match Pattern::compiled(alloc, text)? {
+    let pattern = match Pattern::compiled(alloc, text, question, budget)? {
         Some(pattern) => Some(Arc::new(alloc, pattern)?),
         None => None,
     };

@@ -14,7 +14,7 @@ use Rattle.jp_compiled.specs.contracts.query.CompiledLogical as CompiledLogical
 use Rattle.jp_compiled.specs.contracts.query.RootPart as RootPart
 use Rattle.jp_compiled.specs.contracts.query.RootQuery as RootQuery
 use Rattle.jp_compiled.proofs.query.Want.TheSendSync as wants
-use Rattle.jp_pattern.proofs.tree.CharSet.TheSendSync as sets
+use Rattle.jp_automaton.proofs.letters.Letters.TheSendSync as sets
 use Rattle.jp_automaton.proofs.dfa.Dfa.TheSendSync as dfas
 use Rattle.jp_compiled.proofs.query.Constant.TheSendSync as constants
 use Rattle.jp_compiled.proofs.query.Position.TheSendSync as positions

@@ -6,7 +6,7 @@ use Rattle.std.specs.Prelude.{option_map, is_some}
 use Rattle.std.specs.Arc.{arc_value}
 use Rattle.jp_tree.specs.Tree.{Text}
 use Rattle.jp_tree.specs.View.{text_of}
-use Rattle.jp_automaton.specs.Held.{IsRead, pattern_of}
+use Rattle.jp_automaton.specs.Held.{IsRead}
 use Rattle.jp_automaton.specs.declared.pattern.Pattern.{Pattern as Held}
 use Rattle.jp_compiled.specs.declared.known.KnownPattern.{KnownPattern}
 use Rattle.jp_compiled.proofs.PatternSets.{read_had}
@@ -21,7 +21,7 @@ last_pushed d (x ∷ t) c = last_pushed x t c
 -- what was read of a text
 read_is : {A : Type 0} (f : A → Held) (t : Text) (o : Option A) → IsRead t (option_map f o) → is_some o ≡ true
     → IsPattern t
-read_is f t (Some a) is_read e = (pattern_of (f a), is_read)
+read_is f t (Some a) is_read e = (is_read.0, is_read.1)
 read_is f t None is_read e = absurd (cc)
 
 read_is_none : {A : Type 0} (f : A → Held) (t : Text) (o : Option A) → IsRead t (option_map f o)

@@ -14,5 +14,5 @@ mod tree;
 
 pub use fault::PatternFault;
 pub use read_patterns::read_tree;
-pub use sets::in_set;
+pub use sets::{in_set, in_some_element};
 pub use tree::{CharSet, Element, Node};

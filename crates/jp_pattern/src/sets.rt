@@ -49,8 +49,8 @@ fn in_element(element: &Element, c: char) -> bool
     }
 }
 
-/// Whether the character is in some element.
-fn in_some_element(elements: &[Element], c: char) -> bool
+/// Whether the character is in some element of a class (RFC 9485, 4).
+pub fn in_some_element(elements: &[Element], c: char) -> bool
     ensures { result ≡ list_any (in_element c) (map element_of elements.now) }
 {
     for element in elements {

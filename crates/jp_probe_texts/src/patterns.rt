@@ -1,10 +1,10 @@
 //! Patterns: `{"pattern":{"text":"a|b","texts":["a","ab"],"before":"","steps":"ab","anew":true}}`.
 //!
 //! Of each text is said whether the `whole` of it matches, a `part` or `no` part, by the pattern as it is
-//! read and by the compiled one; `unlike` where these differ.
+//! read and by those that are compiled for either question; `unlike` where these differ.
 
 use jp_probe_parts::{Row, text_in};
-use jp_regexp::{Pattern, Terms};
+use jp_regexp::{CompileBudget, Pattern, Question, Terms};
 use serde::Serialize;
 use serde_json::Value;
 use std::alloc::{AllocError, Global};
@@ -27,6 +27,14 @@ struct Stands {
     none: bool,
 }
 
+/// A pattern as it is read, and as it is compiled for whole texts and for parts.
+#[derive(Drop)]
+pub struct Patterns {
+    pub read: Pattern,
+    whole: Pattern,
+    part: Pattern,
+}
+
 /// What is said of a pattern.
 #[derive(Drop, Serialize)]
 struct PatternAnswer {
@@ -41,11 +49,22 @@ struct PatternAnswer {
 /// Answers `pattern`, of a text: `null` where it is no pattern.
 pub fn answer_pattern(alloc: Global, row: Row<'_>) -> anyhow::Result<String> {
     row.has_only(&["text", "texts", "before", "steps", "anew"])?;
-    let text = row.text("text")?;
-    match (Pattern::read(alloc, text)?, Pattern::compiled(alloc, text)?) {
-        (Some(read), Some(compiled)) => said(alloc, row, &read, &compiled),
-        (None, None) => Ok(serde_json::to_string(alloc, &None::<bool>)?),
-        _ => Ok(serde_json::to_string(alloc, &Match::Unlike)?),
+    match read_patterns(alloc, row.text("text")?)? {
+        Some(patterns) => said(alloc, row, &patterns),
+        None => Ok(serde_json::to_string(alloc, &None::<bool>)?),
+    }
+}
+
+/// The pattern of a text, if it is one.
+pub fn read_patterns(alloc: Global, text: &str) -> anyhow::Result<Option<Patterns>> {
+    let mut budget = CompileBudget::new();
+    let read = Pattern::read(alloc, text)?;
+    let whole = Pattern::compiled(alloc, text, Question::Whole, &mut budget)?;
+    let part = Pattern::compiled(alloc, text, Question::Part, &mut budget)?;
+    match (read, whole, part) {
+        (Some(read), Some(whole), Some(part)) => Ok(Some(Patterns { read, whole, part })),
+        (None, None, None) => Ok(None),
+        _ => Err(anyhow::anyhow!("a text is a pattern by one call alone")),
     }
 }
 
@@ -54,14 +73,14 @@ pub fn answer_pattern(alloc: Global, row: Row<'_>) -> anyhow::Result<String> {
 /// `texts` are those of which is asked what of them matches, `before` the characters that are read before the
 /// steps, and `steps` those of which each is a step. `anew` says whether a match may begin behind each
 /// character.
-fn said(alloc: Global, row: Row<'_>, read: &Pattern, compiled: &Pattern) -> anyhow::Result<String> {
+fn said(alloc: Global, row: Row<'_>, patterns: &Patterns) -> anyhow::Result<String> {
     let before = row.text_if_any("before")?.unwrap_or("");
     let steps = row.text_if_any("steps")?.unwrap_or("");
     let anew = row.flag("anew")?;
-    let mut terms = read.start(alloc)?;
+    let mut terms = patterns.read.start(alloc)?;
     let answer = PatternAnswer {
-        size: read.unrolled_size(),
-        texts: texts_said(alloc, row.items("texts")?, read, compiled)?,
+        size: patterns.read.unrolled_size(),
+        texts: texts_said(alloc, row.items("texts")?, patterns)?,
         most: most_before(before, anew, &mut terms)?,
         steps: stepped(alloc, steps, anew, &mut terms)?,
     };
@@ -69,15 +88,10 @@ fn said(alloc: Global, row: Row<'_>, read: &Pattern, compiled: &Pattern) -> anyh
 }
 
 /// What of each text matches.
-fn texts_said(
-    alloc: Global,
-    texts: &[Value],
-    read: &Pattern,
-    compiled: &Pattern,
-) -> anyhow::Result<Vec<Match>> {
+fn texts_said(alloc: Global, texts: &[Value], patterns: &Patterns) -> anyhow::Result<Vec<Match>> {
     let mut said = Vec::new(alloc);
     for text in texts {
-        said.push(matched(alloc, read, compiled, text_in(text)?)?)?;
+        said.push(matched(alloc, patterns, text_in(text)?)?)?;
     }
     Ok(said)
 }
@@ -128,25 +142,27 @@ fn step(terms: &mut Terms<'_>, c: char, anew: bool) -> anyhow::Result<()> {
     Ok(())
 }
 
-/// What of the text matches, as both say.
-pub fn matched(
-    alloc: Global,
-    read: &Pattern,
-    compiled: &Pattern,
-    text: &str,
-) -> Result<Match, AllocError> {
-    let said = matched_by(alloc, read, text)?;
-    if matched_by(alloc, compiled, text)? == said {
+/// What of the text matches, as all say.
+pub fn matched(alloc: Global, patterns: &Patterns, text: &str) -> Result<Match, AllocError> {
+    let said = matched_by(alloc, &patterns.read, &patterns.read, text)?;
+    if matched_by(alloc, &patterns.whole, &patterns.part, text)? == said
+        && matched_by(alloc, &patterns.part, &patterns.whole, text)? == said
+    {
         Ok(said)
     } else {
         Ok(Match::Unlike)
     }
 }
 
-/// What of the text matches, as one pattern says.
-fn matched_by(alloc: Global, pattern: &Pattern, text: &str) -> Result<Match, AllocError> {
-    let whole = pattern.matches(alloc, text)?;
-    let part = pattern.found_in(alloc, text)?;
+/// What of the text matches, where the one is asked of the whole and the other of a part.
+fn matched_by(
+    alloc: Global,
+    of_whole: &Pattern,
+    of_part: &Pattern,
+    text: &str,
+) -> Result<Match, AllocError> {
+    let whole = of_whole.matches(alloc, text)?;
+    let part = of_part.found_in(alloc, text)?;
     Ok(match (whole, part) {
         (true, true) => Match::Whole,
         (false, true) => Match::Part,

@@ -4,10 +4,9 @@
 //! matches: those that have the word, with what stands around it up to so many times before and behind.
 //! `{"counted":{"text":"a|b","characters":"abc","longest":5}}` asks how many of all such texts match.
 
-use crate::patterns::{Match, matched};
+use crate::patterns::{Match, Patterns, matched, read_patterns};
 use crate::texts::{repeated, texts_of};
 use jp_probe_parts::Row;
-use jp_regexp::Pattern;
 use serde::Serialize;
 use std::alloc::{AllocError, Global};
 
@@ -35,13 +34,6 @@ struct CountedAnswer {
     unlike: u64,
 }
 
-/// A pattern as it is read, and compiled.
-#[derive(Drop)]
-struct Both {
-    read: Pattern,
-    compiled: Pattern,
-}
-
 /// How many texts, and a check number of which they are.
 #[derive(Clone, Copy)]
 struct Count {
@@ -50,10 +42,10 @@ struct Count {
 }
 
 /// The pattern of a text, which has to be one.
-fn read_both(alloc: Global, text: &str) -> anyhow::Result<Both> {
-    match (Pattern::read(alloc, text)?, Pattern::compiled(alloc, text)?) {
-        (Some(read), Some(compiled)) => Ok(Both { read, compiled }),
-        _ => Err(anyhow::anyhow!("no pattern")),
+fn pattern_of(alloc: Global, text: &str) -> anyhow::Result<Patterns> {
+    match read_patterns(alloc, text)? {
+        Some(patterns) => Ok(patterns),
+        None => Err(anyhow::anyhow!("no pattern")),
     }
 }
 
@@ -72,7 +64,7 @@ impl SearchAnswer {
 /// Answers `search`.
 pub fn answer_search(alloc: Global, row: Row<'_>) -> anyhow::Result<String> {
     row.has_only(&["text", "around", "word", "before", "behind"])?;
-    let both = read_both(alloc, row.text("text")?)?;
+    let patterns = pattern_of(alloc, row.text("text")?)?;
     let search = Search {
         around: row.text("around")?,
         word: row.text("word")?,
@@ -84,7 +76,7 @@ pub fn answer_search(alloc: Global, row: Row<'_>) -> anyhow::Result<String> {
         unlike: 0,
     };
     for before in 0..row.number("before")?.saturating_add(1) {
-        search.add_behind(alloc, &both, before, &mut answer)?;
+        search.add_behind(alloc, &patterns, before, &mut answer)?;
     }
     Ok(serde_json::to_string(alloc, &answer)?)
 }
@@ -94,7 +86,7 @@ impl Search<'_> {
     fn add_behind(
         self,
         alloc: Global,
-        both: &Both,
+        patterns: &Patterns,
         before: u64,
         answer: &mut SearchAnswer,
     ) -> Result<(), AllocError> {
@@ -102,7 +94,7 @@ impl Search<'_> {
             let mut text = repeated(alloc, self.around, before)?;
             text.push_str(self.word)?;
             text.push_str(repeated(alloc, self.around, behind)?.as_str())?;
-            answer.add(matched(alloc, &both.read, &both.compiled, text.as_str())?);
+            answer.add(matched(alloc, patterns, text.as_str())?);
         }
         Ok(())
     }
@@ -133,7 +125,7 @@ fn texts_up_to(alloc: Global, characters: &str, longest: u64) -> Result<Vec<Stri
 /// Answers `counted`, of all texts of some characters.
 pub fn answer_counted(alloc: Global, row: Row<'_>) -> anyhow::Result<String> {
     row.has_only(&["text", "characters", "longest"])?;
-    let both = read_both(alloc, row.text("text")?)?;
+    let patterns = pattern_of(alloc, row.text("text")?)?;
     let texts = texts_up_to(alloc, row.text("characters")?, row.number("longest")?)?;
     let mut whole = Count { texts: 0, check: 0 };
     let mut part = Count { texts: 0, check: 0 };
@@ -141,7 +133,7 @@ pub fn answer_counted(alloc: Global, row: Row<'_>) -> anyhow::Result<String> {
     let mut i = 0u64;
     for text in &texts {
         i = i.saturating_add(1);
-        match matched(alloc, &both.read, &both.compiled, text.as_str())? {
+        match matched(alloc, &patterns, text.as_str())? {
             Match::Whole => {
                 whole.add(i);
                 part.add(i);

@@ -3,4 +3,4 @@
 
 pub mod laws;
 
-pub use jp_automaton::{Pattern, Terms};
+pub use jp_automaton::{CompileBudget, Pattern, Question, Terms};

@@ -9,35 +9,42 @@ use Rattle.jp_pattern.specs.Pattern.{Text, Pattern}
 use Rattle.jp_pattern.specs.Language.{Found, HasPart, Matches, Member}
 use Rattle.jp_pattern.specs.Profile.{IsPatternOf}
 use Rattle.jp_pattern.specs.Tests.{Tests, AreRight}
+use Rattle.jp_automaton.specs.SameLanguage.{IsWrittenAs}
 use Rattle.jp_value.specs.RightTests.{tests, are_right}
 
--- the pattern that was read is the one that the text is
-matches_held : (text pattern_text : Text) (p : Pattern) → IsPatternOf pattern_text p
+-- what was read has the texts of the pattern that the text is
+matches_held : (text pattern_text : Text) (p : Pattern) → IsWrittenAs pattern_text p
     → Matches text pattern_text → Member p text
-matches_held text pattern_text p is (q, of, member) =
-    subst (λ r. Member r text) (one_tree pattern_text q p of.shapes is.shapes) member
+matches_held text pattern_text p (r, is, same) (q, of, member) =
+    (same.members text).0
+    (subst (λ s. Member s text) (one_tree pattern_text q r of.shapes is.shapes) member)
 
-found_held : (text pattern_text : Text) (p : Pattern) → IsPatternOf pattern_text p
+held_matches : (text pattern_text : Text) (p : Pattern) → IsWrittenAs pattern_text p
+    → Member p text → Matches text pattern_text
+held_matches text pattern_text p (r, is, same) member = (r, is, (same.members text).1 member)
+
+found_held : (text pattern_text : Text) (p : Pattern) → IsWrittenAs pattern_text p
     → Found text pattern_text → HasPart p text
 found_held text pattern_text p is (before, part, after, e, matches) =
     (before, part, after, e, matches_held part pattern_text p is matches)
 
-pub matching : (text pattern_text : Text) (p : Pattern) (b : Bool) → IsPatternOf pattern_text p
+pub matching : (text pattern_text : Text) (p : Pattern) (b : Bool) → IsWrittenAs pattern_text p
     → (IsTrue b ↔ Member p text) → b ≡ tests.is_match text pattern_text
 matching text pattern_text p b is h =
     same_from_decides b (tests.is_match text pattern_text) h (
       λ t. matches_held text pattern_text p is ((are_right.matching text pattern_text).0 t),
       λ m.
-          (are_right.matching text pattern_text).1 (p, is, m),
+          (are_right.matching text pattern_text).1 (held_matches text pattern_text p is m),
     )
 
-pub finding : (text pattern_text : Text) (p : Pattern) (b : Bool) → IsPatternOf pattern_text p
+pub finding : (text pattern_text : Text) (p : Pattern) (b : Bool) → IsWrittenAs pattern_text p
     → (IsTrue b ↔ HasPart p text) → b ≡ tests.is_found text pattern_text
 finding text pattern_text p b is h =
     same_from_decides b (tests.is_found text pattern_text) h (
       λ t. found_held text pattern_text p is ((are_right.finding text pattern_text).0 t),
       λ m.
-          (are_right.finding text pattern_text).1 (m.0, m.1, m.2, m.3, (p, is, m.4)),
+          (are_right.finding text pattern_text).1
+          (m.0, m.1, m.2, m.3, held_matches m.1 pattern_text p is m.4),
     )
 
 pub matching_none : (text pattern_text : Text) → ((p : Pattern) → IsPatternOf pattern_text p → ⊥)

@@ -13,10 +13,12 @@ use crate::determinize::make_dfa;
 use crate::dfa::Dfa;
 use crate::dfa_input::DfaInput;
 use crate::expressions::{Expression, expression_of};
-use crate::limits::{MAX_SIZE, MAX_STATES, STATES_BY_SIZE};
+use crate::limits::MAX_SIZE;
 use crate::pattern::Pattern;
 use crate::pattern::matching::characters;
 use crate::prefilter::{Prefilter, make_prefilter};
+use crate::question::Question;
+use crate::work::{CompileBudget, work_of_state};
 use jp_pattern::{PatternFault, read_tree};
 use std::alloc::{AllocError, Global};
 
@@ -53,30 +55,62 @@ impl Pattern {
         }
     }
 
-    /// The same, compiled for many texts: its position automaton is determinized now, and texts are matched
-    /// by the transition tables.
+    /// The same, compiled for many texts that are asked one question, as far as the budget allows: its
+    /// position automaton is determinized now, and the question is answered by the transition table. Any
+    /// other question, and a pattern for which no work is left, is answered by positions.
     ///
     /// # Errors
     ///
     /// Memory ran out.
-    pub fn compiled(alloc: Global, text: &str) -> Result<Option<Pattern>, AllocError>
+    pub fn compiled(
+        alloc: Global,
+        text: &str,
+        question: Question,
+        budget: &mut CompileBudget,
+    ) -> Result<Option<Pattern>, AllocError>
         ensures { IfOk result (λ read. IsRead (chars text.now) read) }
     {
-        match Pattern::read(alloc, text)? {
-            None => Ok(None),
-            Some(pattern) => Ok(Some(pattern.with_dfas(alloc)?)),
+        let Some(pattern) = Pattern::read(alloc, text)? else {
+            return Ok(None);
+        };
+        match question {
+            Question::Whole => Ok(Some(pattern.for_whole_texts(alloc, budget)?)),
+            Question::Part => Ok(Some(pattern.for_parts(alloc, budget)?)),
         }
     }
 
-    /// The same pattern with its DFAs and its prefilter.
-    fn with_dfas(self, alloc: Global) -> Result<Pattern, AllocError>
+    /// The same pattern with the DFA for whole texts.
+    fn for_whole_texts(
+        self,
+        alloc: Global,
+        budget: &mut CompileBudget,
+    ) -> Result<Pattern, AllocError>
         ensures { IfOk result (λ made. pattern_of made ≡ pattern_of self) }
     {
-        let (whole, part) = dfas_of(alloc, &self.root)?;
-        let prefilter = make_prefilter(alloc, &part)?;
+        let whole = dfa_of(alloc, &self.root, false, budget)?;
         let Pattern {
             root,
             whole: _,
+            part,
+            prefilter,
+        } = self;
+        Ok(Pattern {
+            root,
+            whole,
+            part,
+            prefilter,
+        })
+    }
+
+    /// The same pattern with the unanchored DFA and its prefilter.
+    fn for_parts(self, alloc: Global, budget: &mut CompileBudget) -> Result<Pattern, AllocError>
+        ensures { IfOk result (λ made. pattern_of made ≡ pattern_of self) }
+    {
+        let part = dfa_of(alloc, &self.root, true, budget)?;
+        let prefilter = make_prefilter(alloc, &part)?;
+        let Pattern {
+            root,
+            whole,
             part: _,
             prefilter: _,
         } = self;
@@ -89,36 +123,31 @@ impl Pattern {
     }
 }
 
-/// The DFAs of a pattern: of whole texts, and of parts that are looked for.
-fn dfas_of(alloc: Global, root: &Expression) -> Result<(Dfa, Dfa), AllocError>
+/// The DFA of a pattern, without states where the budget allows for one alone.
+fn dfa_of(
+    alloc: Global,
+    root: &Expression,
+    unanchored: bool,
+    budget: &mut CompileBudget,
+) -> Result<Dfa, AllocError>
     requires sized { IsTrue (meaning root.now).is_sized }
     requires fits { letters (unrolled_in root.now) ≤ max_size }
-    ensures whole { IfOk result (λ made. IsDfa (unrolled_in root.now) false made.0) }
-    ensures part { IfOk result (λ made. IsDfa (unrolled_in root.now) true made.1) }
+    ensures { IfOk result (λ made. IsDfa (unrolled_in root.now) unanchored made) }
 {
-    let most = most_states(root.size());
     let classes = make_byte_classes(alloc, root)?;
+    let work = work_of_state(root, &classes);
+    let most = budget.states(work);
+    if most < 2 {
+        return Ok(Dfa::new(alloc));
+    }
     let input = DfaInput {
         alloc,
         root,
         classes: &classes,
-        unanchored: false,
+        unanchored,
         most,
     };
-    let whole = make_dfa(input)?;
-    let input = DfaInput {
-        alloc,
-        root,
-        classes: &classes,
-        unanchored: true,
-        most,
-    };
-    Ok((whole, make_dfa(input)?))
-}
-
-/// How many states a DFA of a pattern of this size has at most.
-fn most_states(size: u32) -> usize
-    ensures { result ≤ MAX_STATES }
-{
-    (STATES_BY_SIZE / size.max(1)).min(MAX_STATES as u32) as usize
+    let dfa = make_dfa(input)?;
+    budget.take(dfa.states.len(), work);
+    Ok(dfa)
 }

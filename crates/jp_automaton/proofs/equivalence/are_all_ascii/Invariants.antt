@@ -1,9 +1,9 @@
 use Rattle.std.proofs.Common.{ℕ, ◌<◌, slice_index_or}
-use Rattle.jp_pattern.specs.declared.tree.Element.{Element}
+use Rattle.jp_automaton.specs.Letters.{span_element}
+use Rattle.jp_automaton.specs.declared.ranges.Span.{Span}
 use Rattle.jp_automaton.specs.inner.Equivalence.{IsAscii}
-use Rattle.jp_pattern.specs.Tree.{element_of}
 use Rattle.jp_automaton.proofs.equivalence.are_all_ascii.Given as goal
 
-abbrev pub invariant-loop-element : goal.invariant-loop-element
-invariant-loop-element l =
-    (k : ℕ) (x : Element) → k < l.element-index → IsAscii (element_of (slice_index_or l.elements k x))
+abbrev pub invariant-loop-span : goal.invariant-loop-span
+invariant-loop-span l =
+    (k : ℕ) (x : Span) → k < l.span-index → IsAscii (span_element (slice_index_or l.spans k x))

@@ -1,7 +1,7 @@
 use Rattle.std.proofs.Common.{rules, ◌≡◌, ◌+◌, ◌-◌, ◌*◌, ◌≤◌, ◌||◌, drop, refl, sym, ap, ◌∙◌, subst, arith}
 use Rattle.std.proofs.lemmas.Grind.{common_steps}
 use Rattle.jp_automaton.specs.declared.expressions.Expression.{the_lemmas}
-use Rattle.jp_pattern.specs.Tree.{set_of}
+use Rattle.jp_automaton.specs.Letters.{letters_of}
 use Rattle.jp_automaton.specs.Expressions.{pattern_in, branches_before, unrolled_in, unrolled_in_turn}
 use Rattle.jp_pattern.specs.Unrolled.{Unrolled, counted, counted_on, letters, nothing}
 use Rattle.jp_automaton.specs.inner.Simulation.{IsAt, IsWalk, or_entered, entered_as}
@@ -34,7 +34,7 @@ pub exit-returns-in-Set : goal.exit-returns-in-Set
 exit-returns-in-Set t c =
     subst (λ p. IsWalk c.args.active.now p c.args.at c.behind_set.result)
     (set_same c.args.expression.now c.in-Set.field-0 c.in-Set.is)
-    (c.behind_set.ensures (set_of c.in-Set.field-0))
+    (c.behind_set.ensures (letters_of c.in-Set.field-0))
 
 pub exit-overflow_add-at : goal.exit-overflow_add-at
 exit-overflow_add-at t c =

@@ -1,5 +1,5 @@
 use Rattle.std.proofs.Common.{◌≡◌, ◌+◌, ◌-◌, ◌*◌, ◌≤◌, ◌||◌, ◌++◌, refl, sym, ap, ◌∙◌, subst, arith}
-use Rattle.jp_pattern.specs.Tree.{set_of}
+use Rattle.jp_automaton.specs.Letters.{letters_of}
 use Rattle.jp_pattern.specs.Unrolled.{counted, letters, letter}
 use Rattle.jp_automaton.specs.inner.Simulation.{step, is_elem, read_if, IsAt, IsStep, IsWalk, or_entered}
 use Rattle.jp_automaton.specs.inner.Simulation.{entered_as}
@@ -14,7 +14,7 @@ use Rattle.jp_automaton.proofs.step_sets.step_set_copies.Goals as goal
 pub idle_copies-idle-requires-clause-fits : goal.idle_copies-idle-requires-clause-fits
 idle_copies-idle-requires-clause-fits c =
     let kept = c.loop-i.invariant in
-    let a = letter (set_of c.args.set.now) in
+    let a = letter (letters_of c.args.set.now) in
     let whole : c.args.at.past + letters (counted c.args.copies.least c.args.copies.most a) ≤ 10_000 =
     omega (arith, letters-counted a c.args.copies.least c.args.copies.most, c.requires.fits) in
     copies_fit a c.args.copies.least c.args.copies.most c.loop-i.i c.loop-i.here.past c.args.at.past
@@ -24,7 +24,7 @@ idle_copies-idle-requires-clause-fits c =
 pub overflow_add-here : goal.overflow_add-here
 overflow_add-here c =
     let kept = c.loop-i.invariant in
-    let a = letter (set_of c.args.set.now) in
+    let a = letter (letters_of c.args.set.now) in
     let whole : c.args.at.past + letters (counted c.args.copies.least c.args.copies.most a) ≤ 10_000 =
     omega (arith, letters-counted a c.args.copies.least c.args.copies.most, c.requires.fits) in
     let all = copies_fit a c.args.copies.least c.args.copies.most c.loop-i.i c.loop-i.here.past c.args.at.past
@@ -35,7 +35,7 @@ pub loop-i-preserved-then-idle-gt0 : goal.loop-i-preserved-then-idle-gt0
 loop-i-preserved-then-idle-gt0 c =
     let active = c.args.input.active.now in
     let kept = c.loop-i.invariant in
-    let a = letter (set_of c.args.set.now) in
+    let a = letter (letters_of c.args.set.now) in
     let here = c.loop-i.here in
     let n = c.idle_copies-idle.result in
     let none = not_entered here.entered n c.idle_copies-idle.ensures.not_entered c.if-idle-gt0.true in
@@ -65,7 +65,7 @@ loop-i-preserved-then-idle-gt0 c =
 pub read_known-requires : goal.read_known-requires
 read_known-requires c =
     let kept = c.loop-i.invariant in
-    let a = letter (set_of c.args.set.now) in
+    let a = letter (letters_of c.args.set.now) in
     let whole : c.args.at.past + letters (counted c.args.copies.least c.args.copies.most a) ≤ 10_000 =
     omega (arith, letters-counted a c.args.copies.least c.args.copies.most, c.requires.fits) in
     let fits = copy_fits a c.args.copies.least c.args.copies.most c.loop-i.i c.loop-i.here.past c.args.at.past
@@ -75,7 +75,7 @@ read_known-requires c =
 pub behind_set-here-requires : goal.behind_set-here-requires
 behind_set-here-requires c =
     let kept = c.loop-i.invariant in
-    let a = letter (set_of c.args.set.now) in
+    let a = letter (letters_of c.args.set.now) in
     let whole : c.args.at.past + letters (counted c.args.copies.least c.args.copies.most a) ≤ 10_000 =
     omega (arith, letters-counted a c.args.copies.least c.args.copies.most, c.requires.fits) in
     let fits = copy_fits a c.args.copies.least c.args.copies.most c.loop-i.i c.loop-i.here.past c.args.at.past
@@ -86,7 +86,7 @@ pub loop-i-preserved : goal.loop-i-preserved
 loop-i-preserved c =
     let active = c.args.input.active.now in
     let kept = c.loop-i.invariant in
-    let set = set_of c.args.set.now in
+    let set = letters_of c.args.set.now in
     let a = letter set in
     let all = counted c.args.copies.least c.args.copies.most a in
     let here = c.loop-i.here in
@@ -95,7 +95,7 @@ loop-i-preserved c =
     record {
       walk = c.behind_set-here.ensures set;
       reads = c.in_ok-read_known.ensures ∙ ap (λ b. c.loop-i.out.items ++ read_if b here)
-          c.in_set-has.ensures;
+          c.has_letter-has.ensures;
     } in
     let more = sym (c.either-left.ensures ∙ ap (λ s. c.loop-i.left || s) c.may_stop-stop.ensures) in (
       λ r w. subst (λ b. IsWalk active all c.args.at (or_entered b r)) more
@@ -123,19 +123,19 @@ returns c =
     let here = c.loop-i.here in
     let none : c.args.copies.most - c.loop-i.i ≡ 0 = omega (arith, c.loop-i-test.false) in
     let w : IsWalk active (counted (c.args.copies.least - c.loop-i.i) (c.args.copies.most - c.loop-i.i)
-    (letter (set_of c.args.set.now))) here here =
+    (letter (letters_of c.args.set.now))) here here =
     subst (λ n. IsWalk active (counted (c.args.copies.least - c.loop-i.i) n (letter
-    (set_of c.args.set.now))) here
+    (letters_of c.args.set.now))) here
     here) (sym none) (nothing_walk active here kept.2) in
     let is : c.with_entered.result ≡ or_entered c.loop-i.left here = c.with_entered.ensures
     ∙ ap (λ b. entered_as b here) c.either.ensures in
     record {
       walk = subst (λ r. IsWalk active (counted c.args.copies.least c.args.copies.most (letter
-          (set_of c.args.set.now)))
+          (letters_of c.args.set.now)))
           c.args.at r) (sym is) (kept.0 here w);
       reads = end_reads active c.args.input.c _ c.loop-i.out.items
           (ap (λ n. c.loop-i.out.items ++ step (is_elem active) c.args.input.c
           (counted (c.args.copies.least - c.loop-i.i) n (letter
-          (set_of c.args.set.now))) here.past here.entered)
+          (letters_of c.args.set.now))) here.past here.entered)
           (sym none) ∙ kept.4);
     }

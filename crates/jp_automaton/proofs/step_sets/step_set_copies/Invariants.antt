@@ -1,6 +1,6 @@
 use Rattle.std.proofs.Common.{◌≡◌, ◌+◌, ◌-◌, ◌≤◌, ◌++◌}
 use Rattle.jp_automaton.specs.declared.cursor.Cursor.{Cursor}
-use Rattle.jp_pattern.specs.Tree.{set_of}
+use Rattle.jp_automaton.specs.Letters.{letters_of}
 use Rattle.jp_pattern.specs.Unrolled.{counted, letters, letter}
 use Rattle.jp_automaton.specs.inner.Simulation.{step, is_elem, IsAt, IsWalk, or_entered}
 use Rattle.jp_automaton.proofs.step_sets.step_set_copies.Given as goal
@@ -8,7 +8,7 @@ use Rattle.jp_automaton.proofs.step_sets.step_set_copies.Given as goal
 abbrev pub invariant-loop-i : goal.invariant-loop-i
 invariant-loop-i l =
     let active = l.input.active.now in
-    let a = letter (set_of l.set) in
+    let a = letter (letters_of l.set) in
     let rest = counted (l.copies.least - l.i) (l.copies.most - l.i) a in
     ((r : Cursor) → IsWalk active rest l.here r
     → IsWalk active (counted l.copies.least l.copies.most a) l.fn.at (or_entered l.left r))

@@ -1,6 +1,6 @@
-use Rattle.std.proofs.Common.{◌≡◌, ◌≤◌, min, sym, ap, ◌∙◌, subst, lit<, true, false}
+use Rattle.std.proofs.Common.{◌≡◌, ◌≤◌, min, sym, ap, ◌∙◌, subst, lit<, arith, true, false}
 use Rattle.std.specs.Str.{chars}
-use Rattle.jp_pattern.specs.Profile.{size, InProfile, IsPatternOf}
+use Rattle.jp_pattern.specs.Profile.{size}
 use Rattle.jp_pattern.specs.Tree.{node_of}
 use Rattle.jp_automaton.specs.Expressions.{pattern_in}
 use Rattle.jp_automaton.proofs.PrefilterLemmas.{no_prefilter}
@@ -18,7 +18,8 @@ pub returns-then-size-gt-MAX_SIZE : goal.returns-then-size-gt-MAX_SIZE
 returns-then-size-gt-MAX_SIZE c =
     let read = rw (c.deref.ensures.value, c.in_ok-text.ensures) at c.in-Ok.ensures in
     let p = node_of c.in-Ok.node in
-    let same = c.size.ensures ∙ ap (λ q. min (size q) 4_294_967_295) c.in_ok-root-in-Ok.ensures.same in
+    let simpler = c.in_ok-root-in-Ok.ensures.same read.counts in
+    let same = c.size.ensures ∙ ap (λ n. min n 4_294_967_295) (sym simpler.language.same_size) in
     too_large (chars c.args.text.now) p read (size_over (size p) c.size.result 4_294_967_295 same
     c.if-size-gt-MAX_SIZE.true)
 
@@ -26,26 +27,27 @@ pub returns : goal.returns
 returns c =
     let read = rw (c.deref.ensures.value, c.in_ok-text.ensures) at c.in-Ok.ensures in
     let p = node_of c.in-Ok.node in
+    let simpler = c.in_ok-root-in-Ok.ensures.same read.counts in
     let is : c.size.result ≡ min (size p) 4_294_967_295 = c.size.ensures ∙ ap
-    (λ q. min (size q) 4_294_967_295) c.in_ok-root-in-Ok.ensures.same in
+    (λ n. min n 4_294_967_295) (sym simpler.language.same_size) in
     let fits = c.if-size-gt-MAX_SIZE.false in
     let same = size_is (size p) c.size.result 4_294_967_295 is fits (lit< tt) in
-    subst (IsPatternOf (chars c.args.text.now)) (sym c.in_ok-root-in-Ok.ensures.same)
-    (is_pattern (chars c.args.text.now) p read (subst (λ n. n ≤ 10_000) same fits))
+    (p, is_pattern (chars c.args.text.now) p read (subst (λ n. n ≤ 10_000) same fits), simpler.language)
 
 pub invariant_of-result : goal.invariant_of-result
 invariant_of-result c =
     let read = rw (c.deref.ensures.value, c.in_ok-text.ensures) at c.in-Ok.ensures in
-    let p = node_of c.in-Ok.node in
-    let is : c.size.result ≡ min (size p) 4_294_967_295 = c.size.ensures ∙ ap
-    (λ q. min (size q) 4_294_967_295) c.in_ok-root-in-Ok.ensures.same in
-    let fits = c.if-size-gt-MAX_SIZE.false in
-    let same = size_is (size p) c.size.result 4_294_967_295 is fits (lit< tt) in
     let root = c.in_ok-root-in-Ok.root in
+    let simpler = c.in_ok-root-in-Ok.ensures.same read.counts in
+    let fits = c.if-size-gt-MAX_SIZE.false in
+    let same = size_is (size (pattern_in root)) c.size.result 4_294_967_295 c.size.ensures fits (lit< tt) in
     record {
       sized = c.in_ok-root-in-Ok.ensures.sized;
-      in_profile = ∣ subst InProfile (sym c.in_ok-root-in-Ok.ensures.same)
-          (is_pattern (chars c.args.text.now) p read (subst (λ n. n ≤ 10_000) same fits)).in_profile ∣₁;
+      in_profile = ∣ record {
+        counts = simpler.counts;
+        depth_fits = omega (arith, simpler.no_deeper, read.depth_fits);
+        size_fits = subst (λ n. n ≤ 10_000) same fits;
+      } ∣₁;
       whole_steps = ∣ no_dfa (pattern_in root) false c.new-whole.result c.new-whole.ensures.states
           c.new-whole.ensures.cells ∣₁;
       part_steps = ∣ no_dfa (pattern_in root) true c.new-part.result c.new-part.ensures.states

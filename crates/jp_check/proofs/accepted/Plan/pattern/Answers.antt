@@ -5,7 +5,7 @@ use Rattle.std.specs.Str.{chars, bytes_eq}
 use Rattle.std.proofs.lemmas.List.{length-map}
 use borrow.Author.Count.{below_more}
 use Rattle.jp_automaton.specs.Held.{IsRead, pattern_of}
-use Rattle.jp_pattern.specs.Profile.{IsPatternOf}
+use Rattle.jp_automaton.specs.SameLanguage.{IsWrittenAs}
 use Rattle.jp_tree.specs.View.{text_of}
 use Rattle.jp_compiled.specs.declared.known.KnownPattern.{KnownPattern}
 use Rattle.jp_check.proofs.KnownLemmas.{known_contains, known_is_other, known_read}
@@ -17,7 +17,7 @@ returns-in-Some c =
     rw (← c.args.self.now.known, ← c.deref-known-items.ensures.value) (
       known_contains c.deref-known-items.result.now c.loop-known.known-index c.known-item.result
           c.args.text.now c.eq.result c.loop-known-test.true c.known-item.is compared c.if-eq.true,
-      subst (λ p. IsPatternOf (chars c.args.text.now) (pattern_of p)) (sym c.deref.ensures)
+      subst (λ p. IsWrittenAs (chars c.args.text.now) (pattern_of p)) (sym c.deref.ensures)
           (subst (λ o. IsRead (chars c.args.text.now) (option_map arc_value o)) c.in-Some.is
           (known_read c.known-item.result c.args.text.now c.eq.result compared c.if-eq.true)),
     )
