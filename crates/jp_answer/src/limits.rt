@@ -4,8 +4,12 @@
 pub(crate) const BLOCKS: u64 = 4_294_967_296;
 
 /// How often a worker looks for a block that it has claimed, and the calling thread for the answer to the
-/// front block, before either gives it up.
+/// front block, before either gives it up; the latter more often where the block is large.
 pub(crate) const LOOKS: u32 = 20_000;
+
+/// For how many bytes of the front block the calling thread looks once more: a look takes longer than these
+/// take to be answered.
+pub(crate) const BYTES_BY_LOOK: usize = 8;
 
 /// After how many of these looks a worker lets other threads go on between two.
 pub(crate) const QUICK_LOOKS: u32 = 200;

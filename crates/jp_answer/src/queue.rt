@@ -9,7 +9,7 @@ use crate::asked::Asked;
 use crate::block::Block;
 use crate::crew::Crew;
 use crate::gate::Gate;
-use crate::limits::{LOOKS, MOST_OUT, SPARE_BYTES};
+use crate::limits::{BYTES_BY_LOOK, LOOKS, MOST_OUT, SPARE_BYTES};
 use crate::ring::Ring;
 use crate::task::Task;
 use jp_buffer::WaitingLines;
@@ -143,15 +143,16 @@ impl<'r, 'q, F: Form + Drop> Queue<'r, 'q, F> {
 }
 
 impl<'r, 'q, F: Form + Drop + Send> Queue<'r, 'q, F> {
-    /// Looks for the answer to the front block, 20,000 times at most. As long as there is a block that no
-    /// worker has taken this thread answers it meanwhile. No clause says whether the answer is there then.
+    /// Looks for the answer to the front block, 20,000 times at most, and once more for each eight bytes of
+    /// it: a large block that a worker has begun is waited for. As long as there is a block that no worker has
+    /// taken this thread answers it meanwhile. No clause says whether the answer is there then.
     pub fn await_front<R: Threads + Sync, G: Gate>(&mut self, crew: &Crew<R, G>)
         ensures asked { self.new.asked ≡ self.old.asked }
         ensures sent { self.new.sent ≡ self.old.sent }
         ensures bytes { self.new.bytes ≡ self.old.bytes }
     {
         let mut helps = true;
-        for _look in 0..LOOKS {
+        for _look in 0..self.front_looks() {
             if self.has_front() {
                 return;
             }
@@ -161,6 +162,16 @@ impl<'r, 'q, F: Form + Drop + Send> Queue<'r, 'q, F> {
                 yield_now();
             }
         }
+    }
+
+    /// How often it is looked for the answer to the front block.
+    fn front_looks(&self) -> u32 {
+        let bytes = match self.sent.front() {
+            Some(front) => front.block.task.lines.total_bytes(),
+            None => 0,
+        };
+        let more = u32::try_from(bytes / BYTES_BY_LOOK).unwrap_or(u32::MAX);
+        LOOKS.saturating_add(more)
     }
 
     /// Answers the first block that no worker has taken. Gives whether there was one.

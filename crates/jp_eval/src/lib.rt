@@ -21,3 +21,5 @@ pub use document_filter::DocumentFilter;
 pub use evaluator::Evaluator;
 pub use fault::EvalFault;
 pub use fork::{Cuts, Fork, Halving, OpenFork};
+pub use jp_node::{Bounds, slice_bounds};
+pub use jp_value::{Operand, equal, less};

@@ -10,6 +10,8 @@ use Rattle.jp_line_scan.specs.declared.line_reason.NotWhole.{NotWhole as Number}
 use Rattle.jp_line_scan.specs.declared.line_reason.LongNumber.{LongNumber as Long}
 use Rattle.jp_line_scan.specs.declared.line_reason.LineReason.{LineReason}
 use Rattle.jp_line_scan.specs.declared.line_reason.LineReason.TheVariants.{Ended, NotWhole, LongNumber}
+use Rattle.jp_line_scan.specs.declared.line_reason.LineReason.TheVariants.{Rule}
+use Rattle.jp_line_scan.specs.declared.line_reason.LineRule.TheVariants.{TooLarge}
 use Rattle.jp_line_scan.specs.declared.line_reason.LineExpected.{LineExpected}
 use Rattle.jp_line_scan.specs.declared.line_reason.LineExpected.TheVariants.{Value, FirstItem, ItemEnd}
 use Rattle.jp_line_scan.specs.declared.line_reason.LineExpected.TheVariants.{FirstName, Name, Colon}
@@ -42,8 +44,10 @@ may_go_on Colon = true
 may_go_on MemberEnd = true
 may_go_on _ = false
 
--- it is known what helps: where a number is not whole, and where a document may go on in the next line
+-- it is known what helps: where a number is not whole or beyond a float, and where a document may go on in
+-- the next line
 abbrev pub has_help : LineReason → Bool
 has_help (NotWhole n) = true
+has_help (Rule TooLarge) = true
 has_help (Ended expected) = may_go_on expected
 has_help _ = false

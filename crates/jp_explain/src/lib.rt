@@ -25,7 +25,7 @@ pub use document_picture::write_document_mark;
 pub use escaping::escaped;
 pub use explanation::{Explanation, explain};
 pub use line_explanation::{LineExplanation, explain_line};
-pub use line_helping::{document_help, line_help};
+pub use line_helping::{document_help, help_with_document, help_with_line, line_help};
 pub use line_picture::write_line_mark;
 pub use pattern_note::{PatternNote, Trap, pattern_notes, write_pattern_note};
 pub use picture::write_mark;

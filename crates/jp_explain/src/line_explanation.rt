@@ -32,7 +32,7 @@ pub struct LineExplanation {
 
 /// The same of a line that holds no JSON text, whatever its numbers, or where each is within what a float can
 /// be.
-fn explain_unreadable(
+pub(crate) fn explain_unreadable(
     alloc: Global,
     line: &[u8],
     numbers: Numbers,

@@ -1,13 +1,19 @@
 //! What helps with a faulty line.
 
-ghost use Rattle.std.specs.Prelude.{◌≡◌, [], false, is_some, IfOk};
+ghost use Rattle.std.specs.Prelude.{◌≡◌, [], true, false, is_some, IfOk, Ok, None};
 ghost use Rattle.jp_tree.specs.View.{text_of};
-ghost use Rattle.jp_explain.specs.LineMark.{has_help, may_go_on};
+ghost use Rattle.jp_explain.specs.LineMark.{IsSilent, has_help, may_go_on};
 ghost use Rattle.jp_explain.specs.Picture.{IsHelp};
 
 use crate::line::PlainLine;
-use jp_line_scan::{LineExpected, LineReason};
+use crate::line_explanation::explain_unreadable;
+use jp_doc::DocFault;
+use jp_line_scan::{LineExpected, LineReason, LineRule};
+use jp_number::Numbers;
 use std::alloc::{AllocError, Global};
+
+/// What helps where a number is not whole, or beyond what a float can be.
+const DECIMALS_HELP: &str = "--decimals reads such a number";
 
 /// Whether a document may go on so in the next line.
 fn may_go_on(expected: LineExpected) -> bool
@@ -24,11 +30,11 @@ fn may_go_on(expected: LineExpected) -> bool
 
 /// What helps with a line that is faulty for that reason, in a few words; nothing where it is not known.
 pub fn line_help(reason: &LineReason) -> Option<&'static str>
-    // It is known of two reasons.
+    // It is known of three reasons.
     ensures { is_some result ≡ has_help reason.now }
 {
     match reason {
-        LineReason::NotWhole(_) => Some("--decimals reads such a number"),
+        LineReason::NotWhole(_) | LineReason::Rule(LineRule::TooLarge) => Some(DECIMALS_HELP),
         LineReason::Ended(expected) if may_go_on(*expected) => {
             Some("a document over several lines? --documents reads it")
         }
@@ -39,8 +45,63 @@ pub fn line_help(reason: &LineReason) -> Option<&'static str>
 /// The same of a document over lines: no document goes on behind it.
 pub fn document_help(reason: &LineReason) -> Option<&'static str> {
     match reason {
-        LineReason::NotWhole(_) => line_help(reason),
+        LineReason::NotWhole(_) | LineReason::Rule(LineRule::TooLarge) => line_help(reason),
         _ => None,
+    }
+}
+
+/// What helps with a line of that fault that was read by these numbers, in the words of `line_help`; nothing
+/// where it is not known. An unreadable line is scanned for where it goes wrong, and no other one is looked at.
+///
+/// # Errors
+///
+/// `AllocError` where a growth of memory was refused.
+pub fn help_with_line(
+    alloc: Global,
+    line: &[u8],
+    fault: &DocFault,
+    numbers: Numbers,
+) -> Result<Option<&'static str>, AllocError>
+    ensures not_whole { fault.now ≡ DocFault.NotWhole → IfOk result (λ help. is_some help ≡ true) }
+    ensures silent { IsSilent fault.now → result ≡ Ok None }
+    ensures long_number { fault.now ≡ DocFault.LongNumber → result ≡ Ok None }
+{
+    match fault {
+        DocFault::NotWhole => Ok(Some(DECIMALS_HELP)),
+        DocFault::Unreadable => match explain_unreadable(alloc, line, numbers)? {
+            Some(told) => Ok(line_help(&told.reason)),
+            None => Ok(None),
+        },
+        DocFault::LongLine | DocFault::LongNumber | DocFault::LongArray | DocFault::Memory => Ok(
+            None,
+        ),
+    }
+}
+
+/// The same of a document over lines: no document goes on behind it.
+///
+/// # Errors
+///
+/// `AllocError` where a growth of memory was refused.
+pub fn help_with_document(
+    alloc: Global,
+    document: &[u8],
+    fault: &DocFault,
+    numbers: Numbers,
+) -> Result<Option<&'static str>, AllocError>
+    ensures not_whole { fault.now ≡ DocFault.NotWhole → IfOk result (λ help. is_some help ≡ true) }
+    ensures silent { IsSilent fault.now → result ≡ Ok None }
+    ensures long_number { fault.now ≡ DocFault.LongNumber → result ≡ Ok None }
+{
+    match fault {
+        DocFault::NotWhole => Ok(Some(DECIMALS_HELP)),
+        DocFault::Unreadable => match explain_unreadable(alloc, document, numbers)? {
+            Some(told) => Ok(document_help(&told.reason)),
+            None => Ok(None),
+        },
+        DocFault::LongLine | DocFault::LongNumber | DocFault::LongArray | DocFault::Memory => Ok(
+            None,
+        ),
     }
 }
 

@@ -5,4 +5,5 @@ mod examples;
 pub mod laws;
 mod query;
 
+pub use jp_output::{write_fault, write_line, write_path};
 pub use query::{path_plan, query_of};

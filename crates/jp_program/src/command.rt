@@ -24,7 +24,7 @@ use crate::command_line::{Invocation, read_words};
 use crate::each::answer_files;
 use crate::file_notes::RunEnd;
 use crate::inputs::Inputs;
-use crate::pattern_notes::tell_wanted_patterns;
+use crate::pattern_notes::tell_prepared_patterns;
 use crate::turn::{Search, run_named};
 use crate::witness::Witness;
 use jp_answer::OnFault;
@@ -201,6 +201,7 @@ pub fn program<R: Threads + AllocGlobal + Sync, S: Source<K>, I: Inputs<S>, K: S
                 lost_reader: sink.lost_reader(),
                 opened: inputs.opens().saturating_sub(opened),
                 reason: inputs.reason(rt.alloc(), source).unwrap_or_default(),
+                write_reason: sink.reason(rt.alloc()).unwrap_or_default(),
                 passes_files: witness.passes_files,
             };
             tell_of_words(rt.alloc(), notes, words, &fault, &end);
@@ -296,7 +297,7 @@ fn done<R: Threads + AllocGlobal + Sync, S: Source<K>, I: Inputs<S>, K: Sink, N:
             let numbers = wanted.settings.numbers;
             let filter = wanted.settings.filter;
             let prepared = Prepared::new(rt.alloc(), wanted.query, filter, numbers)?;
-            tell_wanted_patterns(rt.alloc(), notes, &wanted);
+            tell_prepared_patterns(rt.alloc(), notes, &prepared);
             if wanted.check {
                 return Ok(NOTHING_SEEN);
             }

@@ -20,6 +20,8 @@ pub(crate) struct RunEnd {
     pub(crate) opened: u64,
     /// Why that one could not be read, in the system's words.
     pub(crate) reason: Option<String>,
+    /// Why standard output could not be written, in the system's words.
+    pub(crate) write_reason: Option<String>,
     /// Whether files that cannot be read are passed: each was told as it came.
     pub(crate) passes_files: bool,
 }
@@ -41,8 +43,8 @@ struct NamedFile {
 }
 
 /// Tells the fault of a run in one line, which names the file at which it ended, if it is one of several. Of
-/// a file, or standard input, that could not be read a further line says why. What was told of files that
-/// were passed is not told again.
+/// a file, or standard input, that could not be read a further line says why, and of standard output that
+/// could not be written. What was told of files that were passed is not told again.
 pub(crate) fn tell_of_run<N: Sink>(
     alloc: Global,
     notes: &mut N,
@@ -57,7 +59,7 @@ pub(crate) fn tell_of_run<N: Sink>(
     }
     let file = match file_at(alloc, words, end.opened) {
         Ok(Some(file)) => file,
-        Ok(None) => return tell_of_input(alloc, notes, fault, end),
+        Ok(None) => return tell_of_streams(alloc, notes, fault, end),
         Err(_) => return note(notes, fault_line(alloc, fault, end.cutting, None)),
     };
     match fault {
@@ -69,17 +71,23 @@ pub(crate) fn tell_of_run<N: Sink>(
             let name = Some(file.name.as_str());
             note(notes, fault_line(alloc, fault, end.cutting, name));
         }
-        _ => note(notes, fault_line(alloc, fault, end.cutting, None)),
+        _ => tell_of_streams(alloc, notes, fault, end),
     }
 }
 
-/// Tells the fault of a run over standard input, and why that could not be read, where this is known.
-fn tell_of_input<N: Sink>(alloc: Global, notes: &mut N, fault: &RunFault, end: &RunEnd)
+/// Tells a fault that names no file, and why standard input or output failed, where this is known.
+fn tell_of_streams<N: Sink>(alloc: Global, notes: &mut N, fault: &RunFault, end: &RunEnd)
     ensures untouched { N.failed notes.old ≡ true → notes.new ≡ notes.old }
 {
     note(notes, fault_line(alloc, fault, end.cutting, None));
-    if let (RunFault::Read, Some(reason)) = (fault, &end.reason) {
-        note(notes, format!(in alloc; "jp: standard input: {reason}\n"));
+    match (fault, &end.reason, &end.write_reason) {
+        (RunFault::Read, Some(reason), _) => {
+            note(notes, format!(in alloc; "jp: standard input: {reason}\n"));
+        }
+        (RunFault::Write, _, Some(reason)) => {
+            note(notes, format!(in alloc; "jp: standard output: {reason}\n"));
+        }
+        _ => {}
     }
 }
 

@@ -1,52 +1,27 @@
 //! What is told of the literal patterns of a query, and of a filter, before anything is read.
 
-ghost use Rattle.std.specs.Prelude.{◌≡◌, true, Err};
-ghost use Rattle.std.specs.Str.{chars};
-ghost use Rattle.jp_tree.specs.declared.fault.QueryFault.{QueryFault as Refusal};
-ghost use Rattle.jp_check.specs.Verdict.{IsVerdictIn};
+ghost use Rattle.std.specs.Prelude.{◌≡◌, true};
 
 use crate::command::note;
-use crate::command_line::Wanted;
-use jp_check::{Plan, filter_query_text, plan_in};
+use jp_check::Plan;
 use jp_explain::{PatternNote, pattern_notes, write_pattern_note};
-use jp_number::Numbers;
-use jp_run::Sink;
+use jp_run::{Prepared, Sink};
 use std::alloc::{AllocError, Global};
 
-/// Tells of each literal pattern of what is wanted, the query and then the filter, that may not match what was
-/// meant, in a line each. Where memory for it is refused, nothing is told or that.
-pub(crate) fn tell_wanted_patterns<N: Sink>(alloc: Global, notes: &mut N, wanted: &Wanted<'_>)
+/// Tells of each literal pattern of what is prepared, the query and then the filter, that may not match what
+/// was meant, in a line each. Where memory for it is refused, nothing is told or that.
+pub(crate) fn tell_prepared_patterns<N: Sink>(alloc: Global, notes: &mut N, prepared: &Prepared)
     ensures untouched { N.failed notes.old ≡ true → notes.new ≡ notes.old }
 {
-    let numbers = wanted.settings.numbers;
-    tell_patterns(alloc, notes, wanted.query, numbers);
-    let Some(filter) = wanted.settings.filter else {
-        return;
-    };
-    // The query that it stands in has the filter's literals.
-    if let Ok(query) = filter_query_text(alloc, filter) {
-        tell_patterns(alloc, notes, query.as_str(), numbers);
-    }
-}
-
-/// Tells of each literal pattern of an accepted query that may not match what was meant. Of a refused query
-/// nothing is told.
-fn tell_patterns<N: Sink>(alloc: Global, notes: &mut N, query: &str, numbers: Numbers)
-    ensures untouched { N.failed notes.old ≡ true → notes.new ≡ notes.old }
-    ensures refused { (f : Refusal) → IsVerdictIn numbers (chars query.now) (Err f)
-        → notes.new ≡ notes.old }
-{
-    // So a query without a pattern is not read twice.
-    if !query.contains("match") && !query.contains("search") {
-        return;
-    }
-    if let Ok(plan) = plan_in(alloc, query, numbers) {
-        tell_patterns_of(alloc, notes, &plan);
+    tell_patterns(alloc, notes, prepared.plan());
+    if let Some(filter) = prepared.filter() {
+        // The query that it stands in has the filter's literals.
+        tell_patterns(alloc, notes, filter.plan());
     }
 }
 
 /// The same of a plan.
-fn tell_patterns_of<N: Sink>(alloc: Global, notes: &mut N, plan: &Plan)
+fn tell_patterns<N: Sink>(alloc: Global, notes: &mut N, plan: &Plan)
     ensures untouched { N.failed notes.old ≡ true → notes.new ≡ notes.old }
 {
     if notes.failed() {

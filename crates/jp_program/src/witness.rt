@@ -7,8 +7,8 @@ use crate::command::note_text;
 use jp_answer::{Gate, OnFault};
 use jp_doc::DocFault;
 use jp_explain::{
-    LineExplanation, document_help, escaped, explain_line, line_help, write_document_mark,
-    write_line_mark,
+    LineExplanation, document_help, escaped, explain_line, help_with_document, help_with_line,
+    line_help, write_document_mark, write_line_mark,
 };
 use jp_number::Numbers;
 use jp_run::{Cutting, RunFault, Sink};
@@ -43,22 +43,14 @@ struct FaultyLine<'l> {
     fault: &'l DocFault,
 }
 
-/// The line of what helps with a faulty line, if that is known.
-fn help_of(
-    alloc: Global,
-    explanation: &Option<LineExplanation>,
-    cutting: Cutting,
-) -> Result<Option<String>, AllocError> {
+/// What helps with a faulty line of that explanation, if that is known.
+fn help_of(explanation: &Option<LineExplanation>, cutting: Cutting) -> Option<&'static str> {
     let Some(explanation) = explanation else {
-        return Ok(None);
+        return None;
     };
-    let help = match cutting {
+    match cutting {
         Cutting::Lines => line_help(&explanation.reason),
         Cutting::Documents => document_help(&explanation.reason),
-    };
-    match help {
-        Some(help) => Ok(Some(format!(in alloc; "jp: {help}\n")?)),
-        None => Ok(None),
     }
 }
 
@@ -133,6 +125,30 @@ impl Witness {
         }
     }
 
+    /// What helps with a faulty line that is not to be explained, if that is known.
+    fn help_with(
+        &self,
+        alloc: Global,
+        line: &FaultyLine<'_>,
+    ) -> Result<Option<&'static str>, AllocError> {
+        match self.cutting {
+            Cutting::Lines => help_with_line(alloc, line.bytes, line.fault, self.numbers),
+            Cutting::Documents => {
+                help_with_document(alloc, line.bytes, line.fault, self.numbers)
+            }
+        }
+    }
+
+    /// Keeps what helps, where no line came before.
+    fn keep_help(&self, alloc: Global, help: Option<&'static str>) -> Result<(), AllocError> {
+        let help = match help {
+            Some(help) => Some(format!(in alloc; "jp: {help}\n")?),
+            None => None,
+        };
+        let _ = self.help.set(Box::new(alloc, help)?);
+        Ok(())
+    }
+
     /// Keeps what there is to say of a faulty line, behind the name of its file, if that is given.
     fn keep(
         &self,
@@ -140,11 +156,12 @@ impl Witness {
         name: Option<&str>,
         line: &FaultyLine<'_>,
     ) -> Result<(), AllocError> {
-        let explanation = explain_line(alloc, line.bytes, line.fault, self.numbers)?;
-        let _ = self.help.set(Box::new(alloc, help_of(alloc, &explanation, self.cutting)?)?);
         if !self.is_asked {
-            return Ok(());
+            let help = self.help_with(alloc, line)?;
+            return self.keep_help(alloc, help);
         }
+        let explanation = explain_line(alloc, line.bytes, line.fault, self.numbers)?;
+        self.keep_help(alloc, help_of(&explanation, self.cutting))?;
         let text = self.text_of(alloc, line, &explanation)?;
         if let Some(place) = self.place() {
             let _ = place.set(Box::new(alloc, behind_name(alloc, name, text)?)?);

@@ -13,7 +13,7 @@ use crate::ends::Sink;
 use crate::fault::RunFault;
 use crate::job::Job;
 use crate::stream::Passed;
-use crate::telling::{faulty_in, tell_gate};
+use crate::telling::tell_gate;
 use crate::writing::{hand_out, has_bytes};
 use jp_answer::{Answerer, Gate, Outcome};
 use jp_buffer::LineRef;
@@ -91,6 +91,6 @@ fn answer_to<R: Threads + Sync, G: Gate + Sync, F: Form + Drop + Send>(
     // One for these lines alone: what it keeps of a long line is let go with it.
     let mut answerer = Answerer::new(job.crew.alloc);
     let answer = answerer.answer_lines::<R, G, F>(&job.crew, &asked, lines)?;
-    tell_gate(&job.crew, asked.policy.numbers, lines, faulty_in(&answer));
+    tell_gate(&job.crew, asked.policy.numbers, lines, &answer);
     Ok(answer)
 }

@@ -7,6 +7,8 @@ ghost use Rattle.std.specs.Io.{ReadsAtMost, WritesAtMost};
 ghost use Rattle.jp_run.specs.Begun.{Begun, OneMore};
 ghost use Rattle.jp_run.specs.Counts.{counted, given_after};
 
+use std::alloc::{AllocError, Global};
+
 /// A call that failed, for whatever reason.
 #[derive(Clone, Copy, Debug, PartialEq, Eq)]
 pub struct Broken;
@@ -119,5 +121,11 @@ pub trait Sink {
     /// no; no clause speaks of it.
     fn lost_reader(&self) -> bool {
         false
+    }
+
+    /// Why a call has failed, in the system's words; none where that is not known. No clause speaks of it.
+    /// `AllocError` if a growth was refused.
+    fn reason(&self, _alloc: Global) -> Result<Option<String>, AllocError> {
+        Ok(None)
     }
 }

@@ -12,7 +12,7 @@ use crate::job::Job;
 use crate::limits::WINDOW_BYTES;
 use crate::settling::answer_come;
 use crate::stream::Stream;
-use crate::telling::{faulty_in, tell_waiting};
+use crate::telling::tell_waiting;
 use crate::writing::{hand_out, has_bytes};
 use jp_answer::{Answerer, Gate, Outcome, Queue, Sent};
 use jp_output::Form;
@@ -166,7 +166,7 @@ fn write_answer<R: Threads + Sync, K: Sink, G: Gate + Sync, F: Form + Drop + Sen
         result }
 {
     let lines = &front.block.task.lines;
-    tell_waiting(&job.crew, job.settings.numbers, lines, faulty_in(answer));
+    tell_waiting(&job.crew, job.settings.numbers, lines, answer);
     hand_out(sink, answer)?;
     stream.answered.lines += lines.len() as u64;
     stream.answered.faulty += answer.faulty;

@@ -32,6 +32,7 @@ pub use answers::{answer, answer_all};
 pub use cutting::Cutting;
 pub use ends::{Broken, Sink, Source, Supply};
 pub use fault::RunFault;
+pub use jp_answer::{DocStop, Gate, OpenGate};
 pub use outcome::{Answer, Whole};
 pub use output::Output;
 pub use prepared::Prepared;

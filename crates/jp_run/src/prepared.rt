@@ -61,6 +61,20 @@ impl Prepared {
         Ok(Prepared { plan, filter })
     }
 
+    /// The plan of the query. It takes no memory.
+    pub fn plan(&self) -> &Plan
+        ensures { planned_query result.now ≡ (prepared_query self.now).query }
+    {
+        &self.plan
+    }
+
+    /// The plan of the filter, if there is one. It takes no memory.
+    pub fn filter(&self) -> Option<&FilterPlan>
+        ensures { option_map (λ filter. planned_filter filter.now) result ≡ (prepared_query self.now).filter }
+    {
+        self.filter.as_ref()
+    }
+
     /// Runs what is prepared over all documents of the source, as [`run`](crate::run) does where the texts
     /// are those that it was prepared of: by these settings, but for their filter. Neither end has failed
     /// before, and the counts of the source are at most 2^62.

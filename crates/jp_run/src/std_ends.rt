@@ -3,7 +3,8 @@
 ghost use Rattle.std.specs.Prelude.{◌≡◌, None, true, false};
 
 use crate::ends::{Broken, Sink, Source, Supply};
-use std::io::{ErrorKind, Read, Write};
+use std::alloc::{AllocError, Global};
+use std::io::{Error, ErrorKind, Read, Write};
 
 /// A source over a reader of std. Each error of a read, of whatever kind, is a failure.
 #[derive(Drop)]
@@ -122,7 +123,8 @@ pub struct FromWriter<W> {
     writer: W,
     failed: bool,
     flushed: bool,
-    lost_reader: bool,
+    /// The error of the system, where that is why it has failed.
+    error: Option<Error>,
 }
 
 impl<W: Write> FromWriter<W> {
@@ -135,7 +137,7 @@ impl<W: Write> FromWriter<W> {
             writer,
             failed: false,
             flushed: true,
-            lost_reader: false,
+            error: None,
         }
     }
 }
@@ -159,7 +161,7 @@ impl<W: Write> Sink for FromWriter<W> {
             }
             Err(error) => {
                 self.failed = true;
-                self.lost_reader = error.kind() == ErrorKind::BrokenPipe;
+                self.error = Some(error);
                 Err(Broken)
             }
         }
@@ -173,7 +175,7 @@ impl<W: Write> Sink for FromWriter<W> {
             }
             Err(error) => {
                 self.failed = true;
-                self.lost_reader = error.kind() == ErrorKind::BrokenPipe;
+                self.error = Some(error);
                 Err(Broken)
             }
         }
@@ -184,6 +186,16 @@ impl<W: Write> Sink for FromWriter<W> {
     }
 
     fn lost_reader(&self) -> bool {
-        self.lost_reader
+        match &self.error {
+            Some(error) => error.kind() == ErrorKind::BrokenPipe,
+            None => false,
+        }
+    }
+
+    fn reason(&self, alloc: Global) -> Result<Option<String>, AllocError> {
+        match &self.error {
+            Some(error) => Ok(Some(format!(in alloc; "{error}")?)),
+            None => Ok(None),
+        }
     }
 }

@@ -41,10 +41,12 @@ pub(crate) fn turn<R: Threads + Sync, S: Source<K>, K: Sink, G: Gate + Sync, F: 
     }
 }
 
-/// Whether workers are worth it: where many bytes wait, or many lines. More than a batch are no block.
+/// Whether workers are worth it: where a line is there to be answered, and many bytes wait, or many lines.
+/// More than a batch are no block.
 fn has_much(settings: &Settings<'_>, stream: &Stream) -> bool {
     let lines = stream.buffer.len() as u64;
-    lines <= settings.batch
+    0 < lines
+        && lines <= settings.batch
         && (stream.come >= MANY_BYTES || lines >= MANY_LINES.max(settings.batch / 2))
 }
 
