@@ -82,8 +82,8 @@ impl<'r, R: Files + Input + Wait> SystemInputs<'r, R> {
         }
     }
 
-    /// A file that was opened, from which nothing was read. What it is is asked of itself: by its name another
-    /// might be found.
+    /// A file that was opened, from which nothing was read. What it is is asked of itself: by its name
+    /// another might be found.
     fn over_file(&self, file: R::File) -> SourceOf<'r, R>
         ensures unread { ⟦<SourceOf<'r, R> as Supply>⟧.reads result ≡ 0 }
         ensures ungiven { ⟦<SourceOf<'r, R> as Supply>⟧.given result ≡ 0 }

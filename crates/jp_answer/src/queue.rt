@@ -144,8 +144,8 @@ impl<'r, 'q, F: Form + Drop> Queue<'r, 'q, F> {
 
 impl<'r, 'q, F: Form + Drop + Send> Queue<'r, 'q, F> {
     /// Looks for the answer to the front block, 20,000 times at most, and once more for each eight bytes of
-    /// it: a large block that a worker has begun is waited for. As long as there is a block that no worker has
-    /// taken this thread answers it meanwhile. No clause says whether the answer is there then.
+    /// it: a large block that a worker has begun is waited for. As long as there is a block that no worker
+    /// has taken this thread answers it meanwhile. No clause says whether the answer is there then.
     pub fn await_front<R: Threads + Sync, G: Gate>(&mut self, crew: &Crew<R, G>)
         ensures asked { self.new.asked ≡ self.old.asked }
         ensures sent { self.new.sent ≡ self.old.sent }

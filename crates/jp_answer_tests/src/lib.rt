@@ -1,5 +1,5 @@
-//! Tests of the blocks, the ring and the queue of `jp_answer`: each call on one thread, and what no clause says,
-//! that workers answer the blocks that are handed out.
+//! Tests of the blocks, the ring and the queue of `jp_answer`: each call on one thread, and what no clause
+//! says, that workers answer the blocks that are handed out.
 #![tactic(auto)]
 
 #[cfg(test)]

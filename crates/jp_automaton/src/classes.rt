@@ -90,7 +90,8 @@ fn are_listed(categories: &[Element], element: &Element) -> bool
 
 /// Whether the two are the same category, and both are negated or none is.
 fn is_same(one: &Element, other: &Element) -> bool
-    ensures { IsTrue result → (c : ℕ) → in_element c (element_of one.now) ≡ in_element c (element_of other.now) }
+    ensures { IsTrue result → (c : ℕ)
+        → in_element c (element_of one.now) ≡ in_element c (element_of other.now) }
 {
     match (one, other) {
         (

@@ -1,5 +1,5 @@
--- What is known on the quiet of reading a text as a pattern is known: a text has at most one tree, and whether
--- a text is in a language is decided.
+-- What is known on the quiet of reading a text as a pattern is known: a text has at most one tree, and
+-- whether a text is in a language is decided.
 use Rattle.std.proofs.Math.Logic.{∥∥₁_elim}
 use Rattle.std.proofs.Props.{props}
 use Rattle.std.proofs.Common.{◌≡◌, Option, Some, None, sym, subst, inl, inr}

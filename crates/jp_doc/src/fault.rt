@@ -12,7 +12,7 @@ pub enum DocFault {
     /// The line has more than 268,435,456 bytes.
     LongLine,
     /// The JSON crate reads no value from the whole line: it is no JSON text (RFC 8259), or nested more
-    /// than 127 deep.
+    /// than 127 deep; where numbers have to be whole, a number beyond the largest float too.
     Unreadable,
     /// Some number is no signed or unsigned whole number of 64 bits.
     NotWhole,

@@ -51,7 +51,8 @@ pub fn document_help(reason: &LineReason) -> Option<&'static str> {
 }
 
 /// What helps with a line of that fault that was read by these numbers, in the words of `line_help`; nothing
-/// where it is not known. An unreadable line is scanned for where it goes wrong, and no other one is looked at.
+/// where it is not known. An unreadable line is scanned for where it goes wrong, and no other one is looked
+/// at.
 ///
 /// # Errors
 ///

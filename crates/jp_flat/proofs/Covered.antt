@@ -102,7 +102,8 @@ more_items : (j : text.Json) (js : text.Items) (k : List ℕ) (ns : List (List �
 more_items j js k ns r (inl h) = inl (inr h.0, h.1)
 more_items j js k ns r (inr h) = inr h
 
-more_members : (l : List ℕ) (j : text.Json) (ms : text.Members) (k : List ℕ) (ns : List (List ℕ)) (r : List Token)
+more_members : (l : List ℕ) (j : text.Json) (ms : text.Members) (k : List ℕ) (ns : List (List ℕ))
+    (r : List Token)
     → Told (MembersHave ms) k ns r → Told (MembersHave (text.member l j ms)) k ns r
 more_members l j ms k ns r (inl h) = inl (inr h.0, h.1)
 more_members l j ms k ns r (inr h) = inr h

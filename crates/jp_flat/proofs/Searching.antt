@@ -1,6 +1,6 @@
 -- A search counts at most one bracket more with each node.
-use Rattle.std.proofs.Common.{◌≡◌, ℕ, zero, suc, ◌+◌, ◌≤◌, Bool, true, false, List, [], ◌∷◌, Option, Some, None}
-use Rattle.std.proofs.Common.{IfSome, sym, subst, arith, if◌then◌else◌, bytes_eq}
+use Rattle.std.proofs.Common.{◌≡◌, ℕ, zero, suc, ◌+◌, ◌≤◌, Bool, true, false, List, [], ◌∷◌, Option, Some}
+use Rattle.std.proofs.Common.{None, IfSome, sym, subst, arith, if◌then◌else◌, bytes_eq}
 use Rattle.json.specs.Token.{Token}
 use Rattle.jp_flat.specs.inner.Decimals.{Place, place, opened, outer, closed, named, counted, after}
 use Rattle.jp_flat.specs.inner.Plain.{is_whole_text}

@@ -1,6 +1,7 @@
 -- What a pass over the nodes of a line tells of its faults, where numbers have to be whole.
 use Rattle.std.proofs.Common.{◌≡◌, ◌≢◌, ℕ, ◌<◌, ◌≤◌, Bool, true, false, ◌&&◌, ◌||◌, ◌==◌, List, [], ◌++◌}
-use Rattle.std.proofs.Common.{length, Option, Some, None, option_map, option_and_then, is_some, IsSome, Result, Err}
+use Rattle.std.proofs.Common.{length, Option, Some, None, option_map, option_and_then, is_some, IsSome}
+use Rattle.std.proofs.Common.{Result, Err}
 use Rattle.std.proofs.Common.{refl, sym, ap, ◌∙◌, subst, arith, if◌then◌else◌, append_assoc, append-nil, drop}
 use Rattle.std.proofs.Common.{lt-ltb, le-ltb}
 use Rattle.std.proofs.lemmas.Str.{is_utf8-from_IsUtf8, IsUtf8-from_is_utf8}
@@ -133,7 +134,8 @@ mutual
 crate_reads : (line : List ℕ) → IsUtf8 line → length line ≤ max_line
     → reading line ≡ document_from (option_and_then of_json (tree_of line))
 crate_reads line u short =
-    ap (λ b. if b then Err LongLine else document_from (crate_reading line)) (le-ltb max_line (length line) short)
+    ap (λ b. if b then Err LongLine else document_from (crate_reading line))
+        (le-ltb max_line (length line) short)
     ∙ ap (λ b. document_from (if b then read line else None)) (is_utf8-from_IsUtf8 line u)
 
 no_tree_reads : (line : List ℕ) → IsUtf8 line → length line ≤ max_line → tree_of line ≡ None
@@ -172,7 +174,8 @@ unread_if (Some d) line j u short e made none = absurd (cc)
 fault_if : (n r h : Bool) (line : List ℕ) (j : text.Json) (f : DocFault) → IsUtf8 line
     → length line ≤ max_line → text.document line ≡ Some j → nests_from 0 (tokens line) ≡ n
     → are_readable (tokens line) ≡ r → holds_decimal (tokens line) ≡ h
-    → ◌≡◌ {A = Option DocFault} (if n && r then (if h then Some NotWhole else None) else Some Unreadable) (Some f)
+    → ◌≡◌ {A = Option DocFault} (if n && r then (if h then Some NotWhole else None) else Some Unreadable)
+        (Some f)
     → (reading line ≡ Err f) × (f ≢ Memory)
 fault_if false r h line j f u short e nests reads holds is = (
   no_tree_reads line u short (tree_is line ∙ ap (λ b. if b then text.document line else None) nests)
@@ -237,7 +240,8 @@ no_text_if : (b : Bool) (line : List ℕ) → is_utf8 line ≡ b → (IsUtf8 lin
     → reading line ≡ Err Unreadable
 no_text_if true line e none short = absurd (none (IsUtf8-from_is_utf8 line e))
 no_text_if false line e none short =
-    ap (λ b. if b then Err LongLine else document_from (crate_reading line)) (le-ltb max_line (length line) short)
+    ap (λ b. if b then Err LongLine else document_from (crate_reading line))
+        (le-ltb max_line (length line) short)
     ∙ ap (λ b. document_from (if b then read line else None)) e
 
 pub no_text_line : (line : List ℕ) → (IsUtf8 line → ⊥) → length line ≤ max_line
@@ -247,6 +251,7 @@ no_text_line line none short = unreadable line (no_text_if (is_utf8 line) line r
 -- of one that is too long
 pub long_line : (line : List ℕ) → max_line < length line → (reading line ≡ Err LongLine) × (LongLine ≢ Memory)
 long_line line long = (
-  ap (λ b. if b then Err LongLine else document_from (crate_reading line)) (lt-ltb max_line (length line) long),
+  ap (λ b. if b then Err LongLine else document_from (crate_reading line))
+      (lt-ltb max_line (length line) long),
   λ m. cc,
 )

@@ -1,5 +1,5 @@
 -- The value of a flat document, and what a line is read as by the grammar alone.
-use Rattle.std.specs.Prelude.{ℕ, nat_lt, List, length, Result, Ok, Err, if◌then◌else◌}
+use Rattle.std.specs.Prelude.{ℕ, nat_lt, List, length, Result, Err, if◌then◌else◌}
 use Rattle.jp_doc.specs.Json.{Json}
 use Rattle.jp_doc.specs.Reading.{max_line}
 use Rattle.jp_doc.specs.ReadingIn.{tree_reading}
@@ -16,11 +16,6 @@ document_tokens d = tokens_at d.text.now d.nodes.now
 
 abbrev pub document_value : FlatDocument → Json
 document_value d = value_at (document_tokens d)
-
--- a document's value, or the fault
-abbrev pub answer_of : Result FlatDocument DocFault → Result Json DocFault
-answer_of (Ok d) = Ok (document_value d)
-answer_of (Err f) = Err f
 
 -- what a line of any length is read as by the grammar alone
 abbrev pub grammar_reading : List ℕ → Result Json DocFault

@@ -5,7 +5,8 @@
 
 ghost use Rattle.std.specs.Prelude.{◌≡◌, ◌<◌, map, IfOk, IfSome, OnOk};
 ghost use Rattle.json.specs.Tape.{node_token};
-ghost use Rattle.jp_flat.specs.inner.Decimals.{place_of, opened, closed, named, counted, after, holds_decimal};
+ghost use Rattle.jp_flat.specs.inner.Decimals.{place_of, opened, closed, named, counted, after};
+ghost use Rattle.jp_flat.specs.inner.Decimals.{holds_decimal};
 
 use crate::digits::is_whole_text;
 use json::Node;

@@ -12,11 +12,9 @@ mod limits;
 mod line_reader;
 mod lines;
 mod nodes;
-mod reader;
 mod value;
 
 pub use document::FlatDocument;
 pub use limits::MEMBERS_AT_FIRST;
 pub use line_reader::{LineDocument, LineReader};
-pub use reader::FlatReader;
 pub use value::{FlatItems, FlatKind, FlatMember, FlatMembers, FlatNumber, FlatValue};

@@ -21,7 +21,8 @@ pub enum LineDocument<'d> {
 }
 
 /// Reads lines by the numbers that they may have, each flat or as a tree, in buffers that are kept from line
-/// to line as those of a `FlatReader` are.
+/// to line: where no line before was as long, they grow, and else a line that is read flat takes no memory.
+/// After a line of over 1,000,000 bytes they are let go once the next line is read.
 #[derive(Drop)]
 pub struct LineReader {
     alloc: Global,
@@ -41,9 +42,9 @@ impl LineReader {
     /// first of `DocFault` that applies, and never `Memory`.
     ///
     /// It is read flat, which tells its fault too. It is read as a tree only where that leaves it open: with
-    /// whole numbers where it has more nodes than are read flat, or a number that is not whole and that a later
-    /// member covers, and with decimals where the grammar of JSON finds it over a limit, since the tree of
-    /// whole numbers may have a value still, which counts.
+    /// whole numbers where it has more nodes than are read flat, or a number that is not whole and that a
+    /// later member covers, and with decimals where the grammar of JSON finds it over a limit, since the tree
+    /// of whole numbers may have a value still, which counts.
     ///
     /// `AllocError` if a growth was refused. Then the next line may be read as if there had been none.
     pub fn read<'d>(

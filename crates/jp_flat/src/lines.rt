@@ -153,8 +153,8 @@ fn lay_decimal(text: &str, room: &mut Room) -> Result<Option<DocFault>, AllocErr
     }
 }
 
-/// What the flat reading of a line says of it, where numbers have to be whole. The nodes of one that is read so
-/// fill the room.
+/// What the flat reading of a line says of it, where numbers have to be whole. The nodes of one that is read
+/// so fill the room.
 ///
 /// `AllocError` if a growth was refused.
 pub(crate) fn fill(line: &[u8], room: &mut Room) -> Result<FlatAnswer, AllocError>
@@ -174,8 +174,8 @@ pub(crate) fn fill(line: &[u8], room: &mut Room) -> Result<FlatAnswer, AllocErro
     lay_plain(text, room)
 }
 
-/// Fills the room with the nodes of a line and tells where their texts stand, where numbers need not be whole,
-/// or tells the fault of the line.
+/// Fills the room with the nodes of a line and tells where their texts stand, where numbers need not be
+/// whole, or tells the fault of the line.
 ///
 /// `AllocError` if a growth was refused.
 pub(crate) fn fill_decimal(

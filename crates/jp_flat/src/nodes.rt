@@ -137,8 +137,8 @@ fn is_node_readable(node: &Node<'_>) -> bool
     }
 }
 
-/// Whether the JSON crate reads what the nodes write: it refuses numbers that are too large, and more than 127
-/// brackets that are open at once.
+/// Whether the JSON crate reads what the nodes write: it refuses numbers that are too large, and more than
+/// 127 brackets that are open at once.
 pub(crate) fn are_readable(nodes: &[Node<'_>]) -> bool
     ensures { result ≡ (nests_from 0 (map node_token nodes.now) && are_readable (map node_token nodes.now)) }
 {

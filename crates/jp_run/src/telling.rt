@@ -18,8 +18,8 @@ pub(crate) fn tell_gate<R, G: Gate>(
     }
 }
 
-/// Tells the gate the faulty line at which an answer ends. The answer says what is wrong with it, so it is not
-/// read again.
+/// Tells the gate the faulty line at which an answer ends. The answer says what is wrong with it, so it is
+/// not read again.
 fn tell_stop<R, G: Gate>(crew: &Crew<R, G>, lines: &[LineRef<'_>], stop: &DocStop) {
     if !crew.gate.wants_faulty() {
         return;
@@ -53,8 +53,8 @@ fn tell_passed<R, G: Gate>(
     }
 }
 
-/// The same as `tell_gate` of lines that are still in their buffer. Where memory for a list of them is refused
-/// nothing is told.
+/// The same as `tell_gate` of lines that are still in their buffer. Where memory for a list of them is
+/// refused nothing is told.
 pub(crate) fn tell_waiting<R, G: Gate>(
     crew: &Crew<R, G>,
     numbers: Numbers,

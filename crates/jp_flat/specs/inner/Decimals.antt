@@ -1,5 +1,5 @@
--- Whether tokens hold a number that is not whole, and that no later member of its name covers: a working file,
--- which nobody has to believe.
+-- Whether tokens hold a number that is not whole, and that no later member of its name covers: a working
+-- file, which nobody has to believe.
 use Rattle.std.specs.Prelude.{ℕ, zero, suc, Bool, ◌&&◌, ◌||◌, ◌==◌, List, [], ◌∷◌, drop, slice_index, map}
 use Rattle.std.specs.Prelude.{reverse, true, false, Option, Some, None, if◌then◌else◌}
 use Rattle.std.specs.Borrow.{Bor}

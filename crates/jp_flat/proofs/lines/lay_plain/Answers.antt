@@ -14,7 +14,8 @@ returns-then-not-are_plain c =
     let line = c.args.text.now in
     let read = c.in-Ok.ensures.ok in
     IfOk-weaker c.whole_answer.result _ _ (λ a e. answer_of_nodes line _ a c.utf8.text read.1 c.requires (e
-    ∙ ap (λ ts. told (whole_fault ts)) (c.nodes-then-not-are_plain.ensures.tokens ∙ read.0))) c.whole_answer.ensures
+    ∙ ap (λ ts. told (whole_fault ts)) (c.nodes-then-not-are_plain.ensures.tokens ∙ read.0)))
+    c.whole_answer.ensures
 
 pub returns-in_ok-lay-in-Ok : goal.returns-in_ok-lay-in-Ok
 returns-in_ok-lay-in-Ok c =

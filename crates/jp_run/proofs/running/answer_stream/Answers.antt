@@ -75,8 +75,8 @@ returns-in-End g c =
             c.answer_rest.result rest.lines rest.documents;
         passed = faulty_ok _ _ _ _ _ _ (g.K.Sink.contents c.answer_rest.new.sink) _ done end.1
             c.answer_rest.result rest.passed;
-        none_passed = none_ok settings.on_fault settings.numbers (documents_in settings.cutting done.front) _ _
-            c.answer_rest.result done.faulty rest.passed;
+        none_passed = none_ok settings.on_fault settings.numbers (documents_in settings.cutting done.front)
+            _ _ c.answer_rest.result done.faulty rest.passed;
         wrote = wrote_ok _ _ _ _ _ _ (g.K.Sink.contents c.answer_rest.new.sink) _ done end.1
             c.answer_rest.result rest.wrote;
         few_lines = search rules;
