@@ -135,7 +135,7 @@ crate_reads : (line : List ℕ) → IsUtf8 line → length line ≤ max_line
     → reading line ≡ document_from (option_and_then of_json (tree_of line))
 crate_reads line u short =
     ap (λ b. if b then Err LongLine else document_from (crate_reading line))
-        (le-ltb max_line (length line) short)
+    (le-ltb max_line (length line) short)
     ∙ ap (λ b. document_from (if b then read line else None)) (is_utf8-from_IsUtf8 line u)
 
 no_tree_reads : (line : List ℕ) → IsUtf8 line → length line ≤ max_line → tree_of line ≡ None
@@ -175,7 +175,7 @@ fault_if : (n r h : Bool) (line : List ℕ) (j : text.Json) (f : DocFault) → I
     → length line ≤ max_line → text.document line ≡ Some j → nests_from 0 (tokens line) ≡ n
     → are_readable (tokens line) ≡ r → holds_decimal (tokens line) ≡ h
     → ◌≡◌ {A = Option DocFault} (if n && r then (if h then Some NotWhole else None) else Some Unreadable)
-        (Some f)
+    (Some f)
     → (reading line ≡ Err f) × (f ≢ Memory)
 fault_if false r h line j f u short e nests reads holds is = (
   no_tree_reads line u short (tree_is line ∙ ap (λ b. if b then text.document line else None) nests)
@@ -241,7 +241,7 @@ no_text_if : (b : Bool) (line : List ℕ) → is_utf8 line ≡ b → (IsUtf8 lin
 no_text_if true line e none short = absurd (none (IsUtf8-from_is_utf8 line e))
 no_text_if false line e none short =
     ap (λ b. if b then Err LongLine else document_from (crate_reading line))
-        (le-ltb max_line (length line) short)
+    (le-ltb max_line (length line) short)
     ∙ ap (λ b. document_from (if b then read line else None)) e
 
 pub no_text_line : (line : List ℕ) → (IsUtf8 line → ⊥) → length line ≤ max_line

@@ -13,7 +13,7 @@ loop-node-preserved c =
     let place = place_of c.loop-node.search in (
       ap (search (map node_token (drop (i + 1) nodes))) c.in_ok-pass.ensures
           ∙ sym (at_drop_more (λ ns. search (map node_token ns) place) nodes i (Object 0)
-              c.loop-node-test.true)
+          c.loop-node-test.true)
           ∙ c.loop-node.invariant.0,
       one_more _ i place _ _ _ c.loop-node.invariant.1 c.in_ok-pass.ensures,
     )

@@ -14,7 +14,7 @@ returns c = λ ns e.
     let more = buffered c.other.inside.lines in
     let is : c.args.self.now ≡ (head, number, mine) = search rules in
     let other : c.args.other ≡ (c.other.inside.writer.front.0, c.other.inside.writer.front.1, more)
-        = search rules in
+    = search rules in
     on_ok_weaker c.append.result (λ appended.
     ap (λ bytes. (head, number, bytes)) appended
     ∙ lines_append head number mine (c.other.inside.writer.front.0, c.other.inside.writer.front.1, more) ns
