@@ -13,13 +13,13 @@ _jp() {
             mapfile -t COMPREPLY < <(compgen -W 'nodes values texts raw lines' -- "$word")
             return
             ;;
-        --where | --workers | --piece | --batch)
+        --where | --workers | --piece | --batch | --first)
             compopt +o default
             return
             ;;
     esac
     if [[ $word != -* ]]; then return; fi
-    local options='--output --where --workers --piece --batch --check --decimals --keep-going'
+    local options='--output --where --workers --piece --batch --first --check --decimals --keep-going'
     options+=' --explain --exit-status --documents --with-filename --help --version'
     mapfile -t COMPREPLY < <(compgen -W "$options" -- "$word")
 }

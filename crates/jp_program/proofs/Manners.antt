@@ -13,7 +13,7 @@ use Rattle.jp_answer.specs.declared.on_fault.OnFault.{OnFault}
 use Rattle.jp_number.specs.declared.numbers.Numbers.{Numbers}
 use Rattle.jp_run.specs.AskedTexts.{AreAcceptedIn, AskedTexts}
 use Rattle.jp_run.specs.Answered.{IsAnswerBy, head_behind}
-use Rattle.jp_run.specs.Cutting.{documents_in, part_count}
+use Rattle.jp_run.specs.Cutting.{Numbering, documents_in, last_number}
 use Rattle.jp_run.specs.Handed.{IsHandedBy}
 use Rattle.jp_run.specs.Limits.{max_lines, max_reads}
 use Rattle.jp_run.specs.Forms.{form_of}
@@ -22,11 +22,18 @@ use Rattle.jp_run.specs.Written.{AppendsFront}
 use Rattle.jp_run.specs.declared.cutting.Cutting.{Cutting}
 use Rattle.jp_run.specs.declared.output.Output.{Output}
 
--- a manner is one by what it is made of
-pub manner_so : (c d : Cutting) (o p : Output) (h k : List ℕ) (a b : Numbers) (x y : OnFault) → c ≡ d → o ≡ p
+-- a numbering is one by what it is made of
+pub numbering_so : (c d : Cutting) (m n : ℕ) → c ≡ d → m ≡ n
+    → ◌≡◌ {A = Numbering} (record { cutting = c; before = m }) (record { cutting = d; before = n })
+numbering_so c d m n cutting before =
+    ap (λ (z : Cutting). record { cutting = z; before = m }) cutting
+    ∙ ap (λ (z : ℕ). record { cutting = d; before = z }) before
+
+-- and so is a manner
+pub manner_so : (c d : Numbering) (o p : Output) (h k : List ℕ) (a b : Numbers) (x y : OnFault) → c ≡ d → o ≡ p
     → h ≡ k → a ≡ b → x ≡ y → manner c (form_of o h) (policy a x) ≡ manner d (form_of p k) (policy b y)
-manner_so c d o p h k a b x y cutting output head numbers on_fault =
-    ap (λ (z : Cutting). manner z (form_of o h) (policy a x)) cutting
+manner_so c d o p h k a b x y numbering output head numbers on_fault =
+    ap (λ (z : Numbering). manner z (form_of o h) (policy a x)) numbering
     ∙ ap (λ (z : Output). manner d (form_of z h) (policy a x)) output
     ∙ ap (λ (z : List ℕ). manner d (form_of p z) (policy a x)) head
     ∙ ap (λ (z : Numbers). manner d (form_of p k) (policy z x)) numbers
@@ -67,8 +74,8 @@ FrontBy m asked input old new = IfSome input (λ bytes. (a : Answer) → IsAnswe
 abbrev pub CutBy : Manner → AskedTexts → Bool → Option (List ℕ) → Option (List ℕ) → Option (List ℕ)
     → Option (List ℕ) → Type 0
 CutBy m asked failed input rest old new = (failed ≡ true) × (bytes : List ℕ) × Consumes input rest bytes
-    × IsHandedBy m asked (documents_in m.cutting bytes) None old new
+    × IsHandedBy m asked (documents_in m.numbering bytes) None old new
 
 abbrev pub LimitBy : Manner → ℕ → ℕ → Option (List ℕ) → Option (List ℕ) → Type 0
 LimitBy m reads reads_new input rest = (reads_new ≡ reads + max_reads)
-    ⊎ ((bytes : List ℕ) × Consumes input rest bytes × (max_lines < part_count m.cutting bytes))
+    ⊎ ((bytes : List ℕ) × Consumes input rest bytes × (max_lines < last_number m.numbering bytes))

@@ -1,5 +1,5 @@
 -- Words want one thing, and what is asked for is that.
-use Rattle.std.proofs.Common.{◌≡◌, ◌∙◌, ℕ, inl, inr, Bool, true, false, List, [], ◌∷◌, Option, Some, None}
+use Rattle.std.proofs.Common.{◌≡◌, ◌∙◌, ℕ, ◌+◌, inl, inr, Bool, true, false, List, [], ◌∷◌, Option, Some, None}
 use Rattle.std.proofs.Common.{refl, sym, Result, Ok, Err, IsErrAnd, ap, subst, length, unwrap_or, codes}
 use Rattle.std.proofs.Common.{arith, ◌==◌, ◌||◌, if◌then◌else◌}
 use Rattle.std.specs.Prelude.{nat_lt}
@@ -25,7 +25,7 @@ use Rattle.jp_run.specs.declared.output.Output.TheVariants.{Nodes, Values, Texts
 use Rattle.jp_program.specs.CommandLine.{said, refusals, AsksToShow}
 use Rattle.jp_program.specs.Outcome.{IsRefusedWish}
 use Rattle.jp_program.specs.Wanted.{Wanted, SaysNames, SaysNumber, cuts_documents, flag_text, has_decimals}
-use Rattle.jp_program.specs.Wanted.{Wants, WantsCheck, IsWrong, keeps_going, output_text}
+use Rattle.jp_program.specs.Wanted.{SaysFirst, Wants, WantsCheck, IsWrong, keeps_going, output_text}
 use Rattle.jp_program.specs.inner.Invocation.{IsAsked, IsNotAsked, wanted_of}
 use Rattle.jp_program.specs.declared.command_line.Invocation.{Invocation}
 use Rattle.jp_program.specs.declared.command_line.Invocation.TheVariants.{Query}
@@ -52,6 +52,9 @@ number_same : (name : Text) (rows : List Row) (m n : ℕ) → SaysNumber name ro
     → m ≡ n
 number_same name rows m n a b = sym a.3
     ∙ ap (λ t. digits_value 10 (without_leading_plus t)) (same_some a.0 b.0 (sym a.1 ∙ b.1)) ∙ b.3
+
+before_same : (rows : List Row) (m n : ℕ) → SaysFirst rows m → SaysFirst rows n → m ≡ n
+before_same rows m n a b = omega (arith, number_same (codes "first") rows (m + 1) (n + 1) a.0 b.0)
 
 -- the option and the files say whether lines name theirs
 names_same : (rows : List Row) (xs ys : List Text) (m n : Bool) → SaysNames rows xs m → SaysNames rows ys n
@@ -147,6 +150,7 @@ one_wish words v w a b =
       workers = v.workers;
       piece = v.piece;
       batch = v.batch;
+      before = v.before;
     })
     (numbers_same v.numbers w.numbers (sym a.1.numbers ∙ b.1.numbers))
     ∙ ap (λ (k : OnFault). record w {
@@ -156,6 +160,7 @@ one_wish words v w a b =
       workers = v.workers;
       piece = v.piece;
       batch = v.batch;
+      before = v.before;
     })
     (on_fault_same v.on_fault w.on_fault (sym a.1.on_fault ∙ b.1.on_fault))
     ∙ ap (λ (x : Bool). record w {
@@ -164,16 +169,25 @@ one_wish words v w a b =
       workers = v.workers;
       piece = v.piece;
       batch = v.batch;
+      before = v.before;
     })
     (flag_same v.explain w.explain (sym a.1.explain ∙ b.1.explain))
-    ∙ ap (λ (e : Bool). record w { exit_status = e; workers = v.workers; piece = v.piece; batch = v.batch })
+    ∙ ap (λ (e : Bool). record w {
+      exit_status = e;
+      workers = v.workers;
+      piece = v.piece;
+      batch = v.batch;
+      before = v.before;
+    })
     (flag_same v.exit_status w.exit_status (sym a.1.exit_status ∙ b.1.exit_status))
-    ∙ ap (λ (n : ℕ). record w { workers = n; piece = v.piece; batch = v.batch })
+    ∙ ap (λ (n : ℕ). record w { workers = n; piece = v.piece; batch = v.batch; before = v.before })
     (number_same (codes "workers") (said words) v.workers w.workers a.1.settings.0 b.1.settings.0)
-    ∙ ap (λ (n : ℕ). record w { piece = n; batch = v.batch })
+    ∙ ap (λ (n : ℕ). record w { piece = n; batch = v.batch; before = v.before })
     (number_same (codes "piece") (said words) v.piece w.piece a.1.settings.1 b.1.settings.1)
-    ∙ ap (λ (n : ℕ). record w { batch = n })
+    ∙ ap (λ (n : ℕ). record w { batch = n; before = v.before })
     (number_same (codes "batch") (said words) v.batch w.batch a.1.settings.2 b.1.settings.2)
+    ∙ ap (λ (n : ℕ). record w { before = n })
+    (before_same (said words) v.before w.before a.1.settings.4 b.1.settings.4)
 
 -- words that want something ask to be shown nothing, and are not wrong
 

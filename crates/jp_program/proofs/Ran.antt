@@ -23,7 +23,7 @@ use Rattle.jp_run.specs.Manner.{Manner}
 use Rattle.jp_run.specs.AskedTexts.{AreAcceptedIn, AskedTexts}
 use Rattle.jp_run.specs.Answered.{IsAnswerBy}
 use Rattle.jp_run.specs.Counts.{counted}
-use Rattle.jp_run.specs.Cutting.{documents, documents_in}
+use Rattle.jp_run.specs.Cutting.{Numbering, documents, documents_in}
 use Rattle.jp_run.specs.Handed.{Handed}
 use Rattle.jp_run.specs.Status.{status_of}
 use Rattle.jp_run.specs.declared.cutting.Cutting.{Cutting}
@@ -42,7 +42,7 @@ use Rattle.jp_program.specs.Outcome.{IsTaken, IsAnswered, ArePassed, Passes, IsF
 use Rattle.jp_program.specs.Outcome.{AreFailed, IsWholeOrCut, Left, AreAllReads, AreOpened, AreTooManyLines}
 use Rattle.jp_program.specs.Outcome.{IsRefusedWish, asked_in, ends_run, left_of, manner_for, reads_before}
 use Rattle.jp_program.specs.Outcome.{IsEmptyAnswer, IsKnownEmptyAnswer, AreEmptyAnswers}
-use Rattle.jp_program.specs.Outcome.{AreKnownEmptyAnswers}
+use Rattle.jp_program.specs.Outcome.{AreKnownEmptyAnswers, numbering_in}
 use Rattle.jp_program.specs.Wanted.{Wanted, WantsRun}
 use Rattle.jp_program.specs.declared.command_line.Invocation.{Invocation}
 use Rattle.jp_program.specs.declared.command_line.Invocation.TheVariants.{Query}
@@ -72,7 +72,7 @@ no_memory f two is = let five : status_of f ≡ 5 = ap status_of is in omega (ar
 module _ (w : Wanted) (input : Input) (old new : Option (List ℕ)) where
   pub finished_ok : (r : Result Totals RunFault) → OnOk r (IsToldIn w.on_fault w None input old new)
       → IfOk r (λ totals. IfSome input.1 (λ bytes. totals.faulty
-      ≡ passed_in (policy w.numbers w.on_fault) (documents w.cutting bytes)))
+      ≡ passed_in (policy w.numbers w.on_fault) (documents (numbering_in w) bytes)))
       → IfOk r (λ totals. totals.faulty ≡ 0 → IsAnswered w None input old new)
   finished_ok (Ok totals) told faulty = λ e. fine w w.on_fault input old new totals.faulty told faulty e
   finished_ok (Err fault) told faulty = tt
@@ -80,18 +80,22 @@ module _ (w : Wanted) (input : Input) (old new : Option (List ℕ)) where
   pub passes_ok : w.on_fault ≡ KeepGoing → (r : Result Totals RunFault)
       → OnOk r (IsToldIn w.on_fault w None input old new)
       → IfOk r (λ totals. IfSome input.1 (λ bytes. totals.faulty
-      ≡ passed_in (policy w.numbers w.on_fault) (documents w.cutting bytes)))
+      ≡ passed_in (policy w.numbers w.on_fault) (documents (numbering_in w) bytes)))
       → IfOk r (λ totals. (n : ℕ) → Passes w input (old, n) (new, counted n totals.faulty))
   passes_ok is (Ok totals) told faulty = λ n. passes w input old new totals.faulty n
       (subst (λ (g : OnFault). IsToldIn g w None input old new) is told)
       (subst (λ (g : OnFault). IfSome input.1 (λ bytes. totals.faulty
-      ≡ passed_in (policy w.numbers g) (documents w.cutting bytes))) is faulty)
+      ≡ passed_in (policy w.numbers g) (documents (numbering_in w) bytes))) is faulty)
   passes_ok is (Err fault) told faulty = tt
 
 -- of no byte there is no document
-no_documents : (c : Cutting) → documents_in c [] ≡ []
-no_documents Lines = refl
-no_documents Documents = refl
+no_documents_if : (c : Cutting) (before : ℕ)
+    → documents_in (record { cutting = c; before = before }) [] ≡ []
+no_documents_if Lines before = refl
+no_documents_if Documents before = refl
+
+no_documents : (n : Numbering) → documents_in n [] ≡ []
+no_documents n = no_documents_if n.cutting n.before
 
 -- how one run over an input ended, in the words of what was wanted
 module _ (w : Wanted) (e : Left) (input : Input) (old new : Option (List ℕ)) where
@@ -132,7 +136,7 @@ module _ (w : Wanted) (e : Left) (input : Input) (old new : Option (List ℕ)) w
         taken.0,
         taken.1,
         subst (λ l. Handed (manner_for w input.0 w.on_fault) taken.0 l None old new)
-            (sym (no_documents w.cutting))
+            (sym (no_documents (numbering_in w)))
             (subst (λ o. Handed (manner_for w input.0 w.on_fault) taken.0 [] None old o) (sym same)
             (handed_none (manner_for w input.0 w.on_fault) taken.0 old)),
       ),
@@ -410,7 +414,7 @@ one_answer : (going : Manner) (asked : AskedTexts) (input : List ℕ) (a b : Ans
 one_answer going asked input a b h k =
     let same : h.0 ≡ k.0 = one_asked going.policy.numbers asked h.0 k.0 h.1 k.1 in
     sym (h.2 right_tests.0 right_tests.1)
-    ∙ ap (λ q. answer_by going.form going.policy right_tests.0 q (documents going.cutting input)) same
+    ∙ ap (λ q. answer_by going.form going.policy right_tests.0 q (documents going.numbering input)) same
     ∙ k.2 right_tests.0 right_tests.1
 
 module _ (w : Wanted) where

@@ -108,11 +108,11 @@ pub filter_said : (rows : List Row) (o : Option Text) → o ≡ first_of (codes 
 filter_said rows o is r said = ap (option_map chars) (sym is ∙ sym said) ∙ twice r
 
 -- the same sizes are said
-pub sizes_kept : (rows : List Row) (v p b w q d : ℕ) → w ≡ v → q ≡ p → d ≡ b → AreSaid rows v p b
-    → AreSaid rows w q d
-sizes_kept rows v p b w q d same piece batch h =
-    subst (λ n. AreSaid rows n q d) (sym same) (subst (λ n. AreSaid rows v n d) (sym piece)
-    (subst (λ n. AreSaid rows v p n) (sym batch) h))
+pub sizes_kept : (rows : List Row) (v p b f w q d e : ℕ) → w ≡ v → q ≡ p → d ≡ b → e ≡ f
+    → AreSaid rows v p b f → AreSaid rows w q d e
+sizes_kept rows v p b f w q d e same piece batch first h =
+    subst (λ n. AreSaid rows n q d e) (sym same) (subst (λ n. AreSaid rows v n d e) (sym piece)
+    (subst (λ n. AreSaid rows v p n e) (sym batch) (subst (λ n. AreSaid rows v p b n) (sym first) h)))
 
 -- the files are what is said of them
 module _ (rows : List Row) (got : Option (Bor (List (Bor Text))))

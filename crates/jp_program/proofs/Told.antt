@@ -30,7 +30,7 @@ use Rattle.jp_run.specs.declared.fault.RunFault.TheVariants.{Memory, Settings}
 use Rattle.jp_run.specs.Counts.{counted}
 use Rattle.jp_program.specs.Inputs.{Input}
 use Rattle.jp_program.specs.Outcome.{HasFailed, IsAnswered, Passes, IsFront, IsCutShort, IsWhole}
-use Rattle.jp_program.specs.Outcome.{IsRefusedWish, asked_in, form_for, manner_for}
+use Rattle.jp_program.specs.Outcome.{IsRefusedWish, asked_in, form_for, manner_for, numbering_in}
 use Rattle.jp_program.specs.Wanted.{Wanted}
 
 -- what was appended still is, where a flush keeps all
@@ -150,7 +150,7 @@ module _ (w : Wanted) where
 
   pub fine : (going : OnFault) (input : Input) (old new : Option (List ℕ)) (n : ℕ)
       → IsToldIn going w None input old new
-      → IfSome input.1 (λ bytes. n ≡ passed_in (policy w.numbers going) (documents w.cutting bytes))
+      → IfSome input.1 (λ bytes. n ≡ passed_in (policy w.numbers going) (documents (numbering_in w) bytes))
       → n ≡ 0 → IsAnswered w None input old new
   fine going (name, None) old new n h c e = tt
   fine Stop (name, Some bytes) old new n h c e = h
@@ -159,7 +159,7 @@ module _ (w : Wanted) where
     (
       h.1.0,
       h.1.1,
-      λ t right. agree w.numbers (form_for w name) t h.1.0 (documents w.cutting bytes) (sym c ∙ e)
+      λ t right. agree w.numbers (form_for w name) t h.1.0 (documents (numbering_in w) bytes) (sym c ∙ e)
           ∙ h.1.2 t right,
     ),
     h.2,
@@ -168,7 +168,7 @@ module _ (w : Wanted) where
 
   pub passes : (input : Input) (old new : Option (List ℕ)) (n before : ℕ)
       → IsToldIn KeepGoing w None input old new
-      → IfSome input.1 (λ bytes. n ≡ passed_in (policy w.numbers KeepGoing) (documents w.cutting bytes))
+      → IfSome input.1 (λ bytes. n ≡ passed_in (policy w.numbers KeepGoing) (documents (numbering_in w) bytes))
       → Passes w input (old, before) (new, counted before n)
   passes (name, None) old new n before h c = tt
   passes (name, Some bytes) old new n before h c = (

@@ -61,8 +61,9 @@ abbrev pub with_filter : App → App
 with_filter a = with_rule a filter_rule
 
 abbrev pub with_numbers : App → App
-with_numbers a = with_rule (with_rule (with_rule a (number_rule (codes "workers") (codes "4")))
-    (number_rule (codes "piece") (codes "64"))) (number_rule (codes "batch") (codes "4096"))
+with_numbers a = with_rule (with_rule (with_rule (with_rule a (number_rule (codes "workers") (codes "4")))
+    (number_rule (codes "piece") (codes "64"))) (number_rule (codes "batch") (codes "4096")))
+    (number_rule (codes "first") (codes "1"))
 
 abbrev pub with_flags : App → App
 with_flags a = with_rule (with_rule (with_rule (with_rule (with_rule (with_rule (with_rule a
@@ -73,8 +74,8 @@ with_flags a = with_rule (with_rule (with_rule (with_rule (with_rule (with_rule 
 abbrev pub with_query : App → App
 with_query a = with_rule (with_rule a query_rule) files_rule
 
--- `jp [-o FORM] [--where FILTER] [--workers N] [--piece N] [--batch N] [--check] [-d] [-k] [--explain] [-e]
--- [--documents] [--with-filename] QUERY [FILE]...`, where `-o` is `--output`, `-d` is `--decimals`, `-k` is
+-- `jp [-o FORM] [--where FILTER] [--workers N] [--piece N] [--batch N] [--first N] [--check] [-d] [-k]
+-- [--explain] [-e] [--documents] [--with-filename] QUERY [FILE]...`, where `-o` is `--output`, `-d` is `--decimals`, `-k` is
 -- `--keep-going` and `-e` is `--exit-status`; with `--help` and `--version`
 abbrev pub jp_app : App
 jp_app = with_query (with_flags (with_numbers (with_filter (with_output (with_version

@@ -15,7 +15,7 @@ use Rattle.jp_output.specs.OutputForm.{OutputForm}
 use Rattle.jp_run.specs.Answered.{IsAnswerBy}
 use Rattle.jp_run.specs.AskedTexts.{AskedTexts, AreAcceptedIn, AreRefusedIn}
 use Rattle.jp_run.specs.Begun.{Begun, AllSince}
-use Rattle.jp_run.specs.Cutting.{documents, documents_in, part_count}
+use Rattle.jp_run.specs.Cutting.{Numbering, documents, documents_in, last_number}
 use Rattle.jp_run.specs.Counts.{counted}
 use Rattle.jp_run.specs.Forms.{form_of}
 use Rattle.jp_run.specs.Handed.{IsHandedBy}
@@ -52,9 +52,13 @@ head_of w name = if w.names then name ++ 9 ∷ [] else []
 abbrev pub form_for : Wanted → Text → OutputForm
 form_for w name = form_of w.output (head_of w name)
 
+-- how each input is cut, and its lines, or documents, are numbered
+abbrev pub numbering_in : Wanted → Numbering
+numbering_in w = record { cutting = w.cutting; before = w.before }
+
 -- the wanted manner of the same, which ends at a faulty line or keeps going
 abbrev pub manner_for : Wanted → Text → OnFault → Manner
-manner_for w name on_fault = manner w.cutting (form_for w name) (policy w.numbers on_fault)
+manner_for w name on_fault = manner (numbering_in w) (form_for w name) (policy w.numbers on_fault)
 
 -- what was written is the wanted query's answer, in the wanted form and by the wanted numbers, to the whole
 -- input, which stopped there
@@ -69,7 +73,7 @@ abbrev pub Passes : Wanted → Input → Option (List ℕ) × ℕ → Option (Li
 Passes w input old new = IfSome input.1 (λ bytes. (q : FilteredQuery)
     × AreAcceptedIn w.numbers (asked_in w) q × (x : Answer)
     × ((t : Tests) → AreRight t → answer_by (form_for w input.0) (policy w.numbers KeepGoing) t q
-    (documents w.cutting bytes) ≡ x) × (new.1 ≡ counted old.1 x.faulty)
+    (documents (numbering_in w) bytes) ≡ x) × (new.1 ≡ counted old.1 x.faulty)
     × Appends old.0 new.0 x.bytes)
 
 -- so it is of each input in turn, and faulty lines were passed
@@ -111,7 +115,8 @@ IsFront w input old new = IfSome input.1 (λ bytes. (a : Answer)
 -- the source has failed, and what was written is the answer to all documents whose line's end was read
 abbrev pub IsCutShort : Wanted → Bool → Input → Option (List ℕ) → Option (List ℕ) → Option (List ℕ) → Type 0
 IsCutShort w failed input rest old new = (failed ≡ true) × (bytes : List ℕ) × Consumes input.1 rest bytes
-    × IsHandedBy (manner_for w input.0 w.on_fault) (asked_in w) (documents_in w.cutting bytes) None old new
+    × IsHandedBy (manner_for w input.0 w.on_fault) (asked_in w) (documents_in (numbering_in w) bytes) None
+    old new
 
 -- the input was cut short by a failure of its own: what was written is the answer to all documents whose
 -- line's end was read
@@ -127,10 +132,10 @@ IsWholeOrCut w input old new = (IsWhole w input old.0 new.0 × (new.1 ≡ old.1)
 abbrev pub AreAllReads : ℕ → ℕ → Type 0
 AreAllReads old new = new ≡ old + max_reads
 
--- more than the most lines, or documents, were read
+-- more lines, or documents, were read than may be numbered
 abbrev pub AreTooManyLines : Wanted → Option (List ℕ) → Option (List ℕ) → Type 0
 AreTooManyLines w old new = (input : List ℕ) × Consumes old new input
-    × (max_lines < part_count w.cutting input)
+    × (max_lines < last_number (numbering_in w) input)
 
 -- what a run has left: what is still to come of its last input, how many reads of that there were before and
 -- are now, and whether an end has failed

@@ -1,5 +1,5 @@
 -- What a command line wants.
-use Rattle.std.specs.Prelude.{◌≡◌, ◌⊎◌, ◌||◌, ℕ, Bool, true, false, List, [], Option, Some, length}
+use Rattle.std.specs.Prelude.{◌≡◌, ◌+◌, ◌⊎◌, ◌||◌, ℕ, Bool, true, false, List, [], Option, Some, length}
 use Rattle.std.specs.Prelude.{option_map}
 use Rattle.std.specs.Prelude.{unwrap_or, codes, nat_lt}
 use Rattle.std.specs.Char.{is_control}
@@ -11,7 +11,7 @@ use Rattle.jp_answer.specs.declared.on_fault.OnFault.{OnFault}
 use Rattle.jp_answer.specs.declared.on_fault.OnFault.TheVariants.{Stop, KeepGoing}
 use Rattle.jp_number.specs.declared.numbers.Numbers.{Numbers}
 use Rattle.jp_number.specs.declared.numbers.Numbers.TheVariants.{Whole, Decimals}
-use Rattle.jp_run.specs.Settings.{AreSettings}
+use Rattle.jp_run.specs.Settings.{AreSettings, IsFirst}
 use Rattle.jp_run.specs.declared.cutting.Cutting.{Cutting}
 use Rattle.jp_run.specs.declared.cutting.Cutting.TheVariants as cutting
 use Rattle.jp_run.specs.declared.output.Output.{Output}
@@ -22,7 +22,7 @@ use Rattle.jp_program.specs.CommandLine.{said, refusals, IsRefused}
 -- names in bytes, whether lines are to name theirs, how each is cut into documents, whether what is asked is
 -- only checked, what is written, which numbers documents, the query and the filter may have, what is done
 -- where a line is faulty, whether faulty lines are to be explained, whether the status tells that
--- nothing was selected, and the settings
+-- nothing was selected, the settings, and how many lines, or documents, stand before the first of each input
 pub record Wanted : Type 0 where
   pub query : List ℕ
   pub filter : Option (List ℕ)
@@ -38,6 +38,7 @@ pub record Wanted : Type 0 where
   pub workers : ℕ
   pub piece : ℕ
   pub batch : ℕ
+  pub before : ℕ
 
 -- an option's text is this number in decimal, perhaps behind a plus
 abbrev pub SaysNumber : Text → List Row → ℕ → Type 0
@@ -105,11 +106,15 @@ abbrev pub SaysNames : List Row → List Text → Bool → Type 0
 SaysNames rows files names = (there : Bool) × SaysFlag (codes "with-filename") rows there
     × (names ≡ (there || nat_lt 1 (length files)))
 
--- the numbers of the three options, in their ranges
-abbrev pub AreSaid : List Row → ℕ → ℕ → ℕ → Type 0
-AreSaid rows workers piece batch = SaysNumber (codes "workers") rows workers
+-- the number of the first line, or document, of each input, in its range: so many stand before it
+abbrev pub SaysFirst : List Row → ℕ → Type 0
+SaysFirst rows before = SaysNumber (codes "first") rows (before + 1) × IsFirst (before + 1)
+
+-- the numbers of the four options, in their ranges
+abbrev pub AreSaid : List Row → ℕ → ℕ → ℕ → ℕ → Type 0
+AreSaid rows workers piece batch before = SaysNumber (codes "workers") rows workers
     × SaysNumber (codes "piece") rows piece × SaysNumber (codes "batch") rows batch
-    × AreSettings workers piece batch
+    × AreSettings workers piece batch × SaysFirst rows before
 
 -- what is said of each option is this
 pub record Says (rows : List Row) (w : Wanted) : Type 0 where
@@ -124,7 +129,7 @@ pub record Says (rows : List Row) (w : Wanted) : Type 0 where
   pub on_fault : SaysOnFault rows w.on_fault
   pub explain : SaysFlag (codes "explain") rows w.explain
   pub exit_status : SaysFlag (codes "exit-status") rows w.exit_status
-  pub settings : AreSaid rows w.workers w.piece w.batch
+  pub settings : AreSaid rows w.workers w.piece w.batch w.before
 
 -- the words are taken, and want this
 abbrev pub Wants : List Text → Wanted → Type 0

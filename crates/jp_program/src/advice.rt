@@ -16,6 +16,7 @@ use crate::command::{note, note_text, tell};
 use crate::command_line::{Invocation, files_by, matches, output_by, read_words};
 use crate::file_notes::{RunEnd, tell_of_run};
 use crate::filter_advice::tell_filter_refusal;
+use crate::peer_options::first_own_way;
 use crate::split::with_question;
 use clap::ArgMatches;
 use clap::error::ErrorKind;
@@ -150,6 +151,7 @@ fn plain_advice(alloc: Global, words: &[&str]) -> Result<String, AllocError> {
 }
 
 /// The same, by what the reader of the words says: its first line, and its tip where that names an option.
+/// Behind an option of another tool stands what does the same here.
 fn advice_by(
     alloc: Global,
     words: &[&str],
@@ -157,6 +159,9 @@ fn advice_by(
     text: &str,
 ) -> Result<String, AllocError> {
     let said = said_in(text);
+    if let (ErrorKind::UnknownArgument, Some(way)) = (kind, first_own_way(words)) {
+        return format!(in alloc; "jp: {said}; {way}");
+    }
     match (kind, tip_in(text)) {
         (ErrorKind::MissingRequiredArgument, _) => {
             let cure = missing_cure(words);

@@ -297,7 +297,7 @@ fn done<R: Threads + AllocGlobal + Sync, S: Source<K>, I: Inputs<S>, K: Sink, N:
             let numbers = wanted.settings.numbers;
             let filter = wanted.settings.filter;
             let prepared = Prepared::new(rt.alloc(), wanted.query, filter, numbers)?;
-            tell_prepared_patterns(rt.alloc(), notes, &prepared);
+            tell_prepared_patterns(rt.alloc(), notes, &prepared, filter);
             if wanted.check {
                 return Ok(NOTHING_SEEN);
             }

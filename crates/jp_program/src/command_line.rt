@@ -27,47 +27,43 @@ use std::alloc::{AllocError, Global};
 
 /// What the help says behind the options.
 const MORE: &str = "\
-INPUT is read from each FILE in turn, or from standard input where there is none, one JSON document on each
-line, which are counted from 1 in each; blank lines are counted and hold none. With --documents they stand one
-behind another over any number of lines, as a configuration does, and are counted themselves. All
-numbers have to be whole, of 64 bits: a line with a fraction or an exponent is faulty. With --decimals every
-JSON number is read, exactly, and printed as it stands, and a query may have such numbers.
-
-OUTPUT is a line for each node that the query selects, in order: the number of the document's line, or of the
-document, a tab, the node's normalized path, a tab, the node's value. No other tab stands in it: cut -f3 gives
-the values. Where two FILEs or more are named, or with --with-filename, the name of the line's file and a tab
-stand before it, - for standard input: then cut -f4 does. With --output values a line is the value alone; with
-texts too, but a text stands without its quotes, and \\\" as \"; with raw a text stands as it is, line feeds
-and all; with lines it is the whole line of the input, or the document, once, if at least one node is selected
-in it. None of these names its file.
-
-With --where FILTER only documents are answered of which FILTER is true: what may stand behind ? in
-$[?FILTER], where both @ and $ are the whole document.
-
-A QUERY that begins with - is given behind --. Beside the functions of RFC 9535 it may call two of our own:
-xor(A, B), exactly one of the two is true, and distinct(NODES), the nodes with each location once.
-
-The first faulty line, or document, ends the run. With --keep-going it gives a line of its own instead: its
-number, a tab, !, a tab, what is wrong with it, behind its file's name as a node's line. In the other forms it
-gives none, and is counted.
-A file that cannot be read ends the run too; with --keep-going those behind it are answered.
-
-Status: 0 finished; 1 finished, and nothing was selected, if --exit-status asks for it; 2 the query, or the
-filter, is refused; 3 a line, or a document, is faulty; 4 reading or writing failed, or a limit was passed; 5
-out of memory; 64 the command line is refused.
-
 Examples:
   jp '$.msg' app.log
-  jp -d --documents '$.service.port' service.json
-  jp -de --documents '$.service.user' service.json
+  jp --where '@.level==\"error\"' '$.msg' < app.log
   jp --output lines '$[?$.level==\"error\"]' app.log
   jp --output texts '$.msg' < app.log
-  jp --where '@.level==\"error\"' '$.msg' < app.log
-  jp '$[?$.level==\"error\" && @==$.msg]' < app.log
+  jp -d --documents '$.service.port' service.json
+  jp -de --documents '$.service.user' service.json
   jp --workers 8 '$.items[?@.count > 10]' < orders.jsonl
   jp --check '$[?count(@.*) > 1]'
   jp --explain '$.id' < mixed.jsonl
-  jp --keep-going '$.id' < log.jsonl | awk -F'\\t' '{ print > ($2 == \"!\" ? \"bad\" : \"good\") }'";
+
+INPUT is read from each FILE in turn, or from standard input: one JSON document
+on each line. Lines are counted from 1 in each, or from --first; a blank line
+holds no document. With --documents they stand one behind another, over any
+number of lines, as a configuration does, and are counted themselves. Numbers
+have to be whole, of 64 bits; with --decimals every JSON number is read.
+
+OUTPUT is a line for each node: the number of its line, or document, its
+normalized path and its value, with a tab between. So cut -f3 gives the values.
+Where two FILEs or more are named, or with --with-filename, the name of the file
+stands before it: then cut -f4 does. --output values gives the value alone;
+texts the same, but a text without its quotes; raw a text as it stands, line
+feeds and all; lines each line, or document, once, in which a node is selected.
+None of these names its file.
+
+FILTER is what may stand behind ? in $[?FILTER]: both @ and $ are the document.
+A QUERY that begins with - is given behind --. It may call two of our own:
+xor(A, B), exactly one of the two is true, and distinct(NODES), each node once.
+
+The first faulty line, or document, ends the run. With --keep-going it gives a
+line: its number, a tab, !, a tab, what is wrong with it. In the other forms it
+is counted. A file that cannot be read ends the run too, or is passed so.
+
+Status: 0 finished; 1 finished, and nothing was selected, with --exit-status;
+2 the query, or the filter, is refused; 3 a line, or a document, is faulty;
+4 reading or writing failed, or a limit was passed; 5 out of memory; 64 the
+command line is refused.";
 
 /// What the command line asks for.
 #[derive(Drop)]
@@ -166,11 +162,13 @@ fn with_numbers<'a>(alloc: Global, command: Command<'a>) -> Result<Command<'a>, 
     ensures { IfOk result (λ r. app_of r ≡ numbers_of (app_of command.entry)) }
 {
     let workers = "How many threads answer at once, 1 to 64";
-    let piece = "How many documents a thread takes at least, or 32 KB of them, 1 to 1000000";
-    let batch = "How many documents are answered and written together at most, 1 to 1000000";
+    let piece = "Documents for a thread at least, 1 to 1000000";
+    let batch = "Documents written together, 1 to 1000000";
+    let first = "Number of the first line, 1 to 4294967295";
     let command = command.arg(number(alloc, "workers", "4", workers))?;
     let command = command.arg(number(alloc, "piece", "64", piece))?;
-    command.arg(number(alloc, "batch", "4096", batch))
+    let command = command.arg(number(alloc, "batch", "4096", batch))?;
+    command.arg(number(alloc, "first", "1", first))
 }
 
 /// The command, with the options that are there or not: whether the query is only checked, which numbers are
@@ -180,14 +178,12 @@ fn with_flags<'a>(alloc: Global, command: Command<'a>) -> Result<Command<'a>, Al
     ensures { IfOk result (λ r. app_of r ≡ flags_of (app_of command.entry)) }
 {
     let check = "Read nothing, and say only whether QUERY is accepted";
-    let decimals = "Read every JSON number, exactly, and print it as it stands \
-        (default: whole numbers of 64 bits)";
-    let keep_going = "Write a line for each faulty line too, and go on, also past files that fail";
-    let explain = "Say where a faulty line went wrong, in lines behind its fault";
+    let decimals = "Read every JSON number, and print it as it stands";
+    let keep_going = "Go on past faulty lines, and files that fail";
+    let explain = "Say where a faulty line went wrong";
     let exit_status = "End with 1 where nothing was selected";
-    let documents = "Read documents over any number of lines, one behind another";
-    let with_filename =
-        "Begin each line with its file's name, as where there are two files or more";
+    let documents = "Read documents over any number of lines";
+    let with_filename = "Begin each line with the name of its file";
     let command = command.arg(flag(alloc, "check", check))?;
     let command = command.arg(lettered(alloc, "decimals", 'd', decimals))?;
     let command = command.arg(lettered(alloc, "keep-going", 'k', keep_going))?;
@@ -215,7 +211,7 @@ fn output<'a>(alloc: Global) -> Arg<'a>
         .long("output")
         .value_name("FORM")
         .default_value("nodes")
-        .help("What is written: nodes, values, texts, raw or lines")
+        .help("Form: nodes, values, texts, raw or lines")
 }
 
 /// The option that takes a filter of documents.
@@ -226,7 +222,7 @@ fn filter<'a>(alloc: Global) -> Arg<'a>
     Arg::new(alloc, "where")
         .long("where")
         .value_name("FILTER")
-        .help("Answer only documents of which this is true, as @.level==\"error\"")
+        .help("Answer only documents of which this is true")
 }
 
 /// An option that takes a number.
@@ -434,12 +430,13 @@ fn settings_by(
     numbers: Numbers,
     on_fault: OnFault,
 ) -> Option<Settings<'static>>
-    ensures some { IfSome result (λ s. AreSaid (rows_of (found_of matches.now)) s.workers s.piece s.batch) }
+    ensures some { IfSome result (λ s. AreSaid (rows_of (found_of matches.now)) s.workers s.piece s.batch
+        s.before) }
     ensures cutting { IfSome result (λ s. s.cutting ≡ cutting) }
     ensures form { IfSome result (λ s. s.output ≡ output) }
     ensures numbers { IfSome result (λ s. s.numbers ≡ numbers) }
     ensures on_fault { IfSome result (λ s. s.on_fault ≡ on_fault) }
-    ensures none { IsNone result → (w p b : ℕ) → AreSaid (rows_of (found_of matches.now)) w p b → ⊥ }
+    ensures none { IsNone result → (w p b n : ℕ) → AreSaid (rows_of (found_of matches.now)) w p b n → ⊥ }
 {
     let settings = sizes_by(matches)?;
     Some(settings_with(settings, cutting, output, numbers, on_fault))
@@ -447,15 +444,18 @@ fn settings_by(
 
 /// The settings of these numbers, all else as by default; none where a number is out of its range.
 fn sizes_by(matches: &ArgMatches<'_>) -> Option<Settings<'static>>
-    ensures some { IfSome result (λ s. AreSaid (rows_of (found_of matches.now)) s.workers s.piece s.batch) }
+    ensures some { IfSome result (λ s. AreSaid (rows_of (found_of matches.now)) s.workers s.piece s.batch
+        s.before) }
     ensures whole { IfSome result (λ s. s.numbers ≡ Numbers.Whole) }
     ensures ends { IfSome result (λ s. s.on_fault ≡ OnFault.Stop) }
-    ensures none { IsNone result → (w p b : ℕ) → AreSaid (rows_of (found_of matches.now)) w p b → ⊥ }
+    ensures none { IsNone result → (w p b n : ℕ) → AreSaid (rows_of (found_of matches.now)) w p b n → ⊥ }
 {
     let workers = number_by(matches, "workers")?;
     let piece = number_by(matches, "piece")?;
     let batch = number_by(matches, "batch")?;
-    Settings::new(workers, piece, batch).ok()
+    let first = number_by(matches, "first")?;
+    let settings = Settings::new(workers, piece, batch).ok()?;
+    settings.with_first(first).ok()
 }
 
 /// The same settings, but for these, where the numbers are whole and the answer ends at a faulty line.
@@ -469,7 +469,7 @@ fn settings_with(
     requires whole { settings.numbers ≡ Numbers.Whole }
     requires ends { settings.on_fault ≡ OnFault.Stop }
     ensures same { (result.workers ≡ settings.entry.workers) × (result.piece ≡ settings.entry.piece)
-        × (result.batch ≡ settings.entry.batch) }
+        × (result.batch ≡ settings.entry.batch) × (result.before ≡ settings.entry.before) }
     ensures cutting { result.cutting ≡ cutting }
     ensures form { result.output ≡ output }
     ensures numbers { result.numbers ≡ numbers }

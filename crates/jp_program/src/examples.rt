@@ -14,7 +14,7 @@ fn all_options()
     ensures { Wants (codes "jp" ∷ codes "--workers" ∷ codes "8" ∷ codes "--piece=2" ∷ codes "--batch"
         ∷ codes "+10" ∷ codes "--check" ∷ codes "--decimals" ∷ codes "--keep-going" ∷ codes "--explain"
         ∷ codes "--exit-status" ∷ codes "--output=texts" ∷ codes "--documents" ∷ codes "--with-filename"
-        ∷ codes "--" ∷ codes "-q" ∷ []) (record {
+        ∷ codes "--first=7" ∷ codes "--" ∷ codes "-q" ∷ []) (record {
           query = codes "-q";
           filter = None;
           files = [];
@@ -29,6 +29,7 @@ fn all_options()
           workers = 8;
           piece = 2;
           batch = 10;
+          before = 6;
         }) }
 {}
 
@@ -49,6 +50,7 @@ fn letters()
       workers = 4;
       piece = 64;
       batch = 4096;
+      before = 0;
     }) }
 {}
 
@@ -69,6 +71,7 @@ fn one_file()
       workers = 4;
       piece = 64;
       batch = 4096;
+      before = 0;
     }) }
     ensures named { Wants (codes "jp" ∷ codes "--with-filename" ∷ codes "$" ∷ codes "x" ∷ []) (record {
       query = codes "$";
@@ -85,6 +88,7 @@ fn one_file()
       workers = 4;
       piece = 64;
       batch = 4096;
+      before = 0;
     }) }
 {}
 
@@ -105,6 +109,7 @@ fn two_files()
       workers = 4;
       piece = 64;
       batch = 4096;
+      before = 0;
     }) }
 {}
 
@@ -125,6 +130,7 @@ fn files()
       workers = 4;
       piece = 64;
       batch = 4096;
+      before = 0;
     }) }
 {}
 
@@ -146,6 +152,7 @@ fn options_between_files()
           workers = 4;
           piece = 64;
           batch = 4096;
+          before = 0;
         }) }
 {}
 
@@ -169,6 +176,8 @@ fn wrong_words()
 /// A number past its range, a form that there is not, and a file's name with a line feed.
 fn out_of_range()
     ensures workers { IsWrong (codes "jp" ∷ codes "--workers" ∷ codes "65" ∷ codes "$" ∷ []) }
+    ensures first { IsWrong (codes "jp" ∷ codes "--first" ∷ codes "0" ∷ codes "$" ∷ []) }
+    ensures first_above { IsWrong (codes "jp" ∷ codes "--first" ∷ codes "4294967296" ∷ codes "$" ∷ []) }
     ensures form { IsWrong (codes "jp" ∷ codes "--output" ∷ codes "csv" ∷ codes "$" ∷ []) }
     ensures letters { IsWrong (codes "jp" ∷ codes "--output=Nodes" ∷ codes "$" ∷ []) }
     ensures name { IsWrong (codes "jp" ∷ codes "$" ∷ codes "x\n" ∷ []) }

@@ -19,7 +19,7 @@ ghost use Rattle.jp_run.specs.declared.output.Output.TheVariants.{Nodes};
 ghost use Rattle.jp_program.specs.Inputs.{Course, EachInTurn, EndsIn, Held, Input, Standing, inputs_of};
 ghost use Rattle.jp_program.specs.Inputs.{standard};
 ghost use Rattle.jp_program.specs.Outcome.{AreFailed, ArePassed, HasFailed, IsAnswered, IsFront, IsWhole};
-ghost use Rattle.jp_program.specs.Outcome.{IsWholeOrCut, Left, asked_in, form_for};
+ghost use Rattle.jp_program.specs.Outcome.{IsWholeOrCut, Left, asked_in, form_for, numbering_in};
 ghost use Rattle.jp_program.specs.Wanted.{IsName, Wanted, Wants};
 
 /// A command line that is a query alone, which begins with `$` as each query does: the words are taken, they
@@ -40,6 +40,7 @@ pub fn query_alone()
       workers = 4;
       piece = 64;
       batch = 4096;
+      before = 0;
     }) }
 {}
 
@@ -75,7 +76,7 @@ pub fn no_file()
         → ArePassed w (inputs_of [] holds first) old new → IfSome first (λ bytes. (q : FilteredQuery)
         × AreAcceptedIn w.numbers (asked_in w) q × (x : Answer)
         × ((t : Tests) → AreRight t → answer_by (form_for w (codes "-")) (policy w.numbers KeepGoing) t
-        q (documents w.cutting bytes) ≡ x) × (0 < x.faulty) × Appends old new x.bytes) }
+        q (documents (numbering_in w) bytes) ≡ x) × (0 < x.faulty) × Appends old new x.bytes) }
     ensures whole { (w : Wanted) (input : Input) (old new : Option (List ℕ)) → w.on_fault ≡ Stop
         → IsWhole w input old new → IsAnswered w None input old new }
 {}

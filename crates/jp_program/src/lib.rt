@@ -12,6 +12,7 @@ mod inputs;
 mod laws;
 mod output;
 mod pattern_notes;
+mod peer_options;
 mod split;
 mod turn;
 mod version;

@@ -31,6 +31,7 @@ wanted_of w = record {
   workers = w.settings.workers;
   piece = w.settings.piece;
   batch = w.settings.batch;
+  before = w.settings.before;
 }
 
 -- this is what was prepared of the wanted texts, by the wanted numbers

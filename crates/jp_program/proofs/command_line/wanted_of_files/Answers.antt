@@ -20,7 +20,7 @@ returns-in_err-names-clause-none c = λ h w s. c.in_err-names.ensures.none refl 
 
 pub returns-in_err-settings-clause-none : goal.returns-in_err-settings-clause-none
 returns-in_err-settings-clause-none c = λ h w s.
-    c.in_err-settings.ensures.none refl w.workers w.piece w.batch s.settings
+    c.in_err-settings.ensures.none refl w.workers w.piece w.batch w.before s.settings
 
 pub returns-clause-some : goal.returns-clause-some
 returns-clause-some c =
@@ -49,5 +49,6 @@ returns-clause-some c =
           c.on_fault_for.ensures);
       explain = c.in_ok-explain.ensures.some;
       exit_status = c.in_ok-exit_status.ensures.some;
-      settings = sizes_kept (rows_of found) _ _ _ _ _ _ kept.0 kept.1 kept.2 c.in_ok-settings.ensures.some;
+      settings = sizes_kept (rows_of found) _ _ _ _ _ _ _ _ kept.0 kept.1 kept.2 kept.8
+          c.in_ok-settings.ensures.some;
     }

@@ -26,6 +26,7 @@ returns c = (
       (50 ∷ [], refl, (omega arith, (omega arith, tt)), refl),
       (43 ∷ 49 ∷ 48 ∷ [], refl, (omega arith, (omega arith, (omega arith, tt))), refl),
       ((omega arith, omega arith), (omega arith, omega arith), (omega arith, omega arith)),
+      ((55 ∷ [], refl, (omega arith, (omega arith, tt)), refl), (omega arith, omega arith)),
     );
   },
 )

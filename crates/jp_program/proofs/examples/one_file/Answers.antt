@@ -30,6 +30,7 @@ returns-clause-unnamed c = (
         refl,
       ),
       ((omega arith, omega arith), (omega arith, omega arith), (omega arith, omega arith)),
+      ((49 ∷ [], refl, (omega arith, (omega arith, tt)), refl), (omega arith, omega arith)),
     );
   },
 )
@@ -60,6 +61,7 @@ returns-clause-named c = (
         refl,
       ),
       ((omega arith, omega arith), (omega arith, omega arith), (omega arith, omega arith)),
+      ((49 ∷ [], refl, (omega arith, (omega arith, tt)), refl), (omega arith, omega arith)),
     );
   },
 )

@@ -35,6 +35,45 @@ returns-clause-workers c = inr (
       absurd (omega (arith, number, s.settings.0.3, s.settings.3.0.1)),
 )
 
+zero : List Text
+zero = codes "jp" ∷ codes "--first" ∷ codes "0" ∷ codes "$" ∷ []
+
+zero_is : one_of (codes "first") (said zero) ≡ Some (codes "0")
+unfolding clap_on_literals said refusals zero
+zero_is = refl
+
+pub returns-clause-first : goal.returns-clause-first
+unfolding clap_on_literals said refusals zero
+returns-clause-first c = inr (
+  refl,
+  λ w s.
+      let text = s.settings.4.0.0 in
+      let is : codes "0" ≡ text = some_same (codes "0") text (sym zero_is ∙ s.settings.4.0.1) in
+      let number : digits_value 10 (without_leading_plus text) ≡ 0 =
+      ap (λ t. digits_value 10 (without_leading_plus t)) (sym is) in
+      absurd (omega (arith, number, s.settings.4.0.3)),
+)
+
+above : List Text
+above = codes "jp" ∷ codes "--first" ∷ codes "4294967296" ∷ codes "$" ∷ []
+
+above_is : one_of (codes "first") (said above) ≡ Some (codes "4294967296")
+unfolding clap_on_literals said refusals above
+above_is = refl
+
+pub returns-clause-first_above : goal.returns-clause-first_above
+unfolding clap_on_literals said refusals above
+returns-clause-first_above c = inr (
+  refl,
+  λ w s.
+      let text = s.settings.4.0.0 in
+      let is : codes "4294967296" ≡ text =
+      some_same (codes "4294967296") text (sym above_is ∙ s.settings.4.0.1) in
+      let number : digits_value 10 (without_leading_plus text) ≡ 4294967296 =
+      ap (λ t. digits_value 10 (without_leading_plus t)) (sym is) in
+      absurd (omega (arith, number, s.settings.4.0.3, s.settings.4.1.1)),
+)
+
 -- a word that names a form begins with a letter behind `k`
 
 abbrev first : Text → ℕ

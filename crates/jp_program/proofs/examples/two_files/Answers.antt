@@ -30,6 +30,7 @@ returns c = (
         refl,
       ),
       ((omega arith, omega arith), (omega arith, omega arith), (omega arith, omega arith)),
+      ((49 ∷ [], refl, (omega arith, (omega arith, tt)), refl), (omega arith, omega arith)),
     );
   },
 )

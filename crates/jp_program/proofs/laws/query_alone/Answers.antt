@@ -31,6 +31,7 @@ returns c = λ name rest. (
         refl,
       ),
       ((omega arith, omega arith), (omega arith, omega arith), (omega arith, omega arith)),
+      ((49 ∷ [], refl, (omega arith, (omega arith, tt)), refl), (omega arith, omega arith)),
     );
   },
 )

@@ -40,7 +40,7 @@ returns-clause-finished g c =
     finished_ok w input old new c.run.result
     (subst (λ (m : Manner). OnOk c.run.result (ToldBy m asked None rest old new)) settings.manner ran.answer)
     (subst (λ (m : Manner). IfOk c.run.result (λ totals. IfSome rest (λ bytes. totals.faulty
-    ≡ passed_in m.policy (documents m.cutting bytes)))) settings.manner ran.faulty)
+    ≡ passed_in m.policy (documents m.numbering bytes)))) settings.manner ran.faulty)
 
 pub returns-clause-passes : goal.returns-clause-passes
 returns-clause-passes g c =
@@ -55,7 +55,7 @@ returns-clause-passes g c =
     λ on. passes_ok w input old new on c.run.result
     (subst (λ (m : Manner). OnOk c.run.result (ToldBy m asked None rest old new)) settings.manner ran.answer)
     (subst (λ (m : Manner). IfOk c.run.result (λ totals. IfSome rest (λ bytes. totals.faulty
-    ≡ passed_in m.policy (documents m.cutting bytes)))) settings.manner ran.faulty)
+    ≡ passed_in m.policy (documents m.numbering bytes)))) settings.manner ran.faulty)
 
 pub returns-clause-nothing : goal.returns-clause-nothing
 returns-clause-nothing g c =
